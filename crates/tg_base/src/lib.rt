@@ -7,6 +7,6 @@ mod ids;
 mod list;
 
 pub use blob::Blob;
-pub use fault::NoMemory;
+pub use fault::{Clause, Many, NoMemory, TextFault, Which};
 pub use ids::{Ballot, Epoch, NodeId, Oid, Pos, Role};
 pub use list::List;
