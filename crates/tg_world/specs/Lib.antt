@@ -1,0 +1,5 @@
+pub mod Names
+pub mod Page
+pub mod Nodes
+pub mod Worlds
+pub mod Laws

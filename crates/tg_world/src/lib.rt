@@ -1,0 +1,12 @@
+//! The world of the first path: one storage unit, one sequencer, the clients, and every packet that
+//! was ever sent. Any of these packets may arrive, in any order, again, or never.
+#![tactic(auto)]
+
+mod client;
+mod msg;
+mod page;
+mod seqr;
+mod unit;
+mod world;
+
+pub use world::{Step, World};
