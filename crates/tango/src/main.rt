@@ -1,0 +1,6 @@
+//! Tango objects over a CORFU log.
+#![tactic(auto)]
+
+mod script;
+
+fn main(_rt: HostRuntime) {}
