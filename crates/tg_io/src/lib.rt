@@ -15,6 +15,6 @@ mod status;
 pub use fault::IoErr;
 pub use mem_sink::MemSink;
 pub use mem_source::MemSource;
-pub use sink::Sink;
+pub use sink::{Sink, write_all};
 pub use source::Source;
 pub use status::Status;

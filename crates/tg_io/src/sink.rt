@@ -1,7 +1,7 @@
 //! Where bytes go.
 
-ghost use Rattle.std.specs.Prelude.{◌≡◌, ◌<◌, ◌≤◌, ℕ, Bool, Option, List, take, length, IfOk, OnErr};
-ghost use Rattle.tg_io.specs.Bytes.{Takes};
+ghost use Rattle.std.specs.Prelude.{◌≡◌, ◌<◌, ◌≤◌, ℕ, Bool, Option, List, take, length, IfOk, OnOk, OnErr};
+ghost use Rattle.tg_io.specs.Bytes.{Takes, TakesFront};
 ghost use Rattle.tg_io.specs.Faults.{HasCause, StaysSure};
 
 use crate::fault::IoErr;
@@ -26,4 +26,18 @@ pub trait Sink {
         ensures kept { OnErr result (written self.new ≡ written self.old) }
         ensures cause { HasCause (faults self.old) (faults self.new) result }
         ensures sure { StaysSure (sure self.old) (sure self.new) (faults self.old) (faults self.new) };
+}
+
+/// Writes the whole piece, write by write. An `Err` has taken a front of it.
+pub fn write_all<K: Sink>(sink: &mut K, piece: &[u8]) -> Result<(), IoErr>
+    ensures taken { OnOk result (Takes (K.written sink.old) piece.now (K.written sink.new)) }
+    ensures front { OnErr result (TakesFront (K.written sink.old) piece.now (K.written sink.new)) }
+    ensures cause { HasCause (K.faults sink.old) (K.faults sink.new) result }
+    ensures sure { StaysSure (K.sure sink.old) (K.sure sink.new) (K.faults sink.old) (K.faults sink.new) }
+{
+    let mut taken = 0;
+    while taken < piece.len() {
+        taken += sink.write(&piece[taken..])?;
+    }
+    Ok(())
 }
