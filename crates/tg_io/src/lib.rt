@@ -1,0 +1,20 @@
+//! The outside: where bytes come from, where they go, and what carries datagrams.
+//!
+//! Each is a trait with a count of its faults, which never falls; a call fails only where the count rose.
+//! Forms in memory tell their content in contracts, the real streams don't.
+#![tactic(auto)]
+
+mod calls;
+mod fault;
+mod mem_sink;
+mod mem_source;
+mod sink;
+mod source;
+mod status;
+
+pub use fault::IoErr;
+pub use mem_sink::MemSink;
+pub use mem_source::MemSource;
+pub use sink::{Sink, write_all};
+pub use source::Source;
+pub use status::Status;
