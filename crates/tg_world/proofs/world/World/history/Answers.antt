@@ -1,9 +1,9 @@
-use Rattle.std.proofs.Common.{rules, ◌≡◌, map, ap, ◌∙◌, sym}
+use Rattle.std.proofs.Common.{rules, ◌≡◌, map, ap, ◌∙◌}
 use Rattle.std.specs.List.{flat_map}
 use Rattle.std.specs.Map.Iter.{deref_pair}
 use Rattle.std.proofs.lemmas.Map.Iter.{iter_end}
 use Rattle.tg_world.specs.Page.{record_of}
-use Rattle.tg_world.specs.Worlds.{Worlds, done_at, history}
+use Rattle.tg_world.specs.Worlds.{done_at, history}
 use Rattle.tg_world.proofs.world.World.history.Goals as goal
 
 pub returns : goal.returns
