@@ -1,5 +1,5 @@
 -- The world: all nodes, all packets that were ever sent, and the replies so far.
-use Rattle.std.specs.Prelude.{ℕ, ◌+◌, List, [], ◌∷◌, ◌++◌, map, replicate, slice_get, slice_set, Option, Some, None}
+use Rattle.std.specs.Prelude.{ℕ, ◌+◌, Bool, true, false, List, [], ◌∷◌, ◌++◌, map, replicate, slice_get, slice_set, Option, Some, None}
 use Rattle.std.specs.List.{flat_map}
 use Rattle.tg_model.specs.declared.Command.{Command}
 use Rattle.tg_model.specs.declared.Event.{Event}
@@ -101,3 +101,11 @@ done_at pos (Some r) = record { stamp = pos; client = r.client; number = r.numbe
 -- the history: what each page of the log says, in order of position
 unfoldable pub history : Worlds → List Done
 history w = flat_map (λ (cell : ℕ × List ℕ). done_at cell.0 (record_of cell.1)) w.cells
+
+abbrev pub wasnt_begun : Option Client → Bool
+wasnt_begun (Some Idle) = true
+wasnt_begun _ = false
+
+-- there is this client, and its transaction wasn't begun
+abbrev pub is_idle : Worlds → ℕ → Bool
+is_idle w k = wasnt_begun (slice_get w.clients k)

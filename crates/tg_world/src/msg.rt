@@ -1,5 +1,9 @@
 //! Messages and packets.
 
+ghost use Rattle.std.specs.Prelude.{◌≡◌};
+ghost use Rattle.std.specs.Option.{option_to_list};
+ghost use Rattle.tg_world.specs.Names.{answers};
+
 use tg_base::{Blob, NodeId, Pos};
 
 /// What a node asks or answers.
@@ -26,4 +30,17 @@ pub struct Packet {
     pub to: NodeId,
     pub rid: u64,
     pub msg: Msg,
+}
+
+impl Packet {
+    /// The packet that answers it, if there is an answer.
+    pub fn answer(&self, says: Option<Msg>) -> Option<Packet>
+        ensures { option_to_list result ≡ answers self.now says }
+    {
+        let (from, to, rid) = (self.to, self.from, self.rid);
+        match says {
+            None => None,
+            Some(msg) => Some(Packet { from, to, rid, msg }),
+        }
+    }
 }
