@@ -1,15 +1,16 @@
 -- What a text says: a script, its steps and its world; and what a run of it comes to.
-use Rattle.std.specs.Prelude.{◌≡◌, ◌≢◌, ◌⊎◌, ℕ, ◌+◌, ◌-◌, ◌<◌, ◌≤◌, ◌==◌, ◌++◌, List, [], ◌∷◌, length, map, take, nat_le, Bool, true, false, if◌then◌else◌, slice_get, Contains, Option, Some, None}
+use Rattle.std.specs.Prelude.{◌≡◌, ◌≢◌, ◌⊎◌, ℕ, ◌+◌, ◌-◌, ◌<◌, ◌≤◌, ◌==◌, ◌++◌, List, [], ◌∷◌, length, map, take, nat_le, Bool, true, false, if◌then◌else◌, slice_get, Contains, IsTrue, Some}
 use Rattle.tg_base.specs.declared.ids.Oid.{Oid}
 use Rattle.tg_base.specs.declared.fault.Which.{Which}
 use Rattle.tg_base.specs.declared.fault.Which.TheVariants.{Steps}
+use Rattle.tg_io.specs.declared.status.Status.{Status}
+use Rattle.tg_io.specs.declared.status.Status.TheVariants.{Done, Script as AtLine, Limit}
 use Rattle.tg_model.specs.declared.Command.{Command}
 use Rattle.tg_model.specs.declared.Command.TheVariants.{Begin, Put, End}
 use Rattle.tg_model.specs.declared.Event.{Event}
 use Rattle.tg_model.specs.declared.Event.TheVariants.{Command as Commands, Deliver as Delivers}
-use Rattle.tg_world.specs.declared.client.Client.TheVariants.{Idle}
 use Rattle.tg_world.specs.declared.world.Step.{Step}
-use Rattle.tg_world.specs.Worlds.{Worlds, world, run, history}
+use Rattle.tg_world.specs.Worlds.{Worlds, world, run, history, is_idle}
 use Rattle.tango.specs.declared.script.Size.{Size}
 use Rattle.tango.specs.declared.script.Line.{Line}
 use Rattle.tango.specs.declared.script.Line.TheVariants.{Update, Deliver}
@@ -66,7 +67,7 @@ front k s = record { size = s.size; objects = s.objects; events = take k s.event
 -- A line may come next: an update of a listed object, by a client of the cluster that hasn't begun a
 -- transaction; or the arrival of a packet that was sent.
 abbrev pub MayCome : List Oid → Worlds → Line → Type 0
-MayCome objects w (Update client oid op) = (slice_get w.clients client ≡ Some Idle) × Contains objects oid
+MayCome objects w (Update client oid op) = IsTrue (is_idle w client) × Contains objects oid
 MayCome objects w (Deliver i) = i < length w.packets
 
 -- Each line keeps the grammar, and may come in the world of the lines before it.
@@ -133,3 +134,10 @@ pub record Limited (text : List ℕ) (which : Which) (out : List ℕ) : Type 0 w
   pub over : max_steps < length (steps script.events)
   pub before : IsWithin (front (length script.events - 1) script)
   pub printed : out ≡ transcript script.objects (world_after max_steps script)
+
+-- What the status says of the text, and what is printed with it.
+abbrev pub Outcome : List ℕ → Status → List ℕ → Type 0
+Outcome text Done out = Replayed text out
+Outcome text (AtLine n) out = Refused text n out
+Outcome text (Limit which) out = Limited text which out
+Outcome text _ out = ⊥
