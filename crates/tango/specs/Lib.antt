@@ -2,3 +2,4 @@ pub mod Words
 pub mod Script
 pub mod Transcript
 pub mod Runs
+pub mod Reading
