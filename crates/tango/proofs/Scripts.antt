@@ -13,7 +13,7 @@ use Rattle.tango.specs.Words.{objects_line}
 use Rattle.tango.specs.Script.{IsSize, AreObjects, IsLine, cluster_line, chains_line, spell}
 use Rattle.tango.specs.Runs.{Script, IsScript, IsWithin, MayCome, lines, text_lines, world_of, world_after, front, steps, steps_of, max_steps, transcript, Begins, Tells, Replayed, Refused, FirstOutside, Limited as StopsAtLimit, Outcome, printed_before}
 use Rattle.tango.specs.declared.run.Finish.{Finish}
-use Rattle.tango.specs.Reading.{IsRunOf, IsSizeOf, IsMade, IsLimited, Took, Finished, printed, status_of}
+use Rattle.tango.specs.Stages.{IsRunOf, IsSizeOf, IsMade, IsLimited, Took, Finished, printed, status_of}
 use Rattle.tango.specs.declared.run.Stage.TheVariants.{Opening, Sized, Chained, Running}
 use Rattle.tango.specs.declared.run.Fed.{Fed}
 use Rattle.tango.specs.declared.run.Fed.TheVariants.{Goes, Stops}

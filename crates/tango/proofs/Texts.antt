@@ -4,7 +4,7 @@ use Rattle.std.proofs.lemmas.List.{append-nil}
 use Rattle.tango.specs.Runs.{lines, cut, joined}
 use Rattle.tango.specs.declared.run.Stage.{Stage}
 use Rattle.tango.specs.declared.run.Fed.{Fed}
-use Rattle.tango.specs.Reading.{IsUnbroken, IsAt, Reads, Took}
+use Rattle.tango.specs.Stages.{IsUnbroken, IsAt, Reads, Took}
 
 -- a line that has come whole
 pub line_ends : (bs rest : List ℕ) → IsUnbroken bs → lines (bs ++ 10 ∷ rest) ≡ bs ∷ lines rest

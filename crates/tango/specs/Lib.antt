@@ -1,5 +1,6 @@
 pub mod Words
 pub mod Script
 pub mod Transcript
-pub mod Runs
 pub mod Reading
+pub mod Runs
+pub mod Stages

@@ -1,98 +1,64 @@
--- What reading has found of a text: the lines so far, and how it ended.
-use Rattle.std.specs.Prelude.{◌≡◌, ℕ, ◌+◌, ◌-◌, ◌<◌, ◌≤◌, ◌==◌, false, ◌++◌, List, [], ◌∷◌, length, take, Option, Some, None}
-use Rattle.tg_base.specs.declared.fault.Which.TheVariants.{Steps}
-use Rattle.tg_io.specs.declared.status.Status.{Status}
-use Rattle.tg_io.specs.declared.status.Status.TheVariants.{Done, Script as AtLine, Limit}
-use Rattle.tango.specs.declared.run.End.{End}
-use Rattle.tango.specs.declared.run.End.TheVariants.{Whole, Outside, Limited}
+-- What the functions find that read a script's words, from left to right.
+use Rattle.std.specs.Prelude.{not, ◌==◌, ℕ, ◌+◌, ◌^◌, ◌&&◌, List, length, take, drop, codes, Option, Some, None, option_map, option_and_then, nat_lt, nat_le, if◌then◌else◌, ℤ}
+use Rattle.std.specs.List.{prefix_len, list_any}
+use Rattle.std.specs.Char.{is_ascii_digit}
+use Rattle.std.specs.Str.{bytes_eq}
+use Rattle.std.specs.Str.Parse.{digits_value, signed_digits_value}
+use Rattle.std.specs.Fmt.{decimal, signed_decimal}
+use lib.Signed.{mag}
+use Rattle.tg_base.specs.declared.ids.Oid.{Oid}
+use Rattle.tg_model.specs.declared.Op.TheVariants.{Add}
 use Rattle.tango.specs.declared.script.Size.{Size}
-use Rattle.tango.specs.declared.run.Run.{Run}
-use Rattle.tango.specs.declared.run.Stage.{Stage}
-use Rattle.tango.specs.declared.run.Stage.TheVariants.{Opening, Sized, Chained, Running}
-use Rattle.tango.specs.declared.run.Finish.{Finish}
-use Rattle.tango.specs.declared.progress.Progress.{Progress}
-use Rattle.tango.specs.declared.progress.Coming.{Coming}
-use Rattle.tango.specs.declared.progress.Coming.TheVariants.{GoesOn, Ended}
-use Rattle.tango.specs.declared.run.Fed.{Fed}
-use Rattle.tango.specs.declared.run.Fed.TheVariants.{Goes, Stops}
-use Rattle.tango.specs.Script.{IsSize, cluster_line, chains_line}
-use Rattle.tg_world.specs.declared.world.Step.{Step}
-use Rattle.tg_world.specs.Worlds.{run}
-use Rattle.tango.specs.Runs.{Script, IsScript, IsWithin, Outcome, lines, text_lines, world_of, transcript, front, max_steps}
+use Rattle.tango.specs.declared.script.Line.{Line}
+use Rattle.tango.specs.declared.script.Line.TheVariants.{Update, Deliver}
 
--- A run that was read: its script, which no other has in these lines.
-pub record IsRunOf (read : List (List ℕ)) (r : Run) (s : Script) : Type 0 where
-  pub lawful : IsScript s
-  pub within : IsWithin s
-  pub lines : read ≡ text_lines s
-  pub objects : r.objects ≡ s.objects
-  pub world : r.world ≡ world_of s
-  pub events : r.events ≡ length s.events
-  pub only : (t : Script) → IsScript t → take (length read) (text_lines t) ≡ read → front (length s.events) t ≡ s
+infixl 10 ◌>>=◌
+abbrev pub ◌>>=◌ : {A B : Type 0} → Option A → (A → Option B) → Option B
+o >>= f = option_and_then f o
 
--- The size that a first line tells, and no other size tells.
-pub record IsSizeOf (line : List ℕ) (size : Size) : Type 0 where
-  pub lawful : IsSize size
-  pub spelled : line ≡ cluster_line size
-  pub only : (t : Size) → IsSize t → line ≡ cluster_line t → t ≡ size
+-- the number of 64 bits whose decimal is this text
+unfoldable pub number_in : List ℕ → Option ℕ
+number_in word = if nat_lt (digits_value 10 word) (2 ^ 64) && bytes_eq word (decimal (digits_value 10 word)) then Some (digits_value 10 word) else None
 
--- The lines that were read are those of the stage.
-abbrev pub Reads : List (List ℕ) → Stage → Type 0
-Reads read Opening = read ≡ []
-Reads read (Sized size) = (line : List ℕ) × IsSizeOf line size × (read ≡ line ∷ [])
-Reads read (Chained size) = (line : List ℕ) × IsSizeOf line size × (read ≡ line ∷ chains_line ∷ [])
-Reads read (Running r) = (s : Script) × IsRunOf read r s
+-- the same with a sign
+unfoldable pub signed_in : List ℕ → Option ℤ
+signed_in word =
+    if nat_lt (mag (signed_digits_value 10 word)) (2 ^ 63) && bytes_eq word (signed_decimal (signed_digits_value 10 word)) then Some (signed_digits_value 10 word)
+    else None
 
--- What is printed of a run, or of none.
-abbrev pub printed : Option Run → List ℕ
-printed None = []
-printed (Some r) = transcript r.objects r.world
+-- the number that the digits at the front are, and what follows them
+unfoldable pub number_at : List ℕ → Option (ℕ × List ℕ)
+number_at text = option_map (λ n. (n, drop (prefix_len is_ascii_digit text) text)) (number_in (take (prefix_len is_ascii_digit text) text))
 
--- the status of a run that ends so
-abbrev pub status_of : End → Status
-status_of Whole = Done
-status_of (Outside line) = AtLine line
-status_of Limited = Limit Steps
+-- what follows this word at the front
+unfoldable pub after : List ℕ → List ℕ → Option (List ℕ)
+after word text = if bytes_eq (take (length word) text) word then Some (drop (length word) text) else None
 
-abbrev pub Finished : List ℕ → Finish → Type 0
-Finished text f = Outcome text (status_of f.end) (printed f.run)
+-- an object and what follows it
+unfoldable pub object_at : List ℕ → Option (Oid × List ℕ)
+object_at text = after (codes "ctr") text >>= λ rest. number_at rest >>= λ x. if nat_lt x.0 16777216 then Some (record { 0 = 16777216 + x.0 }, x.1) else None
 
--- What comes of the lines that were read: reading goes on, or it has ended.
-abbrev pub Took : List ℕ → List (List ℕ) → Fed → Type 0
-Took text read (Goes stage) = Reads read stage
-Took text read (Stops finish) = Finished text finish
+-- one more object after these, of which there may be 256, each once
+unfoldable pub next_at : List Oid → List ℕ → Option (Oid × List ℕ)
+next_at before text =
+    after (codes " ") text >>= λ rest. object_at rest >>= λ x. if nat_lt (length before) 256 && not (list_any (λ (y : Oid). y.0 == x.0.0) before) then Some x else None
 
--- A run that has made these steps.
-pub record IsAfter (r : Run) (made : List Step) (q : Run) : Type 0 where
-  pub objects : q.objects ≡ r.objects
-  pub world : q.world ≡ run made r.world
+unfoldable pub size_in : List ℕ → Option Size
+size_in line =
+    after (codes "cluster units 1 layouts 1 seqs 1 clients ") line >>= λ rest. number_at rest >>= λ x. after (codes " limit ") x.1 >>= λ rest. number_in rest >>=
+    λ limit. if nat_le 1 x.0 && nat_le x.0 32 && nat_le 1 limit && nat_le limit 1000000 then Some (record { clients = x.0; limit = limit }) else None
 
-abbrev pub IsLimited : Run → List Step → Finish → Option Run → Type 0
-IsLimited r made f None = ⊥
-IsLimited r made f (Some q) = (f.end ≡ Limited) × IsAfter r made q
+unfoldable pub deliver_in : List ℕ → Option Line
+deliver_in text = number_in text >>= λ n. Some (Deliver n)
 
--- What steps make of a run: they are made, or the limit is reached among them.
-abbrev pub IsMade : Run → List Step → Fed → Type 0
-IsMade r ss (Goes (Running q)) = (length ss + r.world.steps ≤ max_steps) × IsAfter r ss q × (q.events ≡ 1 + r.events)
-IsMade r ss (Goes _) = ⊥
-IsMade r ss (Stops f) = (max_steps < length ss + r.world.steps) × IsLimited r (take (max_steps - r.world.steps) ss) f f.run
+unfoldable pub update_in : List ℕ → Option Line
+update_in text =
+    after (codes "c") text >>= λ rest. number_at rest >>= λ x. if nat_lt x.0 (2 ^ 16) then (after (codes " update ") x.1 >>= λ rest. object_at rest >>= λ y.
+    after (codes " add ") y.1 >>= λ rest. signed_in rest >>= λ by. Some (Update x.0 y.0 (Add by))) else None
 
--- a text without a line feed in it
-abbrev pub IsUnbroken : List ℕ → Type 0
-IsUnbroken [] = Unit {0}
-IsUnbroken (b ∷ bs) = ((b == 10) ≡ false) × IsUnbroken bs
+abbrev pub or_else : Option (List ℕ) → (List ℕ → Option Line) → Option Line → Option Line
+or_else None f other = other
+or_else (Some x) f other = f x
 
--- The lines of the text that were read, and the beginning of the next, which has come so far; the rest is still to come.
-pub record IsAt (text : List ℕ) (stage : Stage) (partial rest : List ℕ) : Type 0 where
-  pub read : List (List ℕ)
-  pub reads : Reads read stage
-  pub cut : lines text ≡ read ++ lines (partial ++ rest)
-  pub unbroken : IsUnbroken partial
-
-abbrev pub IsOn : List ℕ → Progress → List ℕ → Type 0
-IsOn text p rest = IsAt text p.stage p.partial rest
-
--- What comes of the bytes so far: reading goes on, or it has ended.
-abbrev pub Came : List ℕ → List ℕ → Coming → Type 0
-Came text rest (GoesOn p) = IsOn text p rest
-Came text rest (Ended finish) = Finished text finish
+unfoldable pub line_in : List ℕ → Option Line
+line_in line = or_else (after (codes "deliver ") line) deliver_in (update_in line)

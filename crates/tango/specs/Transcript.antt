@@ -41,7 +41,10 @@ writes_words (w ∷ ws) = write_words w.0 w.1 ++ codes " ; " ++ writes_words ws
 abbrev pub done_line : Done → List ℕ
 done_line d = decimal d.stamp ++ codes " c" ++ decimal d.client ++ 32 ∷ decimal d.number ++ 32 ∷ writes_words d.writes ++ 10 ∷ []
 
--- The objects, a line for each reply, and the history with its length before it.
+-- the history with its length before it
+abbrev pub history_lines : List Done → List ℕ
+history_lines history = codes "history " ++ decimal (length history) ++ 10 ∷ flat_map done_line history
+
+-- The objects, a line for each reply, and the history.
 unfoldable pub rendered : List Oid → List Mark → List Done → List ℕ
-rendered objects trace history =
-    objects_line objects ++ 10 ∷ flat_map mark_line trace ++ codes "history " ++ decimal (length history) ++ 10 ∷ flat_map done_line history
+rendered objects trace history = objects_line objects ++ 10 ∷ flat_map mark_line trace ++ history_lines history

@@ -2,7 +2,7 @@
 
 ghost use Rattle.std.specs.Prelude.{◌≡◌, ◌++◌, ℕ, List, [], ◌∷◌, Some, IfOk, IfSome};
 ghost use Rattle.tg_io.specs.Faults.{HasCause, StaysSure};
-ghost use Rattle.tango.specs.Reading.{Came, Finished, IsOn, status_of};
+ghost use Rattle.tango.specs.Stages.{Came, Finished, IsOn, status_of};
 
 use std::alloc::Global;
 use tg_base::{List, NoMemory, Which};

@@ -5,7 +5,7 @@ ghost use Rattle.tango.specs.declared.run.End.TheVariants.{Outside};
 ghost use Rattle.tg_world.specs.Worlds.{run};
 ghost use Rattle.tango.specs.Runs.{max_steps, lines, steps_of, commands_step, MayCome, Script};
 ghost use Rattle.tango.specs.Script.{chains_line};
-ghost use Rattle.tango.specs.Reading.{Reads, Took, Finished, IsRunOf, IsSizeOf, IsMade, IsAt};
+ghost use Rattle.tango.specs.Stages.{Reads, Took, Finished, IsRunOf, IsSizeOf, IsMade, IsAt};
 ghost use Rattle.tango.specs.declared.run.Fed.TheVariants.{Goes, Stops};
 
 use std::alloc::Global;

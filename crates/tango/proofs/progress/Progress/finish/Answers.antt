@@ -3,7 +3,7 @@ use Rattle.tango.specs.declared.run.Stage.{Stage}
 use Rattle.tango.specs.declared.run.Fed.{Fed}
 use Rattle.tango.specs.declared.run.Fed.TheVariants.{Goes, Stops}
 use Rattle.tango.specs.Runs.{lines}
-use Rattle.tango.specs.Reading.{Reads, Took, Finished, IsAt, IsOn, Came}
+use Rattle.tango.specs.Stages.{Reads, Took, Finished, IsAt, IsOn, Came}
 use Rattle.tango.proofs.Texts.{last_fed, none_left, nothing_left}
 use Rattle.tango.proofs.progress.Progress.finish.Goals as goal
 

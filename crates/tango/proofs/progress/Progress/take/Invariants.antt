@@ -3,7 +3,7 @@ use Rattle.tango.specs.declared.run.Stage.{Stage}
 use Rattle.tango.specs.declared.run.Fed.{Fed}
 use Rattle.tango.specs.declared.run.Fed.TheVariants.{Goes, Stops}
 use Rattle.tango.specs.Runs.{lines}
-use Rattle.tango.specs.Reading.{Reads, Took, Finished, IsAt, IsOn, Came}
+use Rattle.tango.specs.Stages.{Reads, Took, Finished, IsAt, IsOn, Came}
 use Rattle.tango.proofs.progress.Progress.take.Given as goal
 
 -- where the whole piece was to come, the rest of it is

@@ -3,7 +3,7 @@ use Rattle.tango.specs.declared.run.Stage.{Stage}
 use Rattle.tango.specs.declared.run.Fed.{Fed}
 use Rattle.tango.specs.declared.run.Fed.TheVariants.{Goes, Stops}
 use Rattle.tango.specs.Runs.{lines}
-use Rattle.tango.specs.Reading.{Reads, Took, Finished, IsAt, IsOn, Came}
+use Rattle.tango.specs.Stages.{Reads, Took, Finished, IsAt, IsOn, Came}
 use Rattle.tango.proofs.Texts.{byte_comes, line_fed, begins_anew}
 use Rattle.tango.proofs.progress.Progress.take_byte.Goals as goal
 

@@ -6,7 +6,7 @@ use Rattle.tg_world.specs.Worlds.{Worlds, run}
 use Rattle.tango.specs.Runs.{max_steps, lines, steps_of, commands_step, MayCome, Script}
 use Rattle.tango.specs.Words.{objects_line}
 use Rattle.tango.specs.Script.{chains_line, AreObjects}
-use Rattle.tango.specs.Reading.{Reads, Took, Finished, IsRunOf, IsSizeOf, IsMade, IsAt}
+use Rattle.tango.specs.Stages.{Reads, Took, Finished, IsRunOf, IsSizeOf, IsMade, IsAt}
 use Rattle.tango.specs.declared.run.Stage.{Stage}
 use Rattle.tango.specs.declared.run.Fed.TheVariants.{Goes, Stops}
 use Rattle.std.proofs.lemmas.List.{length-take}
