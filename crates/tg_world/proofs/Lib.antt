@@ -6,3 +6,4 @@ pub mod Rising
 pub mod Full
 pub mod Stories
 pub mod Sound
+pub mod Turns

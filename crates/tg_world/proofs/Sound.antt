@@ -120,14 +120,14 @@ pub record Grows (next : ℕ) (cells : Cells) (g : Pasts) (next' : ℕ) (cells' 
   pub kept : (x : ℕ × List ℕ) → In x cells → In x cells'
   pub later : (k : ℕ) → Later (g k) (g' k)
 
-later_same : (a : Past) → Later a a
+pub later_same : (a : Past) → Later a a
 later_same a = record { asked = λ h. h; since = λ h. refl; writes = λ oid op pos h. h }
 
 page_grows : (g g' : Pasts) (k pos : ℕ) (bytes : List ℕ) → Later (g k) (g' k) → PageOf g k pos bytes → PageOf g' k pos bytes
 page_grows g g' k pos bytes l h = record { oid = h.oid; op = h.op; is = h.is; writes = l.writes h.oid h.op pos h.writes }
 
 module _ (next : ℕ) (cells : Cells) (g : Pasts) (next' : ℕ) (cells' : Cells) (g' : Pasts) (grows : Grows next cells g next' cells' g') where
-  message_grows : (p : Packet) (m : Msg) → MsgOk next cells g p m → MsgOk next' cells' g' p m
+  pub message_grows : (p : Packet) (m : Msg) → MsgOk next cells g p m → MsgOk next' cells' g' p m
   message_grows p Token h = record { client = h.client; from = h.from; asked = (grows.later h.client).asked h.asked }
   message_grows p (Issued pos) h = record {
     client = h.client;
@@ -140,17 +140,17 @@ module _ (next : ℕ) (cells : Cells) (g : Pasts) (next' : ℕ) (cells' : Cells)
   message_grows p Held h = record { client = h.client; to = h.to; pos = h.pos; bytes = h.bytes; page = page_grows g g' h.client h.pos h.bytes (grows.later h.client) h.page; held = grows.kept (h.pos, h.bytes) h.held }
   message_grows p _ h = tt
 
-  cell_grows : (pos : ℕ) (bytes : List ℕ) → CellOk g pos bytes → CellOk g' pos bytes
+  pub cell_grows : (pos : ℕ) (bytes : List ℕ) → CellOk g pos bytes → CellOk g' pos bytes
   cell_grows pos bytes h = record { client = h.client; page = page_grows g g' h.client pos bytes (grows.later h.client) h.page }
 
-  story_grows : (k since : ℕ) (s : Story) → StoryOk next cells k since s → StoryOk next' cells' k since s
+  pub story_grows : (k since : ℕ) (s : Story) → StoryOk next cells k since s → StoryOk next' cells' k since s
   story_grows k since (writes oid op pos) h = (h.0, let l = h.1 in let n = grows.further in omega arith, h.2)
   story_grows k since (stands oid op pos) h = (h.0, let l = h.1 in let n = grows.further in omega arith, h.2, grows.kept (pos, page k oid op) h.3)
   story_grows k since (holds oid op) h = h
   story_grows k since (asks oid op) h = h
   story_grows k since _ h = tt
 
-all_steps : (w : Worlds) (g : Pasts) (n : ℕ) → All w g → All (record w { steps = n }) g
+pub all_steps : (w : Worlds) (g : Pasts) (n : ℕ) → All w g → All (record w { steps = n }) g
 all_steps w g n h = record { small = h.small; states = h.states; marks = h.marks; first = h.first; began = h.began; stories = h.stories; packets = h.packets; rising = h.rising; cells = h.cells; order = h.order }
 
 -- what a unit does with a message
@@ -218,4 +218,55 @@ module _ (w : Worlds) (g : Pasts) (h : All w g) (p : Packet) (sent : Contains w.
         subst (λ (x : ℕ × List ℕ). CellOk g x.0 x.1) (sym new) (record { client = by.client; page = by.page }))
         (stored_cases w.cells pos bytes (q, b) i))
         (says_held (insert_entry nat_cmp w.cells pos bytes) pos bytes e (stored_in w.cells pos bytes));
+  })
+
+-- what the sequencer does with a message
+pub record SeqrCases (limit next : ℕ) (m : Msg) (P : ℕ → Option Msg → Type 0) : Type 0 where
+  pub silent : P next None
+  pub issues : m ≡ Token → P (next + 1) (Some (Issued next))
+  pub whole : P next (Some (Full limit))
+
+seqr_cases : (limit next : ℕ) (m : Msg) (P : ℕ → Option Msg → Type 0) → SeqrCases limit next m P → P (seqr_step limit next m).now (seqr_step limit next m).says
+unfolding seqr_step
+seqr_cases limit next Token P c = token (nat_lt next limit)
+  where
+    token : (b : Bool) → P (issue limit next b).now (issue limit next b).says
+    token true = c.issues refl
+    token false = c.whole
+seqr_cases limit next _ P c = c.silent
+
+module _ (w : Worlds) (g : Pasts) (h : All w g) (p : Packet) (sent : Contains w.packets p) where
+  abbrev seqr_at : ℕ → Option Msg → Type 0
+  seqr_at next o = All (record w { next = next; packets = w.packets ++ answers p o }) g
+
+  -- the next position grew, and what the sequencer answers is so
+  seqr_all : (next : ℕ) (o : Option Msg) → w.next ≤ next → ((m : Msg) → o ≡ Some m → MsgOk next w.cells g (packet p.to p.from p.rid m) m) → seqr_at next o
+  seqr_all next o further says =
+      let grows : Grows w.next w.cells g next w.cells g = record { further = further; kept = λ x i. i; later = λ k. later_same (g k) } in
+      record {
+        small = h.small;
+        states = h.states;
+        marks = h.marks;
+        first = h.first;
+        began = λ k. let b = h.began k in omega arith;
+        stories = λ k. story_grows w.next w.cells g next w.cells g grows k (g k).since (g k).story (h.stories k);
+        packets = λ q c. old_or_new w.packets (answers p o) q (PacketOk next w.cells g q) c
+            (λ old. message_grows w.next w.cells g next w.cells g grows q q.msg (h.packets q old))
+            (λ new. let s = one_sent p o q new in subst (PacketOk next w.cells g) s.2 (says s.0 s.1));
+        rising = h.rising;
+        cells = h.cells;
+        order = h.order;
+      }
+
+  issued_to : p.msg ≡ Token → IssuedTo (w.next + 1) g (packet p.to p.from p.rid (Issued w.next)) w.next
+  issued_to e =
+      let by : AskedBy g p = subst (MsgOk w.next w.cells g p) e (h.packets p sent) in
+      record { client = by.client; to = by.from; below = omega arith; since = h.began by.client; asked = by.asked }
+
+  pub seqr_keeps : All (seqr_moves w p) g
+  unfolding seqr_moves
+  seqr_keeps = seqr_cases w.limit w.next p.msg seqr_at (record {
+    silent = seqr_all w.next None (omega arith) (λ m s. absurd (cc));
+    issues = λ e. seqr_all (w.next + 1) (Some (Issued w.next)) (omega arith) (λ m s. subst (λ x. MsgOk (w.next + 1) w.cells g (packet p.to p.from p.rid x) x) (some_same s) (issued_to e));
+    whole = seqr_all w.next (Some (Full w.limit)) (omega arith) (λ m s. subst (λ x. MsgOk w.next w.cells g (packet p.to p.from p.rid x) x) (some_same s) tt);
   })
