@@ -7,3 +7,4 @@ pub mod Full
 pub mod Stories
 pub mod Sound
 pub mod Turns
+pub mod Runs

@@ -44,11 +44,11 @@ upd_at k x g Q here there j = ⊎_elim
     (cases_eq j k)
 
 -- the next position when it began
-abbrev since_after : Move → ℕ → ℕ → ℕ
+abbrev pub since_after : Move → ℕ → ℕ → ℕ
 since_after opens next since = next
 since_after _ next since = since
 
-abbrev past_after : Move → ℕ → Past → Past
+abbrev pub past_after : Move → ℕ → Past → Past
 past_after m next a = record { story = after m; since = since_after m next a.since }
 
 since_kept : (m : Move) (next since : ℕ) → Asked (before m) → since_after m next since ≡ since
@@ -153,7 +153,7 @@ module _ (w : Worlds) (g : Pasts) (h : All w g) (event k : ℕ) (within : k < le
       (said_append k w.trace (marked event k (says_of m)) ∙ (λ i. (h.marks k ∙ ap said_of from) i ++ said_own event k (says_of m) i) ∙ said_after m)
       (λ j n. said_append j w.trace (marked event k (says_of m)) ∙ (λ i. h.marks j i ++ said_other event k j (says_of m) n i) ∙ append-nil (said_of (g j).story))
 
-  turn_keeps : All (client_moves w event k (turn_of k m)) v
+  pub turn_keeps : All (client_moves w event k (turn_of k m)) v
   unfolding client_moves
   turn_keeps = record {
     small = rw length-set (h.small);
