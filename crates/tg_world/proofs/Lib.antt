@@ -8,3 +8,4 @@ pub mod Stories
 pub mod Sound
 pub mod Turns
 pub mod Runs
+pub mod Told
