@@ -1,28 +1,22 @@
 -- A client answers that the log is full only where the sequencer told it so.
-use Rattle.std.proofs.Common.{◌≡◌, ◌⊎◌, ℕ, zero, suc, ◌+◌, ◌<◌, ◌≤◌, List, [], ◌∷◌, ◌++◌, length, Bool, true, false, ◌&&◌, eqb, ltb, refl, sym, ap, ◌∙◌, subst, inl, inr, ⊎_elim, arith, Some, None, Option}
-use Rattle.std.specs.Prelude.{Contains, map, nat_lt, if◌then◌else◌}
-use Rattle.std.proofs.lemmas.Bool.{ltb-true, ltb-false, eqb-true}
+use Rattle.std.proofs.Common.{◌≡◌, ℕ, ◌+◌, ◌≤◌, List, [], ◌∷◌, refl, sym, ap, ◌∙◌, subst, ⊎_elim, arith, Some}
+use Rattle.std.specs.Prelude.{Contains}
 use Rattle.std.proofs.lemmas.List.Elements.{Contains-append_cases, Contains-append_left}
-use Rattle.tg_base.specs.declared.ids.Role.{Role}
-use Rattle.tg_base.specs.declared.ids.Role.TheVariants.{Unit as UnitRole, Layout, Seqr, Client as ClientRole}
-use Rattle.tg_base.specs.declared.ids.NodeId.{NodeId}
 use Rattle.tg_model.specs.declared.Command.{Command}
-use Rattle.tg_model.specs.declared.Command.TheVariants.{Begin as DoBegin, Put as DoPut, End as DoEnd}
 use Rattle.tg_model.specs.declared.Event.{Event}
 use Rattle.tg_model.specs.declared.Mark.{Mark}
 use Rattle.tg_model.specs.declared.What.{What}
-use Rattle.tg_model.specs.declared.What.TheVariants.{Begin, Put, End, Committed, Refused}
+use Rattle.tg_model.specs.declared.What.TheVariants.{Refused}
 use Rattle.tg_model.specs.declared.Refusal.TheVariants.{LogFull}
 use Rattle.tg_world.specs.declared.client.Client.{Client}
-use Rattle.tg_world.specs.declared.client.Client.TheVariants.{Idle, Begun, Buffered, Asking, Writing, Closed}
 use Rattle.tg_world.specs.declared.msg.Msg.{Msg}
-use Rattle.tg_world.specs.declared.msg.Msg.TheVariants.{Token, Issued, Full, Write, Held, Taken}
+use Rattle.tg_world.specs.declared.msg.Msg.TheVariants.{Full}
 use Rattle.tg_world.specs.declared.msg.Packet.{Packet}
 use Rattle.tg_world.specs.declared.world.Step.{Step}
-use Rattle.tg_world.specs.Names.{Place, AtUnit, AtSeqr, AtClient, Nowhere, place_of, place, unit_id, seqr_id, client_id, packet, answers}
-use Rattle.tg_world.specs.Nodes.{Cells, cell_at, UnitTurn, on_same, on_write, unit_step, SeqrTurn, issue, seqr_step, ClientTurn, stays, token_rid, write_rid, commanded, awaits, takes, given}
-use Rattle.tg_world.specs.Worlds.{Worlds, unit_moves, seqr_moves, client_moves, marked, happens, start, run, world}
-use Rattle.tg_world.specs.Laws.{FullWasAnswered, FullHasCause}
+use Rattle.tg_world.specs.Names.{AtSeqr, place, seqr_id, client_id, packet, answers}
+use Rattle.tg_world.specs.Nodes.{Cells, unit_step, seqr_step, ClientTurn, token_rid, commanded, takes, given}
+use Rattle.tg_world.specs.Worlds.{Worlds, unit_moves, seqr_moves, client_moves, marked, happens, start}
+use Rattle.tg_world.specs.Laws.{FullHasCause}
 use Rattle.tg_world.proofs.Lists.{In, In-from_contains, contains_none}
 use Rattle.tg_world.proofs.Sent.{one_sent, at_seqr, at_client, marked_says, old_or_new}
 use Rattle.tg_world.proofs.Moves.{Cases, Each, step_cases, run_keeps}

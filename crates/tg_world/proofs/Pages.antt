@@ -1,15 +1,13 @@
 -- A page says what it was made of.
-use Rattle.std.proofs.Common.{◌≡◌, ℕ, Fits, ◌<◌, ◌^◌, List, [], ◌∷◌, ◌++◌, length, take, drop, refl, sym, ap, ◌∙◌, subst, arith, Some, None, Option}
-use Rattle.std.specs.Prelude.{FitsSigned, ◌==◌, if◌then◌else◌}
-use Rattle.std.specs.Int.{to_be_bytes, from_be_bytes, cast_signed, cast_unsigned, w16, w32, w64}
+use Rattle.std.proofs.Common.{◌≡◌, ℕ, Fits, ◌<◌, ◌^◌, ap, ◌∙◌, arith, Some}
+use Rattle.std.specs.Int.{to_be_bytes, from_be_bytes, cast_signed, cast_unsigned, w64}
 use Rattle.std.proofs.lemmas.Nat.{from_be_bytes-to_be_bytes_2, from_be_bytes-to_be_bytes_4, from_be_bytes-to_be_bytes_8}
 use Rattle.std.proofs.lemmas.Int.{to_z-of_z}
 use Rattle.std.proofs.Math.Facts.{Fits-of_z}
 use Rattle.tg_base.specs.declared.ids.Oid.{Oid}
 use Rattle.tg_model.specs.declared.Op.{Op}
 use Rattle.tg_model.specs.declared.Op.TheVariants.{Add}
-use Rattle.tg_world.specs.declared.page.Record.{Record}
-use Rattle.tg_world.specs.Page.{page_of, record_of, op_bytes}
+use Rattle.tg_world.specs.Page.{page_of, record_of}
 use Rattle.tg_world.specs.Laws.{IsWrite}
 
 pub record_of_page : (k n : ℕ) (oid : Oid) (op : Op) → k < 2 ^ 16 → n < 2 ^ 32 → IsWrite oid op → record_of (page_of (record { client = k; number = n; oid = oid; op = op })) ≡ Some (record { client = k; number = n; oid = oid; op = op })

@@ -1,30 +1,27 @@
 -- Every world that steps lead to is sound.
-use Rattle.std.proofs.Common.{◌≡◌, ◌⊎◌, ℕ, ◌+◌, ◌<◌, ◌≤◌, ◌^◌, List, [], ◌∷◌, ◌++◌, length, get_or, Bool, true, false, refl, sym, ap, ◌∙◌, subst, inl, inr, ⊎_elim, arith, Some, None, Option}
+use Rattle.std.proofs.Common.{◌≡◌, ℕ, ◌+◌, ◌<◌, ◌≤◌, ◌^◌, List, [], ◌∷◌, length, Bool, true, false, refl, sym, ap, ◌∙◌, subst, arith, Some}
 use Rattle.std.specs.Prelude.{Contains, slice_get, slice_index_or, replicate, if◌then◌else◌}
 use Rattle.std.proofs.lemmas.List.{get_or-replicate, get_or_past, length-replicate}
 use Rattle.std.proofs.lemmas.Option.{slice_get_within, get_or_from_slice_get}
 use Rattle.tg_base.specs.declared.ids.NodeId.{NodeId}
-use Rattle.tg_base.specs.declared.ids.Oid.{Oid}
-use Rattle.tg_model.specs.declared.Op.{Op}
 use Rattle.tg_model.specs.declared.Command.{Command}
-use Rattle.tg_model.specs.declared.Command.TheVariants.{Begin as DoBegin, Put as DoPut, End as DoEnd}
+use Rattle.tg_model.specs.declared.Command.TheVariants.{Put as DoPut, End as DoEnd}
 use Rattle.tg_model.specs.declared.Event.{Event}
-use Rattle.tg_model.specs.declared.Event.TheVariants.{Command as Commands}
 use Rattle.tg_world.specs.declared.client.Client.{Client}
 use Rattle.tg_world.specs.declared.client.Client.TheVariants.{Idle}
 use Rattle.tg_world.specs.declared.msg.Msg.{Msg}
-use Rattle.tg_world.specs.declared.msg.Msg.TheVariants.{Token, Issued, Full, Write, Held, Taken}
+use Rattle.tg_world.specs.declared.msg.Msg.TheVariants.{Issued, Full, Held}
 use Rattle.tg_world.specs.declared.msg.Packet.{Packet}
 use Rattle.tg_world.specs.declared.world.Step.{Step}
 use Rattle.tg_world.specs.Names.{AtClient, place, client_id}
 use Rattle.tg_world.specs.Nodes.{Cells, ClientTurn, stays, commanded, awaits, takes, given}
-use Rattle.tg_world.specs.Worlds.{Worlds, client_moves, happens, start, run, world}
-use Rattle.tg_world.specs.Laws.{IsWrite, IsCommand, IsEvent, AreSteps}
+use Rattle.tg_world.specs.Worlds.{Worlds, client_moves, happens, start, world}
+use Rattle.tg_world.specs.Laws.{IsCommand, IsEvent, AreSteps}
 use Rattle.tg_world.proofs.Lists.{In, contains_none}
 use Rattle.tg_world.proofs.Sent.{at_client}
 use Rattle.tg_world.proofs.Moves.{Cases, Each, step_cases, run_keeps}
-use Rattle.tg_world.proofs.Stories.{Story, fresh, opened, holds, asks, writes, stands, refused, empty, state_of, WritesAt, Move, rests, opens, buffers, ends, takes_issued, takes_full, takes_held, ends_empty, before, after, page, turn_of, command_move, command_turn, answer_move, answer_turn, one_write}
-use Rattle.tg_world.proofs.Sound.{Past, Pasts, IssuedTo, PageOf, HeldFor, MsgOk, StoryOk, All, all_steps, unit_keeps, seqr_keeps}
+use Rattle.tg_world.proofs.Stories.{Story, fresh, opened, holds, asks, writes, state_of, WritesAt, Move, rests, before, after, page, turn_of, command_move, command_turn, answer_move, answer_turn}
+use Rattle.tg_world.proofs.Sound.{Pasts, IssuedTo, HeldFor, MsgOk, StoryOk, All, all_steps, unit_keeps, seqr_keeps}
 use Rattle.tg_world.proofs.Turns.{since_after, turn_keeps}
 
 pub record Sound (w : Worlds) : Type 0 where
@@ -68,9 +65,9 @@ module _ (w : Worlds) (event : ℕ) (g : Pasts) (h : All w g) where
       let s = (g k).story in
       let t = command_turn k s cmd in
       turned k (slice_get_within w.clients k c got) (command_move s cmd) (sym t.0)
-          (command_ok w.next w.cells k (g k).since s cmd ok (h.stories k))
-          (commanded k c cmd)
-          (ap (λ x. commanded k x cmd) (state k c got) ∙ t.1)
+      (command_ok w.next w.cells k (g k).since s cmd ok (h.stories k))
+      (commanded k c cmd)
+      (ap (λ x. commanded k x cmd) (state k c got) ∙ t.1)
 
   by_answer : (k : ℕ) (p : Packet) (c : Client) → Contains w.packets p → place p.to ≡ AtClient k → slice_get w.clients k ≡ Some c → Sound (client_moves w event k (given k c p))
   by_answer k p c sent at got = judged (awaits c (place p.from) p.rid)
@@ -83,9 +80,9 @@ module _ (w : Worlds) (event : ℕ) (g : Pasts) (h : All w g) where
       judged true =
           let t = answer_turn k s p.msg in
           turned k (slice_get_within w.clients k c got) (answer_move s p.msg) (sym t.0)
-              (answer_ok w.next w.cells g k p s p.msg (at_client p.to k at) refl (h.packets p sent) (h.stories k))
-              (takes k c p.msg)
-              (ap (λ x. takes k x p.msg) (state k c got) ∙ t.1)
+          (answer_ok w.next w.cells g k p s p.msg (at_client p.to k at) refl (h.packets p sent) (h.stories k))
+          (takes k c p.msg)
+          (ap (λ x. takes k x p.msg) (state k c got) ∙ t.1)
 
 sound_cases : (w : Worlds) (event : ℕ) (what : Event) → IsEvent what → Sound w → Cases w event what Sound
 sound_cases w event what ok h = record {

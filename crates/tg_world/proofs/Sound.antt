@@ -1,33 +1,25 @@
 -- What every world keeps: of each client's story, of each packet, of each cell, and of the order of the replies.
-use Rattle.std.proofs.Common.{◌≡◌, ◌≢◌, ◌⊎◌, ℕ, ◌+◌, ◌<◌, ◌≤◌, ◌^◌, List, [], ◌∷◌, ◌++◌, length, get_or, set, Bool, true, false, eqb, cond, refl, sym, ap, ◌∙◌, subst, inl, inr, ⊎_elim, arith, Some, None, Option, append-nil}
+use Rattle.std.proofs.Common.{◌≡◌, ℕ, ◌+◌, ◌<◌, ◌≤◌, ◌^◌, List, ◌++◌, length, Bool, true, false, refl, sym, ap, ◌∙◌, subst, ⊎_elim, arith, Some, None, Option}
 use Rattle.std.specs.Prelude.{Contains, slice_get, slice_index_or, nat_lt, ◌==◌}
-use Rattle.std.proofs.lemmas.Bool.{cases_eq, eqb-true, eq-eqb, ne_eqb}
-use Rattle.std.proofs.lemmas.List.{length-set}
-use Rattle.std.proofs.lemmas.List.Elements.{Contains-append_cases, Contains-append_left}
-use Rattle.std.proofs.lemmas.Option.{slice_get_within, get_or_from_slice_get}
 use Rattle.std.specs.Ordering.{nat_cmp}
 use Rattle.std.specs.BTreeMap.{insert_entry}
 use Rattle.std.specs.Cmp.Lexicographic.{same_text, pointwise}
 use Rattle.tg_base.specs.declared.ids.Oid.{Oid}
 use Rattle.tg_model.specs.declared.Op.{Op}
-use Rattle.tg_model.specs.declared.Command.{Command}
-use Rattle.tg_model.specs.declared.Event.{Event}
 use Rattle.tg_model.specs.declared.Mark.{Mark}
-use Rattle.tg_model.specs.declared.What.{What}
-use Rattle.tg_model.specs.declared.What.TheVariants.{Begin, Put, End, Committed, Refused}
-use Rattle.tg_world.specs.declared.client.Client.{Client}
+use Rattle.tg_model.specs.declared.What.TheVariants.{Begin, Committed}
 use Rattle.tg_world.specs.declared.client.Client.TheVariants.{Idle}
 use Rattle.tg_world.specs.declared.msg.Msg.{Msg}
 use Rattle.tg_world.specs.declared.msg.Msg.TheVariants.{Token, Issued, Full, Write, Held, Taken}
 use Rattle.tg_world.specs.declared.msg.Packet.{Packet}
-use Rattle.tg_world.specs.Names.{AtClient, place, client_id, packet, answers}
-use Rattle.tg_world.specs.Nodes.{Cells, cell_at, UnitTurn, on_same, on_write, unit_step, SeqrTurn, issue, seqr_step, ClientTurn}
-use Rattle.tg_world.specs.Worlds.{Worlds, unit_moves, seqr_moves, client_moves, marked}
-use Rattle.tg_world.specs.Laws.{IsWrite, IsCommand}
-use Rattle.tg_world.proofs.Lists.{at_set, In, In-from_contains, got_cases, contains_got, some_same}
-use Rattle.tg_world.proofs.Sent.{one_sent, at_client, marked_says, old_or_new}
+use Rattle.tg_world.specs.Names.{client_id, packet, answers}
+use Rattle.tg_world.specs.Nodes.{Cells, cell_at, on_same, on_write, unit_step, issue, seqr_step}
+use Rattle.tg_world.specs.Worlds.{Worlds, unit_moves, seqr_moves}
+use Rattle.tg_world.specs.Laws.{IsWrite}
+use Rattle.tg_world.proofs.Lists.{In, some_same}
+use Rattle.tg_world.proofs.Sent.{one_sent, old_or_new}
 use Rattle.tg_world.proofs.Rising.{Rising, rising_stored, stored_in, stored_keeps, stored_cases, held_in}
-use Rattle.tg_world.proofs.Stories.{Story, fresh, opened, holds, asks, writes, stands, refused, empty, state_of, said_of, Asked, WritesAt, StandsAt, Move, rests, opens, buffers, ends, takes_issued, takes_full, takes_held, ends_empty, before, after, says_of, page, outs_of, turn_of, said, said_append, said_own, said_other, in_said, said_after, asked_after, writes_after, one_write}
+use Rattle.tg_world.proofs.Stories.{Story, holds, asks, writes, stands, state_of, said_of, Asked, WritesAt, StandsAt, page, said}
 
 -- a client's story, and the next position when it began
 pub record Past : Type 0 where

@@ -1,6 +1,5 @@
 -- How far each client's transaction came, what it said, and what a turn of a client can do.
-use Rattle.std.proofs.Common.{◌≡◌, ◌≢◌, ◌⊎◌, ℕ, ◌+◌, ◌<◌, ◌≤◌, List, [], ◌∷◌, ◌++◌, length, Bool, true, false, ◌&&◌, eqb, cond, refl, sym, ap, ◌∙◌, subst, inl, inr, ⊎_elim, append_assoc, arith, Some, None, Option}
-use Rattle.std.specs.Prelude.{Contains, map, if◌then◌else◌, ◌==◌}
+use Rattle.std.proofs.Common.{◌≡◌, ◌≢◌, ◌⊎◌, ℕ, List, [], ◌∷◌, ◌++◌, Bool, true, false, refl, sym, ap, ◌∙◌, inl, inr, ⊎_elim, append_assoc, arith}
 use Rattle.tg_base.specs.declared.ids.Oid.{Oid}
 use Rattle.tg_model.specs.declared.Op.{Op}
 use Rattle.tg_model.specs.declared.Command.{Command}
@@ -9,18 +8,17 @@ use Rattle.tg_model.specs.declared.Mark.{Mark}
 use Rattle.tg_model.specs.declared.What.{What}
 use Rattle.tg_model.specs.declared.What.TheVariants.{Begin, Put, End, Committed, Refused}
 use Rattle.tg_model.specs.declared.Refusal.TheVariants.{LogFull}
-use Rattle.tg_model.specs.Trace.{is_of, put_of, puts, Says}
+use Rattle.tg_model.specs.Trace.{is_of, put_of, puts}
 use Rattle.tg_world.specs.declared.client.Client.{Client}
 use Rattle.tg_world.specs.declared.client.Client.TheVariants.{Idle, Begun, Buffered, Asking, Writing, Closed}
 use Rattle.tg_world.specs.declared.msg.Msg.{Msg}
-use Rattle.tg_world.specs.declared.msg.Msg.TheVariants.{Token, Issued, Full, Write, Held, Taken}
+use Rattle.tg_world.specs.declared.msg.Msg.TheVariants.{Token, Issued, Full, Write, Held}
 use Rattle.tg_world.specs.declared.msg.Packet.{Packet}
-use Rattle.tg_world.specs.Names.{Place, AtUnit, AtSeqr, AtClient, Nowhere, place, unit_id, seqr_id, client_id, packet}
+use Rattle.tg_world.specs.Names.{unit_id, seqr_id, client_id, packet}
 use Rattle.tg_world.specs.Page.{page_of}
-use Rattle.tg_world.specs.Nodes.{ClientTurn, stays, token_rid, write_rid, commanded, awaits, takes, given}
-use Rattle.tg_world.specs.Laws.{IsWrite, IsCommand}
+use Rattle.tg_world.specs.Nodes.{ClientTurn, token_rid, write_rid, commanded, takes}
 use Rattle.tg_world.specs.Worlds.{marked}
-use Rattle.tg_world.proofs.Lists.{In, Contains-from_in, In-from_contains}
+use Rattle.tg_world.proofs.Lists.{In}
 
 -- how far a transaction came: unlike the client's own state, it still knows what came of it
 pub data Story : Type 0 where

@@ -1,6 +1,6 @@
 -- A sound world's replies and history are legal.
-use Rattle.std.proofs.Common.{◌≡◌, ◌≢◌, ◌⊎◌, ℕ, zero, suc, ◌+◌, ◌<◌, ◌≤◌, ◌^◌, List, [], ◌∷◌, ◌++◌, length, get_or, Bool, true, false, ltb, refl, sym, ap, ◌∙◌, subst, inl, inr, ⊎_elim, arith, Some, None, Option}
-use Rattle.std.specs.Prelude.{Contains, slice_get, slice_index_or}
+use Rattle.std.proofs.Common.{◌≡◌, ◌≢◌, ◌⊎◌, ℕ, zero, suc, ◌+◌, ◌<◌, ◌≤◌, List, [], ◌∷◌, ◌++◌, length, Bool, true, false, ltb, refl, sym, ap, ◌∙◌, subst, inl, inr, ⊎_elim, arith, Some}
+use Rattle.std.specs.Prelude.{Contains, slice_get}
 use Rattle.std.specs.List.{flat_map}
 use Rattle.std.proofs.lemmas.Bool.{ltb-true, ltb-false}
 use Rattle.std.proofs.lemmas.List.{get_or_past}
@@ -10,23 +10,20 @@ use Rattle.tg_model.specs.declared.Op.{Op}
 use Rattle.tg_model.specs.declared.Mark.{Mark}
 use Rattle.tg_model.specs.declared.Done.{Done}
 use Rattle.tg_model.specs.declared.What.{What}
-use Rattle.tg_model.specs.declared.What.TheVariants.{Begin, Put, End, Committed, Refused}
+use Rattle.tg_model.specs.declared.What.TheVariants.{End, Committed}
 use Rattle.tg_model.specs.Trace.{puts, Says, point}
-use Rattle.tg_model.specs.Legal.{IsHistory, CommittedStands, EntriesWereEnded, RepliesPrecede, LegalOfUpdates}
-use Rattle.tg_world.specs.declared.client.Client.{Client}
-use Rattle.tg_world.specs.declared.client.Client.TheVariants.{Idle, Writing, Closed}
-use Rattle.tg_world.specs.declared.page.Record.{Record}
-use Rattle.tg_world.specs.declared.world.Step.{Step}
+use Rattle.tg_model.specs.Legal.{IsHistory, CommittedStands, RepliesPrecede, LegalOfUpdates}
+use Rattle.tg_world.specs.declared.client.Client.TheVariants.{Idle}
 use Rattle.tg_world.specs.Page.{record_of}
 use Rattle.tg_world.specs.Nodes.{Cells}
 use Rattle.tg_world.specs.Worlds.{Worlds, world, done_at, history}
-use Rattle.tg_world.specs.Laws.{IsWrite, AreSteps, EveryWorldIsLegal}
+use Rattle.tg_world.specs.Laws.{IsWrite, EveryWorldIsLegal}
 use Rattle.tg_world.proofs.Lists.{In, In-from_contains, Contains-from_in, contains_got, some_same}
 use Rattle.tg_world.proofs.Pages.{record_of_page}
 use Rattle.tg_world.proofs.Rising.{Above, Rising}
-use Rattle.tg_world.proofs.Stories.{Story, fresh, opened, holds, asks, writes, stands, refused, empty, state_of, said_of, WritesAt, StandsAt, page, one_write, stands_writes, said, in_said, SaidBy, said_in, put_in, puts_said}
-use Rattle.tg_world.proofs.Sound.{Past, Pasts, PageOf, CellOk, StoryOk, All}
-use Rattle.tg_world.proofs.Runs.{Sound, sound}
+use Rattle.tg_world.proofs.Stories.{Story, writes, stands, empty, state_of, said_of, WritesAt, StandsAt, page, one_write, stands_writes, in_said, said_in, put_in, puts_said}
+use Rattle.tg_world.proofs.Sound.{Pasts, CellOk, StoryOk, All}
+use Rattle.tg_world.proofs.Runs.{sound}
 
 -- positions that rise
 above_got : (p : ℕ) (cs : Cells) (j : ℕ) (e : ℕ × List ℕ) → Above p cs → slice_get cs j ≡ Some e → p < e.0

@@ -1,31 +1,20 @@
 -- A client's turn keeps what every world keeps.
-use Rattle.std.proofs.Common.{◌≡◌, ◌≢◌, ◌⊎◌, ℕ, ◌+◌, ◌<◌, ◌≤◌, ◌^◌, List, [], ◌∷◌, ◌++◌, length, get_or, set, Bool, true, false, eqb, cond, refl, sym, ap, ◌∙◌, subst, inl, inr, ⊎_elim, arith, Some, None, Option, append-nil}
-use Rattle.std.specs.Prelude.{Contains, slice_get, slice_index_or, if◌then◌else◌}
-use Rattle.std.proofs.lemmas.Bool.{cases_eq, eqb-true, eq-eqb, ne_eqb}
+use Rattle.std.proofs.Common.{◌≡◌, ◌≢◌, ℕ, ◌<◌, ◌≤◌, ◌++◌, length, eqb, cond, refl, sym, ap, ◌∙◌, subst, inl, inr, ⊎_elim, arith, Some, append-nil}
+use Rattle.std.specs.Prelude.{Contains, slice_get}
+use Rattle.std.proofs.lemmas.Bool.{cases_eq, eq-eqb, ne_eqb}
 use Rattle.std.proofs.lemmas.List.{length-set}
 use Rattle.std.proofs.lemmas.List.Elements.{Contains-append_cases}
-use Rattle.std.proofs.lemmas.Option.{slice_get_within, get_or_from_slice_get}
-use Rattle.tg_base.specs.declared.ids.Oid.{Oid}
-use Rattle.tg_model.specs.declared.Op.{Op}
-use Rattle.tg_model.specs.declared.Command.{Command}
-use Rattle.tg_model.specs.declared.Event.{Event}
-use Rattle.tg_model.specs.declared.Event.TheVariants.{Command as Commands}
+use Rattle.std.proofs.lemmas.Option.{slice_get_within}
 use Rattle.tg_model.specs.declared.Mark.{Mark}
-use Rattle.tg_model.specs.declared.What.{What}
 use Rattle.tg_model.specs.declared.What.TheVariants.{Begin, Committed}
-use Rattle.tg_world.specs.declared.client.Client.{Client}
 use Rattle.tg_world.specs.declared.client.Client.TheVariants.{Idle}
-use Rattle.tg_world.specs.declared.msg.Msg.{Msg}
-use Rattle.tg_world.specs.declared.msg.Msg.TheVariants.{Token, Issued, Full, Write, Held, Taken}
 use Rattle.tg_world.specs.declared.msg.Packet.{Packet}
-use Rattle.tg_world.specs.Names.{AtClient, place, client_id, packet}
-use Rattle.tg_world.specs.Nodes.{Cells, ClientTurn, stays, commanded, awaits, takes, given}
+use Rattle.tg_world.specs.Nodes.{Cells}
 use Rattle.tg_world.specs.Worlds.{Worlds, client_moves, marked}
-use Rattle.tg_world.specs.Laws.{IsWrite, IsCommand}
-use Rattle.tg_world.proofs.Lists.{at_set, In, In-from_contains, got_cases, contains_got, some_same}
-use Rattle.tg_world.proofs.Sent.{at_client, marked_says, old_or_new}
-use Rattle.tg_world.proofs.Stories.{Story, fresh, opened, holds, asks, writes, stands, refused, empty, state_of, said_of, Asked, WritesAt, StandsAt, Move, rests, opens, buffers, ends, takes_issued, takes_full, takes_held, ends_empty, before, after, says_of, page, outs_of, turn_of, command_move, command_turn, answer_move, answer_turn, said, said_append, said_own, said_other, in_said, said_after, asked_after, writes_after, one_write}
-use Rattle.tg_world.proofs.Sound.{Past, Pasts, AskedBy, IssuedTo, PageOf, WrittenBy, HeldFor, CellOk, MsgOk, PacketOk, StoryOk, Ordered, All, Later, Grows, message_grows, cell_grows, story_grows, later_same}
+use Rattle.tg_world.proofs.Lists.{at_set, In, In-from_contains, got_cases, contains_got}
+use Rattle.tg_world.proofs.Sent.{marked_says, old_or_new}
+use Rattle.tg_world.proofs.Stories.{Story, stands, state_of, said_of, Asked, WritesAt, StandsAt, Move, opens, ends, takes_issued, before, after, says_of, outs_of, turn_of, said, said_append, said_own, said_other, in_said, said_after, asked_after, writes_after}
+use Rattle.tg_world.proofs.Sound.{Past, Pasts, PacketOk, StoryOk, Ordered, All, Later, Grows, message_grows, cell_grows, later_same}
 
 -- the past of client k alone is another
 abbrev pub upd : ℕ → Past → Pasts → Pasts
