@@ -3,10 +3,12 @@
 #![tactic(auto)]
 
 mod client;
+mod laws;
 mod msg;
 mod page;
 mod seqr;
 mod unit;
 mod world;
 
+pub use laws::{every_world_is_legal, full_has_cause};
 pub use world::{Step, World};
