@@ -10,3 +10,6 @@ mod unit;
 mod world;
 
 pub use world::{Step, World};
+
+#[cfg(test)]
+mod tests;
