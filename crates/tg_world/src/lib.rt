@@ -12,3 +12,6 @@ mod world;
 
 pub use laws::{every_world_is_legal, full_has_cause};
 pub use world::{Step, World};
+
+#[cfg(test)]
+mod tests;
