@@ -247,10 +247,12 @@ run_limited text line read more r q s l h cut number comes spelled over under ob
     record {
       limit = refl;
       script = longer s l;
-      lawful = script_longer s l h.lawful number comes;
-      begins = ap (λ n. take n (lines text)) count ∙ ap (λ ls. take (suc (length read)) ls) cut ∙ front_more read more line ∙ text_same read line s l h spelled ∙ sym whole;
-      over = let k = counts in omega arith;
-      before = subst IsWithin (sym (at_end s l (length (s.events ++ l ∷ []) - 1) (let e = length_last s.events l in omega arith))) h.within;
+      passes = record {
+        lawful = script_longer s l h.lawful number comes;
+        begins = ap (λ n. take n (lines text)) count ∙ ap (λ ls. take (suc (length read)) ls) cut ∙ front_more read more line ∙ text_same read line s l h spelled ∙ sym whole;
+        over = let k = counts in omega arith;
+        before = subst IsWithin (sym (at_end s l (length (s.events ++ l ∷ []) - 1) (let e = length_last s.events l in omega arith))) h.within;
+      };
       printed = ap (λ (x : List Oid). transcript x q.world) (objects ∙ h.objects) ∙ ap (λ w. transcript s.objects w) here;
     }
   where

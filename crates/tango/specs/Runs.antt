@@ -125,14 +125,18 @@ pub record Refused (text : List ℕ) (n : ℕ) (out : List ℕ) : Type 0 where
   pub first : FirstOutside text n before
   pub printed : out ≡ printed_before (nat_le n 3) before
 
--- The last of these events would pass the limit of steps, and was made as far as the limit.
+-- The text begins with this script, whose last line is the first that passes the limit of steps.
+pub record PassesLimit (text : List ℕ) (s : Script) : Type 0 where
+  pub lawful : IsScript s
+  pub begins : Begins text (3 + length s.events) s
+  pub over : max_steps < length (steps s.events)
+  pub before : IsWithin (front (length s.events - 1) s)
+
+-- The steps were made as far as the limit, in the midst of a line too.
 pub record Limited (text : List ℕ) (which : Which) (out : List ℕ) : Type 0 where
   pub limit : which ≡ Steps
   pub script : Script
-  pub lawful : IsScript script
-  pub begins : Begins text (3 + length script.events) script
-  pub over : max_steps < length (steps script.events)
-  pub before : IsWithin (front (length script.events - 1) script)
+  pub passes : PassesLimit text script
   pub printed : out ≡ transcript script.objects (world_after max_steps script)
 
 -- What the status says of the text, and what is printed with it.

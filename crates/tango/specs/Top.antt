@@ -1,0 +1,41 @@
+-- What the program promises of a replay.
+use Rattle.std.specs.Prelude.{◌≡◌, ◌⊎◌, ℕ, ◌++◌, List, [], Option, Some, None, Contains}
+use Rattle.tg_io.specs.declared.status.Status.{Status}
+use Rattle.tg_io.specs.declared.status.Status.TheVariants.{Done, Illegal, Words, Script as AtLine, ReadFault, WriteFault, LinkFault, Limit, NoMemory}
+use Rattle.tg_model.specs.declared.Mark.{Mark}
+use Rattle.tg_model.specs.declared.What.TheVariants.{Refused as Refuses}
+use Rattle.tg_model.specs.declared.Refusal.TheVariants.{LogFull}
+use Rattle.tg_model.specs.Legal.{LegalOfUpdates}
+use Rattle.tg_world.specs.Laws.{FullWasAnswered}
+use Rattle.tg_world.specs.Worlds.{history}
+use Rattle.tango.specs.Runs.{Script, IsScript, Tells, Outcome, world_of, Replayed, Refused, Limited}
+
+-- Of a text that the source tells, and of what was written to a sink that tells: P.
+abbrev pub Told : Option (List ℕ) → Option (List ℕ) → Option (List ℕ) → (List ℕ → List ℕ → Type 0) → Type 0
+Told (Some text) (Some before) after P = (out : List ℕ) × (after ≡ Some (before ++ out)) × P text out
+Told (Some text) None after P = Unit {0}
+Told None before after P = Unit {0}
+
+-- a front of the transcript that one of the statuses 0, 3 and 7 asks for
+abbrev pub IsFront : List ℕ → List ℕ → Type 0
+IsFront text out = (status : Status) × (whole rest : List ℕ) × Outcome text status whole × (out ++ rest ≡ whole)
+
+-- nothing, or a front of a transcript
+abbrev pub IsCutShort : List ℕ → List ℕ → Type 0
+IsCutShort text out = (out ≡ []) ⊎ IsFront text out
+
+-- What is written with each status.
+abbrev pub Written : List ℕ → Status → List ℕ → Type 0
+Written text Words out = out ≡ []
+Written text ReadFault out = out ≡ []
+Written text WriteFault out = IsFront text out
+Written text NoMemory out = IsCutShort text out
+Written text status out = Outcome text status out
+
+-- The replies and the history of the script that the text tells are legal.
+abbrev pub TellsLegal : List ℕ → Type 0
+TellsLegal text = (s : Script) → IsScript s → Tells text s → LegalOfUpdates (history (world_of s)) (world_of s).trace
+
+-- A client that answers `log-full` was told so by the sequencer, and every position had been handed out.
+abbrev pub TellsFull : List ℕ → Type 0
+TellsFull text = (s : Script) (m : Mark) (n : ℕ) → IsScript s → Tells text s → Contains (world_of s).trace m → m.what ≡ Refuses (LogFull n) → FullWasAnswered (world_of s) m n
