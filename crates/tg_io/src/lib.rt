@@ -14,6 +14,7 @@ mod mem_source;
 mod sink;
 mod source;
 mod status;
+mod streams;
 
 pub use datagram::Datagram;
 pub use fault::IoErr;
@@ -24,3 +25,4 @@ pub use mem_source::MemSource;
 pub use sink::{Sink, write_all};
 pub use source::Source;
 pub use status::Status;
+pub use streams::{Reading, Writing};
