@@ -1,6 +1,7 @@
 -- What a link is sent and hands on.
 use Rattle.std.specs.Prelude.{◌≡◌, ℕ, ◌+◌, ◌%◌, List, [], ◌∷◌, ◌++◌, Option, Some, None, take, drop, length, slice_index_or}
 use Rattle.tg_base.specs.declared.ids.NodeId.{NodeId}
+use Rattle.tg_io.specs.Bytes.{Grows}
 use Rattle.tg_io.specs.Calls.{Count, called}
 use Rattle.tg_io.specs.declared.link.Arrival.{Arrival}
 use Rattle.tg_io.specs.declared.link.Sent.{Sent}
@@ -9,8 +10,7 @@ use Rattle.tg_io.specs.declared.mem_link.Rule.TheVariants.{Keep, Lose, Twice, La
 
 -- the list that is told has grown by one
 abbrev pub Adds : {X : Type 0} → Option (List X) → X → Option (List X) → Type 0
-Adds (Some xs) x after = after ≡ Some (xs ++ x ∷ [])
-Adds None x after = after ≡ None
+Adds before x after = Grows before (x ∷ []) after
 
 -- what came, from the answer and the buffer
 abbrev pub arrival_of : Option (NodeId × ℕ) → List ℕ → Option Arrival

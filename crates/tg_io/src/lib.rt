@@ -15,6 +15,8 @@ mod sink;
 mod source;
 mod status;
 mod streams;
+#[cfg(test)]
+mod tests;
 
 pub use datagram::Datagram;
 pub use fault::IoErr;

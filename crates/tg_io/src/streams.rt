@@ -3,6 +3,7 @@
 //! A call that the system interrupts is made again, as with std's own; every other error counts as a fault.
 
 ghost use Rattle.std.specs.Prelude.{◌≡◌, ◌<◌, ◌≤◌, ◌-◌, ◌^◌, None, false, length, IfSome};
+ghost use Rattle.tg_io.specs.Faults.{Rose};
 
 use crate::fault::IoErr;
 use crate::sink::Sink;
@@ -50,7 +51,7 @@ impl<R: Read> Source for Reading<R> {
             self.given = given;
             return Ok(count);
         }
-        self.faults = self.faults.saturating_add(1);
+        self.faults = raised(self.faults);
         Err(IoErr::Failed)
     }
 
@@ -85,11 +86,19 @@ impl<W: Write> Sink for Writing<W> {
         match write_once(&mut self.writer, piece) {
             Some(count) if count > 0 || piece.is_empty() => Ok(count),
             _ => {
-                self.faults = self.faults.saturating_add(1);
+                self.faults = raised(self.faults);
                 Err(IoErr::Failed)
             }
         }
     }
+}
+
+// The count after one fault more.
+fn raised(faults: u64) -> u64
+    ensures later { faults ≤ result }
+    ensures rose { Rose faults result }
+{
+    faults.saturating_add(1)
 }
 
 // A read that isn't interrupted, or None at another error.
