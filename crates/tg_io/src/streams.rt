@@ -2,8 +2,9 @@
 //!
 //! A call that the system interrupts is made again, as with std's own; every other error counts as a fault.
 
-ghost use Rattle.std.specs.Prelude.{◌≡◌, ◌<◌, ◌≤◌, ◌-◌, ◌^◌, None, false, length, IfSome};
-ghost use Rattle.tg_io.specs.Faults.{Rose};
+ghost use Rattle.std.specs.Prelude.{◌≡◌, ◌<◌, ◌≤◌, ◌+◌, ◌-◌, ◌^◌, None, false, length, take, IfSome, IfOk, OnErr};
+ghost use Rattle.std.specs.Io.KnownBytes.{Appends, Consumes, IsAtEnd};
+ghost use Rattle.tg_io.specs.Faults.{HasCause, Rose};
 
 use crate::fault::IoErr;
 use crate::sink::Sink;
@@ -44,7 +45,14 @@ impl<R: Read> Source for Reading<R> {
     ghost sure = { λ _. false };
 
     /// Fails at an error of the reader, and where it gives more than there is room for.
-    fn read(&mut self, buf: &mut [u8]) -> Result<usize, IoErr> {
+    fn read(&mut self, buf: &mut [u8]) -> Result<usize, IoErr>
+        ensures count { IfOk result (λ n. n ≤ length buf.new) }
+        ensures bytes { IfOk result (λ n. Consumes (R.remaining self.old.reader) (R.remaining self.new.reader) (take n buf.new)) }
+        ensures end { IfOk result (λ n. n ≡ 0 → 0 < length buf.old → IsAtEnd (R.remaining self.new.reader)) }
+        ensures room { IfOk result (λ n. 2 ^ 64 - 1 - self.new.given + n ≡ 2 ^ 64 - 1 - self.old.given) }
+        ensures kept { OnErr result (self.new.given ≡ self.old.given) }
+        ensures cause { HasCause self.old.faults self.new.faults result }
+    {
         let count = read_once(&mut self.reader, buf);
         let given = count.and_then(|count| self.given.checked_add(count as u64));
         if let (Some(count), Some(given)) = (count, given) {
@@ -82,7 +90,12 @@ impl<W: Write> Sink for Writing<W> {
     ghost sure = { λ _. false };
 
     /// Fails at an error of the writer, and where it takes nothing of a piece that isn't empty.
-    fn write(&mut self, piece: &[u8]) -> Result<usize, IoErr> {
+    fn write(&mut self, piece: &[u8]) -> Result<usize, IoErr>
+        ensures count { IfOk result (λ n. n ≤ length piece.now) }
+        ensures some { IfOk result (λ n. 0 < length piece.now → 0 < n) }
+        ensures bytes { IfOk result (λ n. Appends (W.contents self.old.writer) (W.contents self.new.writer) (take n piece.now)) }
+        ensures cause { HasCause self.old.faults self.new.faults result }
+    {
         match write_once(&mut self.writer, piece) {
             Some(count) if count > 0 || piece.is_empty() => Ok(count),
             _ => {
@@ -103,7 +116,9 @@ fn raised(faults: u64) -> u64
 
 // A read that isn't interrupted, or None at another error.
 fn read_once<R: Read>(reader: &mut R, buf: &mut [u8]) -> Option<usize>
-    ensures { IfSome result (λ n. n ≤ length buf.new) }
+    ensures count { IfSome result (λ n. n ≤ length buf.new) }
+    ensures bytes { IfSome result (λ n. Consumes (R.remaining reader.old) (R.remaining reader.new) (take n buf.new)) }
+    ensures end { IfSome result (λ n. n ≡ 0 → 0 < length buf.old → IsAtEnd (R.remaining reader.new)) }
 {
     for _ in 0..u64::MAX {
         match reader.read(buf) {
@@ -117,7 +132,8 @@ fn read_once<R: Read>(reader: &mut R, buf: &mut [u8]) -> Option<usize>
 
 // A write that isn't interrupted, or None at another error.
 fn write_once<W: Write>(writer: &mut W, piece: &[u8]) -> Option<usize>
-    ensures { IfSome result (λ n. n ≤ length piece.now) }
+    ensures count { IfSome result (λ n. n ≤ length piece.now) }
+    ensures bytes { IfSome result (λ n. Appends (W.contents writer.old) (W.contents writer.new) (take n piece.now)) }
 {
     for _ in 0..u64::MAX {
         match writer.write(piece) {
