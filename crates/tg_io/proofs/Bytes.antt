@@ -1,7 +1,6 @@
 -- What several reads or writes give and take.
-use Rattle.std.proofs.Common.{rules, arith, ◌≡◌, ℕ, ◌≤◌, ◌+◌, List, [], ◌++◌, take, drop, length, Option, Some, None, refl, ap, sym, subst, ◌∙◌}
+use Rattle.std.proofs.Common.{arith, ℕ, List, [], ◌++◌, take, drop, Option, Some, None, refl, ap, sym, subst, ◌∙◌}
 use Rattle.std.proofs.lemmas.List.{take-append-drop, append_assoc, append-nil}
-use Rattle.std.proofs.Math.Seq.{take-add}
 use Rattle.tg_io.specs.Bytes.{Gives, Grows, Takes, TakesFront}
 
 -- two reads give what one of both pieces would

@@ -1,5 +1,5 @@
 -- What a link is sent and hands on.
-use Rattle.std.specs.Prelude.{◌≡◌, ℕ, ◌+◌, ◌%◌, List, [], ◌∷◌, ◌++◌, Option, Some, None, take, drop, length, slice_index_or}
+use Rattle.std.specs.Prelude.{ℕ, ◌%◌, List, [], ◌∷◌, ◌++◌, Option, Some, None, take, drop, length, slice_index_or}
 use Rattle.tg_base.specs.declared.ids.NodeId.{NodeId}
 use Rattle.tg_io.specs.Bytes.{Grows}
 use Rattle.tg_io.specs.Calls.{Count, called}

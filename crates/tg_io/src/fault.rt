@@ -1,12 +1,14 @@
-//! Why a call of the outside gives nothing.
+//! Faults of the outside.
 
 use std::alloc::AllocError;
 use tg_base::NoMemory;
 
-/// The outside failed, and its count of faults rose; or memory ran out.
+/// Why a call of the outside gives nothing.
 #[derive(Clone, Copy, Debug, PartialEq, Eq)]
 pub enum IoErr {
+    /// The outside failed, and its count of faults rose in this call.
     Failed,
+    /// Memory ran out.
     NoMemory,
 }
 

@@ -1,5 +1,4 @@
 -- An interrupted call moves no bytes.
-use Rattle.std.proofs.Common.{◌≡◌, length}
 use Rattle.std.specs.Io.KnownBytes.{Keeps}
 use Rattle.tg_io.proofs.streams.write_once.Given as goal
 
