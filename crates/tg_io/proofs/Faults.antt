@@ -1,5 +1,5 @@
 -- Counts of faults over several calls.
-use Rattle.std.proofs.Common.{rules, arith, ◌≡◌, ℕ, ◌≤◌, ◌<◌, Bool, Result}
+use Rattle.std.proofs.Common.{arith, ℕ, ◌≤◌, Bool, Result}
 use Rattle.tg_io.specs.Faults.{Rose, HasCause, StaysSure}
 use Rattle.tg_io.specs.declared.fault.IoErr.{IoErr}
 

@@ -5,16 +5,26 @@
 #![tactic(auto)]
 
 mod calls;
+mod datagram;
 mod fault;
+mod link;
+mod mem_link;
 mod mem_sink;
 mod mem_source;
 mod sink;
 mod source;
 mod status;
+mod streams;
+#[cfg(test)]
+mod tests;
 
+pub use datagram::Datagram;
 pub use fault::IoErr;
+pub use link::{Arrival, Link, Sent};
+pub use mem_link::{MemLink, Rule};
 pub use mem_sink::MemSink;
 pub use mem_source::MemSource;
 pub use sink::{Sink, write_all};
 pub use source::Source;
 pub use status::Status;
+pub use streams::{Reading, Writing};

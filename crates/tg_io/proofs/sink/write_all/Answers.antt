@@ -1,8 +1,8 @@
-use Rattle.std.proofs.Common.{rules, arith, ◌≡◌, ◌≤◌, ◌+◌, ℕ, Option, List, take, drop, sym, subst}
+use Rattle.std.proofs.Common.{rules, arith, take, drop, sym, subst}
 use Rattle.std.proofs.lemmas.List.{take_rest}
 use Rattle.std.proofs.Math.Seq.{take-add}
 use Rattle.tg_io.specs.Bytes.{Takes}
-use Rattle.tg_io.proofs.Bytes.{takes_more, takes_front}
+use Rattle.tg_io.proofs.Bytes.{grows_more, takes_front}
 use Rattle.tg_io.proofs.Faults.{sure_since}
 use Rattle.tg_io.proofs.sink.write_all.Goals as goal
 
@@ -23,6 +23,6 @@ loop-taken-preserved g c =
     let inv = c.loop-taken.invariant in
     let taken : Takes (g.K.Sink.written c.loop-taken.sink) (take n (drop at piece)) (g.K.Sink.written c.write.new.self) =
     rw (take_rest piece at) at c.in_ok-taken.ensures.taken in
-    let more = takes_more before _ (g.K.Sink.written c.write.new.self) (take at piece) (take n (drop at piece)) inv.1 taken in
+    let more = grows_more before _ (g.K.Sink.written c.write.new.self) (take at piece) (take n (drop at piece)) inv.1 taken in
     let all = subst (λ bytes. Takes before bytes (g.K.Sink.written c.write.new.self)) (sym (take-add at n piece)) more in
     (search (rules, arith), all, search (rules, arith), sure_since _ _ _ _ _ _ inv.3 c.in_ok-taken.ensures.sure)

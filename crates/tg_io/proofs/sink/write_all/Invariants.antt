@@ -1,6 +1,6 @@
-use Rattle.std.proofs.Common.{length, ◌-◌, ◌≡◌, ◌<◌, ◌≤◌, ℕ, Bool, Option, List, take, IfOk, OnOk, OnErr, ◌+◌, ◌*◌}
-use Rattle.tg_io.specs.Bytes.{Takes, TakesFront}
-use Rattle.tg_io.specs.Faults.{HasCause, StaysSure}
+use Rattle.std.proofs.Common.{length, ◌-◌, ◌≤◌, take}
+use Rattle.tg_io.specs.Bytes.{Takes}
+use Rattle.tg_io.specs.Faults.{StaysSure}
 use Rattle.tg_io.proofs.sink.write_all.Given as goal
 
 abbrev pub invariant-loop-taken : goal.invariant-loop-taken
