@@ -4,4 +4,5 @@ pub mod Transcript
 pub mod Reading
 pub mod Runs
 pub mod Stages
+pub mod Forms
 pub mod Top

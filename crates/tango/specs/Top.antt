@@ -1,5 +1,6 @@
 -- What the program promises of a replay.
 use Rattle.std.specs.Prelude.{◌≡◌, ◌⊎◌, ℕ, ◌++◌, List, [], Option, Some, None, Contains}
+use Rattle.tg_io.specs.Bytes.{Takes}
 use Rattle.tg_io.specs.declared.status.Status.{Status}
 use Rattle.tg_io.specs.declared.status.Status.TheVariants.{Done, Illegal, Words, Script as AtLine, ReadFault, WriteFault, LinkFault, Limit, NoMemory}
 use Rattle.tg_model.specs.declared.Mark.{Mark}
@@ -10,10 +11,9 @@ use Rattle.tg_world.specs.Laws.{FullWasAnswered}
 use Rattle.tg_world.specs.Worlds.{history}
 use Rattle.tango.specs.Runs.{Script, IsScript, Tells, Outcome, world_of, Replayed, Refused, Limited}
 
--- Of a text that the source tells, and of what was written to a sink that tells: P.
+-- Where the source tells its text: what was added to the sink's bytes, as far as the sink tells them, has P.
 abbrev pub Told : Option (List ℕ) → Option (List ℕ) → Option (List ℕ) → (List ℕ → List ℕ → Type 0) → Type 0
-Told (Some text) (Some before) after P = (out : List ℕ) × (after ≡ Some (before ++ out)) × P text out
-Told (Some text) None after P = Unit {0}
+Told (Some text) before after P = (out : List ℕ) × Takes before out after × P text out
 Told None before after P = Unit {0}
 
 -- a front of the transcript that one of the statuses 0, 3 and 7 asks for
@@ -31,6 +31,13 @@ Written text ReadFault out = out ≡ []
 Written text WriteFault out = IsFront text out
 Written text NoMemory out = IsCutShort text out
 Written text status out = Outcome text status out
+
+-- A replay ends by none of the others.
+abbrev pub IsOfReplay : Status → Type 0
+IsOfReplay Words = ⊥
+IsOfReplay (Illegal line clause) = ⊥
+IsOfReplay LinkFault = ⊥
+IsOfReplay status = Unit {0}
 
 -- The replies and the history of the script that the text tells are legal.
 abbrev pub TellsLegal : List ℕ → Type 0

@@ -1,12 +1,14 @@
 //! Tango objects over a CORFU log.
 #![tactic(auto)]
 
+mod forms;
 mod number;
 mod progress;
 mod reading;
 mod replay;
 mod run;
 mod script;
+mod top;
 mod transcript;
 
 fn main(_rt: HostRuntime) {}
