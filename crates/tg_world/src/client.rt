@@ -1,6 +1,6 @@
 //! A client, which runs one transaction of at most one write.
 
-ghost use Rattle.std.specs.Prelude.{◌≡◌, [], ◌∷◌, IfOk};
+ghost use Rattle.std.specs.Prelude.{◌≡◌, [], ◌∷◌, IfOk, IsOk};
 ghost use Rattle.tg_world.specs.Nodes.{commanded, takes, given, awaits, stays, token_rid, write_rid};
 ghost use Rattle.tg_world.specs.Names.{place, packet, client_id, seqr_id, unit_id};
 ghost use Rattle.tg_world.specs.Page.{page_of};
@@ -83,9 +83,10 @@ impl Client {
         }
     }
 
-    /// A packet comes to client `k`.
+    /// A packet comes to client `k`. A turn that sends nothing takes no memory.
     pub fn deliver(self, alloc: Global, k: u16, packet: &Packet) -> Result<Turn, NoMemory>
-        ensures { IfOk result (λ t. t ≡ given k self packet.now) }
+        ensures turn { IfOk result (λ t. t ≡ given k self packet.now) }
+        ensures free { (given k self packet.now).outs ≡ [] → IsOk result }
     {
         if self.awaits(&packet.from, packet.rid) {
             self.take(alloc, k, &packet.msg)
@@ -112,7 +113,8 @@ impl Client {
     /// Client `k` takes an answer that it awaits.
     #[tactic(auto, unfolding(crate::specs::Nodes::takes))]
     fn take(self, alloc: Global, k: u16, msg: &Msg) -> Result<Turn, NoMemory>
-        ensures { IfOk result (λ t. t ≡ takes k self msg.now) }
+        ensures turn { IfOk result (λ t. t ≡ takes k self msg.now) }
+        ensures free { (takes k self msg.now).outs ≡ [] → IsOk result }
     {
         match (self, msg) {
             (Client::Asking { oid, op }, Msg::Issued { pos }) => {

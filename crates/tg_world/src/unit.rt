@@ -1,6 +1,6 @@
 //! The storage unit.
 
-ghost use Rattle.std.specs.Prelude.{◌≡◌, [], IfOk};
+ghost use Rattle.std.specs.Prelude.{◌≡◌, [], None, IfOk, IsOk};
 ghost use Rattle.tg_world.specs.Nodes.{unit_step, on_write, cell_at};
 
 use crate::msg::Msg;
@@ -34,11 +34,12 @@ impl Unit {
         }
     }
 
-    /// What the unit becomes at a message, and its answer.
+    /// What the unit becomes at a message, and its answer. Where it has none, no memory is taken.
     #[tactic(auto, unfolding(crate::specs::Nodes::unit_step))]
     pub fn step(self, msg: &Msg) -> Result<(Unit, Option<Msg>), NoMemory>
         ensures now { IfOk result (λ r. r.0 ≡ (unit_step self msg.now).now) }
         ensures says { IfOk result (λ r. r.1 ≡ (unit_step self msg.now).says) }
+        ensures free { (unit_step self msg.now).says ≡ None → IsOk result }
     {
         match msg {
             Msg::Write { pos, page } => self.write(*pos, page),
@@ -49,6 +50,7 @@ impl Unit {
     fn write(mut self, pos: Pos, page: &Blob) -> Result<(Unit, Option<Msg>), NoMemory>
         ensures now { IfOk result (λ r. r.0 ≡ (on_write self pos page.now (cell_at self pos)).now) }
         ensures says { IfOk result (λ r. r.1 ≡ (on_write self pos page.now (cell_at self pos)).says) }
+        ensures free { (on_write self pos page.now (cell_at self pos)).says ≡ None → IsOk result }
     {
         if let Some(held) = self.pages.get(&pos) {
             let says = if held == page {
