@@ -26,6 +26,11 @@ pub enum Line {
     Deliver { packet: u64 },
 }
 
+// The tag of counters, 1, stands above an index of three bytes.
+const COUNTERS: u32 = 1 << 24;
+
+const INDICES: u64 = 1 << 24;
+
 /// The size that a header's first line tells.
 pub fn read_size(line: &[u8]) -> Option<Size>
     ensures found { IfSome result (λ s. IsSize s × (line.now ≡ cluster_line s)) }
@@ -122,7 +127,7 @@ fn parse_update(text: &[u8]) -> Option<Line>
     ensures { result ≡ update_in text.now }
 {
     let (client, rest) = number_front(strip(b"c", text)?)?;
-    if client > 65535 {
+    if client > u16::MAX as u64 {
         return None;
     }
     let (oid, rest) = parse_object(strip(b" update ", rest)?)?;
@@ -140,8 +145,8 @@ fn parse_object(text: &[u8]) -> Option<(Oid, &[u8])>
     ensures { option_map (λ x. (x.0, x.1.now)) result ≡ object_at text.now }
 {
     let (index, rest) = number_front(strip(b"ctr", text)?)?;
-    if index < 16_777_216 {
-        Some((Oid(16_777_216 + index as u32), rest))
+    if index < INDICES {
+        Some((Oid(COUNTERS + index as u32), rest))
     } else {
         None
     }

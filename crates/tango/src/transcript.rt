@@ -53,6 +53,8 @@ fn put_object(oid: Oid, out: &mut List<u8>) -> Result<(), NoMemory>
     ensures { OnOk result (out.new ≡ out.old ++ object_word oid) }
 {
     out.extend(b"ctr")?;
+
+    // The index stands below the byte of the kind.
     put_number(oid.0 % 16_777_216, out)
 }
 
