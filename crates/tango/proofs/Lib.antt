@@ -6,3 +6,4 @@ pub mod Numbers
 pub mod Lines
 pub mod Objects
 pub mod Exact
+pub mod Promises

@@ -5,7 +5,7 @@ ghost use Rattle.tg_base.specs.declared.fault.Which.{Which};
 ghost use Rattle.tg_base.specs.declared.fault.Which.TheVariants.{Steps};
 ghost use Rattle.tg_io.specs.Bytes.{Takes};
 ghost use Rattle.tg_io.specs.Faults.{Rose, StaysSure};
-ghost use Rattle.tg_io.specs.declared.status.Status.TheVariants.{Done, Words, Script as AtLine, ReadFault, WriteFault, Limit, NoMemory};
+ghost use Rattle.tg_io.specs.declared.status.Status.TheVariants.{Done, Words, Script as AtLine, ReadFault, WriteFault, Limit, NoMemory as OutOfMemory};
 ghost use Rattle.tango.specs.Forms.{form_of};
 ghost use Rattle.tango.specs.declared.forms.Form.TheVariants.{Replay};
 ghost use Rattle.tango.specs.Runs.{Script, IsScript, IsWithin, Tells, FirstOutside, PassesLimit, Replayed, Refused, Limited, transcript};
@@ -32,7 +32,7 @@ pub fn tango<S: Source, K: Sink, L: Link>(
 ) -> Status
     // Words that are no form are told so, and no others.
     ensures words { result ≡ Words → form_of (map string_bytes words.now) ≡ None }
-    ensures no_form { form_of (map string_bytes words.now) ≡ None → (result ≡ Words) ⊎ (result ≡ NoMemory) }
+    ensures no_form { form_of (map string_bytes words.now) ≡ None → (result ≡ Words) ⊎ (result ≡ OutOfMemory) }
     // At `Done` the text was read to its end, and what was written is the transcript of the world of its steps.
     ensures done { result ≡ Done → Told (S.left source.old) (K.written sink.old) (K.written sink.new) Replayed }
     // The replies and the history of each script that the text tells are legal.
@@ -46,16 +46,16 @@ pub fn tango<S: Source, K: Sink, L: Link>(
     ensures read_fault { result ≡ ReadFault → Rose (S.faults source.old) (S.faults source.new) }
     ensures write_fault { result ≡ WriteFault → Rose (K.faults sink.old) (K.faults sink.new) }
     // What is written then is a front of a transcript, or nothing.
-    ensures cut_short { (result ≡ WriteFault) ⊎ (result ≡ NoMemory) → Told (S.left source.old) (K.written sink.old) (K.written sink.new) IsCutShort }
+    ensures cut_short { (result ≡ WriteFault) ⊎ (result ≡ OutOfMemory) → Told (S.left source.old) (K.written sink.old) (K.written sink.new) IsCutShort }
     ensures silent { (result ≡ Words) ⊎ (result ≡ ReadFault) → K.written sink.new ≡ K.written sink.old }
     ensures ways { result ≢ Words → IsOfReplay result }
     // Without a fault each text has its status, unless memory runs out.
     ensures complete { form_of (map string_bytes words.now) ≡ Some Replay → (Rose (S.faults source.old) (S.faults source.new) → ⊥) → (Rose (K.faults sink.old) (K.faults sink.new) → ⊥) →
-        IfSome (S.left source.old) (λ text. (s : Script) → IsScript s → IsWithin s → Tells text s → (result ≡ Done) ⊎ (result ≡ NoMemory)) }
+        IfSome (S.left source.old) (λ text. (s : Script) → IsScript s → IsWithin s → Tells text s → (result ≡ Done) ⊎ (result ≡ OutOfMemory)) }
     ensures refuses { form_of (map string_bytes words.now) ≡ Some Replay → (Rose (S.faults source.old) (S.faults source.new) → ⊥) → (Rose (K.faults sink.old) (K.faults sink.new) → ⊥) →
-        IfSome (S.left source.old) (λ text. (line : ℕ) (s : Script) → FirstOutside text line s → (result ≡ AtLine line) ⊎ (result ≡ NoMemory)) }
+        IfSome (S.left source.old) (λ text. (line : ℕ) (s : Script) → FirstOutside text line s → (result ≡ AtLine line) ⊎ (result ≡ OutOfMemory)) }
     ensures limits { form_of (map string_bytes words.now) ≡ Some Replay → (Rose (S.faults source.old) (S.faults source.new) → ⊥) → (Rose (K.faults sink.old) (K.faults sink.new) → ⊥) →
-        IfSome (S.left source.old) (λ text. (s : Script) → PassesLimit text s → (result ≡ Limit Steps) ⊎ (result ≡ NoMemory)) }
+        IfSome (S.left source.old) (λ text. (s : Script) → PassesLimit text s → (result ≡ Limit Steps) ⊎ (result ≡ OutOfMemory)) }
     // What is sure never to fail stays so.
     ensures source { StaysSure (S.sure source.old) (S.sure source.new) (S.faults source.old) (S.faults source.new) }
     ensures sink { StaysSure (K.sure sink.old) (K.sure sink.new) (K.faults sink.old) (K.faults sink.new) }
