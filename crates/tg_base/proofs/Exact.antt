@@ -33,7 +33,7 @@ lists-sound E h (x ∷ xs) [] e = absurd cc
 lists-sound E h (x ∷ xs) (y ∷ ys) e =
     let head : x ≡ y = h.sound x y (and-left _ _ e) in
     let tail : xs ≡ ys = lists-sound E h xs ys (and-right _ _ e) in
-    cc
+    λ i. head i ∷ tail i
 
 lists-whole : {A : Type 0} (E : A → A → Bool) → IsExact E → (xs : List A) → pointwise E xs xs ≡ true
 lists-whole E h [] = refl

@@ -1,6 +1,6 @@
 -- Units and chains of them, and lists in order.
 use Rattle.std.specs.Prelude.{ℕ, Bool, true, not, ◌&&◌, ◌==◌, nat_lt, nat_le, List, [], ◌∷◌, length}
-use Rattle.std.specs.List.{list_all}
+use Rattle.std.specs.List.{list_all, list_any}
 
 -- each number is above the one before it
 abbrev pub is_rising : List ℕ → Bool
@@ -14,10 +14,14 @@ never_falls [] = true
 never_falls (x ∷ []) = true
 never_falls (x ∷ y ∷ ys) = nat_le x y && never_falls (y ∷ ys)
 
+-- whether a number stands in a list
+abbrev pub has : List ℕ → ℕ → Bool
+has xs x = list_any (λ y. y == x) xs
+
 -- no number stands twice
 abbrev pub is_distinct : List ℕ → Bool
 is_distinct [] = true
-is_distinct (x ∷ xs) = list_all (λ y. not (y == x)) xs && is_distinct xs
+is_distinct (x ∷ xs) = not (has xs x) && is_distinct xs
 
 -- a number from low to high
 abbrev pub is_within : ℕ → ℕ → ℕ → Bool

@@ -20,7 +20,10 @@ impl Range {
     pub fn copy(&self) -> Result<Range, NoMemory>
         ensures { IfOk result (λ c. c ≡ self.now) }
     {
-        Ok(self.clone()?)
+        Ok(Range {
+            lo: self.lo,
+            stripes: self.stripes.clone()?,
+        })
     }
 }
 
@@ -69,7 +72,8 @@ impl Projection {
     pub fn copy(&self) -> Result<Projection, NoMemory>
         ensures { IfOk result (λ c. c ≡ self.now) }
     {
-        Ok(self.clone()?)
+        let copy = self.clone()?;
+        Ok(copy)
     }
 
     /// Whether both are the same layout.
