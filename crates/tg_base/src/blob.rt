@@ -1,10 +1,12 @@
 //! Pages.
 
-ghost use Rattle.std.specs.Prelude.{◌≡◌, ◌≤◌, ◌==◌, ◌↔◌, length, IsSome, IfSome, IfOk};
-ghost use Rattle.std.specs.Cmp.Lexicographic.{pointwise};
+ghost use Rattle.std.specs.Prelude.{◌≡◌, ◌≤◌, ◌↔◌, length, nat_eq, refl, Some, IsTrue, IsSome, IfSome, IfOk};
+ghost use Rattle.std.specs.Ordering.{nat_cmp};
+ghost use Rattle.std.specs.Cmp.Lexicographic.{pointwise, slice_cmp, nat_list_eq_equiv, nat_list_cmp_total, texts_ties, texts_po};
 
 use crate::fault::NoMemory;
 use crate::list::List;
+use std::cmp::Ordering;
 use std::marker::Model;
 
 /// A page: bytes, of which there are at most 4,096.
@@ -54,10 +56,17 @@ impl Blob {
     {
         self.bytes.as_slice()
     }
+
+    /// Whether both have the same bytes.
+    pub fn is_same(&self, other: &Blob) -> bool
+        ensures { IsTrue result ↔ (self.now ≡ other.now) }
+    {
+        self == other
+    }
 }
 
 impl PartialEq for Blob {
-    ghost eq = { λ v w. pointwise ◌==◌ v w };
+    ghost eq = { pointwise nat_eq };
 
     ghost laws = { Prim.search rules };
 
@@ -65,5 +74,33 @@ impl PartialEq for Blob {
 
     fn eq(&self, other: &Self) -> bool {
         self.bytes == other.bytes
+    }
+}
+
+impl Eq for Blob {
+    ghost laws = { nat_list_eq_equiv };
+}
+
+impl PartialOrd for Blob {
+    ghost partial_cmp = { λ v w. Some (slice_cmp nat_cmp v w) };
+
+    ghost laws = { texts_po };
+
+    fn partial_cmp(&self, other: &Self) -> Option<Ordering> {
+        Some(self.cmp(other))
+    }
+}
+
+impl Ord for Blob {
+    ghost cmp = { slice_cmp nat_cmp };
+
+    ghost total = { nat_list_cmp_total };
+
+    ghost matches_partial_cmp = { λ v w. refl };
+
+    ghost matches_eq = { texts_ties };
+
+    fn cmp(&self, other: &Self) -> Ordering {
+        self.as_slice().cmp(other.as_slice())
     }
 }

@@ -1,5 +1,10 @@
 //! Names and numbers of nodes, objects and ballots.
 
+ghost use Rattle.std.specs.Prelude.{◌≡◌, ◌↔◌, IsTrue};
+ghost use Rattle.tg_base.specs.Orders.{oid_cmp, node_eq, node_cmp, ballot_eq, ballot_cmp};
+
+use std::cmp::Ordering;
+
 /// A position of the log, from 0.
 pub type Pos = u64;
 
@@ -31,4 +36,54 @@ pub struct NodeId {
 pub struct Ballot {
     pub round: u32,
     pub client: u16,
+}
+
+impl Oid {
+    /// Which of both has the lesser number.
+    pub fn compare(self, other: Oid) -> Ordering
+        ensures { result ≡ oid_cmp self other }
+    {
+        self.cmp(&other)
+    }
+
+    /// Whether both are the same object.
+    pub fn is_same(self, other: Oid) -> bool
+        ensures { IsTrue result ↔ (self ≡ other) }
+    {
+        self == other
+    }
+}
+
+impl NodeId {
+    /// Which of both stands first.
+    pub fn compare(self, other: NodeId) -> Ordering
+        ensures { result ≡ node_cmp self other }
+    {
+        self.cmp(&other)
+    }
+
+    /// Whether both are the same node.
+    pub fn is_same(self, other: NodeId) -> bool
+        ensures value { result ≡ node_eq self other }
+        ensures same { IsTrue result ↔ (self ≡ other) }
+    {
+        self == other
+    }
+}
+
+impl Ballot {
+    /// Which of both is the lesser.
+    pub fn compare(self, other: Ballot) -> Ordering
+        ensures { result ≡ ballot_cmp self other }
+    {
+        self.cmp(&other)
+    }
+
+    /// Whether both are the same ballot.
+    pub fn is_same(self, other: Ballot) -> bool
+        ensures value { result ≡ ballot_eq self other }
+        ensures same { IsTrue result ↔ (self ≡ other) }
+    {
+        self == other
+    }
 }

@@ -1,0 +1,5 @@
+pub mod Ranges
+pub mod Chains
+pub mod Gone
+pub mod Allowed
+pub mod Following
