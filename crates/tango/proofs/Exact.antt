@@ -43,7 +43,7 @@ same_objects (x ∷ xs) [] h g e = absurd cc
 same_objects (x ∷ xs) (y ∷ ys) h g e =
     let tails : object_word x ++ objects_text xs ≡ object_word y ++ objects_text ys = cc in
     let both : ◌≡◌ {A = Oid × List ℕ} (x, objects_text xs) (y, objects_text ys) = some_is {A = Oid × List ℕ} (x, objects_text xs) (y, objects_text ys)
-        (sym (object_at_again x (objects_text xs) h.0 (no_digit xs)) ∙ ap object_at tails ∙ object_at_again y (objects_text ys) g.0 (no_digit ys)) in
+    (sym (object_at_again x (objects_text xs) h.0 (no_digit xs)) ∙ ap object_at tails ∙ object_at_again y (objects_text ys) g.0 (no_digit ys)) in
     let first : x ≡ y = ap (λ (p : Oid × List ℕ). p.0) both in
     let rest : xs ≡ ys = same_objects xs ys h.1 g.1 (ap (λ (p : Oid × List ℕ). p.1) both) in
     cc
@@ -73,7 +73,7 @@ same_front k s t h g e =
     let rest : take k (map spell s.events) ≡ take k (map spell t.events) = cc in
     let size : s.size ≡ t.size = same_size s.size t.size h.size g.size first in
     let objects : s.objects ≡ t.objects = same_objects s.objects t.objects (counters_of s.objects h.objects.counters) (counters_of t.objects g.objects.counters)
-        (append_cancel_left (codes "objects") (objects_text s.objects) (objects_text t.objects) third) in
+    (append_cancel_left (codes "objects") (objects_text s.objects) (objects_text t.objects) third) in
     let events : take k s.events ≡ take k t.events = same_events k s.events t.events h.numbers g.numbers rest in
     λ i. record { size = size i; objects = objects i; events = events i }
 
@@ -122,8 +122,8 @@ outside_passes : (text : List ℕ) (n : ℕ) (b p : Script) → FirstOutside tex
 outside_passes text n b p g h = ⊎_elim
     (λ (le : n ≤ 3 + length p.events). g.outside p h.lawful (begins_less text n (3 + length p.events) p le h.begins))
     (λ (lt : 3 + length p.events < n).
-      let le : 3 + length p.events ≤ n - 1 = omega arith in
-      over_within (length p.events) b p (agree text (length p.events) b p g.lawful h.lawful (begins_less text (3 + length p.events) (n - 1) b le g.begins) h.begins ∙ front_all p) h.over g.within)
+    let le : 3 + length p.events ≤ n - 1 = omega arith in
+    over_within (length p.events) b p (agree text (length p.events) b p g.lawful h.lawful (begins_less text (3 + length p.events) (n - 1) b le g.begins) h.begins ∙ front_all p) h.over g.within)
     (le_or_lt n (3 + length p.events))
 
 not_before : (text : List ℕ) (m n : ℕ) (a b : Script) → FirstOutside text m a → FirstOutside text n b → m < n → ⊥

@@ -46,10 +46,10 @@ script_longer s l h number comes = record {
       (last_or_before s.events l k m e);
   each = λ k m e. ⊎_elim
       (λ (b : (k < length s.events) × (slice_get s.events k ≡ Some m)).
-        let le : k ≤ length s.events = let lt = b.0 in omega arith in
-        subst (λ (t : Script). MayCome s.objects (world_of t) m) (sym (front_longer s l k le)) (h.each k m b.1))
+      let le : k ≤ length s.events = let lt = b.0 in omega arith in
+      subst (λ (t : Script). MayCome s.objects (world_of t) m) (sym (front_longer s l k le)) (h.each k m b.1))
       (λ (b : (k ≡ length s.events) × (l ≡ m)).
-        subst (λ (t : Script). MayCome s.objects (world_of t) m) (sym (at_end s l k b.0)) (subst (λ (x : Line). MayCome s.objects (world_of s) x) b.1 comes))
+      subst (λ (t : Script). MayCome s.objects (world_of t) m) (sym (at_end s l k b.0)) (subst (λ (x : Line). MayCome s.objects (world_of s) x) b.1 comes))
       (last_or_before s.events l k m e);
 }
 
@@ -102,8 +102,8 @@ run_longer read r q s line l h number comes spelled one within objects world eve
       let n = next_line read r s h t lawful line e2 in
       let event : n.event ≡ l = one n.event n.number n.spelled in
       let whole : take (length (s.events ++ l ∷ [])) t.events ≡ s.events ++ l ∷ [] =
-          ap (λ k. take k t.events) (length_last s.events l) ∙ take_next t.events (length s.events) n.event n.there
-          ∙ ap (λ (x : List Line). x ++ n.event ∷ []) (ap (λ (x : Script). x.events) n.same) ∙ ap (λ (x : Line). s.events ++ x ∷ []) event in
+      ap (λ k. take k t.events) (length_last s.events l) ∙ take_next t.events (length s.events) n.event n.there
+      ∙ ap (λ (x : List Line). x ++ n.event ∷ []) (ap (λ (x : Script). x.events) n.same) ∙ ap (λ (x : Line). s.events ++ x ∷ []) event in
       λ i. record { size = (n.same i).size; objects = (n.same i).objects; events = whole i };
 }
 
@@ -128,10 +128,10 @@ refuses_event text line read more r s h cut none n at =
         within = h.within;
         events = omega arith;
         begins = ap (λ k. take k (lines text)) before ∙ ap (λ ls. take (length read) ls) cut ∙ take_whole read (line ∷ more) ∙ h.lines
-          ∙ sym (ap (λ k. take k (text_lines s)) (before ∙ ap length h.lines) ∙ take_self (text_lines s));
+            ∙ sym (ap (λ k. take k (text_lines s)) (before ∙ ap length h.lines) ∙ take_self (text_lines s));
         outside = λ t lawful b.
             let e : take (suc (length read)) (text_lines t) ≡ read ++ line ∷ [] =
-                ap (λ k. take k (text_lines t)) (sym here) ∙ (sym b ∙ ap (λ k. take k (lines text)) here ∙ ap (λ ls. take (suc (length read)) ls) cut ∙ front_more read more line) in
+            ap (λ k. take k (text_lines t)) (sym here) ∙ (sym b ∙ ap (λ k. take k (lines text)) here ∙ ap (λ ls. take (suc (length read)) ls) cut ∙ front_more read more line) in
             let m = next_line read r s h t lawful line e in none m.event m.number m.comes m.spelled;
       };
       printed = ap (λ (x : List Oid). transcript x r.world) h.objects ∙ ap (λ w. transcript s.objects w) h.world ∙ sym (ap (λ b. printed_before b s) past);
@@ -190,7 +190,7 @@ pub refuses_objects : (text first line : List ℕ) (size : Size) (more : List (L
     ((oids : List Oid) → AreObjects oids → line ≡ objects_line oids → ⊥) → Refused text 3 []
 refuses_objects text first line size more h cut none = header_refused text 3 size h.lawful (omega arith) refl refl (two_lines text first size (line ∷ more) h cut)
     (λ t lawful b. let e : first ∷ chains_line ∷ line ∷ [] ≡ cluster_line t.size ∷ chains_line ∷ objects_line t.objects ∷ [] = sym (ap (λ ls. take 3 ls) cut) ∙ b in
-      let f : line ≡ objects_line t.objects = cc in none t.objects lawful.objects f)
+    let f : line ≡ objects_line t.objects = cc in none t.objects lawful.objects f)
 
 pub misses_objects : (text first : List ℕ) (size : Size) → IsSizeOf first size → lines text ≡ first ∷ chains_line ∷ [] → Refused text 3 []
 misses_objects text first size h cut = header_refused text 3 size h.lawful (omega arith) refl refl (two_lines text first size [] h cut)
@@ -236,14 +236,14 @@ run_limited text line read more r q s l h cut number comes spelled over under ob
     let sum : length (steps (s.events ++ l ∷ [])) ≡ length (steps s.events) + length (steps_of (1 + length s.events) l) = ap length all ∙ length-append (steps s.events) (steps_of (1 + length s.events) l) in
     let parts : max_steps ≡ length (steps s.events) + (max_steps - r.world.steps) = omega arith in
     let cut_steps : take max_steps (steps (s.events ++ l ∷ [])) ≡ steps s.events ++ take (max_steps - r.world.steps) (steps_of (1 + length s.events) l) =
-        ap (λ ss. take max_steps ss) all ∙ ap (λ n. take n (steps s.events ++ steps_of (1 + length s.events) l)) parts ∙ take_past (steps s.events) (steps_of (1 + length s.events) l) (max_steps - r.world.steps) in
+    ap (λ ss. take max_steps ss) all ∙ ap (λ n. take n (steps s.events ++ steps_of (1 + length s.events) l)) parts ∙ take_past (steps s.events) (steps_of (1 + length s.events) l) (max_steps - r.world.steps) in
     let made : world_after max_steps (longer s l) ≡ run (take (max_steps - r.world.steps) (steps_of (1 + length s.events) l)) (world_of s) =
-        ap (λ ss. run ss (start s.size.clients s.size.limit)) cut_steps ∙ run_append (steps s.events) (take (max_steps - r.world.steps) (steps_of (1 + length s.events) l)) (start s.size.clients s.size.limit) in
+    ap (λ ss. run ss (start s.size.clients s.size.limit)) cut_steps ∙ run_append (steps s.events) (take (max_steps - r.world.steps) (steps_of (1 + length s.events) l)) (start s.size.clients s.size.limit) in
     let here : q.world ≡ world_after max_steps (longer s l) = world ∙ ap (λ w. run (take (max_steps - r.world.steps) (steps_of (1 + length s.events) l)) w) h.world ∙ sym made in
     let long : length read ≡ suc (suc (suc (length s.events))) = ap length h.lines ∙ ap (λ k. suc (suc (suc k))) (length-map s.events spell) in
     let count : 3 + length (s.events ++ l ∷ []) ≡ suc (length read) = let e = length_last s.events l in omega arith in
     let whole : take (3 + length (s.events ++ l ∷ [])) (text_lines (longer s l)) ≡ text_lines (longer s l) =
-        ap (λ n. take n (text_lines (longer s l))) (count ∙ sym (length_last read line) ∙ ap length (text_same read line s l h spelled)) ∙ take_self (text_lines (longer s l)) in
+    ap (λ n. take n (text_lines (longer s l))) (count ∙ sym (length_last read line) ∙ ap length (text_same read line s l h spelled)) ∙ take_self (text_lines (longer s l)) in
     record {
       limit = refl;
       script = longer s l;

@@ -25,13 +25,7 @@ fn main(rt: HostRuntime) -> io::Result<ExitCode> {
     let mut sink = Writing::new(rt.stdout());
     // A replay uses no link.
     let mut link = MemLink::new(alloc, List::new(alloc), List::new(alloc));
-    let status = top::tango(
-        alloc,
-        words.as_slice(),
-        &mut source,
-        &mut sink,
-        &mut link,
-    );
+    let status = top::tango(alloc, words.as_slice(), &mut source, &mut sink, &mut link);
     // Where there is no memory for the line, the status alone tells.
     if let Ok(Some(line)) = status.says(alloc) {
         eprintln!(rt; "{line}")?;

@@ -4,12 +4,11 @@ ghost use Rattle.std.specs.Prelude.{◌≡◌, ◌++◌, ℕ, List, [], ◌∷�
 ghost use Rattle.tg_io.specs.Faults.{HasCause, StaysSure};
 ghost use Rattle.tango.specs.Stages.{Came, Finished, IsOn, status_of};
 
+use crate::progress::{Coming, Progress};
+use crate::run::{End, Fed, Finish, Stage};
 use std::alloc::Global;
 use tg_base::{List, NoMemory, Which};
 use tg_io::{IoErr, Source, Status};
-
-use crate::progress::{Coming, Progress};
-use crate::run::{End, Fed, Finish, Stage};
 
 impl End {
     /// The status of a run that ends so.

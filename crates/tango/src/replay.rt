@@ -8,13 +8,12 @@ ghost use Rattle.tango.specs.Script.{chains_line};
 ghost use Rattle.tango.specs.Stages.{Reads, Took, Finished, IsRunOf, IsSizeOf, IsMade, IsAt};
 ghost use Rattle.tango.specs.declared.run.Fed.TheVariants.{Goes, Stops};
 
+use crate::run::{End, Fed, Finish, Run, Stage};
+use crate::script::{self, Line, Size};
 use std::alloc::Global;
 use tg_base::NoMemory;
 use tg_model::{Command, Event};
 use tg_world::{Step, World};
-
-use crate::run::{End, Fed, Finish, Run, Stage};
-use crate::script::{self, Line, Size};
 
 /// The greatest number of steps of a run.
 pub const MAX_STEPS: u64 = 200_000;

@@ -12,14 +12,13 @@ ghost use Rattle.tango.specs.Runs.{Script, IsScript, IsWithin, Tells, FirstOutsi
 ghost use Rattle.tango.specs.Stages.{Finished, printed};
 ghost use Rattle.tango.specs.Top.{Told, Written, IsCutShort, IsOfReplay, TellsLegal, TellsFull};
 
-use std::alloc::Global;
-use tg_base::{List, NoMemory};
-use tg_io::{IoErr, Link, Sink, Source, Status, write_all};
-
 use crate::forms::{Form, read_form};
 use crate::reading::read_script;
 use crate::run::{Finish, Run};
 use crate::transcript::render;
+use std::alloc::Global;
+use tg_base::{List, NoMemory};
+use tg_io::{IoErr, Link, Sink, Source, Status, write_all};
 
 /// Runs the program. `words` are those after its name; a replay reads its script from the source,
 /// writes its transcript to the sink, and leaves the link unused.
@@ -129,3 +128,6 @@ impl Run {
         )
     }
 }
+
+#[cfg(test)]
+mod tests;

@@ -15,7 +15,7 @@ use Rattle.tango.proofs.replay.first.Goals as goal
 pub returns-in-None : goal.returns-in-None
 returns-in-None c = λ text more cut.
     ended text c.header_outside.result (Outside 1) None c.header_outside.ensures.end c.header_outside.ensures.run
-      (refuses_size text c.args.line.now more cut (λ t h e. let b = c.in-None.ensures.only t h e in absurd cc))
+    (refuses_size text c.args.line.now more cut (λ t h e. let b = c.in-None.ensures.only t h e in absurd cc))
 
 pub returns-in-Some : goal.returns-in-Some
 returns-in-Some c = λ text more cut.

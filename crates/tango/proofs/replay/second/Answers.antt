@@ -20,4 +20,4 @@ returns-then-is_chains c = λ text above more cut h.
 pub returns-else-is_chains : goal.returns-else-is_chains
 returns-else-is_chains c = λ text above more cut h.
     ended text c.header_outside.result (Outside 2) None c.header_outside.ensures.end c.header_outside.ensures.run
-      (refuses_chains text above c.args.line.now c.args.size more h cut (λ e. let p = c.is_chains.ensures.1 e in let q = c.if-is_chains.false in search rules))
+    (refuses_chains text above c.args.line.now c.args.size more h cut (λ e. let p = c.is_chains.ensures.1 e in let q = c.if-is_chains.false in search rules))

@@ -17,17 +17,17 @@ returns-in-Ok-Some-Replay-clause-limit g c = λ which e.
 pub returns-in-Ok-Some-Replay-clause-complete : goal.returns-in-Ok-Some-Replay-clause-complete
 returns-in-Ok-Some-Replay-clause-complete g c = λ form no_read no_write.
     complete_told (g.S.Source.left c.args.source.now) (g.K.Sink.written c.args.sink.now) (g.K.Sink.written c.replay.new.sink) c.replay.result c.replay.ensures.written
-      (undisturbed c.replay.result _ _ _ _ c.replay.ensures.ways c.replay.ensures.read_fault c.replay.ensures.write_fault no_read no_write)
+    (undisturbed c.replay.result _ _ _ _ c.replay.ensures.ways c.replay.ensures.read_fault c.replay.ensures.write_fault no_read no_write)
 
 pub returns-in-Ok-Some-Replay-clause-refuses : goal.returns-in-Ok-Some-Replay-clause-refuses
 returns-in-Ok-Some-Replay-clause-refuses g c = λ form no_read no_write.
     refuses_told (g.S.Source.left c.args.source.now) (g.K.Sink.written c.args.sink.now) (g.K.Sink.written c.replay.new.sink) c.replay.result c.replay.ensures.written
-      (undisturbed c.replay.result _ _ _ _ c.replay.ensures.ways c.replay.ensures.read_fault c.replay.ensures.write_fault no_read no_write)
+    (undisturbed c.replay.result _ _ _ _ c.replay.ensures.ways c.replay.ensures.read_fault c.replay.ensures.write_fault no_read no_write)
 
 pub returns-in-Ok-Some-Replay-clause-limits : goal.returns-in-Ok-Some-Replay-clause-limits
 returns-in-Ok-Some-Replay-clause-limits g c = λ form no_read no_write.
     limits_told (g.S.Source.left c.args.source.now) (g.K.Sink.written c.args.sink.now) (g.K.Sink.written c.replay.new.sink) c.replay.result c.replay.ensures.written
-      (undisturbed c.replay.result _ _ _ _ c.replay.ensures.ways c.replay.ensures.read_fault c.replay.ensures.write_fault no_read no_write)
+    (undisturbed c.replay.result _ _ _ _ c.replay.ensures.ways c.replay.ensures.read_fault c.replay.ensures.write_fault no_read no_write)
 
 pub returns-in-Ok-None-clause-legal : goal.returns-in-Ok-None-clause-legal
 returns-in-Ok-None-clause-legal g c = legal_told c.every_world_is_legal.ensures (g.S.Source.left c.args.source.now)

@@ -30,7 +30,7 @@ invariant_of-result-2 c =
     let room = 200000 - c.steps-room.result in
     let now : c.steps-room.result ≡ c.args.self.world.steps = c.steps-room.ensures in
     let e : c.in_ok-world-2.world.steps ≡ c.args.self.world.steps + length (take (200000 - c.steps-room.result) c.args.steps.now) =
-        ap (λ (w : Worlds). w.steps) c.in_ok-world-2.ensures ∙ run_counts (take (200000 - c.steps-room.result) c.args.steps.now) c.args.self.world in
+    ap (λ (w : Worlds). w.steps) c.in_ok-world-2.ensures ∙ run_counts (take (200000 - c.steps-room.result) c.args.steps.now) c.args.self.world in
     let long : length (take (200000 - c.steps-room.result) c.args.steps.now) ≡ min (200000 - c.steps-room.result) (length c.args.steps.now) = length-take (200000 - c.steps-room.result) c.args.steps.now in
     let before : c.args.self.world.steps ≤ 200000 = c.args.self.within in
     let counted : c.args.self.events ≤ c.args.self.world.steps = c.args.self.counted in

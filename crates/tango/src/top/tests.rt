@@ -1,0 +1,230 @@
+use super::*;
+use std::test::Fail;
+use tg_base::Which;
+use tg_io::{MemLink, MemSink, MemSource};
+
+const HEADER: &str =
+    "cluster units 1 layouts 1 seqs 1 clients 3 limit 100\nchains u0\nobjects ctr0 ctr1\n";
+
+const REVERSED: &str =
+    "c0 update ctr0 add 5\nc1 update ctr0 add 7\ndeliver 0\ndeliver 1\ndeliver 2\ndeliver 3\ndeliver 5\ndeliver 6\ndeliver 4\ndeliver 7\n";
+
+const UPDATED: &str = "objects ctr0 ctr1\n1 c0 1 begin\n1 c0 1 put ctr0 add 5\n1 c0 1 end\n";
+
+fn bytes(alloc: Global, text: &str) -> Result<List<u8>, NoMemory> {
+    let mut list = List::new(alloc);
+    list.extend(text.as_bytes())?;
+    Ok(list)
+}
+
+fn calls(alloc: Global, numbers: &[u64]) -> Result<List<u64>, NoMemory> {
+    let mut list = List::new(alloc);
+    list.extend(numbers)?;
+    Ok(list)
+}
+
+/// Runs the words on a text, where these reads and writes fail.
+fn outcome(
+    alloc: Global,
+    words: &[&str],
+    text: List<u8>,
+    reads: &[u64],
+    writes: &[u64],
+) -> Result<(Status, MemSink), NoMemory> {
+    let mut given = Vec::new(alloc);
+    for word in words {
+        given.push(String::from_str(alloc, word)?)?;
+    }
+    let mut source = MemSource::new(text, calls(alloc, reads)?);
+    let mut sink = MemSink::new(alloc, calls(alloc, writes)?);
+    let mut link = MemLink::new(alloc, List::new(alloc), List::new(alloc));
+    let status = tango(alloc, given.as_slice(), &mut source, &mut sink, &mut link);
+    Ok((status, sink))
+}
+
+/// Replays a header and events.
+fn replayed(alloc: Global, header: &str, events: &str) -> Result<(Status, MemSink), NoMemory> {
+    let mut text = bytes(alloc, header)?;
+    text.extend(events.as_bytes())?;
+    outcome(alloc, &["replay"], text, &[], &[])
+}
+
+#[test]
+fn scripts_and_their_transcripts(rt: HostRuntime) -> Result<(), Fail> {
+    for (header, events, head, tail) in [
+        (
+            "cluster units 1 layouts 1 seqs 1 clients 3 limit 100\nchains u0\nobjects\n",
+            "",
+            "objects\n",
+            "history 0\n",
+        ),
+        (
+            HEADER,
+            REVERSED,
+            UPDATED,
+            "2 c1 1 begin\n2 c1 1 put ctr0 add 7\n2 c1 1 end\n8 c1 1 committed 1\n10 c0 1 committed 0\nhistory 2\n0 c0 1 ctr0 add 5\n1 c1 1 ctr0 add 7\n",
+        ),
+        (
+            HEADER,
+            "c0 update ctr0 add 5\ndeliver 0\ndeliver 0\ndeliver 0\ndeliver 1\ndeliver 1\ndeliver 1\ndeliver 4\ndeliver 4\ndeliver 4\ndeliver 5\ndeliver 5\ndeliver 5",
+            UPDATED,
+            "11 c0 1 committed 0\nhistory 1\n0 c0 1 ctr0 add 5\n",
+        ),
+        (
+            "cluster units 1 layouts 1 seqs 1 clients 3 limit 1\nchains u0\nobjects ctr0 ctr1\n",
+            "c0 update ctr0 add 5\ndeliver 0\ndeliver 0\ndeliver 2\n",
+            UPDATED,
+            "4 c0 1 refused log-full 1\nhistory 0\n",
+        ),
+    ] {
+        let (status, sink) = replayed(rt.alloc(), header, events)?;
+        let mut want = bytes(rt.alloc(), head)?;
+        want.extend(tail.as_bytes())?;
+        assert!(rt; status == Status::Done);
+        assert!(rt; sink.written() == want.as_slice());
+    }
+    Ok(())
+}
+
+#[test]
+fn words_that_are_no_form(rt: HostRuntime) -> Result<(), Fail> {
+    for words in [
+        ["replay", "x"].as_slice(),
+        ["audit"].as_slice(),
+        ["--help"].as_slice(),
+        [].as_slice(),
+    ] {
+        let (status, sink) = outcome(rt.alloc(), words, bytes(rt.alloc(), HEADER)?, &[], &[])?;
+        assert!(rt; status == Status::Words);
+        assert!(rt; sink.written().is_empty());
+    }
+    Ok(())
+}
+
+#[test]
+fn lines_outside(rt: HostRuntime) -> Result<(), Fail> {
+    for (header, events, line, want) in [
+        (HEADER, "deliver 0", 4, "objects ctr0 ctr1\nhistory 0\n"),
+        (
+            HEADER,
+            "c3 update ctr0 add 5",
+            4,
+            "objects ctr0 ctr1\nhistory 0\n",
+        ),
+        (
+            HEADER,
+            "c0 update ctr2 add 5",
+            4,
+            "objects ctr0 ctr1\nhistory 0\n",
+        ),
+        (HEADER, "\n", 4, "objects ctr0 ctr1\nhistory 0\n"),
+        ("", "", 1, ""),
+        (
+            "cluster units 2 layouts 1 seqs 1 clients 3 limit 100\n",
+            "chains u0\n",
+            1,
+            "",
+        ),
+        (
+            "cluster units 1 layouts 1 seqs 1 clients 3 limit 100\n",
+            "",
+            2,
+            "",
+        ),
+        (
+            "cluster units 1 layouts 1 seqs 1 clients 3 limit 100\n",
+            "chains u0",
+            3,
+            "",
+        ),
+        (
+            "cluster units 1 layouts 1 seqs 1 clients 3 limit 100\nchains u0\n",
+            "objects map0\n",
+            3,
+            "",
+        ),
+    ] {
+        let (status, sink) = replayed(rt.alloc(), header, events)?;
+        assert!(rt; status == Status::Script { line });
+        assert!(rt; sink.written() == want.as_bytes());
+    }
+    Ok(())
+}
+
+#[test]
+fn a_second_update_of_a_client(rt: HostRuntime) -> Result<(), Fail> {
+    let events = "c0 update ctr0 add 5\nc0 update ctr0 add 7\n";
+    let (status, sink) = replayed(rt.alloc(), HEADER, events)?;
+    let mut want = bytes(rt.alloc(), UPDATED)?;
+    want.extend(b"history 0\n".as_slice())?;
+    assert!(rt; status == Status::Script { line: 5 });
+    assert!(rt; sink.written() == want.as_slice());
+    Ok(())
+}
+
+#[test]
+fn calls_that_fail(rt: HostRuntime) -> Result<(), Fail> {
+    // A text of one read, and another that finds its end; and one write.
+    for call in 0..2 {
+        let mut text = bytes(rt.alloc(), HEADER)?;
+        text.extend(REVERSED.as_bytes())?;
+        let (status, sink) = outcome(rt.alloc(), &["replay"], text, &[call], &[])?;
+        assert!(rt; status == Status::ReadFault);
+        assert!(rt; sink.written().is_empty());
+    }
+    let mut text = bytes(rt.alloc(), HEADER)?;
+    text.extend(REVERSED.as_bytes())?;
+    let (status, sink) = outcome(rt.alloc(), &["replay"], text, &[], &[0])?;
+    assert!(rt; status == Status::WriteFault);
+    assert!(rt; sink.written().is_empty());
+    Ok(())
+}
+
+/// A header, an update and so many arrivals of its packet, and then this line.
+fn long_script(alloc: Global, arrivals: u32, last: &str) -> Result<List<u8>, NoMemory> {
+    let mut text = bytes(alloc, HEADER)?;
+    text.extend(b"c0 update ctr0 add 5\n".as_slice())?;
+    for _ in 0..arrivals {
+        text.extend(b"deliver 0\n".as_slice())?;
+    }
+    text.extend(last.as_bytes())?;
+    Ok(text)
+}
+
+#[test]
+fn the_limit_of_steps(rt: HostRuntime) -> Result<(), Fail> {
+    // An update is three steps; one that passes the limit is made as far as the limit.
+    for (arrivals, last, status, tail) in [
+        (199_996, "deliver 0\n", Status::Done, "history 0\n"),
+        (
+            199_997,
+            "deliver 0\n",
+            Status::Limit {
+                which: Which::Steps,
+            },
+            "history 0\n",
+        ),
+        (
+            199_996,
+            "c1 update ctr1 add 1",
+            Status::Limit {
+                which: Which::Steps,
+            },
+            "199998 c1 1 begin\nhistory 0\n",
+        ),
+        (
+            199_997,
+            "deliver 1000000",
+            Status::Script { line: 200_002 },
+            "history 0\n",
+        ),
+    ] {
+        let text = long_script(rt.alloc(), arrivals, last)?;
+        let (found, sink) = outcome(rt.alloc(), &["replay"], text, &[], &[])?;
+        let mut want = bytes(rt.alloc(), UPDATED)?;
+        want.extend(tail.as_bytes())?;
+        assert!(rt; found == status);
+        assert!(rt; sink.written() == want.as_slice());
+    }
+    Ok(())
+}
