@@ -5,3 +5,4 @@ pub mod Texts
 pub mod Numbers
 pub mod Lines
 pub mod Objects
+pub mod FormsRead

@@ -4,3 +4,4 @@ pub mod Transcript
 pub mod Reading
 pub mod Runs
 pub mod Stages
+pub mod Forms

@@ -1,6 +1,7 @@
 //! Tango objects over a CORFU log.
 #![tactic(auto)]
 
+mod forms;
 mod number;
 mod progress;
 mod reading;
