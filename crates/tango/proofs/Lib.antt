@@ -7,3 +7,4 @@ pub mod Lines
 pub mod Objects
 pub mod Exact
 pub mod Promises
+pub mod FormsRead
