@@ -1,6 +1,6 @@
 -- The rules of layouts and changes, one by one.
-use Rattle.std.proofs.Common.{◌≡◌, ℕ, ◌≤◌, Bool, true, false, ◌&&◌, List, length, refl, arith, sym}
-use Rattle.std.specs.Prelude.{map, nat_le, IsTrue}
+use Rattle.std.proofs.Common.{◌≡◌, ℕ, ◌≤◌, true, List, length}
+use Rattle.std.specs.Prelude.{map, nat_le}
 use Rattle.std.specs.List.{list_all, concat}
 use Rattle.std.proofs.lemmas.Bool.{leb-true, le-leb}
 use Rattle.tg_base.proofs.Exact.{and-left, and-right, both}
@@ -51,7 +51,7 @@ layout_rules p h =
 pub IsLayout-from : (p : Layout) → LayoutRules p → IsLayout p
 IsLayout-from p r =
     both _ _ (both _ _ (both _ _ (both _ _ (both _ _ (both _ _ (both _ _ (le-leb 1 p.epoch r.epoch) r.gone_units) r.gone_rises)
-        (is_within-from 1 32 (length p.ranges) r.some r.few)) r.ranges) r.at_zero) r.in_order) r.below_start
+    (is_within-from 1 32 (length p.ranges) r.some r.few)) r.ranges) r.at_zero) r.in_order) r.below_start
 
 pub record ChainRules (units : List ℕ) : Type 0 where
   pub some : 1 ≤ length units
