@@ -1,0 +1,9 @@
+pub mod Steps
+pub mod Laws
+pub mod Numbers
+pub mod Widths
+pub mod Many
+pub mod Shapes
+pub mod Bounds
+pub mod Wholes
+pub mod Stops

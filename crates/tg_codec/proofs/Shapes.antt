@@ -1,0 +1,61 @@
+-- The law for lists behind a count, for texts, and for values behind a tag.
+use Rattle.std.proofs.Common.{◌≡◌, ℕ, Bool, true, false, cond, List, [], ◌∷◌, ◌++◌, length, Result, Ok, Err, refl, sym, ap, ◌∙◌, eqb, arith}
+use Rattle.std.proofs.lemmas.Bool.{eqb-true}
+use Rattle.std.proofs.lemmas.List.{length-append}
+use Rattle.tg_codec.proofs.Stops.{err_is}
+use Rattle.tg_codec.specs.Reading.{meets}
+use Rattle.tg_codec.specs.Codec.{Codec, u8, u16, raw, dep, via, many, counted, text, tagged, fit_many, never, from_table}
+use Rattle.tg_codec.proofs.Laws.{IsCodec, and-left, and-right, dep_law, via_law, many_law, raw_law, length-fit_many}
+use Rattle.tg_codec.proofs.Widths.{u8_law, u16_law}
+
+-- a first part that the second determines
+paired : {A B : Type 0} (f : B → A) (p : A × B) → f p.1 ≡ p.0 → ◌≡◌ {A = A × B} (f p.1, p.1) p
+paired f p e = λ i. (e i, p.1)
+
+pub counted_law : {X : Type 0} (counts : List (ℕ × ℕ)) (body : ℕ → Codec (List X)) → ((n : ℕ) → IsCodec (body n)) → ((n : ℕ) (xs : List X) → (body n).fits xs ≡ true → length xs ≡ n) → IsCodec (counted counts body)
+counted_law {X} counts body law len =
+    via_law (λ p. p.1) (λ xs. (length xs, xs)) (dep_law (u8_law counts) law) (λ p e. paired length p (len p.0 p.1 (and-right _ _ e))) (λ xs. refl)
+
+pub text_law : (lengths : List (ℕ × ℕ)) → IsCodec (text lengths)
+text_law lengths =
+    via_law (λ p. p.1) (λ bytes. (length bytes, bytes)) (dep_law (u16_law lengths) raw_law) (λ p e. paired length p (eqb-true _ _ (and-right _ _ e))) (λ xs. refl)
+
+pub tagged_law : {X : Type 0} (tags : List (ℕ × ℕ)) (tag : X → ℕ) (body : ℕ → Codec X) → ((t : ℕ) → IsCodec (body t)) → ((t : ℕ) (x : X) → meets tags t t ≡ true → (body t).fits x ≡ true → tag x ≡ t) → IsCodec (tagged tags tag body)
+tagged_law tags tag body law is =
+    via_law (λ p. p.1) (λ x. (tag x, x)) (dep_law (u8_law tags) law) (λ p e. paired tag p (is p.0 p.1 (and-left _ _ (and-left _ _ e)) (and-right _ _ e))) (λ x. refl)
+
+pub counted_many_law : {S X : Type 0} (counts : List (ℕ × ℕ)) (item : S → Codec X) (next : S → X → S) (start : ℕ → S) → ((s : S) → IsCodec (item s)) → IsCodec (counted counts (λ n. many item next n (start n)))
+counted_many_law counts item next start law =
+    counted_law counts _ (λ n. many_law item next law n (start n)) (λ n xs e. length-fit_many item next n (start n) xs e)
+
+never_law : {X : Type 0} → IsCodec (never {X = X})
+never_law {X} = record {
+  exact = record { takes = λ bytes x rest fits e. absurd cc; again = λ x rest e. absurd cc };
+  stops = record {
+    within_ok = λ x v rest e. absurd cc;
+    within_err = λ x left e. let same : length x ≡ left = err_is {A = X × List ℕ} _ _ e in omega (arith, same);
+    cut_ok = λ x y v rest e. absurd cc;
+    cut_err = λ x y left e. let same : length (x ++ y) ≡ left = err_is {A = X × List ℕ} _ _ e in ap (λ k. Err k) (omega (arith, same, length-append x y));
+  };
+}
+
+-- each format of the table keeps the law, and has the values of its tag alone
+abbrev pub IsTable : {X : Type 0} → (X → ℕ) → List (ℕ × Codec X) → Type 0
+IsTable tag [] = Unit {0}
+IsTable {X} tag (e ∷ es) = (IsCodec e.1 × ((x : X) → e.1.fits x ≡ true → tag x ≡ e.0)) × IsTable tag es
+
+chosen_law : {X : Type 0} (b : Bool) (c d : Codec X) → IsCodec c → IsCodec d → IsCodec (cond b c d)
+chosen_law true c d p q = p
+chosen_law false c d p q = q
+
+chosen_tag : {X : Type 0} (b : Bool) (c d : Codec X) (x : X) (n m t : ℕ) → eqb t n ≡ b → (c.fits x ≡ true → m ≡ n) → (d.fits x ≡ true → m ≡ t) → (cond b c d).fits x ≡ true → m ≡ t
+chosen_tag true c d x n m t is p q e = p e ∙ sym (eqb-true _ _ is)
+chosen_tag false c d x n m t is p q e = q e
+
+pub table_law : {X : Type 0} (tag : X → ℕ) (es : List (ℕ × Codec X)) → IsTable tag es → (t : ℕ) → IsCodec (from_table es t)
+table_law tag [] h t = never_law
+table_law tag (e ∷ es) h t = chosen_law (eqb t e.0) e.1 (from_table es t) h.0.0 (table_law tag es h.1 t)
+
+pub table_tag : {X : Type 0} (tag : X → ℕ) (es : List (ℕ × Codec X)) → IsTable tag es → (t : ℕ) (x : X) → (from_table es t).fits x ≡ true → tag x ≡ t
+table_tag tag [] h t x e = absurd cc
+table_tag tag (e ∷ es) h t x f = chosen_tag (eqb t e.0) e.1 (from_table es t) x e.0 (tag x) t refl (h.0.1 x) (table_tag tag es h.1 t x) f

@@ -1,0 +1,5 @@
+pub mod Reading
+pub mod Codec
+pub mod Bounds
+pub mod Whole
+pub mod Owing
