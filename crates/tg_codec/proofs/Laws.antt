@@ -4,7 +4,7 @@ use Rattle.std.proofs.lemmas.Bool.{cases_lt, ltb-false, le-ltb, eqb-true}
 use Rattle.std.proofs.lemmas.List.{take_at, drop_at, take-append-drop, length-append, length-take, get_or-drop, get_or_past, get_or_append_left}
 use Rattle.tg_codec.specs.Reading.{Read, ◌>>=◌, raw_at, fixed_at}
 use Rattle.tg_codec.proofs.Stops.{Stops, nothing_stops, raw_stops, fixed_stops, dep_stops, via_stops, many_stops, variant_stops}
-use Rattle.tg_codec.specs.Codec.{Codec, raw, nothing, fixed, dep, via, many, read_many, spell_many, fit_many, from_option, variant, only_if, tested}
+use Rattle.tg_codec.specs.Codec.{Codec, raw, nothing, fixed, dep, via, narrow, many, read_many, spell_many, fit_many, from_option, variant, only_if, tested}
 
 abbrev pub IsBytes : List ℕ → Type 0
 IsBytes bytes = (i : ℕ) → get_or bytes i 0 < 256
@@ -143,6 +143,22 @@ via_exact {A} {B} to from {c} p back forth = record {
 
 pub via_law : {A B : Type 0} (to : A → B) (from : B → A) {c : Codec A} → IsCodec c → ((x : A) → c.fits x ≡ true → from (to x) ≡ x) → ((y : B) → to (from y) ≡ y) → IsCodec (via to from c)
 via_law to from {c} p back forth = record { exact = via_exact to from p.exact back forth; stops = via_stops to from c p.stops }
+
+pub narrow_exact : {A B : Type 0} (test : B → Bool) (to : A → B) (from : B → A) {c : Codec A} → IsExact c → ((x : A) → c.fits x ≡ true → from (to x) ≡ x) → ((y : B) → test y ≡ true → to (from y) ≡ y) → ((x : A) → test (to x) ≡ true)
+    → IsExact (narrow test to from c)
+narrow_exact {A} {B} test to from {c} p back forth kept = record {
+  takes = λ bytes y rest fits e.
+      let f = bind_ok (c.read bytes) (λ x. Ok (to x.0, x.1)) (y, rest) e in
+      let t = p.takes bytes f.0.0 f.0.1 fits f.1 in
+      let is : (to f.0.0, f.0.1) ≡ (y, rest) = ok_is (to f.0.0, f.0.1) (y, rest) f.2 in
+      let same = back f.0.0 t.1 in
+      subst (λ (z : B × List ℕ). Takes bytes (c.spell (from z.0)) z.1 × ((test z.0 && c.fits (from z.0)) ≡ true)) is (rw same t.0, both _ _ (kept f.0.0) (rw same t.1));
+  again = λ y rest e. let one = p.again (from y) rest (and-right _ _ e) in let same = forth y (and-left _ _ e) in rw (one, same) refl;
+}
+
+pub narrow_law : {A B : Type 0} (test : B → Bool) (to : A → B) (from : B → A) {c : Codec A} → IsCodec c → ((x : A) → c.fits x ≡ true → from (to x) ≡ x) → ((y : B) → test y ≡ true → to (from y) ≡ y) → ((x : A) → test (to x) ≡ true)
+    → IsCodec (narrow test to from c)
+narrow_law test to from {c} p back forth kept = record { exact = narrow_exact test to from p.exact back forth kept; stops = via_stops to from c p.stops }
 
 many-takes : {S X : Type 0} (item : S → Codec X) (next : S → X → S) → ((s : S) → IsExact (item s)) → (n : ℕ) (s : S) (bytes : List ℕ) (xs : List X) (rest : List ℕ) → IsBytes bytes
     → read_many item next n s bytes ≡ Ok (xs, rest) → Takes bytes (spell_many item next s xs) rest × (fit_many item next n s xs ≡ true)

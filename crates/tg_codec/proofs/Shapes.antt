@@ -4,29 +4,42 @@ use Rattle.std.proofs.lemmas.Bool.{eqb-true}
 use Rattle.std.proofs.lemmas.List.{length-append}
 use Rattle.tg_codec.proofs.Stops.{err_is}
 use Rattle.tg_codec.specs.Reading.{meets}
-use Rattle.tg_codec.specs.Codec.{Codec, u8, u16, raw, dep, via, many, counted, text, tagged, fit_many, never, from_table}
-use Rattle.tg_codec.proofs.Laws.{IsCodec, and-left, and-right, dep_law, via_law, many_law, raw_law, length-fit_many}
+use Rattle.tg_codec.specs.Codec.{Codec, u8, u16, raw, dep, via, many, behind, counted, text, tagged, fit_many, never, from_table}
+use Rattle.tg_codec.proofs.Laws.{IsExact, IsCodec, and-left, and-right, dep_exact, dep_law, via_exact, via_law, many_exact, many_law, raw_law, length-fit_many}
 use Rattle.tg_codec.proofs.Widths.{u8_law, u16_law}
 
 -- a first part that the second determines
 paired : {A B : Type 0} (f : B → A) (p : A × B) → f p.1 ≡ p.0 → ◌≡◌ {A = A × B} (f p.1, p.1) p
 paired f p e = λ i. (e i, p.1)
 
+pub behind_exact : {X : Type 0} {count : Codec ℕ} {body : ℕ → Codec (List X)} → IsExact count → ((n : ℕ) → IsExact (body n)) → ((n : ℕ) (xs : List X) → (body n).fits xs ≡ true → length xs ≡ n) → IsExact (behind count body)
+behind_exact count_law law len =
+    via_exact (λ p. p.1) (λ xs. (length xs, xs)) (dep_exact count_law law) (λ p e. paired length p (len p.0 p.1 (and-right _ _ e))) (λ xs. refl)
+
+pub behind_law : {X : Type 0} {count : Codec ℕ} {body : ℕ → Codec (List X)} → IsCodec count → ((n : ℕ) → IsCodec (body n)) → ((n : ℕ) (xs : List X) → (body n).fits xs ≡ true → length xs ≡ n) → IsCodec (behind count body)
+behind_law count_law law len =
+    via_law (λ p. p.1) (λ xs. (length xs, xs)) (dep_law count_law law) (λ p e. paired length p (len p.0 p.1 (and-right _ _ e))) (λ xs. refl)
+
+pub behind_many_exact : {S X : Type 0} {count : Codec ℕ} (item : S → Codec X) (next : S → X → S) (start : ℕ → S) → IsExact count → ((s : S) → IsExact (item s)) → IsExact (behind count (λ n. many item next n (start n)))
+behind_many_exact item next start count_law law =
+    behind_exact count_law (λ n. many_exact item next law n (start n)) (λ n xs e. length-fit_many item next n (start n) xs e)
+
+pub behind_many_law : {S X : Type 0} {count : Codec ℕ} (item : S → Codec X) (next : S → X → S) (start : ℕ → S) → IsCodec count → ((s : S) → IsCodec (item s)) → IsCodec (behind count (λ n. many item next n (start n)))
+behind_many_law item next start count_law law =
+    behind_law count_law (λ n. many_law item next law n (start n)) (λ n xs e. length-fit_many item next n (start n) xs e)
+
 pub counted_law : {X : Type 0} (counts : List (ℕ × ℕ)) (body : ℕ → Codec (List X)) → ((n : ℕ) → IsCodec (body n)) → ((n : ℕ) (xs : List X) → (body n).fits xs ≡ true → length xs ≡ n) → IsCodec (counted counts body)
-counted_law {X} counts body law len =
-    via_law (λ p. p.1) (λ xs. (length xs, xs)) (dep_law (u8_law counts) law) (λ p e. paired length p (len p.0 p.1 (and-right _ _ e))) (λ xs. refl)
+counted_law counts body law len = behind_law (u8_law counts) law len
 
 pub text_law : (lengths : List (ℕ × ℕ)) → IsCodec (text lengths)
-text_law lengths =
-    via_law (λ p. p.1) (λ bytes. (length bytes, bytes)) (dep_law (u16_law lengths) raw_law) (λ p e. paired length p (eqb-true _ _ (and-right _ _ e))) (λ xs. refl)
+text_law lengths = behind_law (u16_law lengths) raw_law (λ n xs e. eqb-true _ _ e)
 
 pub tagged_law : {X : Type 0} (tags : List (ℕ × ℕ)) (tag : X → ℕ) (body : ℕ → Codec X) → ((t : ℕ) → IsCodec (body t)) → ((t : ℕ) (x : X) → meets tags t t ≡ true → (body t).fits x ≡ true → tag x ≡ t) → IsCodec (tagged tags tag body)
 tagged_law tags tag body law is =
     via_law (λ p. p.1) (λ x. (tag x, x)) (dep_law (u8_law tags) law) (λ p e. paired tag p (is p.0 p.1 (and-left _ _ (and-left _ _ e)) (and-right _ _ e))) (λ x. refl)
 
 pub counted_many_law : {S X : Type 0} (counts : List (ℕ × ℕ)) (item : S → Codec X) (next : S → X → S) (start : ℕ → S) → ((s : S) → IsCodec (item s)) → IsCodec (counted counts (λ n. many item next n (start n)))
-counted_many_law counts item next start law =
-    counted_law counts _ (λ n. many_law item next law n (start n)) (λ n xs e. length-fit_many item next n (start n) xs e)
+counted_many_law counts item next start law = behind_many_law item next start (u8_law counts) law
 
 never_law : {X : Type 0} → IsCodec (never {X = X})
 never_law {X} = record {

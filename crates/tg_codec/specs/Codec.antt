@@ -50,6 +50,14 @@ via to from c = record {
   read = λ bytes. c.read bytes >>= λ x. Ok (to x.0, x.1);
 }
 
+-- some values of a larger type, in another shape
+abbrev pub narrow : {A B : Type 0} → (B → Bool) → (A → B) → (B → A) → Codec A → Codec B
+narrow test to from c = record {
+  spell = λ y. c.spell (from y);
+  fits = λ y. test y && c.fits (from y);
+  read = λ bytes. c.read bytes >>= λ x. Ok (to x.0, x.1);
+}
+
 -- so many values, each of a format that depends on those before it by a state
 unfoldable pub read_many : {S X : Type 0} → (S → Codec X) → (S → X → S) → ℕ → S → List ℕ → Read (List X)
 read_many item next zero s bytes = Ok ([], bytes)
@@ -73,12 +81,16 @@ abbrev pub rising : {X : Type 0} → (ℕ → Codec X) → (X → ℕ) → ℕ �
 rising item key n = many item (λ _ x. key x + 1) n 0
 
 -- a list behind its count
-abbrev pub counted : {X : Type 0} → List (ℕ × ℕ) → (ℕ → Codec (List X)) → Codec (List X)
-counted counts body = via (λ p. p.1) (λ xs. (length xs, xs)) (dep (u8 counts) body)
+abbrev pub behind : {X : Type 0} → Codec ℕ → (ℕ → Codec (List X)) → Codec (List X)
+behind count body = via (λ p. p.1) (λ xs. (length xs, xs)) (dep count body)
 
--- bytes behind their count, in two bytes
+-- a list behind its count in one byte
+abbrev pub counted : {X : Type 0} → List (ℕ × ℕ) → (ℕ → Codec (List X)) → Codec (List X)
+counted counts body = behind (u8 counts) body
+
+-- bytes behind their count in two bytes
 abbrev pub text : List (ℕ × ℕ) → Codec (List ℕ)
-text lengths = via (λ p. p.1) (λ bytes. (length bytes, bytes)) (dep (u16 lengths) raw)
+text lengths = behind (u16 lengths) raw
 
 abbrev pub from_option : {P A : Type 0} → A → (P → A) → Option P → A
 from_option none some None = none

@@ -2,6 +2,8 @@
 use Rattle.std.specs.Prelude.{◌≡◌, ℕ, ◌-◌, ◌<◌, ◌≤◌, ◌==◌, true, List, length, take, Result, Ok, Err, if◌then◌else◌}
 use Rattle.tg_codec.specs.Reading.{Read}
 use Rattle.tg_codec.specs.Codec.{Codec}
+use Rattle.tg_codec.specs.declared.fault.ReadFault.{ReadFault}
+use Rattle.tg_codec.specs.declared.fault.ReadFault.TheVariants as reads
 use Rattle.tg_codec.specs.declared.fault.BytesFault.{BytesFault}
 use Rattle.tg_codec.specs.declared.fault.BytesFault.TheVariants as faults
 
@@ -18,6 +20,11 @@ abbrev pub Answers : {A : Type 0} → Result A BytesFault → Result A ℕ → T
 Answers (Ok x) read = read ≡ Ok x
 Answers (Err faults.NoMemory) read = Unit {0}
 Answers (Err (faults.Refused at)) read = read ≡ Err at
+
+-- the place of a fault, counted from the first byte
+abbrev pub IsRefused : BytesFault → List ℕ → ReadFault → Type 0
+IsRefused fault bytes reads.NoMemory = fault ≡ faults.NoMemory
+IsRefused fault bytes (reads.Stop left) = fault ≡ faults.Refused (length bytes - left)
 
 -- the bytes were read to their end, with no byte refused: lawful fields, and then at most a beginning of one
 abbrev pub IsLawfulSoFar : {A : Type 0} → Read A → Type 0

@@ -15,6 +15,6 @@ pub use above::{raw_above, raw_in, tops};
 pub use fault::{BytesFault, ReadFault};
 pub use items::{Item, Measured, read_items, size_items, write_items};
 pub use owed::Owed;
-pub use read::{fixed, number, raw, u8_in, u16_in, u32_in, u64_in};
-pub use whole::ended;
+pub use read::{blob, fixed, number, raw, text, u8_in, u16_in, u32_in, u64_in};
+pub use whole::{ended, refused};
 pub use write::{put_text, put_u16, put_u32, put_u64, put_zeros};

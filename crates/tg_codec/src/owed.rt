@@ -4,39 +4,44 @@ ghost use Rattle.std.specs.Prelude.{◌≡◌, IfOk};
 ghost use Rattle.tg_codec.specs.Owing.{points, named, owing, paid};
 
 use std::alloc::{AllocError, Global};
-use tg_base::{List, NoMemory};
+use std::marker::Model;
 
 /// What items still owe: how many are left, and the names without one.
 #[derive(Drop)]
 pub struct Owed {
-    /// How many items are left.
-    pub left: u64,
-    /// The names that no item had yet.
-    pub missing: List<u32>,
-    /// All names.
-    pub names: List<u32>,
+    left: u64,
+    missing: Vec<u32>,
+    names: Vec<u32>,
+}
+
+impl Model for Owed {
+    ghost use Rattle.tg_codec.specs.Owing.{Debt};
+
+    ghost Value = { Debt };
+
+    ghost view = { λ o. record { left = o.left; missing = o.missing.items; names = o.names.items } };
 }
 
 impl Owed {
     /// So many items, and no name has one yet.
-    pub fn all(alloc: Global, left: u64, names: &[u32]) -> Result<Owed, NoMemory>
+    pub fn all(alloc: Global, left: u64, names: &[u32]) -> Result<Owed, AllocError>
         ensures { IfOk result (λ o. o ≡ owing left names.now) }
     {
         Ok(Owed {
             left,
-            missing: List::from_vec(Vec::from_slice(alloc, names)?),
-            names: List::from_vec(Vec::from_slice(alloc, names)?),
+            missing: Vec::from_slice(alloc, names)?,
+            names: Vec::from_slice(alloc, names)?,
         })
     }
 
     /// The names that the next item may have, as ranges of one.
-    pub fn named(&self, alloc: Global) -> Result<List<(u64, u64)>, NoMemory>
-        ensures { IfOk result (λ v. v ≡ named self.now) }
+    pub fn named(&self, alloc: Global) -> Result<Vec<(u64, u64)>, AllocError>
+        ensures { IfOk result (λ v. v.items ≡ named self.now) }
     {
         if self.missing.len() as u64 == self.left {
-            points_of(alloc, self.missing.as_slice())
+            points(alloc, &self.missing)
         } else {
-            points_of(alloc, self.names.as_slice())
+            points(alloc, &self.names)
         }
     }
 
@@ -58,14 +63,7 @@ impl Owed {
     }
 }
 
-fn points_of(alloc: Global, xs: &[u32]) -> Result<List<(u64, u64)>, NoMemory>
-    ensures { IfOk result (λ v. v ≡ points xs.now) }
-{
-    let points = pairs(alloc, xs)?;
-    Ok(List::from_vec(points))
-}
-
-fn pairs(alloc: Global, xs: &[u32]) -> Result<Vec<(u64, u64)>, AllocError>
+fn points(alloc: Global, xs: &[u32]) -> Result<Vec<(u64, u64)>, AllocError>
     ensures { IfOk result (λ v. v.items ≡ points xs.now) }
 {
     xs.iter()
