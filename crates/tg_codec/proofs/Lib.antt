@@ -6,4 +6,5 @@ pub mod Many
 pub mod Shapes
 pub mod Bounds
 pub mod Wholes
+pub mod Objects
 pub mod Stops

@@ -1,5 +1,5 @@
 -- Reading items one after the other, as a loop does.
-use Rattle.std.proofs.Common.{◌≡◌, ℕ, suc, ◌-◌, ◌+◌, ◌≤◌, ◌<◌, List, [], ◌∷◌, ◌++◌, Ok, Err, refl, sym, ap, ◌∙◌, append_assoc, arith}
+use Rattle.std.proofs.Common.{◌≡◌, ℕ, suc, ◌*◌, ◌-◌, ◌+◌, ◌≤◌, ◌<◌, List, [], ◌∷◌, ◌++◌, Ok, Err, refl, sym, ap, ◌∙◌, append_assoc, arith}
 use Rattle.std.proofs.lemmas.List.{append-nil, length-append}
 use Rattle.std.proofs.Math.ListN.{drop_of_length-le}
 use Rattle.tg_codec.specs.declared.fault.ReadFault.{ReadFault}
@@ -75,3 +75,9 @@ all_sized item next n s values i total le so_far =
 
 pub from_nothing : (n : ℕ) → 0 + n ≡ n
 from_nothing n = omega arith
+
+-- items of one length
+pub same_len : {S X : Type 0} (item : S → Codec X) (next : S → X → S) (k : ℕ) → ((s : S) (x : X) → length ((item s).spell x) ≡ k) → (s : S) (xs : List X) → length (spell_many item next s xs) ≡ length xs * k
+unfolding spell_many
+same_len item next k h s [] = omega arith
+same_len item next k h s (x ∷ xs) = omega (arith, h s x, same_len item next k h (next s x) xs, length-append ((item s).spell x) (spell_many item next (next s x) xs))

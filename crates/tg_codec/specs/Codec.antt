@@ -1,6 +1,6 @@
 -- A format of values: how each is spelled, which have a spelling, and how they are read. Formats are put
 -- together by the words below, and what is read is then what is spelled, by one law for each word.
-use Rattle.std.specs.Prelude.{Err, if◌then◌else◌, ℕ, zero, suc, ◌+◌, ◌^◌, Bool, true, false, ◌&&◌, ◌==◌, nat_lt, List, [], ◌∷◌, ◌++◌, length, Option, Some, None, Ok}
+use Rattle.std.specs.Prelude.{Err, if◌then◌else◌, ℕ, zero, suc, ◌^◌, Bool, true, false, ◌&&◌, ◌==◌, nat_lt, List, [], ◌∷◌, ◌++◌, length, Option, Some, None, Ok}
 use Rattle.std.specs.Int.{w16, w32, w64, to_be_bytes}
 use Rattle.tg_codec.specs.Reading.{Read, ◌>>=◌, meets, u8_at, u16_at, u32_at, u64_at, raw_at, fixed_at}
 
@@ -75,10 +75,6 @@ fit_many item next (suc n) s (x ∷ xs) = (item s).fits x && fit_many item next 
 
 abbrev pub many : {S X : Type 0} → (S → Codec X) → (S → X → S) → ℕ → S → Codec (List X)
 many item next n s = record { spell = spell_many item next s; fits = fit_many item next n s; read = read_many item next n s }
-
--- so many values, whose keys rise
-abbrev pub rising : {X : Type 0} → (ℕ → Codec X) → (X → ℕ) → ℕ → Codec (List X)
-rising item key n = many item (λ _ x. key x + 1) n 0
 
 -- a list behind its count
 abbrev pub behind : {X : Type 0} → Codec ℕ → (ℕ → Codec (List X)) → Codec (List X)

@@ -3,3 +3,4 @@ pub mod Codec
 pub mod Bounds
 pub mod Whole
 pub mod Owing
+pub mod Streams
