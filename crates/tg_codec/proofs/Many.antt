@@ -81,3 +81,7 @@ pub same_len : {S X : Type 0} (item : S → Codec X) (next : S → X → S) (k :
 unfolding spell_many
 same_len item next k h s [] = omega arith
 same_len item next k h s (x ∷ xs) = omega (arith, h s x, same_len item next k h (next s x) xs, length-append ((item s).spell x) (spell_many item next (next s x) xs))
+
+-- what is put last after something else
+pub glue : (out a rest mid new : List ℕ) → mid ≡ out ++ a → new ≡ mid ++ rest → new ≡ out ++ (a ++ rest)
+glue out a rest mid new p q = q ∙ ap (λ (o : List ℕ). o ++ rest) p ∙ append_assoc out a rest

@@ -1,6 +1,6 @@
 -- The law for lists behind a count, for texts, and for values behind a tag.
-use Rattle.std.proofs.Common.{◌≡◌, ℕ, Bool, true, false, cond, List, [], ◌∷◌, ◌++◌, length, Result, Ok, Err, refl, sym, ap, ◌∙◌, eqb, arith}
-use Rattle.std.proofs.lemmas.Bool.{eqb-true}
+use Rattle.std.proofs.Common.{◌≡◌, ℕ, ◌<◌, ◌≤◌, max, min, Bool, true, false, cond, ◌||◌, List, [], ◌∷◌, ◌++◌, length, Result, Ok, Err, refl, sym, ap, ◌∙◌, eqb, arith}
+use Rattle.std.proofs.lemmas.Bool.{eqb-true, leb-true, ltb-true}
 use Rattle.std.proofs.lemmas.List.{length-append}
 use Rattle.tg_codec.proofs.Stops.{err_is}
 use Rattle.tg_codec.specs.Reading.{meets}
@@ -57,9 +57,13 @@ abbrev pub IsTable : {X : Type 0} → (X → ℕ) → List (ℕ × Codec X) → 
 IsTable tag [] = Unit {0}
 IsTable {X} tag (e ∷ es) = (IsCodec e.1 × ((x : X) → e.1.fits x ≡ true → tag x ≡ e.0)) × IsTable tag es
 
-chosen_law : {X : Type 0} (b : Bool) (c d : Codec X) → IsCodec c → IsCodec d → IsCodec (cond b c d)
+pub chosen_law : {X : Type 0} (b : Bool) (c d : Codec X) → IsCodec c → IsCodec d → IsCodec (cond b c d)
 chosen_law true c d p q = p
 chosen_law false c d p q = q
+
+pub chosen_len : {X : Type 0} (b : Bool) (c d : Codec (List X)) (xs : List X) (n : ℕ) → (c.fits xs ≡ true → length xs ≡ n) → (d.fits xs ≡ true → length xs ≡ n) → (cond b c d).fits xs ≡ true → length xs ≡ n
+chosen_len true c d xs n p q e = p e
+chosen_len false c d xs n p q e = q e
 
 chosen_tag : {X : Type 0} (b : Bool) (c d : Codec X) (x : X) (n m t : ℕ) → eqb t n ≡ b → (c.fits x ≡ true → m ≡ n) → (d.fits x ≡ true → m ≡ t) → (cond b c d).fits x ≡ true → m ≡ t
 chosen_tag true c d x n m t is p q e = p e ∙ sym (eqb-true _ _ is)
@@ -72,3 +76,28 @@ table_law tag (e ∷ es) h t = chosen_law (eqb t e.0) e.1 (from_table es t) h.0.
 pub table_tag : {X : Type 0} (tag : X → ℕ) (es : List (ℕ × Codec X)) → IsTable tag es → (t : ℕ) (x : X) → (from_table es t).fits x ≡ true → tag x ≡ t
 table_tag tag [] h t x e = absurd cc
 table_tag tag (e ∷ es) h t x f = chosen_tag (eqb t e.0) e.1 (from_table es t) x e.0 (tag x) t refl (h.0.1 x) (table_tag tag es h.1 t x) f
+
+-- ---- what fits
+
+or-false : (a : Bool) → (a || false) ≡ true → a ≡ true
+or-false true e = refl
+or-false false e = absurd cc
+
+-- a number from one range
+pub met_within : (low high n : ℕ) → meets ((low, high) ∷ []) n n ≡ true → (low ≤ n) × (n ≤ high)
+met_within low high n e =
+    let le : max low n ≤ min high n = leb-true _ _ (or-false _ e) in
+    (omega (arith, le), omega (arith, le))
+
+pub counted_len : {X : Type 0} (counts : List (ℕ × ℕ)) (body : ℕ → Codec (List X)) (xs : List X) → (counted counts body).fits xs ≡ true → length xs < 256
+counted_len counts body xs e = ltb-true _ _ (and-right _ _ (and-left _ _ e))
+
+pub behind_u16_len : {X : Type 0} (counts : List (ℕ × ℕ)) (body : ℕ → Codec (List X)) (xs : List X) → (behind (u16 counts) body).fits xs ≡ true → length xs < 65536
+behind_u16_len counts body xs e = ltb-true _ _ (and-right _ _ (and-left _ _ e))
+
+-- both parts of a pair that fits do
+pub dep_first : {A B : Type 0} (a : Codec A) (b : A → Codec B) (p : A × B) → (dep a b).fits p ≡ true → a.fits p.0 ≡ true
+dep_first a b p e = and-left (a.fits p.0) ((b p.0).fits p.1) e
+
+pub dep_second : {A B : Type 0} (a : Codec A) (b : A → Codec B) (p : A × B) → (dep a b).fits p ≡ true → (b p.0).fits p.1 ≡ true
+dep_second a b p e = and-right (a.fits p.0) ((b p.0).fits p.1) e

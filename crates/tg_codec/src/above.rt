@@ -1,6 +1,6 @@
 //! Bytes above given ones, and bytes from some ranges.
 
-ghost use Rattle.std.specs.Prelude.{◌≡◌, IfOk, length};
+ghost use Rattle.std.specs.Prelude.{◌≡◌, ◌≤◌, IfOk, length};
 ghost use Rattle.tg_codec.specs.Reading.{Gives};
 ghost use Rattle.tg_codec.specs.Bounds.{tops, least_above, bound_after, raw_above, raw_in};
 
@@ -10,7 +10,8 @@ use crate::read::u8_in;
 /// How many of the greatest byte a text begins with. So many bytes and fewer are never above it, more
 /// can be.
 pub fn tops(text: &[u8]) -> usize
-    ensures { result ≡ tops text.now }
+    ensures count { result ≡ tops text.now }
+    ensures most { result ≤ length text.now }
 {
     let mut count = 0;
     for byte in text {

@@ -63,7 +63,8 @@ impl Owed {
     }
 }
 
-fn points(alloc: Global, xs: &[u32]) -> Result<Vec<(u64, u64)>, AllocError>
+/// These numbers and no others, as ranges of one.
+pub fn points(alloc: Global, xs: &[u32]) -> Result<Vec<(u64, u64)>, AllocError>
     ensures { IfOk result (λ v. v.items ≡ points xs.now) }
 {
     xs.iter()

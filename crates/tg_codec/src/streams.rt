@@ -5,7 +5,7 @@ ghost use Rattle.tg_codec.specs.Reading.{Gives};
 ghost use Rattle.tg_codec.specs.Streams.{any, oid, oids_from, position, then_before, before, zeros, backs, link, after_link, links};
 
 use crate::fault::ReadFault;
-use crate::items::{Item, Measured, read_items, write_items};
+use crate::items::{Item, Measured, read_items, size_items, write_items};
 use crate::read::{fixed, u8_in, u32_in, u64_in};
 use crate::write::{put_u32, put_u64, put_zeros};
 use std::alloc::Global;
@@ -153,4 +153,13 @@ pub fn put_links(value: &[StreamLink], out: &mut List<u8>) -> Result<(), NoMemor
 {
     out.push(value.len() as u8)?;
     write_items::<Links>(value, out)
+}
+
+/// The length of the spelling of streams behind their count. It takes no memory.
+pub fn size_links(value: &[StreamLink]) -> usize
+    requires { length value.now ≤ 255 }
+    ensures len { result ≡ length ((links any).spell value.now) }
+    ensures most { result ≤ 5000000 }
+{
+    1 + size_items::<Links>(value)
 }

@@ -36,7 +36,7 @@ pub fn put_u64(value: u64, out: &mut List<u8>) -> Result<(), NoMemory>
 /// Puts bytes last, behind their count in two bytes.
 pub fn put_text(text: &[u8], out: &mut List<u8>) -> Result<(), NoMemory>
     requires { length text.now ≤ 65535 }
-    ensures { OnOk result (out.new ≡ out.old ++ to_be_bytes w16 (length text.now) ++ text.now) }
+    ensures { OnOk result (out.new ≡ out.old ++ (to_be_bytes w16 (length text.now) ++ text.now)) }
 {
     put_u16(text.len() as u16, out)?;
     out.extend(text)
