@@ -1,5 +1,5 @@
 -- Drafts, and entries in order.
-use Rattle.std.specs.Prelude.{◌≡◌, ◌==◌, ◌&&◌, ℕ, Bool, true, nat_lt, List, length, map, IsTrue}
+use Rattle.std.specs.Prelude.{◌≡◌, ◌==◌, ◌&&◌, ℕ, Bool, true, nat_lt, List, length, map}
 use Rattle.std.specs.List.{list_all}
 use Rattle.tg_base.specs.Units.{is_rising}
 use Rattle.tg_entry.specs.declared.entry.Entry.{Entry}
@@ -21,7 +21,7 @@ abbrev pub positions : Placed → List ℕ
 positions es = map (λ e. e.0) es
 
 abbrev pub IsInOrder : Placed → Type 0
-IsInOrder es = IsTrue (is_rising (positions es))
+IsInOrder es = is_rising (positions es) ≡ true
 
 -- whether all stand below a position
 abbrev pub all_below : ℕ → Placed → Bool

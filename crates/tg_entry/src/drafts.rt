@@ -83,7 +83,8 @@ impl Entries {
         ensures ok { OnOk result (self.new ≡ self.old ++ (at, entry) ∷ []) }
         ensures err { OnErr result (self.new ≡ self.old) }
     {
-        self.list.push((at, entry))
+        self.list.push((at, entry))?;
+        Ok(())
     }
 
     /// The entries with their positions.

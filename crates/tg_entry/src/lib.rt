@@ -17,3 +17,6 @@ pub use drafts::{Draft, Entries};
 pub use entry::{Body, Entry, Head, WriteOp};
 pub use fault::EntryFault;
 pub use needs::needs_decision;
+
+#[cfg(test)]
+mod tests;
