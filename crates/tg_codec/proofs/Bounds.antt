@@ -1,9 +1,9 @@
 -- Bytes above a bound, and bytes from ranges, keep the law; and which fit.
-use Rattle.std.proofs.Common.{◌≡◌, ℕ, zero, suc, ◌+◌, ◌-◌, ◌*◌, ◌<◌, ◌≤◌, Bool, true, false, cond, ◌&&◌, ◌||◌, eqb, ltb, leb, max, min, List, [], ◌∷◌, ◌++◌, length, take, drop, append_assoc, Ok, Err, refl, sym, ap, subst, ◌∙◌, inl, inr, arith}
-use Rattle.std.proofs.lemmas.Bool.{cases_lt, ltb-true, ltb-false, lt-ltb, le-ltb, eqb-true, leb-true, le-leb}
+use Rattle.std.proofs.Common.{◌≡◌, ℕ, suc, ◌+◌, ◌-◌, ◌*◌, ◌<◌, ◌≤◌, Bool, true, false, cond, ◌&&◌, ◌||◌, eqb, ltb, leb, max, min, List, [], ◌∷◌, ◌++◌, length, take, drop, append_assoc, Ok, refl, sym, ap, subst, ◌∙◌, inl, inr, arith}
+use Rattle.std.proofs.lemmas.Bool.{cases_lt, ltb-true, lt-ltb, le-ltb, eqb-true, leb-true, le-leb}
 use Rattle.std.proofs.lemmas.List.{length-append, take_at, drop_at}
-use Rattle.tg_codec.specs.Reading.{meets, u8_at}
-use Rattle.tg_codec.specs.Codec.{Codec, u8, many, spell_many, fit_many}
+use Rattle.tg_codec.specs.Reading.{u8_at}
+use Rattle.tg_codec.specs.Codec.{u8, many, spell_many, fit_many}
 use Rattle.tg_codec.specs.Bounds.{is_above, tops, least_above, bound_after, byte_above, after_byte, raw_above, same_ranges, raw_in}
 use Rattle.tg_codec.proofs.Laws.{IsBytes, IsCodec, and-left, and-right, both, many_law, alike_law}
 use Rattle.tg_codec.proofs.Numbers.{worth, number_takes}

@@ -1,10 +1,10 @@
 -- The law for lists behind a count, for texts, and for values behind a tag.
-use Rattle.std.proofs.Common.{◌≡◌, ℕ, ◌<◌, ◌≤◌, max, min, Bool, true, false, cond, ◌||◌, List, [], ◌∷◌, ◌++◌, length, Result, Ok, Err, refl, sym, ap, ◌∙◌, eqb, arith}
+use Rattle.std.proofs.Common.{◌≡◌, ℕ, ◌<◌, ◌≤◌, max, min, Bool, true, false, cond, ◌||◌, List, [], ◌∷◌, ◌++◌, length, Err, refl, sym, ap, ◌∙◌, eqb, arith}
 use Rattle.std.proofs.lemmas.Bool.{eqb-true, leb-true, ltb-true}
 use Rattle.std.proofs.lemmas.List.{length-append}
 use Rattle.tg_codec.proofs.Stops.{err_is}
 use Rattle.tg_codec.specs.Reading.{meets}
-use Rattle.tg_codec.specs.Codec.{Codec, u8, u16, raw, dep, via, many, behind, counted, text, tagged, fit_many, never, from_table}
+use Rattle.tg_codec.specs.Codec.{Codec, u16, dep, many, behind, counted, text, tagged, never, from_table}
 use Rattle.tg_codec.proofs.Laws.{IsExact, IsCodec, and-left, and-right, dep_exact, dep_law, via_exact, via_law, many_exact, many_law, raw_law, length-fit_many}
 use Rattle.tg_codec.proofs.Widths.{u8_law, u16_law}
 

@@ -1,5 +1,5 @@
 -- Bytes above given ones, and bytes of which each is from some ranges.
-use Rattle.std.specs.Prelude.{ℕ, zero, suc, ◌+◌, ◌-◌, Bool, true, false, ◌&&◌, ◌||◌, ◌==◌, nat_lt, List, [], ◌∷◌, if◌then◌else◌}
+use Rattle.std.specs.Prelude.{ℕ, suc, ◌+◌, ◌-◌, Bool, true, false, ◌&&◌, ◌||◌, ◌==◌, nat_lt, List, [], ◌∷◌, if◌then◌else◌}
 use Rattle.tg_codec.specs.Codec.{Codec, u8, read_many, fit_many}
 
 -- the order of texts: by bytes, and a text is above its fronts

@@ -1,5 +1,5 @@
 -- Objects and streams, as both entries and packets have them.
-use Rattle.std.specs.Prelude.{ℕ, zero, suc, ◌+◌, ◌-◌, ◌*◌, ◌^◌, max, List, [], ◌∷◌, length, map, replicate}
+use Rattle.std.specs.Prelude.{ℕ, zero, suc, ◌+◌, ◌-◌, ◌*◌, ◌^◌, max, List, [], ◌∷◌, length, replicate}
 use Rattle.tg_codec.specs.Codec.{Codec, u8, u32, u64, fixed, dep, via, many, counted}
 use Rattle.tg_base.specs.declared.ids.Oid.{Oid}
 use Rattle.tg_base.specs.declared.marks.StreamLink.{StreamLink}

@@ -42,13 +42,7 @@ fn bound_after(bound: &[u8], byte: u8) -> &[u8]
 {
     match bound {
         [] => &[],
-        [first, rest @ ..] => {
-            if *first < byte {
-                &[]
-            } else {
-                rest
-            }
-        }
+        [first, rest @ ..] => { if *first < byte { &[] } else { rest } }
     }
 }
 

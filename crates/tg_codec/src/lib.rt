@@ -17,6 +17,8 @@ pub use fault::{BytesFault, ReadFault};
 pub use items::{Item, Measured, read_items, size_items, write_items};
 pub use owed::{Owed, points};
 pub use read::{blob, fixed, number, raw, text, u8_in, u16_in, u32_in, u64_in};
-pub use streams::{LINK, Links, backs_of, links_in, oid_from, oid_in, put_backs, put_links, size_links};
+pub use streams::{
+    LINK, Links, backs_of, links_in, oid_from, oid_in, put_backs, put_links, size_links,
+};
 pub use whole::{ended, refused};
 pub use write::{put_text, put_u16, put_u32, put_u64, put_zeros};

@@ -1,7 +1,6 @@
 -- What is decoded is spelled so, what is spelled so is decoded, and the place of a fault is right.
 use Rattle.std.proofs.Common.{◌≡◌, ◌≤◌, ℕ, true, false, Bool, cond, eqb, List, [], ◌∷◌, length, Result, Ok, Err, subst, arith}
 use Rattle.std.specs.Prelude.{IfOk}
-use Rattle.tg_base.specs.declared.ids.Oid.{Oid}
 use Rattle.tg_base.specs.declared.marks.Part.{Part}
 use Rattle.tg_base.specs.declared.marks.ReadMark.{ReadMark}
 use Rattle.tg_entry.specs.declared.entry.WriteOp.{WriteOp}

@@ -1,14 +1,13 @@
 -- The format of entries keeps the law.
-use Rattle.std.proofs.Common.{◌≡◌, ℕ, zero, suc, ◌≤◌, Bool, true, false, cond, eqb, ◌&&◌, List, [], ◌∷◌, length, Option, Some, None, refl, sym, ap, arith}
+use Rattle.std.proofs.Common.{◌≡◌, ℕ, zero, suc, Bool, true, false, cond, eqb, ◌&&◌, List, [], ◌∷◌, length, Option, Some, refl, sym, ap, arith}
 use Rattle.std.proofs.lemmas.Bool.{eqb-true}
 use Rattle.std.proofs.lemmas.List.{nil_from_length}
-use Rattle.tg_base.specs.declared.ids.Oid.{Oid}
 use Rattle.tg_base.specs.declared.marks.Part.{Part}
 use Rattle.tg_base.specs.declared.marks.Part.TheVariants.{All, Text, Num}
 use Rattle.tg_base.specs.declared.marks.ReadMark.{ReadMark}
 use Rattle.tg_base.specs.declared.marks.StreamLink.{StreamLink}
 use Rattle.tg_codec.specs.Reading.{meets}
-use Rattle.tg_codec.specs.Codec.{Codec, u8, u16, u32, fixed, dep, many}
+use Rattle.tg_codec.specs.Codec.{u8, u16, u32, fixed, dep, many}
 use Rattle.tg_codec.specs.Bounds.{byte_above, after_byte}
 use Rattle.tg_codec.specs.Owing.{Debt, owing}
 use Rattle.tg_codec.specs.Streams.{any, from_one, oids_from, links}

@@ -1,7 +1,6 @@
 -- What is put last above all others keeps the order.
-use Rattle.std.proofs.Common.{◌≡◌, ℕ, Bool, true, false, ◌&&◌, ltb, List, [], ◌∷◌, ◌++◌, refl}
-use Rattle.std.specs.Prelude.{map, nat_lt}
-use Rattle.std.specs.List.{list_all}
+use Rattle.std.proofs.Common.{◌≡◌, ℕ, true, [], ◌∷◌, ◌++◌, refl}
+use Rattle.std.specs.Prelude.{nat_lt}
 use Rattle.tg_base.specs.Units.{is_rising}
 use Rattle.tg_codec.proofs.Laws.{and-left, and-right, both}
 use Rattle.tg_entry.specs.declared.entry.Entry.{Entry}

@@ -1,5 +1,5 @@
 -- Which records need a decision record.
-use Rattle.std.specs.Prelude.{Bool, false, not, ◌||◌, List, [], ◌∷◌}
+use Rattle.std.specs.Prelude.{Bool, false, not, ◌||◌, [], ◌∷◌}
 use Rattle.std.specs.List.{list_any}
 use Rattle.tg_base.specs.Orders.{oid_eq}
 use Rattle.tg_entry.specs.declared.entry.Entry.{Entry}

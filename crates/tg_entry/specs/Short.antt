@@ -1,5 +1,5 @@
 -- Lists whose counts fit their bytes.
-use Rattle.std.specs.Prelude.{ℕ, ◌≤◌, length}
+use Rattle.std.specs.Prelude.{◌≤◌, length}
 use Rattle.tg_entry.specs.declared.entry.Entry.{Entry}
 use Rattle.tg_entry.specs.declared.entry.Body.{Body}
 use Rattle.tg_entry.specs.declared.entry.Body.TheVariants.{Commit, Decision, Checkpoint}

@@ -11,8 +11,8 @@ use crate::parts::{over, part_above, part_size, put_part};
 use std::alloc::Global;
 use tg_base::{List, NoMemory, Oid, Part, Pos};
 use tg_codec::{
-    Item, Measured, ReadFault, oid_in, put_text, put_u16, put_u32, put_u64, read_items,
-    size_items, text, u16_in, u64_in, write_items,
+    Item, Measured, ReadFault, oid_in, put_text, put_u16, put_u32, put_u64, read_items, size_items,
+    text, u16_in, u64_in, write_items,
 };
 
 /// The key before, and between what versions a key's is.

@@ -44,7 +44,10 @@ pub enum Body {
         writes: List<WriteOp>,
     },
     /// Whether the commit record at a position is committed.
-    Decision { at: Pos, yes: bool },
+    Decision {
+        at: Pos,
+        yes: bool,
+    },
     /// The saved state of an object below `upto`, with the versions of its parts there: `version` is that of the
     /// whole, `keys` has that of each part that has one above `whole`, and `whole` is that of each other part.
     Checkpoint {

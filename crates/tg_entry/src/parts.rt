@@ -29,13 +29,7 @@ fn least_tag(before: &Option<Part>) -> u64
                 2
             }
         }
-        Some(Part::Num(number)) => {
-            if *number < u64::MAX {
-                2
-            } else {
-                3
-            }
-        }
+        Some(Part::Num(number)) => { if *number < u64::MAX { 2 } else { 3 } }
     }
 }
 

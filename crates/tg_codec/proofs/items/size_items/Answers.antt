@@ -1,5 +1,4 @@
-use Rattle.std.proofs.Common.{arith, ◌≡◌, ◌+◌, length, drop}
-use Rattle.tg_codec.specs.Codec.{spell_many}
+use Rattle.std.proofs.Common.{arith}
 use Rattle.tg_codec.proofs.Many.{sizes_on, all_sized, from_nothing}
 use Rattle.tg_codec.proofs.items.size_items.Goals as goal
 

@@ -1,4 +1,4 @@
-use Rattle.std.proofs.Common.{◌≡◌, ◌++◌, ◌∙◌, ap, append_assoc, List, ℕ}
+use Rattle.std.proofs.Common.{◌++◌, ◌∙◌, ap, append_assoc, List, ℕ}
 use Rattle.std.specs.Int.{w32, w64, to_be_bytes}
 use Rattle.tg_entry.proofs.reads.OldMarksItem.write.Goals as goal
 
