@@ -1,0 +1,10 @@
+pub mod Steps
+pub mod Laws
+pub mod Numbers
+pub mod Widths
+pub mod Many
+pub mod Shapes
+pub mod Bounds
+pub mod Wholes
+pub mod Objects
+pub mod Stops

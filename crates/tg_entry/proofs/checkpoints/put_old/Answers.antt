@@ -1,0 +1,15 @@
+use Rattle.std.proofs.Common.{◌++◌, length}
+use Rattle.std.specs.Int.{w16, w32, w64, to_be_bytes}
+use Rattle.tg_codec.proofs.Many.{glue}
+use Rattle.tg_entry.specs.Checkpoints.{old_fields}
+use Rattle.tg_entry.proofs.checkpoints.put_old.Goals as goal
+
+pub returns : goal.returns
+unfolding old_fields
+returns c = λ oids whole keys.
+    let number = to_be_bytes w32 c.args.oid.0 in
+    let upto = to_be_bytes w64 c.args.upto in
+    let version = to_be_bytes w64 c.args.version in
+    let state = to_be_bytes w16 (length c.args.state.now) ++ c.args.state.now in
+    glue c.args.out.now number (upto ++ (version ++ state)) _ _ c.in_ok-put_u32.ensures
+    (glue _ upto (version ++ state) _ _ c.in_ok-put_u64.ensures (glue _ version state _ _ c.in_ok-put_u64-2.ensures c.in_ok-put_text.ensures))

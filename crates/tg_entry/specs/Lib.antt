@@ -1,0 +1,9 @@
+pub mod Parts
+pub mod Reads
+pub mod Writes
+pub mod Checkpoints
+pub mod Format
+pub mod Short
+pub mod Answers
+pub mod Needs
+pub mod Drafts

@@ -1,0 +1,22 @@
+//! Entries of the log, and how they are spelled.
+#![tactic(auto)]
+
+mod body;
+mod checkpoints;
+mod coding;
+mod drafts;
+mod entry;
+mod fault;
+mod needs;
+mod parts;
+mod reads;
+mod writes;
+
+pub use coding::{decode, encode, size};
+pub use drafts::{Draft, Entries};
+pub use entry::{Body, Entry, Head, WriteOp};
+pub use fault::EntryFault;
+pub use needs::needs_decision;
+
+#[cfg(test)]
+mod tests;

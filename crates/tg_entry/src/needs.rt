@@ -1,0 +1,44 @@
+//! Which records need a decision record.
+
+ghost use Rattle.std.specs.Prelude.{◌≡◌, not};
+ghost use Rattle.std.specs.List.{list_any};
+ghost use Rattle.tg_base.specs.Orders.{oid_eq};
+ghost use Rattle.tg_entry.specs.Needs.{needs_decision, body_needs};
+
+use crate::entry::{Body, Entry, WriteOp};
+use tg_base::{Oid, ReadMark};
+
+/// Whether a client that hosts a part of the objects alone may be unable to tell the record's outcome: it is a
+/// commit record that reads something, and reads and writes two objects at least. It takes no memory.
+pub fn needs_decision(entry: &Entry) -> bool
+    ensures { result ≡ needs_decision entry.now }
+{
+    body_needs(&entry.body)
+}
+
+fn body_needs(body: &Body) -> bool
+    ensures { result ≡ body_needs body.now }
+{
+    match body {
+        Body::Commit { reads, writes } => match reads.as_slice() {
+            [] => false,
+            [first, rest @ ..] => {
+                has_other_read(rest, first.oid) || has_other_write(writes.as_slice(), first.oid)
+            }
+        },
+        Body::Decision { .. } => false,
+        Body::Checkpoint { .. } => false,
+    }
+}
+
+fn has_other_read(reads: &[ReadMark], oid: Oid) -> bool
+    ensures { result ≡ list_any (λ m. not (oid_eq m.oid oid)) reads.now }
+{
+    reads.iter().any(|m| m.oid.0 != oid.0)
+}
+
+fn has_other_write(writes: &[WriteOp], oid: Oid) -> bool
+    ensures { result ≡ list_any (λ w. not (oid_eq w.oid oid)) writes.now }
+{
+    writes.iter().any(|w| w.oid.0 != oid.0)
+}
