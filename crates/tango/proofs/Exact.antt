@@ -1,6 +1,6 @@
 -- A text tells one script, and ends in one way.
-use Rattle.std.proofs.Common.{◌≡◌, ◌≢◌, ◌⊎◌, ℕ, zero, suc, ◌+◌, ◌-◌, ◌<◌, ◌≤◌, List, [], ◌∷◌, ◌++◌, length, take, map, refl, sym, ap, ◌∙◌, subst, ⊎_elim, inl, inr, arith, Some, None, Option, length-append}
-use Rattle.std.proofs.lemmas.List.{length-map, take-take, append_cancel_left}
+use Rattle.std.proofs.Common.{◌≡◌, ◌⊎◌, ℕ, zero, suc, ◌+◌, ◌-◌, ◌<◌, ◌≤◌, List, [], ◌∷◌, ◌++◌, length, take, map, refl, sym, ap, ◌∙◌, subst, ⊎_elim, inl, inr, arith, Some, length-append}
+use Rattle.std.proofs.lemmas.List.{take-take, append_cancel_left}
 use Rattle.std.specs.Prelude.{slice_get, All, codes}
 use Rattle.std.specs.List.{flat_map, prefix_len}
 use Rattle.std.specs.Char.{is_ascii_digit}
@@ -8,9 +8,9 @@ use Rattle.tg_base.specs.declared.ids.Oid.{Oid}
 use Rattle.tango.specs.declared.script.Size.{Size}
 use Rattle.tango.specs.declared.script.Line.{Line}
 use Rattle.tango.specs.Words.{object_word, objects_line}
-use Rattle.tango.specs.Script.{IsSize, AreObjects, IsCounter, IsLine, cluster_line, chains_line, spell}
+use Rattle.tango.specs.Script.{IsSize, IsCounter, IsLine, cluster_line, spell}
 use Rattle.tango.specs.Reading.{object_at, size_in, line_in}
-use Rattle.tango.specs.Runs.{Script, IsScript, IsWithin, lines, text_lines, front, steps, steps_of, steps_from, max_steps, Begins, Tells, Replayed, FirstOutside, PassesLimit}
+use Rattle.tango.specs.Runs.{Script, IsScript, IsWithin, lines, text_lines, front, steps, steps_of, steps_from, max_steps, Begins, Tells, FirstOutside, PassesLimit}
 use Rattle.tango.proofs.Lines.{some_is, size_again, line_again, object_at_again}
 use Rattle.tg_io.specs.declared.status.Status.{Status}
 use Rattle.tg_io.specs.declared.status.Status.TheVariants.{Done, Illegal, Words, Script as AtLine, ReadFault, WriteFault, LinkFault, Limit, NoMemory}

@@ -1,7 +1,6 @@
 -- From the laws of every world, and from what a replay writes, to what the program promises.
-use Rattle.std.proofs.Common.{◌≡◌, ◌⊎◌, ℕ, zero, suc, ◌+◌, ◌<◌, ◌≤◌, ◌^◌, ◌/◌, List, [], ◌∷◌, ◌++◌, refl, sym, ap, ◌∙◌, subst, arith, Option, Some, None, IfSome, inl, inr}
-use Rattle.std.specs.Prelude.{slice_get, FitsSigned}
-use Rattle.std.specs.Int.{w64}
+use Rattle.std.proofs.Common.{◌≡◌, ◌⊎◌, ℕ, suc, ◌+◌, ◌≤◌, List, [], ◌∷◌, ◌++◌, refl, subst, arith, Option, Some, None, IfSome}
+use Rattle.std.specs.Prelude.{slice_get}
 use Rattle.tg_base.specs.declared.ids.Oid.{Oid}
 use Rattle.tg_base.specs.declared.fault.Which.TheVariants.{Steps}
 use Rattle.tg_io.specs.Bytes.{Takes}
@@ -11,14 +10,14 @@ use Rattle.tg_io.specs.declared.status.Status.TheVariants.{Done, Words, Script a
 use Rattle.tg_model.specs.declared.Op.{Op}
 use Rattle.tg_model.specs.declared.Op.TheVariants.{Add}
 use Rattle.tg_world.specs.declared.world.Step.{Step}
-use Rattle.tg_world.specs.Laws.{EveryWorldIsLegal, FullHasCause, AreSteps, IsEvent, IsWrite}
+use Rattle.tg_world.specs.Laws.{EveryWorldIsLegal, FullHasCause, AreSteps, IsWrite}
 use Rattle.tango.specs.declared.script.Line.{Line}
 use Rattle.tango.specs.declared.script.Line.TheVariants.{Update, Deliver}
 use Rattle.tango.specs.declared.run.Finish.{Finish}
 use Rattle.tango.specs.Script.{IsLine, IsCounter, IsOp}
 use Rattle.tango.specs.Stages.{Finished}
 use Rattle.tango.specs.Runs.{Script, IsScript, IsWithin, Tells, FirstOutside, PassesLimit, steps, steps_of, steps_from}
-use Rattle.tango.specs.Top.{Told, Written, IsOfReplay, IsCutShort, TellsLegal, TellsFull}
+use Rattle.tango.specs.Top.{Told, Written, IsOfReplay, TellsLegal, TellsFull}
 use Rattle.tango.proofs.Exact.{IsUndisturbed, completes, refuses, limits}
 
 -- A script's steps have numbers within their types.

@@ -1,17 +1,16 @@
 -- A script that is read line by line: how it goes on, and where it ends.
-use Rattle.std.proofs.Common.{◌≡◌, ◌≢◌, ◌⊎◌, ℕ, zero, suc, ◌+◌, ◌-◌, ◌<◌, ◌≤◌, List, [], ◌∷◌, ◌++◌, length, take, map, refl, sym, ap, ◌∙◌, subst, ⊎_elim, inl, inr, arith, Some, None, Option, append-nil, length-append, rules, true, false}
-use Rattle.std.proofs.lemmas.List.{length-map, map-append, take_at}
+use Rattle.std.proofs.Common.{◌≡◌, ◌≢◌, ℕ, suc, ◌+◌, ◌-◌, ◌<◌, ◌≤◌, List, [], ◌∷◌, ◌++◌, length, take, map, refl, sym, ap, ◌∙◌, subst, ⊎_elim, arith, Some, None, Option, length-append, rules, true, false}
+use Rattle.std.proofs.lemmas.List.{length-map, map-append}
 use Rattle.std.specs.Prelude.{slice_get, nat_le}
 use Rattle.tg_base.specs.declared.ids.Oid.{Oid}
 use Rattle.tg_base.specs.declared.fault.Which.TheVariants.{Steps}
-use Rattle.tg_world.specs.declared.world.Step.{Step}
-use Rattle.tg_world.specs.Worlds.{Worlds, run, start, history}
+use Rattle.tg_world.specs.Worlds.{Worlds, run, start}
 use Rattle.tango.specs.declared.script.Size.{Size}
 use Rattle.tango.specs.declared.script.Line.{Line}
 use Rattle.tango.specs.declared.run.Run.{Run}
 use Rattle.tango.specs.Words.{objects_line}
 use Rattle.tango.specs.Script.{IsSize, AreObjects, IsLine, cluster_line, chains_line, spell}
-use Rattle.tango.specs.Runs.{Script, IsScript, IsWithin, MayCome, lines, text_lines, world_of, world_after, front, steps, steps_of, max_steps, transcript, Begins, Tells, Replayed, Refused, FirstOutside, Limited as StopsAtLimit, Outcome, printed_before}
+use Rattle.tango.specs.Runs.{Script, IsScript, IsWithin, MayCome, lines, text_lines, world_of, world_after, front, steps, steps_of, max_steps, transcript, Begins, Replayed, Refused, FirstOutside, Limited as StopsAtLimit, Outcome, printed_before}
 use Rattle.tango.specs.declared.run.Finish.{Finish}
 use Rattle.tango.specs.Stages.{IsRunOf, IsSizeOf, IsMade, IsLimited, Took, Finished, printed, status_of}
 use Rattle.tango.specs.declared.run.Stage.TheVariants.{Opening, Sized, Chained, Running}

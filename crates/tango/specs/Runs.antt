@@ -1,5 +1,5 @@
 -- What a text says: a script, its steps and its world; and what a run of it comes to.
-use Rattle.std.specs.Prelude.{◌≡◌, ◌≢◌, ◌⊎◌, ℕ, ◌+◌, ◌-◌, ◌<◌, ◌≤◌, ◌==◌, ◌++◌, List, [], ◌∷◌, length, map, take, nat_le, Bool, true, false, if◌then◌else◌, slice_get, Contains, IsTrue, Some}
+use Rattle.std.specs.Prelude.{◌≡◌, ℕ, ◌+◌, ◌-◌, ◌<◌, ◌≤◌, ◌==◌, ◌++◌, List, [], ◌∷◌, length, map, take, nat_le, Bool, true, false, slice_get, Contains, IsTrue, Some}
 use Rattle.tg_base.specs.declared.ids.Oid.{Oid}
 use Rattle.tg_base.specs.declared.fault.Which.{Which}
 use Rattle.tg_base.specs.declared.fault.Which.TheVariants.{Steps}
@@ -7,10 +7,9 @@ use Rattle.tg_io.specs.declared.status.Status.{Status}
 use Rattle.tg_io.specs.declared.status.Status.TheVariants.{Done, Script as AtLine, Limit}
 use Rattle.tg_model.specs.declared.Command.{Command}
 use Rattle.tg_model.specs.declared.Command.TheVariants.{Begin, Put, End}
-use Rattle.tg_model.specs.declared.Event.{Event}
 use Rattle.tg_model.specs.declared.Event.TheVariants.{Command as Commands, Deliver as Delivers}
 use Rattle.tg_world.specs.declared.world.Step.{Step}
-use Rattle.tg_world.specs.Worlds.{Worlds, world, run, history, is_idle}
+use Rattle.tg_world.specs.Worlds.{Worlds, world, history, is_idle}
 use Rattle.tango.specs.declared.script.Size.{Size}
 use Rattle.tango.specs.declared.script.Line.{Line}
 use Rattle.tango.specs.declared.script.Line.TheVariants.{Update, Deliver}

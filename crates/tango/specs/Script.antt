@@ -1,5 +1,5 @@
 -- The texts of scripts, line by line.
-use Rattle.std.specs.Prelude.{◌≡◌, ◌≢◌, ℕ, ◌+◌, ◌<◌, ◌≤◌, ◌/◌, ◌^◌, ◌++◌, List, [], ◌∷◌, length, codes, FitsSigned, All, slice_get, Some}
+use Rattle.std.specs.Prelude.{◌≡◌, ℕ, ◌<◌, ◌≤◌, ◌/◌, ◌^◌, ◌++◌, List, ◌∷◌, length, codes, FitsSigned, All, slice_get, Some}
 use Rattle.std.specs.Int.{w64}
 use Rattle.std.specs.Fmt.{decimal}
 use Rattle.tg_base.specs.declared.ids.Oid.{Oid}

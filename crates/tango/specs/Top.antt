@@ -2,14 +2,14 @@
 use Rattle.std.specs.Prelude.{◌≡◌, ◌⊎◌, ℕ, ◌++◌, List, [], Option, Some, None, Contains}
 use Rattle.tg_io.specs.Bytes.{Takes}
 use Rattle.tg_io.specs.declared.status.Status.{Status}
-use Rattle.tg_io.specs.declared.status.Status.TheVariants.{Done, Illegal, Words, Script as AtLine, ReadFault, WriteFault, LinkFault, Limit, NoMemory}
+use Rattle.tg_io.specs.declared.status.Status.TheVariants.{Illegal, Words, ReadFault, WriteFault, LinkFault, NoMemory}
 use Rattle.tg_model.specs.declared.Mark.{Mark}
 use Rattle.tg_model.specs.declared.What.TheVariants.{Refused as Refuses}
 use Rattle.tg_model.specs.declared.Refusal.TheVariants.{LogFull}
 use Rattle.tg_model.specs.Legal.{LegalOfUpdates}
 use Rattle.tg_world.specs.Laws.{FullWasAnswered}
 use Rattle.tg_world.specs.Worlds.{history}
-use Rattle.tango.specs.Runs.{Script, IsScript, Tells, Outcome, world_of, Replayed, Refused, Limited}
+use Rattle.tango.specs.Runs.{Script, IsScript, Tells, Outcome, world_of}
 
 -- Where the source tells its text: what was added to the sink's bytes, as far as the sink tells them, has P.
 abbrev pub Told : Option (List ℕ) → Option (List ℕ) → Option (List ℕ) → (List ℕ → List ℕ → Type 0) → Type 0

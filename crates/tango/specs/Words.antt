@@ -1,5 +1,5 @@
 -- Words that scripts and transcripts share, as bytes.
-use Rattle.std.specs.Prelude.{ℕ, ◌%◌, ◌++◌, List, [], ◌∷◌, codes}
+use Rattle.std.specs.Prelude.{ℕ, ◌%◌, ◌++◌, List, ◌∷◌, codes}
 use Rattle.std.specs.List.{flat_map}
 use Rattle.std.specs.Fmt.{decimal, signed_decimal}
 use Rattle.tg_base.specs.declared.ids.Oid.{Oid}

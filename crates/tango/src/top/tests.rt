@@ -86,18 +86,18 @@ fn scripts_and_their_transcripts(rt: HostRuntime) -> Result<(), Fail> {
     Ok(())
 }
 
+/// Whether the words are told to be no form, and nothing is written.
+fn is_no_form(alloc: Global, words: &[&str]) -> Result<bool, NoMemory> {
+    let (status, sink) = outcome(alloc, words, bytes(alloc, HEADER)?, &[], &[])?;
+    Ok(status == Status::Words && sink.written().is_empty())
+}
+
 #[test]
 fn words_that_are_no_form(rt: HostRuntime) -> Result<(), Fail> {
-    for words in [
-        ["replay", "x"].as_slice(),
-        ["audit"].as_slice(),
-        ["--help"].as_slice(),
-        [].as_slice(),
-    ] {
-        let (status, sink) = outcome(rt.alloc(), words, bytes(rt.alloc(), HEADER)?, &[], &[])?;
-        assert!(rt; status == Status::Words);
-        assert!(rt; sink.written().is_empty());
-    }
+    assert!(rt; is_no_form(rt.alloc(), &["replay", "x"])?);
+    assert!(rt; is_no_form(rt.alloc(), &["audit"])?);
+    assert!(rt; is_no_form(rt.alloc(), &["--help"])?);
+    assert!(rt; is_no_form(rt.alloc(), &[])?);
     Ok(())
 }
 
@@ -191,40 +191,45 @@ fn long_script(alloc: Global, arrivals: u32, last: &str) -> Result<List<u8>, NoM
     Ok(text)
 }
 
+/// Whether a long script ends with the status, after the first update's lines and these.
+fn ends(
+    alloc: Global,
+    arrivals: u32,
+    last: &str,
+    status: Status,
+    tail: &str,
+) -> Result<bool, NoMemory> {
+    let text = long_script(alloc, arrivals, last)?;
+    let (found, sink) = outcome(alloc, &["replay"], text, &[], &[])?;
+    let mut want = bytes(alloc, UPDATED)?;
+    want.extend(tail.as_bytes())?;
+    Ok(found == status && sink.written() == want.as_slice())
+}
+
+#[test]
+fn the_last_step_of_a_run(rt: HostRuntime) -> Result<(), Fail> {
+    assert!(rt;
+        ends(
+            rt.alloc(),
+            199_996,
+            "deliver 0\n",
+            Status::Done,
+            "history 0\n"
+        )?
+    );
+    let line = Status::Script { line: 200_002 };
+    assert!(rt; ends(rt.alloc(), 199_997, "deliver 1000000", line, "history 0\n")?);
+    Ok(())
+}
+
 #[test]
 fn the_limit_of_steps(rt: HostRuntime) -> Result<(), Fail> {
     // An update is three steps; one that passes the limit is made as far as the limit.
-    for (arrivals, last, status, tail) in [
-        (199_996, "deliver 0\n", Status::Done, "history 0\n"),
-        (
-            199_997,
-            "deliver 0\n",
-            Status::Limit {
-                which: Which::Steps,
-            },
-            "history 0\n",
-        ),
-        (
-            199_996,
-            "c1 update ctr1 add 1",
-            Status::Limit {
-                which: Which::Steps,
-            },
-            "199998 c1 1 begin\nhistory 0\n",
-        ),
-        (
-            199_997,
-            "deliver 1000000",
-            Status::Script { line: 200_002 },
-            "history 0\n",
-        ),
-    ] {
-        let text = long_script(rt.alloc(), arrivals, last)?;
-        let (found, sink) = outcome(rt.alloc(), &["replay"], text, &[], &[])?;
-        let mut want = bytes(rt.alloc(), UPDATED)?;
-        want.extend(tail.as_bytes())?;
-        assert!(rt; found == status);
-        assert!(rt; sink.written() == want.as_slice());
-    }
+    let limit = Status::Limit {
+        which: Which::Steps,
+    };
+    assert!(rt; ends(rt.alloc(), 199_997, "deliver 0\n", limit, "history 0\n")?);
+    let begun = "199998 c1 1 begin\nhistory 0\n";
+    assert!(rt; ends(rt.alloc(), 199_996, "c1 update ctr1 add 1", limit, begun)?);
     Ok(())
 }

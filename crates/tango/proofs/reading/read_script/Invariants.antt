@@ -1,9 +1,5 @@
-use Rattle.std.proofs.Common.{rules, ◌≡◌, ◌==◌, ◌+◌, ◌<◌, ◌++◌, ℕ, List, [], ◌∷◌, length, take, drop, Option, None, Some, IfOk, IfSome, IsTrue, Bool, true, false, sym, ap, ◌∙◌, refl, subst, arith, append_assoc}
-use Rattle.tango.specs.declared.run.Stage.{Stage}
-use Rattle.tango.specs.declared.run.Fed.{Fed}
-use Rattle.tango.specs.declared.run.Fed.TheVariants.{Goes, Stops}
-use Rattle.tango.specs.Runs.{lines}
-use Rattle.tango.specs.Stages.{Reads, Took, Finished, IsAt, IsOn, Came}
+use Rattle.std.proofs.Common.{ℕ, List, Option, None, Some}
+use Rattle.tango.specs.Stages.{IsOn}
 use Rattle.tg_io.specs.Faults.{StaysSure}
 use Rattle.std.proofs.Common.{◌≤◌}
 use Rattle.tango.proofs.reading.read_script.Given as goal

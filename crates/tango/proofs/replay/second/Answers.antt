@@ -1,14 +1,6 @@
-use Rattle.std.proofs.Common.{rules, ◌≡◌, ◌+◌, ◌-◌, ◌≤◌, ◌<◌, ◌++◌, ◌^◌, ℕ, List, [], ◌∷◌, length, take, drop, min, Option, None, Some, IfOk, IfSome, IsTrue, ◌↔◌, Bool, true, false, sym, ap, ◌∙◌, refl, subst, arith}
-use Rattle.tg_base.specs.declared.ids.Oid.{Oid}
-use Rattle.tg_base.specs.declared.list.List.{List as Objects}
-use Rattle.tango.specs.declared.run.End.TheVariants.{Whole, Outside, Limited}
-use Rattle.tg_world.specs.Worlds.{Worlds, run}
-use Rattle.tango.specs.Runs.{max_steps, lines, steps_of, commands_step, MayCome, Script}
-use Rattle.tango.specs.Words.{objects_line}
-use Rattle.tango.specs.Script.{chains_line, AreObjects}
-use Rattle.tango.specs.Stages.{Reads, Took, Finished, IsRunOf, IsSizeOf, IsMade, IsAt}
-use Rattle.tango.specs.declared.run.Stage.{Stage}
-use Rattle.tango.specs.declared.run.Fed.TheVariants.{Goes, Stops}
+use Rattle.std.proofs.Common.{rules, ◌≡◌, ℕ, List, [], ◌∷◌, None, ap}
+use Rattle.tango.specs.declared.run.End.TheVariants.{Outside}
+use Rattle.tango.specs.Script.{chains_line}
 use Rattle.tango.proofs.Scripts.{ended, refuses_chains}
 use Rattle.tango.proofs.replay.second.Goals as goal
 

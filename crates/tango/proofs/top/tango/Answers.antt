@@ -1,4 +1,3 @@
-use Rattle.std.proofs.Common.{◌≡◌, ℕ, List, Option}
 use Rattle.tg_io.specs.declared.status.Status.TheVariants.{Limit}
 use Rattle.tango.specs.Runs.{Limited}
 use Rattle.tango.proofs.Promises.{legal_told, full_told, told_at, undisturbed, complete_told, refuses_told, limits_told}

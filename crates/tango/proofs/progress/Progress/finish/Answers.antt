@@ -1,9 +1,6 @@
-use Rattle.std.proofs.Common.{rules, ◌≡◌, ◌==◌, ◌+◌, ◌<◌, ◌++◌, ℕ, List, [], ◌∷◌, length, take, drop, Option, None, Some, IfOk, IfSome, IsTrue, Bool, true, false, sym, ap, ◌∙◌, refl, subst, arith, append_assoc}
-use Rattle.tango.specs.declared.run.Stage.{Stage}
+use Rattle.std.proofs.Common.{◌≡◌, [], length, subst, arith}
 use Rattle.tango.specs.declared.run.Fed.{Fed}
-use Rattle.tango.specs.declared.run.Fed.TheVariants.{Goes, Stops}
-use Rattle.tango.specs.Runs.{lines}
-use Rattle.tango.specs.Stages.{Reads, Took, Finished, IsAt, IsOn, Came}
+use Rattle.tango.specs.Stages.{Took}
 use Rattle.tango.proofs.Texts.{last_fed, none_left, nothing_left}
 use Rattle.tango.proofs.progress.Progress.finish.Goals as goal
 

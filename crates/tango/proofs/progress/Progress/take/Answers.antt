@@ -1,7 +1,6 @@
-use Rattle.std.proofs.Common.{rules, ◌≡◌, ◌==◌, ◌+◌, ◌<◌, ◌++◌, ℕ, List, [], ◌∷◌, length, take, drop, Option, None, Some, IfOk, IfSome, IsTrue, Bool, true, false, sym, ap, ◌∙◌, refl, subst, arith, append_assoc}
+use Rattle.std.proofs.Common.{◌≡◌, ◌+◌, ◌<◌, ◌++◌, ℕ, List, length, drop, subst}
 use Rattle.tango.specs.declared.progress.Coming.{Coming}
-use Rattle.tango.specs.declared.progress.Coming.TheVariants.{GoesOn, Ended}
-use Rattle.tango.specs.Stages.{Reads, Took, Finished, IsAt, IsOn, Came}
+use Rattle.tango.specs.Stages.{IsOn, Came}
 use Rattle.std.proofs.lemmas.List.{drop_more}
 use Rattle.tango.proofs.progress.Progress.take.Goals as goal
 

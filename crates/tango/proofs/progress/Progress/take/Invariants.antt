@@ -1,9 +1,5 @@
-use Rattle.std.proofs.Common.{rules, ◌≡◌, ◌==◌, ◌+◌, ◌<◌, ◌++◌, ℕ, List, [], ◌∷◌, length, take, drop, Option, None, Some, IfOk, IfSome, IsTrue, Bool, true, false, sym, ap, ◌∙◌, refl, subst, arith, append_assoc}
-use Rattle.tango.specs.declared.run.Stage.{Stage}
-use Rattle.tango.specs.declared.run.Fed.{Fed}
-use Rattle.tango.specs.declared.run.Fed.TheVariants.{Goes, Stops}
-use Rattle.tango.specs.Runs.{lines}
-use Rattle.tango.specs.Stages.{Reads, Took, Finished, IsAt, IsOn, Came}
+use Rattle.std.proofs.Common.{◌++◌, ℕ, List, drop}
+use Rattle.tango.specs.Stages.{IsOn}
 use Rattle.tango.proofs.progress.Progress.take.Given as goal
 
 -- where the whole piece was to come, the rest of it is

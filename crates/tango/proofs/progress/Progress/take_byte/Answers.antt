@@ -1,9 +1,6 @@
-use Rattle.std.proofs.Common.{rules, ◌≡◌, ◌==◌, ◌+◌, ◌<◌, ◌++◌, ℕ, List, [], ◌∷◌, length, take, drop, Option, None, Some, IfOk, IfSome, IsTrue, Bool, true, false, sym, ap, ◌∙◌, refl, subst, arith, append_assoc}
-use Rattle.tango.specs.declared.run.Stage.{Stage}
+use Rattle.std.proofs.Common.{◌≡◌, ◌==◌, ℕ, ◌∷◌, false, subst, arith}
 use Rattle.tango.specs.declared.run.Fed.{Fed}
-use Rattle.tango.specs.declared.run.Fed.TheVariants.{Goes, Stops}
-use Rattle.tango.specs.Runs.{lines}
-use Rattle.tango.specs.Stages.{Reads, Took, Finished, IsAt, IsOn, Came}
+use Rattle.tango.specs.Stages.{Took, IsAt}
 use Rattle.tango.proofs.Texts.{byte_comes, line_fed, begins_anew}
 use Rattle.tango.proofs.progress.Progress.take_byte.Goals as goal
 
