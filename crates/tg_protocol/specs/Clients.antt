@@ -1,0 +1,260 @@
+-- A client: its state, and the tests that a command has to pass before any work.
+use Rattle.std.specs.Prelude.{ℕ, Bool, not, ◌&&◌, nat_lt, nat_le, List, [], ◌∷◌, filter, length, Option, Some, None, is_some, if◌then◌else◌}
+use Rattle.tg_base.specs.Layouts.{Layout}
+use Rattle.tg_base.specs.Clusters.{Header}
+use Rattle.tg_base.specs.declared.cell.Cell.{Cell}
+use Rattle.tg_base.specs.declared.cell.Cell.TheVariants.{Junk, Data}
+use Rattle.tg_base.specs.declared.fault.Many.TheVariants as many
+use Rattle.tg_base.specs.declared.ids.Oid.{Oid}
+use Rattle.tg_base.specs.declared.marks.Part.{Part}
+use Rattle.tg_base.specs.declared.marks.StreamLink.{StreamLink}
+use Rattle.tg_entry.specs.declared.entry.WriteOp.{WriteOp}
+use Rattle.tg_entry.specs.declared.entry.Entry.{Entry}
+use Rattle.tg_kind.specs.Meaning.{Meaning}
+use Rattle.tg_protocol.specs.Words.{oid_eq, has_oid, with_nums, cell_at, directory, first_some, where_true}
+use Rattle.tg_protocol.specs.Layouts.{LayoutFault, first_layout, not_closed, no_stripe, in_chain, returned, change_fault}
+use Rattle.tg_protocol.specs.Layouts as layout
+use Rattle.tg_protocol.specs.Pages.{entry_of}
+use Rattle.tg_protocol.specs.Requests.{Waits}
+use Rattle.tg_protocol.specs.Appending.{Append}
+use Rattle.tg_protocol.specs.Syncing.{Sync}
+use Rattle.tg_protocol.specs.Walking.{Walk}
+use Rattle.tg_protocol.specs.Trimming.{Trims, Copying}
+use Rattle.tg_protocol.specs.Reconfiguring.{Reconf}
+use Rattle.tg_protocol.specs.Views.{Entries, View}
+use Rattle.tg_protocol.specs.Transactions.{Tx, TxFault, read_fault, write_fault}
+use Rattle.tg_protocol.specs.Transactions as tx
+use Rattle.tg_protocol.specs.Marks.{Word, Refusal, Command, What, Note, word_of}
+use Rattle.tg_protocol.specs.Marks as told
+
+module _ (m : Meaning) where
+  -- what an append of a client is for
+  pub data Purpose : Type 0 where
+    Writes : Purpose  -- the record of a transaction without reads
+    Judged : Purpose  -- the record of one with reads, which is decided afterwards
+    Decides : (answer : What m) → Purpose  -- a decision record, and the answer that is given in any case
+    Rescues : (answer : What m) → Purpose  -- the decision record of a rescue
+    Saves : (oid : Oid) → (upto : ℕ) → Purpose
+    Marks : (number : ℕ) → (oid : Oid) → (mark : ℕ) → Purpose
+
+  -- the machine that a client runs
+  pub data Task : Type 0 where
+    Syncing : (sync : Sync) → Task
+    Walking : (walk : Walk) → (rest : List Oid) → Task  -- and the streams to be walked after it
+    Appending : (append : Append) → (purpose : Purpose) → Task
+    Trimming : (trims : Trims) → Task
+    Copying' : (copying : Copying) → Task
+    Reconfiguring : (reconf : Reconf) → Task
+
+  pub data Hand : Type 0 where
+    Doing : (task : Task) → Hand
+    Learning : (waits : Waits) → (task : Task) → Hand  -- a newer layout, and then the task goes on
+
+  -- a command that waits for its reply
+  pub record Work : Type 0 where
+    pub command : Command m
+    pub hand : Hand
+    pub gone : ℕ  -- the greatest `Gone` that was answered to this command
+    pub gone_before : ℕ  -- and what it was when the sync began
+    pub tail : ℕ  -- as the last sync confirmed it
+    pub lasts : List StreamLink
+    pub oids : List Oid  -- the streams that are walked, rising
+    pub lo : ℕ  -- from where on
+    pub found : List (Oid × List ℕ)  -- their members
+    pub trims : List (Oid × ℕ)  -- where their walks met a trim
+    pub at : ℕ  -- the position of the record that `end` appended
+
+  pub record Client : Type 0 where
+    pub num : ℕ
+    pub layouts : ℕ  -- how many layout servers there are
+    pub objects : List Oid  -- the header's
+    pub calls : ℕ  -- steps taken
+    pub next : ℕ  -- the next request number
+    pub stand : Layout
+    pub cells : List (ℕ × Cell)  -- known ones
+    pub hosted : List Oid  -- rising, the directory first
+    pub view : Option (View m)  -- the kept one
+    pub kept : List (Oid × List ℕ)  -- positions of members, by stream
+    pub own : List ℕ  -- positions of its own commit records
+    pub dir : m.state  -- the directory as last played
+    pub played : ℕ  -- and the position to which that play came
+    pub tx : Option Tx
+    pub begun : ℕ  -- how many transactions
+    pub decisions : ℕ  -- how many decision records it has begun
+    pub checkpoints : ℕ  -- likewise
+    pub work : Option Work
+
+  unfoldable pub new_client : Header → ℕ → Client
+  new_client h num = record {
+    num = num;
+    layouts = h.layouts;
+    objects = h.objects;
+    calls = 0;
+    next = 1;
+    stand = first_layout h;
+    cells = [];
+    hosted = directory ∷ [];
+    view = None;
+    kept = [];
+    own = [];
+    dir = m.fresh directory h.objects;
+    played = 0;
+    tx = None;
+    begun = 0;
+    decisions = 0;
+    checkpoints = 0;
+    work = None;
+  }
+
+  -- Small words.
+
+  abbrev pub upto_in : Option (View m) → ℕ
+  upto_in None = 0
+  upto_in (Some v) = v.upto
+
+  -- the `upto` of the kept view, 0 where none is kept
+  abbrev pub upto : Client → ℕ
+  upto c = upto_in c.view
+
+  abbrev pub known : Client → ℕ → Option Cell
+  known c p = cell_at c.cells p
+
+  abbrev pub hosts_oid : Client → Oid → Bool
+  hosts_oid c o = has_oid o c.hosted
+
+  -- positions by stream
+  abbrev pub positions_in : List (Oid × List ℕ) → Oid → List ℕ
+  positions_in [] o = []
+  positions_in (x ∷ xs) o = if oid_eq x.0 o then x.1 else positions_in xs o
+
+  -- a stream's positions are united with further ones, and none is taken away
+  abbrev pub with_positions : List (Oid × List ℕ) → Oid → List ℕ → List (Oid × List ℕ)
+  with_positions [] o ps = (o, ps) ∷ []
+  with_positions (x ∷ xs) o ps = if oid_eq x.0 o then (x.0, with_nums ps x.1) ∷ xs else x ∷ with_positions xs o ps
+
+  -- Entries that a client has.
+
+  abbrev pub entry_if : ℕ → Option Entry → Entries → Entries
+  entry_if p None es = es
+  entry_if p (Some e) es = (p, e) ∷ es
+
+  abbrev pub cell_entry : Option Cell → Option Entry
+  cell_entry None = None
+  cell_entry (Some Junk) = None
+  cell_entry (Some (Data d)) = entry_of d
+
+  -- the entries at these positions, as far as their pages are known
+  unfoldable pub entries_at : List (ℕ × Cell) → List ℕ → Entries
+  entries_at cells [] = []
+  entries_at cells (p ∷ ps) = entry_if p (cell_entry (cell_at cells p)) (entries_at cells ps)
+
+  abbrev pub positions_of : List (Oid × List ℕ) → List Oid → List ℕ
+  positions_of xs [] = []
+  positions_of xs (o ∷ os) = with_nums (positions_in xs o) (positions_of xs os)
+
+  -- the positions of the members of these streams
+  abbrev pub member_positions : Client → Work → List Oid → List ℕ
+  member_positions c w os = with_nums (positions_of w.found os) (positions_of c.kept os)
+
+  abbrev pub below : ℕ → List ℕ → List ℕ
+  below t ps = filter (λ p. nat_lt p t) ps
+
+  -- the entries below the tail: the members of these streams, and the client's own commit records
+  abbrev pub all_entries : Client → Work → List Oid → Entries
+  all_entries c w os = entries_at c.cells (below w.tail (with_nums c.own (member_positions c w os)))
+
+  -- those without its own records
+  abbrev pub member_entries : Client → Work → List Oid → Entries
+  member_entries c w os = entries_at c.cells (below w.tail (member_positions c w os))
+
+  -- Refusals before any work, each command's in the order in which they are tested.
+
+  abbrev pub layout_refusal : LayoutFault → Refusal
+  layout_refusal (layout.TooMany x) = told.TooMany x
+  layout_refusal (layout.NotClosed r) = told.NotClosed r
+  layout_refusal (layout.NoStripe r s) = told.NoStripe r s
+  layout_refusal (layout.InChain u) = told.InChain u
+  layout_refusal (layout.Returned u) = told.Returned u
+  layout_refusal (layout.NoReplica r s) = told.NoReplica r s
+  layout_refusal (layout.NotAcked u) = told.Returned u
+
+  abbrev pub by_layout : Option LayoutFault → Option Refusal
+  by_layout None = None
+  by_layout (Some f) = Some (layout_refusal f)
+
+  abbrev pub tx_refusal : TxFault → Refusal
+  tx_refusal (tx.TooMany x) = told.TooMany x
+  tx_refusal (tx.TooLarge n) = told.TooLarge n
+
+  abbrev pub by_tx : Option TxFault → Option Refusal
+  by_tx None = None
+  by_tx (Some f) = Some (tx_refusal f)
+
+  abbrev pub busy : Option Work → Option Refusal
+  busy None = None
+  busy (Some w) = Some (told.Busy (word_of m w.command))
+
+  abbrev pub no_tx : Client → Option Refusal
+  no_tx c = where_true (not (is_some c.tx)) told.NoTx
+
+  abbrev pub tx_open : Client → Option Refusal
+  tx_open c = where_true (is_some c.tx) told.TxOpen
+
+  abbrev pub wrong_kind : Bool → Oid → Option Refusal
+  wrong_kind allowed o = where_true (not allowed) (told.WrongKind o)
+
+  abbrev pub not_registered : Client → Oid → Option Refusal
+  not_registered c o = where_true (not (m.registered c.dir o)) (told.NotRegistered o)
+
+  abbrev pub not_hosted : Client → Oid → Option Refusal
+  not_hosted c o = where_true (not (hosts_oid c o)) (told.NotHosted o)
+
+  abbrev pub too_many_hosted : Client → Oid → Option Refusal
+  too_many_hosted c o = where_true (not (hosts_oid c o) && nat_le 128 (length c.hosted)) (told.TooMany many.Hosted)
+
+  abbrev pub put_fault : Option Tx → WriteOp → Option Refusal
+  put_fault None w = None
+  put_fault (Some t) w = by_tx (write_fault t w)
+
+  abbrev pub ask_fault : Option Tx → Oid → Part → Option Refusal
+  ask_fault None o k = None
+  ask_fault (Some t) o k = by_tx (read_fault t o k)
+
+  abbrev pub write_of : Oid → m.op → WriteOp
+  write_of o op = record { oid = o; op = m.spell op }
+
+  -- `copy`, in the layout at which the client stands
+  unfoldable pub copy_fault : Layout → ℕ → ℕ → ℕ → Option Refusal
+  copy_fault p u r s = by_layout (first_some (not_closed p r ∷ no_stripe p r s ∷ in_chain p u r s ∷ returned p.gone (u ∷ []) ∷ []))
+
+  unfoldable pub tests : Client → Command m → List (Option Refusal)
+  tests c (told.Host o) = tx_open c ∷ not_registered c o ∷ too_many_hosted c o ∷ []
+  tests c told.Begin = tx_open c ∷ []
+  tests c (told.Put o op) = no_tx c ∷ wrong_kind (m.allows o op) o ∷ not_registered c o ∷ put_fault c.tx (write_of o op) ∷ []
+  tests c (told.Ask o q) = no_tx c ∷ wrong_kind (m.allows_ask o q) o ∷ not_hosted c o ∷ ask_fault c.tx o (m.look q) ∷ []
+  tests c told.End = no_tx c ∷ []
+  tests c told.Drop = no_tx c ∷ []
+  tests c (told.Fate p) = tx_open c ∷ []
+  tests c (told.Decide p) = tx_open c ∷ []
+  tests c (told.Checkpoint o) = tx_open c ∷ not_hosted c o ∷ []
+  tests c (told.Forget o n) = tx_open c ∷ not_hosted c o ∷ []
+  tests c told.Trim = tx_open c ∷ []
+  tests c (told.Reconf x) = tx_open c ∷ by_layout (change_fault c.stand x) ∷ []
+  tests c (told.Copy u r s) = tx_open c ∷ copy_fault c.stand u r s ∷ []
+  tests c (told.AskAt p o q) = tx_open c ∷ wrong_kind (m.allows_ask o q) o ∷ not_hosted c o ∷ []
+  tests c (told.Rescue p) = tx_open c ∷ []
+
+  -- why a command is refused in the step that takes it
+  unfoldable pub refusal : Client → Command m → Option Refusal
+  refusal c x = first_some (busy c.work ∷ tests c x)
+
+  abbrev pub tx_number : Option Tx → ℕ
+  tx_number None = 0
+  tx_number (Some t) = t.number
+
+  -- the number of the transaction that a mark speaks of: 0 on `busy`, `no-tx` and `tx-open`, and on other commands' marks
+  abbrev pub number_on : Client → Refusal → ℕ
+  number_on c (told.Busy x) = 0
+  number_on c told.NoTx = 0
+  number_on c told.TxOpen = 0
+  number_on c _ = tx_number c.tx
