@@ -1,1 +1,5 @@
 pub mod Meaning
+pub mod Parts
+pub mod Bytes
+pub mod Headers
+pub mod Of
