@@ -3,3 +3,4 @@ pub mod Parts
 pub mod Bytes
 pub mod Headers
 pub mod Of
+pub mod Words

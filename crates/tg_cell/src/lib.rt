@@ -1,0 +1,6 @@
+//! Objects of one cell: counters and registers.
+#![tactic(auto)]
+
+mod counter;
+
+pub use counter::{Counter, CounterAns, CounterAsk, CounterOp};
