@@ -2,5 +2,7 @@
 #![tactic(auto)]
 
 mod counter;
+mod register;
 
 pub use counter::{Counter, CounterAns, CounterAsk, CounterOp};
+pub use register::{Register, RegisterAns, RegisterAsk, RegisterOp};

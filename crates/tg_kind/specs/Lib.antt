@@ -4,3 +4,4 @@ pub mod Bytes
 pub mod Headers
 pub mod Of
 pub mod Words
+pub mod Texts
