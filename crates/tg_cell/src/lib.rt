@@ -4,3 +4,6 @@
 mod counter;
 
 pub use counter::{Counter, CounterAns, CounterAsk, CounterOp};
+
+#[cfg(test)]
+mod tests;
