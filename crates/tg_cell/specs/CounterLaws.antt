@@ -1,5 +1,5 @@
 -- The laws of counters.
-use Rattle.std.specs.Prelude.{◌≡◌, ℕ, Bool, true, false, ◌&&◌, List, ◌++◌, ℤ, pos, negsuc, ◌+ℤ◌, min, ◌-◌, ◌^◌, Ok, refl}
+use Rattle.std.specs.Prelude.{◌≡◌, ℕ, Bool, true, false, List, ◌++◌, ℤ, pos, negsuc, ◌+ℤ◌, Ok, refl}
 use Rattle.std.specs.Int.{w64, saturate_signed}
 use Rattle.std.proofs.Common.{arith}
 use Rattle.std.proofs.lemmas.Bool.{lt-ltb}

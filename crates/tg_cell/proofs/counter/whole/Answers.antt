@@ -1,4 +1,3 @@
-use Rattle.std.proofs.Common.{◌≡◌, true}
 use Rattle.tg_cell.specs.Signed.{in_of_fits, spells_i64}
 use Rattle.tg_cell.proofs.counter.whole.Goals as goal
 
