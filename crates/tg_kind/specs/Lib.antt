@@ -1,1 +1,7 @@
 pub mod Meaning
+pub mod Parts
+pub mod Bytes
+pub mod Headers
+pub mod Of
+pub mod Words
+pub mod Texts

@@ -1,0 +1,30 @@
+-- What part of a state an op changes, or an ask looks at.
+use Rattle.std.specs.Prelude.{ℕ, ◌/◌, ◌^◌, Bool, true, false, ◌==◌, List}
+use Rattle.std.specs.Cmp.Lexicographic.{pointwise}
+use Rattle.tg_base.specs.declared.ids.Oid.{Oid}
+use Rattle.tg_base.specs.declared.marks.Part.{Part}
+use Rattle.tg_base.specs.declared.marks.Part.TheVariants.{All, Text, Num}
+use Rattle.tg_kind.specs.declared.scope.Key.{Key}
+use Rattle.tg_kind.specs.declared.scope.Key.TheVariants as keys
+use Rattle.tg_kind.specs.declared.scope.Scope.{Scope}
+use Rattle.tg_kind.specs.declared.scope.Scope.TheVariants as scopes
+
+-- the part that a scope names, apart from where its name lies in memory
+abbrev pub part_of : Scope → Part
+part_of scopes.All = All
+part_of (scopes.One (keys.Text t)) = Text t.now
+part_of (scopes.One (keys.Num n)) = Num n
+
+-- two parts overlap where one is the whole, or both are named alike
+abbrev pub overlap : Part → Part → Bool
+overlap All b = true
+overlap (Text s) All = true
+overlap (Text s) (Text t) = pointwise (λ x y. x == y) s t
+overlap (Text s) (Num n) = false
+overlap (Num m) All = true
+overlap (Num m) (Text t) = false
+overlap (Num m) (Num n) = m == n
+
+-- the tag of an object's kind, which is the top byte of its number
+abbrev pub tag_of : Oid → ℕ
+tag_of o = o.0 / 2 ^ 24

@@ -1,0 +1,52 @@
+-- Texts: from 1 to 4,096 of the letters, the digits, the underscore, the full stop and the hyphen.
+use Rattle.std.specs.Prelude.{◌≡◌, ℕ, zero, suc, ◌<◌, Bool, true, List, [], ◌∷◌, length, Ok}
+use Rattle.std.specs.Str.{IsAscii, IsUtf8}
+use Rattle.std.proofs.Common.{arith, sym, subst}
+use Rattle.std.proofs.lemmas.Bool.Decides.{nat_tests}
+use Rattle.std.proofs.lemmas.Str.{IsUtf8-from_ascii}
+use Rattle.tg_codec.specs.Codec.{Codec, u16, behind, fit_many}
+use Rattle.tg_codec.specs.Bounds.{raw_in, same_ranges}
+use Rattle.tg_codec.proofs.Laws.{IsCodec, IsBytes, and-left, and-right, both, length-fit_many}
+use Rattle.tg_codec.proofs.Bounds.{raw_in_law}
+use Rattle.tg_codec.proofs.Widths.{u16_law}
+use Rattle.tg_codec.proofs.Shapes.{behind_law}
+use Rattle.tg_codec.specs.Codec as codec
+
+-- A-Z, a-z, 0-9, _ . -
+abbrev pub text_bytes : List (ℕ × ℕ)
+text_bytes = (65, 90) ∷ (97, 122) ∷ (48, 57) ∷ (95, 95) ∷ (46, 46) ∷ (45, 45) ∷ []
+
+-- a text behind its length in two bytes
+abbrev pub text_format : Codec (List ℕ)
+text_format = behind (u16 ((1, 4096) ∷ [])) (raw_in text_bytes)
+
+abbrev pub IsText : List ℕ → Type 0
+IsText bytes = text_format.fits bytes ≡ true
+
+pub text_law : IsCodec text_format
+text_law = behind_law (u16_law ((1, 4096) ∷ [])) (raw_in_law text_bytes) (λ n xs e. length-fit_many codec.u8 same_ranges n text_bytes xs e)
+
+byte_is_ascii : (b : ℕ) → (codec.u8 text_bytes).fits b ≡ true → b < 128
+byte_is_ascii b e = grind (arith, nat_tests)
+
+is_ascii : (n : ℕ) (bytes : List ℕ) → fit_many codec.u8 same_ranges n text_bytes bytes ≡ true → IsAscii bytes
+unfolding fit_many
+is_ascii zero [] e i = omega arith
+is_ascii zero (b ∷ bytes) e i = absurd cc
+is_ascii (suc n) [] e i = absurd cc
+is_ascii (suc n) (b ∷ bytes) e zero = byte_is_ascii b (and-left _ _ e)
+is_ascii (suc n) (b ∷ bytes) e (suc i) = is_ascii n bytes (and-right _ _ e) i
+
+-- what was read for a text
+pub record WasText (text : List ℕ) : Type 0 where
+  pub fits : IsText text
+  pub utf8 : IsUtf8 text
+
+pub was_text : (bytes : List ℕ) (len : ℕ) (rest text after : List ℕ) → IsBytes bytes → (u16 ((1, 4096) ∷ [])).read bytes ≡ Ok (len, rest) → (raw_in text_bytes len).read rest ≡ Ok (text, after) → WasText text
+was_text bytes len rest text after fits e f =
+    let t = (u16_law ((1, 4096) ∷ [])).exact.takes bytes len rest fits e in
+    let u = (raw_in_law text_bytes len).exact.takes rest text after t.0.rest_fits f in
+    let same : length text ≡ len = length-fit_many codec.u8 same_ranges len text_bytes text u.1 in
+    let front : (u16 ((1, 4096) ∷ [])).fits (length text) ≡ true = subst (λ n. (u16 ((1, 4096) ∷ [])).fits n ≡ true) (sym same) t.1 in
+    let body : (raw_in text_bytes (length text)).fits text ≡ true = subst (λ n. (raw_in text_bytes n).fits text ≡ true) (sym same) u.1 in
+    record { fits = both _ _ front body; utf8 = IsUtf8-from_ascii text (is_ascii len text u.1) }

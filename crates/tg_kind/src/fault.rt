@@ -1,0 +1,21 @@
+//! Why a state or an op isn't read.
+
+ghost use Rattle.std.specs.Prelude.{◌≡◌};
+ghost use Rattle.tg_kind.specs.declared.fault.KindFault.TheVariants.{NoMemory};
+
+/// Why a state or an op isn't read.
+#[derive(Clone, Copy, Debug, PartialEq, Eq)]
+pub enum KindFault {
+    /// The byte at this place, counted from 0, breaks the format, or the bytes end there.
+    BadBytes { at: usize },
+    /// Memory ran out.
+    NoMemory,
+}
+
+impl From<tg_base::NoMemory> for KindFault {
+    ghost from_gives = { λ _ e. e ≡ NoMemory };
+
+    fn from(_e: tg_base::NoMemory) -> KindFault {
+        KindFault::NoMemory
+    }
+}
