@@ -1,9 +1,8 @@
 -- Registers.
-use Rattle.std.specs.Prelude.{◌≡◌, ℕ, Bool, true, ◌&&◌, ◌==◌, List, [], ◌∷◌, Option, Some, None, Result}
+use Rattle.std.specs.Prelude.{ℕ, Bool, ◌&&◌, ◌==◌, List, Option, Some, None, Result}
 use Rattle.tg_base.specs.declared.ids.Oid.{Oid}
 use Rattle.tg_base.specs.declared.marks.Part.{Part}
 use Rattle.tg_base.specs.declared.marks.Part.TheVariants.{All}
-use Rattle.tg_codec.specs.Reading.{Read}
 use Rattle.tg_codec.specs.Codec.{Codec, via}
 use Rattle.tg_codec.specs.Whole.{whole}
 use Rattle.tg_kind.specs.Parts.{tag_of}

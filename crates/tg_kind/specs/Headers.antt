@@ -1,5 +1,5 @@
 -- The objects of a header, which the directory lists at first.
-use Rattle.std.specs.Prelude.{ℕ, Bool, true, ◌&&◌, ◌==◌, not, nat_le, List, [], ◌∷◌, length}
+use Rattle.std.specs.Prelude.{Bool, true, ◌&&◌, ◌==◌, not, nat_le, List, [], ◌∷◌, length}
 use Rattle.std.specs.List.{list_any}
 use Rattle.tg_base.specs.declared.ids.Oid.{Oid}
 

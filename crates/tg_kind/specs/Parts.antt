@@ -1,10 +1,9 @@
 -- What part of a state an op changes, or an ask looks at.
-use Rattle.std.specs.Prelude.{ℕ, ◌/◌, ◌^◌, Bool, true, false, ◌==◌, List}
+use Rattle.std.specs.Prelude.{ℕ, ◌/◌, ◌^◌, Bool, true, false, ◌==◌}
 use Rattle.std.specs.Cmp.Lexicographic.{pointwise}
 use Rattle.tg_base.specs.declared.ids.Oid.{Oid}
 use Rattle.tg_base.specs.declared.marks.Part.{Part}
 use Rattle.tg_base.specs.declared.marks.Part.TheVariants.{All, Text, Num}
-use Rattle.tg_kind.specs.declared.scope.Key.{Key}
 use Rattle.tg_kind.specs.declared.scope.Key.TheVariants as keys
 use Rattle.tg_kind.specs.declared.scope.Scope.{Scope}
 use Rattle.tg_kind.specs.declared.scope.Scope.TheVariants as scopes

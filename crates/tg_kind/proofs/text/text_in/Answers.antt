@@ -1,4 +1,4 @@
-use Rattle.std.proofs.Common.{rules, arith, ◌≡◌, ◌<◌}
+use Rattle.std.proofs.Common.{rules, arith}
 use Rattle.tg_kind.specs.Texts.{was_text}
 use Rattle.tg_kind.proofs.text.text_in.Goals as goal
 
