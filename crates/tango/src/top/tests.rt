@@ -6,6 +6,9 @@ use tg_io::{MemLink, MemSink, MemSource};
 const HEADER: &str =
     "cluster units 1 layouts 1 seqs 1 clients 3 limit 100\nchains u0\nobjects ctr0 ctr1\n";
 
+const NO_OBJECTS: &str =
+    "cluster units 1 layouts 1 seqs 1 clients 3 limit 100\nchains u0\nobjects\n";
+
 const REVERSED: &str =
     "c0 update ctr0 add 5\nc1 update ctr0 add 7\ndeliver 0\ndeliver 1\ndeliver 2\ndeliver 3\ndeliver 5\ndeliver 6\ndeliver 4\ndeliver 7\n";
 
@@ -52,12 +55,7 @@ fn replayed(alloc: Global, header: &str, events: &str) -> Result<(Status, MemSin
 #[test]
 fn scripts_and_their_transcripts(rt: HostRuntime) -> Result<(), Fail> {
     for (header, events, head, tail) in [
-        (
-            "cluster units 1 layouts 1 seqs 1 clients 3 limit 100\nchains u0\nobjects\n",
-            "",
-            "objects\n",
-            "history 0\n",
-        ),
+        (NO_OBJECTS, "", "objects\n", "history 0\n"),
         (
             HEADER,
             REVERSED,
@@ -172,11 +170,13 @@ fn calls_that_fail(rt: HostRuntime) -> Result<(), Fail> {
         assert!(rt; status == Status::ReadFault);
         assert!(rt; sink.written().is_empty());
     }
-    let mut text = bytes(rt.alloc(), HEADER)?;
-    text.extend(REVERSED.as_bytes())?;
-    let (status, sink) = outcome(rt.alloc(), &["replay"], text, &[], &[0])?;
-    assert!(rt; status == Status::WriteFault);
-    assert!(rt; sink.written().is_empty());
+    for (header, events) in [(NO_OBJECTS, ""), (HEADER, REVERSED)] {
+        let mut text = bytes(rt.alloc(), header)?;
+        text.extend(events.as_bytes())?;
+        let (status, sink) = outcome(rt.alloc(), &["replay"], text, &[], &[0])?;
+        assert!(rt; status == Status::WriteFault);
+        assert!(rt; sink.written().is_empty());
+    }
     Ok(())
 }
 
