@@ -1,7 +1,8 @@
 -- Texts: from 1 to 4,096 of the letters, the digits, the underscore, the full stop and the hyphen.
-use Rattle.std.specs.Prelude.{◌≡◌, ℕ, zero, suc, ◌<◌, true, List, [], ◌∷◌, length, Ok}
+use Rattle.std.specs.Prelude.{◌≡◌, ℕ, zero, suc, ◌<◌, ◌≤◌, Bool, true, ◌&&◌, refl, List, [], ◌∷◌, length, Option, Some, None, Ok, if◌then◌else◌}
+use Rattle.std.specs.List.{list_all}
 use Rattle.std.specs.Str.{IsAscii, IsUtf8}
-use Rattle.std.proofs.Common.{arith, sym, subst}
+use Rattle.std.proofs.Common.{arith, sym, subst, ap, ◌∙◌}
 use Rattle.std.proofs.lemmas.Bool.Decides.{nat_tests}
 use Rattle.std.proofs.lemmas.Str.{IsUtf8-from_ascii}
 use Rattle.tg_codec.specs.Codec.{Codec, u16, behind, fit_many}
@@ -22,6 +23,26 @@ text_format = behind (u16 ((1, 4096) ∷ [])) (raw_in text_bytes)
 
 abbrev pub IsText : List ℕ → Type 0
 IsText bytes = text_format.fits bytes ≡ true
+
+-- the text that a word is
+abbrev pub text_of : List ℕ → Option (List ℕ)
+text_of word = if text_format.fits word then Some word else None
+
+-- the byte may stand in a text
+abbrev pub is_letter : ℕ → Bool
+is_letter b = (codec.u8 text_bytes).fits b
+
+-- the count of letters fits, and each is one
+pub letters : (word : List ℕ) → fit_many codec.u8 same_ranges (length word) text_bytes word ≡ list_all is_letter word
+unfolding fit_many
+letters [] = refl
+letters (b ∷ word) = ap (λ all. is_letter b && all) (letters word)
+
+counted_letters : (n : ℕ) (all : Bool) → 1 ≤ n → n ≤ 4096 → all ≡ ((u16 ((1, 4096) ∷ [])).fits n && all)
+counted_letters n all some few = grind (arith, nat_tests)
+
+pub fits_letters : (word : List ℕ) → 1 ≤ length word → length word ≤ 4096 → list_all is_letter word ≡ text_format.fits word
+fits_letters word some few = counted_letters (length word) (list_all is_letter word) some few ∙ ap (λ all. (u16 ((1, 4096) ∷ [])).fits (length word) && all) (sym (letters word))
 
 pub text_law : IsCodec text_format
 text_law = behind_law (u16_law ((1, 4096) ∷ [])) (raw_in_law text_bytes) (λ n xs e. length-fit_many codec.u8 same_ranges n text_bytes xs e)

@@ -15,3 +15,6 @@ pub use kind::Kind;
 pub use registry::Registry;
 pub use scope::{Key, Scope};
 pub use text::{Text, put_word, text_in};
+
+#[cfg(test)]
+mod tests;

@@ -1,8 +1,9 @@
 //! Texts of objects.
 
 ghost use Rattle.std.specs.Prelude.{◌≡◌, ◌≤◌, ◌++◌, length, IfOk, OnOk};
+ghost use Rattle.std.specs.List.{list_all};
 ghost use Rattle.tg_codec.specs.Reading.{Gives};
-ghost use Rattle.tg_kind.specs.Texts.{text_format, IsText};
+ghost use Rattle.tg_kind.specs.Texts.{text_format, text_of, is_letter, IsText};
 
 use std::alloc::Global;
 use std::marker::Model;
@@ -27,7 +28,43 @@ impl Model for Text {
     ghost invariant = { λ t. IsText (string_bytes t.text) };
 }
 
+// Whether a byte may stand in a text.
+fn is_letter(byte: u8) -> bool
+    ensures { result ≡ is_letter byte }
+{
+    matches!(byte, b'A'..=b'Z' | b'a'..=b'z' | b'0'..=b'9' | b'_' | b'.' | b'-')
+}
+
+// Whether each byte may stand in a text.
+fn are_letters(bytes: &[u8]) -> bool
+    ensures { result ≡ list_all is_letter bytes.now }
+{
+    bytes.iter().all(|byte| is_letter(*byte))
+}
+
+// Whether a word is a text.
+fn is_text(word: &str) -> bool
+    ensures { result ≡ text_format.fits word.now }
+{
+    let bytes = word.as_bytes();
+    if bytes.is_empty() || bytes.len() > 4096 {
+        return false;
+    }
+    are_letters(bytes)
+}
+
 impl Text {
+    /// The text that a word is, None where the word is none. An `Err` is want of memory.
+    pub fn of(alloc: Global, word: &str) -> Result<Option<Text>, NoMemory>
+        ensures { IfOk result (λ t. t ≡ text_of word.now) }
+    {
+        if !is_text(word) {
+            return Ok(None);
+        }
+        let text = String::from_str(alloc, word)?;
+        Ok(Some(Text { text }))
+    }
+
     /// The text.
     pub fn as_str(&self) -> &str
         ensures value { result.now ≡ self.now }
