@@ -7,8 +7,8 @@ use Rattle.tg_io.specs.Bytes.{Takes}
 use Rattle.tg_io.specs.Faults.{Rose}
 use Rattle.tg_io.specs.declared.status.Status.{Status}
 use Rattle.tg_io.specs.declared.status.Status.TheVariants.{Done, Words, Script as AtLine, ReadFault, WriteFault, Limit, NoMemory}
-use Rattle.tg_model.specs.declared.Op.{Op}
-use Rattle.tg_model.specs.declared.Op.TheVariants.{Add}
+use Rattle.tg_world.specs.declared.first.Op.{Op}
+use Rattle.tg_world.specs.declared.first.Op.TheVariants.{Add}
 use Rattle.tg_world.specs.declared.world.Step.{Step}
 use Rattle.tg_world.specs.Laws.{EveryWorldIsLegal, FullHasCause, AreSteps, IsWrite}
 use Rattle.tango.specs.declared.script.Line.{Line}

@@ -2,9 +2,9 @@
 use Rattle.std.proofs.Common.{◌≡◌, ℕ, zero, suc, ◌+◌, ◌<◌, ◌≤◌, List, [], ◌∷◌, ◌++◌, length, drop, get_or, refl, sym, ap, ◌∙◌, arith, append_assoc, length-append, Some, None, Option}
 use Rattle.std.proofs.lemmas.List.{append-nil, drop_more}
 use Rattle.std.specs.Prelude.{slice_get}
-use Rattle.tg_model.specs.declared.Command.{Command}
-use Rattle.tg_model.specs.declared.Event.{Event}
-use Rattle.tg_model.specs.declared.Event.TheVariants.{Command as Commands, Deliver as Delivers}
+use Rattle.tg_world.specs.declared.first.Command.{Command}
+use Rattle.tg_world.specs.declared.first.Event.{Event}
+use Rattle.tg_world.specs.declared.first.Event.TheVariants.{Command as Commands, Deliver as Delivers}
 use Rattle.tg_world.specs.declared.client.Client.{Client}
 use Rattle.tg_world.specs.declared.msg.Packet.{Packet}
 use Rattle.tg_world.specs.declared.world.Step.{Step}

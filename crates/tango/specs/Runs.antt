@@ -5,9 +5,9 @@ use Rattle.tg_base.specs.declared.fault.Which.{Which}
 use Rattle.tg_base.specs.declared.fault.Which.TheVariants.{Steps}
 use Rattle.tg_io.specs.declared.status.Status.{Status}
 use Rattle.tg_io.specs.declared.status.Status.TheVariants.{Done, Script as AtLine, Limit}
-use Rattle.tg_model.specs.declared.Command.{Command}
-use Rattle.tg_model.specs.declared.Command.TheVariants.{Begin, Put, End}
-use Rattle.tg_model.specs.declared.Event.TheVariants.{Command as Commands, Deliver as Delivers}
+use Rattle.tg_world.specs.declared.first.Command.{Command}
+use Rattle.tg_world.specs.declared.first.Command.TheVariants.{Begin, Put, End}
+use Rattle.tg_world.specs.declared.first.Event.TheVariants.{Command as Commands, Deliver as Delivers}
 use Rattle.tg_world.specs.declared.world.Step.{Step}
 use Rattle.tg_world.specs.Worlds.{Worlds, world, history, is_idle}
 use Rattle.tango.specs.declared.script.Size.{Size}

@@ -3,8 +3,8 @@ use Rattle.std.specs.Prelude.{◌≡◌, ℕ, ◌<◌, ◌≤◌, ◌/◌, ◌^�
 use Rattle.std.specs.Int.{w64}
 use Rattle.std.specs.Fmt.{decimal}
 use Rattle.tg_base.specs.declared.ids.Oid.{Oid}
-use Rattle.tg_model.specs.declared.Op.{Op}
-use Rattle.tg_model.specs.declared.Op.TheVariants.{Add}
+use Rattle.tg_world.specs.declared.first.Op.{Op}
+use Rattle.tg_world.specs.declared.first.Op.TheVariants.{Add}
 use Rattle.tango.specs.declared.script.Size.{Size}
 use Rattle.tango.specs.declared.script.Line.{Line}
 use Rattle.tango.specs.declared.script.Line.TheVariants.{Update, Deliver}

@@ -3,10 +3,10 @@ use Rattle.std.specs.Prelude.{◌≡◌, ◌⊎◌, ℕ, ◌++◌, List, [], Opt
 use Rattle.tg_io.specs.Bytes.{Takes}
 use Rattle.tg_io.specs.declared.status.Status.{Status}
 use Rattle.tg_io.specs.declared.status.Status.TheVariants.{Illegal, Words, ReadFault, WriteFault, LinkFault, NoMemory}
-use Rattle.tg_model.specs.declared.Mark.{Mark}
-use Rattle.tg_model.specs.declared.What.TheVariants.{Refused as Refuses}
-use Rattle.tg_model.specs.declared.Refusal.TheVariants.{LogFull}
-use Rattle.tg_model.specs.Legal.{LegalOfUpdates}
+use Rattle.tg_world.specs.declared.first.Mark.{Mark}
+use Rattle.tg_world.specs.declared.first.What.TheVariants.{Refused as Refuses}
+use Rattle.tg_world.specs.declared.first.Refusal.TheVariants.{LogFull}
+use Rattle.tg_world.specs.Legal.{LegalOfUpdates}
 use Rattle.tg_world.specs.Laws.{FullWasAnswered}
 use Rattle.tg_world.specs.Worlds.{history}
 use Rattle.tango.specs.Runs.{Script, IsScript, Tells, Outcome, world_of}

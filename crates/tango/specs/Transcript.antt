@@ -3,13 +3,13 @@ use Rattle.std.specs.Prelude.{ℕ, ◌++◌, List, [], ◌∷◌, length, codes}
 use Rattle.std.specs.List.{flat_map}
 use Rattle.std.specs.Fmt.{decimal}
 use Rattle.tg_base.specs.declared.ids.Oid.{Oid}
-use Rattle.tg_model.specs.declared.Op.{Op}
-use Rattle.tg_model.specs.declared.Mark.{Mark}
-use Rattle.tg_model.specs.declared.Done.{Done}
-use Rattle.tg_model.specs.declared.Refusal.{Refusal}
-use Rattle.tg_model.specs.declared.Refusal.TheVariants.{LogFull}
-use Rattle.tg_model.specs.declared.What.{What}
-use Rattle.tg_model.specs.declared.What.TheVariants.{Begin, Put, End, Committed, Refused}
+use Rattle.tg_world.specs.declared.first.Op.{Op}
+use Rattle.tg_world.specs.declared.first.Mark.{Mark}
+use Rattle.tg_world.specs.declared.first.Done.{Done}
+use Rattle.tg_world.specs.declared.first.Refusal.{Refusal}
+use Rattle.tg_world.specs.declared.first.Refusal.TheVariants.{LogFull}
+use Rattle.tg_world.specs.declared.first.What.{What}
+use Rattle.tg_world.specs.declared.first.What.TheVariants.{Begin, Put, End, Committed, Refused}
 use Rattle.tango.specs.Words.{object_word, op_words, objects_line}
 
 -- a write: `ctr0 add 5`

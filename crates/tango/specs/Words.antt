@@ -3,8 +3,8 @@ use Rattle.std.specs.Prelude.{ℕ, ◌%◌, ◌++◌, List, ◌∷◌, codes}
 use Rattle.std.specs.List.{flat_map}
 use Rattle.std.specs.Fmt.{decimal, signed_decimal}
 use Rattle.tg_base.specs.declared.ids.Oid.{Oid}
-use Rattle.tg_model.specs.declared.Op.{Op}
-use Rattle.tg_model.specs.declared.Op.TheVariants.{Add}
+use Rattle.tg_world.specs.declared.first.Op.{Op}
+use Rattle.tg_world.specs.declared.first.Op.TheVariants.{Add}
 
 -- an object by its kind and index: `ctr7`
 abbrev pub object_word : Oid → List ℕ

@@ -12,8 +12,7 @@ use crate::run::{End, Fed, Finish, Run, Stage};
 use crate::script::{self, Line, Size};
 use std::alloc::Global;
 use tg_base::NoMemory;
-use tg_model::{Command, Event};
-use tg_world::{Step, World};
+use tg_world::{Command, Event, Step, World};
 
 /// The greatest number of steps of a run.
 pub const MAX_STEPS: u64 = 200_000;

@@ -8,7 +8,7 @@ ghost use Rattle.tango.specs.Reading.{after, object_at, next_at, size_in, delive
 use crate::number::{number, number_front, signed};
 use std::alloc::Global;
 use tg_base::{List, NoMemory, Oid};
-use tg_model::Op;
+use tg_world::Op;
 
 /// How many clients a cluster has, and how many positions its log.
 #[derive(Clone, Copy, Debug, PartialEq, Eq)]

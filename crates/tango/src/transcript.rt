@@ -9,7 +9,7 @@ ghost use Rattle.tango.specs.Words.{object_word, op_words, objects_line};
 use itoa::{Buffer, Integer};
 use std::alloc::Global;
 use tg_base::{List, NoMemory, Oid};
-use tg_model::{Done, Mark, Op, Refusal, What};
+use tg_world::{Done, Mark, Op, Refusal, What};
 
 /// The text of a transcript: the objects, the replies, and the history.
 #[tactic(auto, unfolding(crate::specs::Transcript::rendered))]

@@ -1,9 +1,9 @@
 -- One case for each kind of step.
 use Rattle.std.proofs.Common.{◌≡◌, ℕ, ◌+◌, List, [], ◌∷◌, refl, Some, None, Option}
 use Rattle.std.specs.Prelude.{slice_get, Contains}
-use Rattle.tg_model.specs.declared.Command.{Command}
-use Rattle.tg_model.specs.declared.Event.{Event}
-use Rattle.tg_model.specs.declared.Event.TheVariants.{Command as Commands, Deliver}
+use Rattle.tg_world.specs.declared.first.Command.{Command}
+use Rattle.tg_world.specs.declared.first.Event.{Event}
+use Rattle.tg_world.specs.declared.first.Event.TheVariants.{Command as Commands, Deliver}
 use Rattle.tg_world.specs.declared.client.Client.{Client}
 use Rattle.tg_world.specs.declared.msg.Packet.{Packet}
 use Rattle.tg_world.specs.declared.world.Step.{Step}

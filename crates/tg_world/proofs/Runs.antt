@@ -4,9 +4,9 @@ use Rattle.std.specs.Prelude.{Contains, slice_get, slice_index_or, replicate, if
 use Rattle.std.proofs.lemmas.List.{get_or-replicate, get_or_past, length-replicate}
 use Rattle.std.proofs.lemmas.Option.{slice_get_within, get_or_from_slice_get}
 use Rattle.tg_base.specs.declared.ids.NodeId.{NodeId}
-use Rattle.tg_model.specs.declared.Command.{Command}
-use Rattle.tg_model.specs.declared.Command.TheVariants.{Put as DoPut, End as DoEnd}
-use Rattle.tg_model.specs.declared.Event.{Event}
+use Rattle.tg_world.specs.declared.first.Command.{Command}
+use Rattle.tg_world.specs.declared.first.Command.TheVariants.{Put as DoPut, End as DoEnd}
+use Rattle.tg_world.specs.declared.first.Event.{Event}
 use Rattle.tg_world.specs.declared.client.Client.{Client}
 use Rattle.tg_world.specs.declared.client.Client.TheVariants.{Idle}
 use Rattle.tg_world.specs.declared.msg.Msg.{Msg}

@@ -5,8 +5,8 @@ use Rattle.std.proofs.lemmas.List.Elements.{Contains-append_cases}
 use Rattle.tg_base.specs.declared.ids.Role.{Role}
 use Rattle.tg_base.specs.declared.ids.Role.TheVariants.{Unit as UnitRole, Layout, Seqr, Client as ClientRole}
 use Rattle.tg_base.specs.declared.ids.NodeId.{NodeId}
-use Rattle.tg_model.specs.declared.Mark.{Mark}
-use Rattle.tg_model.specs.declared.What.{What}
+use Rattle.tg_world.specs.declared.first.Mark.{Mark}
+use Rattle.tg_world.specs.declared.first.What.{What}
 use Rattle.tg_world.specs.declared.msg.Msg.{Msg}
 use Rattle.tg_world.specs.declared.msg.Packet.{Packet}
 use Rattle.tg_world.specs.Names.{AtSeqr, AtClient, place_of, place, seqr_id, client_id, packet, answers}

@@ -5,9 +5,9 @@ use Rattle.std.specs.Ordering.{nat_cmp}
 use Rattle.std.specs.BTreeMap.{insert_entry}
 use Rattle.std.specs.Cmp.Lexicographic.{same_text, pointwise}
 use Rattle.tg_base.specs.declared.ids.Oid.{Oid}
-use Rattle.tg_model.specs.declared.Op.{Op}
-use Rattle.tg_model.specs.declared.Mark.{Mark}
-use Rattle.tg_model.specs.declared.What.TheVariants.{Begin, Committed}
+use Rattle.tg_world.specs.declared.first.Op.{Op}
+use Rattle.tg_world.specs.declared.first.Mark.{Mark}
+use Rattle.tg_world.specs.declared.first.What.TheVariants.{Begin, Committed}
 use Rattle.tg_world.specs.declared.client.Client.TheVariants.{Idle}
 use Rattle.tg_world.specs.declared.msg.Msg.{Msg}
 use Rattle.tg_world.specs.declared.msg.Msg.TheVariants.{Token, Issued, Full, Write, Held, Taken}

@@ -1,14 +1,14 @@
 -- How far each client's transaction came, what it said, and what a turn of a client can do.
 use Rattle.std.proofs.Common.{◌≡◌, ◌≢◌, ◌⊎◌, ℕ, List, [], ◌∷◌, ◌++◌, Bool, true, false, refl, sym, ap, ◌∙◌, inl, inr, ⊎_elim, append_assoc, arith}
 use Rattle.tg_base.specs.declared.ids.Oid.{Oid}
-use Rattle.tg_model.specs.declared.Op.{Op}
-use Rattle.tg_model.specs.declared.Command.{Command}
-use Rattle.tg_model.specs.declared.Command.TheVariants.{Begin as DoBegin, Put as DoPut, End as DoEnd}
-use Rattle.tg_model.specs.declared.Mark.{Mark}
-use Rattle.tg_model.specs.declared.What.{What}
-use Rattle.tg_model.specs.declared.What.TheVariants.{Begin, Put, End, Committed, Refused}
-use Rattle.tg_model.specs.declared.Refusal.TheVariants.{LogFull}
-use Rattle.tg_model.specs.Trace.{is_of, put_of, puts}
+use Rattle.tg_world.specs.declared.first.Op.{Op}
+use Rattle.tg_world.specs.declared.first.Command.{Command}
+use Rattle.tg_world.specs.declared.first.Command.TheVariants.{Begin as DoBegin, Put as DoPut, End as DoEnd}
+use Rattle.tg_world.specs.declared.first.Mark.{Mark}
+use Rattle.tg_world.specs.declared.first.What.{What}
+use Rattle.tg_world.specs.declared.first.What.TheVariants.{Begin, Put, End, Committed, Refused}
+use Rattle.tg_world.specs.declared.first.Refusal.TheVariants.{LogFull}
+use Rattle.tg_world.specs.Trace.{is_of, put_of, puts}
 use Rattle.tg_world.specs.declared.client.Client.{Client}
 use Rattle.tg_world.specs.declared.client.Client.TheVariants.{Idle, Begun, Buffered, Asking, Writing, Closed}
 use Rattle.tg_world.specs.declared.msg.Msg.{Msg}

@@ -6,13 +6,13 @@ use Rattle.std.proofs.lemmas.Bool.{ltb-true, ltb-false}
 use Rattle.std.proofs.lemmas.List.{get_or_past}
 use Rattle.std.proofs.lemmas.Option.{slice_get-get_or}
 use Rattle.tg_base.specs.declared.ids.Oid.{Oid}
-use Rattle.tg_model.specs.declared.Op.{Op}
-use Rattle.tg_model.specs.declared.Mark.{Mark}
-use Rattle.tg_model.specs.declared.Done.{Done}
-use Rattle.tg_model.specs.declared.What.{What}
-use Rattle.tg_model.specs.declared.What.TheVariants.{End, Committed}
-use Rattle.tg_model.specs.Trace.{puts, Says, point}
-use Rattle.tg_model.specs.Legal.{IsHistory, CommittedStands, RepliesPrecede, LegalOfUpdates}
+use Rattle.tg_world.specs.declared.first.Op.{Op}
+use Rattle.tg_world.specs.declared.first.Mark.{Mark}
+use Rattle.tg_world.specs.declared.first.Done.{Done}
+use Rattle.tg_world.specs.declared.first.What.{What}
+use Rattle.tg_world.specs.declared.first.What.TheVariants.{End, Committed}
+use Rattle.tg_world.specs.Trace.{puts, Says, point}
+use Rattle.tg_world.specs.Legal.{IsHistory, CommittedStands, RepliesPrecede, LegalOfUpdates}
 use Rattle.tg_world.specs.declared.client.Client.TheVariants.{Idle}
 use Rattle.tg_world.specs.Page.{record_of}
 use Rattle.tg_world.specs.Nodes.{Cells}

@@ -2,16 +2,16 @@
 use Rattle.std.specs.Prelude.{◌≡◌, ℕ, ◌<◌, ◌≤◌, ◌^◌, List, [], ◌∷◌, Contains, FitsSigned}
 use Rattle.std.specs.Int.{w64}
 use Rattle.tg_base.specs.declared.ids.Oid.{Oid}
-use Rattle.tg_model.specs.declared.Command.{Command}
-use Rattle.tg_model.specs.declared.Command.TheVariants.{Put}
-use Rattle.tg_model.specs.declared.Op.{Op}
-use Rattle.tg_model.specs.declared.Op.TheVariants.{Add}
-use Rattle.tg_model.specs.declared.Event.{Event}
-use Rattle.tg_model.specs.declared.Event.TheVariants.{Command as Commands}
-use Rattle.tg_model.specs.declared.Mark.{Mark}
-use Rattle.tg_model.specs.declared.What.TheVariants.{Refused}
-use Rattle.tg_model.specs.declared.Refusal.TheVariants.{LogFull}
-use Rattle.tg_model.specs.Legal.{LegalOfUpdates}
+use Rattle.tg_world.specs.declared.first.Command.{Command}
+use Rattle.tg_world.specs.declared.first.Command.TheVariants.{Put}
+use Rattle.tg_world.specs.declared.first.Op.{Op}
+use Rattle.tg_world.specs.declared.first.Op.TheVariants.{Add}
+use Rattle.tg_world.specs.declared.first.Event.{Event}
+use Rattle.tg_world.specs.declared.first.Event.TheVariants.{Command as Commands}
+use Rattle.tg_world.specs.declared.first.Mark.{Mark}
+use Rattle.tg_world.specs.declared.first.What.TheVariants.{Refused}
+use Rattle.tg_world.specs.declared.first.Refusal.TheVariants.{LogFull}
+use Rattle.tg_world.specs.Legal.{LegalOfUpdates}
 use Rattle.tg_world.specs.declared.msg.Msg.TheVariants.{Full}
 use Rattle.tg_world.specs.declared.world.Step.{Step}
 use Rattle.tg_world.specs.Names.{client_id, seqr_id, packet}

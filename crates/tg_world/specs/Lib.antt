@@ -1,3 +1,5 @@
+pub mod Trace
+pub mod Legal
 pub mod Names
 pub mod Page
 pub mod Nodes

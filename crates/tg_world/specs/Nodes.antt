@@ -4,11 +4,11 @@ use Rattle.std.specs.Ordering.{nat_cmp}
 use Rattle.std.specs.Map.{lookup}
 use Rattle.std.specs.BTreeMap.{insert_entry, is_at}
 use Rattle.std.specs.Cmp.Lexicographic.{pointwise}
-use Rattle.tg_model.specs.declared.Command.{Command}
-use Rattle.tg_model.specs.declared.Command.TheVariants.{Begin as DoBegin, Put as DoPut, End as DoEnd}
-use Rattle.tg_model.specs.declared.What.{What}
-use Rattle.tg_model.specs.declared.What.TheVariants.{Begin, Put, End, Committed, Refused}
-use Rattle.tg_model.specs.declared.Refusal.TheVariants.{LogFull}
+use Rattle.tg_world.specs.declared.first.Command.{Command}
+use Rattle.tg_world.specs.declared.first.Command.TheVariants.{Begin as DoBegin, Put as DoPut, End as DoEnd}
+use Rattle.tg_world.specs.declared.first.What.{What}
+use Rattle.tg_world.specs.declared.first.What.TheVariants.{Begin, Put, End, Committed, Refused}
+use Rattle.tg_world.specs.declared.first.Refusal.TheVariants.{LogFull}
 use Rattle.tg_world.specs.declared.client.Client.{Client}
 use Rattle.tg_world.specs.declared.client.Client.TheVariants.{Idle, Begun, Buffered, Asking, Writing, Closed}
 use Rattle.tg_world.specs.declared.msg.Msg.{Msg}

@@ -1,8 +1,8 @@
 -- A page of the log: a transaction's client, number and write, in 18 bytes.
 use Rattle.std.specs.Prelude.{ℕ, ◌++◌, List, length, take, drop, Option, Some, None, ◌==◌, if◌then◌else◌}
 use Rattle.std.specs.Int.{to_be_bytes, from_be_bytes, cast_signed, cast_unsigned, w16, w32, w64}
-use Rattle.tg_model.specs.declared.Op.{Op}
-use Rattle.tg_model.specs.declared.Op.TheVariants.{Add}
+use Rattle.tg_world.specs.declared.first.Op.{Op}
+use Rattle.tg_world.specs.declared.first.Op.TheVariants.{Add}
 use Rattle.tg_world.specs.declared.page.Record.{Record}
 
 -- what is added, in eight bytes of two's complement

@@ -1,12 +1,12 @@
 -- The world: all nodes, all packets that were ever sent, and the replies so far.
 use Rattle.std.specs.Prelude.{ℕ, ◌+◌, Bool, true, false, List, [], ◌∷◌, ◌++◌, map, replicate, slice_get, slice_set, Option, Some, None}
 use Rattle.std.specs.List.{flat_map}
-use Rattle.tg_model.specs.declared.Command.{Command}
-use Rattle.tg_model.specs.declared.Event.{Event}
-use Rattle.tg_model.specs.declared.Event.TheVariants.{Command as Commands, Deliver}
-use Rattle.tg_model.specs.declared.What.{What}
-use Rattle.tg_model.specs.declared.Mark.{Mark}
-use Rattle.tg_model.specs.declared.Done.{Done}
+use Rattle.tg_world.specs.declared.first.Command.{Command}
+use Rattle.tg_world.specs.declared.first.Event.{Event}
+use Rattle.tg_world.specs.declared.first.Event.TheVariants.{Command as Commands, Deliver}
+use Rattle.tg_world.specs.declared.first.What.{What}
+use Rattle.tg_world.specs.declared.first.Mark.{Mark}
+use Rattle.tg_world.specs.declared.first.Done.{Done}
 use Rattle.tg_world.specs.declared.client.Client.{Client}
 use Rattle.tg_world.specs.declared.client.Client.TheVariants.{Idle}
 use Rattle.tg_world.specs.declared.msg.Packet.{Packet}

@@ -7,12 +7,12 @@ ghost use Rattle.tg_world.specs.Page.{page_of};
 ghost use Rattle.tg_world.specs.declared.msg.Msg.TheVariants.{Token, Write};
 ghost use Rattle.tg_world.specs.declared.client.Client.TheVariants.{Closed};
 
+use crate::first::{Command, Op, Refusal, What};
 use crate::msg::{Msg, Packet};
 use crate::page::{Record, write_page};
 use std::alloc::Global;
 use std::marker::Model;
 use tg_base::{NoMemory, NodeId, Oid, Pos, Role};
-use tg_model::{Command, Op, Refusal, What};
 
 /// How far a client's transaction has come.
 #[derive(Clone, Copy, Debug, PartialEq, Eq)]

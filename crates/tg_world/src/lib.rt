@@ -3,6 +3,7 @@
 #![tactic(auto)]
 
 mod client;
+mod first;
 mod laws;
 mod msg;
 mod page;
@@ -10,6 +11,7 @@ mod seqr;
 mod unit;
 mod world;
 
+pub use first::{Command, Done, Event, Mark, Op, Refusal, What};
 pub use laws::{every_world_is_legal, full_has_cause};
 pub use world::{Step, World};
 

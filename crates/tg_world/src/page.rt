@@ -2,12 +2,12 @@
 
 ghost use Rattle.std.specs.Prelude.{◌≡◌, IfOk};
 ghost use Rattle.std.specs.Int.{cast_signed, from_be_bytes, w64};
-ghost use Rattle.tg_model.specs.declared.Op.TheVariants.{Add};
+ghost use Rattle.tg_world.specs.declared.first.Op.TheVariants.{Add};
 ghost use Rattle.tg_world.specs.Page.{page_of, record_of};
 
+use crate::first::Op;
 use std::alloc::Global;
 use tg_base::{Blob, List, NoMemory, Oid};
-use tg_model::Op;
 
 /// What a page says: a client, its transaction's number, and the write.
 #[derive(Clone, Copy, Debug, PartialEq, Eq)]

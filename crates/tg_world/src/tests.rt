@@ -1,9 +1,9 @@
 use super::*;
+use crate::first::{Command, Done, Event, Mark, Op, Refusal, What};
 use std::alloc::Global;
 use std::process::Abort;
 use std::test::Fail;
 use tg_base::Oid;
-use tg_model::{Command, Done, Event, Mark, Op, Refusal, What};
 
 /// The first counter.
 const COUNTER: Oid = Oid(0x0100_0000);

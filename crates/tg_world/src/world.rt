@@ -7,6 +7,7 @@ ghost use Rattle.tg_world.specs.Page.{record_of};
 ghost use Rattle.tg_world.specs.Worlds.{start, happens, acts, commands, comes, gives, unit_moves, seqr_moves, client_moves, marked, done_at, history, is_idle};
 
 use crate::client::{Client, Turn};
+use crate::first::{Command, Done, Event, Mark, What};
 use crate::msg::Packet;
 use crate::page::read_page;
 use crate::seqr::Seqr;
@@ -14,7 +15,6 @@ use crate::unit::Unit;
 use std::alloc::Global;
 use std::marker::Model;
 use tg_base::{Blob, List, NoMemory, Pos, Role};
-use tg_model::{Command, Done, Event, Mark, What};
 
 /// An event, and the number of the script's line that it is of.
 #[derive(Clone, Copy, Debug, PartialEq, Eq)]

@@ -1,7 +1,7 @@
 use Rattle.std.proofs.Common.{◌≡◌, ℕ, List, length, take, drop, Some, None, if◌then◌else◌, sym, ap, ◌∙◌, eq-eqb, arith, length-drop}
 use Rattle.std.proofs.lemmas.List.{take_all, drop-drop}
 use Rattle.std.specs.Int.{from_be_bytes, cast_signed, w16, w32, w64}
-use Rattle.tg_model.specs.declared.Op.TheVariants.{Add}
+use Rattle.tg_world.specs.declared.first.Op.TheVariants.{Add}
 use Rattle.tg_world.specs.declared.page.Record.{Record}
 use Rattle.tg_world.specs.Page.{record_of}
 use Rattle.tg_world.proofs.page.read_page.Goals as goal

@@ -1,8 +1,5 @@
-//! What a user relies on: commands, events, the marks of replies, and the history of committed
-//! transactions. Nothing here knows a log, a stream, an epoch or a packet.
-//!
-//! This is the model of the first path, where each object is a counter.
-#![tactic(auto)]
+//! The first path's commands, events, marks of replies, and history of committed transactions, where
+//! each object is a counter. Nothing here knows a log, a stream, an epoch or a packet.
 
 use tg_base::{List, Oid, Pos};
 

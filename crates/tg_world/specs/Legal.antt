@@ -1,9 +1,9 @@
 -- What a run keeps, in words of the replies and of the history alone: here its clauses (b), (d) and (e).
 use Rattle.std.specs.Prelude.{◌≡◌, ◌≢◌, ℕ, ◌<◌, ◌≤◌, List, [], Some, slice_get, Contains}
-use Rattle.tg_model.specs.declared.Mark.{Mark}
-use Rattle.tg_model.specs.declared.Done.{Done}
-use Rattle.tg_model.specs.declared.What.TheVariants.{Begin, End, Committed}
-use Rattle.tg_model.specs.Trace.{puts, Says, point}
+use Rattle.tg_world.specs.declared.first.Mark.{Mark}
+use Rattle.tg_world.specs.declared.first.Done.{Done}
+use Rattle.tg_world.specs.declared.first.What.TheVariants.{Begin, End, Committed}
+use Rattle.tg_world.specs.Trace.{puts, Says, point}
 
 -- A history: the committed transactions, by stamps that rise strictly.
 abbrev pub IsHistory : List Done → Type 0

@@ -1,10 +1,10 @@
 -- The trace, which is the list of replies in the order in which they were given, and what it says of a transaction.
 use Rattle.std.specs.Prelude.{◌≡◌, ℕ, ◌+◌, List, [], ◌∷◌, ◌++◌, Bool, ◌==◌, ◌&&◌, if◌then◌else◌, Option, Some, None, Contains}
 use Rattle.tg_base.specs.declared.ids.Oid.{Oid}
-use Rattle.tg_model.specs.declared.Op.{Op}
-use Rattle.tg_model.specs.declared.Mark.{Mark}
-use Rattle.tg_model.specs.declared.What.{What}
-use Rattle.tg_model.specs.declared.What.TheVariants.{Put, Committed}
+use Rattle.tg_world.specs.declared.first.Op.{Op}
+use Rattle.tg_world.specs.declared.first.Mark.{Mark}
+use Rattle.tg_world.specs.declared.first.What.{What}
+use Rattle.tg_world.specs.declared.first.What.TheVariants.{Put, Committed}
 
 -- the mark is of this transaction: a client and a number
 abbrev pub is_of : ℕ → ℕ → Mark → Bool
