@@ -10,16 +10,16 @@ use Rattle.tg_entry.specs.Records.{IsHead, IsCommit}
 use Rattle.tg_entry.proofs.Fits.{records_fit}
 use Rattle.tg_entry.proofs.tests.draft_of.Goals as goal
 
-head_of : List StreamLink → Head
+abbrev head_of : List StreamLink → Head
 head_of ls = record { format = 2; client = 0; number = 1; streams = ls }
 
-made : List StreamLink → List ReadMark → List WriteOp → Entry
+abbrev made : List StreamLink → List ReadMark → List WriteOp → Entry
 made ls rs ws = record { head = head_of ls; body = Commit rs ws }
 
-links : List StreamLink
+abbrev links : List StreamLink
 links = record { oid = record { 0 = 0x01000000 }; backs = [] } ∷ []
 
-ops : List WriteOp
+abbrev ops : List WriteOp
 ops = record { oid = record { 0 = 0x01000000 }; op = 16 ∷ 0 ∷ 0 ∷ 0 ∷ 0 ∷ 0 ∷ 0 ∷ 0 ∷ 5 ∷ [] } ∷ []
 
 head_kept : IsHead (head_of links)
