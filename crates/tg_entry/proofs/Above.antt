@@ -1,10 +1,10 @@
 -- A part above another fits behind it.
-use Rattle.std.proofs.Common.{◌≡◌, ℕ, zero, suc, ◌+◌, ◌-◌, ◌^◌, ◌<◌, ◌≤◌, Bool, true, false, cond, eqb, ltb, leb, ◌&&◌, ◌||◌, List, [], ◌∷◌, length, get_or, Option, Some, None, refl, sym, ap, ◌∙◌, subst, inl, inr, arith}
+use Rattle.std.proofs.Common.{◌≡◌, ℕ, zero, suc, ◌+◌, ◌-◌, ◌^◌, ◌<◌, ◌≤◌, Bool, true, false, cond, eqb, ltb, leb, ◌&&◌, List, [], ◌∷◌, length, Option, Some, None, refl, inl, inr, arith}
 use Rattle.std.specs.Prelude.{min, max}
 use Rattle.std.specs.List.{list_all}
 use Rattle.std.specs.Ordering.{is_lt, nat_cmp}
 use Rattle.std.specs.Cmp.Lexicographic.{slice_cmp}
-use Rattle.std.proofs.lemmas.Bool.{eqb-true, ltb-true, leb-true, eq-eqb, lt-ltb, le-ltb, le-leb, cases_lt, cases_order, or_cases, or_left, or_right}
+use Rattle.std.proofs.lemmas.Bool.{eqb-true, ltb-true, leb-true, lt-ltb, le-ltb, le-leb, or_cases, or_left, or_right}
 use Rattle.std.proofs.lemmas.Bool.Decides.{nat_tests}
 use Rattle.tg_base.specs.declared.ids.Oid.{Oid}
 use Rattle.tg_base.specs.declared.marks.Part.{Part}
@@ -13,7 +13,7 @@ use Rattle.tg_base.specs.Clusters.{is_user_object}
 use Rattle.tg_base.specs.Parts.{part_cmp}
 use Rattle.tg_codec.specs.Reading.{meets}
 use Rattle.tg_codec.specs.Codec.{u8, u16, u32, u64}
-use Rattle.tg_codec.specs.Bounds.{is_above, tops, raw_above}
+use Rattle.tg_codec.specs.Bounds.{is_above, tops}
 use Rattle.tg_codec.specs.Streams.{any, oids_from, oid}
 use Rattle.tg_codec.proofs.Laws.{IsBytes, and-left, and-right, both}
 use Rattle.tg_codec.proofs.Bounds.{fit_above}

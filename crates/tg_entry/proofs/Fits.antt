@@ -1,20 +1,19 @@
 -- Entries that keep the rules of records have a spelling.
-use Rattle.std.proofs.Common.{◌≡◌, ℕ, zero, suc, ◌+◌, ◌-◌, ◌^◌, ◌<◌, ◌≤◌, Bool, true, false, cond, eqb, ltb, leb, ◌&&◌, ◌||◌, List, [], ◌∷◌, length, Option, Some, None, refl, sym, ap, ◌∙◌, subst, inl, inr, arith}
-use Rattle.std.specs.Prelude.{not, map}
+use Rattle.std.proofs.Common.{◌≡◌, ℕ, zero, suc, ◌+◌, ◌-◌, ◌^◌, ◌<◌, ◌≤◌, Bool, true, false, cond, eqb, ltb, ◌&&◌, List, [], ◌∷◌, length, Option, Some, None, refl, sym, ap, ◌∙◌, subst, inl, inr, arith}
+use Rattle.std.specs.Prelude.{not}
 use Rattle.std.specs.List.{list_all}
 use Rattle.std.specs.Ordering.{is_lt}
-use Rattle.std.proofs.lemmas.Bool.{eqb-true, ltb-true, leb-true, eq-eqb, lt-ltb, le-leb, cases_Bool, or_cases, or_left, or_right, both_ways}
+use Rattle.std.proofs.lemmas.Bool.{eqb-true, ltb-true, leb-true, eq-eqb, lt-ltb, cases_Bool, or_cases, or_left, or_right, both_ways}
 use Rattle.tg_base.specs.declared.ids.Oid.{Oid}
 use Rattle.tg_base.specs.declared.marks.Part.{Part}
 use Rattle.tg_base.specs.declared.marks.Part.TheVariants.{All, Text, Num}
 use Rattle.tg_base.specs.declared.marks.ReadMark.{ReadMark}
 use Rattle.tg_base.specs.declared.marks.StreamLink.{StreamLink}
-use Rattle.tg_base.specs.Orders.{oid_eq, oid_lt}
 use Rattle.tg_base.specs.Parts.{part_cmp}
 use Rattle.tg_base.specs.Units.{has, is_distinct, is_rising, is_within}
-use Rattle.tg_codec.specs.Codec.{u8, u16, u32, u64, fit_many, text}
+use Rattle.tg_codec.specs.Codec.{u8, u64, fit_many, text}
 use Rattle.tg_codec.specs.Owing.{Debt, points, named, owing, paid}
-use Rattle.tg_codec.specs.Streams.{any, from_one, oids_from, oid, before, position, then_before, backs, link, after_link, links}
+use Rattle.tg_codec.specs.Streams.{any, oid, before, position, then_before, backs, link, after_link}
 use Rattle.tg_codec.proofs.Laws.{and-left, and-right, both}
 use Rattle.tg_entry.specs.declared.entry.WriteOp.{WriteOp}
 use Rattle.tg_entry.specs.declared.entry.Head.{Head}
@@ -23,12 +22,12 @@ use Rattle.tg_entry.specs.declared.entry.Body.TheVariants.{Commit, Decision, Che
 use Rattle.tg_entry.specs.declared.reads.LastRead.{LastRead}
 use Rattle.tg_entry.specs.declared.checkpoints.KeyBound.{KeyBound}
 use Rattle.tg_entry.specs.Parts.{over, part_above}
-use Rattle.tg_entry.specs.Reads.{bound_of, mark, after_mark, is_all, no_read, marks, reads}
+use Rattle.tg_entry.specs.Reads.{mark, after_mark, is_all, no_read, marks, reads}
 use Rattle.tg_entry.specs.Writes.{write, after_write, stream_numbers, writes}
 use Rattle.tg_entry.specs.Checkpoints.{Keyed, key, after_key, first_key, keys, new_fields}
 use Rattle.tg_entry.specs.Format.{tag_of, stream_counts, body, entry}
-use Rattle.tg_entry.specs.Records.{is_object, is_number, is_part, is_falling, are_backs, is_stream, IsHead, is_read, read_lt, reads_rise, is_write, written, IsCommit, is_key, keys_rise, IsCheckpoint, RecordsFit}
-use Rattle.tg_entry.proofs.Named.{without, Covers, meets_points, stays, distinct-stays, few_names, rising_distinct}
+use Rattle.tg_entry.specs.Records.{is_object, is_number, is_part, is_falling, are_backs, is_stream, IsHead, is_read, reads_rise, is_write, written, IsCommit, is_key, keys_rise, IsCheckpoint, RecordsFit}
+use Rattle.tg_entry.proofs.Named.{Covers, meets_points, stays, distinct-stays, few_names, rising_distinct}
 use Rattle.tg_entry.proofs.Above.{u8_fits, u16_fits, u32_fits, u64_fits, u64_any, oid_fits, oid_small, is_after, part_fits}
 
 -- ---- streams
@@ -195,7 +194,7 @@ some_fit o (w ∷ ws) e p =
     let this = and-left _ _ e in
     both _ _ (both _ _ (name_fits o w ws p (and-left _ _ this)) (op_fits w (and-right _ _ this))) (some_fit (paid o w.oid.0) ws (and-right _ _ e) (next_payable o w ws p))
 
-links-length : (ls : List StreamLink) → length (stream_numbers ls) ≡ length ls
+pub links-length : (ls : List StreamLink) → length (stream_numbers ls) ≡ length ls
 links-length [] = refl
 links-length (l ∷ ls) = ap suc (links-length ls)
 

@@ -5,3 +5,4 @@ pub mod Lookups
 pub mod Named
 pub mod Above
 pub mod Fits
+pub mod Linked

@@ -1,15 +1,13 @@
 -- What a search among entries in order finds.
-use Rattle.std.proofs.Common.{◌≡◌, ℕ, zero, suc, ◌<◌, ◌≤◌, inl, inr, true, false, cond, eqb, ltb, List, [], ◌∷◌, length, get_or, Option, Some, None, Result, Ok, Err, IfOk, IfErr, refl, sym, ap, arith}
+use Rattle.std.proofs.Common.{◌≡◌, ℕ, zero, suc, ◌<◌, ◌≤◌, inl, inr, false, eqb, [], ◌∷◌, length, get_or, Some, Result, Ok, Err, IfOk, IfErr, refl, sym, arith}
 use Rattle.std.specs.List.Sorted.{IsSearchInRange, IsBinarySearchResult, IsNonDecreasingBy}
 use Rattle.std.specs.Ordering.{nat_cmp, ordering_index}
 use Rattle.std.proofs.lemmas.Cmp.{ranked}
-use Rattle.std.proofs.lemmas.List.Sorted.{IsNonDecreasingBy-from_default}
-use Rattle.std.proofs.lemmas.Bool.{ltb-true, eq-eqb, ne_eqb, cond-true, cond-false, cases_lt}
+use Rattle.std.proofs.lemmas.Bool.{ltb-true, eq-eqb, ne_eqb, cond-true, cases_lt}
 use Rattle.std.proofs.lemmas.Bool.Decides.{nat_tests}
-use Rattle.tg_base.specs.Units.{is_rising}
 use Rattle.tg_codec.proofs.Laws.{and-left, and-right}
 use Rattle.tg_entry.specs.declared.entry.Entry.{Entry}
-use Rattle.tg_entry.specs.Drafts.{Placed, positions, IsInOrder, entry_at, IsPlaceOf, IsNowhere}
+use Rattle.tg_entry.specs.Drafts.{Placed, IsInOrder, entry_at, IsPlaceOf, IsNowhere}
 
 order_rest : (e : ℕ × Entry) (es : Placed) → IsInOrder (e ∷ es) → IsInOrder es
 order_rest e [] h = refl

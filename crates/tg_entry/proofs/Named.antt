@@ -1,6 +1,6 @@
 -- Writes that name exactly the streams leave none without a write, in whatever order they stand.
-use Rattle.std.proofs.Common.{◌≡◌, ℕ, suc, ◌<◌, ◌≤◌, Bool, true, false, cond, eqb, ltb, leb, ◌&&◌, ◌||◌, List, [], ◌∷◌, length, refl, sym, ap, ◌∙◌, subst, inl, inr, arith}
-use Rattle.std.specs.Prelude.{not, filter, map, max, min}
+use Rattle.std.proofs.Common.{◌≡◌, ℕ, suc, ◌<◌, ◌≤◌, true, false, cond, eqb, List, [], ◌∷◌, length, refl, subst, inl, inr, arith}
+use Rattle.std.specs.Prelude.{not, filter, max, min}
 use Rattle.std.proofs.lemmas.Bool.{eqb-true, ltb-true, eq-eqb, ne_eqb, le-leb, cases_Bool, or_cases, or_left, or_right, both_ways, not-true, not_from_false}
 use Rattle.tg_base.specs.Units.{has, is_distinct, is_rising}
 use Rattle.tg_codec.specs.Reading.{meets}

@@ -14,7 +14,6 @@ use Rattle.tg_base.specs.Units.{has, is_rising, is_within}
 use Rattle.tg_entry.specs.declared.entry.WriteOp.{WriteOp}
 use Rattle.tg_entry.specs.declared.entry.Head.{Head}
 use Rattle.tg_entry.specs.declared.entry.Entry.{Entry}
-use Rattle.tg_entry.specs.declared.entry.Body.{Body}
 use Rattle.tg_entry.specs.declared.entry.Body.TheVariants.{Commit, Decision, Checkpoint}
 use Rattle.tg_entry.specs.Reads.{is_all}
 use Rattle.tg_entry.specs.Writes.{stream_numbers}
@@ -123,3 +122,16 @@ pub record RecordsFit : Type 0 where
   pub decisions : (h : Head) (at : ℕ) (fate : Bool) → IsHead h → at < 2 ^ 64 → entry.fits (record { head = h; body = Decision at fate }) ≡ true
   pub checkpoints : (h : Head) (oid : Oid) (upto version whole : ℕ) (keys : Keyed) (state : List ℕ) → IsCheckpoint h oid upto version whole keys state
       → entry.fits (record { head = h; body = Checkpoint oid upto version whole keys state }) ≡ true
+
+-- ---- an entry whose streams get their last positions
+
+abbrev pub has_backs : StreamLink → Bool
+has_backs l = are_backs l.backs
+
+-- the entry with other links
+abbrev pub linked : Entry → List StreamLink → Entry
+linked e ls = record { head = record { format = e.head.format; client = e.head.client; number = e.head.number; streams = ls }; body = e.body }
+
+-- an entry that has a spelling still has one with other last positions in the same streams
+abbrev pub LinkedFit : Type 0
+LinkedFit = (e : Entry) (ls : List StreamLink) → stream_numbers ls ≡ stream_numbers e.head.streams → list_all has_backs ls ≡ true → entry.fits e ≡ true → entry.fits (linked e ls) ≡ true

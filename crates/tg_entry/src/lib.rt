@@ -17,7 +17,7 @@ pub use coding::{decode, encode, size};
 pub use drafts::{Draft, Entries};
 pub use entry::{Body, Entry, Head, WriteOp};
 pub use fault::EntryFault;
-pub use law::records_fit;
+pub use law::{linked_fit, records_fit};
 pub use needs::needs_decision;
 
 #[cfg(test)]
