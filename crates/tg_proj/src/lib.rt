@@ -11,6 +11,3 @@ pub use fault::ProjFault;
 pub use next::next_of;
 pub use place::{chain_of, range_of};
 pub use refusal::next_ok;
-
-#[cfg(test)]
-mod tests;
