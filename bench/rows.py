@@ -14,7 +14,8 @@ import re
 import sys
 
 KINDS = {'dir': 0, 'ctr': 1, 'reg': 2, 'map': 3, 'list': 4, 'tree': 5, 'set': 6}
-SPECS = 'crates/tg_protocol/specs'
+# the crates whose definitions the runs open
+CRATES = ('tg_codec', 'tg_entry', 'tg_protocol')
 
 
 def oid(word):
@@ -219,11 +220,13 @@ def header(lines):
 
 
 def unfoldables():
-    """Each definition that is opened only where it is named."""
+    """Each definition that is opened only where it is named, with its module."""
     found = []
-    for name in re.findall(r'pub mod (\w+)', open(os.path.join(SPECS, 'Lib.antt')).read()):
-        body = open(os.path.join(SPECS, name + '.antt')).read()
-        found += [(name, d) for d in re.findall(r'^ *unfoldable pub (\S+) :', body, re.M)]
+    for crate in CRATES:
+        specs = os.path.join('crates', crate, 'specs')
+        for name in re.findall(r'pub mod (\w+)', open(os.path.join(specs, 'Lib.antt')).read()):
+            body = open(os.path.join(specs, name + '.antt')).read()
+            found += [('%s.specs.%s' % (crate, name), d) for d in re.findall(r'^ *unfoldable pub (\S+) :', body, re.M)]
     return found
 
 
@@ -287,24 +290,24 @@ def main():
     by = {}
     for module, name in opened:
         by.setdefault(module, []).append(name)
-    by.setdefault('Words', []).extend(['unit_id', 'layout_id', 'seqr_id', 'client_id'])
-    by.setdefault('Worlds', []).extend(['Line', 'Happens', 'Update', 'Drain', 'Settle', 'replay'])
+    by.setdefault('tg_protocol.specs.Words', []).extend(['unit_id', 'layout_id', 'seqr_id', 'client_id'])
+    by.setdefault('tg_protocol.specs.Worlds', []).extend(['Line', 'Happens', 'Update', 'Drain', 'Settle', 'replay'])
     seen = {}
     for module in by:
         fresh = []
         for n in by[module]:
             if n in seen:
-                fresh.append('%s as %s_%s' % (n, module.lower(), n))
+                fresh.append('%s as %s_%s' % (n, module.split('.')[-1].lower(), n))
             else:
                 fresh.append(n)
             seen.setdefault(n, module)
-        print('use Rattle.tg_protocol.specs.%s.{%s}' % (module, ', '.join(fresh)))
+        print('use Rattle.%s.{%s}' % (module, ', '.join(fresh)))
     print('use Rattle.tg_rows.proofs.SevenKinds.{kinds}')
     print('use Rattle.tg_rows.proofs.SevenKinds as kind')
     print('use Rattle.tg_rows.proofs.Shown.{Shown, shown, obj, mark, done}')
     words, have = [], set()
     for module, n in opened:
-        words.append(n if n not in have else '%s_%s' % (module.lower(), n))
+        words.append(n if n not in have else '%s_%s' % (module.split('.')[-1].lower(), n))
         have.add(n)
     for name in names:
         name, _, label = name.partition('=')

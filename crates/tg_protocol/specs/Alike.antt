@@ -12,7 +12,8 @@ use Rattle.tg_entry.specs.declared.entry.Body.TheVariants.{Decision, Checkpoint}
 use Rattle.tg_entry.specs.declared.entry.Entry.{Entry}
 use Rattle.tg_kind.specs.Meaning.{Meaning}
 use Rattle.tg_protocol.specs.Words.{client_id, unit_id, seqr_id, directory}
-use Rattle.tg_protocol.specs.Layouts.{first_layout, range_at, range_end, units_of}
+use Rattle.tg_proj.specs.Places.{range_at}
+use Rattle.tg_protocol.specs.Layouts.{first_layout, range_end, units_of}
 use Rattle.tg_protocol.specs.Entries.{is_commit, needs_decision}
 use Rattle.tg_protocol.specs.Versions.{version_in}
 use Rattle.tg_protocol.specs.Views.{View, fate_of}
@@ -118,7 +119,7 @@ module _ (m : Meaning) where
       from = client_id t.mark.client;
       to = unit_id u;
       rid = asked;
-      msg = msg.Has epoch ((range_at proj r).lo + s) (range_end proj r) (length (range_at proj r).stripes);
+      msg = msg.Has epoch ((range_at proj.ranges r).lo + s) (range_end proj r) (length (range_at proj.ranges r).stripes);
     })
     pub whole : Sent w (record { from = unit_id u; to = client_id t.mark.client; rid = asked; msg = msg.Whole })
 

@@ -12,8 +12,9 @@ use Rattle.tg_entry.specs.declared.entry.WriteOp.{WriteOp}
 use Rattle.tg_entry.specs.declared.entry.Entry.{Entry}
 use Rattle.tg_kind.specs.Meaning.{Meaning}
 use Rattle.tg_protocol.specs.Words.{oid_eq, has_oid, with_nums, cell_at, directory, first_some, where_true}
-use Rattle.tg_protocol.specs.Layouts.{LayoutFault, first_layout, not_closed, no_stripe, in_chain, returned, change_fault}
-use Rattle.tg_protocol.specs.Layouts as layout
+use Rattle.tg_proj.specs.declared.fault.ProjFault.{ProjFault}
+use Rattle.tg_proj.specs.declared.fault.ProjFault.TheVariants as layout
+use Rattle.tg_protocol.specs.Layouts.{first_layout, change_fault, spare_fault}
 use Rattle.tg_protocol.specs.Pages.{entry_of}
 use Rattle.tg_protocol.specs.Requests.{Waits}
 use Rattle.tg_protocol.specs.Appending.{Append}
@@ -172,7 +173,7 @@ module _ (m : Meaning) where
 
   -- Refusals before any work, each command's in the order in which they are tested.
 
-  abbrev pub layout_refusal : LayoutFault → Refusal
+  abbrev pub layout_refusal : ProjFault → Refusal
   layout_refusal (layout.TooMany x) = cause.TooMany x
   layout_refusal (layout.NotClosed r) = cause.NotClosed r
   layout_refusal (layout.NoStripe r s) = cause.NoStripe r s
@@ -181,7 +182,7 @@ module _ (m : Meaning) where
   layout_refusal (layout.NoReplica r s) = cause.NoReplica r s
   layout_refusal (layout.NotAcked u) = cause.Returned u
 
-  abbrev pub by_layout : Option LayoutFault → Option Refusal
+  abbrev pub by_layout : Option ProjFault → Option Refusal
   by_layout None = None
   by_layout (Some f) = Some (layout_refusal f)
 
@@ -228,7 +229,7 @@ module _ (m : Meaning) where
 
   -- `copy`, in the layout at which the client stands
   unfoldable pub copy_fault : Layout → ℕ → ℕ → ℕ → Option Refusal
-  copy_fault p u r s = by_layout (first_some (not_closed p r ∷ no_stripe p r s ∷ in_chain p u r s ∷ returned p.gone (u ∷ []) ∷ []))
+  copy_fault p u r s = by_layout (spare_fault p (record { unit = u; range = r; stripe = s }))
 
   unfoldable pub tests : Client → CommandOf m → List (Option Refusal)
   tests c (cmd.Host o) = tx_open c ∷ not_registered c o ∷ too_many_hosted c o ∷ []

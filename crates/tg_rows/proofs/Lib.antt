@@ -1,3 +1,4 @@
+pub mod Bytes
 pub mod SevenKinds
 pub mod Sameness
 pub mod Shown
