@@ -24,6 +24,7 @@ use Rattle.tg_list.specs.TextLists.{Texts, most, is_object, is_list, is_state, i
 -- ---- the formats
 
 pub state_law : IsCodec state_format
+unfolding state_format
 state_law = words.after_law 4 texts_format (behind_many_law item onward (λ _. tt) (u32_law any) (λ _. text_law))
 
 inner : {A : Type 0} (p q : A) → Some p ≡ Some q → p ≡ q
@@ -99,6 +100,7 @@ ops_table = (
 )
 
 pub op_law : IsCodec op_format
+unfolding op_format
 op_law = tagged_law codes code _ (table_law code ops ops_table) (λ t op m e. table_tag code ops ops_table t op e)
 
 -- ---- a list is what has a spelling
@@ -118,9 +120,11 @@ counted : (n : ℕ) → (u32 any).fits n ≡ true → n ≤ most
 counted n e = let lt : n < 2 ^ 32 = ltb-true n (2 ^ 32) (and-right (meets any n n) _ e) in omega (arith, lt)
 
 pub spells_list : (texts : Texts) → is_list texts ≡ true → state_format.fits texts ≡ true
+unfolding state_format
 spells_list texts e = both _ _ (counts (length texts) (leb-true _ _ (and-left _ _ e))) (fit_all texts ∙ and-right _ _ e)
 
 pub list_of_spelling : (texts : Texts) → state_format.fits texts ≡ true → is_list texts ≡ true
+unfolding state_format
 list_of_spelling texts e = both _ _ (le-leb _ _ (counted (length texts) (and-left _ _ e))) (sym (fit_all texts) ∙ and-right _ _ e)
 
 -- ---- ops make lists of lists
@@ -154,6 +158,7 @@ room : (texts : Texts) → has_room texts ≡ true → length texts < most
 room texts e = ltb-true _ _ e
 
 stays_list : (texts : Texts) (op : TextListOp) → is_list texts ≡ true → op_format.fits op ≡ true → is_list (applied texts op) ≡ true
+unfolding op_format
 stays_list texts (PushFront t) e f =
     chosen (has_room texts) _ texts (λ b. make (t ∷ texts) (omega (arith, room texts b)) (both _ _ f (and-right _ _ e))) e
 stays_list texts (PushBack t) e f =

@@ -120,7 +120,7 @@ abbrev pub texts_format : Codec Texts
 texts_format = behind (u32 any) (λ n. many item onward n tt)
 
 -- the kind's tag and the texts
-abbrev pub state_format : Codec Texts
+unfoldable pub state_format : Codec Texts
 state_format = after 4 texts_format
 
 abbrev pub saved : Texts → List ℕ
@@ -193,5 +193,5 @@ abbrev pub ops : List (ℕ × Codec TextListOp)
 ops = (0x40, push_front_op) ∷ (0x41, push_back_op) ∷ (0x42, insert_op) ∷ (0x43, remove_op) ∷ (0x44, pop_front_op) ∷ (0x45, pop_back_op) ∷ []
 
 -- the op's code and its fields
-abbrev pub op_format : Codec TextListOp
+unfoldable pub op_format : Codec TextListOp
 op_format = tagged codes code (from_table ops)

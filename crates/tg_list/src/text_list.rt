@@ -184,6 +184,7 @@ fn texts_in(alloc: Global, count: u32, bytes: &[u8]) -> Result<(VecDeque<Text>, 
     Ok((texts, rest))
 }
 
+#[tactic(auto, unfolding(crate::specs::TextLists::state_format))]
 fn list_in(alloc: Global, bytes: &[u8]) -> Result<(TextList, &[u8]), ReadFault>
     ensures { Gives (λ x. (x.0, x.1.now)) result (state_format.read bytes.now) }
 {
@@ -237,6 +238,7 @@ fn fields_in(alloc: Global, code: u8, bytes: &[u8]) -> Result<(TextListOp, &[u8]
     }
 }
 
+#[tactic(auto, unfolding(crate::specs::TextLists::op_format))]
 fn op_in(alloc: Global, bytes: &[u8]) -> Result<(TextListOp, &[u8]), ReadFault>
     ensures { Gives (λ x. (x.0, x.1.now)) result (op_format.read bytes.now) }
 {
@@ -245,6 +247,7 @@ fn op_in(alloc: Global, bytes: &[u8]) -> Result<(TextListOp, &[u8]), ReadFault>
 }
 
 // Puts the code of an op and its fields last.
+#[tactic(auto, unfolding(crate::specs::TextLists::op_format))]
 fn spell_op(op: &TextListOp, out: &mut List<u8>) -> Result<(), NoMemory>
     ensures { OnOk result (out.new ≡ out.old ++ op_format.spell op.now) }
 {
@@ -341,6 +344,7 @@ impl Kind for TextList {
         }
     }
 
+    #[tactic(auto, unfolding(crate::specs::TextLists::op_format))]
     fn touch(op: &TextListOp) -> Scope<'_> {
         match op {
             TextListOp::PushFront { text } => {
@@ -369,6 +373,7 @@ impl Kind for TextList {
         Scope::All
     }
 
+    #[tactic(auto, unfolding(crate::specs::TextLists::state_format))]
     fn save(&self, alloc: Global) -> Result<List<u8>, NoMemory> {
         let mut bytes = List::new(alloc);
         bytes.push(TAG)?;
