@@ -7,6 +7,7 @@ use Rattle.std.proofs.lemmas.Bool.{le-leb, lt-ltb, ltb-true, leb-true, leb-false
 use Rattle.std.proofs.lemmas.Bool.Decides.{nat_tests}
 use Rattle.tg_codec.specs.Reading.{meets}
 use Rattle.std.proofs.lemmas.List.{append-nil, length-append, length-map, map-append, take_more}
+use Rattle.std.proofs.lemmas.List.Elements.{filter-append}
 use Rattle.std.proofs.lemmas.List.Folds.{list_any-append, list_all-append, find-append}
 use Rattle.std.proofs.lemmas.Slice.Eq.{bytes_eq-Decides}
 use Rattle.tg_base.specs.declared.ids.Oid.{Oid}
@@ -266,8 +267,8 @@ name-new o [] n all e = refl
 name-new o (p ∷ ps) n all e =
     let here : eqb p.0 o.0 ≡ false = or-left _ _ e in
     let other : same_text (spelling p) (spelling o) ≡ false = false_from_ne_true _ (λ t.
-        let same : p ≡ o = spells_one p o (and-left _ _ all) n ((bytes_eq-Decides _ _).0 t) in
-        not_false (eqb p.0 o.0) (eq-eqb _ _ (ap (λ (x : Oid). x.0) same)) here) in
+    let same : p ≡ o = spells_one p o (and-left _ _ all) n ((bytes_eq-Decides _ _).0 t) in
+    not_false (eqb p.0 o.0) (eq-eqb _ _ (ap (λ (x : Oid). x.0) same)) here) in
     let rest = name-new o ps n (and-right _ _ all) (or-right _ _ e) in
     rw (other, rest) refl
 
@@ -375,19 +376,11 @@ pub lists_header : (o : Oid) (os : List Oid) → list_all is_number os ≡ true 
 lists_header o os e = ap (λ (ps : List Oid). map at_first (directory ∷ ps)) (all-numbers os e)
 
 -- one more object of a header
-filter-case : (b : Bool) (p : Oid) (all front rest : List Oid) → all ≡ front ++ rest → cond b (p ∷ all) all ≡ cond b (p ∷ front) front ++ rest
-filter-case true p all front rest e = ap (λ (ps : List Oid). p ∷ ps) e
-filter-case false p all front rest e = e
-
-listed-push : (os : List Oid) (o : Oid) → filter is_number (os ++ o ∷ []) ≡ filter is_number os ++ filter is_number (o ∷ [])
-listed-push [] o = refl
-listed-push (p ∷ os) o = filter-case (is_number p) p (filter is_number (os ++ o ∷ [])) (filter is_number os) (filter is_number (o ∷ [])) (listed-push os o)
-
-pub one_more : (os : List Oid) (i : ℕ) (o : Oid) → i < length os → o ≡ get_or os i o
-    → map at_first (directory ∷ filter is_number (take i os)) ++ map at_first (filter is_number (o ∷ [])) ≡ map at_first (directory ∷ filter is_number (take (i + 1) os))
-one_more os i o lt is =
-    sym (map-append at_first (directory ∷ filter is_number (take i os)) (filter is_number (o ∷ []))) ∙
-    ap (λ (ps : List Oid). map at_first (directory ∷ ps)) (sym (listed-push (take i os) o) ∙ ap (filter is_number) (sym (take_more os i o lt ∙ ap (λ x. take i os ++ x ∷ []) (sym is))))
+pub one_more : (os : List Oid) (i : ℕ) (o : Oid) → i < length os
+    → map at_first (directory ∷ filter is_number (take i os)) ++ map at_first (filter is_number (get_or os i o ∷ [])) ≡ map at_first (directory ∷ filter is_number (take (i + 1) os))
+one_more os i o lt =
+    sym (map-append at_first (directory ∷ filter is_number (take i os)) (filter is_number (get_or os i o ∷ []))) ∙
+    ap (λ (ps : List Oid). map at_first (directory ∷ ps)) (sym (filter-append is_number (take i os) (get_or os i o ∷ [])) ∙ ap (filter is_number) (sym (take_more os i o lt)))
 
 -- ---- what a user may put
 

@@ -1,21 +1,20 @@
 -- Spellings of objects are texts, and tell objects apart.
-use Rattle.std.specs.Prelude.{◌≡◌, ℕ, zero, suc, ◌+◌, ◌*◌, ◌/◌, ◌%◌, ◌^◌, ◌<◌, ◌≤◌, Bool, true, ◌==◌, List, [], ◌∷◌, ◌++◌, length, get_or, drop, Ok, Err, if◌then◌else◌, refl}
+use Rattle.std.specs.Prelude.{◌≡◌, ℕ, zero, suc, ◌+◌, ◌*◌, ◌/◌, ◌%◌, ◌^◌, ◌<◌, ◌≤◌, Bool, true, false, ◌==◌, List, [], ◌∷◌, ◌++◌, length, get_or, drop, Option, Some, None, IsSome, if◌then◌else◌, refl}
 use Rattle.std.specs.List.{list_all}
 use Rattle.std.specs.Fmt.{decimal}
 use Rattle.std.proofs.Common.{arith, sym, ap, subst, ◌∙◌, cond, max, min, leb, ltb}
 use Rattle.std.proofs.lemmas.Bool.{le-leb, lt-ltb}
 use Rattle.std.proofs.lemmas.Bool.Decides.{nat_tests}
 use Rattle.std.proofs.lemmas.Fmt.{decimal_by_steps, decimal_injective, length-decimal-le}
-use Rattle.std.proofs.lemmas.List.{append-nil, length-append}
+use Rattle.std.proofs.lemmas.List.{length-append}
 use Rattle.std.proofs.lemmas.List.Folds.{list_all-append}
 use Rattle.std.proofs.Math.Seq.{drop-append_seam}
 use Rattle.tg_base.specs.declared.ids.Oid.{Oid}
-use Rattle.tg_codec.specs.Reading.{Read}
 use Rattle.tg_codec.specs.Codec.{u8, u16, fit_many}
 use Rattle.tg_codec.specs.Bounds.{same_ranges}
 use Rattle.tg_codec.proofs.Laws.{and-left, and-right, both}
 use Rattle.tg_kind.specs.Parts.{tag_of}
-use Rattle.tg_kind.specs.Texts.{IsText, text_bytes, text_format, text_law}
+use Rattle.tg_kind.specs.Texts.{IsText, text_bytes, text_format, text_of}
 use Rattle.tg_dir.specs.Spellings.{is_number, index_of, kind_name, spelling}
 
 pub oid_is : (x y : Oid) → x.0 ≡ y.0 → x ≡ y
@@ -40,10 +39,6 @@ tag_cases P a b c d e f g (suc (suc (suc (suc (suc (suc zero)))))) le = g
 tag_cases P a b c d e f g (suc (suc (suc (suc (suc (suc (suc t))))))) le = absurd (omega (arith, le))
 
 -- ---- texts
-
-abbrev read_value : List ℕ → Read (List ℕ) → List ℕ
-read_value other (Ok x) = x.0
-read_value other (Err left) = other
 
 abbrev is_letter : ℕ → Bool
 is_letter b = (u8 text_bytes).fits b
@@ -90,19 +85,14 @@ spelling_is_text o e =
     let len : length (spelling o) ≡ length (kind_name (tag_of o)) + length (decimal (index_of o)) = length-append (kind_name (tag_of o)) (decimal (index_of o)) in
     both _ _ (length-fits (length (spelling o)) (omega (arith, name.some, len)) (omega (arith, name.few, short, len))) (letters-fit (spelling o) letters)
 
-pub spelling_short : (o : Oid) → is_number o ≡ true → length (spelling o) ≤ 4096
-spelling_short o e =
-    let name = is_kind_name (tag_of o) (tag_within o e) in
-    let small : index_of o < 10 ^ 8 = omega arith in
-    let short : length (decimal (index_of o)) ≤ 8 = length-decimal-le 8 (index_of o) (omega arith) small (omega arith) in
-    omega (arith, name.few, short, length-append (kind_name (tag_of o)) (decimal (index_of o)))
+chosen : (b : Bool) (word : List ℕ) → b ≡ true → IsSome (cond b (Some word) None)
+chosen true word e = refl
+chosen false word e = absurd cc
 
--- the bytes of a text are read as the text
-pub reads_back : (text read rest : List ℕ) → IsText text → text_format.read (text_format.spell text) ≡ Ok (read, rest) → read ≡ text
-reads_back text read rest is e =
-    let again : text_format.read (text_format.spell text) ≡ Ok (text, []) = ap (λ (t : List ℕ). text_format.read t) (sym (append-nil (text_format.spell text))) ∙ text_law.exact.again text [] is in
-    let same : ◌≡◌ {A = Read (List ℕ)} (Ok (read, rest)) (Ok (text, [])) = sym e ∙ again in
-    ap (read_value text) same
+-- the spelling is taken as a text
+pub spelling_taken : (o : Oid) (word : List ℕ) (text : Option (List ℕ)) → is_number o ≡ true → word ≡ spelling o → text ≡ text_of word → IsSome text
+spelling_taken o word text e is taken =
+    subst (λ (t : Option (List ℕ)). IsSome t) (sym (taken ∙ ap text_of is)) (chosen (text_format.fits (spelling o)) (spelling o) (spelling_is_text o e))
 
 -- ---- the first letter tells the kind
 

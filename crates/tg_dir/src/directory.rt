@@ -82,11 +82,7 @@ fn at_first(alloc: Global, oid: Oid) -> Result<Listing, NoMemory>
 }
 
 // The entries with an object's own last, where the number is an object's.
-fn with_object(
-    alloc: Global,
-    entries: Vec<Listing>,
-    oid: Oid,
-) -> Result<Vec<Listing>, NoMemory>
+fn with_object(alloc: Global, entries: Vec<Listing>, oid: Oid) -> Result<Vec<Listing>, NoMemory>
     ensures { IfOk result (λ v. v.items ≡ entries.items ++ map at_first (filter is_number (oid ∷ []))) }
 {
     let mut entries = entries;

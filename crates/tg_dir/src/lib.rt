@@ -11,3 +11,6 @@ pub use directory::{Directory, DirectoryAns, DirectoryAsk, DirectoryOp};
 pub use listing::Listing;
 pub use object::Object;
 pub use spelling::put_spelling;
+
+#[cfg(test)]
+mod tests;

@@ -46,7 +46,11 @@ impl Object {
     pub fn of(oid: Oid) -> Option<Object>
         ensures { result ≡ (if is_number oid then Some oid else None) }
     {
-        if is_number(oid) { Some(Object { oid }) } else { None }
+        if is_number(oid) {
+            Some(Object { oid })
+        } else {
+            None
+        }
     }
 
     /// The number.

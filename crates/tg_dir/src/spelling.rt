@@ -1,13 +1,12 @@
 //! Objects in words.
 
-ghost use Rattle.std.specs.Prelude.{◌≡◌, ◌++◌, ◌≤◌, true, length, IfOk, OnOk};
+ghost use Rattle.std.specs.Prelude.{◌≡◌, ◌++◌, true, string_bytes, IfOk, OnOk};
 ghost use Rattle.tg_dir.specs.Spellings.{is_number, kind_name, spelling};
 
 use itoa::Buffer;
 use std::alloc::Global;
 use tg_base::{List, NoMemory, Oid};
-use tg_codec::put_text;
-use tg_kind::{Text, text_in};
+use tg_kind::Text;
 
 // The name of the kind with this tag.
 fn kind_name(tag: u32) -> &'static str
@@ -32,17 +31,21 @@ pub fn put_spelling(oid: Oid, out: &mut List<u8>) -> Result<(), NoMemory>
     out.extend(Buffer::new().format(oid.0 % 0x0100_0000).as_bytes())
 }
 
+// An object's spelling.
+fn word_of(alloc: Global, oid: Oid) -> Result<String, NoMemory>
+    ensures { IfOk result (λ s. string_bytes s ≡ spelling oid) }
+{
+    let mut word = String::from_str(alloc, kind_name(oid.0 >> 24))?;
+    word.push_str(Buffer::new().format(oid.0 % 0x0100_0000))?;
+    Ok(word)
+}
+
 /// An object's spelling. An `Err` is want of memory.
 pub fn spelled(alloc: Global, oid: Oid) -> Result<Text, NoMemory>
     requires { is_number oid ≡ true }
     ensures { IfOk result (λ t. t ≡ spelling oid) }
 {
-    let mut word = List::new(alloc);
-    put_spelling(oid, &mut word)?;
-    let mut bytes = List::new(alloc);
-    put_text(word.as_slice(), &mut bytes)?;
-    match text_in(alloc, bytes.as_slice()) {
-        Ok((text, _)) => Ok(text),
-        Err(_) => Err(NoMemory),
-    }
+    let word = word_of(alloc, oid)?;
+    let text = Text::of(alloc, word.as_str())?;
+    Ok(text.unwrap())
 }

@@ -19,7 +19,7 @@ loop-preserved c =
     let read = subst (λ (before : List Listing). (listing before).read c.loop.rest.now ≡ Ok (c.in_ok-entry.entry, c.in_ok-entry.after.now)) c.deref.ensures.value c.in_ok-entry.ensures in
     rw c.in_ok-push.ensures.items
     (goes_on listing after_listing c.loop.entries.items c.args.count c.loop.counter c.loop.entries.items (c.loop.entries.items ++ c.in_ok-entry.entry ∷ []) c.loop.rest.now c.in_ok-entry.entry c.in_ok-entry.after.now
-     (read_many listing after_listing c.args.count [] c.args.bytes.now) c.loop-test.true read refl c.loop.invariant)
+    (read_many listing after_listing c.args.count [] c.args.bytes.now) c.loop-test.true read refl c.loop.invariant)
 
 pub returns : goal.returns
 returns c =
