@@ -210,9 +210,9 @@ fn place(alloc: Global, at: usize, byte: u8) -> Option<usize> {
     load_place(alloc, &bytes)
 }
 
-// Whether the object is registered in that directory, and its floor.
-fn registered(alloc: Global, oid: Oid) -> Result<(bool, u64), Fail> {
-    match Directory::load(alloc, DIR, &TWO) {
+// Whether the object is registered in a saved directory, and its floor.
+fn registered(alloc: Global, bytes: &[u8], oid: Oid) -> Result<(bool, u64), Fail> {
+    match Directory::load(alloc, DIR, bytes) {
         Ok(directory) => Ok((directory.registered(oid), directory.floor())),
         Err(_) => Err("no directory".into()),
     }
@@ -227,8 +227,8 @@ fn load_place(alloc: Global, bytes: &[u8]) -> Option<usize> {
 
 #[test]
 fn a_directory_tells_what_it_lists(rt: HostRuntime) -> Result<(), Fail> {
-    assert_eq!(rt; registered(rt.alloc(), CTR)?, (true, 9));
-    assert_eq!(rt; registered(rt.alloc(), MAP)?, (false, 9));
+    assert_eq!(rt; registered(rt.alloc(), &TWO, CTR)?, (true, 9));
+    assert_eq!(rt; registered(rt.alloc(), &TWO, MAP)?, (false, 9));
     Ok(())
 }
 
