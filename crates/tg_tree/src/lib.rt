@@ -1,0 +1,9 @@
+//! Trees of paths.
+#![tactic(auto)]
+
+mod key;
+mod path;
+mod tree;
+
+pub use path::Path;
+pub use tree::{TreeAns, TreeAsk, TreeOp};
