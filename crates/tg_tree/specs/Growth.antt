@@ -1,5 +1,5 @@
 -- Nodes that stand behind their parents, as ops change them.
-use Rattle.std.specs.Prelude.{◌≡◌, ℕ, zero, suc, ◌+◌, Bool, true, false, ◌&&◌, ◌||◌, not, List, [], ◌∷◌, ◌++◌, length, filter, ◌≤◌, Option, Some, None, is_some, refl}
+use Rattle.std.specs.Prelude.{◌≡◌, ℕ, zero, suc, ◌+◌, ◌-◌, Bool, slice_get, true, false, ◌&&◌, ◌||◌, not, List, [], ◌∷◌, ◌++◌, length, filter, ◌≤◌, Option, Some, None, is_some, refl}
 use Rattle.std.specs.declared.cmp.Ordering.{Ordering}
 use Rattle.std.specs.declared.cmp.Ordering.TheVariants.{Less, Equal, Greater}
 use Rattle.std.specs.Ordering.{is_lt, is_eq, match_ordering, ordering_reverse}
@@ -13,7 +13,7 @@ use Rattle.tg_codec.specs.Codec.{fit_many}
 use Rattle.tg_codec.proofs.Laws.{and-left, and-right, both}
 use Rattle.tg_kind.specs.Words.{maybe}
 use Rattle.tg_kind.specs.Texts.{text_format}
-use Rattle.tg_tree.specs.Paths.{root, by_bytes, same, path_format, IsPath, parent}
+use Rattle.tg_tree.specs.Paths.{root, by_bytes, same, path_format, IsPath, parent, last_name}
 use Rattle.tg_tree.specs.PathLaws.{path_starts}
 use Rattle.tg_tree.specs.Trees.{Node, Nodes, is_there, is_child, has_child, is_next, node_format, after_node}
 use Rattle.tg_tree.specs.Orders.{same_is, same_itself, begins, begins_split, below, stem, child_below, is_within, within_begins, below_parts, parent_less}
@@ -373,3 +373,85 @@ are_paths before (n ∷ nodes) e = ((first_node before n nodes e).path, are_path
 pub paths_among : (test : Node → Bool) (nodes : Nodes) → ArePaths nodes → ArePaths (filter test nodes)
 paths_among test [] h = tt
 paths_among test (n ∷ nodes) h = elim (test n) as (λ b. ArePaths (cond b (n ∷ filter test nodes) (filter test nodes))) [ true ↦ (h.0, paths_among test nodes h.1) | false ↦ paths_among test nodes h.1 ]
+
+-- the last name of a path, where it is a child of another
+abbrev pub name_of : List ℕ → List ℕ → List (List ℕ)
+name_of p q = cond (is_child p q) (last_name q ∷ []) []
+
+-- ---- nodes read one after the other
+
+-- the paths of some nodes, the latest first, behind those before them
+abbrev pub back : List (List ℕ) → Nodes → List (List ℕ)
+back before [] = before
+back before (n ∷ nodes) = back (n.0 ∷ before) nodes
+
+pub back_more : (before : List (List ℕ)) (nodes : Nodes) (n : Node) → back before (nodes ++ n ∷ []) ≡ n.0 ∷ back before nodes
+back_more before [] n = refl
+back_more before (m ∷ nodes) n = back_more (m.0 ∷ before) nodes n
+
+or_none : (a : Bool) → (a || false) ≡ a
+or_none true = refl
+or_none false = refl
+
+some_is : (m n : Node) → Some m ≡ Some n → m ≡ n
+some_is m n e = cc
+
+or_three : (a b c : Bool) → ((a || b) || c) ≡ (b || (a || c))
+or_three true true c = refl
+or_three true false c = refl
+or_three false true c = refl
+or_three false false c = refl
+
+pub back_any : (before : List (List ℕ)) (nodes : Nodes) (p : List ℕ) → list_any (same p) (back before nodes) ≡ (list_any (same p) before || is_there nodes p)
+back_any before [] p = sym (or_none (list_any (same p) before))
+back_any before (n ∷ nodes) p =
+    back_any (n.0 ∷ before) nodes p ∙ or_three (same p n.0) (list_any (same p) before) (is_there nodes p) ∙ ap (λ b. list_any (same p) before || b) (sym (there_cons n nodes p))
+
+-- the latest path
+pub back_last : (before : List (List ℕ)) (nodes : Nodes) (n : Node) → slice_get nodes (length nodes - 1) ≡ Some n → (rest : List (List ℕ)) × (back before nodes ≡ n.0 ∷ rest)
+back_last before [] n e = absurd cc
+back_last before (m ∷ []) n e = let is : m ≡ n = some_is m n e in (before, ap (λ (k : Node). k.0 ∷ before) is)
+back_last before (m ∷ k ∷ nodes) n e =
+    let one : suc (suc (length nodes)) - 1 ≡ suc (suc (length nodes) - 1) = omega arith in
+    let at : slice_get (m ∷ k ∷ nodes) (suc (suc (length nodes) - 1)) ≡ Some n = subst (λ i. slice_get (m ∷ k ∷ nodes) i ≡ Some n) one e in
+    back_last (m.0 ∷ before) (k ∷ nodes) n at
+
+-- what comes after some nodes
+pub next_at : (nodes : Nodes) (n : Node) (p : List ℕ) → slice_get nodes (length nodes - 1) ≡ Some n → is_next (back [] nodes) p ≡ (is_lt (by_bytes n.0 p) && is_there nodes (parent p))
+next_at nodes n p e =
+    let b = back_last [] nodes n e in
+    let among : list_any (same (parent p)) (n.0 ∷ b.0) ≡ is_there nodes (parent p) = ap (λ (s : List (List ℕ)). list_any (same (parent p)) s) (sym b.1) ∙ back_any [] nodes (parent p) in
+    ap (λ (s : List (List ℕ)). is_next s p) b.1 ∙ ap (λ c. is_lt (by_bytes n.0 p) && c) among
+
+pub next_at_first : (nodes : Nodes) (p : List ℕ) → length nodes ≡ 0 → is_next (back [] nodes) p ≡ same root p
+next_at_first [] p e = refl
+next_at_first (n ∷ nodes) p e = absurd (omega (arith, e))
+
+-- each path is at most the last, which is below the new one: it comes last
+abbrev pub AllUpTo : List ℕ → Nodes → Type 0
+AllUpTo last [] = Unit {0}
+AllUpTo last (n ∷ nodes) = (is_lt (by_bytes last n.0) ≡ false) × AllUpTo last nodes
+
+not_up : (o : Ordering) → is_lt o ≡ false → (o ≡ Equal) ⊎ (o ≡ Greater)
+not_up Less e = absurd cc
+not_up Equal e = inl refl
+not_up Greater e = inr refl
+
+above : (last m p : List ℕ) → is_lt (by_bytes last m) ≡ false → by_bytes last p ≡ Less → by_bytes p m ≡ Greater
+above last m p e l =
+    let less : by_bytes m p ≡ Less = elim (not_up (by_bytes last m) e) [
+      | inl o ↦ let c = nat_list_cmp_total.congr last m p o in sym c ∙ l
+      | inr o ↦ nat_list_cmp_total.trans m last p (greater_back last m o) l
+    ] in
+    let a = nat_list_cmp_total.antisymm p m in
+    a ∙ rw less refl
+
+pub comes_last : (last : List ℕ) (nodes : Nodes) (p : List ℕ) (t : Option (List ℕ)) → AllUpTo last nodes → by_bytes last p ≡ Less → insert_entry by_bytes nodes p t ≡ nodes ++ (p, t) ∷ []
+comes_last last [] p t h l = refl
+comes_last last (n ∷ nodes) p t h l =
+    let o = above last n.0 p h.0 l in
+    ap (λ c. match_ordering c ((p, t) ∷ n ∷ nodes) ((n.0, t) ∷ nodes) (n ∷ insert_entry by_bytes nodes p t)) o ∙ ap (λ (ms : Nodes). n ∷ ms) (comes_last last nodes p t h.1 l)
+
+pub comes_first : (nodes : Nodes) (p : List ℕ) (t : Option (List ℕ)) → length nodes ≡ 0 → insert_entry by_bytes nodes p t ≡ nodes ++ (p, t) ∷ []
+comes_first [] p t e = refl
+comes_first (n ∷ nodes) p t e = absurd (omega (arith, e))

@@ -1,7 +1,7 @@
 -- The laws of paths.
-use Rattle.std.specs.Prelude.{◌≡◌, ℕ, zero, suc, ◌-◌, max, min, nat_le, nat_lt, ◌<◌, ◌≤◌, Bool, true, false, ◌==◌, ◌||◌, List, [], ◌∷◌, length, take, drop, refl, Ok}
+use Rattle.std.specs.Prelude.{◌≡◌, ℕ, zero, suc, ◌-◌, ◌+◌, max, min, nat_le, nat_lt, ◌<◌, ◌≤◌, Bool, true, false, ◌==◌, ◌||◌, List, [], ◌∷◌, length, take, drop, refl, Ok}
 use Rattle.std.specs.Str.{IsAscii, IsUtf8}
-use Rattle.std.proofs.Common.{arith, ap, sym, subst, cond, eqb}
+use Rattle.std.proofs.Common.{get_or-drop, arith, ap, sym, subst, cond, eqb}
 use Rattle.std.proofs.lemmas.Bool.{le-leb, lt-ltb, eqb-true}
 use Rattle.std.proofs.lemmas.Bool.Decides.{nat_tests}
 use Rattle.std.proofs.lemmas.List.{length-drop}
@@ -180,3 +180,6 @@ was_path bytes len rest path after fits e f =
     let body : (path_body (length path)).fits path ≡ true = subst (λ n. (path_body n).fits path ≡ true) (sym same_len) u.1 in
     let is : IsPath path = both _ _ front body in
     record { fits = is; utf8 = path_utf8 path is }
+
+pub last_name_utf8 : (p : List ℕ) → IsPath p → IsUtf8 (last_name p)
+last_name_utf8 p e = let ascii = is_ascii 0 p (path_fits p e) in IsUtf8-from_ascii (last_name p) (λ i. rw get_or-drop (ascii (suc (last_slash p) + i)))

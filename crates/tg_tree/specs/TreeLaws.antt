@@ -11,7 +11,7 @@ use Rattle.std.proofs.lemmas.Bool.{le-leb, lt-ltb, leb-false, ltb-true}
 use Rattle.std.proofs.lemmas.Map.{length-set_value}
 use Rattle.tg_base.specs.declared.ids.Oid.{Oid}
 use Rattle.tg_base.specs.declared.marks.Part.TheVariants as parts
-use Rattle.tg_codec.specs.Codec.{u32, variant, fit_many}
+use Rattle.tg_codec.specs.Codec.{u32, variant, fixed, fit_many}
 use Rattle.tg_codec.proofs.Laws.{IsExact, IsCodec, via_exact, dep_exact, fixed_law, only_if_exact, variant_law, dep_law, no_front, and-left, and-right, both}
 use Rattle.tg_codec.proofs.Shapes.{behind_many_exact, tagged_law, IsTable, table_law, table_tag, met_within}
 use Rattle.tg_codec.proofs.Widths.{u32_law}
@@ -105,6 +105,18 @@ delete_fits p e = e
 
 -- ---- states
 
+-- a tree at first
+pub first_fits : state_format.fits ((root, None) ∷ []) ≡ true
+unfolding fit_many
+first_fits = refl
+
+-- what was read for a tree
+pub was_tree : (bytes rest : List ℕ) (nodes : Nodes) (after : List ℕ) (u : Unit {0}) → IsBytes bytes → (fixed (5 ∷ [])).read bytes ≡ Ok (u, rest) → nodes_format.read rest ≡ Ok (nodes, after) → state_format.fits nodes ≡ true
+was_tree bytes rest nodes after u fits e f =
+    let t = (fixed_law (5 ∷ [])).exact.takes bytes u rest fits e in
+    let v = nodes_exact.takes rest nodes after t.0.rest_fits f in
+    v.1
+
 pub first_is : (o : Oid) (os : List Oid) → is_object o ≡ true → is_header os ≡ true → is_state o (first o os) ≡ true
 unfolding fit_many
 first_is o os e h = both _ _ e refl
@@ -177,7 +189,7 @@ not_the_root (n ∷ nodes) p le e new =
     let apart : same p n.0 ≡ false = nor_left _ _ (sym (there_cons n nodes p) ∙ new) in
     same_turned root p (subst (λ (x : List ℕ). same p x ≡ false) (sym is) apart)
 
-created_is : (s : Nodes) (p t : List ℕ) → state_format.fits s ≡ true → IsPath p → text_format.fits t ≡ true → state_format.fits (created s p t) ≡ true
+pub created_is : (s : Nodes) (p t : List ℕ) → state_format.fits s ≡ true → IsPath p → text_format.fits t ≡ true → state_format.fits (created s p t) ≡ true
 created_is s p t e is fits =
     choice_is ((is_there s p || not (is_there s (parent p))) || is_full s) s (insert_entry by_bytes s p (Some t)) e (λ f.
         let new : is_there s p ≡ false = nor_left _ _ (nor_left _ _ f) in
@@ -189,13 +201,13 @@ created_is s p t e is fits =
         is_grown (insert_entry by_bytes s p (Some t)) size.0 (omega (arith, size.1, room))
         (insert_grown [] s p (Some t) is (not_the_root s p count.0 grown new) fits tt parent_is new grown))
 
-stored_is : (s : Nodes) (p t : List ℕ) → state_format.fits s ≡ true → text_format.fits t ≡ true → state_format.fits (stored s p t) ≡ true
+pub stored_is : (s : Nodes) (p t : List ℕ) → state_format.fits s ≡ true → text_format.fits t ≡ true → state_format.fits (stored s p t) ≡ true
 stored_is s p t e fits =
     let count = count_is s e in
     let size = length-set_value (same p) s (Some t) in
     is_grown (set_value (same p) s (Some t)) (omega (arith, size, count.0)) (omega (arith, size, count.1)) (stored_grown [] s p (Some t) fits (grown_is s e))
 
-deleted_is : (s : Nodes) (p : List ℕ) → state_format.fits s ≡ true → state_format.fits (deleted s p) ≡ true
+pub deleted_is : (s : Nodes) (p : List ℕ) → state_format.fits s ≡ true → state_format.fits (deleted s p) ≡ true
 deleted_is s p e =
     choice_is (same root p || has_child s p) s (remove_entry (same p) s) e (λ f.
         let other : same root p ≡ false = nor_left _ _ f in

@@ -1,14 +1,15 @@
 //! Bytes in the order of paths.
 
-ghost use Rattle.std.specs.Prelude.{◌≡◌, ◌++◌, ◌∷◌, [], true, IfOk};
+ghost use Rattle.std.specs.Prelude.{◌≡◌, ◌++◌, ◌∷◌, ◌<◌, [], true, length, IfOk};
 ghost use Rattle.std.specs.declared.option.Option.TheVariants.{Some};
 ghost use Rattle.std.specs.Cmp.Lexicographic.{pointwise, slice_cmp, nat_list_eq_equiv, nat_list_cmp_total, texts_ties, texts_po};
-ghost use Rattle.std.specs.Ordering.{nat_cmp};
+ghost use Rattle.std.specs.Ordering.{nat_cmp, is_lt};
 ghost use Rattle.std.specs.Prelude.{nat_eq, refl};
-ghost use Rattle.tg_tree.specs.Paths.{root, same, parent, last_slash};
+ghost use Rattle.tg_tree.specs.Paths.{root, by_bytes, same, parent, last_slash, last_name};
 ghost use Rattle.tg_tree.specs.Orders.{stem};
 
 use crate::path::Path;
+use std::alloc::Global;
 use std::cmp::Ordering;
 use std::marker::Model;
 use tg_base::NoMemory;
@@ -69,7 +70,8 @@ impl Ord for Key {
 
 /// The place of the last slash of bytes that begin with one.
 pub fn last_slash(bytes: &[u8]) -> usize
-    ensures { result ≡ last_slash bytes.now }
+    ensures place { result ≡ last_slash bytes.now }
+    ensures within { 0 < length bytes.now → result < length bytes.now }
 {
     let mut last = 0;
     for (place, byte) in bytes.iter().enumerate() {
@@ -88,6 +90,15 @@ impl Key {
         Key {
             bytes: path.into_bytes(),
         }
+    }
+
+    /// The bytes of the root. An `Err` is want of memory.
+    pub fn root(alloc: Global) -> Result<Key, NoMemory>
+        ensures { IfOk result (λ k. k ≡ root) }
+    {
+        Ok(Key {
+            bytes: Vec::from_slice(alloc, b"/")?,
+        })
     }
 
     /// An equal key. An `Err` is want of memory.
@@ -122,6 +133,41 @@ impl Key {
         let last = last_slash(bytes.as_slice());
         bytes.truncate(last.max(1));
         Key { bytes }
+    }
+
+    /// The bytes of a path's parent. It takes no memory.
+    pub fn parent_slice(&self) -> &[u8]
+        ensures { result.now ≡ parent self.now }
+    {
+        let bytes = self.bytes.as_slice();
+        let last = last_slash(bytes).max(1);
+        if bytes.len() <= last {
+            return bytes;
+        }
+        &bytes[..last]
+    }
+
+    /// What stands behind a path's last slash. It takes no memory.
+    pub fn name_slice(&self) -> &[u8]
+        requires { 0 < length self.now }
+        ensures { result.now ≡ last_name self.now }
+    {
+        let bytes = self.bytes.as_slice();
+        &bytes[last_slash(bytes) + 1..]
+    }
+
+    /// Whether these bytes are below others. It takes no memory.
+    pub fn is_below(&self, other: &Key) -> bool
+        ensures { result ≡ is_lt (by_bytes self.now other.now) }
+    {
+        self.cmp(other).is_lt()
+    }
+
+    /// Whether these are the bytes. It takes no memory.
+    pub fn is(&self, bytes: &[u8]) -> bool
+        ensures { result ≡ same self.now bytes.now }
+    {
+        self.bytes.as_slice().cmp(bytes) == Ordering::Equal
     }
 
     /// A path's bytes but for the root's slash. It takes no memory.

@@ -2,8 +2,12 @@
 #![tactic(auto)]
 
 mod key;
+mod nodes;
 mod path;
 mod tree;
 
 pub use path::Path;
-pub use tree::{TreeAns, TreeAsk, TreeOp};
+pub use tree::{Tree, TreeAns, TreeAsk, TreeOp};
+
+#[cfg(test)]
+mod tests;
