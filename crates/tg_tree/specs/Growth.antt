@@ -455,3 +455,38 @@ comes_last last (n ∷ nodes) p t h l =
 pub comes_first : (nodes : Nodes) (p : List ℕ) (t : Option (List ℕ)) → length nodes ≡ 0 → insert_entry by_bytes nodes p t ≡ nodes ++ (p, t) ∷ []
 comes_first [] p t e = refl
 comes_first (n ∷ nodes) p t e = absurd (omega (arith, e))
+
+-- ---- parents
+
+-- the parent of the root is the root
+root_parent : (p : List ℕ) → same root p ≡ true → parent p ≡ p
+root_parent p e = let is : root ≡ p = same_is root p e in subst (λ (x : List ℕ). parent x ≡ x) is refl
+
+or_back : (a b c : Bool) → ((b || a) || c) ≡ true → (a || (b || c)) ≡ true
+or_back true b c e = refl
+or_back false true c e = refl
+or_back false false c e = e
+
+parent_before : (before : List (List ℕ)) (n : Node) (nodes : Nodes) → IsNode before n → (list_any (same (parent n.0)) before || (same (parent n.0) n.0 || is_there nodes (parent n.0))) ≡ true
+parent_before [] n nodes i =
+    let is = root_parent n.0 i.next in
+    let here : same (parent n.0) n.0 ≡ true = subst (λ (x : List ℕ). same x n.0 ≡ true) (sym is) (same_itself n.0) in
+    or_left (same (parent n.0) n.0) _ here
+parent_before (q ∷ before) n nodes i = or_left (list_any (same (parent n.0)) (q ∷ before)) _ (next_parent q before n.0 i.next)
+
+-- the parent of each path that is there is among the paths before, or is there
+among : (before : List (List ℕ)) (nodes : Nodes) (p : List ℕ) → Grown before nodes → is_there nodes p ≡ true → (list_any (same (parent p)) before || is_there nodes (parent p)) ≡ true
+among before [] p e there = absurd cc
+among before (n ∷ nodes) p e there =
+    let i = first_node before n nodes e in
+    let here = sym (there_cons n nodes p) ∙ there in
+    let goal = λ (b : Bool). (list_any (same (parent p)) before || b) ≡ true in
+    subst goal (sym (there_cons n nodes (parent p))) (elim (same p n.0) as (λ b. same p n.0 ≡ b → (list_any (same (parent p)) before || (same (parent p) n.0 || is_there nodes (parent p))) ≡ true) [
+      | true ↦ λ b. let is : p ≡ n.0 = same_is p n.0 b in subst (λ (x : List ℕ). (list_any (same (parent x)) before || (same (parent x) n.0 || is_there nodes (parent x))) ≡ true) (sym is) (parent_before before n nodes i)
+      | false ↦ λ b. or_back (list_any (same (parent p)) before) (same (parent p) n.0) (is_there nodes (parent p)) (among (n.0 ∷ before) nodes p (other_nodes before n nodes e) (or_rest _ _ b here))
+    ] refl)
+
+pub parent_among : (before : List (List ℕ)) (nodes : Nodes) (p : List ℕ) → Grown before nodes → is_there nodes p ≡ true → before ≡ [] → is_there nodes (parent p) ≡ true
+parent_among before nodes p e there none =
+    let a = among before nodes p e there in
+    subst (λ (s : List (List ℕ)). (list_any (same (parent p)) s || is_there nodes (parent p)) ≡ true) none a

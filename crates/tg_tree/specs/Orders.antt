@@ -163,7 +163,7 @@ below_parent b rest is =
           let m = max_suc (last_slash rest) in
           let first : begins root (b ∷ rest) ≡ true = rw is refl in
           let whole : begins ((b ∷ take (last_slash rest) rest) ++ 47 ∷ []) (b ∷ rest) ≡ true =
-              subst (λ (l : List ℕ). begins ((b ∷ take (last_slash rest) rest) ++ 47 ∷ []) (b ∷ l) ≡ true) (sym t.1) (begins_at (b ∷ take (last_slash rest) rest) t.0) in
+          subst (λ (l : List ℕ). begins ((b ∷ take (last_slash rest) rest) ++ 47 ∷ []) (b ∷ l) ≡ true) (sym t.1) (begins_at (b ∷ take (last_slash rest) rest) t.0) in
           rw m (begins_cond (same root (b ∷ take (last_slash rest) rest)) root ((b ∷ take (last_slash rest) rest) ++ 47 ∷ []) (b ∷ rest) first whole)
       | false ↦ λ k. rw is refl
     ] refl

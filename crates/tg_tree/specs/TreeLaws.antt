@@ -23,7 +23,7 @@ use Rattle.tg_kind.specs.Texts.{text_format, text_law}
 use Rattle.tg_tree.specs.Paths.{root, by_bytes, same, path_format, IsPath, parent}
 use Rattle.tg_tree.specs.PathLaws.{path_law}
 use Rattle.tg_tree.specs.Orders.{same_is}
-use Rattle.tg_tree.specs.Growth.{Grown, first_node, insert_grown, stored_grown, removed_grown, not_both, there_cons, same_turned}
+use Rattle.tg_tree.specs.Growth.{Grown, first_node, insert_grown, stored_grown, removed_grown, parent_among, not_both, there_cons, same_turned}
 use Rattle.tg_tree.specs.Trees.{Node, Nodes, is_object, is_state, is_of, is_there, has_child, is_next, is_full, node_format, after_node, nodes_format, state_format, first, created, stored, deleted, applied, held, answered, touched, looked, saved, loaded, path_and_text, as_create, as_store, as_delete, code_of, op_bodies, op_format}
 use Rattle.tg_tree.specs.declared.tree.TreeOp.{TreeOp}
 use Rattle.tg_tree.specs.declared.tree.TreeOp.TheVariants.{Create, Store, Delete}
@@ -84,10 +84,13 @@ pair_law : IsCodec path_and_text
 pair_law = dep_law path_law (λ _. text_law)
 
 is_table : IsTable code_of op_bodies
-is_table =
-    ((variant_law (λ x. Create x.0 x.1) as_create pair_law (λ p. refl) create_forth, create_code)
-    , ((variant_law (λ x. Store x.0 x.1) as_store pair_law (λ p. refl) store_forth, store_code)
-    , ((variant_law Delete as_delete path_law (λ p. refl) delete_forth, delete_code), tt)))
+is_table = (
+  (variant_law (λ x. Create x.0 x.1) as_create pair_law (λ p. refl) create_forth, create_code),
+  (
+    (variant_law (λ x. Store x.0 x.1) as_store pair_law (λ p. refl) store_forth, store_code),
+    ((variant_law Delete as_delete path_law (λ p. refl) delete_forth, delete_code), tt),
+  ),
+)
 
 pub op_law : IsCodec op_format
 op_law = tagged_law ((0x50, 0x52) ∷ []) code_of _ (table_law code_of op_bodies is_table) (λ t x m e. table_tag code_of op_bodies is_table t x e)
@@ -161,6 +164,12 @@ root_stays (n ∷ nodes) p le other e =
       | false ↦ λ b. omega arith
     ] refl
 
+room_for : (n m : ℕ) → m ≤ suc n → n < 2 ^ 32 - 1 → m ≤ 2 ^ 32 - 1
+room_for n m le lt = omega (arith, le, lt)
+
+no_more : (n m : ℕ) → m ≤ n → n ≤ 2 ^ 32 - 1 → m ≤ 2 ^ 32 - 1
+no_more n m le few = omega (arith, le, few)
+
 choice_is : (b : Bool) (s u : Nodes) → state_format.fits s ≡ true → (b ≡ false → state_format.fits u ≡ true) → state_format.fits (cond b s u) ≡ true
 choice_is true s u e h = e
 choice_is false s u e h = h refl
@@ -192,14 +201,14 @@ not_the_root (n ∷ nodes) p le e new =
 pub created_is : (s : Nodes) (p t : List ℕ) → state_format.fits s ≡ true → IsPath p → text_format.fits t ≡ true → state_format.fits (created s p t) ≡ true
 created_is s p t e is fits =
     choice_is ((is_there s p || not (is_there s (parent p))) || is_full s) s (insert_entry by_bytes s p (Some t)) e (λ f.
-        let new : is_there s p ≡ false = nor_left _ _ (nor_left _ _ f) in
-        let parent_is : is_there s (parent p) ≡ true = not_false_is _ (nor_right _ _ (nor_left _ _ f)) in
-        let room : length s < 2 ^ 32 - 1 = leb-false _ _ (nor_right _ _ f) in
-        let count = count_is s e in
-        let grown = grown_is s e in
-        let size = insert_length s p (Some t) in
-        is_grown (insert_entry by_bytes s p (Some t)) size.0 (omega (arith, size.1, room))
-        (insert_grown [] s p (Some t) is (not_the_root s p count.0 grown new) fits tt parent_is new grown))
+    let new : is_there s p ≡ false = nor_left _ _ (nor_left _ _ f) in
+    let parent_is : is_there s (parent p) ≡ true = not_false_is _ (nor_right _ _ (nor_left _ _ f)) in
+    let room : length s < 2 ^ 32 - 1 = leb-false _ _ (nor_right _ _ f) in
+    let count = count_is s e in
+    let grown = grown_is s e in
+    let size = insert_length s p (Some t) in
+    is_grown (insert_entry by_bytes s p (Some t)) size.0 (room_for (length s) _ size.1 room)
+    (insert_grown [] s p (Some t) is (not_the_root s p count.0 grown new) fits tt parent_is new grown))
 
 pub stored_is : (s : Nodes) (p t : List ℕ) → state_format.fits s ≡ true → text_format.fits t ≡ true → state_format.fits (stored s p t) ≡ true
 stored_is s p t e fits =
@@ -210,16 +219,25 @@ stored_is s p t e fits =
 pub deleted_is : (s : Nodes) (p : List ℕ) → state_format.fits s ≡ true → state_format.fits (deleted s p) ≡ true
 deleted_is s p e =
     choice_is (same root p || has_child s p) s (remove_entry (same p) s) e (λ f.
-        let other : same root p ≡ false = nor_left _ _ f in
-        let none : has_child s p ≡ false = nor_right _ _ f in
-        let count = count_is s e in
-        let grown = grown_is s e in
-        is_grown (remove_entry (same p) s) (root_stays s p count.0 other grown) (omega (arith, remove_length s p, count.1)) (removed_grown p [] s other none grown))
+    let other : same root p ≡ false = nor_left _ _ f in
+    let none : has_child s p ≡ false = nor_right _ _ f in
+    let count = count_is s e in
+    let grown = grown_is s e in
+    is_grown (remove_entry (same p) s) (root_stays s p count.0 other grown) (no_more (length s) _ (remove_length s p) count.1) (removed_grown p [] s other none grown))
 
 pub changed_is : (s : Nodes) (op : TreeOp) → state_format.fits s ≡ true → op_format.fits op ≡ true → state_format.fits (applied s op) ≡ true
 changed_is s (Create p t) e f = let g : (path_format.fits p && text_format.fits t) ≡ true = f in created_is s p t e (and-left _ _ g) (and-right _ _ g)
 changed_is s (Store p t) e f = let g : (path_format.fits p && text_format.fits t) ≡ true = f in stored_is s p t e (and-right _ _ g)
 changed_is s (Delete p) e f = deleted_is s p e
+
+-- the root is there
+pub root_is_there : (s : Nodes) → state_format.fits s ≡ true → is_there s root ≡ true
+root_is_there [] e = let count = count_is [] e in absurd (omega (arith, count.0))
+root_is_there (n ∷ nodes) e = there_cons n nodes root ∙ ap (λ b. b || is_there nodes root) (first_node [] n nodes (grown_is (n ∷ nodes) e)).next
+
+-- the parent of each path that is there is there
+pub parent_is_there : (s : Nodes) (p : List ℕ) → state_format.fits s ≡ true → is_there s p ≡ true → is_there s (parent p) ≡ true
+parent_is_there s p e there = parent_among [] s p (grown_is s e) there refl
 
 pub applied_is : (o : Oid) (s : Nodes) (op : TreeOp) → is_state o s ≡ true → op_format.fits op ≡ true → is_state o (applied s op) ≡ true
 applied_is o s op e f = both _ _ (and-left _ _ e) (changed_is s op (and-right _ _ e) f)

@@ -116,12 +116,7 @@ fn last_name(alloc: Global, key: &Key) -> Result<Text, NoMemory>
 }
 
 // Puts the last name of a path last, where the path is a child of another. An `Err` is want of memory.
-fn put_name(
-    alloc: Global,
-    parent: &Key,
-    key: &Key,
-    names: &mut List<Text>,
-) -> Result<(), NoMemory>
+fn put_name(alloc: Global, parent: &Key, key: &Key, names: &mut List<Text>) -> Result<(), NoMemory>
     requires { IsPath key.now }
     ensures { OnOk result (names.new ≡ names.old ++ name_of parent.now key.now) }
 {
@@ -234,11 +229,7 @@ fn is_next(nodes: &Nodes, key: &Key) -> Result<bool, NoMemory>
 }
 
 // The path of a node after some nodes.
-fn key_in<'a>(
-    alloc: Global,
-    nodes: &Nodes,
-    bytes: &'a [u8],
-) -> Result<(Key, &'a [u8]), ReadFault>
+fn key_in<'a>(alloc: Global, nodes: &Nodes, bytes: &'a [u8]) -> Result<(Key, &'a [u8]), ReadFault>
     ensures exact { Gives (λ x. (x.0, x.1.now)) result ((only_if (is_next (back [] nodes.now.entries)) path_format).read bytes.now) }
     ensures last { IfOk result (λ x. (t : Option (List ℕ)) → insert_entry by_bytes nodes.now.entries x.0 t ≡ nodes.now.entries ++ (x.0, t) ∷ []) }
 {
@@ -342,6 +333,14 @@ pub fn put_nodes(nodes: &Nodes, out: &mut List<u8>) -> Result<(), NoMemory>
 
 // ---- copies
 
+// Puts a copy of a node. An `Err` is want of memory.
+fn put_copy(nodes: &mut Nodes, key: &Key, held: &Option<Text>) -> Result<(), NoMemory>
+    ensures { OnOk result (nodes.new.entries ≡ insert_entry by_bytes nodes.old.entries key.now held.now) }
+{
+    nodes.insert(key.copy()?, copy_held(held)?)?;
+    Ok(())
+}
+
 /// Equal nodes. An `Err` is want of memory.
 pub fn copied(alloc: Global, nodes: &Nodes) -> Result<Nodes, NoMemory>
     requires { Grown [] nodes.now.entries }
@@ -349,7 +348,7 @@ pub fn copied(alloc: Global, nodes: &Nodes) -> Result<Nodes, NoMemory>
 {
     let mut copy = BTreeMap::new(alloc);
     for (key, held) in nodes {
-        copy.insert(key.copy()?, copy_held(held)?)?;
+        put_copy(&mut copy, key, held)?;
     }
     Ok(copy)
 }

@@ -124,6 +124,22 @@ fn ops_change_a_tree(rt: HostRuntime) -> Result<(), Fail> {
     Ok(())
 }
 
+#[test]
+fn a_text_has_up_to_4096_bytes(rt: HostRuntime) -> Result<(), Fail> {
+    let alloc = rt.alloc();
+    let mut word = String::new(alloc);
+    for _ in 0..4096 {
+        word.push('b').map_err(|_| "memory")?;
+    }
+    let fresh = Tree::fresh(alloc, TREE, &[]).map_err(|_| "memory")?;
+    let tree = store(alloc, fresh, "/", word.as_str())?;
+    let bytes = tree.save(alloc).map_err(|_| "memory")?;
+    assert_eq!(rt; bytes.len(), 4107);
+    let tree = Tree::load(alloc, TREE, bytes.as_slice()).map_err(|_| "a tree")?;
+    assert!(rt; holds(alloc, &tree, "/", word.as_str())?);
+    Ok(())
+}
+
 // Where a load stops, if it does.
 fn place(alloc: Global, bytes: &[u8]) -> Option<usize> {
     match Tree::load(alloc, TREE, bytes) {
@@ -144,14 +160,48 @@ fn a_tree_is_saved_and_loaded(rt: HostRuntime) -> Result<(), Fail> {
     // another tag, no node, no root
     assert_eq!(rt; place(alloc, &[2, 0, 0, 0, 1]), Some(0));
     assert_eq!(rt; place(alloc, &[5, 0, 0, 0, 0]), Some(4));
-    assert_eq!(rt; place(alloc, &[5, 0, 0, 0, 1, 0, 2, b'/', b'a', 0]), Some(5));
+    assert_eq!(rt;
+        place(alloc, &[5, 0, 0, 0, 1, 0, 2, b'/', b'a', 0]),
+        Some(5)
+    );
     // a doubled path, a path below the one before, a path without its parent
-    assert_eq!(rt; place(alloc, &[5, 0, 0, 0, 2, 0, 1, b'/', 0, 0, 1, b'/', 0]), Some(9));
-    assert_eq!(rt; place(alloc, &[5, 0, 0, 0, 3, 0, 1, b'/', 0, 0, 2, b'/', b'b', 0, 0, 2, b'/', b'a', 0]), Some(14));
-    assert_eq!(rt; place(alloc, &[5, 0, 0, 0, 2, 0, 1, b'/', 0, 0, 4, b'/', b'a', b'/', b'b', 0]), Some(9));
+    assert_eq!(rt;
+        place(alloc, &[5, 0, 0, 0, 2, 0, 1, b'/', 0, 0, 1, b'/', 0]),
+        Some(9)
+    );
+    assert_eq!(rt;
+        place(
+            alloc,
+            &[
+                5, 0, 0, 0, 3, 0, 1, b'/', 0, 0, 2, b'/', b'b', 0, 0, 2, b'/', b'a', 0
+            ]
+        ),
+        Some(14)
+    );
+    assert_eq!(rt;
+        place(
+            alloc,
+            &[
+                5, 0, 0, 0, 2, 0, 1, b'/', 0, 0, 4, b'/', b'a', b'/', b'b', 0
+            ]
+        ),
+        Some(9)
+    );
     // a slash behind a slash, and one at the end
-    assert_eq!(rt; place(alloc, &[5, 0, 0, 0, 2, 0, 1, b'/', 0, 0, 3, b'/', b'/', b'a', 0]), Some(12));
-    assert_eq!(rt; place(alloc, &[5, 0, 0, 0, 2, 0, 1, b'/', 0, 0, 3, b'/', b'a', b'/', 0]), Some(13));
+    assert_eq!(rt;
+        place(
+            alloc,
+            &[5, 0, 0, 0, 2, 0, 1, b'/', 0, 0, 3, b'/', b'/', b'a', 0]
+        ),
+        Some(12)
+    );
+    assert_eq!(rt;
+        place(
+            alloc,
+            &[5, 0, 0, 0, 2, 0, 1, b'/', 0, 0, 3, b'/', b'a', b'/', 0]
+        ),
+        Some(13)
+    );
     Ok(())
 }
 
