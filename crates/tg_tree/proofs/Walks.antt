@@ -1,9 +1,9 @@
 -- Nodes of a tree, one after the other.
-use Rattle.std.proofs.Common.{◌≡◌, ℕ, suc, ◌+◌, ◌-◌, ◌<◌, ◌≤◌, Bool, true, false, cond, ◌&&◌, ◌||◌, not, List, [], ◌∷◌, ◌++◌, length, map, filter, drop, Option, Some, None, Ok, refl, sym, ap, subst, ◌∙◌, append_assoc, append-nil, arith}
+use Rattle.std.proofs.Common.{◌≡◌, ℕ, ◌<◌, ◌≤◌, Bool, true, false, cond, ◌||◌, List, [], ◌∷◌, ◌++◌, length, map, filter, Option, Some, None, refl, sym, ap, subst, ◌∙◌, append_assoc, append-nil, arith}
 use Rattle.std.specs.declared.cmp.Ordering.TheVariants.{Less, Equal, Greater}
 use Rattle.std.specs.declared.cmp.Ordering.{Ordering}
 use Rattle.std.specs.Prelude.{is_some}
-use Rattle.std.specs.Ordering.{is_lt, is_gt, is_le, match_ordering}
+use Rattle.std.specs.Ordering.{is_lt, match_ordering}
 use Rattle.std.specs.Cmp.Lexicographic.{nat_list_cmp_total}
 use Rattle.std.specs.List.{list_any, All, AllByRecursion}
 use Rattle.std.specs.Map.{lookup, set_value, keys_of}
@@ -12,8 +12,8 @@ use Rattle.std.specs.Map.Iter.{TakesFirst}
 use Rattle.std.specs.BTreeMap.{insert_entry}
 use Rattle.tg_codec.specs.Codec.{spell_many}
 use Rattle.tg_kind.specs.Words.{maybe}
-use Rattle.tg_kind.specs.Texts.{text_format, IsText}
-use Rattle.tg_tree.specs.Paths.{root, by_bytes, same, path_format, IsPath, last_name, last_slash}
+use Rattle.tg_kind.specs.Texts.{text_format}
+use Rattle.tg_tree.specs.Paths.{root, by_bytes, same, path_format, last_name, last_slash}
 use Rattle.tg_tree.specs.Orders.{stem, begins, is_within, within_begins, last_slash_within}
 use Rattle.tg_tree.specs.Growth.{Grown, first_node, other_nodes, next_rises, child_is_below, children_within, name_of, AllUpTo}
 use Rattle.tg_tree.specs.Trees.{Node, Nodes, is_child, has_child, node_format, after_node}

@@ -1,8 +1,8 @@
 -- Nodes that stand behind their parents, as ops change them.
-use Rattle.std.specs.Prelude.{◌≡◌, ℕ, zero, suc, ◌+◌, ◌-◌, Bool, slice_get, true, false, ◌&&◌, ◌||◌, not, List, [], ◌∷◌, ◌++◌, length, filter, ◌≤◌, Option, Some, None, is_some, refl}
+use Rattle.std.specs.Prelude.{◌≡◌, ℕ, suc, ◌-◌, Bool, slice_get, true, false, ◌&&◌, ◌||◌, not, List, [], ◌∷◌, ◌++◌, length, filter, ◌≤◌, Option, Some, is_some, refl}
 use Rattle.std.specs.declared.cmp.Ordering.{Ordering}
 use Rattle.std.specs.declared.cmp.Ordering.TheVariants.{Less, Equal, Greater}
-use Rattle.std.specs.Ordering.{is_lt, is_eq, match_ordering, ordering_reverse}
+use Rattle.std.specs.Ordering.{is_lt, is_eq, match_ordering}
 use Rattle.std.specs.Cmp.Lexicographic.{nat_list_cmp_total}
 use Rattle.std.specs.List.{list_any}
 use Rattle.std.specs.Map.{lookup, set_value, remove_entry}
@@ -13,7 +13,7 @@ use Rattle.tg_codec.specs.Codec.{fit_many}
 use Rattle.tg_codec.proofs.Laws.{and-left, and-right, both}
 use Rattle.tg_kind.specs.Words.{maybe}
 use Rattle.tg_kind.specs.Texts.{text_format}
-use Rattle.tg_tree.specs.Paths.{root, by_bytes, same, path_format, IsPath, parent, last_name}
+use Rattle.tg_tree.specs.Paths.{root, by_bytes, same, IsPath, parent, last_name}
 use Rattle.tg_tree.specs.PathLaws.{path_starts}
 use Rattle.tg_tree.specs.Trees.{Node, Nodes, is_there, is_child, has_child, is_next, node_format, after_node}
 use Rattle.tg_tree.specs.Orders.{same_is, same_itself, begins, begins_split, below, stem, child_below, is_within, within_begins, below_parts, parent_less}

@@ -1,13 +1,13 @@
 -- The laws of paths.
-use Rattle.std.specs.Prelude.{◌≡◌, ℕ, zero, suc, ◌-◌, ◌+◌, max, min, nat_le, nat_lt, ◌<◌, ◌≤◌, Bool, true, false, ◌==◌, ◌||◌, List, [], ◌∷◌, length, take, drop, refl, Ok}
+use Rattle.std.specs.Prelude.{◌≡◌, ℕ, zero, suc, ◌-◌, ◌+◌, max, min, nat_le, nat_lt, ◌<◌, ◌≤◌, Bool, true, false, ◌||◌, List, [], ◌∷◌, length, drop, refl, Ok}
 use Rattle.std.specs.Str.{IsAscii, IsUtf8}
 use Rattle.std.proofs.Common.{get_or-drop, arith, ap, sym, subst, cond, eqb}
 use Rattle.std.proofs.lemmas.Bool.{le-leb, lt-ltb, eqb-true}
 use Rattle.std.proofs.lemmas.Bool.Decides.{nat_tests}
 use Rattle.std.proofs.lemmas.List.{length-drop}
 use Rattle.std.proofs.lemmas.Str.{IsUtf8-from_ascii}
-use Rattle.tg_codec.specs.Codec.{Codec, u8, u16, many, spell_many, fit_many}
-use Rattle.tg_codec.specs.Bounds.{same_ranges, raw_in}
+use Rattle.tg_codec.specs.Codec.{u8, u16, many, spell_many, fit_many}
+use Rattle.tg_codec.specs.Bounds.{same_ranges}
 use Rattle.tg_codec.proofs.Laws.{IsBytes, IsCodec, and-left, and-right, both, many_law, alike_law, length-fit_many}
 use Rattle.tg_codec.proofs.Shapes.{behind_law, met_within}
 use Rattle.tg_codec.proofs.Widths.{u8_law, u16_law}

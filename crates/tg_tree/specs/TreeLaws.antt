@@ -1,6 +1,5 @@
 -- The laws of trees.
-use Rattle.std.specs.Prelude.{◌≡◌, ℕ, suc, ◌+◌, ◌<◌, ◌≤◌, ◌^◌, ◌-◌, max, min, Bool, true, false, ◌&&◌, ◌||◌, ◌==◌, not, nat_le, nat_lt, List, [], ◌∷◌, ◌++◌, length, Option, Some, None, is_some, Ok, refl}
-use Rattle.std.specs.declared.cmp.Ordering.{Ordering}
+use Rattle.std.specs.Prelude.{◌≡◌, ℕ, suc, ◌<◌, ◌≤◌, ◌^◌, ◌-◌, max, min, Bool, true, false, ◌&&◌, ◌||◌, ◌==◌, not, nat_le, nat_lt, List, [], ◌∷◌, ◌++◌, length, Option, Some, None, is_some, Ok, refl}
 use Rattle.std.specs.declared.cmp.Ordering.TheVariants.{Less, Equal, Greater}
 use Rattle.std.specs.Ordering.{match_ordering}
 use Rattle.std.specs.Cmp.Lexicographic.{pointwise}
@@ -8,12 +7,14 @@ use Rattle.std.specs.Map.{lookup, set_value, remove_entry}
 use Rattle.std.specs.BTreeMap.{insert_entry}
 use Rattle.std.proofs.Common.{arith, ap, sym, subst, cond, eqb, ◌∙◌}
 use Rattle.std.proofs.lemmas.Bool.{le-leb, lt-ltb, leb-false, ltb-true}
+use Rattle.std.proofs.lemmas.Bool.Decides.{nat_tests}
 use Rattle.std.proofs.lemmas.Map.{length-set_value}
 use Rattle.tg_base.specs.declared.ids.Oid.{Oid}
 use Rattle.tg_base.specs.declared.marks.Part.TheVariants as parts
-use Rattle.tg_codec.specs.Codec.{u32, variant, fixed, fit_many}
+use Rattle.tg_codec.specs.Streams.{any}
+use Rattle.tg_codec.specs.Codec.{variant, fixed, fit_many}
 use Rattle.tg_codec.proofs.Laws.{IsExact, IsCodec, via_exact, dep_exact, fixed_law, only_if_exact, variant_law, dep_law, no_front, and-left, and-right, both}
-use Rattle.tg_codec.proofs.Shapes.{behind_many_exact, tagged_law, IsTable, table_law, table_tag, met_within}
+use Rattle.tg_codec.proofs.Shapes.{behind_many_exact, tagged_law, IsTable, table_law, table_tag}
 use Rattle.tg_codec.proofs.Widths.{u32_law}
 use Rattle.tg_kind.specs.Bytes.{IsBytes}
 use Rattle.tg_kind.specs.Headers.{is_header}
@@ -24,7 +25,7 @@ use Rattle.tg_tree.specs.Paths.{root, by_bytes, same, path_format, IsPath, paren
 use Rattle.tg_tree.specs.PathLaws.{path_law}
 use Rattle.tg_tree.specs.Orders.{same_is}
 use Rattle.tg_tree.specs.Growth.{Grown, first_node, insert_grown, stored_grown, removed_grown, parent_among, not_both, there_cons, same_turned}
-use Rattle.tg_tree.specs.Trees.{Node, Nodes, is_object, is_state, is_of, is_there, has_child, is_next, is_full, node_format, after_node, nodes_format, state_format, first, created, stored, deleted, applied, held, answered, touched, looked, saved, loaded, path_and_text, as_create, as_store, as_delete, code_of, op_bodies, op_format}
+use Rattle.tg_tree.specs.Trees.{Nodes, is_object, is_state, is_of, is_there, has_child, is_next, is_full, node_format, after_node, count_format, nodes_format, state_format, first, created, stored, deleted, applied, held, answered, touched, looked, saved, loaded, path_and_text, as_create, as_store, as_delete, code_of, op_bodies, op_format}
 use Rattle.tg_tree.specs.declared.tree.TreeOp.{TreeOp}
 use Rattle.tg_tree.specs.declared.tree.TreeOp.TheVariants.{Create, Store, Delete}
 use Rattle.tg_tree.specs.declared.tree.TreeAsk.{TreeAsk}
@@ -37,7 +38,7 @@ node_exact : (before : List (List ℕ)) → IsExact (node_format before)
 node_exact before = dep_exact (only_if_exact (is_next before) path_law.exact) (λ _. (words.maybe_law text_format text_law).exact)
 
 nodes_exact : IsExact nodes_format
-nodes_exact = behind_many_exact node_format after_node (λ n. []) (u32_law ((1, 2 ^ 32 - 1) ∷ [])).exact node_exact
+nodes_exact = behind_many_exact node_format after_node (λ n. []) (only_if_exact (λ n. not (n == 0)) (u32_law any).exact) node_exact
 
 pub state_law : IsExact state_format
 state_law = via_exact (λ p. p.1) (λ x. (tt, x)) (dep_exact (fixed_law (5 ∷ [])).exact (λ _. nodes_exact)) (λ p e. refl) (λ x. refl)
@@ -124,20 +125,27 @@ pub first_is : (o : Oid) (os : List Oid) → is_object o ≡ true → is_header 
 unfolding fit_many
 first_is o os e h = both _ _ e refl
 
-counts : ℕ → Bool
-counts n = (u32 ((1, 2 ^ 32 - 1) ∷ [])).fits n
+some_nodes : (n : ℕ) → not (n == 0) ≡ true → 1 ≤ n
+some_nodes n e = grind (arith, nat_tests)
+
+not_none : (n : ℕ) → 1 ≤ n → not (n == 0) ≡ true
+not_none n le = grind (arith, nat_tests)
 
 pub count_is : (nodes : Nodes) → state_format.fits nodes ≡ true → (1 ≤ length nodes) × (length nodes ≤ 2 ^ 32 - 1)
-count_is nodes e = met_within 1 (2 ^ 32 - 1) (length nodes) (and-left _ _ (and-left _ _ e))
+count_is nodes e =
+    let size = and-left _ _ e in
+    let few : length nodes < 2 ^ 32 = ltb-true _ _ (and-right _ _ (and-left _ _ size)) in
+    (some_nodes (length nodes) (and-right _ _ size), omega (arith, few))
 
 pub grown_is : (nodes : Nodes) → state_format.fits nodes ≡ true → Grown [] nodes
 grown_is nodes e = and-right _ _ e
 
 pub is_grown : (nodes : Nodes) → 1 ≤ length nodes → length nodes ≤ 2 ^ 32 - 1 → Grown [] nodes → state_format.fits nodes ≡ true
 is_grown nodes low high e =
-    let one : nat_le (max 1 (length nodes)) (min (2 ^ 32 - 1) (length nodes)) ≡ true = le-leb _ _ (omega (arith, low, high)) in
+    let one : nat_le (max 0 (length nodes)) (min (2 ^ 64 - 1) (length nodes)) ≡ true = le-leb _ _ (omega (arith, high)) in
     let two : nat_lt (length nodes) (2 ^ 32) ≡ true = lt-ltb _ _ (omega (arith, high)) in
-    let size : (u32 ((1, 2 ^ 32 - 1) ∷ [])).fits (length nodes) ≡ true = rw (one, two) refl in
+    let three : not (length nodes == 0) ≡ true = not_none (length nodes) low in
+    let size : count_format.fits (length nodes) ≡ true = rw (one, two) three in
     both _ _ size e
 
 insert_length : (nodes : Nodes) (p : List ℕ) (t : Option (List ℕ)) → (1 ≤ length (insert_entry by_bytes nodes p t)) × (length (insert_entry by_bytes nodes p t) ≤ suc (length nodes))

@@ -1,5 +1,5 @@
 -- Trees: paths, each with a text or nothing.
-use Rattle.std.specs.Prelude.{ℕ, ◌^◌, ◌-◌, Bool, true, false, ◌&&◌, ◌||◌, ◌==◌, not, nat_le, List, [], ◌∷◌, ◌++◌, length, map, filter, Option, Some, None, Result, is_some, if◌then◌else◌}
+use Rattle.std.specs.Prelude.{ℕ, ◌^◌, ◌-◌, Bool, ◌&&◌, ◌||◌, ◌==◌, not, nat_le, List, [], ◌∷◌, length, map, filter, Option, Some, None, Result, is_some, if◌then◌else◌}
 use Rattle.std.specs.Ordering.{is_lt}
 use Rattle.std.specs.List.{list_any}
 use Rattle.std.specs.Map.{lookup, set_value, remove_entry}
@@ -7,7 +7,8 @@ use Rattle.std.specs.BTreeMap.{insert_entry}
 use Rattle.tg_base.specs.declared.ids.Oid.{Oid}
 use Rattle.tg_base.specs.declared.marks.Part.{Part}
 use Rattle.tg_base.specs.declared.marks.Part.TheVariants as parts
-use Rattle.tg_codec.specs.Codec.{Codec, u32, dep, via, many, behind, only_if, variant, tagged, from_table}
+use Rattle.tg_codec.specs.Codec.{Codec, u32, dep, many, behind, only_if, variant, tagged, from_table}
+use Rattle.tg_codec.specs.Streams.{any}
 use Rattle.tg_codec.specs.Whole.{whole}
 use Rattle.tg_kind.specs.Parts.{tag_of}
 use Rattle.tg_kind.specs.Words.{after, maybe}
@@ -53,9 +54,13 @@ node_format before = dep (only_if (is_next before) path_format) (λ _. maybe tex
 abbrev pub after_node : List (List ℕ) → Node → List (List ℕ)
 after_node before n = n.0 ∷ before
 
--- at least the root, each node's path behind those of its parents
+-- how many nodes: not none, which is looked at when the count is whole
+abbrev pub count_format : Codec ℕ
+count_format = only_if (λ n. not (n == 0)) (u32 any)
+
+-- the nodes behind their count, each one's path behind those of its parents
 abbrev pub nodes_format : Codec Nodes
-nodes_format = behind (u32 ((1, 2 ^ 32 - 1) ∷ [])) (λ n. many node_format after_node n [])
+nodes_format = behind count_format (λ n. many node_format after_node n [])
 
 -- the kind's tag, and the nodes behind their count in four bytes
 abbrev pub state_format : Codec Nodes

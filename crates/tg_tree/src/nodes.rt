@@ -12,7 +12,7 @@ ghost use Rattle.tg_kind.specs.Words.{maybe};
 ghost use Rattle.tg_tree.specs.Paths.{root, by_bytes, same, parent, last_name, path_format, IsPath};
 ghost use Rattle.tg_tree.specs.Orders.{stem};
 ghost use Rattle.tg_tree.specs.Growth.{Grown, ArePaths, back, name_of};
-ghost use Rattle.tg_tree.specs.Trees.{Node, is_there, is_child, has_child, is_next, node_format, after_node, nodes_format, created, stored, deleted, children, held};
+ghost use Rattle.tg_tree.specs.Trees.{Node, is_there, is_child, has_child, is_next, node_format, after_node, count_format, nodes_format, created, stored, deleted, children, held};
 
 use crate::key::Key;
 use crate::path::{Path, path_in};
@@ -280,11 +280,22 @@ fn many_in(alloc: Global, count: u32, bytes: &[u8]) -> Result<(Nodes, &[u8]), Re
     Ok((nodes, rest))
 }
 
+// How many nodes.
+fn count_in(bytes: &[u8]) -> Result<(u32, &[u8]), ReadFault>
+    ensures { Gives (λ x. (x.0, x.1.now)) result (count_format.read bytes.now) }
+{
+    let (count, rest) = u32_in(&[(0, u64::MAX)], bytes)?;
+    if count == 0 {
+        return Err(ReadFault::Stop { left: bytes.len() });
+    }
+    Ok((count, rest))
+}
+
 /// The nodes behind their count.
 pub fn nodes_in(alloc: Global, bytes: &[u8]) -> Result<(Nodes, &[u8]), ReadFault>
     ensures { Gives (λ x. (x.0.entries, x.1.now)) result (nodes_format.read bytes.now) }
 {
-    let (count, rest) = u32_in(&[(1, 0xffff_ffff)], bytes)?;
+    let (count, rest) = count_in(bytes)?;
     let (nodes, rest) = many_in(alloc, count, rest)?;
     Ok((nodes, rest))
 }

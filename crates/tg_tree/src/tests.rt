@@ -159,7 +159,7 @@ fn a_tree_is_saved_and_loaded(rt: HostRuntime) -> Result<(), Fail> {
     assert_eq!(rt; place(alloc, &SAVED[..38]), Some(37));
     // another tag, no node, no root
     assert_eq!(rt; place(alloc, &[2, 0, 0, 0, 1]), Some(0));
-    assert_eq!(rt; place(alloc, &[5, 0, 0, 0, 0]), Some(4));
+    assert_eq!(rt; place(alloc, &[5, 0, 0, 0, 0]), Some(1));
     assert_eq!(rt;
         place(alloc, &[5, 0, 0, 0, 1, 0, 2, b'/', b'a', 0]),
         Some(5)

@@ -4,7 +4,7 @@ use Rattle.std.specs.Prelude.{filter}
 use Rattle.tg_tree.specs.Paths.{by_bytes}
 use Rattle.tg_tree.specs.Orders.{stem, within_forward}
 use Rattle.tg_tree.specs.Growth.{are_paths}
-use Rattle.tg_tree.specs.Trees.{Node, Nodes, is_there}
+use Rattle.tg_tree.specs.Trees.{Node, is_there}
 use Rattle.tg_tree.proofs.Walks.{kids, kids_within}
 use Rattle.tg_tree.proofs.nodes.children.Goals as goal
 

@@ -1,5 +1,5 @@
-use Rattle.std.proofs.Common.{◌≡◌, ◌≤◌, ◌∙◌, ◌++◌, ◌∷◌, [], length, List, ℕ, ap, sym, subst, false, arith, rules}
-use Rattle.std.specs.Ordering.{is_le, is_gt}
+use Rattle.std.proofs.Common.{◌≡◌, ◌∙◌, ◌++◌, ◌∷◌, [], List, ℕ, ap}
+use Rattle.std.specs.Ordering.{is_le}
 use Rattle.std.specs.Prelude.{not, ◌&&◌}
 use Rattle.std.specs.List.{list_any}
 use Rattle.tg_tree.specs.Paths.{by_bytes}

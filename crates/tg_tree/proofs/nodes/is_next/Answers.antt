@@ -1,6 +1,5 @@
 use Rattle.std.proofs.Common.{◌≡◌, ◌∙◌, ◌&&◌, ap, sym, true, false, rules}
-use Rattle.std.specs.Ordering.{is_lt}
-use Rattle.tg_tree.specs.Paths.{by_bytes, parent}
+use Rattle.tg_tree.specs.Paths.{parent}
 use Rattle.tg_tree.specs.Growth.{next_at, comes_last}
 use Rattle.tg_tree.specs.Trees.{is_there}
 use Rattle.tg_tree.proofs.Walks.{below_last, as_less}

@@ -1,7 +1,4 @@
-use Rattle.std.proofs.Common.{◌≡◌, ◌<◌, ◌∙◌, cond, length, ap, arith, rules}
-use Rattle.std.specs.Prelude.{Some, None, Option}
-use Rattle.tg_kind.specs.Texts.{text_of}
-use Rattle.tg_tree.specs.Paths.{last_name}
+use Rattle.std.proofs.Common.{arith, rules}
 use Rattle.tg_tree.specs.PathLaws.{path_length, last_name_utf8, last_name_is_text}
 use Rattle.tg_tree.proofs.nodes.last_name.Goals as goal
 

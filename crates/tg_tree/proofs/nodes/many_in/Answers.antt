@@ -3,7 +3,7 @@ use Rattle.std.proofs.lemmas.Result.{err_from_is_err_and}
 use Rattle.tg_codec.specs.Codec.{read_many}
 use Rattle.tg_codec.proofs.Many.{with_front, goes_on, ends, is_done}
 use Rattle.tg_tree.specs.Growth.{back, back_more}
-use Rattle.tg_tree.specs.Trees.{Node, Nodes, node_format, after_node}
+use Rattle.tg_tree.specs.Trees.{Nodes, node_format, after_node}
 use Rattle.tg_tree.proofs.nodes.many_in.Goals as goal
 
 pub returns-in_err-key : goal.returns-in_err-key

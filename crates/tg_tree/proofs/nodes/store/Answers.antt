@@ -1,4 +1,4 @@
-use Rattle.std.proofs.Common.{◌≡◌, ◌∙◌, ap, sym}
+use Rattle.std.proofs.Common.{◌∙◌, ap, sym}
 use Rattle.std.specs.Prelude.{Some}
 use Rattle.tg_tree.proofs.Walks.{none_stored}
 use Rattle.tg_tree.proofs.nodes.store.Goals as goal

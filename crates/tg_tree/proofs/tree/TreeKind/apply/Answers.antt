@@ -1,6 +1,6 @@
 use Rattle.std.proofs.Common.{◌≡◌, subst, sym, true}
 use Rattle.tg_tree.specs.Trees.{Nodes, state_format}
-use Rattle.tg_tree.specs.TreeLaws.{created_is, stored_is, deleted_is, grown_is}
+use Rattle.tg_tree.specs.TreeLaws.{created_is, stored_is, deleted_is}
 use Rattle.tg_tree.proofs.tree.TreeKind.apply.Goals as goal
 
 pub invariant_of-result : goal.invariant_of-result
