@@ -1,0 +1,95 @@
+-- What is read of the words of all kinds is what they spell, and nothing else.
+use Rattle.std.proofs.Common.{◌≡◌, ℕ, Bool, true, false, List, [], ◌∷◌, Option, Some, None, refl, ap, sym, subst, ◌∙◌}
+use Rattle.std.specs.Prelude.{option_map, IfSome}
+use Rattle.tg_any.specs.CounterWords as counter
+use Rattle.tg_any.specs.RegisterWords as register
+use Rattle.tg_any.proofs.CounterForms as counter_forms
+use Rattle.tg_any.proofs.RegisterForms as register_forms
+use Rattle.tg_cell.specs.declared.counter.CounterOp.{CounterOp}
+use Rattle.tg_cell.specs.declared.counter.CounterOp.TheVariants as counter_ops
+use Rattle.tg_cell.specs.declared.counter.CounterAsk.{CounterAsk}
+use Rattle.tg_cell.specs.declared.counter.CounterAsk.TheVariants as counter_asks
+use Rattle.tg_cell.specs.declared.register.RegisterOp.{RegisterOp}
+use Rattle.tg_cell.specs.declared.register.RegisterOp.TheVariants as register_ops
+use Rattle.tg_cell.specs.declared.register.RegisterAsk.{RegisterAsk}
+use Rattle.tg_cell.specs.declared.register.RegisterAsk.TheVariants as register_asks
+use Rattle.tg_any.specs.declared.any.AnyOp.{AnyOp}
+use Rattle.tg_any.specs.declared.any.AnyOp.TheVariants as ops
+use Rattle.tg_any.specs.declared.any.AnyAsk.{AnyAsk}
+use Rattle.tg_any.specs.declared.any.AnyAsk.TheVariants as asks
+use Rattle.tg_any.specs.declared.any.AnyAns.{AnyAns}
+use Rattle.tg_any.specs.declared.any.AnyAns.TheVariants as answers
+use Rattle.tg_any.specs.AnyWords.{op_words, op_fits, op_read, ask_words, ask_fits, ask_read, answer_words, answer_fits, answer_read, or_other}
+use Rattle.tg_any.proofs.Numbers.{map_takes}
+
+or_other_takes : {A : Type 0} (o other : Option A) (x : A) (P : Type 0) → or_other o other ≡ Some x → (o ≡ Some x → P) → (other ≡ Some x → P) → P
+or_other_takes (Some y) other x P e first second = first e
+or_other_takes None other x P e first second = second e
+
+or_other_first : {A : Type 0} (o other : Option A) (x : A) → o ≡ Some x → or_other o other ≡ Some x
+or_other_first o other x e = ap (λ o. or_other o other) e
+
+or_other_second : {A : Type 0} (o other : Option A) (x : A) → o ≡ None → other ≡ Some x → or_other o other ≡ Some x
+or_other_second o other x e f = ap (λ o. or_other o other) e ∙ f
+
+made_by : {A B : Type 0} (make : A → B) (o : Option A) (y : B) (P : B → Type 0) → option_map make o ≡ Some y → ((x : A) → o ≡ Some x → P (make x)) → P y
+made_by make o y P e is = let m = map_takes make o y e in subst P m.2 (is m.0 m.1)
+
+made_none : {A B : Type 0} (make : A → B) (o : Option A) → o ≡ None → option_map make o ≡ None
+made_none make o e = ap (option_map make) e
+
+-- words of ops
+abbrev IsOp : List (List ℕ) → AnyOp → Type 0
+IsOp words op = (words ≡ op_words op) × (op_fits op ≡ true)
+
+pub op_takes : (words : List (List ℕ)) (op : AnyOp) → op_read words ≡ Some op → IsOp words op
+unfolding op_read
+op_takes [] y e = absurd cc
+op_takes (word ∷ fields) y e = or_other_takes _ _ y (IsOp (word ∷ fields) y) e (λ e. made_by ops.Counter _ y (IsOp (word ∷ fields)) e (λ x f. counter_forms.op_takes word fields x f)) (λ e. or_other_takes _ _ y (IsOp (word ∷ fields) y) e (λ e. made_by ops.Register _ y (IsOp (word ∷ fields)) e (λ x f. register_forms.op_takes word fields x f)) (λ e. absurd cc))
+
+op_spelled : (op : AnyOp) → op_fits op ≡ true → op_read (op_words op) ≡ Some op
+unfolding op_read
+op_spelled (ops.Counter (counter_ops.Add x0)) fits = or_other_first _ _ _ (ap (option_map ops.Counter) (counter_forms.op_spelled (counter_ops.Add x0) fits))
+op_spelled (ops.Register (register_ops.Write x0)) fits = or_other_second _ _ _ refl (or_other_first _ _ _ (ap (option_map ops.Register) (register_forms.op_spelled (register_ops.Write x0) fits)))
+
+pub op_again : (words : List (List ℕ)) (op : AnyOp) → op_fits op ≡ true → words ≡ op_words op → op_read words ≡ Some op
+op_again words op fits e = ap op_read e ∙ op_spelled op fits
+
+-- words of asks
+abbrev IsAsk : List (List ℕ) → AnyAsk → Type 0
+IsAsk words ask = (words ≡ ask_words ask) × (ask_fits ask ≡ true)
+
+pub ask_takes : (words : List (List ℕ)) (ask : AnyAsk) → ask_read words ≡ Some ask → IsAsk words ask
+unfolding ask_read
+ask_takes [] y e = absurd cc
+ask_takes (word ∷ fields) y e = or_other_takes _ _ y (IsAsk (word ∷ fields) y) e (λ e. made_by asks.Counter _ y (IsAsk (word ∷ fields)) e (λ x f. counter_forms.ask_takes word fields x f)) (λ e. or_other_takes _ _ y (IsAsk (word ∷ fields) y) e (λ e. made_by asks.Register _ y (IsAsk (word ∷ fields)) e (λ x f. register_forms.ask_takes word fields x f)) (λ e. absurd cc))
+
+ask_spelled : (ask : AnyAsk) → ask_fits ask ≡ true → ask_read (ask_words ask) ≡ Some ask
+unfolding ask_read
+ask_spelled (asks.Counter counter_asks.Value) fits = or_other_first _ _ _ (ap (option_map asks.Counter) (counter_forms.ask_spelled counter_asks.Value fits))
+ask_spelled (asks.Register register_asks.Text) fits = or_other_second _ _ _ refl (or_other_first _ _ _ (ap (option_map asks.Register) (register_forms.ask_spelled register_asks.Text fits)))
+
+pub ask_again : (words : List (List ℕ)) (ask : AnyAsk) → ask_fits ask ≡ true → words ≡ ask_words ask → ask_read words ≡ Some ask
+ask_again words ask fits e = ap ask_read e ∙ ask_spelled ask fits
+
+-- words of answers
+abbrev IsAnswer : AnyAsk → List (List ℕ) → AnyAns → Type 0
+IsAnswer ask words answer = (words ≡ answer_words answer) × (answer_fits ask answer ≡ true)
+
+pub answer_takes : (ask : AnyAsk) (words : List (List ℕ)) (answer : AnyAns) → answer_read ask words ≡ Some answer → IsAnswer ask words answer
+answer_takes (asks.Counter ask) words y e = made_by answers.Counter _ y (IsAnswer (asks.Counter ask) words) e (λ x f. counter_forms.answer_takes ask words x f)
+answer_takes (asks.Register ask) words y e = made_by answers.Register _ y (IsAnswer (asks.Register ask) words) e (λ x f. register_forms.answer_takes ask words x f)
+
+answer_spelled : (ask : AnyAsk) (answer : AnyAns) → answer_fits ask answer ≡ true → answer_read ask (answer_words answer) ≡ Some answer
+answer_spelled (asks.Counter ask) (answers.Counter answer) fits = ap (option_map answers.Counter) (counter_forms.answer_again ask answer fits)
+answer_spelled (asks.Counter ask) answer fits = absurd cc
+answer_spelled (asks.Register ask) (answers.Register answer) fits = ap (option_map answers.Register) (register_forms.answer_again ask answer fits)
+answer_spelled (asks.Register ask) answer fits = absurd cc
+
+pub answer_again : (ask : AnyAsk) (words : List (List ℕ)) (answer : AnyAns) → answer_fits ask answer ≡ true → words ≡ answer_words answer → answer_read ask words ≡ Some answer
+answer_again ask words answer fits e = ap (answer_read ask) e ∙ answer_spelled ask answer fits
+
+-- what a call found, by what is read
+pub found : {A : Type 0} (o r : Option A) (P : A → Type 0) → o ≡ r → ((x : A) → r ≡ Some x → P x) → IfSome o P
+found None r P e h = tt
+found (Some x) r P e h = h x (sym e)

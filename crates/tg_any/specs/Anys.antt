@@ -1,0 +1,86 @@
+-- All kinds of objects as one. What is said of a kind holds of its objects, states, ops and asks.
+use Rattle.std.specs.Prelude.{ℕ, ◌/◌, Bool, true, false, ◌&&◌, ◌==◌, not, List, get_or, Result, Ok, Err, if◌then◌else◌}
+use Rattle.tg_base.specs.declared.ids.Oid.{Oid}
+use Rattle.tg_base.specs.declared.marks.Part.{Part}
+use Rattle.tg_codec.specs.Reading.{Read}
+use Rattle.tg_kind.specs.Parts.{tag_of}
+use Rattle.tg_cell.specs.Counters as counters
+use Rattle.tg_cell.specs.Registers as registers
+use Rattle.tg_any.specs.declared.any.AnyKind.{AnyKind}
+use Rattle.tg_any.specs.declared.any.AnyKind.TheVariants as states
+use Rattle.tg_any.specs.declared.any.AnyOp.{AnyOp}
+use Rattle.tg_any.specs.declared.any.AnyOp.TheVariants as ops
+use Rattle.tg_any.specs.declared.any.AnyAsk.{AnyAsk}
+use Rattle.tg_any.specs.declared.any.AnyAsk.TheVariants as asks
+use Rattle.tg_any.specs.declared.any.AnyAns.{AnyAns}
+use Rattle.tg_any.specs.declared.any.AnyAns.TheVariants as answers
+
+-- what stands for the kind that has a tag
+abbrev pub by_tag : {A : Type 0} → ℕ → A → A → A
+by_tag t a b = if t == 1 then a else b
+
+abbrev pub is_object : Oid → Bool
+is_object o = by_tag (tag_of o) (counters.is_object o) (registers.is_object o)
+
+abbrev pub is_state : Oid → AnyKind → Bool
+is_state o (states.Counter s) = counters.is_state o s
+is_state o (states.Register s) = registers.is_state o s
+
+abbrev pub is_op : AnyOp → Bool
+is_op (ops.Counter op) = counters.op_format.fits op
+is_op (ops.Register op) = registers.op_format.fits op
+
+abbrev pub is_of : Oid → AnyOp → Bool
+is_of o (ops.Counter op) = counters.is_of o op
+is_of o (ops.Register op) = registers.is_of o op
+
+abbrev pub first : Oid → List Oid → AnyKind
+first o os = by_tag (tag_of o) (states.Counter (counters.first o os)) (states.Register (registers.first o os))
+
+-- an op of another kind changes nothing
+abbrev pub applied : AnyKind → AnyOp → AnyKind
+applied (states.Counter s) (ops.Counter op) = states.Counter (counters.applied s op)
+applied (states.Register s) (ops.Register op) = states.Register (registers.applied s op)
+applied s op = s
+
+-- an ask of another kind finds none
+abbrev pub answered : AnyKind → AnyAsk → AnyAns
+answered (states.Counter s) (asks.Counter ask) = answers.Counter (counters.answered s ask)
+answered (states.Register s) (asks.Register ask) = answers.Register (registers.answered s ask)
+answered s ask = answers.None
+
+abbrev pub touched : AnyOp → Part
+touched (ops.Counter op) = counters.touched op
+touched (ops.Register op) = registers.touched op
+
+abbrev pub looked : AnyAsk → Part
+looked (asks.Counter ask) = counters.looked ask
+looked (asks.Register ask) = registers.looked ask
+
+abbrev pub saved : AnyKind → List ℕ
+saved (states.Counter s) = counters.saved s
+saved (states.Register s) = registers.saved s
+
+-- a state of one kind as one of all
+abbrev pub made : {A B : Type 0} → (A → B) → Result A ℕ → Result B ℕ
+made make (Ok x) = Ok (make x)
+made make (Err at) = Err at
+
+abbrev pub loaded : Oid → List ℕ → Result AnyKind ℕ
+loaded o bytes = by_tag (tag_of o) (made states.Counter (counters.loaded o bytes)) (made states.Register (registers.loaded o bytes))
+
+abbrev pub spelled : AnyOp → List ℕ
+spelled (ops.Counter op) = counters.op_format.spell op
+spelled (ops.Register op) = registers.op_format.spell op
+
+-- the codes of a kind's ops begin with its tag, which is their upper half
+abbrev pub code_tag : List ℕ → ℕ
+code_tag bytes = get_or bytes 0 0 / 16
+
+-- an op of one kind as one of all
+abbrev pub made_op : {A B : Type 0} → (A → B) → Read A → Read B
+made_op make (Ok x) = Ok (make x.0, x.1)
+made_op make (Err left) = Err left
+
+abbrev pub read : List ℕ → Read AnyOp
+read bytes = by_tag (code_tag bytes) (made_op ops.Counter (counters.op_format.read bytes)) (made_op ops.Register (registers.op_format.read bytes))

@@ -1,0 +1,9 @@
+pub mod Decimals
+pub mod Fronts
+pub mod Names
+pub mod Words
+pub mod Anys
+pub mod AnyLaws
+pub mod CounterWords
+pub mod RegisterWords
+pub mod AnyWords
