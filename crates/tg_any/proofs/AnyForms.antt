@@ -1,10 +1,12 @@
 -- What is read of the words of all kinds is what they spell, and nothing else.
 use Rattle.std.proofs.Common.{◌≡◌, ℕ, Bool, true, false, List, [], ◌∷◌, Option, Some, None, refl, ap, sym, subst, ◌∙◌}
-use Rattle.std.specs.Prelude.{option_map, IfSome}
+use Rattle.std.specs.Prelude.{option_map, IfSome, IfOk, Result, Ok, Err}
 use Rattle.tg_any.specs.CounterWords as counter
 use Rattle.tg_any.specs.RegisterWords as register
+use Rattle.tg_any.specs.MapWords as map
 use Rattle.tg_any.proofs.CounterForms as counter_forms
 use Rattle.tg_any.proofs.RegisterForms as register_forms
+use Rattle.tg_any.proofs.MapForms as map_forms
 use Rattle.tg_cell.specs.declared.counter.CounterOp.{CounterOp}
 use Rattle.tg_cell.specs.declared.counter.CounterOp.TheVariants as counter_ops
 use Rattle.tg_cell.specs.declared.counter.CounterAsk.{CounterAsk}
@@ -13,6 +15,10 @@ use Rattle.tg_cell.specs.declared.register.RegisterOp.{RegisterOp}
 use Rattle.tg_cell.specs.declared.register.RegisterOp.TheVariants as register_ops
 use Rattle.tg_cell.specs.declared.register.RegisterAsk.{RegisterAsk}
 use Rattle.tg_cell.specs.declared.register.RegisterAsk.TheVariants as register_asks
+use Rattle.tg_map.specs.declared.map.MapOp.{MapOp}
+use Rattle.tg_map.specs.declared.map.MapOp.TheVariants as map_ops
+use Rattle.tg_map.specs.declared.map.MapAsk.{MapAsk}
+use Rattle.tg_map.specs.declared.map.MapAsk.TheVariants as map_asks
 use Rattle.tg_any.specs.declared.any.AnyOp.{AnyOp}
 use Rattle.tg_any.specs.declared.any.AnyOp.TheVariants as ops
 use Rattle.tg_any.specs.declared.any.AnyAsk.{AnyAsk}
@@ -45,12 +51,14 @@ IsOp words op = (words ≡ op_words op) × (op_fits op ≡ true)
 pub op_takes : (words : List (List ℕ)) (op : AnyOp) → op_read words ≡ Some op → IsOp words op
 unfolding op_read
 op_takes [] y e = absurd cc
-op_takes (word ∷ fields) y e = or_other_takes _ _ y (IsOp (word ∷ fields) y) e (λ e. made_by ops.Counter _ y (IsOp (word ∷ fields)) e (λ x f. counter_forms.op_takes word fields x f)) (λ e. or_other_takes _ _ y (IsOp (word ∷ fields) y) e (λ e. made_by ops.Register _ y (IsOp (word ∷ fields)) e (λ x f. register_forms.op_takes word fields x f)) (λ e. absurd cc))
+op_takes (word ∷ fields) y e = or_other_takes _ _ y (IsOp (word ∷ fields) y) e (λ e. made_by ops.Counter _ y (IsOp (word ∷ fields)) e (λ x f. counter_forms.op_takes word fields x f)) (λ e. or_other_takes _ _ y (IsOp (word ∷ fields) y) e (λ e. made_by ops.Register _ y (IsOp (word ∷ fields)) e (λ x f. register_forms.op_takes word fields x f)) (λ e. or_other_takes _ _ y (IsOp (word ∷ fields) y) e (λ e. made_by ops.Map _ y (IsOp (word ∷ fields)) e (λ x f. map_forms.op_takes word fields x f)) (λ e. absurd cc)))
 
 op_spelled : (op : AnyOp) → op_fits op ≡ true → op_read (op_words op) ≡ Some op
 unfolding op_read
 op_spelled (ops.Counter (counter_ops.Add x0)) fits = or_other_first _ _ _ (ap (option_map ops.Counter) (counter_forms.op_spelled (counter_ops.Add x0) fits))
 op_spelled (ops.Register (register_ops.Write x0)) fits = or_other_second _ _ _ refl (or_other_first _ _ _ (ap (option_map ops.Register) (register_forms.op_spelled (register_ops.Write x0) fits)))
+op_spelled (ops.Map (map_ops.Set x0 x1)) fits = or_other_second _ _ _ refl (or_other_second _ _ _ refl (or_other_first _ _ _ (ap (option_map ops.Map) (map_forms.op_spelled (map_ops.Set x0 x1) fits))))
+op_spelled (ops.Map (map_ops.Unset x0)) fits = or_other_second _ _ _ refl (or_other_second _ _ _ refl (or_other_first _ _ _ (ap (option_map ops.Map) (map_forms.op_spelled (map_ops.Unset x0) fits))))
 
 pub op_again : (words : List (List ℕ)) (op : AnyOp) → op_fits op ≡ true → words ≡ op_words op → op_read words ≡ Some op
 op_again words op fits e = ap op_read e ∙ op_spelled op fits
@@ -62,12 +70,15 @@ IsAsk words ask = (words ≡ ask_words ask) × (ask_fits ask ≡ true)
 pub ask_takes : (words : List (List ℕ)) (ask : AnyAsk) → ask_read words ≡ Some ask → IsAsk words ask
 unfolding ask_read
 ask_takes [] y e = absurd cc
-ask_takes (word ∷ fields) y e = or_other_takes _ _ y (IsAsk (word ∷ fields) y) e (λ e. made_by asks.Counter _ y (IsAsk (word ∷ fields)) e (λ x f. counter_forms.ask_takes word fields x f)) (λ e. or_other_takes _ _ y (IsAsk (word ∷ fields) y) e (λ e. made_by asks.Register _ y (IsAsk (word ∷ fields)) e (λ x f. register_forms.ask_takes word fields x f)) (λ e. absurd cc))
+ask_takes (word ∷ fields) y e = or_other_takes _ _ y (IsAsk (word ∷ fields) y) e (λ e. made_by asks.Counter _ y (IsAsk (word ∷ fields)) e (λ x f. counter_forms.ask_takes word fields x f)) (λ e. or_other_takes _ _ y (IsAsk (word ∷ fields) y) e (λ e. made_by asks.Register _ y (IsAsk (word ∷ fields)) e (λ x f. register_forms.ask_takes word fields x f)) (λ e. or_other_takes _ _ y (IsAsk (word ∷ fields) y) e (λ e. made_by asks.Map _ y (IsAsk (word ∷ fields)) e (λ x f. map_forms.ask_takes word fields x f)) (λ e. absurd cc)))
 
 ask_spelled : (ask : AnyAsk) → ask_fits ask ≡ true → ask_read (ask_words ask) ≡ Some ask
 unfolding ask_read
-ask_spelled (asks.Counter counter_asks.Value) fits = or_other_first _ _ _ (ap (option_map asks.Counter) (counter_forms.ask_spelled counter_asks.Value fits))
-ask_spelled (asks.Register register_asks.Text) fits = or_other_second _ _ _ refl (or_other_first _ _ _ (ap (option_map asks.Register) (register_forms.ask_spelled register_asks.Text fits)))
+ask_spelled (asks.Counter counter_asks.Value) fits = refl
+ask_spelled (asks.Register register_asks.Text) fits = refl
+ask_spelled (asks.Map (map_asks.Get x0)) fits = or_other_second _ _ _ refl (or_other_second _ _ _ refl (or_other_first _ _ _ (ap (option_map asks.Map) (map_forms.ask_spelled (map_asks.Get x0) fits))))
+ask_spelled (asks.Map map_asks.Size) fits = refl
+ask_spelled (asks.Map map_asks.Keys) fits = refl
 
 pub ask_again : (words : List (List ℕ)) (ask : AnyAsk) → ask_fits ask ≡ true → words ≡ ask_words ask → ask_read words ≡ Some ask
 ask_again words ask fits e = ap ask_read e ∙ ask_spelled ask fits
@@ -79,17 +90,28 @@ IsAnswer ask words answer = (words ≡ answer_words answer) × (answer_fits ask 
 pub answer_takes : (ask : AnyAsk) (words : List (List ℕ)) (answer : AnyAns) → answer_read ask words ≡ Some answer → IsAnswer ask words answer
 answer_takes (asks.Counter ask) words y e = made_by answers.Counter _ y (IsAnswer (asks.Counter ask) words) e (λ x f. counter_forms.answer_takes ask words x f)
 answer_takes (asks.Register ask) words y e = made_by answers.Register _ y (IsAnswer (asks.Register ask) words) e (λ x f. register_forms.answer_takes ask words x f)
+answer_takes (asks.Map ask) words y e = made_by answers.Map _ y (IsAnswer (asks.Map ask) words) e (λ x f. map_forms.answer_takes ask words x f)
 
 answer_spelled : (ask : AnyAsk) (answer : AnyAns) → answer_fits ask answer ≡ true → answer_read ask (answer_words answer) ≡ Some answer
 answer_spelled (asks.Counter ask) (answers.Counter answer) fits = ap (option_map answers.Counter) (counter_forms.answer_again ask answer fits)
 answer_spelled (asks.Counter ask) answer fits = absurd cc
 answer_spelled (asks.Register ask) (answers.Register answer) fits = ap (option_map answers.Register) (register_forms.answer_again ask answer fits)
 answer_spelled (asks.Register ask) answer fits = absurd cc
+answer_spelled (asks.Map ask) (answers.Map answer) fits = ap (option_map answers.Map) (map_forms.answer_again ask answer fits)
+answer_spelled (asks.Map ask) answer fits = absurd cc
 
 pub answer_again : (ask : AnyAsk) (words : List (List ℕ)) (answer : AnyAns) → answer_fits ask answer ≡ true → words ≡ answer_words answer → answer_read ask words ≡ Some answer
 answer_again ask words answer fits e = ap (answer_read ask) e ∙ answer_spelled ask answer fits
 
 -- what a call found, by what is read
-pub found : {A : Type 0} (o r : Option A) (P : A → Type 0) → o ≡ r → ((x : A) → r ≡ Some x → P x) → IfSome o P
+found : {A : Type 0} (o r : Option A) (P : A → Type 0) → o ≡ r → ((x : A) → r ≡ Some x → P x) → IfSome o P
 found None r P e h = tt
 found (Some x) r P e h = h x (sym e)
+
+pub ok_found : {A E : Type 0} (result : Result (Option A) E) (r : Option A) (P : A → Type 0) → IfOk result (λ x. x ≡ r) → ((x : A) → r ≡ Some x → P x) → IfOk result (λ x. IfSome x P)
+ok_found (Ok o) r P e h = found o r P e h
+ok_found (Err e) r P is h = tt
+
+pub ok_only : {A E : Type 0} (result : Result (Option A) E) (r s : Option A) → IfOk result (λ x. x ≡ r) → r ≡ s → IfOk result (λ x. x ≡ s)
+ok_only (Ok o) r s e h = e ∙ h
+ok_only (Err e) r s is h = tt

@@ -5,4 +5,5 @@ pub mod Words
 pub mod Lists
 pub mod CounterForms
 pub mod RegisterForms
+pub mod MapForms
 pub mod AnyForms

@@ -10,12 +10,16 @@ use Rattle.tg_kind.specs.Headers.{is_header}
 use Rattle.tg_kind.specs.Parts.{tag_of, overlap}
 use Rattle.tg_cell.specs.Counters as counters
 use Rattle.tg_cell.specs.Registers as registers
+use Rattle.tg_map.specs.Maps as maps
 use Rattle.tg_cell.specs.CounterLaws as counters_laws
 use Rattle.tg_cell.specs.RegisterLaws as registers_laws
+use Rattle.tg_map.specs.MapLaws as maps_laws
 use Rattle.tg_cell.specs.declared.counter.CounterOp.{CounterOp}
 use Rattle.tg_cell.specs.declared.counter.CounterOp.TheVariants as counter_ops
 use Rattle.tg_cell.specs.declared.register.RegisterOp.{RegisterOp}
 use Rattle.tg_cell.specs.declared.register.RegisterOp.TheVariants as register_ops
+use Rattle.tg_map.specs.declared.map.MapOp.{MapOp}
+use Rattle.tg_map.specs.declared.map.MapOp.TheVariants as map_ops
 use Rattle.tg_any.specs.declared.any.AnyKind.{AnyKind}
 use Rattle.tg_any.specs.declared.any.AnyKind.TheVariants as states
 use Rattle.tg_any.specs.declared.any.AnyOp.{AnyOp}
@@ -30,31 +34,38 @@ pick P true x y u v p q = p
 pick P false x y u v p q = q
 
 -- what holds of each kind's two holds of the two that are chosen
-by_both : {A B : Type 0} (P : A → B → Type 0) (t : ℕ) (a b : A) (u0 u1 : B) → P a u0 → P b u1 → P (by_tag t a b) (by_tag t u0 u1)
-by_both P t a b u0 u1 p0 p1 = pick P (eqb t 1) _ _ _ _ p0 p1
+by_both : {A B : Type 0} (P : A → B → Type 0) (t : ℕ) (a b c : A) (u0 u1 u2 : B) → P a u0 → P b u1 → P c u2 → P (by_tag t a b c) (by_tag t u0 u1 u2)
+by_both P t a b c u0 u1 u2 p0 p1 p2 = pick P (eqb t 1) _ _ _ _ p0 (pick P (eqb t 2) _ _ _ _ p1 p2)
 
-at_1 : {A : Type 0} (t : ℕ) (a b : A) → t ≡ 1 → by_tag t a b ≡ a
-at_1 t a b e = rw e refl
+at_1 : {A : Type 0} (t : ℕ) (a b c : A) → t ≡ 1 → by_tag t a b c ≡ a
+at_1 t a b c e = rw e refl
 
-at_2 : {A : Type 0} (t : ℕ) (a b : A) → t ≡ 2 → by_tag t a b ≡ b
-at_2 t a b e = rw e refl
+at_2 : {A : Type 0} (t : ℕ) (a b c : A) → t ≡ 2 → by_tag t a b c ≡ b
+at_2 t a b c e = rw e refl
+
+at_3 : {A : Type 0} (t : ℕ) (a b c : A) → t ≡ 3 → by_tag t a b c ≡ c
+at_3 t a b c e = rw e refl
 
 pub first_is : (o : Oid) (os : List Oid) → is_object o ≡ true → is_header os ≡ true → is_state o (first o os) ≡ true
 first_is o os e h =
-    by_both (λ (b : Bool) (s : AnyKind). b ≡ true → is_state o s ≡ true) (tag_of o) _ _ _ _
-    (λ f. counters_laws.first_is o os f h) (λ f. registers_laws.first_is o os f h) e
+    by_both (λ (b : Bool) (s : AnyKind). b ≡ true → is_state o s ≡ true) (tag_of o) _ _ _ _ _ _
+    (λ f. counters_laws.first_is o os f h) (λ f. registers_laws.first_is o os f h) (λ f. maps_laws.first_is o os f h) e
 
 pub applied_is : (o : Oid) (s : AnyKind) (op : AnyOp) → is_state o s ≡ true → is_op op ≡ true → is_state o (applied s op) ≡ true
 applied_is o (states.Counter s) (ops.Counter op) e f = counters_laws.applied_is o s op e f
 applied_is o (states.Counter s) op e f = e
 applied_is o (states.Register s) (ops.Register op) e f = registers_laws.applied_is o s op e f
 applied_is o (states.Register s) op e f = e
+applied_is o (states.Map s) (ops.Map op) e f = maps_laws.applied_is o s op e f
+applied_is o (states.Map s) op e f = e
 
 pub other_kind : (o : Oid) (s : AnyKind) (op : AnyOp) → is_state o s ≡ true → is_of o op ≡ false → applied s op ≡ s
 other_kind o (states.Counter s) (ops.Counter op) e f = ap states.Counter (counters_laws.other_kind o s op e f)
 other_kind o (states.Counter s) op e f = refl
 other_kind o (states.Register s) (ops.Register op) e f = ap states.Register (registers_laws.other_kind o s op e f)
 other_kind o (states.Register s) op e f = refl
+other_kind o (states.Map s) (ops.Map op) e f = ap states.Map (maps_laws.other_kind o s op e f)
+other_kind o (states.Map s) op e f = refl
 
 pub apart : (s : AnyKind) (op : AnyOp) (ask : AnyAsk) → overlap (touched op) (looked ask) ≡ false → answered (applied s op) ask ≡ answered s ask
 apart (states.Counter s) (ops.Counter op) (asks.Counter ask) e = ap answers.Counter (counters_laws.apart s op ask e)
@@ -63,6 +74,9 @@ apart (states.Counter s) op ask e = refl
 apart (states.Register s) (ops.Register op) (asks.Register ask) e = ap answers.Register (registers_laws.apart s op ask e)
 apart (states.Register s) (ops.Register op) ask e = refl
 apart (states.Register s) op ask e = refl
+apart (states.Map s) (ops.Map op) (asks.Map ask) e = ap answers.Map (maps_laws.apart s op ask e)
+apart (states.Map s) (ops.Map op) ask e = refl
+apart (states.Map s) op ask e = refl
 
 tag_1 : (o : Oid) (b : Bool) → (counters.is_object o && b) ≡ true → tag_of o ≡ 1
 tag_1 o b e = eqb-true _ _ (and-left _ _ e)
@@ -70,9 +84,13 @@ tag_1 o b e = eqb-true _ _ (and-left _ _ e)
 tag_2 : (o : Oid) (b : Bool) → (registers.is_object o && b) ≡ true → tag_of o ≡ 2
 tag_2 o b e = eqb-true _ _ (and-left _ _ e)
 
+tag_3 : (o : Oid) (b : Bool) → (maps.is_object o && b) ≡ true → tag_of o ≡ 3
+tag_3 o b e = eqb-true _ _ (and-left _ _ e)
+
 pub loads_saved : (o : Oid) (s : AnyKind) → is_state o s ≡ true → loaded o (saved s) ≡ Ok s
-loads_saved o (states.Counter s) e = at_1 (tag_of o) _ _ (tag_1 o _ e) ∙ ap (made states.Counter) (counters_laws.loads_saved o s e)
-loads_saved o (states.Register s) e = at_2 (tag_of o) _ _ (tag_2 o _ e) ∙ ap (made states.Register) (registers_laws.loads_saved o s e)
+loads_saved o (states.Counter s) e = at_1 (tag_of o) _ _ _ (tag_1 o _ e) ∙ ap (made states.Counter) (counters_laws.loads_saved o s e)
+loads_saved o (states.Register s) e = at_2 (tag_of o) _ _ _ (tag_2 o _ e) ∙ ap (made states.Register) (registers_laws.loads_saved o s e)
+loads_saved o (states.Map s) e = at_3 (tag_of o) _ _ _ (tag_3 o _ e) ∙ ap (made states.Map) (maps_laws.loads_saved o s e)
 
 made_is : {A B : Type 0} (make : A → B) (r : Result A ℕ) (y : B) → made make r ≡ Ok y → (x : A) × (r ≡ Ok x) × (make x ≡ y)
 made_is make (Ok x) y e = (x, refl, cc)
@@ -91,9 +109,14 @@ only_2 o bytes fits is s e =
     let m = made_is states.Register (registers.loaded o bytes) s e in
     subst (λ (s : AnyKind). (is_state o s ≡ true) × (bytes ≡ saved s)) m.2 (registers_laws.loads_only o bytes m.0 is fits m.1)
 
+only_3 : (o : Oid) (bytes : List ℕ) → IsBytes bytes → LoadsOnly o bytes (maps.is_object o) (made states.Map (maps.loaded o bytes))
+only_3 o bytes fits is s e =
+    let m = made_is states.Map (maps.loaded o bytes) s e in
+    subst (λ (s : AnyKind). (is_state o s ≡ true) × (bytes ≡ saved s)) m.2 (maps_laws.loads_only o bytes m.0 is fits m.1)
+
 pub loads_only : (o : Oid) (bytes : List ℕ) (s : AnyKind) → is_object o ≡ true → IsBytes bytes → loaded o bytes ≡ Ok s → (is_state o s ≡ true) × (bytes ≡ saved s)
 loads_only o bytes s is fits e =
-    by_both (LoadsOnly o bytes) (tag_of o) _ _ _ _ (only_1 o bytes fits) (only_2 o bytes fits) is s e
+    by_both (LoadsOnly o bytes) (tag_of o) _ _ _ _ _ _ (only_1 o bytes fits) (only_2 o bytes fits) (only_3 o bytes fits) is s e
 
 abbrev done : {A : Type 0} → A → Result A ℕ
 done x = Ok x
@@ -120,9 +143,14 @@ op_only_2 bytes fits op rest e =
     let m = made_op_is ops.Register (registers.op_format.read bytes) op rest e in
     subst (λ (op : AnyOp). (is_op op ≡ true) × (bytes ≡ spelled op ++ rest)) m.2 (registers_laws.reads_only bytes m.0.0 rest fits m.1)
 
+op_only_3 : (bytes : List ℕ) → IsBytes bytes → ReadsOnly bytes tt (made_op ops.Map (maps.op_format.read bytes))
+op_only_3 bytes fits op rest e =
+    let m = made_op_is ops.Map (maps.op_format.read bytes) op rest e in
+    subst (λ (op : AnyOp). (is_op op ≡ true) × (bytes ≡ spelled op ++ rest)) m.2 (maps_laws.reads_only bytes m.0.0 rest fits m.1)
+
 pub reads_only : (bytes : List ℕ) (op : AnyOp) (rest : List ℕ) → IsBytes bytes → read bytes ≡ Ok (op, rest) → (is_op op ≡ true) × (bytes ≡ spelled op ++ rest)
 reads_only bytes op rest fits e =
-    by_both (ReadsOnly bytes) (code_tag bytes) tt tt _ _ (op_only_1 bytes fits) (op_only_2 bytes fits) op rest e
+    by_both (ReadsOnly bytes) (code_tag bytes) tt tt tt _ _ _ (op_only_1 bytes fits) (op_only_2 bytes fits) (op_only_3 bytes fits) op rest e
 
 -- an op's first byte tells its kind
 code_1 : (op : CounterOp) (rest : List ℕ) → code_tag (counters.op_format.spell op ++ rest) ≡ 1
@@ -131,15 +159,23 @@ code_1 (counter_ops.Add by) rest = refl
 code_2 : (op : RegisterOp) (rest : List ℕ) → code_tag (registers.op_format.spell op ++ rest) ≡ 2
 code_2 (register_ops.Write text) rest = refl
 
+code_3 : (op : MapOp) (rest : List ℕ) → code_tag (maps.op_format.spell op ++ rest) ≡ 3
+code_3 (map_ops.Set key value) rest = refl
+code_3 (map_ops.Unset key) rest = refl
+
 read_at_1 : (bytes : List ℕ) → code_tag bytes ≡ 1 → read bytes ≡ made_op ops.Counter (counters.op_format.read bytes)
-read_at_1 bytes e = at_1 (code_tag bytes) _ _ e
+read_at_1 bytes e = at_1 (code_tag bytes) _ _ _ e
 
 read_at_2 : (bytes : List ℕ) → code_tag bytes ≡ 2 → read bytes ≡ made_op ops.Register (registers.op_format.read bytes)
-read_at_2 bytes e = at_2 (code_tag bytes) _ _ e
+read_at_2 bytes e = at_2 (code_tag bytes) _ _ _ e
+
+read_at_3 : (bytes : List ℕ) → code_tag bytes ≡ 3 → read bytes ≡ made_op ops.Map (maps.op_format.read bytes)
+read_at_3 bytes e = at_3 (code_tag bytes) _ _ _ e
 
 pub reads_spelled : (op : AnyOp) (rest : List ℕ) → is_op op ≡ true → read (spelled op ++ rest) ≡ Ok (op, rest)
 reads_spelled (ops.Counter op) rest e = read_at_1 (counters.op_format.spell op ++ rest) (code_1 op rest) ∙ ap (made_op ops.Counter) (counters_laws.reads_spelled op rest e)
 reads_spelled (ops.Register op) rest e = read_at_2 (registers.op_format.spell op ++ rest) (code_2 op rest) ∙ ap (made_op ops.Register) (registers_laws.reads_spelled op rest e)
+reads_spelled (ops.Map op) rest e = read_at_3 (maps.op_format.spell op ++ rest) (code_3 op rest) ∙ ap (made_op ops.Map) (maps_laws.reads_spelled op rest e)
 
 pub no_front_law : (a b : AnyOp) (x y : List ℕ) → is_op a ≡ true → is_op b ≡ true → spelled a ++ x ≡ spelled b ++ y → a ≡ b
 no_front_law a b x y f g e =

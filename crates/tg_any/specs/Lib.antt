@@ -6,4 +6,5 @@ pub mod Anys
 pub mod AnyLaws
 pub mod CounterWords
 pub mod RegisterWords
+pub mod MapWords
 pub mod AnyWords

@@ -9,12 +9,14 @@ use tg_cell::{
     Counter, CounterAns, CounterAsk, CounterOp, Register, RegisterAns, RegisterAsk, RegisterOp,
 };
 use tg_kind::{Kind, KindFault, Scope};
+use tg_map::{Map, MapAns, MapAsk, MapOp};
 
 /// The state of an object of any kind.
-#[derive(Debug, Drop)]
+#[derive(Drop)]
 pub enum AnyKind {
     Counter(Counter),
     Register(Register),
+    Map(Map),
 }
 
 /// What changes a state. An op of another kind than the state's changes nothing.
@@ -22,6 +24,7 @@ pub enum AnyKind {
 pub enum AnyOp {
     Counter(CounterOp),
     Register(RegisterOp),
+    Map(MapOp),
 }
 
 /// What looks at a state.
@@ -29,6 +32,7 @@ pub enum AnyOp {
 pub enum AnyAsk {
     Counter(CounterAsk),
     Register(RegisterAsk),
+    Map(MapAsk),
 }
 
 /// What an ask is answered.
@@ -36,6 +40,7 @@ pub enum AnyAsk {
 pub enum AnyAns {
     Counter(CounterAns),
     Register(RegisterAns),
+    Map(MapAns),
     /// The ask is of another kind than the state's.
     None,
 }
@@ -92,7 +97,8 @@ impl Kind for AnyKind {
     fn fresh(alloc: Global, oid: Oid, objects: &[Oid]) -> Result<AnyKind, NoMemory> {
         match oid.0 / INDICES {
             1 => Ok(AnyKind::Counter(Counter::fresh(alloc, oid, objects)?)),
-            _ => Ok(AnyKind::Register(Register::fresh(alloc, oid, objects)?)),
+            2 => Ok(AnyKind::Register(Register::fresh(alloc, oid, objects)?)),
+            _ => Ok(AnyKind::Map(Map::fresh(alloc, oid, objects)?)),
         }
     }
 
@@ -105,6 +111,10 @@ impl Kind for AnyKind {
             AnyKind::Register(state) => match op {
                 AnyOp::Register(op) => Ok(AnyKind::Register(state.apply(op)?)),
                 _ => Ok(AnyKind::Register(state)),
+            },
+            AnyKind::Map(state) => match op {
+                AnyOp::Map(op) => Ok(AnyKind::Map(state.apply(op)?)),
+                _ => Ok(AnyKind::Map(state)),
             },
         }
     }
@@ -119,6 +129,10 @@ impl Kind for AnyKind {
                 AnyAsk::Register(ask) => Ok(AnyAns::Register(state.ask(alloc, ask)?)),
                 _ => Ok(AnyAns::None),
             },
+            AnyKind::Map(state) => match ask {
+                AnyAsk::Map(ask) => Ok(AnyAns::Map(state.ask(alloc, ask)?)),
+                _ => Ok(AnyAns::None),
+            },
         }
     }
 
@@ -126,6 +140,7 @@ impl Kind for AnyKind {
         match op {
             AnyOp::Counter(op) => Counter::touch(op),
             AnyOp::Register(op) => Register::touch(op),
+            AnyOp::Map(op) => Map::touch(op),
         }
     }
 
@@ -133,6 +148,7 @@ impl Kind for AnyKind {
         match ask {
             AnyAsk::Counter(ask) => Counter::look(ask),
             AnyAsk::Register(ask) => Register::look(ask),
+            AnyAsk::Map(ask) => Map::look(ask),
         }
     }
 
@@ -140,13 +156,15 @@ impl Kind for AnyKind {
         match self {
             AnyKind::Counter(state) => state.save(alloc),
             AnyKind::Register(state) => state.save(alloc),
+            AnyKind::Map(state) => state.save(alloc),
         }
     }
 
     fn load(alloc: Global, oid: Oid, bytes: &[u8]) -> Result<AnyKind, KindFault> {
         match oid.0 / INDICES {
             1 => Ok(AnyKind::Counter(Counter::load(alloc, oid, bytes)?)),
-            _ => Ok(AnyKind::Register(Register::load(alloc, oid, bytes)?)),
+            2 => Ok(AnyKind::Register(Register::load(alloc, oid, bytes)?)),
+            _ => Ok(AnyKind::Map(Map::load(alloc, oid, bytes)?)),
         }
     }
 
@@ -154,6 +172,7 @@ impl Kind for AnyKind {
         match op {
             AnyOp::Counter(op) => Counter::put_op(alloc, op, out),
             AnyOp::Register(op) => Register::put_op(alloc, op, out),
+            AnyOp::Map(op) => Map::put_op(alloc, op, out),
         }
     }
 
@@ -163,9 +182,13 @@ impl Kind for AnyKind {
                 let (op, len) = Counter::get_op(alloc, bytes)?;
                 Ok((AnyOp::Counter(op), len))
             }
-            _ => {
+            2 => {
                 let (op, len) = Register::get_op(alloc, bytes)?;
                 Ok((AnyOp::Register(op), len))
+            }
+            _ => {
+                let (op, len) = Map::get_op(alloc, bytes)?;
+                Ok((AnyOp::Map(op), len))
             }
         }
     }
@@ -174,6 +197,7 @@ impl Kind for AnyKind {
         match self {
             AnyKind::Counter(state) => Ok(AnyKind::Counter(state.copy()?)),
             AnyKind::Register(state) => Ok(AnyKind::Register(state.copy()?)),
+            AnyKind::Map(state) => Ok(AnyKind::Map(state.copy()?)),
         }
     }
 
@@ -181,6 +205,7 @@ impl Kind for AnyKind {
         match op {
             AnyOp::Counter(op) => Ok(AnyOp::Counter(Counter::copy_op(op)?)),
             AnyOp::Register(op) => Ok(AnyOp::Register(Register::copy_op(op)?)),
+            AnyOp::Map(op) => Ok(AnyOp::Map(Map::copy_op(op)?)),
         }
     }
 
@@ -188,6 +213,7 @@ impl Kind for AnyKind {
         match ask {
             AnyAsk::Counter(ask) => Ok(AnyAsk::Counter(Counter::copy_ask(ask)?)),
             AnyAsk::Register(ask) => Ok(AnyAsk::Register(Register::copy_ask(ask)?)),
+            AnyAsk::Map(ask) => Ok(AnyAsk::Map(Map::copy_ask(ask)?)),
         }
     }
 

@@ -11,6 +11,7 @@ use crate::any::{AnyAns, AnyAsk, AnyOp};
 use crate::counter_words::{
     counter_answer, counter_ask, counter_op, put_counter_answer, put_counter_ask, put_counter_op,
 };
+use crate::map_words::{map_answer, map_ask, map_op, put_map_answer, put_map_ask, put_map_op};
 use crate::register_words::{
     put_register_answer, put_register_ask, put_register_op, register_answer, register_ask,
     register_op,
@@ -39,6 +40,9 @@ fn parse_op(alloc: Global, words: &[&str]) -> Result<Option<AnyOp>, NoMemory>
     if let Some(x) = register_op(alloc, verb, fields)? {
         return Ok(Some(AnyOp::Register(x)));
     }
+    if let Some(x) = map_op(alloc, verb, fields)? {
+        return Ok(Some(AnyOp::Map(x)));
+    }
     Ok(None)
 }
 
@@ -62,6 +66,9 @@ fn parse_ask(alloc: Global, words: &[&str]) -> Result<Option<AnyAsk>, NoMemory>
     }
     if let Some(x) = register_ask(alloc, verb, fields)? {
         return Ok(Some(AnyAsk::Register(x)));
+    }
+    if let Some(x) = map_ask(alloc, verb, fields)? {
+        return Ok(Some(AnyAsk::Map(x)));
     }
     Ok(None)
 }
@@ -91,6 +98,12 @@ fn parse_answer(alloc: Global, ask: &AnyAsk, words: &[&str]) -> Result<Option<An
             };
             Ok(Some(AnyAns::Register(x)))
         }
+        AnyAsk::Map(ask) => {
+            let Some(x) = map_answer(alloc, ask, words)? else {
+                return Ok(None);
+            };
+            Ok(Some(AnyAns::Map(x)))
+        }
     }
 }
 
@@ -111,6 +124,7 @@ fn put_op(op: &AnyOp, out: &mut List<u8>) -> Result<(), NoMemory>
     match op {
         AnyOp::Counter(op) => put_counter_op(op, out),
         AnyOp::Register(op) => put_register_op(op, out),
+        AnyOp::Map(op) => put_map_op(op, out),
     }
 }
 
@@ -131,6 +145,7 @@ fn put_ask(ask: &AnyAsk, out: &mut List<u8>) -> Result<(), NoMemory>
     match ask {
         AnyAsk::Counter(ask) => put_counter_ask(ask, out),
         AnyAsk::Register(ask) => put_register_ask(ask, out),
+        AnyAsk::Map(ask) => put_map_ask(ask, out),
     }
 }
 
@@ -151,6 +166,7 @@ fn put_answer(answer: &AnyAns, out: &mut List<u8>) -> Result<(), NoMemory>
     match answer {
         AnyAns::Counter(answer) => put_counter_answer(answer, out),
         AnyAns::Register(answer) => put_register_answer(answer, out),
+        AnyAns::Map(answer) => put_map_answer(answer, out),
         AnyAns::None => out.extend(b"none"),
     }
 }

@@ -7,6 +7,7 @@ mod any_words;
 mod counter_words;
 mod decimal;
 mod field;
+mod map_words;
 mod names;
 mod phrase;
 mod register_words;

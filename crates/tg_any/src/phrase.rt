@@ -2,7 +2,7 @@
 
 ghost use Rattle.std.specs.Prelude.{◌≡◌, ◌∷◌, ◌++◌, IfOk, OnOk, option_map, map, codes};
 ghost use Rattle.tg_any.specs.Fronts.{after};
-ghost use Rattle.tg_any.specs.Words.{texts, none_read, one_read, two_read, maybe_read, maybe_words, before, items_read, is_empty_list, list_read, list, joined};
+ghost use Rattle.tg_any.specs.Words.{texts, none_read, one_read, two_read, maybe_read, maybe_words, before, items_read, is_empty_list, list_read, bracketed, list, joined};
 
 use crate::field::Field;
 use std::alloc::Global;
@@ -151,17 +151,22 @@ fn put_items<A: Field>(first: &A, rest: &[A], out: &mut List<u8>) -> Result<(), 
     Ok(())
 }
 
+// Puts items in brackets.
+fn put_some<A: Field>(first: &A, rest: &[A], out: &mut List<u8>) -> Result<(), NoMemory>
+    ensures { OnOk result (out.new ≡ out.old ++ joined (bracketed (map A.word.spell (first.now ∷ rest.now)))) }
+{
+    out.push(b'[')?;
+    put_items(first, rest, out)?;
+    out.push(b']')?;
+    Ok(())
+}
+
 /// Puts a list in brackets.
 pub fn put_list<A: Field>(items: &[A], out: &mut List<u8>) -> Result<(), NoMemory>
     ensures { OnOk result (out.new ≡ out.old ++ joined ((list A.word).spell items.now)) }
 {
     match items {
         [] => out.extend(b"[]"),
-        [first, rest @ ..] => {
-            out.push(b'[')?;
-            put_items(first, rest, out)?;
-            out.push(b']')?;
-            Ok(())
-        }
+        [first, rest @ ..] => put_some(first, rest, out),
     }
 }
