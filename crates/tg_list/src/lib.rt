@@ -1,0 +1,9 @@
+//! Lists of texts with cheap ends.
+#![tactic(auto)]
+
+mod text_list;
+
+pub use text_list::{TextList, TextListAns, TextListAsk, TextListOp};
+
+#[cfg(test)]
+mod tests;
