@@ -1,0 +1,4 @@
+pub mod Spellings
+pub mod SpellingLaws
+pub mod Directories
+pub mod DirectoryLaws
