@@ -3,7 +3,9 @@ pub mod Fronts
 pub mod ObjectWords
 pub mod Words
 pub mod Lists
+pub mod DirectoryForms
 pub mod CounterForms
 pub mod RegisterForms
 pub mod MapForms
+pub mod ListForms
 pub mod AnyForms

@@ -15,7 +15,9 @@ use Rattle.tg_kind.specs.Texts.{text_format}
 use Rattle.tg_cell.specs.Signed.{fits_i64, in_of_fits}
 use Rattle.tg_any.specs.Decimals.{number_in, signed_in}
 use Rattle.tg_any.specs.Fronts.{after}
-use Rattle.tg_any.specs.Names.{object_at, object_in, mark_in}
+use Rattle.tg_dir.specs.Spellings.{is_number}
+use Rattle.std.proofs.lemmas.Bool.Decides.{nat_tests}
+use Rattle.tg_any.specs.Names.{is_named, object_at, object_in, mark_in}
 use Rattle.tg_any.specs.Words.{Word, number, index, signed, text, object, mark, flag, Phrase, none_read, nothing, one_read, one, two_read, two, verb, maybe, maybe_read}
 use Rattle.tg_any.proofs.Numbers.{map_takes, bind_takes, when_takes, number_in_takes, number_in_again, signed_in_takes, signed_in_again}
 use Rattle.tg_any.proofs.Fronts.{some_is, bind_again, if_again}
@@ -188,3 +190,10 @@ maybe-again {A} a law (Some x) e = made_again (one a) (one_law a law) (λ (x : A
 
 pub maybe_law : {A : Type 0} (a : Word A) → IsWord a → IsPhrase (maybe a)
 maybe_law a law = record { takes = maybe-takes a law; again = maybe-again a law }
+
+-- an object that is read has an object's number
+named_number : (o : Oid) → is_named o ≡ true → is_number o ≡ true
+named_number o e = grind (arith, nat_tests)
+
+pub object_number : (word : List ℕ) (o : Oid) → Some o ≡ object_in word → cond (is_number o) (Some o) None ≡ object_in word
+object_number word o e = ap (λ (b : Bool). cond b (Some o) None) (named_number o (object_in_takes word o (sym e)).1) ∙ e

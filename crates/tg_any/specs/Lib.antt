@@ -4,7 +4,9 @@ pub mod Names
 pub mod Words
 pub mod Anys
 pub mod AnyLaws
+pub mod DirectoryWords
 pub mod CounterWords
 pub mod RegisterWords
 pub mod MapWords
+pub mod ListWords
 pub mod AnyWords

@@ -11,6 +11,13 @@ use crate::any::{AnyAns, AnyAsk, AnyOp};
 use crate::counter_words::{
     counter_answer, counter_ask, counter_op, put_counter_answer, put_counter_ask, put_counter_op,
 };
+use crate::directory_words::{
+    directory_answer, directory_ask, directory_op, put_directory_answer, put_directory_ask,
+    put_directory_op,
+};
+use crate::list_words::{
+    list_answer, list_ask, list_op, put_list_answer, put_list_ask, put_list_op,
+};
 use crate::map_words::{map_answer, map_ask, map_op, put_map_answer, put_map_ask, put_map_op};
 use crate::register_words::{
     put_register_answer, put_register_ask, put_register_op, register_answer, register_ask,
@@ -34,6 +41,9 @@ fn parse_op(alloc: Global, words: &[&str]) -> Result<Option<AnyOp>, NoMemory>
     let [verb, fields @ ..] = words else {
         return Ok(None);
     };
+    if let Some(x) = directory_op(alloc, verb, fields)? {
+        return Ok(Some(AnyOp::Directory(x)));
+    }
     if let Some(x) = counter_op(alloc, verb, fields)? {
         return Ok(Some(AnyOp::Counter(x)));
     }
@@ -42,6 +52,9 @@ fn parse_op(alloc: Global, words: &[&str]) -> Result<Option<AnyOp>, NoMemory>
     }
     if let Some(x) = map_op(alloc, verb, fields)? {
         return Ok(Some(AnyOp::Map(x)));
+    }
+    if let Some(x) = list_op(alloc, verb, fields)? {
+        return Ok(Some(AnyOp::List(x)));
     }
     Ok(None)
 }
@@ -61,6 +74,9 @@ fn parse_ask(alloc: Global, words: &[&str]) -> Result<Option<AnyAsk>, NoMemory>
     let [verb, fields @ ..] = words else {
         return Ok(None);
     };
+    if let Some(x) = directory_ask(alloc, verb, fields)? {
+        return Ok(Some(AnyAsk::Directory(x)));
+    }
     if let Some(x) = counter_ask(alloc, verb, fields)? {
         return Ok(Some(AnyAsk::Counter(x)));
     }
@@ -69,6 +85,9 @@ fn parse_ask(alloc: Global, words: &[&str]) -> Result<Option<AnyAsk>, NoMemory>
     }
     if let Some(x) = map_ask(alloc, verb, fields)? {
         return Ok(Some(AnyAsk::Map(x)));
+    }
+    if let Some(x) = list_ask(alloc, verb, fields)? {
+        return Ok(Some(AnyAsk::List(x)));
     }
     Ok(None)
 }
@@ -86,6 +105,12 @@ fn parse_answer(alloc: Global, ask: &AnyAsk, words: &[&str]) -> Result<Option<An
     ensures { IfOk result (λ x. x ≡ answer_read ask.now (texts words.now)) }
 {
     match ask {
+        AnyAsk::Directory(ask) => {
+            let Some(x) = directory_answer(alloc, ask, words)? else {
+                return Ok(None);
+            };
+            Ok(Some(AnyAns::Directory(x)))
+        }
         AnyAsk::Counter(ask) => {
             let Some(x) = counter_answer(alloc, ask, words)? else {
                 return Ok(None);
@@ -103,6 +128,12 @@ fn parse_answer(alloc: Global, ask: &AnyAsk, words: &[&str]) -> Result<Option<An
                 return Ok(None);
             };
             Ok(Some(AnyAns::Map(x)))
+        }
+        AnyAsk::List(ask) => {
+            let Some(x) = list_answer(alloc, ask, words)? else {
+                return Ok(None);
+            };
+            Ok(Some(AnyAns::List(x)))
         }
     }
 }
@@ -122,9 +153,11 @@ fn put_op(op: &AnyOp, out: &mut List<u8>) -> Result<(), NoMemory>
     ensures { OnOk result (out.new ≡ out.old ++ joined (op_words op.now)) }
 {
     match op {
+        AnyOp::Directory(op) => put_directory_op(op, out),
         AnyOp::Counter(op) => put_counter_op(op, out),
         AnyOp::Register(op) => put_register_op(op, out),
         AnyOp::Map(op) => put_map_op(op, out),
+        AnyOp::List(op) => put_list_op(op, out),
     }
 }
 
@@ -143,9 +176,11 @@ fn put_ask(ask: &AnyAsk, out: &mut List<u8>) -> Result<(), NoMemory>
     ensures { OnOk result (out.new ≡ out.old ++ joined (ask_words ask.now)) }
 {
     match ask {
+        AnyAsk::Directory(ask) => put_directory_ask(ask, out),
         AnyAsk::Counter(ask) => put_counter_ask(ask, out),
         AnyAsk::Register(ask) => put_register_ask(ask, out),
         AnyAsk::Map(ask) => put_map_ask(ask, out),
+        AnyAsk::List(ask) => put_list_ask(ask, out),
     }
 }
 
@@ -164,9 +199,11 @@ fn put_answer(answer: &AnyAns, out: &mut List<u8>) -> Result<(), NoMemory>
     ensures { OnOk result (out.new ≡ out.old ++ joined (answer_words answer.now)) }
 {
     match answer {
+        AnyAns::Directory(answer) => put_directory_answer(answer, out),
         AnyAns::Counter(answer) => put_counter_answer(answer, out),
         AnyAns::Register(answer) => put_register_answer(answer, out),
         AnyAns::Map(answer) => put_map_answer(answer, out),
+        AnyAns::List(answer) => put_list_answer(answer, out),
         AnyAns::None => out.extend(b"none"),
     }
 }

@@ -7,6 +7,7 @@ use crate::decimal::{number, put_number, signed};
 use crate::names::{mark, object, put_mark, put_object};
 use std::alloc::Global;
 use tg_base::{List, NoMemory, Oid, Pos};
+use tg_dir::Object;
 use tg_kind::Text;
 
 /// Values that are one word of a line.
@@ -87,6 +88,21 @@ impl Field for Oid {
 
     fn put(&self, out: &mut List<u8>) -> Result<(), NoMemory> {
         put_object(*self, out)
+    }
+}
+
+impl Field for Object {
+    ghost word = { object };
+
+    fn of(_alloc: Global, spelling: &str) -> Result<Option<Object>, NoMemory> {
+        match object(spelling.as_bytes()) {
+            None => Ok(None),
+            Some(oid) => Ok(Object::of(oid)),
+        }
+    }
+
+    fn put(&self, out: &mut List<u8>) -> Result<(), NoMemory> {
+        put_object(self.oid(), out)
     }
 }
 

@@ -6,7 +6,9 @@ mod any;
 mod any_words;
 mod counter_words;
 mod decimal;
+mod directory_words;
 mod field;
+mod list_words;
 mod map_words;
 mod names;
 mod phrase;
@@ -18,3 +20,6 @@ pub use decimal::{number, number_front, put_number, signed};
 pub use field::Field;
 pub use names::{mark, object, object_front, put_mark, put_object};
 pub use phrase::{list, maybe, nothing, one, put_list, put_maybe, two};
+
+#[cfg(test)]
+mod tests;
