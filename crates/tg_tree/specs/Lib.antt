@@ -1,0 +1,6 @@
+pub mod Paths
+pub mod PathLaws
+pub mod Trees
+pub mod Orders
+pub mod Growth
+pub mod TreeLaws
