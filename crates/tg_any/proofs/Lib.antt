@@ -8,4 +8,6 @@ pub mod CounterForms
 pub mod RegisterForms
 pub mod MapForms
 pub mod ListForms
+pub mod TreeForms
+pub mod SetForms
 pub mod AnyForms

@@ -12,13 +12,14 @@ use Rattle.std.proofs.lemmas.Slice.Eq.{bytes_eq-Decides}
 use Rattle.tg_base.specs.declared.ids.Oid.{Oid}
 use Rattle.tg_codec.proofs.Laws.{and-left, and-right, both}
 use Rattle.tg_kind.specs.Texts.{text_format}
+use Rattle.tg_tree.specs.Paths.{path_format}
 use Rattle.tg_cell.specs.Signed.{fits_i64, in_of_fits}
 use Rattle.tg_any.specs.Decimals.{number_in, signed_in}
 use Rattle.tg_any.specs.Fronts.{after}
 use Rattle.tg_dir.specs.Spellings.{is_number}
 use Rattle.std.proofs.lemmas.Bool.Decides.{nat_tests}
 use Rattle.tg_any.specs.Names.{is_named, object_at, object_in, mark_in}
-use Rattle.tg_any.specs.Words.{Word, number, index, signed, text, object, mark, flag, Phrase, none_read, nothing, one_read, one, two_read, two, verb, maybe, maybe_read}
+use Rattle.tg_any.specs.Words.{Word, number, index, signed, text, path, object, mark, flag, Phrase, none_read, nothing, one_read, one, two_read, two, verb, maybe, maybe_read}
 use Rattle.tg_any.proofs.Numbers.{map_takes, bind_takes, when_takes, number_in_takes, number_in_again, signed_in_takes, signed_in_again}
 use Rattle.tg_any.proofs.Fronts.{some_is, bind_again, if_again}
 use Rattle.tg_any.proofs.ObjectWords.{object_in_takes, object_in_again, mark_in_takes, mark_in_again}
@@ -89,6 +90,16 @@ text_law = record {
   takes = λ t x e. let d = when_takes _ _ _ e in (d.1, subst (λ (x : List ℕ). text_format.fits x ≡ true) d.1 d.0);
   again = λ x e. if_again _ _ _ e refl;
   some = refl;
+}
+
+no_path : path.read [] ≡ None
+no_path = refl
+
+pub path_law : IsWord path
+path_law = record {
+  takes = λ t x e. let d = when_takes _ _ _ e in (d.1, subst (λ (x : List ℕ). path_format.fits x ≡ true) d.1 d.0);
+  again = λ x e. if_again _ _ _ e refl;
+  some = no_path;
 }
 
 pub object_law : IsWord object

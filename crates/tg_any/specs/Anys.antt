@@ -9,6 +9,8 @@ use Rattle.tg_cell.specs.Counters as counters
 use Rattle.tg_cell.specs.Registers as registers
 use Rattle.tg_map.specs.Maps as maps
 use Rattle.tg_list.specs.TextLists as lists
+use Rattle.tg_tree.specs.Trees as trees
+use Rattle.tg_set.specs.Sets as sets
 use Rattle.tg_any.specs.declared.any.AnyKind.{AnyKind}
 use Rattle.tg_any.specs.declared.any.AnyKind.TheVariants as states
 use Rattle.tg_any.specs.declared.any.AnyOp.{AnyOp}
@@ -19,11 +21,11 @@ use Rattle.tg_any.specs.declared.any.AnyAns.{AnyAns}
 use Rattle.tg_any.specs.declared.any.AnyAns.TheVariants as answers
 
 -- what stands for the kind that has a tag
-abbrev pub by_tag : {A : Type 0} → ℕ → A → A → A → A → A → A
-by_tag t a b c d e = if t == 0 then a else (if t == 1 then b else (if t == 2 then c else (if t == 3 then d else e)))
+abbrev pub by_tag : {A : Type 0} → ℕ → A → A → A → A → A → A → A → A
+by_tag t k0 k1 k2 k3 k4 k5 k6 = if t == 0 then k0 else (if t == 1 then k1 else (if t == 2 then k2 else (if t == 3 then k3 else (if t == 4 then k4 else (if t == 5 then k5 else k6)))))
 
 abbrev pub is_object : Oid → Bool
-is_object o = by_tag (tag_of o) (directories.is_object o) (counters.is_object o) (registers.is_object o) (maps.is_object o) (lists.is_object o)
+is_object o = by_tag (tag_of o) (directories.is_object o) (counters.is_object o) (registers.is_object o) (maps.is_object o) (lists.is_object o) (trees.is_object o) (sets.is_object o)
 
 abbrev pub is_state : Oid → AnyKind → Bool
 is_state o (states.Directory s) = directories.is_state o s
@@ -31,6 +33,8 @@ is_state o (states.Counter s) = counters.is_state o s
 is_state o (states.Register s) = registers.is_state o s
 is_state o (states.Map s) = maps.is_state o s
 is_state o (states.List s) = lists.is_state o s
+is_state o (states.Tree s) = trees.is_state o s
+is_state o (states.Set s) = sets.is_state o s
 
 abbrev pub is_op : AnyOp → Bool
 is_op (ops.Directory op) = directories.op_format.fits op
@@ -38,6 +42,8 @@ is_op (ops.Counter op) = counters.op_format.fits op
 is_op (ops.Register op) = registers.op_format.fits op
 is_op (ops.Map op) = maps.op_format.fits op
 is_op (ops.List op) = lists.op_format.fits op
+is_op (ops.Tree op) = trees.op_format.fits op
+is_op (ops.Set op) = sets.op_format.fits op
 
 abbrev pub is_of : Oid → AnyOp → Bool
 is_of o (ops.Directory op) = directories.is_of o op
@@ -45,9 +51,11 @@ is_of o (ops.Counter op) = counters.is_of o op
 is_of o (ops.Register op) = registers.is_of o op
 is_of o (ops.Map op) = maps.is_of o op
 is_of o (ops.List op) = lists.is_of o op
+is_of o (ops.Tree op) = trees.is_of o op
+is_of o (ops.Set op) = sets.is_of o op
 
 abbrev pub first : Oid → List Oid → AnyKind
-first o os = by_tag (tag_of o) (states.Directory (directories.first o os)) (states.Counter (counters.first o os)) (states.Register (registers.first o os)) (states.Map (maps.first o os)) (states.List (lists.first o os))
+first o os = by_tag (tag_of o) (states.Directory (directories.first o os)) (states.Counter (counters.first o os)) (states.Register (registers.first o os)) (states.Map (maps.first o os)) (states.List (lists.first o os)) (states.Tree (trees.first o os)) (states.Set (sets.first o os))
 
 -- an op of another kind changes nothing
 abbrev pub applied : AnyKind → AnyOp → AnyKind
@@ -56,6 +64,8 @@ applied (states.Counter s) (ops.Counter op) = states.Counter (counters.applied s
 applied (states.Register s) (ops.Register op) = states.Register (registers.applied s op)
 applied (states.Map s) (ops.Map op) = states.Map (maps.applied s op)
 applied (states.List s) (ops.List op) = states.List (lists.applied s op)
+applied (states.Tree s) (ops.Tree op) = states.Tree (trees.applied s op)
+applied (states.Set s) (ops.Set op) = states.Set (sets.applied s op)
 applied s op = s
 
 -- an ask of another kind finds none
@@ -65,6 +75,8 @@ answered (states.Counter s) (asks.Counter ask) = answers.Counter (counters.answe
 answered (states.Register s) (asks.Register ask) = answers.Register (registers.answered s ask)
 answered (states.Map s) (asks.Map ask) = answers.Map (maps.answered s ask)
 answered (states.List s) (asks.List ask) = answers.List (lists.answered s ask)
+answered (states.Tree s) (asks.Tree ask) = answers.Tree (trees.answered s ask)
+answered (states.Set s) (asks.Set ask) = answers.Set (sets.answered s ask)
 answered s ask = answers.None
 
 abbrev pub touched : AnyOp → Part
@@ -73,6 +85,8 @@ touched (ops.Counter op) = counters.touched op
 touched (ops.Register op) = registers.touched op
 touched (ops.Map op) = maps.touched op
 touched (ops.List op) = lists.touched op
+touched (ops.Tree op) = trees.touched op
+touched (ops.Set op) = sets.touched op
 
 abbrev pub looked : AnyAsk → Part
 looked (asks.Directory ask) = directories.looked ask
@@ -80,6 +94,8 @@ looked (asks.Counter ask) = counters.looked ask
 looked (asks.Register ask) = registers.looked ask
 looked (asks.Map ask) = maps.looked ask
 looked (asks.List ask) = lists.looked ask
+looked (asks.Tree ask) = trees.looked ask
+looked (asks.Set ask) = sets.looked ask
 
 abbrev pub saved : AnyKind → List ℕ
 saved (states.Directory s) = directories.saved s
@@ -87,6 +103,8 @@ saved (states.Counter s) = counters.saved s
 saved (states.Register s) = registers.saved s
 saved (states.Map s) = maps.saved s
 saved (states.List s) = lists.saved s
+saved (states.Tree s) = trees.saved s
+saved (states.Set s) = sets.saved s
 
 -- a state of one kind as one of all
 abbrev pub made : {A B : Type 0} → (A → B) → Result A ℕ → Result B ℕ
@@ -94,7 +112,7 @@ made make (Ok x) = Ok (make x)
 made make (Err at) = Err at
 
 abbrev pub loaded : Oid → List ℕ → Result AnyKind ℕ
-loaded o bytes = by_tag (tag_of o) (made states.Directory (directories.loaded o bytes)) (made states.Counter (counters.loaded o bytes)) (made states.Register (registers.loaded o bytes)) (made states.Map (maps.loaded o bytes)) (made states.List (lists.loaded o bytes))
+loaded o bytes = by_tag (tag_of o) (made states.Directory (directories.loaded o bytes)) (made states.Counter (counters.loaded o bytes)) (made states.Register (registers.loaded o bytes)) (made states.Map (maps.loaded o bytes)) (made states.List (lists.loaded o bytes)) (made states.Tree (trees.loaded o bytes)) (made states.Set (sets.loaded o bytes))
 
 abbrev pub spelled : AnyOp → List ℕ
 spelled (ops.Directory op) = directories.op_format.spell op
@@ -102,6 +120,8 @@ spelled (ops.Counter op) = counters.op_format.spell op
 spelled (ops.Register op) = registers.op_format.spell op
 spelled (ops.Map op) = maps.op_format.spell op
 spelled (ops.List op) = lists.op_format.spell op
+spelled (ops.Tree op) = trees.op_format.spell op
+spelled (ops.Set op) = sets.op_format.spell op
 
 -- the codes of a kind's ops begin with its tag, which is their upper half
 abbrev pub code_tag : List ℕ → ℕ
@@ -113,7 +133,7 @@ made_op make (Ok x) = Ok (make x.0, x.1)
 made_op make (Err left) = Err left
 
 abbrev pub read : List ℕ → Read AnyOp
-read bytes = by_tag (code_tag bytes) (made_op ops.Directory (directories.op_format.read bytes)) (made_op ops.Counter (counters.op_format.read bytes)) (made_op ops.Register (registers.op_format.read bytes)) (made_op ops.Map (maps.op_format.read bytes)) (made_op ops.List (lists.op_format.read bytes))
+read bytes = by_tag (code_tag bytes) (made_op ops.Directory (directories.op_format.read bytes)) (made_op ops.Counter (counters.op_format.read bytes)) (made_op ops.Register (registers.op_format.read bytes)) (made_op ops.Map (maps.op_format.read bytes)) (made_op ops.List (lists.op_format.read bytes)) (made_op ops.Tree (trees.op_format.read bytes)) (made_op ops.Set (sets.op_format.read bytes))
 
 -- the op is of the object's kind, and a user may put it: of the directory's ops `mark` may not be put
 abbrev pub allowed : Oid → AnyOp → Bool
@@ -127,6 +147,8 @@ allowed_ask o (asks.Counter ask) = counters.is_object o
 allowed_ask o (asks.Register ask) = registers.is_object o
 allowed_ask o (asks.Map ask) = maps.is_object o
 allowed_ask o (asks.List ask) = lists.is_object o
+allowed_ask o (asks.Tree ask) = trees.is_object o
+allowed_ask o (asks.Set ask) = sets.is_object o
 
 abbrev pub lists_object : AnyKind → Oid → Bool
 lists_object (states.Directory s) o = directories.lists s o

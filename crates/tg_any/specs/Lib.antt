@@ -9,4 +9,6 @@ pub mod CounterWords
 pub mod RegisterWords
 pub mod MapWords
 pub mod ListWords
+pub mod TreeWords
+pub mod SetWords
 pub mod AnyWords

@@ -6,6 +6,7 @@ use Rattle.std.specs.Str.{bytes_eq}
 use Rattle.std.specs.Fmt.{decimal, signed_decimal}
 use Rattle.tg_base.specs.declared.ids.Oid.{Oid}
 use Rattle.tg_kind.specs.Texts.{text_format, text_of}
+use Rattle.tg_tree.specs.Paths.{path_format, path_of}
 use Rattle.tg_cell.specs.Signed.{in_i64}
 use Rattle.tg_any.specs.Decimals.{number_in, signed_in}
 use Rattle.tg_any.specs.Names.{is_named, object_word, object_in, mark_word, mark_in}
@@ -33,6 +34,9 @@ signed = record { spell = signed_decimal; fits = in_i64; read = signed_in }
 
 abbrev pub text : Word (List ℕ)
 text = record { spell = λ t. t; fits = text_format.fits; read = text_of }
+
+abbrev pub path : Word (List ℕ)
+path = record { spell = λ p. p; fits = path_format.fits; read = path_of }
 
 abbrev pub object : Word Oid
 object = record { spell = object_word; fits = is_named; read = object_in }

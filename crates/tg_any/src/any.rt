@@ -1,7 +1,7 @@
 //! All kinds of objects as one.
 
 ghost use Rattle.std.specs.Prelude.{◌≡◌, ◌++◌, true, Ok, IfOk, OnOk, OnErr};
-ghost use Rattle.tg_any.specs.Anys.{is_object, is_state, is_op, is_of, first, applied, answered, touched, looked, saved, loaded, spelled, read, allowed, allowed_ask, lists_object, floor_of, marking};
+ghost use Rattle.tg_any.specs.Anys.{is_object, is_state, is_op, is_of, first, applied, answered, touched, looked, saved, loaded, spelled, code_tag, read, allowed, allowed_ask, lists_object, floor_of, marking};
 
 use std::alloc::Global;
 use tg_base::{List, NoMemory, Oid, Pos};
@@ -12,6 +12,8 @@ use tg_dir::{Directory, DirectoryAns, DirectoryAsk, DirectoryOp};
 use tg_kind::{Kind, KindFault, Registry, Scope};
 use tg_list::{TextList, TextListAns, TextListAsk, TextListOp};
 use tg_map::{Map, MapAns, MapAsk, MapOp};
+use tg_set::{Set, SetAns, SetAsk, SetOp};
+use tg_tree::{Tree, TreeAns, TreeAsk, TreeOp};
 
 /// The state of an object of any kind.
 #[derive(Drop)]
@@ -21,6 +23,8 @@ pub enum AnyKind {
     Register(Register),
     Map(Map),
     List(TextList),
+    Tree(Tree),
+    Set(Set),
 }
 
 /// What changes a state. An op of another kind than the state's changes nothing.
@@ -31,6 +35,8 @@ pub enum AnyOp {
     Register(RegisterOp),
     Map(MapOp),
     List(TextListOp),
+    Tree(TreeOp),
+    Set(SetOp),
 }
 
 /// What looks at a state.
@@ -41,6 +47,8 @@ pub enum AnyAsk {
     Register(RegisterAsk),
     Map(MapAsk),
     List(TextListAsk),
+    Tree(TreeAsk),
+    Set(SetAsk),
 }
 
 /// What an ask is answered.
@@ -51,6 +59,8 @@ pub enum AnyAns {
     Register(RegisterAns),
     Map(MapAns),
     List(TextListAns),
+    Tree(TreeAns),
+    Set(SetAns),
     /// The ask is of another kind than the state's.
     None,
 }
@@ -110,7 +120,9 @@ impl Kind for AnyKind {
             1 => Ok(AnyKind::Counter(Counter::fresh(alloc, oid, objects)?)),
             2 => Ok(AnyKind::Register(Register::fresh(alloc, oid, objects)?)),
             3 => Ok(AnyKind::Map(Map::fresh(alloc, oid, objects)?)),
-            _ => Ok(AnyKind::List(TextList::fresh(alloc, oid, objects)?)),
+            4 => Ok(AnyKind::List(TextList::fresh(alloc, oid, objects)?)),
+            5 => Ok(AnyKind::Tree(Tree::fresh(alloc, oid, objects)?)),
+            _ => Ok(AnyKind::Set(Set::fresh(alloc, oid, objects)?)),
         }
     }
 
@@ -135,6 +147,14 @@ impl Kind for AnyKind {
             AnyKind::List(state) => match op {
                 AnyOp::List(op) => Ok(AnyKind::List(state.apply(op)?)),
                 _ => Ok(AnyKind::List(state)),
+            },
+            AnyKind::Tree(state) => match op {
+                AnyOp::Tree(op) => Ok(AnyKind::Tree(state.apply(op)?)),
+                _ => Ok(AnyKind::Tree(state)),
+            },
+            AnyKind::Set(state) => match op {
+                AnyOp::Set(op) => Ok(AnyKind::Set(state.apply(op)?)),
+                _ => Ok(AnyKind::Set(state)),
             },
         }
     }
@@ -161,6 +181,14 @@ impl Kind for AnyKind {
                 AnyAsk::List(ask) => Ok(AnyAns::List(state.ask(alloc, ask)?)),
                 _ => Ok(AnyAns::None),
             },
+            AnyKind::Tree(state) => match ask {
+                AnyAsk::Tree(ask) => Ok(AnyAns::Tree(state.ask(alloc, ask)?)),
+                _ => Ok(AnyAns::None),
+            },
+            AnyKind::Set(state) => match ask {
+                AnyAsk::Set(ask) => Ok(AnyAns::Set(state.ask(alloc, ask)?)),
+                _ => Ok(AnyAns::None),
+            },
         }
     }
 
@@ -171,6 +199,8 @@ impl Kind for AnyKind {
             AnyOp::Register(op) => Register::touch(op),
             AnyOp::Map(op) => Map::touch(op),
             AnyOp::List(op) => TextList::touch(op),
+            AnyOp::Tree(op) => Tree::touch(op),
+            AnyOp::Set(op) => Set::touch(op),
         }
     }
 
@@ -181,6 +211,8 @@ impl Kind for AnyKind {
             AnyAsk::Register(ask) => Register::look(ask),
             AnyAsk::Map(ask) => Map::look(ask),
             AnyAsk::List(ask) => TextList::look(ask),
+            AnyAsk::Tree(ask) => Tree::look(ask),
+            AnyAsk::Set(ask) => Set::look(ask),
         }
     }
 
@@ -191,6 +223,8 @@ impl Kind for AnyKind {
             AnyKind::Register(state) => state.save(alloc),
             AnyKind::Map(state) => state.save(alloc),
             AnyKind::List(state) => state.save(alloc),
+            AnyKind::Tree(state) => state.save(alloc),
+            AnyKind::Set(state) => state.save(alloc),
         }
     }
 
@@ -200,7 +234,9 @@ impl Kind for AnyKind {
             1 => Ok(AnyKind::Counter(Counter::load(alloc, oid, bytes)?)),
             2 => Ok(AnyKind::Register(Register::load(alloc, oid, bytes)?)),
             3 => Ok(AnyKind::Map(Map::load(alloc, oid, bytes)?)),
-            _ => Ok(AnyKind::List(TextList::load(alloc, oid, bytes)?)),
+            4 => Ok(AnyKind::List(TextList::load(alloc, oid, bytes)?)),
+            5 => Ok(AnyKind::Tree(Tree::load(alloc, oid, bytes)?)),
+            _ => Ok(AnyKind::Set(Set::load(alloc, oid, bytes)?)),
         }
     }
 
@@ -211,6 +247,8 @@ impl Kind for AnyKind {
             AnyOp::Register(op) => Register::put_op(alloc, op, out),
             AnyOp::Map(op) => Map::put_op(alloc, op, out),
             AnyOp::List(op) => TextList::put_op(alloc, op, out),
+            AnyOp::Tree(op) => Tree::put_op(alloc, op, out),
+            AnyOp::Set(op) => Set::put_op(alloc, op, out),
         }
     }
 
@@ -232,9 +270,17 @@ impl Kind for AnyKind {
                 let (op, len) = Map::get_op(alloc, bytes)?;
                 Ok((AnyOp::Map(op), len))
             }
-            _ => {
+            4 => {
                 let (op, len) = TextList::get_op(alloc, bytes)?;
                 Ok((AnyOp::List(op), len))
+            }
+            5 => {
+                let (op, len) = Tree::get_op(alloc, bytes)?;
+                Ok((AnyOp::Tree(op), len))
+            }
+            _ => {
+                let (op, len) = Set::get_op(alloc, bytes)?;
+                Ok((AnyOp::Set(op), len))
             }
         }
     }
@@ -246,6 +292,8 @@ impl Kind for AnyKind {
             AnyKind::Register(state) => Ok(AnyKind::Register(state.copy()?)),
             AnyKind::Map(state) => Ok(AnyKind::Map(state.copy()?)),
             AnyKind::List(state) => Ok(AnyKind::List(state.copy()?)),
+            AnyKind::Tree(state) => Ok(AnyKind::Tree(state.copy()?)),
+            AnyKind::Set(state) => Ok(AnyKind::Set(state.copy()?)),
         }
     }
 
@@ -256,6 +304,8 @@ impl Kind for AnyKind {
             AnyOp::Register(op) => Ok(AnyOp::Register(Register::copy_op(op)?)),
             AnyOp::Map(op) => Ok(AnyOp::Map(Map::copy_op(op)?)),
             AnyOp::List(op) => Ok(AnyOp::List(TextList::copy_op(op)?)),
+            AnyOp::Tree(op) => Ok(AnyOp::Tree(Tree::copy_op(op)?)),
+            AnyOp::Set(op) => Ok(AnyOp::Set(Set::copy_op(op)?)),
         }
     }
 
@@ -266,6 +316,8 @@ impl Kind for AnyKind {
             AnyAsk::Register(ask) => Ok(AnyAsk::Register(Register::copy_ask(ask)?)),
             AnyAsk::Map(ask) => Ok(AnyAsk::Map(Map::copy_ask(ask)?)),
             AnyAsk::List(ask) => Ok(AnyAsk::List(TextList::copy_ask(ask)?)),
+            AnyAsk::Tree(ask) => Ok(AnyAsk::Tree(Tree::copy_ask(ask)?)),
+            AnyAsk::Set(ask) => Ok(AnyAsk::Set(Set::copy_ask(ask)?)),
         }
     }
 
@@ -308,6 +360,8 @@ impl Registry for AnyKind {
             AnyOp::Register(_) => oid.0 / INDICES == 2,
             AnyOp::Map(_) => oid.0 / INDICES == 3,
             AnyOp::List(_) => oid.0 / INDICES == 4,
+            AnyOp::Tree(_) => oid.0 / INDICES == 5,
+            AnyOp::Set(_) => oid.0 / INDICES == 6,
         }
     }
 
@@ -318,6 +372,8 @@ impl Registry for AnyKind {
             AnyAsk::Register(_) => oid.0 / INDICES == 2,
             AnyAsk::Map(_) => oid.0 / INDICES == 3,
             AnyAsk::List(_) => oid.0 / INDICES == 4,
+            AnyAsk::Tree(_) => oid.0 / INDICES == 5,
+            AnyAsk::Set(_) => oid.0 / INDICES == 6,
         }
     }
 

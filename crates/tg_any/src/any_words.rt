@@ -23,6 +23,10 @@ use crate::register_words::{
     put_register_answer, put_register_ask, put_register_op, register_answer, register_ask,
     register_op,
 };
+use crate::set_words::{put_set_answer, put_set_ask, put_set_op, set_answer, set_ask, set_op};
+use crate::tree_words::{
+    put_tree_answer, put_tree_ask, put_tree_op, tree_answer, tree_ask, tree_op,
+};
 use std::alloc::Global;
 use tg_base::{List, NoMemory};
 
@@ -56,6 +60,12 @@ fn parse_op(alloc: Global, words: &[&str]) -> Result<Option<AnyOp>, NoMemory>
     if let Some(x) = list_op(alloc, verb, fields)? {
         return Ok(Some(AnyOp::List(x)));
     }
+    if let Some(x) = tree_op(alloc, verb, fields)? {
+        return Ok(Some(AnyOp::Tree(x)));
+    }
+    if let Some(x) = set_op(alloc, verb, fields)? {
+        return Ok(Some(AnyOp::Set(x)));
+    }
     Ok(None)
 }
 
@@ -88,6 +98,12 @@ fn parse_ask(alloc: Global, words: &[&str]) -> Result<Option<AnyAsk>, NoMemory>
     }
     if let Some(x) = list_ask(alloc, verb, fields)? {
         return Ok(Some(AnyAsk::List(x)));
+    }
+    if let Some(x) = tree_ask(alloc, verb, fields)? {
+        return Ok(Some(AnyAsk::Tree(x)));
+    }
+    if let Some(x) = set_ask(alloc, verb, fields)? {
+        return Ok(Some(AnyAsk::Set(x)));
     }
     Ok(None)
 }
@@ -135,6 +151,18 @@ fn parse_answer(alloc: Global, ask: &AnyAsk, words: &[&str]) -> Result<Option<An
             };
             Ok(Some(AnyAns::List(x)))
         }
+        AnyAsk::Tree(ask) => {
+            let Some(x) = tree_answer(alloc, ask, words)? else {
+                return Ok(None);
+            };
+            Ok(Some(AnyAns::Tree(x)))
+        }
+        AnyAsk::Set(ask) => {
+            let Some(x) = set_answer(alloc, ask, words)? else {
+                return Ok(None);
+            };
+            Ok(Some(AnyAns::Set(x)))
+        }
     }
 }
 
@@ -158,6 +186,8 @@ fn put_op(op: &AnyOp, out: &mut List<u8>) -> Result<(), NoMemory>
         AnyOp::Register(op) => put_register_op(op, out),
         AnyOp::Map(op) => put_map_op(op, out),
         AnyOp::List(op) => put_list_op(op, out),
+        AnyOp::Tree(op) => put_tree_op(op, out),
+        AnyOp::Set(op) => put_set_op(op, out),
     }
 }
 
@@ -181,6 +211,8 @@ fn put_ask(ask: &AnyAsk, out: &mut List<u8>) -> Result<(), NoMemory>
         AnyAsk::Register(ask) => put_register_ask(ask, out),
         AnyAsk::Map(ask) => put_map_ask(ask, out),
         AnyAsk::List(ask) => put_list_ask(ask, out),
+        AnyAsk::Tree(ask) => put_tree_ask(ask, out),
+        AnyAsk::Set(ask) => put_set_ask(ask, out),
     }
 }
 
@@ -204,6 +236,8 @@ fn put_answer(answer: &AnyAns, out: &mut List<u8>) -> Result<(), NoMemory>
         AnyAns::Register(answer) => put_register_answer(answer, out),
         AnyAns::Map(answer) => put_map_answer(answer, out),
         AnyAns::List(answer) => put_list_answer(answer, out),
+        AnyAns::Tree(answer) => put_tree_answer(answer, out),
+        AnyAns::Set(answer) => put_set_answer(answer, out),
         AnyAns::None => out.extend(b"none"),
     }
 }

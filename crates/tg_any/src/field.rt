@@ -1,7 +1,7 @@
 //! Values that are one word of a line.
 
 ghost use Rattle.std.specs.Prelude.{◌≡◌, ◌++◌, List, Option, Some, IfOk, OnOk};
-ghost use Rattle.tg_any.specs.Words.{Word, number, index, signed, text, object, mark, flag};
+ghost use Rattle.tg_any.specs.Words.{Word, number, index, signed, text, path, object, mark, flag};
 
 use crate::decimal::{number, put_number, signed};
 use crate::names::{mark, object, put_mark, put_object};
@@ -9,6 +9,7 @@ use std::alloc::Global;
 use tg_base::{List, NoMemory, Oid, Pos};
 use tg_dir::Object;
 use tg_kind::Text;
+use tg_tree::Path;
 
 /// Values that are one word of a line.
 pub trait Field: Sized + Drop {
@@ -72,6 +73,18 @@ impl Field for Text {
 
     fn of(alloc: Global, spelling: &str) -> Result<Option<Text>, NoMemory> {
         Text::of(alloc, spelling)
+    }
+
+    fn put(&self, out: &mut List<u8>) -> Result<(), NoMemory> {
+        out.extend(self.as_str().as_bytes())
+    }
+}
+
+impl Field for Path {
+    ghost word = { path };
+
+    fn of(alloc: Global, spelling: &str) -> Result<Option<Path>, NoMemory> {
+        Path::of(alloc, spelling)
     }
 
     fn put(&self, out: &mut List<u8>) -> Result<(), NoMemory> {

@@ -13,6 +13,8 @@ mod map_words;
 mod names;
 mod phrase;
 mod register_words;
+mod set_words;
+mod tree_words;
 
 pub use any::{AnyAns, AnyAsk, AnyKind, AnyOp};
 pub use any_words::{ans_of, ask_of, op_of, spell_ans, spell_ask, spell_op};

@@ -1,6 +1,6 @@
 //! Values that are several words of a line.
 
-ghost use Rattle.std.specs.Prelude.{◌≡◌, ◌∷◌, ◌++◌, IfOk, OnOk, option_map, map, codes};
+ghost use Rattle.std.specs.Prelude.{◌≡◌, [], ◌∷◌, ◌++◌, IfOk, OnOk, option_map, map, codes};
 ghost use Rattle.tg_any.specs.Fronts.{after};
 ghost use Rattle.tg_any.specs.Words.{texts, none_read, one_read, two_read, maybe_read, maybe_words, before, items_read, is_empty_list, list_read, bracketed, list, joined};
 
@@ -42,6 +42,29 @@ pub fn two<A: Field, B: Field>(alloc: Global, fields: &[&str]) -> Result<Option<
         return Ok(None);
     };
     Ok(Some((x, y)))
+}
+
+/// Puts a verb and its field.
+pub fn put_one<A: Field>(verb: &[u8], x: &A, out: &mut List<u8>) -> Result<(), NoMemory>
+    ensures { OnOk result (out.new ≡ out.old ++ joined (verb.now ∷ A.word.spell x.now ∷ [])) }
+{
+    out.extend(verb)?;
+    out.push(b' ')?;
+    x.put(out)
+}
+
+/// Puts a verb and its two fields.
+pub fn put_two<A: Field, B: Field>(
+    verb: &[u8],
+    x: &A,
+    y: &B,
+    out: &mut List<u8>,
+) -> Result<(), NoMemory>
+    ensures { OnOk result (out.new ≡ out.old ++ joined (verb.now ∷ A.word.spell x.now ∷ B.word.spell y.now ∷ [])) }
+{
+    put_one(verb, x, out)?;
+    out.push(b' ')?;
+    y.put(out)
 }
 
 /// The value after `some`, or `none`.

@@ -1,23 +1,23 @@
-ghost use Rattle.std.specs.Prelude.{◌≡◌, true, IfOk};
+ghost use Rattle.std.specs.Prelude.{◌≡◌, true, [], IfOk};
 
 use super::*;
 use std::alloc::Global;
 use std::test::Fail;
 use tg_base::{List, NoMemory, Oid};
+use tg_cell::{Counter, CounterAns, CounterAsk, CounterOp};
 use tg_kind::{Kind, KindFault};
 
-// The answer to an ask after an op, from a state that was saved and loaded again.
+// The answer to an ask after an op, from a fresh state that was saved and loaded again.
 fn replayed<K: Kind>(
     alloc: Global,
     oid: Oid,
-    state: K,
     op: &K::Op,
     ask: &K::Ask,
 ) -> Result<K::Ans, KindFault>
-    requires object { K.is_object oid ≡ true }
-    requires state { K.is_state oid state ≡ true }
-    ensures { IfOk result (λ a. a ≡ K.answered (K.applied state op.now) ask.now) }
+    requires { K.is_object oid ≡ true }
+    ensures { IfOk result (λ a. a ≡ K.answered (K.applied (K.first oid []) op.now) ask.now) }
 {
+    let state = K::fresh(alloc, oid, &[])?;
     let bytes = state.save(alloc)?;
     let loaded = K::load(alloc, oid, bytes.as_slice())?;
     let after = loaded.apply(op)?;
@@ -110,19 +110,34 @@ fn asks_and_answers_have_words(rt: HostRuntime) -> Result<(), Fail> {
 // The first counter.
 const CTR: Oid = Oid(0x0100_0000);
 
+// The first set.
+const SET: Oid = Oid(0x0600_0000);
+
 #[test]
-fn a_counter_is_replayed_among_all_kinds(rt: HostRuntime) -> Result<(), Fail> {
+fn a_counter_is_replayed(rt: HostRuntime) -> Result<(), Fail> {
     let alloc = rt.alloc();
-    let state = AnyKind::fresh(alloc, CTR, &[]).map_err(|_| "memory")?;
-    let Some(op) = op_of(alloc, &["add", "7"]).map_err(|_| "memory")? else {
+    let add = CounterOp::Add { by: 7 };
+    let Ok(CounterAns::Number(number)) =
+        replayed::<Counter>(alloc, CTR, &add, &CounterAsk::Value)
+    else {
+        return Err("memory".into());
+    };
+    assert_eq!(rt; number, 7);
+    Ok(())
+}
+
+#[test]
+fn each_kind_is_replayed_among_all(rt: HostRuntime) -> Result<(), Fail> {
+    let alloc = rt.alloc();
+    let Some(op) = op_of(alloc, &["include", "7"]).map_err(|_| "memory")? else {
         return Err("an op".into());
     };
-    let Some(ask) = ask_of(alloc, &["value"]).map_err(|_| "memory")? else {
+    let Some(ask) = ask_of(alloc, &["between", "0", "9"]).map_err(|_| "memory")? else {
         return Err("an ask".into());
     };
-    let answer = replayed(alloc, CTR, state, &op, &ask).map_err(|_| "memory")?;
+    let answer = replayed::<AnyKind>(alloc, SET, &op, &ask).map_err(|_| "memory")?;
     let mut out = List::new(alloc);
     spell_ans(alloc, &answer, &mut out).map_err(|_| "memory")?;
-    assert_eq!(rt; text(&out), b"7".as_slice());
+    assert_eq!(rt; text(&out), b"[7]".as_slice());
     Ok(())
 }
