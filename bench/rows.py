@@ -1,14 +1,21 @@
-"""Writes the worked runs as lemmas of tg_rows: python3 bench/rows.py FOLDER NAME=LABEL.. > crates/tg_rows/proofs/FILE.antt
+"""Writes the worked runs and the judged texts as lemmas of tg_rows.
 
-FOLDER has NAME.script and NAME.transcript; LABEL is the lemma's name, or `run_NAME` where none is given. Each lemma says that the script's events give the transcript's marks and
-history, and is proved by computing.
+python3 bench/rows.py FOLDER NAME=LABEL.. > crates/tg_rows/proofs/FILE.antt
+
+FOLDER has NAME.script and NAME.transcript; LABEL is the lemma's name, or `run_NAME` where none is given. Each lemma says
+that the script's events give the transcript's marks and history, and is proved by computing.
+
+python3 bench/rows.py judged > crates/tg_rows/proofs/Judged.antt
+
+For each bench/judged/NAME.transcript a lemma says that its first fault is the one of NAME.verdict.
 """
 import os
 import re
 import sys
 
 KINDS = {'dir': 0, 'ctr': 1, 'reg': 2, 'map': 3, 'list': 4, 'tree': 5, 'set': 6}
-SPECS = 'crates/tg_protocol/specs'
+# the crates whose definitions the runs open
+CRATES = ('tg_codec', 'tg_entry', 'tg_protocol')
 
 
 def oid(word):
@@ -106,23 +113,23 @@ def command(words):
     verb, rest = words[0], words[1:]
     plain = {'begin': 'Begin', 'end': 'End', 'drop': 'Drop', 'trim': 'Trim'}
     if verb in plain:
-        return 'told.' + plain[verb]
+        return 'cmd.' + plain[verb]
     if verb in ('host', 'checkpoint'):
-        return '(told.%s (%s))' % (verb.capitalize(), oid(rest[0]))
+        return '(cmd.%s (%s))' % (verb.capitalize(), oid(rest[0]))
     if verb == 'put':
-        return '(told.Put (%s) %s)' % (oid(rest[0]), op(rest[1:]))
+        return '(cmd.Put (%s) %s)' % (oid(rest[0]), op(rest[1:]))
     if verb == 'ask':
-        return '(told.Ask (%s) %s)' % (oid(rest[0]), ask(rest[1:]))
+        return '(cmd.Ask (%s) %s)' % (oid(rest[0]), ask(rest[1:]))
     if verb in ('fate', 'decide', 'rescue'):
-        return '(told.%s %s)' % (verb.capitalize(), rest[0])
+        return '(cmd.%s %s)' % (verb.capitalize(), rest[0])
     if verb == 'forget':
-        return '(told.Forget (%s) %s)' % (oid(rest[0]), rest[1])
+        return '(cmd.Forget (%s) %s)' % (oid(rest[0]), rest[1])
     if verb == 'reconf':
-        return '(told.Reconf %s)' % change(rest)
+        return '(cmd.Reconf %s)' % change(rest)
     if verb == 'copy':
-        return '(told.Copy %s %s %s)' % (rest[0][1:], rest[1], rest[2])
+        return '(cmd.Copy %s %s %s)' % (rest[0][1:], rest[1], rest[2])
     if verb == 'ask-at':
-        return '(told.AskAt %s (%s) %s)' % (rest[0], oid(rest[1]), ask(rest[2:]))
+        return '(cmd.AskAt %s (%s) %s)' % (rest[0], oid(rest[1]), ask(rest[2:]))
     raise ValueError(words)
 
 
@@ -149,12 +156,12 @@ def refusal(words):
     name = ''.join(w.capitalize() for w in words[0].split('-'))
     rest = words[1:]
     if name == 'Busy':
-        rest = ['told.' + {'end': 'finish', 'ask-at': 'ask_at'}.get(rest[0], rest[0])]
+        rest = ['word.' + ''.join(w.capitalize() for w in rest[0].split('-'))]
     elif name == 'TooMany':
         rest = ['many.' + rest[0].capitalize()]
     else:
         rest = ['(%s)' % oid(w) if re.match(r'(dir|ctr|reg|map|list|tree|set)\d+$', w) else w.lstrip('u') for w in rest]
-    return '(told.Refused %s)' % (('(told.%s)' if rest else 'told.%s') % ' '.join([name] + rest))
+    return '(told.Refused %s)' % (('(cause.%s)' if rest else 'cause.%s') % ' '.join([name] + rest))
 
 
 def yes(word):
@@ -163,11 +170,11 @@ def yes(word):
 
 def what(words):
     verb, rest = words[0], words[1:]
-    plain = {'begin': 'Begun', 'end': 'Ended', 'dropped': 'Dropped'}
+    plain = {'begin': 'Begin', 'end': 'End', 'dropped': 'Dropped'}
     if verb in plain:
         return 'told.' + plain[verb]
     if verb == 'put':
-        return '(told.Did (%s) %s)' % (oid(rest[0]), op(rest[1:]))
+        return '(told.Put (%s) %s)' % (oid(rest[0]), op(rest[1:]))
     if verb in ('asked', 'past'):
         at = rest.index('=') - 2
         asked = rest[1:at]
@@ -182,7 +189,7 @@ def what(words):
     if verb == 'hosted':
         return '(told.Hosted (%s))' % oid(rest[0])
     if verb in ('fate', 'decided', 'rescued'):
-        return '(told.%s %s %s)' % ({'fate': 'ToldFate'}.get(verb, verb.capitalize()), rest[0], yes(rest[1]))
+        return '(told.%s %s %s)' % (verb.capitalize(), rest[0], yes(rest[1]))
     if verb == 'saved':
         return '(told.Saved (%s) %s %s)' % (oid(rest[0]), rest[1], rest[2])
     if verb == 'marked':
@@ -213,12 +220,57 @@ def header(lines):
 
 
 def unfoldables():
-    """Each definition that is opened only where it is named."""
+    """Each definition that is opened only where it is named, with its module."""
     found = []
-    for name in re.findall(r'pub mod (\w+)', open(os.path.join(SPECS, 'Lib.antt')).read()):
-        body = open(os.path.join(SPECS, name + '.antt')).read()
-        found += [(name, d) for d in re.findall(r'^ *unfoldable pub (\S+) :', body, re.M)]
+    for crate in CRATES:
+        specs = os.path.join('crates', crate, 'specs')
+        for name in re.findall(r'pub mod (\w+)', open(os.path.join(specs, 'Lib.antt')).read()):
+            body = open(os.path.join(specs, name + '.antt')).read()
+            found += [('%s.specs.%s' % (crate, name), d) for d in re.findall(r'^ *unfoldable pub (\S+) :', body, re.M)]
     return found
+
+
+def judged():
+    """The verdicts of texts."""
+    folder = os.path.join('bench', 'judged')
+    print('-- Judged texts: the first line at which a clause of a legal run fails, and the clause, or none.')
+    print('use Rattle.std.proofs.Common.{◌≡◌, ℕ, List, [], ◌∷◌, refl, Some, None}')
+    print('use Rattle.std.specs.Prelude.{pos, negsuc}')
+    print('use Rattle.tg_base.specs.declared.fault.Clause.TheVariants.{A, B, C, D, E}')
+    print('use Rattle.tg_base.specs.declared.ids.Oid.{Oid}')
+    print('use Rattle.tg_base.specs.declared.marks.Part.TheVariants.{All, Text, Num}')
+    print('use Rattle.tg_model.specs.declared.refusal.Refusal.TheVariants as cause')
+    print('use Rattle.tg_model.specs.declared.trace.What.TheVariants as told')
+    print('use Rattle.tg_model.specs.Stores.{History, store_after, changed}')
+    print('use Rattle.tg_model.specs.Traces.{Trace, puts_of}')
+    print('use Rattle.tg_model.specs.Verdicts.{asks_in, bound_in, entries_fault, replies_fault, fault}')
+    print('use Rattle.tg_protocol.specs.Words.{bytes_eq}')
+    print('use Rattle.tg_rows.proofs.Sameness.{same}')
+    print('use Rattle.tg_rows.proofs.SevenKinds.{kinds}')
+    print('use Rattle.tg_rows.proofs.SevenKinds as kind')
+    print('use Rattle.tg_rows.proofs.Shown.{obj, mark, done}')
+    for file in sorted(os.listdir(folder)):
+        name, _, ending = file.partition('.')
+        if ending != 'transcript':
+            continue
+        text = open(os.path.join(folder, file)).read().splitlines()
+        verdict = open(os.path.join(folder, name + '.verdict')).read().split()
+        split = next(i for i, l in enumerate(text) if l.startswith('history '))
+        row = name.replace('-', '_')
+        answer = 'None' if verdict[0] == 'legal' else 'Some (record { line = %s; clause = %s })' % (verdict[1], verdict[2].upper())
+        print()
+        print('abbrev pub %s_objects : List Oid' % row)
+        print('%s_objects = %s' % (row, listed([oid(w) for w in text[0].split()[1:]])))
+        print()
+        print('abbrev pub %s_trace : Trace kinds' % row)
+        print('%s_trace =%s' % (row, ' ∷'.join(['\n    ' + mark(l.split()) for l in text[1:split]] + [' []'])))
+        print()
+        print('abbrev pub %s_history : History kinds' % row)
+        print('%s_history =%s' % (row, ' ∷'.join(['\n    ' + done(l.split()) for l in text[split + 1:]] + [' []'])))
+        print()
+        print('%s : fault kinds same %s_objects %s_history %s_trace ≡ %s' % (row, row, row, row, answer))
+        print('unfolding store_after changed puts_of asks_in bound_in entries_fault replies_fault fault bytes_eq')
+        print('%s = refl' % row)
 
 
 def main():
@@ -230,28 +282,32 @@ def main():
     print('use Rattle.tg_base.specs.declared.fault.Many.TheVariants as many')
     print('use Rattle.tg_base.specs.declared.marks.Part.TheVariants.{All, Text, Num}')
     print('use Rattle.tg_base.specs.Clusters.{Header}')
+    print('use Rattle.tg_model.specs.declared.command.Command.TheVariants as cmd')
+    print('use Rattle.tg_model.specs.declared.command.Event.TheVariants.{Command as Commands, Deliver, Lose, Tick, Stop}')
+    print('use Rattle.tg_model.specs.declared.command.Word.TheVariants as word')
+    print('use Rattle.tg_model.specs.declared.refusal.Refusal.TheVariants as cause')
+    print('use Rattle.tg_model.specs.declared.trace.What.TheVariants as told')
     by = {}
     for module, name in opened:
         by.setdefault(module, []).append(name)
-    by.setdefault('Words', []).extend(['unit_id', 'layout_id', 'seqr_id', 'client_id'])
-    by.setdefault('Worlds', []).extend(['Line', 'Happens', 'Update', 'Drain', 'Settle', 'Commands', 'Deliver', 'Lose', 'Tick', 'Stop', 'replay'])
+    by.setdefault('tg_protocol.specs.Words', []).extend(['unit_id', 'layout_id', 'seqr_id', 'client_id'])
+    by.setdefault('tg_protocol.specs.Worlds', []).extend(['Line', 'Happens', 'Update', 'Drain', 'Settle', 'replay'])
     seen = {}
     for module in by:
         fresh = []
         for n in by[module]:
             if n in seen:
-                fresh.append('%s as %s_%s' % (n, module.lower(), n))
+                fresh.append('%s as %s_%s' % (n, module.split('.')[-1].lower(), n))
             else:
                 fresh.append(n)
             seen.setdefault(n, module)
-        print('use Rattle.tg_protocol.specs.%s.{%s}' % (module, ', '.join(fresh)))
-    print('use Rattle.tg_protocol.specs.Marks as told')
+        print('use Rattle.%s.{%s}' % (module, ', '.join(fresh)))
     print('use Rattle.tg_rows.proofs.SevenKinds.{kinds}')
     print('use Rattle.tg_rows.proofs.SevenKinds as kind')
     print('use Rattle.tg_rows.proofs.Shown.{Shown, shown, obj, mark, done}')
     words, have = [], set()
     for module, n in opened:
-        words.append(n if n not in have else '%s_%s' % (module.lower(), n))
+        words.append(n if n not in have else '%s_%s' % (module.split('.')[-1].lower(), n))
         have.add(n)
     for name in names:
         name, _, label = name.partition('=')
@@ -274,4 +330,7 @@ def main():
         print('%s = refl' % row)
 
 
-main()
+if sys.argv[1] == 'judged':
+    judged()
+else:
+    main()

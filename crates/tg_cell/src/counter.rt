@@ -1,6 +1,6 @@
 //! Counters.
 
-ghost use Rattle.std.specs.Prelude.{◌≡◌, ◌++◌, true, Ok, OnOk};
+ghost use Rattle.std.specs.Prelude.{◌≡◌, ◌++◌, true, Ok, IfOk, OnOk, IsOk};
 ghost use Rattle.tg_codec.specs.Reading.{Gives};
 ghost use Rattle.tg_cell.specs.Counters.{is_object, is_state, is_of, first, applied, answered, touched, looked, saved, loaded, state_format, op_format};
 ghost use Rattle.tg_cell.specs.Signed.{i64};
@@ -125,19 +125,29 @@ impl Kind for Counter {
 
     ghost read = { op_format.read };
 
-    fn fresh(_alloc: Global, _oid: Oid, _objects: &[Oid]) -> Result<Counter, NoMemory> {
+    fn fresh(_alloc: Global, oid: Oid, objects: &[Oid]) -> Result<Counter, NoMemory>
+        ensures exact { IfOk result (λ s. s ≡ first oid objects.now) }
+        ensures free { IsOk result }
+    {
         Ok(Counter { value: 0 })
     }
 
-    fn apply(self, op: &CounterOp) -> Result<Counter, NoMemory> {
+    fn apply(self, op: &CounterOp) -> Result<Counter, NoMemory>
+        ensures exact { IfOk result (λ s. s ≡ applied self op.now) }
+        ensures free { IsOk result }
+    {
         match op {
-            CounterOp::Add { by } => Ok(Counter {
-                value: self.value.saturating_add(*by),
-            }),
+            CounterOp::Add { by } => {
+                let value = self.value.saturating_add(*by);
+                Ok(Counter { value })
+            }
         }
     }
 
-    fn ask(&self, _alloc: Global, ask: &CounterAsk) -> Result<CounterAns, NoMemory> {
+    fn ask(&self, _alloc: Global, ask: &CounterAsk) -> Result<CounterAns, NoMemory>
+        ensures exact { IfOk result (λ a. a ≡ answered self.now ask.now) }
+        ensures free { IsOk result }
+    {
         match ask {
             CounterAsk::Value => Ok(CounterAns::Number(self.value)),
         }
@@ -179,17 +189,26 @@ impl Kind for Counter {
         in_front(bytes, op_in(bytes))
     }
 
-    fn copy(&self) -> Result<Counter, NoMemory> {
+    fn copy(&self) -> Result<Counter, NoMemory>
+        ensures exact { IfOk result (λ s. s ≡ self.now) }
+        ensures free { IsOk result }
+    {
         Ok(Counter { value: self.value })
     }
 
-    fn copy_op(op: &CounterOp) -> Result<CounterOp, NoMemory> {
+    fn copy_op(op: &CounterOp) -> Result<CounterOp, NoMemory>
+        ensures exact { IfOk result (λ c. c ≡ op.now) }
+        ensures free { IsOk result }
+    {
         match op {
             CounterOp::Add { by } => Ok(CounterOp::Add { by: *by }),
         }
     }
 
-    fn copy_ask(ask: &CounterAsk) -> Result<CounterAsk, NoMemory> {
+    fn copy_ask(ask: &CounterAsk) -> Result<CounterAsk, NoMemory>
+        ensures exact { IfOk result (λ c. c ≡ ask.now) }
+        ensures free { IsOk result }
+    {
         match ask {
             CounterAsk::Value => Ok(CounterAsk::Value),
         }

@@ -1,6 +1,6 @@
 //! Registers.
 
-ghost use Rattle.std.specs.Prelude.{◌≡◌, ◌++◌, true, Ok, IfOk, OnOk};
+ghost use Rattle.std.specs.Prelude.{◌≡◌, ◌++◌, true, Ok, IfOk, OnOk, IsOk};
 ghost use Rattle.tg_codec.specs.Reading.{Gives};
 ghost use Rattle.tg_kind.specs.Texts.{text_format};
 ghost use Rattle.tg_kind.specs.Words.{maybe};
@@ -134,7 +134,10 @@ impl Kind for Register {
 
     ghost read = { op_format.read };
 
-    fn fresh(_alloc: Global, _oid: Oid, _objects: &[Oid]) -> Result<Register, NoMemory> {
+    fn fresh(_alloc: Global, oid: Oid, objects: &[Oid]) -> Result<Register, NoMemory>
+        ensures exact { IfOk result (λ s. s ≡ first oid objects.now) }
+        ensures free { IsOk result }
+    {
         Ok(Register { held: None })
     }
 
@@ -203,7 +206,10 @@ impl Kind for Register {
         }
     }
 
-    fn copy_ask(ask: &RegisterAsk) -> Result<RegisterAsk, NoMemory> {
+    fn copy_ask(ask: &RegisterAsk) -> Result<RegisterAsk, NoMemory>
+        ensures exact { IfOk result (λ c. c ≡ ask.now) }
+        ensures free { IsOk result }
+    {
         match ask {
             RegisterAsk::Text => Ok(RegisterAsk::Text),
         }

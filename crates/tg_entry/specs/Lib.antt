@@ -7,3 +7,4 @@ pub mod Short
 pub mod Answers
 pub mod Needs
 pub mod Drafts
+pub mod Records

@@ -1,7 +1,8 @@
 //! Drafts, and entries in order.
 
-ghost use Rattle.std.specs.Prelude.{◌≡◌, ◌++◌, ◌∷◌, [], true, OnOk, OnErr};
-ghost use Rattle.tg_entry.specs.Drafts.{IsDraft, IsInOrder, all_below};
+ghost use Rattle.std.specs.Prelude.{◌≡◌, ◌++◌, ◌∷◌, ◌<◌, [], true, length, OnOk, OnErr, IfOk, IfErr, IfSome};
+ghost use Rattle.std.specs.Option.{option_copied};
+ghost use Rattle.tg_entry.specs.Drafts.{IsDraft, IsInOrder, IsPlaceOf, IsNowhere, all_below, entry_at};
 
 use crate::entry::Entry;
 use std::alloc::Global;
@@ -49,6 +50,14 @@ impl Draft {
     {
         self.entry
     }
+
+    /// An equal draft.
+    pub fn copy(&self) -> Result<Draft, NoMemory>
+        ensures { IfOk result (λ c. c ≡ self.now) }
+    {
+        let copy = self.entry.copy()?;
+        Ok(Draft { entry: copy })
+    }
 }
 
 /// Entries, rising by position.
@@ -94,4 +103,24 @@ impl Entries {
     {
         self.list.as_slice()
     }
+
+    /// The entry at a position, if there is one. It takes no memory.
+    pub fn get(&self, at: Pos) -> Option<&Entry>
+        ensures { option_copied result ≡ entry_at self.now at }
+    {
+        let list = self.list.as_slice();
+        match place_of(list, at) {
+            Ok(place) => Some(&list[place].1),
+            Err(_) => None,
+        }
+    }
+}
+
+// The place of the entry at a position among entries in order.
+fn place_of(list: &[(Pos, Entry)], at: Pos) -> Result<usize, usize>
+    requires { IsInOrder list.now }
+    ensures found { IfOk result (IsPlaceOf list.now at) }
+    ensures absent { IfErr result (λ _. IsNowhere list.now at) }
+{
+    list.binary_search_by_key(&at, |e| e.0)
 }

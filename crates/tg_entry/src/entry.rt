@@ -35,6 +35,20 @@ pub struct Head {
     pub streams: List<StreamLink>,
 }
 
+impl Head {
+    /// An equal head.
+    pub fn copy(&self) -> Result<Head, NoMemory>
+        ensures { IfOk result (λ c. c ≡ self.now) }
+    {
+        Ok(Head {
+            format: self.format,
+            client: self.client,
+            number: self.number,
+            streams: self.streams.clone()?,
+        })
+    }
+}
+
 /// The body of an entry.
 #[derive(Debug, Drop)]
 pub enum Body {
@@ -60,9 +74,75 @@ pub enum Body {
     },
 }
 
+impl Body {
+    /// An equal body.
+    pub fn copy(&self) -> Result<Body, NoMemory>
+        ensures { IfOk result (λ c. c ≡ self.now) }
+    {
+        match self {
+            Body::Commit { reads, writes } => Ok(Body::Commit {
+                reads: copied_reads(reads)?,
+                writes: copied_writes(writes)?,
+            }),
+            Body::Decision { at, yes } => Ok(Body::Decision { at: *at, yes: *yes }),
+            Body::Checkpoint {
+                oid,
+                upto,
+                version,
+                whole,
+                keys,
+                state,
+            } => Ok(Body::Checkpoint {
+                oid: *oid,
+                upto: *upto,
+                version: *version,
+                whole: *whole,
+                keys: copied_keys(keys)?,
+                state: copied_bytes(state)?,
+            }),
+        }
+    }
+}
+
+fn copied_reads(reads: &List<ReadMark>) -> Result<List<ReadMark>, NoMemory>
+    ensures { IfOk result (λ c. c ≡ reads.now) }
+{
+    Ok(reads.clone()?)
+}
+
+fn copied_writes(writes: &List<WriteOp>) -> Result<List<WriteOp>, NoMemory>
+    ensures { IfOk result (λ c. c ≡ writes.now) }
+{
+    Ok(writes.clone()?)
+}
+
+fn copied_keys(keys: &List<(Part, u64)>) -> Result<List<(Part, u64)>, NoMemory>
+    ensures { IfOk result (λ c. c ≡ keys.now) }
+{
+    Ok(keys.clone()?)
+}
+
+fn copied_bytes(bytes: &List<u8>) -> Result<List<u8>, NoMemory>
+    ensures { IfOk result (λ c. c ≡ bytes.now) }
+{
+    Ok(bytes.clone()?)
+}
+
 /// An entry of the log.
 #[derive(Debug, Drop)]
 pub struct Entry {
     pub head: Head,
     pub body: Body,
+}
+
+impl Entry {
+    /// An equal entry.
+    pub fn copy(&self) -> Result<Entry, NoMemory>
+        ensures { IfOk result (λ c. c ≡ self.now) }
+    {
+        Ok(Entry {
+            head: self.head.copy()?,
+            body: self.body.copy()?,
+        })
+    }
 }

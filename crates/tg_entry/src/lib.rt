@@ -7,6 +7,7 @@ mod coding;
 mod drafts;
 mod entry;
 mod fault;
+mod law;
 mod needs;
 mod parts;
 mod reads;
@@ -16,6 +17,7 @@ pub use coding::{decode, encode, size};
 pub use drafts::{Draft, Entries};
 pub use entry::{Body, Entry, Head, WriteOp};
 pub use fault::EntryFault;
+pub use law::{linked_fit, records_fit};
 pub use needs::needs_decision;
 
 #[cfg(test)]

@@ -11,3 +11,6 @@ pub use fault::ProjFault;
 pub use next::next_of;
 pub use place::{chain_of, range_of};
 pub use refusal::next_ok;
+
+#[cfg(test)]
+mod tests;

@@ -12,14 +12,16 @@ use Rattle.tg_entry.specs.declared.entry.Body.TheVariants.{Decision, Checkpoint}
 use Rattle.tg_entry.specs.declared.entry.Entry.{Entry}
 use Rattle.tg_kind.specs.Meaning.{Meaning}
 use Rattle.tg_protocol.specs.Words.{client_id, unit_id, seqr_id, directory}
-use Rattle.tg_protocol.specs.Layouts.{first_layout, range_at, range_end, units_of}
+use Rattle.tg_proj.specs.Places.{range_at}
+use Rattle.tg_protocol.specs.Layouts.{first_layout, range_end, units_of}
 use Rattle.tg_protocol.specs.Entries.{is_commit, needs_decision}
 use Rattle.tg_protocol.specs.Versions.{version_in}
 use Rattle.tg_protocol.specs.Views.{View, fate_of}
 use Rattle.tg_protocol.specs.Logs.{decided, entries_of, version, outcome}
-use Rattle.tg_protocol.specs.Marks.{What, Mark, Done, Refusal}
-use Rattle.tg_protocol.specs.Marks as told
-use Rattle.tg_protocol.specs.Stores.{state_at, answer_at, is_stamp}
+use Rattle.tg_model.specs.declared.refusal.Refusal.TheVariants as cause
+use Rattle.tg_model.specs.declared.trace.What.TheVariants as told
+use Rattle.tg_model.specs.Kinds.{WhatOf, DoneOf}
+use Rattle.tg_model.specs.Stores.{state_at, answer_at, is_stamp}
 use Rattle.tg_protocol.specs.Worlds.{World, Told, client, unit, log, history}
 
 module _ (m : Meaning) where
@@ -117,13 +119,13 @@ module _ (m : Meaning) where
       from = client_id t.mark.client;
       to = unit_id u;
       rid = asked;
-      msg = msg.Has epoch ((range_at proj r).lo + s) (range_end proj r) (length (range_at proj r).stripes);
+      msg = msg.Has epoch ((range_at proj.ranges r).lo + s) (range_end proj r) (length (range_at proj.ranges r).stripes);
     })
     pub whole : Sent w (record { from = unit_id u; to = client_id t.mark.client; rid = asked; msg = msg.Whole })
 
   -- Truth of a mark.
-  abbrev pub IsTrue : World m → Told m → What m → Type 0
-  IsTrue w t (told.ToldFate p (Some b)) = Outcome w p b
+  abbrev pub IsTrue : World m → Told m → WhatOf m → Type 0
+  IsTrue w t (told.Fate p (Some b)) = Outcome w p b
   IsTrue w t (told.Decided p (Some b)) = Outcome w p b
   IsTrue w t (told.Aborted p o k seen now) = HasRecord w p t.mark.client t.mark.tx × (outcome m (log m w) p ≡ false)
   IsTrue w t (told.Unsure p q) = HasRecord w p t.mark.client t.mark.tx × HasCommit w q
@@ -133,7 +135,7 @@ module _ (m : Meaning) where
   IsTrue w t _ = Unit {0}
 
   -- a mark of a client's transaction
-  pub record OfTx (w : World m) (k x : ℕ) (what : What m) : Type 0 where
+  pub record OfTx (w : World m) (k x : ℕ) (what : WhatOf m) : Type 0 where
     pub told : Told m
     pub here : Contains w.told told
     pub client : told.mark.client ≡ k
@@ -150,7 +152,7 @@ module _ (m : Meaning) where
     pub others : (t : Told m) → Contains between t → t.mark.client ≢ k
     pub at : ℕ
     pub committed : last.mark.what ≡ told.Committed at
-    pub done : Done m
+    pub done : DoneOf m
     pub in_history : Contains (history m w) done
     pub stamp : done.stamp ≡ at
     pub writes : Contains done.writes (directory, m.mark_op o n)
@@ -233,11 +235,11 @@ module _ (m : Meaning) where
     pub fates : (k p : ℕ) (v : View m) (b : Bool) → (client m w k).view ≡ Some v → fate_of m v p ≡ Some b → Outcome w p b
     pub marks : (t : Told m) → Contains w.told t → IsTrue w t t.mark.what
     pub committed : (t : Told m) (p : ℕ) (o : Oid) (op : m.op) → Contains w.told t → t.mark.what ≡ told.Committed p →
-        OfTx w t.mark.client t.mark.tx (told.Did o op) → HasRecord w p t.mark.client t.mark.tx × (outcome m (log m w) p ≡ true)
+        OfTx w t.mark.client t.mark.tx (told.Put o op) → HasRecord w p t.mark.client t.mark.tx × (outcome m (log m w) p ≡ true)
     pub marked : (before after : List (Told m)) (t : Told m) (o : Oid) (n : ℕ) → w.told ≡ before ++ t ∷ after → t.mark.what ≡ told.Marked o n →
         MarkedBy w before t.mark.client o n
     pub installed : (t : Told m) (e : ℕ) → Contains w.told t → t.mark.what ≡ told.Installed e → InstalledBy w t e
-    pub overtaken : (t : Told m) (e : ℕ) → Contains w.told t → t.mark.what ≡ told.Refused (told.Overtaken e) → OvertakenBy w t e
+    pub overtaken : (t : Told m) (e : ℕ) → Contains w.told t → t.mark.what ≡ told.Refused (cause.Overtaken e) → OvertakenBy w t e
     pub committed_recorded : (t : Told m) (p : ℕ) (e : Entry) → Contains w.told t → t.mark.what ≡ told.Committed p →
         HasRecord w p t.mark.client t.mark.tx → HasEntry w p e → needs_decision e ≡ true → Recorded w t.mark.client p
     pub aborted_recorded : (t : Told m) (p : ℕ) (o : Oid) (k : Part) (seen now : ℕ) (e : Entry) → Contains w.told t → t.mark.what ≡ told.Aborted p o k seen now →

@@ -22,8 +22,11 @@ use Rattle.tg_protocol.specs.Reconfiguring.{Reconf, ReconfEnd, Installed, Overta
 use Rattle.tg_protocol.specs.Views.{View, fate_of, state_of, view_version}
 use Rattle.tg_protocol.specs.Checkpoints.{load_from}
 use Rattle.tg_protocol.specs.Transactions.{Tx, open_tx, tx_read, tx_put, commit_record}
-use Rattle.tg_protocol.specs.Marks.{Refusal, Command, What, Note}
-use Rattle.tg_protocol.specs.Marks as told
+use Rattle.tg_model.specs.declared.command.Command.TheVariants as cmd
+use Rattle.tg_model.specs.declared.refusal.Refusal.{Refusal}
+use Rattle.tg_model.specs.declared.refusal.Refusal.TheVariants as cause
+use Rattle.tg_model.specs.declared.trace.What.TheVariants as told
+use Rattle.tg_model.specs.Kinds.{CommandOf, WhatOf, NoteOf}
 use Rattle.tg_protocol.specs.Clients.{Purpose, Writes, Judged, Decides, Rescues, Saves, Marks, Task, Syncing, Walking, Appending, Trimming, Copying', Reconfiguring, Hand, Doing, Learning, Work, Client, upto, hosts_oid, with_positions, entries_at, tx_number, number_on, write_of, copy_fault, refusal}
 use Rattle.tg_protocol.specs.Answers.{Moved, moved, note, replies, refuses, took_over, answers, closed, appends, syncs, walked}
 
@@ -130,12 +133,12 @@ module _ (m : Meaning) where
   zero_if false n = n
 
   -- from where a command walks: the kept view's `upto`, or 0
-  abbrev pub lo_for : Client m → Command m → ℕ
-  lo_for c (told.Forget o n) = 0
-  lo_for c (told.Decide p) = 0
-  lo_for c (told.AskAt p o q) = 0
-  lo_for c (told.Rescue p) = 0
-  lo_for c (told.Fate p) = zero_if (fate_missing c.view p) (upto m c)
+  abbrev pub lo_for : Client m → CommandOf m → ℕ
+  lo_for c (cmd.Forget o n) = 0
+  lo_for c (cmd.Decide p) = 0
+  lo_for c (cmd.AskAt p o q) = 0
+  lo_for c (cmd.Rescue p) = 0
+  lo_for c (cmd.Fate p) = zero_if (fate_missing c.view p) (upto m c)
   lo_for c x = upto m c
 
   abbrev pub knows : Client m → Option (ℕ × Cell) → Client m
@@ -161,9 +164,9 @@ module _ (m : Meaning) where
   stale c w o x b = not (is_some (load_from m (entries_at m c.cells x.list) o b)) && nat_lt w.gone_before b
 
   -- past views and rescues leave the kept view alone
-  abbrev pub plays_kept : Command m → Bool
-  plays_kept (told.AskAt p o q) = false
-  plays_kept (told.Rescue p) = false
+  abbrev pub plays_kept : CommandOf m → Bool
+  plays_kept (cmd.AskAt p o q) = false
+  plays_kept (cmd.Rescue p) = false
   plays_kept x = true
 
   -- a trim above the kept view's `upto` gives the view up; unless all was walked from 0, the walks start over
@@ -211,13 +214,13 @@ module _ (m : Meaning) where
 
   -- a record that was forgotten closes its transaction; a full log leaves it open
   abbrev pub record_lost : Client m → AppendEnd → Moved m
-  record_lost c (Full l) = refuses m c (tx_of c) (told.LogFull l)
-  record_lost c (Forgotten p b) = refuses m (closed m c) (tx_of c) (told.Forgotten p b)
+  record_lost c (Full l) = refuses m c (tx_of c) (cause.LogFull l)
+  record_lost c (Forgotten p b) = refuses m (closed m c) (tx_of c) (cause.Forgotten p b)
   record_lost c (At p d) = moved m c []
 
   abbrev pub lost : Client m → ℕ → AppendEnd → Moved m
-  lost c tx (Full l) = refuses m c tx (told.LogFull l)
-  lost c tx (Forgotten p b) = refuses m c tx (told.Forgotten p b)
+  lost c tx (Full l) = refuses m c tx (cause.LogFull l)
+  lost c tx (Forgotten p b) = refuses m c tx (cause.Forgotten p b)
   lost c tx (At p d) = moved m c []
 
   abbrev pub page_known : Client m → AppendEnd → Client m
@@ -225,8 +228,8 @@ module _ (m : Meaning) where
   page_known c _ = c
 
   -- the answer that waited for a decision record
-  abbrev pub decided_for : Client m → Command m → What m → Moved m
-  decided_for c told.End x = answers m (closed m c) (tx_of c) x
+  abbrev pub decided_for : Client m → CommandOf m → WhatOf m → Moved m
+  decided_for c cmd.End x = answers m (closed m c) (tx_of c) x
   decided_for c _ x = answers m c 0 x
 
   abbrev pub append_ended : Client m → Work m → Purpose m → AppendEnd → Moved m
@@ -273,8 +276,8 @@ module _ (m : Meaning) where
 
   abbrev pub reconf_ended : Client m → ReconfEnd → Moved m
   reconf_ended c (Installed e p) = replies m (stands c p) (note m 0 (told.Installed e) ∷ [])
-  reconf_ended c (Overtaken e p) = refuses m (stands c p) 0 (told.Overtaken e)
-  reconf_ended c (NotWhole u pos p) = refuses m (stands c p) 0 (told.NotWhole u pos)
+  reconf_ended c (Overtaken e p) = refuses m (stands c p) 0 (cause.Overtaken e)
+  reconf_ended c (NotWhole u pos p) = refuses m (stands c p) 0 (cause.NotWhole u pos)
 
   abbrev pub reconf_to : Client m → Work m → Next Reconf ReconfEnd → Moved m
   reconf_to c w (Goes r) = goes_on (stands c r.stand) w (Reconfiguring r) []
@@ -338,7 +341,7 @@ module _ (m : Meaning) where
 
   -- Commands.
 
-  abbrev pub new_work : Command m → Work m
+  abbrev pub new_work : CommandOf m → Work m
   new_work x = record {
     command = x;
     hand = Doing (Trimming (record { below = 0; waits = [] }));
@@ -358,11 +361,11 @@ module _ (m : Meaning) where
   hosts_more c o false = moved m (record c { hosted = with_oid o c.hosted; view = None }) (note m 0 (told.Hosted o) ∷ [])
 
   abbrev pub begins : Client m → Moved m
-  begins c = moved m (record c { begun = c.begun + 1; tx = Some (open_tx (c.begun + 1)) }) (note m (c.begun + 1) told.Begun ∷ [])
+  begins c = moved m (record c { begun = c.begun + 1; tx = Some (open_tx (c.begun + 1)) }) (note m (c.begun + 1) told.Begin ∷ [])
 
   abbrev pub puts : Client m → Oid → m.op → Option Tx → Moved m
   puts c o op None = moved m c []
-  puts c o op (Some t) = moved m (record c { tx = Some (tx_put t (write_of m o op)) }) (note m t.number (told.Did o op) ∷ [])
+  puts c o op (Some t) = moved m (record c { tx = Some (tx_put t (write_of m o op)) }) (note m t.number (told.Put o op) ∷ [])
 
   -- later asks are answered at the first one's snapshot
 
@@ -376,11 +379,11 @@ module _ (m : Meaning) where
   asks_view c t at o q None = moved m c []
   asks_view c t at o q (Some v) = asked_of_state c t at o q v (state_of m v o)
 
-  abbrev pub asks_by : Client m → Command m → Oid → m.ask → Tx → Option ℕ → Moved m
+  abbrev pub asks_by : Client m → CommandOf m → Oid → m.ask → Tx → Option ℕ → Moved m
   asks_by c x o q t None = syncs m c (new_work x) c.hosted
   asks_by c x o q t (Some at) = asks_view c t at o q c.view
 
-  abbrev pub asks : Client m → Command m → Oid → m.ask → Option Tx → Moved m
+  abbrev pub asks : Client m → CommandOf m → Oid → m.ask → Option Tx → Moved m
   asks c x o q None = moved m c []
   asks c x o q (Some t) = asks_by c x o q t t.snapshot
 
@@ -391,29 +394,29 @@ module _ (m : Meaning) where
   abbrev pub purpose_of : Tx → Purpose m
   purpose_of t = if length t.reads == 0 then Writes else Judged
 
-  abbrev pub end_by : Client m → Command m → Tx → Bool → Moved m
-  end_by c x t true = moved m (closed m c) (note m t.number told.Ended ∷ note m t.number (told.Committed (snapshot_or t.snapshot)) ∷ [])
-  end_by c x t false = appends m c (new_work x) (commit_record t c.num) (purpose_of t) (note m t.number told.Ended ∷ [])
+  abbrev pub end_by : Client m → CommandOf m → Tx → Bool → Moved m
+  end_by c x t true = moved m (closed m c) (note m t.number told.End ∷ note m t.number (told.Committed (snapshot_or t.snapshot)) ∷ [])
+  end_by c x t false = appends m c (new_work x) (commit_record t c.num) (purpose_of t) (note m t.number told.End ∷ [])
 
-  abbrev pub ends : Client m → Command m → Option Tx → Moved m
+  abbrev pub ends : Client m → CommandOf m → Option Tx → Moved m
   ends c x None = moved m c []
   ends c x (Some t) = end_by c x t (length t.writes == 0)
 
-  abbrev pub works_on : Client m → Command m → Moved m
+  abbrev pub works_on : Client m → CommandOf m → Moved m
   works_on c x = syncs m c (new_work x) c.hosted
 
-  unfoldable pub accepts : Client m → Command m → Moved m
-  accepts c (told.Host o) = hosts_more c o (hosts_oid m c o)
-  accepts c told.Begin = begins c
-  accepts c (told.Put o op) = puts c o op c.tx
-  accepts c (told.Ask o q) = asks c (told.Ask o q) o q c.tx
-  accepts c told.End = ends c told.End c.tx
-  accepts c told.Drop = moved m (closed m c) (note m (tx_of c) told.Dropped ∷ [])
-  accepts c (told.Reconf x) = on_reconf c (new_work (told.Reconf x)) (reconf_start c.stand c.layouts x c.num c.next)
-  accepts c (told.Copy u r s) = copies_again c (new_work (told.Copy u r s)) (record { unit = u; range = r; stripe = s; work = copying.Sealing 0 }) None
+  unfoldable pub accepts : Client m → CommandOf m → Moved m
+  accepts c (cmd.Host o) = hosts_more c o (hosts_oid m c o)
+  accepts c cmd.Begin = begins c
+  accepts c (cmd.Put o op) = puts c o op c.tx
+  accepts c (cmd.Ask o q) = asks c (cmd.Ask o q) o q c.tx
+  accepts c cmd.End = ends c cmd.End c.tx
+  accepts c cmd.Drop = moved m (closed m c) (note m (tx_of c) told.Dropped ∷ [])
+  accepts c (cmd.Reconf x) = on_reconf c (new_work (cmd.Reconf x)) (reconf_start c.stand c.layouts x c.num c.next)
+  accepts c (cmd.Copy u r s) = copies_again c (new_work (cmd.Copy u r s)) (record { unit = u; range = r; stripe = s; work = copying.Sealing 0 }) None
   accepts c x = works_on c x
 
-  abbrev pub refused_or : Client m → Command m → Option Refusal → Moved m
+  abbrev pub refused_or : Client m → CommandOf m → Option Refusal → Moved m
   refused_or c x None = accepts c x
   refused_or c x (Some why) = moved m c (note m (number_on m c why) (told.Refused why) ∷ [])
 
@@ -422,7 +425,7 @@ module _ (m : Meaning) where
   pub record ClientTurn : Type 0 where
     pub now : Client m
     pub sends : List Out
-    pub notes : List (Note m)
+    pub notes : List (NoteOf m)
 
   abbrev pub called : Client m → Client m
   called c = record c { calls = c.calls + 1 }
@@ -431,7 +434,7 @@ module _ (m : Meaning) where
   abbrev pub given : Client m → Moved m → ClientTurn
   given old x = record { now = called x.now; sends = x.besides ++ drawn_from old.next (client_asks x.now); notes = x.notes }
 
-  unfoldable pub client_command : Client m → Command m → ClientTurn
+  unfoldable pub client_command : Client m → CommandOf m → ClientTurn
   client_command c x = given c (refused_or c x (refusal m c x))
 
   unfoldable pub client_deliver : Client m → NodeId → ℕ → Msg → ClientTurn

@@ -12,8 +12,9 @@ use Rattle.tg_entry.specs.declared.entry.WriteOp.{WriteOp}
 use Rattle.tg_entry.specs.declared.entry.Entry.{Entry}
 use Rattle.tg_kind.specs.Meaning.{Meaning}
 use Rattle.tg_protocol.specs.Words.{oid_eq, has_oid, with_nums, cell_at, directory, first_some, where_true}
-use Rattle.tg_protocol.specs.Layouts.{LayoutFault, first_layout, not_closed, no_stripe, in_chain, returned, change_fault}
-use Rattle.tg_protocol.specs.Layouts as layout
+use Rattle.tg_proj.specs.declared.fault.ProjFault.{ProjFault}
+use Rattle.tg_proj.specs.declared.fault.ProjFault.TheVariants as layout
+use Rattle.tg_protocol.specs.Layouts.{first_layout, change_fault, spare_fault}
 use Rattle.tg_protocol.specs.Pages.{entry_of}
 use Rattle.tg_protocol.specs.Requests.{Waits}
 use Rattle.tg_protocol.specs.Appending.{Append}
@@ -24,16 +25,19 @@ use Rattle.tg_protocol.specs.Reconfiguring.{Reconf}
 use Rattle.tg_protocol.specs.Views.{Entries, View}
 use Rattle.tg_protocol.specs.Transactions.{Tx, TxFault, read_fault, write_fault}
 use Rattle.tg_protocol.specs.Transactions as tx
-use Rattle.tg_protocol.specs.Marks.{Word, Refusal, Command, What, Note, word_of}
-use Rattle.tg_protocol.specs.Marks as told
+use Rattle.tg_model.specs.declared.command.Command.TheVariants as cmd
+use Rattle.tg_model.specs.declared.refusal.Refusal.{Refusal}
+use Rattle.tg_model.specs.declared.refusal.Refusal.TheVariants as cause
+use Rattle.tg_model.specs.Kinds.{CommandOf, WhatOf}
+use Rattle.tg_model.specs.Words.{word_of}
 
 module _ (m : Meaning) where
   -- what an append of a client is for
   pub data Purpose : Type 0 where
     Writes : Purpose  -- the record of a transaction without reads
     Judged : Purpose  -- the record of one with reads, which is decided afterwards
-    Decides : (answer : What m) → Purpose  -- a decision record, and the answer that is given in any case
-    Rescues : (answer : What m) → Purpose  -- the decision record of a rescue
+    Decides : (answer : WhatOf m) → Purpose  -- a decision record, and the answer that is given in any case
+    Rescues : (answer : WhatOf m) → Purpose  -- the decision record of a rescue
     Saves : (oid : Oid) → (upto : ℕ) → Purpose
     Marks : (number : ℕ) → (oid : Oid) → (mark : ℕ) → Purpose
 
@@ -52,7 +56,7 @@ module _ (m : Meaning) where
 
   -- a command that waits for its reply
   pub record Work : Type 0 where
-    pub command : Command m
+    pub command : CommandOf m
     pub hand : Hand
     pub gone : ℕ  -- the greatest `Gone` that was answered to this command
     pub gone_before : ℕ  -- and what it was when the sync began
@@ -169,22 +173,22 @@ module _ (m : Meaning) where
 
   -- Refusals before any work, each command's in the order in which they are tested.
 
-  abbrev pub layout_refusal : LayoutFault → Refusal
-  layout_refusal (layout.TooMany x) = told.TooMany x
-  layout_refusal (layout.NotClosed r) = told.NotClosed r
-  layout_refusal (layout.NoStripe r s) = told.NoStripe r s
-  layout_refusal (layout.InChain u) = told.InChain u
-  layout_refusal (layout.Returned u) = told.Returned u
-  layout_refusal (layout.NoReplica r s) = told.NoReplica r s
-  layout_refusal (layout.NotAcked u) = told.Returned u
+  abbrev pub layout_refusal : ProjFault → Refusal
+  layout_refusal (layout.TooMany x) = cause.TooMany x
+  layout_refusal (layout.NotClosed r) = cause.NotClosed r
+  layout_refusal (layout.NoStripe r s) = cause.NoStripe r s
+  layout_refusal (layout.InChain u) = cause.InChain u
+  layout_refusal (layout.Returned u) = cause.Returned u
+  layout_refusal (layout.NoReplica r s) = cause.NoReplica r s
+  layout_refusal (layout.NotAcked u) = cause.Returned u
 
-  abbrev pub by_layout : Option LayoutFault → Option Refusal
+  abbrev pub by_layout : Option ProjFault → Option Refusal
   by_layout None = None
   by_layout (Some f) = Some (layout_refusal f)
 
   abbrev pub tx_refusal : TxFault → Refusal
-  tx_refusal (tx.TooMany x) = told.TooMany x
-  tx_refusal (tx.TooLarge n) = told.TooLarge n
+  tx_refusal (tx.TooMany x) = cause.TooMany x
+  tx_refusal (tx.TooLarge n) = cause.TooLarge n
 
   abbrev pub by_tx : Option TxFault → Option Refusal
   by_tx None = None
@@ -192,25 +196,25 @@ module _ (m : Meaning) where
 
   abbrev pub busy : Option Work → Option Refusal
   busy None = None
-  busy (Some w) = Some (told.Busy (word_of m w.command))
+  busy (Some w) = Some (cause.Busy (word_of w.command))
 
   abbrev pub no_tx : Client → Option Refusal
-  no_tx c = where_true (not (is_some c.tx)) told.NoTx
+  no_tx c = where_true (not (is_some c.tx)) cause.NoTx
 
   abbrev pub tx_open : Client → Option Refusal
-  tx_open c = where_true (is_some c.tx) told.TxOpen
+  tx_open c = where_true (is_some c.tx) cause.TxOpen
 
   abbrev pub wrong_kind : Bool → Oid → Option Refusal
-  wrong_kind allowed o = where_true (not allowed) (told.WrongKind o)
+  wrong_kind allowed o = where_true (not allowed) (cause.WrongKind o)
 
   abbrev pub not_registered : Client → Oid → Option Refusal
-  not_registered c o = where_true (not (m.registered c.dir o)) (told.NotRegistered o)
+  not_registered c o = where_true (not (m.registered c.dir o)) (cause.NotRegistered o)
 
   abbrev pub not_hosted : Client → Oid → Option Refusal
-  not_hosted c o = where_true (not (hosts_oid c o)) (told.NotHosted o)
+  not_hosted c o = where_true (not (hosts_oid c o)) (cause.NotHosted o)
 
   abbrev pub too_many_hosted : Client → Oid → Option Refusal
-  too_many_hosted c o = where_true (not (hosts_oid c o) && nat_le 128 (length c.hosted)) (told.TooMany many.Hosted)
+  too_many_hosted c o = where_true (not (hosts_oid c o) && nat_le 128 (length c.hosted)) (cause.TooMany many.Hosted)
 
   abbrev pub put_fault : Option Tx → WriteOp → Option Refusal
   put_fault None w = None
@@ -225,27 +229,27 @@ module _ (m : Meaning) where
 
   -- `copy`, in the layout at which the client stands
   unfoldable pub copy_fault : Layout → ℕ → ℕ → ℕ → Option Refusal
-  copy_fault p u r s = by_layout (first_some (not_closed p r ∷ no_stripe p r s ∷ in_chain p u r s ∷ returned p.gone (u ∷ []) ∷ []))
+  copy_fault p u r s = by_layout (spare_fault p (record { unit = u; range = r; stripe = s }))
 
-  unfoldable pub tests : Client → Command m → List (Option Refusal)
-  tests c (told.Host o) = tx_open c ∷ not_registered c o ∷ too_many_hosted c o ∷ []
-  tests c told.Begin = tx_open c ∷ []
-  tests c (told.Put o op) = no_tx c ∷ wrong_kind (m.allows o op) o ∷ not_registered c o ∷ put_fault c.tx (write_of o op) ∷ []
-  tests c (told.Ask o q) = no_tx c ∷ wrong_kind (m.allows_ask o q) o ∷ not_hosted c o ∷ ask_fault c.tx o (m.look q) ∷ []
-  tests c told.End = no_tx c ∷ []
-  tests c told.Drop = no_tx c ∷ []
-  tests c (told.Fate p) = tx_open c ∷ []
-  tests c (told.Decide p) = tx_open c ∷ []
-  tests c (told.Checkpoint o) = tx_open c ∷ not_hosted c o ∷ []
-  tests c (told.Forget o n) = tx_open c ∷ not_hosted c o ∷ []
-  tests c told.Trim = tx_open c ∷ []
-  tests c (told.Reconf x) = tx_open c ∷ by_layout (change_fault c.stand x) ∷ []
-  tests c (told.Copy u r s) = tx_open c ∷ copy_fault c.stand u r s ∷ []
-  tests c (told.AskAt p o q) = tx_open c ∷ wrong_kind (m.allows_ask o q) o ∷ not_hosted c o ∷ []
-  tests c (told.Rescue p) = tx_open c ∷ []
+  unfoldable pub tests : Client → CommandOf m → List (Option Refusal)
+  tests c (cmd.Host o) = tx_open c ∷ not_registered c o ∷ too_many_hosted c o ∷ []
+  tests c cmd.Begin = tx_open c ∷ []
+  tests c (cmd.Put o op) = no_tx c ∷ wrong_kind (m.allows o op) o ∷ not_registered c o ∷ put_fault c.tx (write_of o op) ∷ []
+  tests c (cmd.Ask o q) = no_tx c ∷ wrong_kind (m.allows_ask o q) o ∷ not_hosted c o ∷ ask_fault c.tx o (m.look q) ∷ []
+  tests c cmd.End = no_tx c ∷ []
+  tests c cmd.Drop = no_tx c ∷ []
+  tests c (cmd.Fate p) = tx_open c ∷ []
+  tests c (cmd.Decide p) = tx_open c ∷ []
+  tests c (cmd.Checkpoint o) = tx_open c ∷ not_hosted c o ∷ []
+  tests c (cmd.Forget o n) = tx_open c ∷ not_hosted c o ∷ []
+  tests c cmd.Trim = tx_open c ∷ []
+  tests c (cmd.Reconf x) = tx_open c ∷ by_layout (change_fault c.stand x) ∷ []
+  tests c (cmd.Copy u r s) = tx_open c ∷ copy_fault c.stand u r s ∷ []
+  tests c (cmd.AskAt p o q) = tx_open c ∷ wrong_kind (m.allows_ask o q) o ∷ not_hosted c o ∷ []
+  tests c (cmd.Rescue p) = tx_open c ∷ []
 
   -- why a command is refused in the step that takes it
-  unfoldable pub refusal : Client → Command m → Option Refusal
+  unfoldable pub refusal : Client → CommandOf m → Option Refusal
   refusal c x = first_some (busy c.work ∷ tests c x)
 
   abbrev pub tx_number : Option Tx → ℕ
@@ -254,7 +258,7 @@ module _ (m : Meaning) where
 
   -- the number of the transaction that a mark speaks of: 0 on `busy`, `no-tx` and `tx-open`, and on other commands' marks
   abbrev pub number_on : Client → Refusal → ℕ
-  number_on c (told.Busy x) = 0
-  number_on c told.NoTx = 0
-  number_on c told.TxOpen = 0
+  number_on c (cause.Busy x) = 0
+  number_on c cause.NoTx = 0
+  number_on c cause.TxOpen = 0
   number_on c _ = tx_number c.tx

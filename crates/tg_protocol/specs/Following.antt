@@ -1,5 +1,5 @@
 -- Which layout may follow another in a world, by what its units have answered.
-use Rattle.std.specs.Prelude.{◌≡◌, ℕ, ◌+◌, ◌<◌, List, length, Some, None, Contains}
+use Rattle.std.specs.Prelude.{◌≡◌, ℕ, ◌+◌, ◌<◌, List, length, Some, Ok, Contains}
 use Rattle.tg_base.specs.Layouts.{Layout}
 use Rattle.tg_base.specs.Changes.{Changed}
 use Rattle.tg_base.specs.declared.change.Join.{Join}
@@ -7,7 +7,9 @@ use Rattle.tg_base.specs.declared.msg.Msg.TheVariants as msg
 use Rattle.tg_base.specs.declared.packet.Packet.{Packet}
 use Rattle.tg_kind.specs.Meaning.{Meaning}
 use Rattle.tg_protocol.specs.Words.{unit_id}
-use Rattle.tg_protocol.specs.Layouts.{units_of, range_at, range_end, change_fault, next_of, next_start, not_acked}
+use Rattle.tg_proj.specs.Places.{range_at}
+use Rattle.tg_proj.specs.Refusals.{next_start}
+use Rattle.tg_protocol.specs.Layouts.{range_end, next_of}
 use Rattle.tg_protocol.specs.Worlds.{World}
 use Rattle.tg_protocol.specs.Alike.{Sent, decided_in}
 
@@ -26,7 +28,7 @@ module _ (m : Meaning) where
     pub was_asked : Sent m w asked
     pub was_answered : Sent m w answer
     pub to : asked.to ≡ unit_id u
-    pub look : asked.msg ≡ msg.Has e ((range_at p r).lo + s) (range_end p r) (length (range_at p r).stripes)
+    pub look : asked.msg ≡ msg.Has e ((range_at p.ranges r).lo + s) (range_end p r) (length (range_at p.ranges r).stripes)
     pub from : answer.from ≡ unit_id u
     pub back : answer.to ≡ asked.from
     pub number : answer.rid ≡ asked.rid
@@ -37,9 +39,7 @@ module _ (m : Meaning) where
     pub change : Changed
     pub acks : List (ℕ × ℕ)
     pub is : q ≡ next_of p change q.by q.start
-    pub lawful : change_fault p change ≡ None
-    pub start : q.start ≡ next_start p acks
-    pub all_acked : not_acked acks (units_of q) ≡ None
+    pub lawful : next_start p change acks ≡ Ok q.start
     pub were_sealed : (u h : ℕ) → Contains acks (u, h) → SealedAt w q.epoch u h
     pub has_all : (j : Join) → change.join ≡ Some j → HasStripe w q.epoch p j.unit j.range j.stripe
 

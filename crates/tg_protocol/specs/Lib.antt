@@ -16,7 +16,6 @@ pub mod Views
 pub mod Transactions
 pub mod Checkpoints
 pub mod Past
-pub mod Marks
 pub mod Trimming
 pub mod Reconfiguring
 pub mod Clients
@@ -25,6 +24,5 @@ pub mod ClientSteps
 pub mod Sizes
 pub mod Logs
 pub mod Worlds
-pub mod Stores
 pub mod Alike
 pub mod Following

@@ -22,7 +22,7 @@ use Rattle.tg_protocol.specs.Pages.{entry_of}
 use Rattle.tg_protocol.specs.Walking.{Trail, trail, next_of_trail, trail_after, pointers_at}
 use Rattle.tg_protocol.specs.Versions.{Noted, noted_or}
 use Rattle.tg_protocol.specs.Views.{Entries, touched}
-use Rattle.tg_protocol.specs.Marks.{Done}
+use Rattle.tg_model.specs.Kinds.{DoneOf}
 
 -- Decided layouts: over all packets that were ever sent.
 
@@ -218,17 +218,17 @@ module _ (m : Meaning) where
   ops_of [] = []
   ops_of (w ∷ ws) = op_if w.oid (m.read w.oid w.op) (ops_of ws)
 
-  abbrev pub done_at : ℕ → Entry → Done m
+  abbrev pub done_at : ℕ → Entry → DoneOf m
   done_at p e = record { stamp = p; client = e.head.client; number = e.head.number; writes = ops_of (writes_of e) }
 
-  abbrev pub done_if : Bool → ℕ → Entry → List (Done m) → List (Done m)
+  abbrev pub done_if : Bool → ℕ → Entry → List (DoneOf m) → List (DoneOf m)
   done_if true p e ds = done_at p e ∷ ds
   done_if false p e ds = ds
 
-  abbrev pub history_after : List Noted → Entries → List (Done m)
+  abbrev pub history_after : List Noted → Entries → List (DoneOf m)
   history_after ns [] = []
   history_after ns (x ∷ xs) = done_if (commits_after ns x.1) x.0 x.1 (history_after (changes_after ns x.0 x.1) xs)
 
   -- the committed transactions of a log, by position
-  unfoldable pub history_of : Log → List (Done m)
+  unfoldable pub history_of : Log → List (DoneOf m)
   history_of l = history_after [] (entries_of l)

@@ -3,9 +3,11 @@ use Rattle.std.specs.Prelude.{ℕ, ◌+◌, Bool, true, false, not, ◌&&◌, �
 use Rattle.tg_base.specs.declared.ids.Oid.{Oid}
 use Rattle.tg_entry.specs.declared.entry.Entry.{Entry}
 use Rattle.tg_kind.specs.Meaning.{Meaning}
+use Rattle.tg_model.specs.declared.play.PlayEnd.{PlayEnd}
+use Rattle.tg_model.specs.declared.play.PlayEnd.TheVariants.{Played, Blocked}
 use Rattle.tg_protocol.specs.Words.{has_oid}
 use Rattle.tg_protocol.specs.Entries.{is_commit, needs_decision}
-use Rattle.tg_protocol.specs.Views.{Entries, decision_in, PlayEnd, Played, Blocked, Verdict, Commits, Aborts, Unknown, Base, View, Play, view_start, fresh_base, verdict, play}
+use Rattle.tg_protocol.specs.Views.{Entries, decision_in, Verdict, Commits, Aborts, Unknown, Base, View, Play, view_start, fresh_base, verdict, play}
 use Rattle.tg_protocol.specs.Checkpoints.{Trims, trim_of, bases_in, greatest_base, within, base_or, load_from, view_bases}
 
 -- the commit record at a position

@@ -7,7 +7,8 @@ use Rattle.tg_base.specs.declared.ids.Ballot.{Ballot}
 use Rattle.tg_base.specs.declared.msg.Msg.TheVariants as msg
 use Rattle.tg_base.specs.declared.packet.Out.{Out}
 use Rattle.tg_protocol.specs.Words.{unit_id, layout_id, seqr_id, ballot_lt, ballot_eq, numbers}
-use Rattle.tg_protocol.specs.Layouts.{next_units, next_start, next_of}
+use Rattle.tg_proj.specs.Refusals.{new_start}
+use Rattle.tg_protocol.specs.Layouts.{next_units, next_of}
 use Rattle.tg_protocol.specs.Requests.{out, Waits, waits_for, asked_of, without_wait, Goes, Turn, turn, passes, draws, ends}
 use Rattle.tg_protocol.specs.Replies.{Reply, IsFenced, IsSealed, IsMissing, IsWhole, IsPromise, IsNack, IsAccepted, IsTail, IsOldEpoch}
 use Rattle.tg_protocol.specs.Appending.{names_all}
@@ -153,7 +154,7 @@ prepares r own next = turn (next + r.layouts) (Goes (at_work r (Agreeing (record
 
 -- the proposal has the start that the acks give
 abbrev pub proposes : Reconf → Acks → ℕ → ReconfTurn
-proposes r acks next = prepares r (next_of r.stand r.change r.me (next_start r.stand acks)) next
+proposes r acks next = prepares r (next_of r.stand r.change r.me (new_start r.stand.start acks)) next
 
 abbrev pub after_seals : Reconf → Acks → ℕ → Option Join → ReconfTurn
 after_seals r acks next None = proposes r acks next

@@ -6,7 +6,8 @@ use Rattle.tg_base.specs.declared.msg.Msg.{Msg}
 use Rattle.tg_base.specs.declared.msg.Msg.TheVariants as msg
 use Rattle.tg_base.specs.declared.packet.Out.{Out}
 use Rattle.tg_protocol.specs.Words.{unit_id, cell_eq}
-use Rattle.tg_protocol.specs.Layouts.{units_of, range_at, range_end, next_in_stripe}
+use Rattle.tg_proj.specs.Places.{range_at}
+use Rattle.tg_protocol.specs.Layouts.{units_of, range_end, next_in_stripe}
 use Rattle.tg_protocol.specs.Requests.{out, Waits, waits_for, asked_of, without_wait, Next, Goes, Learns, Ends, Turn, turn, passes, draws, ends, learns, met_gone}
 use Rattle.tg_protocol.specs.Replies.{Reply, IsHeld, IsTaken, IsGone, IsFenced, IsSealed, IsMissing, IsWhole}
 use Rattle.tg_protocol.specs.Cells.{CellJob, CellEnd, CellTurn, Done, Fenced, Gone, place_in, get_cell, cell_asks, cell_feed}
@@ -68,7 +69,7 @@ CopyTurn = Turn Copying CopyEnd
 
 -- whether a unit has every position of a stripe
 abbrev pub has_stripe : ℕ → Layout → ℕ → ℕ → Msg
-has_stripe e p r s = msg.Has e ((range_at p r).lo + s) (range_end p r) (length (range_at p r).stripes)
+has_stripe e p r s = msg.Has e ((range_at p.ranges r).lo + s) (range_end p r) (length (range_at p.ranges r).stripes)
 
 unfoldable pub copy_work_asks : Layout → Copying → CopyWork → List Out
 copy_work_asks p c (Sealing r) = out (unit_id c.unit) r (msg.Seal p.epoch) ∷ []
@@ -102,7 +103,7 @@ abbrev pub copy_at : Layout → Copying → ℕ → ℕ → CopyTurn
 copy_at p c pos next = copy_from p c pos next (nat_lt pos (range_end p c.range))
 
 abbrev pub copies_past : Layout → Copying → ℕ → ℕ → CopyTurn
-copies_past p c pos next = copy_at p c (next_in_stripe (range_at p c.range) c.stripe pos) next
+copies_past p c pos next = copy_at p c (next_in_stripe (range_at p.ranges c.range) c.stripe pos) next
 
 abbrev pub read_end : Layout → Copying → ℕ → CellEnd → ℕ → CopyTurn
 read_end p c pos (Done x) next = draws next (copies c (Storing next pos x))

@@ -8,6 +8,8 @@ use Rattle.tg_base.specs.declared.marks.ReadMark.{ReadMark}
 use Rattle.tg_entry.specs.declared.entry.WriteOp.{WriteOp}
 use Rattle.tg_entry.specs.declared.entry.Entry.{Entry}
 use Rattle.tg_kind.specs.Meaning.{Meaning}
+use Rattle.tg_model.specs.declared.play.PlayEnd.{PlayEnd}
+use Rattle.tg_model.specs.declared.play.PlayEnd.TheVariants.{Played, Blocked}
 use Rattle.tg_protocol.specs.Words.{oid_eq, or_else}
 use Rattle.tg_protocol.specs.Entries.{is_commit, reads_of, writes_of, decides, needs_decision}
 use Rattle.tg_protocol.specs.Versions.{Versions, Noted, Changed, no_versions, version_of, first_changed, Parts, parts_of}
@@ -20,11 +22,6 @@ Entries = List (ℕ × Entry)
 unfoldable pub decision_in : Entries → ℕ → Option Bool
 decision_in [] p = None
 decision_in (x ∷ xs) p = or_else (decides p x.1.body) (decision_in xs p)
-
--- where a play came to
-pub data PlayEnd : Type 0 where
-  Played : (upto : ℕ) → PlayEnd
-  Blocked : (pos : ℕ) → (missing : Oid) → PlayEnd  -- a record that can't be decided without this object
 
 -- whether a commit record is committed, as far as a view can tell
 pub data Verdict : Type 0 where

@@ -22,8 +22,9 @@ use Rattle.tg_protocol.specs.Sequencers.{SeqrState, SeqrTurn, new_seqr, seqr_ste
 use Rattle.tg_protocol.specs.Entries.{sum_of}
 use Rattle.tg_protocol.specs.Sizes.{packet_size}
 use Rattle.tg_protocol.specs.Logs.{Log, newest, log_of, history_of}
-use Rattle.tg_protocol.specs.Marks.{Command, What, Note, Mark, Done}
-use Rattle.tg_protocol.specs.Marks as told
+use Rattle.tg_model.specs.declared.command.Command.TheVariants as cmd
+use Rattle.tg_model.specs.declared.command.Event.TheVariants.{Command as Commands, Deliver, Lose, Tick, Stop}
+use Rattle.tg_model.specs.Kinds.{CommandOf, EventOf, NoteOf, MarkOf, DoneOf}
 use Rattle.tg_protocol.specs.Clients.{Client, new_client, upto}
 use Rattle.tg_protocol.specs.ClientSteps.{ClientTurn, client_command, client_deliver, client_tick}
 
@@ -34,16 +35,9 @@ pub record Noted : Type 0 where
   pub upto : ℕ
 
 module _ (m : Meaning) where
-  pub data Event : Type 0 where
-    Commands : (client : ℕ) → (command : Command m) → Event
-    Deliver : (packet : ℕ) → Event
-    Lose : (packet : ℕ) → Event
-    Tick : (node : NodeId) → Event
-    Stop : (node : NodeId) → Event
-
   -- a mark, with what was noted of its client
   pub record Told : Type 0 where
-    pub mark : Mark m
+    pub mark : MarkOf m
     pub noted : Noted
 
   pub record World : Type 0 where
@@ -114,7 +108,7 @@ module _ (m : Meaning) where
 
   -- What is told of a world.
 
-  abbrev pub trace : World → List (Mark m)
+  abbrev pub trace : World → List (MarkOf m)
   trace w = map (λ (t : Told). t.mark) w.told
 
   unfoldable pub latest : World → Layout
@@ -123,7 +117,7 @@ module _ (m : Meaning) where
   unfoldable pub log : World → Log
   log w = log_of (latest w) w.units w.archive
 
-  unfoldable pub history : World → List (Done m)
+  unfoldable pub history : World → List (DoneOf m)
   history w = history_of m (log w)
 
   -- Sending.
@@ -143,7 +137,7 @@ module _ (m : Meaning) where
   answer_to p None = []
   answer_to p (Some x) = record { from = p.to; to = p.from; rid = p.rid; msg = x } ∷ []
 
-  abbrev pub mark_of : World → ℕ → Note m → Told
+  abbrev pub mark_of : World → ℕ → NoteOf m → Told
   mark_of w k n = record { mark = record { event = w.event; client = k; tx = n.tx; what = n.what }; noted = noted_of w k }
 
   -- Moves of one node.
@@ -210,7 +204,7 @@ module _ (m : Meaning) where
   noted_if true w n c = w
   noted_if false w n c = record w { noted = slice_set w.noted n (record { next = c.next; epoch = c.stand.epoch; upto = upto m c }) }
 
-  abbrev pub commands : Bool → World → ℕ → Command m → World
+  abbrev pub commands : Bool → World → ℕ → CommandOf m → World
   commands true w n x = client_turned (noted_if (is_some (client w n).work) w n (client w n)) n (client_command m (client w n) x)
   commands false w n x = w
 
@@ -231,7 +225,7 @@ module _ (m : Meaning) where
   abbrev pub counted : World → World
   counted w = record w { steps = w.steps + 1 }
 
-  abbrev pub effect : World → Event → World
+  abbrev pub effect : World → EventOf m → World
   effect w (Commands k x) = commands (runs w (client_id k)) w k x
   effect w (Deliver i) = delivers w i (slice_get w.packets i)
   effect w (Lose i) = record w { waiting = without_num i w.waiting }
@@ -239,7 +233,7 @@ module _ (m : Meaning) where
   effect w (Stop n) = stops_if (runs w n) w n
 
   -- one step: an event on a stopped node does nothing but count
-  unfoldable pub happens : World → Event → World
+  unfoldable pub happens : World → EventOf m → World
   happens w e = counted (effect w e)
 
   -- Limits.
@@ -308,7 +302,7 @@ module _ (m : Meaning) where
   -- Scripts.
 
   pub data Line : Type 0 where
-    Happens : (event : Event) → Line
+    Happens : (event : EventOf m) → Line
     Update : (client : ℕ) → (oid : Oid) → (op : m.op) → Line
     Drain : Line
     Settle : Line
@@ -318,7 +312,7 @@ module _ (m : Meaning) where
   next_event w = record w { event = w.event + 1 }
 
   abbrev pub updates : World → ℕ → Oid → m.op → World
-  updates w k o op = happens (happens (happens w (Commands k told.Begin)) (Commands k (told.Put o op))) (Commands k told.End)
+  updates w k o op = happens (happens (happens w (Commands k cmd.Begin)) (Commands k (cmd.Put o op))) (Commands k cmd.End)
 
   unfoldable pub line : World → Line → World
   line w (Happens e) = happens (next_event w) e

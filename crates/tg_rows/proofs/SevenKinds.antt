@@ -6,7 +6,7 @@ use Rattle.tg_base.specs.declared.marks.Part.{Part}
 use Rattle.tg_base.specs.declared.marks.Part.TheVariants.{All, Text, Num}
 use Rattle.tg_kind.specs.Meaning.{Meaning}
 use Rattle.tg_protocol.specs.Words.{oid_eq, bytes_eq, bytes_lt, has_num, with_num, directory}
-use Rattle.tg_protocol.specs.Pages.{number, all_of, text_bytes, Taken, and_then, num, text, oid, counted}
+use Rattle.tg_rows.proofs.Bytes.{number, all_of, text_bytes, Taken, and_then, num, text, oid, counted}
 
 -- a name of the directory
 pub record Named : Type 0 where

@@ -4,7 +4,8 @@ use Rattle.tg_base.specs.Layouts.{Layout}
 use Rattle.tg_base.specs.declared.msg.Msg.{Msg}
 use Rattle.tg_base.specs.declared.msg.Msg.TheVariants as msg
 use Rattle.tg_protocol.specs.Words.{bytes_eq, cell_eq, client_id}
-use Rattle.tg_protocol.specs.Layouts.{range_of, chain_of}
+use Rattle.tg_proj.specs.Places.{range_number}
+use Rattle.tg_protocol.specs.Layouts.{chain_of}
 use Rattle.tg_protocol.specs.Units.{UnitState, new_unit, unit_ask, on_ask, unit_step, first_missing}
 use Rattle.tg_protocol.specs.LayoutServers.{new_layout, layout_ask, on_layout_ask, layout_step}
 use Rattle.tg_protocol.specs.Sequencers.{new_seqr, seqr_step}
@@ -80,11 +81,11 @@ twice = record {
       record { lo = 0; stripes = (0 ∷ []) ∷ [] } ∷ record { lo = 10; stripes = (1 ∷ []) ∷ [] } ∷ record { lo = 10; stripes = (2 ∷ []) ∷ [] } ∷ [];
 }
 
-below_ten : range_of twice 9 ≡ 0
+below_ten : range_number twice.ranges 9 ≡ 0
 unfolding twice
 below_ten = refl
 
-from_ten : range_of twice 10 ≡ 2
+from_ten : range_number twice.ranges 10 ≡ 2
 unfolding twice
 from_ten = refl
 

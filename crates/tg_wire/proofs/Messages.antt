@@ -1,5 +1,5 @@
 -- The messages keep the law.
-use Rattle.std.proofs.Common.{◌≡◌, ℕ, true, List, Option, Some, None, refl, ap, sym}
+use Rattle.std.proofs.Common.{◌≡◌, ℕ, true, List, Option, Some, refl, ap, sym}
 use Rattle.tg_base.specs.Layouts.{Layout}
 use Rattle.tg_base.specs.declared.cell.Cell.{Cell}
 use Rattle.tg_base.specs.declared.ids.Oid.{Oid}
@@ -12,7 +12,7 @@ use Rattle.tg_codec.proofs.Widths.{u64_law}
 use Rattle.tg_codec.proofs.Shapes.{text_law, tagged_law, table_law, table_tag, IsTable}
 use Rattle.tg_codec.proofs.Objects.{links_law}
 use Rattle.tg_wire.specs.Messages.{tag_of, as_read, as_write, as_fill, as_copy, as_has, as_seal, as_trim, as_held, as_taken, as_unwritten, as_gone, as_fenced, as_sealed, as_missing, as_whole, as_prepare, as_accept, as_decided, as_ask_latest, as_promise, as_nack, as_accepted, as_latest, as_learn, as_token, as_check, as_issued, as_tail, as_scanning, as_old_epoch, as_full, read, write, fill, copy, has, seal, trim, held, taken, unwritten, gone, fenced, sealed, missing, whole, prepare, accept, decided, ask_latest, promise, nack, accepted, latest, learn, token, check, issued, tail, scanning, old_epoch, full, messages, message}
-use Rattle.tg_wire.proofs.Parts.{cell_law, objects_law, ballot_law, projection_law, vote_law}
+use Rattle.tg_wire.proofs.Parts.{cell_law, objects_law, ballot_law, projection_of_law, projection_law, vote_law}
 
 inner : {A : Type 0} (p q : A) → Some p ≡ Some q → p ≡ q
 inner p q e = cc
@@ -236,7 +236,7 @@ accept-tag other h = absurd cc
 
 accept_law : IsCodec accept
 unfolding accept
-accept_law = variant_law _ _ (dep_law (u64_law _) (λ _. dep_law ballot_law (λ _. projection_law))) (λ p. refl) accept-back
+accept_law = variant_law _ _ (dep_law (u64_law _) (λ _. dep_law ballot_law (λ _. projection_of_law _))) (λ p. refl) accept-back
 
 decided-back : (x : Msg) (p : Layout) → as_decided x ≡ Some p → Decided p ≡ x
 decided-back (Decided x0) p h = ap (λ (q : Layout). Decided q) (sym (inner x0 p h))

@@ -1,5 +1,5 @@
 -- Fields of messages.
-use Rattle.std.specs.Prelude.{ℕ, zero, suc, ◌+◌, ◌==◌, Bool, not, List, [], ◌∷◌, ◌++◌, filter, Option, Some, None}
+use Rattle.std.specs.Prelude.{ℕ, zero, suc, ◌+◌, ◌==◌, not, List, [], ◌∷◌, ◌++◌, filter, Option, Some, None}
 use Rattle.std.specs.List.{list_any}
 use Rattle.tg_base.specs.Layouts.{Layout}
 use Rattle.tg_base.specs.declared.cell.Cell.{Cell}
@@ -7,7 +7,7 @@ use Rattle.tg_base.specs.declared.cell.Cell.TheVariants.{Junk, Data}
 use Rattle.tg_base.specs.declared.ids.Oid.{Oid}
 use Rattle.tg_base.specs.declared.ids.Ballot.{Ballot}
 use Rattle.tg_base.specs.declared.layout.Range.{Range}
-use Rattle.tg_codec.specs.Codec.{Codec, u8, u16, u32, u64, nothing, dep, via, many, counted, text, variant, tagged}
+use Rattle.tg_codec.specs.Codec.{Codec, u16, u32, u64, nothing, dep, via, many, counted, text, variant, tagged}
 use Rattle.tg_codec.specs.Owing.{points}
 use Rattle.tg_codec.specs.Streams.{any, from_one, oids_from, oid}
 
@@ -59,7 +59,7 @@ abbrev pub gone : Codec (List ℕ)
 gone = counted any (λ n. many gone_unit after_gone n 0)
 
 -- the numbers below one
-abbrev pub below : ℕ → List ℕ
+unfoldable pub below : ℕ → List ℕ
 below zero = []
 below (suc n) = below n ++ n ∷ []
 
@@ -97,14 +97,22 @@ after_range start s r = (r.lo, start)
 unfoldable pub ranges : ℕ → Codec (List Range)
 ranges start = counted ((1, 32) ∷ []) (λ n. many range (after_range start) n (0, 0))
 
-unfoldable pub projection : Codec Layout
-projection =
+-- a projection whose epoch is from some ranges
+unfoldable pub projection_of : List (ℕ × ℕ) → Codec Layout
+projection_of epochs =
     via (λ p. record { epoch = p.0; seq = p.1.0; start = p.1.1.0; by = p.1.1.1.0; gone = p.1.1.1.1.0; ranges = p.1.1.1.1.1 })
     (λ l. (l.epoch, (l.seq, (l.start, (l.by, (l.gone, l.ranges))))))
-    (dep (u64 from_one) (λ _. dep (u16 any) (λ _. dep (u64 any) (λ start. dep (u16 any) (λ _. dep gone (λ _. ranges start))))))
+    (dep (u64 epochs) (λ _. dep (u16 any) (λ _. dep (u64 any) (λ start. dep (u16 any) (λ _. dep gone (λ _. ranges start))))))
+
+abbrev pub projection : Codec Layout
+projection = projection_of from_one
 
 abbrev pub Proposal : Type 0
 Proposal = Ballot × Layout
+
+-- a ballot, and a projection of this epoch
+abbrev pub proposal : ℕ → Codec Proposal
+proposal epoch = dep ballot (λ _. projection_of ((epoch, epoch) ∷ []))
 
 abbrev pub vote_tag : Option Proposal → ℕ
 vote_tag None = 0

@@ -1,3 +1,7 @@
 pub mod Fields
 pub mod Messages
 pub mod Packets
+pub mod Answers
+pub mod Short
+pub mod Rules
+pub mod Types

@@ -1,10 +1,9 @@
 -- Packets: who sends, to whom, the number of the request, and the message.
-use Rattle.std.specs.Prelude.{ℕ, zero, suc, List, [], ◌∷◌}
+use Rattle.std.specs.Prelude.{ℕ, zero, suc, [], ◌∷◌}
 use Rattle.tg_base.specs.Orders.{role_number}
 use Rattle.tg_base.specs.declared.ids.Role.{Role}
 use Rattle.tg_base.specs.declared.ids.Role.TheVariants.{Unit as UnitRole, Layout as LayoutRole, Seqr as SeqrRole, Client as ClientRole}
 use Rattle.tg_base.specs.declared.ids.NodeId.{NodeId}
-use Rattle.tg_base.specs.declared.msg.Msg.{Msg}
 use Rattle.tg_base.specs.declared.packet.Packet.{Packet}
 use Rattle.tg_codec.specs.Codec.{Codec, u8, u16, u64, fixed, dep, via}
 use Rattle.tg_codec.specs.Streams.{any}

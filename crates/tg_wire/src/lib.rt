@@ -1,2 +1,24 @@
-//! Packets, and how they are spelled: the definitions. They are read beside docs of the formats.
+//! Packets, and how they are spelled.
 #![tactic(auto)]
+
+mod chains;
+mod coding;
+mod fault;
+mod fields;
+mod layout_messages;
+mod layouts;
+mod reads;
+mod seqr_messages;
+mod shapes;
+mod sizes;
+mod typing;
+mod unit_answers;
+mod unit_requests;
+mod writes;
+
+pub use coding::{decode, encode, no_spelling_begins_another, size};
+pub use fault::WireFault;
+pub use typing::types;
+
+#[cfg(test)]
+mod tests;

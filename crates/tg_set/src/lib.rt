@@ -1,0 +1,9 @@
+//! Sets of numbers.
+#![tactic(auto)]
+
+mod set;
+
+pub use set::{Set, SetAns, SetAsk, SetOp};
+
+#[cfg(test)]
+mod tests;
