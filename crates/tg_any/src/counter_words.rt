@@ -5,7 +5,7 @@ ghost use Rattle.tg_any.specs.Words.{texts, joined};
 ghost use Rattle.tg_any.specs.CounterWords.{op_words, op_read, ask_words, ask_read, answer_words, answer_read};
 
 use crate::field::Field;
-use crate::phrase::{nothing, one};
+use crate::phrase::{nothing, one, put_one};
 use std::alloc::Global;
 use tg_base::{List, NoMemory};
 use tg_cell::{CounterAns, CounterAsk, CounterOp};
@@ -60,10 +60,7 @@ pub fn put_counter_op(x: &CounterOp, out: &mut List<u8>) -> Result<(), NoMemory>
     ensures { OnOk result (out.new ≡ out.old ++ joined (op_words x.now)) }
 {
     match x {
-        CounterOp::Add { by } => {
-            out.extend(b"add ")?;
-            by.put(out)
-        }
+        CounterOp::Add { by } => put_one(b"add", by, out),
     }
 }
 

@@ -5,7 +5,7 @@ ghost use Rattle.tg_any.specs.Words.{texts, joined};
 ghost use Rattle.tg_any.specs.DirectoryWords.{op_words, op_read, ask_words, ask_read, answer_words, answer_read};
 
 use crate::field::Field;
-use crate::phrase::{list, maybe, nothing, one, put_list, put_maybe, two};
+use crate::phrase::{list, maybe, nothing, one, put_list, put_maybe, put_one, put_two, two};
 use std::alloc::Global;
 use tg_base::{List, NoMemory};
 use tg_dir::{DirectoryAns, DirectoryAsk, DirectoryOp};
@@ -91,18 +91,8 @@ pub fn put_directory_op(x: &DirectoryOp, out: &mut List<u8>) -> Result<(), NoMem
     ensures { OnOk result (out.new ≡ out.old ++ joined (op_words x.now)) }
 {
     match x {
-        DirectoryOp::Name { name, oid } => {
-            out.extend(b"name ")?;
-            name.put(out)?;
-            out.push(b' ')?;
-            oid.put(out)
-        }
-        DirectoryOp::Mark { oid, mark } => {
-            out.extend(b"mark ")?;
-            oid.put(out)?;
-            out.push(b' ')?;
-            mark.put(out)
-        }
+        DirectoryOp::Name { name, oid } => put_two(b"name", name, oid, out),
+        DirectoryOp::Mark { oid, mark } => put_two(b"mark", oid, mark, out),
     }
 }
 
@@ -111,10 +101,7 @@ pub fn put_directory_ask(x: &DirectoryAsk, out: &mut List<u8>) -> Result<(), NoM
     ensures { OnOk result (out.new ≡ out.old ++ joined (ask_words x.now)) }
 {
     match x {
-        DirectoryAsk::Find { name } => {
-            out.extend(b"find ")?;
-            name.put(out)
-        }
+        DirectoryAsk::Find { name } => put_one(b"find", name, out),
         DirectoryAsk::Marks => out.extend(b"marks"),
         DirectoryAsk::Floor => out.extend(b"floor"),
     }

@@ -21,7 +21,7 @@ pub use any_words::{ans_of, ask_of, op_of, spell_ans, spell_ask, spell_op};
 pub use decimal::{number, number_front, put_number, signed};
 pub use field::Field;
 pub use names::{mark, object, object_front, put_mark, put_object};
-pub use phrase::{list, maybe, nothing, one, put_list, put_maybe, two};
+pub use phrase::{list, maybe, nothing, one, put_list, put_maybe, put_one, put_two, two};
 
 #[cfg(test)]
 mod tests;

@@ -5,7 +5,7 @@ ghost use Rattle.tg_any.specs.Words.{texts, joined};
 ghost use Rattle.tg_any.specs.ListWords.{op_words, op_read, ask_words, ask_read, answer_words, answer_read};
 
 use crate::field::Field;
-use crate::phrase::{list, maybe, nothing, one, put_list, put_maybe, two};
+use crate::phrase::{list, maybe, nothing, one, put_list, put_maybe, put_one, put_two, two};
 use std::alloc::Global;
 use tg_base::{List, NoMemory};
 use tg_list::{TextListAns, TextListAsk, TextListOp};
@@ -101,24 +101,10 @@ pub fn put_list_op(x: &TextListOp, out: &mut List<u8>) -> Result<(), NoMemory>
     ensures { OnOk result (out.new ≡ out.old ++ joined (op_words x.now)) }
 {
     match x {
-        TextListOp::PushFront { text } => {
-            out.extend(b"push_front ")?;
-            text.put(out)
-        }
-        TextListOp::PushBack { text } => {
-            out.extend(b"push_back ")?;
-            text.put(out)
-        }
-        TextListOp::Insert { at, text } => {
-            out.extend(b"insert ")?;
-            at.put(out)?;
-            out.push(b' ')?;
-            text.put(out)
-        }
-        TextListOp::Remove { at } => {
-            out.extend(b"remove ")?;
-            at.put(out)
-        }
+        TextListOp::PushFront { text } => put_one(b"push_front", text, out),
+        TextListOp::PushBack { text } => put_one(b"push_back", text, out),
+        TextListOp::Insert { at, text } => put_two(b"insert", at, text, out),
+        TextListOp::Remove { at } => put_one(b"remove", at, out),
         TextListOp::PopFront => out.extend(b"pop_front"),
         TextListOp::PopBack => out.extend(b"pop_back"),
     }
@@ -129,10 +115,7 @@ pub fn put_list_ask(x: &TextListAsk, out: &mut List<u8>) -> Result<(), NoMemory>
     ensures { OnOk result (out.new ≡ out.old ++ joined (ask_words x.now)) }
 {
     match x {
-        TextListAsk::At { at } => {
-            out.extend(b"at ")?;
-            at.put(out)
-        }
+        TextListAsk::At { at } => put_one(b"at", at, out),
         TextListAsk::Len => out.extend(b"len"),
         TextListAsk::Items => out.extend(b"items"),
     }

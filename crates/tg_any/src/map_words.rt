@@ -5,7 +5,7 @@ ghost use Rattle.tg_any.specs.Words.{texts, joined};
 ghost use Rattle.tg_any.specs.MapWords.{op_words, op_read, ask_words, ask_read, answer_words, answer_read};
 
 use crate::field::Field;
-use crate::phrase::{list, maybe, nothing, one, put_list, put_maybe, two};
+use crate::phrase::{list, maybe, nothing, one, put_list, put_maybe, put_one, put_two, two};
 use std::alloc::Global;
 use tg_base::{List, NoMemory};
 use tg_map::{MapAns, MapAsk, MapOp};
@@ -79,16 +79,8 @@ pub fn put_map_op(x: &MapOp, out: &mut List<u8>) -> Result<(), NoMemory>
     ensures { OnOk result (out.new ≡ out.old ++ joined (op_words x.now)) }
 {
     match x {
-        MapOp::Set { key, value } => {
-            out.extend(b"set ")?;
-            key.put(out)?;
-            out.push(b' ')?;
-            value.put(out)
-        }
-        MapOp::Unset { key } => {
-            out.extend(b"unset ")?;
-            key.put(out)
-        }
+        MapOp::Set { key, value } => put_two(b"set", key, value, out),
+        MapOp::Unset { key } => put_one(b"unset", key, out),
     }
 }
 
@@ -97,10 +89,7 @@ pub fn put_map_ask(x: &MapAsk, out: &mut List<u8>) -> Result<(), NoMemory>
     ensures { OnOk result (out.new ≡ out.old ++ joined (ask_words x.now)) }
 {
     match x {
-        MapAsk::Get { key } => {
-            out.extend(b"get ")?;
-            key.put(out)
-        }
+        MapAsk::Get { key } => put_one(b"get", key, out),
         MapAsk::Size => out.extend(b"size"),
         MapAsk::Keys => out.extend(b"keys"),
     }

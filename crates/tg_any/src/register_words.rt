@@ -4,8 +4,7 @@ ghost use Rattle.std.specs.Prelude.{◌≡◌, ◌++◌, IfOk, OnOk};
 ghost use Rattle.tg_any.specs.Words.{texts, joined};
 ghost use Rattle.tg_any.specs.RegisterWords.{op_words, op_read, ask_words, ask_read, answer_words, answer_read};
 
-use crate::field::Field;
-use crate::phrase::{maybe, nothing, one, put_maybe};
+use crate::phrase::{maybe, nothing, one, put_maybe, put_one};
 use std::alloc::Global;
 use tg_base::{List, NoMemory};
 use tg_cell::{RegisterAns, RegisterAsk, RegisterOp};
@@ -64,10 +63,7 @@ pub fn put_register_op(x: &RegisterOp, out: &mut List<u8>) -> Result<(), NoMemor
     ensures { OnOk result (out.new ≡ out.old ++ joined (op_words x.now)) }
 {
     match x {
-        RegisterOp::Write { text } => {
-            out.extend(b"write ")?;
-            text.put(out)
-        }
+        RegisterOp::Write { text } => put_one(b"write", text, out),
     }
 }
 

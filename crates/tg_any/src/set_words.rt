@@ -5,7 +5,7 @@ ghost use Rattle.tg_any.specs.Words.{texts, joined};
 ghost use Rattle.tg_any.specs.SetWords.{op_words, op_read, ask_words, ask_read, answer_words, answer_read};
 
 use crate::field::Field;
-use crate::phrase::{list, one, put_list, two};
+use crate::phrase::{list, one, put_list, put_one, put_two, two};
 use std::alloc::Global;
 use tg_base::{List, NoMemory};
 use tg_set::{SetAns, SetAsk, SetOp};
@@ -85,14 +85,8 @@ pub fn put_set_op(x: &SetOp, out: &mut List<u8>) -> Result<(), NoMemory>
     ensures { OnOk result (out.new ≡ out.old ++ joined (op_words x.now)) }
 {
     match x {
-        SetOp::Include { number } => {
-            out.extend(b"include ")?;
-            number.put(out)
-        }
-        SetOp::Exclude { number } => {
-            out.extend(b"exclude ")?;
-            number.put(out)
-        }
+        SetOp::Include { number } => put_one(b"include", number, out),
+        SetOp::Exclude { number } => put_one(b"exclude", number, out),
     }
 }
 
@@ -101,22 +95,9 @@ pub fn put_set_ask(x: &SetAsk, out: &mut List<u8>) -> Result<(), NoMemory>
     ensures { OnOk result (out.new ≡ out.old ++ joined (ask_words x.now)) }
 {
     match x {
-        SetAsk::Member { number } => {
-            out.extend(b"member ")?;
-            number.put(out)
-        }
-        SetAsk::Count { low, high } => {
-            out.extend(b"count ")?;
-            low.put(out)?;
-            out.push(b' ')?;
-            high.put(out)
-        }
-        SetAsk::Between { low, high } => {
-            out.extend(b"between ")?;
-            low.put(out)?;
-            out.push(b' ')?;
-            high.put(out)
-        }
+        SetAsk::Member { number } => put_one(b"member", number, out),
+        SetAsk::Count { low, high } => put_two(b"count", low, high, out),
+        SetAsk::Between { low, high } => put_two(b"between", low, high, out),
     }
 }
 

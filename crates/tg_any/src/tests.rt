@@ -8,12 +8,7 @@ use tg_cell::{Counter, CounterAns, CounterAsk, CounterOp};
 use tg_kind::{Kind, KindFault};
 
 // The answer to an ask after an op, from a fresh state that was saved and loaded again.
-fn replayed<K: Kind>(
-    alloc: Global,
-    oid: Oid,
-    op: &K::Op,
-    ask: &K::Ask,
-) -> Result<K::Ans, KindFault>
+fn replayed<K: Kind>(alloc: Global, oid: Oid, op: &K::Op, ask: &K::Ask) -> Result<K::Ans, KindFault>
     requires { K.is_object oid ≡ true }
     ensures { IfOk result (λ a. a ≡ K.answered (K.applied (K.first oid []) op.now) ask.now) }
 {
@@ -117,8 +112,7 @@ const SET: Oid = Oid(0x0600_0000);
 fn a_counter_is_replayed(rt: HostRuntime) -> Result<(), Fail> {
     let alloc = rt.alloc();
     let add = CounterOp::Add { by: 7 };
-    let Ok(CounterAns::Number(number)) =
-        replayed::<Counter>(alloc, CTR, &add, &CounterAsk::Value)
+    let Ok(CounterAns::Number(number)) = replayed::<Counter>(alloc, CTR, &add, &CounterAsk::Value)
     else {
         return Err("memory".into());
     };

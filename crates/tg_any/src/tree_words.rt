@@ -5,7 +5,7 @@ ghost use Rattle.tg_any.specs.Words.{texts, joined};
 ghost use Rattle.tg_any.specs.TreeWords.{op_words, op_read, ask_words, ask_read, answer_words, answer_read};
 
 use crate::field::Field;
-use crate::phrase::{list, maybe, one, put_list, put_maybe, two};
+use crate::phrase::{list, maybe, one, put_list, put_maybe, put_one, put_two, two};
 use std::alloc::Global;
 use tg_base::{List, NoMemory};
 use tg_tree::{TreeAns, TreeAsk, TreeOp};
@@ -95,22 +95,9 @@ pub fn put_tree_op(x: &TreeOp, out: &mut List<u8>) -> Result<(), NoMemory>
     ensures { OnOk result (out.new ≡ out.old ++ joined (op_words x.now)) }
 {
     match x {
-        TreeOp::Create { path, text } => {
-            out.extend(b"create ")?;
-            path.put(out)?;
-            out.push(b' ')?;
-            text.put(out)
-        }
-        TreeOp::Store { path, text } => {
-            out.extend(b"store ")?;
-            path.put(out)?;
-            out.push(b' ')?;
-            text.put(out)
-        }
-        TreeOp::Delete { path } => {
-            out.extend(b"delete ")?;
-            path.put(out)
-        }
+        TreeOp::Create { path, text } => put_two(b"create", path, text, out),
+        TreeOp::Store { path, text } => put_two(b"store", path, text, out),
+        TreeOp::Delete { path } => put_one(b"delete", path, out),
     }
 }
 
@@ -119,18 +106,9 @@ pub fn put_tree_ask(x: &TreeAsk, out: &mut List<u8>) -> Result<(), NoMemory>
     ensures { OnOk result (out.new ≡ out.old ++ joined (ask_words x.now)) }
 {
     match x {
-        TreeAsk::Data { path } => {
-            out.extend(b"data ")?;
-            path.put(out)
-        }
-        TreeAsk::Has { path } => {
-            out.extend(b"has ")?;
-            path.put(out)
-        }
-        TreeAsk::Children { path } => {
-            out.extend(b"children ")?;
-            path.put(out)
-        }
+        TreeAsk::Data { path } => put_one(b"data", path, out),
+        TreeAsk::Has { path } => put_one(b"has", path, out),
+        TreeAsk::Children { path } => put_one(b"children", path, out),
     }
 }
 
