@@ -1,0 +1,13 @@
+pub mod Numbers
+pub mod Fronts
+pub mod ObjectWords
+pub mod Words
+pub mod Lists
+pub mod DirectoryForms
+pub mod CounterForms
+pub mod RegisterForms
+pub mod MapForms
+pub mod ListForms
+pub mod TreeForms
+pub mod SetForms
+pub mod AnyForms

@@ -1,0 +1,14 @@
+pub mod Decimals
+pub mod Fronts
+pub mod Names
+pub mod Words
+pub mod Anys
+pub mod AnyLaws
+pub mod DirectoryWords
+pub mod CounterWords
+pub mod RegisterWords
+pub mod MapWords
+pub mod ListWords
+pub mod TreeWords
+pub mod SetWords
+pub mod AnyWords
