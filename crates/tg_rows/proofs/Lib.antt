@@ -14,3 +14,6 @@ mod DeliveryStops
 mod Large
 mod Long
 mod Judged
+mod Random
+mod RandomMoves
+mod PlayingOn
