@@ -186,6 +186,34 @@ fn a_full_chain_takes_no_unit_and_a_dropped_one_never_returns(rt: HostRuntime) -
     Ok(())
 }
 
+// As many ranges from 0 as a layout may have, 32, each of unit 0 alone.
+fn crowded(alloc: Global) -> Result<Projection, NoMemory>
+    ensures { IfOk result (λ p. p.epoch ≡ 2) }
+{
+    let mut ranges = List::new(alloc);
+    for _ in 0..32 {
+        put_range(&mut ranges, alloc, 0, &[0])?;
+    }
+    Ok(Projection {
+        epoch: 2,
+        seq: 1,
+        start: 1,
+        by: 0,
+        gone: List::new(alloc),
+        ranges,
+    })
+}
+
+#[test]
+fn a_layout_has_thirty_two_ranges_at_most(rt: HostRuntime) -> Result<(), Fail> {
+    let alloc = rt.alloc();
+    let old = crowded(alloc).map_err(|_| "memory")?;
+    let asked = opening(alloc, &[], &[3], joins(9, 40, 0));
+    let what = Many::Ranges;
+    assert_eq!(rt; fault(&old, asked), Some(ProjFault::TooMany { what }));
+    Ok(())
+}
+
 #[test]
 fn a_stripe_keeps_a_unit(rt: HostRuntime) -> Result<(), Fail> {
     let alloc = rt.alloc();

@@ -25,4 +25,5 @@ pub mod Sizes
 pub mod Logs
 pub mod Worlds
 pub mod Alike
+pub mod Stuck
 pub mod Following
