@@ -191,7 +191,7 @@ fn crowded(alloc: Global) -> Result<Projection, NoMemory>
     ensures { IfOk result (λ p. p.epoch ≡ 2) }
 {
     let mut ranges = List::new(alloc);
-    for _ in 0..32 {
+    for _ in 0..32_usize {
         put_range(&mut ranges, alloc, 0, &[0])?;
     }
     Ok(Projection {
