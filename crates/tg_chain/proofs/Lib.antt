@@ -1,0 +1,4 @@
+pub mod Outs
+pub mod Same
+pub mod Answering
+pub mod Steps
