@@ -1,12 +1,12 @@
 -- What each step of a machine is.
-use Rattle.std.proofs.Common.{◌≡◌, ℕ, ◌+◌, ◌≤◌, Bool, true, false, not, ◌||◌, List, [], ◌∷◌, refl, arith}
+use Rattle.std.proofs.Common.{◌≡◌, ℕ, ◌+◌, ◌≤◌, Bool, true, false, List, [], ◌∷◌, refl, arith}
 use Rattle.tg_base.specs.declared.packet.Packet.{Packet}
 use Rattle.tg_base.specs.declared.msg.Msg.{Msg}
 use Rattle.tg_protocol.specs.Requests.{Next, Goes, Learns, Ends, awaits}
 use Rattle.tg_protocol.specs.Replies.{Reply, reply}
 use Rattle.tg_protocol.specs.Cells.{Place, CellJob, CellWork, CellEnd, cell_asks, works, cell_feed, work_feed, fill_cell}
 use Rattle.tg_chain.specs.Turns.{fed_if}
-use Rattle.tg_chain.specs.Laws.{EndsBy, EndsByAnswers, passed_by, is_probe, WaitsForAnswers, left, left_then, StepsAreFew, fed_next, fed_all, RequestsAreFew}
+use Rattle.tg_chain.specs.Laws.{EndsBy, EndsByAnswers, left, left_then, StepsAreFew, fed_next, fed_all, RequestsAreFew}
 
 -- Requests to come.
 
@@ -54,20 +54,3 @@ if_ends false j u m next e h = absurd cc
 
 pub ends_by_answers : EndsByAnswers
 ends_by_answers j from rid m next e h = if_ends (awaits (cell_asks j) from rid) j from.num m next e h
-
--- What is passed by.
-
-work_waits : (a : Place) (w : CellWork) (u : ℕ) (x : Reply) (next : ℕ) (k : CellJob) →
-    (cell_feed (works a w) u x next).to ≡ Goes k → (cell_feed (works a w) u x next).next ≡ next →
-    (passed_by (works a w) x || is_probe w) ≡ true
-unfolding cell_feed work_feed fill_cell
-work_waits a w u x next k g n = grind arith
-
-if_waits : (b : Bool) (j : CellJob) (u : ℕ) (m : Msg) (next : ℕ) (k : CellJob) →
-    (fed_if b j u m next).to ≡ Goes k → (fed_if b j u m next).next ≡ next →
-    (not b || (passed_by j (reply m) || is_probe j.work)) ≡ true
-if_waits true j u m next k g n = work_waits j.place j.work u (reply m) next k g n
-if_waits false j u m next k g n = refl
-
-pub waits_for_answers : WaitsForAnswers
-waits_for_answers j from rid m next k g n = if_waits (awaits (cell_asks j) from rid) j from.num m next k g n

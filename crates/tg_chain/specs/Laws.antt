@@ -1,6 +1,6 @@
 -- What the layer above rests on: which answers end a machine, which are passed by, and how many requests it
 -- still sends.
-use Rattle.std.specs.Prelude.{◌≡◌, ℕ, ◌+◌, ◌-◌, ◌<◌, ◌≤◌, Bool, true, false, not, ◌&&◌, ◌||◌, ◌==◌, nat_le, Option, Some, None, List, [], ◌∷◌, length}
+use Rattle.std.specs.Prelude.{◌≡◌, ℕ, ◌+◌, ◌-◌, ◌<◌, ◌≤◌, Bool, true, false, not, ◌&&◌, ◌||◌, ◌==◌, nat_le, nat_lt, Option, Some, None, List, [], ◌∷◌, length}
 use Rattle.tg_base.specs.declared.cell.Cell.{Cell}
 use Rattle.tg_base.specs.declared.cell.Cell.TheVariants.{Junk, Data}
 use Rattle.tg_base.specs.declared.ids.NodeId.{NodeId}
@@ -8,9 +8,12 @@ use Rattle.tg_base.specs.declared.msg.Msg.{Msg}
 use Rattle.tg_base.specs.declared.packet.Packet.{Packet}
 use Rattle.tg_protocol.specs.Words.{cell_eq, where_true}
 use Rattle.tg_protocol.specs.Requests.{Next, Goes, Learns, Ends, turn, awaits, without_wait}
-use Rattle.tg_protocol.specs.Replies.{Reply, IsHeld, IsTaken, IsUnwritten, IsGone, IsFenced, IsMissing, IsWhole, reply}
+use Rattle.tg_protocol.specs.Replies.{Reply, IsHeld, IsTaken, IsUnwritten, IsGone, IsFenced, IsMissing, IsWhole, IsLatest, reply}
 use Rattle.tg_protocol.specs.Cells.{Place, CellJob, CellWork, Puts, Gets, Fills, Copies, Probes, CellEnd, CellTurn, Done, Seen, Lost, Fenced, Gone, cell_asks}
-use Rattle.tg_chain.specs.Turns.{fed}
+use Rattle.tg_base.specs.declared.turn.Stand.{Stand}
+use Rattle.tg_chain.specs.declared.ends.LearnEnd.TheVariants.{Known}
+use Rattle.tg_chain.specs.Turns.{fed, by_rules}
+use Rattle.tg_chain.specs.Learns.{Learning, learn_feed, is_newer, tells_newer}
 
 -- Ends.
 
@@ -73,24 +76,32 @@ serves (Fills r) IsHeld = true
 serves (Fills r) (IsTaken c) = true
 serves (Copies r c i) IsHeld = true
 serves (Copies r c i) (IsTaken x) = cell_eq x c
+serves (Probes ws) IsWhole = true
+serves (Probes ws) (IsMissing p) = true
 serves _ _ = false
 
+-- whether the work has to do with trims
+abbrev pub minds_trims : CellWork → Bool
+minds_trims (Probes ws) = false
+minds_trims w = true
+
 -- a fence that isn't of a later epoch, a trim that isn't past the position, and what answers another request
-abbrev pub passed_by : CellJob → Reply → Bool
-passed_by j (IsFenced e) = nat_le e j.place.epoch
-passed_by j (IsGone b) = nat_le b j.place.pos
-passed_by j x = not (serves j.work x)
+abbrev pub passed_by : Place → CellWork → Reply → Bool
+passed_by a w (IsFenced e) = nat_le e a.epoch
+passed_by a w (IsGone b) = not (minds_trims w) || nat_le b a.pos
+passed_by a w x = not (serves w x)
 
--- a machine goes on without a new request only where the message isn't awaited or is passed by; a probe
--- does so too
-abbrev pub is_probe : CellWork → Bool
-is_probe (Probes ws) = true
-is_probe w = false
+-- other units of a probe haven't answered yet
+abbrev pub awaits_more : CellWork → ℕ → Reply → Bool
+awaits_more (Probes ws) u x = serves (Probes ws) x && nat_lt 0 (length (without_wait u ws))
+awaits_more w u x = false
 
+-- a machine goes on without sending anything only where the message isn't awaited or is passed by, or where
+-- answers of other units are awaited still
 abbrev pub WaitsForAnswers : Type 0
 WaitsForAnswers = (j : CellJob) (from : NodeId) (rid : ℕ) (m : Msg) (next : ℕ) (k : CellJob) →
-    (fed j from rid m next).to ≡ Goes k → (fed j from rid m next).next ≡ next →
-    (not (awaits (cell_asks j) from rid) || (passed_by j (reply m) || is_probe j.work)) ≡ true
+    (fed j from rid m next).to ≡ Goes k → (by_rules cell_asks next (fed j from rid m next)).outs ≡ [] →
+    (not (awaits (cell_asks j) from rid) || (passed_by j.place j.work (reply m) || awaits_more j.work from.num (reply m))) ≡ true
 
 -- Requests to come.
 
@@ -127,3 +138,20 @@ fed_all x (p ∷ ps) next = fed_all (fed_next x p next).to ps (fed_next x p next
 -- whatever messages come, a machine sends no more than these
 abbrev pub RequestsAreFew : Type 0
 RequestsAreFew = (j : CellJob) (ps : List Packet) (next : ℕ) → (fed_all (Goes j) ps next).next ≤ next + left j
+
+-- Learning.
+
+-- learning ends only with a layout that a layout server tells and whose epoch is greater
+abbrev pub LearnsNewer : Type 0
+LearnsNewer = (l : Learning) (from : NodeId) (m : Msg) (next : ℕ) (s : Stand) →
+    (learn_feed l from m next).to ≡ Ends (Known s) →
+    (reply m ≡ IsLatest s.proj) × (is_newer l from s.proj ≡ true) × (s.layouts ≡ l.stand.layouts)
+
+-- it goes on only where the message tells no such layout, and then as before
+abbrev pub LearnWaits : Type 0
+LearnWaits = (l : Learning) (from : NodeId) (m : Msg) (next : ℕ) (k : Learning) →
+    (learn_feed l from m next).to ≡ Goes k → (tells_newer l from (reply m) ≡ false) × (k ≡ l)
+
+-- and it asks only as it starts
+abbrev pub LearnAsksOnce : Type 0
+LearnAsksOnce = (l : Learning) (from : NodeId) (m : Msg) (next : ℕ) → (learn_feed l from m next).next ≡ next

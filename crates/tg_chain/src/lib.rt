@@ -19,7 +19,13 @@ mod waits;
 pub use ends::{FillCellEnd, GetCellEnd, LearnEnd, ProbeEnd, PutCellEnd};
 pub use fill::FillCell;
 pub use get::GetCell;
-pub use laws::{ends_by_answers, requests_are_few, steps_are_few, waits_for_answers};
+pub use laws::{
+    ends_by_answers, learn_asks_once, learn_waits, learns_newer, requests_are_few, steps_are_few,
+    waits_for_answers,
+};
 pub use learn::Learn;
 pub use probe::Probe;
 pub use put::PutCell;
+
+#[cfg(test)]
+mod tests;

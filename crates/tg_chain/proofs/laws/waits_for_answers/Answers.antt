@@ -1,4 +1,4 @@
-use Rattle.tg_chain.proofs.Steps.{waits_for_answers}
+use Rattle.tg_chain.proofs.Passing.{waits_for_answers}
 use Rattle.tg_chain.proofs.laws.waits_for_answers.Goals as goal
 
 pub returns : goal.returns
