@@ -1,0 +1,6 @@
+pub mod Outs
+pub mod Same
+pub mod Answering
+pub mod Steps
+pub mod Passing
+pub mod Learnt

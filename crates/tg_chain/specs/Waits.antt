@@ -1,0 +1,15 @@
+-- Whether a message answers a request.
+use Rattle.std.specs.Prelude.{ℕ, Bool, ◌&&◌, ◌==◌, [], ◌∷◌}
+use Rattle.std.specs.List.{list_any}
+use Rattle.tg_base.specs.declared.ids.NodeId.{NodeId}
+use Rattle.tg_base.specs.declared.msg.Msg.TheVariants as msg
+use Rattle.tg_protocol.specs.Requests.{Waits, out, awaits}
+use Rattle.tg_protocol.specs.Words.{node_eq, unit_id}
+
+-- a message from a node under a number answers the request of this number to this node, whatever that asks
+abbrev pub is_answer : NodeId → ℕ → NodeId → ℕ → Bool
+is_answer to rid from number = awaits (out to rid msg.AskLatest ∷ []) from number
+
+-- a message from this node with this number answers one of these units' requests
+abbrev pub waits_on : Waits → NodeId → ℕ → Bool
+waits_on waits from rid = list_any (λ (w : ℕ × ℕ). node_eq (unit_id w.0) from && (w.1 == rid)) waits

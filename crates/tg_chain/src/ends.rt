@@ -1,0 +1,54 @@
+//! How machines end.
+
+use tg_base::{Cell, Epoch, Pos, Stand};
+
+/// How a put ends.
+#[derive(Debug, Drop)]
+pub enum PutCellEnd {
+    /// Each unit of the chain holds the page.
+    Done,
+    /// The head holds this other cell.
+    Lost { cell: Cell },
+    /// A unit has left the epoch, and stands at this one.
+    Fenced { unit: u16, epoch: Epoch },
+    /// A unit has trimmed all positions below this one.
+    Gone { below: Pos },
+}
+
+/// How a get ends.
+#[derive(Debug, Drop)]
+pub enum GetCellEnd {
+    /// The position's cell.
+    Done { cell: Cell },
+    /// A unit has left the epoch, and stands at this one.
+    Fenced { unit: u16, epoch: Epoch },
+    /// A unit has trimmed all positions below this one.
+    Gone { below: Pos },
+}
+
+/// How a fill ends.
+#[derive(Debug, Drop)]
+pub enum FillCellEnd {
+    /// The position's cell, which each unit of the chain holds.
+    Done { cell: Cell },
+    /// A unit has left the epoch, and stands at this one.
+    Fenced { unit: u16, epoch: Epoch },
+    /// A unit has trimmed all positions below this one.
+    Gone { below: Pos },
+}
+
+/// How a probe ends.
+#[derive(Debug, Drop)]
+pub enum ProbeEnd {
+    /// Each unit of the chain has answered in the epoch.
+    Seen,
+    /// A unit has left the epoch, and stands at this one.
+    Fenced { unit: u16, epoch: Epoch },
+}
+
+/// How learning ends.
+#[derive(Debug, Drop)]
+pub enum LearnEnd {
+    /// A newer layout is known.
+    Known { stand: Stand },
+}
