@@ -75,11 +75,13 @@ at_6 : {A : Type 0} (t : ℕ) (k0 k1 k2 k3 k4 k5 k6 : A) → t ≡ 6 → by_tag 
 at_6 t k0 k1 k2 k3 k4 k5 k6 e = rw e refl
 
 pub first_is : (o : Oid) (os : List Oid) → is_object o ≡ true → is_header os ≡ true → is_state o (first o os) ≡ true
+unfolding first
 first_is o os e h =
     by_both (λ (b : Bool) (s : AnyKind). b ≡ true → is_state o s ≡ true) (tag_of o) _ _ _ _ _ _ _ _ _ _ _ _ _ _
     (λ f. directories_laws.first_is o os f h) (λ f. counters_laws.first_is o os f h) (λ f. registers_laws.first_is o os f h) (λ f. maps_laws.first_is o os f h) (λ f. lists_laws.first_is o os f h) (λ f. trees_laws.first_is o os f h) (λ f. sets_laws.first_is o os f h) e
 
 pub applied_is : (o : Oid) (s : AnyKind) (op : AnyOp) → is_state o s ≡ true → is_op op ≡ true → is_state o (applied s op) ≡ true
+unfolding applied is_op
 applied_is o (states.Directory s) (ops.Directory op) e f = directories_laws.applied_is o s op e f
 applied_is o (states.Directory s) op e f = e
 applied_is o (states.Counter s) (ops.Counter op) e f = counters_laws.applied_is o s op e f
@@ -96,6 +98,7 @@ applied_is o (states.Set s) (ops.Set op) e f = sets_laws.applied_is o s op e f
 applied_is o (states.Set s) op e f = e
 
 pub other_kind : (o : Oid) (s : AnyKind) (op : AnyOp) → is_state o s ≡ true → is_of o op ≡ false → applied s op ≡ s
+unfolding applied
 other_kind o (states.Directory s) (ops.Directory op) e f = ap states.Directory (directories_laws.other_kind o s op e f)
 other_kind o (states.Directory s) op e f = refl
 other_kind o (states.Counter s) (ops.Counter op) e f = ap states.Counter (counters_laws.other_kind o s op e f)
@@ -112,6 +115,7 @@ other_kind o (states.Set s) (ops.Set op) e f = ap states.Set (sets_laws.other_ki
 other_kind o (states.Set s) op e f = refl
 
 pub apart : (s : AnyKind) (op : AnyOp) (ask : AnyAsk) → overlap (touched op) (looked ask) ≡ false → answered (applied s op) ask ≡ answered s ask
+unfolding applied answered touched looked
 apart (states.Directory s) (ops.Directory op) (asks.Directory ask) e = ap answers.Directory (directories_laws.apart s op ask e)
 apart (states.Directory s) (ops.Directory op) ask e = refl
 apart (states.Directory s) op ask e = refl
@@ -156,6 +160,7 @@ tag_6 : (o : Oid) (b : Bool) → (sets.is_object o && b) ≡ true → tag_of o �
 tag_6 o b e = eqb-true _ _ (and-left _ _ e)
 
 pub loads_saved : (o : Oid) (s : AnyKind) → is_state o s ≡ true → loaded o (saved s) ≡ Ok s
+unfolding loaded saved
 loads_saved o (states.Directory s) e = at_0 (tag_of o) _ _ _ _ _ _ _ (tag_0 o _ e) ∙ ap (made states.Directory) (directories_laws.loads_saved o s e)
 loads_saved o (states.Counter s) e = at_1 (tag_of o) _ _ _ _ _ _ _ (tag_1 o _ e) ∙ ap (made states.Counter) (counters_laws.loads_saved o s e)
 loads_saved o (states.Register s) e = at_2 (tag_of o) _ _ _ _ _ _ _ (tag_2 o _ e) ∙ ap (made states.Register) (registers_laws.loads_saved o s e)
@@ -172,41 +177,49 @@ abbrev LoadsOnly : Oid → List ℕ → Bool → Result AnyKind ℕ → Type 0
 LoadsOnly o bytes b r = b ≡ true → (s : AnyKind) → r ≡ Ok s → (is_state o s ≡ true) × (bytes ≡ saved s)
 
 only_0 : (o : Oid) (bytes : List ℕ) → IsBytes bytes → LoadsOnly o bytes (directories.is_object o) (made states.Directory (directories.loaded o bytes))
+unfolding saved
 only_0 o bytes fits is s e =
     let m = made_is states.Directory (directories.loaded o bytes) s e in
     subst (λ (s : AnyKind). (is_state o s ≡ true) × (bytes ≡ saved s)) m.2 (directories_laws.loads_only o bytes m.0 is fits m.1)
 
 only_1 : (o : Oid) (bytes : List ℕ) → IsBytes bytes → LoadsOnly o bytes (counters.is_object o) (made states.Counter (counters.loaded o bytes))
+unfolding saved
 only_1 o bytes fits is s e =
     let m = made_is states.Counter (counters.loaded o bytes) s e in
     subst (λ (s : AnyKind). (is_state o s ≡ true) × (bytes ≡ saved s)) m.2 (counters_laws.loads_only o bytes m.0 is fits m.1)
 
 only_2 : (o : Oid) (bytes : List ℕ) → IsBytes bytes → LoadsOnly o bytes (registers.is_object o) (made states.Register (registers.loaded o bytes))
+unfolding saved
 only_2 o bytes fits is s e =
     let m = made_is states.Register (registers.loaded o bytes) s e in
     subst (λ (s : AnyKind). (is_state o s ≡ true) × (bytes ≡ saved s)) m.2 (registers_laws.loads_only o bytes m.0 is fits m.1)
 
 only_3 : (o : Oid) (bytes : List ℕ) → IsBytes bytes → LoadsOnly o bytes (maps.is_object o) (made states.Map (maps.loaded o bytes))
+unfolding saved
 only_3 o bytes fits is s e =
     let m = made_is states.Map (maps.loaded o bytes) s e in
     subst (λ (s : AnyKind). (is_state o s ≡ true) × (bytes ≡ saved s)) m.2 (maps_laws.loads_only o bytes m.0 is fits m.1)
 
 only_4 : (o : Oid) (bytes : List ℕ) → IsBytes bytes → LoadsOnly o bytes (lists.is_object o) (made states.List (lists.loaded o bytes))
+unfolding saved
 only_4 o bytes fits is s e =
     let m = made_is states.List (lists.loaded o bytes) s e in
     subst (λ (s : AnyKind). (is_state o s ≡ true) × (bytes ≡ saved s)) m.2 (lists_laws.loads_only o bytes m.0 is fits m.1)
 
 only_5 : (o : Oid) (bytes : List ℕ) → IsBytes bytes → LoadsOnly o bytes (trees.is_object o) (made states.Tree (trees.loaded o bytes))
+unfolding saved
 only_5 o bytes fits is s e =
     let m = made_is states.Tree (trees.loaded o bytes) s e in
     subst (λ (s : AnyKind). (is_state o s ≡ true) × (bytes ≡ saved s)) m.2 (trees_laws.loads_only o bytes m.0 is fits m.1)
 
 only_6 : (o : Oid) (bytes : List ℕ) → IsBytes bytes → LoadsOnly o bytes (sets.is_object o) (made states.Set (sets.loaded o bytes))
+unfolding saved
 only_6 o bytes fits is s e =
     let m = made_is states.Set (sets.loaded o bytes) s e in
     subst (λ (s : AnyKind). (is_state o s ≡ true) × (bytes ≡ saved s)) m.2 (sets_laws.loads_only o bytes m.0 is fits m.1)
 
 pub loads_only : (o : Oid) (bytes : List ℕ) (s : AnyKind) → is_object o ≡ true → IsBytes bytes → loaded o bytes ≡ Ok s → (is_state o s ≡ true) × (bytes ≡ saved s)
+unfolding loaded
 loads_only o bytes s is fits e =
     by_both (LoadsOnly o bytes) (tag_of o) _ _ _ _ _ _ _ _ _ _ _ _ _ _ (only_0 o bytes fits) (only_1 o bytes fits) (only_2 o bytes fits) (only_3 o bytes fits) (only_4 o bytes fits) (only_5 o bytes fits) (only_6 o bytes fits) is s e
 
@@ -226,46 +239,55 @@ abbrev ReadsOnly : List ℕ → Unit {0} → Read AnyOp → Type 0
 ReadsOnly bytes u r = (op : AnyOp) (rest : List ℕ) → r ≡ Ok (op, rest) → (is_op op ≡ true) × (bytes ≡ spelled op ++ rest)
 
 op_only_0 : (bytes : List ℕ) → IsBytes bytes → ReadsOnly bytes tt (made_op ops.Directory (directories.op_format.read bytes))
+unfolding is_op spelled
 op_only_0 bytes fits op rest e =
     let m = made_op_is ops.Directory (directories.op_format.read bytes) op rest e in
     subst (λ (op : AnyOp). (is_op op ≡ true) × (bytes ≡ spelled op ++ rest)) m.2 (directories_laws.reads_only bytes m.0.0 rest fits m.1)
 
 op_only_1 : (bytes : List ℕ) → IsBytes bytes → ReadsOnly bytes tt (made_op ops.Counter (counters.op_format.read bytes))
+unfolding is_op spelled
 op_only_1 bytes fits op rest e =
     let m = made_op_is ops.Counter (counters.op_format.read bytes) op rest e in
     subst (λ (op : AnyOp). (is_op op ≡ true) × (bytes ≡ spelled op ++ rest)) m.2 (counters_laws.reads_only bytes m.0.0 rest fits m.1)
 
 op_only_2 : (bytes : List ℕ) → IsBytes bytes → ReadsOnly bytes tt (made_op ops.Register (registers.op_format.read bytes))
+unfolding is_op spelled
 op_only_2 bytes fits op rest e =
     let m = made_op_is ops.Register (registers.op_format.read bytes) op rest e in
     subst (λ (op : AnyOp). (is_op op ≡ true) × (bytes ≡ spelled op ++ rest)) m.2 (registers_laws.reads_only bytes m.0.0 rest fits m.1)
 
 op_only_3 : (bytes : List ℕ) → IsBytes bytes → ReadsOnly bytes tt (made_op ops.Map (maps.op_format.read bytes))
+unfolding is_op spelled
 op_only_3 bytes fits op rest e =
     let m = made_op_is ops.Map (maps.op_format.read bytes) op rest e in
     subst (λ (op : AnyOp). (is_op op ≡ true) × (bytes ≡ spelled op ++ rest)) m.2 (maps_laws.reads_only bytes m.0.0 rest fits m.1)
 
 op_only_4 : (bytes : List ℕ) → IsBytes bytes → ReadsOnly bytes tt (made_op ops.List (lists.op_format.read bytes))
+unfolding is_op spelled
 op_only_4 bytes fits op rest e =
     let m = made_op_is ops.List (lists.op_format.read bytes) op rest e in
     subst (λ (op : AnyOp). (is_op op ≡ true) × (bytes ≡ spelled op ++ rest)) m.2 (lists_laws.reads_only bytes m.0.0 rest fits m.1)
 
 op_only_5 : (bytes : List ℕ) → IsBytes bytes → ReadsOnly bytes tt (made_op ops.Tree (trees.op_format.read bytes))
+unfolding is_op spelled
 op_only_5 bytes fits op rest e =
     let m = made_op_is ops.Tree (trees.op_format.read bytes) op rest e in
     subst (λ (op : AnyOp). (is_op op ≡ true) × (bytes ≡ spelled op ++ rest)) m.2 (trees_laws.reads_only bytes m.0.0 rest fits m.1)
 
 op_only_6 : (bytes : List ℕ) → IsBytes bytes → ReadsOnly bytes tt (made_op ops.Set (sets.op_format.read bytes))
+unfolding is_op spelled
 op_only_6 bytes fits op rest e =
     let m = made_op_is ops.Set (sets.op_format.read bytes) op rest e in
     subst (λ (op : AnyOp). (is_op op ≡ true) × (bytes ≡ spelled op ++ rest)) m.2 (sets_laws.reads_only bytes m.0.0 rest fits m.1)
 
 pub reads_only : (bytes : List ℕ) (op : AnyOp) (rest : List ℕ) → IsBytes bytes → read bytes ≡ Ok (op, rest) → (is_op op ≡ true) × (bytes ≡ spelled op ++ rest)
+unfolding read
 reads_only bytes op rest fits e =
     by_both (ReadsOnly bytes) (code_tag bytes) tt tt tt tt tt tt tt _ _ _ _ _ _ _ (op_only_0 bytes fits) (op_only_1 bytes fits) (op_only_2 bytes fits) (op_only_3 bytes fits) (op_only_4 bytes fits) (op_only_5 bytes fits) (op_only_6 bytes fits) op rest e
 
 -- an op's first byte tells its kind
 code_0 : (op : DirectoryOp) (rest : List ℕ) → code_tag (directories.op_format.spell op ++ rest) ≡ 0
+unfolding directories.op_format
 code_0 (directory_ops.Name name oid) rest = refl
 code_0 (directory_ops.Mark oid mark) rest = refl
 
@@ -276,6 +298,7 @@ code_2 : (op : RegisterOp) (rest : List ℕ) → code_tag (registers.op_format.s
 code_2 (register_ops.Write text) rest = refl
 
 code_3 : (op : MapOp) (rest : List ℕ) → code_tag (maps.op_format.spell op ++ rest) ≡ 3
+unfolding maps.op_format
 code_3 (map_ops.Set key value) rest = refl
 code_3 (map_ops.Unset key) rest = refl
 
@@ -298,27 +321,35 @@ code_6 (set_ops.Include number) rest = refl
 code_6 (set_ops.Exclude number) rest = refl
 
 read_at_0 : (bytes : List ℕ) → code_tag bytes ≡ 0 → read bytes ≡ made_op ops.Directory (directories.op_format.read bytes)
+unfolding read
 read_at_0 bytes e = at_0 (code_tag bytes) _ _ _ _ _ _ _ e
 
 read_at_1 : (bytes : List ℕ) → code_tag bytes ≡ 1 → read bytes ≡ made_op ops.Counter (counters.op_format.read bytes)
+unfolding read
 read_at_1 bytes e = at_1 (code_tag bytes) _ _ _ _ _ _ _ e
 
 read_at_2 : (bytes : List ℕ) → code_tag bytes ≡ 2 → read bytes ≡ made_op ops.Register (registers.op_format.read bytes)
+unfolding read
 read_at_2 bytes e = at_2 (code_tag bytes) _ _ _ _ _ _ _ e
 
 read_at_3 : (bytes : List ℕ) → code_tag bytes ≡ 3 → read bytes ≡ made_op ops.Map (maps.op_format.read bytes)
+unfolding read
 read_at_3 bytes e = at_3 (code_tag bytes) _ _ _ _ _ _ _ e
 
 read_at_4 : (bytes : List ℕ) → code_tag bytes ≡ 4 → read bytes ≡ made_op ops.List (lists.op_format.read bytes)
+unfolding read
 read_at_4 bytes e = at_4 (code_tag bytes) _ _ _ _ _ _ _ e
 
 read_at_5 : (bytes : List ℕ) → code_tag bytes ≡ 5 → read bytes ≡ made_op ops.Tree (trees.op_format.read bytes)
+unfolding read
 read_at_5 bytes e = at_5 (code_tag bytes) _ _ _ _ _ _ _ e
 
 read_at_6 : (bytes : List ℕ) → code_tag bytes ≡ 6 → read bytes ≡ made_op ops.Set (sets.op_format.read bytes)
+unfolding read
 read_at_6 bytes e = at_6 (code_tag bytes) _ _ _ _ _ _ _ e
 
 pub reads_spelled : (op : AnyOp) (rest : List ℕ) → is_op op ≡ true → read (spelled op ++ rest) ≡ Ok (op, rest)
+unfolding is_op spelled
 reads_spelled (ops.Directory op) rest e = read_at_0 (directories.op_format.spell op ++ rest) (code_0 op rest) ∙ ap (made_op ops.Directory) (directories_laws.reads_spelled op rest e)
 reads_spelled (ops.Counter op) rest e = read_at_1 (counters.op_format.spell op ++ rest) (code_1 op rest) ∙ ap (made_op ops.Counter) (counters_laws.reads_spelled op rest e)
 reads_spelled (ops.Register op) rest e = read_at_2 (registers.op_format.spell op ++ rest) (code_2 op rest) ∙ ap (made_op ops.Register) (registers_laws.reads_spelled op rest e)

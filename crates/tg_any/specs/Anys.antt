@@ -36,7 +36,7 @@ is_state o (states.List s) = lists.is_state o s
 is_state o (states.Tree s) = trees.is_state o s
 is_state o (states.Set s) = sets.is_state o s
 
-abbrev pub is_op : AnyOp → Bool
+unfoldable pub is_op : AnyOp → Bool
 is_op (ops.Directory op) = directories.op_format.fits op
 is_op (ops.Counter op) = counters.op_format.fits op
 is_op (ops.Register op) = registers.op_format.fits op
@@ -54,11 +54,11 @@ is_of o (ops.List op) = lists.is_of o op
 is_of o (ops.Tree op) = trees.is_of o op
 is_of o (ops.Set op) = sets.is_of o op
 
-abbrev pub first : Oid → List Oid → AnyKind
+unfoldable pub first : Oid → List Oid → AnyKind
 first o os = by_tag (tag_of o) (states.Directory (directories.first o os)) (states.Counter (counters.first o os)) (states.Register (registers.first o os)) (states.Map (maps.first o os)) (states.List (lists.first o os)) (states.Tree (trees.first o os)) (states.Set (sets.first o os))
 
 -- an op of another kind changes nothing
-abbrev pub applied : AnyKind → AnyOp → AnyKind
+unfoldable pub applied : AnyKind → AnyOp → AnyKind
 applied (states.Directory s) (ops.Directory op) = states.Directory (directories.applied s op)
 applied (states.Counter s) (ops.Counter op) = states.Counter (counters.applied s op)
 applied (states.Register s) (ops.Register op) = states.Register (registers.applied s op)
@@ -69,7 +69,7 @@ applied (states.Set s) (ops.Set op) = states.Set (sets.applied s op)
 applied s op = s
 
 -- an ask of another kind finds none
-abbrev pub answered : AnyKind → AnyAsk → AnyAns
+unfoldable pub answered : AnyKind → AnyAsk → AnyAns
 answered (states.Directory s) (asks.Directory ask) = answers.Directory (directories.answered s ask)
 answered (states.Counter s) (asks.Counter ask) = answers.Counter (counters.answered s ask)
 answered (states.Register s) (asks.Register ask) = answers.Register (registers.answered s ask)
@@ -79,7 +79,7 @@ answered (states.Tree s) (asks.Tree ask) = answers.Tree (trees.answered s ask)
 answered (states.Set s) (asks.Set ask) = answers.Set (sets.answered s ask)
 answered s ask = answers.None
 
-abbrev pub touched : AnyOp → Part
+unfoldable pub touched : AnyOp → Part
 touched (ops.Directory op) = directories.touched op
 touched (ops.Counter op) = counters.touched op
 touched (ops.Register op) = registers.touched op
@@ -88,7 +88,7 @@ touched (ops.List op) = lists.touched op
 touched (ops.Tree op) = trees.touched op
 touched (ops.Set op) = sets.touched op
 
-abbrev pub looked : AnyAsk → Part
+unfoldable pub looked : AnyAsk → Part
 looked (asks.Directory ask) = directories.looked ask
 looked (asks.Counter ask) = counters.looked ask
 looked (asks.Register ask) = registers.looked ask
@@ -97,7 +97,7 @@ looked (asks.List ask) = lists.looked ask
 looked (asks.Tree ask) = trees.looked ask
 looked (asks.Set ask) = sets.looked ask
 
-abbrev pub saved : AnyKind → List ℕ
+unfoldable pub saved : AnyKind → List ℕ
 saved (states.Directory s) = directories.saved s
 saved (states.Counter s) = counters.saved s
 saved (states.Register s) = registers.saved s
@@ -111,10 +111,10 @@ abbrev pub made : {A B : Type 0} → (A → B) → Result A ℕ → Result B ℕ
 made make (Ok x) = Ok (make x)
 made make (Err at) = Err at
 
-abbrev pub loaded : Oid → List ℕ → Result AnyKind ℕ
+unfoldable pub loaded : Oid → List ℕ → Result AnyKind ℕ
 loaded o bytes = by_tag (tag_of o) (made states.Directory (directories.loaded o bytes)) (made states.Counter (counters.loaded o bytes)) (made states.Register (registers.loaded o bytes)) (made states.Map (maps.loaded o bytes)) (made states.List (lists.loaded o bytes)) (made states.Tree (trees.loaded o bytes)) (made states.Set (sets.loaded o bytes))
 
-abbrev pub spelled : AnyOp → List ℕ
+unfoldable pub spelled : AnyOp → List ℕ
 spelled (ops.Directory op) = directories.op_format.spell op
 spelled (ops.Counter op) = counters.op_format.spell op
 spelled (ops.Register op) = registers.op_format.spell op
@@ -132,7 +132,7 @@ abbrev pub made_op : {A B : Type 0} → (A → B) → Read A → Read B
 made_op make (Ok x) = Ok (make x.0, x.1)
 made_op make (Err left) = Err left
 
-abbrev pub read : List ℕ → Read AnyOp
+unfoldable pub read : List ℕ → Read AnyOp
 read bytes = by_tag (code_tag bytes) (made_op ops.Directory (directories.op_format.read bytes)) (made_op ops.Counter (counters.op_format.read bytes)) (made_op ops.Register (registers.op_format.read bytes)) (made_op ops.Map (maps.op_format.read bytes)) (made_op ops.List (lists.op_format.read bytes)) (made_op ops.Tree (trees.op_format.read bytes)) (made_op ops.Set (sets.op_format.read bytes))
 
 -- the op is of the object's kind, and a user may put it: of the directory's ops `mark` may not be put

@@ -114,6 +114,7 @@ impl Kind for AnyKind {
 
     ghost read = { read };
 
+    #[tactic(auto, unfolding(crate::specs::Anys::first))]
     fn fresh(alloc: Global, oid: Oid, objects: &[Oid]) -> Result<AnyKind, NoMemory> {
         match oid.0 / INDICES {
             0 => Ok(AnyKind::Directory(Directory::fresh(alloc, oid, objects)?)),
@@ -126,6 +127,7 @@ impl Kind for AnyKind {
         }
     }
 
+    #[tactic(auto, unfolding(crate::specs::Anys::applied))]
     fn apply(self, op: &AnyOp) -> Result<AnyKind, NoMemory> {
         match self {
             AnyKind::Directory(state) => match op {
@@ -159,6 +161,7 @@ impl Kind for AnyKind {
         }
     }
 
+    #[tactic(auto, unfolding(crate::specs::Anys::answered))]
     fn ask(&self, alloc: Global, ask: &AnyAsk) -> Result<AnyAns, NoMemory> {
         match self {
             AnyKind::Directory(state) => match ask {
@@ -192,6 +195,7 @@ impl Kind for AnyKind {
         }
     }
 
+    #[tactic(auto, unfolding(crate::specs::Anys::is_op, crate::specs::Anys::touched))]
     fn touch(op: &AnyOp) -> Scope<'_> {
         match op {
             AnyOp::Directory(op) => Directory::touch(op),
@@ -204,6 +208,7 @@ impl Kind for AnyKind {
         }
     }
 
+    #[tactic(auto, unfolding(crate::specs::Anys::looked))]
     fn look(ask: &AnyAsk) -> Scope<'_> {
         match ask {
             AnyAsk::Directory(ask) => Directory::look(ask),
@@ -216,6 +221,7 @@ impl Kind for AnyKind {
         }
     }
 
+    #[tactic(auto, unfolding(crate::specs::Anys::saved))]
     fn save(&self, alloc: Global) -> Result<List<u8>, NoMemory> {
         match self {
             AnyKind::Directory(state) => state.save(alloc),
@@ -228,6 +234,7 @@ impl Kind for AnyKind {
         }
     }
 
+    #[tactic(auto, unfolding(crate::specs::Anys::loaded))]
     fn load(alloc: Global, oid: Oid, bytes: &[u8]) -> Result<AnyKind, KindFault> {
         match oid.0 / INDICES {
             0 => Ok(AnyKind::Directory(Directory::load(alloc, oid, bytes)?)),
@@ -240,6 +247,7 @@ impl Kind for AnyKind {
         }
     }
 
+    #[tactic(auto, unfolding(crate::specs::Anys::spelled))]
     fn put_op(alloc: Global, op: &AnyOp, out: &mut List<u8>) -> Result<(), NoMemory> {
         match op {
             AnyOp::Directory(op) => Directory::put_op(alloc, op, out),
@@ -252,6 +260,7 @@ impl Kind for AnyKind {
         }
     }
 
+    #[tactic(auto, unfolding(crate::specs::Anys::read))]
     fn get_op(alloc: Global, bytes: &[u8]) -> Result<(AnyOp, usize), KindFault> {
         match code_tag(bytes) {
             0 => {

@@ -4,7 +4,6 @@ use super::*;
 use std::alloc::Global;
 use std::test::Fail;
 use tg_base::{List, NoMemory, Oid};
-use tg_cell::{Counter, CounterAns, CounterAsk, CounterOp};
 use tg_kind::{Kind, KindFault};
 
 // The answer to an ask after an op, from a fresh state that was saved and loaded again.
@@ -19,9 +18,13 @@ fn replayed<K: Kind>(alloc: Global, oid: Oid, op: &K::Op, ask: &K::Ask) -> Resul
     Ok(after.ask(alloc, ask)?)
 }
 
-// What stands in the output.
-fn text(out: &List<u8>) -> &[u8] {
-    out.as_slice()
+// Whether the output is these words, where there are any.
+fn is(out: Option<List<u8>>, want: Option<&str>) -> bool {
+    match (out, want) {
+        (Some(out), Some(want)) => out.as_slice() == want.as_bytes(),
+        (None, None) => true,
+        _ => false,
+    }
 }
 
 // An op that is read and spelled.
@@ -34,6 +37,14 @@ fn op_again(alloc: Global, words: &[&str]) -> Result<Option<List<u8>>, NoMemory>
     Ok(Some(out))
 }
 
+// Whether words are read as an op that is spelled so, and as none where there is no spelling.
+fn op_is(alloc: Global, words: &[&str], want: Option<&str>) -> bool {
+    match op_again(alloc, words) {
+        Ok(out) => is(out, want),
+        Err(_) => false,
+    }
+}
+
 // An ask that is read and spelled.
 fn ask_again(alloc: Global, words: &[&str]) -> Result<Option<List<u8>>, NoMemory> {
     let Some(ask) = ask_of(alloc, words)? else {
@@ -42,6 +53,14 @@ fn ask_again(alloc: Global, words: &[&str]) -> Result<Option<List<u8>>, NoMemory
     let mut out = List::new(alloc);
     spell_ask(alloc, &ask, &mut out)?;
     Ok(Some(out))
+}
+
+// Whether words are read as an ask that is spelled so, and as none where there is no spelling.
+fn ask_is(alloc: Global, words: &[&str], want: Option<&str>) -> bool {
+    match ask_again(alloc, words) {
+        Ok(out) => is(out, want),
+        Err(_) => false,
+    }
 }
 
 // An answer to an ask that is read and spelled.
@@ -57,81 +76,81 @@ fn answer_again(alloc: Global, ask: &[&str], words: &[&str]) -> Result<Option<Li
     Ok(Some(out))
 }
 
-fn is(found: Option<List<u8>>, want: &[u8]) -> bool {
-    match found {
-        None => false,
-        Some(out) => text(&out) == want,
+// Whether words are read as an answer to an ask that is spelled so, and as none where there is no spelling.
+fn answer_is(alloc: Global, ask: &[&str], words: &[&str], want: Option<&str>) -> bool {
+    match answer_again(alloc, ask, words) {
+        Ok(out) => is(out, want),
+        Err(_) => false,
     }
 }
 
 #[test]
-fn ops_have_words(rt: HostRuntime) -> Result<(), Fail> {
-    let add = op_again(rt.alloc(), &["add", "-5"]).map_err(|_| "memory")?;
-    assert!(rt; is(add, b"add -5".as_slice()));
-    let zero = op_again(rt.alloc(), &["add", "-0"]).map_err(|_| "memory")?;
-    assert!(rt; zero.is_none());
-    let insert = op_again(rt.alloc(), &["insert", "4294967295", "a.b"]).map_err(|_| "memory")?;
-    assert!(rt; is(insert, b"insert 4294967295 a.b".as_slice()));
-    let above = op_again(rt.alloc(), &["insert", "4294967296", "a"]).map_err(|_| "memory")?;
-    assert!(rt; above.is_none());
-    let mark = op_again(rt.alloc(), &["mark", "map3", "17"]).map_err(|_| "memory")?;
-    assert!(rt; is(mark, b"mark map3 17".as_slice()));
-    let dir = op_again(rt.alloc(), &["name", "a", "dir1"]).map_err(|_| "memory")?;
-    assert!(rt; dir.is_none());
-    Ok(())
+fn ops_have_words(rt: HostRuntime) {
+    let alloc = rt.alloc();
+    let are = [
+        op_is(alloc, &["add", "-5"], Some("add -5")),
+        op_is(alloc, &["add", "-0"], None),
+        op_is(
+            alloc,
+            &["insert", "4294967295", "a.b"],
+            Some("insert 4294967295 a.b"),
+        ),
+        op_is(alloc, &["insert", "4294967296", "a"], None),
+        op_is(alloc, &["mark", "map3", "17"], Some("mark map3 17")),
+        op_is(alloc, &["name", "a", "dir1"], None),
+    ];
+    assert_eq!(rt; are, [true; 6]);
 }
 
 #[test]
-fn asks_and_answers_have_words(rt: HostRuntime) -> Result<(), Fail> {
-    let get = ask_again(rt.alloc(), &["get", "k"]).map_err(|_| "memory")?;
-    assert!(rt; is(get, b"get k".as_slice()));
-    let more = ask_again(rt.alloc(), &["size", "k"]).map_err(|_| "memory")?;
-    assert!(rt; more.is_none());
-    let some = answer_again(rt.alloc(), &["get", "k"], &["some", "v"]).map_err(|_| "memory")?;
-    assert!(rt; is(some, b"some v".as_slice()));
-    let keys = answer_again(rt.alloc(), &["keys"], &["[a", "b", "c]"]).map_err(|_| "memory")?;
-    assert!(rt; is(keys, b"[a b c]".as_slice()));
-    let empty = answer_again(rt.alloc(), &["items"], &["[]"]).map_err(|_| "memory")?;
-    assert!(rt; is(empty, b"[]".as_slice()));
-    let marks = answer_again(rt.alloc(), &["marks"], &["[dir0=0", "ctr0=9]"]);
-    assert!(rt; is(marks.map_err(|_| "memory")?, b"[dir0=0 ctr0=9]".as_slice()));
-    let open = answer_again(rt.alloc(), &["keys"], &["[a", "b"]).map_err(|_| "memory")?;
-    assert!(rt; open.is_none());
-    let none = answer_again(rt.alloc(), &["value"], &["none"]).map_err(|_| "memory")?;
-    assert!(rt; none.is_none());
-    Ok(())
+fn asks_have_words(rt: HostRuntime) {
+    let alloc = rt.alloc();
+    let are = [
+        ask_is(alloc, &["get", "k"], Some("get k")),
+        ask_is(alloc, &["size", "k"], None),
+    ];
+    assert_eq!(rt; are, [true; 2]);
 }
 
-// The first counter.
-const CTR: Oid = Oid(0x0100_0000);
+#[test]
+fn answers_have_words(rt: HostRuntime) {
+    let alloc = rt.alloc();
+    let are = [
+        answer_is(alloc, &["get", "k"], &["some", "v"], Some("some v")),
+        answer_is(alloc, &["keys"], &["[a", "b", "c]"], Some("[a b c]")),
+        answer_is(alloc, &["items"], &["[]"], Some("[]")),
+        answer_is(
+            alloc,
+            &["marks"],
+            &["[dir0=0", "ctr0=9]"],
+            Some("[dir0=0 ctr0=9]"),
+        ),
+        answer_is(alloc, &["keys"], &["[a", "b"], None),
+        answer_is(alloc, &["value"], &["none"], None),
+    ];
+    assert_eq!(rt; are, [true; 6]);
+}
 
 // The first set.
 const SET: Oid = Oid(0x0600_0000);
 
-#[test]
-fn a_counter_is_replayed(rt: HostRuntime) -> Result<(), Fail> {
-    let alloc = rt.alloc();
-    let add = CounterOp::Add { by: 7 };
-    let Ok(CounterAns::Number(number)) = replayed::<Counter>(alloc, CTR, &add, &CounterAsk::Value)
-    else {
-        return Err("memory".into());
+// What the first set answers after an op, both read from words.
+fn answered(alloc: Global, op: &[&str], ask: &[&str]) -> Result<Option<List<u8>>, KindFault> {
+    let Some(op) = op_of(alloc, op)? else {
+        return Ok(None);
     };
-    assert_eq!(rt; number, 7);
-    Ok(())
+    let Some(ask) = ask_of(alloc, ask)? else {
+        return Ok(None);
+    };
+    let answer = replayed::<AnyKind>(alloc, SET, &op, &ask)?;
+    let mut out = List::new(alloc);
+    spell_ans(alloc, &answer, &mut out)?;
+    Ok(Some(out))
 }
 
 #[test]
-fn each_kind_is_replayed_among_all(rt: HostRuntime) -> Result<(), Fail> {
-    let alloc = rt.alloc();
-    let Some(op) = op_of(alloc, &["include", "7"]).map_err(|_| "memory")? else {
-        return Err("an op".into());
-    };
-    let Some(ask) = ask_of(alloc, &["between", "0", "9"]).map_err(|_| "memory")? else {
-        return Err("an ask".into());
-    };
-    let answer = replayed::<AnyKind>(alloc, SET, &op, &ask).map_err(|_| "memory")?;
-    let mut out = List::new(alloc);
-    spell_ans(alloc, &answer, &mut out).map_err(|_| "memory")?;
-    assert_eq!(rt; text(&out), b"[7]".as_slice());
+fn a_set_is_replayed_among_all(rt: HostRuntime) -> Result<(), Fail> {
+    let answer = answered(rt.alloc(), &["include", "7"], &["between", "0", "9"]);
+    assert!(rt; is(answer.map_err(|_| "memory")?, Some("[7]")));
     Ok(())
 }

@@ -170,7 +170,7 @@ abbrev pub op_body : ℕ → Codec DirectoryOp
 op_body code = if code == 1 then name_format else mark_format
 
 -- the op's code and its fields
-abbrev pub op_format : Codec DirectoryOp
+unfoldable pub op_format : Codec DirectoryOp
 op_format = tagged ((1, 2) ∷ []) code_of op_body
 
 -- ---- what a user may put and ask

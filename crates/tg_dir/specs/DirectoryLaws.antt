@@ -70,6 +70,7 @@ body_code false t (Name name o) is m e = absurd cc
 body_code false t (Mark o mark) is m e = grind (arith, nat_tests)
 
 pub op_law : IsCodec op_format
+unfolding op_format
 op_law = tagged_law ((1, 2) ∷ []) code_of op_body body_law (λ t op m e. body_code (eqb t 1) t op refl m e)
 
 pub loads_saved : (o : Oid) (s : Listings) → is_state o s ≡ true → loaded o (saved s) ≡ Ok s
@@ -171,13 +172,16 @@ entry-fits : (before : List Listing) (e : Listing) → IsText e.name → is_name
 entry-fits before e text new number unlisted small = all-of (text_format.fits e.name) (is_name before e.name) (is_number e.oid) (is_listed before e.oid) ((u64 any).fits e.mark) text new number unlisted (number_fits e.mark small)
 
 name-op : (name : List ℕ) (o : Oid) → op_format.fits (Name name o) ≡ true → IsText name × (is_number o ≡ true)
+unfolding op_format
 name-op name o f = (and-left (text_format.fits name) (is_number o) f, and-right (text_format.fits name) (is_number o) f)
 
 mark-op : (o : Oid) (mark : ℕ) → op_format.fits (Mark o mark) ≡ true → mark < 2 ^ 64
+unfolding op_format
 mark-op o mark f = let short : ltb mark (2 ^ 64) ≡ true = and-right _ _ (and-right (is_number o) ((u64 any).fits mark) f) in ltb-true _ _ short
 
 -- each mark of an object is one
 pub mark_fits : (o : Oid) (mark : ℕ) → is_number o ≡ true → mark < 2 ^ 64 → op_format.fits (Mark o mark) ≡ true
+unfolding op_format
 mark_fits o mark number small = both _ _ number (number_fits mark small)
 
 named-fits : (s : Listings) (name : List ℕ) (o : Oid) → Lawful s → op_format.fits (Name name o) ≡ true → AreListings (named s.entries name o)

@@ -142,6 +142,7 @@ pub fn put_state(entries: &[Listing], floor: Pos, out: &mut List<u8>) -> Result<
 }
 
 /// The op whose bytes are in front.
+#[tactic(auto, unfolding(crate::specs::Directories::op_format))]
 pub fn op_in(alloc: Global, bytes: &[u8]) -> Result<(DirectoryOp, &[u8]), ReadFault>
     ensures { Gives (λ x. (x.0, x.1.now)) result (op_format.read bytes.now) }
 {
@@ -159,6 +160,7 @@ pub fn op_in(alloc: Global, bytes: &[u8]) -> Result<(DirectoryOp, &[u8]), ReadFa
 }
 
 /// Puts the bytes of an op last.
+#[tactic(auto, unfolding(crate::specs::Directories::op_format))]
 pub fn put_op_bytes(op: &DirectoryOp, out: &mut List<u8>) -> Result<(), NoMemory>
     ensures { OnOk result (out.new ≡ out.old ++ op_format.spell op.now) }
 {

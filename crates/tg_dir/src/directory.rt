@@ -199,6 +199,7 @@ impl Kind for Directory {
         }
     }
 
+    #[tactic(auto, unfolding(crate::specs::Directories::op_format))]
     fn touch(op: &DirectoryOp) -> Scope<'_> {
         match op {
             DirectoryOp::Name { name, oid } => {

@@ -122,24 +122,25 @@ fn marked(directory: Directory, oid: Oid, mark: u64) -> Result<Directory, Fail> 
     applied(directory, &Directory::mark_op(oid, mark))
 }
 
-// The floor after marks of the directory's three objects, one after the other.
-fn floor(alloc: Global, first: u64, second: u64, third: u64, again: u64) -> Result<u64, Fail> {
+// The floor after marks of the directory's three objects, one after the other, and one more of the last.
+fn floor(alloc: Global, marks: [u64; 4]) -> Result<u64, Fail> {
+    let [first, second, third, again] = marks;
     let directory = marked(fresh(alloc)?, DIR, first)?;
     let directory = marked(directory, CTR, second)?;
     let directory = marked(directory, MAP, third)?;
     let directory = marked(directory, MAP, again)?;
-    let directory = after(alloc, directory, &NAME)?;
     floor_of(alloc, &directory)
 }
 
 #[test]
 fn the_floor_is_the_least_mark(rt: HostRuntime) -> Result<(), Fail> {
-    assert_eq!(rt; floor(rt.alloc(), 5, 7, 0, 0)?, 0);
-    assert_eq!(rt; floor(rt.alloc(), 5, 7, 9, 1)?, 5);
-    assert_eq!(rt;
-        floor(rt.alloc(), u64::MAX, u64::MAX, 1, u64::MAX)?,
-        u64::MAX
-    );
+    for (marks, want) in [
+        ([5, 7, 0, 0], 0),
+        ([5, 7, 9, 1], 5),
+        ([u64::MAX, u64::MAX, 1, u64::MAX], u64::MAX),
+    ] {
+        assert_eq!(rt; floor(rt.alloc(), marks)?, want);
+    }
     Ok(())
 }
 
@@ -151,16 +152,24 @@ const OPS: [u8; 21] = [
 #[test]
 fn an_op_is_spelled_and_read(rt: HostRuntime) -> Result<(), Fail> {
     let mut bytes = List::new(rt.alloc());
-    let mark = Directory::mark_op(MAP, 258);
-    let name = op(rt.alloc(), &NAME)?;
-    put(rt.alloc(), &mark, &mut bytes)?;
-    put(rt.alloc(), &name, &mut bytes)?;
+    put(rt.alloc(), &Directory::mark_op(MAP, 258), &mut bytes)?;
+    put(rt.alloc(), &op(rt.alloc(), &NAME)?, &mut bytes)?;
     assert_eq!(rt; bytes.as_slice(), OPS.as_slice());
-    assert_eq!(rt; Directory::allows(DIR, &name), true);
-    assert_eq!(rt; Directory::allows(CTR, &name), false);
-    assert_eq!(rt; Directory::allows(DIR, &mark), false);
-    assert_eq!(rt; Directory::allows_ask(DIR, &DirectoryAsk::Floor), true);
-    assert_eq!(rt; Directory::allows_ask(MAP, &DirectoryAsk::Floor), false);
+    Ok(())
+}
+
+#[test]
+fn names_alone_may_be_put(rt: HostRuntime) -> Result<(), Fail> {
+    let name = op(rt.alloc(), &NAME)?;
+    let mark = Directory::mark_op(MAP, 258);
+    let may = [
+        Directory::allows(DIR, &name),
+        Directory::allows(CTR, &name),
+        Directory::allows(DIR, &mark),
+        Directory::allows_ask(DIR, &DirectoryAsk::Floor),
+        Directory::allows_ask(MAP, &DirectoryAsk::Floor),
+    ];
+    assert_eq!(rt; may, [true, false, false, true, false]);
     Ok(())
 }
 
@@ -186,14 +195,18 @@ fn long_name(alloc: Global, high: u8, low: u8, count: usize) -> Result<Option<us
 
 #[test]
 fn an_op_is_refused_at_its_place(rt: HostRuntime) -> Result<(), Fail> {
-    assert_eq!(rt; op_place(rt.alloc(), &NAME), Some(8));
+    for (bytes, at) in [
+        ("\x01\0\x01a\x02\0\0\0", 8),
+        ("\x01\0\0", 2),
+        ("\x01\0\x01/", 3),
+        ("\x01\0\x01a\x07", 4),
+        ("\x02\0\0\0\x01", 4),
+        ("\x03", 0),
+    ] {
+        assert_eq!(rt; op_place(rt.alloc(), bytes.as_bytes()), Some(at), "{bytes}");
+    }
     assert_eq!(rt; long_name(rt.alloc(), 16, 0, 4096)?, Some(4103));
     assert_eq!(rt; long_name(rt.alloc(), 16, 1, 4097)?, Some(2));
-    assert_eq!(rt; op_place(rt.alloc(), &[1, 0, 0]), Some(2));
-    assert_eq!(rt; op_place(rt.alloc(), &[1, 0, 1, b'/']), Some(3));
-    assert_eq!(rt; op_place(rt.alloc(), &[1, 0, 1, b'a', 7]), Some(4));
-    assert_eq!(rt; op_place(rt.alloc(), &[2, 0, 0, 0, 1]), Some(4));
-    assert_eq!(rt; op_place(rt.alloc(), &[3]), Some(0));
     Ok(())
 }
 
@@ -234,21 +247,22 @@ fn a_directory_tells_what_it_lists(rt: HostRuntime) -> Result<(), Fail> {
 
 #[test]
 fn a_load_is_refused_at_its_place(rt: HostRuntime) -> Result<(), Fail> {
-    assert_eq!(rt; load_place(rt.alloc(), &TWO), None);
-    assert_eq!(rt;
-        load_place(rt.alloc(), &[0, 0, 0, 0, 0, 0, 0, 0, 0, 0, 0, 0, 0]),
-        None
-    );
+    for (at, byte, want) in [
+        // A rest, another kind's tag, a doubled name and a doubled object.
+        (4, 1, 28),
+        (0, 1, 0),
+        (22, b'a', 20),
+        (26, 0, 23),
+        // Numbers that are no object's.
+        (23, 7, 23),
+        (23, 0, 26),
+        // A name of a space.
+        (7, b' ', 7),
+    ] {
+        assert_eq!(rt; place(rt.alloc(), at, byte), Some(want), "{at}");
+    }
     assert_eq!(rt; load_place(rt.alloc(), &TWO[..40]), Some(40));
     assert_eq!(rt; load_place(rt.alloc(), &TWO[..3]), Some(3));
-    // A rest, another kind's tag, a doubled name and a doubled object.
-    assert_eq!(rt; place(rt.alloc(), 4, 1), Some(28));
-    assert_eq!(rt; place(rt.alloc(), 0, 1), Some(0));
-    assert_eq!(rt; place(rt.alloc(), 22, b'a'), Some(20));
-    assert_eq!(rt; place(rt.alloc(), 26, 0), Some(23));
-    // Numbers that are no object's.
-    assert_eq!(rt; place(rt.alloc(), 23, 7), Some(23));
-    assert_eq!(rt; place(rt.alloc(), 23, 0), Some(26));
-    assert_eq!(rt; place(rt.alloc(), 7, b' '), Some(7));
+    assert_eq!(rt; load_place(rt.alloc(), &[0; 13]), None);
     Ok(())
 }

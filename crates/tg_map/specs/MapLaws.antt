@@ -36,6 +36,7 @@ pair_exact : (keys : List (List ℕ)) → IsExact (pair keys)
 pair_exact keys = dep_exact (only_if_exact (λ key. not (has_key keys key)) text_law.exact) (λ _. text_law.exact)
 
 pub state_exact : IsExact state_format
+unfolding state_format
 state_exact = after_exact 3 _ (behind_many_exact pair after_pair (λ n. []) (u32_law any).exact pair_exact)
 
 inner : {A : Type 0} (p q : A) → Some p ≡ Some q → p ≡ q
@@ -65,6 +66,7 @@ code_is t false (Set k v) is m e = absurd cc
 code_is t false (Unset k) is m e = second_code t m is
 
 pub op_law : IsCodec op_format
+unfolding op_format
 op_law = tagged_law _ op_code _ (λ t. chosen_law (eqb t 0x30) _ _ set_law unset_law) (λ t x m e. code_is t _ x refl m e)
 
 -- ---- keys
@@ -179,9 +181,11 @@ few_is : (n : ℕ) → n < 2 ^ 32 → n ≤ most
 few_is n lt = omega (arith, lt)
 
 few : (pairs : Pairs) → state_format.fits pairs ≡ true → length pairs ≤ most
+unfolding state_format
 few pairs e = few_is (length pairs) (ltb-true _ _ (and-right _ _ (and-left _ _ e)))
 
 set_fits : (pairs : Pairs) (k v : List ℕ) → text_format.fits k ≡ true → text_format.fits v ≡ true → state_format.fits pairs ≡ true → state_format.fits (set_pair pairs k v) ≡ true
+unfolding state_format
 set_fits pairs k v f g e =
     elim (takes pairs k) as (λ b. takes pairs k ≡ b → state_format.fits (cond b (insert_entry same pairs k v) pairs) ≡ true) [
       | true ↦ λ t. both _ _ (count_fits _ (set_len pairs k v (few pairs e) t)) (set_apart pairs [] k v f g refl (and-right _ _ e))
@@ -189,6 +193,7 @@ set_fits pairs k v f g e =
     ] refl
 
 unset_fits : (pairs : Pairs) (k : List ℕ) → state_format.fits pairs ≡ true → state_format.fits (unset_pair pairs k) ≡ true
+unfolding state_format
 unset_fits pairs k e =
     let le : length (unset_pair pairs k) ≤ most = omega (arith, few pairs e, unset_len pairs k) in
     both _ _ (count_fits _ le) (unset_apart pairs [] k (and-right _ _ e))
@@ -221,10 +226,11 @@ other_unset (x ∷ pairs) k q ne =
 -- ---- the laws
 
 pub first_is : (o : Oid) (os : List Oid) → is_object o ≡ true → is_header os ≡ true → is_state o (first o os) ≡ true
-unfolding fit_many
+unfolding fit_many state_format
 first_is o os e h = both _ _ e refl
 
 pub applied_is : (o : Oid) (s : Pairs) (op : MapOp) → is_state o s ≡ true → op_format.fits op ≡ true → is_state o (applied s op) ≡ true
+unfolding op_format
 applied_is o s (Set k v) e f = both _ _ (and-left _ _ e) (set_fits s k v (and-left _ _ f) (and-right _ _ f) (and-right _ _ e))
 applied_is o s (Unset k) e f = both _ _ (and-left _ _ e) (unset_fits s k (and-right _ _ e))
 

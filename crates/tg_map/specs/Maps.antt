@@ -65,7 +65,7 @@ abbrev pub after_pair : List (List ℕ) → List ℕ × List ℕ → List (List 
 after_pair keys p = keys ++ p.0 ∷ []
 
 -- the kind's tag, and the pairs behind their count, whose keys differ
-abbrev pub state_format : Codec Pairs
+unfoldable pub state_format : Codec Pairs
 state_format = after 3 (behind (u32 any) (λ n. many pair after_pair n []))
 
 abbrev pub is_state : Oid → Pairs → Bool
@@ -121,5 +121,5 @@ set_format = variant (λ p. Set p.0 p.1) as_set (dep text_format (λ _. text_for
 abbrev pub unset_format : Codec MapOp
 unset_format = variant Unset as_unset text_format
 
-abbrev pub op_format : Codec MapOp
+unfoldable pub op_format : Codec MapOp
 op_format = tagged ((0x30, 0x31) ∷ []) op_code (λ code. if code == 0x30 then set_format else unset_format)

@@ -200,6 +200,7 @@ fn pairs_in(alloc: Global, count: u32, bytes: &[u8]) -> Result<(Map, &[u8]), Rea
     Ok((map, rest))
 }
 
+#[tactic(auto, unfolding(crate::specs::Maps::state_format))]
 fn map_in(alloc: Global, bytes: &[u8]) -> Result<(Map, &[u8]), ReadFault>
     ensures { Gives (λ x. (x.0, x.1.now)) result (state_format.read bytes.now) }
 {
@@ -209,6 +210,7 @@ fn map_in(alloc: Global, bytes: &[u8]) -> Result<(Map, &[u8]), ReadFault>
     Ok((map, rest))
 }
 
+#[tactic(auto, unfolding(crate::specs::Maps::op_format))]
 fn op_in(alloc: Global, bytes: &[u8]) -> Result<(MapOp, &[u8]), ReadFault>
     ensures { Gives (λ x. (x.0, x.1.now)) result (op_format.read bytes.now) }
 {
@@ -223,6 +225,7 @@ fn op_in(alloc: Global, bytes: &[u8]) -> Result<(MapOp, &[u8]), ReadFault>
 }
 
 // The bytes of an op.
+#[tactic(auto, unfolding(crate::specs::Maps::op_format))]
 fn put_fields(op: &MapOp, out: &mut List<u8>) -> Result<(), NoMemory>
     ensures { OnOk result (out.new ≡ out.old ++ op_format.spell op.now) }
 {
@@ -299,6 +302,7 @@ impl Kind for Map {
         }
     }
 
+    #[tactic(auto, unfolding(crate::specs::Maps::op_format))]
     fn touch(op: &MapOp) -> Scope<'_> {
         match op {
             MapOp::Set { key, value } => {
@@ -317,6 +321,7 @@ impl Kind for Map {
         }
     }
 
+    #[tactic(auto, unfolding(crate::specs::Maps::state_format))]
     fn save(&self, alloc: Global) -> Result<List<u8>, NoMemory> {
         let mut bytes = List::new(alloc);
         bytes.push(TAG)?;

@@ -7,33 +7,61 @@ use tg_kind::{Key, Kind, KindFault, Scope, Text, text_in};
 // The first map.
 const MAP: Oid = Oid(0x0300_0000);
 
-// `set a 1`, `set b 2`, `set a 3`, `unset a` and `unset z`.
-const SET_A: [u8; 7] = [0x30, 0, 1, b'a', 0, 1, b'1'];
+// The codes of ops are the digits 0 and 1: 0 gives a key a value, and 1 removes a key. These are `set a 1`, `set b 2`
+// and `set a 3`.
+const TWO: &str = "0\0\x01a\0\x0110\0\x01b\0\x0120\0\x01a\0\x013";
 
-const SET_B: [u8; 7] = [0x30, 0, 1, b'b', 0, 1, b'2'];
+const SAVED: &str = "\x03\0\0\0\x02\0\x01a\0\x013\0\x01b\0\x012";
 
-const SET_A_AGAIN: [u8; 7] = [0x30, 0, 1, b'a', 0, 1, b'3'];
-
-const UNSET_A: [u8; 4] = [0x31, 0, 1, b'a'];
-
-const UNSET_Z: [u8; 4] = [0x31, 0, 1, b'z'];
-
-// The map after an op.
-fn after(alloc: Global, map: Map, bytes: &[u8]) -> Result<Map, Fail> {
-    let (op, len) = Map::get_op(alloc, bytes).map_err(|_| "an op")?;
-    if len != bytes.len() {
-        return Err("all bytes of the op".into());
+// The map after the ops that these bytes spell.
+fn played(alloc: Global, map: Map, ops: &[u8]) -> Result<Map, Fail> {
+    let mut map = map;
+    let mut rest = ops;
+    for _ in 0..ops.len() {
+        if rest.is_empty() {
+            return Ok(map);
+        }
+        let (op, len) = Map::get_op(alloc, rest).map_err(|_| "an op")?;
+        map = map.apply(&op).map_err(|_| "memory")?;
+        rest = rest.get(len..).ok_or("a length")?;
     }
-    let op = Map::copy_op(&op).map_err(|_| "memory")?;
-    let map = map.apply(&op).map_err(|_| "memory")?;
     Ok(map)
 }
 
-// The bytes of a copy of a map.
-fn saved(alloc: Global, map: &Map) -> Result<List<u8>, Fail> {
-    let copy = map.copy().map_err(|_| "memory")?;
-    let bytes = copy.save(alloc).map_err(|_| "memory")?;
-    Ok(bytes)
+// The map of `a` with 3 and `b` with 2.
+fn two(alloc: Global) -> Result<Map, Fail> {
+    let map = Map::fresh(alloc, MAP, &[]).map_err(|_| "memory")?;
+    played(alloc, map, TWO.as_bytes())
+}
+
+// Whether a map is saved so after these ops.
+fn saves(alloc: Global, map: Map, ops: &[u8], saved: &[u8]) -> Result<bool, Fail> {
+    let map = played(alloc, map, ops)?;
+    let bytes = map.save(alloc).map_err(|_| "memory")?;
+    Ok(bytes.as_slice() == saved)
+}
+
+#[test]
+fn ops_change_a_map(rt: HostRuntime) -> Result<(), Fail> {
+    for (ops, saved) in [
+        // A key that is set again keeps its place.
+        ("", SAVED),
+        ("1\0\x01z", SAVED),
+        ("1\0\x01z1\0\x01a", "\x03\0\0\0\x01\0\x01b\0\x012"),
+        // A key that was unset comes back last.
+        (
+            "1\0\x01a0\0\x01a\0\x011",
+            "\x03\0\0\0\x02\0\x01b\0\x012\0\x01a\0\x011",
+        ),
+        ("1\0\x01a1\0\x01b", "\x03\0\0\0\0"),
+    ] {
+        let map = two(rt.alloc())?;
+        assert!(rt;
+            saves(rt.alloc(), map, ops.as_bytes(), saved.as_bytes())?,
+            "{ops}"
+        );
+    }
+    Ok(())
 }
 
 // A text, from its bytes behind their length.
@@ -44,89 +72,45 @@ fn text(alloc: Global, bytes: &[u8]) -> Result<Text, Fail> {
     }
 }
 
-// What a copy of an ask is answered.
-fn answer(alloc: Global, map: &Map, ask: &MapAsk) -> Result<MapAns, Fail> {
-    let ask = Map::copy_ask(ask).map_err(|_| "memory")?;
-    let answer = map.ask(alloc, &ask).map_err(|_| "memory")?;
-    Ok(answer)
+// The ask for a key's value.
+fn get(alloc: Global, key: &str) -> Result<MapAsk, Fail> {
+    let key = text(alloc, key.as_bytes())?;
+    Ok(MapAsk::Get { key })
 }
 
-// The value of a key.
-fn value(alloc: Global, map: &Map, key: &[u8]) -> Result<Option<Text>, Fail> {
-    let key = text(alloc, key)?;
-    match answer(alloc, map, &MapAsk::Get { key })? {
-        MapAns::Value(value) => Ok(value),
-        _ => Err("a value".into()),
+// Whether a key has this value, `-` where it has none.
+fn is_value(map: &Map, alloc: Global, key: &str, want: &str) -> Result<bool, Fail> {
+    match map.ask(alloc, &get(alloc, key)?) {
+        Ok(MapAns::Value(Some(value))) => Ok(value.as_str() == want),
+        Ok(MapAns::Value(None)) => Ok(want == "-"),
+        _ => Ok(false),
     }
 }
 
-// How many keys there are, and the first.
-fn keys(alloc: Global, map: &Map) -> Result<(usize, Text), Fail> {
-    let MapAns::Keys(keys) = answer(alloc, map, &MapAsk::Keys)? else {
-        return Err("keys".into());
-    };
-    match keys.as_slice() {
-        [] => Err("a key".into()),
-        [first, ..] => {
-            let first = first.copy().map_err(|_| "memory")?;
-            Ok((keys.len(), first))
+// Whether these are all keys.
+fn are(map: &Map, alloc: Global, want: [&str; 2]) -> Result<bool, Fail> {
+    let ask = Map::copy_ask(&MapAsk::Keys).map_err(|_| "memory")?;
+    match map.ask(alloc, &ask) {
+        Ok(MapAns::Keys(keys)) => {
+            let same = keys
+                .as_slice()
+                .iter()
+                .zip(want)
+                .all(|(k, w)| k.as_str() == w);
+            Ok(same && keys.len() == 2)
         }
+        _ => Err("keys".into()),
     }
-}
-
-// The map of `a` with 3 and `b` with 2.
-fn two(alloc: Global) -> Result<Map, Fail> {
-    let map = Map::fresh(alloc, MAP, &[]).map_err(|_| "memory")?;
-    let map = after(alloc, map, &SET_A)?;
-    let map = after(alloc, map, &SET_B)?;
-    after(alloc, map, &SET_A_AGAIN)
-}
-
-#[test]
-fn a_key_that_is_set_again_keeps_its_place(rt: HostRuntime) -> Result<(), Fail> {
-    let map = two(rt.alloc())?;
-    let bytes = saved(rt.alloc(), &map)?;
-    let want = [
-        3, 0, 0, 0, 2, 0, 1, b'a', 0, 1, b'3', 0, 1, b'b', 0, 1, b'2',
-    ];
-    assert_eq!(rt; bytes.as_slice(), want.as_slice());
-    Ok(())
-}
-
-#[test]
-fn a_key_that_is_unset_comes_back_last(rt: HostRuntime) -> Result<(), Fail> {
-    let map = two(rt.alloc())?;
-    let map = after(rt.alloc(), map, &UNSET_Z)?;
-    let map = after(rt.alloc(), map, &UNSET_A)?;
-    let bytes = saved(rt.alloc(), &map)?;
-    assert_eq!(rt;
-        bytes.as_slice(),
-        [3, 0, 0, 0, 1, 0, 1, b'b', 0, 1, b'2'].as_slice()
-    );
-    let map = after(rt.alloc(), map, &SET_A)?;
-    let bytes = saved(rt.alloc(), &map)?;
-    let want = [
-        3, 0, 0, 0, 2, 0, 1, b'b', 0, 1, b'2', 0, 1, b'a', 0, 1, b'1',
-    ];
-    assert_eq!(rt; bytes.as_slice(), want.as_slice());
-    Ok(())
 }
 
 #[test]
 fn asks_are_answered(rt: HostRuntime) -> Result<(), Fail> {
     let map = two(rt.alloc())?;
-    let Some(three) = value(rt.alloc(), &map, &[0, 1, b'a'])? else {
-        return Err("a value".into());
-    };
-    assert_eq!(rt; three.as_str(), "3");
-    assert!(rt; value(rt.alloc(), &map, &[0, 1, b'z'])?.is_none());
-    let (count, first) = keys(rt.alloc(), &map)?;
-    assert_eq!(rt; count, 2);
-    assert_eq!(rt; first.as_str(), "a");
-    let MapAns::Number(size) = answer(rt.alloc(), &map, &MapAsk::Size)? else {
-        return Err("a number".into());
-    };
-    assert_eq!(rt; size, 2);
+    for (key, want) in [("\0\x01a", "3"), ("\0\x01b", "2"), ("\0\x01z", "-")] {
+        assert!(rt; is_value(&map, rt.alloc(), key, want)?, "{key}");
+    }
+    assert!(rt; matches!(map.ask(rt.alloc(), &MapAsk::Size), Ok(MapAns::Number(2))));
+    assert!(rt; are(&map, rt.alloc(), ["a", "b"])?);
     Ok(())
 }
 
@@ -139,26 +123,26 @@ fn place(alloc: Global, bytes: &[u8]) -> Option<usize> {
 }
 
 #[test]
-fn bytes_are_refused_at_their_place(rt: HostRuntime) -> Result<(), Fail> {
-    let alloc = rt.alloc();
-    assert_eq!(rt; place(alloc, &[]), Some(0));
-    assert_eq!(rt; place(alloc, &[2, 0, 0, 0, 0]), Some(0));
-    assert_eq!(rt; place(alloc, &[3, 0, 0]), Some(3));
-    assert_eq!(rt; place(alloc, &[3, 0, 0, 0, 0, 7]), Some(5));
-    assert_eq!(rt; place(alloc, &[3, 0, 0, 0, 1, 0, 0]), Some(6));
-    assert_eq!(rt; place(alloc, &[3, 0, 0, 0, 1, 0x10, 1]), Some(6));
-    assert_eq!(rt; place(alloc, &[3, 0, 0, 0, 1, 0, 1, b' ']), Some(7));
-    assert_eq!(rt; place(alloc, &[3, 0, 0, 0, 1, 0, 1, b'a', 0]), Some(9));
-    let doubled = [
-        3, 0, 0, 0, 2, 0, 1, b'a', 0, 1, b'x', 0, 1, b'a', 0, 1, b'y',
-    ];
-    assert_eq!(rt; place(alloc, &doubled), Some(11));
-    assert_eq!(rt; place(alloc, &doubled[..13]), Some(13));
-    assert_eq!(rt;
-        place(alloc, &[3, 0, 0, 0, 1, 0, 1, b'a', 0, 1, b'x']),
-        None
-    );
-    Ok(())
+fn other_bytes_are_refused(rt: HostRuntime) {
+    for (bytes, at) in [
+        ("", 0),
+        // Another kind's tag.
+        ("\x02\0\0\0\0", 0),
+        ("\x03\0\0", 3),
+        // A byte more.
+        ("\x03\0\0\0\0\x07", 5),
+        // The length of a text is from 1 to 4,096.
+        ("\x03\0\0\0\x01\0\0", 6),
+        ("\x03\0\0\0\x01\x10\x01", 6),
+        // A text has no space.
+        ("\x03\0\0\0\x01\0\x01 ", 7),
+        ("\x03\0\0\0\x01\0\x01a\0", 9),
+        // A key that is there before.
+        ("\x03\0\0\0\x02\0\x01a\0\x01x\0\x01a\0\x01y", 11),
+        ("\x03\0\0\0\x02\0\x01a\0\x01x\0\x01", 13),
+    ] {
+        assert_eq!(rt; place(rt.alloc(), bytes.as_bytes()), Some(at), "{bytes}");
+    }
 }
 
 // A saved map whose one key has 4,096 bytes.
@@ -176,8 +160,8 @@ fn long(alloc: Global) -> Result<List<u8>, Fail> {
 fn a_long_key_is_loaded_and_saved(rt: HostRuntime) -> Result<(), Fail> {
     let bytes = long(rt.alloc())?;
     let map = Map::load(rt.alloc(), MAP, bytes.as_slice()).map_err(|_| "a map")?;
-    let again = saved(rt.alloc(), &map)?;
-    assert_eq!(rt; again.as_slice(), bytes.as_slice());
+    let map = map.copy().map_err(|_| "memory")?;
+    assert!(rt; saves(rt.alloc(), map, &[], bytes.as_slice())?);
     Ok(())
 }
 
@@ -189,15 +173,21 @@ fn is_a(scope: Scope<'_>) -> bool {
     }
 }
 
+// Whether these bytes are the spelling of an op on the key `a`.
+fn is_op(alloc: Global, bytes: &[u8]) -> Result<bool, Fail> {
+    let (op, len) = Map::get_op(alloc, bytes).map_err(|_| "an op")?;
+    let op = Map::copy_op(&op).map_err(|_| "memory")?;
+    let mut out = List::new(alloc);
+    Map::put_op(alloc, &op, &mut out).map_err(|_| "memory")?;
+    Ok(is_a(Map::touch(&op)) && len == bytes.len() && out.as_slice() == bytes)
+}
+
 #[test]
-fn an_op_is_spelled_and_touches_its_key(rt: HostRuntime) -> Result<(), Fail> {
-    let (op, _) = Map::get_op(rt.alloc(), &UNSET_A).map_err(|_| "an op")?;
-    assert!(rt; is_a(Map::touch(&op)));
-    let mut bytes = List::new(rt.alloc());
-    Map::put_op(rt.alloc(), &op, &mut bytes).map_err(|_| "memory")?;
-    assert_eq!(rt; bytes.as_slice(), UNSET_A.as_slice());
-    let key = text(rt.alloc(), &[0, 1, b'a'])?;
-    assert!(rt; is_a(Map::look(&MapAsk::Get { key })));
+fn ops_are_spelled_and_touch_their_key(rt: HostRuntime) -> Result<(), Fail> {
+    for op in ["0\0\x01a\0\x011", "1\0\x01a"] {
+        assert!(rt; is_op(rt.alloc(), op.as_bytes())?, "{op}");
+    }
+    assert!(rt; is_a(Map::look(&get(rt.alloc(), "\0\x01a")?)));
     assert!(rt; !is_a(Map::look(&MapAsk::Size)));
     Ok(())
 }
