@@ -91,10 +91,182 @@ fn a_put_may_be_lost(rt: HostRuntime) -> Result<(), Fail> {
 }
 
 #[test]
-fn a_put_may_be_fenced_or_come_too_late(rt: HostRuntime) -> Result<(), Fail> {
+fn a_put_may_be_fenced(rt: HostRuntime) -> Result<(), Fail> {
     let end = put_end(rt.alloc(), &Msg::Fenced { epoch: 2 })?;
     assert!(rt; matches!(end, PutCellEnd::Fenced { unit: 3, epoch: 2 }));
+    Ok(())
+}
+
+#[test]
+fn a_put_may_come_too_late(rt: HostRuntime) -> Result<(), Fail> {
     let end = put_end(rt.alloc(), &Msg::Gone { below: 8 })?;
     assert!(rt; matches!(end, PutCellEnd::Gone { below: 8 }));
+    Ok(())
+}
+
+/// A get of epoch 1 at position 7, whose request to unit 5 has the number 1.
+fn started_get(alloc: Global, rids: &mut Rids) -> Result<GetCell, Fail>
+    requires { rids.old.next < 2 ^ 62 }
+    ensures { rids.new.next ≤ rids.old.next + 1 }
+{
+    let chain = chain()?;
+    match GetCell::start(alloc, chain, 1, 7, rids) {
+        Ok(Turn::More { machine, .. }) => Ok(machine),
+        _ => Err("it didn't start".into()),
+    }
+}
+
+/// How a get ends where the last unit answers so, and a hole is filled with junk.
+fn get_end(alloc: Global, answer: &Msg) -> Result<GetCellEnd, Fail> {
+    let mut rids = Rids::new();
+    let get = started_get(alloc, &mut rids)?;
+    match get.feed(alloc, unit(5), 1, answer, &mut rids) {
+        Ok(Turn::End { end, .. }) => Ok(end),
+        Ok(Turn::More { machine, .. }) => get_end_at_head(alloc, machine, &mut rids),
+        Err(_) => Err("memory".into()),
+    }
+}
+
+/// How a get ends where the head is filled with junk.
+fn get_end_at_head(alloc: Global, get: GetCell, rids: &mut Rids) -> Result<GetCellEnd, Fail>
+    requires { rids.old.next < 2 ^ 61 }
+{
+    match get.feed(alloc, unit(3), 2, &Msg::Held, rids) {
+        Ok(Turn::More { machine, .. }) => get_end_below(alloc, machine, rids),
+        _ => Err("it doesn't go on".into()),
+    }
+}
+
+/// How a get ends where the last unit is filled too.
+fn get_end_below(alloc: Global, get: GetCell, rids: &mut Rids) -> Result<GetCellEnd, Fail>
+    requires { rids.old.next < 2 ^ 62 }
+{
+    match get.feed(alloc, unit(5), 3, &Msg::Held, rids) {
+        Ok(Turn::End { end, .. }) => Ok(end),
+        _ => Err("it goes on".into()),
+    }
+}
+
+#[test]
+fn a_get_reads_the_last_unit(rt: HostRuntime) -> Result<(), Fail> {
+    let answer = taken(rt.alloc(), 8)?;
+    let end = get_end(rt.alloc(), &answer)?;
+    assert!(rt;
+        matches!(
+            end,
+            GetCellEnd::Done {
+                cell: Cell::Data(_)
+            }
+        )
+    );
+    Ok(())
+}
+
+#[test]
+fn a_get_fills_a_hole(rt: HostRuntime) -> Result<(), Fail> {
+    let end = get_end(rt.alloc(), &Msg::Unwritten)?;
+    assert!(rt; matches!(end, GetCellEnd::Done { cell: Cell::Junk }));
+    Ok(())
+}
+
+/// A fill of epoch 1 at position 7, whose request to unit 3 has the number 1.
+fn started_fill(alloc: Global, rids: &mut Rids) -> Result<FillCell, Fail>
+    requires { rids.old.next < 2 ^ 62 }
+    ensures { rids.new.next ≤ rids.old.next + 1 }
+{
+    let chain = chain()?;
+    match FillCell::start(alloc, chain, 1, 7, rids) {
+        Ok(Turn::More { machine, .. }) => Ok(machine),
+        _ => Err("it didn't start".into()),
+    }
+}
+
+/// How a fill ends where the head answers so, and the next unit then holds the cell.
+fn fill_end(alloc: Global, answer: &Msg) -> Result<FillCellEnd, Fail> {
+    let mut rids = Rids::new();
+    let fill = started_fill(alloc, &mut rids)?;
+    match fill.feed(alloc, unit(3), 1, answer, &mut rids) {
+        Ok(Turn::End { end, .. }) => Ok(end),
+        Ok(Turn::More { machine, .. }) => fill_end_below(alloc, machine, &mut rids),
+        Err(_) => Err("memory".into()),
+    }
+}
+
+/// How a fill ends where the last unit holds the cell.
+fn fill_end_below(alloc: Global, fill: FillCell, rids: &mut Rids) -> Result<FillCellEnd, Fail>
+    requires { rids.old.next < 2 ^ 62 }
+{
+    match fill.feed(alloc, unit(5), 2, &Msg::Held, rids) {
+        Ok(Turn::End { end, .. }) => Ok(end),
+        _ => Err("it goes on".into()),
+    }
+}
+
+#[test]
+fn a_fill_carries_what_the_head_holds(rt: HostRuntime) -> Result<(), Fail> {
+    let answer = taken(rt.alloc(), 8)?;
+    let end = fill_end(rt.alloc(), &answer)?;
+    assert!(rt;
+        matches!(
+            end,
+            FillCellEnd::Done {
+                cell: Cell::Data(_)
+            }
+        )
+    );
+    Ok(())
+}
+
+#[test]
+fn a_fill_may_be_fenced(rt: HostRuntime) -> Result<(), Fail> {
+    let end = fill_end(rt.alloc(), &Msg::Fenced { epoch: 2 })?;
+    assert!(rt; matches!(end, FillCellEnd::Fenced { unit: 3, epoch: 2 }));
+    Ok(())
+}
+
+/// A probe of epoch 1 at position 7, whose requests to units 3 and 5 have the numbers 1 and 2.
+fn started_probe(alloc: Global, rids: &mut Rids) -> Result<Probe, Fail>
+    requires { rids.old.next < 2 ^ 61 }
+    ensures { rids.new.next ≤ rids.old.next + 5 }
+{
+    let chain = chain()?;
+    match Probe::start(alloc, chain, 1, 7, rids) {
+        Ok(Turn::More { machine, .. }) => Ok(machine),
+        _ => Err("it didn't start".into()),
+    }
+}
+
+/// How a probe ends where the second unit answers so, and then the head that it holds all that was asked.
+fn probe_end(alloc: Global, answer: &Msg) -> Result<ProbeEnd, Fail> {
+    let mut rids = Rids::new();
+    let probe = started_probe(alloc, &mut rids)?;
+    match probe.feed(alloc, unit(5), 2, answer, &mut rids) {
+        Ok(Turn::End { end, .. }) => Ok(end),
+        Ok(Turn::More { machine, .. }) => probe_end_at_head(alloc, machine, &mut rids),
+        Err(_) => Err("memory".into()),
+    }
+}
+
+/// How a probe ends where the head has all that was asked.
+fn probe_end_at_head(alloc: Global, probe: Probe, rids: &mut Rids) -> Result<ProbeEnd, Fail>
+    requires { rids.old.next < 2 ^ 62 }
+{
+    match probe.feed(alloc, unit(3), 1, &Msg::Whole, rids) {
+        Ok(Turn::End { end, .. }) => Ok(end),
+        _ => Err("it goes on".into()),
+    }
+}
+
+#[test]
+fn a_probe_awaits_all_units(rt: HostRuntime) -> Result<(), Fail> {
+    let end = probe_end(rt.alloc(), &Msg::Whole)?;
+    assert!(rt; matches!(end, ProbeEnd::Seen));
+    Ok(())
+}
+
+#[test]
+fn a_probe_may_be_fenced(rt: HostRuntime) -> Result<(), Fail> {
+    let end = probe_end(rt.alloc(), &Msg::Fenced { epoch: 3 })?;
+    assert!(rt; matches!(end, ProbeEnd::Fenced { unit: 5, epoch: 3 }));
     Ok(())
 }
