@@ -1,0 +1,4 @@
+pub mod Sets
+pub mod Orders
+pub mod Judged
+pub mod Drafting

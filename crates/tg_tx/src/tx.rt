@@ -1,0 +1,89 @@
+//! A transaction of a kind of objects.
+
+ghost use Rattle.std.specs.Prelude.{◌≡◌, ◌≤◌, true, None, length, OnOk, OnErr, IfErr, IfOk};
+ghost use Rattle.tg_base.specs.declared.marks.ReadMark.{ReadMark};
+ghost use Rattle.tg_entry.specs.Records.{is_object, is_part};
+ghost use Rattle.tg_protocol.specs.Transactions.{open_tx, tx_read, tx_put, read_fault, write_fault, commit_record};
+ghost use Rattle.tg_tx.specs.Faults.{Faults, FaultsLate};
+
+use crate::fault::TxFault;
+use crate::pending::Pending;
+use std::alloc::Global;
+use std::marker::{Model, PhantomData};
+use tg_base::{List, NoMemory, Oid, Part, Pos, ReadMark};
+use tg_entry::Draft;
+use tg_kind::Kind;
+
+/// An open transaction: what it has read, with versions, and what it will write.
+#[derive(Drop)]
+pub struct Tx<K: Kind> {
+    pending: Pending,
+    kind: PhantomData<K>,
+}
+
+impl<K: Kind> Model for Tx<K> {
+    ghost use Rattle.tg_protocol.specs.Transactions as told;
+
+    ghost Value = { told.Tx };
+
+    ghost view = { λ t. t.pending };
+}
+
+impl<K: Kind> Tx<K> {
+    /// A transaction that has read nothing and writes nothing. It takes no memory.
+    pub fn open(alloc: Global, number: u32) -> Tx<K>
+        requires { 1 ≤ number }
+        ensures { result ≡ open_tx number }
+    {
+        Tx {
+            pending: Pending::new(alloc, number),
+            kind: PhantomData,
+        }
+    }
+
+    /// Takes a read of a part of an object at a snapshot, with the version found there. A part
+    /// that is read already isn't added again.
+    ///
+    /// `TooMany` comes exactly where 64 reads are there, else `TooLarge` exactly where the record
+    /// would pass 4,096 bytes, and `NoMemory` only where neither does. An `Err` changes nothing.
+    pub fn read(&mut self, oid: Oid, part: Part, at: Pos, version: u64) -> Result<(), TxFault>
+        requires object { is_object oid ≡ true }
+        requires part { is_part part ≡ true }
+        ensures fine { OnOk result (read_fault self.old oid part ≡ None) }
+        ensures ok { OnOk result (self.new ≡ tx_read self.old (record { oid = oid; part = part; version = version }) at) }
+        ensures fault { IfErr result (λ e. Faults e (read_fault self.old oid part)) }
+        ensures err { OnErr result (self.new ≡ self.old) }
+    {
+        let mark = ReadMark { oid, part, version };
+        self.pending.read(mark, at)
+    }
+
+    /// Takes a write of an object.
+    ///
+    /// `TooMany` comes exactly where there would be more than 16 streams, and then where 64 writes
+    /// are there, else `TooLarge` exactly where the record would pass 4,096 bytes. The op's bytes
+    /// are spelled first, so `NoMemory` may come in place of `TooLarge`, and never in place of
+    /// `TooMany`. An `Err` changes nothing.
+    pub fn put(&mut self, alloc: Global, oid: Oid, op: K::Op) -> Result<(), TxFault>
+        requires object { is_object oid ≡ true }
+        requires some { 1 ≤ length (K.spelled op) }
+        ensures fine { OnOk result (write_fault self.old (record { oid = oid; op = K.spelled op }) ≡ None) }
+        ensures ok { OnOk result (self.new ≡ tx_put self.old (record { oid = oid; op = K.spelled op })) }
+        ensures fault { IfErr result (λ e. FaultsLate e (write_fault self.old (record { oid = oid; op = K.spelled op }))) }
+        ensures err { OnErr result (self.new ≡ self.old) }
+    {
+        self.pending.room(oid)?;
+        let mut bytes = List::new(alloc);
+        K::put_op(alloc, &op, &mut bytes)?;
+        self.pending.put(oid, bytes)
+    }
+
+    /// The commit record: the reads rising by object and then part, each once, and the writes in
+    /// order, in the streams that are written. An `Err` is want of memory.
+    pub fn commit_record(&self, alloc: Global, client: u16) -> Result<Draft, NoMemory>
+        requires { 1 ≤ length self.now.writes }
+        ensures { IfOk result (λ d. d ≡ commit_record self.now client) }
+    {
+        self.pending.commit_record(alloc, client)
+    }
+}
