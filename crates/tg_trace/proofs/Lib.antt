@@ -1,0 +1,14 @@
+pub mod Bytes
+pub mod Cuts
+pub mod Phrases
+pub mod FieldWords
+pub mod RefusalWords
+pub mod ReplyWords
+pub mod Graphic
+pub mod LineForms
+pub mod LineWords
+pub mod Growing
+pub mod Runs
+pub mod Spaces
+pub mod Whole
+pub mod Exact
