@@ -1,10 +1,2 @@
-pub mod Parts
-pub mod Messages
-pub mod Packets
-pub mod Building
 pub mod Decoding
-pub mod Keeping
-pub mod Streams
-pub mod Ruled
 pub mod Splitting
-pub mod Fitting

@@ -1,6 +1,6 @@
 -- A list is its first item and the rest, and what follows where a call succeeds.
 use Rattle.std.proofs.Common.{◌≡◌, ℕ, zero, suc, ◌-◌, ◌^◌, ◌≤◌, ◌<◌, List, [], ◌∷◌, length, get_or, take, drop, Result, Ok, Err, OnOk, refl, sym, ap, ◌∙◌, arith}
-use Rattle.tg_wire.specs.Types.{AreLong}
+use Rattle.tg_packets.specs.Types.{AreLong}
 
 take-whole : {X : Type 0} (xs : List X) (n : ℕ) → length xs ≤ n → take n xs ≡ xs
 take-whole [] zero h = refl

@@ -1,7 +1,1 @@
-pub mod Fields
-pub mod Messages
-pub mod Packets
 pub mod Answers
-pub mod Short
-pub mod Rules
-pub mod Types

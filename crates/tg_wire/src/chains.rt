@@ -3,7 +3,7 @@
 ghost use Rattle.std.specs.Prelude.{◌≡◌, ◌==◌, ◌≤◌, ◌++◌, length, IfOk, OnOk};
 ghost use Rattle.std.specs.List.{list_any};
 ghost use Rattle.tg_codec.specs.Reading.{Gives};
-ghost use Rattle.tg_wire.specs.Fields.{below, others, chain_unit, after_unit, chain, stripe, after_stripe, stripes};
+ghost use Rattle.tg_packets.specs.Fields.{below, others, chain_unit, after_unit, chain, stripe, after_stripe, stripes};
 
 use std::alloc::{AllocError, Global};
 use tg_base::{Chain, List, NoMemory};
@@ -25,7 +25,7 @@ fn is_used(used: &[u32], unit: u32) -> bool
 }
 
 // All units.
-#[tactic(auto, unfolding(crate::specs::Fields::below))]
+#[tactic(auto, unfolding(tg_packets::specs::Fields::below))]
 fn all_units(alloc: Global) -> Result<Vec<u32>, AllocError>
     ensures { IfOk result (λ v. v.items ≡ below 64) }
 {
@@ -74,7 +74,7 @@ impl Item for Units {
 }
 
 // A chain.
-#[tactic(auto, unfolding(crate::specs::Fields::chain))]
+#[tactic(auto, unfolding(tg_packets::specs::Fields::chain))]
 fn chain_in(alloc: Global, bytes: &[u8]) -> Result<(Chain, &[u8]), ReadFault>
     ensures { Gives (λ x. (x.0, x.1.now)) result (chain.read bytes.now) }
 {
@@ -85,7 +85,7 @@ fn chain_in(alloc: Global, bytes: &[u8]) -> Result<(Chain, &[u8]), ReadFault>
     Ok((chain, rest))
 }
 
-#[tactic(auto, unfolding(crate::specs::Fields::chain))]
+#[tactic(auto, unfolding(tg_packets::specs::Fields::chain))]
 fn put_chain(value: &Chain, out: &mut List<u8>) -> Result<(), NoMemory>
     ensures { OnOk result (out.new ≡ out.old ++ chain.spell value.now) }
 {
@@ -94,7 +94,7 @@ fn put_chain(value: &Chain, out: &mut List<u8>) -> Result<(), NoMemory>
     write_items::<Units>(units, out)
 }
 
-#[tactic(auto, unfolding(crate::specs::Fields::chain))]
+#[tactic(auto, unfolding(tg_packets::specs::Fields::chain))]
 fn size_chain(value: &Chain) -> usize
     ensures len { result ≡ length (chain.spell value.now) }
     ensures most { result ≤ 11 }
@@ -138,7 +138,7 @@ impl Measured for Stripes {
 }
 
 /// One to eight chains behind their count.
-#[tactic(auto, unfolding(crate::specs::Fields::stripes))]
+#[tactic(auto, unfolding(tg_packets::specs::Fields::stripes))]
 pub fn stripes_in(alloc: Global, bytes: &[u8]) -> Result<(List<Chain>, &[u8]), ReadFault>
     ensures { Gives (λ x. (x.0, x.1.now)) result (stripes.read bytes.now) }
 {
@@ -148,7 +148,7 @@ pub fn stripes_in(alloc: Global, bytes: &[u8]) -> Result<(List<Chain>, &[u8]), R
 }
 
 /// Puts chains last, behind their count.
-#[tactic(auto, unfolding(crate::specs::Fields::stripes))]
+#[tactic(auto, unfolding(tg_packets::specs::Fields::stripes))]
 pub fn put_stripes(value: &[Chain], out: &mut List<u8>) -> Result<(), NoMemory>
     requires { length value.now ≤ 255 }
     ensures { OnOk result (out.new ≡ out.old ++ stripes.spell value.now) }
@@ -158,7 +158,7 @@ pub fn put_stripes(value: &[Chain], out: &mut List<u8>) -> Result<(), NoMemory>
 }
 
 /// The length of the spelling of chains behind their count. It takes no memory.
-#[tactic(auto, unfolding(crate::specs::Fields::stripes))]
+#[tactic(auto, unfolding(tg_packets::specs::Fields::stripes))]
 pub fn size_stripes(value: &[Chain]) -> usize
     requires { length value.now ≤ 255 }
     ensures len { result ≡ length (stripes.spell value.now) }

@@ -3,7 +3,7 @@
 ghost use Rattle.std.specs.Prelude.{◌≡◌, ◌≤◌, ◌++◌, length, OnOk};
 ghost use Rattle.tg_codec.specs.Reading.{Gives};
 ghost use Rattle.tg_codec.specs.Streams.{any};
-ghost use Rattle.tg_wire.specs.Fields.{cell, ballot, object, after_object, objects};
+ghost use Rattle.tg_packets.specs.Fields.{cell, ballot, object, after_object, objects};
 
 use std::alloc::Global;
 use tg_base::{Ballot, Cell, List, NoMemory, Oid};

@@ -3,8 +3,8 @@
 ghost use Rattle.std.specs.Prelude.{◌≡◌, ◌≤◌, ◌++◌, ◌*◌, ◌∷◌, [], ℕ, true, length, IfOk, OnOk};
 ghost use Rattle.tg_codec.specs.Reading.{Gives};
 ghost use Rattle.tg_codec.specs.Codec.{read_many, spell_many};
-ghost use Rattle.tg_wire.specs.Fields.{gone_unit, after_gone, gone, range, after_range, ranges, projection_of, projection, proposal, vote};
-ghost use Rattle.tg_wire.specs.Short.{AreShort, IsShortLayout, IsShortVote};
+ghost use Rattle.tg_packets.specs.Fields.{gone_unit, after_gone, gone, range, after_range, ranges, projection_of, projection, proposal, vote};
+ghost use Rattle.tg_packets.specs.Short.{AreShort, IsShortLayout, IsShortVote};
 
 use crate::chains::{put_stripes, size_stripes, stripes_in};
 use crate::fields::{ballot_in, put_ballot};
@@ -117,7 +117,7 @@ fn ranges_of<'a>(
     Ok((ranges, rest))
 }
 
-#[tactic(auto, unfolding(crate::specs::Fields::ranges))]
+#[tactic(auto, unfolding(tg_packets::specs::Fields::ranges))]
 fn counted_ranges(
     alloc: Global,
     start: Pos,
@@ -160,7 +160,7 @@ fn put_ranges(values: &[Range], out: &mut List<u8>) -> Result<(), NoMemory>
 }
 
 // The ranges behind their count.
-#[tactic(auto, unfolding(crate::specs::Fields::ranges))]
+#[tactic(auto, unfolding(tg_packets::specs::Fields::ranges))]
 fn put_counted(values: &[Range], out: &mut List<u8>) -> Result<(), NoMemory>
     requires few { length values.now ≤ 255 }
     requires short { AreShort values.now }
@@ -191,7 +191,7 @@ fn size_ranges(values: &[Range]) -> usize
     }
 }
 
-#[tactic(auto, unfolding(crate::specs::Fields::ranges))]
+#[tactic(auto, unfolding(tg_packets::specs::Fields::ranges))]
 fn size_counted(values: &[Range]) -> usize
     requires few { length values.now ≤ 255 }
     requires short { AreShort values.now }
@@ -202,7 +202,7 @@ fn size_counted(values: &[Range]) -> usize
 }
 
 /// A layout, whose epoch is from a range.
-#[tactic(auto, unfolding(crate::specs::Fields::projection_of))]
+#[tactic(auto, unfolding(tg_packets::specs::Fields::projection_of))]
 pub fn projection_in(
     alloc: Global,
     epochs: (u64, u64),
@@ -229,7 +229,7 @@ pub fn projection_in(
 }
 
 /// Puts a layout last.
-#[tactic(auto, unfolding(crate::specs::Fields::projection_of))]
+#[tactic(auto, unfolding(tg_packets::specs::Fields::projection_of))]
 pub fn put_projection(value: &Projection, out: &mut List<u8>) -> Result<(), NoMemory>
     requires { IsShortLayout value.now }
     ensures { OnOk result (out.new ≡ out.old ++ projection.spell value.now) }
@@ -243,7 +243,7 @@ pub fn put_projection(value: &Projection, out: &mut List<u8>) -> Result<(), NoMe
 }
 
 /// The length of a layout's spelling. It takes no memory.
-#[tactic(auto, unfolding(crate::specs::Fields::projection_of))]
+#[tactic(auto, unfolding(tg_packets::specs::Fields::projection_of))]
 pub fn size_projection(value: &Projection) -> usize
     requires { IsShortLayout value.now }
     ensures len { result ≡ length (projection.spell value.now) }

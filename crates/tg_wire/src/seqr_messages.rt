@@ -3,7 +3,7 @@
 ghost use Rattle.std.specs.Prelude.{◌≡◌, ◌∷◌, [], true};
 ghost use Rattle.tg_codec.specs.Reading.{Gives, meets};
 ghost use Rattle.tg_codec.specs.Codec.{from_table};
-ghost use Rattle.tg_wire.specs.Messages.{messages, learn, token, check, issued, tail, scanning, old_epoch, full};
+ghost use Rattle.tg_packets.specs.Messages.{messages, learn, token, check, issued, tail, scanning, old_epoch, full};
 
 use crate::fields::objects_in;
 use crate::layouts::{ANY_EPOCH, projection_in};
@@ -11,7 +11,7 @@ use std::alloc::Global;
 use tg_base::Msg;
 use tg_codec::{ReadFault, links_in, u64_in};
 
-#[tactic(auto, unfolding(crate::specs::Messages::learn))]
+#[tactic(auto, unfolding(tg_packets::specs::Messages::learn))]
 fn learn_in(alloc: Global, bytes: &[u8]) -> Result<(Msg, &[u8]), ReadFault>
     ensures { Gives (λ x. (x.0, x.1.now)) result (learn.read bytes.now) }
 {
@@ -19,7 +19,7 @@ fn learn_in(alloc: Global, bytes: &[u8]) -> Result<(Msg, &[u8]), ReadFault>
     Ok((Msg::Learn { proj }, rest))
 }
 
-#[tactic(auto, unfolding(crate::specs::Messages::token))]
+#[tactic(auto, unfolding(tg_packets::specs::Messages::token))]
 fn token_in(alloc: Global, bytes: &[u8]) -> Result<(Msg, &[u8]), ReadFault>
     ensures { Gives (λ x. (x.0, x.1.now)) result (token.read bytes.now) }
 {
@@ -28,7 +28,7 @@ fn token_in(alloc: Global, bytes: &[u8]) -> Result<(Msg, &[u8]), ReadFault>
     Ok((Msg::Token { epoch, oids }, rest))
 }
 
-#[tactic(auto, unfolding(crate::specs::Messages::check))]
+#[tactic(auto, unfolding(tg_packets::specs::Messages::check))]
 fn check_in(alloc: Global, bytes: &[u8]) -> Result<(Msg, &[u8]), ReadFault>
     ensures { Gives (λ x. (x.0, x.1.now)) result (check.read bytes.now) }
 {
@@ -37,7 +37,7 @@ fn check_in(alloc: Global, bytes: &[u8]) -> Result<(Msg, &[u8]), ReadFault>
     Ok((Msg::Check { epoch, oids }, rest))
 }
 
-#[tactic(auto, unfolding(crate::specs::Messages::issued))]
+#[tactic(auto, unfolding(tg_packets::specs::Messages::issued))]
 fn issued_in(alloc: Global, bytes: &[u8]) -> Result<(Msg, &[u8]), ReadFault>
     ensures { Gives (λ x. (x.0, x.1.now)) result (issued.read bytes.now) }
 {
@@ -46,7 +46,7 @@ fn issued_in(alloc: Global, bytes: &[u8]) -> Result<(Msg, &[u8]), ReadFault>
     Ok((Msg::Issued { pos, links }, rest))
 }
 
-#[tactic(auto, unfolding(crate::specs::Messages::tail))]
+#[tactic(auto, unfolding(tg_packets::specs::Messages::tail))]
 fn tail_in(alloc: Global, bytes: &[u8]) -> Result<(Msg, &[u8]), ReadFault>
     ensures { Gives (λ x. (x.0, x.1.now)) result (tail.read bytes.now) }
 {
@@ -55,7 +55,7 @@ fn tail_in(alloc: Global, bytes: &[u8]) -> Result<(Msg, &[u8]), ReadFault>
     Ok((Msg::Tail { tail, links }, rest))
 }
 
-#[tactic(auto, unfolding(crate::specs::Messages::scanning))]
+#[tactic(auto, unfolding(tg_packets::specs::Messages::scanning))]
 fn scanning_in(bytes: &[u8]) -> Result<(Msg, &[u8]), ReadFault>
     ensures { Gives (λ x. (x.0, x.1.now)) result (scanning.read bytes.now) }
 {
@@ -64,7 +64,7 @@ fn scanning_in(bytes: &[u8]) -> Result<(Msg, &[u8]), ReadFault>
     Ok((Msg::Scanning { next, start }, rest))
 }
 
-#[tactic(auto, unfolding(crate::specs::Messages::old_epoch))]
+#[tactic(auto, unfolding(tg_packets::specs::Messages::old_epoch))]
 fn old_epoch_in(bytes: &[u8]) -> Result<(Msg, &[u8]), ReadFault>
     ensures { Gives (λ x. (x.0, x.1.now)) result (old_epoch.read bytes.now) }
 {
@@ -72,7 +72,7 @@ fn old_epoch_in(bytes: &[u8]) -> Result<(Msg, &[u8]), ReadFault>
     Ok((Msg::OldEpoch { epoch }, rest))
 }
 
-#[tactic(auto, unfolding(crate::specs::Messages::full))]
+#[tactic(auto, unfolding(tg_packets::specs::Messages::full))]
 fn full_in(bytes: &[u8]) -> Result<(Msg, &[u8]), ReadFault>
     ensures { Gives (λ x. (x.0, x.1.now)) result (full.read bytes.now) }
 {

@@ -3,8 +3,8 @@
 ghost use Rattle.std.specs.Prelude.{◌≡◌, ◌≤◌, ◌++◌, length, OnOk};
 ghost use Rattle.std.specs.Int.{w16, w64, to_be_bytes};
 ghost use Rattle.tg_codec.specs.Streams.{any, links};
-ghost use Rattle.tg_wire.specs.Fields.{cell, ballot, objects, proposal, vote};
-ghost use Rattle.tg_wire.specs.Short.{IsShortLayout, IsShortVote};
+ghost use Rattle.tg_packets.specs.Fields.{cell, ballot, objects, proposal, vote};
+ghost use Rattle.tg_packets.specs.Short.{IsShortLayout, IsShortVote};
 
 use crate::fields::{put_ballot, put_cell, put_objects};
 use crate::layouts::{put_projection, put_vote};

@@ -2,15 +2,15 @@
 
 ghost use Rattle.std.specs.Prelude.{◌≡◌, ◌≤◌, length};
 ghost use Rattle.tg_codec.specs.Codec.{from_table};
-ghost use Rattle.tg_wire.specs.Messages.{tag_of, messages, message};
-ghost use Rattle.tg_wire.specs.Short.{IsShort};
+ghost use Rattle.tg_packets.specs.Messages.{tag_of, messages, message};
+ghost use Rattle.tg_packets.specs.Short.{IsShort};
 
 use crate::fields::{size_cell, size_objects};
 use crate::layouts::{size_projection, size_proposal, size_vote};
 use tg_base::Msg;
 use tg_codec::size_links;
 
-#[tactic(auto, unfolding(crate::specs::Messages::read, crate::specs::Messages::write, crate::specs::Messages::fill, crate::specs::Messages::copy, crate::specs::Messages::has, crate::specs::Messages::seal, crate::specs::Messages::trim, crate::specs::Messages::held, crate::specs::Messages::taken, crate::specs::Messages::unwritten, crate::specs::Messages::gone, crate::specs::Messages::fenced, crate::specs::Messages::sealed, crate::specs::Messages::missing, crate::specs::Messages::whole, crate::specs::Messages::prepare, crate::specs::Messages::accept, crate::specs::Messages::decided, crate::specs::Messages::ask_latest, crate::specs::Messages::promise, crate::specs::Messages::nack, crate::specs::Messages::accepted, crate::specs::Messages::latest, crate::specs::Messages::learn, crate::specs::Messages::token, crate::specs::Messages::check, crate::specs::Messages::issued, crate::specs::Messages::tail, crate::specs::Messages::scanning, crate::specs::Messages::old_epoch, crate::specs::Messages::full))]
+#[tactic(auto, unfolding(tg_packets::specs::Messages::read, tg_packets::specs::Messages::write, tg_packets::specs::Messages::fill, tg_packets::specs::Messages::copy, tg_packets::specs::Messages::has, tg_packets::specs::Messages::seal, tg_packets::specs::Messages::trim, tg_packets::specs::Messages::held, tg_packets::specs::Messages::taken, tg_packets::specs::Messages::unwritten, tg_packets::specs::Messages::gone, tg_packets::specs::Messages::fenced, tg_packets::specs::Messages::sealed, tg_packets::specs::Messages::missing, tg_packets::specs::Messages::whole, tg_packets::specs::Messages::prepare, tg_packets::specs::Messages::accept, tg_packets::specs::Messages::decided, tg_packets::specs::Messages::ask_latest, tg_packets::specs::Messages::promise, tg_packets::specs::Messages::nack, tg_packets::specs::Messages::accepted, tg_packets::specs::Messages::latest, tg_packets::specs::Messages::learn, tg_packets::specs::Messages::token, tg_packets::specs::Messages::check, tg_packets::specs::Messages::issued, tg_packets::specs::Messages::tail, tg_packets::specs::Messages::scanning, tg_packets::specs::Messages::old_epoch, tg_packets::specs::Messages::full))]
 fn size_fields(value: &Msg) -> usize
     requires { IsShort value.now }
     ensures len { result ≡ length ((from_table messages (tag_of value.now)).spell value.now) }
@@ -56,7 +56,7 @@ fn size_fields(value: &Msg) -> usize
 }
 
 /// The length of the spelling of a message behind its tag. It takes no memory.
-#[tactic(auto, unfolding(crate::specs::Messages::message))]
+#[tactic(auto, unfolding(tg_packets::specs::Messages::message))]
 pub fn size_message(value: &Msg) -> usize
     requires { IsShort value.now }
     ensures len { result ≡ length (message.spell value.now) }

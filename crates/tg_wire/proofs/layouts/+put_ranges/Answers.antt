@@ -2,7 +2,7 @@ use Rattle.std.proofs.Common.{◌++◌, ◌∙◌, ◌-◌, ap, sym, take, drop,
 use Rattle.tg_base.specs.declared.layout.Range.{Range}
 use Rattle.tg_codec.specs.Codec.{spell_many}
 use Rattle.tg_codec.proofs.Many.{glue}
-use Rattle.tg_wire.specs.Fields.{range, after_range}
+use Rattle.tg_packets.specs.Fields.{range, after_range}
 use Rattle.tg_wire.proofs.Splitting.{split_first, on_ok}
 use Rattle.tg_wire.proofs.layouts.+put_ranges.Goals as goal
 

@@ -2,7 +2,7 @@ use Rattle.std.proofs.Common.{◌≡◌, ◌-◌, ap, take, drop, length, List, 
 use Rattle.std.proofs.lemmas.List.{length-append}
 use Rattle.tg_base.specs.declared.layout.Range.{Range}
 use Rattle.tg_codec.specs.Codec.{spell_many}
-use Rattle.tg_wire.specs.Fields.{range, after_range}
+use Rattle.tg_packets.specs.Fields.{range, after_range}
 use Rattle.tg_wire.proofs.Splitting.{split_first}
 use Rattle.tg_wire.proofs.layouts.+size_ranges.Goals as goal
 

@@ -1,6 +1,6 @@
 use Rattle.std.proofs.Common.{arith}
 use Rattle.tg_codec.proofs.Shapes.{met_within}
-use Rattle.tg_wire.proofs.Building.{is_layout_of}
+use Rattle.tg_packets.proofs.Building.{is_layout_of}
 use Rattle.tg_wire.proofs.layouts.projection_in.Goals as goal
 
 pub invariant_of-layout : goal.invariant_of-layout

@@ -3,7 +3,7 @@ use Rattle.std.specs.Int.{w16, w64, to_be_bytes}
 use Rattle.tg_base.specs.Layouts.{Layout}
 use Rattle.tg_base.specs.declared.layout.Range.{Range}
 use Rattle.tg_codec.proofs.Many.{glue}
-use Rattle.tg_wire.specs.Fields.{gone, ranges, projection_of, projection}
+use Rattle.tg_packets.specs.Fields.{gone, ranges, projection_of, projection}
 use Rattle.tg_wire.proofs.Splitting.{on_ok}
 use Rattle.tg_wire.proofs.layouts.put_projection.Goals as goal
 

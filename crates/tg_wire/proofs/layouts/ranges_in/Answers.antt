@@ -1,6 +1,6 @@
 use Rattle.std.proofs.Common.{arith}
-use Rattle.tg_wire.proofs.Parts.{ranges_law}
-use Rattle.tg_wire.proofs.Building.{read_fits}
+use Rattle.tg_packets.proofs.Parts.{ranges_law}
+use Rattle.tg_packets.proofs.Building.{read_fits}
 use Rattle.tg_wire.proofs.layouts.ranges_in.Goals as goal
 
 pub returns-clause-fits : goal.returns-clause-fits

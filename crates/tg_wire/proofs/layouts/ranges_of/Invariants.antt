@@ -1,7 +1,7 @@
 use Rattle.std.proofs.Common.{◌≡◌, ◌-◌}
 use Rattle.tg_codec.specs.Codec.{read_many}
 use Rattle.tg_codec.proofs.Many.{with_front}
-use Rattle.tg_wire.specs.Fields.{range, after_range}
+use Rattle.tg_packets.specs.Fields.{range, after_range}
 use Rattle.tg_wire.proofs.layouts.ranges_of.Given as goal
 
 abbrev pub invariant-loop : goal.invariant-loop

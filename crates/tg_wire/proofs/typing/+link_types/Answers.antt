@@ -1,5 +1,5 @@
 use Rattle.std.proofs.Common.{subst, sym}
-use Rattle.tg_wire.specs.Types.{AreLong, AreTypedLinks}
+use Rattle.tg_packets.specs.Types.{AreLong, AreTypedLinks}
 use Rattle.tg_wire.proofs.Splitting.{split_first}
 use Rattle.tg_wire.proofs.typing.+link_types.Goals as goal
 

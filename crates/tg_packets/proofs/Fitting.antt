@@ -19,12 +19,12 @@ use Rattle.tg_codec.specs.Codec.{Codec, u8, u16, u64, fixed, dep, many, fit_many
 use Rattle.tg_codec.specs.Streams.{any, from_one, oids_from, oid, oid_number, before, position, then_before, zeros, backs, link, after_link, links}
 use Rattle.tg_codec.proofs.Laws.{and-left, and-right, both}
 use Rattle.tg_codec.proofs.Shapes.{met_within, dep_first, dep_second}
-use Rattle.tg_wire.specs.Fields.{page, cell_body, cell, object, after_object, objects, ballot, gone, ranges, projection_of, projection, Proposal, proposal, vote_body, vote}
-use Rattle.tg_wire.specs.Messages.{tag_of, read, write, fill, copy, has, seal, trim, taken, prepare, accept, decided, promise, latest, learn, token, check, issued, tail, messages, tags, message}
-use Rattle.tg_wire.specs.Packets.{node, packet}
-use Rattle.tg_wire.specs.Rules.{is_object, are_objects, is_falling, is_link, link_number, are_links, is_page, is_cell, is_vote, is_asked, is_message, fits}
-use Rattle.tg_wire.proofs.Building.{is_layout_of}
-use Rattle.tg_wire.proofs.Keeping.{or-first, or-second}
+use Rattle.tg_packets.specs.Fields.{page, cell_body, cell, object, after_object, objects, ballot, gone, ranges, projection_of, projection, Proposal, proposal, vote_body, vote}
+use Rattle.tg_packets.specs.Messages.{tag_of, read, write, fill, copy, has, seal, trim, taken, prepare, accept, decided, promise, latest, learn, token, check, issued, tail, messages, tags, message}
+use Rattle.tg_packets.specs.Packets.{node, packet}
+use Rattle.tg_packets.specs.Rules.{is_object, are_objects, is_falling, is_link, link_number, are_links, is_page, is_cell, is_vote, is_asked, is_message, fits}
+use Rattle.tg_packets.proofs.Building.{is_layout_of}
+use Rattle.tg_packets.proofs.Keeping.{or-first, or-second}
 
 asked : (n : ℕ) → (u64 from_one).fits n ≡ true → is_asked n ≡ true
 asked n e = let h = met_within 1 (2 ^ 64 - 1) n (and-left _ _ e) in le-leb 1 n h.0

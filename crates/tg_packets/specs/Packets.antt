@@ -7,7 +7,7 @@ use Rattle.tg_base.specs.declared.ids.NodeId.{NodeId}
 use Rattle.tg_base.specs.declared.packet.Packet.{Packet}
 use Rattle.tg_codec.specs.Codec.{Codec, u8, u16, u64, fixed, dep, via}
 use Rattle.tg_codec.specs.Streams.{any}
-use Rattle.tg_wire.specs.Messages.{message}
+use Rattle.tg_packets.specs.Messages.{message}
 
 -- the role that a number stands for: 0 a unit, 1 a layout server, 2 a sequencer, 3 a client
 abbrev pub role_of : ℕ → Role

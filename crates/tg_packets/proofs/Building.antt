@@ -14,7 +14,7 @@ use Rattle.tg_codec.specs.Owing.{points}
 use Rattle.tg_codec.specs.Streams.{any}
 use Rattle.tg_codec.proofs.Laws.{IsBytes, IsExact, and-left, and-right, both}
 use Rattle.tg_codec.proofs.Shapes.{met_within, dep_first, dep_second}
-use Rattle.tg_wire.specs.Fields.{gone_unit, after_gone, gone, below, chain_unit, after_unit, chain, stripe, after_stripe, stripes, range, after_range, ranges}
+use Rattle.tg_packets.specs.Fields.{gone_unit, after_gone, gone, below, chain_unit, after_unit, chain, stripe, after_stripe, stripes, range, after_range, ranges}
 
 -- what is read fits
 pub read_fits : {A Y : Type 0} {c : Codec A} → IsExact c → (bytes : List ℕ) (r : Result Y ReadFault) (view : Y → A × List ℕ) → IsBytes bytes → Gives view r (c.read bytes) → IfOk r (λ y. c.fits (view y).0 ≡ true)

@@ -6,7 +6,7 @@ use Rattle.tg_base.specs.declared.marks.StreamLink.{StreamLink}
 use Rattle.tg_base.specs.declared.msg.Msg.{Msg}
 use Rattle.tg_base.specs.declared.msg.Msg.TheVariants.{Read, Write, Fill, Copy, Has, Seal, Trim, Gone, Fenced, Sealed, Missing, Prepare, Accept, Decided, Promise, Nack, Accepted, Latest, Learn, Token, Check, Issued, Tail, Scanning, OldEpoch, Full}
 use Rattle.tg_base.specs.declared.packet.Packet.{Packet}
-use Rattle.tg_wire.specs.Fields.{Proposal}
+use Rattle.tg_packets.specs.Fields.{Proposal}
 
 -- a number of eight bytes
 abbrev pub IsLong : ℕ → Type 0

@@ -4,7 +4,7 @@ use Rattle.tg_base.specs.Layouts.{Layout}
 use Rattle.tg_base.specs.declared.layout.Range.{Range}
 use Rattle.tg_base.specs.declared.msg.Msg.{Msg}
 use Rattle.tg_base.specs.declared.msg.Msg.TheVariants.{Accept, Decided, Promise, Latest, Learn, Token, Check, Issued, Tail}
-use Rattle.tg_wire.specs.Fields.{Proposal}
+use Rattle.tg_packets.specs.Fields.{Proposal}
 
 abbrev pub AreShort : List Range → Type 0
 AreShort [] = Unit {0}

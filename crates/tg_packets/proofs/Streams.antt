@@ -11,10 +11,10 @@ use Rattle.tg_codec.specs.Reading.{meets}
 use Rattle.tg_codec.specs.Codec.{fit_many}
 use Rattle.tg_codec.specs.Streams.{oids_from, oid, oid_number, before, position, then_before, backs, link, after_link, links}
 use Rattle.tg_codec.proofs.Laws.{and-left, and-right, both}
-use Rattle.tg_wire.specs.Fields.{object, after_object, objects}
-use Rattle.tg_wire.specs.Rules.{is_object, are_objects, is_falling, is_link, link_number, are_links}
-use Rattle.tg_wire.specs.Types.{AreLong, AreTypedLinks}
-use Rattle.tg_wire.proofs.Keeping.{or-first, or-second, u8_fits, u64_fits}
+use Rattle.tg_packets.specs.Fields.{object, after_object, objects}
+use Rattle.tg_packets.specs.Rules.{is_object, are_objects, is_falling, is_link, link_number, are_links}
+use Rattle.tg_packets.specs.Types.{AreLong, AreTypedLinks}
+use Rattle.tg_packets.proofs.Keeping.{or-first, or-second, u8_fits, u64_fits}
 
 object-met : (low : ℕ) (o : Oid) → low ≤ o.0 → is_object o ≡ true → (meets (oids_from low) o.0 o.0 ≡ true) × (o.0 < 2 ^ 32)
 object-met low o le e =

@@ -8,7 +8,7 @@ use Rattle.tg_codec.proofs.Laws.{IsCodec, nothing_law, dep_law, via_law, variant
 use Rattle.tg_codec.proofs.Widths.{u16_law, u32_law, u64_law}
 use Rattle.tg_codec.proofs.Shapes.{counted_many_law, text_law, tagged_law, met_within}
 use Rattle.tg_codec.proofs.Objects.{oid_law}
-use Rattle.tg_wire.specs.Fields.{cell_tag, as_junk, as_data, cell_body, cell, object, after_object, objects, ballot, gone_unit, after_gone, gone, chain_unit, after_unit, chain, stripe, after_stripe, stripes, range, after_range, ranges, projection_of, projection, Proposal, vote_tag, as_none, as_some, vote_body, vote}
+use Rattle.tg_packets.specs.Fields.{cell_tag, as_junk, as_data, cell_body, cell, object, after_object, objects, ballot, gone_unit, after_gone, gone, chain_unit, after_unit, chain, stripe, after_stripe, stripes, range, after_range, ranges, projection_of, projection, Proposal, vote_tag, as_none, as_some, vote_body, vote}
 
 last_tag : (k : ℕ) → meets ((0, 1) ∷ []) (suc k) (suc k) ≡ true → 1 ≡ suc k
 last_tag k e = let h = met_within 0 1 (suc k) e in omega (arith, h.1)

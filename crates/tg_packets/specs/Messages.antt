@@ -9,7 +9,7 @@ use Rattle.tg_base.specs.declared.msg.Msg.{Msg}
 use Rattle.tg_base.specs.declared.msg.Msg.TheVariants.{Read, Write, Fill, Copy, Has, Seal, Trim, Held, Taken, Unwritten, Gone, Fenced, Sealed, Missing, Whole, Prepare, Accept, Decided, AskLatest, Promise, Nack, Accepted, Latest, Learn, Token, Check, Issued, Tail, Scanning, OldEpoch, Full}
 use Rattle.tg_codec.specs.Codec.{Codec, u64, dep, nothing, variant, tagged, from_table}
 use Rattle.tg_codec.specs.Streams.{any, from_one, links}
-use Rattle.tg_wire.specs.Fields.{page, cell, objects, ballot, projection, proposal, vote}
+use Rattle.tg_packets.specs.Fields.{page, cell, objects, ballot, projection, proposal, vote}
 
 abbrev pub tag_of : Msg → ℕ
 tag_of (Read x0 x1) = 0x01

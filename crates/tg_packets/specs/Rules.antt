@@ -11,7 +11,7 @@ use Rattle.tg_base.specs.declared.msg.Msg.{Msg}
 use Rattle.tg_base.specs.declared.msg.Msg.TheVariants.{Read, Write, Fill, Copy, Has, Seal, Trim, Taken, Prepare, Accept, Decided, Promise, Latest, Learn, Token, Check, Issued, Tail}
 use Rattle.tg_base.specs.declared.packet.Packet.{Packet}
 use Rattle.tg_codec.specs.Streams.{oid_number}
-use Rattle.tg_wire.specs.Fields.{Proposal}
+use Rattle.tg_packets.specs.Fields.{Proposal}
 
 -- an object's number: the directory's, 0, or the tag of another kind, 1 to 6, above an index of three bytes
 abbrev pub is_object : Oid → Bool

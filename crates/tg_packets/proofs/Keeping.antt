@@ -11,7 +11,7 @@ use Rattle.tg_codec.specs.Reading.{meets}
 use Rattle.tg_codec.specs.Codec.{u8, u16, u64, fit_many}
 use Rattle.tg_codec.specs.Owing.{points}
 use Rattle.tg_codec.proofs.Laws.{and-left, and-right, both}
-use Rattle.tg_wire.specs.Fields.{gone_unit, after_gone, gone, below, chain_unit, after_unit, chain, stripe, after_stripe, stripes, range, after_range, ranges, projection_of}
+use Rattle.tg_packets.specs.Fields.{gone_unit, after_gone, gone, below, chain_unit, after_unit, chain, stripe, after_stripe, stripes, range, after_range, ranges, projection_of}
 
 pub or-first : (a b : Bool) → a ≡ true → (a || b) ≡ true
 or-first a b e = rw e refl

@@ -7,8 +7,8 @@ use Rattle.tg_codec.specs.Codec.{u8}
 use Rattle.tg_codec.proofs.Laws.{IsCodec, and-left, fixed_law, dep_law, via_law}
 use Rattle.tg_codec.proofs.Widths.{u8_law, u16_law, u64_law}
 use Rattle.tg_codec.proofs.Shapes.{met_within}
-use Rattle.tg_wire.specs.Packets.{role_of, role, node, packet}
-use Rattle.tg_wire.proofs.Messages.{message_law}
+use Rattle.tg_packets.specs.Packets.{role_of, role, node, packet}
+use Rattle.tg_packets.proofs.Messages.{message_law}
 
 last_role : (k : ℕ) → (u8 ((0, 3) ∷ [])).fits (suc (suc (suc k))) ≡ true → 3 ≡ suc (suc (suc k))
 last_role k e = let h = met_within 0 3 (suc (suc (suc k))) (and-left _ _ e) in omega (arith, h.1)

@@ -16,13 +16,13 @@ use Rattle.tg_codec.specs.Reading.{meets}
 use Rattle.tg_codec.specs.Codec.{u8, u64, from_table}
 use Rattle.tg_codec.specs.Streams.{any, from_one}
 use Rattle.tg_codec.proofs.Laws.{and-left, and-right, both}
-use Rattle.tg_wire.specs.Fields.{page, cell, ballot, projection, Proposal, vote}
-use Rattle.tg_wire.specs.Messages.{tag_of, read, write, fill, copy, has, seal, trim, held, taken, unwritten, gone, fenced, sealed, missing, whole, prepare, accept, decided, ask_latest, promise, nack, accepted, latest, learn, token, check, issued, tail, scanning, old_epoch, full, messages, tags, message}
-use Rattle.tg_wire.specs.Packets.{role, node, packet}
-use Rattle.tg_wire.specs.Rules.{is_page, is_cell, is_vote, is_asked, is_message, fits}
-use Rattle.tg_wire.specs.Types.{IsLong, IsTypedBallot, IsTypedVote, IsTypedMessage, IsTyped}
-use Rattle.tg_wire.proofs.Keeping.{within_met, u16_fits, u64_fits, layout_fits}
-use Rattle.tg_wire.proofs.Streams.{objects_fit, links_fit}
+use Rattle.tg_packets.specs.Fields.{page, cell, ballot, projection, Proposal, vote}
+use Rattle.tg_packets.specs.Messages.{tag_of, read, write, fill, copy, has, seal, trim, held, taken, unwritten, gone, fenced, sealed, missing, whole, prepare, accept, decided, ask_latest, promise, nack, accepted, latest, learn, token, check, issued, tail, scanning, old_epoch, full, messages, tags, message}
+use Rattle.tg_packets.specs.Packets.{role, node, packet}
+use Rattle.tg_packets.specs.Rules.{is_page, is_cell, is_vote, is_asked, is_message, fits}
+use Rattle.tg_packets.specs.Types.{IsLong, IsTypedBallot, IsTypedVote, IsTypedMessage, IsTyped}
+use Rattle.tg_packets.proofs.Keeping.{within_met, u16_fits, u64_fits, layout_fits}
+use Rattle.tg_packets.proofs.Streams.{objects_fit, links_fit}
 
 long-fits : (n : ℕ) → IsLong n → (u64 any).fits n ≡ true
 long-fits n lt = u64_fits 0 (2 ^ 64 - 1) n (omega arith) (omega (arith, lt)) lt

@@ -1,0 +1,9 @@
+pub mod Parts
+pub mod Messages
+pub mod Packets
+pub mod Building
+pub mod Keeping
+pub mod Streams
+pub mod Ruled
+pub mod Fitting
+pub mod Counts
