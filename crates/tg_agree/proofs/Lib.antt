@@ -1,0 +1,8 @@
+pub mod Members
+pub mod Counts
+pub mod Ballots
+pub mod Facts
+pub mod Servers
+pub mod Proposers
+pub mod Contests
+pub mod Runs
