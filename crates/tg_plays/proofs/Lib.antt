@@ -1,0 +1,5 @@
+pub mod Joins
+pub mod Parts
+pub mod Kept
+pub mod Answers
+pub mod Saved
