@@ -1,2 +1,4 @@
 pub mod Loops
 pub mod Walks
+pub mod Rising
+pub mod Linking

@@ -1,22 +1,20 @@
 -- Nodes of a tree, one after the other.
-use Rattle.std.proofs.Common.{◌≡◌, ℕ, ◌<◌, ◌≤◌, Bool, true, false, cond, ◌||◌, List, [], ◌∷◌, ◌++◌, length, map, filter, Option, Some, None, refl, sym, ap, subst, ◌∙◌, append_assoc, append-nil, arith}
+use Rattle.std.proofs.Common.{◌≡◌, ℕ, ◌<◌, true, false, cond, List, [], ◌∷◌, ◌++◌, length, map, filter, Option, Some, None, refl, sym, ap, subst, ◌∙◌, append_assoc, append-nil, arith}
 use Rattle.std.specs.declared.cmp.Ordering.TheVariants.{Less, Equal, Greater}
 use Rattle.std.specs.declared.cmp.Ordering.{Ordering}
-use Rattle.std.specs.Prelude.{is_some}
 use Rattle.std.specs.Ordering.{is_lt, match_ordering}
 use Rattle.std.specs.Cmp.Lexicographic.{nat_list_cmp_total}
-use Rattle.std.specs.List.{list_any, All, AllByRecursion}
+use Rattle.std.specs.List.{All, AllByRecursion}
 use Rattle.std.specs.Map.{lookup, set_value, keys_of}
 use Rattle.std.proofs.lemmas.List.Elements.{recursion_from_All}
-use Rattle.std.specs.Map.Iter.{TakesFirst}
 use Rattle.std.specs.BTreeMap.{insert_entry}
 use Rattle.tg_codec.specs.Codec.{spell_many}
 use Rattle.tg_kind.specs.Words.{maybe}
 use Rattle.tg_kind.specs.Texts.{text_format}
-use Rattle.tg_tree.specs.Paths.{root, by_bytes, same, path_format, last_name, last_slash}
-use Rattle.tg_tree.specs.Orders.{stem, begins, is_within, within_begins, last_slash_within}
-use Rattle.tg_tree.specs.Growth.{Grown, first_node, other_nodes, next_rises, child_is_below, children_within, name_of, AllUpTo}
-use Rattle.tg_tree.specs.Trees.{Node, Nodes, is_child, has_child, node_format, after_node}
+use Rattle.tg_tree.specs.Paths.{by_bytes, same, path_format, last_name, last_slash}
+use Rattle.tg_tree.specs.Orders.{last_slash_within}
+use Rattle.tg_tree.specs.Growth.{Grown, first_node, other_nodes, next_rises, AllUpTo}
+use Rattle.tg_tree.specs.Trees.{Node, Nodes, is_child, node_format, after_node}
 
 pub last_within : (bytes : List ℕ) → 0 < length bytes → last_slash bytes < length bytes
 last_within [] lt = absurd (omega (arith, lt))
@@ -31,53 +29,10 @@ none_stored (n ∷ nodes) p t e =
       | false ↦ λ f. ap (λ (ms : Nodes). n ∷ ms) (none_stored nodes p t f)
     ] e
 
--- ---- ranges
-
-any_filtered : (test : Node → Bool) (nodes : Nodes) → (filter test nodes ≡ [] → list_any test nodes ≡ false)
-any_filtered test [] e = refl
-any_filtered test (n ∷ nodes) e =
-    elim (test n) as (λ b. cond b (n ∷ filter test nodes) (filter test nodes) ≡ [] → (b || list_any test nodes) ≡ false) [
-      | true ↦ λ f. absurd cc
-      | false ↦ λ f. any_filtered test nodes f
-    ] e
-
-some_filtered : (test : Node → Bool) (nodes : Nodes) (x : Node) (rest : Nodes) → filter test nodes ≡ x ∷ rest → list_any test nodes ≡ true
-some_filtered test [] x rest e = absurd cc
-some_filtered test (n ∷ nodes) x rest e =
-    elim (test n) as (λ b. cond b (n ∷ filter test nodes) (filter test nodes) ≡ x ∷ rest → (b || list_any test nodes) ≡ true) [
-      | true ↦ λ f. refl
-      | false ↦ λ f. some_filtered test nodes x rest f
-    ] e
-
--- whether a range has a first path
-pub any_first : {A : Type 0} (shows : A → Node) (test : Node → Bool) (nodes r t : Nodes) (o : Option A) → r ≡ filter test nodes → TakesFirst shows r o t → is_some o ≡ list_any test nodes
-any_first shows test nodes r t None is step = sym (any_filtered test nodes (sym is ∙ step.0))
-any_first shows test nodes r t (Some x) is step = sym (some_filtered test nodes (shows x) t (sym is ∙ step))
-
-same_any : (f g : Node → Bool) (nodes : Nodes) → ((n : Node) → f n ≡ g n) → list_any f nodes ≡ list_any g nodes
-same_any f g [] h = refl
-same_any f g (n ∷ nodes) h = ap (λ b. b || list_any f nodes) (h n) ∙ ap (λ b. g n || b) (same_any f g nodes h)
-
--- whether anything lies below a path other than the root
-pub any_below : (p : List ℕ) (nodes : Nodes) → 1 ≤ length p → same root p ≡ false → Grown [] nodes → list_any (λ (n : Node). is_within (stem p) n.0) nodes ≡ has_child nodes p
-any_below p nodes le other e =
-    let is : stem p ≡ p = ap (λ c. cond c [] p) other in
-    ap (λ (s : List ℕ). list_any (λ (n : Node). is_within s n.0) nodes) is ∙ same_any (λ n. is_within p n.0) (λ n. begins (p ++ 47 ∷ []) n.0) nodes (λ n. within_begins p n.0) ∙ sym (child_is_below p [] nodes le other refl e)
-
 -- ---- children
 
 abbrev pub kids : List ℕ → Nodes → List (List ℕ)
 kids p nodes = map (λ (n : Node). last_name n.0) (filter (λ (n : Node). is_child p n.0) nodes)
-
-kids_cons : (p : List ℕ) (n : Node) (nodes : Nodes) → kids p (n ∷ nodes) ≡ name_of p n.0 ++ kids p nodes
-kids_cons p n nodes = elim (is_child p n.0) as (λ b. map (λ (m : Node). last_name m.0) (cond b (n ∷ filter (λ (m : Node). is_child p m.0) nodes) (filter (λ (m : Node). is_child p m.0) nodes)) ≡ cond b (last_name n.0 ∷ []) [] ++ kids p nodes) [ true ↦ refl | false ↦ refl ]
-
-pub kids_more : (p : List ℕ) (n : Node) (nodes : Nodes) (names new total : List (List ℕ)) → new ≡ names ++ name_of p n.0 → names ++ kids p (n ∷ nodes) ≡ total → new ++ kids p nodes ≡ total
-kids_more p n nodes names new total e so_far =
-    ap (λ (l : List (List ℕ)). l ++ kids p nodes) e ∙ append_assoc names (name_of p n.0) (kids p nodes) ∙ ap (λ (l : List (List ℕ)). names ++ l) (sym (kids_cons p n nodes)) ∙ so_far
-
-pub kids_within : (p : List ℕ) (nodes r : Nodes) → r ≡ filter (λ (n : Node). is_within (stem p) n.0) nodes → Grown [] nodes → kids p r ≡ kids p nodes
-kids_within p nodes r is e = ap (kids p) is ∙ ap (λ (ms : Nodes). map (λ (n : Node). last_name n.0) ms) (children_within p [] nodes e)
 
 -- ---- bytes
 

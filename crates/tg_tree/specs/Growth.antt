@@ -1,5 +1,5 @@
 -- Nodes that stand behind their parents, as ops change them.
-use Rattle.std.specs.Prelude.{◌≡◌, ℕ, suc, ◌-◌, Bool, slice_get, true, false, ◌&&◌, ◌||◌, not, List, [], ◌∷◌, ◌++◌, length, filter, ◌≤◌, Option, Some, is_some, refl}
+use Rattle.std.specs.Prelude.{◌≡◌, ℕ, suc, ◌-◌, Bool, slice_get, true, false, ◌&&◌, ◌||◌, not, List, [], ◌∷◌, ◌++◌, length, Option, Some, is_some, refl}
 use Rattle.std.specs.declared.cmp.Ordering.{Ordering}
 use Rattle.std.specs.declared.cmp.Ordering.TheVariants.{Less, Equal, Greater}
 use Rattle.std.specs.Ordering.{is_lt, is_eq, match_ordering}
@@ -8,7 +8,6 @@ use Rattle.std.specs.List.{list_any}
 use Rattle.std.specs.Map.{lookup, set_value, remove_entry}
 use Rattle.std.specs.BTreeMap.{insert_entry}
 use Rattle.std.proofs.Common.{arith, ap, sym, subst, cond, ◌∙◌, ◌⊎◌, inl, inr}
-use Rattle.std.proofs.lemmas.List.{length-append}
 use Rattle.tg_codec.specs.Codec.{fit_many}
 use Rattle.tg_codec.proofs.Laws.{and-left, and-right, both}
 use Rattle.tg_kind.specs.Words.{maybe}
@@ -16,7 +15,7 @@ use Rattle.tg_kind.specs.Texts.{text_format}
 use Rattle.tg_tree.specs.Paths.{root, by_bytes, same, IsPath, parent, last_name}
 use Rattle.tg_tree.specs.PathLaws.{path_starts}
 use Rattle.tg_tree.specs.Trees.{Node, Nodes, is_there, is_child, has_child, is_next, node_format, after_node}
-use Rattle.tg_tree.specs.Orders.{same_is, same_itself, begins, begins_split, below, stem, child_below, is_within, within_begins, below_parts, parent_less}
+use Rattle.tg_tree.specs.Orders.{same_is, same_itself, parent_less}
 
 abbrev pub Grown : List (List ℕ) → Nodes → Type 0
 Grown before nodes = fit_many node_format after_node (length nodes) before nodes ≡ true
@@ -288,79 +287,6 @@ removed_grown x before (n ∷ nodes) other none e =
       | false ↦ λ b. grown_more before n (remove_entry (same x) nodes) (first_node before n nodes e) (removed_grown x (n.0 ∷ before) nodes other (nor_right _ _ none) (other_nodes before n nodes e))
     ] refl
 
--- ---- children, among what lies below
-
-below_stem : (p : List ℕ) → below p ≡ stem p ++ 47 ∷ []
-below_stem p = elim (same root p) as (λ b. cond b root (p ++ 47 ∷ []) ≡ cond b [] p ++ 47 ∷ []) [ true ↦ refl | false ↦ refl ]
-
-not_child : (p q : List ℕ) → IsPath q → begins (stem p ++ 47 ∷ []) q ≡ false → is_child p q ≡ false
-not_child p q is none =
-    elim (is_child p q) as (λ b. is_child p q ≡ b → is_child p q ≡ false) [
-      | true ↦ λ b. let lies = subst (λ (x : List ℕ). begins x q ≡ true) (below_stem p) (child_below p q is b) in not_both (begins (stem p ++ 47 ∷ []) q) lies none
-      | false ↦ λ b. b
-    ] refl
-
-any_begins : (x a : List ℕ) (s : List (List ℕ)) → begins x a ≡ true → list_any (same a) s ≡ true → list_any (begins x) s ≡ true
-any_begins x a [] e h = absurd cc
-any_begins x a (y ∷ s) e h =
-    elim (same a y) as (λ b. same a y ≡ b → list_any (begins x) (y ∷ s) ≡ true) [
-      | true ↦ λ b. or_left _ _ (subst (λ (z : List ℕ). begins x z ≡ true) (same_is a y b) e)
-      | false ↦ λ b. or_right (begins x y) _ (any_begins x a s e (or_rest _ _ b h))
-    ] refl
-
-longer : (x q : List ℕ) → begins x q ≡ true → length x ≤ length q
-longer x q e = let t = begins_split x q e in omega (arith, ap length t.1, length-append x t.0)
-
-not_root : (p q : List ℕ) → 1 ≤ length p → begins (p ++ 47 ∷ []) q ≡ true → same root q ≡ false
-not_root p q le e =
-    elim (same root q) as (λ b. same root q ≡ b → same root q ≡ false) [
-      | true ↦ λ b. let is : root ≡ q = same_is root q b in absurd (omega (arith, ap length is, longer (p ++ 47 ∷ []) q e, length-append p (47 ∷ []), le))
-      | false ↦ λ b. b
-    ] refl
-
-is_child_of : (p q : List ℕ) → same root q ≡ false → parent q ≡ p → is_child p q ≡ true
-is_child_of p q other is = both _ _ (not_false _ other) (subst (λ (x : List ℕ). same p x ≡ true) (sym is) (same_itself p))
-
--- the first path that lies below another is its child
-first_below : (p : List ℕ) (before : List (List ℕ)) (n : Node) → 1 ≤ length p → list_any (begins (p ++ 47 ∷ [])) before ≡ false → IsNode before n → begins (p ++ 47 ∷ []) n.0 ≡ true → is_child p n.0 ≡ true
-first_below p [] n le none i e = not_both (same root n.0) i.next (not_root p n.0 le e)
-first_below p (q ∷ before) n le none i e =
-    elim (below_parts p n.0 le e) [
-      | inl is ↦ is_child_of p n.0 (not_root p n.0 le e) is
-      | inr lies ↦ not_both (list_any (begins (p ++ 47 ∷ [])) (q ∷ before)) (any_begins (p ++ 47 ∷ []) (parent n.0) (q ∷ before) lies (next_parent q before n.0 i.next)) none
-    ]
-
--- a path other than the root has a child where any path lies below it
-pub child_is_below : (p : List ℕ) (before : List (List ℕ)) (nodes : Nodes) → 1 ≤ length p → same root p ≡ false → list_any (begins (p ++ 47 ∷ [])) before ≡ false → Grown before nodes
-    → has_child nodes p ≡ list_any (λ (n : Node). begins (p ++ 47 ∷ []) n.0) nodes
-child_is_below p before [] le other none e = refl
-child_is_below p before (n ∷ nodes) le other none e =
-    let i = first_node before n nodes e in
-    elim (begins (p ++ 47 ∷ []) n.0) as (λ b. begins (p ++ 47 ∷ []) n.0 ≡ b → (is_child p n.0 || has_child nodes p) ≡ (b || list_any (λ (m : Node). begins (p ++ 47 ∷ []) m.0) nodes)) [
-      | true ↦ λ b. or_left _ _ (first_below p before n le none i b)
-      | false ↦ λ b.
-          let stem_is : stem p ≡ p = ap (λ c. cond c [] p) other in
-          let apart : is_child p n.0 ≡ false = not_child p n.0 i.path (subst (λ (x : List ℕ). begins (x ++ 47 ∷ []) n.0 ≡ false) (sym stem_is) b) in
-          let rest = child_is_below p (n.0 ∷ before) nodes le other (nor _ _ b none) (other_nodes before n nodes e) in
-          ap (λ c. c || has_child nodes p) apart ∙ rest
-    ] refl
-
--- a path's children are among what lies below it
-pub children_within : (p : List ℕ) (before : List (List ℕ)) (nodes : Nodes) → Grown before nodes
-    → filter (λ (n : Node). is_child p n.0) (filter (λ (n : Node). is_within (stem p) n.0) nodes) ≡ filter (λ (n : Node). is_child p n.0) nodes
-children_within p before [] e = refl
-children_within p before (n ∷ nodes) e =
-    let i = first_node before n nodes e in
-    let rest = children_within p (n.0 ∷ before) nodes (other_nodes before n nodes e) in
-    let kids = λ (ms : Nodes). filter (λ (m : Node). is_child p m.0) ms in
-    let among = filter (λ (m : Node). is_within (stem p) m.0) nodes in
-    elim (is_within (stem p) n.0) as (λ b. is_within (stem p) n.0 ≡ b → kids (cond b (n ∷ among) among) ≡ cond (is_child p n.0) (n ∷ kids nodes) (kids nodes)) [
-      | true ↦ λ b. ap (λ (ms : Nodes). cond (is_child p n.0) (n ∷ ms) ms) rest
-      | false ↦ λ b.
-          let apart : is_child p n.0 ≡ false = not_child p n.0 i.path (sym (within_begins (stem p) n.0) ∙ b) in
-          rest ∙ sym (ap (λ c. cond c (n ∷ kids nodes) (kids nodes)) apart)
-    ] refl
-
 -- all paths are paths
 abbrev pub ArePaths : Nodes → Type 0
 ArePaths [] = Unit {0}
@@ -369,10 +295,6 @@ ArePaths (n ∷ nodes) = IsPath n.0 × ArePaths nodes
 pub are_paths : (before : List (List ℕ)) (nodes : Nodes) → Grown before nodes → ArePaths nodes
 are_paths before [] e = tt
 are_paths before (n ∷ nodes) e = ((first_node before n nodes e).path, are_paths (n.0 ∷ before) nodes (other_nodes before n nodes e))
-
-pub paths_among : (test : Node → Bool) (nodes : Nodes) → ArePaths nodes → ArePaths (filter test nodes)
-paths_among test [] h = tt
-paths_among test (n ∷ nodes) h = elim (test n) as (λ b. ArePaths (cond b (n ∷ filter test nodes) (filter test nodes))) [ true ↦ (h.0, paths_among test nodes h.1) | false ↦ paths_among test nodes h.1 ]
 
 -- the last name of a path, where it is a child of another
 abbrev pub name_of : List ℕ → List ℕ → List (List ℕ)

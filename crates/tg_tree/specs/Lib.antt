@@ -4,3 +4,4 @@ pub mod Trees
 pub mod Orders
 pub mod Growth
 pub mod TreeLaws
+pub mod Links

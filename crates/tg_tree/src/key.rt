@@ -3,14 +3,15 @@
 ghost use Rattle.std.specs.Prelude.{◌≡◌, ◌++◌, ◌∷◌, ◌<◌, [], true, length, IfOk};
 ghost use Rattle.std.specs.declared.option.Option.TheVariants.{Some};
 ghost use Rattle.std.specs.Cmp.Lexicographic.{pointwise, slice_cmp, nat_list_eq_equiv, nat_list_cmp_total, texts_ties, texts_po};
+ghost use Rattle.std.specs.Cmp.Rules.{hashing};
 ghost use Rattle.std.specs.Ordering.{nat_cmp, is_lt};
 ghost use Rattle.std.specs.Prelude.{nat_eq, refl};
 ghost use Rattle.tg_tree.specs.Paths.{root, by_bytes, same, parent, last_slash, last_name};
-ghost use Rattle.tg_tree.specs.Orders.{stem};
 
 use crate::path::Path;
 use std::alloc::Global;
 use std::cmp::Ordering;
+use std::hash::{Hash, Hasher};
 use std::marker::Model;
 use tg_base::NoMemory;
 
@@ -42,6 +43,18 @@ impl PartialEq for Key {
 
 impl Eq for Key {
     ghost laws = { nat_list_eq_equiv };
+}
+
+impl Hash for Key {
+    ghost use Rattle.std.proofs.Common.{rules};
+
+    ghost hash_input = { λ k. k ∷ [] };
+
+    ghost respects_eq = { Prim.search (hashing, rules) };
+
+    fn hash<H: Hasher>(&self, state: &mut H) {
+        state.write(self.bytes.as_slice());
+    }
 }
 
 impl PartialOrd for Key {
@@ -168,26 +181,5 @@ impl Key {
         ensures { result ≡ same self.now bytes.now }
     {
         self.bytes.as_slice().cmp(bytes) == Ordering::Equal
-    }
-
-    /// A path's bytes but for the root's slash. It takes no memory.
-    pub fn stem(self) -> Key
-        ensures { result ≡ stem self }
-    {
-        if self.is_root() {
-            let mut bytes = self.bytes;
-            bytes.clear();
-            return Key { bytes };
-        }
-        self
-    }
-
-    /// The bytes and one more. An `Err` is want of memory.
-    pub fn with(self, byte: u8) -> Result<Key, NoMemory>
-        ensures { IfOk result (λ k. k ≡ self ++ byte ∷ []) }
-    {
-        let mut bytes = self.bytes;
-        bytes.push(byte)?;
-        Ok(Key { bytes })
     }
 }

@@ -2,8 +2,10 @@
 #![tactic(auto)]
 
 mod key;
+mod linked;
 mod nodes;
 mod path;
+mod path_map;
 mod tree;
 
 pub use path::Path;

@@ -11,8 +11,9 @@ ghost use Rattle.tg_tree.specs.Growth.{Grown, ArePaths};
 ghost use Rattle.tg_tree.specs.Trees.{is_object, is_state, is_of, first, applied, answered, touched, looked, saved, loaded, state_format, nodes_format, op_format, path_and_text};
 ghost use Rattle.tg_tree.specs.declared.tree.TreeOp.TheVariants.{Create, Store, Delete};
 
+use crate::linked::Nodes;
 use crate::nodes::{
-    Nodes, children, copied, created, deleted, fresh, has, nodes_in, put_nodes, stored, text_at,
+    children, copied, created, deleted, fresh, has, nodes_in, planted, put_nodes, stored, text_at,
 };
 use crate::path::{Path, path_in, put_path};
 use std::alloc::Global;
@@ -42,13 +43,13 @@ pub struct Tree {
 
 impl Model for Tree {
     ghost use Rattle.std.specs.Prelude.{◌≡◌, true};
-    ghost use Rattle.tg_tree.specs.Trees.{Nodes, state_format};
+    ghost use Rattle.tg_tree.specs.Trees.{Nodes as Shown, state_format};
 
-    ghost Value = { Nodes };
+    ghost Value = { Shown };
 
-    ghost view = { λ t. t.nodes.entries };
+    ghost view = { λ t. t.nodes };
 
-    ghost invariant = { λ t. state_format.fits t.nodes.entries ≡ true };
+    ghost invariant = { λ t. state_format.fits t.nodes ≡ true };
 }
 
 /// What changes a tree.
@@ -85,7 +86,8 @@ fn tree_in(alloc: Global, bytes: &[u8]) -> Result<(Tree, &[u8]), ReadFault>
     ensures { Gives (λ x. (x.0, x.1.now)) result (state_format.read bytes.now) }
 {
     let ((), rest) = fixed(&[TAG], bytes)?;
-    let (nodes, rest) = nodes_in(alloc, rest)?;
+    let (ordered, rest) = nodes_in(alloc, rest)?;
+    let nodes = planted(alloc, ordered)?;
     Ok((Tree { alloc, nodes }, rest))
 }
 
@@ -182,7 +184,7 @@ impl Kind for Tree {
         match op {
             TreeOp::Create { path, text } => {
                 let (_path, _text) = (path.as_str(), text.as_str());
-                let nodes = created(nodes, path, text)?;
+                let nodes = created(alloc, nodes, path, text)?;
                 Ok(Tree { alloc, nodes })
             }
             TreeOp::Store { path, text } => {
@@ -191,7 +193,7 @@ impl Kind for Tree {
                 Ok(Tree { alloc, nodes })
             }
             TreeOp::Delete { path } => {
-                let nodes = deleted(nodes, path)?;
+                let nodes = deleted(alloc, nodes, path)?;
                 Ok(Tree { alloc, nodes })
             }
         }
@@ -232,7 +234,7 @@ impl Kind for Tree {
     fn save(&self, alloc: Global) -> Result<List<u8>, NoMemory> {
         let mut bytes = List::new(alloc);
         bytes.push(TAG)?;
-        put_nodes(&self.nodes, &mut bytes)?;
+        put_nodes(alloc, &self.nodes, &mut bytes)?;
         Ok(bytes)
     }
 

@@ -6,14 +6,14 @@ use Rattle.tg_tree.proofs.tree.TreeKind.apply.Goals as goal
 pub invariant_of-result : goal.invariant_of-result
 invariant_of-result c =
     subst (λ (ms : Nodes). state_format.fits ms ≡ true) (sym c.in_ok-nodes-in-Create.ensures)
-    (created_is c.self.inside.nodes.entries c.in-Create.path c.in-Create.text c.self.invariant c.as_str-path.ensures.known c.as_str-text.ensures.known)
+    (created_is c.self.inside.nodes c.in-Create.path c.in-Create.text c.self.invariant c.as_str-path.ensures.known c.as_str-text.ensures.known)
 
 pub invariant_of-result-in-Store : goal.invariant_of-result-in-Store
 invariant_of-result-in-Store c =
     subst (λ (ms : Nodes). state_format.fits ms ≡ true) (sym c.in_ok-nodes-in-Store.ensures)
-    (stored_is c.self.inside.nodes.entries c.in-Store.path c.in-Store.text c.self.invariant c.as_str-text-in-Store.ensures.known)
+    (stored_is c.self.inside.nodes c.in-Store.path c.in-Store.text c.self.invariant c.as_str-text-in-Store.ensures.known)
 
 pub invariant_of-result-in-Delete : goal.invariant_of-result-in-Delete
 invariant_of-result-in-Delete c =
     subst (λ (ms : Nodes). state_format.fits ms ≡ true) (sym c.in_ok-nodes-in-Delete.ensures)
-    (deleted_is c.self.inside.nodes.entries c.in-Delete.path c.self.invariant)
+    (deleted_is c.self.inside.nodes c.in-Delete.path c.self.invariant)
