@@ -50,4 +50,4 @@ pub got : (t : Turned) (n : ℕ) (a b : Place) (k m : ℕ) → a ≡ b → k ≡
     shown get_end t n ≡ by_rules cell_asks k (get_cell a k) → shown get_end t n ≡ by_rules cell_asks m (get_cell b m)
 got t n a b k m p q e =
     subst (λ (x : ℕ). shown get_end t n ≡ by_rules cell_asks x (get_cell b x)) q
-      (subst (λ (x : Place). shown get_end t n ≡ by_rules cell_asks k (get_cell x k)) p e)
+    (subst (λ (x : Place). shown get_end t n ≡ by_rules cell_asks k (get_cell x k)) p e)

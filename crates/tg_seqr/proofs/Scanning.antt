@@ -169,8 +169,8 @@ from_end : (s : SeqrState) (x : GetCellEnd) (outs : List Out) (n k : ℕ) (to : 
 from_end s x outs n k to left drawn en et =
     let ek : k ≡ s.rids = subst (λ (t : Next CellJob CellEnd). drawn_then s.rids k t) (sym et) drawn in
     subst (λ (t : Next CellJob CellEnd). Fed s (End x outs) n (sends_new s (scan_next (record s { rids = k }) t))) et
-      (subst (λ (m : ℕ). Fed s (End x outs) n (sends_new s (scan_next (record s { rids = m }) (Ends (get_end x))))) (sym ek)
-        (subst (λ (m : ℕ). Fed s (End x outs) m (sends_new s (scan_next s (Ends (get_end x))))) (sym (en ∙ ek)) (end_is s x outs left)))
+    (subst (λ (m : ℕ). Fed s (End x outs) n (sends_new s (scan_next (record s { rids = m }) (Ends (get_end x))))) (sym ek)
+    (subst (λ (m : ℕ). Fed s (End x outs) m (sends_new s (scan_next s (Ends (get_end x))))) (sym (en ∙ ek)) (end_is s x outs left)))
 
 from_turn : (s : SeqrState) (t : Turned) (n k g : ℕ) (bs : List Out) (to : Next CellJob CellEnd) → nat_lt s.next s.proj.start ≡ true → bs ≡ [] → next_drawn k to ≡ true → drawn_then s.rids k to →
     shown get_end t n ≡ by_rules cell_asks s.rids (turn_of k bs g to) →

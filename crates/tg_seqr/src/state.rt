@@ -13,7 +13,10 @@ use crate::page::streams_of;
 use crate::streams::Streams;
 use std::alloc::Global;
 use std::marker::Model;
-use tg_base::{Cell, Chain, Epoch, List, Msg, NoMemory, NodeId, Oid, Out, Pos, Projection, Rids, StreamLink, Turn};
+use tg_base::{
+    Cell, Chain, Epoch, List, Msg, NoMemory, NodeId, Oid, Out, Pos, Projection, Rids, StreamLink,
+    Turn,
+};
 use tg_chain::{GetCell, GetCellEnd};
 use tg_proj::chain_of;
 
@@ -307,12 +310,7 @@ impl State {
     }
 
     /// Its own layout is told once more.
-    fn tell(
-        self,
-        alloc: Global,
-        from: NodeId,
-        rid: u64,
-    ) -> Result<(State, List<Out>), NoMemory>
+    fn tell(self, alloc: Global, from: NodeId, rid: u64) -> Result<(State, List<Out>), NoMemory>
         ensures now { IfOk result (λ r. r.0 ≡ (unfenced self.fence self from rid (answers self from rid (stand_answer self [] (scanning self)))).now) }
         ensures sends { IfOk result (λ r. r.1 ≡ (unfenced self.fence self from rid (answers self from rid (stand_answer self [] (scanning self)))).sends) }
         ensures drawn { IfOk result (λ r. r.0.rids ≡ self.rids) }

@@ -90,11 +90,7 @@ impl Streams {
 }
 
 /// Puts the last positions of the streams of these objects last.
-fn put_links(
-    streams: &Streams,
-    oids: &[Oid],
-    links: &mut List<StreamLink>,
-) -> Result<(), NoMemory>
+fn put_links(streams: &Streams, oids: &[Oid], links: &mut List<StreamLink>) -> Result<(), NoMemory>
     ensures { OnOk result (links.new ≡ links.old ++ links_of streams.now oids.now) }
 {
     match oids {

@@ -9,13 +9,13 @@ use Rattle.tg_seqr.proofs.streams.Streams.positions.Goals as goal
 pub returns-in-None : goal.returns-in-None
 returns-in-None c =
     subst (λ (o : Option (List ℕ)). IfSome o (λ b. b ≡ [])) c.unwrap.ensures c.of.ensures.positions
-      ∙ ap (λ (o : Option (List ℕ)). unwrap_or o []) c.in-None.ensures.value
-      ∙ backs_kept c.self.inside.backs.entries c.args.oid
-      ∙ ap (λ (ls : List StreamLink). (link_or_new c.args.oid (link_of c.args.oid ls)).backs) c.self.view_is
+    ∙ ap (λ (o : Option (List ℕ)). unwrap_or o []) c.in-None.ensures.value
+    ∙ backs_kept c.self.inside.backs.entries c.args.oid
+    ∙ ap (λ (ls : List StreamLink). (link_or_new c.args.oid (link_of c.args.oid ls)).backs) c.self.view_is
 
 pub returns-in-Some : goal.returns-in-Some
 returns-in-Some c =
     c.copy.ensures
-      ∙ ap (λ (o : Option (List ℕ)). unwrap_or o []) c.in-Some.ensures.value
-      ∙ backs_kept c.self.inside.backs.entries c.args.oid
-      ∙ ap (λ (ls : List StreamLink). (link_or_new c.args.oid (link_of c.args.oid ls)).backs) c.self.view_is
+    ∙ ap (λ (o : Option (List ℕ)). unwrap_or o []) c.in-Some.ensures.value
+    ∙ backs_kept c.self.inside.backs.entries c.args.oid
+    ∙ ap (λ (ls : List StreamLink). (link_or_new c.args.oid (link_of c.args.oid ls)).backs) c.self.view_is
