@@ -1,12 +1,12 @@
 -- The request for the next position's cell.
-use Rattle.std.proofs.Common.{◌≡◌, ℕ, ◌+◌, ◌<◌, ◌&&◌, Bool, true, false, List, [], ◌∷◌, Option, Some, None, length, refl, arith, subst, sym, ap, ◌∙◌}
-use Rattle.std.specs.Prelude.{nat_lt, IsTrue}
+use Rattle.std.proofs.Common.{◌≡◌, ℕ, ◌+◌, ◌<◌, ◌&&◌, Bool, true, List, length, refl, arith, subst, sym, ap}
+use Rattle.std.specs.Prelude.{nat_lt}
 use Rattle.tg_base.specs.Units.{is_chain}
 use Rattle.tg_base.specs.declared.turn.Turn.TheVariants.{More, End}
 use Rattle.tg_chain.specs.Ends.{get_end}
 use Rattle.tg_chain.specs.Turns.{Shown, shown, by_rules}
 use Rattle.tg_protocol.specs.Cells.{Place, CellJob, CellEnd, Gets, cell_asks, work_asks, works, get_cell, place_in}
-use Rattle.tg_protocol.specs.Requests.{Next, Goes, Learns, Ends, drawn_from}
+use Rattle.tg_protocol.specs.Requests.{Goes, Ends, drawn_from}
 use Rattle.tg_protocol.specs.Sequencers.{SeqrState, scan_on, seqr_asks, job_of}
 use Rattle.tg_seqr.specs.Scans.{all_drawn, is_scan, Turned, next_of, outs_of}
 use Rattle.tg_seqr.proofs.Scanning.{given, drawn_same}

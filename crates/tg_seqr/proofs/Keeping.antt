@@ -1,13 +1,12 @@
 -- Streams by object, and the list that the rules keep of them.
-use Rattle.std.proofs.Common.{◌≡◌, ℕ, ◌==◌, Bool, true, false, List, [], ◌∷◌, ◌++◌, take, map, Option, Some, None, refl, ap, sym, ◌∙◌, arith}
+use Rattle.std.proofs.Common.{◌≡◌, ℕ, List, [], ◌∷◌, take, refl, arith}
 use Rattle.std.specs.Prelude.{nat_eq, unwrap_or}
 use Rattle.std.specs.Map.{lookup}
 use Rattle.indexmap.specs.IndexMap.{insert_entry}
 use Rattle.tg_base.specs.declared.ids.Oid.{Oid}
 use Rattle.tg_base.specs.declared.marks.StreamLink.{StreamLink}
-use Rattle.tg_protocol.specs.Words.{oid_eq}
 use Rattle.tg_protocol.specs.Entries.{link_of}
-use Rattle.tg_protocol.specs.Sequencers.{link_or_new, links_of, with_position}
+use Rattle.tg_protocol.specs.Sequencers.{link_or_new, with_position}
 use Rattle.tg_seqr.specs.Kept.{links_kept}
 
 -- a link is of the object that was looked for

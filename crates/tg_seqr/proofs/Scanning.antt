@@ -1,5 +1,5 @@
 -- What a turn of the scan's cell makes of a sequencer.
-use Rattle.std.proofs.Common.{◌≡◌, ℕ, ◌+◌, ◌&&◌, Bool, true, false, List, [], ◌∷◌, ◌++◌, Option, Some, None, refl, arith, subst, sym, ap, ◌∙◌}
+use Rattle.std.proofs.Common.{◌≡◌, ℕ, ◌+◌, ◌&&◌, Bool, true, false, List, [], ◌∷◌, Option, Some, None, refl, arith, subst, sym, ap, ◌∙◌}
 use Rattle.std.specs.Prelude.{nat_lt, min}
 use Rattle.tg_base.specs.declared.cell.Cell.{Cell}
 use Rattle.tg_base.specs.declared.ids.NodeId.{NodeId}
@@ -7,7 +7,7 @@ use Rattle.tg_base.specs.declared.msg.Msg.{Msg}
 use Rattle.tg_base.specs.declared.packet.Out.{Out}
 use Rattle.tg_base.specs.declared.turn.Turn.TheVariants.{More, End}
 use Rattle.tg_chain.specs.Ends.{get_end}
-use Rattle.tg_chain.specs.Turns.{needs_memory, Shown, shown, by_rules, fed, fed_if, drawn_between, new_asks}
+use Rattle.tg_chain.specs.Turns.{needs_memory, Shown, shown, by_rules, fed, fed_if, drawn_between}
 use Rattle.tg_chain.specs.declared.ends.GetCellEnd.{GetCellEnd}
 use Rattle.tg_chain.specs.declared.ends.GetCellEnd.TheVariants as get
 use Rattle.tg_protocol.specs.Cells.{Place, CellJob, CellWork, Puts, Gets, Fills, Copies, Probes, CellEnd, Done, Fenced, Gone, CellTurn, cell_asks, work_asks, works, end_if, probe_on, cell_feed, work_feed, fill_cell}
@@ -16,7 +16,7 @@ use Rattle.tg_protocol.specs.Replies.{Reply, reply, IsHeld, IsTaken, IsUnwritten
 use Rattle.tg_protocol.specs.Words.{unit_id}
 use Rattle.tg_protocol.specs.Sequencers.{SeqrState, SeqrTurn, scan_fed, scan_turn, scan_next, scan_ended, scanning, seqr_asks, sends_new, with_positions, cell_streams}
 use Rattle.tg_protocol.specs.Sequencers as rules
-use Rattle.tg_seqr.specs.Scans.{all_drawn, is_scan, Turned, next_of, outs_of, fits, turn_sends, is_last, is_quiet, moves_scan}
+use Rattle.tg_seqr.specs.Scans.{all_drawn, is_scan, Turned, next_of, fits, turn_sends, is_quiet, moves_scan}
 
 -- The numbers that a cell's machine draws.
 

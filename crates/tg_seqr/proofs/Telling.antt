@@ -1,5 +1,5 @@
 -- What the answers of a sequencer tell.
-use Rattle.std.proofs.Common.{◌≡◌, ◌⊎◌, inl, inr, ℕ, ◌+◌, ◌<◌, ◌≤◌, Bool, true, false, not, ◌||◌, ◌==◌, nat_lt, nat_le, List, [], ◌∷◌, Option, Some, None, refl, arith}
+use Rattle.std.proofs.Common.{◌≡◌, inl, inr, ℕ, ◌<◌, ◌≤◌, Bool, true, false, not, ◌||◌, ◌==◌, nat_lt, nat_le, List, [], ◌∷◌, Option, Some, None, refl, arith}
 use Rattle.std.proofs.lemmas.Bool.Decides.{nat_tests}
 use Rattle.tg_base.specs.Layouts.{Layout}
 use Rattle.tg_base.specs.declared.ids.NodeId.{NodeId}
@@ -10,11 +10,11 @@ use Rattle.tg_base.specs.declared.msg.Msg.TheVariants as msg
 use Rattle.tg_base.specs.declared.packet.Out.{Out}
 use Rattle.tg_protocol.specs.Cells.{Place, CellJob, CellWork, Puts, Gets, Fills, Copies, Probes, cell_asks, work_asks}
 use Rattle.tg_protocol.specs.Replies.{reply}
-use Rattle.tg_protocol.specs.Requests.{out, Waits, asked_of, awaits, drawn_from, Turn}
+use Rattle.tg_protocol.specs.Requests.{Waits, asked_of, awaits, drawn_from}
 use Rattle.tg_protocol.specs.Words.{unit_id}
 use Rattle.tg_protocol.specs.Cells.{cell_feed}
-use Rattle.tg_protocol.specs.Sequencers.{SeqrState, SeqrTurn, seqr_step, seqr_asks, scan_asks, scanning, scan_fed, fed_if, scan_turn, sends_new, answers, begun, stand_answer, links_of, learns, issue, on_token, unfenced, own_epoch, on_learn, learn_or_old}
-use Rattle.tg_seqr.specs.Laws.{IsScanning, IsReady, IsTrueOf, AreTrueOf, AnswersAreTrue}
+use Rattle.tg_protocol.specs.Sequencers.{SeqrState, SeqrTurn, seqr_step, scan_asks, scanning, scan_fed, fed_if, scan_turn, begun, stand_answer, links_of, issue, on_token, unfenced, own_epoch, on_learn, learn_or_old}
+use Rattle.tg_seqr.specs.Laws.{IsReady, IsTrueOf, AreTrueOf, AnswersAreTrue}
 
 abbrev IsTrueTurn : SeqrTurn → Type 0
 IsTrueTurn t = AreTrueOf t.now t.sends

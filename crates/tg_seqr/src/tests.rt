@@ -4,7 +4,7 @@ use super::*;
 use std::alloc::Global;
 use std::test::Fail;
 use tg_base::{
-    Blob, Cell, Chain, List, Msg, NodeId, Oid, Out, Projection, Range, Role, StreamLink,
+    Blob, Cell, Chain, List, Msg, NoMemory, NodeId, Oid, Out, Projection, Range, Role, StreamLink,
 };
 
 /// A commit record of the stream `ctr0`: head, link, body.
@@ -169,228 +169,229 @@ fn in_short(out: &Out) -> Said {
     }
 }
 
-/// The first two messages.
-fn said(outs: &[Out]) -> (Said, Said) {
+fn first_of(outs: &[Out]) -> Said {
     match outs {
-        [] => (Said::Nothing, Said::Nothing),
-        [one] => (in_short(one), Said::Nothing),
-        [one, two, ..] => (in_short(one), in_short(two)),
+        [] => Said::Nothing,
+        [out, ..] => in_short(out),
     }
 }
 
-/// A step, and the messages that are sent: at most two.
-fn step(
-    seqr: Seqr,
-    alloc: Global,
-    from: NodeId,
-    rid: u64,
-    msg: &Msg,
-) -> Result<(Seqr, Said, Said), Fail> {
-    if seqr.calls() >= 100 {
-        return Err("too many steps".into());
+/// What reaches a sequencer: a request of client 0, an answer of a unit, or a tick.
+#[derive(Clone, Copy)]
+enum Event {
+    Learn { epoch: u64, seq: u16, start: u64 },
+    Token { epoch: u64 },
+    Check { epoch: u64 },
+    Page { unit: u16, rid: u64 },
+    Stray { unit: u16, rid: u64 },
+    Unwritten { unit: u16, rid: u64 },
+    Held { unit: u16, rid: u64 },
+    Gone { unit: u16, rid: u64, below: u64 },
+    Fenced { unit: u16, rid: u64, epoch: u64 },
+    Tick,
+}
+
+fn client(msg: Msg) -> (Role, u16, u64, Msg) {
+    (Role::Client, 0, 7, msg)
+}
+
+/// The sender, the number and the message. A layout of epoch 0 is taken for one of epoch 1.
+fn packet(alloc: Global, event: Event) -> Result<Option<(Role, u16, u64, Msg)>, Fail> {
+    match event {
+        Event::Learn { epoch, seq, start } => {
+            let msg = learn(alloc, epoch.max(1), seq, start)?;
+            Ok(Some(client(msg)))
+        }
+        Event::Token { epoch } => Ok(Some(client(token(alloc, epoch)?))),
+        Event::Check { epoch } => Ok(Some(client(check(alloc, epoch)?))),
+        Event::Page { unit, rid } => Ok(Some((Role::Unit, unit, rid, taken(alloc, &PAGE)?))),
+        Event::Stray { unit, rid } => Ok(Some((Role::Unit, unit, rid, taken(alloc, &[0])?))),
+        Event::Unwritten { unit, rid } => Ok(Some((Role::Unit, unit, rid, Msg::Unwritten))),
+        Event::Held { unit, rid } => Ok(Some((Role::Unit, unit, rid, Msg::Held))),
+        Event::Gone { unit, rid, below } => Ok(Some((Role::Unit, unit, rid, Msg::Gone { below }))),
+        Event::Fenced { unit, rid, epoch } => {
+            Ok(Some((Role::Unit, unit, rid, Msg::Fenced { epoch })))
+        }
+        Event::Tick => Ok(None),
     }
-    match seqr.step(alloc, from, rid, msg) {
+}
+
+/// The sequencer after a step, and the first message that it sends.
+fn turn(end: Result<(Seqr, List<Out>), NoMemory>) -> Result<(Seqr, Said), Fail> {
+    match end {
         Ok((seqr, outs)) => {
-            let (one, two) = said(outs.as_slice());
-            Ok((seqr, one, two))
+            let said = first_of(outs.as_slice());
+            Ok((seqr, said))
         }
         Err(_) => Err("memory".into()),
     }
 }
 
-/// A request of client 0.
-fn ask(seqr: Seqr, alloc: Global, msg: Msg) -> Result<(Seqr, Said), Fail> {
-    let client = NodeId {
-        role: Role::Client,
-        num: 0,
-    };
-    let (seqr, one, _) = step(seqr, alloc, client, 7, &msg)?;
-    Ok((seqr, one))
-}
-
-/// An answer of a unit.
-fn answer(seqr: Seqr, alloc: Global, num: u16, rid: u64, msg: Msg) -> Result<(Seqr, Said), Fail> {
-    let unit = NodeId {
-        role: Role::Unit,
-        num,
-    };
-    let (seqr, one, _) = step(seqr, alloc, unit, rid, &msg)?;
-    Ok((seqr, one))
-}
-
-fn tick(seqr: Seqr, alloc: Global) -> Result<(Seqr, Said), Fail> {
+fn act(seqr: Seqr, alloc: Global, event: Event) -> Result<(Seqr, Said), Fail> {
     if seqr.calls() >= 100 {
         return Err("too many steps".into());
     }
-    match seqr.tick(alloc) {
-        Ok((seqr, outs)) => {
-            let (one, _) = said(outs.as_slice());
-            Ok((seqr, one))
-        }
-        Err(_) => Err("memory".into()),
+    match packet(alloc, event)? {
+        None => turn(seqr.tick(alloc)),
+        Some((role, num, rid, msg)) => turn(seqr.step(alloc, NodeId { role, num }, rid, &msg)),
     }
 }
 
-fn first(alloc: Global, num: u16) -> Result<Seqr, Fail> {
+/// What is sent on the last of these events.
+fn run(seqr: Seqr, alloc: Global, events: &[Event]) -> Result<Said, Fail> {
+    match events {
+        [] => Ok(Said::Nothing),
+        [event] => {
+            let (_, said) = act(seqr, alloc, *event)?;
+            Ok(said)
+        }
+        [event, others @ ..] => {
+            let (seqr, _) = act(seqr, alloc, *event)?;
+            run(seqr, alloc, others)
+        }
+    }
+}
+
+/// Likewise of a new sequencer, whose log has room for 6 positions. The first layout names sequencer 0.
+fn sends(alloc: Global, num: u16, events: &[Event]) -> Result<Said, Fail> {
     let proj = layout(alloc, 1, 0, 0)?;
-    Ok(Seqr::new(alloc, num, 6, proj))
-}
-
-/// Sequencer 1, which is told the layout of epoch 2 with so much to scan.
-fn told(alloc: Global, start: u64) -> Result<Seqr, Fail> {
-    let msg = learn(alloc, 2, 1, start)?;
-    let (seqr, _) = ask(first(alloc, 1)?, alloc, msg)?;
-    Ok(seqr)
-}
-
-/// After three tokens.
-fn issued(seqr: Seqr, alloc: Global) -> Result<Seqr, Fail> {
-    let (seqr, _) = ask(seqr, alloc, token(alloc, 1)?)?;
-    let (seqr, _) = ask(seqr, alloc, token(alloc, 1)?)?;
-    let (seqr, _) = ask(seqr, alloc, token(alloc, 1)?)?;
-    Ok(seqr)
+    run(Seqr::new(alloc, num, 6, proj), alloc, events)
 }
 
 #[test]
 fn positions_rise_and_four_are_kept(rt: HostRuntime) -> Result<(), Fail> {
-    let alloc = rt.alloc();
-    let (seqr, one) = ask(first(alloc, 0)?, alloc, token(alloc, 1)?)?;
-    let issued_first = Said::Issued {
-        pos: 0,
-        backs: 0,
-        oldest: 0,
-    };
-    assert!(rt; one == issued_first);
-    let (seqr, one) = ask(issued(seqr, alloc)?, alloc, token(alloc, 1)?)?;
-    let issued_fifth = Said::Issued {
-        pos: 4,
-        backs: 4,
-        oldest: 0,
-    };
-    assert!(rt; one == issued_fifth);
-    let (_, one) = ask(seqr, alloc, check(alloc, 1)?)?;
-    let tail = Said::Tail {
-        tail: 5,
+    let token = Event::Token { epoch: 1 };
+    let said = sends(rt.alloc(), 0, &[token, token, token, token, token, token])?;
+    let issued = Said::Issued {
+        pos: 5,
         backs: 4,
         oldest: 1,
     };
-    assert!(rt; one == tail);
+    assert!(rt; said == issued);
     Ok(())
 }
 
 #[test]
 fn a_log_may_be_full(rt: HostRuntime) -> Result<(), Fail> {
-    let alloc = rt.alloc();
-    let seqr = issued(issued(first(alloc, 0)?, alloc)?, alloc)?;
-    let (_, one) = ask(seqr, alloc, token(alloc, 1)?)?;
-    assert!(rt; one == Said::Full { limit: 6 });
+    let token = Event::Token { epoch: 1 };
+    let said = sends(
+        rt.alloc(),
+        0,
+        &[token, token, token, token, token, token, token],
+    )?;
+    assert!(rt; said == Said::Full { limit: 6 });
     Ok(())
 }
 
 #[test]
-fn other_epochs_are_refused(rt: HostRuntime) -> Result<(), Fail> {
-    let alloc = rt.alloc();
-    let (seqr, one) = ask(first(alloc, 1)?, alloc, token(alloc, 1)?)?;
-    assert!(rt; one == Said::OldEpoch { epoch: 0 });
-    let (seqr, one) = ask(seqr, alloc, learn(alloc, 2, 1, 0)?)?;
+fn an_empty_log_is_ready_at_once(rt: HostRuntime) -> Result<(), Fail> {
+    let learn = Event::Learn {
+        epoch: 2,
+        seq: 1,
+        start: 0,
+    };
+    let said = sends(rt.alloc(), 1, &[learn])?;
     let tail = Said::Tail {
         tail: 0,
         backs: 0,
         oldest: 0,
     };
-    assert!(rt; one == tail);
-    let (seqr, one) = ask(seqr, alloc, check(alloc, 1)?)?;
-    assert!(rt; one == Said::OldEpoch { epoch: 2 });
-    let (seqr, one) = ask(seqr, alloc, learn(alloc, 3, 0, 0)?)?;
-    assert!(rt; one == Said::OldEpoch { epoch: 2 });
-    assert!(rt; seqr.calls() == 4);
+    assert!(rt; said == tail);
+    Ok(())
+}
+
+#[test]
+fn other_epochs_are_refused(rt: HostRuntime) -> Result<(), Fail> {
+    let learn = Event::Learn {
+        epoch: 2,
+        seq: 1,
+        start: 0,
+    };
+    let said = sends(rt.alloc(), 1, &[learn, Event::Check { epoch: 1 }])?;
+    assert!(rt; said == Said::OldEpoch { epoch: 2 });
     Ok(())
 }
 
 #[test]
 fn a_half_written_page_is_carried_down(rt: HostRuntime) -> Result<(), Fail> {
-    let alloc = rt.alloc();
-    let (seqr, one) = answer(told(alloc, 1)?, alloc, 1, 1, Msg::Unwritten)?;
-    let fill = Said::Fill {
-        unit: 0,
-        rid: 2,
-        pos: 0,
+    let learn = Event::Learn {
+        epoch: 2,
+        seq: 1,
+        start: 1,
     };
-    assert!(rt; one == fill);
-    let (seqr, one) = answer(seqr, alloc, 0, 2, taken(alloc, &PAGE)?)?;
-    let copy = Said::Copy {
-        unit: 1,
-        rid: 3,
-        pos: 0,
-    };
-    assert!(rt; one == copy);
-    let (seqr, one) = answer(seqr, alloc, 1, 3, Msg::Held)?;
-    assert!(rt; one == Said::Nothing);
-    let (_, one) = ask(seqr, alloc, token(alloc, 2)?)?;
+    let events = [
+        learn,
+        Event::Unwritten { unit: 1, rid: 1 },
+        Event::Page { unit: 0, rid: 2 },
+        Event::Held { unit: 1, rid: 3 },
+        Event::Token { epoch: 2 },
+    ];
+    let said = sends(rt.alloc(), 1, &events)?;
     let issued = Said::Issued {
         pos: 1,
         backs: 1,
         oldest: 0,
     };
-    assert!(rt; one == issued);
+    assert!(rt; said == issued);
     Ok(())
 }
 
 #[test]
-fn a_scan_tells_how_far_it_is(rt: HostRuntime) -> Result<(), Fail> {
-    let alloc = rt.alloc();
-    let (seqr, one) = ask(first(alloc, 1)?, alloc, learn(alloc, 2, 1, 3)?)?;
-    assert!(rt; one == Said::Scanning { next: 0, start: 3 });
-    let (seqr, one) = answer(seqr, alloc, 1, 1, taken(alloc, &[0])?)?;
+fn each_position_is_settled(rt: HostRuntime) -> Result<(), Fail> {
+    let learn = Event::Learn {
+        epoch: 2,
+        seq: 1,
+        start: 4,
+    };
+    let events = [
+        learn,
+        Event::Page { unit: 1, rid: 1 },
+        Event::Stray { unit: 1, rid: 2 },
+        Event::Unwritten { unit: 1, rid: 3 },
+        Event::Held { unit: 0, rid: 4 },
+        Event::Held { unit: 1, rid: 5 },
+        Event::Tick,
+    ];
+    let said = sends(rt.alloc(), 1, &events)?;
     let read = Said::Read {
         unit: 1,
-        rid: 2,
-        pos: 1,
+        rid: 6,
+        pos: 3,
     };
-    assert!(rt; one == read);
-    let (seqr, one) = tick(seqr, alloc)?;
-    assert!(rt; one == read);
-    let (_, one) = ask(seqr, alloc, token(alloc, 2)?)?;
-    assert!(rt; one == Said::Scanning { next: 1, start: 3 });
+    assert!(rt; said == read);
     Ok(())
 }
 
 #[test]
 fn a_trim_moves_the_scan(rt: HostRuntime) -> Result<(), Fail> {
-    let alloc = rt.alloc();
-    let (seqr, one) = answer(told(alloc, 4)?, alloc, 1, 1, Msg::Gone { below: 3 })?;
-    let read = Said::Read {
+    let learn = Event::Learn {
+        epoch: 2,
+        seq: 1,
+        start: 4,
+    };
+    let gone = Event::Gone {
         unit: 1,
-        rid: 2,
-        pos: 3,
+        rid: 1,
+        below: 3,
     };
-    assert!(rt; one == read);
-    let (seqr, one) = answer(seqr, alloc, 1, 2, Msg::Gone { below: 9 })?;
-    assert!(rt; one == Said::Nothing);
-    let (_, one) = ask(seqr, alloc, token(alloc, 2)?)?;
-    let issued = Said::Issued {
-        pos: 4,
-        backs: 0,
-        oldest: 0,
-    };
-    assert!(rt; one == issued);
+    let said = sends(rt.alloc(), 1, &[learn, gone, Event::Token { epoch: 2 }])?;
+    assert!(rt; said == Said::Scanning { next: 3, start: 4 });
     Ok(())
 }
 
 #[test]
 fn a_fence_ends_the_scan(rt: HostRuntime) -> Result<(), Fail> {
-    let alloc = rt.alloc();
-    let (seqr, one) = answer(told(alloc, 4)?, alloc, 1, 1, Msg::Fenced { epoch: 3 })?;
-    assert!(rt; one == Said::Nothing);
-    let (seqr, one) = ask(seqr, alloc, learn(alloc, 2, 1, 4)?)?;
-    assert!(rt; one == Said::OldEpoch { epoch: 3 });
-    let (seqr, _) = ask(seqr, alloc, learn(alloc, 3, 1, 0)?)?;
-    let (_, one) = ask(seqr, alloc, token(alloc, 3)?)?;
-    let issued = Said::Issued {
-        pos: 0,
-        backs: 0,
-        oldest: 0,
+    let learn = Event::Learn {
+        epoch: 2,
+        seq: 1,
+        start: 4,
     };
-    assert!(rt; one == issued);
+    let fenced = Event::Fenced {
+        unit: 1,
+        rid: 1,
+        epoch: 3,
+    };
+    let said = sends(rt.alloc(), 1, &[learn, fenced, learn])?;
+    assert!(rt; said == Said::OldEpoch { epoch: 3 });
     Ok(())
 }
