@@ -1,0 +1,5 @@
+mod Keeping
+mod Refusing
+mod Scanning
+mod Asking
+mod Telling
