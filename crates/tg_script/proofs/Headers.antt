@@ -56,6 +56,12 @@ fields_of s =
     codes "units" ∷ decimal s.units ∷ codes "layouts" ∷ decimal s.layouts ∷ codes "seqs" ∷ decimal s.seqs
     ∷ codes "clients" ∷ decimal s.clients ∷ codes "limit" ∷ decimal s.limit ∷ []
 
+-- what stands after each number, with nothing after the last
+fields_joined : (a b c d e f : List (List ℕ)) (units layouts seqs clients limit : ℕ) → a ≡ codes "units" ∷ decimal units ∷ b → b ≡ codes "layouts" ∷ decimal layouts ∷ c → c ≡ codes "seqs" ∷ decimal seqs ∷ d
+    → d ≡ codes "clients" ∷ decimal clients ∷ e → e ≡ codes "limit" ∷ decimal limit ∷ f → f ≡ []
+    → a ≡ fields_of (record { units = units; layouts = layouts; seqs = seqs; clients = clients; limit = limit })
+fields_joined a b c d e f units layouts seqs clients limit g h i j k l = rw (g, h, i, j, k, l) refl
+
 after-takes : (words : List (List ℕ)) (s : Sizes) → sizes_after words ≡ Some s → (words ≡ fields_of s) × (are_sizes s ≡ true)
 unfolding sizes_after
 after-takes words s e =
@@ -65,12 +71,9 @@ after-takes words s e =
     let c = bind_takes _ _ _ q.2 in
     let m = bind_takes _ _ _ c.2 in
     let d = if_takes _ _ s m.2 in
-    let last = field_takes (codes "limit") c.0.1 m.0 m.1 ∙ ap (λ (t : List (List ℕ)). codes "limit" ∷ decimal m.0.0 ∷ t) (nothing_left m.0.1 (and-left _ _ d.0)) in
-    let fourth = field_takes (codes "clients") q.0.1 c.0 c.1 ∙ ap (λ (t : List (List ℕ)). codes "clients" ∷ decimal c.0.0 ∷ t) last in
-    let third = field_takes (codes "seqs") l.0.1 q.0 q.1 ∙ ap (λ (t : List (List ℕ)). codes "seqs" ∷ decimal q.0.0 ∷ t) fourth in
-    let second = field_takes (codes "layouts") u.0.1 l.0 l.1 ∙ ap (λ (t : List (List ℕ)). codes "layouts" ∷ decimal l.0.0 ∷ t) third in
-    let first = field_takes (codes "units") words u.0 u.1 ∙ ap (λ (t : List (List ℕ)). codes "units" ∷ decimal u.0.0 ∷ t) second in
-    subst (λ (s : Sizes). (words ≡ fields_of s) × (are_sizes s ≡ true)) (some_is _ _ d.1) (first, and-right _ _ d.0)
+    subst (λ (s : Sizes). (words ≡ fields_of s) × (are_sizes s ≡ true)) (some_is _ _ d.1)
+    (fields_joined words u.0.1 l.0.1 q.0.1 c.0.1 m.0.1 u.0.0 l.0.0 q.0.0 c.0.0 m.0.0 (field_takes (codes "units") words u.0 u.1) (field_takes (codes "layouts") u.0.1 l.0 l.1)
+    (field_takes (codes "seqs") l.0.1 q.0 q.1) (field_takes (codes "clients") q.0.1 c.0 c.1) (field_takes (codes "limit") c.0.1 m.0 m.1) (nothing_left m.0.1 (and-left _ _ d.0)), and-right _ _ d.0)
 
 -- numbers within a header's limits are of 64 bits
 pub record AreSmall (s : Sizes) : Type 0 where

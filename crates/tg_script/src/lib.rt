@@ -18,4 +18,6 @@ pub use line::{Line, MAX_LINE, parse_line};
 pub use line_text::print_line;
 
 #[cfg(test)]
+mod header_tests;
+#[cfg(test)]
 mod tests;
