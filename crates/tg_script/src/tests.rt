@@ -1,5 +1,3 @@
-ghost use Rattle.std.specs.Prelude.{◌≤◌, length};
-
 use super::*;
 use std::alloc::Global;
 use std::test::Fail;
