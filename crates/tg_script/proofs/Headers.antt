@@ -71,9 +71,11 @@ after-takes words s e =
     let c = bind_takes _ _ _ q.2 in
     let m = bind_takes _ _ _ c.2 in
     let d = if_takes _ _ s m.2 in
-    subst (λ (s : Sizes). (words ≡ fields_of s) × (are_sizes s ≡ true)) (some_is _ _ d.1)
-    (fields_joined words u.0.1 l.0.1 q.0.1 c.0.1 m.0.1 u.0.0 l.0.0 q.0.0 c.0.0 m.0.0 (field_takes (codes "units") words u.0 u.1) (field_takes (codes "layouts") u.0.1 l.0 l.1)
-    (field_takes (codes "seqs") l.0.1 q.0 q.1) (field_takes (codes "clients") q.0.1 c.0 c.1) (field_takes (codes "limit") c.0.1 m.0 m.1) (nothing_left m.0.1 (and-left _ _ d.0)), and-right _ _ d.0)
+    subst (λ (s : Sizes). (words ≡ fields_of s) × (are_sizes s ≡ true)) (some_is _ _ d.1) (
+      fields_joined words u.0.1 l.0.1 q.0.1 c.0.1 m.0.1 u.0.0 l.0.0 q.0.0 c.0.0 m.0.0 (field_takes (codes "units") words u.0 u.1) (field_takes (codes "layouts") u.0.1 l.0 l.1)
+          (field_takes (codes "seqs") l.0.1 q.0 q.1) (field_takes (codes "clients") q.0.1 c.0 c.1) (field_takes (codes "limit") c.0.1 m.0 m.1) (nothing_left m.0.1 (and-left _ _ d.0)),
+      and-right _ _ d.0,
+    )
 
 -- numbers within a header's limits are of 64 bits
 pub record AreSmall (s : Sizes) : Type 0 where

@@ -100,7 +100,10 @@ fn a_header_declares_a_cluster(rt: HostRuntime) -> Result<(), Fail> {
     assert_eq!(rt; cluster.seqs, 2);
     assert_eq!(rt; cluster.clients, 1);
     assert_eq!(rt; cluster.limit, 50);
-    assert_eq!(rt; cluster.objects.as_slice(), [Oid(0x0300_0007), Oid(0x0600_0000)].as_slice());
+    assert_eq!(rt;
+        cluster.objects.as_slice(),
+        [Oid(0x0300_0007), Oid(0x0600_0000)].as_slice()
+    );
     match cluster.chains.as_slice() {
         [first, second] => {
             assert_eq!(rt; first.as_slice(), [1, 0].as_slice());
