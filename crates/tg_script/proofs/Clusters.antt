@@ -1,12 +1,12 @@
 -- The lines of headers: a header is read from its own lines alone, and the first line outside is the first that isn't read.
-use Rattle.std.proofs.Common.{◌≡◌, ℕ, zero, suc, ◌<◌, ◌≤◌, ◌^◌, Bool, true, false, not, ◌&&◌, eqb, ltb, List, [], ◌∷◌, ◌++◌, length, map, take, Option, Some, None, sym, refl, subst, ap, ◌∙◌, arith}
+use Rattle.std.proofs.Common.{◌≡◌, ℕ, zero, suc, ◌<◌, ◌≤◌, ◌^◌, Bool, true, not, ◌&&◌, eqb, ltb, List, [], ◌∷◌, ◌++◌, length, take, Option, Some, None, sym, refl, subst, ap, ◌∙◌, arith}
 use Rattle.std.specs.List.{list_all, concat}
 use Rattle.std.proofs.lemmas.Bool.{lt-ltb}
 use Rattle.std.proofs.lemmas.Bool.Decides.{nat_tests}
 use Rattle.std.proofs.lemmas.List.Folds.{list_all-append}
 use Rattle.tg_base.specs.declared.ids.Oid.{Oid}
-use Rattle.tg_base.specs.Units.{is_within, is_distinct, is_chain}
-use Rattle.tg_base.specs.Clusters.{Header, IsHeader, is_header, are_chains, are_objects, is_user_object}
+use Rattle.tg_base.specs.Units.{is_within, is_chain}
+use Rattle.tg_base.specs.Clusters.{Header, IsHeader, are_chains, are_objects, is_user_object}
 use Rattle.tg_codec.proofs.Laws.{and-left, and-right, both}
 use Rattle.tg_any.specs.Names.{is_named}
 use Rattle.tg_any.proofs.Fronts.{some_is}
@@ -16,7 +16,7 @@ use Rattle.tg_script.specs.declared.header.Sizes.{Sizes}
 use Rattle.tg_script.specs.Headers.{are_sizes, sizes, stripes, objects, sizes_of, header_lines, IsFront, IsFirstOutside, sizes_in, stripes_in, objects_in}
 use Rattle.tg_script.proofs.Parts.{not_empty}
 use Rattle.tg_script.proofs.Lines.{line_takes, line_again}
-use Rattle.tg_script.proofs.Headers.{AreSmall, sizes_small, sizes_law, sizes_plain, stripes_law, stripes_plain, objects_law, objects_plain}
+use Rattle.tg_script.proofs.Headers.{sizes_small, sizes_law, sizes_plain, stripes_law, stripes_plain, objects_law, objects_plain}
 
 -- The chains of a header, and the chains that are read.
 

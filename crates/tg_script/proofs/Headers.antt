@@ -1,5 +1,5 @@
 -- What is read of a header's lines is what they spell, and nothing else.
-use Rattle.std.proofs.Common.{◌≡◌, ℕ, ◌<◌, ◌≤◌, ◌%◌, ◌^◌, Bool, true, false, ◌&&◌, cond, eqb, List, [], ◌∷◌, ◌++◌, length, map, Option, Some, None, sym, refl, subst, ap, ◌∙◌, arith, codes}
+use Rattle.std.proofs.Common.{◌≡◌, ℕ, ◌<◌, ◌≤◌, ◌%◌, ◌^◌, Bool, true, false, cond, eqb, List, [], ◌∷◌, length, Option, Some, refl, subst, arith, codes}
 use Rattle.std.specs.List.{list_all}
 use Rattle.std.specs.Str.{bytes_eq}
 use Rattle.std.specs.Fmt.{decimal}
@@ -12,14 +12,13 @@ use Rattle.tg_base.specs.Clusters.{is_odd_to_seven, are_objects}
 use Rattle.tg_codec.proofs.Laws.{and-left, and-right, both}
 use Rattle.tg_kind.specs.Parts.{tag_of}
 use Rattle.tg_any.specs.Names.{kind_name}
-use Rattle.tg_any.specs.Words.{one, object}
+use Rattle.tg_any.specs.Words.{object}
 use Rattle.tg_any.proofs.Numbers.{bind_takes, number_in_takes, number_in_again}
 use Rattle.tg_any.proofs.Fronts.{some_is, bind_again, if_takes, if_again}
-use Rattle.tg_any.proofs.Words.{IsWord, IsPhrase, one_law, object_law}
+use Rattle.tg_any.proofs.Words.{IsPhrase, one_law, object_law}
 use Rattle.tg_script.specs.Nodes.{chains}
-use Rattle.tg_script.specs.Parts.{many}
 use Rattle.tg_script.specs.declared.header.Sizes.{Sizes}
-use Rattle.tg_script.specs.Headers.{are_sizes, sizes_words, field_at, sizes_if, sizes_after, sizes_read, sizes, stripes_read, stripes, objects_read, objects}
+use Rattle.tg_script.specs.Headers.{are_sizes, sizes_words, field_at, sizes_after, sizes_read, sizes, stripes_read, stripes, objects_read, objects}
 use Rattle.tg_script.proofs.Bytes.{is_graphic, digit_is_graphic, decimal_passes, all_append, Passes, each_passes}
 use Rattle.tg_script.proofs.NodeWords.{chains_law, chains_graphic}
 use Rattle.tg_script.proofs.Lines.{IsPlain, many_law}
