@@ -1,12 +1,12 @@
 -- The lines of headers: a header is read from its own lines alone, and the first line outside is the first that isn't read.
-use Rattle.std.proofs.Common.{◌≡◌, ℕ, zero, suc, ◌<◌, ◌≤◌, ◌^◌, Bool, true, false, not, ◌&&◌, eqb, ltb, List, [], ◌∷◌, ◌++◌, length, map, take, Option, Some, None, sym, refl, subst, ap, ◌∙◌, arith}
+use Rattle.std.proofs.Common.{◌≡◌, ℕ, zero, suc, ◌<◌, ◌≤◌, ◌^◌, Bool, true, not, ◌&&◌, eqb, ltb, List, [], ◌∷◌, ◌++◌, length, take, Option, Some, None, sym, refl, subst, ap, ◌∙◌, arith}
 use Rattle.std.specs.List.{list_all, concat}
 use Rattle.std.proofs.lemmas.Bool.{lt-ltb}
 use Rattle.std.proofs.lemmas.Bool.Decides.{nat_tests}
 use Rattle.std.proofs.lemmas.List.Folds.{list_all-append}
 use Rattle.tg_base.specs.declared.ids.Oid.{Oid}
-use Rattle.tg_base.specs.Units.{is_within, is_distinct, is_chain}
-use Rattle.tg_base.specs.Clusters.{Header, IsHeader, is_header, are_chains, are_objects, is_user_object}
+use Rattle.tg_base.specs.Units.{is_within, is_chain}
+use Rattle.tg_base.specs.Clusters.{Header, IsHeader, are_chains, are_objects, is_user_object}
 use Rattle.tg_codec.proofs.Laws.{and-left, and-right, both}
 use Rattle.tg_any.specs.Names.{is_named}
 use Rattle.tg_any.proofs.Fronts.{some_is}
@@ -16,7 +16,7 @@ use Rattle.tg_script.specs.declared.header.Sizes.{Sizes}
 use Rattle.tg_script.specs.Headers.{are_sizes, sizes, stripes, objects, sizes_of, header_lines, IsFront, IsFirstOutside, sizes_in, stripes_in, objects_in}
 use Rattle.tg_script.proofs.Parts.{not_empty}
 use Rattle.tg_script.proofs.Lines.{line_takes, line_again}
-use Rattle.tg_script.proofs.Headers.{AreSmall, sizes_small, sizes_law, sizes_plain, stripes_law, stripes_plain, objects_law, objects_plain}
+use Rattle.tg_script.proofs.Headers.{sizes_small, sizes_law, sizes_plain, stripes_law, stripes_plain, objects_law, objects_plain}
 
 -- The chains of a header, and the chains that are read.
 
@@ -54,7 +54,7 @@ some_chain : (cs : List (List ℕ)) → is_within 1 8 (length cs) ≡ true → n
 some_chain [] e = absurd cc
 some_chain (c ∷ cs) e = not_empty c cs
 
-chains_fit : (units : ℕ) (cs : List (List ℕ)) → are_chains units cs ≡ true → (chains units).fits cs ≡ true
+pub chains_fit : (units : ℕ) (cs : List (List ℕ)) → are_chains units cs ≡ true → (chains units).fits cs ≡ true
 chains_fit units cs e =
     let count : is_within 1 8 (length cs) ≡ true = and-left _ _ (and-left _ _ (and-left _ _ e)) in
     both _ _ (both _ _ (some_chain cs count) (each_chain units cs (and-right _ _ (and-left _ _ (and-left _ _ e))) (and-right _ _ (and-left _ _ e)))) (both _ _ count (and-right _ _ e))
@@ -64,7 +64,7 @@ chains_fit units cs e =
 user_named : (o : Oid) → is_user_object o ≡ true → is_named o ≡ true
 user_named o e = grind (arith, nat_tests)
 
-objects_fit : (os : List Oid) → are_objects os ≡ true → objects.fits os ≡ true
+pub objects_fit : (os : List Oid) → are_objects os ≡ true → objects.fits os ≡ true
 objects_fit os e = both _ _ (all_weaker is_user_object is_named user_named os (and-right _ _ (and-left _ _ e))) e
 
 -- Headers.
@@ -75,7 +75,7 @@ header_of s cs os = record { units = s.units; layouts = s.layouts; seqs = s.seqs
 pub header_sizes : (h : Header) → IsHeader h → are_sizes (sizes_of h) ≡ true
 header_sizes h e = and-left _ _ (and-left _ _ e)
 
-few_units : (s : Sizes) → are_sizes s ≡ true → s.units ≤ 2 ^ 64
+pub few_units : (s : Sizes) → are_sizes s ≡ true → s.units ≤ 2 ^ 64
 few_units s e = let small = (sizes_small s e).units in omega (arith, small)
 
 pub record IsRead (lines : List (List ℕ)) (h : Header) : Type 0 where

@@ -1,5 +1,5 @@
 -- What is read of a header's lines is what they spell, and nothing else.
-use Rattle.std.proofs.Common.{◌≡◌, ℕ, ◌<◌, ◌≤◌, ◌%◌, ◌^◌, Bool, true, false, ◌&&◌, cond, eqb, List, [], ◌∷◌, ◌++◌, length, map, Option, Some, None, sym, refl, subst, ap, ◌∙◌, arith, codes}
+use Rattle.std.proofs.Common.{◌≡◌, ℕ, ◌<◌, ◌≤◌, ◌%◌, ◌^◌, Bool, true, false, cond, eqb, List, [], ◌∷◌, length, Option, Some, refl, subst, arith, codes}
 use Rattle.std.specs.List.{list_all}
 use Rattle.std.specs.Str.{bytes_eq}
 use Rattle.std.specs.Fmt.{decimal}
@@ -12,14 +12,13 @@ use Rattle.tg_base.specs.Clusters.{is_odd_to_seven, are_objects}
 use Rattle.tg_codec.proofs.Laws.{and-left, and-right, both}
 use Rattle.tg_kind.specs.Parts.{tag_of}
 use Rattle.tg_any.specs.Names.{kind_name}
-use Rattle.tg_any.specs.Words.{one, object}
+use Rattle.tg_any.specs.Words.{object}
 use Rattle.tg_any.proofs.Numbers.{bind_takes, number_in_takes, number_in_again}
 use Rattle.tg_any.proofs.Fronts.{some_is, bind_again, if_takes, if_again}
-use Rattle.tg_any.proofs.Words.{IsWord, IsPhrase, one_law, object_law}
+use Rattle.tg_any.proofs.Words.{IsPhrase, one_law, object_law}
 use Rattle.tg_script.specs.Nodes.{chains}
-use Rattle.tg_script.specs.Parts.{many}
 use Rattle.tg_script.specs.declared.header.Sizes.{Sizes}
-use Rattle.tg_script.specs.Headers.{are_sizes, sizes_words, field_at, sizes_if, sizes_after, sizes_read, sizes, stripes_read, stripes, objects_read, objects}
+use Rattle.tg_script.specs.Headers.{are_sizes, sizes_words, field_at, sizes_after, sizes_read, sizes, stripes_read, stripes, objects_read, objects}
 use Rattle.tg_script.proofs.Bytes.{is_graphic, digit_is_graphic, decimal_passes, all_append, Passes, each_passes}
 use Rattle.tg_script.proofs.NodeWords.{chains_law, chains_graphic}
 use Rattle.tg_script.proofs.Lines.{IsPlain, many_law}
@@ -71,9 +70,11 @@ after-takes words s e =
     let c = bind_takes _ _ _ q.2 in
     let m = bind_takes _ _ _ c.2 in
     let d = if_takes _ _ s m.2 in
-    subst (λ (s : Sizes). (words ≡ fields_of s) × (are_sizes s ≡ true)) (some_is _ _ d.1)
-    (fields_joined words u.0.1 l.0.1 q.0.1 c.0.1 m.0.1 u.0.0 l.0.0 q.0.0 c.0.0 m.0.0 (field_takes (codes "units") words u.0 u.1) (field_takes (codes "layouts") u.0.1 l.0 l.1)
-    (field_takes (codes "seqs") l.0.1 q.0 q.1) (field_takes (codes "clients") q.0.1 c.0 c.1) (field_takes (codes "limit") c.0.1 m.0 m.1) (nothing_left m.0.1 (and-left _ _ d.0)), and-right _ _ d.0)
+    subst (λ (s : Sizes). (words ≡ fields_of s) × (are_sizes s ≡ true)) (some_is _ _ d.1) (
+      fields_joined words u.0.1 l.0.1 q.0.1 c.0.1 m.0.1 u.0.0 l.0.0 q.0.0 c.0.0 m.0.0 (field_takes (codes "units") words u.0 u.1) (field_takes (codes "layouts") u.0.1 l.0 l.1)
+          (field_takes (codes "seqs") l.0.1 q.0 q.1) (field_takes (codes "clients") q.0.1 c.0 c.1) (field_takes (codes "limit") c.0.1 m.0 m.1) (nothing_left m.0.1 (and-left _ _ d.0)),
+      and-right _ _ d.0,
+    )
 
 -- numbers within a header's limits are of 64 bits
 pub record AreSmall (s : Sizes) : Type 0 where

@@ -5,6 +5,7 @@ pub mod NodeWords
 pub mod Lines
 pub mod Headers
 pub mod Clusters
+pub mod LineFeeds
 pub mod Spaces
 pub mod Graphics
 pub mod Commands

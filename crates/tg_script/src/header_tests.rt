@@ -100,7 +100,10 @@ fn a_header_declares_a_cluster(rt: HostRuntime) -> Result<(), Fail> {
     assert_eq!(rt; cluster.seqs, 2);
     assert_eq!(rt; cluster.clients, 1);
     assert_eq!(rt; cluster.limit, 50);
-    assert_eq!(rt; cluster.objects.as_slice(), [Oid(0x0300_0007), Oid(0x0600_0000)].as_slice());
+    assert_eq!(rt;
+        cluster.objects.as_slice(),
+        [Oid(0x0300_0007), Oid(0x0600_0000)].as_slice()
+    );
     match cluster.chains.as_slice() {
         [first, second] => {
             assert_eq!(rt; first.as_slice(), [1, 0].as_slice());
@@ -111,54 +114,55 @@ fn a_header_declares_a_cluster(rt: HostRuntime) -> Result<(), Fail> {
     Ok(())
 }
 
+// Lines that declare no sizes.
+const SIZES_OUTSIDE: &str = "\n\
+    \x20\n\
+    cluster\n\
+    cluster units 1 layouts 1 seqs 1 clients 3\n\
+    cluster units 1 layouts 1 seqs 1 clients 3 limit\n\
+    cluster units 1 layouts 1 seqs 1 clients 3 limit 100 \n\
+    \x20cluster units 1 layouts 1 seqs 1 clients 3 limit 100\n\
+    cluster  units 1 layouts 1 seqs 1 clients 3 limit 100\n\
+    cluster units  1 layouts 1 seqs 1 clients 3 limit 100\n\
+    cluster\tunits 1 layouts 1 seqs 1 clients 3 limit 100\n\
+    cluster units 1 layouts 1 seqs 1 clients 3 limit 100\r\n\
+    cluster units 1 layouts 1 seqs 1 clients 3 limit 100 7\n\
+    Cluster units 1 layouts 1 seqs 1 clients 3 limit 100\n\
+    clusters units 1 layouts 1 seqs 1 clients 3 limit 100\n\
+    units 1 layouts 1 seqs 1 clients 3 limit 100\n\
+    cluster unit 1 layouts 1 seqs 1 clients 3 limit 100\n\
+    cluster units 1 layout 1 seqs 1 clients 3 limit 100\n\
+    cluster units 1 layouts 1 seq 1 clients 3 limit 100\n\
+    cluster units 1 layouts 1 seqs 1 client 3 limit 100\n\
+    cluster units 1 layouts 1 seqs 1 clients 3 limits 100\n\
+    cluster layouts 1 units 1 seqs 1 clients 3 limit 100\n\
+    cluster units one layouts 1 seqs 1 clients 3 limit 100\n\
+    cluster units 0 layouts 1 seqs 1 clients 3 limit 100\n\
+    cluster units 65 layouts 1 seqs 1 clients 3 limit 100\n\
+    cluster units 65537 layouts 1 seqs 1 clients 3 limit 100\n\
+    cluster units 01 layouts 1 seqs 1 clients 3 limit 100\n\
+    cluster units +1 layouts 1 seqs 1 clients 3 limit 100\n\
+    cluster units -1 layouts 1 seqs 1 clients 3 limit 100\n\
+    cluster units 1 layouts 0 seqs 1 clients 3 limit 100\n\
+    cluster units 1 layouts 2 seqs 1 clients 3 limit 100\n\
+    cluster units 1 layouts 4 seqs 1 clients 3 limit 100\n\
+    cluster units 1 layouts 6 seqs 1 clients 3 limit 100\n\
+    cluster units 1 layouts 8 seqs 1 clients 3 limit 100\n\
+    cluster units 1 layouts 9 seqs 1 clients 3 limit 100\n\
+    cluster units 1 layouts 1 seqs 0 clients 3 limit 100\n\
+    cluster units 1 layouts 1 seqs 17 clients 3 limit 100\n\
+    cluster units 1 layouts 1 seqs 1 clients 0 limit 100\n\
+    cluster units 1 layouts 1 seqs 1 clients 33 limit 100\n\
+    cluster units 1 layouts 1 seqs 1 clients 3 limit 0\n\
+    cluster units 1 layouts 1 seqs 1 clients 3 limit 0100\n\
+    cluster units 1 layouts 1 seqs 1 clients 3 limit 1000001\n\
+    cluster units 1 layouts 1 seqs 1 clients 3 limit 18446744073709551617\n\
+    cluster units 1 layouts 1 seqs 1 clients 3 limit 100 # a comment\n\
+    cluster units 1 layouts 1 seqs 1 clients 3 limit 100é";
+
 #[test]
 fn sizes_outside_are_refused(rt: HostRuntime) -> Result<(), Fail> {
-    for sizes in [
-        "",
-        " ",
-        "cluster",
-        "cluster units 1 layouts 1 seqs 1 clients 3",
-        "cluster units 1 layouts 1 seqs 1 clients 3 limit",
-        "cluster units 1 layouts 1 seqs 1 clients 3 limit 100 ",
-        " cluster units 1 layouts 1 seqs 1 clients 3 limit 100",
-        "cluster  units 1 layouts 1 seqs 1 clients 3 limit 100",
-        "cluster units  1 layouts 1 seqs 1 clients 3 limit 100",
-        "cluster\tunits 1 layouts 1 seqs 1 clients 3 limit 100",
-        "cluster units 1 layouts 1 seqs 1 clients 3 limit 100\r",
-        "cluster units 1 layouts 1 seqs 1 clients 3 limit 100 7",
-        "Cluster units 1 layouts 1 seqs 1 clients 3 limit 100",
-        "clusters units 1 layouts 1 seqs 1 clients 3 limit 100",
-        "units 1 layouts 1 seqs 1 clients 3 limit 100",
-        "cluster unit 1 layouts 1 seqs 1 clients 3 limit 100",
-        "cluster units 1 layout 1 seqs 1 clients 3 limit 100",
-        "cluster units 1 layouts 1 seq 1 clients 3 limit 100",
-        "cluster units 1 layouts 1 seqs 1 client 3 limit 100",
-        "cluster units 1 layouts 1 seqs 1 clients 3 limits 100",
-        "cluster layouts 1 units 1 seqs 1 clients 3 limit 100",
-        "cluster units one layouts 1 seqs 1 clients 3 limit 100",
-        "cluster units 0 layouts 1 seqs 1 clients 3 limit 100",
-        "cluster units 65 layouts 1 seqs 1 clients 3 limit 100",
-        "cluster units 65537 layouts 1 seqs 1 clients 3 limit 100",
-        "cluster units 01 layouts 1 seqs 1 clients 3 limit 100",
-        "cluster units +1 layouts 1 seqs 1 clients 3 limit 100",
-        "cluster units -1 layouts 1 seqs 1 clients 3 limit 100",
-        "cluster units 1 layouts 0 seqs 1 clients 3 limit 100",
-        "cluster units 1 layouts 2 seqs 1 clients 3 limit 100",
-        "cluster units 1 layouts 4 seqs 1 clients 3 limit 100",
-        "cluster units 1 layouts 6 seqs 1 clients 3 limit 100",
-        "cluster units 1 layouts 8 seqs 1 clients 3 limit 100",
-        "cluster units 1 layouts 9 seqs 1 clients 3 limit 100",
-        "cluster units 1 layouts 1 seqs 0 clients 3 limit 100",
-        "cluster units 1 layouts 1 seqs 17 clients 3 limit 100",
-        "cluster units 1 layouts 1 seqs 1 clients 0 limit 100",
-        "cluster units 1 layouts 1 seqs 1 clients 33 limit 100",
-        "cluster units 1 layouts 1 seqs 1 clients 3 limit 0",
-        "cluster units 1 layouts 1 seqs 1 clients 3 limit 0100",
-        "cluster units 1 layouts 1 seqs 1 clients 3 limit 1000001",
-        "cluster units 1 layouts 1 seqs 1 clients 3 limit 18446744073709551617",
-        "cluster units 1 layouts 1 seqs 1 clients 3 limit 100 # a comment",
-        "cluster units 1 layouts 1 seqs 1 clients 3 limit 100é",
-    ] {
+    for sizes in SIZES_OUTSIDE.split('\n') {
         let lines = [sizes.as_bytes(), b"chains u0", b"objects"];
         let line = outside(rt.alloc(), &lines).map_err(|_| "memory")?;
         assert_eq!(rt; line, Some(1), "{sizes}");
@@ -166,82 +170,91 @@ fn sizes_outside_are_refused(rt: HostRuntime) -> Result<(), Fail> {
     Ok(())
 }
 
+// Lines that declare no chains of four units.
+const CHAINS_OUTSIDE: &str = "\n\
+    chains\n\
+    chains \n\
+    chain u0\n\
+    Chains u0\n\
+    u0\n\
+    \x20chains u0\n\
+    chains  u0\n\
+    chains u0 \n\
+    chains u0 u1\n\
+    chains u0, u1\n\
+    chains u0,\n\
+    chains ,u0\n\
+    chains u0,,u1\n\
+    chains u0/\n\
+    chains /u0\n\
+    chains u0//u1\n\
+    chains u0;u1\n\
+    chains 0\n\
+    chains u\n\
+    chains u00\n\
+    chains u+0\n\
+    chains U0\n\
+    chains s0\n\
+    chains u4\n\
+    chains u65536\n\
+    chains u18446744073709551616\n\
+    chains u0,u0\n\
+    chains u0/u0\n\
+    chains u0,u1/u2,u0\n\
+    chains u0é";
+
+// Lines that declare no chains of 64 units.
+const LONG_CHAINS: &str = "chains u64\n\
+    chains u0,u1,u2,u3,u4,u5\n\
+    chains u0/u1,u2,u3,u4,u5,u6\n\
+    chains u0/u1/u2/u3/u4/u5/u6/u7/u8";
+
 #[test]
 fn chains_outside_are_refused(rt: HostRuntime) -> Result<(), Fail> {
-    for (sizes, chains) in [
-        (SIZES, ""),
-        (SIZES, "chains"),
-        (SIZES, "chains "),
-        (SIZES, "chain u0"),
-        (SIZES, "Chains u0"),
-        (SIZES, "u0"),
-        (SIZES, " chains u0"),
-        (SIZES, "chains  u0"),
-        (SIZES, "chains u0 "),
-        (SIZES, "chains u0 u1"),
-        (SIZES, "chains u0, u1"),
-        (SIZES, "chains u0,"),
-        (SIZES, "chains ,u0"),
-        (SIZES, "chains u0,,u1"),
-        (SIZES, "chains u0/"),
-        (SIZES, "chains /u0"),
-        (SIZES, "chains u0//u1"),
-        (SIZES, "chains u0;u1"),
-        (SIZES, "chains 0"),
-        (SIZES, "chains u"),
-        (SIZES, "chains u00"),
-        (SIZES, "chains u+0"),
-        (SIZES, "chains U0"),
-        (SIZES, "chains s0"),
-        (SIZES, "chains u4"),
-        (SIZES, "chains u65536"),
-        (SIZES, "chains u18446744073709551616"),
-        (SIZES, "chains u0,u0"),
-        (SIZES, "chains u0/u0"),
-        (SIZES, "chains u0,u1/u2,u0"),
-        (SIZES, "chains u0é"),
-        (MOST, "chains u64"),
-        (MOST, "chains u0,u1,u2,u3,u4,u5"),
-        (MOST, "chains u0/u1,u2,u3,u4,u5,u6"),
-        (MOST, "chains u0/u1/u2/u3/u4/u5/u6/u7/u8"),
-    ] {
-        let lines = [sizes.as_bytes(), chains.as_bytes(), b"objects"];
+    for chains in CHAINS_OUTSIDE.split('\n') {
+        let lines = [SIZES.as_bytes(), chains.as_bytes(), b"objects"];
+        let line = outside(rt.alloc(), &lines).map_err(|_| "memory")?;
+        assert_eq!(rt; line, Some(2), "{chains}");
+    }
+    for chains in LONG_CHAINS.split('\n') {
+        let lines = [MOST.as_bytes(), chains.as_bytes(), b"objects"];
         let line = outside(rt.alloc(), &lines).map_err(|_| "memory")?;
         assert_eq!(rt; line, Some(2), "{chains}");
     }
     Ok(())
 }
 
+// Lines that declare no objects.
+const OBJECTS_OUTSIDE: &str = "\n\
+    object ctr0\n\
+    Objects ctr0\n\
+    ctr0\n\
+    objects \n\
+    \x20objects\n\
+    objects ctr0 \n\
+    objects  ctr0\n\
+    objects ctr0  map0\n\
+    objects ctr0,map0\n\
+    objects dir0\n\
+    objects ctr0 dir0\n\
+    objects dir1\n\
+    objects ctr\n\
+    objects 0\n\
+    objects Ctr0\n\
+    objects bag0\n\
+    objects ctr00\n\
+    objects ctr-1\n\
+    objects ctr+1\n\
+    objects ctr0x\n\
+    objects ctr16777216\n\
+    objects ctr18446744073709551616\n\
+    objects ctr0 ctr0\n\
+    objects ctr0 map0 ctr0\n\
+    objects ctr0é";
+
 #[test]
 fn objects_outside_are_refused(rt: HostRuntime) -> Result<(), Fail> {
-    for objects in [
-        "",
-        "object ctr0",
-        "Objects ctr0",
-        "ctr0",
-        "objects ",
-        " objects",
-        "objects ctr0 ",
-        "objects  ctr0",
-        "objects ctr0  map0",
-        "objects ctr0,map0",
-        "objects dir0",
-        "objects ctr0 dir0",
-        "objects dir1",
-        "objects ctr",
-        "objects 0",
-        "objects Ctr0",
-        "objects bag0",
-        "objects ctr00",
-        "objects ctr-1",
-        "objects ctr+1",
-        "objects ctr0x",
-        "objects ctr16777216",
-        "objects ctr18446744073709551616",
-        "objects ctr0 ctr0",
-        "objects ctr0 map0 ctr0",
-        "objects ctr0é",
-    ] {
+    for objects in OBJECTS_OUTSIDE.split('\n') {
         let lines = [SIZES.as_bytes(), b"chains u0", objects.as_bytes()];
         let line = outside(rt.alloc(), &lines).map_err(|_| "memory")?;
         assert_eq!(rt; line, Some(3), "{objects}");

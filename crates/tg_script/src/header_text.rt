@@ -1,7 +1,7 @@
 //! Printing of a header.
 
-ghost use Rattle.std.specs.Prelude.{◌≡◌, ◌++◌, [], ◌∷◌, codes, map, OnOk, OnErr};
-ghost use Rattle.std.specs.List.{flat_map};
+ghost use Rattle.std.specs.Prelude.{◌≡◌, ◌==◌, ◌++◌, [], ◌∷◌, codes, map, OnOk, OnErr};
+ghost use Rattle.std.specs.List.{flat_map, slice_split};
 ghost use Rattle.std.specs.Fmt.{decimal};
 ghost use Rattle.tg_any.specs.Names.{object_word};
 ghost use Rattle.tg_any.specs.Words.{joined};
@@ -14,14 +14,23 @@ use tg_any::{put_number, put_object};
 use tg_base::{Chain, Cluster, List, NoMemory, Oid};
 
 /// Puts the three lines of a header last, each with its line feed. An `Err` is want of memory, and changes
-/// nothing.
+/// nothing. Cut at its line feeds, the text gives the lines again.
 pub fn print_header(alloc: Global, cluster: &Cluster, out: &mut List<u8>) -> Result<(), NoMemory>
     ensures ok { OnOk result (out.new ≡ out.old ++ lines_text (header_lines cluster.now)) }
     ensures err { OnErr result (out.new ≡ out.old) }
+    ensures lines { slice_split (λ b. b == 10) (lines_text (header_lines cluster.now)) ≡ header_lines cluster.now ++ [] ∷ [] }
 {
+    feeds_end_lines(cluster);
     let mut text = List::new(alloc);
     put_header(cluster, &mut text)?;
     out.extend(text.as_slice())
+}
+
+// No line of a header has a line feed.
+fn feeds_end_lines(cluster: &Cluster)
+    ensures { slice_split (λ b. b == 10) (lines_text (header_lines cluster.now)) ≡ header_lines cluster.now ++ [] ∷ [] }
+{
+    cluster.rules();
 }
 
 fn put_header(cluster: &Cluster, out: &mut List<u8>) -> Result<(), NoMemory>

@@ -1,5 +1,5 @@
 use Rattle.std.proofs.Common.{◌≡◌, Some, None, sym, ◌∙◌, rules}
-use Rattle.tg_script.specs.Headers.{header_lines, objects_in}
+use Rattle.tg_script.specs.Headers.{header_lines}
 use Rattle.tg_base.specs.Clusters.{IsHeader}
 use Rattle.tg_script.proofs.Clusters.{header_of, read_lines, same_header, outside_3, no_header}
 use Rattle.tg_script.proofs.header.header_with_chains.Goals as goal

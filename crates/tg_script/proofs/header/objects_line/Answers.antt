@@ -1,4 +1,4 @@
-use Rattle.std.proofs.Common.{sym, ◌≤◌, ◌^◌, arith}
+use Rattle.std.proofs.Common.{sym}
 use Rattle.tg_script.specs.Headers.{objects}
 use Rattle.tg_script.proofs.Headers.{objects_law, objects_plain}
 use Rattle.tg_script.proofs.Lines.{line_none}

@@ -1,4 +1,4 @@
-use Rattle.std.proofs.Common.{sym, ◌≤◌, ◌^◌, arith}
+use Rattle.std.proofs.Common.{sym}
 use Rattle.tg_script.specs.Headers.{sizes}
 use Rattle.tg_script.proofs.Headers.{sizes_law, sizes_plain}
 use Rattle.tg_script.proofs.Lines.{line_none}
