@@ -1,0 +1,13 @@
+pub mod Cuts
+pub mod Parts
+pub mod Bytes
+pub mod NodeWords
+pub mod Lines
+pub mod Headers
+pub mod Clusters
+pub mod LineFeeds
+pub mod Spaces
+pub mod Graphics
+pub mod Commands
+pub mod EventLines
+pub mod Changes
