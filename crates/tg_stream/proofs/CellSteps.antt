@@ -1,12 +1,10 @@
 -- What the steps of a cell's machine send, which numbers they draw, and where they end.
-use Rattle.std.proofs.Common.{◌≡◌, ℕ, ◌+◌, Bool, true, false, ◌&&◌, if◌then◌else◌, [], refl, arith}
+use Rattle.std.proofs.Common.{◌≡◌, ℕ, Bool, true, false, ◌&&◌, if◌then◌else◌, [], refl, arith}
 use Rattle.tg_base.specs.declared.ids.NodeId.{NodeId}
 use Rattle.tg_base.specs.declared.msg.Msg.{Msg}
-use Rattle.tg_base.specs.declared.msg.Msg.TheVariants as msg
-use Rattle.tg_protocol.specs.Words.{too_far}
 use Rattle.tg_protocol.specs.Requests.{Next, Goes, Learns, Ends, awaits}
-use Rattle.tg_protocol.specs.Replies.{Reply, reply, near, IsHeld, IsTaken, IsUnwritten, IsMissing, IsWhole, IsOther}
-use Rattle.tg_protocol.specs.Cells.{Place, CellJob, CellWork, CellEnd, Done, cell_asks, works, cell_feed, work_feed, fill_cell}
+use Rattle.tg_protocol.specs.Replies.{Reply, reply, IsHeld, IsTaken, IsUnwritten, IsMissing, IsWhole, IsOther}
+use Rattle.tg_protocol.specs.Cells.{Place, CellJob, CellWork, CellEnd, cell_asks, works, cell_feed, work_feed, fill_cell}
 use Rattle.tg_chain.specs.Turns.{fed, fed_if, needs_memory}
 use Rattle.tg_stream.specs.Walks.{has_cell}
 use Rattle.tg_stream.specs.Laws.{reads_cell}

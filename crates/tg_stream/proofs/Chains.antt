@@ -1,6 +1,6 @@
 -- Chains have a unit.
-use Rattle.std.proofs.Common.{◌≡◌, ℕ, ◌<◌, ◌≤◌, true, List, length, IsTrue, arith}
-use Rattle.tg_base.specs.Units.{is_chain, is_within}
+use Rattle.std.proofs.Common.{ℕ, ◌<◌, ◌≤◌, List, length, IsTrue, arith}
+use Rattle.tg_base.specs.Units.{is_chain}
 use Rattle.tg_base.proofs.Exact.{and-left}
 use Rattle.tg_base.proofs.Rules.{within-low}
 

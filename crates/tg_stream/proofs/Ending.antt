@@ -1,5 +1,5 @@
 -- On which answers a walk ends, learns and waits.
-use Rattle.std.proofs.Common.{◌≡◌, ℕ, zero, suc, ◌+◌, Bool, true, false, not, ◌||◌, List, [], ◌∷◌, ◌++◌, Option, Some, None, refl, sym, ap, subst, ◌∙◌}
+use Rattle.std.proofs.Common.{◌≡◌, ℕ, zero, suc, ◌+◌, Bool, true, false, not, ◌||◌, List, [], ◌∷◌, ◌++◌, Some, None, refl, sym, ap, subst, ◌∙◌}
 use Rattle.std.specs.Prelude.{is_some}
 use Rattle.tg_base.specs.Layouts.{Layout}
 use Rattle.tg_base.specs.declared.cell.Cell.{Cell}
@@ -10,14 +10,14 @@ use Rattle.tg_protocol.specs.Words.{cell_at}
 use Rattle.tg_protocol.specs.Requests.{Next, Goes, Learns, Ends, awaits}
 use Rattle.tg_protocol.specs.Replies.{Reply, reply}
 use Rattle.tg_protocol.specs.Cells.{Place, CellJob, CellWork, Puts, Gets, Fills, Copies, Probes, CellEnd, Done, Seen, Lost, Fenced, Gone, works, place_in, get_cell, cell_asks, work_asks}
-use Rattle.tg_protocol.specs.Walking.{Walk, Members, WalkTurn, next_visit, walk_on, walks, steps_left, walked, visited, read_at, with_job, reads_turn, walk_end, walk_next, walk_asks}
+use Rattle.tg_protocol.specs.Walking.{Walk, Members, WalkTurn, next_visit, walk_on, walks, steps_left, walked, visited, read_at, with_job, reads_turn, walk_end, walk_next}
 use Rattle.tg_chain.specs.Turns.{fed, drawn_between, new_asks as cell_news}
-use Rattle.tg_chain.specs.Laws.{settled_by, Completes, Loses, passed_by, awaits_more, EndsBy as CellEndsBy}
+use Rattle.tg_chain.specs.Laws.{Completes, Loses, passed_by, awaits_more, EndsBy as CellEndsBy}
 use Rattle.tg_chain.proofs.Outs.{get_drawn}
 use Rattle.tg_chain.proofs.Passing.{waits_for_answers as cell_waits_for_answers}
 use Rattle.tg_chain.proofs.Steps.{ends_by_answers as cell_ends_by_answers}
 use Rattle.tg_stream.specs.Turns.{by_walk}
-use Rattle.tg_stream.specs.Walks.{course_of, walk_fed}
+use Rattle.tg_stream.specs.Walks.{course_of}
 use Rattle.tg_stream.specs.Laws.{EndsBy, EndsByAnswers, Fences, LearnsByFences, WaitsForAnswers, reads_cell}
 use Rattle.tg_stream.proofs.Visits.{on-zero, on-none, on-known, on-unknown}
 use Rattle.tg_stream.proofs.CellSteps.{fed_besides, fed_over, fed_learns}

@@ -1,5 +1,5 @@
 -- How many requests a walk still sends.
-use Rattle.std.proofs.Common.{◌≡◌, ℕ, zero, suc, ◌+◌, ◌-◌, ◌≤◌, ◌<◌, Bool, true, false, List, [], ◌∷◌, length, Option, Some, None, refl, sym, ap, subst, ◌∙◌, arith}
+use Rattle.std.proofs.Common.{◌≡◌, ℕ, zero, suc, ◌+◌, ◌-◌, ◌≤◌, ◌<◌, true, List, [], ◌∷◌, length, Option, Some, None, refl, sym, ap, subst, arith}
 use Rattle.tg_base.specs.Layouts.{Layout}
 use Rattle.tg_base.specs.declared.cell.Cell.{Cell}
 use Rattle.tg_base.specs.declared.ids.NodeId.{NodeId}
@@ -9,13 +9,13 @@ use Rattle.tg_base.specs.declared.packet.Packet.{Packet}
 use Rattle.tg_protocol.specs.Words.{cell_at, with_cell}
 use Rattle.tg_protocol.specs.Layouts.{chain_of}
 use Rattle.tg_protocol.specs.Requests.{Next, Goes, Learns, Ends}
-use Rattle.tg_protocol.specs.Cells.{CellJob, CellEnd, Done, Seen, Lost, Fenced, Gone, Gets, works, place_in, get_cell}
-use Rattle.tg_protocol.specs.Walking.{Walk, Members, WalkTurn, next_visit, walk_on, walks, steps_left, walk_start, walk_again, visited, read_at, with_job, reads_turn, walk_end, walk_next}
+use Rattle.tg_protocol.specs.Cells.{CellJob, CellEnd, Done, Seen, Lost, Fenced, Gone, place_in, get_cell}
+use Rattle.tg_protocol.specs.Walking.{Walk, Members, WalkTurn, next_visit, walk_on, walks, steps_left, walk_start, visited, read_at, with_job, reads_turn, walk_end, walk_next}
 use Rattle.tg_chain.specs.Laws.{left, left_then as cell_left}
 use Rattle.tg_chain.specs.Turns.{fed}
 use Rattle.tg_chain.proofs.Steps.{steps_are_few as cell_steps_are_few}
 use Rattle.tg_stream.specs.Walks.{begun, course_of, walk_of, walk_fed}
-use Rattle.tg_stream.specs.Laws.{IsBelow, Reads, ReadsBy, IsReading, ThenReads, all_below, reads_cost, left_in, left_by, left_then, HasChains, StartsAreFew, StepsAreFew, RequestsAreFew, fed_next, fed_all}
+use Rattle.tg_stream.specs.Laws.{IsBelow, Reads, ReadsBy, ThenReads, all_below, reads_cost, left_by, left_then, HasChains, StartsAreFew, StepsAreFew, RequestsAreFew, fed_next, fed_all}
 use Rattle.tg_stream.proofs.Visits.{on-zero, on-none, on-known, on-unknown}
 use Rattle.tg_stream.proofs.Trails.{after-below, visit-from, visit-below}
 use Rattle.tg_stream.proofs.CellSteps.{fed_over}

@@ -1,6 +1,5 @@
 pub mod Chains
 pub mod Trims
-pub mod Lists
 pub mod Visits
 pub mod CellSteps
 pub mod Subs

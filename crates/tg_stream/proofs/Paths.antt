@@ -1,6 +1,8 @@
 -- The path of a stream, visit by visit.
-use Rattle.std.proofs.Common.{◌≡◌, ◌≢◌, ℕ, zero, suc, ◌+◌, ◌-◌, ◌≤◌, ◌<◌, Bool, true, false, ◌&&◌, nat_le, nat_lt, List, [], ◌∷◌, ◌++◌, length, filter, Option, Some, None, refl, sym, ap, subst, ◌∙◌, append_assoc, length-append, arith}
+use Rattle.std.proofs.Common.{◌≡◌, ◌≢◌, ℕ, zero, suc, ◌+◌, ◌-◌, ◌≤◌, ◌<◌, Bool, true, false, nat_le, nat_lt, List, [], ◌∷◌, ◌++◌, Option, Some, None, refl, sym, ap, subst, ◌∙◌, append_assoc, arith}
 use Rattle.std.specs.List.{list_all}
+use Rattle.std.specs.Prelude.{Contains}
+use Rattle.std.proofs.lemmas.List.Elements.{Contains-append_right}
 use Rattle.std.proofs.lemmas.Bool.Decides.{nat_tests}
 use Rattle.tg_base.proofs.Exact.{and-left, and-right}
 use Rattle.tg_base.specs.Layouts.{Layout}
@@ -10,23 +12,45 @@ use Rattle.tg_base.specs.declared.ids.Oid.{Oid}
 use Rattle.tg_base.specs.declared.msg.Msg.{Msg}
 use Rattle.tg_protocol.specs.Words.{cell_at, with_cell, where_true}
 use Rattle.tg_protocol.specs.Appending.{is_falling}
-use Rattle.tg_protocol.specs.Logs.{Log, path_on}
+use Rattle.tg_protocol.specs.Logs.{Log, path, path_on, first_on}
 use Rattle.tg_protocol.specs.Requests.{Next, Goes, Learns, Ends}
 use Rattle.tg_protocol.specs.Replies.{Reply, reply}
-use Rattle.tg_protocol.specs.Cells.{CellJob, CellEnd, Done, Seen, Lost, Fenced, Gone, Gets, works, place_in, get_cell}
-use Rattle.tg_protocol.specs.Walking.{Trail, trail, go_down, next_on, next_of_trail, rest_of, trail_after, pointers_at, member_after, Walk, Members, WalkTurn, at_least, next_visit, steps_left, visited, read_at, walked, with_job, reads_turn, walk_on, walks, walk_start, walk_end, walk_next}
+use Rattle.tg_protocol.specs.Cells.{CellJob, CellEnd, Done, Seen, Lost, Fenced, Gone, place_in, get_cell}
+use Rattle.tg_protocol.specs.Walking.{Trail, trail, go_down, next_on, next_of_trail, rest_of, trail_after, pointers_at, member_after, Walk, WalkTurn, at_least, next_visit, steps_left, visited, read_at, with_job, reads_turn, walk_on, walks, walk_start, walk_end, walk_next}
 use Rattle.tg_chain.specs.Turns.{fed}
 use Rattle.tg_chain.specs.Laws.{EndsBy as CellEndsBy}
 use Rattle.tg_chain.proofs.Steps.{ends_by_answers as cell_ends_by_answers}
 use Rattle.tg_stream.specs.Walks.{begun, course_of, walk_of, walk_fed}
-use Rattle.tg_stream.specs.Laws.{Reads, ReadsBy, IsReading, IsBelow}
-use Rattle.tg_stream.specs.Paths.{Holds, FallsIn, pointers_by, members_met, Along, IsAlong, IsOver, EndsAlong, GoesAlong, ThenAlong, FollowsPath}
+use Rattle.tg_stream.specs.Laws.{Reads, ReadsBy}
+use Rattle.tg_stream.specs.Paths.{Holds, FallsIn, pointers_by, members_met, Along, IsAlong, IsOver, GoesAlong, ThenAlong, FollowsPath}
 use Rattle.tg_stream.proofs.Visits.{on-zero, on-none, on-known, on-unknown}
 use Rattle.tg_stream.proofs.Lookups.{found, others}
 use Rattle.tg_stream.proofs.Trails.{visit-from, below-own, next-below}
-use Rattle.tg_stream.proofs.CellSteps.{fed_over}
 use Rattle.tg_stream.proofs.Subs.{job_fed}
 use Rattle.tg_stream.proofs.Reading.{same_walk}
+
+-- ---- each visit goes further down
+
+same-some : (a b : ℕ) → Some a ≡ Some b → a ≡ b
+same-some a b e = cc
+
+down-under : (four : Bool) (q r : ℕ) → go_down four q ≡ Some r → r < q
+down-under true q r e = grind (arith, nat_tests)
+down-under false q r e = absurd (cc)
+
+rest-under : (ps : List ℕ) (t : Trail) (q r : ℕ) → is_falling ps ≡ true → next_on t ps ≡ Some q → next_on (record { pointers = rest_of ps; were_four = t.were_four; last = q }) (rest_of ps) ≡ Some r → r < q
+rest-under [] t q r h e g = down-under t.were_four q r g
+rest-under (x ∷ []) t q r h e g = down-under t.were_four q r g
+rest-under (x ∷ y ∷ ps) t q r h e g =
+    let lt : nat_lt y x ≡ true = and-left _ _ h in
+    let one : x ≡ q = same-some x q e in
+    let two : y ≡ r = same-some y r g in
+    grind (arith, nat_tests)
+
+next-under : (t : Trail) (o : Oid) (q r : ℕ) (c : Cell) (x : Option (List ℕ)) → pointers_at o q c ≡ x → is_falling t.pointers ≡ true → next_of_trail t ≡ Some q →
+    next_of_trail (trail_after t q x) ≡ Some r → r < q
+next-under t o q r c None e h f g = rest-under t.pointers t q r h f g
+next-under t o q r c (Some ps) e h f g = next-below q r (trail ps q) (below-own q ps o c e) g
 
 -- ---- one visit
 
@@ -67,45 +91,27 @@ falls-by t q (Some ps) h k = k ps refl
 
 visit_along : (l : Log) (o : Oid) (lasts : List ℕ) (lo : ℕ) (t : Trail) (ms : List ℕ) (q : ℕ) (c : Cell) → FallsIn l o → cell_at l q ≡ Some c → next_of_trail t ≡ Some q → lo ≤ q →
     Along l o lasts lo t ms → Along l o lasts lo (trail_after t q (pointers_at o q c)) (member_after ms q (pointers_at o q c))
-visit_along l o lasts lo t ms q c falling f e le a = record {
-  visits = a.visits ++ q ∷ [];
-  path = λ n.
-      let long : length (a.visits ++ q ∷ []) ≡ length a.visits + 1 = length-append a.visits (q ∷ []) in
-      let more : length (a.visits ++ q ∷ []) + n ≡ length a.visits + suc n = omega (arith, long) in
-      ap (λ k. path_on l o k (trail lasts 0)) more
-      ∙ a.path (suc n)
-      ∙ ap (λ ps. a.visits ++ ps) (path_step l o n t q c e f)
-      ∙ sym (append_assoc a.visits (q ∷ []) (path_on l o n (trail_after t q (pointers_at o q c))));
-  from = all-last lo q a.visits a.from le;
-  members =
-      ap (λ xs. member_after xs q (pointers_at o q c)) a.members
-      ∙ ap (λ x. member_after (members_met l o [] a.visits) q (pointers_by o q x)) (sym f)
-      ∙ sym (met-last l o [] q a.visits);
-  falls = falls-by t q (pointers_at o q c) a.falls (λ ps g. falling q c ps f g);
-}
+visit_along l o lasts lo t ms q c falling f e le a =
+    let more : q + 2 ≤ a.steps = a.enough q e in
+    let one : a.steps ≡ suc (a.steps - 1) = omega (arith, more) in
+    record {
+      visits = a.visits ++ q ∷ [];
+      steps = a.steps - 1;
+      front =
+          a.front
+          ∙ ap (λ k. a.visits ++ path_on l o k t) one
+          ∙ ap (λ ps. a.visits ++ ps) (path_step l o (a.steps - 1) t q c e f)
+          ∙ sym (append_assoc a.visits (q ∷ []) (path_on l o (a.steps - 1) (trail_after t q (pointers_at o q c))));
+      enough = λ r g. let lt : r < q = next-under t o q r c (pointers_at o q c) refl a.falls e g in omega (arith, more, lt);
+      from = all-last lo q a.visits a.from le;
+      members =
+          ap (λ xs. member_after xs q (pointers_at o q c)) a.members
+          ∙ ap (λ x. member_after (members_met l o [] a.visits) q (pointers_by o q x)) (sym f)
+          ∙ sym (met-last l o [] q a.visits);
+      falls = falls-by t q (pointers_at o q c) a.falls (λ ps g. falling q c ps f g);
+    }
 
--- ---- each visit goes further down
-
-same-some : (a b : ℕ) → Some a ≡ Some b → a ≡ b
-same-some a b e = cc
-
-down-under : (four : Bool) (q r : ℕ) → go_down four q ≡ Some r → r < q
-down-under true q r e = grind (arith, nat_tests)
-down-under false q r e = absurd (cc)
-
-rest-under : (ps : List ℕ) (t : Trail) (q r : ℕ) → is_falling ps ≡ true → next_on t ps ≡ Some q → next_on (record { pointers = rest_of ps; were_four = t.were_four; last = q }) (rest_of ps) ≡ Some r → r < q
-rest-under [] t q r h e g = down-under t.were_four q r g
-rest-under (x ∷ []) t q r h e g = down-under t.were_four q r g
-rest-under (x ∷ y ∷ ps) t q r h e g =
-    let lt : nat_lt y x ≡ true = and-left _ _ h in
-    let one : x ≡ q = same-some x q e in
-    let two : y ≡ r = same-some y r g in
-    grind (arith, nat_tests)
-
-next-under : (t : Trail) (o : Oid) (q r : ℕ) (c : Cell) (x : Option (List ℕ)) → pointers_at o q c ≡ x → is_falling t.pointers ≡ true → next_of_trail t ≡ Some q →
-    next_of_trail (trail_after t q x) ≡ Some r → r < q
-next-under t o q r c None e h f g = rest-under t.pointers t q r h f g
-next-under t o q r c (Some ps) e h f g = next-below q r (trail ps q) (below-own q ps o c e) g
+-- ---- over known cells
 
 fuel-if : (b : Bool) (lo q r n : ℕ) → nat_le lo r ≡ b → q + 2 ≤ suc n → r < q → steps_left (where_true b r) ≤ n
 fuel-if true lo q r n e le lt = omega (arith, le, lt)
@@ -120,8 +126,6 @@ fuel_on w q n c h e le =
     let enough : q + 2 ≤ suc n = subst (λ x. steps_left x ≤ suc n) e le in
     fuel-by w.lo q n (next_of_trail (visited w q c).trail) enough
     (λ r g. next-under w.trail w.oid q r c (pointers_at w.oid q c) refl h (visit-from w q e).1 g)
-
--- ---- over known cells
 
 no-step : (x : Option ℕ) → steps_left x ≤ 0 → ⊥
 no-step None le = omega (arith, le)
@@ -203,18 +207,42 @@ fed_along p w from rid m next bound lasts l None e r falling a = absurd (cc)
 fed_along p w from rid m next bound lasts l (Some j) e r falling a =
     subst (λ (v : Walk). ThenAlong l w.oid lasts w.lo (walk_fed p v from rid m next).to) (same_walk w j e) (job_along p w j from rid m next bound lasts l r falling a)
 
-none-more : (n : ℕ) → 0 + n ≡ n
-none-more n = omega arith
+path-is : (l : Log) (o : Oid) (lasts : List ℕ) → path l o lasts ≡ [] ++ path_on l o (first_on lasts + 2) (trail lasts 0)
+unfolding path
+path-is l o lasts = refl
+
+first-enough : (lasts : List ℕ) (q : ℕ) → next_of_trail (trail lasts 0) ≡ Some q → q + 2 ≤ first_on lasts + 2
+first-enough [] q e = absurd (cc)
+first-enough (x ∷ xs) q e = let same : x ≡ q = same-some x q e in omega (arith, same)
 
 started : (p : Layout) (o : Oid) (lasts : List ℕ) (lo : ℕ) (cells : List (ℕ × Cell)) (next : ℕ) (l : Log) → FallsIn l o → is_falling lasts ≡ true →
     ThenAlong l o lasts lo (walk_start p o lasts lo cells next).to
 unfolding walk_start
 started p o lasts lo cells next l falling falls =
-    walks_along p next (walk_of (begun o lasts lo cells) None) lasts l falling (λ h. record { visits = []; path = λ n. ap (λ k. path_on l o k (trail lasts 0)) (none-more n); from = refl; members = refl; falls = falls })
+    walks_along p next (walk_of (begun o lasts lo cells) None) lasts l falling (λ h. record { visits = []; steps = first_on lasts + 2; front = path-is l o lasts; enough = first-enough lasts; from = refl; members = refl; falls = falls })
+
+cell-head : (l : Log) (o : Oid) (n : ℕ) (t : Trail) (q : ℕ) (x : Option Cell) → Contains (path_cell l o n t q x) q
+unfolding path_cell
+cell-head l o n t q None = (0, omega arith, refl)
+cell-head l o n t q (Some c) = (0, omega arith, refl)
+
+path-head : (l : Log) (o : Oid) (n : ℕ) (t : Trail) (q : ℕ) → next_of_trail t ≡ Some q → Contains (path_on l o (suc n) t) q
+unfolding path_on path_visit path_cell
+path-head l o n t q e = subst (λ (ps : List ℕ). Contains ps q) (sym (ap (path_visit l o n t) e)) (cell-head l o n t q (cell_at l q))
+
+reads_path : (w : Walk) (j : CellJob) (bound : ℕ) (lasts : List ℕ) (l : Log) → Reads bound w j → IsAlong l lasts w → Contains (path l w.oid lasts) j.place.pos
+reads_path w j bound lasts l r a =
+    let q = j.place.pos in
+    let next = (visit-from w q r.next).1 in
+    let more : q + 2 ≤ a.steps = a.enough q next in
+    let one : suc (a.steps - 1) ≡ a.steps = omega (arith, more) in
+    let head : Contains (path_on l w.oid a.steps w.trail) q = subst (λ k. Contains (path_on l w.oid k w.trail) q) one (path-head l w.oid (a.steps - 1) w.trail q next) in
+    subst (λ (ps : List ℕ). Contains ps q) (sym a.front) (Contains-append_right a.visits (path_on l w.oid a.steps w.trail) q head)
 
 pub follows_path : FollowsPath
 follows_path = record {
   starts = started;
   feeds = λ p w from rid m next bound lasts l r falling a. fed_along p w from rid m next bound lasts l w.job refl r falling a;
   resumes = λ p w next lasts l falling a. walks_along p next w lasts l falling a;
+  reads = reads_path;
 }

@@ -1,17 +1,17 @@
 -- Which positions a walk reads.
-use Rattle.std.proofs.Common.{◌≡◌, ℕ, zero, suc, ◌≤◌, ◌<◌, Bool, true, false, List, [], Option, Some, None, refl, sym, ap, subst, ◌∙◌, arith}
+use Rattle.std.proofs.Common.{◌≡◌, ℕ, zero, suc, ◌≤◌, ◌<◌, true, List, Option, Some, None, refl, sym, ap, subst, arith}
 use Rattle.tg_base.specs.Layouts.{Layout}
 use Rattle.tg_base.specs.declared.cell.Cell.{Cell}
 use Rattle.tg_base.specs.declared.ids.NodeId.{NodeId}
 use Rattle.tg_base.specs.declared.ids.Oid.{Oid}
 use Rattle.tg_base.specs.declared.msg.Msg.{Msg}
-use Rattle.tg_protocol.specs.Words.{cell_at, with_cell}
+use Rattle.tg_protocol.specs.Words.{cell_at}
 use Rattle.tg_protocol.specs.Requests.{Next, Goes, Learns, Ends}
-use Rattle.tg_protocol.specs.Cells.{CellJob, CellEnd, Done, Seen, Lost, Fenced, Gone, Gets, works, place_in, get_cell}
-use Rattle.tg_protocol.specs.Walking.{trail, Walk, WalkTurn, next_visit, walk_on, walks, steps_left, walk_start, walk_again, visited, read_at, with_job, reads_turn, walk_end, walk_next}
+use Rattle.tg_protocol.specs.Cells.{CellJob, CellEnd, Done, Seen, Lost, Fenced, Gone, place_in, get_cell}
+use Rattle.tg_protocol.specs.Walking.{trail, Walk, WalkTurn, next_visit, walk_on, walks, steps_left, walk_start, visited, read_at, with_job, reads_turn, walk_end, walk_next}
 use Rattle.tg_chain.specs.Turns.{fed}
 use Rattle.tg_stream.specs.Walks.{begun, course_of, walk_of, walk_fed}
-use Rattle.tg_stream.specs.Laws.{IsBelow, Reads, ReadsBy, IsReading, ThenReads, AsksUnknown, all_below, reads_cell}
+use Rattle.tg_stream.specs.Laws.{IsBelow, Reads, ReadsBy, ThenReads, AsksUnknown, all_below, reads_cell}
 use Rattle.tg_stream.proofs.Visits.{on-zero, on-none, on-known, on-unknown}
 use Rattle.tg_stream.proofs.Trails.{after-below, visit-from, visit-below}
 use Rattle.tg_stream.proofs.CellSteps.{fed_place, fed_reads}

@@ -1,5 +1,5 @@
 -- What a page says of a stream.
-use Rattle.std.proofs.Common.{◌≡◌, ℕ, List, nat_lt, filter, Option, Some, Ok, sym, ap, subst, ◌∙◌}
+use Rattle.std.proofs.Common.{◌≡◌, ℕ, List, nat_lt, filter, Option, Some, Ok, sym, ap, ◌∙◌}
 use Rattle.std.specs.List.{list_any}
 use Rattle.tg_base.specs.declared.ids.Oid.{Oid}
 use Rattle.tg_base.specs.declared.marks.StreamLink.{StreamLink}

@@ -9,11 +9,11 @@ use Rattle.tg_base.specs.declared.turn.Turn.TheVariants.{More, End}
 use Rattle.tg_protocol.specs.Layouts.{chain_of}
 use Rattle.tg_protocol.specs.Requests.{Next, Goes, Learns, Ends, awaits}
 use Rattle.tg_protocol.specs.Cells.{Place, CellJob, CellEnd, Gets, works, place_in, cell_asks, get_cell}
-use Rattle.tg_protocol.specs.Walking.{Walk, walk_turn, walk_next, walk_end, walk_feed, reads_turn, with_job}
+use Rattle.tg_protocol.specs.Walking.{walk_turn, walk_next, walk_end, walk_feed, reads_turn}
 use Rattle.tg_chain.specs.declared.ends.GetCellEnd.{GetCellEnd}
 use Rattle.tg_chain.specs.Ends.{get_end}
 use Rattle.tg_chain.specs.Turns.{Shown as CellShown, shown as cell_shown, by_rules as cell_rules, new_asks as cell_news, fed, fed_if, needs_memory, drawn_between}
-use Rattle.tg_stream.specs.Turns.{Shown, by_walk, awaiting}
+use Rattle.tg_stream.specs.Turns.{by_walk, awaiting}
 use Rattle.tg_stream.specs.Walks.{Course, walk_of, walk_fed, walk_fed_if, has_cell}
 use Rattle.tg_stream.proofs.CellSteps.{fed_besides, fed_over, fed_place, fed_quiet, same_job}
 

@@ -1,11 +1,10 @@
 -- Where a trail leads.
-use Rattle.std.proofs.Common.{◌≡◌, ℕ, ◌-◌, ◌<◌, ◌≤◌, Bool, true, false, List, [], ◌∷◌, filter, nat_lt, nat_le, Option, Some, None, refl, sym, ap, subst, ◌∙◌, arith}
+use Rattle.std.proofs.Common.{◌≡◌, ℕ, ◌<◌, ◌≤◌, Bool, true, false, List, [], ◌∷◌, filter, nat_lt, Option, Some, None, refl, subst, arith}
 use Rattle.std.proofs.lemmas.Bool.Decides.{nat_tests}
 use Rattle.tg_base.proofs.Exact.{and-left, and-right}
 use Rattle.tg_base.specs.declared.cell.Cell.{Cell}
 use Rattle.tg_base.specs.declared.cell.Cell.TheVariants.{Junk, Data}
 use Rattle.tg_base.specs.declared.ids.Oid.{Oid}
-use Rattle.tg_codec.proofs.Laws.{both}
 use Rattle.tg_entry.specs.declared.entry.Entry.{Entry}
 use Rattle.tg_protocol.specs.Words.{where_true}
 use Rattle.tg_protocol.specs.Entries.{lists, backs_in}

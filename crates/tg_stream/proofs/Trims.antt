@@ -1,5 +1,5 @@
 -- Cells from a position on.
-use Rattle.std.proofs.Common.{◌≡◌, ℕ, suc, ◌+◌, ◌<◌, ◌≤◌, true, false, List, [], ◌∷◌, length, map, nat_le, Option, Some, None, refl, sym, ap, ◌∙◌, arith}
+use Rattle.std.proofs.Common.{◌≡◌, ℕ, suc, ◌≤◌, List, [], ◌∷◌, refl, arith}
 use Rattle.std.proofs.lemmas.Bool.Decides.{nat_tests}
 use Rattle.std.specs.Ordering.{nat_cmp}
 use Rattle.std.specs.Prelude.{All}
@@ -15,4 +15,3 @@ high-stays e es first n le lo h = grind (arith, nat_tests)
 pub all-stay : (es : List (ℕ × Cell)) (first n : ℕ) → n ≤ first → All (IsLeBy nat_cmp first) (keys_of es) → cells_from n es ≡ es
 all-stay [] first n le h = refl
 all-stay (e ∷ es) first n le h = high-stays e es first n le (h 0 0 (omega arith)) (all-stay es first n le (λ k d lt. h (suc k) d (omega (arith, lt))))
-

@@ -1,5 +1,5 @@
 -- A walk goes along the path of its stream in every log that has the cells which it was told.
-use Rattle.std.specs.Prelude.{◌≡◌, ℕ, ◌+◌, ◌<◌, true, false, nat_le, List, [], ◌∷◌, ◌++◌, length, Option, Some, None}
+use Rattle.std.specs.Prelude.{◌≡◌, ℕ, ◌+◌, ◌<◌, ◌≤◌, true, false, nat_le, List, [], ◌∷◌, ◌++◌, Contains, Option, Some, None}
 use Rattle.std.specs.List.{list_all}
 use Rattle.tg_base.specs.Layouts.{Layout}
 use Rattle.tg_base.specs.declared.cell.Cell.{Cell}
@@ -8,11 +8,12 @@ use Rattle.tg_base.specs.declared.ids.Oid.{Oid}
 use Rattle.tg_base.specs.declared.msg.Msg.{Msg}
 use Rattle.tg_protocol.specs.Words.{cell_at}
 use Rattle.tg_protocol.specs.Appending.{is_falling}
-use Rattle.tg_protocol.specs.Logs.{Log, path_on}
+use Rattle.tg_protocol.specs.Logs.{Log, path, path_on}
 use Rattle.tg_protocol.specs.Requests.{Next, Goes, Learns, Ends}
-use Rattle.tg_protocol.specs.Walking.{Trail, trail, next_of_trail, pointers_at, member_after, Walk, Members, at_least, walk_start, walk_again}
+use Rattle.tg_protocol.specs.Cells.{CellJob}
+use Rattle.tg_protocol.specs.Walking.{Trail, next_of_trail, pointers_at, member_after, Walk, Members, at_least, walk_start, walk_again}
 use Rattle.tg_stream.specs.Walks.{walk_fed}
-use Rattle.tg_stream.specs.Laws.{IsReading}
+use Rattle.tg_stream.specs.Laws.{Reads, IsReading}
 
 -- the log has these cells
 abbrev pub Holds : Log → List (ℕ × Cell) → Type 0
@@ -36,7 +37,9 @@ members_met l o ms (q ∷ qs) = members_met l o (member_after ms q (pointers_by 
 -- the members are those that were met
 pub record Along (l : Log) (o : Oid) (lasts : List ℕ) (lo : ℕ) (t : Trail) (ms : List ℕ) : Type 0 where
   pub visits : List ℕ
-  pub path : (n : ℕ) → path_on l o (length visits + n) (trail lasts 0) ≡ visits ++ path_on l o n t
+  pub steps : ℕ
+  pub front : path l o lasts ≡ visits ++ path_on l o steps t
+  pub enough : (q : ℕ) → next_of_trail t ≡ Some q → q + 2 ≤ steps
   pub from : list_all (λ q. nat_le lo q) visits ≡ true
   pub members : ms ≡ members_met l o [] visits
   pub falls : is_falling t.pointers ≡ true
@@ -66,7 +69,7 @@ ThenAlong l o lasts lo (Goes w) = Holds l w.cells → GoesAlong l o lasts lo w
 ThenAlong l o lasts lo (Learns w) = Holds l w.cells → GoesAlong l o lasts lo w
 ThenAlong l o lasts lo (Ends e) = Holds l e.cells → EndsAlong l o lasts lo e
 
--- so it begins, so it goes on, and so it ends
+-- so it begins, so it goes on, and so it ends; and it reads only positions of the path
 pub record FollowsPath : Type 0 where
   pub starts : (p : Layout) (o : Oid) (lasts : List ℕ) (lo : ℕ) (cells : List (ℕ × Cell)) (next : ℕ) (l : Log) →
       FallsIn l o → is_falling lasts ≡ true → ThenAlong l o lasts lo (walk_start p o lasts lo cells next).to
@@ -74,3 +77,4 @@ pub record FollowsPath : Type 0 where
       IsReading bound w → FallsIn l w.oid → (Holds l w.cells → IsAlong l lasts w) → ThenAlong l w.oid lasts w.lo (walk_fed p w from rid m next).to
   pub resumes : (p : Layout) (w : Walk) (next : ℕ) (lasts : List ℕ) (l : Log) →
       FallsIn l w.oid → (Holds l w.cells → IsAlong l lasts w) → ThenAlong l w.oid lasts w.lo (walk_again p w next).to
+  pub reads : (w : Walk) (j : CellJob) (bound : ℕ) (lasts : List ℕ) (l : Log) → Reads bound w j → IsAlong l lasts w → Contains (path l w.oid lasts) j.place.pos

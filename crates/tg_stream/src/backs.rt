@@ -14,12 +14,7 @@ use tg_entry::{EntryFault, decode};
 
 /// The pointers of the entry at a position, as far as they are below it: None where no entry of the stream
 /// stands there.
-pub fn backs_at(
-    alloc: Global,
-    oid: Oid,
-    pos: Pos,
-    cell: &Cell,
-) -> Result<Option<Backs>, NoMemory>
+pub fn backs_at(alloc: Global, oid: Oid, pos: Pos, cell: &Cell) -> Result<Option<Backs>, NoMemory>
     ensures { IfOk result (λ backs. backs ≡ pointers_at oid pos cell.now) }
 {
     match cell {
@@ -30,12 +25,7 @@ pub fn backs_at(
 
 /// Likewise of a page.
 #[tactic(auto, unfolding(tg_protocol::specs::Pages::entry_of))]
-fn backs_in(
-    alloc: Global,
-    oid: Oid,
-    pos: Pos,
-    page: &Blob,
-) -> Result<Option<Backs>, NoMemory>
+fn backs_in(alloc: Global, oid: Oid, pos: Pos, page: &Blob) -> Result<Option<Backs>, NoMemory>
     ensures { IfOk result (λ backs. backs ≡ listed oid pos (entry_of page.now)) }
 {
     match decode(alloc, page.as_slice()) {

@@ -43,8 +43,8 @@ pub fn requests_are_few()
 {}
 
 /// In every log that has the cells which a walk was told, and in which the pointers of the stream's entries fall, a
-/// walk visits a front of the stream's path, and has found the members that this front meets. It ends where the
-/// path leads to no position from `lo` on, or to one that a unit has trimmed.
+/// walk reads only positions of the stream's path. It visits a front of it, and has found the members that this
+/// front meets. It ends where the path leads to no position from `lo` on, or to one that a unit has trimmed.
 pub fn follows_path()
     ensures { FollowsPath }
 {}

@@ -55,13 +55,7 @@ impl PausedWalk {
 
 impl PausedWalk {
     /// A walk that has seen nothing yet.
-    pub(crate) fn new(
-        alloc: Global,
-        oid: Oid,
-        lasts: Backs,
-        lo: Pos,
-        cells: Cells,
-    ) -> PausedWalk
+    pub(crate) fn new(alloc: Global, oid: Oid, lasts: Backs, lo: Pos, cells: Cells) -> PausedWalk
         ensures { result ≡ begun oid lasts lo cells }
     {
         PausedWalk {
@@ -123,7 +117,9 @@ impl PausedWalk {
         ensures { members_of result ≡ walked (walk_of self None) gone }
     {
         let PausedWalk {
-            cells, mut members, ..
+            cells,
+            mut members,
+            ..
         } = self;
         members.reverse();
         let list = List::from_vec(members);

@@ -32,9 +32,7 @@ fn layout(alloc: Global, epoch: u64) -> Result<Projection, Fail>
         .push(Chain::of(&[0]).ok_or("too long")?)
         .map_err(|_| "memory")?;
     let mut ranges = List::new(alloc);
-    ranges
-        .push(Range { lo: 0, stripes })
-        .map_err(|_| "memory")?;
+    ranges.push(Range { lo: 0, stripes }).map_err(|_| "memory")?;
     Ok(Projection {
         epoch,
         seq: 0,
@@ -73,13 +71,7 @@ fn started(
 }
 
 /// The unit answers the request of this number.
-fn fed(
-    alloc: Global,
-    walk: Walk,
-    rid: u64,
-    msg: &Msg,
-    rids: &mut Rids,
-) -> Result<WalkStep, Fail>
+fn fed(alloc: Global, walk: Walk, rid: u64, msg: &Msg, rids: &mut Rids) -> Result<WalkStep, Fail>
     requires { rids.old.next < 2 ^ 62 }
     ensures { rids.new.next ≤ rids.old.next + 1 }
 {
@@ -97,21 +89,32 @@ fn taken(step: Result<WalkStep, NoMemory>) -> Result<WalkStep, Fail> {
 
 /// What a walk asks that goes on.
 fn asked(step: WalkStep) -> Result<(Walk, List<tg_base::Out>), Fail> {
-    match step.next {
-        Next::Goes { machine } => Ok((machine, step.outs)),
+    let Step { next, outs, .. } = step;
+    match next {
+        Next::Goes { machine } => Ok((machine, outs)),
         _ => Err("it doesn't go on".into()),
     }
 }
 
 fn going(step: WalkStep) -> Result<Walk, Fail> {
-    match step.next {
+    let Step { next, .. } = step;
+    match next {
         Next::Goes { machine } => Ok(machine),
         _ => Err("it doesn't go on".into()),
     }
 }
 
+fn learning(step: WalkStep) -> Result<PausedWalk, Fail> {
+    let Step { next, .. } = step;
+    match next {
+        Next::Learns { paused } => Ok(paused),
+        _ => Err("it doesn't learn".into()),
+    }
+}
+
 fn ended(step: WalkStep) -> Result<Members, Fail> {
-    match step.next {
+    let Step { next, .. } = step;
+    match next {
         Next::Ends { end } => Ok(end),
         _ => Err("it doesn't end".into()),
     }
@@ -187,22 +190,18 @@ fn a_fence_pauses_it(rt: HostRuntime) -> Result<(), Fail> {
     let mut rids = Rids::new();
     let walk = going(started(alloc, &[3], 0, Cells::new(alloc), &mut rids)?)?;
     let step = fed(alloc, walk, 1, &Msg::Fenced { epoch: 2 }, &mut rids)?;
+    let paused = learning(step)?;
     let proj = layout(alloc, 2)?;
-    match step.next {
-        Next::Learns { paused } => {
-            let step = taken(paused.resume(alloc, &proj, &mut rids))?;
-            let (walk, outs) = asked(step)?;
-            assert!(rt;
-                matches!(
-                    outs.as_slice().first().map(|o| &o.msg),
-                    Some(Msg::Read { epoch: 2, pos: 3 })
-                )
-            );
-            let _paused = walk.pause();
-            Ok(())
-        }
-        _ => Err("it goes on".into()),
-    }
+    let step = taken(paused.resume(alloc, &proj, &mut rids))?;
+    let (walk, outs) = asked(step)?;
+    assert!(rt;
+        matches!(
+            outs.as_slice().first().map(|o| &o.msg),
+            Some(Msg::Read { epoch: 2, pos: 3 })
+        )
+    );
+    let _paused = walk.pause();
+    Ok(())
 }
 
 #[test]

@@ -1,4 +1,4 @@
-use Rattle.std.proofs.Common.{◌≡◌, sym, ap, ◌∙◌}
+use Rattle.std.proofs.Common.{sym, ap, ◌∙◌}
 use Rattle.tg_stream.specs.Turns.{by_walk}
 use Rattle.tg_stream.specs.Walks.{walk_of, comes_to}
 use Rattle.tg_stream.proofs.walk.Walk.go_on.Goals as goal

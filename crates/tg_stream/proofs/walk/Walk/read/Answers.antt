@@ -1,4 +1,4 @@
-use Rattle.std.proofs.Common.{◌≡◌, ap, ◌∙◌}
+use Rattle.std.proofs.Common.{ap, ◌∙◌}
 use Rattle.tg_base.specs.Layouts.{Layout}
 use Rattle.tg_protocol.specs.Cells.{Place, cell_asks, get_cell, place_in}
 use Rattle.tg_chain.specs.Ends.{get_end}

@@ -1,4 +1,4 @@
-use Rattle.std.proofs.Common.{◌≡◌, sym, ap, ◌∙◌}
+use Rattle.std.proofs.Common.{sym, ap, ◌∙◌}
 use Rattle.tg_protocol.specs.Walking.{walks, walk_end}
 use Rattle.tg_chain.specs.declared.ends.GetCellEnd.{GetCellEnd}
 use Rattle.tg_chain.specs.Ends.{get_end}

@@ -1,4 +1,4 @@
-use Rattle.std.proofs.Common.{◌≡◌, None, sym, ap, ◌∙◌}
+use Rattle.std.proofs.Common.{None, sym, ap, ◌∙◌}
 use Rattle.tg_protocol.specs.Walking.{walks}
 use Rattle.tg_stream.specs.Turns.{by_walk}
 use Rattle.tg_stream.specs.Walks.{Course, walk_of}
