@@ -40,7 +40,7 @@ impl Cells {
         self.map.get(&pos)
     }
 
-    /// The cell at a position becomes known.
+    /// The cell at a position becomes known. Where memory runs out, all are given up.
     pub fn put(self, pos: Pos, cell: Cell) -> Result<Cells, NoMemory>
         ensures { IfOk result (λ c. c ≡ with_cell self pos cell) }
     {

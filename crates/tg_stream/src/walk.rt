@@ -67,7 +67,7 @@ impl Walk {
     }
 
     /// Takes an awaited answer of a unit, and passes every other message by. Where the cell is read, the walk
-    /// goes on in this layout.
+    /// goes on in this layout. Where memory runs out, the walk is given up, and no number was drawn.
     pub fn feed(
         self,
         alloc: Global,
