@@ -1,0 +1,13 @@
+pub mod Chains
+pub mod Trims
+pub mod Visits
+pub mod CellSteps
+pub mod Subs
+pub mod Lookups
+pub mod Costs
+pub mod Trails
+pub mod Reading
+pub mod Few
+pub mod Ending
+pub mod Paths
+pub mod Streams

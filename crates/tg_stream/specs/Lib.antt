@@ -1,0 +1,5 @@
+pub mod Words
+pub mod Walks
+pub mod Turns
+pub mod Laws
+pub mod Paths

@@ -1,0 +1,72 @@
+//! Known cells.
+
+ghost use Rattle.std.specs.Prelude.{◌≡◌, [], option_copied, IfOk};
+ghost use Rattle.tg_protocol.specs.Words.{cell_at, with_cell, cells_from};
+
+use std::alloc::Global;
+use std::collections::BTreeMap;
+use std::marker::Model;
+use tg_base::{Cell, NoMemory, Pos};
+
+/// Known cells by position. A cell that is final stays so, and isn't read again.
+#[derive(Drop)]
+pub struct Cells {
+    map: BTreeMap<u64, Cell>,
+}
+
+impl Model for Cells {
+    ghost use Rattle.std.specs.Prelude.{ℕ, List};
+    ghost use Rattle.tg_base.specs.declared.cell.Cell.{Cell};
+
+    ghost Value = { List (ℕ × Cell) };
+
+    ghost view = { λ c. c.map.entries };
+}
+
+impl Cells {
+    /// None is known. It takes no memory.
+    pub fn new(alloc: Global) -> Cells
+        ensures { result ≡ [] }
+    {
+        Cells {
+            map: BTreeMap::new(alloc),
+        }
+    }
+
+    /// The cell at a position: None exactly where none is known. It takes no memory.
+    pub fn get(&self, pos: Pos) -> Option<&Cell>
+        ensures { option_copied result ≡ cell_at self.now pos }
+    {
+        self.map.get(&pos)
+    }
+
+    /// The cell at a position becomes known. Where memory runs out, all are given up.
+    pub fn put(self, pos: Pos, cell: Cell) -> Result<Cells, NoMemory>
+        ensures { IfOk result (λ c. c ≡ with_cell self pos cell) }
+    {
+        let mut map = self.map;
+        map.insert(pos, cell)?;
+        Ok(Cells { map })
+    }
+
+    /// The cells below a position are given up. It takes no memory.
+    pub fn forget_below(self, pos: Pos) -> Cells
+        ensures { result ≡ cells_from pos self }
+    {
+        let mut map = self.map;
+        drop_below(&mut map, pos);
+        Cells { map }
+    }
+}
+
+/// Drops the entries below a position.
+fn drop_below(map: &mut BTreeMap<u64, Cell>, pos: Pos)
+    ensures { map.new.entries ≡ cells_from pos map.old.entries }
+{
+    while let Some((first, _)) = map.first_key_value() {
+        if *first >= pos {
+            break;
+        }
+        let _ = map.pop_first();
+    }
+}
