@@ -46,7 +46,7 @@ put_next_few b p most d t j (Ends Seen) n u x old kept ended few = absurd kept
 put_next_few b p most d t j (Ends (Lost c)) n u x old kept ended few =
     let by = ended (Lost c) refl in
     let costs : count_if b (extra_in most p (Putting j) x) ≡ 1 + most =
-      ap (λ (o : Bool). count_if o (extra_in most p (Putting j) x)) by.0 ∙ lost_costs most p j.place j.work x c by.1 in
+    ap (λ (o : Bool). count_if o (extra_in most p (Putting j) x)) by.0 ∙ lost_costs most p j.place j.work x c by.1 in
     omega (arith, few, costs)
 put_next_few b p most d t j (Ends (Fenced v e)) n u x old kept ended few = omega arith
 put_next_few b p most d t j (Ends (Gone g)) n u x old kept ended few = omega arith
@@ -105,7 +105,7 @@ no_extra false = refl
 
 fed_few : (p : Layout) (most : ℕ) (d : Entry) (t : Option Token) (w : AppendWork) (q : Packet) (old : ℕ) → HasChainsUpTo p most → WorkKept p d t w →
     (append_fed p (append_at d t w) q.from q.rid q.msg old).next + append_left most (append_fed p (append_at d t w) q.from q.rid q.msg old).to
-      ≤ old + append_left_in most w + append_extra most p (Goes (append_at d t w)) q
+    ≤ old + append_left_in most w + append_extra most p (Goes (append_at d t w)) q
 unfolding append_work_asks
 fed_few p most d None (Asking r) q old chains kept = asking_few_if (awaits (append_asks p (asking d r)) q.from q.rid) p most d r q.from.num q.msg old chains
 fed_few p most d (Some t) (Asking r) q old chains kept = absurd cc
@@ -115,14 +115,14 @@ fed_few p most d (Some t) (Putting j) q old chains kept =
     let c = fed j q.from q.rid q.msg old in
     let goes = subst (λ (z : Place). PutNext z t.page c.to) kept.1 (put_fed_kept j t.page q.from q.rid q.msg old kept.2) in
     subst (λ (z : AppendTurn). z.next + append_left most z.to ≤ old + left j + count_if (awaits (cell_asks j) q.from q.rid) (extra_in most p (Putting j) (reply q.msg)))
-      (sym (put_fed p d t j q.from q.rid q.msg old))
-      (put_next_few (awaits (cell_asks j) q.from q.rid) p most d t j c.to c.next q.from.num (reply q.msg) old goes (λ f g. ends_by_answers j q.from q.rid q.msg old f g) (steps_are_few j q.from q.rid q.msg old))
+    (sym (put_fed p d t j q.from q.rid q.msg old))
+    (put_next_few (awaits (cell_asks j) q.from q.rid) p most d t j c.to c.next q.from.num (reply q.msg) old goes (λ f g. ends_by_answers j q.from q.rid q.msg old f g) (steps_are_few j q.from q.rid q.msg old))
 fed_few p most d (Some t) (Judging j) q old chains kept =
     let c = fed j q.from q.rid q.msg old in
     let goes = subst (λ (z : Place). FillNext z c.to) kept.1 (fill_fed_kept j q.from q.rid q.msg old kept.2) in
     let few = judge_next_few p most d t j c.to c.next old goes (steps_are_few j q.from q.rid q.msg old) in
     let turned : (append_fed p (judging d t j) q.from q.rid q.msg old).next + append_left most (append_fed p (judging d t j) q.from q.rid q.msg old).to ≤ old + left j + 1 + most =
-      subst (λ (z : AppendTurn). z.next + append_left most z.to ≤ old + left j + 1 + most) (sym (judge_fed p d t j q.from q.rid q.msg old)) few in
+    subst (λ (z : AppendTurn). z.next + append_left most z.to ≤ old + left j + 1 + most) (sym (judge_fed p d t j q.from q.rid q.msg old)) few in
     omega (arith, turned)
 
 -- ---- runs
@@ -155,8 +155,8 @@ all_few p most x [] old chains kept = omega arith
 all_few p most x (q ∷ qs) old chains kept =
     let one : (append_fed_next p x q old).next + append_left most (append_fed_next p x q old).to ≤ old + append_left most x + append_extra most p x q = next_few p most x q old chains kept in
     let rest : (append_fed_all p (append_fed_next p x q old).to qs (append_fed_next p x q old).next).next
-        ≤ (append_fed_next p x q old).next + append_left most (append_fed_next p x q old).to + append_extra_all most p (append_fed_next p x q old).to qs (append_fed_next p x q old).next =
-      all_few p most (append_fed_next p x q old).to qs (append_fed_next p x q old).next chains (next_kept p x q old kept) in
+    ≤ (append_fed_next p x q old).next + append_left most (append_fed_next p x q old).to + append_extra_all most p (append_fed_next p x q old).to qs (append_fed_next p x q old).next =
+    all_few p most (append_fed_next p x q old).to qs (append_fed_next p x q old).next chains (next_kept p x q old kept) in
     omega (arith, one, rest)
 
 pub append_requests_are_few : AppendRequestsAreFew

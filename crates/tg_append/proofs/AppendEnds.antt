@@ -108,12 +108,12 @@ fed_ends p d (Some t) (Putting j) from rid m n e kept h =
     let c = fed j from rid m n in
     let goes = subst (λ (a : Place). PutNext a t.page c.to) kept.1 (put_fed_kept j t.page from rid m n kept.2) in
     put_next_ends (awaits (cell_asks j) from rid) p d t j c.to c.next from.num (reply m) e goes (λ f g. ends_by_answers j from rid m n f g)
-      (sym (ap (λ z. z.to) (put_fed p d t j from rid m n)) ∙ h)
+    (sym (ap (λ z. z.to) (put_fed p d t j from rid m n)) ∙ h)
 fed_ends p d (Some t) (Judging j) from rid m n e kept h =
     let c = fed j from rid m n in
     let goes = subst (λ (a : Place). FillNext a c.to) kept.1 (fill_fed_kept j from rid m n kept.2) in
     judge_next_ends (awaits (cell_asks j) from rid) p d t j c.to c.next from.num (reply m) e goes (λ f g. ends_by_answers j from rid m n f g)
-      (sym (ap (λ z. z.to) (judge_fed p d t j from rid m n)) ∙ h)
+    (sym (ap (λ z. z.to) (judge_fed p d t j from rid m n)) ∙ h)
 
 pub append_ends_by_answers : AppendEndsByAnswers
 append_ends_by_answers p a from rid m next e kept h = fed_ends p a.draft a.token a.work from rid m next e kept h
@@ -203,12 +203,12 @@ fed_pauses p d (Some t) (Putting j) from rid m n a kept h =
     let c = fed j from rid m n in
     let goes = subst (λ (z : Place). PutNext z t.page c.to) kept.1 (put_fed_kept j t.page from rid m n kept.2) in
     put_next_pauses (awaits (cell_asks j) from rid) p d t j c.to c.next from.num (reply m) a (ap (λ (z : Place). z.epoch) kept.1) goes (λ f g. ends_by_answers j from rid m n f g)
-      (sym (ap (λ z. z.to) (put_fed p d t j from rid m n)) ∙ h)
+    (sym (ap (λ z. z.to) (put_fed p d t j from rid m n)) ∙ h)
 fed_pauses p d (Some t) (Judging j) from rid m n a kept h =
     let c = fed j from rid m n in
     let goes = subst (λ (z : Place). FillNext z c.to) kept.1 (fill_fed_kept j from rid m n kept.2) in
     judge_next_pauses (awaits (cell_asks j) from rid) p d t j c.to c.next from.num (reply m) a (ap (λ (z : Place). z.epoch) kept.1) goes (λ f g. ends_by_answers j from rid m n f g)
-      (sym (ap (λ z. z.to) (judge_fed p d t j from rid m n)) ∙ h)
+    (sym (ap (λ z. z.to) (judge_fed p d t j from rid m n)) ∙ h)
 
 pub append_pauses_by_answers : AppendPausesByAnswers
 append_pauses_by_answers p a from rid m next b kept h = fed_pauses p a.draft a.token a.work from rid m next b kept h

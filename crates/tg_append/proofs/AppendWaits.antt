@@ -52,7 +52,7 @@ pub job_waits : (j k : CellJob) (from : NodeId) (rid : ℕ) (m : Msg) (old : ℕ
 job_waits j k from rid m old goes none =
     let c = fed j from rid m old in
     waits_for_answers j from rid m old k goes
-      (ap (λ (b : List Out). b ++ cell_news cell_asks old c.next c.to) (fed_besides j from rid m old) ∙ ap (λ z. cell_news cell_asks old c.next z) goes ∙ none)
+    (ap (λ (b : List Out). b ++ cell_news cell_asks old c.next c.to) (fed_besides j from rid m old) ∙ ap (λ z. cell_news cell_asks old c.next z) goes ∙ none)
 
 put_next_waits : (p : Layout) (d : Entry) (t : Token) (j : CellJob) (from : NodeId) (rid : ℕ) (m : Msg) (old : ℕ) (y : Next CellJob CellEnd) (b : Append) →
     (fed j from rid m old).to ≡ y → PutNext (place_in p t.pos) t.page y → (put_next (putting d t j) t y (fed j from rid m old).next).to ≡ Goes b →

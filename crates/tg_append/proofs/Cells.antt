@@ -7,7 +7,6 @@ use Rattle.tg_protocol.specs.Replies.{Reply, reply}
 use Rattle.tg_protocol.specs.Cells.{Place, CellJob, CellWork, CellEnd, cell_asks, works, cell_feed, work_feed, fill_cell}
 use Rattle.tg_chain.specs.Turns.{fed, fed_if}
 
-
 work_besides : (a : Place) (w : CellWork) (u : ℕ) (x : Reply) (n : ℕ) → (cell_feed (works a w) u x n).besides ≡ []
 unfolding cell_feed work_feed fill_cell
 work_besides a w u x n = grind arith

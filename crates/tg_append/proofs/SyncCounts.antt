@@ -102,14 +102,14 @@ checking_few_if false p most os r u m old chains = omega arith
 
 fed_few : (p : Layout) (most : ℕ) (os : List Oid) (w : SyncWork) (q : Packet) (old : ℕ) → HasChainsUpTo p most → SyncWorkKept p os w →
     (sync_fed p (sync_at os w) q.from q.rid q.msg old).next + sync_left most (sync_fed p (sync_at os w) q.from q.rid q.msg old).to
-      ≤ old + sync_left_in most w + sync_extra p (Goes (sync_at os w)) q
+    ≤ old + sync_left_in most w + sync_extra p (Goes (sync_at os w)) q
 fed_few p most os (Checking r) q old chains kept = checking_few_if (awaits (sync_asks p (checking os r)) q.from q.rid) p most os r q.from.num q.msg old chains
 fed_few p most os (Settling a j) q old chains kept =
     let c = fed j q.from q.rid q.msg old in
     let goes = subst (λ (z : Place). FillNext z c.to) kept.2 (fill_fed_kept j q.from q.rid q.msg old kept.3) in
     let few = settle_next_few p most os a j c.to c.next old chains goes (steps_are_few j q.from q.rid q.msg old) in
     let turned : (sync_fed p (settling os a j) q.from q.rid q.msg old).next + sync_left most (sync_fed p (settling os a j) q.from q.rid q.msg old).to ≤ old + left j + most =
-      subst (λ (z : SyncTurn). z.next + sync_left most z.to ≤ old + left j + most) (sym (settle_fed p os a j q.from q.rid q.msg old)) few in
+    subst (λ (z : SyncTurn). z.next + sync_left most z.to ≤ old + left j + most) (sym (settle_fed p os a j q.from q.rid q.msg old)) few in
     omega (arith, turned)
 fed_few p most os (Probing a j) q old chains kept =
     let c = fed j q.from q.rid q.msg old in
@@ -118,7 +118,7 @@ fed_few p most os (Probing a j) q old chains kept =
     let none : left j ≡ 0 = probe_left j kept.2 in
     let few = probe_next_few p most os a j c.to c.next old goes (omega (arith, step, none)) in
     let turned : (sync_fed p (probing os a j) q.from q.rid q.msg old).next + sync_left most (sync_fed p (probing os a j) q.from q.rid q.msg old).to ≤ old =
-      subst (λ (z : SyncTurn). z.next + sync_left most z.to ≤ old) (sym (probe_fed p os a j q.from q.rid q.msg old)) few in
+    subst (λ (z : SyncTurn). z.next + sync_left most z.to ≤ old) (sym (probe_fed p os a j q.from q.rid q.msg old)) few in
     omega (arith, turned)
 
 -- ---- runs
@@ -151,8 +151,8 @@ all_few p most x [] old chains kept = omega arith
 all_few p most x (q ∷ qs) old chains kept =
     let one : (sync_fed_next p x q old).next + sync_left most (sync_fed_next p x q old).to ≤ old + sync_left most x + sync_extra p x q = next_few p most x q old chains kept in
     let rest : (sync_fed_all p (sync_fed_next p x q old).to qs (sync_fed_next p x q old).next).next
-        ≤ (sync_fed_next p x q old).next + sync_left most (sync_fed_next p x q old).to + sync_extra_all p (sync_fed_next p x q old).to qs (sync_fed_next p x q old).next =
-      all_few p most (sync_fed_next p x q old).to qs (sync_fed_next p x q old).next chains (next_kept p x q old kept) in
+    ≤ (sync_fed_next p x q old).next + sync_left most (sync_fed_next p x q old).to + sync_extra_all p (sync_fed_next p x q old).to qs (sync_fed_next p x q old).next =
+    all_few p most (sync_fed_next p x q old).to qs (sync_fed_next p x q old).next chains (next_kept p x q old kept) in
     omega (arith, one, rest)
 
 pub sync_requests_are_few : SyncRequestsAreFew

@@ -91,12 +91,12 @@ fed_ends p os (Settling a j) from rid m n e kept h =
     let c = fed j from rid m n in
     let goes = subst (λ (z : Place). FillNext z c.to) kept.2 (fill_fed_kept j from rid m n kept.3) in
     settle_next_ends (awaits (cell_asks j) from rid) p os a j c.to c.next from.num (reply m) e goes (λ f g. ends_by_answers j from rid m n f g)
-      (sym (ap (λ (z : SyncTurn). z.to) (settle_fed p os a j from rid m n)) ∙ h)
+    (sym (ap (λ (z : SyncTurn). z.to) (settle_fed p os a j from rid m n)) ∙ h)
 fed_ends p os (Probing a j) from rid m n e kept h =
     let c = fed j from rid m n in
     let goes = subst (λ (z : Place). ProbeNext z c.to) kept.1 (probe_fed_kept j from rid m n kept.2) in
     probe_next_ends (awaits (cell_asks j) from rid) p os a j c.to c.next from.num (reply m) e goes (λ f g. ends_by_answers j from rid m n f g)
-      (sym (ap (λ (z : SyncTurn). z.to) (probe_fed p os a j from rid m n)) ∙ h)
+    (sym (ap (λ (z : SyncTurn). z.to) (probe_fed p os a j from rid m n)) ∙ h)
 
 pub sync_ends_by_answers : SyncEndsByAnswers
 sync_ends_by_answers p s from rid m next e kept h = fed_ends p s.oids s.work from rid m next e kept h
@@ -172,12 +172,12 @@ fed_pauses p os (Settling a j) from rid m n t kept h =
     let c = fed j from rid m n in
     let goes = subst (λ (z : Place). FillNext z c.to) kept.2 (fill_fed_kept j from rid m n kept.3) in
     settle_next_pauses (awaits (cell_asks j) from rid) p os a j c.to c.next from.num (reply m) t (ap (λ (z : Place). z.epoch) kept.2) goes (λ f g. ends_by_answers j from rid m n f g)
-      (sym (ap (λ (z : SyncTurn). z.to) (settle_fed p os a j from rid m n)) ∙ h)
+    (sym (ap (λ (z : SyncTurn). z.to) (settle_fed p os a j from rid m n)) ∙ h)
 fed_pauses p os (Probing a j) from rid m n t kept h =
     let c = fed j from rid m n in
     let goes = subst (λ (z : Place). ProbeNext z c.to) kept.1 (probe_fed_kept j from rid m n kept.2) in
     probe_next_pauses (awaits (cell_asks j) from rid) p os a j c.to c.next from.num (reply m) t (ap (λ (z : Place). z.epoch) kept.1) goes (λ f g. ends_by_answers j from rid m n f g)
-      (sym (ap (λ (z : SyncTurn). z.to) (probe_fed p os a j from rid m n)) ∙ h)
+    (sym (ap (λ (z : SyncTurn). z.to) (probe_fed p os a j from rid m n)) ∙ h)
 
 pub sync_pauses_by_answers : SyncPausesByAnswers
 sync_pauses_by_answers p s from rid m next t kept h = fed_pauses p s.oids s.work from rid m next t kept h

@@ -26,7 +26,10 @@ use crate::step::{Next, Step};
 use crate::token::Token;
 use std::alloc::Global;
 use std::marker::Model;
-use tg_base::{Blob, Cell, Epoch, List, Msg, NoMemory, NodeId, Oid, Out, Pos, Projection, Rids, StreamLink, Turn};
+use tg_base::{
+    Blob, Cell, Epoch, List, Msg, NoMemory, NodeId, Oid, Out, Pos, Projection, Rids, StreamLink,
+    Turn,
+};
 use tg_chain::{FillCell, FillCellEnd, PutCell, PutCellEnd};
 use tg_entry::Draft;
 
@@ -528,7 +531,10 @@ impl Append {
     {
         let units = units_at(proj, token.pos);
         match FillCell::start(alloc, units, proj.epoch, token.pos, rids)? {
-            Turn::More { machine: fill, outs } => {
+            Turn::More {
+                machine: fill,
+                outs,
+            } => {
                 let state = AppendState::Judges { token, fill };
                 let machine = Append { draft, state };
                 Ok(Step {
@@ -563,7 +569,10 @@ impl Append {
     {
         let mut drawn = *rids;
         match fill.feed(alloc, from, rid, msg, &mut drawn)? {
-            Turn::More { machine: fill, outs } => {
+            Turn::More {
+                machine: fill,
+                outs,
+            } => {
                 *rids = drawn;
                 let state = AppendState::Judges { token, fill };
                 let machine = Append { draft, state };

@@ -21,7 +21,8 @@ pub use ends::{AppendEnd, Confirmed};
 pub use laws::{
     append_ends_by_answers, append_pauses_by_answers, append_requests_are_few,
     append_resumes_with_few, append_waits_for_answers, appends_keep, sync_ends_by_answers,
-    sync_is_told, sync_pauses_by_answers, sync_requests_are_few, sync_waits_for_answers, syncs_keep,
+    sync_is_told, sync_pauses_by_answers, sync_requests_are_few, sync_waits_for_answers,
+    syncs_keep,
 };
 pub use page::has_room;
 pub use step::{Next, Step};

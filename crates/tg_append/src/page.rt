@@ -21,11 +21,7 @@ pub fn has_room(draft: &Draft) -> bool
 
 /// The page of the draft with these links.
 #[tactic(auto, using(crate::proofs::Pages::linked_fits, crate::proofs::Rooms::page_long))]
-pub fn linked_page(
-    alloc: Global,
-    draft: &Draft,
-    links: &List<StreamLink>,
-) -> Result<Blob, NoMemory>
+pub fn linked_page(alloc: Global, draft: &Draft, links: &List<StreamLink>) -> Result<Blob, NoMemory>
     requires named { names_all (streams_of draft.now) links.now ≡ true }
     requires room { HasRoom draft.now }
     ensures { IfOk result (λ page. page ≡ page_of (linked draft.now links.now)) }

@@ -25,7 +25,9 @@ use crate::sync_state::SyncState;
 use crate::token::Answer;
 use std::alloc::Global;
 use std::marker::Model;
-use tg_base::{Cell, Epoch, List, Msg, NoMemory, NodeId, Oid, Out, Pos, Projection, Rids, StreamLink, Turn};
+use tg_base::{
+    Cell, Epoch, List, Msg, NoMemory, NodeId, Oid, Out, Pos, Projection, Rids, StreamLink, Turn,
+};
 use tg_chain::{FillCell, FillCellEnd, Probe, ProbeEnd};
 
 /// A step of a sync. In a newer layout it starts over with the same objects.
@@ -332,7 +334,10 @@ impl Sync {
         let last = before(answer.tail);
         let units = units_at(proj, last);
         match FillCell::start(alloc, units, proj.epoch, last, rids)? {
-            Turn::More { machine: fill, outs } => {
+            Turn::More {
+                machine: fill,
+                outs,
+            } => {
                 let state = SyncState::Settles { answer, fill };
                 let machine = Sync { oids, state };
                 Ok(Step {
@@ -366,7 +371,10 @@ impl Sync {
     {
         let mut drawn = *rids;
         match fill.feed(alloc, from, rid, msg, &mut drawn)? {
-            Turn::More { machine: fill, outs } => {
+            Turn::More {
+                machine: fill,
+                outs,
+            } => {
                 *rids = drawn;
                 let state = SyncState::Settles { answer, fill };
                 let machine = Sync { oids, state };
@@ -441,7 +449,10 @@ impl Sync {
         let last = before(answer.tail);
         let units = units_at(proj, last);
         match Probe::start(alloc, units, proj.epoch, last, rids)? {
-            Turn::More { machine: probe, outs } => {
+            Turn::More {
+                machine: probe,
+                outs,
+            } => {
                 let state = SyncState::Probes { answer, probe };
                 let machine = Sync { oids, state };
                 Ok(Step {
@@ -474,7 +485,10 @@ impl Sync {
         ensures drawn { rids.new.next ≤ rids.old.next + 5 }
     {
         match probe.feed(alloc, from, rid, msg, rids)? {
-            Turn::More { machine: probe, outs } => {
+            Turn::More {
+                machine: probe,
+                outs,
+            } => {
                 let state = SyncState::Probes { answer, probe };
                 let machine = Sync { oids, state };
                 Ok(Step {

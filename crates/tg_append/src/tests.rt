@@ -4,7 +4,8 @@ use super::*;
 use std::alloc::Global;
 use std::test::Fail;
 use tg_base::{
-    Backs, Cell, Chain, List, Msg, NoMemory, NodeId, Oid, Out, Projection, Range, Rids, Role, StreamLink,
+    Backs, Cell, Chain, List, Msg, NoMemory, NodeId, Oid, Out, Projection, Range, Rids, Role,
+    StreamLink,
 };
 use tg_entry::{Body, Draft, Entry, Head};
 
@@ -62,10 +63,12 @@ fn decision(streams: List<StreamLink>) -> Draft
 
 fn going(step: Result<AppendStep, NoMemory>) -> Result<Append, Fail> {
     match step {
-        Ok(Step {
-            next: Next::Goes { machine },
-            ..
-        }) => Ok(machine),
+        Ok(
+            Step {
+                next: Next::Goes { machine },
+                ..
+            },
+        ) => Ok(machine),
         _ => Err("it doesn't go on".into()),
     }
 }
@@ -95,13 +98,14 @@ fn an_entry_is_appended(rt: HostRuntime) -> Result<(), Fail> {
     let proj = layout(rt.alloc(), 1, 0)?;
     let from = node(Role::Unit, 3);
     match append.feed(rt.alloc(), &proj, from, 2, &Msg::Held, &mut rids) {
-        Ok(Step {
-            next:
-                Next::Ends {
+        Ok(
+            Step {
+                next: Next::Ends {
                     end: AppendEnd::At { pos, page },
                 },
-            ..
-        }) => {
+                ..
+            },
+        ) => {
             assert_eq!(rt; pos, 4);
             assert_eq!(rt; page.as_slice().len(), 56);
             Ok(())
@@ -150,7 +154,15 @@ fn requests_are_sent_again_with_their_numbers(rt: HostRuntime) -> Result<(), Fai
 
 fn is_write_again(outs: &[Out]) -> bool {
     match outs {
-        [out] => out.rid == 2 && matches!(&out.msg, Msg::Write { epoch: 1, pos: 4, .. }),
+        [out] => out.rid == 2
+            && matches!(
+                &out.msg,
+                Msg::Write {
+                    epoch: 1,
+                    pos: 4,
+                    ..
+                }
+            ),
         _ => false,
     }
 }
@@ -178,10 +190,12 @@ fn confirming(alloc: Global, start: u64, rids: &mut Rids) -> Result<Sync, Fail>
 
 fn checking(step: Result<SyncStep, NoMemory>) -> Result<Sync, Fail> {
     match step {
-        Ok(Step {
-            next: Next::Goes { machine },
-            ..
-        }) => Ok(machine),
+        Ok(
+            Step {
+                next: Next::Goes { machine },
+                ..
+            },
+        ) => Ok(machine),
         _ => Err("it doesn't go on".into()),
     }
 }
@@ -193,10 +207,12 @@ fn settled(alloc: Global, start: u64, answer: &Msg) -> Result<Option<(u64, Cell)
     let proj = layout(alloc, 1, start)?;
     let from = node(Role::Unit, 3);
     match sync.feed(alloc, &proj, from, 2, answer, &mut rids) {
-        Ok(Step {
-            next: Next::Ends { end },
-            ..
-        }) => Ok(end.settled),
+        Ok(
+            Step {
+                next: Next::Ends { end },
+                ..
+            },
+        ) => Ok(end.settled),
         _ => Err("it goes on".into()),
     }
 }

@@ -16,5 +16,5 @@ returns-else-token-proj-clause-turn c =
     let low : k.pos < p.start = subst (λ (t : Token). t.pos < p.start) c.token.view_is (subst (λ (q : Layout). c.token.inside.pos < q.start) c.proj.view_is c.if-token-proj.false) in
     let draft_is = ap (λ (s : Paused). s.draft) c.self.view_is in
     if_ok_by c.judge.result _ _ (λ t h w. h w
-      ∙ ap (λ (d : Entry). by_append p n (judge_turn (append_at d (Some k) w) k (fill_cell (place_in p k.pos) n))) draft_is
-      ∙ sym (ap (λ (x : AppendTurn). by_append p n x) (resumed p c.args.self.draft c.args.self.token k w n token_is low))) c.judge.ensures.turn
+    ∙ ap (λ (d : Entry). by_append p n (judge_turn (append_at d (Some k) w) k (fill_cell (place_in p k.pos) n))) draft_is
+    ∙ sym (ap (λ (x : AppendTurn). by_append p n x) (resumed p c.args.self.draft c.args.self.token k w n token_is low))) c.judge.ensures.turn
