@@ -63,12 +63,14 @@ fn decision(streams: List<StreamLink>) -> Draft
 
 fn going(step: Result<AppendStep, NoMemory>) -> Result<Append, Fail> {
     match step {
-        Ok(
-            Step {
-                next: Next::Goes { machine },
-                ..
-            },
-        ) => Ok(machine),
+        Ok(step) => append_in(step.next),
+        Err(_) => Err("memory".into()),
+    }
+}
+
+fn append_in(next: Next<Append, PausedAppend, AppendEnd>) -> Result<Append, Fail> {
+    match next {
+        Next::Goes { machine } => Ok(machine),
         _ => Err("it doesn't go on".into()),
     }
 }
@@ -98,19 +100,20 @@ fn an_entry_is_appended(rt: HostRuntime) -> Result<(), Fail> {
     let proj = layout(rt.alloc(), 1, 0)?;
     let from = node(Role::Unit, 3);
     match append.feed(rt.alloc(), &proj, from, 2, &Msg::Held, &mut rids) {
-        Ok(
-            Step {
-                next: Next::Ends {
-                    end: AppendEnd::At { pos, page },
-                },
-                ..
-            },
-        ) => {
-            assert_eq!(rt; pos, 4);
-            assert_eq!(rt; page.as_slice().len(), 56);
-            Ok(())
-        }
-        _ => Err("it goes on".into()),
+        Ok(step) => assert!(rt; is_at(&step.next, 4, 56)),
+        Err(_) => return Err("memory".into()),
+    }
+    Ok(())
+}
+
+/// Whether an append has ended at this position, with a page of so many bytes.
+fn is_at(next: &Next<Append, PausedAppend, AppendEnd>, at: u64, bytes: usize) -> bool {
+    match next {
+        Next::Ends { end } => match end {
+            AppendEnd::At { pos, page } => *pos == at && page.as_slice().len() == bytes,
+            _ => false,
+        },
+        _ => false,
     }
 }
 
@@ -121,17 +124,10 @@ fn an_old_token_is_settled_first(rt: HostRuntime) -> Result<(), Fail> {
     let proj = layout(rt.alloc(), 2, 5)?;
     let paused = append.pause();
     match paused.resume(rt.alloc(), &proj, &mut rids) {
-        Ok(Step { outs, .. }) => {
-            assert!(rt;
-                matches!(
-                    outs.as_slice().first().map(|o| &o.msg),
-                    Some(Msg::Fill { epoch: 2, pos: 4 })
-                )
-            );
-            Ok(())
-        }
-        _ => Err("memory".into()),
+        Ok(step) => assert!(rt; is_fill(step.outs.as_slice(), 3, 2)),
+        Err(_) => return Err("memory".into()),
     }
+    Ok(())
 }
 
 #[test]
@@ -146,7 +142,7 @@ fn requests_are_sent_again_with_their_numbers(rt: HostRuntime) -> Result<(), Fai
     let mut rids = Rids::new();
     let sync = confirming(rt.alloc(), 4, &mut rids)?;
     match sync.again(rt.alloc(), &proj, &mut rids) {
-        Ok(outs) => assert!(rt; is_fill_again(outs.as_slice())),
+        Ok(outs) => assert!(rt; is_fill(outs.as_slice(), 2, 1)),
         Err(_) => return Err("memory".into()),
     }
     Ok(())
@@ -167,9 +163,13 @@ fn is_write_again(outs: &[Out]) -> bool {
     }
 }
 
-fn is_fill_again(outs: &[Out]) -> bool {
+/// Whether this is the request for a fill of position 4.
+fn is_fill(outs: &[Out], rid: u64, at_epoch: u64) -> bool {
     match outs {
-        [out] => out.rid == 2 && matches!(&out.msg, Msg::Fill { epoch: 1, pos: 4 }),
+        [out] => match &out.msg {
+            Msg::Fill { epoch, pos } => out.rid == rid && *epoch == at_epoch && *pos == 4,
+            _ => false,
+        },
         _ => false,
     }
 }
@@ -190,12 +190,14 @@ fn confirming(alloc: Global, start: u64, rids: &mut Rids) -> Result<Sync, Fail>
 
 fn checking(step: Result<SyncStep, NoMemory>) -> Result<Sync, Fail> {
     match step {
-        Ok(
-            Step {
-                next: Next::Goes { machine },
-                ..
-            },
-        ) => Ok(machine),
+        Ok(step) => sync_in(step.next),
+        Err(_) => Err("memory".into()),
+    }
+}
+
+fn sync_in(next: Next<Sync, List<Oid>, Confirmed>) -> Result<Sync, Fail> {
+    match next {
+        Next::Goes { machine } => Ok(machine),
         _ => Err("it doesn't go on".into()),
     }
 }
@@ -207,12 +209,14 @@ fn settled(alloc: Global, start: u64, answer: &Msg) -> Result<Option<(u64, Cell)
     let proj = layout(alloc, 1, start)?;
     let from = node(Role::Unit, 3);
     match sync.feed(alloc, &proj, from, 2, answer, &mut rids) {
-        Ok(
-            Step {
-                next: Next::Ends { end },
-                ..
-            },
-        ) => Ok(end.settled),
+        Ok(step) => settled_in(step.next),
+        Err(_) => Err("memory".into()),
+    }
+}
+
+fn settled_in(next: Next<Sync, List<Oid>, Confirmed>) -> Result<Option<(u64, Cell)>, Fail> {
+    match next {
+        Next::Ends { end } => Ok(end.settled),
         _ => Err("it goes on".into()),
     }
 }
