@@ -274,11 +274,7 @@ fn ask_len(verb: &str) -> usize
 }
 
 // A position, and the answer there.
-fn told_at(
-    alloc: Global,
-    ask: &AnyAsk,
-    words: &[&str],
-) -> Result<Option<(Pos, AnyAns)>, NoMemory>
+fn told_at(alloc: Global, ask: &AnyAsk, words: &[&str]) -> Result<Option<(Pos, AnyAns)>, NoMemory>
     ensures { IfOk result (λ x. x ≡ (told_at ask.now).read (texts words.now)) }
 {
     let Some(rest) = named("at", words) else {
@@ -297,10 +293,7 @@ fn told_at(
 }
 
 // An ask, and how it was answered at a position.
-fn answered(
-    alloc: Global,
-    words: &[&str],
-) -> Result<Option<(AnyAsk, (Pos, AnyAns))>, NoMemory>
+fn answered(alloc: Global, words: &[&str]) -> Result<Option<(AnyAsk, (Pos, AnyAns))>, NoMemory>
     ensures { IfOk result (λ x. x ≡ answered.read (texts words.now)) }
 {
     let [verb, ..] = words else {

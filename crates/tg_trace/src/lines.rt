@@ -105,7 +105,12 @@ pub fn reply(alloc: Global, words: &[&str]) -> Result<Option<AnyMark>, NoMemory>
     let Some(what) = what(alloc, rest)? else {
         return Ok(None);
     };
-    Ok(Some(Mark { event, client, tx, what }))
+    Ok(Some(Mark {
+        event,
+        client,
+        tx,
+        what,
+    }))
 }
 
 /// How many transactions the history has, by the words of its line.
@@ -126,10 +131,7 @@ fn writes(alloc: Global, words: &[&str]) -> Result<Option<List<(Oid, AnyOp)>>, N
     each_write(alloc, parts.as_slice())
 }
 
-fn each_write(
-    alloc: Global,
-    parts: &[&[&str]],
-) -> Result<Option<List<(Oid, AnyOp)>>, NoMemory>
+fn each_write(alloc: Global, parts: &[&[&str]]) -> Result<Option<List<(Oid, AnyOp)>>, NoMemory>
     ensures { IfOk result (λ x. x ≡ each write.read (map (λ part. texts part.now) parts.now)) }
 {
     let mut writes = List::new(alloc);
@@ -158,5 +160,10 @@ pub fn entry(alloc: Global, words: &[&str]) -> Result<Option<AnyDone>, NoMemory>
     let Some(writes) = writes(alloc, rest)? else {
         return Ok(None);
     };
-    Ok(Some(Done { stamp, client, number, writes }))
+    Ok(Some(Done {
+        stamp,
+        client,
+        number,
+        writes,
+    }))
 }

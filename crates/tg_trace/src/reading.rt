@@ -42,11 +42,7 @@ fn parse(alloc: Global, pieces: &[&[u8]]) -> Result<Transcript, TextFault>
 }
 
 // The transcript, if nothing stands behind its last line. Else this line is the first outside.
-fn ended(
-    line: u64,
-    transcript: Option<Transcript>,
-    rest: &[u8],
-) -> Result<Transcript, TextFault>
+fn ended(line: u64, transcript: Option<Transcript>, rest: &[u8]) -> Result<Transcript, TextFault>
     ensures { Parses result (ended line transcript rest.now) }
 {
     let Some(transcript) = transcript else {
@@ -118,11 +114,7 @@ fn begin(alloc: Global, words: &[&str]) -> Result<Option<Beginning>, NoMemory>
 }
 
 // What a line makes of what was begun.
-fn go_on(
-    alloc: Global,
-    begun: Beginning,
-    words: &[&str],
-) -> Result<Option<Beginning>, NoMemory>
+fn go_on(alloc: Global, begun: Beginning, words: &[&str]) -> Result<Option<Beginning>, NoMemory>
     ensures { IfOk result (λ x. x ≡ step_past begun begun.history (texts words.now)) }
 {
     let Beginning {
@@ -148,7 +140,11 @@ fn after_replies(
     if let Some(mark) = reply(alloc, words)? {
         let mut trace = trace;
         trace.push(mark)?;
-        return Ok(Some(Beginning { objects, trace, history: None }));
+        return Ok(Some(Beginning {
+            objects,
+            trace,
+            history: None,
+        }));
     }
     let Some(count) = count(alloc, words)? else {
         return Ok(None);
@@ -184,11 +180,7 @@ fn after_entries(
 }
 
 // The transaction of a line, if one is still to come and its place is above those so far.
-fn next_entry(
-    alloc: Global,
-    past: &Past,
-    words: &[&str],
-) -> Result<Option<AnyDone>, NoMemory>
+fn next_entry(alloc: Global, past: &Past, words: &[&str]) -> Result<Option<AnyDone>, NoMemory>
     ensures { IfOk result (λ x. x ≡ next_entry past.now (texts words.now)) }
 {
     if past.entries.len() as u64 >= past.count {

@@ -31,11 +31,7 @@ fn state_refusal(verb: &str, fields: &[&str]) -> Option<Refusal>
 }
 
 // A refusal that names an object.
-fn object_refusal(
-    alloc: Global,
-    verb: &str,
-    fields: &[&str],
-) -> Result<Option<Refusal>, NoMemory>
+fn object_refusal(alloc: Global, verb: &str, fields: &[&str]) -> Result<Option<Refusal>, NoMemory>
     ensures { IfOk result (λ x. x ≡ object_refusal verb.now (texts fields.now)) }
 {
     if verb == "not-hosted" {
@@ -58,16 +54,14 @@ fn object_refusal(
 }
 
 // A refusal that names a number.
-fn number_refusal(
-    alloc: Global,
-    verb: &str,
-    fields: &[&str],
-) -> Result<Option<Refusal>, NoMemory>
+fn number_refusal(alloc: Global, verb: &str, fields: &[&str]) -> Result<Option<Refusal>, NoMemory>
     ensures { IfOk result (λ x. x ≡ number_refusal verb.now (texts fields.now)) }
 {
     if verb == "too-large" {
         let bytes: Option<u64> = one(alloc, fields)?;
-        return Ok(bytes.map(|bytes| Refusal::TooLarge { bytes: bytes as usize }));
+        return Ok(bytes.map(|bytes| Refusal::TooLarge {
+            bytes: bytes as usize,
+        }));
     }
     if verb == "log-full" {
         let limit: Option<u64> = one(alloc, fields)?;
@@ -83,7 +77,9 @@ fn number_refusal(
     }
     if verb == "not-closed" {
         let range: Option<u64> = one(alloc, fields)?;
-        return Ok(range.map(|range| Refusal::NotClosed { range: range as usize }));
+        return Ok(range.map(|range| Refusal::NotClosed {
+            range: range as usize,
+        }));
     }
     if verb == "ahead" {
         let tail: Option<u64> = one(alloc, fields)?;

@@ -15,11 +15,7 @@ use tg_base::{NoMemory, Oid, Part, Pos};
 use tg_model::What;
 
 // What is told of an open transaction.
-fn transaction_told(
-    alloc: Global,
-    verb: &str,
-    fields: &[&str],
-) -> Result<Option<AnyWhat>, NoMemory>
+fn transaction_told(alloc: Global, verb: &str, fields: &[&str]) -> Result<Option<AnyWhat>, NoMemory>
     ensures { IfOk result (λ x. x ≡ transaction_told verb.now (texts fields.now)) }
 {
     if verb == "begin" {
@@ -41,11 +37,7 @@ fn transaction_told(
 }
 
 // What was answered to an ask.
-fn answer_told(
-    alloc: Global,
-    verb: &str,
-    fields: &[&str],
-) -> Result<Option<AnyWhat>, NoMemory>
+fn answer_told(alloc: Global, verb: &str, fields: &[&str]) -> Result<Option<AnyWhat>, NoMemory>
     ensures { IfOk result (λ x. x ≡ answer_told verb.now (texts fields.now)) }
 {
     if verb == "asked" {
@@ -83,11 +75,7 @@ fn aborted(
 }
 
 // What became of a transaction.
-fn record_told(
-    alloc: Global,
-    verb: &str,
-    fields: &[&str],
-) -> Result<Option<AnyWhat>, NoMemory>
+fn record_told(alloc: Global, verb: &str, fields: &[&str]) -> Result<Option<AnyWhat>, NoMemory>
     ensures { IfOk result (λ x. x ≡ record_told verb.now (texts fields.now)) }
 {
     if verb == "committed" {
@@ -100,7 +88,13 @@ fn record_told(
         let Some((at, (oid, (part, (seen, now))))) = aborted(alloc, fields)? else {
             return Ok(None);
         };
-        return Ok(Some(What::Aborted { at, oid, part, seen, now }));
+        return Ok(Some(What::Aborted {
+            at,
+            oid,
+            part,
+            seen,
+            now,
+        }));
     }
     if verb == "unsure" {
         let Some((at, pos)) = two(alloc, fields)? else {
@@ -112,11 +106,7 @@ fn record_told(
 }
 
 // What is told of a record's fate.
-fn fate_told(
-    alloc: Global,
-    verb: &str,
-    fields: &[&str],
-) -> Result<Option<AnyWhat>, NoMemory>
+fn fate_told(alloc: Global, verb: &str, fields: &[&str]) -> Result<Option<AnyWhat>, NoMemory>
     ensures { IfOk result (λ x. x ≡ fate_told verb.now (texts fields.now)) }
 {
     if verb == "fate" {
@@ -154,11 +144,7 @@ fn saved(alloc: Global, words: &[&str]) -> Result<Option<(Oid, (Pos, Pos))>, NoM
 }
 
 // What is told of an object.
-fn object_told(
-    alloc: Global,
-    verb: &str,
-    fields: &[&str],
-) -> Result<Option<AnyWhat>, NoMemory>
+fn object_told(alloc: Global, verb: &str, fields: &[&str]) -> Result<Option<AnyWhat>, NoMemory>
     ensures { IfOk result (λ x. x ≡ object_told verb.now (texts fields.now)) }
 {
     if verb == "hosted" {
@@ -196,11 +182,7 @@ fn place(alloc: Global, words: &[&str]) -> Result<Option<(u16, (usize, usize))>,
 }
 
 // What is told of the log, of layouts and of units, and refusals.
-fn layout_told(
-    alloc: Global,
-    verb: &str,
-    fields: &[&str],
-) -> Result<Option<AnyWhat>, NoMemory>
+fn layout_told(alloc: Global, verb: &str, fields: &[&str]) -> Result<Option<AnyWhat>, NoMemory>
     ensures { IfOk result (λ x. x ≡ layout_told verb.now (texts fields.now)) }
 {
     if verb == "trimmed" {
@@ -219,7 +201,11 @@ fn layout_told(
         let Some((unit, (range, stripe))) = place(alloc, fields)? else {
             return Ok(None);
         };
-        return Ok(Some(What::Copied { unit, range, stripe }));
+        return Ok(Some(What::Copied {
+            unit,
+            range,
+            stripe,
+        }));
     }
     if verb == "refused" {
         let Some(why) = refusal(alloc, fields)? else {

@@ -61,7 +61,12 @@ fn printed_again(alloc: Global, text: &[u8]) -> Result<List<u8>, TextFault>
 {
     let told = read(alloc, text)?;
     let objects = told.objects.as_slice();
-    Ok(render(alloc, objects, told.trace.as_slice(), told.history.as_slice())?)
+    Ok(render(
+        alloc,
+        objects,
+        told.trace.as_slice(),
+        told.history.as_slice(),
+    )?)
 }
 
 // What was printed, read: it is the transcript again.
@@ -70,7 +75,12 @@ fn read_again(alloc: Global, told: &Transcript) -> Result<Transcript, TextFault>
     ensures { MatchResult result (λ again. again ≡ told.now) (λ e. e ≡ fault.NoMemory) }
 {
     let objects = told.objects.as_slice();
-    let text = render(alloc, objects, told.trace.as_slice(), told.history.as_slice())?;
+    let text = render(
+        alloc,
+        objects,
+        told.trace.as_slice(),
+        told.history.as_slice(),
+    )?;
     read(alloc, text.as_slice())
 }
 
@@ -239,9 +249,15 @@ const OUTSIDE: [(&str, u64); 41] = [
     ("objects\n1 c0 4294967296 begin\nhistory 0\n", 2),
     ("objects\n1 c0 1 begin now\nhistory 0\n", 2),
     ("objects\n1 c0 1 put ctr0 add -0\nhistory 0\n", 2),
-    ("objects\n1 c0 1 asked ctr0 value at 0 = none\nhistory 0\n", 2),
+    (
+        "objects\n1 c0 1 asked ctr0 value at 0 = none\nhistory 0\n",
+        2,
+    ),
     ("objects\n1 c0 1 asked map0 keys at 0 = [a\nhistory 0\n", 2),
-    ("objects\n1 c0 1 aborted 2 ctr0 seen 0 now 1\nhistory 0\n", 2),
+    (
+        "objects\n1 c0 1 aborted 2 ctr0 seen 0 now 1\nhistory 0\n",
+        2,
+    ),
     ("objects\n1 c0 0 fate 3 maybe\nhistory 0\n", 2),
     ("objects\n1 c0 0 refused busy update\nhistory 0\n", 2),
     ("objects\n1 c0 0 refused\nhistory 0\n", 2),
@@ -250,10 +266,22 @@ const OUTSIDE: [(&str, u64); 41] = [
     ("objects\nhistory 1\n0 c0 1\n", 3),
     ("objects\nhistory 1\n0 c0 1 ctr0 add 5 ;\n", 3),
     ("objects\nhistory 2\n0 c0 1 ctr0 add 5\n", 4),
-    ("objects\nhistory 1\n0 c0 1 ctr0 add 5\n1 c0 2 ctr0 add 5\n", 4),
-    ("objects\nhistory 2\n1 c0 1 ctr0 add 5\n1 c0 2 ctr0 add 5\n", 4),
-    ("objects\nhistory 2\n2 c0 1 ctr0 add 5\n1 c0 2 ctr0 add 5\n", 4),
-    ("objects\nhistory 3\n1 c0 1 ctr0 add 5\n3 c0 2 ctr0 add 5\n2 c0 3 ctr0 add 5\n", 5),
+    (
+        "objects\nhistory 1\n0 c0 1 ctr0 add 5\n1 c0 2 ctr0 add 5\n",
+        4,
+    ),
+    (
+        "objects\nhistory 2\n1 c0 1 ctr0 add 5\n1 c0 2 ctr0 add 5\n",
+        4,
+    ),
+    (
+        "objects\nhistory 2\n2 c0 1 ctr0 add 5\n1 c0 2 ctr0 add 5\n",
+        4,
+    ),
+    (
+        "objects\nhistory 3\n1 c0 1 ctr0 add 5\n3 c0 2 ctr0 add 5\n2 c0 3 ctr0 add 5\n",
+        5,
+    ),
 ];
 
 #[test]
