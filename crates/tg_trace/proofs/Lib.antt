@@ -12,4 +12,3 @@ pub mod Runs
 pub mod Spaces
 pub mod Whole
 pub mod Exact
-pub mod Slices
