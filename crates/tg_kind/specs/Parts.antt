@@ -1,5 +1,6 @@
 -- What part of a state an op changes, or an ask looks at.
-use Rattle.std.specs.Prelude.{ℕ, ◌/◌, ◌^◌, Bool, true, false, ◌==◌}
+use Rattle.std.specs.Prelude.{ℕ, ◌/◌, ◌^◌, Bool, true, false, ◌&&◌, ◌==◌, nat_lt, nat_le, length}
+use Rattle.std.specs.List.{list_all}
 use Rattle.std.specs.Cmp.Lexicographic.{pointwise}
 use Rattle.tg_base.specs.declared.ids.Oid.{Oid}
 use Rattle.tg_base.specs.declared.marks.Part.{Part}
@@ -27,3 +28,9 @@ overlap (Num m) (Num n) = m == n
 -- the tag of an object's kind, which is the top byte of its number
 abbrev pub tag_of : Oid → ℕ
 tag_of o = o.0 / 2 ^ 24
+
+-- a text of 1 to 4,096 bytes, or a number of 64 bits, or the whole
+abbrev pub is_part : Part → Bool
+is_part All = true
+is_part (Text t) = nat_le 1 (length t) && nat_le (length t) 4096 && list_all (λ b. nat_lt b 256) t
+is_part (Num n) = nat_lt n (2 ^ 64)

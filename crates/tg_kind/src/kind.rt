@@ -1,10 +1,10 @@
 //! What a kind of object is.
 
-ghost use Rattle.std.specs.Prelude.{◌≡◌, ◌++◌, List, ℕ, Bool, true, false, Result, Ok, IfOk, OnOk, OnErr};
+ghost use Rattle.std.specs.Prelude.{◌≡◌, ◌≤◌, ◌++◌, List, length, ℕ, Bool, true, false, Result, Ok, IfOk, OnOk, OnErr};
 ghost use Rattle.tg_base.specs.declared.ids.Oid.{Oid};
 ghost use Rattle.tg_base.specs.declared.marks.Part.{Part};
 ghost use Rattle.tg_codec.specs.Reading.{Read};
-ghost use Rattle.tg_kind.specs.Parts.{part_of, overlap};
+ghost use Rattle.tg_kind.specs.Parts.{part_of, overlap, is_part};
 ghost use Rattle.tg_kind.specs.Bytes.{IsBytes, Answers, front};
 ghost use Rattle.tg_kind.specs.Headers.{is_header};
 
@@ -85,7 +85,8 @@ pub trait Kind: Sized + Drop {
 
     /// What an ask looks at. It takes no memory.
     fn look(ask: &Self::Ask) -> Scope<'_>
-        ensures { part_of result ≡ looked ask.now };
+        ensures part { part_of result ≡ looked ask.now }
+        ensures lawful { is_part (looked ask.now) ≡ true };
 
     /// The bytes of a state. An `Err` is want of memory.
     fn save(&self, alloc: Global) -> Result<List<u8>, NoMemory>
@@ -126,6 +127,9 @@ pub trait Kind: Sized + Drop {
     /// An op of another kind changes nothing.
     ghost other_kind: { (o : Oid) (s : Self) (op : Self.Op) → is_state o s ≡ true → is_of o op ≡ false → applied s op ≡ s };
 
+    /// What an op changes is named by a text or a number that has a spelling.
+    ghost touched_is: { (op : Self.Op) → is_op op ≡ true → is_part (touched op) ≡ true };
+
     /// An op keeps the answer to an ask that looks elsewhere.
     ghost apart: { (s : Self) (op : Self.Op) (ask : Self.Ask) → overlap (touched op) (looked ask) ≡ false → answered (applied s op) ask ≡ answered s ask };
 
@@ -140,6 +144,9 @@ pub trait Kind: Sized + Drop {
 
     /// Nothing but spellings is read.
     ghost reads_only: { (bytes : List ℕ) (op : Self.Op) (rest : List ℕ) → IsBytes bytes → read bytes ≡ Ok (op, rest) → (is_op op ≡ true) × (bytes ≡ spelled op ++ rest) };
+
+    /// An op's bytes aren't none.
+    ghost spelled_some: { (op : Self.Op) → is_op op ≡ true → 1 ≤ length (spelled op) };
 
     /// No op's bytes begin another's.
     ghost no_front: { (a b : Self.Op) (x y : List ℕ) → is_op a ≡ true → is_op b ≡ true → spelled a ++ x ≡ spelled b ++ y → a ≡ b };

@@ -24,6 +24,10 @@ pub trait Registry: Kind {
     /// The op that marks an object in the directory.
     ghost marking: { Oid → ℕ → Self.Op };
 
+    /// Whether the op is of the object's kind. It takes no memory.
+    fn fits(oid: Oid, op: &Self::Op) -> bool
+        ensures { result ≡ Self.Kind.is_of oid op.now };
+
     /// Whether the op is of the object's kind and a user may put it.
     fn allows(oid: Oid, op: &Self::Op) -> bool
         ensures { result ≡ allowed oid op.now };
