@@ -12,3 +12,4 @@ pub mod Runs
 pub mod Spaces
 pub mod Whole
 pub mod Exact
+pub mod Slices

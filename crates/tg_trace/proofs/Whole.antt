@@ -58,7 +58,7 @@ parsed-step ps n m lines last e f g = rw (e, f, g) refl
 at_last : (lines : List (List ℕ)) (last : List ℕ) (n : ℕ) → n ≡ length lines → get_or (lines ++ last ∷ []) n [] ≡ last
 at_last lines last n e = rw e (last_of lines last)
 
-parsed_is : (lines : List (List ℕ)) (last : List ℕ) → parsed (lines ++ last ∷ []) ≡ read_of lines last
+pub parsed_is : (lines : List (List ℕ)) (last : List ℕ) → parsed (lines ++ last ∷ []) ≡ read_of lines last
 unfolding parsed
 parsed_is lines last =
     let n : length (lines ++ last ∷ []) - 1 ≡ length lines = omega (arith, length_last lines last) in

@@ -21,35 +21,35 @@ fn text(alloc: Global, word: &str) -> Result<Text, Fail> {
     }
 }
 
-fn create(alloc: Global, tree: Tree, at: &str, word: &str) -> Result<Tree, Fail> {
-    let op = TreeOp::Create {
-        path: path(alloc, at)?,
-        text: text(alloc, word)?,
-    };
+// Creates a path with a word (`c`), stores a word there (`s`), or deletes the path (`d`).
+fn op(alloc: Global, what: u8, at: &str, word: &str) -> Result<TreeOp, Fail> {
+    let path = path(alloc, at)?;
+    match what {
+        b'c' => Ok(TreeOp::Create {
+            path,
+            text: text(alloc, word)?,
+        }),
+        b's' => Ok(TreeOp::Store {
+            path,
+            text: text(alloc, word)?,
+        }),
+        _ => Ok(TreeOp::Delete { path }),
+    }
+}
+
+fn applied(tree: Tree, op: TreeOp) -> Result<Tree, Fail> {
     Ok(tree.apply(&op).map_err(|_| "memory")?)
 }
 
-fn store(alloc: Global, tree: Tree, at: &str, word: &str) -> Result<Tree, Fail> {
-    let op = TreeOp::Store {
-        path: path(alloc, at)?,
-        text: text(alloc, word)?,
-    };
-    Ok(tree.apply(&op).map_err(|_| "memory")?)
-}
-
-fn delete(alloc: Global, tree: Tree, at: &str) -> Result<Tree, Fail> {
-    let op = TreeOp::Delete {
-        path: path(alloc, at)?,
-    };
-    Ok(tree.apply(&op).map_err(|_| "memory")?)
-}
-
-// The tree with `/a` holding x, and `/a-b` and `/a/c` holding y.
-fn grown(alloc: Global) -> Result<Tree, Fail> {
-    let fresh = Tree::fresh(alloc, TREE, &[]).map_err(|_| "memory")?;
-    let tree = create(alloc, fresh, "/a", "x")?;
-    let tree = create(alloc, tree, "/a/c", "y")?;
-    create(alloc, tree, "/a-b", "y")
+// The tree after these ops on a new one.
+fn played(alloc: Global, steps: &[(u8, &str, &str)]) -> Result<Tree, Fail> {
+    match steps {
+        [] => Ok(Tree::fresh(alloc, TREE, &[]).map_err(|_| "memory")?),
+        [before @ .., (what, at, word)] => {
+            let op = op(alloc, *what, at, word)?;
+            applied(played(alloc, before)?, op)
+        }
+    }
 }
 
 fn has(alloc: Global, tree: &Tree, at: &str) -> Result<bool, Fail> {
@@ -93,35 +93,77 @@ fn names(alloc: Global, tree: &Tree, at: &str) -> Result<List<u8>, Fail> {
     }
 }
 
-// The saved tree of `grown`.
+// The saved tree with `/a` holding x, and `/a-b` and `/a/c` holding y, and a byte more twice.
 const SAVED: [u8; 39] = [
     5, 0, 0, 0, 4, 0, 1, b'/', 0, 0, 2, b'/', b'a', 1, 0, 1, b'x', 0, 4, b'/', b'a', b'-', b'b', 1,
     0, 1, b'y', 0, 4, b'/', b'a', b'/', b'c', 1, 0, 1, b'y', 0, 0,
 ];
 
+fn has_after(alloc: Global, steps: &[(u8, &str, &str)], at: &str) -> Result<bool, Fail> {
+    let tree = played(alloc, steps)?;
+    has(alloc, &tree, at)
+}
+
+fn holds_after(
+    alloc: Global,
+    steps: &[(u8, &str, &str)],
+    at: &str,
+    word: &str,
+) -> Result<bool, Fail> {
+    let tree = played(alloc, steps)?;
+    holds(alloc, &tree, at, word)
+}
+
+fn names_after(alloc: Global, steps: &[(u8, &str, &str)], at: &str) -> Result<List<u8>, Fail> {
+    let tree = played(alloc, steps)?;
+    names(alloc, &tree, at)
+}
+
+// `/a` holds x, `/a/c` and `/a-b` hold y; then ops that change nothing, and some that do.
+const STEPS: [(u8, &str, &str); 12] = [
+    (b'c', "/a", "x"),
+    (b'c', "/a/c", "y"),
+    (b'c', "/a-b", "y"),
+    (b'c', "/b/c", "y"),
+    (b'c', "/a", "z"),
+    (b'd', "/a", ""),
+    (b'd', "/", ""),
+    (b'd', "/q", ""),
+    (b's', "/q", "z"),
+    (b'd', "/a/c", ""),
+    (b'd', "/a", ""),
+    (b's', "/", "w"),
+];
+
+#[test]
+fn ops_that_change_nothing(rt: HostRuntime) -> Result<(), Fail> {
+    let alloc = rt.alloc();
+    assert!(rt; !has_after(alloc, &STEPS[..4], "/b/c")?);
+    assert!(rt; holds_after(alloc, &STEPS[..5], "/a", "x")?);
+    assert_eq!(rt; names_after(alloc, &STEPS[..9], "/")?.as_slice(), b"a a-b ".as_slice());
+    assert_eq!(rt; names_after(alloc, &STEPS[..9], "/a")?.as_slice(), b"c ".as_slice());
+    assert_eq!(rt; names_after(alloc, &STEPS[..9], "/q")?.as_slice(), b"".as_slice());
+    Ok(())
+}
+
 #[test]
 fn ops_change_a_tree(rt: HostRuntime) -> Result<(), Fail> {
     let alloc = rt.alloc();
-    let tree = grown(alloc)?;
-    let tree = create(alloc, tree, "/b/c", "y")?;
-    assert!(rt; !has(alloc, &tree, "/b/c")?);
-    let tree = create(alloc, tree, "/a", "z")?;
-    assert!(rt; holds(alloc, &tree, "/a", "x")?);
-    let tree = delete(alloc, tree, "/a")?;
-    let tree = delete(alloc, tree, "/")?;
-    let tree = delete(alloc, tree, "/q")?;
-    let tree = store(alloc, tree, "/q", "z")?;
-    assert_eq!(rt; names(alloc, &tree, "/")?.as_slice(), b"a a-b ".as_slice());
-    assert_eq!(rt; names(alloc, &tree, "/a")?.as_slice(), b"c ".as_slice());
-    assert_eq!(rt; names(alloc, &tree, "/q")?.as_slice(), b"".as_slice());
-    let tree = delete(alloc, tree, "/a/c")?;
-    let tree = delete(alloc, tree, "/a")?;
-    assert!(rt; !has(alloc, &tree, "/a")?);
-    assert!(rt; has(alloc, &tree, "/a-b")?);
-    let tree = store(alloc, tree, "/", "w")?;
-    assert!(rt; holds(alloc, &tree, "/", "w")?);
-    assert!(rt; holds(alloc, &tree, "/a", "")?);
+    assert!(rt; !has_after(alloc, &STEPS[..11], "/a")?);
+    assert!(rt; has_after(alloc, &STEPS[..11], "/a-b")?);
+    assert!(rt; holds_after(alloc, &STEPS, "/", "w")?);
+    assert!(rt; holds_after(alloc, &STEPS, "/a", "")?);
     Ok(())
+}
+
+fn saved_after(alloc: Global, steps: &[(u8, &str, &str)]) -> Result<List<u8>, Fail> {
+    let tree = played(alloc, steps)?;
+    Ok(tree.save(alloc).map_err(|_| "memory")?)
+}
+
+fn holds_loaded(alloc: Global, bytes: &[u8], at: &str, word: &str) -> Result<bool, Fail> {
+    let tree = Tree::load(alloc, TREE, bytes).map_err(|_| "a tree")?;
+    holds(alloc, &tree, at, word)
 }
 
 #[test]
@@ -131,12 +173,9 @@ fn a_text_has_up_to_4096_bytes(rt: HostRuntime) -> Result<(), Fail> {
     for _ in 0..4096 {
         word.push('b').map_err(|_| "memory")?;
     }
-    let fresh = Tree::fresh(alloc, TREE, &[]).map_err(|_| "memory")?;
-    let tree = store(alloc, fresh, "/", word.as_str())?;
-    let bytes = tree.save(alloc).map_err(|_| "memory")?;
+    let bytes = saved_after(alloc, &[(b's', "/", word.as_str())])?;
     assert_eq!(rt; bytes.len(), 4107);
-    let tree = Tree::load(alloc, TREE, bytes.as_slice()).map_err(|_| "a tree")?;
-    assert!(rt; holds(alloc, &tree, "/", word.as_str())?);
+    assert!(rt; holds_loaded(alloc, bytes.as_slice(), "/", word.as_str())?);
     Ok(())
 }
 
@@ -148,12 +187,17 @@ fn place(alloc: Global, bytes: &[u8]) -> Option<usize> {
     }
 }
 
+// Loads a tree, copies it, and saves the copy.
+fn saved_again(alloc: Global, bytes: &[u8]) -> Result<List<u8>, Fail> {
+    let tree = Tree::load(alloc, TREE, bytes).map_err(|_| "a tree")?;
+    let copy = tree.copy().map_err(|_| "memory")?;
+    Ok(copy.save(alloc).map_err(|_| "memory")?)
+}
+
 #[test]
 fn a_tree_is_saved_and_loaded(rt: HostRuntime) -> Result<(), Fail> {
     let alloc = rt.alloc();
-    let tree = Tree::load(alloc, TREE, &SAVED[..37]).map_err(|_| "a tree")?;
-    let copy = tree.copy().map_err(|_| "memory")?;
-    let bytes = copy.save(alloc).map_err(|_| "memory")?;
+    let bytes = saved_again(alloc, &SAVED[..37])?;
     assert_eq!(rt; bytes.as_slice(), &SAVED[..37]);
     assert_eq!(rt; place(alloc, &SAVED[..36]), Some(36));
     assert_eq!(rt; place(alloc, &SAVED[..38]), Some(37));
