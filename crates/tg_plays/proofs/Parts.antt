@@ -109,11 +109,22 @@ module _ (o : Oid) where
   other_key : (k : Part) (x : Part × ℕ) (whole : ℕ) (xs : List (Part × ℕ)) → part_eq k x.0 ≡ false → key_version k whole (x ∷ xs) ≡ key_version k whole xs
   other_key k x whole xs h = ap (λ (b : Bool). if b then x.1 else key_version k whole xs) h
 
-  unnamed_key : (k : Part) (whole : ℕ) (xs : List (Part × ℕ)) → names (parts_based xs) k ≡ false → key_version k whole xs ≡ whole
-  unnamed_key k whole [] h = refl
-  unnamed_key k whole (x ∷ xs) h =
-      let t = or_false (part_eq k x.0) (names (parts_based xs) k) (sym (with_named x.0 (parts_based xs) k) ∙ h) in
-      other_key k x whole xs t.0 ∙ unnamed_key k whole xs t.1
+  no_whole : (k j : Part) → is_whole k ≡ false → is_whole j ≡ true → part_eq k j ≡ false
+  no_whole k j part e = by (part_eq k j) refl
+    where
+      by : (t : Bool) → part_eq k j ≡ t → part_eq k j ≡ false
+      by true same = contrary (is_whole k) part (subst (λ (x : Part). is_whole x ≡ true) (sym (part_same k j same)) e)
+      by false same = same
+
+  unnamed_key : (k : Part) (whole : ℕ) (xs : List (Part × ℕ)) → is_whole k ≡ false → names (parts_based xs) k ≡ false → key_version k whole xs ≡ whole
+  unnamed_key k whole [] part h = refl
+  unnamed_key k whole (x ∷ xs) part h = by (unnamed_key k whole xs part) (is_whole x.0) refl h
+    where
+      by : (names (parts_based xs) k ≡ false → key_version k whole xs ≡ whole) → (b : Bool) → is_whole x.0 ≡ b → names (if b then parts_based xs else with_part x.0 (parts_based xs)) k ≡ false → key_version k whole (x ∷ xs) ≡ whole
+      by rest true e named = other_key k x whole xs (no_whole k x.0 part e) ∙ rest named
+      by rest false e named =
+          let t = or_false (part_eq k x.0) (names (parts_based xs) k) (sym (with_named x.0 (parts_based xs) k) ∙ named) in
+          other_key k x whole xs t.0 ∙ rest t.1
 
   keyed_version : (b : Based) (k : Part) → is_whole k ≡ false → version_in b k ≡ key_version k b.whole b.keys
   keyed_version b All h = absurd (cc)
@@ -122,7 +133,7 @@ module _ (o : Oid) where
 
   unnamed_based : (b : Based) (k : Part) (same : Bool) → oid_eq b.oid o ≡ same → is_whole k ≡ false → names (if same then parts_based b.keys else []) k ≡ false
       → (if same then version_in b k else 0) ≡ (if same then b.whole else 0)
-  unnamed_based b k true e part h = keyed_version b k part ∙ unnamed_key k b.whole b.keys h
+  unnamed_based b k true e part h = keyed_version b k part ∙ unnamed_key k b.whole b.keys part h
   unnamed_based b k false e part h = refl
 
   unnamed_base : (b : Option Based) (k : Part) → is_whole k ≡ false → names (base_parts b o) k ≡ false → base_version b o k ≡ whole_noted b [] o

@@ -78,9 +78,10 @@ abbrev pub parts_noted : List Noted → Oid → List Part → List Part
 parts_noted [] o ks = ks
 parts_noted (n ∷ ns) o ks = if oid_eq n.oid o && not (is_whole n.part) then with_part n.part (parts_noted ns o ks) else parts_noted ns o ks
 
+-- a key that names the whole says nothing
 abbrev pub parts_based : List (Part × ℕ) → List Part
 parts_based [] = []
-parts_based (x ∷ xs) = with_part x.0 (parts_based xs)
+parts_based (x ∷ xs) = if is_whole x.0 then parts_based xs else with_part x.0 (parts_based xs)
 
 abbrev pub base_parts : Option Based → Oid → List Part
 base_parts None o = []

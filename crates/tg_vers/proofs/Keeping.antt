@@ -12,7 +12,7 @@ use Rattle.tg_base.specs.declared.marks.Part.{Part}
 use Rattle.tg_base.specs.declared.marks.Part.TheVariants.{All, Text, Num}
 use Rattle.tg_protocol.specs.Words.{oid_eq, part_eq, is_whole, overlap}
 use Rattle.tg_protocol.specs.Versions.{Versions, Based, Noted, no_versions, based, key_version, version_in, base_version, noted_or, version_of, with_change, whole_noted, with_part, parts_noted, parts_based, base_parts, parts_of}
-use Rattle.tg_vers.specs.Kept.{Kept, Objects, Keeps, unchanged, version_kept, parts_kept, kept_of, noted_in, noted, keys_kept, based_kept, base_kept, notes_kept, names_parts, base_names_parts, parts_alone}
+use Rattle.tg_vers.specs.Kept.{Kept, Objects, Keeps, unchanged, version_kept, parts_kept, kept_of, noted_in, noted, keys_kept, based_kept, base_kept, notes_kept}
 use Rattle.tg_vers.proofs.Lookups.{lookup_put, lookup_taken}
 use Rattle.tg_vers.proofs.Order.{part_total, part_eq_is}
 use Rattle.tg_vers.proofs.Rows.{Rising, EntriesRise, Moves, rows, newer, rising_with, rows_same, rows_with, rows_rise, entries_rise, newer_with, none_newer}
@@ -118,14 +118,6 @@ same_noted x f ps w (Num m) n h = record {
 
 -- ---- a base
 
-both_so : (a b : Bool) → (a && b) ≡ true → (a ≡ true) × (b ≡ true)
-both_so true b e = (refl, e)
-both_so false b e = absurd cc
-
-denied : (b : Bool) → not b ≡ true → b ≡ false
-denied true e = absurd cc
-denied false e = refl
-
 no_whole : (p x : Part) → is_whole p ≡ false → is_whole x ≡ true → part_eq p x ≡ false
 unfolding part_eq
 no_whole All x d e = absurd cc
@@ -159,9 +151,13 @@ keys_rise (x ∷ xs) = by (keys_rise xs) (is_whole x.0)
     by more true = more
     by more false = entries_rise x.0 x.1 (keys_kept xs) more
 
-based_rising : (keys : List (Part × ℕ)) → names_parts keys ≡ true → Rising (parts_based keys)
-based_rising [] e = tt
-based_rising (x ∷ xs) e = let p = both_so _ _ e in rising_with x.0 (parts_based xs) (denied (is_whole x.0) p.0) (based_rising xs p.1)
+based_rising : (keys : List (Part × ℕ)) → Rising (parts_based keys)
+based_rising [] = tt
+based_rising (x ∷ xs) = by (based_rising xs) (is_whole x.0) refl
+  where
+    by : Rising (parts_based xs) → (b : Bool) → is_whole x.0 ≡ b → Rising (cond b (parts_based xs) (with_part x.0 (parts_based xs)))
+    by more true e = more
+    by more false e = rising_with x.0 (parts_based xs) e more
 
 first_key : (x : Part × ℕ) (xs : List (Part × ℕ)) (whole : ℕ) → Moves (λ (p : Part). key_version p whole xs) (λ (p : Part). key_version p whole (x ∷ xs)) x.0 x.1
 first_key x xs whole = record {
@@ -169,13 +165,19 @@ first_key x xs whole = record {
   there = λ p d e. ap (λ (c : Bool). cond c x.1 (key_version p whole xs)) (part_eq_turned p x.0 ∙ part_eq_is x.0 p ∙ e);
 }
 
-based_rows : (keys : List (Part × ℕ)) (whole : ℕ) → names_parts keys ≡ true → rows (λ (p : Part). key_version p whole keys) (parts_based keys) ≡ keys_kept keys
-based_rows [] whole e = refl
-based_rows (x ∷ xs) whole e =
-    let p = both_so _ _ e in
-    rows_with (λ (q : Part). key_version q whole xs) (λ (q : Part). key_version q whole (x ∷ xs)) x.0 x.1 (parts_based xs) (first_key x xs whole) (based_rising xs p.1)
-    ∙ ap (λ (es : List (Part × ℕ)). insert_entry part_cmp es x.0 x.1) (based_rows xs whole p.1)
-    ∙ ap (λ (c : Bool). cond c (keys_kept xs) (insert_entry part_cmp (keys_kept xs) x.0 x.1)) (sym (denied (is_whole x.0) p.0))
+based_rows : (keys : List (Part × ℕ)) (whole : ℕ) → rows (λ (p : Part). key_version p whole keys) (parts_based keys) ≡ keys_kept keys
+based_rows [] whole = refl
+based_rows (x ∷ xs) whole = by (based_rows xs whole) (is_whole x.0) refl
+  where
+    by : rows (λ (p : Part). key_version p whole xs) (parts_based xs) ≡ keys_kept xs → (b : Bool) → is_whole x.0 ≡ b
+        → rows (λ (p : Part). key_version p whole (x ∷ xs)) (cond b (parts_based xs) (with_part x.0 (parts_based xs))) ≡ cond b (keys_kept xs) (insert_entry part_cmp (keys_kept xs) x.0 x.1)
+    by more true e =
+        rows_same (λ (p : Part). key_version p whole xs) (λ (p : Part). key_version p whole (x ∷ xs)) (parts_based xs)
+        (λ p d. ap (λ (c : Bool). cond c x.1 (key_version p whole xs)) (no_whole p x.0 d e)) (based_rising xs)
+        ∙ more
+    by more false e =
+        rows_with (λ (q : Part). key_version q whole xs) (λ (q : Part). key_version q whole (x ∷ xs)) x.0 x.1 (parts_based xs) (first_key x xs whole) (based_rising xs)
+        ∙ ap (λ (es : List (Part × ℕ)). insert_entry part_cmp es x.0 x.1) more
 
 in_base : (b : Based) (p : Part) → version_kept (based_kept b.version b.whole b.keys) p ≡ version_in b p
 in_base b All = refl
@@ -187,13 +189,13 @@ by_key b All d = absurd cc
 by_key b (Text t) d = refl
 by_key b (Num n) d = refl
 
-same_base : (b : Based) → names_parts b.keys ≡ true → Same (based_kept b.version b.whole b.keys) (version_in b) (parts_based b.keys) b.whole
-same_base b e = record {
+same_base : (b : Based) → Same (based_kept b.version b.whole b.keys) (version_in b) (parts_based b.keys) b.whole
+same_base b = record {
   whole = refl;
   version = in_base b;
-  parts = based_rising b.keys e;
+  parts = based_rising b.keys;
   keys = keys_rise b.keys;
-  shown = ap (newer b.whole) (rows_same (λ (p : Part). key_version p b.whole b.keys) (version_in b) (parts_based b.keys) (by_key b) (based_rising b.keys e) ∙ based_rows b.keys b.whole e);
+  shown = ap (newer b.whole) (rows_same (λ (p : Part). key_version p b.whole b.keys) (version_in b) (parts_based b.keys) (by_key b) (based_rising b.keys) ∙ based_rows b.keys b.whole);
 }
 
 same_none : Same unchanged (λ (p : Part). 0) [] 0
@@ -210,12 +212,12 @@ same_none = record {
     none_of (Text t) = refl
     none_of (Num n) = refl
 
-same_start : (b : Option Based) (o : Oid) → base_names_parts b ≡ true → Same (kept_of (base_kept b) o) (base_version b o) (base_parts b o) (whole_noted b [] o)
-same_start None o e = same_none
-same_start (Some b) o e = subst (λ (t : Bool). Same (unwrap_or (cond t (Some (based_kept b.version b.whole b.keys)) None) unchanged) (base_version (Some b) o) (base_parts (Some b) o) (whole_noted (Some b) [] o)) (nat_eq_equiv.symm b.oid.0 o.0 ∙ oid_eq_is o b.oid) (by (oid_eq b.oid o))
+same_start : (b : Option Based) (o : Oid) → Same (kept_of (base_kept b) o) (base_version b o) (base_parts b o) (whole_noted b [] o)
+same_start None o = same_none
+same_start (Some b) o = subst (λ (t : Bool). Same (unwrap_or (cond t (Some (based_kept b.version b.whole b.keys)) None) unchanged) (base_version (Some b) o) (base_parts (Some b) o) (whole_noted (Some b) [] o)) (nat_eq_equiv.symm b.oid.0 o.0 ∙ oid_eq_is o b.oid) (by (oid_eq b.oid o))
   where
     by : (t : Bool) → Same (unwrap_or (cond t (Some (based_kept b.version b.whole b.keys)) None) unchanged) (λ (p : Part). cond t (version_in b p) 0) (cond t (parts_based b.keys) []) (cond t b.whole 0)
-    by true = same_base b e
+    by true = same_base b
     by false = same_none
 
 -- ---- all notes
@@ -224,12 +226,12 @@ whole_more : (b : Option Based) (n : Noted) (ns : List Noted) (o : Oid) → whol
 whole_more None n ns o = refl
 whole_more (Some b) n ns o = refl
 
-pub same_notes : (b : Option Based) (ns : List Noted) (o : Oid) → base_names_parts b ≡ true → Same (kept_of (notes_kept b ns) o) (noted_or b ns o) (parts_noted ns o (base_parts b o)) (whole_noted b ns o)
-same_notes b [] o e = same_start b o e
-same_notes b (n ∷ ns) o e =
+pub same_notes : (b : Option Based) (ns : List Noted) (o : Oid) → Same (kept_of (notes_kept b ns) o) (noted_or b ns o) (parts_noted ns o (base_parts b o)) (whole_noted b ns o)
+same_notes b [] o = same_start b o
+same_notes b (n ∷ ns) o =
     subst (λ (x : Kept). Same x (noted_or b (n ∷ ns) o) (parts_noted (n ∷ ns) o (base_parts b o)) (whole_noted b (n ∷ ns) o)) (sym (kept_noted (notes_kept b ns) n.oid n.part n.version o))
     (subst (λ (w : ℕ). Same (cond (oid_eq n.oid o) (noted_in (kept_of (notes_kept b ns) o) n.part n.version) (kept_of (notes_kept b ns) o)) (noted_or b (n ∷ ns) o) (parts_noted (n ∷ ns) o (base_parts b o)) w) (sym (whole_more b n ns o))
-    (by (same_notes b ns o e) (oid_eq n.oid o)))
+    (by (same_notes b ns o) (oid_eq n.oid o)))
   where
     by : Same (kept_of (notes_kept b ns) o) (noted_or b ns o) (parts_noted ns o (base_parts b o)) (whole_noted b ns o) → (t : Bool)
         → Same (cond t (noted_in (kept_of (notes_kept b ns) o) n.part n.version) (kept_of (notes_kept b ns) o)) (λ (p : Part). cond (t && overlap n.part p) n.version (noted_or b ns o p))
@@ -241,50 +243,20 @@ same_notes b (n ∷ ns) o e =
 
 pub new_keeps : Keeps [] no_versions
 unfolding no_versions
-new_keeps = record { kept = refl; parts = refl }
+new_keeps = record { kept = refl }
 
-alone_kept : (keys : List (Part × ℕ)) → keys_kept keys ≡ keys_kept (parts_alone keys)
-alone_kept [] = refl
-alone_kept (x ∷ xs) = by (alone_kept xs) (is_whole x.0) refl
-  where
-    by : keys_kept xs ≡ keys_kept (parts_alone xs) → (b : Bool) → is_whole x.0 ≡ b
-        → cond b (keys_kept xs) (insert_entry part_cmp (keys_kept xs) x.0 x.1) ≡ keys_kept (cond (not b) (x ∷ parts_alone xs) (parts_alone xs))
-    by more true e = more
-    by more false e =
-        ap (λ (es : List (Part × ℕ)). insert_entry part_cmp es x.0 x.1) more
-        ∙ ap (λ (c : Bool). cond c (keys_kept (parts_alone xs)) (insert_entry part_cmp (keys_kept (parts_alone xs)) x.0 x.1)) (sym e)
-
-alone_names : (keys : List (Part × ℕ)) → names_parts (parts_alone keys) ≡ true
-alone_names [] = refl
-alone_names (x ∷ xs) = by (alone_names xs) (is_whole x.0) refl
-  where
-    by : names_parts (parts_alone xs) ≡ true → (b : Bool) → is_whole x.0 ≡ b → names_parts (cond (not b) (x ∷ parts_alone xs) (parts_alone xs)) ≡ true
-    by more true e = more
-    by more false e = ap (λ (c : Bool). not c && names_parts (parts_alone xs)) e ∙ more
-
--- keys that name no whole are taken as they are
-pub alone_all : (keys : List (Part × ℕ)) → names_parts keys ≡ true → parts_alone keys ≡ keys
-alone_all [] e = refl
-alone_all (x ∷ xs) e =
-    let p = both_so _ _ e in
-    ap (λ (c : Bool). cond c (x ∷ parts_alone xs) (parts_alone xs)) p.0 ∙ ap (λ (es : List (Part × ℕ)). x ∷ es) (alone_all xs p.1)
-
-pub based_keeps : (o : Oid) (version whole : ℕ) (keys : List (Part × ℕ)) → Keeps ((o, based_kept version whole keys) ∷ []) (based o version whole (parts_alone keys))
+pub based_keeps : (o : Oid) (version whole : ℕ) (keys : List (Part × ℕ)) → Keeps ((o, based_kept version whole keys) ∷ []) (based o version whole keys)
 unfolding based
-based_keeps o version whole keys = record {
-  kept = ap (λ (ks : List (Part × ℕ)). (o, record { version = version; whole = whole; keys = ks }) ∷ []) (alone_kept keys);
-  parts = alone_names keys;
-}
+based_keeps o version whole keys = record { kept = refl }
 
 pub note_keeps : (os : Objects) (v : Versions) (o : Oid) (k : Part) (pos : ℕ) → Keeps os v → Keeps (noted os o k (pos + 1)) (with_change v o k pos)
 unfolding with_change
 note_keeps os v o k pos h = record {
   kept = ap (λ (qs : Objects). noted qs o k (pos + 1)) h.kept;
-  parts = h.parts;
 }
 
 same_told : (os : Objects) (v : Versions) (o : Oid) → Keeps os v → Same (kept_of os o) (noted_or v.base v.noted o) (parts_noted v.noted o (base_parts v.base o)) (whole_noted v.base v.noted o)
-same_told os v o h = subst (λ (qs : Objects). Same (kept_of qs o) (noted_or v.base v.noted o) (parts_noted v.noted o (base_parts v.base o)) (whole_noted v.base v.noted o)) (sym h.kept) (same_notes v.base v.noted o h.parts)
+same_told os v o h = subst (λ (qs : Objects). Same (kept_of qs o) (noted_or v.base v.noted o) (parts_noted v.noted o (base_parts v.base o)) (whole_noted v.base v.noted o)) (sym h.kept) (same_notes v.base v.noted o)
 
 pub version_told : (os : Objects) (v : Versions) (o : Oid) (k : Part) → Keeps os v → version_kept (kept_of os o) k ≡ version_of v o k
 unfolding version_of

@@ -1,9 +1,8 @@
 -- What is kept of versions: of each object the version of its whole, and of its parts only those that were changed
 -- after it. The definitions keep every change; what is kept of them answers the same.
-use Rattle.std.specs.Prelude.{◌≡◌, ℕ, ◌+◌, Bool, true, not, ◌==◌, nat_lt, List, [], ◌∷◌, filter, Option, Some, None, unwrap_or, slice_get, if◌then◌else◌}
+use Rattle.std.specs.Prelude.{◌≡◌, ℕ, ◌+◌, ◌==◌, nat_lt, List, [], ◌∷◌, filter, Option, Some, None, unwrap_or, slice_get, if◌then◌else◌}
 use Rattle.std.specs.BTreeMap.{insert_entry, is_at}
 use Rattle.std.specs.Map.{lookup, remove_entry}
-use Rattle.std.specs.List.{list_all}
 use Rattle.tg_base.specs.Orders.{oid_cmp}
 use Rattle.tg_base.specs.Parts.{part_cmp}
 use Rattle.tg_base.specs.declared.ids.Oid.{Oid}
@@ -66,22 +65,9 @@ abbrev pub notes_kept : Option Based → List Noted → Objects
 notes_kept b [] = base_kept b
 notes_kept b (n ∷ ns) = noted (notes_kept b ns) n.oid n.part n.version
 
--- keys that name parts other than the whole
-abbrev pub names_parts : List (Part × ℕ) → Bool
-names_parts keys = list_all (λ (x : Part × ℕ). not (is_whole x.0)) keys
-
-abbrev pub base_names_parts : Option Based → Bool
-base_names_parts None = true
-base_names_parts (Some b) = names_parts b.keys
-
 -- these versions are kept so
 pub record Keeps (os : Objects) (v : Versions) : Type 0 where
   pub kept : os ≡ notes_kept v.base v.noted
-  pub parts : base_names_parts v.base ≡ true
-
--- the keys but for those that name the whole, which say nothing
-abbrev pub parts_alone : List (Part × ℕ) → List (Part × ℕ)
-parts_alone keys = filter (λ (x : Part × ℕ). not (is_whole x.0)) keys
 
 -- The first read that another version is found for, by its index.
 

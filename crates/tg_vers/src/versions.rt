@@ -1,13 +1,13 @@
 //! The versions of objects.
 
-ghost use Rattle.std.specs.Prelude.{◌≡◌, true, ◌+◌, ◌^◌, ◌<◌, IfOk};
+ghost use Rattle.std.specs.Prelude.{◌≡◌, ◌+◌, ◌^◌, ◌<◌, IfOk};
 ghost use Rattle.std.specs.BTreeMap.{is_at};
 ghost use Rattle.std.specs.Map.{remove_entry};
 ghost use Rattle.tg_base.specs.Orders.{oid_cmp};
 ghost use Rattle.tg_base.specs.declared.marks.ReadMark.{ReadMark};
 ghost use Rattle.tg_protocol.specs.Versions as told;
 ghost use Rattle.tg_protocol.specs.Versions.{no_versions, based, version_of, with_change, first_changed, parts_of};
-ghost use Rattle.tg_vers.specs.Kept.{Keeps, version_kept, kept_of, noted, parts_kept, parts_alone, names_parts, first_other, changed_of};
+ghost use Rattle.tg_vers.specs.Kept.{Keeps, version_kept, kept_of, noted, parts_kept, first_other, changed_of};
 
 use crate::object::Object;
 use std::alloc::Global;
@@ -65,8 +65,7 @@ impl Versions {
         whole: u64,
         keys: &[(Part, u64)],
     ) -> Result<Versions, NoMemory>
-        ensures kept { IfOk result (λ r. Keeps r (based oid version whole (parts_alone keys.now))) }
-        ensures named { names_parts keys.now ≡ true → IfOk result (λ r. Keeps r (based oid version whole keys.now)) }
+        ensures { IfOk result (λ r. Keeps r (based oid version whole keys.now)) }
     {
         let object = Object::of(alloc, version, whole, keys)?;
         let mut objects = BTreeMap::new(alloc);
