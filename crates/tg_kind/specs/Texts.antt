@@ -1,5 +1,5 @@
 -- Texts: from 1 to 4,096 of the letters, the digits, the underscore, the full stop and the hyphen.
-use Rattle.std.specs.Prelude.{◌≡◌, ℕ, zero, suc, ◌<◌, ◌≤◌, Bool, true, ◌&&◌, refl, List, [], ◌∷◌, length, Option, Some, None, Ok, if◌then◌else◌}
+use Rattle.std.specs.Prelude.{◌≡◌, ℕ, zero, suc, ◌<◌, ◌≤◌, Bool, true, ◌&&◌, nat_lt, nat_le, refl, List, [], ◌∷◌, length, Option, Some, None, Ok, if◌then◌else◌}
 use Rattle.std.specs.List.{list_all}
 use Rattle.std.specs.Str.{IsAscii, IsUtf8}
 use Rattle.std.proofs.Common.{arith, sym, subst, ap, ◌∙◌}
@@ -12,6 +12,8 @@ use Rattle.tg_codec.proofs.Bounds.{raw_in_law}
 use Rattle.tg_codec.proofs.Widths.{u16_law}
 use Rattle.tg_codec.proofs.Shapes.{behind_law}
 use Rattle.tg_codec.specs.Codec as codec
+use Rattle.tg_base.specs.declared.marks.Part.TheVariants.{Text}
+use Rattle.tg_kind.specs.Parts.{is_part}
 
 -- A-Z, a-z, 0-9, _ . -
 abbrev pub text_bytes : List (ℕ × ℕ)
@@ -43,6 +45,19 @@ counted_letters n all some few = grind (arith, nat_tests)
 
 pub fits_letters : (word : List ℕ) → 1 ≤ length word → length word ≤ 4096 → list_all is_letter word ≡ text_format.fits word
 fits_letters word some few = counted_letters (length word) (list_all is_letter word) some few ∙ ap (λ all. (u16 ((1, 4096) ∷ [])).fits (length word) && all) (sym (letters word))
+
+letter_counts : (n : ℕ) → (u16 ((1, 4096) ∷ [])).fits n ≡ true → (nat_le 1 n ≡ true) × (nat_le n 4096 ≡ true)
+letter_counts n e = grind (arith, nat_tests)
+
+letters_are_bytes : (word : List ℕ) → list_all is_letter word ≡ true → list_all (λ b. nat_lt b 256) word ≡ true
+letters_are_bytes [] e = refl
+letters_are_bytes (b ∷ word) e = both _ _ (and-right _ _ (and-left _ _ e)) (letters_are_bytes word (and-right _ _ e))
+
+-- a text names a part
+pub text_is_part : (t : List ℕ) → IsText t → is_part (Text t) ≡ true
+text_is_part t e =
+    let few = letter_counts (length t) (and-left _ _ e) in
+    both _ _ (both _ _ few.0 few.1) (letters_are_bytes t (sym (letters t) ∙ and-right _ _ e))
 
 pub text_law : IsCodec text_format
 text_law = behind_law (u16_law ((1, 4096) ∷ [])) (raw_in_law text_bytes) (λ n xs e. length-fit_many codec.u8 same_ranges n text_bytes xs e)

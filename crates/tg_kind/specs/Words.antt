@@ -1,5 +1,5 @@
 -- Words of the formats of kinds, and their laws.
-use Rattle.std.specs.Prelude.{◌≡◌, ℕ, Bool, true, false, ◌==◌, List, [], ◌∷◌, ◌++◌, Option, Some, None, Ok, refl, if◌then◌else◌}
+use Rattle.std.specs.Prelude.{◌≡◌, ℕ, ◌≤◌, Bool, true, false, ◌==◌, List, [], ◌∷◌, ◌++◌, length, Option, Some, None, Ok, refl, if◌then◌else◌}
 use Rattle.std.proofs.Common.{cond, eqb, sym, arith}
 use Rattle.std.proofs.lemmas.Bool.{eqb-true}
 use Rattle.std.proofs.lemmas.Bool.Decides.{nat_tests}
@@ -17,6 +17,14 @@ after code c = via (λ p. p.1) (λ x. (tt, x)) (dep (fixed (code ∷ [])) (λ _.
 
 pub after_law : {A : Type 0} (code : ℕ) (c : Codec A) → IsCodec c → IsCodec (after code c)
 after_law code c law = via_law _ _ (dep_law (fixed_law (code ∷ [])) (λ _. law)) (λ p e. refl) (λ x. refl)
+
+-- what begins with a byte isn't empty
+
+pub after_some : {A : Type 0} (code : ℕ) (c : Codec A) (x : A) → 1 ≤ length ((after code c).spell x)
+after_some code c x = omega arith
+
+pub tagged_some : {X : Type 0} (tags : List (ℕ × ℕ)) (tag : X → ℕ) (body : ℕ → Codec X) (x : X) → 1 ≤ length ((tagged tags tag body).spell x)
+tagged_some tags tag body x = omega arith
 
 -- a value or nothing, behind one byte
 
