@@ -1,5 +1,5 @@
 -- The laws of counters.
-use Rattle.std.specs.Prelude.{◌≡◌, ℕ, Bool, true, false, List, ◌++◌, ℤ, pos, negsuc, ◌+ℤ◌, Ok, refl}
+use Rattle.std.specs.Prelude.{◌≡◌, ℕ, Bool, true, false, List, ◌++◌, ℤ, pos, negsuc, ◌+ℤ◌, Ok, refl, ◌≤◌, length}
 use Rattle.std.specs.Int.{w64, saturate_signed}
 use Rattle.std.proofs.Common.{arith}
 use Rattle.std.proofs.lemmas.Bool.{lt-ltb}
@@ -7,7 +7,7 @@ use Rattle.tg_base.specs.declared.ids.Oid.{Oid}
 use Rattle.tg_codec.proofs.Laws.{IsCodec, via_law, no_front, and-left, and-right, both}
 use Rattle.tg_kind.specs.Bytes.{IsBytes}
 use Rattle.tg_kind.specs.Headers.{is_header}
-use Rattle.tg_kind.specs.Parts.{overlap}
+use Rattle.tg_kind.specs.Parts.{overlap, is_part}
 use Rattle.tg_kind.specs.Words as words
 use Rattle.tg_cell.specs.Signed.{in_i64, i64, i64_law, spells_i64}
 use Rattle.tg_cell.specs.declared.counter.CounterOp.{CounterOp}
@@ -41,6 +41,9 @@ not_false false e f = absurd cc
 pub other_kind : (o : Oid) (s : ℤ) (op : CounterOp) → is_state o s ≡ true → is_of o op ≡ false → applied s op ≡ s
 other_kind o s op e f = absurd (not_false (is_object o) (and-left _ _ e) f)
 
+pub touched_is : (op : CounterOp) → op_format.fits op ≡ true → is_part (touched op) ≡ true
+touched_is op e = refl
+
 pub apart : (s : ℤ) (op : CounterOp) (ask : CounterAsk) → overlap (touched op) (looked ask) ≡ false → answered (applied s op) ask ≡ answered s ask
 apart s op ask e = absurd cc
 
@@ -55,6 +58,9 @@ reads_spelled op rest e = op_law.exact.again op rest e
 
 pub reads_only : (bytes : List ℕ) (op : CounterOp) (rest : List ℕ) → IsBytes bytes → op_format.read bytes ≡ Ok (op, rest) → (op_format.fits op ≡ true) × (bytes ≡ op_format.spell op ++ rest)
 reads_only bytes op rest fits e = words.reads_only op_format op_law.exact bytes op rest fits e
+
+pub spelled_some : (op : CounterOp) → op_format.fits op ≡ true → 1 ≤ length (op_format.spell op)
+spelled_some op e = words.after_some 0x10 i64 (added op)
 
 pub no_front_law : (a b : CounterOp) (x y : List ℕ) → op_format.fits a ≡ true → op_format.fits b ≡ true → op_format.spell a ++ x ≡ op_format.spell b ++ y → a ≡ b
 no_front_law a b x y f g e = no_front op_format op_law.exact a b x y f g e

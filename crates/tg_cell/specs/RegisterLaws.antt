@@ -1,10 +1,10 @@
 -- The laws of registers.
-use Rattle.std.specs.Prelude.{◌≡◌, ℕ, Bool, true, false, List, ◌++◌, Ok, refl}
+use Rattle.std.specs.Prelude.{◌≡◌, ℕ, Bool, true, false, List, ◌++◌, Ok, refl, ◌≤◌, length}
 use Rattle.tg_base.specs.declared.ids.Oid.{Oid}
 use Rattle.tg_codec.proofs.Laws.{IsCodec, via_law, no_front, and-left, and-right, both}
 use Rattle.tg_kind.specs.Bytes.{IsBytes}
 use Rattle.tg_kind.specs.Headers.{is_header}
-use Rattle.tg_kind.specs.Parts.{overlap}
+use Rattle.tg_kind.specs.Parts.{overlap, is_part}
 use Rattle.tg_kind.specs.Words as words
 use Rattle.tg_kind.specs.Texts.{text_format, text_law}
 use Rattle.tg_cell.specs.declared.register.RegisterOp.{RegisterOp}
@@ -34,6 +34,9 @@ not_false false e f = absurd cc
 pub other_kind : (o : Oid) (s : Contents) (op : RegisterOp) → is_state o s ≡ true → is_of o op ≡ false → applied s op ≡ s
 other_kind o s op e f = absurd (not_false (is_object o) (and-left _ _ e) f)
 
+pub touched_is : (op : RegisterOp) → op_format.fits op ≡ true → is_part (touched op) ≡ true
+touched_is op e = refl
+
 pub apart : (s : Contents) (op : RegisterOp) (ask : RegisterAsk) → overlap (touched op) (looked ask) ≡ false → answered (applied s op) ask ≡ answered s ask
 apart s op ask e = absurd cc
 
@@ -48,6 +51,9 @@ reads_spelled op rest e = op_law.exact.again op rest e
 
 pub reads_only : (bytes : List ℕ) (op : RegisterOp) (rest : List ℕ) → IsBytes bytes → op_format.read bytes ≡ Ok (op, rest) → (op_format.fits op ≡ true) × (bytes ≡ op_format.spell op ++ rest)
 reads_only bytes op rest fits e = words.reads_only op_format op_law.exact bytes op rest fits e
+
+pub spelled_some : (op : RegisterOp) → op_format.fits op ≡ true → 1 ≤ length (op_format.spell op)
+spelled_some op e = words.after_some 0x20 text_format (written op)
 
 pub no_front_law : (a b : RegisterOp) (x y : List ℕ) → op_format.fits a ≡ true → op_format.fits b ≡ true → op_format.spell a ++ x ≡ op_format.spell b ++ y → a ≡ b
 no_front_law a b x y f g e = no_front op_format op_law.exact a b x y f g e
