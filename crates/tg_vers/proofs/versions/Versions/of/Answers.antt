@@ -6,8 +6,8 @@ use Rattle.tg_vers.specs.Kept.{Kept, Objects, Keeps, based_kept}
 use Rattle.tg_vers.proofs.Keeping.{based_keeps}
 use Rattle.tg_vers.proofs.versions.Versions.of.Goals as goal
 
-pub returns-clause : goal.returns-clause
-returns-clause c =
+pub returns : goal.returns
+returns c =
     let one : c.insert.new.self.entries ≡ (c.args.oid, based_kept c.args.version c.args.whole c.args.keys.now) ∷ [] =
     c.in_ok-insert.ensures.entries
     ∙ ap (λ (os : Objects). insert_entry oid_cmp os c.args.oid c.in_ok-object.object) c.new-objects.ensures.empty
