@@ -1,6 +1,6 @@
 -- The laws of the directory.
-use Rattle.std.specs.Prelude.{◌≡◌, ℕ, suc, ◌+◌, ◌-◌, ◌^◌, ◌<◌, ◌≤◌, max, min, Bool, true, false, ◌&&◌, ◌||◌, ◌==◌, not, nat_lt, nat_le, List, [], ◌∷◌, ◌++◌, length, get_or, take, map, filter, find, fold, Option, Some, None, Ok, option_map, refl}
-use Rattle.std.specs.List.{list_any, list_all}
+use Rattle.std.specs.Prelude.{◌≡◌, ℕ, suc, ◌+◌, ◌-◌, ◌^◌, ◌<◌, ◌≤◌, max, min, Bool, true, false, ◌&&◌, ◌||◌, ◌==◌, not, List, [], ◌∷◌, ◌++◌, length, get_or, take, map, filter, find, fold, Option, Some, None, Ok, option_map, refl}
+use Rattle.std.specs.List.{list_all}
 use Rattle.std.specs.Option.{option_or}
 use Rattle.std.proofs.Common.{arith, sym, ap, subst, ◌∙◌, cond, leb, ltb, eqb, append_assoc}
 use Rattle.std.proofs.lemmas.Bool.{le-leb, lt-ltb, ltb-true, leb-true, leb-false, eqb-true, eq-eqb, false_from_ne_true}
@@ -11,7 +11,7 @@ use Rattle.std.proofs.lemmas.List.Elements.{filter-append}
 use Rattle.std.proofs.lemmas.List.Folds.{list_any-append, list_all-append, find-append}
 use Rattle.std.proofs.lemmas.Slice.Eq.{bytes_eq-Decides}
 use Rattle.tg_base.specs.declared.ids.Oid.{Oid}
-use Rattle.tg_codec.specs.Codec.{Codec, u32, u64, fit_many}
+use Rattle.tg_codec.specs.Codec.{u32, u64, fit_many}
 use Rattle.tg_codec.specs.Streams.{any, oid, oids_from}
 use Rattle.tg_codec.proofs.Laws.{IsExact, IsCodec, fixed_law, dep_exact, via_exact, only_if_exact, variant_law, dep_law, no_front, and-left, and-right, both}
 use Rattle.tg_codec.proofs.Shapes.{behind_many_exact, tagged_law, chosen_law}
@@ -19,8 +19,8 @@ use Rattle.tg_codec.proofs.Widths.{u32_law, u64_law}
 use Rattle.tg_codec.proofs.Objects.{oid_law}
 use Rattle.tg_kind.specs.Bytes.{IsBytes}
 use Rattle.tg_kind.specs.Headers.{is_header, directory, names, distinct}
-use Rattle.tg_kind.specs.Parts.{overlap}
-use Rattle.tg_kind.specs.Texts.{IsText, text_format, text_law}
+use Rattle.tg_kind.specs.Parts.{overlap, is_part}
+use Rattle.tg_kind.specs.Texts.{IsText, text_format, text_law, text_is_part}
 use Rattle.tg_kind.specs.Words as words
 use Rattle.tg_dir.specs.Spellings.{is_number, spelling}
 use Rattle.tg_dir.specs.SpellingLaws.{spelling_is_text, spells_one}
@@ -84,6 +84,10 @@ reads_spelled op rest e = op_law.exact.again op rest e
 
 pub reads_only : (bytes : List ℕ) (op : DirectoryOp) (rest : List ℕ) → IsBytes bytes → op_format.read bytes ≡ Ok (op, rest) → (op_format.fits op ≡ true) × (bytes ≡ op_format.spell op ++ rest)
 reads_only bytes op rest fits e = words.reads_only op_format op_law.exact bytes op rest fits e
+
+pub spelled_some : (op : DirectoryOp) → op_format.fits op ≡ true → 1 ≤ length (op_format.spell op)
+unfolding op_format
+spelled_some op e = words.tagged_some ((1, 2) ∷ []) code_of op_body op
 
 pub no_front_law : (a b : DirectoryOp) (x y : List ℕ) → op_format.fits a ≡ true → op_format.fits b ≡ true → op_format.spell a ++ x ≡ op_format.spell b ++ y → a ≡ b
 no_front_law a b x y f g e = no_front op_format op_law.exact a b x y f g e
@@ -178,6 +182,10 @@ name-op name o f = (and-left (text_format.fits name) (is_number o) f, and-right 
 mark-op : (o : Oid) (mark : ℕ) → op_format.fits (Mark o mark) ≡ true → mark < 2 ^ 64
 unfolding op_format
 mark-op o mark f = let short : ltb mark (2 ^ 64) ≡ true = and-right _ _ (and-right (is_number o) ((u64 any).fits mark) f) in ltb-true _ _ short
+
+pub touched_is : (op : DirectoryOp) → op_format.fits op ≡ true → is_part (touched op) ≡ true
+touched_is (Name name o) e = text_is_part name (name-op name o e).0
+touched_is (Mark o mark) e = refl
 
 -- each mark of an object is one
 pub mark_fits : (o : Oid) (mark : ℕ) → is_number o ≡ true → mark < 2 ^ 64 → op_format.fits (Mark o mark) ≡ true

@@ -1,5 +1,5 @@
 -- Objects' numbers, and how they are spelled in words.
-use Rattle.std.specs.Prelude.{ℕ, ◌%◌, ◌^◌, Bool, ◌==◌, List, [], ◌++◌, codes, if◌then◌else◌}
+use Rattle.std.specs.Prelude.{ℕ, ◌%◌, ◌^◌, Bool, ◌==◌, List, ◌++◌, codes, if◌then◌else◌}
 use Rattle.std.specs.Fmt.{decimal}
 use Rattle.tg_base.specs.declared.ids.Oid.{Oid}
 use Rattle.tg_codec.specs.Codec.{Codec}

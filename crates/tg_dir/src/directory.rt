@@ -2,10 +2,11 @@
 
 ghost use Rattle.std.specs.Prelude.{◌≡◌, ◌++◌, ◌∷◌, [], true, IfOk, OnOk, map, filter};
 ghost use Rattle.tg_base.specs.declared.ids.Oid.{Oid};
-ghost use Rattle.tg_base.specs.declared.marks.Part.TheVariants.{All};
+ghost use Rattle.tg_base.specs.declared.marks.Part.TheVariants as part;
 ghost use Rattle.tg_codec.specs.Reading.{Gives};
 ghost use Rattle.tg_kind.specs.Headers.{is_header};
-ghost use Rattle.tg_kind.specs.Parts.{part_of};
+ghost use Rattle.tg_kind.specs.Parts.{part_of, is_part};
+ghost use Rattle.tg_kind.specs.Texts.{IsText};
 ghost use Rattle.tg_dir.specs.Spellings.{is_number};
 ghost use Rattle.tg_dir.specs.declared.directory.DirectoryOp.TheVariants.{Mark};
 ghost use Rattle.tg_dir.specs.Directories.{is_object, is_state, is_of, first, at_first, applied, named, marked, risen, answered, touched, looked, saved, loaded, listings, state_format, op_format, allowed, allowed_ask, lists, floor_of, marking};
@@ -113,9 +114,18 @@ fn marked(directory: Directory, oid: Oid, mark: Pos) -> Directory
     risen(floor, entries)
 }
 
+// What stands under a name.
+fn scope(name: &Text) -> Scope<'_>
+    ensures part { part_of result ≡ part.Text name.now }
+    ensures known { IsText name.now }
+    ensures lawful { is_part (part.Text name.now) ≡ true }
+{
+    Scope::One(Key::Text(name.as_str()))
+}
+
 // What a mark changes, whatever it is.
 fn whole(oid: &Object, mark: Pos) -> Scope<'static>
-    ensures part { part_of result ≡ All }
+    ensures part { part_of result ≡ part.All }
     ensures fits { op_format.fits (Mark oid.now mark) ≡ true }
 {
     let _known = oid.oid();
@@ -204,7 +214,7 @@ impl Kind for Directory {
         match op {
             DirectoryOp::Name { name, oid } => {
                 let _known = oid.oid();
-                Scope::One(Key::Text(name.as_str()))
+                scope(name)
             }
             DirectoryOp::Mark { oid, mark } => whole(oid, *mark),
         }
@@ -212,7 +222,7 @@ impl Kind for Directory {
 
     fn look(ask: &DirectoryAsk) -> Scope<'_> {
         match ask {
-            DirectoryAsk::Find { name } => Scope::One(Key::Text(name.as_str())),
+            DirectoryAsk::Find { name } => scope(name),
             DirectoryAsk::Marks => Scope::All,
             DirectoryAsk::Floor => Scope::All,
         }
@@ -276,6 +286,8 @@ impl Kind for Directory {
 
     ghost other_kind = { laws.other_kind };
 
+    ghost touched_is = { laws.touched_is };
+
     ghost apart = { laws.apart };
 
     ghost loads_saved = { laws.loads_saved };
@@ -285,6 +297,8 @@ impl Kind for Directory {
     ghost reads_spelled = { laws.reads_spelled };
 
     ghost reads_only = { laws.reads_only };
+
+    ghost spelled_some = { laws.spelled_some };
 
     ghost no_front = { laws.no_front_law };
 }
@@ -299,6 +313,10 @@ impl Registry for Directory {
     ghost floor_of = { floor_of };
 
     ghost marking = { marking };
+
+    fn fits(oid: Oid, _op: &DirectoryOp) -> bool {
+        oid.0 == 0
+    }
 
     fn allows(oid: Oid, op: &DirectoryOp) -> bool {
         match op {

@@ -8,12 +8,12 @@ use Rattle.tg_base.specs.declared.ids.Oid.{Oid}
 use Rattle.tg_codec.proofs.Laws.{IsCodec, nothing_law, dep_law, variant_law, no_front, and-left, and-right, both}
 use Rattle.tg_codec.proofs.Shapes.{IsTable, behind_many_law, tagged_law, table_law, table_tag}
 use Rattle.tg_codec.proofs.Widths.{u32_law}
-use Rattle.tg_codec.specs.Codec.{u32, fit_many}
+use Rattle.tg_codec.specs.Codec.{u32, fit_many, from_table}
 use Rattle.tg_codec.specs.Reading.{meets}
 use Rattle.tg_codec.specs.Streams.{any}
 use Rattle.tg_kind.specs.Bytes.{IsBytes}
 use Rattle.tg_kind.specs.Headers.{is_header}
-use Rattle.tg_kind.specs.Parts.{overlap}
+use Rattle.tg_kind.specs.Parts.{overlap, is_part}
 use Rattle.tg_kind.specs.Words as words
 use Rattle.tg_kind.specs.Texts.{text_format, text_law}
 use Rattle.tg_list.specs.declared.text_list.TextListOp.{TextListOp}
@@ -193,6 +193,9 @@ not_false false e f = absurd cc
 pub other_kind : (o : Oid) (s : Texts) (op : TextListOp) → is_state o s ≡ true → is_of o op ≡ false → applied s op ≡ s
 other_kind o s op e f = absurd (not_false (is_object o) (and-left _ _ e) f)
 
+pub touched_is : (op : TextListOp) → op_format.fits op ≡ true → is_part (touched op) ≡ true
+touched_is op e = refl
+
 pub apart : (s : Texts) (op : TextListOp) (ask : TextListAsk) → overlap (touched op) (looked ask) ≡ false → answered (applied s op) ask ≡ answered s ask
 apart s op ask e = absurd cc
 
@@ -207,6 +210,10 @@ reads_spelled op rest e = op_law.exact.again op rest e
 
 pub reads_only : (bytes : List ℕ) (op : TextListOp) (rest : List ℕ) → IsBytes bytes → op_format.read bytes ≡ Ok (op, rest) → (op_format.fits op ≡ true) × (bytes ≡ op_format.spell op ++ rest)
 reads_only bytes op rest fits e = words.reads_only op_format op_law.exact bytes op rest fits e
+
+pub spelled_some : (op : TextListOp) → op_format.fits op ≡ true → 1 ≤ length (op_format.spell op)
+unfolding op_format
+spelled_some op e = words.tagged_some codes code (from_table ops) op
 
 pub no_front_law : (a b : TextListOp) (x y : List ℕ) → op_format.fits a ≡ true → op_format.fits b ≡ true → op_format.spell a ++ x ≡ op_format.spell b ++ y → a ≡ b
 no_front_law a b x y f g e = no_front op_format op_law.exact a b x y f g e

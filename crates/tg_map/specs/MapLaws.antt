@@ -16,10 +16,10 @@ use Rattle.tg_codec.proofs.Shapes.{tagged_law, chosen_law, behind_many_exact}
 use Rattle.tg_codec.proofs.Widths.{u32_law}
 use Rattle.tg_kind.specs.Bytes.{IsBytes}
 use Rattle.tg_kind.specs.Headers.{is_header}
-use Rattle.tg_kind.specs.Parts.{overlap}
+use Rattle.tg_kind.specs.Parts.{overlap, is_part}
 use Rattle.tg_kind.specs.Words.{after}
 use Rattle.tg_kind.specs.Words as words
-use Rattle.tg_kind.specs.Texts.{text_format, text_law}
+use Rattle.tg_kind.specs.Texts.{text_format, text_law, text_is_part}
 use Rattle.tg_map.specs.declared.map.MapOp.{MapOp}
 use Rattle.tg_map.specs.declared.map.MapOp.TheVariants.{Set, Unset}
 use Rattle.tg_map.specs.declared.map.MapAsk.{MapAsk}
@@ -241,6 +241,11 @@ not_false false e f = absurd cc
 pub other_kind : (o : Oid) (s : Pairs) (op : MapOp) → is_state o s ≡ true → is_of o op ≡ false → applied s op ≡ s
 other_kind o s op e f = absurd (not_false (is_object o) (and-left _ _ e) f)
 
+pub touched_is : (op : MapOp) → op_format.fits op ≡ true → is_part (touched op) ≡ true
+unfolding op_format
+touched_is (Set k v) e = text_is_part k (and-left _ _ e)
+touched_is (Unset k) e = text_is_part k e
+
 pub apart : (s : Pairs) (op : MapOp) (ask : MapAsk) → overlap (touched op) (looked ask) ≡ false → answered (applied s op) ask ≡ answered s ask
 apart s (Set k v) (Get q) ne = ap (λ o. answers.Value o) (other_set_pair s k v q ne)
 apart s (Set k v) Size ne = absurd cc
@@ -260,6 +265,10 @@ reads_spelled op rest e = op_law.exact.again op rest e
 
 pub reads_only : (bytes : List ℕ) (op : MapOp) (rest : List ℕ) → IsBytes bytes → op_format.read bytes ≡ Ok (op, rest) → (op_format.fits op ≡ true) × (bytes ≡ op_format.spell op ++ rest)
 reads_only bytes op rest fits e = words.reads_only op_format op_law.exact bytes op rest fits e
+
+pub spelled_some : (op : MapOp) → op_format.fits op ≡ true → 1 ≤ length (op_format.spell op)
+unfolding op_format
+spelled_some op e = words.tagged_some ((0x30, 0x31) ∷ []) op_code (λ code. cond (eqb code 0x30) set_format unset_format) op
 
 pub no_front_law : (a b : MapOp) (x y : List ℕ) → op_format.fits a ≡ true → op_format.fits b ≡ true → op_format.spell a ++ x ≡ op_format.spell b ++ y → a ≡ b
 no_front_law a b x y f g e = no_front op_format op_law.exact a b x y f g e

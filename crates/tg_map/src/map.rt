@@ -4,7 +4,7 @@ ghost use Rattle.std.specs.Prelude.{◌≡◌, ◌++◌, true, false, [], Ok, If
 ghost use Rattle.std.specs.Map.{keys_of};
 ghost use Rattle.tg_codec.specs.Reading.{Gives};
 ghost use Rattle.tg_codec.specs.Codec.{read_many, spell_many};
-ghost use Rattle.tg_kind.specs.Parts.{part_of};
+ghost use Rattle.tg_kind.specs.Parts.{part_of, is_part};
 ghost use Rattle.tg_kind.specs.Texts.{text_format};
 ghost use Rattle.tg_base.specs.declared.marks.Part.TheVariants as part;
 ghost use Rattle.tg_map.specs.Maps.{is_object, is_state, is_of, first, applied, answered, touched, looked, saved, loaded, state_format, op_format, takes, set_pair, unset_pair, value_of, has_key, new_key, pair, after_pair};
@@ -246,6 +246,7 @@ fn put_fields(op: &MapOp, out: &mut List<u8>) -> Result<(), NoMemory>
 fn scope(key: &Text) -> Scope<'_>
     ensures part { part_of result ≡ part.Text key.now }
     ensures known { text_format.fits key.now ≡ true }
+    ensures lawful { is_part (part.Text key.now) ≡ true }
 {
     Scope::One(Key::Text(key.as_str()))
 }
@@ -376,6 +377,8 @@ impl Kind for Map {
 
     ghost other_kind = { laws.other_kind };
 
+    ghost touched_is = { laws.touched_is };
+
     ghost apart = { laws.apart };
 
     ghost loads_saved = { laws.loads_saved };
@@ -385,6 +388,8 @@ impl Kind for Map {
     ghost reads_spelled = { laws.reads_spelled };
 
     ghost reads_only = { laws.reads_only };
+
+    ghost spelled_some = { laws.spelled_some };
 
     ghost no_front = { laws.no_front_law };
 }

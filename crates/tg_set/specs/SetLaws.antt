@@ -18,7 +18,7 @@ use Rattle.tg_codec.proofs.Shapes.{tagged_law, chosen_law, behind_many_exact}
 use Rattle.tg_codec.proofs.Widths.{u32_law, u64_law}
 use Rattle.tg_kind.specs.Bytes.{IsBytes}
 use Rattle.tg_kind.specs.Headers.{is_header}
-use Rattle.tg_kind.specs.Parts.{overlap}
+use Rattle.tg_kind.specs.Parts.{overlap, is_part}
 use Rattle.tg_kind.specs.Words.{after}
 use Rattle.tg_kind.specs.Words as words
 use Rattle.tg_set.specs.declared.set.SetOp.{SetOp}
@@ -37,6 +37,7 @@ number_exact : (last : Option ℕ) → IsExact (number_format last)
 number_exact last = only_if_exact (rises last) (u64_law any).exact
 
 pub state_exact : IsExact state_format
+unfolding state_format
 state_exact = after_exact 6 _ (behind_many_exact number_format after_number (λ n. None) (u32_law any).exact number_exact)
 
 inner : (m n : ℕ) → Some m ≡ Some n → m ≡ n
@@ -66,6 +67,7 @@ code_is t false (Include n) is m e = absurd cc
 code_is t false (Exclude n) is m e = second_code t m is
 
 pub op_law : IsCodec op_format
+unfolding op_format
 op_law = tagged_law _ op_code _ (λ t. chosen_law (eqb t 0x60) _ _ include_law exclude_law) (λ t x m e. code_is t _ x refl m e)
 
 -- ---- a number among others
@@ -205,9 +207,11 @@ few_is : (n : ℕ) → n < 2 ^ 32 → n ≤ most
 few_is n lt = omega (arith, lt)
 
 few : (numbers : Numbers) → state_format.fits numbers ≡ true → length numbers ≤ most
+unfolding state_format
 few numbers e = few_is (length numbers) (ltb-true _ _ (and-right _ _ (and-left _ _ e)))
 
 with_len : (numbers : Numbers) (n : ℕ) → state_format.fits numbers ≡ true → takes numbers n ≡ true → length (insert_key nat_cmp numbers n) ≤ most
+unfolding state_format
 with_len numbers n e t =
     elim (nat_lt (length numbers) most) as (λ b. nat_lt (length numbers) most ≡ b → (b || has numbers n) ≡ true → length (insert_key nat_cmp numbers n) ≤ most) [
       | true ↦ λ lt h. let below : length numbers < most = ltb-true _ _ lt in omega (arith, below, with_len_most numbers n)
@@ -215,6 +219,7 @@ with_len numbers n e t =
     ] refl t
 
 with_fits : (numbers : Numbers) (n : ℕ) → (u64 any).fits n ≡ true → state_format.fits numbers ≡ true → state_format.fits (with_number numbers n) ≡ true
+unfolding state_format
 with_fits numbers n f e =
     elim (takes numbers n) as (λ b. takes numbers n ≡ b → state_format.fits (cond b (insert_key nat_cmp numbers n) numbers) ≡ true) [
       | true ↦ λ t. both _ _ (count_fits _ (with_len numbers n e t)) (with_rising numbers None n f refl (and-right _ _ e))
@@ -222,6 +227,7 @@ with_fits numbers n f e =
     ] refl
 
 without_fits : (numbers : Numbers) (n : ℕ) → state_format.fits numbers ≡ true → state_format.fits (without_number numbers n) ≡ true
+unfolding state_format
 without_fits numbers n e =
     let le : length (without_number numbers n) ≤ most = omega (arith, few numbers e, without_len numbers n) in
     both _ _ (count_fits _ le) (without_rising numbers None n (and-right _ _ e))
@@ -255,15 +261,21 @@ other_without (x ∷ numbers) n m ne =
 -- ---- the laws
 
 pub first_is : (o : Oid) (os : List Oid) → is_object o ≡ true → is_header os ≡ true → is_state o (first o os) ≡ true
-unfolding fit_many
+unfolding fit_many state_format
 first_is o os e h = both _ _ e refl
 
 pub applied_is : (o : Oid) (s : Numbers) (op : SetOp) → is_state o s ≡ true → op_format.fits op ≡ true → is_state o (applied s op) ≡ true
+unfolding op_format
 applied_is o s (Include n) e f = both _ _ (and-left _ _ e) (with_fits s n f (and-right _ _ e))
 applied_is o s (Exclude n) e f = both _ _ (and-left _ _ e) (without_fits s n (and-right _ _ e))
 
 pub other_kind : (o : Oid) (s : Numbers) (op : SetOp) → is_state o s ≡ true → is_of o op ≡ false → applied s op ≡ s
 other_kind o s op e f = absurd (not_false (is_object o) (and-left _ _ e) f)
+
+pub touched_is : (op : SetOp) → op_format.fits op ≡ true → is_part (touched op) ≡ true
+unfolding op_format
+touched_is (Include n) e = and-right _ _ e
+touched_is (Exclude n) e = and-right _ _ e
 
 pub apart : (s : Numbers) (op : SetOp) (ask : SetAsk) → overlap (touched op) (looked ask) ≡ false → answered (applied s op) ask ≡ answered s ask
 apart s (Include n) (Member m) ne = ap (λ b. answers.Member b) (other_with_number s n m ne)
@@ -284,6 +296,10 @@ reads_spelled op rest e = op_law.exact.again op rest e
 
 pub reads_only : (bytes : List ℕ) (op : SetOp) (rest : List ℕ) → IsBytes bytes → op_format.read bytes ≡ Ok (op, rest) → (op_format.fits op ≡ true) × (bytes ≡ op_format.spell op ++ rest)
 reads_only bytes op rest fits e = words.reads_only op_format op_law.exact bytes op rest fits e
+
+pub spelled_some : (op : SetOp) → op_format.fits op ≡ true → 1 ≤ length (op_format.spell op)
+unfolding op_format
+spelled_some op e = words.tagged_some ((0x60, 0x61) ∷ []) op_code (λ code. cond (eqb code 0x60) include_format exclude_format) op
 
 pub no_front_law : (a b : SetOp) (x y : List ℕ) → op_format.fits a ≡ true → op_format.fits b ≡ true → op_format.spell a ++ x ≡ op_format.spell b ++ y → a ≡ b
 no_front_law a b x y f g e = no_front op_format op_law.exact a b x y f g e

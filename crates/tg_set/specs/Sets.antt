@@ -62,7 +62,7 @@ abbrev pub after_number : Option ℕ → ℕ → Option ℕ
 after_number last n = Some n
 
 -- the kind's tag, and the numbers behind their count, which rise
-abbrev pub state_format : Codec Numbers
+unfoldable pub state_format : Codec Numbers
 state_format = after 6 (behind (u32 any) (λ n. many number_format after_number n None))
 
 abbrev pub is_state : Oid → Numbers → Bool
@@ -118,5 +118,5 @@ include_format = variant Include as_include (u64 any)
 abbrev pub exclude_format : Codec SetOp
 exclude_format = variant Exclude as_exclude (u64 any)
 
-abbrev pub op_format : Codec SetOp
+unfoldable pub op_format : Codec SetOp
 op_format = tagged ((0x60, 0x61) ∷ []) op_code (λ code. if code == 0x60 then include_format else exclude_format)

@@ -5,7 +5,7 @@ ghost use Rattle.tg_base.specs.declared.marks.Part.TheVariants as part;
 ghost use Rattle.tg_codec.specs.Codec.{u64, read_many, spell_many};
 ghost use Rattle.tg_codec.specs.Reading.{Gives};
 ghost use Rattle.tg_codec.specs.Streams.{any};
-ghost use Rattle.tg_kind.specs.Parts.{part_of};
+ghost use Rattle.tg_kind.specs.Parts.{part_of, is_part};
 ghost use Rattle.tg_set.specs.Sets.{is_object, is_state, is_of, first, applied, answered, touched, looked, saved, loaded, state_format, op_format, has, takes, with_number, without_number, between, rises, number_format, after_number};
 
 use std::alloc::Global;
@@ -192,6 +192,7 @@ fn numbers_in(alloc: Global, count: u32, bytes: &[u8]) -> Result<(Set, &[u8]), R
     Ok((set, rest))
 }
 
+#[tactic(auto, unfolding(crate::specs::Sets::state_format))]
 fn set_in(alloc: Global, bytes: &[u8]) -> Result<(Set, &[u8]), ReadFault>
     ensures { Gives (λ x. (x.0, x.1.now)) result (state_format.read bytes.now) }
 {
@@ -201,6 +202,7 @@ fn set_in(alloc: Global, bytes: &[u8]) -> Result<(Set, &[u8]), ReadFault>
     Ok((set, rest))
 }
 
+#[tactic(auto, unfolding(crate::specs::Sets::op_format))]
 fn op_in(bytes: &[u8]) -> Result<(SetOp, &[u8]), ReadFault>
     ensures { Gives (λ x. (x.0, x.1.now)) result (op_format.read bytes.now) }
 {
@@ -213,6 +215,7 @@ fn op_in(bytes: &[u8]) -> Result<(SetOp, &[u8]), ReadFault>
 }
 
 // The bytes of an op.
+#[tactic(auto, unfolding(crate::specs::Sets::op_format))]
 fn put_fields(op: &SetOp, out: &mut List<u8>) -> Result<(), NoMemory>
     ensures { OnOk result (out.new ≡ out.old ++ op_format.spell op.now) }
 {
@@ -232,6 +235,7 @@ fn put_fields(op: &SetOp, out: &mut List<u8>) -> Result<(), NoMemory>
 fn scope(number: u64) -> Scope<'static>
     ensures part { part_of result ≡ part.Num number }
     ensures known { (u64 any).fits number ≡ true }
+    ensures lawful { is_part (part.Num number) ≡ true }
 {
     Scope::One(Key::Num(number))
 }
@@ -295,6 +299,7 @@ impl Kind for Set {
         }
     }
 
+    #[tactic(auto, unfolding(crate::specs::Sets::op_format))]
     fn touch(op: &SetOp) -> Scope<'_> {
         match op {
             SetOp::Include { number } => scope(*number),
@@ -310,6 +315,7 @@ impl Kind for Set {
         }
     }
 
+    #[tactic(auto, unfolding(crate::specs::Sets::state_format))]
     fn save(&self, alloc: Global) -> Result<List<u8>, NoMemory> {
         let mut bytes = List::new(alloc);
         bytes.push(TAG)?;
@@ -367,6 +373,8 @@ impl Kind for Set {
 
     ghost other_kind = { laws.other_kind };
 
+    ghost touched_is = { laws.touched_is };
+
     ghost apart = { laws.apart };
 
     ghost loads_saved = { laws.loads_saved };
@@ -376,6 +384,8 @@ impl Kind for Set {
     ghost reads_spelled = { laws.reads_spelled };
 
     ghost reads_only = { laws.reads_only };
+
+    ghost spelled_some = { laws.spelled_some };
 
     ghost no_front = { laws.no_front_law };
 }
