@@ -5,8 +5,8 @@ ghost use Rattle.tg_codec.specs.Codec.{from_table};
 ghost use Rattle.tg_packets.specs.Messages.{tag_of, messages, message};
 ghost use Rattle.tg_packets.specs.Short.{IsShort};
 
-use crate::fields::{size_cell, size_objects};
-use crate::layouts::{size_projection, size_proposal, size_vote};
+use tg_fields::{size_cell, size_objects};
+use tg_fields::{size_projection, size_proposal, size_vote};
 use tg_base::Msg;
 use tg_codec::size_links;
 

@@ -5,7 +5,7 @@ ghost use Rattle.tg_codec.specs.Reading.{Gives, meets};
 ghost use Rattle.tg_codec.specs.Codec.{from_table};
 ghost use Rattle.tg_packets.specs.Messages.{messages, held, taken, unwritten, gone, fenced, sealed, missing, whole};
 
-use crate::fields::cell_in;
+use tg_fields::cell_in;
 use std::alloc::Global;
 use tg_base::Msg;
 use tg_codec::{ReadFault, u64_in};
