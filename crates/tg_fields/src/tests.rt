@@ -52,21 +52,30 @@ fn each_broken_rule_of_a_layout_has_its_place(rt: HostRuntime) -> Result<(), Fai
     Ok(())
 }
 
-fn cell_written(alloc: Global, cell: &Cell) -> Result<List<u8>, NoMemory> {
+// What is written of a cell, if it has its size.
+fn cell_written(alloc: Global, cell: &Cell) -> Option<List<u8>> {
     let mut out = List::new(alloc);
-    put_cell(cell, &mut out)?;
-    Ok(out)
+    put_cell(cell, &mut out).ok()?;
+    if out.len() == size_cell(cell) {
+        Some(out)
+    } else {
+        None
+    }
 }
 
-// Whether a cell is read, and is written as it was, with its size.
+// What is written of the cell that is read.
+fn cell_again(alloc: Global, bytes: &[u8]) -> Option<List<u8>> {
+    match cell_in(alloc, bytes) {
+        Ok((cell, _rest)) => cell_written(alloc, &cell),
+        Err(_) => None,
+    }
+}
+
 fn cell_comes_back(alloc: Global, bytes: &[u8]) -> bool {
-    let Ok((cell, _)) = cell_in(alloc, bytes) else {
+    let Some(again) = cell_again(alloc, bytes) else {
         return false;
     };
-    let Ok(again) = cell_written(alloc, &cell) else {
-        return false;
-    };
-    again.as_slice() == bytes && size_cell(&cell) == bytes.len()
+    again.as_slice() == bytes
 }
 
 #[test]
@@ -96,7 +105,10 @@ fn objects_rise_behind_their_count(rt: HostRuntime) -> Result<(), Fail> {
     let bytes = objects_written(rt.alloc()).map_err(|_| "memory")?;
     assert_eq!(rt; bytes.as_slice(), [2u8, 1, 0, 0, 0, 3, 0, 0, 3].as_slice());
     assert_eq!(rt; count_of_objects(rt.alloc(), bytes.as_slice()), Some(2));
-    assert_eq!(rt; count_of_objects(rt.alloc(), &[2, 1, 0, 0, 0, 1, 0, 0, 0]), None);
+    assert_eq!(rt;
+        count_of_objects(rt.alloc(), &[2, 1, 0, 0, 0, 1, 0, 0, 0]),
+        None
+    );
     assert_eq!(rt; size_objects(&[Oid(0x0100_0000)]), 5);
     Ok(())
 }
@@ -108,26 +120,32 @@ fn vote_in_round(alloc: Global) -> Result<List<u8>, NoMemory> {
     Ok(bytes)
 }
 
-fn vote_written(
-    alloc: Global,
-    vote: &Option<(Ballot, Projection)>,
-) -> Result<List<u8>, NoMemory>
+// What is written of a vote, if it has its size.
+fn vote_written(alloc: Global, vote: &Option<(Ballot, Projection)>) -> Option<List<u8>>
     requires { IsShortVote vote.now }
 {
     let mut out = List::new(alloc);
-    put_vote(vote, &mut out)?;
-    Ok(out)
+    put_vote(vote, &mut out).ok()?;
+    if out.len() == size_vote(vote) {
+        Some(out)
+    } else {
+        None
+    }
 }
 
-// Whether a vote is read, and is written as it was, with its size.
+// What is written of the vote that is read.
+fn vote_again(alloc: Global, bytes: &[u8]) -> Option<List<u8>> {
+    match vote_in(alloc, bytes) {
+        Ok((vote, _rest)) => vote_written(alloc, &vote),
+        Err(_) => None,
+    }
+}
+
 fn vote_comes_back(alloc: Global, bytes: &[u8]) -> bool {
-    let Ok((vote, _)) = vote_in(alloc, bytes) else {
+    let Some(again) = vote_again(alloc, bytes) else {
         return false;
     };
-    let Ok(again) = vote_written(alloc, &vote) else {
-        return false;
-    };
-    again.as_slice() == bytes && size_vote(&vote) == bytes.len()
+    again.as_slice() == bytes
 }
 
 #[test]
