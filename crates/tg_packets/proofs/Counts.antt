@@ -59,9 +59,9 @@ layout-short epochs l e =
     let h4 = dep_second (u16 any) (λ _. after_by l.start) (l.by, (l.gone, l.ranges)) h3 in
     (gone-short l.gone (dep_first gone (λ _. ranges l.start) (l.gone, l.ranges) h4), ranges-short l.start l.ranges (dep_second gone (λ _. ranges l.start) (l.gone, l.ranges) h4))
 
-vote-short : (v : Option Proposal) → vote.fits v ≡ true → IsShortVote v
-vote-short None e = tt
-vote-short (Some p) e = layout-short from_one p.1 (dep_second ballot (λ _. projection) p (dep_second (u8 ((0, 1) ∷ [])) vote_body (1, Some p) e))
+pub vote_short : (v : Option Proposal) → vote.fits v ≡ true → IsShortVote v
+vote_short None e = tt
+vote_short (Some p) e = layout-short from_one p.1 (dep_second ballot (λ _. projection) p (dep_second (u8 ((0, 1) ∷ [])) vote_body (1, Some p) e))
 
 objects-short : (counts : List (ℕ × ℕ)) (os : List Oid) → (objects counts).fits os ≡ true → length os ≤ 255
 objects-short counts os e = omega (arith, counted_len counts (λ n. many object after_object n 0) os e)
@@ -75,7 +75,7 @@ fields-short (Accept epoch b l) e =
     layout-short ((epoch, epoch) ∷ []) l (dep_second ballot (λ _. projection_of ((epoch, epoch) ∷ [])) (b, l) (dep_second (u64 from_one) proposal (epoch, (b, l)) e))
 fields-short (Decided l) e = layout-short from_one l e
 fields-short (Promise epoch b v) e =
-    vote-short v (dep_second ballot (λ _. vote) (b, v) (dep_second (u64 any) (λ _. dep ballot (λ _. vote)) (epoch, (b, v)) e))
+    vote_short v (dep_second ballot (λ _. vote) (b, v) (dep_second (u64 any) (λ _. dep ballot (λ _. vote)) (epoch, (b, v)) e))
 fields-short (Latest l) e = layout-short from_one l e
 fields-short (Learn l) e = layout-short from_one l e
 fields-short (Token epoch os) e = objects-short ((1, 16) ∷ []) os (dep_second (u64 from_one) (λ _. objects ((1, 16) ∷ [])) (epoch, os) e)

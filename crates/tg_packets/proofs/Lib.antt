@@ -7,3 +7,4 @@ pub mod Streams
 pub mod Ruled
 pub mod Fitting
 pub mod Counts
+pub mod Splitting

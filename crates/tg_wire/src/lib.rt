@@ -1,12 +1,9 @@
 //! Packets, and how they are spelled.
 #![tactic(auto)]
 
-mod chains;
 mod coding;
 mod fault;
-mod fields;
 mod layout_messages;
-mod layouts;
 mod reads;
 mod seqr_messages;
 mod shapes;

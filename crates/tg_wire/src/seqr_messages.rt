@@ -5,11 +5,10 @@ ghost use Rattle.tg_codec.specs.Reading.{Gives, meets};
 ghost use Rattle.tg_codec.specs.Codec.{from_table};
 ghost use Rattle.tg_packets.specs.Messages.{messages, learn, token, check, issued, tail, scanning, old_epoch, full};
 
-use crate::fields::objects_in;
-use crate::layouts::{ANY_EPOCH, projection_in};
 use std::alloc::Global;
 use tg_base::Msg;
 use tg_codec::{ReadFault, links_in, u64_in};
+use tg_fields::{ANY_EPOCH, objects_in, projection_in};
 
 #[tactic(auto, unfolding(tg_packets::specs::Messages::learn))]
 fn learn_in(alloc: Global, bytes: &[u8]) -> Result<(Msg, &[u8]), ReadFault>

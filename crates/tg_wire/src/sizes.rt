@@ -5,10 +5,9 @@ ghost use Rattle.tg_codec.specs.Codec.{from_table};
 ghost use Rattle.tg_packets.specs.Messages.{tag_of, messages, message};
 ghost use Rattle.tg_packets.specs.Short.{IsShort};
 
-use crate::fields::{size_cell, size_objects};
-use crate::layouts::{size_projection, size_proposal, size_vote};
 use tg_base::Msg;
 use tg_codec::size_links;
+use tg_fields::{size_cell, size_objects, size_projection, size_proposal, size_vote};
 
 #[tactic(auto, unfolding(tg_packets::specs::Messages::read, tg_packets::specs::Messages::write, tg_packets::specs::Messages::fill, tg_packets::specs::Messages::copy, tg_packets::specs::Messages::has, tg_packets::specs::Messages::seal, tg_packets::specs::Messages::trim, tg_packets::specs::Messages::held, tg_packets::specs::Messages::taken, tg_packets::specs::Messages::unwritten, tg_packets::specs::Messages::gone, tg_packets::specs::Messages::fenced, tg_packets::specs::Messages::sealed, tg_packets::specs::Messages::missing, tg_packets::specs::Messages::whole, tg_packets::specs::Messages::prepare, tg_packets::specs::Messages::accept, tg_packets::specs::Messages::decided, tg_packets::specs::Messages::ask_latest, tg_packets::specs::Messages::promise, tg_packets::specs::Messages::nack, tg_packets::specs::Messages::accepted, tg_packets::specs::Messages::latest, tg_packets::specs::Messages::learn, tg_packets::specs::Messages::token, tg_packets::specs::Messages::check, tg_packets::specs::Messages::issued, tg_packets::specs::Messages::tail, tg_packets::specs::Messages::scanning, tg_packets::specs::Messages::old_epoch, tg_packets::specs::Messages::full))]
 fn size_fields(value: &Msg) -> usize

@@ -1,7 +1,7 @@
 use Rattle.std.proofs.Common.{arith}
 use Rattle.tg_codec.proofs.Shapes.{met_within}
 use Rattle.tg_packets.proofs.Building.{is_layout_of}
-use Rattle.tg_wire.proofs.layouts.projection_in.Goals as goal
+use Rattle.tg_fields.proofs.layouts.projection_in.Goals as goal
 
 pub invariant_of-layout : goal.invariant_of-layout
 invariant_of-layout c =

@@ -2,7 +2,7 @@ use Rattle.std.proofs.Common.{◌≡◌, rules, refl, eqb}
 use Rattle.std.specs.Prelude.{filter, not}
 use Rattle.std.specs.List.{list_any}
 use Rattle.std.proofs.lemmas.Fn.{filter_same}
-use Rattle.tg_wire.proofs.chains.others.Goals as goal
+use Rattle.tg_fields.proofs.chains.others.Goals as goal
 
 pub returns : goal.returns
 returns c =

@@ -3,7 +3,7 @@ use Rattle.std.proofs.lemmas.Result.{err_from_is_err_and}
 use Rattle.tg_codec.specs.Codec.{read_many}
 use Rattle.tg_codec.proofs.Many.{goes_on, ends, is_done}
 use Rattle.tg_packets.specs.Fields.{range, after_range}
-use Rattle.tg_wire.proofs.layouts.ranges_of.Goals as goal
+use Rattle.tg_fields.proofs.layouts.ranges_of.Goals as goal
 
 pub returns-in_err-range : goal.returns-in_err-range
 returns-in_err-range c =

@@ -2,7 +2,7 @@ use Rattle.std.proofs.Common.{◌≡◌, ◌∷◌, [], List, ℕ, length, ap, a
 use Rattle.std.proofs.lemmas.List.{length-append}
 use Rattle.tg_packets.specs.Fields.{ballot, projection_of, projection}
 use Rattle.tg_packets.proofs.Parts.{spelled_alike}
-use Rattle.tg_wire.proofs.layouts.size_proposal.Goals as goal
+use Rattle.tg_fields.proofs.layouts.size_proposal.Goals as goal
 
 pub returns-clause-len : goal.returns-clause-len
 returns-clause-len c =

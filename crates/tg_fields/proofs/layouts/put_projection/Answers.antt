@@ -4,8 +4,8 @@ use Rattle.tg_base.specs.Layouts.{Layout}
 use Rattle.tg_base.specs.declared.layout.Range.{Range}
 use Rattle.tg_codec.proofs.Many.{glue}
 use Rattle.tg_packets.specs.Fields.{gone, ranges, projection_of, projection}
-use Rattle.tg_wire.proofs.Splitting.{on_ok}
-use Rattle.tg_wire.proofs.layouts.put_projection.Goals as goal
+use Rattle.tg_packets.proofs.Splitting.{on_ok}
+use Rattle.tg_fields.proofs.layouts.put_projection.Goals as goal
 
 pub returns : goal.returns
 unfolding projection_of

@@ -3,8 +3,8 @@ use Rattle.std.proofs.lemmas.List.{length-append}
 use Rattle.tg_base.specs.declared.layout.Range.{Range}
 use Rattle.tg_codec.specs.Codec.{spell_many}
 use Rattle.tg_packets.specs.Fields.{range, after_range}
-use Rattle.tg_wire.proofs.Splitting.{split_first}
-use Rattle.tg_wire.proofs.layouts.+size_ranges.Goals as goal
+use Rattle.tg_packets.proofs.Splitting.{split_first}
+use Rattle.tg_fields.proofs.layouts.+size_ranges.Goals as goal
 
 pub returns-in-len1-up-clause-len : goal.returns-in-len1-up-clause-len
 unfolding spell_many

@@ -3,8 +3,8 @@ use Rattle.tg_base.specs.declared.layout.Range.{Range}
 use Rattle.tg_codec.specs.Codec.{spell_many}
 use Rattle.tg_codec.proofs.Many.{glue}
 use Rattle.tg_packets.specs.Fields.{range, after_range}
-use Rattle.tg_wire.proofs.Splitting.{split_first, on_ok}
-use Rattle.tg_wire.proofs.layouts.+put_ranges.Goals as goal
+use Rattle.tg_packets.proofs.Splitting.{split_first, on_ok}
+use Rattle.tg_fields.proofs.layouts.+put_ranges.Goals as goal
 
 pub returns-in_ok-put_range-in-len1-up : goal.returns-in_ok-put_range-in-len1-up
 unfolding spell_many

@@ -1,7 +1,7 @@
 use Rattle.std.proofs.Common.{◌≡◌, ℕ, List, [], length, refl, ap, arith}
 use Rattle.tg_codec.proofs.Many.{same_len}
 use Rattle.tg_packets.specs.Fields.{chain_unit, after_unit, chain}
-use Rattle.tg_wire.proofs.chains.size_chain.Goals as goal
+use Rattle.tg_fields.proofs.chains.size_chain.Goals as goal
 
 pub returns-clause-len : goal.returns-clause-len
 unfolding chain
