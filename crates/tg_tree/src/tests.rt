@@ -140,9 +140,18 @@ fn ops_that_change_nothing(rt: HostRuntime) -> Result<(), Fail> {
     let alloc = rt.alloc();
     assert!(rt; !has_after(alloc, &STEPS[..4], "/b/c")?);
     assert!(rt; holds_after(alloc, &STEPS[..5], "/a", "x")?);
-    assert_eq!(rt; names_after(alloc, &STEPS[..9], "/")?.as_slice(), b"a a-b ".as_slice());
-    assert_eq!(rt; names_after(alloc, &STEPS[..9], "/a")?.as_slice(), b"c ".as_slice());
-    assert_eq!(rt; names_after(alloc, &STEPS[..9], "/q")?.as_slice(), b"".as_slice());
+    assert_eq!(rt;
+        names_after(alloc, &STEPS[..9], "/")?.as_slice(),
+        b"a a-b ".as_slice()
+    );
+    assert_eq!(rt;
+        names_after(alloc, &STEPS[..9], "/a")?.as_slice(),
+        b"c ".as_slice()
+    );
+    assert_eq!(rt;
+        names_after(alloc, &STEPS[..9], "/q")?.as_slice(),
+        b"".as_slice()
+    );
     Ok(())
 }
 
