@@ -1,16 +1,19 @@
 -- The laws of paths.
 use Rattle.std.specs.Prelude.{◌≡◌, ℕ, zero, suc, ◌-◌, ◌+◌, max, min, nat_le, nat_lt, ◌<◌, ◌≤◌, Bool, true, false, ◌||◌, List, [], ◌∷◌, length, drop, refl, Ok}
+use Rattle.std.specs.List.{list_all}
 use Rattle.std.specs.Str.{IsAscii, IsUtf8}
 use Rattle.std.proofs.Common.{get_or-drop, arith, ap, sym, subst, cond, eqb}
 use Rattle.std.proofs.lemmas.Bool.{le-leb, lt-ltb, eqb-true}
 use Rattle.std.proofs.lemmas.Bool.Decides.{nat_tests}
 use Rattle.std.proofs.lemmas.List.{length-drop}
 use Rattle.std.proofs.lemmas.Str.{IsUtf8-from_ascii}
+use Rattle.tg_base.specs.declared.marks.Part.TheVariants as parts
 use Rattle.tg_codec.specs.Codec.{u8, u16, many, spell_many, fit_many}
 use Rattle.tg_codec.specs.Bounds.{same_ranges}
 use Rattle.tg_codec.proofs.Laws.{IsBytes, IsCodec, and-left, and-right, both, many_law, alike_law, length-fit_many}
 use Rattle.tg_codec.proofs.Shapes.{behind_law, met_within}
 use Rattle.tg_codec.proofs.Widths.{u8_law, u16_law}
+use Rattle.tg_kind.specs.Parts.{is_part}
 use Rattle.tg_kind.specs.Texts.{text_bytes, IsText}
 use Rattle.tg_tree.specs.Paths.{same, root, next_bytes, path_byte, after_byte, path_body, path_format, IsPath, has_slash, last_slash, last_name}
 
@@ -69,6 +72,18 @@ is_ascii before (b ∷ bytes) e (suc i) = is_ascii b bytes (rest_fits before b b
 
 pub path_utf8 : (p : List ℕ) → IsPath p → IsUtf8 p
 path_utf8 p e = IsUtf8-from_ascii p (is_ascii 0 p (path_fits p e))
+
+-- a path names a part
+bytes_fit : (before : ℕ) (bytes : List ℕ) → Fit before bytes → list_all (λ b. nat_lt b 256) bytes ≡ true
+bytes_fit before [] e = refl
+bytes_fit before (b ∷ bytes) e =
+    let low : b < 128 = choice_ascii (eqb before 0) (eqb before 47 || eqb (suc (length bytes)) 1) b (first_fits before b bytes e) in
+    both _ _ (lt-ltb b 256 (omega (arith, low))) (bytes_fit b bytes (rest_fits before b bytes e))
+
+pub path_is_part : (p : List ℕ) → IsPath p → is_part (parts.Text p) ≡ true
+path_is_part p e =
+    let t = path_length p e in
+    both _ _ (both _ _ (le-leb 1 (length p) t.0) (le-leb (length p) 4096 t.1)) (bytes_fit 0 p (path_fits p e))
 
 -- ---- names
 

@@ -18,11 +18,11 @@ use Rattle.tg_codec.proofs.Shapes.{behind_many_exact, tagged_law, IsTable, table
 use Rattle.tg_codec.proofs.Widths.{u32_law}
 use Rattle.tg_kind.specs.Bytes.{IsBytes}
 use Rattle.tg_kind.specs.Headers.{is_header}
-use Rattle.tg_kind.specs.Parts.{overlap}
+use Rattle.tg_kind.specs.Parts.{overlap, is_part}
 use Rattle.tg_kind.specs.Words as words
 use Rattle.tg_kind.specs.Texts.{text_format, text_law}
 use Rattle.tg_tree.specs.Paths.{root, by_bytes, same, path_format, IsPath, parent}
-use Rattle.tg_tree.specs.PathLaws.{path_law}
+use Rattle.tg_tree.specs.PathLaws.{path_law, path_is_part}
 use Rattle.tg_tree.specs.Orders.{same_is}
 use Rattle.tg_tree.specs.Growth.{Grown, first_node, insert_grown, stored_grown, removed_grown, parent_among, not_both, there_cons, same_turned}
 use Rattle.tg_tree.specs.Trees.{Nodes, is_object, is_state, is_of, is_there, has_child, is_next, is_full, node_format, after_node, count_format, nodes_format, state_format, first, created, stored, deleted, applied, held, answered, touched, looked, saved, loaded, path_and_text, as_create, as_store, as_delete, code_of, op_bodies, op_format}
@@ -324,6 +324,11 @@ apart s op (asks.Data q) e = ap (λ o. answers.Data (held o)) (elsewhere s op q 
 apart s op (asks.Has q) e = ap (λ o. answers.Has (is_some o)) (elsewhere s op q e)
 apart s op (asks.Children q) e = not_both (overlap (touched op) parts.All) (touches_all op) e
 
+pub touched_is : (op : TreeOp) → op_format.fits op ≡ true → is_part (touched op) ≡ true
+touched_is (Create p t) e = let g : (path_format.fits p && text_format.fits t) ≡ true = e in path_is_part p (and-left _ _ g)
+touched_is (Store p t) e = let g : (path_format.fits p && text_format.fits t) ≡ true = e in path_is_part p (and-left _ _ g)
+touched_is (Delete p) e = path_is_part p e
+
 -- ---- the laws of bytes
 
 pub loads_saved : (o : Oid) (s : Nodes) → is_state o s ≡ true → loaded o (saved s) ≡ Ok s
@@ -337,6 +342,11 @@ reads_spelled op rest e = op_law.exact.again op rest e
 
 pub reads_only : (bytes : List ℕ) (op : TreeOp) (rest : List ℕ) → IsBytes bytes → op_format.read bytes ≡ Ok (op, rest) → (op_format.fits op ≡ true) × (bytes ≡ op_format.spell op ++ rest)
 reads_only bytes op rest fits e = words.reads_only op_format op_law.exact bytes op rest fits e
+
+pub spelled_some : (op : TreeOp) → op_format.fits op ≡ true → 1 ≤ length (op_format.spell op)
+spelled_some (Create p t) e = omega arith
+spelled_some (Store p t) e = omega arith
+spelled_some (Delete p) e = omega arith
 
 pub no_front_law : (a b : TreeOp) (x y : List ℕ) → op_format.fits a ≡ true → op_format.fits b ≡ true → op_format.spell a ++ x ≡ op_format.spell b ++ y → a ≡ b
 no_front_law a b x y f g e = no_front op_format op_law.exact a b x y f g e

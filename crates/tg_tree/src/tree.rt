@@ -288,6 +288,8 @@ impl Kind for Tree {
 
     ghost other_kind = { laws.other_kind };
 
+    ghost touched_is = { laws.touched_is };
+
     ghost apart = { laws.apart };
 
     ghost loads_saved = { laws.loads_saved };
@@ -297,6 +299,8 @@ impl Kind for Tree {
     ghost reads_spelled = { laws.reads_spelled };
 
     ghost reads_only = { laws.reads_only };
+
+    ghost spelled_some = { laws.spelled_some };
 
     ghost no_front = { laws.no_front_law };
 }

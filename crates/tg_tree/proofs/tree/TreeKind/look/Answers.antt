@@ -1,0 +1,8 @@
+use Rattle.tg_tree.specs.PathLaws.{path_is_part}
+use Rattle.tg_tree.proofs.tree.TreeKind.look.Goals as goal
+
+pub returns-in-Data-clause-lawful : goal.returns-in-Data-clause-lawful
+returns-in-Data-clause-lawful c = path_is_part c.in-Data.path c.as_str-path.ensures.known
+
+pub returns-in-Has-clause-lawful : goal.returns-in-Has-clause-lawful
+returns-in-Has-clause-lawful c = path_is_part c.in-Has.path c.as_str-path-in-Has.ensures.known
