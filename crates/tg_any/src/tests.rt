@@ -64,11 +64,7 @@ fn ask_again(alloc: Global, words: &[&str]) -> Result<Option<List<u8>>, NoMemory
 }
 
 // The words of the answer to an ask that is read from words, if one is.
-fn answer_read(
-    alloc: Global,
-    ask: &AnyAsk,
-    words: &[&str],
-) -> Result<Option<List<u8>>, NoMemory> {
+fn answer_read(alloc: Global, ask: &AnyAsk, words: &[&str]) -> Result<Option<List<u8>>, NoMemory> {
     match ans_of(alloc, ask, words)? {
         None => Ok(None),
         Some(answer) => Ok(Some(answer_words(alloc, &answer)?)),
@@ -103,8 +99,10 @@ fn ops_have_words(rt: HostRuntime) {
 
 #[test]
 fn asks_have_words(rt: HostRuntime) {
-    let asks: [(&[&str], Option<&str>); 2] =
-        [(&["get", "k"], Some("get k")), (&["size", "k"], None)];
+    let asks: [(&[&str], Option<&str>); 2] = [
+        (&["get", "k"], Some("get k")),
+        (&["size", "k"], None),
+    ];
     for (words, want) in asks {
         assert!(rt; is(ask_again(rt.alloc(), words), want));
     }
