@@ -1,13 +1,6 @@
 -- What is read of the words of all kinds is what they spell, and nothing else.
-use Rattle.std.proofs.Common.{◌≡◌, ℕ, Bool, true, false, List, [], ◌∷◌, Option, Some, None, refl, ap, sym, subst, ◌∙◌}
+use Rattle.std.proofs.Common.{◌≡◌, ℕ, true, List, [], ◌∷◌, Option, Some, None, refl, ap, sym, subst, ◌∙◌}
 use Rattle.std.specs.Prelude.{option_map, IfSome, IfOk, Result, Ok, Err}
-use Rattle.tg_any.specs.DirectoryWords as directory
-use Rattle.tg_any.specs.CounterWords as counter
-use Rattle.tg_any.specs.RegisterWords as register
-use Rattle.tg_any.specs.MapWords as map
-use Rattle.tg_any.specs.ListWords as list
-use Rattle.tg_any.specs.TreeWords as tree
-use Rattle.tg_any.specs.SetWords as set
 use Rattle.tg_any.proofs.DirectoryForms as directory_forms
 use Rattle.tg_any.proofs.CounterForms as counter_forms
 use Rattle.tg_any.proofs.RegisterForms as register_forms
@@ -15,33 +8,19 @@ use Rattle.tg_any.proofs.MapForms as map_forms
 use Rattle.tg_any.proofs.ListForms as list_forms
 use Rattle.tg_any.proofs.TreeForms as tree_forms
 use Rattle.tg_any.proofs.SetForms as set_forms
-use Rattle.tg_dir.specs.declared.directory.DirectoryOp.{DirectoryOp}
 use Rattle.tg_dir.specs.declared.directory.DirectoryOp.TheVariants as directory_ops
-use Rattle.tg_dir.specs.declared.directory.DirectoryAsk.{DirectoryAsk}
 use Rattle.tg_dir.specs.declared.directory.DirectoryAsk.TheVariants as directory_asks
-use Rattle.tg_cell.specs.declared.counter.CounterOp.{CounterOp}
 use Rattle.tg_cell.specs.declared.counter.CounterOp.TheVariants as counter_ops
-use Rattle.tg_cell.specs.declared.counter.CounterAsk.{CounterAsk}
 use Rattle.tg_cell.specs.declared.counter.CounterAsk.TheVariants as counter_asks
-use Rattle.tg_cell.specs.declared.register.RegisterOp.{RegisterOp}
 use Rattle.tg_cell.specs.declared.register.RegisterOp.TheVariants as register_ops
-use Rattle.tg_cell.specs.declared.register.RegisterAsk.{RegisterAsk}
 use Rattle.tg_cell.specs.declared.register.RegisterAsk.TheVariants as register_asks
-use Rattle.tg_map.specs.declared.map.MapOp.{MapOp}
 use Rattle.tg_map.specs.declared.map.MapOp.TheVariants as map_ops
-use Rattle.tg_map.specs.declared.map.MapAsk.{MapAsk}
 use Rattle.tg_map.specs.declared.map.MapAsk.TheVariants as map_asks
-use Rattle.tg_list.specs.declared.text_list.TextListOp.{TextListOp}
 use Rattle.tg_list.specs.declared.text_list.TextListOp.TheVariants as list_ops
-use Rattle.tg_list.specs.declared.text_list.TextListAsk.{TextListAsk}
 use Rattle.tg_list.specs.declared.text_list.TextListAsk.TheVariants as list_asks
-use Rattle.tg_tree.specs.declared.tree.TreeOp.{TreeOp}
 use Rattle.tg_tree.specs.declared.tree.TreeOp.TheVariants as tree_ops
-use Rattle.tg_tree.specs.declared.tree.TreeAsk.{TreeAsk}
 use Rattle.tg_tree.specs.declared.tree.TreeAsk.TheVariants as tree_asks
-use Rattle.tg_set.specs.declared.set.SetOp.{SetOp}
 use Rattle.tg_set.specs.declared.set.SetOp.TheVariants as set_ops
-use Rattle.tg_set.specs.declared.set.SetAsk.{SetAsk}
 use Rattle.tg_set.specs.declared.set.SetAsk.TheVariants as set_asks
 use Rattle.tg_any.specs.declared.any.AnyOp.{AnyOp}
 use Rattle.tg_any.specs.declared.any.AnyOp.TheVariants as ops

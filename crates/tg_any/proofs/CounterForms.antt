@@ -1,18 +1,14 @@
 -- What is read of the words of counters is what they spell, and nothing else.
-use Rattle.std.proofs.Common.{◌≡◌, ℕ, ℤ, Bool, true, false, List, [], ◌∷◌, codes, Option, Some, None, refl, ap, ◌∙◌}
-use Rattle.std.specs.Prelude.{option_map}
-use Rattle.tg_base.specs.declared.ids.Oid.{Oid}
-use Rattle.tg_codec.proofs.Laws.{and-left, and-right, both}
+use Rattle.std.proofs.Common.{◌≡◌, ℕ, true, List, [], ◌∷◌, codes, Option, Some, None, refl, ap, ◌∙◌}
 use Rattle.tg_cell.specs.declared.counter.CounterOp.{CounterOp}
 use Rattle.tg_cell.specs.declared.counter.CounterOp.TheVariants as ops
 use Rattle.tg_cell.specs.declared.counter.CounterAsk.{CounterAsk}
 use Rattle.tg_cell.specs.declared.counter.CounterAsk.TheVariants as asks
 use Rattle.tg_cell.specs.declared.counter.CounterAns.{CounterAns}
 use Rattle.tg_cell.specs.declared.counter.CounterAns.TheVariants as answers
-use Rattle.tg_any.specs.Words.{signed as a_signed, nothing, one, two, maybe, list, verb}
+use Rattle.tg_any.specs.Words.{signed as a_signed, nothing, one}
 use Rattle.tg_any.specs.CounterWords.{op_words, op_fits, op_read, ask_words, ask_fits, ask_read, answer_words, answer_fits, answer_read}
-use Rattle.tg_any.proofs.Words.{signed_law, nothing_law, one_law, two_law, maybe_law, verb_takes, made_again, made_takes}
-use Rattle.tg_any.proofs.Lists.{list_law}
+use Rattle.tg_any.proofs.Words.{signed_law, nothing_law, one_law, verb_takes, made_again, made_takes}
 
 abbrev read_by : {A : Type 0} → (List ℕ → List (List ℕ) → Option A) → List (List ℕ) → Option A
 read_by read [] = None

@@ -1,15 +1,13 @@
 -- What is read of the words of directories is what they spell, and nothing else.
-use Rattle.std.proofs.Common.{◌≡◌, ℕ, ℤ, Bool, true, false, List, [], ◌∷◌, codes, Option, Some, None, refl, ap, ◌∙◌}
-use Rattle.std.specs.Prelude.{option_map}
+use Rattle.std.proofs.Common.{◌≡◌, ℕ, true, List, [], ◌∷◌, codes, Option, Some, None, refl, ap, ◌∙◌}
 use Rattle.tg_base.specs.declared.ids.Oid.{Oid}
-use Rattle.tg_codec.proofs.Laws.{and-left, and-right, both}
 use Rattle.tg_dir.specs.declared.directory.DirectoryOp.{DirectoryOp}
 use Rattle.tg_dir.specs.declared.directory.DirectoryOp.TheVariants as ops
 use Rattle.tg_dir.specs.declared.directory.DirectoryAsk.{DirectoryAsk}
 use Rattle.tg_dir.specs.declared.directory.DirectoryAsk.TheVariants as asks
 use Rattle.tg_dir.specs.declared.directory.DirectoryAns.{DirectoryAns}
 use Rattle.tg_dir.specs.declared.directory.DirectoryAns.TheVariants as answers
-use Rattle.tg_any.specs.Words.{text as a_text, number as a_number, object as an_object, mark as a_mark, nothing, one, two, maybe, list, verb}
+use Rattle.tg_any.specs.Words.{text as a_text, number as a_number, object as an_object, mark as a_mark, nothing, one, two, maybe, list}
 use Rattle.tg_any.specs.DirectoryWords.{op_words, op_fits, op_read, ask_words, ask_fits, ask_read, answer_words, answer_fits, answer_read}
 use Rattle.tg_any.proofs.Words.{text_law, number_law, object_law, mark_law, nothing_law, one_law, two_law, maybe_law, verb_takes, made_again, made_takes}
 use Rattle.tg_any.proofs.Lists.{list_law}

@@ -1,5 +1,5 @@
 -- Lists in brackets, and what is read of them.
-use Rattle.std.proofs.Common.{◌≡◌, ◌≢◌, ℕ, zero, suc, ◌-◌, ◌<◌, ◌≤◌, Bool, true, false, ◌&&◌, cond, List, [], ◌∷◌, ◌++◌, length, take, drop, map, codes, Option, Some, None, sym, refl, subst, ap, ◌∙◌, arith, length-append}
+use Rattle.std.proofs.Common.{◌≡◌, ◌≢◌, ℕ, zero, suc, ◌-◌, ◌<◌, ◌≤◌, Bool, true, false, cond, List, [], ◌∷◌, ◌++◌, length, take, drop, map, codes, Option, Some, None, sym, refl, subst, ap, ◌∙◌, arith, length-append}
 use Rattle.std.specs.Prelude.{option_map, option_and_then, MatchOption}
 use Rattle.std.specs.Borrow.{Bor}
 use Rattle.std.specs.List.{list_all, flat_map}
@@ -11,7 +11,7 @@ use Rattle.std.proofs.lemmas.Slice.Eq.{bytes_eq-Decides}
 use Rattle.std.proofs.Math.Seq.{take-append_seam, drop-append_seam}
 use Rattle.tg_codec.proofs.Laws.{and-left, and-right, both}
 use Rattle.tg_any.specs.Fronts.{after}
-use Rattle.tg_any.specs.Words.{texts, Word, Phrase, closed, opened, bracketed, before, items_read, bracketed_read, is_empty_list, list_read, list, joined}
+use Rattle.tg_any.specs.Words.{texts, Word, closed, opened, bracketed, before, items_read, bracketed_read, is_empty_list, list_read, list, joined}
 use Rattle.tg_any.proofs.Numbers.{bind_takes, when_takes}
 use Rattle.tg_any.proofs.Fronts.{some_is, bind_again, after_takes, after_again}
 use Rattle.tg_any.proofs.Words.{IsWord, IsPhrase, cond_takes, none_of}

@@ -1,15 +1,12 @@
 -- What is read of the words of maps is what they spell, and nothing else.
-use Rattle.std.proofs.Common.{◌≡◌, ℕ, ℤ, Bool, true, false, List, [], ◌∷◌, codes, Option, Some, None, refl, ap, ◌∙◌}
-use Rattle.std.specs.Prelude.{option_map}
-use Rattle.tg_base.specs.declared.ids.Oid.{Oid}
-use Rattle.tg_codec.proofs.Laws.{and-left, and-right, both}
+use Rattle.std.proofs.Common.{◌≡◌, ℕ, true, List, [], ◌∷◌, codes, Option, Some, None, refl, ap, ◌∙◌}
 use Rattle.tg_map.specs.declared.map.MapOp.{MapOp}
 use Rattle.tg_map.specs.declared.map.MapOp.TheVariants as ops
 use Rattle.tg_map.specs.declared.map.MapAsk.{MapAsk}
 use Rattle.tg_map.specs.declared.map.MapAsk.TheVariants as asks
 use Rattle.tg_map.specs.declared.map.MapAns.{MapAns}
 use Rattle.tg_map.specs.declared.map.MapAns.TheVariants as answers
-use Rattle.tg_any.specs.Words.{text as a_text, number as a_number, nothing, one, two, maybe, list, verb}
+use Rattle.tg_any.specs.Words.{text as a_text, number as a_number, nothing, one, two, maybe, list}
 use Rattle.tg_any.specs.MapWords.{op_words, op_fits, op_read, ask_words, ask_fits, ask_read, answer_words, answer_fits, answer_read}
 use Rattle.tg_any.proofs.Words.{text_law, number_law, nothing_law, one_law, two_law, maybe_law, verb_takes, made_again, made_takes}
 use Rattle.tg_any.proofs.Lists.{list_law}

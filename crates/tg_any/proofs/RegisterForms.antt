@@ -1,18 +1,14 @@
 -- What is read of the words of registers is what they spell, and nothing else.
-use Rattle.std.proofs.Common.{◌≡◌, ℕ, ℤ, Bool, true, false, List, [], ◌∷◌, codes, Option, Some, None, refl, ap, ◌∙◌}
-use Rattle.std.specs.Prelude.{option_map}
-use Rattle.tg_base.specs.declared.ids.Oid.{Oid}
-use Rattle.tg_codec.proofs.Laws.{and-left, and-right, both}
+use Rattle.std.proofs.Common.{◌≡◌, ℕ, true, List, [], ◌∷◌, codes, Option, Some, None, refl, ap, ◌∙◌}
 use Rattle.tg_cell.specs.declared.register.RegisterOp.{RegisterOp}
 use Rattle.tg_cell.specs.declared.register.RegisterOp.TheVariants as ops
 use Rattle.tg_cell.specs.declared.register.RegisterAsk.{RegisterAsk}
 use Rattle.tg_cell.specs.declared.register.RegisterAsk.TheVariants as asks
 use Rattle.tg_cell.specs.declared.register.RegisterAns.{RegisterAns}
 use Rattle.tg_cell.specs.declared.register.RegisterAns.TheVariants as answers
-use Rattle.tg_any.specs.Words.{text as a_text, nothing, one, two, maybe, list, verb}
+use Rattle.tg_any.specs.Words.{text as a_text, nothing, one, maybe}
 use Rattle.tg_any.specs.RegisterWords.{op_words, op_fits, op_read, ask_words, ask_fits, ask_read, answer_words, answer_fits, answer_read}
-use Rattle.tg_any.proofs.Words.{text_law, nothing_law, one_law, two_law, maybe_law, verb_takes, made_again, made_takes}
-use Rattle.tg_any.proofs.Lists.{list_law}
+use Rattle.tg_any.proofs.Words.{text_law, nothing_law, one_law, maybe_law, verb_takes, made_again, made_takes}
 
 abbrev read_by : {A : Type 0} → (List ℕ → List (List ℕ) → Option A) → List (List ℕ) → Option A
 read_by read [] = None

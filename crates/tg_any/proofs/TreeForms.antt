@@ -1,17 +1,14 @@
 -- What is read of the words of trees is what they spell, and nothing else.
-use Rattle.std.proofs.Common.{◌≡◌, ℕ, ℤ, Bool, true, false, List, [], ◌∷◌, codes, Option, Some, None, refl, ap, ◌∙◌}
-use Rattle.std.specs.Prelude.{option_map}
-use Rattle.tg_base.specs.declared.ids.Oid.{Oid}
-use Rattle.tg_codec.proofs.Laws.{and-left, and-right, both}
+use Rattle.std.proofs.Common.{◌≡◌, ℕ, true, List, [], ◌∷◌, codes, Option, Some, None, ap, ◌∙◌}
 use Rattle.tg_tree.specs.declared.tree.TreeOp.{TreeOp}
 use Rattle.tg_tree.specs.declared.tree.TreeOp.TheVariants as ops
 use Rattle.tg_tree.specs.declared.tree.TreeAsk.{TreeAsk}
 use Rattle.tg_tree.specs.declared.tree.TreeAsk.TheVariants as asks
 use Rattle.tg_tree.specs.declared.tree.TreeAns.{TreeAns}
 use Rattle.tg_tree.specs.declared.tree.TreeAns.TheVariants as answers
-use Rattle.tg_any.specs.Words.{text as a_text, path as a_path, flag as a_flag, nothing, one, two, maybe, list, verb}
+use Rattle.tg_any.specs.Words.{text as a_text, path as a_path, flag as a_flag, one, two, maybe, list}
 use Rattle.tg_any.specs.TreeWords.{op_words, op_fits, op_read, ask_words, ask_fits, ask_read, answer_words, answer_fits, answer_read}
-use Rattle.tg_any.proofs.Words.{text_law, path_law, flag_law, nothing_law, one_law, two_law, maybe_law, verb_takes, made_again, made_takes}
+use Rattle.tg_any.proofs.Words.{text_law, path_law, flag_law, one_law, two_law, maybe_law, verb_takes, made_again, made_takes}
 use Rattle.tg_any.proofs.Lists.{list_law}
 
 abbrev read_by : {A : Type 0} → (List ℕ → List (List ℕ) → Option A) → List (List ℕ) → Option A

@@ -1,9 +1,7 @@
 -- What is read of words is what they spell, and nothing else.
-use Rattle.std.proofs.Common.{◌≡◌, ℕ, ◌^◌, ◌<◌, ℤ, pos, negsuc, FitsSigned, Bool, true, false, ◌&&◌, cond, ltb, List, [], ◌∷◌, ◌++◌, length, map, codes, Option, Some, None, sym, refl, subst, ap, ◌∙◌, arith}
+use Rattle.std.proofs.Common.{◌≡◌, ℕ, ◌^◌, ◌<◌, ℤ, pos, negsuc, FitsSigned, Bool, true, false, ◌&&◌, cond, ltb, List, [], ◌∷◌, length, codes, Option, Some, None, sym, refl, subst, ap, ◌∙◌, arith}
 use Rattle.std.specs.Prelude.{option_map, option_and_then}
-use Rattle.std.specs.List.{list_all}
 use Rattle.std.specs.Str.{bytes_eq}
-use Rattle.std.specs.Option.{unwrap_or}
 use Rattle.std.specs.Int.{w64}
 use Rattle.std.specs.Fmt.{decimal, signed_decimal}
 use Rattle.std.proofs.lemmas.Fmt.{decimal_nonempty}

@@ -1,5 +1,5 @@
 -- The laws of all kinds as one, by those of each.
-use Rattle.std.specs.Prelude.{◌≡◌, ℕ, ◌/◌, ◌^◌, Bool, true, false, ◌==◌, List, ◌++◌, ◌&&◌, Result, Ok, Err, refl, if◌then◌else◌}
+use Rattle.std.specs.Prelude.{◌≡◌, ℕ, Bool, true, false, List, ◌++◌, ◌&&◌, Result, Ok, Err, refl, ◌≤◌, length}
 use Rattle.std.proofs.Common.{cond, eqb, sym, ap, ◌∙◌, subst, arith}
 use Rattle.std.proofs.lemmas.Bool.{eqb-true}
 use Rattle.tg_base.specs.declared.ids.Oid.{Oid}
@@ -7,7 +7,7 @@ use Rattle.tg_codec.specs.Reading.{Read}
 use Rattle.tg_codec.proofs.Laws.{and-left}
 use Rattle.tg_kind.specs.Bytes.{IsBytes}
 use Rattle.tg_kind.specs.Headers.{is_header, directory}
-use Rattle.tg_kind.specs.Parts.{tag_of, overlap}
+use Rattle.tg_kind.specs.Parts.{tag_of, overlap, is_part}
 use Rattle.tg_dir.specs.Directories as directories
 use Rattle.tg_cell.specs.Counters as counters
 use Rattle.tg_cell.specs.Registers as registers
@@ -113,6 +113,16 @@ other_kind o (states.Tree s) (ops.Tree op) e f = ap states.Tree (trees_laws.othe
 other_kind o (states.Tree s) op e f = refl
 other_kind o (states.Set s) (ops.Set op) e f = ap states.Set (sets_laws.other_kind o s op e f)
 other_kind o (states.Set s) op e f = refl
+
+pub touched_is : (op : AnyOp) → is_op op ≡ true → is_part (touched op) ≡ true
+unfolding is_op touched
+touched_is (ops.Directory op) e = directories_laws.touched_is op e
+touched_is (ops.Counter op) e = counters_laws.touched_is op e
+touched_is (ops.Register op) e = registers_laws.touched_is op e
+touched_is (ops.Map op) e = maps_laws.touched_is op e
+touched_is (ops.List op) e = lists_laws.touched_is op e
+touched_is (ops.Tree op) e = trees_laws.touched_is op e
+touched_is (ops.Set op) e = sets_laws.touched_is op e
 
 pub apart : (s : AnyKind) (op : AnyOp) (ask : AnyAsk) → overlap (touched op) (looked ask) ≡ false → answered (applied s op) ask ≡ answered s ask
 unfolding applied answered touched looked
@@ -317,6 +327,7 @@ code_5 (tree_ops.Store path text) rest = refl
 code_5 (tree_ops.Delete path) rest = refl
 
 code_6 : (op : SetOp) (rest : List ℕ) → code_tag (sets.op_format.spell op ++ rest) ≡ 6
+unfolding sets.op_format
 code_6 (set_ops.Include number) rest = refl
 code_6 (set_ops.Exclude number) rest = refl
 
@@ -357,6 +368,16 @@ reads_spelled (ops.Map op) rest e = read_at_3 (maps.op_format.spell op ++ rest) 
 reads_spelled (ops.List op) rest e = read_at_4 (lists.op_format.spell op ++ rest) (code_4 op rest) ∙ ap (made_op ops.List) (lists_laws.reads_spelled op rest e)
 reads_spelled (ops.Tree op) rest e = read_at_5 (trees.op_format.spell op ++ rest) (code_5 op rest) ∙ ap (made_op ops.Tree) (trees_laws.reads_spelled op rest e)
 reads_spelled (ops.Set op) rest e = read_at_6 (sets.op_format.spell op ++ rest) (code_6 op rest) ∙ ap (made_op ops.Set) (sets_laws.reads_spelled op rest e)
+
+pub spelled_some : (op : AnyOp) → is_op op ≡ true → 1 ≤ length (spelled op)
+unfolding is_op spelled
+spelled_some (ops.Directory op) e = directories_laws.spelled_some op e
+spelled_some (ops.Counter op) e = counters_laws.spelled_some op e
+spelled_some (ops.Register op) e = registers_laws.spelled_some op e
+spelled_some (ops.Map op) e = maps_laws.spelled_some op e
+spelled_some (ops.List op) e = lists_laws.spelled_some op e
+spelled_some (ops.Tree op) e = trees_laws.spelled_some op e
+spelled_some (ops.Set op) e = sets_laws.spelled_some op e
 
 pub no_front_law : (a b : AnyOp) (x y : List ℕ) → is_op a ≡ true → is_op b ≡ true → spelled a ++ x ≡ spelled b ++ y → a ≡ b
 no_front_law a b x y f g e =

@@ -1,5 +1,5 @@
 -- The words of ops, asks and answers of all kinds.
-use Rattle.std.specs.Prelude.{ℕ, Bool, true, false, List, [], ◌∷◌, codes, Option, Some, None, option_map}
+use Rattle.std.specs.Prelude.{ℕ, Bool, false, List, [], ◌∷◌, codes, Option, Some, None, option_map}
 use Rattle.tg_any.specs.DirectoryWords as directory
 use Rattle.tg_any.specs.CounterWords as counter
 use Rattle.tg_any.specs.RegisterWords as register

@@ -1,5 +1,5 @@
 -- All kinds of objects as one. What is said of a kind holds of its objects, states, ops and asks.
-use Rattle.std.specs.Prelude.{ℕ, ◌/◌, Bool, true, false, ◌&&◌, ◌==◌, not, List, get_or, Result, Ok, Err, if◌then◌else◌}
+use Rattle.std.specs.Prelude.{ℕ, ◌/◌, Bool, false, ◌==◌, List, get_or, Result, Ok, Err, if◌then◌else◌}
 use Rattle.tg_base.specs.declared.ids.Oid.{Oid}
 use Rattle.tg_base.specs.declared.marks.Part.{Part}
 use Rattle.tg_codec.specs.Reading.{Read}

@@ -1,14 +1,13 @@
 -- The words of counters: an op or an ask is a verb and its fields.
-use Rattle.std.specs.Prelude.{ℕ, Bool, true, false, ◌&&◌, List, [], ◌∷◌, codes, Option, Some, None, option_map}
-use Rattle.std.specs.Fmt.{decimal, signed_decimal}
+use Rattle.std.specs.Prelude.{ℕ, Bool, true, List, [], ◌∷◌, codes, Option, None, option_map}
+use Rattle.std.specs.Fmt.{signed_decimal}
 use Rattle.tg_cell.specs.declared.counter.CounterOp.{CounterOp}
 use Rattle.tg_cell.specs.declared.counter.CounterOp.TheVariants as ops
 use Rattle.tg_cell.specs.declared.counter.CounterAsk.{CounterAsk}
 use Rattle.tg_cell.specs.declared.counter.CounterAsk.TheVariants as asks
 use Rattle.tg_cell.specs.declared.counter.CounterAns.{CounterAns}
 use Rattle.tg_cell.specs.declared.counter.CounterAns.TheVariants as answers
-use Rattle.tg_any.specs.Names.{object_word, mark_word}
-use Rattle.tg_any.specs.Words.{signed as a_signed, nothing, one, two, maybe, list, verb}
+use Rattle.tg_any.specs.Words.{signed as a_signed, nothing, one, verb}
 
 abbrev pub op_words : CounterOp → List (List ℕ)
 op_words (ops.Add by) = codes "add" ∷ signed_decimal by ∷ []

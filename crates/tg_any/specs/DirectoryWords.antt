@@ -1,13 +1,13 @@
 -- The words of directories: an op or an ask is a verb and its fields.
-use Rattle.std.specs.Prelude.{ℕ, Bool, true, false, ◌&&◌, List, [], ◌∷◌, codes, Option, Some, None, option_map}
-use Rattle.std.specs.Fmt.{decimal, signed_decimal}
+use Rattle.std.specs.Prelude.{ℕ, Bool, true, false, ◌&&◌, List, [], ◌∷◌, codes, Option, None, option_map}
+use Rattle.std.specs.Fmt.{decimal}
 use Rattle.tg_dir.specs.declared.directory.DirectoryOp.{DirectoryOp}
 use Rattle.tg_dir.specs.declared.directory.DirectoryOp.TheVariants as ops
 use Rattle.tg_dir.specs.declared.directory.DirectoryAsk.{DirectoryAsk}
 use Rattle.tg_dir.specs.declared.directory.DirectoryAsk.TheVariants as asks
 use Rattle.tg_dir.specs.declared.directory.DirectoryAns.{DirectoryAns}
 use Rattle.tg_dir.specs.declared.directory.DirectoryAns.TheVariants as answers
-use Rattle.tg_any.specs.Names.{object_word, mark_word}
+use Rattle.tg_any.specs.Names.{object_word}
 use Rattle.tg_any.specs.Words.{text as a_text, number as a_number, object as an_object, mark as a_mark, nothing, one, two, maybe, list, verb}
 
 abbrev pub op_words : DirectoryOp → List (List ℕ)

@@ -1,13 +1,12 @@
 -- The words of lists: an op or an ask is a verb and its fields.
-use Rattle.std.specs.Prelude.{ℕ, Bool, true, false, ◌&&◌, List, [], ◌∷◌, codes, Option, Some, None, option_map}
-use Rattle.std.specs.Fmt.{decimal, signed_decimal}
+use Rattle.std.specs.Prelude.{ℕ, Bool, true, false, ◌&&◌, List, [], ◌∷◌, codes, Option, None, option_map}
+use Rattle.std.specs.Fmt.{decimal}
 use Rattle.tg_list.specs.declared.text_list.TextListOp.{TextListOp}
 use Rattle.tg_list.specs.declared.text_list.TextListOp.TheVariants as ops
 use Rattle.tg_list.specs.declared.text_list.TextListAsk.{TextListAsk}
 use Rattle.tg_list.specs.declared.text_list.TextListAsk.TheVariants as asks
 use Rattle.tg_list.specs.declared.text_list.TextListAns.{TextListAns}
 use Rattle.tg_list.specs.declared.text_list.TextListAns.TheVariants as answers
-use Rattle.tg_any.specs.Names.{object_word, mark_word}
 use Rattle.tg_any.specs.Words.{text as a_text, number as a_number, index as an_index, nothing, one, two, maybe, list, verb}
 
 abbrev pub op_words : TextListOp → List (List ℕ)

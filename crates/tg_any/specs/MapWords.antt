@@ -1,13 +1,11 @@
 -- The words of maps: an op or an ask is a verb and its fields.
-use Rattle.std.specs.Prelude.{ℕ, Bool, true, false, ◌&&◌, List, [], ◌∷◌, codes, Option, Some, None, option_map}
-use Rattle.std.specs.Fmt.{decimal, signed_decimal}
+use Rattle.std.specs.Prelude.{ℕ, Bool, true, false, ◌&&◌, List, [], ◌∷◌, codes, Option, None, option_map}
 use Rattle.tg_map.specs.declared.map.MapOp.{MapOp}
 use Rattle.tg_map.specs.declared.map.MapOp.TheVariants as ops
 use Rattle.tg_map.specs.declared.map.MapAsk.{MapAsk}
 use Rattle.tg_map.specs.declared.map.MapAsk.TheVariants as asks
 use Rattle.tg_map.specs.declared.map.MapAns.{MapAns}
 use Rattle.tg_map.specs.declared.map.MapAns.TheVariants as answers
-use Rattle.tg_any.specs.Names.{object_word, mark_word}
 use Rattle.tg_any.specs.Words.{text as a_text, number as a_number, nothing, one, two, maybe, list, verb}
 
 abbrev pub op_words : MapOp → List (List ℕ)

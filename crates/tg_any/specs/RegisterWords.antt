@@ -1,14 +1,12 @@
 -- The words of registers: an op or an ask is a verb and its fields.
-use Rattle.std.specs.Prelude.{ℕ, Bool, true, false, ◌&&◌, List, [], ◌∷◌, codes, Option, Some, None, option_map}
-use Rattle.std.specs.Fmt.{decimal, signed_decimal}
+use Rattle.std.specs.Prelude.{ℕ, Bool, true, List, [], ◌∷◌, codes, Option, None, option_map}
 use Rattle.tg_cell.specs.declared.register.RegisterOp.{RegisterOp}
 use Rattle.tg_cell.specs.declared.register.RegisterOp.TheVariants as ops
 use Rattle.tg_cell.specs.declared.register.RegisterAsk.{RegisterAsk}
 use Rattle.tg_cell.specs.declared.register.RegisterAsk.TheVariants as asks
 use Rattle.tg_cell.specs.declared.register.RegisterAns.{RegisterAns}
 use Rattle.tg_cell.specs.declared.register.RegisterAns.TheVariants as answers
-use Rattle.tg_any.specs.Names.{object_word, mark_word}
-use Rattle.tg_any.specs.Words.{text as a_text, nothing, one, two, maybe, list, verb}
+use Rattle.tg_any.specs.Words.{text as a_text, nothing, one, maybe, verb}
 
 abbrev pub op_words : RegisterOp → List (List ℕ)
 op_words (ops.Write text) = codes "write" ∷ text ∷ []

@@ -1,14 +1,13 @@
 -- The words of sets: an op or an ask is a verb and its fields.
-use Rattle.std.specs.Prelude.{ℕ, Bool, true, false, ◌&&◌, List, [], ◌∷◌, codes, Option, Some, None, option_map}
-use Rattle.std.specs.Fmt.{decimal, signed_decimal}
+use Rattle.std.specs.Prelude.{ℕ, Bool, false, ◌&&◌, List, [], ◌∷◌, codes, Option, None, option_map}
+use Rattle.std.specs.Fmt.{decimal}
 use Rattle.tg_set.specs.declared.set.SetOp.{SetOp}
 use Rattle.tg_set.specs.declared.set.SetOp.TheVariants as ops
 use Rattle.tg_set.specs.declared.set.SetAsk.{SetAsk}
 use Rattle.tg_set.specs.declared.set.SetAsk.TheVariants as asks
 use Rattle.tg_set.specs.declared.set.SetAns.{SetAns}
 use Rattle.tg_set.specs.declared.set.SetAns.TheVariants as answers
-use Rattle.tg_any.specs.Names.{object_word, mark_word}
-use Rattle.tg_any.specs.Words.{number as a_number, flag as a_flag, nothing, one, two, maybe, list, verb}
+use Rattle.tg_any.specs.Words.{number as a_number, flag as a_flag, one, two, list, verb}
 
 abbrev pub op_words : SetOp → List (List ℕ)
 op_words (ops.Include number) = codes "include" ∷ decimal number ∷ []

@@ -1,14 +1,12 @@
 -- The words of trees: an op or an ask is a verb and its fields.
-use Rattle.std.specs.Prelude.{ℕ, Bool, true, false, ◌&&◌, List, [], ◌∷◌, codes, Option, Some, None, option_map}
-use Rattle.std.specs.Fmt.{decimal, signed_decimal}
+use Rattle.std.specs.Prelude.{ℕ, Bool, false, ◌&&◌, List, [], ◌∷◌, codes, Option, None, option_map}
 use Rattle.tg_tree.specs.declared.tree.TreeOp.{TreeOp}
 use Rattle.tg_tree.specs.declared.tree.TreeOp.TheVariants as ops
 use Rattle.tg_tree.specs.declared.tree.TreeAsk.{TreeAsk}
 use Rattle.tg_tree.specs.declared.tree.TreeAsk.TheVariants as asks
 use Rattle.tg_tree.specs.declared.tree.TreeAns.{TreeAns}
 use Rattle.tg_tree.specs.declared.tree.TreeAns.TheVariants as answers
-use Rattle.tg_any.specs.Names.{object_word, mark_word}
-use Rattle.tg_any.specs.Words.{text as a_text, path as a_path, flag as a_flag, nothing, one, two, maybe, list, verb}
+use Rattle.tg_any.specs.Words.{text as a_text, path as a_path, flag as a_flag, one, two, maybe, list, verb}
 
 abbrev pub op_words : TreeOp → List (List ℕ)
 op_words (ops.Create path text) = codes "create" ∷ path ∷ text ∷ []

@@ -338,6 +338,8 @@ impl Kind for AnyKind {
 
     ghost other_kind = { laws.other_kind };
 
+    ghost touched_is = { laws.touched_is };
+
     ghost apart = { laws.apart };
 
     ghost loads_saved = { laws.loads_saved };
@@ -347,6 +349,8 @@ impl Kind for AnyKind {
     ghost reads_spelled = { laws.reads_spelled };
 
     ghost reads_only = { laws.reads_only };
+
+    ghost spelled_some = { laws.spelled_some };
 
     ghost no_front = { laws.no_front_law };
 }
@@ -362,15 +366,22 @@ impl Registry for AnyKind {
 
     ghost marking = { marking };
 
-    fn allows(oid: Oid, op: &AnyOp) -> bool {
+    fn fits(oid: Oid, op: &AnyOp) -> bool {
         match op {
-            AnyOp::Directory(op) => Directory::allows(oid, op),
+            AnyOp::Directory(op) => Directory::fits(oid, op),
             AnyOp::Counter(_) => oid.0 / INDICES == 1,
             AnyOp::Register(_) => oid.0 / INDICES == 2,
             AnyOp::Map(_) => oid.0 / INDICES == 3,
             AnyOp::List(_) => oid.0 / INDICES == 4,
             AnyOp::Tree(_) => oid.0 / INDICES == 5,
             AnyOp::Set(_) => oid.0 / INDICES == 6,
+        }
+    }
+
+    fn allows(oid: Oid, op: &AnyOp) -> bool {
+        match op {
+            AnyOp::Directory(op) => Directory::allows(oid, op),
+            _ => AnyKind::fits(oid, op),
         }
     }
 

@@ -29,6 +29,17 @@ impl<K: Kind> Model for Tx<K> {
     ghost view = { λ t. t.pending };
 }
 
+// The bytes of an op, which aren't none.
+fn spelled<K: Kind>(alloc: Global, op: &K::Op) -> Result<List<u8>, NoMemory>
+    ensures exact { IfOk result (λ bytes. bytes ≡ K.spelled op.now) }
+    ensures some { 1 ≤ length (K.spelled op.now) }
+{
+    let _known = K::touch(op);
+    let mut bytes = List::new(alloc);
+    K::put_op(alloc, op, &mut bytes)?;
+    Ok(bytes)
+}
+
 impl<K: Kind> Tx<K> {
     /// A transaction that has read nothing and writes nothing. It takes no memory.
     pub fn open(alloc: Global, number: u32) -> Tx<K>
@@ -66,15 +77,13 @@ impl<K: Kind> Tx<K> {
     /// `TooMany`. An `Err` changes nothing.
     pub fn put(&mut self, alloc: Global, oid: Oid, op: K::Op) -> Result<(), TxFault>
         requires object { is_object oid ≡ true }
-        requires some { 1 ≤ length (K.spelled op) }
         ensures fine { OnOk result (write_fault self.old (record { oid = oid; op = K.spelled op }) ≡ None) }
         ensures ok { OnOk result (self.new ≡ tx_put self.old (record { oid = oid; op = K.spelled op })) }
         ensures fault { IfErr result (λ e. FaultsLate e (write_fault self.old (record { oid = oid; op = K.spelled op }))) }
         ensures err { OnErr result (self.new ≡ self.old) }
     {
         self.pending.room(oid)?;
-        let mut bytes = List::new(alloc);
-        K::put_op(alloc, &op, &mut bytes)?;
+        let bytes = spelled::<K>(alloc, &op)?;
         self.pending.put(oid, bytes)
     }
 
