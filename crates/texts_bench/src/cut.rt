@@ -22,10 +22,22 @@ pub fn pieces(alloc: Global, text: &[u8]) -> Result<Vec<&[u8]>, NoMemory>
 pub fn whole_lines<'a, 'b>(pieces: &'b [&'a [u8]]) -> &'b [&'a [u8]]
     ensures { texts result.now ≡ whole_lines (texts pieces.now) }
 {
+    &pieces[..line_count(pieces)]
+}
+
+// How many of these pieces are lines.
+fn line_count(pieces: &[&[u8]]) -> usize
+    ensures few { result ≤ length pieces.now }
+    ensures lines { texts (take result pieces.now) ≡ whole_lines (texts pieces.now) }
+{
     let Some((last, lines)) = pieces.split_last() else {
-        return pieces;
+        return 0;
     };
-    if last.is_empty() { lines } else { pieces }
+    if last.is_empty() {
+        lines.len()
+    } else {
+        pieces.len()
+    }
 }
 
 /// The first three lines, or as many as there are, and the others.
