@@ -1,6 +1,8 @@
 -- What is printed of scripts and transcripts, and which are refused.
-use Rattle.std.proofs.Common.{◌≡◌, ◌↔◌, ℕ, Bool, true, List, [], ◌∷◌, ◌++◌, map, take, drop, Option, Some, None, Result, Ok, Err, sym, refl, subst, ap, ◌∙◌}
-use Rattle.std.specs.Prelude.{All, IfOk, IfSome, MatchResult}
+use Rattle.std.proofs.Common.{◌≡◌, ℕ, ◌+◌, ◌<◌, ◌≤◌, true, List, [], ◌∷◌, ◌++◌, length, take, drop, get_or, add-one, drop-cons, Option, Some, None, Result, Ok, Err, sym, refl, subst, ap, ◌∙◌}
+use Rattle.std.proofs.Math.ListN.{drop_of_length-le}
+use mathlib.Core.List.{append_assoc, append-nil}
+use Rattle.std.specs.Prelude.{IfOk, IfSome, MatchResult}
 use Rattle.std.specs.List.{flat_map}
 use Rattle.std.specs.Borrow.{Bor}
 use Rattle.std.proofs.lemmas.Grind.{flat_map-append}
@@ -16,7 +18,7 @@ use Rattle.tg_script.specs.Headers.{header_lines, lines_text, OnOutside}
 use Rattle.tg_script.specs.Lines.{IsLine}
 use Rattle.tg_trace.specs.declared.transcript.Transcript.{Transcript}
 use Rattle.tg_trace.specs.Transcripts.{rendered, is_transcript, reply_text}
-use Rattle.texts_bench.specs.Texts.{IsEventLine, AreScript, IsTranscriptOf, IsOf, IsPrinted, Prints, Told, lines_of, closed_lines, closed}
+use Rattle.texts_bench.specs.Texts.{IsEventLine, AreEventLines, AreScript, IsTranscriptOf, IsOf, IsPrinted, Prints, Told, lines_of, closed_lines, closed}
 use Rattle.texts_bench.specs.declared.form.Form.{Form}
 use Rattle.texts_bench.specs.declared.form.Form.TheVariants as form
 use Rattle.texts_bench.proofs.Closing.{lines_closed, closed_text}
@@ -27,19 +29,39 @@ use Rattle.texts_bench.proofs.Closing.{lines_closed, closed_text}
 abbrev pub closed_word : Bor (List ℕ) → List ℕ
 closed_word w = w.now ++ 10 ∷ []
 
-abbrev pub IsEventWord : Header → Bor (List ℕ) → Type 0
-IsEventWord h w = IsEventLine h w.now
-
 pub words_closed : (words : List (Bor (List ℕ))) → flat_map closed_word words ≡ closed_lines (texts words)
 words_closed words = sym (flat_map-map (λ (line : List ℕ). line ++ 10 ∷ []) (λ (w : Bor (List ℕ)). w.now) words)
 
-pub lines_are_events : (h : Header) (words : List (Bor (List ℕ))) → All (IsEventWord h) words → All (IsEventLine h) (texts words)
-lines_are_events h [] all = tt
-lines_are_events h (w ∷ words) all = (all.0, lines_are_events h words all.1)
+front_at : (words : List (Bor (List ℕ))) (i : ℕ) (w : Bor (List ℕ)) → i < length words → drop i words ≡ get_or words i w ∷ drop (i + 1) words
+front_at words i w lt = rw add-one (drop-cons words i w lt)
 
-pub words_are_events : (h : Header) (words : List (Bor (List ℕ))) → All (IsEventLine h) (texts words) → All (IsEventWord h) words
-words_are_events h [] all = tt
-words_are_events h (w ∷ words) all = (all.0, words_are_events h words all.1)
+-- one line more
+pub prints_on : (out new total : List ℕ) (words : List (Bor (List ℕ))) (i : ℕ) (w : Bor (List ℕ)) → i < length words → new ≡ out ++ ((get_or words i w).now ++ 10 ∷ [])
+    → out ++ flat_map closed_word (drop i words) ≡ total → new ++ flat_map closed_word (drop (i + 1) words) ≡ total
+prints_on out new total words i w lt printed so_far =
+    ap (λ (x : List ℕ). x ++ flat_map closed_word (drop (i + 1) words)) printed ∙ append_assoc out (closed_word (get_or words i w)) (flat_map closed_word (drop (i + 1) words))
+    ∙ ap (λ (x : List (Bor (List ℕ))). out ++ flat_map closed_word x) (sym (front_at words i w lt)) ∙ so_far
+
+-- the lines are events where those from the i-th are
+abbrev pub Others : Header → List (Bor (List ℕ)) → ℕ → Type 0
+Others h words i = (AreEventLines h (texts words) → AreEventLines h (texts (drop i words))) × (AreEventLines h (texts (drop i words)) → AreEventLines h (texts words))
+
+pub others_on : (h : Header) (words : List (Bor (List ℕ))) (i : ℕ) (w : Bor (List ℕ)) → i < length words → IsEventLine h (get_or words i w).now → Others h words i → Others h words (i + 1)
+others_on h words i w lt event so_far =
+    let front : drop i words ≡ get_or words i w ∷ drop (i + 1) words = front_at words i w lt in
+    let all_on : AreEventLines h (texts words) → AreEventLines h (texts (drop (i + 1) words)) = λ all. (subst (λ (x : List (Bor (List ℕ))). AreEventLines h (texts x)) front (so_far.0 all)).1 in
+    let on_all : AreEventLines h (texts (drop (i + 1) words)) → AreEventLines h (texts words) = λ rest. so_far.1 (subst (λ (x : List (Bor (List ℕ))). AreEventLines h (texts x)) (sym front) (event, rest)) in
+    (all_on, on_all)
+
+pub others_end : (h : Header) (words : List (Bor (List ℕ))) (i : ℕ) → length words ≤ i → Others h words i → AreEventLines h (texts words)
+others_end h words i le so_far = so_far.1 (subst (λ (x : List (Bor (List ℕ))). AreEventLines h (texts x)) (sym (drop_of_length-le words le)) tt)
+
+pub others_stop : (h : Header) (words : List (Bor (List ℕ))) (i : ℕ) (w : Bor (List ℕ)) → i < length words → (IsEventLine h (get_or words i w).now → ⊥) → Others h words i → AreEventLines h (texts words) → ⊥
+others_stop h words i w lt none so_far all = none (subst (λ (x : List (Bor (List ℕ))). AreEventLines h (texts x)) (front_at words i w lt) (so_far.0 all)).0
+
+pub prints_end : (out before : List ℕ) (words : List (Bor (List ℕ))) (i : ℕ) → length words ≤ i → out ++ flat_map closed_word (drop i words) ≡ before ++ flat_map closed_word words → out ≡ before ++ closed_lines (texts words)
+prints_end out before words i le so_far =
+    sym (append-nil out) ∙ ap (λ (x : List (Bor (List ℕ))). out ++ flat_map closed_word x) (sym (drop_of_length-le words le)) ∙ so_far ∙ ap (λ (x : List ℕ). before ++ x) (words_closed words)
 
 -- Scripts.
 
@@ -50,7 +72,7 @@ front_is lines events h e = ap (take 3) e
 rest_is : (lines events : List (List ℕ)) (h : Header) → lines ≡ header_lines h ++ events → drop 3 lines ≡ events
 rest_is lines events h e = ap (drop 3) e
 
-pub script_is : (lines : List (List ℕ)) (h : Header) → IsHeader h → take 3 lines ≡ header_lines h → All (IsEventLine h) (drop 3 lines) → AreScript lines
+pub script_is : (lines : List (List ℕ)) (h : Header) → IsHeader h → take 3 lines ≡ header_lines h → AreEventLines h (drop 3 lines) → AreScript lines
 script_is lines h lawful e each = record {
   header = h;
   lawful = lawful;
@@ -74,43 +96,13 @@ header_refused lines fault.NoMemory only = tt
 header_refused lines (fault.Outside n) only = λ s. let same : fault.Outside n ≡ fault.NoMemory = only s.header s.lawful (front_is lines s.events s.header s.same) in absurd cc
 
 -- where an event is outside
-pub event_refused : (lines : List (List ℕ)) (h : Header) (e : TextFault) → Declares (take 3 lines) (Ok h) → OnOutside {A = Unit {0}} (Err e) (λ _. All (IsEventLine h) (drop 3 lines) → ⊥) → OnOutside {A = List ℕ} (Err e) (λ _. AreScript lines → ⊥)
+pub event_refused : (lines : List (List ℕ)) (h : Header) (e : TextFault) → Declares (take 3 lines) (Ok h) → OnOutside {A = Unit {0}} (Err e) (λ _. AreEventLines h (drop 3 lines) → ⊥) → OnOutside {A = List ℕ} (Err e) (λ _. AreScript lines → ⊥)
 event_refused lines h fault.NoMemory only bad = tt
 event_refused lines h (fault.Outside n) only bad = λ s.
     let same : h ≡ s.header = only s.header s.lawful (front_is lines s.events s.header s.same) in
-    bad (subst (λ (c : Header). All (IsEventLine c) (drop 3 lines)) (sym same) (subst (All (IsEventLine s.header)) (sym (rest_is lines s.events s.header s.same)) s.each))
+    bad (subst (λ (c : Header). AreEventLines c (drop 3 lines)) (sym same) (subst (AreEventLines s.header) (sym (rest_is lines s.events s.header s.same)) s.each))
 
 pub script_prints : (text : List ℕ) (lines : List (List ℕ)) (r : Result (List ℕ) TextFault) → lines ≡ lines_of text → IfOk r (λ _. AreScript lines) → IfOk r (λ out. out ≡ closed_lines lines) → OnOutside r (λ _. AreScript lines → ⊥) → Prints form.Script text r
 script_prints text lines (Ok out) e is printed bad = (subst AreScript e is, printed ∙ ap closed_lines e ∙ closed_text text)
 script_prints text lines (Err fault.NoMemory) e is printed bad = tt
 script_prints text lines (Err (fault.Outside n)) e is printed bad = λ s. bad (subst AreScript (sym e) s)
-
--- Transcripts.
-
--- which transcript a text is
-abbrev pub Writes : List ℕ → Result Transcript TextFault → Type 0
-Writes text r = (t : Transcript) → is_transcript t ≡ true → text ≡ rendered t → MatchResult r (λ x. x ≡ t) (λ e. e ≡ fault.NoMemory)
-
-pub transcript_refused : (text : List ℕ) (e : TextFault) → Writes text (Err e) → Prints form.Transcript text (Err e)
-transcript_refused text fault.NoMemory only = tt
-transcript_refused text (fault.Outside n) only = λ h. let same : fault.Outside n ≡ fault.NoMemory = only h.0 h.1.lawful h.1.printed in absurd cc
-
-pub replies_refused : (text : List ℕ) (e : TextFault) → Writes text (Err e) → Prints form.Replies text (Err e)
-replies_refused text fault.NoMemory only = tt
-replies_refused text (fault.Outside n) only = λ h. let same : fault.Outside n ≡ fault.NoMemory = only h.0 h.1.lawful h.1.printed in absurd cc
-
-pub transcript_prints : (text out : List ℕ) (t : Transcript) → (text ≡ rendered t) × (is_transcript t ≡ true) → out ≡ rendered t → Prints form.Transcript text (Ok out)
-transcript_prints text out t h e = ((t, record { lawful = h.1; printed = h.0 }), e ∙ sym h.0)
-
-pub replies_print : (text out : List ℕ) (t : Transcript) → (text ≡ rendered t) × (is_transcript t ≡ true) → out ≡ flat_map reply_text t.trace → Prints form.Replies text (Ok out)
-replies_print text out t h e = (t, (record { lawful = h.1; printed = h.0 }, e))
-
--- The whole.
-
-pub told_printed : (left before after : Option (List ℕ)) (f : Form) (all out : List ℕ) → IfSome left (λ text. all ≡ text) → Prints f all (Ok out) → Takes before out after → Told left before after (IsPrinted f)
-told_printed None before after f all out e h t = tt
-told_printed (Some text) before after f all out e h t = (out, (t, subst (λ (x : List ℕ). IsPrinted f x out) e h))
-
-pub told_outside : (left : Option (List ℕ)) (f : Form) (all : List ℕ) (n : ℕ) → IfSome left (λ text. all ≡ text) → Prints f all (Err (fault.Outside n)) → IfSome left (λ text. IsOf f text → ⊥)
-told_outside None f all n e h = tt
-told_outside (Some text) f all n e h = λ is. h (subst (IsOf f) (sym e) is)

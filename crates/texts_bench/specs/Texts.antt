@@ -1,5 +1,5 @@
 -- Texts, and what is printed of them.
-use Rattle.std.specs.Prelude.{◌≡◌, ℕ, ◌==◌, true, List, [], ◌∷◌, ◌++◌, codes, All, Option, Some, None, Result, Ok, Err, if◌then◌else◌}
+use Rattle.std.specs.Prelude.{◌≡◌, ℕ, ◌==◌, true, List, [], ◌∷◌, ◌++◌, codes, Option, Some, None, Result, Ok, Err, if◌then◌else◌}
 use Rattle.std.specs.List.{flat_map, slice_split}
 use Rattle.std.specs.Str.{bytes_eq}
 use Rattle.tg_base.specs.Clusters.{Header, IsHeader}
@@ -70,13 +70,17 @@ closed text = text ++ missing_feed (last_piece (pieces text))
 abbrev pub IsEventLine : Header → List ℕ → Type 0
 IsEventLine h line = (l : Line) × IsLine h line l
 
+abbrev pub AreEventLines : Header → List (List ℕ) → Type 0
+AreEventLines h [] = Unit {0}
+AreEventLines h (line ∷ lines) = IsEventLine h line × AreEventLines h lines
+
 -- the three lines of a header, and then lines of events
 pub record AreScript (lines : List (List ℕ)) : Type 0 where
   pub header : Header
   pub lawful : IsHeader header
   pub events : List (List ℕ)
   pub same : lines ≡ header_lines header ++ events
-  pub each : All (IsEventLine header) events
+  pub each : AreEventLines header events
 
 abbrev pub IsScript : List ℕ → Type 0
 IsScript text = AreScript (lines_of text)

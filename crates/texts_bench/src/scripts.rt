@@ -1,16 +1,16 @@
 //! Printing scripts back.
 
-ghost use Rattle.std.specs.Prelude.{◌≡◌, ◌≤◌, ◌++◌, List, length, All, IfOk, OnOk, MatchResult};
+ghost use Rattle.std.specs.Prelude.{◌≡◌, ◌≤◌, ◌++◌, [], ◌∷◌, true, false, List, length, IfOk, OnOk, MatchResult};
 ghost use Rattle.tg_base.specs.Clusters.{Header, IsHeader};
 ghost use Rattle.tg_base.specs.declared.fault.TextFault.TheVariants as fault;
 ghost use Rattle.tg_any.specs.Words.{texts};
 ghost use Rattle.tg_script.specs.Headers.{header_lines, OnOutside};
-ghost use Rattle.texts_bench.specs.Texts.{IsEventLine, AreScript, closed_lines, Prints};
+ghost use Rattle.texts_bench.specs.Texts.{IsEventLine, AreEventLines, AreScript, closed_lines, Prints};
 ghost use Rattle.texts_bench.specs.declared.form.Form.TheVariants as form;
 
 use crate::cut::{copies, header_and_events, pieces, whole_lines};
 use std::alloc::Global;
-use tg_base::{Cluster, List, TextFault};
+use tg_base::{Cluster, List, NoMemory, TextFault};
 use tg_script::{parse_header, parse_line, print_header, print_line};
 
 /// The script that a text is, as it is printed.
@@ -59,17 +59,35 @@ fn put_events(
     lines: &[&[u8]],
     out: &mut List<u8>,
 ) -> Result<(), TextFault>
-    ensures events { IfOk result (λ _. All (IsEventLine cluster.now) (texts lines.now)) }
+    ensures events { IfOk result (λ _. AreEventLines cluster.now (texts lines.now)) }
     ensures printed { OnOk result (out.new ≡ out.old ++ closed_lines (texts lines.now)) }
-    ensures outside { OnOutside result (λ _. All (IsEventLine cluster.now) (texts lines.now) → ⊥) }
+    ensures outside { OnOutside result (λ _. AreEventLines cluster.now (texts lines.now) → ⊥) }
 {
     let mut number = 4;
     for line in lines {
-        let Some(line) = parse_line(alloc, cluster, line)? else {
+        let found = put_event(alloc, cluster, line, out)?;
+        if !found {
             return Err(TextFault::Outside { line: number });
-        };
-        print_line(alloc, &line, out)?;
+        }
         number += 1;
     }
     Ok(())
+}
+
+// Puts a line, and tells whether it is one of an event.
+fn put_event(
+    alloc: Global,
+    cluster: &Cluster,
+    line: &[u8],
+    out: &mut List<u8>,
+) -> Result<bool, NoMemory>
+    ensures event { IfOk result (λ found. found ≡ true → IsEventLine cluster.now line.now) }
+    ensures none { IfOk result (λ found. found ≡ false → IsEventLine cluster.now line.now → ⊥) }
+    ensures printed { IfOk result (λ found. found ≡ true → out.new ≡ out.old ++ (line.now ++ 10 ∷ [])) }
+{
+    let Some(value) = parse_line(alloc, cluster, line)? else {
+        return Ok(false);
+    };
+    print_line(alloc, &value, out)?;
+    Ok(true)
 }
