@@ -1,8 +1,8 @@
 -- What is printed of scripts and transcripts, and which are refused.
-use Rattle.std.proofs.Common.{◌≡◌, ℕ, ◌+◌, ◌<◌, ◌≤◌, true, List, [], ◌∷◌, ◌++◌, length, take, drop, get_or, add-one, drop-cons, Option, Some, None, Result, Ok, Err, sym, refl, subst, ap, ◌∙◌}
+use Rattle.std.proofs.Common.{◌≡◌, ℕ, ◌+◌, ◌<◌, ◌≤◌, List, [], ◌∷◌, ◌++◌, length, take, drop, get_or, add-one, drop-cons, Result, Ok, Err, sym, subst, ap, ◌∙◌}
 use Rattle.std.proofs.Math.ListN.{drop_of_length-le}
 use mathlib.Core.List.{append_assoc, append-nil}
-use Rattle.std.specs.Prelude.{IfOk, IfSome, MatchResult}
+use Rattle.std.specs.Prelude.{IfOk, MatchResult}
 use Rattle.std.specs.List.{flat_map}
 use Rattle.std.specs.Borrow.{Bor}
 use Rattle.std.proofs.lemmas.Grind.{flat_map-append}
@@ -11,15 +11,9 @@ use Rattle.std.proofs.lemmas.List.Folds.{flat_map-map}
 use Rattle.tg_base.specs.Clusters.{Header, IsHeader}
 use Rattle.tg_base.specs.declared.fault.TextFault.{TextFault}
 use Rattle.tg_base.specs.declared.fault.TextFault.TheVariants as fault
-use Rattle.tg_io.specs.Bytes.{Takes}
 use Rattle.tg_any.specs.Words.{texts}
-use Rattle.tg_script.specs.declared.line.Line.{Line}
 use Rattle.tg_script.specs.Headers.{header_lines, lines_text, OnOutside}
-use Rattle.tg_script.specs.Lines.{IsLine}
-use Rattle.tg_trace.specs.declared.transcript.Transcript.{Transcript}
-use Rattle.tg_trace.specs.Transcripts.{rendered, is_transcript, reply_text}
-use Rattle.texts_bench.specs.Texts.{IsEventLine, AreEventLines, AreScript, IsTranscriptOf, IsOf, IsPrinted, Prints, Told, lines_of, closed_lines, closed}
-use Rattle.texts_bench.specs.declared.form.Form.{Form}
+use Rattle.texts_bench.specs.Texts.{IsEventLine, AreEventLines, AreScript, Prints, lines_of, closed_lines}
 use Rattle.texts_bench.specs.declared.form.Form.TheVariants as form
 use Rattle.texts_bench.proofs.Closing.{lines_closed, closed_text}
 

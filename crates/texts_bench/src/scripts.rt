@@ -1,6 +1,6 @@
 //! Printing scripts back.
 
-ghost use Rattle.std.specs.Prelude.{◌≡◌, ◌≤◌, ◌++◌, [], ◌∷◌, true, false, List, length, IfOk, OnOk, MatchResult};
+ghost use Rattle.std.specs.Prelude.{◌≡◌, ◌≤◌, ◌++◌, [], ◌∷◌, true, false, length, IfOk, OnOk, MatchResult};
 ghost use Rattle.tg_base.specs.Clusters.{Header, IsHeader};
 ghost use Rattle.tg_base.specs.declared.fault.TextFault.TheVariants as fault;
 ghost use Rattle.tg_any.specs.Words.{texts};

@@ -1,4 +1,4 @@
-use Rattle.std.proofs.Common.{◌≡◌, ◌++◌, List, ℕ, Err, take, drop, sym, subst, ap, ◌∙◌, rules}
+use Rattle.std.proofs.Common.{◌≡◌, ◌++◌, List, ℕ, Err, sym, subst, ap, ◌∙◌, rules}
 use Rattle.tg_any.specs.Words.{texts}
 use Rattle.tg_script.specs.Headers.{header_lines, lines_text, OnOutside}
 use Rattle.texts_bench.specs.Texts.{AreEventLines, AreScript, closed_lines}
