@@ -307,7 +307,7 @@ enum Asked {
 type Request = (Asked, u16, u64);
 
 /// What a message asks, None where it is none of these.
-fn asked(msg: &Msg) -> Option<Asked> {
+fn question(msg: &Msg) -> Option<Asked> {
     match msg {
         Msg::Write {
             epoch: 1,
@@ -344,7 +344,7 @@ fn is_sent(out: &Out, request: Request) -> bool {
         Asked::Latest => Role::Layout,
         _ => Role::Unit,
     };
-    asked(&out.msg) == Some(want) && out.to.is_same(NodeId { role, num }) && out.rid == rid
+    question(&out.msg) == Some(want) && out.to.is_same(NodeId { role, num }) && out.rid == rid
 }
 
 /// Whether the messages are these requests, in this order.

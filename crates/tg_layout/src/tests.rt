@@ -76,7 +76,7 @@ fn message(alloc: Global, request: Request) -> Result<Msg, Fail> {
 }
 
 /// What a server says, None where it is no answer of a layout server.
-fn answer(says: &Option<Msg>) -> Option<Answer> {
+fn said(says: &Option<Msg>) -> Option<Answer> {
     match says {
         None => Some(Answer::Nothing),
         Some(
@@ -104,7 +104,7 @@ fn answer(says: &Option<Msg>) -> Option<Answer> {
 fn step(alloc: Global, server: Layout, request: Request) -> Result<(Layout, Option<Answer>), Fail> {
     let message = message(alloc, request)?;
     let (server, says) = server.step(&message).map_err(|_| "memory")?;
-    Ok((server, answer(&says)))
+    Ok((server, said(&says)))
 }
 
 /// Plays these requests on a new server, and refuses the place of the first row that it answers otherwise.

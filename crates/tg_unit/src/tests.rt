@@ -68,7 +68,7 @@ fn message(alloc: Global, request: Request) -> Result<Msg, Fail> {
 }
 
 /// What a unit says, None where it is no answer of a unit.
-fn answer(says: &Option<Msg>) -> Option<Answer> {
+fn said(says: &Option<Msg>) -> Option<Answer> {
     match says {
         None => Some(Answer::Nothing),
         Some(Msg::Held) => Some(Answer::Held),
@@ -97,7 +97,7 @@ fn taken(cell: &Cell) -> Option<Answer> {
 fn step(alloc: Global, unit: Unit, request: Request) -> Result<(Unit, Option<Answer>), Fail> {
     let message = message(alloc, request)?;
     let (unit, says) = unit.step(alloc, &message).map_err(|_| "memory")?;
-    Ok((unit, answer(&says)))
+    Ok((unit, said(&says)))
 }
 
 /// A new unit after these requests, or the place of the first row that it answers otherwise.
