@@ -1,7 +1,7 @@
 //! So many rounds of stores on a new unit.
 
-ghost use Rattle.std.specs.Prelude.{◌≡◌, ◌*◌, ◌%◌, IfOk, IfSome};
-ghost use Rattle.unit_bench.specs.Stores.{held, total, AreWords};
+ghost use Rattle.std.specs.Prelude.{◌≡◌, ◌≤◌, length, IfOk, IfSome};
+ghost use Rattle.unit_bench.specs.Stores.{total, AreWords};
 
 use crate::fault::Fault;
 use crate::order::Order;
