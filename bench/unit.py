@@ -19,9 +19,9 @@ CRATE = os.path.join(os.path.dirname(os.path.abspath(__file__)), "../crates/unit
 
 def built():
     """The program, built from what is proved."""
-    run = subprocess.run(["rt", "run"], cwd=CRATE, capture_output=True)
+    run = subprocess.run(["rt", "run", "--", "rising", "1"], cwd=CRATE, capture_output=True)
     if run.returncode != 0:
-        sys.exit("unit_bench was not built: try `rt run` in crates/unit_bench")
+        sys.exit("unit_bench was not built: try `rt run -- rising 1` in crates/unit_bench")
     return os.path.join(CRATE, "out/unit_bench")
 
 
