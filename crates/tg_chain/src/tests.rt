@@ -3,7 +3,10 @@ ghost use Rattle.std.specs.Prelude.{◌≡◌, ◌<◌, ◌≤◌, ◌+◌, ◌^
 use super::*;
 use std::alloc::Global;
 use std::test::Fail;
-use tg_base::{Blob, Cell, Chain, List, Msg, NodeId, Rids, Role, Turn};
+use tg_base::{
+    Blob, Cell, Chain, Epoch, List, Msg, NoMemory, NodeId, Out, Projection, Range, Rids, Role,
+    Stand, Turn,
+};
 
 fn unit(num: u16) -> NodeId {
     NodeId {
@@ -268,5 +271,301 @@ fn a_probe_awaits_all_units(rt: HostRuntime) -> Result<(), Fail> {
 fn a_probe_may_be_fenced(rt: HostRuntime) -> Result<(), Fail> {
     let end = probe_end(rt.alloc(), &Msg::Fenced { epoch: 3 })?;
     assert!(rt; matches!(end, ProbeEnd::Fenced { unit: 5, epoch: 3 }));
+    Ok(())
+}
+
+#[test]
+fn a_get_may_be_fenced(rt: HostRuntime) -> Result<(), Fail> {
+    let alloc = rt.alloc();
+    let end = get_end(alloc, &Msg::Fenced { epoch: 2 })?;
+    assert!(rt; matches!(end, GetCellEnd::Fenced { unit: 5, epoch: 2 }));
+    let end = get_end(alloc, &Msg::Gone { below: 8 })?;
+    assert!(rt; matches!(end, GetCellEnd::Gone { below: 8 }));
+    Ok(())
+}
+
+#[test]
+fn a_fill_may_come_too_late(rt: HostRuntime) -> Result<(), Fail> {
+    let end = fill_end(rt.alloc(), &Msg::Gone { below: 8 })?;
+    assert!(rt; matches!(end, FillCellEnd::Gone { below: 8 }));
+    Ok(())
+}
+
+/// What a request asks: of a unit, in epoch 1 at position 7, or of a layout server.
+#[derive(Clone, Copy, PartialEq)]
+enum Asked {
+    Write,
+    Read,
+    Fill,
+    CopyPage,
+    CopyJunk,
+    Has,
+    Latest,
+}
+
+/// A request: what it asks, the number of its node, and its own.
+type Request = (Asked, u16, u64);
+
+/// What a message asks, None where it is none of these.
+fn question(msg: &Msg) -> Option<Asked> {
+    match msg {
+        Msg::Write {
+            epoch: 1,
+            pos: 7,
+            ..
+        } => Some(Asked::Write),
+        Msg::Read { epoch: 1, pos: 7 } => Some(Asked::Read),
+        Msg::Fill { epoch: 1, pos: 7 } => Some(Asked::Fill),
+        Msg::Copy {
+            epoch: 1,
+            pos: 7,
+            cell: Cell::Data(_),
+        } => Some(Asked::CopyPage),
+        Msg::Copy {
+            epoch: 1,
+            pos: 7,
+            cell: Cell::Junk,
+        } => Some(Asked::CopyJunk),
+        Msg::Has {
+            epoch: 1,
+            lo: 7,
+            hi: 7,
+            step: 1,
+        } => Some(Asked::Has),
+        Msg::AskLatest => Some(Asked::Latest),
+        _ => None,
+    }
+}
+
+/// Whether a message that is sent is this request.
+fn is_sent(out: &Out, request: Request) -> bool {
+    let (want, num, rid) = request;
+    let role = match want {
+        Asked::Latest => Role::Layout,
+        _ => Role::Unit,
+    };
+    question(&out.msg) == Some(want) && out.to.is_same(NodeId { role, num }) && out.rid == rid
+}
+
+/// Whether the messages are these requests, in this order.
+fn are_sent(outs: &[Out], requests: &[Request]) -> bool {
+    match outs {
+        [] => requests.is_empty(),
+        [out, others @ ..] => match requests {
+            [] => false,
+            [request, rest @ ..] => is_sent(out, *request) && are_sent(others, rest),
+        },
+    }
+}
+
+/// Whether these requests are sent.
+fn sends(outs: Result<List<Out>, NoMemory>, requests: &[Request]) -> bool {
+    match outs {
+        Ok(outs) => are_sent(outs.as_slice(), requests),
+        Err(_) => false,
+    }
+}
+
+/// The put after an answer on which it goes on.
+fn fed_put(
+    alloc: Global,
+    put: PutCell,
+    answer: (u16, u64, Msg),
+    rids: &mut Rids,
+) -> Result<PutCell, Fail>
+    requires { rids.old.next < 2 ^ 62 }
+    ensures { rids.new.next ≤ rids.old.next + 1 }
+{
+    match put.feed(alloc, unit(answer.0), answer.1, &answer.2, rids) {
+        Ok(Turn::More { machine, .. }) => Ok(machine),
+        _ => Err("it doesn't go on".into()),
+    }
+}
+
+#[test]
+fn a_put_asks_again(rt: HostRuntime) -> Result<(), Fail> {
+    let alloc = rt.alloc();
+    let mut rids = Rids::new();
+    let put = started_put(alloc, &mut rids)?;
+    assert!(rt; sends(put.again(alloc, &mut rids), &[(Asked::Write, 3, 1)]));
+    let put = fed_put(alloc, put, (5, 1, Msg::Held), &mut rids)?;
+    assert!(rt; sends(put.again(alloc, &mut rids), &[(Asked::Write, 3, 1)]));
+    let put = fed_put(alloc, put, (3, 1, Msg::Held), &mut rids)?;
+    assert!(rt; sends(put.again(alloc, &mut rids), &[(Asked::Write, 5, 2)]));
+    Ok(())
+}
+
+/// The get after an answer on which it goes on.
+fn fed_get(
+    alloc: Global,
+    get: GetCell,
+    answer: (u16, u64, Msg),
+    rids: &mut Rids,
+) -> Result<GetCell, Fail>
+    requires { rids.old.next < 2 ^ 62 }
+    ensures { rids.new.next ≤ rids.old.next + 1 }
+{
+    match get.feed(alloc, unit(answer.0), answer.1, &answer.2, rids) {
+        Ok(Turn::More { machine, .. }) => Ok(machine),
+        _ => Err("it doesn't go on".into()),
+    }
+}
+
+#[test]
+fn a_get_asks_again(rt: HostRuntime) -> Result<(), Fail> {
+    let alloc = rt.alloc();
+    let mut rids = Rids::new();
+    let get = started_get(alloc, &mut rids)?;
+    assert!(rt; sends(get.again(alloc, &mut rids), &[(Asked::Read, 5, 1)]));
+    let get = fed_get(alloc, get, (5, 1, Msg::Unwritten), &mut rids)?;
+    assert!(rt; sends(get.again(alloc, &mut rids), &[(Asked::Fill, 3, 2)]));
+    let get = fed_get(alloc, get, (3, 2, Msg::Held), &mut rids)?;
+    assert!(rt; sends(get.again(alloc, &mut rids), &[(Asked::CopyJunk, 5, 3)]));
+    Ok(())
+}
+
+/// The fill after an answer on which it goes on.
+fn fed_fill(
+    alloc: Global,
+    fill: FillCell,
+    answer: (u16, u64, Msg),
+    rids: &mut Rids,
+) -> Result<FillCell, Fail>
+    requires { rids.old.next < 2 ^ 62 }
+    ensures { rids.new.next ≤ rids.old.next + 1 }
+{
+    match fill.feed(alloc, unit(answer.0), answer.1, &answer.2, rids) {
+        Ok(Turn::More { machine, .. }) => Ok(machine),
+        _ => Err("it doesn't go on".into()),
+    }
+}
+
+#[test]
+fn a_fill_asks_again(rt: HostRuntime) -> Result<(), Fail> {
+    let alloc = rt.alloc();
+    let mut rids = Rids::new();
+    let answer = taken(alloc, 8)?;
+    let fill = started_fill(alloc, &mut rids)?;
+    assert!(rt; sends(fill.again(alloc, &mut rids), &[(Asked::Fill, 3, 1)]));
+    let fill = fed_fill(alloc, fill, (3, 1, answer), &mut rids)?;
+    assert!(rt; sends(fill.again(alloc, &mut rids), &[(Asked::CopyPage, 5, 2)]));
+    Ok(())
+}
+
+/// The probe after an answer on which it goes on.
+fn fed_probe(
+    alloc: Global,
+    probe: Probe,
+    answer: (u16, u64, Msg),
+    rids: &mut Rids,
+) -> Result<Probe, Fail>
+    requires { rids.old.next < 2 ^ 62 }
+    ensures { rids.new ≡ rids.old }
+{
+    match probe.feed(alloc, unit(answer.0), answer.1, &answer.2, rids) {
+        Ok(Turn::More { machine, .. }) => Ok(machine),
+        _ => Err("it doesn't go on".into()),
+    }
+}
+
+#[test]
+fn a_probe_asks_again(rt: HostRuntime) -> Result<(), Fail> {
+    let alloc = rt.alloc();
+    let mut rids = Rids::new();
+    let probe = started_probe(alloc, &mut rids)?;
+    assert!(rt;
+        sends(
+            probe.again(alloc, &mut rids),
+            &[(Asked::Has, 3, 1), (Asked::Has, 5, 2)]
+        )
+    );
+    let probe = fed_probe(alloc, probe, (3, 1, Msg::Whole), &mut rids)?;
+    assert!(rt; sends(probe.again(alloc, &mut rids), &[(Asked::Has, 5, 2)]));
+    Ok(())
+}
+
+/// A layout of one chain of one unit.
+fn layout(alloc: Global, epoch: Epoch) -> Result<Projection, Fail> {
+    let mut stripes = List::new(alloc);
+    stripes
+        .push(Chain::of(&[0]).ok_or("too long")?)
+        .map_err(|_| "memory")?;
+    let mut ranges = List::new(alloc);
+    ranges.push(Range { lo: 0, stripes }).map_err(|_| "memory")?;
+    if epoch == 0 {
+        return Err("epochs begin with 1".into());
+    }
+    Ok(Projection {
+        epoch,
+        seq: 0,
+        start: 0,
+        by: 0,
+        gone: List::new(alloc),
+        ranges,
+    })
+}
+
+/// The requests to three layout servers, rising.
+const ASKS: [Request; 3] = [
+    (Asked::Latest, 0, 1),
+    (Asked::Latest, 1, 2),
+    (Asked::Latest, 2, 3),
+];
+
+/// Learning at epoch 2, which has asked three layout servers.
+fn started_learn(alloc: Global, rids: &mut Rids) -> Result<Learn, Fail>
+    requires { rids.old.next < 2 ^ 62 }
+{
+    let proj = layout(alloc, 2)?;
+    let stand = Stand { proj, layouts: 3 };
+    match Learn::start(alloc, stand, rids) {
+        Ok(Turn::More { machine, outs }) if are_sent(outs.as_slice(), &ASKS) => Ok(machine),
+        _ => Err("it asks otherwise".into()),
+    }
+}
+
+/// The epoch that is learnt on a message of this node under this number, with the count of layout servers; None where
+/// learning goes on, with the same requests outstanding.
+fn learnt(alloc: Global, from: NodeId, rid: u64, msg: &Msg) -> Result<Option<(Epoch, u16)>, Fail> {
+    let mut rids = Rids::new();
+    let learn = started_learn(alloc, &mut rids)?;
+    match learn.feed(alloc, from, rid, msg, &mut rids) {
+        Ok(
+            Turn::End {
+                end: LearnEnd::Known { stand },
+                ..
+            },
+        ) => Ok(Some((stand.proj.epoch, stand.layouts))),
+        Ok(Turn::More { machine, .. }) if sends(machine.again(alloc, &mut rids), &ASKS) => Ok(None),
+        _ => Err("it asks otherwise".into()),
+    }
+}
+
+/// Who tells a layout of which epoch, under which number, and what is learnt at epoch 2.
+const TELLS: [(Role, u16, u64, Epoch, Option<(Epoch, u16)>); 7] = [
+    (Role::Layout, 1, 2, 3, Some((3, 3))),
+    (Role::Layout, 0, 99, 5, Some((5, 3))),
+    (Role::Layout, 1, 2, 2, None),
+    (Role::Layout, 1, 2, 1, None),
+    (Role::Unit, 1, 2, 3, None),
+    (Role::Layout, 2, 3, 4_294_967_295, Some((4_294_967_295, 3))),
+    (Role::Layout, 2, 3, 4_294_967_296, None),
+];
+
+#[test]
+fn a_newer_layout_is_learnt(rt: HostRuntime) -> Result<(), Fail> {
+    let alloc = rt.alloc();
+    for (role, num, rid, epoch, want) in TELLS {
+        let latest = Msg::Latest {
+            proj: layout(alloc, epoch)?,
+        };
+        let known = learnt(alloc, NodeId { role, num }, rid, &latest)?;
+        assert_eq!(rt; known, want, "epoch {epoch}");
+    }
+    let server = NodeId {
+        role: Role::Layout,
+        num: 0,
+    };
+    assert_eq!(rt; learnt(alloc, server, 1, &Msg::Held)?, None);
     Ok(())
 }
