@@ -14,6 +14,16 @@ use Rattle.tg_play.specs.Relations.{KeepsObjects, KeepsTo, KeepsView, Stepped, P
 use Rattle.tg_play.proofs.Own.{at_most_more}
 use Rattle.tg_play.proofs.Stepping.{keeps_more}
 
+-- a position that is to be played
+abbrev pub IsDue : (from upto p : ℕ) → Type 0
+IsDue from upto p = (nat_le from p && nat_lt p upto) ≡ true
+
+pub due_from : (from upto p : ℕ) → (nat_le from p && nat_lt p upto) ≡ true → from ≤ p
+due_from from upto p e = grind (arith, nat_tests)
+
+pub due_below : (from upto p : ℕ) → (nat_le from p && nat_lt p upto) ≡ true → p < upto
+due_below from upto p e = grind (arith, nat_tests)
+
 -- positions that rise, from one on
 abbrev pub Later : ℕ → Entries → Type 0
 Later low [] = Unit {0}
@@ -69,14 +79,11 @@ module _ (m : Meaning) (es : Entries) (upto : ℕ) where
   dropped : (from : ℕ) (x : ℕ × Entry) (xs : Entries) → (nat_le from x.0 && nat_lt x.0 upto) ≡ false → between m from upto (x ∷ xs) ≡ between m from upto xs
   dropped from x xs e = ap (λ (b : Bool). cond b (x ∷ between m from upto xs) (between m from upto xs)) e
 
-  taken : (from : ℕ) (x : ℕ × Entry) (xs : Entries) → from ≤ x.0 → x.0 < upto → between m from upto (x ∷ xs) ≡ x ∷ between m from upto xs
-  taken from x xs a b = ap (λ (t : Bool). cond t (x ∷ between m from upto xs) (between m from upto xs)) (both a b)
-    where
-      both : from ≤ x.0 → x.0 < upto → (nat_le from x.0 && nat_lt x.0 upto) ≡ true
-      both p q = grind (arith, nat_tests)
+  taken : (from : ℕ) (x : ℕ × Entry) (xs : Entries) → IsDue from upto x.0 → between m from upto (x ∷ xs) ≡ x ∷ between m from upto xs
+  taken from x xs e = ap (λ (b : Bool). cond b (x ∷ between m from upto xs) (between m from upto xs)) e
 
-  skipped : (from low : ℕ) (x : ℕ × Entry) (xs : Entries) (v : View m) (c : Kept m.state) (r : Reached from v c (x ∷ xs)) → (nat_le from x.0 && nat_lt x.0 upto) ≡ false → Reached from v c xs
-  skipped from low x xs v c r e =
+  pub reached_over : (from : ℕ) (x : ℕ × Entry) (xs : Entries) (v : View m) (c : Kept m.state) → (nat_le from x.0 && nat_lt x.0 upto) ≡ false → Reached from v c (x ∷ xs) → Reached from v c xs
+  reached_over from x xs v c e r =
       let first = r.later.0 in
       record {
         now = r.now;
@@ -89,42 +96,33 @@ module _ (m : Meaning) (es : Entries) (upto : ℕ) where
         same = r.same ∙ ap (λ (ys : Entries). play_on m es upto r.now ys) (dropped from x xs e);
       }
 
-  before : (from n : ℕ) → n < from → (nat_le from n && nat_lt n upto) ≡ false
-  before from n h = grind (arith, nat_tests)
-
-  past : (from n : ℕ) → upto ≤ n → (nat_le from n && nat_lt n upto) ≡ false
-  past from n h = grind (arith, nat_tests)
-
-  pub reached_before : (from : ℕ) (x : ℕ × Entry) (xs : Entries) (v : View m) (c : Kept m.state) → x.0 < from → Reached from v c (x ∷ xs) → Reached from v c xs
-  reached_before from x xs v c h r = skipped from 0 x xs v c r (before from x.0 h)
-
-  pub reached_past : (from : ℕ) (x : ℕ × Entry) (xs : Entries) (v : View m) (c : Kept m.state) → upto ≤ x.0 → Reached from v c (x ∷ xs) → Reached from v c xs
-  reached_past from x xs v c h r = skipped from 0 x xs v c r (past from x.0 h)
-
   abbrev StepsTo : ℕ × Entry → Kept m.state → Kept m.state → Option Oid → Type 0
   StepsTo x c d missing = (w : View m) → KeepsTo m x.0 c w → Stepped m x.0 d w missing (step_at m w es x.0 x.1)
 
-  here : (from : ℕ) (x : ℕ × Entry) (xs : Entries) (v : View m) (c : Kept m.state) → from ≤ x.0 → (r : Reached from v c (x ∷ xs)) → KeepsTo m x.0 c r.now
-  here from x xs v c le r = keeps_more m r.bound x.0 c r.now (r.bounded x.0 le r.later.0) r.keeps
+  here : (from : ℕ) (x : ℕ × Entry) (xs : Entries) (v : View m) (c : Kept m.state) → IsDue from upto x.0 → (r : Reached from v c (x ∷ xs)) → KeepsTo m x.0 c r.now
+  here from x xs v c e r = keeps_more m r.bound x.0 c r.now (r.bounded x.0 (due_from from upto x.0 e) r.later.0) r.keeps
 
-  same_more : (from : ℕ) (x : ℕ × Entry) (xs : Entries) (v : View m) (c : Kept m.state) → from ≤ x.0 → x.0 < upto → (r : Reached from v c (x ∷ xs))
+  same_more : (from : ℕ) (x : ℕ × Entry) (xs : Entries) (v : View m) (c : Kept m.state) → IsDue from upto x.0 → (r : Reached from v c (x ∷ xs))
       → play_on m es upto v (between m from upto es) ≡ after_step r.now x.0 (between m from upto xs) (step_at m r.now es x.0 x.1)
-  same_more from x xs v c a b r =
+  same_more from x xs v c e r =
       r.same
-      ∙ ap (λ (ys : Entries). play_on m es upto r.now ys) (taken from x xs a b)
+      ∙ ap (λ (ys : Entries). play_on m es upto r.now ys) (taken from x xs e)
       ∙ play_more r.now x (between m from upto xs)
 
-  pub reached_step : (from : ℕ) (x : ℕ × Entry) (xs : Entries) (v : View m) (c d : Kept m.state) → from ≤ x.0 → x.0 < upto → StepsTo x c d None → Reached from v c (x ∷ xs) → Reached from v d xs
+  pub reached_step : (from : ℕ) (x : ℕ × Entry) (xs : Entries) (v : View m) (c d : Kept m.state) → IsDue from upto x.0 → StepsTo x c d None → Reached from v c (x ∷ xs) → Reached from v d xs
   unfolding after_step
-  reached_step from x xs v c d a b steps r = by (step_at m r.now es x.0 x.1) (steps r.now (here from x xs v c a r)) (same_more from x xs v c a b r)
+  reached_step from x xs v c d e steps r = by (step_at m r.now es x.0 x.1) (steps r.now (here from x xs v c e r)) (same_more from x xs v c e r)
     where
+      below : x.0 < upto
+      below = due_below from upto x.0 e
+
       by : (s : Step m) → Stepped m x.0 d r.now None s → play_on m es upto v (between m from upto es) ≡ after_step r.now x.0 (between m from upto xs) s → Reached from v d xs
       by (On w) k same = record {
         now = w;
         bound = x.0 + 1;
         place = x.0 + 1;
         keeps = k;
-        low = omega (arith, b);
+        low = omega (arith, below);
         later = r.later.1;
         bounded = λ n p q. q;
         same = same;
@@ -140,12 +138,12 @@ module _ (m : Meaning) (es : Entries) (upto : ℕ) where
     noted = at_most_more p q v.noted le k.noted;
   }
 
-  pub reached_stuck : (from : ℕ) (x : ℕ × Entry) (xs : Entries) (v : View m) (c d : Kept m.state) (o : Oid) → from ≤ x.0 → x.0 < upto → StepsTo x c d (Some o) → Reached from v c (x ∷ xs)
+  pub reached_stuck : (from : ℕ) (x : ℕ × Entry) (xs : Entries) (v : View m) (c d : Kept m.state) (o : Oid) → IsDue from upto x.0 → StepsTo x c d (Some o) → Reached from v c (x ∷ xs)
       → PlayedOn m (record d { upto = x.0 }) (Blocked x.0 o) (play_on m es upto v (between m from upto es))
   unfolding after_step
-  reached_stuck from x xs v c d o a b steps r =
-      subst (λ (p : Play m). PlayedOn m (record d { upto = x.0 }) (Blocked x.0 o) p) (sym (same_more from x xs v c a b r))
-      (by (step_at m r.now es x.0 x.1) (steps r.now (here from x xs v c a r)))
+  reached_stuck from x xs v c d o e steps r =
+      subst (λ (p : Play m). PlayedOn m (record d { upto = x.0 }) (Blocked x.0 o) p) (sym (same_more from x xs v c e r))
+      (by (step_at m r.now es x.0 x.1) (steps r.now (here from x xs v c e r)))
     where
       by : (s : Step m) → Stepped m x.0 d r.now (Some o) s → PlayedOn m (record d { upto = x.0 }) (Blocked x.0 o) (after_step r.now x.0 (between m from upto xs) s)
       by (On w) k = absurd k

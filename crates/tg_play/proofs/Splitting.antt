@@ -1,6 +1,6 @@
 -- A list is its first item and the rest, and what follows where a call succeeds.
 use Rattle.std.specs.Prelude.{remove, slice_get}
-use Rattle.std.proofs.Common.{◌≡◌, ℕ, zero, suc, ◌-◌, ◌≤◌, ◌<◌, List, [], ◌∷◌, length, get_or, take, drop, Option, Some, None, Result, Ok, Err, IfOk, OnOk, refl, sym, ap, ◌∙◌, arith}
+use Rattle.std.proofs.Common.{◌≡◌, ℕ, zero, suc, ◌+◌, ◌-◌, ◌≤◌, ◌<◌, List, [], ◌∷◌, length, get_or, take, drop, Option, Some, None, Result, Ok, Err, IfOk, OnOk, refl, sym, ap, ◌∙◌, arith}
 
 take-whole : {X : Type 0} (xs : List X) (n : ℕ) → length xs ≤ n → take n xs ≡ xs
 take-whole [] zero h = refl
@@ -42,3 +42,15 @@ drop_last {X} (y ∷ ys) zero x e = let same : y ≡ x = some e in ap (λ (z : X
     some : Some y ≡ Some x → y ≡ x
     some h = cc
 drop_last (y ∷ ys) (suc n) x e = drop_last ys n x e
+
+-- what is left begins with the item at its place
+pub drop_item : {X : Type 0} (xs : List X) (n : ℕ) (x : X) → n < length xs → x ≡ get_or xs n x → drop n xs ≡ x ∷ drop (n + 1) xs
+drop_item [] n x h e = absurd (omega (arith, h))
+drop_item {X} (y ∷ ys) zero x h e = ap (λ (z : X). z ∷ ys) (sym e)
+drop_item (y ∷ ys) (suc n) x h e = drop_item ys n x (omega (arith, h)) e
+
+pub drop_all : {X : Type 0} (xs : List X) (n : ℕ) → length xs ≤ n → drop n xs ≡ []
+drop_all [] zero h = refl
+drop_all [] (suc n) h = refl
+drop_all (x ∷ xs) zero h = absurd (omega (arith, h))
+drop_all (x ∷ xs) (suc n) h = drop_all xs n (omega (arith, h))

@@ -12,6 +12,7 @@ use Rattle.tg_entry.specs.declared.entry.WriteOp.{WriteOp}
 use Rattle.tg_entry.specs.declared.entry.Body.{Body}
 use Rattle.tg_entry.specs.declared.entry.Entry.{Entry}
 use Rattle.tg_kind.specs.Meaning.{Meaning}
+use Rattle.tg_entry.specs.Needs as short
 use Rattle.tg_protocol.specs.Entries.{is_commit, reads_of, writes_of, needs_decision}
 use Rattle.tg_protocol.specs.Versions.{Noted}
 use Rattle.tg_protocol.specs.Views as told
@@ -157,6 +158,14 @@ module _ (m : Meaning) where
       → needs ≡ (needs_decision e && not (is_some (decision_in es p))) → d ≡ told.by_decision m v e p (decision_in es p) → record_made m v p e needs d ≡ told.step_at m v es p e
   unfolding told.step_at told.verdict
   record_step_is v es p e needs d is needed said = made_by v es p e needs d (is_commit e) refl is needed said
+
+  -- the same where the view's own decisions are looked at, and the shorter word for the need
+  pub commit_made : (v : told.View m) (es : Entries) (p : ℕ) (e : Entry) (ds : List (ℕ × Bool)) (decision : Option Bool) (needs : Bool) (d : told.Verdict) → is_commit e ≡ true
+      → ds ≡ decisions_kept es → decision ≡ at_position ds p → needs ≡ (short.needs_decision e && not (is_some decision)) → d ≡ told.by_decision m v e p decision
+      → record_made m v p e needs d ≡ told.step_at m v es p e
+  commit_made v es p e ds decision needs d is kept found needed said =
+      let same : decision ≡ decision_in es p = found ∙ ap (λ (xs : List (ℕ × Bool)). at_position xs p) kept ∙ decisions_told es p in
+      record_step_is v es p e needs d is (needed ∙ (λ i. needs_same e i && not (is_some (same i)))) (said ∙ (λ i. told.by_decision m v e p (same i)))
 
   pub other_step : (c : Kept m.state) (v : told.View m) (es : Entries) (p : ℕ) (e : Entry) → is_commit e ≡ false → KeepsTo m p c v → Stepped m p c v None (told.step_at m v es p e)
   unfolding told.step_at

@@ -11,10 +11,10 @@ ghost use Rattle.tg_play.specs.Relations.{AtMost, KeepsHosted, written_state, wr
 
 use crate::base::Base;
 use crate::ops::{applied_to, op_of, touched_by};
-use tg_kind::Registry;
 use std::alloc::Global;
 use tg_base::{List, NoMemory, Oid, Part, Pos, ReadMark};
 use tg_entry::WriteOp;
+use tg_kind::Registry;
 use tg_vers::Versions;
 
 /// A hosted object: its state, and its versions as the base tells them, and as they are with what was played.
@@ -111,7 +111,13 @@ impl<K: Registry> Hosted<K> {
     }
 
     // The object after an op that its write spells, or after a write of bytes that spell none.
-    fn change(self, alloc: Global, oid: Oid, op: &Option<K::Op>, pos: Pos) -> Result<Hosted<K>, NoMemory>
+    fn change(
+        self,
+        alloc: Global,
+        oid: Oid,
+        op: &Option<K::Op>,
+        pos: Pos,
+    ) -> Result<Hosted<K>, NoMemory>
         requires { pos < 2 ^ 62 }
         ensures { (b : told.Base (meaning_of K.Registry)) (s : Option K) (ns : List Noted) → KeepsHosted (meaning_of K.Registry) oid self b s ns → IfOk result (λ h. KeepsHosted (meaning_of K.Registry) oid h b (told.applied (meaning_of K.Registry) op.now s) (record { oid = oid; part = told.touched (meaning_of K.Registry) op.now; version = pos + 1 } ∷ ns)) }
     {

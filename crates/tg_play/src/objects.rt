@@ -9,11 +9,11 @@ ghost use Rattle.tg_play.specs.Relations.{AtMost, KeepsObjects};
 
 use crate::base::Base;
 use crate::hosted::Hosted;
-use tg_kind::Registry;
 use std::alloc::Global;
 use std::collections::BTreeMap;
 use tg_base::{List, NoMemory, Oid, Pos, ReadMark};
 use tg_entry::WriteOp;
+use tg_kind::Registry;
 
 /// The objects as their bases tell them. An `Err` is want of memory.
 pub fn hosts_of<K: Drop>(
@@ -41,11 +41,7 @@ pub fn found<K>(objects: &BTreeMap<Oid, Hosted<K>>, oid: Oid) -> Option<&Hosted<
 }
 
 /// The version of a read part at a position, as far as it is known. It takes no memory.
-pub fn version_at<K: Registry>(
-    objects: &BTreeMap<Oid, Hosted<K>>,
-    read: &ReadMark,
-    pos: Pos,
-) -> u64
+pub fn version_at<K: Registry>(objects: &BTreeMap<Oid, Hosted<K>>, read: &ReadMark, pos: Pos) -> u64
     ensures { (v : told.View (meaning_of K.Registry)) → KeepsObjects (meaning_of K.Registry) objects.now.entries v → AtMost pos v.noted → result ≡ told.version_at (meaning_of K.Registry) v pos read.now }
 {
     match found(objects, read.oid) {

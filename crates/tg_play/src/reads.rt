@@ -9,10 +9,10 @@ ghost use Rattle.tg_play.specs.Relations.{AtMost, KeepsObjects, told_verdict};
 
 use crate::hosted::Hosted;
 use crate::objects::{is_unknown, version_at};
-use tg_kind::Registry;
 use crate::verdict::Verdict;
 use std::collections::BTreeMap;
 use tg_base::{Oid, Pos, ReadMark};
+use tg_kind::Registry;
 
 /// The object of the first read whose version at a position isn't known, and so the least such object.
 /// It takes no memory.
@@ -35,11 +35,7 @@ pub fn unknown<K: Registry>(
 }
 
 // Whether a read has another version at a position. It takes no memory.
-fn is_changed<K: Registry>(
-    objects: &BTreeMap<Oid, Hosted<K>>,
-    reads: &[ReadMark],
-    pos: Pos,
-) -> bool
+fn is_changed<K: Registry>(objects: &BTreeMap<Oid, Hosted<K>>, reads: &[ReadMark], pos: Pos) -> bool
     ensures { (v : told.View (meaning_of K.Registry)) → KeepsObjects (meaning_of K.Registry) objects.now.entries v → AtMost pos v.noted → result ≡ is_some (told.changed_in (meaning_of K.Registry) v reads.now pos) }
 {
     match reads {

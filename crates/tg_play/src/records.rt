@@ -9,11 +9,11 @@ ghost use Rattle.tg_play.specs.Relations.{KeepsObjects};
 
 use crate::hosted::Hosted;
 use crate::objects::{plays, write};
-use tg_kind::Registry;
 use std::alloc::Global;
 use std::collections::BTreeMap;
 use tg_base::{NoMemory, Oid, Pos};
 use tg_entry::WriteOp;
+use tg_kind::Registry;
 
 /// Whether any of a record's writes is played. It takes no memory.
 pub fn plays_any<K: Registry>(

@@ -1,6 +1,6 @@
 //! A client's view.
 
-ghost use Rattle.std.specs.Prelude.{◌≡◌, ◌<◌, ◌≤◌, ◌^◌, ℕ, List, IfOk, OnOk, if◌then◌else◌};
+ghost use Rattle.std.specs.Prelude.{◌≡◌, ◌<◌, ◌≤◌, ◌^◌, ◌&&◌, nat_le, nat_lt, ℕ, List, IfOk, OnOk, if◌then◌else◌};
 ghost use Rattle.std.specs.BTreeMap.{insert_entry};
 ghost use Rattle.std.specs.BTreeSet.{insert_key};
 ghost use Rattle.std.specs.List.{list_any};
@@ -16,10 +16,9 @@ ghost use Rattle.tg_play.specs.Kept.{at_position, decisions_kept, hosted_of, ris
 ghost use Rattle.tg_play.specs.Relations.{told_verdict, KeepsBases, KeepsObjects, KeepsTo, KeepsView, Stepped, record_made, PlayedOn};
 
 use crate::base::Base;
-use crate::decisions::{decision_at, decisions_of};
+use crate::decisions::{decision_at, decisions_of, lacks_decision};
 use crate::hosted::Hosted;
 use crate::objects::{found, hosts_of};
-use tg_kind::Registry;
 use crate::reads::{unknown, verdict};
 use crate::records::{plays_any, write_all};
 use crate::verdict::Verdict;
@@ -27,7 +26,8 @@ use std::alloc::Global;
 use std::collections::{BTreeMap, BTreeSet};
 use std::marker::Model;
 use tg_base::{List, NoMemory, Oid, Part, Pos, ReadMark};
-use tg_entry::{Body, Entries, Entry, WriteOp, needs_decision};
+use tg_entry::{Body, Entries, Entry, WriteOp};
+use tg_kind::Registry;
 use tg_model::PlayEnd;
 
 /// The states of the objects that a client hosts, played from the log's entries.
@@ -211,11 +211,12 @@ impl<K: Registry> View<K> {
         ensures { (v : told.View (meaning_of K.Registry)) → KeepsView (meaning_of K.Registry) self.old v → IfOk result (λ came. PlayedOn (meaning_of K.Registry) self.new came (told.play_on (meaning_of K.Registry) entries.now upto v (told.between (meaning_of K.Registry) from upto entries.now))) }
     {
         for (pos, entry) in entries {
-            if from <= *pos && *pos < upto {
-                if let Some(missing) = self.step(alloc, decisions, *pos, entry)? {
-                    self.stand(*pos);
-                    return Ok(PlayEnd::Blocked { pos: *pos, missing });
-                }
+            if !is_due(*pos, from, upto) {
+                continue;
+            }
+            if let Some(missing) = self.step(alloc, decisions, *pos, entry)? {
+                self.stand(*pos);
+                return Ok(PlayEnd::Blocked { pos: *pos, missing });
             }
         }
         self.stand(upto);
@@ -244,7 +245,7 @@ impl<K: Registry> View<K> {
         match &entry.body {
             Body::Commit { reads, writes } => {
                 let decision = decision_at(decisions, pos);
-                let needs = needs_decision(entry) && decision.is_none();
+                let needs = lacks_decision(entry, decision);
                 let verdict = self.verdict(decision, reads.as_slice(), pos);
                 self.take(alloc, pos, needs, verdict, writes.as_slice())
             }
@@ -333,6 +334,13 @@ impl<K: Registry> View<K> {
         write_all(alloc, &mut self.objects, pos, writes)?;
         Ok(())
     }
+}
+
+// Whether a position is among those to play.
+fn is_due(pos: Pos, from: Pos, upto: Pos) -> bool
+    ensures { result ≡ (nat_le from pos && nat_lt pos upto) }
+{
+    from <= pos && pos < upto
 }
 
 // The positions of a set, rising.
