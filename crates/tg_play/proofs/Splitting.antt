@@ -44,10 +44,15 @@ drop_last {X} (y ∷ ys) zero x e = let same : y ≡ x = some e in ap (λ (z : X
 drop_last (y ∷ ys) (suc n) x e = drop_last ys n x e
 
 -- what is left begins with the item at its place
+drop_next : {X : Type 0} (xs : List X) (n : ℕ) (x : X) → n < length xs → x ≡ get_or xs n x → drop n xs ≡ x ∷ drop (suc n) xs
+drop_next [] n x h e = absurd (omega (arith, h))
+drop_next {X} (y ∷ ys) zero x h e = ap (λ (z : X). z ∷ ys) (sym e)
+drop_next (y ∷ ys) (suc n) x h e = drop_next ys n x (omega (arith, h)) e
+
 pub drop_item : {X : Type 0} (xs : List X) (n : ℕ) (x : X) → n < length xs → x ≡ get_or xs n x → drop n xs ≡ x ∷ drop (n + 1) xs
-drop_item [] n x h e = absurd (omega (arith, h))
-drop_item {X} (y ∷ ys) zero x h e = ap (λ (z : X). z ∷ ys) (sym e)
-drop_item (y ∷ ys) (suc n) x h e = drop_item ys n x (omega (arith, h)) e
+drop_item {X} xs n x h e =
+    let same : suc n ≡ n + 1 = omega arith in
+    drop_next xs n x h e ∙ ap (λ (k : ℕ). x ∷ drop k xs) same
 
 pub drop_all : {X : Type 0} (xs : List X) (n : ℕ) → length xs ≤ n → drop n xs ≡ []
 drop_all [] zero h = refl

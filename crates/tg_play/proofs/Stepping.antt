@@ -24,10 +24,10 @@ use Rattle.tg_play.proofs.Places.{decisions_told}
 use Rattle.tg_play.proofs.Needs.{needs_same}
 
 module _ (m : Meaning) where
-  abbrev opened : Kept m.state → ℕ → Bool → Kept m.state
+  abbrev pub opened : Kept m.state → ℕ → Bool → Kept m.state
   opened c p needs = cond needs (record c { open_records = insert_key nat_cmp c.open_records p }) c
 
-  abbrev open_told : told.View m → ℕ → Bool → told.View m
+  abbrev pub open_told : told.View m → ℕ → Bool → told.View m
   open_told v p needs = cond needs (record v { open_records = p ∷ v.open_records }) v
 
   pub keeps_more : (p q : ℕ) (c : Kept m.state) (v : told.View m) → p ≤ q → KeepsTo m p c v → KeepsTo m q c v
@@ -87,7 +87,7 @@ module _ (m : Meaning) where
 
   -- what becomes of a record, by the verdict, and by whether any of its writes is played
 
-  abbrev passed : told.View m → ℕ → List WriteOp → Bool
+  abbrev pub passed : told.View m → ℕ → List WriteOp → Bool
   passed v p ws = list_any (λ (w : WriteOp). told.plays m p (told.base_of m v w.oid)) ws
 
   passed_by : (v : told.View m) (p : ℕ) (e : Entry) (ws : List WriteOp) (played : Bool) → writes_of e ≡ ws → played ≡ passed v p ws → told.passed_over m v p e ≡ not played
@@ -121,10 +121,10 @@ module _ (m : Meaning) where
 
   -- a committed record, before its writes are played
 
-  abbrev committed : Kept m.state → ℕ → Bool → Kept m.state
+  abbrev pub committed : Kept m.state → ℕ → Bool → Kept m.state
   committed c p needs = record (opened c p needs) { fates = insert_entry nat_cmp (opened c p needs).fates p true }
 
-  abbrev commit_told : told.View m → ℕ → Bool → told.View m
+  abbrev pub commit_told : told.View m → ℕ → Bool → told.View m
   commit_told v p needs = told.with_fate m (open_told v p needs) p true
 
   pub commit_keeps : (c : Kept m.state) (v : told.View m) (p : ℕ) (needs : Bool) → KeepsTo m p c v → KeepsTo m p (committed c p needs) (commit_told v p needs)
@@ -143,6 +143,47 @@ module _ (m : Meaning) where
       subst (λ (t : Bool). Stepped m p (record (committed c p needs) { objects = hs }) v None (made v p e needs told.Commits t)) (sym (passed_by v p e ws true same played))
       (subst (λ (xs : List WriteOp). KeepsTo m (p + 1) (record (committed c p needs) { objects = hs }) (told.write_all m p (commit_told v p needs) xs)) (sym same)
       (wrote p (committed c p needs) hs (commit_told v p needs) ws (commit_keeps c v p needs k) objects))
+
+  -- the same where the verdict and what is kept then are told by equations
+
+  made_of : (c d : Kept m.state) (v : told.View m) (p : ℕ) (e : Entry) (needs : Bool) (o : Option Oid) (t u : told.Verdict) → t ≡ u → d ≡ c → Stepped m p c v o (record_made m v p e needs u) → Stepped m p d v o (record_made m v p e needs t)
+  made_of c d v p e needs o t u is same h =
+      subst (λ (x : Kept m.state). Stepped m p x v o (record_made m v p e needs t)) (sym same)
+      (subst (λ (y : told.Verdict). Stepped m p c v o (record_made m v p e needs y)) (sym is) h)
+
+  pub stuck_made : (c : Kept m.state) (v : told.View m) (p : ℕ) (e : Entry) (ws : List WriteOp) (needs : Bool) (o : Oid) (t : told.Verdict) → t ≡ told.Unknown o → writes_of e ≡ ws → true ≡ passed v p ws → KeepsTo m p c v
+      → Stepped m p c v (Some o) (record_made m v p e needs t)
+  stuck_made c v p e ws needs o t is same played k = made_of c c v p e needs (Some o) t (told.Unknown o) is refl (stuck_step c v p e ws needs o same played k)
+
+  pub passed_made : (c d : Kept m.state) (v : told.View m) (p : ℕ) (e : Entry) (ws : List WriteOp) (needs : Bool) (o : Oid) (t : told.Verdict) → t ≡ told.Unknown o → writes_of e ≡ ws → false ≡ passed v p ws → d ≡ opened c p needs → KeepsTo m p c v
+      → Stepped m p d v None (record_made m v p e needs t)
+  passed_made c d v p e ws needs o t is same played now k = made_of (opened c p needs) d v p e needs None t (told.Unknown o) is now (passed_step c v p e ws needs o same played k)
+
+  abbrev pub fated_at : Kept m.state → ℕ → Bool → Kept m.state
+  fated_at c p b = record c { fates = insert_entry nat_cmp c.fates p b }
+
+  pub abort_made : (c b d : Kept m.state) (v : told.View m) (p : ℕ) (e : Entry) (needs : Bool) (t : told.Verdict) → t ≡ told.Aborts → b ≡ opened c p needs → d ≡ fated_at b p false → KeepsTo m p c v
+      → Stepped m p d v None (record_made m v p e needs t)
+  abort_made c b d v p e needs t is first now k =
+      made_of (fated_at (opened c p needs) p false) d v p e needs None t told.Aborts is (now ∙ ap (λ (x : Kept m.state). fated_at x p false) first) (abort_step c v p e needs k)
+
+  pub over_made : (c b d : Kept m.state) (v : told.View m) (p : ℕ) (e : Entry) (ws : List WriteOp) (needs : Bool) (t : told.Verdict) → t ≡ told.Commits → writes_of e ≡ ws → false ≡ passed v p ws → b ≡ opened c p needs → d ≡ fated_at b p true → KeepsTo m p c v
+      → Stepped m p d v None (record_made m v p e needs t)
+  over_made c b d v p e ws needs t is same played first now k =
+      made_of (committed c p needs) d v p e needs None t told.Commits is (now ∙ ap (λ (x : Kept m.state). fated_at x p true) first) (over_step c v p e ws needs same played k)
+
+  -- what a committed record is played on
+  pub commit_begun : (c b d : Kept m.state) (v : told.View m) (p : ℕ) (needs : Bool) → b ≡ opened c p needs → d ≡ fated_at b p true → KeepsTo m p c v → KeepsObjects m d.objects (commit_told v p needs)
+  commit_begun c b d v p needs first now k =
+      subst (λ (x : Kept m.state). KeepsObjects m x.objects (commit_told v p needs)) (sym (now ∙ ap (λ (x : Kept m.state). fated_at x p true) first)) (commit_keeps c v p needs k).objects
+
+  pub commit_made_on : (c b d f : Kept m.state) (v : told.View m) (p : ℕ) (e : Entry) (ws : List WriteOp) (needs : Bool) (t : told.Verdict) → t ≡ told.Commits → writes_of e ≡ ws → true ≡ passed v p ws → b ≡ opened c p needs → d ≡ fated_at b p true
+      → f ≡ record d { objects = f.objects } → KeepsTo m p c v → KeepsObjects m f.objects (told.write_all m p (commit_told v p needs) ws)
+      → Stepped m p f v None (record_made m v p e needs t)
+  commit_made_on c b d f v p e ws needs t is same played first now rest k objects =
+      made_of (record (committed c p needs) { objects = f.objects }) f v p e needs None t told.Commits is
+      (rest ∙ ap (λ (x : Kept m.state). record x { objects = f.objects }) (now ∙ ap (λ (x : Kept m.state). fated_at x p true) first))
+      (commit_step c v p e ws needs f.objects same played k objects)
 
   -- an entry
 
