@@ -13,3 +13,6 @@ mod view;
 
 pub use base::Base;
 pub use view::View;
+
+#[cfg(test)]
+mod tests;
