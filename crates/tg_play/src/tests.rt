@@ -99,7 +99,7 @@ fn missing(alloc: Global, view: &View<Directory>) -> Option<usize> {
     }
 }
 
-fn seen(alloc: Global, view: &View<Directory>, end: PlayEnd, at: [Pos; 2]) -> Seen {
+fn look(alloc: Global, view: &View<Directory>, end: PlayEnd, at: [Pos; 2]) -> Seen {
     Seen {
         end,
         listed: listed(alloc, view),
@@ -123,9 +123,9 @@ fn twice(
     requires second { slice_index upto 1 ≤ 2 ^ 62 }
 {
     let (view, end) = view.play(alloc, first, upto[0])?;
-    let before = seen(alloc, &view, end, at);
+    let before = look(alloc, &view, end, at);
     let (view, end) = view.play(alloc, second, upto[1])?;
-    Ok([before, seen(alloc, &view, end, at)])
+    Ok([before, look(alloc, &view, end, at)])
 }
 
 fn plays_on(alloc: Global) -> Result<[Seen; 2], NoMemory> {
