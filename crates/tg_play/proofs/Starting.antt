@@ -1,8 +1,8 @@
 -- A view that starts.
-use Rattle.std.specs.Prelude.{◌≡◌, ℕ, Bool, true, false, cond, List, [], ◌∷◌, map, find, Option, Some, None, refl}
+use Rattle.std.specs.Prelude.{◌≡◌, ℕ, ◌<◌, Bool, true, false, cond, List, [], ◌∷◌, remove, slice_get, map, find, Option, Some, None, refl}
 use Rattle.std.specs.BTreeMap.{insert_entry, is_at}
 use Rattle.std.specs.Map.{lookup}
-use Rattle.std.proofs.Common.{sym, ap, ◌∙◌, subst}
+use Rattle.std.proofs.Common.{suc, length, take, drop, sym, ap, ◌∙◌, subst}
 use Rattle.tg_base.specs.Orders.{oid_cmp}
 use Rattle.tg_base.specs.declared.ids.Oid.{Oid}
 use Rattle.tg_kind.specs.Meaning.{Meaning}
@@ -15,7 +15,18 @@ use Rattle.tg_play.specs.declared.base.Base.{Base}
 use Rattle.tg_play.specs.declared.hosted.Hosted.{Hosted}
 use Rattle.tg_play.specs.Kept.{Kept, Hosts, hosted_of, hosted_from, hosts_from}
 use Rattle.tg_play.specs.Relations.{KeepsBase, KeepsBases, KeepsHosted, KeepsObject, KeepsObjects, KeepsTo, KeepsView}
+use Rattle.tg_play.proofs.Splitting.{remove_last, drop_last}
 use Rattle.tg_play.proofs.Hosting.{oid_total, oid_eq_is, same_oid}
+
+-- one base more, from the last one to the first: what is left of the bases, and the objects of those that were taken
+pub bases_left : {S : Type 0} (bs left rest : List (Base S)) (n : ℕ) → n < length bs → left ≡ take (suc n) bs → rest ≡ remove left n → rest ≡ take n bs
+bases_left {S} bs left rest n h is now = now ∙ ap (λ (xs : List (Base S)). remove xs n) is ∙ remove_last bs n h
+
+pub one_more : {S : Type 0} (bs left : List (Base S)) (n : ℕ) (hs now : Hosts S) (b : Base S) → left ≡ take (suc n) bs → slice_get left n ≡ Some b → hs ≡ hosts_from (drop (suc n) bs)
+    → now ≡ insert_entry oid_cmp hs b.oid (hosted_from b) → now ≡ hosts_from (drop n bs)
+one_more {S} bs left n hs now b is found kept done =
+    let front : drop n bs ≡ b ∷ drop (suc n) bs = drop_last bs n b (subst (λ (xs : List (Base S)). slice_get xs n ≡ Some b) is found) in
+    done ∙ ap (λ (xs : Hosts S). insert_entry oid_cmp xs b.oid (hosted_from b)) kept ∙ ap (λ (xs : List (Base S)). hosts_from xs) (sym front)
 
 module _ (m : Meaning) where
   put_first : (b : Base m.state) (bs : List (Base m.state)) (o : Oid) → hosted_of (hosts_from (b ∷ bs)) o ≡ cond (oid_eq b.oid o) (Some (hosted_from b)) (hosted_of (hosts_from bs) o)

@@ -1,10 +1,12 @@
 //! Hosted objects by number.
 
 ghost use Rattle.std.specs.Prelude.{◌≡◌, ◌<◌, ◌^◌, IfOk, OnOk};
+ghost use Rattle.std.specs.BTreeMap.{insert_entry};
 ghost use Rattle.std.specs.Option.{option_copied};
+ghost use Rattle.tg_base.specs.Orders.{oid_cmp};
 ghost use Rattle.tg_kind.specs.Of.{meaning_of};
 ghost use Rattle.tg_protocol.specs.Views as told;
-ghost use Rattle.tg_play.specs.Kept.{hosted_of, hosts_from};
+ghost use Rattle.tg_play.specs.Kept.{hosted_from, hosted_of, hosts_from};
 ghost use Rattle.tg_play.specs.Relations.{AtMost, KeepsObjects};
 
 use crate::base::Base;
@@ -26,11 +28,19 @@ pub fn hosts_of<K: Drop>(
     let mut left = bases;
     let mut objects = BTreeMap::new(alloc);
     for at in (0..count).rev() {
-        let base = left.remove(at);
-        let oid = base.oid;
-        objects.insert(oid, Hosted::new(base)?)?;
+        host(&mut objects, left.remove(at))?;
     }
     Ok(objects)
+}
+
+// The object as its base tells it, in place of what was hosted of that number.
+fn host<K: Drop>(objects: &mut BTreeMap<Oid, Hosted<K>>, base: Base<K>) -> Result<(), NoMemory>
+    ensures { OnOk result (objects.new.entries ≡ insert_entry oid_cmp objects.old.entries base.oid (hosted_from base)) }
+{
+    let oid = base.oid;
+    let hosted = Hosted::new(base)?;
+    objects.insert(oid, hosted)?;
+    Ok(())
 }
 
 /// The object, if it is hosted. It takes no memory.
