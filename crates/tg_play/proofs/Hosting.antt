@@ -1,8 +1,8 @@
 -- Hosted objects, and writes of them.
-use Rattle.std.specs.Prelude.{◌≡◌, ℕ, ◌+◌, ◌<◌, ◌≤◌, Bool, true, false, cond, not, nat_lt, List, [], ◌∷◌, Option, Some, None, refl}
+use Rattle.std.specs.Prelude.{◌≡◌, ℕ, ◌+◌, ◌<◌, ◌≤◌, Bool, true, false, cond, nat_lt, List, [], ◌∷◌, Option, Some, None, refl}
 use Rattle.std.specs.BTreeMap.{insert_entry, is_at}
 use Rattle.std.specs.Cmp.{IsTotalOrder, nat_cmp_total, unsigned_ties, unsigned_Decides, on_total}
-use Rattle.std.specs.Map.{lookup, remove_entry}
+use Rattle.std.specs.Map.{remove_entry}
 use Rattle.std.specs.Ordering.{is_eq}
 use Rattle.std.proofs.Common.{sym, ap, ◌∙◌, subst, arith}
 use Rattle.std.proofs.lemmas.Bool.Decides.{nat_tests}
@@ -14,7 +14,7 @@ use Rattle.tg_entry.specs.declared.entry.WriteOp.{WriteOp}
 use Rattle.tg_kind.specs.Meaning.{Meaning}
 use Rattle.tg_protocol.specs.Words.{oid_eq}
 use Rattle.tg_protocol.specs.Versions.{Based, Noted, version_of, with_change}
-use Rattle.tg_protocol.specs.Views.{Base, View, base_of, state_in, state_of, past, plays, with_state, set_state, applied, touched, note, write_by, write, write_all, versions_below, version_by, version_at, played_versions}
+use Rattle.tg_protocol.specs.Views.{Base, View, base_of, state_in, state_of, past, plays, with_state, set_state, applied, touched, note, write_by, write, versions_below, version_by, played_versions}
 use Rattle.tg_vers.specs.Kept.{Objects, Keeps}
 use Rattle.tg_vers.proofs.Lookups.{lookup_put, lookup_taken}
 use Rattle.tg_play.specs.declared.hosted.Hosted.{Hosted}

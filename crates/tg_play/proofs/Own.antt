@@ -1,12 +1,12 @@
 -- The versions of an object by its own changes alone, and those of changes below a position.
-use Rattle.std.specs.Prelude.{◌≡◌, ℕ, ◌+◌, ◌≤◌, Bool, true, false, cond, not, ◌&&◌, nat_lt, nat_le, List, [], ◌∷◌, filter, map, Option, Some, None, refl}
+use Rattle.std.specs.Prelude.{◌≡◌, ℕ, ◌≤◌, Bool, true, false, cond, not, ◌&&◌, nat_lt, nat_le, List, [], ◌∷◌, filter, map, Option, Some, None, refl}
 use Rattle.std.proofs.Common.{sym, ap, ◌∙◌, arith}
 use Rattle.std.proofs.lemmas.Bool.Decides.{nat_tests}
 use Rattle.tg_base.specs.declared.ids.Oid.{Oid}
 use Rattle.tg_base.specs.declared.marks.Part.{Part}
 use Rattle.tg_kind.specs.Meaning.{Meaning}
 use Rattle.tg_protocol.specs.Words.{oid_eq, is_whole, overlap}
-use Rattle.tg_protocol.specs.Versions.{Versions, Based, Noted, noted_or, version_of, whole_noted, with_part, parts_noted, base_parts, Parts, parts_of}
+use Rattle.tg_protocol.specs.Versions.{Versions, Based, Noted, noted_or, version_of, whole_noted, with_part, parts_noted, base_parts, parts_of}
 use Rattle.tg_protocol.specs.Views.{noted_below}
 use Rattle.tg_play.specs.Kept.{own_noted, own}
 use Rattle.tg_play.specs.Relations.{AtMost}

@@ -1,5 +1,5 @@
 -- A play, entry by entry.
-use Rattle.std.specs.Prelude.{◌≡◌, ℕ, ◌+◌, ◌<◌, ◌≤◌, Bool, true, false, cond, ◌&&◌, nat_lt, nat_le, List, [], ◌∷◌, Option, Some, None, refl}
+use Rattle.std.specs.Prelude.{◌≡◌, ℕ, ◌+◌, ◌<◌, ◌≤◌, Bool, true, false, cond, ◌&&◌, nat_lt, nat_le, [], ◌∷◌, Option, Some, None, refl}
 use Rattle.std.proofs.Common.{sym, ap, ◌∙◌, subst, arith}
 use Rattle.std.proofs.lemmas.Bool.Decides.{nat_tests}
 use Rattle.tg_base.specs.declared.ids.Oid.{Oid}
@@ -10,7 +10,7 @@ use Rattle.tg_model.specs.declared.play.PlayEnd.{PlayEnd}
 use Rattle.tg_model.specs.declared.play.PlayEnd.TheVariants.{Played, Blocked}
 use Rattle.tg_protocol.specs.Views.{Entries, View, Play, stands_at, Step, On, Stuck, step_at, between, play_on, play_from, play}
 use Rattle.tg_play.specs.Kept.{Kept}
-use Rattle.tg_play.specs.Relations.{KeepsObjects, KeepsTo, KeepsView, Stepped, PlayedOn}
+use Rattle.tg_play.specs.Relations.{KeepsTo, KeepsView, Stepped, PlayedOn}
 use Rattle.tg_play.proofs.Own.{at_most_more}
 use Rattle.tg_play.proofs.Stepping.{keeps_more}
 

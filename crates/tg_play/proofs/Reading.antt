@@ -1,7 +1,7 @@
 -- The reads and the writes of a record, one after the other.
 use Rattle.std.specs.Prelude.{◌≡◌, ℕ, Bool, true, false, cond, ◌==◌, ◌||◌, List, [], ◌∷◌, Option, Some, None, is_some, refl}
 use Rattle.std.specs.List.{list_any}
-use Rattle.std.proofs.Common.{sym, ap, ◌∙◌, arith, eq-eqb}
+use Rattle.std.proofs.Common.{sym, ap, ◌∙◌, eq-eqb}
 use Rattle.std.proofs.lemmas.Bool.{eqb-true}
 use Rattle.tg_base.specs.declared.ids.Oid.{Oid}
 use Rattle.tg_base.specs.declared.marks.ReadMark.{ReadMark}
@@ -11,7 +11,6 @@ use Rattle.tg_kind.specs.Meaning.{Meaning}
 use Rattle.tg_protocol.specs.Entries.{reads_of}
 use Rattle.tg_protocol.specs.Versions.{Changed, first_changed}
 use Rattle.tg_protocol.specs.Views as told
-use Rattle.tg_play.proofs.Splitting.{split_none}
 
 module _ (m : Meaning) where
   pub unknown_none : (v : told.View m) (p : ℕ) (rs : List ReadMark) → rs ≡ [] → None ≡ told.unknown_in m v rs p

@@ -1,6 +1,6 @@
 -- A list is its first item and the rest, and what follows where a call succeeds.
 use Rattle.std.specs.Prelude.{remove, slice_get}
-use Rattle.std.proofs.Common.{◌≡◌, ℕ, zero, suc, ◌+◌, ◌-◌, ◌≤◌, ◌<◌, List, [], ◌∷◌, length, get_or, take, drop, Option, Some, None, Result, Ok, Err, IfOk, OnOk, refl, sym, ap, ◌∙◌, arith}
+use Rattle.std.proofs.Common.{◌≡◌, ℕ, zero, suc, ◌+◌, ◌-◌, ◌≤◌, ◌<◌, List, [], ◌∷◌, length, get_or, take, drop, Some, Result, Ok, Err, IfOk, OnOk, refl, sym, ap, ◌∙◌, arith}
 
 take-whole : {X : Type 0} (xs : List X) (n : ℕ) → length xs ≤ n → take n xs ≡ xs
 take-whole [] zero h = refl

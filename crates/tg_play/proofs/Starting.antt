@@ -1,22 +1,21 @@
 -- A view that starts.
-use Rattle.std.specs.Prelude.{◌≡◌, ℕ, ◌<◌, Bool, true, false, cond, List, [], ◌∷◌, remove, slice_get, map, find, Option, Some, None, refl}
-use Rattle.std.specs.BTreeMap.{insert_entry, is_at}
-use Rattle.std.specs.Map.{lookup}
+use Rattle.std.specs.Prelude.{◌≡◌, ℕ, ◌<◌, Bool, true, false, cond, List, [], ◌∷◌, remove, slice_get, map, find, Option, Some, refl}
+use Rattle.std.specs.BTreeMap.{insert_entry}
 use Rattle.std.proofs.Common.{suc, length, take, drop, sym, ap, ◌∙◌, subst}
 use Rattle.tg_base.specs.Orders.{oid_cmp}
 use Rattle.tg_base.specs.declared.ids.Oid.{Oid}
 use Rattle.tg_kind.specs.Meaning.{Meaning}
 use Rattle.tg_protocol.specs.Words.{oid_eq}
-use Rattle.tg_protocol.specs.Versions.{Noted, Versions}
+use Rattle.tg_protocol.specs.Versions.{Noted}
 use Rattle.tg_protocol.specs.Views as told
 use Rattle.tg_vers.specs.Kept.{Keeps}
 use Rattle.tg_vers.proofs.Lookups.{lookup_put}
 use Rattle.tg_play.specs.declared.base.Base.{Base}
 use Rattle.tg_play.specs.declared.hosted.Hosted.{Hosted}
 use Rattle.tg_play.specs.Kept.{Kept, Hosts, hosted_of, hosted_from, hosts_from}
-use Rattle.tg_play.specs.Relations.{KeepsBase, KeepsBases, KeepsHosted, KeepsObject, KeepsObjects, KeepsTo, KeepsView}
+use Rattle.tg_play.specs.Relations.{KeepsBase, KeepsBases, KeepsHosted, KeepsObject, KeepsObjects, KeepsView}
 use Rattle.tg_play.proofs.Splitting.{remove_last, drop_last}
-use Rattle.tg_play.proofs.Hosting.{oid_total, oid_eq_is, same_oid}
+use Rattle.tg_play.proofs.Hosting.{oid_total, oid_eq_is}
 
 -- one base more, from the last one to the first: what is left of the bases, and the objects of those that were taken
 pub bases_left : {S : Type 0} (bs left rest : List (Base S)) (n : ℕ) → n < length bs → left ≡ take (suc n) bs → rest ≡ remove left n → rest ≡ take n bs

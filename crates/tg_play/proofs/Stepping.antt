@@ -7,14 +7,11 @@ use Rattle.std.specs.Ordering.{nat_cmp}
 use Rattle.std.proofs.Common.{sym, ap, ◌∙◌, subst, arith}
 use Rattle.tg_base.specs.declared.ids.Oid.{Oid}
 use Rattle.tg_base.specs.declared.marks.Part.{Part}
-use Rattle.tg_base.specs.declared.marks.ReadMark.{ReadMark}
 use Rattle.tg_entry.specs.declared.entry.WriteOp.{WriteOp}
-use Rattle.tg_entry.specs.declared.entry.Body.{Body}
 use Rattle.tg_entry.specs.declared.entry.Entry.{Entry}
 use Rattle.tg_kind.specs.Meaning.{Meaning}
 use Rattle.tg_entry.specs.Needs as short
-use Rattle.tg_protocol.specs.Entries.{is_commit, reads_of, writes_of, needs_decision}
-use Rattle.tg_protocol.specs.Versions.{Noted}
+use Rattle.tg_protocol.specs.Entries.{is_commit, writes_of, needs_decision}
 use Rattle.tg_protocol.specs.Views as told
 use Rattle.tg_protocol.specs.Views.{Entries, decision_in}
 use Rattle.tg_play.specs.Kept.{Kept, Hosts, at_position, fates_kept, rising_positions, decisions_kept}

@@ -1,4 +1,3 @@
-use Rattle.std.proofs.Common.{Bool, Option}
 use Rattle.tg_protocol.specs.Views.{unknown_by, state_of}
 use Rattle.tg_play.proofs.Hosting.{at_none, at_some}
 use Rattle.tg_play.proofs.objects.is_unknown.Goals as goal

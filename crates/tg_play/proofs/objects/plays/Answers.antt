@@ -1,4 +1,3 @@
-use Rattle.std.proofs.Common.{Bool, Option}
 use Rattle.tg_protocol.specs.Views.{plays, state_of}
 use Rattle.tg_play.proofs.Hosting.{at_none, at_some}
 use Rattle.tg_play.proofs.objects.plays.Goals as goal

@@ -1,5 +1,4 @@
 use Rattle.tg_protocol.specs.Views.{version_by, state_of}
-use Rattle.std.proofs.Common.{Option, ℕ}
 use Rattle.tg_play.proofs.Hosting.{at_none, at_some}
 use Rattle.tg_play.proofs.objects.version_at.Goals as goal
 

@@ -1,4 +1,4 @@
-use Rattle.std.proofs.Common.{◌≡◌, length, sym, ◌∙◌, arith}
+use Rattle.std.proofs.Common.{◌≡◌, length, arith}
 use Rattle.tg_play.proofs.Splitting.{split_first, split_none}
 use Rattle.tg_play.proofs.Reading.{changed_none, changed_first, changed_later}
 use Rattle.tg_play.proofs.reads.+is_changed.Goals as goal

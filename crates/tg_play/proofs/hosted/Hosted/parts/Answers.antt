@@ -1,5 +1,4 @@
-use Rattle.std.proofs.Common.{◌∙◌, ℕ, List, ap}
-use Rattle.tg_base.specs.declared.marks.Part.{Part}
+use Rattle.std.proofs.Common.{◌∙◌, ap}
 use Rattle.tg_protocol.specs.Versions.{Parts}
 use Rattle.tg_play.specs.Kept.{own}
 use Rattle.tg_play.proofs.Own.{own_parts}

@@ -1,4 +1,3 @@
-use Rattle.std.proofs.Common.{Option}
 use Rattle.std.specs.Prelude.{is_some, refl}
 use Rattle.tg_play.proofs.Hosting.{at_none, at_some}
 use Rattle.tg_play.proofs.view.View.hosts.Goals as goal

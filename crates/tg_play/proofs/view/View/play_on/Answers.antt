@@ -1,4 +1,4 @@
-use Rattle.std.proofs.Common.{◌+◌, None, Some, Option, drop, length, sym, ◌∙◌, subst}
+use Rattle.std.proofs.Common.{◌+◌, Option, drop, sym, ◌∙◌, subst}
 use Rattle.tg_base.specs.declared.ids.Oid.{Oid}
 use Rattle.tg_model.specs.declared.play.PlayEnd.TheVariants.{Played, Blocked}
 use Rattle.tg_protocol.specs.Views.{Entries, step_at, between, play_on}

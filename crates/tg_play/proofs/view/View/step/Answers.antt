@@ -1,6 +1,5 @@
 use Rattle.std.proofs.Common.{sym, ap, ◌∙◌, subst, IfOk, Option}
 use Rattle.tg_base.specs.declared.ids.Oid.{Oid}
-use Rattle.tg_entry.specs.declared.entry.Body.{Body}
 use Rattle.tg_protocol.specs.Entries.{body_commits, reads_in, writes_in}
 use Rattle.tg_protocol.specs.Views.{Step}
 use Rattle.tg_play.specs.Relations.{Stepped}

@@ -1,4 +1,3 @@
-use Rattle.std.proofs.Common.{Option}
 use Rattle.tg_protocol.specs.Views.{played_version, view_version}
 use Rattle.tg_play.proofs.Hosting.{at_none, at_some}
 use Rattle.tg_play.proofs.view.View.version.Goals as goal

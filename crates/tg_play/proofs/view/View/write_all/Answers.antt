@@ -1,4 +1,3 @@
-use Rattle.std.proofs.Common.{ap}
 use Rattle.tg_play.proofs.Hosting.{objects_in}
 use Rattle.tg_play.proofs.view.View.write_all.Goals as goal
 
