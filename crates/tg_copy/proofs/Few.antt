@@ -22,7 +22,7 @@ use Rattle.tg_copy.specs.Turns.{spare_of}
 use Rattle.tg_copy.specs.Copies.{copying, getting, copy_fed, copy_fed_if}
 use Rattle.tg_copy.specs.Laws.{WorkKept, IsKept, NextKept, HasChainsUpTo, count_from, cost_from, left_in, copy_left, extra_in, count_if, copy_extra, fed_next, fed_all, extra_all, CopiesAreFew}
 use Rattle.tg_copy.proofs.Counts.{one_fewer, one_more, below_rises, product_rises}
-use Rattle.tg_copy.proofs.Ends.{Ended}
+use Rattle.tg_copy.proofs.CopyEnds.{Ended}
 use Rattle.tg_copy.proofs.Jobs.{GetNext, get_fed_kept}
 use Rattle.tg_copy.proofs.Kept.{copies_keep}
 use Rattle.tg_copy.proofs.Subs.{read_fed}
@@ -153,7 +153,7 @@ fed_few p most s (Trimming r b) q n chains has kept = few_if (awaits (copy_asks 
 fed_few p most s (Looking r) q n chains has kept = few_if (awaits (copy_asks p (copying s (Looking r))) q.from q.rid) p most s (Looking r) q.from.num q.msg n chains has tt
 fed_few p most s (Reading j) q n chains has kept =
     let c = fed j q.from q.rid q.msg n in
-    let few = read_next_few (awaits (cell_asks j) q.from q.rid) p most s j c.to c.next q.from.num (reply q.msg) n has (get_fed_kept j q.from q.rid q.msg n kept.1.1) (λ f g. ends_by_answers j q.from q.rid q.msg n f g) (steps_are_few j q.from q.rid q.msg n) in
+    let few = read_next_few (awaits (cell_asks j) q.from q.rid) p most s j c.to c.next q.from.num (reply q.msg) n has (get_fed_kept j q.from q.rid q.msg n kept.2) (λ f g. ends_by_answers j q.from q.rid q.msg n f g) (steps_are_few j q.from q.rid q.msg n) in
     let turned : (copy_fed p (getting s j) q.from q.rid q.msg n).next + copy_left p most (copy_fed p (getting s j) q.from q.rid q.msg n).to ≤ n + left_in p most s (Reading j) =
     subst (λ (z : CopyTurn). z.next + copy_left p most z.to ≤ n + left_in p most s (Reading j)) (sym (read_fed p s j q.from q.rid q.msg n)) few in
     omega (arith, turned)

@@ -83,9 +83,9 @@ looking_kept p s r u _ n = (refl, tt)
 read_next_kept : (p : Layout) (s : Join) (j : CellJob) (y : Next CellJob CellEnd) (n : ℕ) → WorkKept p s (Reading j) → GetNext j.place y →
     NextKept p s (read_next p (getting s j) j.place.pos y n).to
 read_next_kept p s j (Goes k) n kept h =
-    (refl, (subst (λ (a : Place). a ≡ place_in p a.pos) (sym h.0) kept.0, subst (λ (a : Place). a.pos < range_end p s.range) (sym h.0) kept.1.0, h.1))
+    (refl, (subst (λ (a : Place). a ≡ place_in p a.pos) (sym h.0) kept.0, subst (λ (a : Place). a.pos < range_end p s.range) (sym h.0) kept.1, h.1))
 read_next_kept p s j (Learns k) n kept h = absurd h
-read_next_kept p s j (Ends (Done c)) n kept h = (refl, kept.1.0)
+read_next_kept p s j (Ends (Done c)) n kept h = (refl, kept.1)
 read_next_kept p s j (Ends Seen) n kept h = absurd h
 read_next_kept p s j (Ends (Lost c)) n kept h = absurd h
 read_next_kept p s j (Ends (Fenced u e)) n kept h = refl
@@ -104,7 +104,7 @@ fed_kept p s (Trimming r b) from rid m n h = work_kept_if (awaits (copy_asks p (
 fed_kept p s (Looking r) from rid m n h = work_kept_if (awaits (copy_asks p (copying s (Looking r))) from rid) p s (Looking r) from.num m n h (looking_kept p s r from.num (reply m) n)
 fed_kept p s (Reading j) from rid m n h =
     let c = fed j from rid m n in
-    subst (λ (z : CopyTurn). NextKept p s z.to) (sym (read_fed p s j from rid m n)) (read_next_kept p s j c.to c.next h (get_fed_kept j from rid m n h.1.1))
+    subst (λ (z : CopyTurn). NextKept p s z.to) (sym (read_fed p s j from rid m n)) (read_next_kept p s j c.to c.next h (get_fed_kept j from rid m n h.2))
 
 -- ---- the positions
 

@@ -9,6 +9,6 @@ pub mod Subs
 pub mod Frees
 pub mod Spares
 pub mod Kept
-pub mod Ends
+pub mod CopyEnds
 pub mod Waits
 pub mod Few

@@ -158,7 +158,7 @@ unfolding copy_work_asks
 reads_wait p s j from rid m old d kept h none =
     let c = fed j from rid m old in
     let turned = read_fed p s j from rid m old in
-    read_next_waits p s j from rid m old c.to d kept.1.1 refl (get_fed_kept j from rid m old kept.1.1)
+    read_next_waits p s j from rid m old c.to d kept.2 refl (get_fed_kept j from rid m old kept.2)
     (sym (ap (λ (z : CopyTurn). z.to) turned) ∙ h) (sym (ap (λ (z : CopyTurn). (by_copy p old z).outs) turned) ∙ none)
 
 fed_waits : (p : Layout) (s : Join) (w : CopyWork) (from : NodeId) (rid : ℕ) (m : Msg) (old : ℕ) (d : Copying) → WorkKept p s w →

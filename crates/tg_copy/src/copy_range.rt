@@ -375,11 +375,16 @@ impl CopyRange {
         ensures err { OnErr result (rids.new ≡ rids.old) }
         ensures drawn { rids.new.next ≤ rids.old.next + 1 }
     {
-        if high >= FAR || epoch != proj.epoch {
+        if high >= FAR {
             return Ok(CopyRange::stay(alloc, join, own, ask));
         }
         match ask {
-            Ask::Seal => CopyRange::go_on(alloc, proj, join, 0, 0, rids),
+            Ask::Seal => {
+                if epoch == proj.epoch {
+                    return CopyRange::go_on(alloc, proj, join, 0, 0, rids);
+                }
+                Ok(CopyRange::stay(alloc, join, own, Ask::Seal))
+            }
             ask => Ok(CopyRange::stay(alloc, join, own, ask)),
         }
     }

@@ -1,4 +1,4 @@
-use Rattle.tg_copy.proofs.Ends.{copy_ends_by_answers}
+use Rattle.tg_copy.proofs.CopyEnds.{copy_ends_by_answers}
 use Rattle.tg_copy.proofs.laws.copy_ends_by_answers.Goals as goal
 
 pub returns : goal.returns

@@ -180,7 +180,7 @@ fed_pauses p s (Trimming r b) from rid m n d kept h = if_pauses (awaits (copy_as
 fed_pauses p s (Looking r) from rid m n d kept h = if_pauses (awaits (copy_asks p (copying s (Looking r))) from rid) p s (Looking r) from.num m n d (λ j e. cc) h
 fed_pauses p s (Reading j) from rid m n d kept h =
     let c = fed j from rid m n in
-    read_next_pauses (awaits (cell_asks j) from rid) p s j c.to c.next from.num (reply m) d (ap (λ (z : Place). z.epoch) kept.0) (get_fed_kept j from rid m n kept.1.1) (λ f g. ends_by_answers j from rid m n f g)
+    read_next_pauses (awaits (cell_asks j) from rid) p s j c.to c.next from.num (reply m) d (ap (λ (z : Place). z.epoch) kept.0) (get_fed_kept j from rid m n kept.2) (λ f g. ends_by_answers j from rid m n f g)
     (sym (ap (λ (z : CopyTurn). z.to) (read_fed p s j from rid m n)) ∙ h)
 
 pub copy_pauses_by_answers : CopyPausesByAnswers
