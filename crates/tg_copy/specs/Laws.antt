@@ -64,7 +64,7 @@ pub record CopiesKeep : Type 0 where
   pub starts : (p : Layout) (s : Join) (next : ℕ) → NextKept p s (copy_start s.unit s.range s.stripe next).to
   pub steps : (p : Layout) (c : Copying) (from : NodeId) (rid : ℕ) (m : Msg) (next : ℕ) → IsKept p c → NextKept p (spare_of c) (copy_fed p c from rid m next).to
   pub within : (p : Layout) (c : Copying) (from : NodeId) (rid : ℕ) (m : Msg) (next : ℕ) → HasStripe p (spare_of c) → NamesStripe p (spare_of c) (reply m) →
-    WorkWithin p (spare_of c) c.work → NextWithin p (spare_of c) (copy_fed p c from rid m next).to
+      WorkWithin p (spare_of c) c.work → NextWithin p (spare_of c) (copy_fed p c from rid m next).to
 
 -- Ends and pauses.
 
@@ -170,6 +170,6 @@ extra_all p most x (q ∷ qs) next = copy_extra p most x q + extra_all p most (f
 -- whatever messages come, a copy sends no more than these
 pub record CopiesAreFew : Type 0 where
   pub starts : (p : Layout) (most : ℕ) (s : Join) (next : ℕ) →
-    (copy_start s.unit s.range s.stripe next).next + copy_left p most (copy_start s.unit s.range s.stripe next).to ≤ next + 1 + cost_from p most s 0
+      (copy_start s.unit s.range s.stripe next).next + copy_left p most (copy_start s.unit s.range s.stripe next).to ≤ next + 1 + cost_from p most s 0
   pub runs : (p : Layout) (most : ℕ) (c : Copying) (qs : List Packet) (next : ℕ) → HasChainsUpTo p most → HasStripe p (spare_of c) → IsKept p c →
-    (fed_all p (Goes c) qs next).next ≤ next + left_in p most (spare_of c) c.work + extra_all p most (Goes c) qs next
+      (fed_all p (Goes c) qs next).next ≤ next + left_in p most (spare_of c) c.work + extra_all p most (Goes c) qs next

@@ -21,9 +21,7 @@ use crate::step::{Next, Step};
 use crate::stripe::stripe_of;
 use std::alloc::Global;
 use std::marker::Model;
-use tg_base::{
-    Cell, Epoch, Join, List, Msg, NoMemory, NodeId, Out, Pos, Projection, Rids, Turn,
-};
+use tg_base::{Cell, Epoch, Join, List, Msg, NoMemory, NodeId, Out, Pos, Projection, Rids, Turn};
 use tg_chain::{GetCell, GetCellEnd};
 
 /// A step of a copy. In a newer layout it starts over with the same spare and stripe.

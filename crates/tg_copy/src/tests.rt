@@ -1,12 +1,13 @@
-ghost use Rattle.std.specs.Prelude.{◌≡◌, ◌<◌, ◌+◌, ◌^◌, length, IfOk};
-ghost use Rattle.tg_base.specs.declared.change.Join.{Join as TheJoin};
+ghost use Rattle.std.specs.Prelude.{◌≡◌, ◌<◌, ◌≤◌, ◌+◌, ◌^◌, [], ◌∷◌, length, IfOk};
 ghost use Rattle.tg_copy.specs.Stripes.{HasStripe};
-ghost use Rattle.tg_copy.specs.Turns.{IsOfSpare, given_to};
+ghost use Rattle.tg_copy.specs.Turns.{IsOfSpare, spare_of, given_to};
 
 use super::*;
 use std::alloc::Global;
 use std::test::Fail;
-use tg_base::{Cell, Chain, Join, List, Msg, NoMemory, NodeId, Out, Projection, Range, Rids, Role};
+use tg_base::{
+    Cell, Chain, Join, List, Msg, NoMemory, NodeId, Out, Pos, Projection, Range, Rids, Role,
+};
 
 /// The stripe of the positions 1 and 3, for unit 2.
 fn spare() -> Join
@@ -19,33 +20,33 @@ fn spare() -> Join
     }
 }
 
-/// In epoch 2 a range of the units 0 and 1, closed at 4, and an open one of unit 0.
-fn layout(alloc: Global) -> Result<Projection, Fail>
+/// A range whose positions fall to the units 0 and 1 in turn.
+fn range(alloc: Global, lo: Pos) -> Result<Range, NoMemory>
+    ensures { IfOk result (λ r. r ≡ record { lo = lo; stripes = (0 ∷ []) ∷ (1 ∷ []) ∷ [] }) }
+{
+    let mut stripes = List::new(alloc);
+    stripes.push(Chain::of(&[0]).unwrap())?;
+    stripes.push(Chain::of(&[1]).unwrap())?;
+    Ok(Range { lo, stripes })
+}
+
+/// Two of them, of which the first is closed at 4.
+fn ranges(alloc: Global) -> Result<List<Range>, NoMemory>
+    ensures { IfOk result (λ l. l ≡ record { lo = 0; stripes = (0 ∷ []) ∷ (1 ∷ []) ∷ [] } ∷ record { lo = 4; stripes = (0 ∷ []) ∷ (1 ∷ []) ∷ [] } ∷ []) }
+{
+    let mut ranges = List::new(alloc);
+    let closed = range(alloc, 0)?;
+    ranges.push(closed)?;
+    let open = range(alloc, 4)?;
+    ranges.push(open)?;
+    Ok(ranges)
+}
+
+/// The layout of epoch 2.
+fn layout(alloc: Global) -> Result<Projection, NoMemory>
     ensures { IfOk result (λ p. HasStripe p (record { unit = 2; range = 0; stripe = 1 })) }
 {
-    let mut closed = List::new(alloc);
-    closed
-        .push(Chain::of(&[0]).ok_or("too long")?)
-        .map_err(|_| "memory")?;
-    closed
-        .push(Chain::of(&[1]).ok_or("too long")?)
-        .map_err(|_| "memory")?;
-    let mut open = List::new(alloc);
-    open.push(Chain::of(&[0]).ok_or("too long")?)
-        .map_err(|_| "memory")?;
-    let mut ranges = List::new(alloc);
-    ranges
-        .push(Range {
-            lo: 0,
-            stripes: closed,
-        })
-        .map_err(|_| "memory")?;
-    ranges
-        .push(Range {
-            lo: 4,
-            stripes: open,
-        })
-        .map_err(|_| "memory")?;
+    let ranges = ranges(alloc)?;
     Ok(Projection {
         epoch: 2,
         seq: 0,
@@ -63,21 +64,57 @@ fn node(num: u16) -> NodeId {
     }
 }
 
-fn stepped(step: Result<CopyStep, NoMemory>) -> Result<CopyStep, Fail>
-    ensures { IfOk result (λ t. step ≡ Ok t) }
+/// What a unit says.
+#[derive(Clone, Copy)]
+enum Said {
+    Sealed,
+    Taken,
+    Held,
+    Gone,
+    Missing,
+    Whole,
+    Fenced,
+}
+
+fn message(said: Said) -> Msg {
+    match said {
+        Said::Sealed => Msg::Sealed { epoch: 2, high: 0 },
+        Said::Taken => Msg::Taken { cell: Cell::Junk },
+        Said::Held => Msg::Held,
+        Said::Gone => Msg::Gone { below: 2 },
+        Said::Missing => Msg::Missing { pos: 1 },
+        Said::Whole => Msg::Whole,
+        Said::Fenced => Msg::Fenced { epoch: 3 },
+    }
+}
+
+/// The answer of a unit, under a number.
+fn answered(
+    alloc: Global,
+    proj: &Projection,
+    copy: CopyRange,
+    answer: (u16, u64, Said),
+    rids: &mut Rids,
+) -> Result<CopyStep, Fail>
+    requires stripe { HasStripe proj.now (spare_of copy) }
+    requires numbers { rids.old.next < 2 ^ 62 }
+    ensures spare { IfOk result (λ t. IsOfSpare (spare_of copy) (given_to t.next)) }
+    ensures drawn { rids.new.next ≤ rids.old.next + 1 }
 {
-    match step {
+    let (num, rid, said) = answer;
+    let msg = message(said);
+    match copy.feed(alloc, proj, node(num), rid, &msg, rids) {
         Ok(step) => Ok(step),
         Err(_) => Err("memory".into()),
     }
 }
 
-/// What a copy has come to after these answers, each of a unit under a number.
+/// What a copy has come to after these answers.
 fn fed(
     alloc: Global,
     proj: &Projection,
     step: CopyStep,
-    answers: &[(u16, u64, Msg)],
+    answers: &[(u16, u64, Said)],
     rids: &mut Rids,
 ) -> Result<CopyStep, Fail>
     requires stripe { HasStripe proj.now (record { unit = 2; range = 0; stripe = 1 }) }
@@ -86,29 +123,69 @@ fn fed(
 {
     match answers {
         [] => Ok(step),
-        [(num, rid, msg), answers @ ..] => match step.next {
+        [answer, answers @ ..] => match step.next {
             Next::Goes { machine } => {
-                let next = machine.feed(alloc, proj, node(*num), *rid, msg, rids);
-                fed(alloc, proj, stepped(next)?, answers, rids)
+                let step = answered(alloc, proj, machine, *answer, rids)?;
+                fed(alloc, proj, step, answers, rids)
             }
             _ => Err("it doesn't go on".into()),
         },
     }
 }
 
-/// What a copy has come to after these answers.
-fn after(alloc: Global, answers: &[(u16, u64, Msg)]) -> Result<CopyStep, Fail>
+/// The beginning, and what it has come to after these answers.
+fn played(alloc: Global, proj: &Projection, answers: &[(u16, u64, Said)]) -> Result<CopyStep, Fail>
+    requires stripe { HasStripe proj.now (record { unit = 2; range = 0; stripe = 1 }) }
+    requires numbers { length answers.now < 2 ^ 61 }
+{
+    let mut rids = Rids::new();
+    match CopyRange::start(alloc, proj, spare(), &mut rids) {
+        Ok(step) => fed(alloc, proj, step, answers, &mut rids),
+        Err(_) => Err("memory".into()),
+    }
+}
+
+fn after(alloc: Global, answers: &[(u16, u64, Said)]) -> Result<CopyStep, Fail>
     requires { length answers.now < 2 ^ 61 }
 {
-    let proj = layout(alloc)?;
+    match layout(alloc) {
+        Ok(proj) => played(alloc, &proj, answers),
+        Err(_) => Err("memory".into()),
+    }
+}
+
+/// What it sends again at its beginning.
+fn resent(alloc: Global, proj: &Projection) -> Result<List<Out>, Fail>
+    requires { HasStripe proj.now (record { unit = 2; range = 0; stripe = 1 }) }
+{
     let mut rids = Rids::new();
-    let step = CopyRange::start(alloc, &proj, spare(), &mut rids);
-    fed(alloc, &proj, stepped(step)?, answers, &mut rids)
+    match CopyRange::start(alloc, proj, spare(), &mut rids) {
+        Ok(step) => again(alloc, proj, step, &mut rids),
+        Err(_) => Err("memory".into()),
+    }
+}
+
+fn again(
+    alloc: Global,
+    proj: &Projection,
+    step: CopyStep,
+    rids: &mut Rids,
+) -> Result<List<Out>, Fail>
+    requires stripe { HasStripe proj.now (record { unit = 2; range = 0; stripe = 1 }) }
+    requires spare { IsOfSpare (record { unit = 2; range = 0; stripe = 1 }) (given_to step.next) }
+{
+    match step.next {
+        Next::Goes { machine } => match machine.again(alloc, proj, rids) {
+            Ok(outs) => Ok(outs),
+            Err(_) => Err("memory".into()),
+        },
+        _ => Err("it doesn't go on".into()),
+    }
 }
 
 /// What this unit alone is asked under a number.
-fn asked(step: &CopyStep, num: u16, number: u64) -> Option<&Msg> {
-    match step.outs.as_slice() {
+fn asked(outs: &[Out], num: u16, number: u64) -> Option<&Msg> {
+    match outs {
         [out] => {
             if out.to.is_same(node(num)) && out.rid == number {
                 return Some(&out.msg);
@@ -119,30 +196,43 @@ fn asked(step: &CopyStep, num: u16, number: u64) -> Option<&Msg> {
     }
 }
 
-fn sealed() -> Msg {
-    Msg::Sealed { epoch: 2, high: 0 }
-}
-
-fn taken() -> Msg {
-    Msg::Taken { cell: Cell::Junk }
+#[test]
+fn the_spare_is_sealed(rt: HostRuntime) -> Result<(), Fail> {
+    match layout(rt.alloc()) {
+        Ok(proj) => {
+            let outs = resent(rt.alloc(), &proj)?;
+            let sent = asked(outs.as_slice(), 2, 1);
+            assert!(rt; matches!(sent, Some(Msg::Seal { epoch: 2 })));
+            Ok(())
+        }
+        Err(_) => Err("memory".into()),
+    }
 }
 
 #[test]
 fn a_stripe_is_copied(rt: HostRuntime) -> Result<(), Fail> {
-    let step = after(rt.alloc(), &[])?;
-    assert!(rt; matches!(asked(&step, 2, 1), Some(Msg::Seal { epoch: 2 })));
     let step = after(
         rt.alloc(),
         &[
-            (2, 1, sealed()),
-            (1, 2, taken()),
-            (2, 3, Msg::Held),
-            (1, 4, taken()),
-            (2, 5, Msg::Held),
+            (2, 1, Said::Sealed),
+            (1, 2, Said::Taken),
+            (2, 3, Said::Held),
+            (1, 4, Said::Taken),
+            (2, 5, Said::Held),
         ],
     )?;
-    let all = asked(&step, 2, 6);
-    assert!(rt; matches!(all, Some(Msg::Has { epoch: 2, lo: 1, hi: 4, step: 2 })));
+    let all = asked(step.outs.as_slice(), 2, 6);
+    assert!(rt;
+        matches!(
+            all,
+            Some(Msg::Has {
+                epoch: 2,
+                lo: 1,
+                hi: 4,
+                step: 2
+            })
+        )
+    );
     Ok(())
 }
 
@@ -151,30 +241,45 @@ fn it_ends_as_the_spare_has_all(rt: HostRuntime) -> Result<(), Fail> {
     let step = after(
         rt.alloc(),
         &[
-            (2, 1, sealed()),
-            (1, 2, taken()),
-            (2, 3, taken()),
-            (1, 4, taken()),
-            (2, 5, Msg::Held),
-            (2, 6, Msg::Whole),
+            (2, 1, Said::Sealed),
+            (1, 2, Said::Taken),
+            (2, 3, Said::Taken),
+            (1, 4, Said::Taken),
+            (2, 5, Said::Held),
+            (2, 6, Said::Whole),
         ],
     )?;
-    assert!(rt; matches!(&step.next, Next::Ends { end: CopyEnd::Whole }));
+    assert!(rt;
+        matches!(
+            &step.next,
+            Next::Ends {
+                end: CopyEnd::Whole
+            }
+        )
+    );
     Ok(())
 }
 
 #[test]
-fn trims_are_told_and_passed_over(rt: HostRuntime) -> Result<(), Fail> {
-    let gone = Msg::Gone { below: 2 };
-    let step = after(rt.alloc(), &[(2, 1, sealed()), (1, 2, gone)])?;
-    assert!(rt; matches!(asked(&step, 2, 3), Some(Msg::Trim { epoch: 2, below: 2 })));
-    let gone = Msg::Gone { below: 2 };
+fn the_spare_is_told_a_trim(rt: HostRuntime) -> Result<(), Fail> {
+    let step = after(rt.alloc(), &[(2, 1, Said::Sealed), (1, 2, Said::Gone)])?;
+    let told = asked(step.outs.as_slice(), 2, 3);
+    assert!(rt; matches!(told, Some(Msg::Trim { epoch: 2, below: 2 })) && step.gone == 2);
+    Ok(())
+}
+
+#[test]
+fn a_trim_of_the_spare_is_passed_over(rt: HostRuntime) -> Result<(), Fail> {
     let step = after(
         rt.alloc(),
-        &[(2, 1, sealed()), (1, 2, taken()), (2, 3, gone)],
+        &[
+            (2, 1, Said::Sealed),
+            (1, 2, Said::Taken),
+            (2, 3, Said::Gone),
+        ],
     )?;
-    assert!(rt; matches!(asked(&step, 1, 4), Some(Msg::Read { epoch: 2, pos: 3 })));
-    assert!(rt; step.gone == 2);
+    let next = asked(step.outs.as_slice(), 1, 4);
+    assert!(rt; matches!(next, Some(Msg::Read { epoch: 2, pos: 3 })) && step.gone == 2);
     Ok(())
 }
 
@@ -183,22 +288,22 @@ fn what_is_missing_is_brought_again(rt: HostRuntime) -> Result<(), Fail> {
     let step = after(
         rt.alloc(),
         &[
-            (2, 1, sealed()),
-            (1, 2, taken()),
-            (2, 3, Msg::Held),
-            (1, 4, taken()),
-            (2, 5, Msg::Held),
-            (2, 6, Msg::Missing { pos: 1 }),
+            (2, 1, Said::Sealed),
+            (1, 2, Said::Taken),
+            (2, 3, Said::Held),
+            (1, 4, Said::Taken),
+            (2, 5, Said::Held),
+            (2, 6, Said::Missing),
         ],
     )?;
-    assert!(rt; matches!(asked(&step, 1, 7), Some(Msg::Read { epoch: 2, pos: 1 })));
+    let back = asked(step.outs.as_slice(), 1, 7);
+    assert!(rt; matches!(back, Some(Msg::Read { epoch: 2, pos: 1 })));
     Ok(())
 }
 
 #[test]
 fn a_fence_is_told(rt: HostRuntime) -> Result<(), Fail> {
-    let fence = Msg::Fenced { epoch: 3 };
-    let step = after(rt.alloc(), &[(2, 1, sealed()), (1, 2, fence)])?;
+    let step = after(rt.alloc(), &[(2, 1, Said::Sealed), (1, 2, Said::Fenced)])?;
     match &step.next {
         Next::Learns { paused } => assert!(rt; paused.unit == 2 && paused.stripe == 1),
         _ => return Err("it goes on".into()),
