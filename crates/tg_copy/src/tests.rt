@@ -1,6 +1,6 @@
 ghost use Rattle.std.specs.Prelude.{◌≡◌, ◌<◌, ◌≤◌, ◌+◌, ◌^◌, [], ◌∷◌, length, IfOk};
 ghost use Rattle.tg_copy.specs.Stripes.{HasStripe};
-ghost use Rattle.tg_copy.specs.Turns.{IsOfSpare, spare_of, given_to};
+ghost use Rattle.tg_copy.specs.Turns.{IsOfSpare, On, spare_of, given_to};
 
 use super::*;
 use std::alloc::Global;
@@ -88,6 +88,16 @@ fn message(said: Said) -> Msg {
     }
 }
 
+fn going(step: CopyStep) -> Result<CopyRange, Fail>
+    ensures { IfOk result (λ c. given_to step.next ≡ On c) }
+{
+    let Step { next, .. } = step;
+    match next {
+        Next::Goes { machine } => Ok(machine),
+        _ => Err("it doesn't go on".into()),
+    }
+}
+
 /// The answer of a unit, under a number.
 fn answered(
     alloc: Global,
@@ -123,13 +133,11 @@ fn fed(
 {
     match answers {
         [] => Ok(step),
-        [answer, answers @ ..] => match step.next {
-            Next::Goes { machine } => {
-                let step = answered(alloc, proj, machine, *answer, rids)?;
-                fed(alloc, proj, step, answers, rids)
-            }
-            _ => Err("it doesn't go on".into()),
-        },
+        [answer, answers @ ..] => {
+            let copy = going(step)?;
+            let step = answered(alloc, proj, copy, *answer, rids)?;
+            fed(alloc, proj, step, answers, rids)
+        }
     }
 }
 
@@ -174,12 +182,10 @@ fn again(
     requires stripe { HasStripe proj.now (record { unit = 2; range = 0; stripe = 1 }) }
     requires spare { IsOfSpare (record { unit = 2; range = 0; stripe = 1 }) (given_to step.next) }
 {
-    match step.next {
-        Next::Goes { machine } => match machine.again(alloc, proj, rids) {
-            Ok(outs) => Ok(outs),
-            Err(_) => Err("memory".into()),
-        },
-        _ => Err("it doesn't go on".into()),
+    let copy = going(step)?;
+    match copy.again(alloc, proj, rids) {
+        Ok(outs) => Ok(outs),
+        Err(_) => Err("memory".into()),
     }
 }
 
