@@ -1,0 +1,14 @@
+pub mod Chains
+pub mod Counts
+pub mod Cells
+pub mod Jobs
+pub mod Outs
+pub mod Gones
+pub mod Turned
+pub mod Subs
+pub mod Frees
+pub mod Spares
+pub mod Kept
+pub mod CopyEnds
+pub mod Waits
+pub mod Few

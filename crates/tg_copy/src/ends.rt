@@ -1,0 +1,8 @@
+//! How machines end.
+
+/// How a copy ends.
+#[derive(Debug, Drop)]
+pub enum CopyEnd {
+    /// The spare has answered that it has each position of the stripe.
+    Whole,
+}
