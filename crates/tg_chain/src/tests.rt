@@ -519,9 +519,25 @@ fn started_learn(alloc: Global, rids: &mut Rids) -> Result<Learn, Fail>
     let proj = layout(alloc, 2)?;
     let stand = Stand { proj, layouts: 3 };
     match Learn::start(alloc, stand, rids) {
-        Ok(Turn::More { machine, outs }) if are_sent(outs.as_slice(), &ASKS) => Ok(machine),
-        _ => Err("it asks otherwise".into()),
+        Ok(Turn::More { machine, outs }) => asking(machine, outs),
+        _ => Err("it ends at once".into()),
     }
+}
+
+/// The machine, if it has asked the layout servers.
+fn asking(learn: Learn, outs: List<Out>) -> Result<Learn, Fail> {
+    if are_sent(outs.as_slice(), &ASKS) {
+        return Ok(learn);
+    }
+    Err("it asks otherwise".into())
+}
+
+/// Nothing is learnt, if the same requests are outstanding.
+fn waits(alloc: Global, learn: Learn, rids: &mut Rids) -> Result<Option<(Epoch, u16)>, Fail> {
+    if sends(learn.again(alloc, rids), &ASKS) {
+        return Ok(None);
+    }
+    Err("it asks otherwise".into())
 }
 
 /// The epoch that is learnt on a message of this node under this number, with the count of layout servers; None where
@@ -536,8 +552,8 @@ fn learnt(alloc: Global, from: NodeId, rid: u64, msg: &Msg) -> Result<Option<(Ep
                 ..
             },
         ) => Ok(Some((stand.proj.epoch, stand.layouts))),
-        Ok(Turn::More { machine, .. }) if sends(machine.again(alloc, &mut rids), &ASKS) => Ok(None),
-        _ => Err("it asks otherwise".into()),
+        Ok(Turn::More { machine, .. }) => waits(alloc, machine, &mut rids),
+        Err(_) => Err("memory".into()),
     }
 }
 
