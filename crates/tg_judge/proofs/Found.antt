@@ -115,9 +115,6 @@ module _ (m : Meaning) (same : Sameness m) (objects : List Oid) (h : History m) 
 
   -- no earlier entry is of the same transaction
 
-  abbrev entry_tests : History m → DoneOf m → List (Clause × Bool)
-  entry_tests before d = (D, entry_is_right m same objects h trace before d) ∷ (E, bound_test d.client d.number d.stamp) ∷ []
-
   pub record RightEntry (before : History m) (d : DoneOf m) : Type 0 where
     pub ended : ended m same objects h trace d.client d.number ≡ true
     pub writes : same_writes m same objects h trace d.writes (puts m same objects h trace d.client d.number) ≡ true

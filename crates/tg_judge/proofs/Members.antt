@@ -16,15 +16,6 @@ pub has_right : {X : Type 0} → (xs ys : List X) (x : X) → Has ys x → Has (
 has_right [] ys x h = h
 has_right (y ∷ xs) ys x h = inr (has_right xs ys x h)
 
-or_first : {X : Type 0} → {A B : Type 0} → A ⊎ B → (X ⊎ A) ⊎ B
-or_first (inl a) = inl (inr a)
-or_first (inr b) = inr b
-
-pub has_either : {X : Type 0} → (xs ys : List X) (x : X) → Has (xs ++ ys) x → Has xs x ⊎ Has ys x
-has_either [] ys x h = inr h
-has_either (y ∷ xs) ys x (inl e) = inl (inl e)
-has_either (y ∷ xs) ys x (inr h) = or_first (has_either xs ys x h)
-
 has_index : {X : Type 0} → (xs : List X) (x : X) (k : ℕ) → k < length xs → slice_index_or xs k x ≡ x → Has xs x
 has_index [] x k less e = absurd (omega (arith, less))
 has_index (y ∷ xs) x zero less e = inl (sym e)
