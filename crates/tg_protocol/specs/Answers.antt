@@ -17,7 +17,7 @@ use Rattle.tg_protocol.specs.Appending.{Append, AppendEnd, append_start}
 use Rattle.tg_protocol.specs.Syncing.{Sync, Confirmed, sync_start}
 use Rattle.tg_protocol.specs.Trimming.{Trims, Trimmed, trim_start}
 use Rattle.tg_protocol.specs.Versions.{Changed}
-use Rattle.tg_protocol.specs.Views.{Entries, decision_in, Verdict, Commits, Aborts, Unknown, Base, View, Play, base_of, state_of, view_version, fate_of, changed_in, unknown_in, verdict, view_start, play}
+use Rattle.tg_protocol.specs.Views.{Entries, decision_in, Verdict, Commits, Aborts, Unknown, Base, View, Play, base_of, state_of, view_version, fate_of, changed_in, unknown_in, verdict, outcome, view_start, play}
 use Rattle.tg_protocol.specs.Checkpoints.{checkpoint, view_bases, NoCheckpoint, OpenDecision, ForgetFault, may_forget}
 use Rattle.tg_protocol.specs.Past.{commit_at, PastTurn, PastView, PastGone, past_at, RescueTurn, Wider, Wide, Absent, StuckAt, Known, rescue_turn}
 use Rattle.tg_protocol.specs.Transactions.{Tx, tx_read}
@@ -224,14 +224,9 @@ module _ (m : Meaning) where
   decide_verdict c w es p e Commits = decides_if (lacks_decision es p e) c w e p true 0 (told.Decided p (Some true))
   decide_verdict c w es p e Aborts = decides_if (lacks_decision es p e) c w e p false 0 (told.Decided p (Some false))
 
-  abbrev pub verdict_or_fate : View m → Entries → ℕ → Entry → Option Bool → Verdict
-  verdict_or_fate v es p e None = verdict m v es p e
-  verdict_or_fate v es p e (Some true) = Commits
-  verdict_or_fate v es p e (Some false) = Aborts
-
   abbrev pub decide_record : Client m → Work m → Entries → View m → ℕ → Option Entry → Moved
   decide_record c w es v p None = answers c 0 (told.Decided p None)
-  decide_record c w es v p (Some e) = decide_verdict c w es p e (verdict_or_fate v es p e (fate_of m v p))
+  decide_record c w es v p (Some e) = decide_verdict c w es p e (outcome m v es p e)
 
   abbrev pub decide_blocked : Client m → Work m → Entries → View m → ℕ → ℕ → Oid → Bool → Moved
   decide_blocked c w es v p q x true = refuses c 0 (cause.Undecided q x)

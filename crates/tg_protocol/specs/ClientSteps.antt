@@ -110,6 +110,10 @@ module _ (m : Meaning) where
   abbrev pub found_by : Work m → Oid → Members → Work m
   found_by w o x = record w { found = with_positions m w.found o x.list; trims = trims_with w.trims o x.gone }
 
+  -- the walk has the known cells until it ends
+  abbrev pub lends : Client m → Client m
+  lends c = record c { cells = [] }
+
   abbrev pub start_walk : Client m → Work m → Oid → Turn Walk Members
   start_walk c w o = walk_start c.stand o (lasts_of w o) w.lo c.cells c.next
 
@@ -117,7 +121,7 @@ module _ (m : Meaning) where
   unfoldable pub walks : List Oid → Client m → Work m → Moved m
   walks [] c w = walked m c w
   walks (o ∷ os) c w = elim ((start_walk c w o).to) as (λ _. Moved m) [
-    | Goes x ↦ goes_on (after_turn c (start_walk c w o)) w (Walking x os) []
+    | Goes x ↦ goes_on (lends (after_turn c (start_walk c w o))) w (Walking x os) []
     | Learns x ↦ moved m c []
     | Ends x ↦ walks os (with_members c o x) (found_by w o x)
   ]

@@ -11,7 +11,7 @@ use Rattle.tg_base.specs.declared.marks.StreamLink.{StreamLink}
 use Rattle.tg_entry.specs.declared.entry.WriteOp.{WriteOp}
 use Rattle.tg_entry.specs.declared.entry.Entry.{Entry}
 use Rattle.tg_kind.specs.Meaning.{Meaning}
-use Rattle.tg_protocol.specs.Words.{oid_eq, has_oid, with_nums, cell_at, directory, first_some, where_true}
+use Rattle.tg_protocol.specs.Words.{oid_eq, oid_lt, has_oid, with_nums, cell_at, directory, first_some, where_true}
 use Rattle.tg_proj.specs.declared.fault.ProjFault.{ProjFault}
 use Rattle.tg_proj.specs.declared.fault.ProjFault.TheVariants as layout
 use Rattle.tg_protocol.specs.Layouts.{first_layout, change_fault, spare_fault}
@@ -75,7 +75,7 @@ module _ (m : Meaning) where
     pub calls : ℕ  -- steps taken
     pub next : ℕ  -- the next request number
     pub stand : Layout
-    pub cells : List (ℕ × Cell)  -- known ones
+    pub cells : List (ℕ × Cell)  -- known ones, while no stream is walked
     pub hosted : List Oid  -- rising, the directory first
     pub view : Option (View m)  -- the kept one
     pub kept : List (Oid × List ℕ)  -- positions of members, by stream
@@ -120,8 +120,22 @@ module _ (m : Meaning) where
   abbrev pub upto : Client → ℕ
   upto c = upto_in c.view
 
+  -- a walk has the known cells while it walks
+
+  abbrev pub task_cells : Task → List (ℕ × Cell) → List (ℕ × Cell)
+  task_cells (Walking w os) cells = w.cells
+  task_cells t cells = cells
+
+  abbrev pub hand_cells : Hand → List (ℕ × Cell) → List (ℕ × Cell)
+  hand_cells (Doing t) cells = task_cells t cells
+  hand_cells (Learning waits t) cells = task_cells t cells
+
+  abbrev pub work_cells : Option Work → List (ℕ × Cell) → List (ℕ × Cell)
+  work_cells None cells = cells
+  work_cells (Some w) cells = hand_cells w.hand cells
+
   abbrev pub known : Client → ℕ → Option Cell
-  known c p = cell_at c.cells p
+  known c p = cell_at (work_cells c.work c.cells) p
 
   abbrev pub hosts_oid : Client → Oid → Bool
   hosts_oid c o = has_oid o c.hosted
@@ -131,10 +145,11 @@ module _ (m : Meaning) where
   positions_in [] o = []
   positions_in (x ∷ xs) o = if oid_eq x.0 o then x.1 else positions_in xs o
 
-  -- a stream's positions are united with further ones, and none is taken away
+  -- a stream's positions are united with further ones, and none is taken away; streams and positions rise
   abbrev pub with_positions : List (Oid × List ℕ) → Oid → List ℕ → List (Oid × List ℕ)
-  with_positions [] o ps = (o, ps) ∷ []
-  with_positions (x ∷ xs) o ps = if oid_eq x.0 o then (x.0, with_nums ps x.1) ∷ xs else x ∷ with_positions xs o ps
+  with_positions [] o ps = (o, with_nums ps []) ∷ []
+  with_positions (x ∷ xs) o ps =
+      if oid_eq x.0 o then (x.0, with_nums ps x.1) ∷ xs else (if oid_lt o x.0 then (o, with_nums ps []) ∷ x ∷ xs else x ∷ with_positions xs o ps)
 
   -- Entries that a client has.
 

@@ -7,7 +7,7 @@ use Rattle.tg_model.specs.declared.play.PlayEnd.{PlayEnd}
 use Rattle.tg_model.specs.declared.play.PlayEnd.TheVariants.{Played, Blocked}
 use Rattle.tg_protocol.specs.Words.{has_oid}
 use Rattle.tg_protocol.specs.Entries.{is_commit, needs_decision}
-use Rattle.tg_protocol.specs.Views.{Entries, decision_in, Verdict, Commits, Aborts, Unknown, Base, View, Play, view_start, fresh_base, verdict, play}
+use Rattle.tg_protocol.specs.Views.{Entries, decision_in, Verdict, Commits, Aborts, Unknown, Base, View, Play, view_start, fresh_base, outcome, play}
 use Rattle.tg_protocol.specs.Checkpoints.{Trims, trim_of, bases_in, greatest_base, within, base_or, load_from, view_bases}
 
 -- the commit record at a position
@@ -68,7 +68,7 @@ module _ (m : Meaning) where
 
   abbrev pub entry_block : View m → Entries → ℕ → Option Entry → Option (ℕ × Oid)
   entry_block v es at None = None
-  entry_block v es at (Some e) = record_block v es at (verdict m v es at e)
+  entry_block v es at (Some e) = record_block v es at (outcome m v es at e)
 
   abbrev pub block_in : Play m → Entries → ℕ → PlayEnd → Option (ℕ × Oid)
   block_in p es at (Played upto) = entry_block p.view es at (commit_at es at)
@@ -82,7 +82,7 @@ module _ (m : Meaning) where
   abbrev pub at_record : View m → Entries → ℕ → Option (ℕ × Oid) → Option Entry → RescueTurn
   at_record v es at b None = Absent
   at_record v es at (Some b) (Some e) = StuckAt b.0 b.1
-  at_record v es at None (Some e) = known_by es at e (verdict m v es at e)
+  at_record v es at None (Some e) = known_by es at e (outcome m v es at e)
 
   abbrev pub grows : List Oid → Oid → RescueTurn
   grows oids o = if nat_le 128 (length oids) then Wide else Wider o

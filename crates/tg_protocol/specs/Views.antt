@@ -99,17 +99,10 @@ module _ (m : Meaning) where
   abbrev pub past : Base → ℕ → Bool
   past b p = nat_lt p b.upto
 
-  -- the changes below p
-  abbrev pub noted_below : ℕ → List Noted → List Noted
-  noted_below p ns = filter (λ (n : Noted). nat_le n.version p) ns
-
-  abbrev pub versions_below : View → Base → ℕ → Versions
-  versions_below v b p = record { base = b.versions.base; noted = noted_below p v.noted }
-
-  -- of an object whose base is past p, only the base's versions speak of p
+  -- of an object whose base is past p, the base's versions speak of p, also where the view has played further
   abbrev pub version_by : View → ℕ → Option Base → ReadMark → ℕ
   version_by v p None r = 0
-  version_by v p (Some b) r = if past b p then version_of b.versions r.oid r.part else version_of (versions_below v b p) r.oid r.part
+  version_by v p (Some b) r = if past b p then version_of b.versions r.oid r.part else version_of (played_versions v b) r.oid r.part
 
   abbrev pub version_at : View → ℕ → ReadMark → ℕ
   version_at v p r = version_by v p (base_of v r.oid) r
@@ -147,6 +140,14 @@ module _ (m : Meaning) where
 
   unfoldable pub verdict : View → Entries → ℕ → Entry → Verdict
   verdict v es p e = by_decision v e p (decision_in es p)
+
+  -- what a view that may have played further says of a record: its fate, where it has one
+  abbrev pub fate_or_verdict : View → Entries → ℕ → Entry → Option Bool → Verdict
+  fate_or_verdict v es p e None = verdict v es p e
+  fate_or_verdict v es p e (Some b) = said b
+
+  unfoldable pub outcome : View → Entries → ℕ → Entry → Verdict
+  outcome v es p e = fate_or_verdict v es p e (fate_of v p)
 
   -- applying a record
 
