@@ -13,14 +13,14 @@ def spent():
     return used.ru_utime + used.ru_stime
 
 
-def seconds(program, words, answer):
-    """The least processor time of five runs with these words, each of which prints this answer."""
+def seconds(program, words, answer, text=b""):
+    """The least processor time of five runs with these words over this input, each of which prints this answer."""
     best = float("inf")
     for _ in range(5):
         before = spent()
-        run = subprocess.run([program, *map(str, words)], capture_output=True)
+        run = subprocess.run([program, *map(str, words)], input=text, capture_output=True)
         best = min(best, spent() - before)
-        if run.returncode != 0 or run.stdout.decode() != f"{answer}\n":
+        if run.returncode != 0 or run.stdout != answer:
             sys.exit(f"{' '.join(map(str, words))}: the run ended with status {run.returncode} or another answer")
     return best
 
@@ -31,7 +31,7 @@ def compare(program, rounds_of, counts, most, answer, what):
     answer tells from a name, a count and the rounds what the program is to print."""
     over = False
     for name, rounds in rounds_of.items():
-        small, large = (seconds(program, (name, count, rounds), answer(name, count, rounds)) for count in counts)
+        small, large = (seconds(program, (name, count, rounds), f"{answer(name, count, rounds)}\n".encode()) for count in counts)
         over = over or large > most * small
         print(f"{name}, {rounds} rounds: {counts[0]} {what} {small:.3f} s; {counts[1]} {what} {large:.3f} s; ratio {large / small:.1f}, at most {most}", flush=True)
     return over
