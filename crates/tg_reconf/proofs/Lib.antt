@@ -1,0 +1,9 @@
+pub mod Awaiting
+pub mod Drawing
+pub mod Rising
+pub mod Staying
+pub mod Ending
+pub mod Counting
+pub mod Told
+pub mod Voting
+pub mod Waiting

@@ -1,0 +1,5 @@
+use Rattle.tg_reconf.proofs.Drawing.{tells_fresh}
+use Rattle.tg_reconf.proofs.agreeing.tell.Goals as goal
+
+pub send-requires-clause-new : goal.send-requires-clause-new
+send-requires-clause-new c = tells_fresh c.args.plan _ _ _ _ _ c.in_ok-waits.ensures.waits c.in_ok-waits.ensures.next
