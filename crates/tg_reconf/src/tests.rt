@@ -188,7 +188,7 @@ enum Said {
     NotWhole { unit: u16, pos: Pos },
 }
 
-fn asked(msg: &Msg) -> Asked {
+fn request(msg: &Msg) -> Asked {
     match msg {
         Msg::Seal { epoch } => Asked::Seal { epoch: *epoch },
         Msg::Has { epoch, lo, hi, .. } => Asked::Has {
@@ -207,7 +207,7 @@ fn asked(msg: &Msg) -> Asked {
     }
 }
 
-fn said(step: &Step) -> Said {
+fn outcome(step: &Step) -> Said {
     match &step.next {
         Next::Learns { .. } => Said::Learns,
         Next::Ends { end } => ended(end),
@@ -215,7 +215,7 @@ fn said(step: &Step) -> Said {
             [] => Said::Nothing,
             [out, ..] => Said::Asks {
                 count: step.outs.len(),
-                first: asked(&out.msg),
+                first: request(&out.msg),
             },
         },
     }
@@ -303,7 +303,7 @@ fn run(alloc: Global, step: Step, events: &[Event], rids: &mut Rids) -> Result<S
     requires numbers { rids.old.next + length events.now * 2 ^ 16 < 2 ^ 61 }
 {
     match events {
-        [] => Ok(said(&step)),
+        [] => Ok(outcome(&step)),
         [event, others @ ..] => {
             let step = act(alloc, step, *event, rids)?;
             run(alloc, step, others, rids)
