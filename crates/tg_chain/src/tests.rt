@@ -3,7 +3,10 @@ ghost use Rattle.std.specs.Prelude.{◌≡◌, ◌<◌, ◌≤◌, ◌+◌, ◌^
 use super::*;
 use std::alloc::Global;
 use std::test::Fail;
-use tg_base::{Blob, Cell, Chain, List, Msg, NodeId, Rids, Role, Turn};
+use tg_base::{
+    Blob, Cell, Chain, Epoch, List, Msg, NoMemory, NodeId, Out, Projection, Range, Rids, Role,
+    Stand, Turn,
+};
 
 fn unit(num: u16) -> NodeId {
     NodeId {
@@ -268,5 +271,137 @@ fn a_probe_awaits_all_units(rt: HostRuntime) -> Result<(), Fail> {
 fn a_probe_may_be_fenced(rt: HostRuntime) -> Result<(), Fail> {
     let end = probe_end(rt.alloc(), &Msg::Fenced { epoch: 3 })?;
     assert!(rt; matches!(end, ProbeEnd::Fenced { unit: 5, epoch: 3 }));
+    Ok(())
+}
+
+#[test]
+fn a_get_may_be_fenced(rt: HostRuntime) -> Result<(), Fail> {
+    let end = get_end(rt.alloc(), &Msg::Fenced { epoch: 2 })?;
+    assert!(rt; matches!(end, GetCellEnd::Fenced { unit: 5, epoch: 2 }));
+    Ok(())
+}
+
+#[test]
+fn a_get_may_come_too_late(rt: HostRuntime) -> Result<(), Fail> {
+    let end = get_end(rt.alloc(), &Msg::Gone { below: 8 })?;
+    assert!(rt; matches!(end, GetCellEnd::Gone { below: 8 }));
+    Ok(())
+}
+
+#[test]
+fn a_fill_may_come_too_late(rt: HostRuntime) -> Result<(), Fail> {
+    let end = fill_end(rt.alloc(), &Msg::Gone { below: 8 })?;
+    assert!(rt; matches!(end, FillCellEnd::Gone { below: 8 }));
+    Ok(())
+}
+
+/// How many requests are sent, and the node and the number of the first.
+fn sent(outs: Result<List<Out>, NoMemory>) -> (usize, u16, u64) {
+    let Ok(outs) = outs else {
+        return (0, 0, 0);
+    };
+    match outs.as_slice() {
+        [] => (0, 0, 0),
+        [first, ..] => (outs.len(), first.to.num, first.rid),
+    }
+}
+
+#[test]
+fn requests_of_puts_and_gets_are_sent_again(rt: HostRuntime) -> Result<(), Fail> {
+    let alloc = rt.alloc();
+    let mut rids = Rids::new();
+    let put = started_put(alloc, &mut rids)?;
+    assert!(rt; sent(put.again(alloc, &mut rids)) == (1, 3, 1));
+    let get = started_get(alloc, &mut rids)?;
+    assert!(rt; sent(get.again(alloc, &mut rids)) == (1, 5, 2));
+    Ok(())
+}
+
+#[test]
+fn requests_of_fills_and_probes_are_sent_again(rt: HostRuntime) -> Result<(), Fail> {
+    let alloc = rt.alloc();
+    let mut rids = Rids::new();
+    let fill = started_fill(alloc, &mut rids)?;
+    assert!(rt; sent(fill.again(alloc, &mut rids)) == (1, 3, 1));
+    let probe = started_probe(alloc, &mut rids)?;
+    assert!(rt; sent(probe.again(alloc, &mut rids)) == (2, 3, 2));
+    Ok(())
+}
+
+/// A layout of one chain of one unit.
+fn layout(alloc: Global, epoch: Epoch) -> Result<Projection, Fail> {
+    let mut stripes = List::new(alloc);
+    stripes
+        .push(Chain::of(&[0]).ok_or("too long")?)
+        .map_err(|_| "memory")?;
+    let mut ranges = List::new(alloc);
+    ranges.push(Range { lo: 0, stripes }).map_err(|_| "memory")?;
+    if epoch == 0 {
+        return Err("epochs begin with 1".into());
+    }
+    Ok(Projection {
+        epoch,
+        seq: 0,
+        start: 0,
+        by: 0,
+        gone: List::new(alloc),
+        ranges,
+    })
+}
+
+/// Learning at epoch 2, which asks three layout servers.
+fn started_learn(alloc: Global, rids: &mut Rids) -> Result<Learn, Fail>
+    requires { rids.old.next < 2 ^ 62 }
+{
+    let proj = layout(alloc, 2)?;
+    match Learn::start(alloc, Stand { proj, layouts: 3 }, rids) {
+        Ok(Turn::More { machine, .. }) => Ok(machine),
+        _ => Err("it ends at once".into()),
+    }
+}
+
+/// The epoch that is known, where so many layout servers are.
+fn known(end: LearnEnd) -> Option<Epoch> {
+    let LearnEnd::Known { stand } = end;
+    if stand.layouts == 3 {
+        Some(stand.proj.epoch)
+    } else {
+        None
+    }
+}
+
+/// The epoch that is learnt where a node tells a layout of an epoch; None where learning goes on.
+fn learnt(alloc: Global, role: Role, epoch: Epoch) -> Result<Option<Epoch>, Fail> {
+    let mut rids = Rids::new();
+    let learn = started_learn(alloc, &mut rids)?;
+    let proj = layout(alloc, epoch)?;
+    match learn.feed(
+        alloc,
+        NodeId { role, num: 1 },
+        99,
+        &Msg::Latest { proj },
+        &mut rids,
+    ) {
+        Ok(Turn::End { end, .. }) => Ok(known(end)),
+        Ok(Turn::More { .. }) => Ok(None),
+        Err(_) => Err("memory".into()),
+    }
+}
+
+#[test]
+fn a_newer_layout_is_learnt(rt: HostRuntime) -> Result<(), Fail> {
+    let alloc = rt.alloc();
+    assert!(rt; learnt(alloc, Role::Layout, 3)? == Some(3));
+    assert!(rt; learnt(alloc, Role::Layout, 2)? == None);
+    assert!(rt; learnt(alloc, Role::Unit, 3)? == None);
+    Ok(())
+}
+
+#[test]
+fn learning_asks_each_layout_server_again(rt: HostRuntime) -> Result<(), Fail> {
+    let alloc = rt.alloc();
+    let mut rids = Rids::new();
+    let learn = started_learn(alloc, &mut rids)?;
+    assert!(rt; sent(learn.again(alloc, &mut rids)) == (3, 0, 1));
     Ok(())
 }

@@ -50,6 +50,13 @@ fn a_change_moves_what_it_overlaps(rt: HostRuntime) -> Result<(), Fail> {
 }
 
 #[test]
+fn a_copy_tells_the_same(rt: HostRuntime) -> Result<(), Fail> {
+    let copy = based(rt.alloc())?.copy().map_err(|_| "memory")?;
+    assert!(rt; copy.get(MAP, &Part::Num(3)) == 9 && copy.get(MAP, &Part::Num(4)) == 4);
+    Ok(())
+}
+
+#[test]
 fn the_first_read_that_differs_is_told(rt: HostRuntime) -> Result<(), Fail> {
     let alloc = rt.alloc();
     let reads = [
