@@ -1,0 +1,13 @@
+use Rattle.std.proofs.Common.{map, ap, ◌∙◌}
+use Rattle.tg_base.specs.declared.ids.Oid.{Oid}
+use Rattle.tg_protocol.specs.Checkpoints.{view_base}
+use Rattle.tg_protocol.specs.Views.{Entries}
+use Rattle.tg_play.proofs.Means.{means}
+use Rattle.tg_ckpt.specs.Kept.{kept_base}
+use Rattle.tg_ckpt.proofs.Telling.{all_keep}
+use Rattle.tg_ckpt.proofs.bases.view_bases.Goals as goal
+
+pub returns : goal.returns
+returns g c =
+    all_keep (means g.K.Kind g.K.Registry) c.args.objects.now c.args.gone.now c.args.entries.now c.args.oids.now c.in_ok-bases.bases
+    (c.in_ok-bases.ensures ∙ ap (λ (es : Entries). map (λ (o : Oid). kept_base (means g.K.Kind g.K.Registry) (view_base (means g.K.Kind g.K.Registry) es c.args.gone.now c.args.objects.now o)) c.args.oids.now) c.as_slice.ensures.entries)

@@ -1,0 +1,11 @@
+pub mod Means
+pub mod Splitting
+pub mod Spellings
+pub mod Reading
+pub mod Own
+pub mod Places
+pub mod Hosting
+pub mod Needs
+pub mod Starting
+pub mod Stepping
+pub mod Playing

@@ -1,0 +1,13 @@
+use Rattle.std.proofs.Common.{sym, ap, ◌∙◌}
+use Rattle.std.specs.BTreeMap.{insert_entry}
+use Rattle.tg_base.specs.Orders.{oid_cmp}
+use Rattle.tg_protocol.specs.Views.{state_of}
+use Rattle.tg_play.specs.Kept.{Hosts}
+use Rattle.tg_play.proofs.Hosting.{write_keeps}
+use Rattle.tg_play.proofs.objects.write.Goals as goal
+
+pub returns-in_ok-insert-in-Some : goal.returns-in_ok-insert-in-Some
+returns-in_ok-insert-in-Some g c = λ v k.
+    write_keeps _ c.args.objects.now.entries _ v c.args.write.now c.args.pos c.in-Some.hosted _ k (sym c.in-Some.ensures.value)
+    (λ b h. c.in_ok-hosted-in-Some.ensures b (state_of _ v c.args.write.now.oid) v.noted h)
+    (c.in_ok-insert-in-Some.ensures.entries ∙ ap (λ (es : Hosts g.row.K.Denot). insert_entry oid_cmp es c.args.write.now.oid c.in_ok-hosted-in-Some.hosted) c.in-Some.ensures.entries)

@@ -1,0 +1,6 @@
+use Rattle.std.proofs.Common.{refl}
+use Rattle.tg_play.proofs.Starting.{starts}
+use Rattle.tg_play.proofs.view.View.start.Goals as goal
+
+pub returns : goal.returns
+returns g c = λ bs k. starts _ c.args.bases bs _ k c.in_ok-objects.ensures refl c.new-fates.ensures.empty c.new-open_records.ensures.empty

@@ -1,0 +1,52 @@
+//! Decision records by position.
+
+ghost use Rattle.std.specs.Prelude.{◌≡◌, ◌&&◌, not, is_some, IfOk, OnOk};
+ghost use Rattle.tg_entry.specs.Needs.{needs_decision};
+ghost use Rattle.tg_play.specs.Kept.{decisions_kept, with_decision, at_position};
+
+use std::alloc::Global;
+use std::collections::BTreeMap;
+use tg_base::{NoMemory, Pos};
+use tg_entry::{Body, Entry, needs_decision};
+
+/// What the decision records among entries say by position; of several for one position the first counts.
+/// An `Err` is want of memory.
+pub fn decisions_of(
+    alloc: Global,
+    entries: &[(Pos, Entry)],
+) -> Result<BTreeMap<Pos, bool>, NoMemory>
+    ensures { IfOk result (λ ds. ds.entries ≡ decisions_kept entries.now) }
+{
+    let mut decisions = BTreeMap::new(alloc);
+    for at in (0..entries.len()).rev() {
+        put_decision(&mut decisions, &entries[at].1.body)?;
+    }
+    Ok(decisions)
+}
+
+fn put_decision(decisions: &mut BTreeMap<Pos, bool>, body: &Body) -> Result<(), NoMemory>
+    ensures { OnOk result (decisions.new.entries ≡ with_decision decisions.old.entries body.now) }
+{
+    match body {
+        Body::Commit { .. } => Ok(()),
+        Body::Decision { at, yes } => {
+            decisions.insert(*at, *yes)?;
+            Ok(())
+        }
+        Body::Checkpoint { .. } => Ok(()),
+    }
+}
+
+/// What is said of a position. It takes no memory.
+pub fn decision_at(decisions: &BTreeMap<Pos, bool>, pos: Pos) -> Option<bool>
+    ensures { result ≡ at_position decisions.now.entries pos }
+{
+    decisions.get(&pos).copied()
+}
+
+/// Whether a record needs a decision record and has none. It takes no memory.
+pub fn lacks_decision(entry: &Entry, decision: Option<bool>) -> bool
+    ensures { result ≡ (needs_decision entry.now && not (is_some decision)) }
+{
+    needs_decision(entry) && decision.is_none()
+}
