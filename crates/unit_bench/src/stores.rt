@@ -8,6 +8,7 @@ ghost use Rattle.unit_bench.specs.Stores.{held, is_held, sent};
 use crate::fault::Fault;
 use crate::order::Order;
 use std::alloc::Global;
+use std::mem;
 use tg_base::{Blob, List, Msg, NoMemory, Pos};
 use tg_unit::Unit;
 
@@ -23,6 +24,8 @@ pub fn held(alloc: Global, order: Order, count: u32) -> Result<u64, NoMemory>
         unit = next;
         sum += held;
     }
+    // To free the pages is no step.
+    mem::forget(unit);
     Ok(sum)
 }
 
