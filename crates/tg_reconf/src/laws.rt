@@ -48,14 +48,15 @@ pub fn steps_are_few()
     ensures { StepsAreFew }
 {}
 
-/// Whatever messages come, a reconfiguration asks each unit and each layout server a bounded number of times, and
-/// for each refusal of a ballot the layout servers at most twice more.
+/// Whatever messages come, a reconfiguration draws no more numbers than it has requests left to send, and two more
+/// for each layout server with each refusal of a ballot.
 pub fn requests_are_few()
     ensures { RequestsAreFew }
 {}
 
-/// From its beginning on a reconfiguration asks the unit that joins at most three times, each unit of the next layout
-/// once, each layout server three times, and a sequencer once, but for the rounds that refusals cost.
+/// From its beginning on a reconfiguration draws at most as many numbers as three requests to the unit that joins, one
+/// to each unit of the next layout, three to each layout server and one to a sequencer take, but for the rounds that
+/// refusals cost.
 pub fn starts_with_few()
     ensures { StartsWithFew }
 {}

@@ -27,6 +27,3 @@ pub use laws::{
 };
 pub use reconf::Reconf;
 pub use step::{Next, ReconfEnd, Step};
-
-#[cfg(test)]
-mod tests;

@@ -2,13 +2,13 @@ ghost use Rattle.std.specs.Prelude.{◌≡◌, ◌≤◌, ◌<◌, ◌+◌, ◌*
 ghost use Rattle.tg_base.specs.Changes.{is_joining};
 ghost use Rattle.tg_reconf.specs.Turns.{AreDrawn, StayDrawn, next_of};
 
-use super::*;
 use std::alloc::Global;
 use std::test::Fail;
 use tg_base::{
     Ballot, Chain, Change, Join, List, Msg, NodeId, Pos, Projection, Range, Rids, Role, Stand,
 };
 use tg_proj::next_ok;
+use tg_reconf::{Next, Reconf, ReconfEnd, Step};
 
 /// Puts a range of the chain u0,u1 last.
 fn put_range(alloc: Global, lo: Pos, ranges: &mut List<Range>) -> Result<(), Fail>
@@ -287,7 +287,8 @@ fn act(alloc: Global, step: Step, event: Event, rids: &mut Rids) -> Result<Step,
     ensures awaited { IfOk result (λ t. StayDrawn rids.new.next (next_of t.next)) }
     ensures drawn { rids.new.next ≤ rids.old.next + 2 ^ 16 }
 {
-    match step.next {
+    let Step { next, outs: _outs } = step;
+    match next {
         Next::Goes { machine } => match event {
             Event::Tick => tick(alloc, machine, rids),
             Event::Latest { server, rid, by } => learn(alloc, machine, server, rid, by, rids),
