@@ -1,7 +1,8 @@
 #!/usr/bin/env python3
 """kinds.py PROGRAM: compares `PROGRAM WORKLOAD COUNT ROUNDS` at 100,000 ops and at 10,000, for each workload.
 
-An op is to cost about the same however large its object is, so the larger may take at most 13 times the smaller.
+An op is to cost about the same however large its object is, so the larger may take at most 13 times the smaller. A run doesn't free its
+objects, and takes up to 0.6 GB.
 
 The program is crates/kinds_bench/out/kinds_bench, once `rt run` has built it."""
 import sys

@@ -1,4 +1,4 @@
-//! Ops on maps, sets and trees, whose keys come in a scrambled order.
+//! Ops on maps, sets and trees, whose keys come in a scrambled order. An object isn't freed: to free its parts is no op.
 
 ghost use Rattle.std.specs.Prelude.{◌≡◌, ◌<◌, ◌≤◌, IfOk, length, if◌then◌else◌};
 ghost use Rattle.tg_tree.specs.Trees.{is_there};
@@ -9,6 +9,7 @@ use crate::fault::Fault;
 use crate::row::{Row, after_ops};
 use crate::words::{key, path, scrambled, value};
 use std::alloc::Global;
+use std::mem;
 use tg_base::Oid;
 use tg_kind::Kind;
 use tg_map::{Map, MapAns, MapAsk, MapOp};
@@ -67,7 +68,9 @@ pub fn map(alloc: Global, count: u32) -> Result<u64, Fault>
 {
     let map = Map::fresh(alloc, MAP, &[])?;
     let map = after_ops::<Map, Setting>(alloc, map, count)?;
-    match map.ask(alloc, &MapAsk::Size)? {
+    let answer = map.ask(alloc, &MapAsk::Size)?;
+    mem::forget(map);
+    match answer {
         MapAns::Number(size) => Ok(size),
         _ => unreachable!(),
     }
@@ -83,7 +86,9 @@ pub fn set(alloc: Global, count: u32) -> Result<u64, Fault>
         low: 0,
         high: u64::MAX,
     };
-    match set.ask(alloc, &ask)? {
+    let answer = set.ask(alloc, &ask)?;
+    mem::forget(set);
+    match answer {
         SetAns::Count(size) => Ok(size),
         _ => unreachable!(),
     }
@@ -95,7 +100,9 @@ pub fn tree(alloc: Global, count: u32) -> Result<u64, Fault>
 {
     let tree = Tree::fresh(alloc, TREE, &[])?;
     let tree = after_ops::<Tree, Creating>(alloc, tree, count)?;
-    got(alloc, &tree, count)
+    let got = got(alloc, &tree, count)?;
+    mem::forget(tree);
+    Ok(got)
 }
 
 // How many of so many paths, asked for one by one, are there.

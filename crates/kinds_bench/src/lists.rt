@@ -1,4 +1,4 @@
-//! Ops on lists.
+//! Ops on lists. An object isn't freed: to free its parts is no op.
 
 ghost use Rattle.std.specs.Prelude.{◌≡◌, ◌<◌, ◌-◌, [], IfOk, length};
 ghost use Rattle.kinds_bench.specs.Rows.{pushing_back, pushing_front, popping_back, popping_front, list_after};
@@ -7,6 +7,7 @@ use crate::fault::Fault;
 use crate::row::{Row, after_ops};
 use crate::words::value;
 use std::alloc::Global;
+use std::mem;
 use tg_base::Oid;
 use tg_kind::Kind;
 use tg_list::{TextList, TextListAns, TextListAsk, TextListOp};
@@ -64,7 +65,9 @@ pub fn back(alloc: Global, count: u32) -> Result<u64, Fault>
     ensures { IfOk result (λ n. n ≡ length (list_after pushing_back [] count)) }
 {
     let list = pushed::<PushingBack>(alloc, count)?;
-    len(alloc, &list)
+    let len = len(alloc, &list)?;
+    mem::forget(list);
+    Ok(len)
 }
 
 /// The length of a list after pushing so many texts to its front.
@@ -72,7 +75,9 @@ pub fn front(alloc: Global, count: u32) -> Result<u64, Fault>
     ensures { IfOk result (λ n. n ≡ length (list_after pushing_front [] count)) }
 {
     let list = pushed::<PushingFront>(alloc, count)?;
-    len(alloc, &list)
+    let len = len(alloc, &list)?;
+    mem::forget(list);
+    Ok(len)
 }
 
 /// How many of so many texts, pushed to the back, are gone after as many pops from the back.
@@ -96,6 +101,7 @@ fn popped<R: Row<TextList>>(alloc: Global, count: u32) -> Result<u64, Fault>
     let pushed = len(alloc, &list)?;
     let list = after_ops::<TextList, R>(alloc, list, count)?;
     let left = len(alloc, &list)?;
+    mem::forget(list);
     Ok(pushed.saturating_sub(left))
 }
 
