@@ -29,7 +29,7 @@ FORMS = [
 
 def script(count):
     """A script of so many lines, its header included."""
-    lines = (FORMS[i % len(FORMS)].format(client=i % 4, number=i) for i in range(count - 3))
+    lines = (FORMS[i % len(FORMS)].format(client=i % 4, number=i + 1) for i in range(count - 3))
     return (HEADER + "".join(f"{line}\n" for line in lines)).encode()
 
 
