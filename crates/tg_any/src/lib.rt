@@ -22,6 +22,3 @@ pub use decimal::{number, number_front, put_number, signed};
 pub use field::Field;
 pub use names::{mark, object, object_front, put_mark, put_object};
 pub use phrase::{list, maybe, nothing, one, put_list, put_maybe, put_one, put_two, two};
-
-#[cfg(test)]
-mod tests;

@@ -27,6 +27,3 @@ pub use laws::{
 pub use page::has_room;
 pub use step::{Next, Step};
 pub use sync::{Sync, SyncStep};
-
-#[cfg(test)]
-mod tests;

@@ -26,6 +26,3 @@ pub use laws::{
 pub use learn::Learn;
 pub use probe::Probe;
 pub use put::PutCell;
-
-#[cfg(test)]
-mod tests;

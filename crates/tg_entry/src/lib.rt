@@ -19,6 +19,3 @@ pub use entry::{Body, Entry, Head, WriteOp};
 pub use fault::EntryFault;
 pub use law::{linked_fit, records_fit};
 pub use needs::needs_decision;
-
-#[cfg(test)]
-mod tests;

@@ -48,6 +48,15 @@ join_refusal p drop (Some j) =
     else if is_full p drop j then Some (TooMany Units)
     else None
 
+-- why a stripe's cells may not be brought to a spare unit
+abbrev pub spare_refusal : Layout → Join → Option ProjFault
+spare_refusal p j =
+    if is_not_closed p j then Some (NotClosed j.range)
+    else if has_no_stripe p j then Some (NoStripe j.range j.stripe)
+    else if stands_there p j then Some (InChain j.unit)
+    else if has p.gone j.unit then Some (Returned j.unit)
+    else None
+
 abbrev pub is_out : Layout → Changed → ℕ → Bool
 is_out p c u = has p.gone u || has c.drop u
 

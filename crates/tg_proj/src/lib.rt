@@ -10,7 +10,7 @@ mod refusal;
 pub use fault::ProjFault;
 pub use next::next_of;
 pub use place::{chain_of, range_of};
-pub use refusal::next_ok;
+pub use refusal::{change_fault, next_ok, spare_fault};
 
 #[cfg(test)]
 mod tests;

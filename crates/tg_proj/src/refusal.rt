@@ -4,7 +4,7 @@ ghost use Rattle.std.specs.Prelude.{◌≡◌, ◌+◌, ◌<◌, ◌^◌, ◌++�
 ghost use Rattle.std.specs.List.{concat, position_from};
 ghost use Rattle.tg_proj.specs.Places.{range_at};
 ghost use Rattle.tg_proj.specs.Next.{next_ranges, next_chains, opened_at, StripesFit, RangesFit};
-ghost use Rattle.tg_proj.specs.Refusals.{opens_too_many, on_test, join_refusal, return_refusal, lost_refusal, is_lost, is_out as is_out_of, is_acked, less_unacked, units_of, early_refusal, next_start, new_start, is_about_acks, coming, joining, MayFollow};
+ghost use Rattle.tg_proj.specs.Refusals.{opens_too_many, on_test, join_refusal, spare_refusal, return_refusal, lost_refusal, is_lost, is_out as is_out_of, is_acked, less_unacked, units_of, early_refusal, next_start, new_start, is_about_acks, coming, joining, MayFollow};
 
 use crate::change::{follow, keep};
 use crate::fault::ProjFault;
@@ -12,7 +12,7 @@ use tg_base::{Chain, Change, Join, List, Many, Pos, Projection, Range};
 
 /// The first position that the next layout's sequencer may issue: the greatest of the old
 /// one's and of the acks' numbers. An ack names a unit and one past the highest position
-/// that it has. Of several causes the first in the order of `early_fault` is told, and
+/// that it has. Of several causes the first in the order of `change_fault` is told, and
 /// `NotAcked` last. It takes no memory.
 pub fn next_ok(old: &Projection, change: &Change, acks: &[(u16, Pos)]) -> Result<Pos, ProjFault>
     ensures answer { result ≡ next_start old.now change.now acks.now }
@@ -20,7 +20,7 @@ pub fn next_ok(old: &Projection, change: &Change, acks: &[(u16, Pos)]) -> Result
     ensures acks { IfErr result (λ fault. IsTrue (is_about_acks fault) → early_refusal old.now change.now ≡ None) }
 {
     old.rules();
-    if let Some(fault) = early_fault(old, change) {
+    if let Some(fault) = change_fault(old, change) {
         return Err(fault);
     }
     if let Some(unit) = unacked(old, change, acks) {
@@ -29,8 +29,8 @@ pub fn next_ok(old: &Projection, change: &Change, acks: &[(u16, Pos)]) -> Result
     Ok(start_after(old.start, acks))
 }
 
-/// The first refusal that needs no ack.
-fn early_fault(old: &Projection, change: &Change) -> Option<ProjFault>
+/// Why a layout may not change so, whatever the units have: the first refusal that needs no ack. It takes no memory.
+pub fn change_fault(old: &Projection, change: &Change) -> Option<ProjFault>
     ensures { result ≡ early_refusal old.now change.now }
 {
     if !change.opened.is_empty() && old.ranges.len() >= 32 {
@@ -53,6 +53,33 @@ fn join_fault(old: &Projection, change: &Change) -> Option<ProjFault>
         Some(join) => one_join_fault(old, &change.drop, join),
         None => None,
     }
+}
+
+/// Why a stripe's cells may not be brought to a spare unit: the range isn't closed or has no such stripe, or the unit stands
+/// in its chain or was dropped. It takes no memory.
+pub fn spare_fault(p: &Projection, spare: Join) -> Option<ProjFault>
+    ensures { result ≡ spare_refusal p.now spare }
+{
+    let Join {
+        unit,
+        range,
+        stripe,
+    } = spare;
+    p.rules();
+    if range >= p.ranges.len() - 1 {
+        return Some(ProjFault::NotClosed { range });
+    }
+    let stripes = stripes_of(p, range);
+    if stripe >= stripes.len() {
+        return Some(ProjFault::NoStripe { range, stripe });
+    }
+    if stripe_of(stripes, stripe).as_slice().contains(&unit) {
+        return Some(ProjFault::InChain { unit });
+    }
+    if p.gone.as_slice().contains(&unit) {
+        return Some(ProjFault::Returned { unit });
+    }
+    None
 }
 
 fn one_join_fault(old: &Projection, drop: &List<u16>, join: Join) -> Option<ProjFault>

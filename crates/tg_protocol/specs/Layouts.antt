@@ -1,16 +1,14 @@
 -- Which units hold a position of a layout, and why a change of it is refused.
-use Rattle.std.specs.Prelude.{ℕ, ◌+◌, ◌-◌, ◌%◌, nat_le, List, [], ◌∷◌, length, Option, Some, None, if◌then◌else◌}
+use Rattle.std.specs.Prelude.{ℕ, ◌+◌, ◌-◌, ◌%◌, nat_le, List, [], ◌∷◌, length, Option, if◌then◌else◌}
 use Rattle.tg_base.specs.Layouts.{Layout}
 use Rattle.tg_base.specs.Changes.{Changed}
 use Rattle.tg_base.specs.Clusters.{Header}
-use Rattle.tg_base.specs.Units.{has}
 use Rattle.tg_base.specs.declared.change.Join.{Join}
 use Rattle.tg_base.specs.declared.layout.Range.{Range}
 use Rattle.tg_proj.specs.declared.fault.ProjFault.{ProjFault}
-use Rattle.tg_proj.specs.declared.fault.ProjFault.TheVariants.{NotClosed, NoStripe, InChain, Returned}
 use Rattle.tg_proj.specs.Places.{range_at, chain_for}
 use Rattle.tg_proj.specs.Next.{next_layout}
-use Rattle.tg_proj.specs.Refusals.{units_of as units_in, is_not_closed, has_no_stripe, stands_there, early_refusal}
+use Rattle.tg_proj.specs.Refusals.{units_of as units_in, early_refusal, spare_refusal}
 use Rattle.tg_protocol.specs.Words.{with_nums}
 
 -- the header's layout
@@ -41,12 +39,7 @@ next_units p c = units_of (next_of p c 0 0)
 
 -- why a stripe's cells may not be brought to a spare unit
 abbrev pub spare_fault : Layout → Join → Option ProjFault
-spare_fault p j =
-    if is_not_closed p j then Some (NotClosed j.range)
-    else if has_no_stripe p j then Some (NoStripe j.range j.stripe)
-    else if stands_there p j then Some (InChain j.unit)
-    else if has p.gone j.unit then Some (Returned j.unit)
-    else None
+spare_fault p j = spare_refusal p j
 
 -- Stripes of a closed range.
 

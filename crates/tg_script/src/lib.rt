@@ -16,8 +16,3 @@ pub use header::parse_header;
 pub use header_text::print_header;
 pub use line::{Line, MAX_LINE, parse_line};
 pub use line_text::print_line;
-
-#[cfg(test)]
-mod header_tests;
-#[cfg(test)]
-mod tests;

@@ -9,6 +9,3 @@ mod streams;
 
 pub use laws::answers_are_true;
 pub use seqr::Seqr;
-
-#[cfg(test)]
-mod tests;

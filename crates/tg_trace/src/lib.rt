@@ -17,6 +17,3 @@ mod transcript;
 pub use printing::{print_mark, render};
 pub use reading::read;
 pub use transcript::{AnyDone, AnyMark, AnyWhat, Transcript};
-
-#[cfg(test)]
-mod tests;

@@ -10,6 +10,3 @@ mod tree;
 
 pub use path::Path;
 pub use tree::{Tree, TreeAns, TreeAsk, TreeOp};
-
-#[cfg(test)]
-mod tests;

@@ -6,7 +6,7 @@ ghost use Rattle.tg_entry.specs.Records.{is_object, is_read};
 ghost use Rattle.tg_entry.specs.declared.entry.Body.TheVariants.{Commit};
 ghost use Rattle.tg_protocol.specs.Entries.{draft};
 ghost use Rattle.tg_protocol.specs.Transactions.{Tx, open_tx, tx_read, tx_put, tx_streams, read_fault, write_fault, commit_record};
-ghost use Rattle.tg_tx.specs.Faults.{Faults, Refuses, is_too_many};
+ghost use Rattle.tg_tx.specs.Faults.{Faults, Judges, Refuses, is_too_many};
 ghost use Rattle.tg_tx.specs.Pendings.{bare, IsPending};
 
 use crate::fault::TxFault;
@@ -87,6 +87,14 @@ impl Pending {
             writes: List::new(alloc),
             snapshot: None,
         }
+    }
+
+    /// Whether a read would be taken. It takes no memory.
+    #[tactic(auto, unfolding(tg_protocol::specs::Transactions::read_fault))]
+    pub fn allows(&self, mark: &ReadMark) -> Result<(), TxFault>
+        ensures { Judges result (read_fault self.now mark.now.oid mark.now.part) }
+    {
+        may_read(self.reads.as_slice(), self.writes.as_slice(), mark)
     }
 
     /// Takes a read at a snapshot. An `Err` changes nothing.

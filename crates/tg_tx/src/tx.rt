@@ -4,7 +4,7 @@ ghost use Rattle.std.specs.Prelude.{◌≡◌, ◌≤◌, true, None, length, On
 ghost use Rattle.tg_base.specs.declared.marks.ReadMark.{ReadMark};
 ghost use Rattle.tg_entry.specs.Records.{is_object, is_part};
 ghost use Rattle.tg_protocol.specs.Transactions.{open_tx, tx_read, tx_put, read_fault, write_fault, commit_record};
-ghost use Rattle.tg_tx.specs.Faults.{Faults, FaultsLate};
+ghost use Rattle.tg_tx.specs.Faults.{Faults, FaultsLate, Judges};
 
 use crate::fault::TxFault;
 use crate::pending::Pending;
@@ -50,6 +50,15 @@ impl<K: Kind> Tx<K> {
             pending: Pending::new(alloc, number),
             kind: PhantomData,
         }
+    }
+
+    /// Whether a read of a part of an object would be taken, whatever its version. It takes no memory.
+    ///
+    /// `TooMany` comes exactly where 64 reads are there, and then `TooLarge` exactly where the record would pass 4,096 bytes.
+    pub fn may_read(&self, read: &ReadMark) -> Result<(), TxFault>
+        ensures { Judges result (read_fault self.now read.now.oid read.now.part) }
+    {
+        self.pending.allows(read)
     }
 
     /// Takes a read of a part of an object at a snapshot, with the version found there. A part

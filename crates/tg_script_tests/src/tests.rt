@@ -1,8 +1,8 @@
-use super::*;
 use std::alloc::Global;
 use std::test::Fail;
 use tg_base::{Cluster, List, NoMemory, Role, TextFault};
 use tg_model::{Command, Event};
+use tg_script::{Line, parse_header, parse_line, print_line};
 
 // The cluster of these three lines.
 fn cluster_of(alloc: Global, lines: [&str; 3]) -> Result<Cluster, TextFault> {

@@ -1,8 +1,10 @@
 ghost use Rattle.std.specs.Prelude.{◌≡◌, ◌≤◌, ◌<◌, ◌^◌, [], ◌∷◌, length, IfOk};
 
-use super::*;
 use std::alloc::Global;
 use std::test::Fail;
+use tg_append::{
+    Append, AppendEnd, AppendStep, Confirmed, Next, PausedAppend, Sync, SyncStep, has_room,
+};
 use tg_base::{
     Backs, Cell, Chain, List, Msg, NoMemory, NodeId, Oid, Out, Projection, Range, Rids, Role,
     StreamLink,

@@ -1,11 +1,14 @@
 ghost use Rattle.std.specs.Prelude.{◌≡◌, ◌<◌, ◌≤◌, ◌+◌, ◌^◌, [], ◌∷◌, IfOk};
 
-use super::*;
 use std::alloc::Global;
 use std::test::Fail;
 use tg_base::{
     Blob, Cell, Chain, Epoch, List, Msg, NoMemory, NodeId, Out, Projection, Range, Rids, Role,
     Stand, Turn,
+};
+use tg_chain::{
+    FillCell, FillCellEnd, GetCell, GetCellEnd, Learn, LearnEnd, Probe, ProbeEnd, PutCell,
+    PutCellEnd,
 };
 
 fn unit(num: u16) -> NodeId {

@@ -1,9 +1,11 @@
 ghost use Rattle.std.specs.Prelude.{◌≡◌, [], ◌∷◌, IfOk};
 
-use super::*;
 use std::alloc::Global;
 use std::test::Fail;
 use tg_base::{Backs, Blob, List, NoMemory, Oid, Part, Pos, ReadMark, StreamLink};
+use tg_entry::{
+    Body, Draft, Entries, Entry, EntryFault, Head, WriteOp, decode, encode, needs_decision, size,
+};
 
 // The commit record of client 0, number 1, that adds 5 to the counter 0.
 const ADDS: [u8; 64] = [

@@ -2,11 +2,11 @@ ghost use Rattle.std.specs.Prelude.{◌≡◌, true, IfOk, MatchResult};
 ghost use Rattle.tg_base.specs.declared.fault.TextFault.TheVariants as fault;
 ghost use Rattle.tg_trace.specs.Transcripts.{is_transcript};
 
-use super::*;
 use std::alloc::Global;
 use std::test::Fail;
 use tg_base::{List, NoMemory, Oid, Part, TextFault};
 use tg_model::{Mark, Refusal, What};
+use tg_trace::{AnyWhat, Transcript, print_mark, read, render};
 
 // The first counter.
 const COUNTER: Oid = Oid(0x0100_0000);

@@ -1,8 +1,8 @@
-use super::*;
 use std::alloc::Global;
 use std::test::Fail;
 use tg_any::put_number;
 use tg_base::{Cluster, List, NoMemory, Oid, TextFault};
+use tg_script::{parse_header, print_header};
 
 const SIZES: &str = "cluster units 4 layouts 3 seqs 2 clients 1 limit 50";
 

@@ -1,8 +1,8 @@
-use super::*;
 use std::alloc::Global;
 use std::test::Fail;
 use tg_base::{List, Oid};
 use tg_kind::{Kind, KindFault, Text};
+use tg_tree::{Path, Tree, TreeAns, TreeAsk, TreeOp};
 
 // The first tree.
 const TREE: Oid = Oid(0x0500_0000);

@@ -1,8 +1,8 @@
 ghost use Rattle.std.specs.Prelude.{◌≡◌, true, [], IfOk};
 
-use super::*;
 use std::alloc::Global;
 use std::test::Fail;
+use tg_any::{AnyKind, ans_of, ask_of, mark, op_of, spell_ans, spell_ask, spell_op};
 use tg_base::{List, NoMemory, Oid};
 use tg_kind::{Kind, KindFault};
 

@@ -1,11 +1,11 @@
 ghost use Rattle.std.specs.Prelude.{◌≤◌};
 
-use super::*;
 use std::alloc::Global;
 use std::test::Fail;
 use tg_base::{
     Blob, Cell, Chain, List, Msg, NoMemory, NodeId, Oid, Out, Projection, Range, Role, StreamLink,
 };
+use tg_seqr::Seqr;
 
 /// A commit record of the stream `ctr0`: head, link, body.
 const PAGE: [u8; 64] = [
