@@ -38,12 +38,10 @@ pub trait Registry: Kind {
 
     /// Whether the directory lists the object.
     fn registered(&self, oid: Oid) -> bool
-        requires { Self.Kind.is_state directory self.now ≡ true }
         ensures { result ≡ lists self.now oid };
 
     /// The position below which all objects are forgotten.
     fn floor(&self) -> Pos
-        requires { Self.Kind.is_state directory self.now ≡ true }
         ensures { result ≡ floor_of self.now };
 
     /// The op that marks an object in the directory.
