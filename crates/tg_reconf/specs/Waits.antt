@@ -1,21 +1,15 @@
 -- Whether a message answers a request.
-use Rattle.std.specs.Prelude.{ℕ, Bool, false, ◌&&◌, ◌==◌, Option, Some, None}
-use Rattle.std.specs.List.{list_any}
+use Rattle.std.specs.Prelude.{ℕ, Bool, false, Option, Some, None}
 use Rattle.tg_base.specs.declared.change.Join.{Join}
 use Rattle.tg_base.specs.declared.ids.NodeId.{NodeId}
-use Rattle.tg_base.specs.declared.ids.Role.{Role}
 use Rattle.tg_base.specs.declared.ids.Role.TheVariants as role
-use Rattle.tg_protocol.specs.Requests.{Waits}
-use Rattle.tg_protocol.specs.Words.{node_eq, unit_id, seqr_id}
+use Rattle.tg_protocol.specs.Words.{unit_id, seqr_id}
+use Rattle.tg_asking.specs.Waits.{waits_on}
 use Rattle.tg_chain.specs.Waits.{is_answer}
 use Rattle.tg_reconf.specs.declared.plan.Plan.{Plan}
 use Rattle.tg_reconf.specs.declared.job.Work.{Work}
 use Rattle.tg_reconf.specs.declared.job.Work.TheVariants as work
 use Rattle.tg_reconf.specs.States.{stage_waits}
-
--- a message from this node with this number answers one of the requests to nodes of this role
-abbrev pub waits_on : Role → Waits → NodeId → ℕ → Bool
-waits_on r waits from rid = list_any (λ (w : ℕ × ℕ). node_eq (record { role = r; num = w.0 }) from && (w.1 == rid)) waits
 
 -- it answers the request to the unit that joins
 abbrev pub joined_on : Option Join → ℕ → NodeId → ℕ → Bool

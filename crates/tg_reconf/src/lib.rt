@@ -4,7 +4,6 @@
 #![tactic(auto)]
 
 mod agreeing;
-mod asking;
 mod job;
 mod laws;
 mod machine;
@@ -18,7 +17,6 @@ mod telling;
 mod turns;
 mod units;
 mod vote;
-mod waits;
 
 pub use laws::{
     feed_ends_by_answers, latest_ends_as_told, learns_by_answers, numbers_stay_drawn,

@@ -9,14 +9,13 @@ ghost use Rattle.tg_reconf.specs.Turns.{shown, by_reconf};
 ghost use Rattle.tg_reconf.specs.Needs.{feed_needs};
 
 use crate::agreeing::propose;
-use crate::asking::FAR;
 use crate::job::Work;
 use crate::plan::Plan;
 use crate::step::{ReconfEnd, Step};
 use crate::turns::{ask, end, learn, send, stay};
 use crate::units::units_after;
-use crate::waits::{ask_units, without};
 use std::alloc::Global;
+use tg_asking::{FAR, ask_units, without};
 use tg_base::{Epoch, List, Msg, NoMemory, Pos, Rids};
 
 /// The spare is sealed first, where a unit joins.

@@ -10,13 +10,12 @@ ghost use Rattle.tg_reconf.specs.States.{IsOpen, IsMinority, IsReady, working, w
 ghost use Rattle.tg_reconf.specs.Turns.{shown, by_reconf};
 
 use crate::agreeing::tell;
-use crate::asking::FAR;
 use crate::job::Work;
 use crate::plan::Plan;
 use crate::step::{ReconfEnd, Step};
 use crate::turns::{ask, end, learn, stay};
-use crate::waits::{has_rid, without};
 use std::alloc::Global;
+use tg_asking::{FAR, has_rid, without};
 use tg_base::{Epoch, List, Msg, NoMemory, Projection, Rids, Stand, StreamLink};
 
 /// A newer layout comes before a majority of layout servers has heard what is decided.

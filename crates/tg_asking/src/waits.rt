@@ -4,7 +4,7 @@ ghost use Rattle.std.specs.Prelude.{ℕ, ◌≡◌, ◌<◌, ◌+◌, ◌^◌, �
 ghost use Rattle.tg_protocol.specs.Requests.{waits_for, asked_of, without_wait};
 ghost use Rattle.tg_protocol.specs.Reconfiguring.{has_rid as has_answer};
 ghost use Rattle.tg_protocol.specs.Words.{numbers};
-ghost use Rattle.tg_reconf.specs.Waits.{waits_on};
+ghost use Rattle.tg_asking.specs.Waits.{waits_on};
 
 use crate::asking::is_from;
 use std::alloc::Global;
