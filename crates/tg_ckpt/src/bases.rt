@@ -1,7 +1,6 @@
 //! The bases with which views begin.
 
 ghost use Rattle.std.specs.Prelude.{◌≡◌, true, map, IfOk};
-ghost use Rattle.std.specs.List.{list_all};
 ghost use Rattle.tg_base.specs.declared.ids.Oid.{Oid};
 ghost use Rattle.tg_kind.specs.Headers.{is_header};
 ghost use Rattle.tg_kind.specs.Of.{meaning_of};
@@ -32,7 +31,6 @@ pub fn load_from<K: Registry>(
     oid: Oid,
     below: Pos,
 ) -> Result<Base<K>, CkptFault>
-    requires { K.is_object oid ≡ true }
     ensures { Loads (meaning_of K.Registry) oid result (told.load_from (meaning_of K.Registry) entries.now oid below) }
 {
     let base = lowest(alloc, entries.as_slice(), oid, below)?;
@@ -53,7 +51,6 @@ pub fn last_base<K: Registry>(
     below: Pos,
     pos: Pos,
 ) -> Result<Option<Base<K>>, NoMemory>
-    requires { K.is_object oid ≡ true }
     ensures { IfOk result (λ b. KeepsMaybe (meaning_of K.Registry) b (past.last_base (meaning_of K.Registry) entries.now oid below pos)) }
 {
     let base = highest(alloc, entries.as_slice(), oid, below, pos)?;
@@ -62,8 +59,7 @@ pub fn last_base<K: Registry>(
 
 // The object at first, by the header's objects.
 fn fresh<K: Registry>(alloc: Global, oid: Oid, objects: &[Oid]) -> Result<Base<K>, NoMemory>
-    requires object { K.is_object oid ≡ true }
-    requires header { is_header objects.now ≡ true }
+    requires { is_header objects.now ≡ true }
     ensures { IfOk result (λ b. b ≡ kept_base (meaning_of K.Registry) (views.fresh_base (meaning_of K.Registry) objects.now oid)) }
 {
     let state = K::fresh(alloc, oid, objects)?;
@@ -82,8 +78,7 @@ pub fn fresh_base<K: Registry>(
     oid: Oid,
     objects: &[Oid],
 ) -> Result<Base<K>, NoMemory>
-    requires object { K.is_object oid ≡ true }
-    requires header { is_header objects.now ≡ true }
+    requires { is_header objects.now ≡ true }
     ensures { IfOk result (λ b. KeepsBase (meaning_of K.Registry) b (views.fresh_base (meaning_of K.Registry) objects.now oid)) }
 {
     let base = fresh(alloc, oid, objects)?;
@@ -110,8 +105,7 @@ fn from_trim<K: Registry>(
     oid: Oid,
     below: Pos,
 ) -> Result<Base<K>, NoMemory>
-    requires object { K.is_object oid ≡ true }
-    requires header { is_header objects.now ≡ true }
+    requires { is_header objects.now ≡ true }
     ensures { IfOk result (λ b. b ≡ kept_base (meaning_of K.Registry) (told.base_or (meaning_of K.Registry) objects.now oid (told.load_from (meaning_of K.Registry) entries.now oid below))) }
 {
     let base = lowest(alloc, entries, oid, below)?;
@@ -129,8 +123,7 @@ fn begun<K: Registry>(
     objects: &[Oid],
     oid: Oid,
 ) -> Result<Base<K>, NoMemory>
-    requires object { K.is_object oid ≡ true }
-    requires header { is_header objects.now ≡ true }
+    requires { is_header objects.now ≡ true }
     ensures { IfOk result (λ b. b ≡ kept_base (meaning_of K.Registry) (told.view_base (meaning_of K.Registry) entries.now gone.now objects.now oid)) }
 {
     match trim_of(gone, oid) {
@@ -150,8 +143,7 @@ pub fn view_base<K: Registry>(
     objects: &[Oid],
     oid: Oid,
 ) -> Result<Base<K>, NoMemory>
-    requires object { K.is_object oid ≡ true }
-    requires header { is_header objects.now ≡ true }
+    requires { is_header objects.now ≡ true }
     ensures { IfOk result (λ b. KeepsBase (meaning_of K.Registry) b (told.view_base (meaning_of K.Registry) entries.now gone.now objects.now oid)) }
 {
     let base = begun(alloc, entries.as_slice(), gone, objects, oid)?;
@@ -166,8 +158,7 @@ fn all_begun<K: Registry>(
     objects: &[Oid],
     oids: &[Oid],
 ) -> Result<List<Base<K>>, NoMemory>
-    requires object { list_all K.is_object oids.now ≡ true }
-    requires header { is_header objects.now ≡ true }
+    requires { is_header objects.now ≡ true }
     ensures { IfOk result (λ bs. bs ≡ map (λ (o : Oid). kept_base (meaning_of K.Registry) (told.view_base (meaning_of K.Registry) entries.now gone.now objects.now o)) oids.now) }
 {
     let mut bases = List::new(alloc);
@@ -188,8 +179,7 @@ pub fn view_bases<K: Registry>(
     objects: &[Oid],
     oids: &[Oid],
 ) -> Result<List<Base<K>>, NoMemory>
-    requires object { list_all K.is_object oids.now ≡ true }
-    requires header { is_header objects.now ≡ true }
+    requires { is_header objects.now ≡ true }
     ensures { IfOk result (λ bs. KeepsBases (meaning_of K.Registry) bs (told.view_bases (meaning_of K.Registry) entries.now gone.now objects.now oids.now)) }
 {
     let bases = all_begun(alloc, entries.as_slice(), gone, objects, oids)?;

@@ -1,6 +1,6 @@
 //! Which of several checkpoints is the base.
 
-ghost use Rattle.std.specs.Prelude.{◌≡◌, ◌&&◌, nat_le, true, IfOk, OnOk};
+ghost use Rattle.std.specs.Prelude.{◌≡◌, ◌&&◌, nat_le, IfOk, OnOk};
 ghost use Rattle.tg_kind.specs.Of.{meaning_of};
 ghost use Rattle.tg_protocol.specs.Words.{or_else};
 ghost use Rattle.tg_ckpt.specs.Kept.{kept_at, counted, inside, lower_of, higher_of, is_lower, is_higher, lowest, highest};
@@ -46,7 +46,6 @@ fn replace<K: Registry>(
     entry: &Entry,
     oid: Oid,
 ) -> Result<(), NoMemory>
-    requires { K.is_object oid ≡ true }
     ensures { OnOk result (chosen.new ≡ or_else (kept_at (meaning_of K.Registry) oid entry.now) chosen.old) }
 {
     let base = base_at(alloc, entry, oid)?;
@@ -67,7 +66,6 @@ fn take_lower<K: Registry>(
     oid: Oid,
     below: Pos,
 ) -> Result<(), NoMemory>
-    requires { K.is_object oid ≡ true }
     ensures { OnOk result (least.new ≡ lower_of least.old (counted below (kept_at (meaning_of K.Registry) oid entry.now))) }
 {
     match offered(entry, oid) {
@@ -89,7 +87,6 @@ pub fn lowest<K: Registry>(
     oid: Oid,
     below: Pos,
 ) -> Result<Option<Base<K>>, NoMemory>
-    requires { K.is_object oid ≡ true }
     ensures { IfOk result (λ b. b ≡ lowest (meaning_of K.Registry) oid below entries.now) }
 {
     let mut least = None;
@@ -108,7 +105,6 @@ fn take_higher<K: Registry>(
     below: Pos,
     high: Pos,
 ) -> Result<(), NoMemory>
-    requires { K.is_object oid ≡ true }
     ensures { OnOk result (greatest.new ≡ higher_of (inside below high (kept_at (meaning_of K.Registry) oid entry.now)) greatest.old) }
 {
     match offered(entry, oid) {
@@ -131,7 +127,6 @@ pub fn highest<K: Registry>(
     below: Pos,
     high: Pos,
 ) -> Result<Option<Base<K>>, NoMemory>
-    requires { K.is_object oid ≡ true }
     ensures { IfOk result (λ b. b ≡ highest (meaning_of K.Registry) oid below high entries.now) }
 {
     let mut greatest = None;

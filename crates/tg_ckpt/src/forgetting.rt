@@ -1,6 +1,6 @@
 //! Whether what is below a mark may be forgotten.
 
-ghost use Rattle.std.specs.Prelude.{◌≡◌, ◌&&◌, not, nat_lt, true, is_some, ℕ, List, IfOk};
+ghost use Rattle.std.specs.Prelude.{◌≡◌, ◌&&◌, not, nat_lt, is_some, ℕ, List, IfOk};
 ghost use Rattle.tg_entry.specs.Needs.{needs_decision};
 ghost use Rattle.tg_entry.specs.declared.entry.Entry.{Entry};
 ghost use Rattle.tg_kind.specs.Of.{meaning_of};
@@ -91,7 +91,6 @@ pub fn may_forget<K: Registry>(
     oid: Oid,
     mark: Pos,
 ) -> Result<(), CkptFault>
-    requires { K.is_object oid ≡ true }
     ensures { Forgets (meaning_of K.Registry) oid result (told.may_forget (meaning_of K.Registry) entries.now oid mark) }
 {
     load_from::<K>(alloc, entries, oid, mark)?;

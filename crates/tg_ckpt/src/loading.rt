@@ -1,6 +1,6 @@
 //! The base that a checkpoint gives.
 
-ghost use Rattle.std.specs.Prelude.{◌≡◌, ◌&&◌, ◌==◌, nat_le, true, Option, IfOk};
+ghost use Rattle.std.specs.Prelude.{◌≡◌, ◌&&◌, ◌==◌, nat_le, Option, IfOk};
 ghost use Rattle.tg_kind.specs.Of.{meaning_of};
 ghost use Rattle.tg_protocol.specs.Words.{oid_eq};
 ghost use Rattle.tg_protocol.specs.Versions.{based};
@@ -54,7 +54,6 @@ pub fn offered(entry: &Entry, oid: Oid) -> Option<Pos>
 
 // The state of the object that bytes spell; None where they spell none. An `Err` is want of memory.
 fn state_in<K: Registry>(alloc: Global, oid: Oid, bytes: &[u8]) -> Result<Option<K>, NoMemory>
-    requires { K.is_object oid ≡ true }
     ensures { IfOk result (λ s. s ≡ (meaning_of K.Registry).load oid bytes.now) }
 {
     match K::load(alloc, oid, bytes) {
@@ -91,7 +90,6 @@ fn with_versions<K: Registry>(
 
 // The base that a body gives, in an entry of the format that is written now.
 fn base_in<K: Registry>(alloc: Global, body: &Body, oid: Oid) -> Result<Option<Base<K>>, NoMemory>
-    requires { K.is_object oid ≡ true }
     ensures { IfOk result (λ b. b ≡ kept_maybe (meaning_of K.Registry) (told.base_in (meaning_of K.Registry) oid body.now)) }
 {
     match body {
@@ -128,7 +126,6 @@ pub fn base_at<K: Registry>(
     entry: &Entry,
     oid: Oid,
 ) -> Result<Option<Base<K>>, NoMemory>
-    requires { K.is_object oid ≡ true }
     ensures { IfOk result (λ b. b ≡ kept_at (meaning_of K.Registry) oid entry.now) }
 {
     if !is_current(entry) {

@@ -66,8 +66,7 @@ pub trait Kind: Sized + Drop {
 
     /// The state of an object at first, by the header's objects. An `Err` is want of memory.
     fn fresh(alloc: Global, oid: Oid, objects: &[Oid]) -> Result<Self, NoMemory>
-        requires object { is_object oid ≡ true }
-        requires header { is_header objects.now ≡ true }
+        requires { is_header objects.now ≡ true }
         ensures { IfOk result (λ s. s ≡ first oid objects.now) };
 
     /// The state after an op. An `Err` is want of memory.
@@ -94,7 +93,6 @@ pub trait Kind: Sized + Drop {
 
     /// The state of an object that bytes spell, with no rest.
     fn load(alloc: Global, oid: Oid, bytes: &[u8]) -> Result<Self, KindFault>
-        requires { is_object oid ≡ true }
         ensures { Answers result (loaded oid bytes.now) };
 
     /// Puts the bytes of an op last. An `Err` is want of memory, and changes nothing.
