@@ -1,6 +1,6 @@
 //! The reads and writes of an open transaction, within their limits.
 
-ghost use Rattle.std.specs.Prelude.{◌≡◌, ◌≤◌, ℕ, List, true, false, None, length, OnOk, OnErr, IfErr, IfOk, MatchResult};
+ghost use Rattle.std.specs.Prelude.{◌≡◌, ◌≤◌, ◌==◌, ℕ, List, true, false, None, length, OnOk, OnErr, IfErr, IfOk, MatchResult};
 ghost use Rattle.tg_base.specs.declared.marks.ReadMark.{ReadMark};
 ghost use Rattle.tg_entry.specs.Records.{is_object, is_read};
 ghost use Rattle.tg_entry.specs.declared.entry.Body.TheVariants.{Commit};
@@ -87,6 +87,34 @@ impl Pending {
             writes: List::new(alloc),
             snapshot: None,
         }
+    }
+
+    /// Its number. It takes no memory.
+    pub fn number(&self) -> u32
+        ensures { result ≡ self.now.number }
+    {
+        self.number
+    }
+
+    /// At which tail its asks are answered. It takes no memory.
+    pub fn snapshot(&self) -> Option<Pos>
+        ensures { result ≡ self.now.snapshot }
+    {
+        self.snapshot
+    }
+
+    /// Whether nothing is read. It takes no memory.
+    pub fn reads_nothing(&self) -> bool
+        ensures { result ≡ (length self.now.reads == 0) }
+    {
+        self.reads.is_empty()
+    }
+
+    /// Whether nothing is written. It takes no memory.
+    pub fn writes_nothing(&self) -> bool
+        ensures { result ≡ (length self.now.writes == 0) }
+    {
+        self.writes.is_empty()
     }
 
     /// Whether a read would be taken. It takes no memory.

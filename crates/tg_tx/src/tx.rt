@@ -1,6 +1,6 @@
 //! A transaction of a kind of objects.
 
-ghost use Rattle.std.specs.Prelude.{◌≡◌, ◌≤◌, true, None, length, OnOk, OnErr, IfErr, IfOk};
+ghost use Rattle.std.specs.Prelude.{◌≡◌, ◌≤◌, ◌==◌, true, None, length, OnOk, OnErr, IfErr, IfOk};
 ghost use Rattle.tg_base.specs.declared.marks.ReadMark.{ReadMark};
 ghost use Rattle.tg_entry.specs.Records.{is_object, is_part};
 ghost use Rattle.tg_protocol.specs.Transactions.{open_tx, tx_read, tx_put, read_fault, write_fault, commit_record};
@@ -50,6 +50,34 @@ impl<K: Kind> Tx<K> {
             pending: Pending::new(alloc, number),
             kind: PhantomData,
         }
+    }
+
+    /// Its number among the client's transactions. It takes no memory.
+    pub fn number(&self) -> u32
+        ensures { result ≡ self.now.number }
+    {
+        self.pending.number()
+    }
+
+    /// The tail at which its asks are answered, once one was. It takes no memory.
+    pub fn snapshot(&self) -> Option<Pos>
+        ensures { result ≡ self.now.snapshot }
+    {
+        self.pending.snapshot()
+    }
+
+    /// Whether it has read nothing. It takes no memory.
+    pub fn reads_nothing(&self) -> bool
+        ensures { result ≡ (length self.now.reads == 0) }
+    {
+        self.pending.reads_nothing()
+    }
+
+    /// Whether it writes nothing. It takes no memory.
+    pub fn writes_nothing(&self) -> bool
+        ensures { result ≡ (length self.now.writes == 0) }
+    {
+        self.pending.writes_nothing()
     }
 
     /// Whether a read of a part of an object would be taken, whatever its version. It takes no memory.
