@@ -389,3 +389,7 @@ allowed_is o op e = e
 
 pub marking_is : (o : Oid) (m : ℕ) → (is_of directory (marking o m) ≡ true) × (allowed directory (marking o m) ≡ false)
 marking_is o m = directories_laws.marking_is o m
+
+pub marking_short : (o : Oid) (m : ℕ) → length (spelled (marking o m)) ≤ 64
+unfolding spelled
+marking_short o m = directories_laws.marking_short o m

@@ -420,4 +420,6 @@ impl Registry for AnyKind {
     ghost allowed_is = { laws.allowed_is };
 
     ghost marking_is = { laws.marking_is };
+
+    ghost marking_short = { laws.marking_short };
 }

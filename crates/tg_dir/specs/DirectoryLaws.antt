@@ -405,3 +405,11 @@ no-mark false o mark = refl
 
 pub marking_is : (o : Oid) (mark : ℕ) → (is_of directory (marking o mark) ≡ true) × (allowed directory (marking o mark) ≡ false)
 marking_is o mark = (refl, no-mark (is_number o) o mark)
+
+mark-short : (b : Bool) (o : Oid) (mark : ℕ) → length (op_format.spell (cond b (Mark o mark) (Mark directory 0))) ≤ 64
+unfolding op_format
+mark-short true o mark = omega (arith)
+mark-short false o mark = omega (arith)
+
+pub marking_short : (o : Oid) (mark : ℕ) → length (op_format.spell (marking o mark)) ≤ 64
+marking_short o mark = mark-short (is_number o) o mark

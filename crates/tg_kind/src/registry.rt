@@ -1,6 +1,6 @@
 //! Kinds with a directory.
 
-ghost use Rattle.std.specs.Prelude.{◌≡◌, ℕ, Bool, true, false};
+ghost use Rattle.std.specs.Prelude.{◌≡◌, ◌≤◌, ℕ, Bool, true, false, length};
 ghost use Rattle.tg_base.specs.declared.ids.Oid.{Oid};
 ghost use Rattle.tg_kind.specs.Headers.{directory};
 
@@ -53,4 +53,7 @@ pub trait Registry: Kind {
 
     /// A mark is an op of the directory, and no user may put it.
     ghost marking_is: { (o : Oid) (m : ℕ) → (Self.Kind.is_of directory (marking o m) ≡ true) × (allowed directory (marking o m) ≡ false) };
+
+    /// A mark has a short spelling.
+    ghost marking_short: { (o : Oid) (m : ℕ) → length (Self.Kind.spelled (marking o m)) ≤ 64 };
 }
