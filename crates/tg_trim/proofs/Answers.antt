@@ -1,5 +1,5 @@
 -- On which answers a trim ends, pauses and goes on.
-use Rattle.std.proofs.Common.{◌≡◌, ⊤, ℕ, ◌+◌, ◌<◌, ◌≤◌, Bool, true, false, not, ◌&&◌, ◌||◌, ◌==◌, List, [], ◌∷◌, length, map, refl, sym, ap, subst, ◌∙◌, arith}
+use Rattle.std.proofs.Common.{◌≡◌, ℕ, ◌+◌, ◌<◌, ◌≤◌, Bool, true, false, not, ◌&&◌, ◌||◌, ◌==◌, List, [], ◌∷◌, length, map, refl, sym, ap, subst, ◌∙◌, arith}
 use Rattle.std.specs.Prelude.{nat_lt, nat_le, filter}
 use Rattle.std.specs.List.{list_any}
 use Rattle.std.proofs.lemmas.Bool.Decides.{nat_tests}
@@ -56,7 +56,7 @@ feed_ends p t u _ n e h = absurd (goes_end _ _ h)
 
 fed_ends : (b : Bool) (p : Layout) (t : Trims) (u : ℕ) (m : Msg) (n : ℕ) (e : Trimmed) → (trim_fed_if b p t u m n).to ≡ Ends e →
     (b ≡ true) × (tells_trim (reply m) ≡ true) × (without_wait u t.waits ≡ [])
-fed_ends true p t u m n e h = (refl, feed_ends p t u (reply m) n e h)
+fed_ends true p t u m n e h = let is = feed_ends p t u (reply m) n e h in (refl, is.0, is.1)
 fed_ends false p t u m n e h = absurd (goes_end _ _ h)
 
 pub trim_ends_by_answers : TrimEndsByAnswers
@@ -83,7 +83,7 @@ feed_pauses p t u _ n d h = absurd (goes_learn _ _ h)
 
 fed_pauses : (b : Bool) (p : Layout) (t : Trims) (u : ℕ) (m : Msg) (n : ℕ) (d : Trims) → (trim_fed_if b p t u m n).to ≡ Learns d →
     (b ≡ true) × FencedAbove p.epoch (reply m) × (d ≡ t)
-fed_pauses true p t u m n d h = (refl, feed_pauses p t u (reply m) n d h)
+fed_pauses true p t u m n d h = let is = feed_pauses p t u (reply m) n d h in (refl, is.0, is.1)
 fed_pauses false p t u m n d h = absurd (goes_learn _ _ h)
 
 pub trim_pauses_by_answers : TrimPausesByAnswers
@@ -156,17 +156,17 @@ passed false false c h e = h
 
 pub trim_waits_for_answers : TrimWaitsForAnswers
 trim_waits_for_answers = record {
-    same = λ p t from rid m n d h.
+  same = λ p t from rid m n d h.
       let is = fed_goes (awaits (trim_asks p t) from rid) p t from.num m n d h in
       ap (λ (z : Trims). z.below) is.1 ∙ picks_below (awaits (trim_asks p t) from rid && tells_trim (reply m)) t from.num;
-    told = λ p t from rid m n d h.
+  told = λ p t from rid m n d h.
       let is = fed_goes (awaits (trim_asks p t) from rid) p t from.num m n d h in
       goes_by (awaits (trim_asks p t) from rid && tells_trim (reply m)) t from.num d
       (λ both. fewer _ t.waits from rid (and_true (awaits (trim_asks p t) from rid) (tells_trim (reply m)) both)) is.1;
-    passed = λ p t from rid m n d h e.
+  passed = λ p t from rid m n d h e.
       let is = fed_goes (awaits (trim_asks p t) from rid) p t from.num m n d h in
       passed (not (awaits (trim_asks p t) from rid)) (tells_trim (reply m)) (trim_passes p (reply m)) is.0 e;
-  }
+}
 
 -- it waits for a unit
 

@@ -15,3 +15,6 @@ pub use laws::{
 };
 pub use step::{Next, Step};
 pub use trims::{TrimStep, Trims};
+
+#[cfg(test)]
+mod tests;
