@@ -1,0 +1,5 @@
+pub mod Answers
+pub mod Awaiting
+pub mod Few
+pub mod Rising
+pub mod Started
