@@ -1,0 +1,8 @@
+pub mod Steps
+pub mod Cells
+pub mod Appends
+pub mod Syncs
+pub mod Walks
+pub mod Copies
+pub mod Trims
+pub mod Reconfs
