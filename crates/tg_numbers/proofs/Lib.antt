@@ -6,3 +6,6 @@ pub mod Walks
 pub mod Copies
 pub mod Trims
 pub mod Reconfs
+pub mod Grows
+pub mod Nears
+pub mod Stays

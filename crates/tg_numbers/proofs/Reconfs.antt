@@ -134,7 +134,7 @@ if_send : (b : Bool) (r : Reconf) (u rid : ℕ) (m : Msg) (n : ℕ) → Sends n 
 if_send true r u rid m n = feed_send r r.work u rid (reply m) n
 if_send false r u rid m n = sends_at n n _ (omega arith)
 
-fed_send : (r : Reconf) (from : NodeId) (rid : ℕ) (m : Msg) (n : ℕ) → Sends n (fed r from rid m n)
+pub fed_send : (r : Reconf) (from : NodeId) (rid : ℕ) (m : Msg) (n : ℕ) → Sends n (fed r from rid m n)
 fed_send r from rid m n = if_send (awaits (reconf_awaited r) from rid) r from.num rid m n
 
 first_send : (r : Reconf) (n : ℕ) (j : Option Join) → Sends n (first_step r n j)
@@ -165,7 +165,7 @@ told_send : (r : Reconf) (ws : Waits) (k u : ℕ) (p q : Layout) (n : ℕ) (b : 
 told_send r ws k u p q n true = heard_send r (without_wait u ws) (k + 1) p n _
 told_send r ws k u p q n false = newer_send r q n _
 
-latest_send : (r : Reconf) (w : ReconfWork) (u rid : ℕ) (q : Layout) (n : ℕ) → Sends n (reconf_latest r w u rid q n)
+pub latest_send : (r : Reconf) (w : ReconfWork) (u rid : ℕ) (q : Layout) (n : ℕ) → Sends n (reconf_latest r w u rid q n)
 unfolding reconf_latest
 latest_send r (Starting k) u rid q n = sends_at n n _ (omega arith)
 latest_send r (Telling ws k p) u rid q n = told_send r ws k u p q n _

@@ -20,9 +20,9 @@ use Rattle.tg_numbers.proofs.Cells.{get_below, get_from, cell_plain}
 
 -- From here on over known cells: what is read then is new.
 
-record Begins (n : ℕ) (t : WalkTurn) : Type 0 where
-  plain : Plain walk_asks n t
-  fresh : ThenFresh walk_asks n t.to
+pub record Begins (n : ℕ) (t : WalkTurn) : Type 0 where
+  pub plain : Plain walk_asks n t
+  pub fresh : ThenFresh walk_asks n t.to
 
 over : (n : ℕ) (e : Members) → Begins n (ends n e)
 over n e = record { plain = ends_plain walk_asks n n e (omega arith); fresh = tt }
@@ -40,7 +40,7 @@ on_visit : (p : Layout) (n k : ℕ) (w : Walk) (o : Option ℕ) → ((v : Walk) 
 on_visit p n k w None rest e = subst (λ (t : WalkTurn). Begins n t) (sym (on-none p n k w e)) (over n (walked w None))
 on_visit p n k w (Some q) rest e = on_cell p n k w q (cell_at w.cells q) rest e refl
 
-on_begins : (p : Layout) (n k : ℕ) (w : Walk) → Begins n (walk_on p n k w)
+pub on_begins : (p : Layout) (n k : ℕ) (w : Walk) → Begins n (walk_on p n k w)
 on_begins p n zero w = subst (λ (t : WalkTurn). Begins n t) (sym (on-zero p n w)) (over n (walked w None))
 on_begins p n (suc k) w = on_visit p n k w (next_visit w) (λ v. on_begins p n k v) refl
 
