@@ -1,4 +1,4 @@
-//! What holds of the numbers that each machine draws, whatever it was before.
+//! What holds of the numbers that each machine draws, and of what it keeps, whatever it was before.
 //!
 //! A machine that begins, or goes on in a newer layout, has no request but those that the call draws. In each later
 //! step, where each of its numbers was drawn before, its requests from the step's first number on are those that the

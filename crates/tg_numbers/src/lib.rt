@@ -1,5 +1,6 @@
 //! The numbers of a client's requests, as each machine's steps draw them: what its caller has to know to send each
-//! new request, and no other. And what each machine keeps that its caller needs: near positions, and a copy's stripe. Laws over the definitions of `tg_protocol`, each the contract of an empty function.
+//! new request, and no other. And what each machine keeps that its caller needs: near positions, and a copy's stripe.
+//! Laws over the definitions of `tg_protocol`, each the contract of an empty function.
 #![tactic(auto)]
 
 mod laws;
