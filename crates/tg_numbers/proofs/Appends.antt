@@ -1,19 +1,16 @@
 -- The numbers of an append.
-use Rattle.std.proofs.Common.{◌≡◌, ℕ, ◌+◌, ◌≤◌, Bool, true, false, List, [], ◌∷◌, length, Option, Some, None, refl, arith}
+use Rattle.std.proofs.Common.{◌≡◌, ℕ, ◌+◌, ◌≤◌, Bool, true, false, List, [], Option, Some, None, arith}
 use Rattle.std.specs.Prelude.{nat_lt, nat_le}
 use Rattle.tg_base.specs.Layouts.{Layout}
-use Rattle.tg_base.specs.declared.cell.Cell.TheVariants.{Data}
-use Rattle.tg_base.specs.declared.ids.NodeId.{NodeId}
 use Rattle.tg_base.specs.declared.marks.StreamLink.{StreamLink}
 use Rattle.tg_base.specs.declared.msg.Msg.{Msg}
 use Rattle.tg_entry.specs.declared.entry.Entry.{Entry}
-use Rattle.tg_protocol.specs.Words.{cell_eq}
 use Rattle.tg_protocol.specs.Entries.{streams_of}
 use Rattle.tg_protocol.specs.Requests.{Next, Goes, Learns, Ends, awaits, passes}
 use Rattle.tg_protocol.specs.Replies.{Reply, IsIssued, IsFull, IsOldEpoch, reply}
 use Rattle.tg_protocol.specs.Cells.{CellJob, CellEnd, Done, Seen, Lost, Fenced, Gone, place_in, put_cell, fill_cell, cell_asks, cell_feed}
-use Rattle.tg_protocol.specs.Appending.{Append, AppendWork, Asking, Putting, Judging, Token, AppendEnd, At, AppendTurn, names_all, asks_token, put_end, put_next, own_or_not, judge_end, judge_next, on_issued, on_older, on_newer, asking_feed, by_token, dead_or_judged, again_with, append_asks, append_work_asks, append_start, append_feed, append_again}
-use Rattle.tg_append.specs.Appends.{append_at, append_fed, append_fed_if}
+use Rattle.tg_protocol.specs.Appending.{Append, AppendWork, Asking, Putting, Judging, Token, AppendEnd, names_all, asks_token, put_end, put_next, own_or_not, judge_end, judge_next, on_issued, on_newer, asking_feed, by_token, dead_or_judged, again_with, append_asks, append_work_asks, append_start, append_feed, append_again}
+use Rattle.tg_append.specs.Appends.{append_at, append_fed_if}
 use Rattle.tg_reconf.specs.Turns.{all_drawn}
 use Rattle.tg_numbers.specs.Numbers.{ThenDrawn, ThenFresh, FitsNumbers, BeginsNumbers}
 use Rattle.tg_numbers.specs.Laws.{AppendNumbers}

@@ -1,16 +1,14 @@
 -- The numbers of a cell's machine.
-use Rattle.std.proofs.Common.{◌≡◌, ℕ, ◌+◌, ◌≤◌, Bool, true, false, not, ◌&&◌, List, [], ◌∷◌, length, refl, arith}
-use Rattle.std.specs.Prelude.{nat_lt, ◌==◌}
+use Rattle.std.proofs.Common.{◌≡◌, ℕ, ◌+◌, Bool, true, false, List, [], ◌∷◌, length, arith}
 use Rattle.tg_base.specs.declared.cell.Cell.{Cell}
-use Rattle.tg_base.specs.declared.cell.Cell.TheVariants.{Junk, Data}
-use Rattle.tg_base.specs.declared.packet.Out.{Out}
-use Rattle.tg_protocol.specs.Words.{unit_id, cell_eq}
-use Rattle.tg_protocol.specs.Requests.{Waits, waits_for, without_wait, Next, Goes, Learns, Ends, passes}
+use Rattle.tg_base.specs.declared.cell.Cell.TheVariants.{Junk}
+use Rattle.tg_protocol.specs.Words.{unit_id}
+use Rattle.tg_protocol.specs.Requests.{Waits, waits_for, without_wait, passes}
 use Rattle.tg_protocol.specs.Replies.{Reply, IsHeld, IsTaken, IsUnwritten, IsGone, IsFenced, IsMissing, IsWhole}
-use Rattle.tg_protocol.specs.Cells.{Place, CellJob, CellWork, Puts, Gets, Fills, Copies, Probes, CellEnd, Done, Seen, Lost, Fenced, Gone, CellTurn, works, work_asks, cell_asks, put_cell, get_cell, fill_cell, probe, put_on, puts_on, copy_on, copies_on, end_if, if_fenced, if_gone, if_lost, copy_if_same, probe_on, work_feed, cell_feed}
+use Rattle.tg_protocol.specs.Cells.{Place, CellJob, CellWork, Puts, Gets, Fills, Copies, Probes, CellEnd, Seen, works, work_asks, cell_asks, fill_cell, put_on, copy_on, end_if, copy_if_same, probe_on, work_feed, cell_feed}
 use Rattle.tg_reconf.specs.Turns.{all_drawn}
 use Rattle.tg_numbers.specs.Numbers.{all_from}
-use Rattle.tg_numbers.proofs.Steps.{one_below, one_from, each_below, each_from, others_below, Plain, goes_plain, ends_plain}
+use Rattle.tg_numbers.proofs.Steps.{one_below, one_from, each_below, others_below, Plain, goes_plain, ends_plain}
 
 -- What is asked first.
 

@@ -1,24 +1,22 @@
 -- The numbers of a copy.
-use Rattle.std.proofs.Common.{◌≡◌, ℕ, ◌+◌, ◌≤◌, Bool, true, false, List, [], ◌∷◌, length, refl, arith}
-use Rattle.std.specs.Prelude.{nat_lt, ◌==◌}
+use Rattle.std.proofs.Common.{◌≡◌, ℕ, ◌+◌, ◌≤◌, Bool, true, false, [], arith}
+use Rattle.std.specs.Prelude.{nat_lt}
 use Rattle.tg_base.specs.Layouts.{Layout}
 use Rattle.tg_base.specs.declared.cell.Cell.{Cell}
 use Rattle.tg_base.specs.declared.change.Join.{Join}
-use Rattle.tg_base.specs.declared.ids.NodeId.{NodeId}
 use Rattle.tg_base.specs.declared.msg.Msg.{Msg}
 use Rattle.tg_proj.specs.Places.{range_at}
-use Rattle.tg_protocol.specs.Words.{cell_eq}
 use Rattle.tg_protocol.specs.Layouts.{range_end, next_in_stripe}
 use Rattle.tg_protocol.specs.Requests.{Next, Goes, Learns, Ends, awaits, passes}
 use Rattle.tg_protocol.specs.Replies.{Reply, IsHeld, IsTaken, IsGone, IsFenced, IsSealed, IsMissing, IsWhole, reply}
-use Rattle.tg_protocol.specs.Cells.{CellJob, CellEnd, Done, Seen, Lost, Fenced, Gone, place_in, get_cell, cell_asks, cell_feed}
-use Rattle.tg_protocol.specs.Trimming.{Copying, CopyWork, Sealing, Reading, Storing, Trimming, Looking, CopyEnd, Whole, CopyTurn, copies, copy_asks, copy_work_asks, copy_start, copy_from, copies_past, read_end, read_next, stored_if, skipped_if, sealed_if, learns_if, copy_feed}
-use Rattle.tg_copy.specs.Copies.{copying, copy_fed, copy_fed_if}
+use Rattle.tg_protocol.specs.Cells.{CellJob, CellEnd, Done, Fenced, Gone, place_in, get_cell, cell_asks, cell_feed}
+use Rattle.tg_protocol.specs.Trimming.{Copying, CopyWork, Sealing, Reading, Storing, Trimming, Looking, CopyEnd, Whole, copies, copy_asks, copy_work_asks, copy_start, copy_from, copies_past, read_end, read_next, stored_if, skipped_if, sealed_if, learns_if, copy_feed}
+use Rattle.tg_copy.specs.Copies.{copying, copy_fed_if}
 use Rattle.tg_copy.specs.Turns.{spare_of}
 use Rattle.tg_reconf.specs.Turns.{all_drawn}
-use Rattle.tg_numbers.specs.Numbers.{ThenDrawn, FitsNumbers, BeginsNumbers}
+use Rattle.tg_numbers.specs.Numbers.{ThenDrawn, BeginsNumbers}
 use Rattle.tg_numbers.specs.Laws.{CopyNumbers}
-use Rattle.tg_numbers.proofs.Steps.{more_drawn, one_below, one_from, Plain, plain_fits, plain_begins, goes_plain, learns_plain, ends_plain, gone_plain, later_plain}
+use Rattle.tg_numbers.proofs.Steps.{more_drawn, one_below, one_from, Plain, plain_fits, plain_begins, goes_plain, learns_plain, ends_plain, gone_plain}
 use Rattle.tg_numbers.proofs.Cells.{get_below, cell_plain}
 
 begins : (p : Layout) (u r s n : ℕ) → BeginsNumbers (copy_asks p) n (copy_start u r s n)

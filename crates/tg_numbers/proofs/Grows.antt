@@ -1,9 +1,8 @@
 -- No step takes a number back.
-use Rattle.std.proofs.Common.{◌≡◌, ℕ, ◌+◌, ◌-◌, ◌≤◌, Bool, true, false, List, [], ◌∷◌, length, Option, Some, None, refl, arith}
-use Rattle.std.specs.Prelude.{nat_lt, ◌==◌, if◌then◌else◌}
+use Rattle.std.proofs.Common.{ℕ, ◌+◌, ◌≤◌, Bool, true, false, List, [], ◌∷◌, Option, Some, None, arith}
+use Rattle.std.specs.Prelude.{nat_lt}
 use Rattle.tg_base.specs.Layouts.{Layout}
 use Rattle.tg_base.specs.declared.cell.Cell.TheVariants.{Data}
-use Rattle.tg_base.specs.declared.ids.NodeId.{NodeId}
 use Rattle.tg_base.specs.declared.marks.StreamLink.{StreamLink}
 use Rattle.tg_base.specs.declared.msg.Msg.{Msg}
 use Rattle.tg_proj.specs.Places.{range_at}
@@ -12,10 +11,10 @@ use Rattle.tg_protocol.specs.Entries.{streams_of}
 use Rattle.tg_protocol.specs.Layouts.{range_end, next_in_stripe}
 use Rattle.tg_protocol.specs.Requests.{Waits, without_wait, Next, Goes, Learns, Ends, awaits}
 use Rattle.tg_protocol.specs.Replies.{Reply, IsHeld, IsTaken, IsGone, IsFenced, IsSealed, IsMissing, IsWhole, IsIssued, IsTail, IsFull, IsOldEpoch, reply}
-use Rattle.tg_protocol.specs.Cells.{Place, CellJob, CellWork, CellEnd, Done, Seen, Lost, Fenced, Gone, works, place_in, put_cell, get_cell, fill_cell, probe, work_feed, cell_feed}
+use Rattle.tg_protocol.specs.Cells.{Place, CellJob, CellWork, CellEnd, Done, Seen, Lost, Fenced, Gone, works, put_cell, get_cell, fill_cell, probe, work_feed, cell_feed}
 use Rattle.tg_protocol.specs.Appending.{Append, AppendWork, Asking, Putting, Judging, Token, AppendEnd, names_all, on_older, on_newer, put_end, put_next, own_or_not, judge_end, judge_next, on_issued, asking_feed, by_token, append_asks, append_feed}
 use Rattle.tg_protocol.specs.Syncing.{Sync, SyncWork, Checking, Settling, Probing, Answer, Confirmed, sync_asks, probe_end, probe_next, probes, settle_end, settle_next, confirm_by, on_tail, checking_feed, sync_feed}
-use Rattle.tg_protocol.specs.Walking.{Walk, Members, walk_asks, walk_end, walk_next, walk_feed, next_visit, steps_left, read_at}
+use Rattle.tg_protocol.specs.Walking.{Walk, walk_asks, walk_end, walk_next, walk_feed, next_visit, steps_left, read_at}
 use Rattle.tg_protocol.specs.Trimming.{Trims, Trimmed, trim_asks, trims_left, trim_feed, learns_if, Copying, CopyWork, Sealing, Reading, Storing, Trimming, Looking, CopyEnd, copy_asks, copy_from, copies_past, read_end, read_next, stored_if, skipped_if, sealed_if, copy_feed}
 use Rattle.tg_append.specs.Appends.{append_fed_if}
 use Rattle.tg_append.specs.Syncs.{sync_fed_if}

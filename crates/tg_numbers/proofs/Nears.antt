@@ -1,10 +1,9 @@
 -- The positions that syncs and appends were told are near.
-use Rattle.std.proofs.Common.{◌≡◌, ℕ, ◌-◌, ◌<◌, ◌^◌, Bool, true, false, List, [], ◌∷◌, Option, Some, None, refl, arith}
+use Rattle.std.proofs.Common.{◌≡◌, ℕ, ◌<◌, ◌^◌, Bool, true, false, List, Option, Some, None, refl, arith}
 use Rattle.std.specs.Prelude.{⊤, nat_lt, nat_le, if◌then◌else◌}
 use Rattle.std.proofs.lemmas.Bool.Decides.{nat_tests}
 use Rattle.tg_base.specs.Layouts.{Layout}
 use Rattle.tg_base.specs.declared.cell.Cell.TheVariants.{Data}
-use Rattle.tg_base.specs.declared.ids.NodeId.{NodeId}
 use Rattle.tg_base.specs.declared.ids.Oid.{Oid}
 use Rattle.tg_base.specs.declared.marks.StreamLink.{StreamLink}
 use Rattle.tg_base.specs.declared.msg.Msg.{Msg}
@@ -14,9 +13,9 @@ use Rattle.tg_protocol.specs.Words.{too_far, cell_eq}
 use Rattle.tg_protocol.specs.Entries.{streams_of}
 use Rattle.tg_protocol.specs.Requests.{Next, Goes, Learns, Ends, awaits}
 use Rattle.tg_protocol.specs.Replies.{Reply, IsGone, IsSealed, IsMissing, IsLatest, IsIssued, IsTail, IsFull, IsOldEpoch, IsOther, reply}
-use Rattle.tg_protocol.specs.Cells.{CellJob, CellEnd, Done, Seen, Lost, Fenced, Gone, place_in, put_cell, fill_cell, probe, cell_feed}
-use Rattle.tg_protocol.specs.Appending.{Append, AppendWork, Asking, Putting, Judging, Token, AppendEnd, names_all, on_older, on_newer, put_end, put_next, own_or_not, judge_end, judge_next, on_issued, asking_feed, by_token, dead_or_judged, again_with, append_asks, append_start, append_feed, append_again}
-use Rattle.tg_protocol.specs.Syncing.{Sync, SyncWork, Checking, Settling, Probing, Answer, Confirmed, sync_asks, sync_start, probe_end, probe_next, probes, settle_end, settle_next, confirm_by, on_tail, checking_feed, sync_feed}
+use Rattle.tg_protocol.specs.Cells.{CellJob, CellEnd, Done, Seen, Lost, Fenced, Gone, put_cell, fill_cell, probe, cell_feed}
+use Rattle.tg_protocol.specs.Appending.{Append, AppendWork, Asking, Putting, Judging, Token, names_all, on_older, on_newer, put_end, put_next, own_or_not, judge_end, judge_next, on_issued, asking_feed, by_token, dead_or_judged, again_with, append_asks, append_start, append_feed, append_again}
+use Rattle.tg_protocol.specs.Syncing.{Sync, SyncWork, Checking, Settling, Probing, Answer, sync_asks, sync_start, probe_end, probe_next, probes, settle_end, settle_next, confirm_by, on_tail, checking_feed, sync_feed}
 use Rattle.tg_append.specs.Appends.{append_fed_if}
 use Rattle.tg_append.specs.Syncs.{sync_at, sync_fed_if}
 use Rattle.tg_append.specs.SyncLaws.{answer_in}

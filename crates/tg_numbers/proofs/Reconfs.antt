@@ -1,8 +1,8 @@
 -- The numbers of a reconfiguration.
-use Rattle.std.proofs.Common.{◌≡◌, ℕ, zero, suc, ◌+◌, ◌≤◌, Bool, true, false, ◌&&◌, List, [], ◌∷◌, ◌++◌, length, Option, Some, None, refl, sym, ap, subst, ◌∙◌, arith}
-use Rattle.std.specs.Prelude.{nat_lt, nat_le, ◌==◌, if◌then◌else◌}
+use Rattle.std.proofs.Common.{◌≡◌, ℕ, ◌+◌, ◌≤◌, Bool, true, false, List, [], ◌∷◌, ◌++◌, length, Option, Some, None, refl, sym, ◌∙◌, arith}
+use Rattle.std.specs.Prelude.{nat_lt, nat_le, if◌then◌else◌}
 use Rattle.std.proofs.lemmas.List.Folds.{list_all-append}
-use Rattle.tg_base.proofs.Exact.{and-left, and-right, both}
+use Rattle.tg_base.proofs.Exact.{and-left, both}
 use Rattle.tg_base.specs.Layouts.{Layout}
 use Rattle.tg_base.specs.Changes.{Changed}
 use Rattle.tg_base.specs.declared.change.Join.{Join}
@@ -12,14 +12,13 @@ use Rattle.tg_base.specs.declared.msg.Msg.{Msg}
 use Rattle.tg_base.specs.declared.packet.Out.{Out}
 use Rattle.tg_protocol.specs.Words.{unit_id}
 use Rattle.tg_protocol.specs.Layouts.{next_units}
-use Rattle.tg_protocol.specs.Requests.{out, Waits, without_wait, awaits, turn, Next, Goes, Learns, Ends, Turn}
+use Rattle.tg_protocol.specs.Requests.{out, Waits, without_wait, awaits, turn, Next, Goes, Learns, Ends}
 use Rattle.tg_protocol.specs.Replies.{Reply, IsFenced, IsSealed, IsMissing, IsWhole, IsPromise, IsNack, IsAccepted, IsTail, IsOldEpoch, reply}
-use Rattle.tg_protocol.specs.Appending.{names_all}
 use Rattle.tg_protocol.specs.Trimming.{learns_if}
-use Rattle.tg_protocol.specs.Reconfiguring.{Acks, Before, Stage, Preparing, Accepting, Later, Voting, ReconfWork, SealingSpare, LookingSpare, Sealing, LookingAgain, Agreeing, Telling, Starting, Reconf, ReconfEnd, ReconfTurn, at_work, next_epoch, join_asks, reconf_asks, reconf_awaited, reconf_work_asks, later_asks, is_majority, seals, seals_if, looks_if, seals_left, sealed_if, after_seals, proposes, promised, promised_on, accepted, accepted_on, tells, nacked, sets_if, round_after, round_set, stage_feed, begun, is_answer, later_feed, vote_feed, has_rid, same_vote, is_of_epoch, started_if, reconf_feed, reconf_start, first_step, reconf_latest, heard, heard_on, adopts, on_newer, own_decided, is_own}
+use Rattle.tg_protocol.specs.Reconfiguring.{Acks, Before, Stage, Preparing, Accepting, Later, Voting, ReconfWork, SealingSpare, LookingSpare, Sealing, LookingAgain, Agreeing, Telling, Starting, Reconf, ReconfEnd, ReconfTurn, join_asks, reconf_asks, reconf_awaited, reconf_work_asks, later_asks, seals, seals_if, looks_if, seals_left, sealed_if, after_seals, proposes, promised, promised_on, accepted, accepted_on, tells, nacked, sets_if, round_after, stage_feed, begun, is_answer, later_feed, vote_feed, started_if, reconf_feed, reconf_start, first_step, reconf_latest, heard, heard_on, adopts, on_newer, own_decided, is_own}
 use Rattle.tg_reconf.specs.Turns.{all_drawn, AreDrawn, StayDrawn, fed, fed_if}
 use Rattle.tg_reconf.proofs.Staying.{begun_stays, fed_stays, latest_stays}
-use Rattle.tg_numbers.specs.Numbers.{ThenDrawn, ThenFresh, FitsNumbers, BeginsNumbers, all_from}
+use Rattle.tg_numbers.specs.Numbers.{ThenDrawn, ThenFresh, all_from}
 use Rattle.tg_numbers.specs.Laws.{ReconfNumbers}
 use Rattle.tg_numbers.proofs.Steps.{one_from, each_from, Plain, plain_fits, plain_begins}
 

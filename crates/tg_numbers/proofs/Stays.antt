@@ -1,16 +1,15 @@
 -- A copy stays one of the same stripe to the same spare.
-use Rattle.std.proofs.Common.{◌≡◌, ℕ, ◌+◌, Bool, true, false, refl, sym, subst}
-use Rattle.std.specs.Prelude.{nat_lt, ◌==◌}
+use Rattle.std.proofs.Common.{ℕ, ◌+◌, Bool, true, false, refl, sym, subst}
+use Rattle.std.specs.Prelude.{nat_lt}
 use Rattle.tg_base.specs.Layouts.{Layout}
 use Rattle.tg_base.specs.declared.change.Join.{Join}
 use Rattle.tg_base.specs.declared.ids.NodeId.{NodeId}
 use Rattle.tg_base.specs.declared.msg.Msg.{Msg}
 use Rattle.tg_proj.specs.Places.{range_at}
-use Rattle.tg_protocol.specs.Words.{cell_eq}
 use Rattle.tg_protocol.specs.Layouts.{range_end, next_in_stripe}
 use Rattle.tg_protocol.specs.Requests.{Next, Goes, Learns, Ends, awaits}
 use Rattle.tg_protocol.specs.Replies.{Reply, IsHeld, IsTaken, IsGone, IsFenced, IsSealed, IsMissing, IsWhole, reply}
-use Rattle.tg_protocol.specs.Cells.{CellJob, CellEnd, Done, Seen, Lost, Fenced, Gone, get_cell, cell_feed}
+use Rattle.tg_protocol.specs.Cells.{CellJob, CellEnd, Done, Fenced, Gone, get_cell, cell_feed}
 use Rattle.tg_protocol.specs.Trimming.{Copying, CopyWork, Sealing, Reading, Storing, Trimming, Looking, CopyEnd, copy_asks, copy_start, copy_from, copies_past, read_end, read_next, stored_if, skipped_if, sealed_if, learns_if, copy_feed}
 use Rattle.tg_copy.specs.Copies.{copy_fed, copy_fed_if}
 use Rattle.tg_copy.specs.Stripes.{HasStripe}

@@ -1,13 +1,12 @@
 -- Numbers of requests, and steps that send nothing besides.
-use Rattle.std.proofs.Common.{◌≡◌, ℕ, ◌+◌, ◌<◌, ◌≤◌, Bool, true, false, not, ◌&&◌, List, [], ◌∷◌, ◌++◌, length, refl, sym, ap, subst, ◌∙◌, arith}
-use Rattle.std.specs.Prelude.{nat_lt, nat_le, ◌==◌, filter, if◌then◌else◌}
-use Rattle.std.specs.List.{list_all}
+use Rattle.std.proofs.Common.{◌≡◌, ℕ, ◌+◌, ◌<◌, ◌≤◌, Bool, true, false, not, ◌&&◌, List, [], ◌∷◌, length, refl, sym, ap, subst, ◌∙◌, arith}
+use Rattle.std.specs.Prelude.{nat_lt, nat_le, ◌==◌, if◌then◌else◌}
 use Rattle.std.proofs.lemmas.Bool.Decides.{nat_tests}
 use Rattle.tg_base.proofs.Exact.{and-left, and-right, both}
 use Rattle.tg_base.specs.declared.ids.NodeId.{NodeId}
 use Rattle.tg_base.specs.declared.msg.Msg.{Msg}
 use Rattle.tg_base.specs.declared.packet.Out.{Out}
-use Rattle.tg_protocol.specs.Requests.{Waits, waits_for, asked_of, without_wait, drawn_from, Next, Goes, Learns, Ends, Turn, turn, passes, draws, ends, learns, met_gone}
+use Rattle.tg_protocol.specs.Requests.{Waits, waits_for, asked_of, without_wait, drawn_from, Next, Goes, Learns, Ends, Turn, turn, passes, ends, learns, met_gone}
 use Rattle.tg_protocol.specs.Appending.{on_older}
 use Rattle.tg_base.specs.Layouts.{Layout}
 use Rattle.tg_chain.specs.Turns.{drawn_between}

@@ -1,17 +1,16 @@
 -- The numbers of a sync.
-use Rattle.std.proofs.Common.{◌≡◌, ℕ, ◌+◌, ◌-◌, ◌≤◌, Bool, true, false, List, [], ◌∷◌, length, Option, Some, None, refl, arith}
+use Rattle.std.proofs.Common.{◌≡◌, ℕ, ◌+◌, ◌-◌, ◌≤◌, Bool, true, false, List, [], length, arith}
 use Rattle.std.specs.Prelude.{nat_lt}
 use Rattle.tg_base.specs.Layouts.{Layout}
-use Rattle.tg_base.specs.declared.ids.NodeId.{NodeId}
 use Rattle.tg_base.specs.declared.ids.Oid.{Oid}
 use Rattle.tg_base.specs.declared.msg.Msg.{Msg}
 use Rattle.tg_protocol.specs.Layouts.{chain_of}
 use Rattle.tg_protocol.specs.Requests.{Next, Goes, Learns, Ends, awaits, passes}
 use Rattle.tg_protocol.specs.Replies.{Reply, IsTail, IsOldEpoch, reply}
-use Rattle.tg_protocol.specs.Cells.{CellJob, CellEnd, Done, Seen, Lost, Fenced, Gone, place_in, fill_cell, probe, cell_asks, cell_feed}
+use Rattle.tg_protocol.specs.Cells.{CellJob, CellEnd, Done, Seen, Fenced, Gone, place_in, fill_cell, probe, cell_asks, cell_feed}
 use Rattle.tg_protocol.specs.Appending.{names_all, on_newer}
-use Rattle.tg_protocol.specs.Syncing.{Sync, SyncWork, Checking, Settling, Probing, Answer, Confirmed, SyncTurn, sync_asks, sync_work_asks, sync_start, probe_end, probe_next, probes, settle_end, settle_next, confirm_by, on_tail, checking_feed, sync_feed, sync_again}
-use Rattle.tg_append.specs.Syncs.{sync_at, sync_fed, sync_fed_if}
+use Rattle.tg_protocol.specs.Syncing.{Sync, SyncWork, Checking, Settling, Probing, Answer, Confirmed, sync_asks, sync_work_asks, sync_start, probe_end, probe_next, probes, settle_end, settle_next, confirm_by, on_tail, checking_feed, sync_feed}
+use Rattle.tg_append.specs.Syncs.{sync_at, sync_fed_if}
 use Rattle.tg_reconf.specs.Turns.{all_drawn}
 use Rattle.tg_numbers.specs.Numbers.{ThenDrawn, FitsNumbers, BeginsNumbers}
 use Rattle.tg_numbers.specs.Laws.{SyncNumbers}

@@ -1,17 +1,16 @@
 -- The numbers of a trim.
-use Rattle.std.proofs.Common.{◌≡◌, ℕ, ◌+◌, ◌≤◌, Bool, true, false, List, [], ◌∷◌, length, refl, arith}
+use Rattle.std.proofs.Common.{◌≡◌, ℕ, ◌+◌, Bool, true, false, [], ◌∷◌, length, arith}
 use Rattle.std.specs.Prelude.{nat_lt}
 use Rattle.tg_base.specs.Layouts.{Layout}
-use Rattle.tg_base.specs.declared.ids.NodeId.{NodeId}
 use Rattle.tg_base.specs.declared.msg.Msg.{Msg}
 use Rattle.tg_protocol.specs.Words.{unit_id}
 use Rattle.tg_protocol.specs.Layouts.{units_of}
 use Rattle.tg_protocol.specs.Requests.{Waits, without_wait, awaits, passes}
 use Rattle.tg_protocol.specs.Replies.{Reply, IsGone, IsFenced, reply}
 use Rattle.tg_protocol.specs.Trimming.{Trims, Trimmed, AllTrimmed, trim_asks, trim_start, trims_left, trim_feed, learns_if}
-use Rattle.tg_trim.specs.Turns.{trim_fed, trim_fed_if}
+use Rattle.tg_trim.specs.Turns.{trim_fed_if}
 use Rattle.tg_reconf.specs.Turns.{all_drawn}
-use Rattle.tg_numbers.specs.Numbers.{FitsNumbers, BeginsNumbers}
+use Rattle.tg_numbers.specs.Numbers.{BeginsNumbers}
 use Rattle.tg_numbers.specs.Laws.{TrimNumbers}
 use Rattle.tg_numbers.proofs.Steps.{each_below, each_from, others_below, Plain, plain_fits, plain_begins, goes_plain, learns_plain, ends_plain, gone_plain}
 

@@ -1,19 +1,18 @@
 -- The numbers of a walk.
-use Rattle.std.proofs.Common.{◌≡◌, ℕ, zero, suc, ◌+◌, ◌≤◌, Bool, true, false, List, [], ◌∷◌, Option, Some, None, refl, sym, subst, arith}
+use Rattle.std.proofs.Common.{◌≡◌, ℕ, zero, suc, ◌+◌, ◌≤◌, Bool, true, false, List, [], Option, Some, None, refl, sym, subst, arith}
 use Rattle.tg_base.specs.Layouts.{Layout}
 use Rattle.tg_base.specs.declared.cell.Cell.{Cell}
-use Rattle.tg_base.specs.declared.ids.NodeId.{NodeId}
 use Rattle.tg_base.specs.declared.ids.Oid.{Oid}
 use Rattle.tg_base.specs.declared.msg.Msg.{Msg}
 use Rattle.tg_protocol.specs.Words.{cell_at}
 use Rattle.tg_protocol.specs.Requests.{Next, Goes, Learns, Ends, awaits, passes, ends}
 use Rattle.tg_protocol.specs.Replies.{Reply, reply}
-use Rattle.tg_protocol.specs.Cells.{CellJob, CellEnd, Done, Seen, Lost, Fenced, Gone, place_in, get_cell, cell_asks, cell_feed}
-use Rattle.tg_protocol.specs.Walking.{trail, Walk, Members, WalkTurn, walk_asks, job_asks, walked, visited, read_at, reads_turn, next_visit, steps_left, walk_on, walks, walk_start, walk_end, walk_next, walk_feed, walk_again}
-use Rattle.tg_stream.specs.Walks.{course_of, walk_of, walk_fed, walk_fed_if}
+use Rattle.tg_protocol.specs.Cells.{CellJob, CellEnd, Done, Fenced, Gone, place_in, get_cell, cell_asks, cell_feed}
+use Rattle.tg_protocol.specs.Walking.{trail, Walk, Members, WalkTurn, walk_asks, walked, visited, read_at, reads_turn, next_visit, steps_left, walk_on, walks, walk_start, walk_end, walk_next, walk_feed}
+use Rattle.tg_stream.specs.Walks.{course_of, walk_of, walk_fed_if}
 use Rattle.tg_stream.proofs.Visits.{on-none, on-known, on-unknown, on-zero}
 use Rattle.tg_reconf.specs.Turns.{all_drawn}
-use Rattle.tg_numbers.specs.Numbers.{ThenDrawn, ThenFresh, FitsNumbers, BeginsNumbers}
+use Rattle.tg_numbers.specs.Numbers.{ThenDrawn, ThenFresh, BeginsNumbers}
 use Rattle.tg_numbers.specs.Laws.{WalkNumbers}
 use Rattle.tg_numbers.proofs.Steps.{more_drawn, Plain, plain_fits, plain_begins, goes_plain, learns_plain, ends_plain, gone_plain, later_plain}
 use Rattle.tg_numbers.proofs.Cells.{get_below, get_from, cell_plain}
