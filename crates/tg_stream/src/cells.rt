@@ -33,6 +33,20 @@ impl Cells {
         }
     }
 
+    /// The cells of a map by position. It takes no memory.
+    pub fn from_map(map: BTreeMap<u64, Cell>) -> Cells
+        ensures { result ≡ map.entries }
+    {
+        Cells { map }
+    }
+
+    /// The cells as a map by position. It takes no memory.
+    pub fn into_map(self) -> BTreeMap<u64, Cell>
+        ensures { result.entries ≡ self }
+    {
+        self.map
+    }
+
     /// The cell at a position: None exactly where none is known. It takes no memory.
     pub fn get(&self, pos: Pos) -> Option<&Cell>
         ensures { option_copied result ≡ cell_at self.now pos }
