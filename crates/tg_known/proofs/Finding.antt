@@ -6,6 +6,7 @@ use Rattle.std.specs.Map.{lookup}
 use Rattle.std.specs.BTreeMap.{is_at}
 use Rattle.std.specs.Ordering.{nat_cmp}
 use Rattle.std.proofs.lemmas.Bool.{cases_eq}
+use Rattle.std.proofs.lemmas.List.{append_assoc}
 use Rattle.std.proofs.lemmas.Bool.Decides.{nat_tests}
 use Rattle.tg_base.specs.declared.cell.Cell.{Cell}
 use Rattle.tg_base.specs.declared.cell.Cell.TheVariants.{Junk, Data}
@@ -21,6 +22,14 @@ use Rattle.tg_known.specs.Known.{settles, is_own_commit, IsSettled, CommitsBelow
 pub put_if : (p : ℕ) (x : Option Entry) (es : Entries) → entry_if p x [] ++ es ≡ entry_if p x es
 put_if p None es = refl
 put_if p (Some e) es = refl
+
+-- the entry at one position more
+pub one_entry : (cells : List (ℕ × Cell)) (p : ℕ) (ps : List ℕ) (x : Option Entry) (old new whole : Entries) → x ≡ cell_entry (cell_at cells p) → new ≡ old ++ entry_if p x [] → old ++ entries_at cells (p ∷ ps) ≡ whole → new ++ entries_at cells ps ≡ whole
+one_entry cells p ps x old new whole is put so_far =
+    ap (λ (es : Entries). es ++ entries_at cells ps) put
+    ∙ append_assoc old (entry_if p x []) (entries_at cells ps)
+    ∙ ap (λ (es : Entries). old ++ es) (put_if p x (entries_at cells ps) ∙ ap (λ (y : Option Entry). entry_if p y (entries_at cells ps)) is)
+    ∙ so_far
 
 -- ---- filtered
 

@@ -4,6 +4,7 @@ pub mod Unions
 pub mod Cells
 pub mod Ranges
 pub mod Streams
+pub mod Ascending
 pub mod Finding
 pub mod Gathering
 pub mod Giving

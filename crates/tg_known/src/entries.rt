@@ -1,6 +1,7 @@
 //! The entries of known pages.
 
-ghost use Rattle.std.specs.Prelude.{◌≡◌, ◌++◌, [], Some, IfOk, OnOk};
+ghost use Rattle.std.specs.Prelude.{◌≡◌, ◌++◌, [], true, Some, IfOk, OnOk};
+ghost use Rattle.tg_entry.specs.Drafts.{all_below};
 ghost use Rattle.tg_protocol.specs.Words.{cell_at};
 ghost use Rattle.tg_protocol.specs.Entries.{is_commit};
 ghost use Rattle.tg_protocol.specs.Pages.{entry_of};
@@ -9,8 +10,8 @@ ghost use Rattle.tg_known.specs.Words.{cell_entry, entry_if, entries_at, commits
 use crate::positions::Positions;
 use std::alloc::Global;
 use std::collections::BTreeMap;
-use tg_base::{Blob, Cell, List, NoMemory, Pos};
-use tg_entry::{Body, Entry, EntryFault, decode};
+use tg_base::{Blob, Cell, NoMemory, Pos};
+use tg_entry::{Body, Entries, Entry, EntryFault, decode};
 
 /// The entry whose spelling a page is, None where it is no entry's.
 #[tactic(auto, unfolding(tg_protocol::specs::Pages::entry_of))]
@@ -102,10 +103,10 @@ pub fn entries_at(
     alloc: Global,
     cells: &BTreeMap<u64, Cell>,
     positions: &Positions,
-) -> Result<List<(Pos, Entry)>, NoMemory>
+) -> Result<Entries, NoMemory>
     ensures { IfOk result (λ es. es ≡ entries_at cells.now.entries positions.now) }
 {
-    let mut entries = List::new(alloc);
+    let mut entries = Entries::new(alloc);
     for pos in positions.as_set() {
         let entry = entry_at(alloc, cells, *pos)?;
         put_entry(&mut entries, *pos, entry)?;
@@ -113,34 +114,15 @@ pub fn entries_at(
     Ok(entries)
 }
 
-/// Likewise at these positions in a row.
-pub fn entries_listed(
-    alloc: Global,
-    cells: &BTreeMap<u64, Cell>,
-    positions: &[Pos],
-) -> Result<List<(Pos, Entry)>, NoMemory>
-    ensures { IfOk result (λ es. es ≡ entries_at cells.now.entries positions.now) }
-{
-    let mut entries = List::new(alloc);
-    for pos in positions {
-        let entry = entry_at(alloc, cells, *pos)?;
-        put_entry(&mut entries, *pos, entry)?;
-    }
-    Ok(entries)
-}
-
 /// Puts an entry last, where there is one.
-fn put_entry(
-    entries: &mut List<(Pos, Entry)>,
-    pos: Pos,
-    entry: Option<Entry>,
-) -> Result<(), NoMemory>
+fn put_entry(entries: &mut Entries, pos: Pos, entry: Option<Entry>) -> Result<(), NoMemory>
+    requires { all_below pos entries.old ≡ true }
     ensures { OnOk result (entries.new ≡ entries.old ++ entry_if pos entry []) }
 {
     match entry {
         None => Ok(()),
         Some(entry) => {
-            entries.push((pos, entry))?;
+            entries.push(pos, entry)?;
             Ok(())
         }
     }

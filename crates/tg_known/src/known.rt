@@ -7,15 +7,15 @@ ghost use Rattle.tg_known.specs.Words.{within, any_has, entries_at};
 ghost use Rattle.tg_known.specs.Known.{nothing, learnt, owned, keeping, lent, returned, given_up, settled_after, settles_to, IsSettled, member_positions, all_positions, all_entries, member_entries, new_entries, CommitsBelow};
 
 use crate::by_stream::StreamPositions;
-use crate::entries::{commit_at, entries_at, entries_listed};
+use crate::entries::{commit_at, entries_at};
 use crate::pages::{all_commit, drop_others};
 use crate::positions::Positions;
 use std::alloc::Global;
 use std::collections::BTreeMap;
 use std::marker::Model;
 use std::mem;
-use tg_base::{Blob, Cell, List, NoMemory, Oid, Pos};
-use tg_entry::Entry;
+use tg_base::{Blob, Cell, NoMemory, Oid, Pos};
+use tg_entry::{Entries, Entry};
 use tg_stream::Cells;
 
 /// Known cells, the positions of the client's own commit records, those of the members of the streams that it hosts,
@@ -59,6 +59,13 @@ impl Known {
         ensures { option_copied result ≡ cell_at self.now.cells pos }
     {
         self.cells.get(&pos)
+    }
+
+    /// The position below which each known page is one of the client's own commit records.
+    pub fn settled(&self) -> Pos
+        ensures { result ≡ self.now.settled }
+    {
+        self.settled
     }
 
     /// The positions of the members of hosted streams.
@@ -183,7 +190,7 @@ impl Known {
         found: &StreamPositions,
         streams: &[Oid],
         tail: Pos,
-    ) -> Result<List<(Pos, Entry)>, NoMemory>
+    ) -> Result<Entries, NoMemory>
         ensures { IfOk result (λ es. es ≡ all_entries self.now found.now streams.now tail) }
     {
         let positions = self.positions(alloc, found, streams, 0, tail)?;
@@ -197,7 +204,7 @@ impl Known {
         found: &StreamPositions,
         streams: &[Oid],
         tail: Pos,
-    ) -> Result<List<(Pos, Entry)>, NoMemory>
+    ) -> Result<Entries, NoMemory>
         ensures { IfOk result (λ es. es ≡ member_entries self.now found.now streams.now tail) }
     {
         let positions = self.members(alloc, found, streams, 0, tail)?;
@@ -212,7 +219,7 @@ impl Known {
         found: &StreamPositions,
         streams: &[Oid],
         tail: Pos,
-    ) -> Result<List<(Pos, Entry)>, NoMemory>
+    ) -> Result<Entries, NoMemory>
         ensures entries { IfOk result (λ es. es ≡ new_entries self.now found.now streams.now tail) }
         ensures others { CommitsBelow self.now.settled (all_entries self.now found.now streams.now tail) }
     {
@@ -238,15 +245,13 @@ impl Known {
         commit_at(alloc, &self.cells, pos)
     }
 
-    /// The entries at these positions, as far as their pages are known: of the members that a walk found, say.
-    pub fn entries_listed(
-        &self,
-        alloc: Global,
-        positions: &[Pos],
-    ) -> Result<List<(Pos, Entry)>, NoMemory>
-        ensures { IfOk result (λ es. es ≡ entries_at self.now.cells positions.now) }
+    /// The entries at these positions, each once and in order, as far as their pages are known: those of the members
+    /// that a walk found, say.
+    pub fn entries_of(&self, alloc: Global, positions: &[Pos]) -> Result<Entries, NoMemory>
+        ensures { IfOk result (λ es. es ≡ entries_at self.now.cells (with_nums positions.now [])) }
     {
-        entries_listed(alloc, &self.cells, positions)
+        let positions = Positions::new(alloc).put_all(positions)?;
+        entries_at(alloc, &self.cells, &positions)
     }
 }
 
