@@ -16,9 +16,6 @@ use Rattle.tg_known.proofs.Unions.{rises}
 abbrev pub left_above : Entries → List ℕ → Bool
 left_above es ps = rises ps && list_all (λ q. all_below q es) ps
 
-pub above_first : (es : Entries) (p : ℕ) (ps : List ℕ) → left_above es (p ∷ ps) ≡ true → all_below p es ≡ true
-above_first es p ps h = grind arith
-
 below-last : (q p : ℕ) (e : Entry) (es : Entries) → all_below q es ≡ true → nat_lt p q ≡ true → all_below q (es ++ (p, e) ∷ []) ≡ true
 below-last q p e [] h lt = rw lt refl
 below-last q p e (x ∷ es) h lt =

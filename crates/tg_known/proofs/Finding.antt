@@ -50,9 +50,6 @@ at_filter f cells (p ∷ ps) =
     ∙ ap (λ (l : Entries). cond (f p) (entry_if p (cell_entry (cell_at cells p)) l) l) (at_filter f cells ps)
     ∙ filter-if f p (cell_entry (cell_at cells p)) (entries_at cells ps) (f p) refl
 
-split : (low high p : ℕ) → is_within low high p ≡ cond (nat_lt p high) (nat_le low p) false
-split low high p = grind (arith, nat_tests)
-
 -- a range is what is below its end, from its beginning on
 split-if : (low high p : ℕ) (ps : List ℕ) (a b : Bool) → nat_le low p ≡ a → nat_lt p high ≡ b → within low high ps ≡ filter (λ q. nat_le low q) (below high ps) →
     within low high (p ∷ ps) ≡ filter (λ q. nat_le low q) (below high (p ∷ ps))
@@ -153,9 +150,6 @@ settled-page own s p d e h is = by (nat_le s p) (has_num p own) refl refl
         let commit : commits_by (entry_of d) ≡ true = grind arith in
         ap (λ t. t || is_commit e) x ∙ subst (λ o. commits_by o ≡ true) is commit
     by false false x y = absurd (grind arith)
-
-abbrev commits-from : ℕ → ℕ × Entry → Bool
-commits-from s x = nat_le s x.0 || is_commit x.1
 
 commits-if : (own : List ℕ) (s p : ℕ) (c : Option Cell) (x : Option Entry) (es : Entries) → ((d : Cell) → c ≡ Some d → settles own s (p, d) ≡ true) → cell_entry c ≡ x → CommitsBelow s es → CommitsBelow s (entry_if p x es)
 commits-if own s p c None es h is more = more

@@ -42,9 +42,9 @@ walks-leave p next w lo cells same h = on-leaves p next (steps_left (next_visit 
 
 -- ---- an answer
 
-work-place : (a : Place) (w : CellWork) (u : ℕ) (x : Reply) (n : ℕ) (k : CellJob) → (cell_feed (works a w) u x n).to ≡ Goes k → k.place ≡ a
+pub work_place : (a : Place) (w : CellWork) (u : ℕ) (x : Reply) (n : ℕ) (k : CellJob) → (cell_feed (works a w) u x n).to ≡ Goes k → k.place ≡ a
 unfolding cell_feed work_feed fill_cell
-work-place a w u x n k h = grind arith
+work_place a w u x n k h = grind arith
 
 same-job : (w : Walk) (lo : ℕ) (j k : CellJob) → ReadsFrom lo (Some j) → k.place ≡ j.place → ReadsFrom lo (Some k)
 same-job w lo j k h same = subst (λ (a : Place). lo ≤ a.pos) (sym same) h
@@ -65,7 +65,7 @@ next-leaves p w j (Ends e) next lo cells h le stays = end-leaves p w j.place.pos
 feed-leaves : (p : Layout) (w : Walk) (o : Option CellJob) (u : ℕ) (x : Reply) (next lo : ℕ) (cells : List (ℕ × Cell)) → Leaves lo cells w → ReadsFrom lo o → ThenLeaves lo cells (walk_feed p w o u x next).to
 unfolding walk_feed
 feed-leaves p w None u x next lo cells h r = h
-feed-leaves p w (Some j) u x next lo cells h r = next-leaves p w j (cell_feed j u x next).to (cell_feed j u x next).next lo cells h r (λ k e. work-place j.place j.work u x next k e)
+feed-leaves p w (Some j) u x next lo cells h r = next-leaves p w j (cell_feed j u x next).to (cell_feed j u x next).next lo cells h r (λ k e. work_place j.place j.work u x next k e)
 
 -- ---- all of it
 

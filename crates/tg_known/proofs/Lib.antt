@@ -11,5 +11,6 @@ pub mod Giving
 pub mod Settling
 pub mod Leaving
 pub mod Keeping
+pub mod Ordered
 pub mod Ruled
 pub mod Played

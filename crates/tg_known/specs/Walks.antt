@@ -1,12 +1,14 @@
 -- What walks leave as it was.
-use Rattle.std.specs.Prelude.{◌≡◌, ℕ, ◌≤◌, List, Option, Some, None}
+use Rattle.std.specs.Prelude.{◌≡◌, ℕ, ◌<◌, ◌≤◌, List, [], ◌∷◌, Option, Some, None}
 use Rattle.tg_base.specs.Layouts.{Layout}
 use Rattle.tg_base.specs.declared.cell.Cell.{Cell}
 use Rattle.tg_base.specs.declared.ids.Oid.{Oid}
+use Rattle.tg_protocol.specs.Words.{with_nums}
 use Rattle.tg_protocol.specs.Requests.{Next, Goes, Learns, Ends}
 use Rattle.tg_protocol.specs.Replies.{Reply}
 use Rattle.tg_protocol.specs.Cells.{CellJob}
-use Rattle.tg_protocol.specs.Walking.{Walk, Members, walk_start, walk_feed, walk_again}
+use Rattle.tg_protocol.specs.Walking.{Trail, Walk, Members, walk_start, walk_feed, walk_again}
+use Rattle.tg_stream.specs.Laws.{IsBelow}
 use Rattle.tg_known.specs.Words.{cells_below}
 use Rattle.tg_known.specs.Known.{IsSettled}
 
@@ -57,3 +59,41 @@ pub record KeepsSettled : Type 0 where
       ThenSettled own s (walk_start p o lasts lo cells next).to
   pub feeds : (p : Layout) (w : Walk) (unit : ℕ) (x : Reply) (next : ℕ) (own : List ℕ) (s : ℕ) → OverSettled own s w → ThenSettled own s (walk_feed p w w.job unit x next).to
   pub resumes : (p : Layout) (w : Walk) (next : ℕ) (own : List ℕ) (s : ℕ) → OverSettled own s w → ThenSettled own s (walk_again p w next).to
+
+-- The members that are found.
+
+-- positions that rise, each once
+abbrev pub InOrder : List ℕ → Type 0
+InOrder ps = with_nums ps [] ≡ ps
+
+-- a position below the first of these
+abbrev pub BelowFirst : List ℕ → ℕ → Type 0
+BelowFirst [] q = Unit {0}
+BelowFirst (m ∷ ms) q = q < m
+
+-- a trail that leads below the first of these
+abbrev pub LeadsBelow : List ℕ → Trail → Type 0
+LeadsBelow [] t = Unit {0}
+LeadsBelow (m ∷ ms) t = IsBelow m t
+
+abbrev pub ReadsBelow : List ℕ → Option CellJob → Type 0
+ReadsBelow ms None = Unit {0}
+ReadsBelow ms (Some j) = BelowFirst ms j.place.pos
+
+-- a walk whose members rise, and which finds others only below them
+pub record FindsDown (w : Walk) : Type 0 where
+  pub members : InOrder w.members
+  pub trail : LeadsBelow w.members w.trail
+  pub job : ReadsBelow w.members w.job
+
+-- and what becomes of it
+abbrev pub ThenInOrder : Next Walk Members → Type 0
+ThenInOrder (Goes w) = FindsDown w
+ThenInOrder (Learns w) = FindsDown w
+ThenInOrder (Ends x) = InOrder x.list
+
+-- the members that a walk finds rise, whatever the last positions and the pointers are
+pub record FindsInOrder : Type 0 where
+  pub starts : (p : Layout) (o : Oid) (lasts : List ℕ) (lo : ℕ) (cells : List (ℕ × Cell)) (next : ℕ) → ThenInOrder (walk_start p o lasts lo cells next).to
+  pub feeds : (p : Layout) (w : Walk) (unit : ℕ) (x : Reply) (next : ℕ) → FindsDown w → ThenInOrder (walk_feed p w w.job unit x next).to
+  pub resumes : (p : Layout) (w : Walk) (next : ℕ) → FindsDown w → ThenInOrder (walk_again p w next).to

@@ -2,7 +2,7 @@
 
 ghost use Rattle.tg_kind.specs.Of.{meaning_of};
 ghost use Rattle.tg_known.specs.Rules.{AsRuled, NewPlayed};
-ghost use Rattle.tg_known.specs.Walks.{LeavesBelow, KeepsSettled};
+ghost use Rattle.tg_known.specs.Walks.{LeavesBelow, KeepsSettled, FindsInOrder};
 
 use tg_kind::Registry;
 
@@ -16,6 +16,12 @@ pub fn walks_leave_below()
 /// state of the walk, whatever it meets.
 pub fn walks_keep_settled()
     ensures { KeepsSettled }
+{}
+
+/// The members that a walk finds rise, each once, whatever the last positions and the pointers of entries are. So the
+/// entries at those positions, in order, are those at the positions as they were found.
+pub fn walks_find_in_order()
+    ensures { FindsInOrder }
 {}
 
 /// The words of this crate's clauses are those of a client's rules.

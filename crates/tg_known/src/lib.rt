@@ -11,8 +11,8 @@ mod positions;
 
 pub use by_stream::StreamPositions;
 pub use known::Known;
-pub use laws::{new_entries_suffice, walks_keep_settled, walks_leave_below, words_are_the_rules};
+pub use laws::{
+    new_entries_suffice, walks_find_in_order, walks_keep_settled, walks_leave_below,
+    words_are_the_rules,
+};
 pub use positions::Positions;
-
-#[cfg(test)]
-mod tests;

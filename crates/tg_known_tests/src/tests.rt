@@ -1,7 +1,7 @@
-use super::*;
 use std::alloc::Global;
 use std::test::Fail;
 use tg_base::{Blob, Cell, List, NoMemory, Oid};
+use tg_known::{Known, StreamPositions};
 
 // The commit record of client 0, number 1, that adds 5 to the counter 0, the first in its stream.
 const FIRST: [u8; 64] = [
@@ -74,7 +74,11 @@ fn entries_are_found(rt: HostRuntime) -> Result<(), Fail> {
     let commit = known.commit_at(alloc, &found, &both, 7, 2);
     let commit = commit.map_err(|_| "memory")?;
     assert!(rt; commit.is_some());
+    let of = known.entries_of(alloc, &[6, 1, 4]);
+    let of = of.map_err(|_| "memory")?;
+    assert!(rt; matches!(of.as_slice(), [(1, _), (6, _)]));
     let known = taken(known.give_up(alloc, 3))?;
+    assert!(rt; known.settled() == 3);
     let new = known.entries_from_settled(alloc, &found, &both, 7);
     let new = new.map_err(|_| "memory")?;
     assert!(rt; matches!(new.as_slice(), [(3, _), (6, _)]));
