@@ -1,10 +1,7 @@
 -- Entries at positions.
-use Rattle.std.proofs.Common.{◌≡◌, ◌≢◌, ℕ, ◌<◌, ◌≤◌, Bool, true, false, cond, not, ◌&&◌, ◌||◌, List, [], ◌∷◌, ◌++◌, filter, nat_lt, Option, Some, None, refl, sym, ap, subst, ◌∙◌, inl, inr, arith}
-use Rattle.std.specs.Prelude.{◌==◌, nat_le}
+use Rattle.std.proofs.Common.{◌≡◌, ◌≢◌, ℕ, Bool, true, false, cond, ◌&&◌, ◌||◌, List, [], ◌∷◌, ◌++◌, filter, nat_lt, Option, Some, None, refl, sym, ap, subst, ◌∙◌, inl, inr, arith}
+use Rattle.std.specs.Prelude.{nat_le}
 use Rattle.std.specs.List.{list_all}
-use Rattle.std.specs.Map.{lookup}
-use Rattle.std.specs.BTreeMap.{is_at}
-use Rattle.std.specs.Ordering.{nat_cmp}
 use Rattle.std.proofs.lemmas.Bool.{cases_eq}
 use Rattle.std.proofs.lemmas.List.{append_assoc}
 use Rattle.std.proofs.lemmas.Bool.Decides.{nat_tests}
@@ -16,8 +13,8 @@ use Rattle.tg_protocol.specs.Entries.{is_commit}
 use Rattle.tg_protocol.specs.Pages.{entry_of}
 use Rattle.tg_protocol.specs.Views.{Entries}
 use Rattle.tg_protocol.specs.Past.{commit_at}
-use Rattle.tg_known.specs.Words.{cell_entry, entry_if, entries_at, entries_from, commits_by, commit_by, commit_of, below, within, is_within, is_page}
-use Rattle.tg_known.specs.Known.{settles, is_own_commit, IsSettled, CommitsBelow}
+use Rattle.tg_known.specs.Words.{cell_entry, entry_if, entries_at, entries_from, commits_by, commit_by, commit_of, below, within, is_within}
+use Rattle.tg_known.specs.Known.{settles, IsSettled, CommitsBelow}
 
 pub put_if : (p : ℕ) (x : Option Entry) (es : Entries) → entry_if p x [] ++ es ≡ entry_if p x es
 put_if p None es = refl

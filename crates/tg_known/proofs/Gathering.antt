@@ -1,14 +1,11 @@
 -- The positions that are gathered, and the entries there.
-use Rattle.std.proofs.Common.{◌≡◌, ℕ, ◌<◌, Bool, true, false, cond, ◌&&◌, ◌||◌, List, [], ◌∷◌, filter, nat_lt, Some, None, Option, refl, sym, ap, ◌∙◌, arith}
+use Rattle.std.proofs.Common.{◌≡◌, ℕ, ◌<◌, Bool, true, cond, ◌&&◌, ◌||◌, List, [], ◌∷◌, nat_lt, None, refl, sym, ap, ◌∙◌, arith}
 use Rattle.std.specs.List.{list_all}
 use Rattle.std.proofs.lemmas.Bool.Decides.{nat_tests}
-use Rattle.tg_base.specs.declared.cell.Cell.{Cell}
 use Rattle.tg_base.specs.declared.ids.Oid.{Oid}
-use Rattle.tg_entry.specs.declared.entry.Entry.{Entry}
 use Rattle.tg_protocol.specs.Words.{has_num, with_num, with_nums, cell_at}
-use Rattle.tg_protocol.specs.Views.{Entries}
 use Rattle.tg_protocol.specs.Past.{commit_at}
-use Rattle.tg_known.specs.Words.{ByStream, positions_of, any_has, is_within, within, below, cell_entry, entries_at, entries_from, commit_of}
+use Rattle.tg_known.specs.Words.{ByStream, positions_of, any_has, is_within, within, below, cell_entry, entries_at, commit_of}
 use Rattle.tg_known.specs.Gathered.{gathered}
 use Rattle.tg_known.specs.Known.{Knowledge, member_positions, all_positions, all_entries, member_entries, new_entries}
 use Rattle.tg_known.proofs.Unions.{rises, rises_union, filter_union, put_first, has_all}

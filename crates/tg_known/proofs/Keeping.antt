@@ -1,8 +1,7 @@
 -- Cells that are settled stay so while a stream is walked.
-use Rattle.std.proofs.Common.{◌≡◌, ℕ, ◌≤◌, List, Option, refl, sym, subst}
+use Rattle.std.proofs.Common.{ℕ, ◌≤◌, List, refl, sym, subst}
 use Rattle.tg_base.specs.declared.cell.Cell.{Cell}
 use Rattle.tg_protocol.specs.Requests.{Next, Goes, Learns, Ends}
-use Rattle.tg_protocol.specs.Cells.{CellJob}
 use Rattle.tg_protocol.specs.Walking.{Walk, Members}
 use Rattle.tg_known.specs.Known.{IsSettled}
 use Rattle.tg_known.specs.Walks.{ReadsFrom, Leaves, ThenLeaves, OverSettled, ThenSettled, KeepsSettled}

@@ -1,13 +1,13 @@
 -- Which cells a walk leaves as they were.
-use Rattle.std.proofs.Common.{◌≡◌, ℕ, zero, suc, ◌≤◌, ◌<◌, Bool, true, false, List, Option, Some, None, refl, sym, ap, subst, ◌∙◌, arith}
+use Rattle.std.proofs.Common.{◌≡◌, ℕ, zero, suc, ◌≤◌, List, Option, Some, None, refl, sym, subst, ◌∙◌, arith}
 use Rattle.tg_base.specs.Layouts.{Layout}
 use Rattle.tg_base.specs.declared.cell.Cell.{Cell}
 use Rattle.tg_base.specs.declared.ids.Oid.{Oid}
-use Rattle.tg_protocol.specs.Words.{cell_at, with_cell}
+use Rattle.tg_protocol.specs.Words.{cell_at}
 use Rattle.tg_protocol.specs.Requests.{Next, Goes, Learns, Ends}
 use Rattle.tg_protocol.specs.Replies.{Reply}
 use Rattle.tg_protocol.specs.Cells.{CellJob, CellEnd, Done, Seen, Lost, Fenced, Gone, Place, CellWork, works, place_in, get_cell, fill_cell, cell_feed, work_feed}
-use Rattle.tg_protocol.specs.Walking.{trail, Walk, WalkTurn, next_visit, walk_on, walks, steps_left, walk_start, walk_feed, walk_again, visited, read_at, with_job, reads_turn, walk_end, walk_next}
+use Rattle.tg_protocol.specs.Walking.{Walk, WalkTurn, next_visit, walk_on, walks, steps_left, walk_start, walk_feed, visited, read_at, reads_turn, walk_end, walk_next}
 use Rattle.tg_stream.specs.Walks.{begun, walk_of}
 use Rattle.tg_stream.proofs.Visits.{on-zero, on-none, on-known, on-unknown, start-is}
 use Rattle.tg_stream.proofs.Trails.{visit-from}

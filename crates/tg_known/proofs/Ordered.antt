@@ -1,13 +1,13 @@
 -- The members that a walk finds rise.
-use Rattle.std.proofs.Common.{◌≡◌, ℕ, zero, suc, ◌<◌, List, [], ◌∷◌, Option, Some, None, refl, sym, ap, subst, ◌∙◌}
+use Rattle.std.proofs.Common.{◌≡◌, ℕ, zero, suc, List, [], ◌∷◌, Option, Some, None, refl, sym, ap, subst, ◌∙◌}
 use Rattle.tg_base.specs.Layouts.{Layout}
 use Rattle.tg_base.specs.declared.cell.Cell.{Cell}
 use Rattle.tg_base.specs.declared.ids.Oid.{Oid}
-use Rattle.tg_protocol.specs.Words.{cell_at, with_num, with_cell}
+use Rattle.tg_protocol.specs.Words.{cell_at, with_num}
 use Rattle.tg_protocol.specs.Requests.{Next, Goes, Learns, Ends}
 use Rattle.tg_protocol.specs.Replies.{Reply}
 use Rattle.tg_protocol.specs.Cells.{CellJob, CellEnd, Done, Seen, Lost, Fenced, Gone, Place, place_in, get_cell, cell_feed}
-use Rattle.tg_protocol.specs.Walking.{Trail, trail, Walk, WalkTurn, pointers_at, trail_after, member_after, next_visit, walk_on, walks, steps_left, walk_start, walk_feed, visited, read_at, reads_turn, walk_end, walk_next}
+use Rattle.tg_protocol.specs.Walking.{Trail, Walk, WalkTurn, pointers_at, trail_after, member_after, next_visit, walk_on, walks, steps_left, walk_start, walk_feed, visited, read_at, reads_turn, walk_end, walk_next}
 use Rattle.tg_stream.specs.Walks.{begun, walk_of}
 use Rattle.tg_stream.proofs.Visits.{on-zero, on-none, on-known, on-unknown, start-is}
 use Rattle.tg_stream.proofs.Trails.{passed-below, below-own, visit-below}
@@ -41,7 +41,7 @@ seen-leads ms t q o c (Some ps) e h b = below-own q ps o c e
 
 reads-down : (p : Layout) (next : ℕ) (w : Walk) (q : ℕ) → InOrder w.members → LeadsBelow w.members w.trail → BelowFirst w.members q → ThenInOrder (reads_turn w (get_cell (place_in p q) next)).to
 unfolding get_cell
-reads-down p next w q o h b = record { members = o; trail = h; job = b; }
+reads-down p next w q o h b = record { members = o; trail = h; job = b }
 
 on-down : (p : Layout) (next n : ℕ) (w : Walk) → InOrder w.members → LeadsBelow w.members w.trail → ThenInOrder (walk_on p next n w).to
 on-down p next zero w o h = subst (λ (t : WalkTurn). ThenInOrder t.to) (sym (on-zero p next w)) o

@@ -1,5 +1,5 @@
 -- What is played from new entries alone.
-use Rattle.std.proofs.Common.{◌≡◌, ℕ, ◌<◌, ◌≤◌, Bool, true, false, cond, not, ◌&&◌, ◌||◌, List, [], ◌∷◌, filter, nat_lt, Option, Some, None, refl, sym, ap, ◌∙◌, arith}
+use Rattle.std.proofs.Common.{◌≡◌, ℕ, ◌≤◌, Bool, true, false, cond, not, ◌&&◌, ◌||◌, [], ◌∷◌, nat_lt, Option, Some, None, refl, sym, ap, ◌∙◌, arith}
 use Rattle.std.specs.Prelude.{◌==◌, nat_le, is_some}
 use Rattle.std.proofs.lemmas.Bool.Decides.{nat_tests}
 use Rattle.tg_entry.specs.declared.entry.Body.{Body}
@@ -8,12 +8,12 @@ use Rattle.tg_entry.specs.declared.entry.Entry.{Entry}
 use Rattle.tg_kind.specs.Meaning.{Meaning}
 use Rattle.tg_protocol.specs.Words.{or_else}
 use Rattle.tg_protocol.specs.Entries.{body_commits, is_commit, decides, needs_decision}
-use Rattle.tg_protocol.specs.Views.{Entries, decision_in, View, Play, Step, On, Stuck, verdict, by_decision, fate_or_verdict, fate_of, outcome, passed_over, with_open, record_step, entry_step, step_at, between, play_on, play_from, play, stands_at}
-use Rattle.tg_model.specs.declared.play.PlayEnd.TheVariants.{Played, Blocked}
+use Rattle.tg_protocol.specs.Views.{Entries, decision_in, View, Play, Step, On, Stuck, verdict, by_decision, fate_or_verdict, fate_of, outcome, passed_over, record_step, entry_step, step_at, between, play_on, play_from, play, stands_at}
+use Rattle.tg_model.specs.declared.play.PlayEnd.TheVariants.{Blocked}
 use Rattle.tg_protocol.specs.Past.{commit_at}
 use Rattle.tg_known.specs.Words.{entries_from}
 use Rattle.tg_known.specs.Known.{CommitsBelow}
-use Rattle.tg_known.specs.Rules.{PlaysNew, NewPlayed}
+use Rattle.tg_known.specs.Rules.{NewPlayed}
 
 -- ---- decisions
 

@@ -1,16 +1,13 @@
 -- What is settled stays so.
-use Rattle.std.proofs.Common.{◌≡◌, ◌≢◌, ℕ, ◌<◌, ◌≤◌, Bool, true, false, cond, not, ◌&&◌, ◌||◌, List, [], ◌∷◌, filter, nat_lt, Option, Some, None, refl, sym, ap, subst, ◌∙◌, inl, inr, arith}
+use Rattle.std.proofs.Common.{◌≡◌, ℕ, ◌≤◌, Bool, true, false, cond, not, ◌&&◌, ◌||◌, List, [], ◌∷◌, filter, nat_lt, Some, refl, sym, ap, ◌∙◌, arith}
 use Rattle.std.specs.Prelude.{◌==◌, nat_le, min, max}
 use Rattle.std.specs.List.{list_all}
-use Rattle.std.proofs.lemmas.Bool.{cases_eq}
 use Rattle.std.proofs.lemmas.Bool.Decides.{nat_tests}
-use Rattle.std.proofs.lemmas.List.Elements.{filter_agree}
 use Rattle.tg_base.specs.declared.cell.Cell.{Cell}
-use Rattle.tg_base.specs.declared.cell.Cell.TheVariants.{Junk, Data}
 use Rattle.tg_protocol.specs.Words.{has_num, with_num, with_cell}
-use Rattle.tg_known.specs.Words.{cell_entry, commits_by, is_page, is_within, cells_within, cells_below}
-use Rattle.tg_known.specs.Known.{Knowledge, settles, is_own_commit, IsSettled, keeps, commits_if_own, settles_to, settled_after}
-use Rattle.tg_known.specs.Pruned.{is_others, stays}
+use Rattle.tg_known.specs.Words.{cell_entry, commits_by, is_page, is_within, cells_within}
+use Rattle.tg_known.specs.Known.{settles, is_own_commit, IsSettled, keeps, commits_if_own}
+use Rattle.tg_known.specs.Pruned.{stays}
 use Rattle.tg_known.specs.Walks.{SameBelow}
 use Rattle.tg_known.proofs.Unions.{has_one}
 use Rattle.tg_known.proofs.Cells.{all_put, all_then, all_both, all_below, all_kept, filters_agree}

@@ -61,11 +61,7 @@ pub fn commits(alloc: Global, cell: &Cell) -> Result<bool, NoMemory>
 }
 
 /// The entry at a position, None where no page of one is known there.
-fn entry_at(
-    alloc: Global,
-    cells: &BTreeMap<u64, Cell>,
-    pos: Pos,
-) -> Result<Option<Entry>, NoMemory>
+fn entry_at(alloc: Global, cells: &BTreeMap<u64, Cell>, pos: Pos) -> Result<Option<Entry>, NoMemory>
     ensures { IfOk result (λ e. e ≡ cell_entry (cell_at cells.now.entries pos)) }
 {
     match cells.get(&pos) {

@@ -116,12 +116,7 @@ impl Known {
     }
 
     /// Members of a hosted stream are kept, with those that are kept already. Where memory runs out, all is given up.
-    pub fn keep_members(
-        self,
-        alloc: Global,
-        oid: Oid,
-        positions: &[Pos],
-    ) -> Result<Known, NoMemory>
+    pub fn keep_members(self, alloc: Global, oid: Oid, positions: &[Pos]) -> Result<Known, NoMemory>
         ensures { IfOk result (λ k. k ≡ keeping self oid positions.now) }
     {
         let Known {
@@ -288,9 +283,7 @@ impl Known {
     ) -> Result<Positions, NoMemory>
         ensures { IfOk result (λ p. p ≡ within low high (member_positions self.now found.now streams.now)) }
     {
-        let kept = self
-            .kept
-            .gather(streams, low, high, Positions::new(alloc))?;
+        let kept = self.kept.gather(streams, low, high, Positions::new(alloc))?;
         found.gather(streams, low, high, kept)
     }
 

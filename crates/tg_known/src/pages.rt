@@ -31,12 +31,7 @@ fn is_others(own: &Positions, pos: Pos, cell: &Cell) -> bool
 }
 
 /// Whether a cell holds a commit record or no entry, if its position is one of these.
-fn commits_if_own(
-    alloc: Global,
-    own: &Positions,
-    pos: Pos,
-    cell: &Cell,
-) -> Result<bool, NoMemory>
+fn commits_if_own(alloc: Global, own: &Positions, pos: Pos, cell: &Cell) -> Result<bool, NoMemory>
     ensures { IfOk result (λ c. c ≡ commits_if_own own.now (pos, cell.now)) }
 {
     if own.has(pos) {

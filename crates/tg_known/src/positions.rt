@@ -60,12 +60,7 @@ impl Positions {
 
     /// Those of other positions more that stand from `low` on and below `high`. Where memory runs out, all are given up.
     /// The time goes by how many these are.
-    pub fn put_within(
-        self,
-        others: &Positions,
-        low: Pos,
-        high: Pos,
-    ) -> Result<Positions, NoMemory>
+    pub fn put_within(self, others: &Positions, low: Pos, high: Pos) -> Result<Positions, NoMemory>
         ensures { IfOk result (λ p. p ≡ with_nums (within low high others.now) self) }
     {
         let Positions { mut set } = self;

@@ -1,4 +1,4 @@
-use Rattle.std.proofs.Common.{ℕ, List, ◌++◌, ap, sym, ◌∙◌}
+use Rattle.std.proofs.Common.{ℕ, List, ◌++◌, ap, ◌∙◌}
 use Rattle.tg_base.specs.declared.cell.Cell.{Cell}
 use Rattle.tg_known.specs.Pruned.{others_in}
 use Rattle.tg_known.proofs.Ranges.{cells_is}

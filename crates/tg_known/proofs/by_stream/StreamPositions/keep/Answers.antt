@@ -1,7 +1,4 @@
-use Rattle.std.proofs.Common.{ℕ, List, ap, subst, ◌∙◌}
-use Rattle.std.specs.BTreeMap.{insert_entry}
-use Rattle.tg_base.specs.Orders.{oid_cmp}
-use Rattle.tg_protocol.specs.Words.{with_nums}
+use Rattle.std.proofs.Common.{ap, ◌∙◌}
 use Rattle.tg_known.specs.Words.{ByStream, with_positions}
 use Rattle.tg_known.proofs.Streams.{kept_by}
 use Rattle.tg_known.proofs.by_stream.StreamPositions.keep.Goals as goal

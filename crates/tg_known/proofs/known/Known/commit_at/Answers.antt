@@ -1,5 +1,4 @@
-use Rattle.std.proofs.Common.{Option, None, Bool, cond, sym, ap, ◌∙◌}
-use Rattle.tg_entry.specs.declared.entry.Entry.{Entry}
+use Rattle.std.proofs.Common.{None, cond, sym, ap, ◌∙◌}
 use Rattle.tg_protocol.specs.Words.{cell_at}
 use Rattle.tg_stream.proofs.Subs.{ok_then}
 use Rattle.tg_known.specs.Words.{cell_entry, commit_of}

@@ -1,4 +1,4 @@
-use Rattle.std.proofs.Common.{◌≡◌, ℕ, List, ap, ◌∙◌}
+use Rattle.std.proofs.Common.{ap, ◌∙◌}
 use Rattle.tg_stream.proofs.Subs.{ok_then}
 use Rattle.tg_known.specs.Words.{within, entries_at}
 use Rattle.tg_known.specs.Known.{Knowledge, all_positions}

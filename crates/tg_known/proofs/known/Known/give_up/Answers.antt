@@ -1,4 +1,4 @@
-use Rattle.std.proofs.Common.{ℕ, List, Bool, cond, filter, ap, sym, subst, ◌∙◌}
+use Rattle.std.proofs.Common.{ℕ, List, cond, filter, ap, sym, subst, ◌∙◌}
 use Rattle.std.specs.Prelude.{max}
 use Rattle.tg_base.specs.declared.cell.Cell.{Cell}
 use Rattle.tg_known.specs.Known.{Knowledge, IsSettled, keeps, given_up}

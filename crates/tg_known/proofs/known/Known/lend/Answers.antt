@@ -1,6 +1,5 @@
-use Rattle.std.proofs.Common.{◌≡◌, ℕ, ◌≤◌, List, BTreeMap, ap, sym, subst, ◌∙◌, arith}
+use Rattle.std.proofs.Common.{◌≡◌, ℕ, List, BTreeMap, ap, sym, subst, ◌∙◌}
 use Rattle.std.specs.Prelude.{min}
-use Rattle.std.proofs.lemmas.Bool.Decides.{nat_tests}
 use Rattle.tg_base.specs.declared.cell.Cell.{Cell}
 use Rattle.tg_known.specs.Known.{IsSettled}
 use Rattle.tg_known.proofs.Settling.{lent_settled}
