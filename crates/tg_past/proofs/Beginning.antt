@@ -1,0 +1,135 @@
+-- The bases and the view at a past position are those of the definitions.
+use Rattle.std.specs.List.{list_all}
+use Rattle.std.specs.Prelude.{◌≡◌, ℕ, Bool, true, false, ◌&&◌, List, [], ◌∷◌, ◌++◌, map, Option, Some, None, Result, Ok, Err, IfOk, refl}
+use Rattle.std.proofs.Common.{sym, ap, ◌∙◌, subst}
+use Rattle.tg_base.specs.declared.ids.Oid.{Oid}
+use Rattle.tg_kind.specs.Meaning.{Meaning}
+use Rattle.tg_model.specs.declared.play.PlayEnd.{PlayEnd}
+use Rattle.tg_protocol.specs.Checkpoints.{Trims, trim_of, base_or, base_by, load_from, view_base}
+use Rattle.tg_protocol.specs.Past.{PastTurn, PastView, PastGone, last_base, past_base_or, past_base_by, past_base, past_play, past_or_gone, past_by, past_at}
+use Rattle.tg_protocol.specs.Views as told
+use Rattle.tg_protocol.specs.Views.{Entries, fresh_base, Play}
+use Rattle.tg_play.specs.declared.base.Base.{Base}
+use Rattle.tg_play.specs.Kept.{Kept}
+use Rattle.tg_play.specs.Relations.{KeepsBase, KeepsBases, KeepsView, PlayedOn}
+use Rattle.tg_ckpt.specs.Answers.{KeepsMaybe}
+use Rattle.tg_past.specs.declared.past.PastTurn.TheVariants as variants
+use Rattle.tg_past.specs.Answers.{gone_or, KeepsTurn}
+
+and_second : (a b : Bool) → (a && b) ≡ true → b ≡ true
+and_second true b h = h
+and_second false b h = absurd (never h)
+  where
+    never : false ≡ true → ⊥
+    never e = cc
+
+pub all_rest : (f : Oid → Bool) (os rest : List Oid) (o : Oid) → os ≡ o ∷ rest → list_all f os ≡ true → list_all f rest ≡ true
+all_rest f os rest o is h = and_second (f o) (list_all f rest) (ap (λ (l : List Oid). list_all f l) (sym is) ∙ h)
+
+module _ (m : Meaning) where
+  -- ---- the asked object
+
+  pub reached_none : (d : Option (told.Base m)) (b : Option (Base m.state)) (below : ℕ) (p : Play m) → KeepsMaybe m b d → b ≡ None → past_or_gone m d below p ≡ PastGone below
+  reached_none None b below p k is = refl
+  reached_none (Some d) None below p k is = absurd k
+  reached_none (Some d) (Some b) below p k is = absurd (none is)
+    where
+      none : ◌≡◌ {A = Option (Base m.state)} (Some b) None → ⊥
+      none h = cc
+
+  pub reached_some : (d : Option (told.Base m)) (b : Option (Base m.state)) (x : Base m.state) (below : ℕ) (p : Play m) → KeepsMaybe m b d → b ≡ Some x → past_or_gone m d below p ≡ PastView p
+  reached_some (Some d) b x below p k is = refl
+  reached_some None (Some b) x below p k is = absurd k
+  reached_some None None x below p k is = absurd (none is)
+    where
+      none : ◌≡◌ {A = Option (Base m.state)} None (Some x) → ⊥
+      none h = cc
+
+  -- ---- a base
+
+  -- the object met no trim
+  pub untrimmed_base : (es : Entries) (gone : Trims) (objects : List Oid) (pos : ℕ) (o : Oid) (b : Base m.state) → None ≡ trim_of gone o → KeepsBase m b (fresh_base m objects o) → KeepsBase m b (past_base m es gone objects pos o)
+  untrimmed_base es gone objects pos o b is k = subst (λ (t : Option ℕ). KeepsBase m b (past_base_by m es objects pos o t)) is k
+
+  none_last : (d : Option (told.Base m)) (b : Option (Base m.state)) → KeepsMaybe m b d → b ≡ None → d ≡ None
+  none_last None b k is = refl
+  none_last (Some d) None k is = absurd k
+  none_last (Some d) (Some b) k is = absurd (none is)
+    where
+      none : ◌≡◌ {A = Option (Base m.state)} (Some b) None → ⊥
+      none h = cc
+
+  view_is : (es : Entries) (gone : Trims) (objects : List Oid) (pos : ℕ) (o : Oid) (below : ℕ) → trim_of gone o ≡ Some below → last_base m es o below pos ≡ None → view_base m es gone objects o ≡ past_base m es gone objects pos o
+  unfolding view_base
+  view_is es gone objects pos o below is last =
+      ap (λ (t : Option ℕ). base_by m es objects o t) is
+      ∙ ap (λ (d : Option (told.Base m)). past_base_or m es objects o below d) (sym last)
+      ∙ ap (λ (t : Option ℕ). past_base_by m es objects pos o t) (sym is)
+
+  -- no checkpoint reaches from the trim to the position
+  pub unreached_base : (es : Entries) (gone : Trims) (objects : List Oid) (pos : ℕ) (o : Oid) (below : ℕ) (b : Option (Base m.state)) (x : Base m.state)
+      → trim_of gone o ≡ Some below → KeepsMaybe m b (last_base m es o below pos) → b ≡ None → KeepsBase m x (view_base m es gone objects o) → KeepsBase m x (past_base m es gone objects pos o)
+  unreached_base es gone objects pos o below b x is k none h =
+      subst (λ (d : told.Base m). KeepsBase m x d) (view_is es gone objects pos o below is (none_last (last_base m es o below pos) b k none)) h
+
+  last_or : (es : Entries) (objects : List Oid) (o : Oid) (below : ℕ) (d : Option (told.Base m)) (b : Option (Base m.state)) (x : Base m.state) → KeepsMaybe m b d → b ≡ Some x → KeepsBase m x (past_base_or m es objects o below d)
+  last_or es objects o below (Some d) (Some b) x k is =
+      let same : b ≡ x = cc in
+      subst (λ (y : Base m.state). KeepsBase m y d) same k
+  last_or es objects o below (Some d) None x k is = absurd k
+  last_or es objects o below None (Some b) x k is = absurd k
+  last_or es objects o below None None x k is = absurd (none is)
+    where
+      none : ◌≡◌ {A = Option (Base m.state)} None (Some x) → ⊥
+      none h = cc
+
+  -- one does
+  pub reached_base : (es : Entries) (gone : Trims) (objects : List Oid) (pos : ℕ) (o : Oid) (below : ℕ) (b : Option (Base m.state)) (x : Base m.state)
+      → trim_of gone o ≡ Some below → KeepsMaybe m b (last_base m es o below pos) → b ≡ Some x → KeepsBase m x (past_base m es gone objects pos o)
+  reached_base es gone objects pos o below b x is k some =
+      subst (λ (t : Option ℕ). KeepsBase m x (past_base_by m es objects pos o t)) (sym is) (last_or es objects o below (last_base m es o below pos) b x k some)
+
+  -- ---- the bases
+
+  -- bases so far, which with those of the rest are those of all
+  abbrev pub Begun : List (Base m.state) → List (told.Base m) → List (told.Base m) → Type 0
+  Begun bs rest ds = (cs : List (Base m.state)) → KeepsBases m cs rest → KeepsBases m (bs ++ cs) ds
+
+  joined : {X : Type 0} (xs : List X) (y : X) (zs : List X) → (xs ++ y ∷ []) ++ zs ≡ xs ++ y ∷ zs
+  joined [] y zs = refl
+  joined {X} (x ∷ xs) y zs = ap (λ (l : List X). x ∷ l) (joined xs y zs)
+
+  no_more : {X : Type 0} (xs : List X) → xs ++ [] ≡ xs
+  no_more [] = refl
+  no_more {X} (x ∷ xs) = ap (λ (l : List X). x ∷ l) (no_more xs)
+
+  pub begun_first : (bs : List (Base m.state)) (ds : List (told.Base m)) → bs ≡ [] → Begun bs ds ds
+  begun_first bs ds is cs k = subst (λ (l : List (Base m.state)). KeepsBases m (l ++ cs) ds) (sym is) k
+
+  pub begun_more : (f : Oid → told.Base m) (os rest : List Oid) (o : Oid) (bs : List (Base m.state)) (b : Base m.state) (ds : List (told.Base m)) → os ≡ o ∷ rest → KeepsBase m b (f o) → Begun bs (map f os) ds → Begun (bs ++ b ∷ []) (map f rest) ds
+  begun_more f os rest o bs b ds is k h cs rests =
+      subst (λ (l : List (Base m.state)). KeepsBases m l ds) (sym (joined bs b cs))
+      (h (b ∷ cs) (subst (λ (l : List Oid). KeepsBases m (b ∷ cs) (map f l)) (sym is) (k, rests)))
+
+  pub begun_all : (f : Oid → told.Base m) (os : List Oid) (bs : List (Base m.state)) (ds : List (told.Base m)) → os ≡ [] → Begun bs (map f os) ds → KeepsBases m bs ds
+  begun_all f os bs ds is h =
+      subst (λ (l : List (Base m.state)). KeepsBases m l ds) (no_more bs)
+      (h [] (subst (λ (l : List Oid). KeepsBases m [] (map f l)) (sym is) tt))
+
+  -- ---- the view
+
+  pub played_both : {E : Type 0} (r : Result (Kept m.state × PlayEnd) E) (p : Play m) → IfOk r (λ x. KeepsView m x.0 p.view) → IfOk r (λ x. x.1 ≡ p.came) → IfOk r (λ x. PlayedOn m x.0 x.1 p)
+  played_both (Ok x) p v c = record { view = v; came = c }
+  played_both (Err e) p v c = v
+
+  pub gone_turn : (es : Entries) (gone : Trims) (oids objects : List Oid) (o : Oid) (pos below : ℕ) (b : Option ℕ) → past_by m es o pos (trim_of gone o) (past_play m es gone oids objects pos) ≡ gone_or m b (past_play m es gone oids objects pos) → b ≡ Some below
+      → KeepsTurn m (variants.Gone below) (past_at m es gone oids objects o pos)
+  unfolding past_at
+  gone_turn es gone oids objects o pos below b h is =
+      subst (λ (t : PastTurn m). KeepsTurn m (variants.Gone below) t) (sym (h ∙ ap (λ (c : Option ℕ). gone_or m c (past_play m es gone oids objects pos)) is)) refl
+
+  pub view_turn : (es : Entries) (gone : Trims) (oids objects : List Oid) (o : Oid) (pos : ℕ) (b : Option ℕ) (c : Kept m.state) (came : PlayEnd) → past_by m es o pos (trim_of gone o) (past_play m es gone oids objects pos) ≡ gone_or m b (past_play m es gone oids objects pos) → b ≡ None
+      → PlayedOn m c came (past_play m es gone oids objects pos) → KeepsTurn m (variants.Played c came) (past_at m es gone oids objects o pos)
+  unfolding past_at
+  view_turn es gone oids objects o pos b c came h is k =
+      subst (λ (t : PastTurn m). KeepsTurn m (variants.Played c came) t) (sym (h ∙ ap (λ (x : Option ℕ). gone_or m x (past_play m es gone oids objects pos)) is)) k
