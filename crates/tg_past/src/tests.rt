@@ -18,29 +18,48 @@ fn op(alloc: Global, digit: u8) -> Result<Blob, NoMemory> {
     Blob::new(bytes).ok_or(NoMemory)
 }
 
-// A record that reads nothing and writes such an op.
-fn record(alloc: Global, digit: u8) -> Result<Entry, NoMemory> {
-    let mut writes = List::new(alloc);
-    let op = op(alloc, digit)?;
-    writes.push(WriteOp { oid: DIR, op })?;
+// An entry of no stream.
+fn entry(alloc: Global, body: Body) -> Entry {
     let head = Head {
         format: 2,
         client: 0,
         number: 1,
         streams: List::new(alloc),
     };
-    let reads = List::new(alloc);
-    Ok(Entry {
-        head,
-        body: Body::Commit { reads, writes },
-    })
+    Entry { head, body }
 }
 
-// Two records.
+// A record that reads nothing and writes such an op.
+fn record(alloc: Global, digit: u8) -> Result<Entry, NoMemory> {
+    let mut writes = List::new(alloc);
+    let op = op(alloc, digit)?;
+    writes.push(WriteOp { oid: DIR, op })?;
+    let reads = List::new(alloc);
+    Ok(entry(alloc, Body::Commit { reads, writes }))
+}
+
+// A checkpoint below 1 that saves the directory as it was at first.
+fn saved(alloc: Global) -> Result<Entry, NoMemory> {
+    let directory = Directory::fresh(alloc, DIR, &[])?;
+    let state = directory.save(alloc)?;
+    let keys = List::new(alloc);
+    let body = Body::Checkpoint {
+        oid: DIR,
+        upto: 1,
+        version: 1,
+        whole: 1,
+        keys,
+        state,
+    };
+    Ok(entry(alloc, body))
+}
+
+// Two records and the checkpoint.
 fn log(alloc: Global) -> Result<Entries, NoMemory> {
     let mut entries = Entries::new(alloc);
     entries.push(0, record(alloc, 49)?)?;
     entries.push(1, record(alloc, 50)?)?;
+    entries.push(2, saved(alloc)?)?;
     Ok(entries)
 }
 
@@ -70,6 +89,9 @@ fn a_past_view_has_what_is_below_its_position(rt: HostRuntime) -> Result<(), Fai
     assert_eq!(rt; met(alloc, &[], 0), Some(Ok(1)));
     assert_eq!(rt; met(alloc, &[], 1), Some(Ok(2)));
     assert_eq!(rt; met(alloc, &[], 2), Some(Ok(3)));
+    // From the checkpoint on, there is the second record alone.
+    assert_eq!(rt; met(alloc, &[(DIR, 1)], 2), Some(Ok(2)));
     assert_eq!(rt; met(alloc, &[(DIR, 1)], 0), Some(Err(1)));
+    assert_eq!(rt; met(alloc, &[(DIR, 2)], 2), Some(Err(2)));
     Ok(())
 }
