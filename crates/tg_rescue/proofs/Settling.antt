@@ -198,11 +198,11 @@ module _ (m : Meaning) where
   stays : (p : ℕ) (es : Entries) (e : Entry) (upto : ℕ) (v : View m) (xs : Entries) → settled m v es p e ≡ true → EndsAs p es e (play_on m es upto v xs)
   unfolding play_on after
   stays p es e upto v [] h = settled_on p es e v (stands_at m v upto) (grows_end p upto v) h
-  stays p es e upto v (x ∷ xs) h = by (step_at m v es x.0 x.1) (grows_step p es v x.0 x.1)
+  stays p es e upto v (x ∷ xs) h = by (step_at m v es x.0 x.1) (grows_step p es v x.0 x.1) (λ w g. stays p es e upto w xs (settled_on p es e v w g h))
     where
-      by : (s : Step m) → OnStep (Grows p v) s → EndsAs p es e (after es upto v x.0 xs s)
-      by (On w) g = stays p es e upto w xs (settled_on p es e v w g h)
-      by (Stuck o) g = tt
+      by : (s : Step m) → OnStep (Grows p v) s → ((w : View m) → Grows p v w → EndsAs p es e (play_on m es upto w xs)) → EndsAs p es e (after es upto v x.0 xs s)
+      by (On w) g on = on w g
+      by (Stuck o) g on = tt
 
   meets : (p : ℕ) (es : Entries) (e : Entry) (upto : ℕ) (v : View m) (xs : Entries) → commit_at xs p ≡ Some e → EndsAs p es e (play_on m es upto v xs)
   unfolding play_on after commit_at
@@ -210,7 +210,7 @@ module _ (m : Meaning) where
     where
       none : ◌≡◌ {A = Option Entry} None (Some e) → ⊥
       none h = cc
-  meets p es e upto v (x ∷ xs) c = by (x.0 == p) (is_commit x.1) refl refl c
+  meets p es e upto v (x ∷ xs) c = by (x.0 == p) (is_commit x.1) refl refl c (λ w d. meets p es e upto w xs d)
     where
       here : x.0 ≡ p → x.1 ≡ e → is_commit x.1 ≡ true → OnStep (IsSettled p es e) (step_at m v es x.0 x.1)
       here a b c =
@@ -221,35 +221,36 @@ module _ (m : Meaning) where
       on_here (On w) h = stays p es e upto w xs h
       on_here (Stuck o) h = tt
 
-      later : commit_at xs p ≡ Some e → (s : Step m) → EndsAs p es e (after es upto v x.0 xs s)
-      later d (On w) = meets p es e upto w xs d
-      later d (Stuck o) = tt
+      later : ((w : View m) → commit_at xs p ≡ Some e → EndsAs p es e (play_on m es upto w xs)) → commit_at xs p ≡ Some e → (s : Step m) → EndsAs p es e (after es upto v x.0 xs s)
+      later on d (On w) = on w d
+      later on d (Stuck o) = tt
 
-      by : (t u : Bool) → (x.0 == p) ≡ t → is_commit x.1 ≡ u → cond (t && u) (Some x.1) (commit_at xs p) ≡ Some e → EndsAs p es e (after es upto v x.0 xs (step_at m v es x.0 x.1))
-      by true true a b d =
+      by : (t u : Bool) → (x.0 == p) ≡ t → is_commit x.1 ≡ u → cond (t && u) (Some x.1) (commit_at xs p) ≡ Some e → ((w : View m) → commit_at xs p ≡ Some e → EndsAs p es e (play_on m es upto w xs))
+          → EndsAs p es e (after es upto v x.0 xs (step_at m v es x.0 x.1))
+      by true true a b d on =
           let at : x.0 ≡ p = grind (arith, a) in
           let is : x.1 ≡ e = cc in
           on_here (step_at m v es x.0 x.1) (here at is b)
-      by true false a b d = later d (step_at m v es x.0 x.1)
-      by false u a b d = later d (step_at m v es x.0 x.1)
+      by true false a b d on = later on d (step_at m v es x.0 x.1)
+      by false u a b d on = later on d (step_at m v es x.0 x.1)
 
   -- ---- the entries that are played have the record
 
   commit_between : (low high p : ℕ) (xs : Entries) → low ≤ p → p < high → commit_at (between m low high xs) p ≡ commit_at xs p
   unfolding commit_at
   commit_between low high p [] a b = refl
-  commit_between low high p (x ∷ xs) a b = by (nat_le low x.0 && nat_lt x.0 high) (x.0 == p) refl refl
+  commit_between low high p (x ∷ xs) a b = by (nat_le low x.0 && nat_lt x.0 high) (x.0 == p) refl refl (commit_between low high p xs a b)
     where
       kept : x.0 ≡ p → (nat_le low x.0 && nat_lt x.0 high) ≡ true
       kept is = grind (arith, is, a, b)
 
-      by : (t u : Bool) → (nat_le low x.0 && nat_lt x.0 high) ≡ t → (x.0 == p) ≡ u
+      by : (t u : Bool) → (nat_le low x.0 && nat_lt x.0 high) ≡ t → (x.0 == p) ≡ u → commit_at (between m low high xs) p ≡ commit_at xs p
           → commit_at (cond t (x ∷ between m low high xs) (between m low high xs)) p ≡ cond (u && is_commit x.1) (Some x.1) (commit_at xs p)
-      by true u c d =
+      by true u c d same =
           ap (λ (w : Bool). cond (w && is_commit x.1) (Some x.1) (commit_at (between m low high xs) p)) d
-          ∙ ap (λ (r : Option Entry). cond (u && is_commit x.1) (Some x.1) r) (commit_between low high p xs a b)
-      by false false c d = commit_between low high p xs a b
-      by false true c d =
+          ∙ ap (λ (r : Option Entry). cond (u && is_commit x.1) (Some x.1) r) same
+      by false false c d same = same
+      by false true c d same =
           let is : x.0 ≡ p = grind (arith, d) in
           absurd (no_truth (sym c ∙ kept is))
 
