@@ -116,8 +116,8 @@ module _ (m : Meaning) where
   missing_is v e at (Some b) = refl
 
   pub known_is : (v : View m) (e : Entry) (oids : List Oid) (at : ℕ) (needs y : Bool) → None ≡ missing_by m v e at (fate_of m v at) → y ≡ is_yes (fate_of m v at) → ◌≡◌ {A = RescueTurn m} (Known y needs) (judged_by m v e oids at needs)
-  known_is v e oids at needs y is yes =
-      ap (λ (b : Bool). Known b needs) yes
+  known_is v e oids at needs y is same =
+      ap (λ (b : Bool). Known b needs) same
       ∙ ap (λ (o : Option Oid). known_or_blocked m o (fate_of m v at) e oids at needs) is
 
   pub stuck_at : (v : View m) (e : Entry) (oids : List Oid) (at : ℕ) (needs : Bool) (o : Oid) → Some o ≡ missing_by m v e at (fate_of m v at) → by_block m (Some e) oids at o ≡ judged_by m v e oids at needs

@@ -55,7 +55,7 @@ fn grown<K: Registry>(oids: &[Oid], added: Oid) -> RescueTurn
 
 // A record, if there is one, that is blocked at a position by an object.
 fn blocked<K: Registry>(found: Option<&Entry>, oids: &[Oid], pos: Pos, missing: Oid) -> RescueTurn
-    ensures { told_turn (meaning_of K.Registry) result ≡ by_block (meaning_of K.Registry) (option_copied found) oids.now pos missing }
+    ensures { told_turn (meaning_of K.Registry) result ≡ by_block (meaning_of K.Registry) (option_copied found.entry) oids.now pos missing }
 {
     if !has(oids, missing) {
         return grown::<K>(oids, missing);
