@@ -1,7 +1,7 @@
 -- The bases and the view at a past position are those of the definitions.
 use Rattle.std.specs.List.{list_all}
-use Rattle.std.specs.Prelude.{◌≡◌, ℕ, Bool, true, false, ◌&&◌, List, [], ◌∷◌, ◌++◌, map, Option, Some, None, Result, Ok, Err, IfOk, refl}
-use Rattle.std.proofs.Common.{sym, ap, ◌∙◌, subst}
+use Rattle.std.specs.Prelude.{◌≡◌, ℕ, zero, suc, ◌+◌, ◌<◌, Bool, true, false, ◌&&◌, List, [], ◌∷◌, ◌++◌, map, length, Option, Some, None, Result, Ok, Err, IfOk, refl}
+use Rattle.std.proofs.Common.{get_or, drop, sym, ap, ◌∙◌, subst, arith}
 use Rattle.tg_base.specs.declared.ids.Oid.{Oid}
 use Rattle.tg_kind.specs.Meaning.{Meaning}
 use Rattle.tg_model.specs.declared.play.PlayEnd.{PlayEnd}
@@ -25,6 +25,21 @@ and_second false b h = absurd (never h)
 
 pub all_rest : (f : Oid → Bool) (os rest : List Oid) (o : Oid) → os ≡ o ∷ rest → list_all f os ≡ true → list_all f rest ≡ true
 all_rest f os rest o is h = and_second (f o) (list_all f rest) (ap (λ (l : List Oid). list_all f l) (sym is) ∙ h)
+
+drop_next : {X : Type 0} (xs : List X) (n : ℕ) (d : X) → n < length xs → drop n xs ≡ get_or xs n d ∷ drop (suc n) xs
+drop_next [] n d h = absurd (omega (arith, h))
+drop_next (y ∷ ys) zero d h = refl
+drop_next (y ∷ ys) (suc n) d h = drop_next ys n d (omega (arith, h))
+
+-- what is left begins with the item at its place
+pub drop_at : {X : Type 0} (xs : List X) (n : ℕ) (d : X) → n < length xs → drop n xs ≡ get_or xs n d ∷ drop (n + 1) xs
+drop_at {X} xs n d h =
+    let same : suc n ≡ n + 1 = omega arith in
+    drop_next xs n d h ∙ ap (λ (k : ℕ). get_or xs n d ∷ drop k xs) same
+
+-- what follows where a call gives a value
+pub given : {A E : Type 0} (P : A → Type 0) (r : Result A E) (x : A) → r ≡ Ok x → P x → IfOk r P
+given {A} {E} P r x is h = subst (λ (s : Result A E). IfOk s P) (sym is) h
 
 module _ (m : Meaning) where
   -- ---- the asked object
@@ -106,9 +121,9 @@ module _ (m : Meaning) where
   pub begun_first : (bs : List (Base m.state)) (ds : List (told.Base m)) → bs ≡ [] → Begun bs ds ds
   begun_first bs ds is cs k = subst (λ (l : List (Base m.state)). KeepsBases m (l ++ cs) ds) (sym is) k
 
-  pub begun_more : (f : Oid → told.Base m) (os rest : List Oid) (o : Oid) (bs : List (Base m.state)) (b : Base m.state) (ds : List (told.Base m)) → os ≡ o ∷ rest → KeepsBase m b (f o) → Begun bs (map f os) ds → Begun (bs ++ b ∷ []) (map f rest) ds
-  begun_more f os rest o bs b ds is k h cs rests =
-      subst (λ (l : List (Base m.state)). KeepsBases m l ds) (sym (joined bs b cs))
+  pub begun_more : (f : Oid → told.Base m) (os rest : List Oid) (o : Oid) (bs next : List (Base m.state)) (b : Base m.state) (ds : List (told.Base m)) → os ≡ o ∷ rest → next ≡ bs ++ b ∷ [] → KeepsBase m b (f o) → Begun bs (map f os) ds → Begun next (map f rest) ds
+  begun_more f os rest o bs next b ds is more k h cs rests =
+      subst (λ (l : List (Base m.state)). KeepsBases m l ds) (sym (ap (λ (l : List (Base m.state)). l ++ cs) more ∙ joined bs b cs))
       (h (b ∷ cs) (subst (λ (l : List Oid). KeepsBases m (b ∷ cs) (map f l)) (sym is) (k, rests)))
 
   pub begun_all : (f : Oid → told.Base m) (os : List Oid) (bs : List (Base m.state)) (ds : List (told.Base m)) → os ≡ [] → Begun bs (map f os) ds → KeepsBases m bs ds

@@ -1,8 +1,9 @@
-use Rattle.std.proofs.Common.{◌+◌, map, drop}
+use Rattle.std.proofs.Common.{◌+◌, List, get_or, map, drop}
+use Rattle.tg_base.specs.declared.ids.Oid.{Oid}
 use Rattle.tg_protocol.specs.Past.{past_base}
 use Rattle.tg_play.proofs.Means.{means}
-use Rattle.tg_play.proofs.Splitting.{drop_all, drop_item}
-use Rattle.tg_past.proofs.Beginning.{all_rest, begun_first, begun_more, begun_all}
+use Rattle.tg_play.proofs.Splitting.{drop_all}
+use Rattle.tg_past.proofs.Beginning.{all_rest, drop_at, begun_first, begun_more, begun_all}
 use Rattle.tg_past.proofs.bases.past_bases.Goals as goal
 
 pub loop-oid-init : goal.loop-oid-init
@@ -13,13 +14,15 @@ loop-oid-init g c = record {
 
 pub loop-oid-preserved : goal.loop-oid-preserved
 loop-oid-preserved g c =
-    let rest = drop_item c.args.oids.now c.loop-oid.oid-index c.oid-item.result c.loop-oid-test.true c.oid-item.is in
+    let oid : Oid = get_or c.args.oids.now c.loop-oid.oid-index (record { 0 = 0 }) in
+    let next : List Oid = drop (c.loop-oid.oid-index + 1) c.args.oids.now in
+    let first = drop_at c.args.oids.now c.loop-oid.oid-index (record { 0 = 0 }) c.loop-oid-test.true in
     record {
-      objects = all_rest g.K.Kind.is_object (drop c.loop-oid.oid-index c.args.oids.now) (drop (c.loop-oid.oid-index + 1) c.args.oids.now) c.oid-item.result rest c.loop-oid.invariant.objects;
+      objects = all_rest g.K.Kind.is_object (drop c.loop-oid.oid-index c.args.oids.now) next oid first c.loop-oid.invariant.objects;
       bases = begun_more (means g.K.Kind g.K.Registry) (past_base (means g.K.Kind g.K.Registry) c.args.entries.now c.args.gone.now c.args.objects.now c.args.pos)
-          (drop c.loop-oid.oid-index c.args.oids.now) (drop (c.loop-oid.oid-index + 1) c.args.oids.now) c.oid-item.result c.loop-oid.bases c.in_ok-base.base
+          (drop c.loop-oid.oid-index c.args.oids.now) next oid c.loop-oid.bases c.push.new.self c.in_ok-base.base
           (map (past_base (means g.K.Kind g.K.Registry) c.args.entries.now c.args.gone.now c.args.objects.now c.args.pos) c.args.oids.now)
-          rest c.in_ok-base.ensures c.loop-oid.invariant.bases;
+          first c.in_ok-push.ensures.ok c.in_ok-base.ensures c.loop-oid.invariant.bases;
     }
 
 pub returns : goal.returns

@@ -6,9 +6,9 @@ use Rattle.tg_past.proofs.past.past_at.Goals as goal
 pub returns-in-Some : goal.returns-in-Some
 returns-in-Some g c =
     gone_turn (means g.K.Kind g.K.Registry) c.args.entries.now c.args.gone.now c.args.oids.now c.args.objects.now c.args.oid c.args.pos c.in-Some.below _
-    (c.in_ok.ensures (past_play (means g.K.Kind g.K.Registry) c.args.entries.now c.args.gone.now c.args.oids.now c.args.objects.now c.args.pos)) c.in-Some.is
+    (c.in_ok-below.ensures (past_play (means g.K.Kind g.K.Registry) c.args.entries.now c.args.gone.now c.args.oids.now c.args.objects.now c.args.pos)) c.in-Some.is
 
-pub returns-in-None : goal.returns-in-None
-returns-in-None g c =
-    view_turn (means g.K.Kind g.K.Registry) c.args.entries.now c.args.gone.now c.args.oids.now c.args.objects.now c.args.oid c.args.pos _ c.in_ok-played.played.0 c.in_ok-played.played.1
-    (c.in_ok.ensures (past_play (means g.K.Kind g.K.Registry) c.args.entries.now c.args.gone.now c.args.oids.now c.args.objects.now c.args.pos)) c.in-None.is c.in_ok-played.ensures
+pub returns-in_ok-played-in-None : goal.returns-in_ok-played-in-None
+returns-in_ok-played-in-None g c =
+    view_turn (means g.K.Kind g.K.Registry) c.args.entries.now c.args.gone.now c.args.oids.now c.args.objects.now c.args.oid c.args.pos _ c.in_ok-played-in-None.played.0 c.in_ok-played-in-None.played.1
+    (c.in_ok-below.ensures (past_play (means g.K.Kind g.K.Registry) c.args.entries.now c.args.gone.now c.args.oids.now c.args.objects.now c.args.pos)) c.in-None.is c.in_ok-played-in-None.ensures
