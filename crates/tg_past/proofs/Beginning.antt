@@ -5,7 +5,7 @@ use Rattle.std.proofs.Common.{get_or, drop, sym, ap, ◌∙◌, subst, arith}
 use Rattle.tg_base.specs.declared.ids.Oid.{Oid}
 use Rattle.tg_kind.specs.Meaning.{Meaning}
 use Rattle.tg_model.specs.declared.play.PlayEnd.{PlayEnd}
-use Rattle.tg_protocol.specs.Checkpoints.{Trims, trim_of, base_or, base_by, load_from, view_base}
+use Rattle.tg_protocol.specs.Checkpoints.{Trims, trim_of, base_by, view_base}
 use Rattle.tg_protocol.specs.Past.{PastTurn, PastView, PastGone, last_base, past_base_or, past_base_by, past_base, past_play, past_or_gone, past_by, past_at}
 use Rattle.tg_protocol.specs.Views as told
 use Rattle.tg_protocol.specs.Views.{Entries, fresh_base, Play}

@@ -1,5 +1,5 @@
 use Rattle.std.proofs.Common.{ℕ, Option, sym, ap, ◌∙◌}
-use Rattle.tg_protocol.specs.Past.{last_base, past_or_gone, past_by}
+use Rattle.tg_protocol.specs.Past.{past_by}
 use Rattle.tg_play.proofs.Means.{means}
 use Rattle.tg_play.proofs.Splitting.{if_ok}
 use Rattle.tg_past.proofs.bases.lost.Goals as goal
