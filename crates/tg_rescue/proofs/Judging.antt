@@ -8,7 +8,7 @@ use Rattle.tg_model.specs.declared.play.PlayEnd.{PlayEnd}
 use Rattle.tg_model.specs.declared.play.PlayEnd.TheVariants.{Played, Blocked}
 use Rattle.tg_protocol.specs.Words.{has_oid}
 use Rattle.tg_protocol.specs.Entries.{reads_of, needs_decision}
-use Rattle.tg_protocol.specs.Views.{Entries, decision_in, Verdict, Commits, Aborts, Unknown, View, Play, fate_of, unknown_in, said, fate_or_verdict, outcome, verdict, view_start, play}
+use Rattle.tg_protocol.specs.Views.{Entries, decision_in, Verdict, Commits, Aborts, Unknown, View, Play, fate_of, unknown_in, said, fate_or_verdict, outcome, view_start, play}
 use Rattle.tg_protocol.specs.Checkpoints.{Trims, view_bases}
 use Rattle.tg_protocol.specs.Past.{RescueTurn, Absent, StuckAt, Known, commit_at, record_block, entry_block, block_in, known_by, at_record, grows, rescue_by, rescue_played, rescue_turn}
 use Rattle.tg_rescue.specs.Answers.{stuck_or_absent, by_block, missing_by, is_yes, known_or_blocked, judged_by, settled, told_turn, SettlesBy}

@@ -1,5 +1,5 @@
 -- A record that a play went past has a fate, or it has no decision record and one of its reads has an unknown version.
-use Rattle.std.specs.Prelude.{◌≡◌, ℕ, ◌+◌, ◌≤◌, ◌<◌, Bool, true, false, cond, not, ◌&&◌, ◌||◌, ◌==◌, nat_lt, nat_le, List, [], ◌∷◌, filter, Option, Some, None, is_some, refl}
+use Rattle.std.specs.Prelude.{◌≡◌, ℕ, ◌+◌, ◌≤◌, ◌<◌, Bool, true, false, cond, not, ◌&&◌, ◌||◌, ◌==◌, nat_lt, nat_le, List, [], ◌∷◌, Option, Some, None, is_some, refl}
 use Rattle.std.proofs.Common.{sym, ap, ◌∙◌, subst, arith}
 use Rattle.tg_base.specs.declared.ids.Oid.{Oid}
 use Rattle.tg_base.specs.declared.marks.Part.{Part}
@@ -10,11 +10,11 @@ use Rattle.tg_kind.specs.Meaning.{Meaning}
 use Rattle.tg_model.specs.declared.play.PlayEnd.{PlayEnd}
 use Rattle.tg_model.specs.declared.play.PlayEnd.TheVariants.{Played, Blocked}
 use Rattle.tg_protocol.specs.Entries.{is_commit, reads_of, writes_of, needs_decision}
-use Rattle.tg_protocol.specs.Views.{Entries, decision_in, Verdict, Commits, Aborts, Unknown, Base, View, Play, Step, On, Stuck, view_start, fate_of, fate_in, base_of, unknown_by, unknown_in, changed_in, by_changes, by_versions, by_decision, said, verdict, note, set_state, write_by, write, write_all, plays, applied, touched, state_of, passed_over, with_fate, with_verdict, with_open, stands_at, decided_step, record_step, entry_step, step_at, between, play_on, play}
+use Rattle.tg_protocol.specs.Views.{Entries, decision_in, Verdict, Commits, Aborts, Unknown, Base, View, Play, Step, On, Stuck, view_start, fate_of, fate_in, base_of, unknown_by, unknown_in, changed_in, by_changes, by_versions, by_decision, said, verdict, note, set_state, write_by, write, write_all, plays, applied, touched, state_of, passed_over, with_fate, with_open, stands_at, record_step, entry_step, step_at, between, play_on, play}
 use Rattle.tg_protocol.specs.Versions.{Changed}
 use Rattle.tg_protocol.specs.Past.{commit_at}
 use Rattle.tg_play.proofs.Playing.{played_on}
-use Rattle.tg_rescue.specs.Answers.{settled, Settles, SettlesBy}
+use Rattle.tg_rescue.specs.Answers.{settled, SettlesBy}
 
 or_keeps : (a b r s : Bool) → (a ≡ true → b ≡ true) → r ≡ s → (a || r) ≡ true → (b || s) ≡ true
 or_keeps true b r s f is h = ap (λ (t : Bool). t || s) (f refl)

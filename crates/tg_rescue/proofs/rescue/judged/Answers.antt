@@ -1,4 +1,4 @@
-use Rattle.std.proofs.Common.{Bool, Option, ap, ◌∙◌}
+use Rattle.std.proofs.Common.{ap, ◌∙◌}
 use Rattle.tg_play.proofs.Means.{means}
 use Rattle.tg_rescue.specs.Answers.{is_yes}
 use Rattle.tg_rescue.proofs.Judging.{known_is, stuck_at}
