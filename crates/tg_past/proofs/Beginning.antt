@@ -1,6 +1,6 @@
 -- The bases and the view at a past position are those of the definitions.
 use Rattle.std.specs.List.{list_all}
-use Rattle.std.specs.Prelude.{◌≡◌, ℕ, zero, suc, ◌+◌, ◌<◌, Bool, true, false, ◌&&◌, List, [], ◌∷◌, ◌++◌, map, length, Option, Some, None, Result, Ok, Err, IfOk, refl}
+use Rattle.std.specs.Prelude.{◌≡◌, ℕ, zero, suc, ◌+◌, ◌<◌, Bool, true, false, cond, ◌&&◌, List, [], ◌∷◌, ◌++◌, map, length, Option, Some, None, is_some, Result, Ok, Err, IfOk, refl}
 use Rattle.std.proofs.Common.{get_or, drop, sym, ap, ◌∙◌, subst, arith}
 use Rattle.tg_base.specs.declared.ids.Oid.{Oid}
 use Rattle.tg_kind.specs.Meaning.{Meaning}
@@ -14,7 +14,7 @@ use Rattle.tg_play.specs.Kept.{Kept}
 use Rattle.tg_play.specs.Relations.{KeepsBase, KeepsBases, KeepsView, PlayedOn}
 use Rattle.tg_ckpt.specs.Answers.{KeepsMaybe}
 use Rattle.tg_past.specs.declared.past.PastTurn.TheVariants as variants
-use Rattle.tg_past.specs.Answers.{gone_or, KeepsTurn}
+use Rattle.tg_past.specs.Answers.{lost_by, KeepsTurn}
 
 and_second : (a b : Bool) → (a && b) ≡ true → b ≡ true
 and_second true b h = h
@@ -44,21 +44,52 @@ given {A} {E} P r x is h = subst (λ (s : Result A E). IfOk s P) (sym is) h
 module _ (m : Meaning) where
   -- ---- the asked object
 
-  pub reached_none : (d : Option (told.Base m)) (b : Option (Base m.state)) (below : ℕ) (p : Play m) → KeepsMaybe m b d → b ≡ None → past_or_gone m d below p ≡ PastGone below
-  reached_none None b below p k is = refl
-  reached_none (Some d) None below p k is = absurd k
-  reached_none (Some d) (Some b) below p k is = absurd (none is)
+  abbrev unless : Option (told.Base m) → ℕ → Option ℕ
+  unless d below = cond (is_some d) None (Some below)
+
+  pub reached_none : (d : Option (told.Base m)) (b : Option (Base m.state)) (below : ℕ) → KeepsMaybe m b d → b ≡ None → Some below ≡ unless d below
+  reached_none None b below k is = refl
+  reached_none (Some d) None below k is = absurd k
+  reached_none (Some d) (Some b) below k is = absurd (none is)
     where
       none : ◌≡◌ {A = Option (Base m.state)} (Some b) None → ⊥
       none h = cc
 
-  pub reached_some : (d : Option (told.Base m)) (b : Option (Base m.state)) (x : Base m.state) (below : ℕ) (p : Play m) → KeepsMaybe m b d → b ≡ Some x → past_or_gone m d below p ≡ PastView p
-  reached_some (Some d) b x below p k is = refl
-  reached_some None (Some b) x below p k is = absurd k
-  reached_some None None x below p k is = absurd (none is)
+  pub reached_some : (d : Option (told.Base m)) (b : Option (Base m.state)) (x : Base m.state) (below : ℕ) → KeepsMaybe m b d → b ≡ Some x → None ≡ unless d below
+  reached_some (Some d) b x below k is = refl
+  reached_some None (Some b) x below k is = absurd k
+  reached_some None None x below k is = absurd (none is)
     where
       none : ◌≡◌ {A = Option (Base m.state)} None (Some x) → ⊥
       none h = cc
+
+  gone_if : (d : Option (told.Base m)) (b below : ℕ) (p : Play m) → unless d b ≡ Some below → past_or_gone m d b p ≡ PastGone below
+  gone_if None b below p is = ap (λ (n : ℕ). PastGone n) (same is)
+    where
+      same : Some b ≡ Some below → b ≡ below
+      same h = cc
+  gone_if (Some d) b below p is = absurd (none is)
+    where
+      none : ◌≡◌ {A = Option ℕ} None (Some below) → ⊥
+      none h = cc
+
+  gone_by : (es : Entries) (o : Oid) (pos below : ℕ) (t : Option ℕ) (p : Play m) → lost_by m es o pos t ≡ Some below → past_by m es o pos t p ≡ PastGone below
+  gone_by es o pos below (Some b) p is = gone_if (last_base m es o b pos) b below p is
+  gone_by es o pos below None p is = absurd (none is)
+    where
+      none : ◌≡◌ {A = Option ℕ} None (Some below) → ⊥
+      none h = cc
+
+  view_if : (d : Option (told.Base m)) (b : ℕ) (p : Play m) → unless d b ≡ None → past_or_gone m d b p ≡ PastView p
+  view_if (Some d) b p is = refl
+  view_if None b p is = absurd (some is)
+    where
+      some : ◌≡◌ {A = Option ℕ} (Some b) None → ⊥
+      some h = cc
+
+  view_by : (es : Entries) (o : Oid) (pos : ℕ) (t : Option ℕ) (p : Play m) → lost_by m es o pos t ≡ None → past_by m es o pos t p ≡ PastView p
+  view_by es o pos (Some b) p is = view_if (last_base m es o b pos) b p is
+  view_by es o pos None p is = refl
 
   -- ---- a base
 
@@ -137,14 +168,14 @@ module _ (m : Meaning) where
   played_both (Ok x) p v c = record { view = v; came = c }
   played_both (Err e) p v c = v
 
-  pub gone_turn : (es : Entries) (gone : Trims) (oids objects : List Oid) (o : Oid) (pos below : ℕ) (b : Option ℕ) → past_by m es o pos (trim_of gone o) (past_play m es gone oids objects pos) ≡ gone_or m b (past_play m es gone oids objects pos) → b ≡ Some below
+  pub gone_turn : (es : Entries) (gone : Trims) (oids objects : List Oid) (o : Oid) (pos below : ℕ) (b : Option ℕ) → b ≡ lost_by m es o pos (trim_of gone o) → b ≡ Some below
       → KeepsTurn m (variants.Gone below) (past_at m es gone oids objects o pos)
   unfolding past_at
   gone_turn es gone oids objects o pos below b h is =
-      subst (λ (t : PastTurn m). KeepsTurn m (variants.Gone below) t) (sym (h ∙ ap (λ (c : Option ℕ). gone_or m c (past_play m es gone oids objects pos)) is)) refl
+      subst (λ (t : PastTurn m). KeepsTurn m (variants.Gone below) t) (sym (gone_by es o pos below (trim_of gone o) (past_play m es gone oids objects pos) (sym h ∙ is))) refl
 
-  pub view_turn : (es : Entries) (gone : Trims) (oids objects : List Oid) (o : Oid) (pos : ℕ) (b : Option ℕ) (c : Kept m.state) (came : PlayEnd) → past_by m es o pos (trim_of gone o) (past_play m es gone oids objects pos) ≡ gone_or m b (past_play m es gone oids objects pos) → b ≡ None
+  pub view_turn : (es : Entries) (gone : Trims) (oids objects : List Oid) (o : Oid) (pos : ℕ) (b : Option ℕ) (c : Kept m.state) (came : PlayEnd) → b ≡ lost_by m es o pos (trim_of gone o) → b ≡ None
       → PlayedOn m c came (past_play m es gone oids objects pos) → KeepsTurn m (variants.Played c came) (past_at m es gone oids objects o pos)
   unfolding past_at
   view_turn es gone oids objects o pos b c came h is k =
-      subst (λ (t : PastTurn m). KeepsTurn m (variants.Played c came) t) (sym (h ∙ ap (λ (x : Option ℕ). gone_or m x (past_play m es gone oids objects pos)) is)) k
+      subst (λ (t : PastTurn m). KeepsTurn m (variants.Played c came) t) (sym (view_by es o pos (trim_of gone o) (past_play m es gone oids objects pos) (sym h ∙ is))) k

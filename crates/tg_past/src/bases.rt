@@ -7,9 +7,8 @@ ghost use Rattle.tg_kind.specs.Headers.{is_header};
 ghost use Rattle.tg_kind.specs.Of.{meaning_of};
 ghost use Rattle.tg_protocol.specs.Checkpoints as trims;
 ghost use Rattle.tg_protocol.specs.Past as told;
-ghost use Rattle.tg_protocol.specs.Views as views;
 ghost use Rattle.tg_play.specs.Relations.{KeepsBase, KeepsBases};
-ghost use Rattle.tg_past.specs.Answers.{gone_or};
+ghost use Rattle.tg_past.specs.Answers.{lost_by};
 
 use std::alloc::Global;
 use tg_base::{List, NoMemory, Oid, Pos};
@@ -39,7 +38,7 @@ fn unreached<K: Registry>(
     pos: Pos,
 ) -> Result<Option<Pos>, NoMemory>
     requires { K.is_object oid ≡ true }
-    ensures { (p : views.Play (meaning_of K.Registry)) → IfOk result (λ b. told.past_or_gone (meaning_of K.Registry) (told.last_base (meaning_of K.Registry) entries.now oid below pos) below p ≡ gone_or (meaning_of K.Registry) b p) }
+    ensures { IfOk result (λ b. b ≡ lost_by (meaning_of K.Registry) entries.now oid pos (Some below)) }
 {
     let base: Option<Base<K>> = last_base(alloc, entries, oid, below, pos)?;
     match base {
@@ -58,7 +57,7 @@ pub fn lost<K: Registry>(
     pos: Pos,
 ) -> Result<Option<Pos>, NoMemory>
     requires { K.is_object oid ≡ true }
-    ensures { (p : views.Play (meaning_of K.Registry)) → IfOk result (λ b. told.past_by (meaning_of K.Registry) entries.now oid pos (trims.trim_of gone.now oid) p ≡ gone_or (meaning_of K.Registry) b p) }
+    ensures { IfOk result (λ b. b ≡ lost_by (meaning_of K.Registry) entries.now oid pos (trims.trim_of gone.now oid)) }
 {
     match trim_of(gone, oid) {
         None => Ok(None),
