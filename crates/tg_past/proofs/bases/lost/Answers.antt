@@ -1,4 +1,4 @@
-use Rattle.std.proofs.Common.{ℕ, Option, sym, ap, ◌∙◌}
+use Rattle.std.proofs.Common.{ℕ, Option, ap, ◌∙◌}
 use Rattle.tg_play.proofs.Means.{means}
 use Rattle.tg_play.proofs.Splitting.{if_ok}
 use Rattle.tg_past.specs.Answers.{lost_by}
