@@ -20,7 +20,7 @@ use Rattle.tg_play.specs.declared.base.Base.{Base}
 use Rattle.tg_play.specs.Kept.{own}
 use Rattle.tg_play.specs.Lawful.{is_named, is_told, IsTold, IsLawful, IsLawfulBase}
 use Rattle.tg_play.proofs.Hosting.{oid_total, oid_itself, changed_keeps}
-use Rattle.tg_play.proofs.Tests.{both, first_true, rest_true, within_itself, within_more}
+use Rattle.tg_play.proofs.Truths.{both, first_true, rest_true, within_itself, within_more}
 
 told_more : (v w : ℕ) (xs : List (Part × ℕ)) → v ≤ w → list_all (is_told v) xs ≡ true → list_all (is_told w) xs ≡ true
 told_more v w [] le h = refl

@@ -1,7 +1,7 @@
 pub mod Means
 pub mod Splitting
 pub mod Spellings
-pub mod Tests
+pub mod Truths
 pub mod Reading
 pub mod Own
 pub mod Places

@@ -18,7 +18,7 @@ use Rattle.tg_vers.proofs.Rows.{Rising, EntriesAbove, EntriesRise, rows, newer, 
 use Rattle.tg_play.specs.Kept.{own}
 use Rattle.tg_play.specs.Lawful.{AreKeys, is_named, is_told, is_shown, IsLawful}
 use Rattle.tg_play.proofs.Own.{own_version, own_parts}
-use Rattle.tg_play.proofs.Tests.{both, first_true, rest_true, four}
+use Rattle.tg_play.proofs.Truths.{both, first_true, rest_true, four}
 
 -- ---- parts that were noted or named rise, and the whole isn't one of them
 
