@@ -9,7 +9,7 @@ import sys
 
 import times
 
-SMALL, LARGE, PLAYS = 10_000, 100_000, 5_000
+SMALL, LARGE, PLAYS = 10_000, 100_000, 20_000
 MOST_AT_ONCE, MOST_FURTHER = 14, 2
 
 

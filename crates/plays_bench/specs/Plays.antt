@@ -1,5 +1,6 @@
--- Records that each give a new object a name, and what a view of the directory tells once it has played them.
-use Rattle.std.specs.Prelude.{ℕ, zero, suc, ◌+◌, ◌*◌, ◌/◌, ◌%◌, ◌≡◌, List, [], ◌∷◌, ◌++◌}
+-- Records of one object, the directory, and what a view of it tells once it has played them. There are 26 names in all, so
+-- that the object stays small, and the time is that of plays.
+use Rattle.std.specs.Prelude.{ℕ, zero, suc, ◌+◌, ◌*◌, ◌%◌, ◌≡◌, List, [], ◌∷◌, ◌++◌}
 use Rattle.std.specs.Str.Parse.{digits_value, without_leading_plus}
 use Rattle.tg_base.specs.declared.marks.Part.TheVariants.{All}
 use Rattle.tg_entry.specs.declared.entry.Body.TheVariants.{Commit}
@@ -9,11 +10,9 @@ use Rattle.tg_protocol.specs.Views.{Entries, View, fresh_base, view_start, view_
 use Rattle.tg_protocol.specs.Words.{directory}
 use Rattle.plays_bench.specs.declared.sizes.Sizes.{Sizes}
 
--- a name of four letters, and a counter: the directory's op that gives it this name
+-- a name of one letter, and a counter: the directory's op that gives it this name, where neither is taken
 abbrev pub op_at : ℕ → List ℕ
-op_at p =
-    1 ∷ 0 ∷ 4 ∷ (65 + p / 32768 % 32) ∷ (65 + p / 1024 % 32) ∷ (65 + p / 32 % 32) ∷ (65 + p % 32)
-    ∷ 1 ∷ (p / 65536 % 256) ∷ (p / 256 % 256) ∷ (p % 256) ∷ []
+op_at p = 1 ∷ 0 ∷ 1 ∷ (65 + p % 26) ∷ 1 ∷ 0 ∷ 0 ∷ (p % 26) ∷ []
 
 -- the record at a position has read the version that the one before it made
 abbrev pub record_at : ℕ → Entry

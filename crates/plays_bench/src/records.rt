@@ -1,4 +1,4 @@
-//! Records that each give a new object a name.
+//! Records that each give an object a name, of 26 in all.
 
 ghost use Rattle.std.specs.Prelude.{◌≡◌, IfOk};
 ghost use Rattle.plays_bench.specs.Plays.{op_at, record_at};
@@ -35,22 +35,10 @@ pub fn record_at(alloc: Global, pos: Pos) -> Result<Entry, NoMemory>
     Ok(Entry { head, body })
 }
 
-// The bytes of an op by which the directory names a counter: four letters and its number.
-fn op_at(pos: Pos) -> [u8; 11]
+// The bytes of an op by which the directory names a counter: a letter and its number.
+fn op_at(pos: Pos) -> [u8; 8]
     ensures { result ≡ op_at pos }
 {
-    let name = [
-        b'A' + (pos / 32_768 % 32) as u8,
-        b'A' + (pos / 1024 % 32) as u8,
-        b'A' + (pos / 32 % 32) as u8,
-        b'A' + (pos % 32) as u8,
-    ];
-    let number = [
-        (pos / 65_536 % 256) as u8,
-        (pos / 256 % 256) as u8,
-        (pos % 256) as u8,
-    ];
-    [
-        1, 0, 4, name[0], name[1], name[2], name[3], 1, number[0], number[1], number[2],
-    ]
+    let which = (pos % 26) as u8;
+    [1, 0, 1, b'A' + which, 1, 0, 0, which]
 }
