@@ -1,16 +1,14 @@
 -- On which answers a trim ends, pauses and goes on.
-use Rattle.std.proofs.Common.{◌≡◌, ℕ, ◌+◌, ◌<◌, ◌≤◌, Bool, true, false, not, ◌&&◌, ◌||◌, ◌==◌, List, [], ◌∷◌, length, map, refl, sym, ap, subst, ◌∙◌, arith}
-use Rattle.std.specs.Prelude.{nat_lt, nat_le, filter}
-use Rattle.std.specs.List.{list_any}
+use Rattle.std.proofs.Common.{◌≡◌, ℕ, ◌<◌, ◌≤◌, Bool, true, false, not, ◌&&◌, ◌||◌, ◌==◌, [], ◌∷◌, length, refl, sym, ap, subst, ◌∙◌, arith}
+use Rattle.std.specs.Prelude.{nat_lt, nat_le}
 use Rattle.std.proofs.lemmas.Bool.Decides.{nat_tests}
 use Rattle.tg_base.specs.Layouts.{Layout}
 use Rattle.tg_base.specs.declared.ids.NodeId.{NodeId}
 use Rattle.tg_base.specs.declared.msg.Msg.{Msg}
-use Rattle.tg_base.specs.declared.packet.Packet.{Packet}
 use Rattle.tg_protocol.specs.Words.{node_eq, unit_id}
-use Rattle.tg_protocol.specs.Requests.{Waits, asked_of, without_wait, awaits, Next, Goes, Learns, Ends, met_gone}
+use Rattle.tg_protocol.specs.Requests.{Waits, asked_of, without_wait, awaits, Next, Goes, Learns, Ends}
 use Rattle.tg_protocol.specs.Replies.{Reply, IsGone, IsFenced, reply}
-use Rattle.tg_protocol.specs.Trimming.{Trims, Trimmed, TrimTurn, trims_left, trim_asks, trim_feed, learns_if}
+use Rattle.tg_protocol.specs.Trimming.{Trims, Trimmed, trims_left, trim_asks, trim_feed, learns_if}
 use Rattle.tg_trim.specs.Turns.{trim_fed, trim_fed_if}
 use Rattle.tg_trim.specs.Laws.{tells_trim, TrimEndsByAnswers, FencedAbove, TrimPausesByAnswers, trim_passes, GoesBy, TrimWaitsForAnswers, NextWaits}
 

@@ -1,5 +1,5 @@
 -- Which messages answer the requests to the units.
-use Rattle.std.proofs.Common.{◌≡◌, ℕ, Bool, ◌&&◌, ◌||◌, ◌==◌, [], ◌∷◌, refl, ap}
+use Rattle.std.proofs.Common.{◌≡◌, ℕ, ◌&&◌, ◌||◌, ◌==◌, [], ◌∷◌, refl, ap}
 use Rattle.tg_base.specs.declared.ids.NodeId.{NodeId}
 use Rattle.tg_base.specs.declared.ids.Role.TheVariants as role
 use Rattle.tg_base.specs.declared.msg.Msg.{Msg}

@@ -1,17 +1,17 @@
 -- How many requests a trim sends, and that it waits for a unit from its beginning on.
-use Rattle.std.proofs.Common.{◌≡◌, ℕ, zero, suc, ◌+◌, ◌≤◌, Bool, true, false, List, [], ◌∷◌, ◌++◌, length, refl, sym, ap, subst, ◌∙◌, arith}
-use Rattle.std.specs.Prelude.{nat_lt, zip}
+use Rattle.std.proofs.Common.{◌≡◌, ℕ, ◌+◌, ◌≤◌, Bool, true, false, List, [], ◌∷◌, ◌++◌, length, refl, ◌∙◌, arith}
+use Rattle.std.specs.Prelude.{nat_lt}
 use Rattle.std.specs.List.{list_all, concat}
 use Rattle.tg_base.specs.declared.layout.Range.{Range}
 use Rattle.tg_base.specs.declared.ids.NodeId.{NodeId}
 use Rattle.tg_base.specs.declared.msg.Msg.{Msg}
 use Rattle.tg_base.specs.declared.packet.Packet.{Packet}
-use Rattle.tg_base.specs.Units.{is_chain, is_within}
+use Rattle.tg_base.specs.Units.{is_chain}
 use Rattle.tg_base.specs.Layouts.{Layout, IsLayout, is_range}
 use Rattle.tg_base.proofs.Exact.{and-left, and-right}
 use Rattle.tg_base.proofs.Rules.{layout_rules, chain_rules, within-low}
 use Rattle.tg_proj.specs.Refusals.{units_of as units_in}
-use Rattle.tg_protocol.specs.Words.{with_num, with_nums, numbers}
+use Rattle.tg_protocol.specs.Words.{with_num, with_nums}
 use Rattle.tg_protocol.specs.Layouts.{units_of}
 use Rattle.tg_protocol.specs.Requests.{Waits, waits_for, without_wait, Next, Goes, Learns, Ends}
 use Rattle.tg_protocol.specs.Replies.{Reply, IsGone, IsFenced, reply}

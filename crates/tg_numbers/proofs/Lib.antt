@@ -1,0 +1,11 @@
+pub mod Steps
+pub mod Cells
+pub mod Appends
+pub mod Syncs
+pub mod Walks
+pub mod Copies
+pub mod Trims
+pub mod Reconfs
+pub mod Grows
+pub mod Nears
+pub mod Stays
