@@ -14,6 +14,7 @@ mod view;
 
 pub use base::Base;
 pub use decisions::{decision_at, decisions_of, lacks_decision};
+pub use ops::{op_of, touched_by};
 pub use verdict::Verdict;
 pub use view::View;
 
