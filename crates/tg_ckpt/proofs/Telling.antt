@@ -88,11 +88,11 @@ module _ (m : Meaning) where
 
   -- ---- the lowest base
 
-  abbrev chosen_lower : Option (told.Base m) → Option (told.Base m) → Option (told.Base m)
+  abbrev pub chosen_lower : Option (told.Base m) → Option (told.Base m) → Option (told.Base m)
   chosen_lower None c = c
   chosen_lower (Some b) c = Some (lower m b c)
 
-  abbrev told_counted : ℕ → Option (told.Base m) → Option (told.Base m)
+  abbrev pub told_counted : ℕ → Option (told.Base m) → Option (told.Base m)
   told_counted below None = None
   told_counted below (Some b) = cond (nat_le below b.upto) (Some b) None
 
@@ -122,7 +122,7 @@ module _ (m : Meaning) where
       by true = refl
       by false = refl
 
-  load_step : (o : Oid) (below : ℕ) (x : ℕ × Entry) (xs : Entries) → load_from m (x ∷ xs) o below ≡ chosen_lower (told_counted below (base_at m o x.1)) (load_from m xs o below)
+  pub load_step : (o : Oid) (below : ℕ) (x : ℕ × Entry) (xs : Entries) → load_from m (x ∷ xs) o below ≡ chosen_lower (told_counted below (base_at m o x.1)) (load_from m xs o below)
   unfolding load_from bases_in
   load_step o below x xs = least_step below (base_at m o x.1) (bases_in m xs o)
 
@@ -176,11 +176,11 @@ module _ (m : Meaning) where
 
   -- ---- the highest base
 
-  abbrev chosen_higher : Option (told.Base m) → Option (told.Base m) → Option (told.Base m)
+  abbrev pub chosen_higher : Option (told.Base m) → Option (told.Base m) → Option (told.Base m)
   chosen_higher None c = c
   chosen_higher (Some b) c = Some (higher m b c)
 
-  abbrev told_inside : ℕ → ℕ → Option (told.Base m) → Option (told.Base m)
+  abbrev pub told_inside : ℕ → ℕ → Option (told.Base m) → Option (told.Base m)
   told_inside below high None = None
   told_inside below high (Some b) = cond (nat_le below b.upto && nat_le b.upto high) (Some b) None
 
@@ -210,7 +210,7 @@ module _ (m : Meaning) where
       by true = refl
       by false = refl
 
-  last_step : (o : Oid) (below high : ℕ) (x : ℕ × Entry) (xs : Entries) → last_base m (x ∷ xs) o below high ≡ chosen_higher (told_inside below high (base_at m o x.1)) (last_base m xs o below high)
+  pub last_step : (o : Oid) (below high : ℕ) (x : ℕ × Entry) (xs : Entries) → last_base m (x ∷ xs) o below high ≡ chosen_higher (told_inside below high (base_at m o x.1)) (last_base m xs o below high)
   unfolding bases_in
   last_step o below high x xs = greatest_step below high (base_at m o x.1) (bases_in m xs o)
 

@@ -1,15 +1,17 @@
-//! The bases with which views begin.
+//! The bases with which views begin. Those from entries that have a spelling are lawful: a view may begin with them.
 
-ghost use Rattle.std.specs.Prelude.{◌≡◌, true, map, IfOk};
+ghost use Rattle.std.specs.Prelude.{◌≡◌, true, map, IfOk, IfSome};
 ghost use Rattle.tg_base.specs.declared.ids.Oid.{Oid};
 ghost use Rattle.tg_kind.specs.Headers.{is_header};
 ghost use Rattle.tg_kind.specs.Of.{meaning_of};
 ghost use Rattle.tg_protocol.specs.Checkpoints as told;
 ghost use Rattle.tg_protocol.specs.Past as past;
 ghost use Rattle.tg_protocol.specs.Views as views;
+ghost use Rattle.tg_play.specs.Lawful.{IsLawfulBase, AreLawfulBases};
 ghost use Rattle.tg_play.specs.Relations.{KeepsBase, KeepsBases};
 ghost use Rattle.tg_ckpt.specs.Answers.{KeepsMaybe, Loads};
 ghost use Rattle.tg_ckpt.specs.Kept.{kept_base};
+ghost use Rattle.tg_ckpt.specs.Saving.{AreSpelled};
 
 use crate::choosing::{highest, lowest};
 use crate::fault::CkptFault;
@@ -31,7 +33,8 @@ pub fn load_from<K: Registry>(
     oid: Oid,
     below: Pos,
 ) -> Result<Base<K>, CkptFault>
-    ensures { Loads (meaning_of K.Registry) oid result (told.load_from (meaning_of K.Registry) entries.now oid below) }
+    ensures told { Loads (meaning_of K.Registry) oid result (told.load_from (meaning_of K.Registry) entries.now oid below) }
+    ensures lawful { AreSpelled entries.now → IfOk result (λ b. IsLawfulBase b) }
 {
     let base = lowest(alloc, entries.as_slice(), oid, below)?;
     match base {
@@ -51,7 +54,8 @@ pub fn last_base<K: Registry>(
     below: Pos,
     pos: Pos,
 ) -> Result<Option<Base<K>>, NoMemory>
-    ensures { IfOk result (λ b. KeepsMaybe (meaning_of K.Registry) b (past.last_base (meaning_of K.Registry) entries.now oid below pos)) }
+    ensures told { IfOk result (λ b. KeepsMaybe (meaning_of K.Registry) b (past.last_base (meaning_of K.Registry) entries.now oid below pos)) }
+    ensures lawful { AreSpelled entries.now → IfOk result (λ b. IfSome b (λ x. IsLawfulBase x)) }
 {
     let base = highest(alloc, entries.as_slice(), oid, below, pos)?;
     Ok(base)
@@ -79,7 +83,8 @@ pub fn fresh_base<K: Registry>(
     objects: &[Oid],
 ) -> Result<Base<K>, NoMemory>
     requires { is_header objects.now ≡ true }
-    ensures { IfOk result (λ b. KeepsBase (meaning_of K.Registry) b (views.fresh_base (meaning_of K.Registry) objects.now oid)) }
+    ensures told { IfOk result (λ b. KeepsBase (meaning_of K.Registry) b (views.fresh_base (meaning_of K.Registry) objects.now oid)) }
+    ensures lawful { IfOk result (λ b. IsLawfulBase b) }
 {
     let base = fresh(alloc, oid, objects)?;
     Ok(base)
@@ -144,7 +149,8 @@ pub fn view_base<K: Registry>(
     oid: Oid,
 ) -> Result<Base<K>, NoMemory>
     requires { is_header objects.now ≡ true }
-    ensures { IfOk result (λ b. KeepsBase (meaning_of K.Registry) b (told.view_base (meaning_of K.Registry) entries.now gone.now objects.now oid)) }
+    ensures told { IfOk result (λ b. KeepsBase (meaning_of K.Registry) b (told.view_base (meaning_of K.Registry) entries.now gone.now objects.now oid)) }
+    ensures lawful { AreSpelled entries.now → IfOk result (λ b. IsLawfulBase b) }
 {
     let base = begun(alloc, entries.as_slice(), gone, objects, oid)?;
     Ok(base)
@@ -180,7 +186,8 @@ pub fn view_bases<K: Registry>(
     oids: &[Oid],
 ) -> Result<List<Base<K>>, NoMemory>
     requires { is_header objects.now ≡ true }
-    ensures { IfOk result (λ bs. KeepsBases (meaning_of K.Registry) bs (told.view_bases (meaning_of K.Registry) entries.now gone.now objects.now oids.now)) }
+    ensures told { IfOk result (λ bs. KeepsBases (meaning_of K.Registry) bs (told.view_bases (meaning_of K.Registry) entries.now gone.now objects.now oids.now)) }
+    ensures lawful { AreSpelled entries.now → IfOk result (λ bs. AreLawfulBases bs) }
 {
     let bases = all_begun(alloc, entries.as_slice(), gone, objects, oids)?;
     Ok(bases)

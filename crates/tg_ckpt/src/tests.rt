@@ -5,7 +5,7 @@ use tg_base::{Backs, Blob, List, NoMemory, Oid, Part, Pos, ReadMark, StreamLink}
 use tg_dir::Directory;
 use tg_entry::{Body, Entries, Entry, Head, WriteOp};
 use tg_kind::Kind;
-use tg_play::Base;
+use tg_play::{Base, View};
 
 // The object of these logs, and one that their record reads.
 const DIR: Oid = Oid(0);
@@ -218,5 +218,37 @@ fn a_record_without_its_decision_is_not_forgotten(rt: HostRuntime) -> Result<(),
     ];
     let open = Err(CkptFault::OpenDecision { pos: 0 });
     assert_eq!(rt; told, [none, none, open, Ok(()), Ok(())]);
+    Ok(())
+}
+
+// What a checkpoint tells: how far it reaches, the versions of the object and of its whole, and how many keys.
+fn told_by(entry: &Entry) -> Option<(Pos, u64, u64, usize)> {
+    match &entry.body {
+        Body::Checkpoint {
+            upto,
+            version,
+            whole,
+            keys,
+            ..
+        } => Some((*upto, *version, *whole, keys.len())),
+        _ => None,
+    }
+}
+
+// The directory's checkpoint after a record at 0 that changes all of it.
+fn saved(alloc: Global) -> Result<Option<(Pos, u64, u64, usize)>, CkptFault> {
+    let base: Base<Directory> = fresh_base(alloc, DIR, &[CTR])?;
+    let mut bases = List::new(alloc);
+    bases.push(base)?;
+    let view = View::start(alloc, bases)?;
+    let entries = log(alloc, [Item::Record, Item::Yes(0), Item::Yes(1)])?;
+    let (view, _) = view.play(alloc, &entries, 3)?;
+    let draft = checkpoint(alloc, &view, DIR, 3, 4, 1)?;
+    Ok(told_by(draft.entry()))
+}
+
+#[test]
+fn a_checkpoint_tells_the_versions_of_the_view(rt: HostRuntime) -> Result<(), Fail> {
+    assert_eq!(rt; saved(rt.alloc()), Ok(Some((3, 1, 1, 0))));
     Ok(())
 }

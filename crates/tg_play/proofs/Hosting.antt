@@ -19,7 +19,7 @@ use Rattle.tg_vers.specs.Kept.{Objects, Keeps}
 use Rattle.tg_vers.proofs.Lookups.{lookup_put, lookup_taken}
 use Rattle.tg_play.specs.declared.hosted.Hosted.{Hosted}
 use Rattle.tg_play.specs.Kept.{Hosts, Kept, hosted_of, own_noted, own}
-use Rattle.tg_play.specs.Relations.{AtMost, KeepsHosted, KeepsObject, KeepsObjects, written_state, written_noted}
+use Rattle.tg_play.specs.Relations.{KeepsHosted, KeepsObject, KeepsObjects, written_state, written_noted}
 use Rattle.tg_play.proofs.Own.{own_other, own_same}
 
 -- ---- objects by number
@@ -126,8 +126,8 @@ module _ (m : Meaning) where
 
   -- ---- versions at a position
 
-  pub played_at : (v : View m) (b : Base m) (r : ReadMark) (p n : ℕ) → past m b p ≡ false → AtMost p v.noted → n ≡ version_of (played_versions m v b) r.oid r.part → n ≡ version_by m v p (Some b) r
-  played_at v b r p n e most is =
+  pub played_at : (v : View m) (b : Base m) (r : ReadMark) (p n : ℕ) → past m b p ≡ false → n ≡ version_of (played_versions m v b) r.oid r.part → n ≡ version_by m v p (Some b) r
+  played_at v b r p n e is =
       is
       ∙ ap (λ (t : Bool). cond t (version_of b.versions r.oid r.part) (version_of (played_versions m v b) r.oid r.part)) (sym e)
 

@@ -1,11 +1,16 @@
 pub mod Means
 pub mod Splitting
 pub mod Spellings
+pub mod Truths
 pub mod Reading
 pub mod Own
 pub mod Places
 pub mod Hosting
+pub mod Lawful
+pub mod Telling
 pub mod Needs
+pub mod Deciding
 pub mod Starting
 pub mod Stepping
 pub mod Playing
+pub mod Lasting

@@ -36,7 +36,7 @@ later_by low x (y ∷ ys) le h = let p = first h in (le, later_by (x.0 + 1) y ys
     first : IsInOrder (x ∷ y ∷ ys) → (x.0 + 1 ≤ y.0) × IsInOrder (y ∷ ys)
     first e = grind (arith, nat_tests)
 
-in_order : (xs : Entries) → IsInOrder xs → Later 0 xs
+pub in_order : (xs : Entries) → IsInOrder xs → Later 0 xs
 in_order [] h = tt
 in_order (x ∷ xs) h = later_by 0 x xs (omega arith) h
 

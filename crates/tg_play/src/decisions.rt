@@ -2,6 +2,8 @@
 
 ghost use Rattle.std.specs.Prelude.{◌≡◌, ◌&&◌, not, is_some, IfOk, OnOk};
 ghost use Rattle.tg_entry.specs.Needs.{needs_decision};
+ghost use Rattle.tg_protocol.specs.Entries.{decides};
+ghost use Rattle.tg_protocol.specs.Views.{decision_in};
 ghost use Rattle.tg_play.specs.Kept.{decisions_kept, with_decision, at_position};
 
 use std::alloc::Global;
@@ -42,6 +44,34 @@ pub fn decision_at(decisions: &BTreeMap<Pos, bool>, pos: Pos) -> Option<bool>
     ensures { result ≡ at_position decisions.now.entries pos }
 {
     decisions.get(&pos).copied()
+}
+
+/// What the decision records among entries say of a position; of several for it the first counts. It takes no memory.
+pub fn decision_among(entries: &[(Pos, Entry)], pos: Pos) -> Option<bool>
+    ensures { result ≡ decision_in entries.now pos }
+{
+    for (_, entry) in entries {
+        if let Some(yes) = decided_by(&entry.body, pos) {
+            return Some(yes);
+        }
+    }
+    None
+}
+
+// What a decision record says of a position.
+fn decided_by(body: &Body, pos: Pos) -> Option<bool>
+    ensures { result ≡ decides pos body.now }
+{
+    match body {
+        Body::Commit { .. } => None,
+        Body::Decision { at, yes } => {
+            if *at == pos {
+                return Some(*yes);
+            }
+            None
+        }
+        Body::Checkpoint { .. } => None,
+    }
 }
 
 /// Whether a record needs a decision record and has none. It takes no memory.

@@ -1,13 +1,14 @@
 //! A hosted object.
 
-ghost use Rattle.std.specs.Prelude.{◌≡◌, ◌+◌, ◌<◌, ◌^◌, ◌∷◌, List, Option, Some, IfOk};
+ghost use Rattle.std.specs.Prelude.{◌≡◌, ◌+◌, ◌<◌, ◌≤◌, ◌^◌, ◌∷◌, List, Option, Some, IfOk};
 ghost use Rattle.tg_kind.specs.Of.{meaning_of};
 ghost use Rattle.tg_protocol.specs.Versions.{Based, Noted, version_of, parts_of};
 ghost use Rattle.tg_protocol.specs.Versions as history;
 ghost use Rattle.tg_protocol.specs.Views as told;
 ghost use Rattle.tg_vers.specs.Kept.{Keeps};
 ghost use Rattle.tg_play.specs.Kept.{hosted_from, own};
-ghost use Rattle.tg_play.specs.Relations.{AtMost, KeepsHosted, written_state, written_noted};
+ghost use Rattle.tg_play.specs.Lawful.{IsLawfulHosted};
+ghost use Rattle.tg_play.specs.Relations.{KeepsHosted, written_state, written_noted};
 
 use crate::base::Base;
 use crate::ops::{applied_to, op_of, touched_by};
@@ -75,7 +76,7 @@ impl<K> Hosted<K> {
 impl<K: Registry> Hosted<K> {
     /// The version of a read part at a position, as far as it is known.
     pub fn version_at(&self, read: &ReadMark, pos: Pos) -> u64
-        ensures { (v : told.View (meaning_of K.Registry)) (b : told.Base (meaning_of K.Registry)) (s : Option K) → KeepsHosted (meaning_of K.Registry) read.now.oid self.now b s v.noted → AtMost pos v.noted → result ≡ told.version_by (meaning_of K.Registry) v pos (Some b) read.now }
+        ensures { (v : told.View (meaning_of K.Registry)) (b : told.Base (meaning_of K.Registry)) (s : Option K) → KeepsHosted (meaning_of K.Registry) read.now.oid self.now b s v.noted → result ≡ told.version_by (meaning_of K.Registry) v pos (Some b) read.now }
     {
         if pos < self.upto {
             return self.base_version(read.oid, &read.part);
@@ -101,7 +102,8 @@ impl<K: Registry> Hosted<K> {
     /// An `Err` is want of memory.
     pub fn write(self, alloc: Global, write: &WriteOp, pos: Pos) -> Result<Hosted<K>, NoMemory>
         requires { pos < 2 ^ 62 }
-        ensures { (b : told.Base (meaning_of K.Registry)) (s : Option K) (ns : List Noted) → KeepsHosted (meaning_of K.Registry) write.now.oid self b s ns → IfOk result (λ h. KeepsHosted (meaning_of K.Registry) write.now.oid h b (written_state (meaning_of K.Registry) pos write.now b s) (written_noted (meaning_of K.Registry) pos write.now b ns)) }
+        ensures kept { (b : told.Base (meaning_of K.Registry)) (s : Option K) (ns : List Noted) → KeepsHosted (meaning_of K.Registry) write.now.oid self b s ns → IfOk result (λ h. KeepsHosted (meaning_of K.Registry) write.now.oid h b (written_state (meaning_of K.Registry) pos write.now b s) (written_noted (meaning_of K.Registry) pos write.now b ns)) }
+        ensures lawful { IsLawfulHosted (pos + 1) write.now.oid self → IfOk result (λ h. IsLawfulHosted (pos + 1) write.now.oid h) }
     {
         if self.upto > pos {
             return Ok(self);
@@ -118,8 +120,10 @@ impl<K: Registry> Hosted<K> {
         op: &Option<K::Op>,
         pos: Pos,
     ) -> Result<Hosted<K>, NoMemory>
-        requires { pos < 2 ^ 62 }
-        ensures { (b : told.Base (meaning_of K.Registry)) (s : Option K) (ns : List Noted) → KeepsHosted (meaning_of K.Registry) oid self b s ns → IfOk result (λ h. KeepsHosted (meaning_of K.Registry) oid h b (told.applied (meaning_of K.Registry) op.now s) (record { oid = oid; part = told.touched (meaning_of K.Registry) op.now; version = pos + 1 } ∷ ns)) }
+        requires reach { pos < 2 ^ 62 }
+        requires begun { self.upto ≤ pos }
+        ensures kept { (b : told.Base (meaning_of K.Registry)) (s : Option K) (ns : List Noted) → KeepsHosted (meaning_of K.Registry) oid self b s ns → IfOk result (λ h. KeepsHosted (meaning_of K.Registry) oid h b (told.applied (meaning_of K.Registry) op.now s) (record { oid = oid; part = told.touched (meaning_of K.Registry) op.now; version = pos + 1 } ∷ ns)) }
+        ensures lawful { IsLawfulHosted (pos + 1) oid self → IfOk result (λ h. IsLawfulHosted (pos + 1) oid h) }
     {
         let part = touched_by::<K>(alloc, op)?;
         let Hosted {

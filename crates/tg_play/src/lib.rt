@@ -6,6 +6,7 @@ mod decisions;
 mod hosted;
 mod objects;
 mod ops;
+mod played;
 mod reads;
 mod records;
 mod verdict;
@@ -13,6 +14,8 @@ mod view;
 
 pub use base::Base;
 pub use decisions::{decision_at, decisions_of, lacks_decision};
+pub use ops::{op_of, touched_by};
+pub use verdict::Verdict;
 pub use view::View;
 
 #[cfg(test)]

@@ -1,13 +1,14 @@
 //! Hosted objects by number.
 
-ghost use Rattle.std.specs.Prelude.{◌≡◌, ◌<◌, ◌^◌, IfOk, OnOk};
+ghost use Rattle.std.specs.Prelude.{◌≡◌, ◌+◌, ◌<◌, ◌^◌, IfOk, OnOk};
 ghost use Rattle.std.specs.BTreeMap.{insert_entry};
 ghost use Rattle.std.specs.Option.{option_copied};
 ghost use Rattle.tg_base.specs.Orders.{oid_cmp};
 ghost use Rattle.tg_kind.specs.Of.{meaning_of};
 ghost use Rattle.tg_protocol.specs.Views as told;
 ghost use Rattle.tg_play.specs.Kept.{hosted_from, hosted_of, hosts_from};
-ghost use Rattle.tg_play.specs.Relations.{AtMost, KeepsObjects};
+ghost use Rattle.tg_play.specs.Lawful.{AreLawful};
+ghost use Rattle.tg_play.specs.Relations.{KeepsObjects};
 
 use crate::base::Base;
 use crate::hosted::Hosted;
@@ -52,7 +53,7 @@ pub fn found<K>(objects: &BTreeMap<Oid, Hosted<K>>, oid: Oid) -> Option<&Hosted<
 
 /// The version of a read part at a position, as far as it is known. It takes no memory.
 pub fn version_at<K: Registry>(objects: &BTreeMap<Oid, Hosted<K>>, read: &ReadMark, pos: Pos) -> u64
-    ensures { (v : told.View (meaning_of K.Registry)) → KeepsObjects (meaning_of K.Registry) objects.now.entries v → AtMost pos v.noted → result ≡ told.version_at (meaning_of K.Registry) v pos read.now }
+    ensures { (v : told.View (meaning_of K.Registry)) → KeepsObjects (meaning_of K.Registry) objects.now.entries v → result ≡ told.version_at (meaning_of K.Registry) v pos read.now }
 {
     match found(objects, read.oid) {
         None => 0,
@@ -93,7 +94,8 @@ pub fn write<K: Registry>(
     write: &WriteOp,
 ) -> Result<(), NoMemory>
     requires { pos < 2 ^ 62 }
-    ensures { (v : told.View (meaning_of K.Registry)) → KeepsObjects (meaning_of K.Registry) objects.old.entries v → OnOk result (KeepsObjects (meaning_of K.Registry) objects.new.entries (told.write (meaning_of K.Registry) pos v write.now)) }
+    ensures objects { (v : told.View (meaning_of K.Registry)) → KeepsObjects (meaning_of K.Registry) objects.old.entries v → OnOk result (KeepsObjects (meaning_of K.Registry) objects.new.entries (told.write (meaning_of K.Registry) pos v write.now)) }
+    ensures lawful { AreLawful (pos + 1) objects.old.entries → OnOk result (AreLawful (pos + 1) objects.new.entries) }
 {
     match objects.remove(&write.oid) {
         None => Ok(()),

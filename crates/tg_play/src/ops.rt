@@ -3,8 +3,9 @@
 ghost use Rattle.std.specs.Prelude.{◌≡◌, ◌≤◌, ◌&&◌, true, Some, None, length, IfOk, if◌then◌else◌};
 ghost use Rattle.tg_base.specs.declared.marks.Part.TheVariants.{Text};
 ghost use Rattle.tg_kind.specs.Of.{meaning_of};
-ghost use Rattle.tg_kind.specs.Parts.{is_part, part_of};
+ghost use Rattle.tg_kind.specs.Parts as scopes;
 ghost use Rattle.tg_protocol.specs.Views.{touched, applied};
+ghost use Rattle.tg_play.specs.Lawful.{is_named};
 
 use std::alloc::Global;
 use tg_base::{Blob, List, NoMemory, Oid, Part};
@@ -42,7 +43,8 @@ fn whole_op<K: Registry>(oid: Oid, op: K::Op, whole: bool) -> Option<K::Op>
 
 /// The part that an op changes; bytes that spell none change all of their object. An `Err` is want of memory.
 pub fn touched_by<K: Registry>(alloc: Global, op: &Option<K::Op>) -> Result<Part, NoMemory>
-    ensures { IfOk result (λ p. p ≡ touched (meaning_of K.Registry) op.now) }
+    ensures part { IfOk result (λ p. p ≡ touched (meaning_of K.Registry) op.now) }
+    ensures spelled { IfOk result (λ p. is_named p ≡ true) }
 {
     match op {
         None => Ok(Part::All),
@@ -51,7 +53,8 @@ pub fn touched_by<K: Registry>(alloc: Global, op: &Option<K::Op>) -> Result<Part
 }
 
 fn touch_of<K: Registry>(alloc: Global, op: &K::Op) -> Result<Part, NoMemory>
-    ensures { IfOk result (λ p. p ≡ K.touched op.now) }
+    ensures part { IfOk result (λ p. p ≡ K.touched op.now) }
+    ensures spelled { IfOk result (λ p. is_named p ≡ true) }
 {
     let scope = K::touch(op);
     part_in(alloc, scope)
@@ -59,8 +62,8 @@ fn touch_of<K: Registry>(alloc: Global, op: &K::Op) -> Result<Part, NoMemory>
 
 // The part that a scope names.
 fn part_in(alloc: Global, scope: Scope<'_>) -> Result<Part, NoMemory>
-    requires { is_part (part_of scope) ≡ true }
-    ensures { IfOk result (λ p. p ≡ part_of scope.entry) }
+    requires { scopes.is_part (scopes.part_of scope) ≡ true }
+    ensures { IfOk result (λ p. p ≡ scopes.part_of scope.entry) }
 {
     match scope {
         Scope::All => Ok(Part::All),

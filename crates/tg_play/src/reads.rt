@@ -5,7 +5,8 @@ ghost use Rattle.tg_kind.specs.Of.{meaning_of};
 ghost use Rattle.tg_entry.specs.declared.entry.Entry.{Entry};
 ghost use Rattle.tg_protocol.specs.Entries.{reads_of};
 ghost use Rattle.tg_protocol.specs.Views as told;
-ghost use Rattle.tg_play.specs.Relations.{AtMost, KeepsObjects, told_verdict};
+ghost use Rattle.tg_vers.specs.Kept.{first_other};
+ghost use Rattle.tg_play.specs.Relations.{KeepsObjects, told_verdict};
 
 use crate::hosted::Hosted;
 use crate::objects::{is_unknown, version_at};
@@ -34,9 +35,27 @@ pub fn unknown<K: Registry>(
     }
 }
 
+/// The index, from 0, of the first read that has another version at a position, with that version.
+/// It takes no memory.
+pub fn changed<K: Registry>(
+    objects: &BTreeMap<Oid, Hosted<K>>,
+    reads: &[ReadMark],
+    pos: Pos,
+) -> Option<(usize, u64)>
+    ensures { (v : told.View (meaning_of K.Registry)) → KeepsObjects (meaning_of K.Registry) objects.now.entries v → result ≡ first_other (told.version_at (meaning_of K.Registry) v pos) reads.now }
+{
+    for (index, read) in reads.iter().enumerate() {
+        let now = version_at(objects, read, pos);
+        if now != read.version {
+            return Some((index, now));
+        }
+    }
+    None
+}
+
 // Whether a read has another version at a position. It takes no memory.
 fn is_changed<K: Registry>(objects: &BTreeMap<Oid, Hosted<K>>, reads: &[ReadMark], pos: Pos) -> bool
-    ensures { (v : told.View (meaning_of K.Registry)) → KeepsObjects (meaning_of K.Registry) objects.now.entries v → AtMost pos v.noted → result ≡ is_some (told.changed_in (meaning_of K.Registry) v reads.now pos) }
+    ensures { (v : told.View (meaning_of K.Registry)) → KeepsObjects (meaning_of K.Registry) objects.now.entries v → result ≡ is_some (told.changed_in (meaning_of K.Registry) v reads.now pos) }
 {
     match reads {
         [] => false,
@@ -55,7 +74,7 @@ fn by_versions<K: Registry>(
     reads: &[ReadMark],
     pos: Pos,
 ) -> Verdict
-    ensures { (v : told.View (meaning_of K.Registry)) → KeepsObjects (meaning_of K.Registry) objects.now.entries v → AtMost pos v.noted → told_verdict result ≡ told.by_versions (meaning_of K.Registry) v reads.now pos (told.unknown_in (meaning_of K.Registry) v reads.now pos) }
+    ensures { (v : told.View (meaning_of K.Registry)) → KeepsObjects (meaning_of K.Registry) objects.now.entries v → told_verdict result ≡ told.by_versions (meaning_of K.Registry) v reads.now pos (told.unknown_in (meaning_of K.Registry) v reads.now pos) }
 {
     match unknown(objects, reads, pos) {
         Some(missing) => Verdict::Unknown(missing),
@@ -80,7 +99,7 @@ pub fn verdict<K: Registry>(
     reads: &[ReadMark],
     pos: Pos,
 ) -> Verdict
-    ensures { (v : told.View (meaning_of K.Registry)) (e : Entry) → KeepsObjects (meaning_of K.Registry) objects.now.entries v → AtMost pos v.noted → reads_of e ≡ reads.now → told_verdict result ≡ told.by_decision (meaning_of K.Registry) v e pos decision }
+    ensures { (v : told.View (meaning_of K.Registry)) (e : Entry) → KeepsObjects (meaning_of K.Registry) objects.now.entries v → reads_of e ≡ reads.now → told_verdict result ≡ told.by_decision (meaning_of K.Registry) v e pos decision }
 {
     match decision {
         Some(true) => Verdict::Commits,

@@ -1,10 +1,11 @@
 //! The writes of a record.
 
-ghost use Rattle.std.specs.Prelude.{◌≡◌, ◌<◌, ◌^◌, OnOk};
+ghost use Rattle.std.specs.Prelude.{◌≡◌, ◌+◌, ◌<◌, ◌^◌, OnOk};
 ghost use Rattle.std.specs.List.{list_any};
 ghost use Rattle.tg_entry.specs.declared.entry.WriteOp.{WriteOp};
 ghost use Rattle.tg_kind.specs.Of.{meaning_of};
 ghost use Rattle.tg_protocol.specs.Views as told;
+ghost use Rattle.tg_play.specs.Lawful.{AreLawful};
 ghost use Rattle.tg_play.specs.Relations.{KeepsObjects};
 
 use crate::hosted::Hosted;
@@ -42,7 +43,8 @@ pub fn write_all<K: Registry>(
     writes: &[WriteOp],
 ) -> Result<(), NoMemory>
     requires { pos < 2 ^ 62 }
-    ensures { (v : told.View (meaning_of K.Registry)) → KeepsObjects (meaning_of K.Registry) objects.old.entries v → OnOk result (KeepsObjects (meaning_of K.Registry) objects.new.entries (told.write_all (meaning_of K.Registry) pos v writes.now)) }
+    ensures objects { (v : told.View (meaning_of K.Registry)) → KeepsObjects (meaning_of K.Registry) objects.old.entries v → OnOk result (KeepsObjects (meaning_of K.Registry) objects.new.entries (told.write_all (meaning_of K.Registry) pos v writes.now)) }
+    ensures lawful { AreLawful (pos + 1) objects.old.entries → OnOk result (AreLawful (pos + 1) objects.new.entries) }
 {
     match writes {
         [] => Ok(()),

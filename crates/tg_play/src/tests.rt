@@ -75,9 +75,12 @@ fn log(alloc: Global, at: Pos, first: Item, then: Pos, second: Item) -> Result<E
     Ok(entries)
 }
 
-// A view of a directory of one object.
-fn begin(alloc: Global, vers: Versions, upto: Pos) -> Result<View<Directory>, NoMemory> {
+// A view of a directory of one object, whose parts all have this version.
+fn begin(alloc: Global, version: u64, upto: Pos) -> Result<View<Directory>, NoMemory>
+    requires { version ≤ upto }
+{
     let state = Directory::fresh(alloc, DIR, &[CTR])?;
+    let vers = Versions::of(alloc, DIR, version, version, &[])?;
     let mut bases = List::new(alloc);
     let oid = DIR;
     bases.push(Base {
@@ -155,7 +158,7 @@ fn read_elsewhere(alloc: Global) -> Result<(PlayEnd, Seen, Seen), NoMemory> {
     let record = Item::Record(CTR, 0, b'1');
     let first = log(alloc, 0, record, 1, Item::Record(DIR, 0, b'2'))?;
     let second = log(alloc, 0, record, 2, Item::Yes(0))?;
-    let view = begin(alloc, Versions::new(alloc), 0)?;
+    let view = begin(alloc, 0, 0)?;
     twice(alloc, view, &first, &second, 2, [0, 1])
 }
 
@@ -188,7 +191,7 @@ fn a_read_elsewhere_waits_for_its_decision(rt: HostRuntime) -> Result<(), Fail> 
 fn kept(alloc: Global) -> Result<(PlayEnd, Seen, Seen), NoMemory> {
     let first = Item::Record(DIR, 0, b'1');
     let entries = log(alloc, 0, first, 1, Item::Record(DIR, 0, b'2'))?;
-    let view = begin(alloc, Versions::new(alloc), 0)?;
+    let view = begin(alloc, 0, 0)?;
     twice(alloc, view, &entries, &entries, 1, [0, 1])
 }
 
@@ -217,8 +220,7 @@ fn a_kept_view_plays_only_what_is_new(rt: HostRuntime) -> Result<(), Fail> {
 fn from_base(alloc: Global) -> Result<(PlayEnd, Seen, Seen), NoMemory> {
     let first = Item::Record(CTR, 0, b'1');
     let entries = log(alloc, 2, first, 6, Item::Record(DIR, 3, b'2'))?;
-    let versions = Versions::of(alloc, DIR, 3, 3, &[])?;
-    let view = begin(alloc, versions, 4)?;
+    let view = begin(alloc, 3, 4)?;
     twice(alloc, view, &entries, &entries, 5, [2, 6])
 }
 

@@ -8,3 +8,5 @@ pub mod Found
 pub mod Same
 pub mod Drops
 pub mod Puts
+mod Positions
+mod Lows

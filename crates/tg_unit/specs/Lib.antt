@@ -1,3 +1,4 @@
 pub mod Bits
 pub mod Segments
 pub mod Missing
+pub mod Lows

@@ -1,5 +1,5 @@
 -- Cells in segments of 64 positions. A segment's number and a place make a position.
-use Rattle.std.specs.Prelude.{◌≡◌, ℕ, ◌+◌, ◌*◌, ◌<◌, ◌≤◌, Bool, true, false, List, [], ◌∷◌, ◌++◌, length, Option, Some, None}
+use Rattle.std.specs.Prelude.{◌≡◌, ℕ, ◌+◌, ◌*◌, ◌<◌, ◌≤◌, Bool, true, false, List, [], ◌∷◌, ◌++◌, filter, nat_lt, length, Option, Some, None}
 use Rattle.std.specs.Int.{bit_at}
 use Rattle.std.specs.Ordering.{nat_cmp}
 use Rattle.std.specs.Map.{lookup}
@@ -18,6 +18,10 @@ by_position num (e ∷ es) = (64 * num + e.0, e.1) ∷ by_position num es
 abbrev pub cells_of : List (ℕ × Segment) → List (ℕ × Cell)
 cells_of [] = []
 cells_of (e ∷ es) = by_position e.0 e.1.cells ++ cells_of es
+
+-- the cells below a position
+abbrev pub cells_below : ℕ → List (ℕ × Cell) → List (ℕ × Cell)
+cells_below low cells = filter (λ (x : ℕ × Cell). nat_lt x.0 low) cells
 
 -- places rise from the least one on, and are below 64
 abbrev pub ArePlaces : ℕ → List (ℕ × Cell) → Type 0

@@ -1,14 +1,15 @@
 //! The cells of a unit, in segments.
 
-ghost use Rattle.std.specs.Prelude.{◌≡◌, ℕ, ◌+◌, ◌-◌, ◌*◌, ◌/◌, ◌%◌, ◌<◌, ◌≤◌, ◌↔◌, [], is_some, option_copied, Some, None, true, false, IsNone, IfSome, OnOk, OnErr};
+ghost use Rattle.std.specs.Prelude.{◌≡◌, ℕ, ◌+◌, ◌-◌, ◌*◌, ◌/◌, ◌%◌, ◌<◌, ◌≤◌, ◌↔◌, [], is_some, option_copied, Some, None, true, false, IsNone, IfOk, IfSome, OnOk, OnErr, ◌++◌, ◌∷◌};
 ghost use Rattle.tg_protocol.specs.Words.{cell_at, with_cell, cells_from};
-ghost use Rattle.tg_unit.specs.Segments.{cells_of, segment_at, AreSegments, IsBare, TellsSegment, HasFrom, LacksFrom};
+ghost use Rattle.tg_protocol.specs.Logs.{positions};
+ghost use Rattle.tg_unit.specs.Segments.{by_position, cells_below, cells_of, segment_at, AreSegments, IsBare, TellsSegment, HasFrom, LacksFrom};
 
 use crate::segment::Segment;
 use std::alloc::Global;
 use std::collections::BTreeMap;
 use std::marker::Model;
-use tg_base::{Cell, NoMemory, Pos};
+use tg_base::{Cell, List, NoMemory, Pos};
 
 /// How many positions a segment has.
 const SPAN: u64 = 64;
@@ -66,6 +67,22 @@ impl Cells {
         }
     }
 
+    /// The positions that have cells, in their order. An `Err` is want of memory, or a position past the greatest
+    /// number.
+    pub fn positions(&self, alloc: Global) -> Result<List<Pos>, NoMemory>
+        ensures { IfOk result (λ ps. ps ≡ positions self.now) }
+    {
+        positions_of(alloc, &self.segments)
+    }
+
+    /// Equal cells below a position, with their positions. An `Err` is want of memory, or a position past the greatest
+    /// number.
+    pub fn below(&self, alloc: Global, low: Pos) -> Result<Vec<(Pos, Cell)>, NoMemory>
+        ensures { IfOk result (λ l. l.items ≡ cells_below low self.now) }
+    {
+        below_of(alloc, &self.segments, low)
+    }
+
     /// The segment with a number: None exactly where none of its positions has a cell.
     pub fn segment(&self, num: u64) -> Option<&Segment>
         ensures none { IsNone result ↔ IsBare self.now num }
@@ -96,6 +113,92 @@ impl Cells {
         let num = below / SPAN;
         drop_segments(&mut self.segments, num);
         drop_places(&mut self.segments, num, (below % SPAN) as u8);
+    }
+}
+
+/// The positions of the cells of segments.
+fn positions_of(
+    alloc: Global,
+    segments: &BTreeMap<u64, Segment>,
+) -> Result<List<Pos>, NoMemory>
+    ensures { IfOk result (λ ps. ps ≡ positions (cells_of segments.now.entries)) }
+{
+    let mut found = List::new(alloc);
+    for (num, segment) in segments {
+        put_positions(*num, segment.cells.as_slice(), &mut found)?;
+    }
+    Ok(found)
+}
+
+/// Puts the positions of a segment's cells last.
+fn put_positions(num: u64, cells: &[(u8, Cell)], found: &mut List<Pos>) -> Result<(), NoMemory>
+    ensures { OnOk result (found.new ≡ found.old ++ positions (by_position num cells.now)) }
+{
+    match cells {
+        [] => Ok(()),
+        [(place, _), others @ ..] => {
+            found.push(position(num, *place)?)?;
+            put_positions(num, others, found)
+        }
+    }
+}
+
+/// Equal cells of segments below a position.
+fn below_of(
+    alloc: Global,
+    segments: &BTreeMap<u64, Segment>,
+    low: Pos,
+) -> Result<Vec<(Pos, Cell)>, NoMemory>
+    ensures { IfOk result (λ l. l.items ≡ cells_below low (cells_of segments.now.entries)) }
+{
+    let mut found = Vec::new(alloc);
+    for (num, segment) in segments {
+        put_below(*num, segment.cells.as_slice(), low, &mut found)?;
+    }
+    Ok(found)
+}
+
+/// Puts equal cells of a segment below a position last.
+#[tactic(auto, using(crate::proofs::Positions::below_next))]
+fn put_below(
+    num: u64,
+    cells: &[(u8, Cell)],
+    low: Pos,
+    found: &mut Vec<(Pos, Cell)>,
+) -> Result<(), NoMemory>
+    ensures { OnOk result (found.new.items ≡ found.old.items ++ cells_below low (by_position num cells.now)) }
+{
+    match cells {
+        [] => Ok(()),
+        [(place, cell), others @ ..] => {
+            put_if_below(position(num, *place)?, cell, low, found)?;
+            put_below(num, others, low, found)
+        }
+    }
+}
+
+/// Puts an equal cell last, where its position is below another.
+fn put_if_below(
+    pos: Pos,
+    cell: &Cell,
+    low: Pos,
+    found: &mut Vec<(Pos, Cell)>,
+) -> Result<(), NoMemory>
+    ensures { OnOk result (found.new.items ≡ found.old.items ++ cells_below low ((pos, cell.now) ∷ [])) }
+{
+    if pos < low {
+        found.push((pos, cell.copy()?))?;
+    }
+    Ok(())
+}
+
+/// The position of a place of a segment.
+fn position(num: u64, place: u8) -> Result<Pos, NoMemory>
+    ensures { IfOk result (λ pos. pos ≡ 64 * num + place) }
+{
+    match num.checked_mul(SPAN) {
+        None => Err(NoMemory),
+        Some(first) => first.checked_add(u64::from(place)).ok_or(NoMemory),
     }
 }
 

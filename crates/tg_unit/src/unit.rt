@@ -2,15 +2,17 @@
 
 ghost use Rattle.std.specs.Prelude.{◌≡◌, ◌+◌, ◌≤◌, ◌<◌, ◌==◌, ◌↔◌, max, Some, None, option_copied, IsNone, IsOk, IfOk, IfSome, MatchOption};
 ghost use Rattle.tg_protocol.specs.Words.{cell_at, cell_eq};
-ghost use Rattle.tg_protocol.specs.Units.{new_unit, unit_step, on_ask, first_missing, how_many, Reads, Stores, Looks, Seals, Trims};
+ghost use Rattle.tg_protocol.specs.Logs.{positions};
+ghost use Rattle.tg_protocol.specs.Units.{new_unit, unit_step, unit_ask, on_ask, first_missing, how_many, Reads, Stores, Looks, Seals, Trims};
+ghost use Rattle.tg_unit.specs.Lows.{low_asked};
 ghost use Rattle.tg_unit.specs.Missing.{missing_from, TakesNoMemory};
-ghost use Rattle.tg_unit.specs.Segments.{IsBare, TellsSegment};
+ghost use Rattle.tg_unit.specs.Segments.{cells_below, IsBare, TellsSegment};
 
 use crate::cells::Cells;
 use crate::segment::Segment;
 use std::alloc::Global;
 use std::marker::Model;
-use tg_base::{Cell, Epoch, Msg, NoMemory, Pos};
+use tg_base::{Cell, Epoch, List, Msg, NoMemory, Pos};
 
 /// A storage unit (Balakrishnan and others, "CORFU: a shared log design for flash clusters", 2012).
 #[derive(Drop)]
@@ -49,6 +51,22 @@ impl Unit {
         ensures { option_copied result ≡ cell_at self.now.cells pos }
     {
         self.cells.get(pos)
+    }
+
+    /// The positions of its cells, rising. An `Err` is want of memory, or a position past the greatest number, of
+    /// which no request can speak.
+    pub fn positions(&self, alloc: Global) -> Result<List<Pos>, NoMemory>
+        ensures { IfOk result (λ ps. ps ≡ positions self.now.cells) }
+    {
+        self.cells.positions(alloc)
+    }
+
+    /// Equal cells below a position, with their positions, rising. An `Err` is want of memory, or a position past the
+    /// greatest number.
+    pub fn below(&self, alloc: Global, low: Pos) -> Result<Vec<(Pos, Cell)>, NoMemory>
+        ensures { IfOk result (λ l. l.items ≡ cells_below low self.now.cells) }
+    {
+        self.cells.below(alloc, low)
     }
 
     /// One past the highest position that was ever written.
@@ -111,6 +129,33 @@ impl Unit {
             Msg::Trim { epoch, below } => Ok(self.trim(*epoch, *below)),
             _ => Ok((self, None)),
         }
+    }
+
+    /// What `low` is after a message. It takes no memory.
+    #[tactic(auto, using(crate::proofs::Lows::low_is))]
+    pub fn low_after(&self, msg: &Msg) -> Pos
+        ensures { result ≡ (unit_step self.now msg.now).now.low }
+    {
+        self.low_asked(msg)
+    }
+
+    #[tactic(auto, unfolding(tg_protocol::specs::Units::unit_ask))]
+    fn low_asked(&self, msg: &Msg) -> Pos
+        ensures { result ≡ low_asked self.now (unit_ask msg.now) }
+    {
+        match msg {
+            Msg::Trim { epoch, below } => self.low_trimmed(*epoch, *below),
+            _ => self.low,
+        }
+    }
+
+    fn low_trimmed(&self, epoch: Epoch, below: Pos) -> Pos
+        ensures { result ≡ low_asked self.now (Trims epoch below) }
+    {
+        if self.serves(epoch) {
+            return self.low.max(below);
+        }
+        self.low
     }
 
     fn serves(&self, epoch: Epoch) -> bool

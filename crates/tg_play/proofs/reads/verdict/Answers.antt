@@ -5,6 +5,6 @@ use Rattle.tg_play.proofs.Reading.{decision_none}
 use Rattle.tg_play.proofs.reads.verdict.Goals as goal
 
 pub returns-in-None : goal.returns-in-None
-returns-in-None g c = λ v e k most same.
-    decision_none (means g.K.Kind g.K.Registry) v e c.args.pos c.args.reads.now _ same (c.by_versions.ensures v k most)
+returns-in-None g c = λ v e k same.
+    decision_none (means g.K.Kind g.K.Registry) v e c.args.pos c.args.reads.now _ same (c.by_versions.ensures v k)
     ∙ ap (λ (d : Option Bool). by_decision (means g.K.Kind g.K.Registry) v e c.args.pos d) (sym c.in-None.is)

@@ -1,0 +1,16 @@
+pub mod Making
+pub mod Loops
+pub mod Unions
+pub mod Cells
+pub mod Ranges
+pub mod Streams
+pub mod Ascending
+pub mod Finding
+pub mod Gathering
+pub mod Giving
+pub mod Settling
+pub mod Leaving
+pub mod Keeping
+pub mod Ordered
+pub mod Ruled
+pub mod Played

@@ -1,0 +1,10 @@
+use Rattle.std.proofs.Common.{◌≡◌, ◌++◌, true}
+use Rattle.tg_known.specs.Words.{entries_at}
+use Rattle.tg_known.proofs.Ascending.{left_above}
+use Rattle.tg_known.proofs.entries.entries_at.Given as goal
+
+abbrev pub invariant-loop-pos : goal.invariant-loop-pos
+invariant-loop-pos l = record {
+  put : l.entries ++ entries_at l.cells.entries l.pos-iterator ≡ entries_at l.cells.entries l.positions;
+  left : left_above l.entries l.pos-iterator ≡ true;
+}

@@ -1,0 +1,4 @@
+mod Sets
+mod Current
+mod Below
+mod Stories

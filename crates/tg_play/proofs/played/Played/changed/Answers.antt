@@ -1,0 +1,5 @@
+use Rattle.tg_play.proofs.Hosting.{objects_in}
+use Rattle.tg_play.proofs.played.Played.changed.Goals as goal
+
+pub returns : goal.returns
+returns g c = λ v k. c.changed.ensures v (objects_in _ _ _ v c.self.view_is k)

@@ -1,0 +1,10 @@
+//! Turns of a rescue.
+#![tactic(auto)]
+
+mod records;
+mod rescue;
+
+pub use rescue::{RescueTurn, rescue_turn};
+
+#[cfg(test)]
+mod tests;
