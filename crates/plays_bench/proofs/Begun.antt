@@ -7,15 +7,10 @@ use Rattle.tg_protocol.specs.Views.{fresh_base}
 use Rattle.tg_protocol.specs.Words.{directory}
 use Rattle.tg_vers.specs.Kept.{Objects, Keeps}
 use Rattle.tg_play.specs.declared.base.Base.{Base}
-use Rattle.tg_play.specs.Lawful.{AreLawfulBases}
 use Rattle.tg_play.specs.Relations.{KeepsBases}
-use Rattle.tg_play.proofs.Lawful.{base_fresh}
 
 one_base : {S : Type 0} (bs new : List (Base S)) (b : Base S) → bs ≡ [] → new ≡ bs ++ b ∷ [] → new ≡ b ∷ []
 one_base {S} bs new b none is = is ∙ ap (λ (xs : List (Base S)). xs ++ b ∷ []) none
-
-pub lawful : {S : Type 0} (bs new : List (Base S)) (b : Base S) → bs ≡ [] → new ≡ bs ++ b ∷ [] → Keeps b.vers no_versions → AreLawfulBases new
-lawful {S} bs new b none is keeps = subst (λ (xs : List (Base S)). AreLawfulBases xs) (sym (one_base bs new b none is)) (base_fresh b keeps, tt)
 
 pub keeps_first : (m : Meaning) (bs new : List (Base m.state)) (s : m.state) (os : Objects) → bs ≡ [] → new ≡ bs ++ record { oid = directory; state = s; vers = os; upto = 0 } ∷ [] → s ≡ m.fresh directory [] → Keeps os no_versions
     → KeepsBases m new (fresh_base m [] directory ∷ [])

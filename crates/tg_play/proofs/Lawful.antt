@@ -1,5 +1,5 @@
 -- Versions that a checkpoint may tell, after a change.
-use Rattle.std.specs.Prelude.{◌≡◌, ℕ, ◌+◌, ◌≤◌, Bool, true, false, cond, nat_le, List, [], ◌∷◌, Some, None, unwrap_or, refl}
+use Rattle.std.specs.Prelude.{◌≡◌, ℕ, ◌+◌, ◌≤◌, Bool, true, false, cond, nat_le, List, [], ◌∷◌, ◌++◌, Some, None, unwrap_or, refl}
 use Rattle.std.specs.BTreeMap.{insert_entry}
 use Rattle.std.specs.Cmp.{tied_itself}
 use Rattle.std.specs.List.{list_all}
@@ -18,7 +18,7 @@ use Rattle.tg_vers.specs.Kept.{Objects, Keeps, unchanged, kept_of, keys_kept, ba
 use Rattle.tg_vers.proofs.Keeping.{kept_noted}
 use Rattle.tg_play.specs.declared.base.Base.{Base}
 use Rattle.tg_play.specs.Kept.{own}
-use Rattle.tg_play.specs.Lawful.{is_named, is_told, IsTold, IsLawful, IsLawfulBase}
+use Rattle.tg_play.specs.Lawful.{is_named, is_told, IsTold, IsLawful, IsLawfulBase, AreLawfulBases}
 use Rattle.tg_play.proofs.Hosting.{oid_total, oid_itself, changed_keeps}
 use Rattle.tg_play.proofs.Truths.{both, first_true, rest_true, within_itself, within_more}
 
@@ -143,3 +143,7 @@ module _ {S : Type 0} where
     lawful = fresh_lawful b.oid b.vers k;
     reach = subst (λ (n : ℕ). n ≤ b.upto) (sym (fresh_version b.oid b.vers k)) (omega arith);
   }
+
+  -- one base alone, put into an empty list
+  pub one_lawful : (bs new : List (Base S)) (b : Base S) → bs ≡ [] → new ≡ bs ++ b ∷ [] → IsLawfulBase b → AreLawfulBases new
+  one_lawful bs new b none is k = subst (λ (xs : List (Base S)). AreLawfulBases xs) (sym (is ∙ ap (λ (xs : List (Base S)). xs ++ b ∷ []) none)) (k, tt)

@@ -2,11 +2,12 @@ use Rattle.std.proofs.Common.{[], ◌∷◌}
 use Rattle.tg_protocol.specs.Views.{fresh_base}
 use Rattle.tg_protocol.specs.Words.{directory}
 use Rattle.tg_play.proofs.Means.{means}
-use Rattle.plays_bench.proofs.Begun.{lawful, keeps_first}
+use Rattle.tg_play.proofs.Lawful.{base_fresh, one_lawful}
+use Rattle.plays_bench.proofs.Begun.{keeps_first}
 use Rattle.plays_bench.proofs.plays.begun.Goals as goal
 
 pub start-requires : goal.start-requires
-start-requires g c = lawful c.new-bases.result c.push.new.self _ c.new-bases.ensures c.in_ok-push.ensures.ok c.new.ensures
+start-requires g c = one_lawful c.new-bases.result c.push.new.self _ c.new-bases.ensures c.in_ok-push.ensures.ok (base_fresh _ c.new.ensures)
 
 pub returns : goal.returns
 returns g c =
