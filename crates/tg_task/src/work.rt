@@ -1,0 +1,32 @@
+//! A command that waits for its reply.
+
+use crate::hand::Hand;
+use tg_base::{List, Oid, Pos, StreamLink};
+use tg_kind::Registry;
+use tg_known::StreamPositions;
+use tg_model::CommandOf;
+
+/// A command that waits for its reply.
+#[derive(Drop)]
+pub struct Work<K: Registry> {
+    pub command: CommandOf<K>,
+    pub hand: Hand<K>,
+    /// The greatest position below which a unit has said, while this command waits, that all is trimmed.
+    pub gone: Pos,
+    /// What it was when the sync began.
+    pub gone_before: Pos,
+    /// The tail, as the last sync confirmed it.
+    pub tail: Pos,
+    /// And the last positions of the streams.
+    pub lasts: List<StreamLink>,
+    /// The streams that are walked, rising.
+    pub oids: List<Oid>,
+    /// From where on they are walked.
+    pub lo: Pos,
+    /// Their members.
+    pub found: StreamPositions,
+    /// Where their walks met a trim.
+    pub trims: List<(Oid, Pos)>,
+    /// The position of the record that `end` appended, and 0 before.
+    pub at: Pos,
+}
