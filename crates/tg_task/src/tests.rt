@@ -18,10 +18,8 @@ fn asked(alloc: Global, waits: &[(u16, u64)]) -> Result<Vec<(u16, u64)>, Fail> {
 
 #[test]
 fn each_layout_server_is_asked_under_its_number(rt: HostRuntime) -> Result<(), Fail> {
-    assert_eq!(rt;
-        asked(rt.alloc(), &[(0, 7), (2, 9)])?.as_slice(),
-        &[(0, 7), (2, 9)]
-    );
-    assert_eq!(rt; asked(rt.alloc(), &[])?.as_slice(), &[]);
+    let two = asked(rt.alloc(), &[(0, 7), (2, 9)])?;
+    assert_eq!(rt; two.as_slice(), [(0, 7), (2, 9)].as_slice());
+    assert_eq!(rt; asked(rt.alloc(), &[])?.len(), 0);
     Ok(())
 }
