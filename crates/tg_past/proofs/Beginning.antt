@@ -1,5 +1,4 @@
 -- The bases and the view at a past position are those of the definitions.
-use Rattle.std.specs.List.{list_all}
 use Rattle.std.specs.Prelude.{◌≡◌, ℕ, zero, suc, ◌+◌, ◌<◌, Bool, true, false, cond, ◌&&◌, List, [], ◌∷◌, ◌++◌, map, length, Option, Some, None, is_some, Result, Ok, Err, IfOk, refl}
 use Rattle.std.proofs.Common.{get_or, drop, sym, ap, ◌∙◌, subst, arith}
 use Rattle.tg_base.specs.declared.ids.Oid.{Oid}
@@ -15,16 +14,6 @@ use Rattle.tg_play.specs.Relations.{KeepsBase, KeepsBases, KeepsView, PlayedOn}
 use Rattle.tg_ckpt.specs.Answers.{KeepsMaybe}
 use Rattle.tg_past.specs.declared.past.PastTurn.TheVariants as variants
 use Rattle.tg_past.specs.Answers.{lost_by, KeepsTurn}
-
-and_second : (a b : Bool) → (a && b) ≡ true → b ≡ true
-and_second true b h = h
-and_second false b h = absurd (never h)
-  where
-    never : false ≡ true → ⊥
-    never e = cc
-
-pub all_rest : (f : Oid → Bool) (os rest : List Oid) (o : Oid) → os ≡ o ∷ rest → list_all f os ≡ true → list_all f rest ≡ true
-all_rest f os rest o is h = and_second (f o) (list_all f rest) (ap (λ (l : List Oid). list_all f l) (sym is) ∙ h)
 
 drop_next : {X : Type 0} (xs : List X) (n : ℕ) (d : X) → n < length xs → drop n xs ≡ get_or xs n d ∷ drop (suc n) xs
 drop_next [] n d h = absurd (omega (arith, h))

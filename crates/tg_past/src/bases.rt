@@ -1,13 +1,15 @@
-//! The bases of a view at a past position.
+//! The bases of a view at a past position. Those from entries that have a spelling are lawful: a view may begin with
+//! them.
 
 ghost use Rattle.std.specs.Prelude.{◌≡◌, true, Some, map, IfOk};
-ghost use Rattle.std.specs.List.{list_all};
 ghost use Rattle.tg_base.specs.declared.ids.Oid.{Oid};
 ghost use Rattle.tg_kind.specs.Headers.{is_header};
 ghost use Rattle.tg_kind.specs.Of.{meaning_of};
 ghost use Rattle.tg_protocol.specs.Checkpoints as trims;
 ghost use Rattle.tg_protocol.specs.Past as told;
+ghost use Rattle.tg_play.specs.Lawful.{IsLawfulBase, AreLawfulBases};
 ghost use Rattle.tg_play.specs.Relations.{KeepsBase, KeepsBases};
+ghost use Rattle.tg_ckpt.specs.Saving.{AreSpelled};
 ghost use Rattle.tg_past.specs.Answers.{lost_by};
 
 use std::alloc::Global;
@@ -37,7 +39,6 @@ fn unreached<K: Registry>(
     below: Pos,
     pos: Pos,
 ) -> Result<Option<Pos>, NoMemory>
-    requires { K.is_object oid ≡ true }
     ensures { IfOk result (λ b. b ≡ lost_by (meaning_of K.Registry) entries.now oid pos (Some below)) }
 {
     let base: Option<Base<K>> = last_base(alloc, entries, oid, below, pos)?;
@@ -56,7 +57,6 @@ pub fn lost<K: Registry>(
     oid: Oid,
     pos: Pos,
 ) -> Result<Option<Pos>, NoMemory>
-    requires { K.is_object oid ≡ true }
     ensures { IfOk result (λ b. b ≡ lost_by (meaning_of K.Registry) entries.now oid pos (trims.trim_of gone.now oid)) }
 {
     match trim_of(gone, oid) {
@@ -75,10 +75,10 @@ fn from_trim<K: Registry>(
     below: Pos,
     pos: Pos,
 ) -> Result<Base<K>, NoMemory>
-    requires object { K.is_object oid ≡ true }
     requires header { is_header objects.now ≡ true }
     requires trimmed { trims.trim_of gone.now oid ≡ Some below }
-    ensures { IfOk result (λ b. KeepsBase (meaning_of K.Registry) b (told.past_base (meaning_of K.Registry) entries.now gone.now objects.now pos oid)) }
+    ensures told { IfOk result (λ b. KeepsBase (meaning_of K.Registry) b (told.past_base (meaning_of K.Registry) entries.now gone.now objects.now pos oid)) }
+    ensures lawful { AreSpelled entries.now → IfOk result (λ b. IsLawfulBase b) }
 {
     let base = last_base(alloc, entries, oid, below, pos)?;
     match base {
@@ -96,9 +96,9 @@ fn past_base<K: Registry>(
     oid: Oid,
     pos: Pos,
 ) -> Result<Base<K>, NoMemory>
-    requires object { K.is_object oid ≡ true }
-    requires header { is_header objects.now ≡ true }
-    ensures { IfOk result (λ b. KeepsBase (meaning_of K.Registry) b (told.past_base (meaning_of K.Registry) entries.now gone.now objects.now pos oid)) }
+    requires { is_header objects.now ≡ true }
+    ensures told { IfOk result (λ b. KeepsBase (meaning_of K.Registry) b (told.past_base (meaning_of K.Registry) entries.now gone.now objects.now pos oid)) }
+    ensures lawful { AreSpelled entries.now → IfOk result (λ b. IsLawfulBase b) }
 {
     match trim_of(gone, oid) {
         None => fresh_base(alloc, oid, objects),
@@ -118,9 +118,9 @@ pub fn past_bases<K: Registry>(
     oids: &[Oid],
     pos: Pos,
 ) -> Result<List<Base<K>>, NoMemory>
-    requires object { list_all K.is_object oids.now ≡ true }
-    requires header { is_header objects.now ≡ true }
-    ensures { IfOk result (λ bs. KeepsBases (meaning_of K.Registry) bs (map (told.past_base (meaning_of K.Registry) entries.now gone.now objects.now pos) oids.now)) }
+    requires { is_header objects.now ≡ true }
+    ensures told { IfOk result (λ bs. KeepsBases (meaning_of K.Registry) bs (map (told.past_base (meaning_of K.Registry) entries.now gone.now objects.now pos) oids.now)) }
+    ensures lawful { AreSpelled entries.now → IfOk result (λ bs. AreLawfulBases bs) }
 {
     let mut bases = List::new(alloc);
     for oid in oids {

@@ -1,11 +1,11 @@
 //! What a view at a past position is.
 
 ghost use Rattle.std.specs.Prelude.{◌≡◌, ◌≤◌, ◌^◌, true, IfOk};
-ghost use Rattle.std.specs.List.{list_all};
 ghost use Rattle.tg_kind.specs.Headers.{is_header};
 ghost use Rattle.tg_kind.specs.Of.{meaning_of};
 ghost use Rattle.tg_protocol.specs.Past as told;
 ghost use Rattle.tg_play.specs.Relations.{PlayedOn};
+ghost use Rattle.tg_ckpt.specs.Saving.{AreSpelled};
 ghost use Rattle.tg_past.specs.Answers.{KeepsTurn};
 
 use crate::bases::{lost, past_bases};
@@ -35,7 +35,7 @@ fn played<K: Registry>(
     objects: &[Oid],
     pos: Pos,
 ) -> Result<(View<K>, PlayEnd), NoMemory>
-    requires hosted { list_all K.is_object oids.now ≡ true }
+    requires spelled { AreSpelled entries.now }
     requires header { is_header objects.now ≡ true }
     requires reach { pos ≤ 2 ^ 62 }
     ensures { IfOk result (λ r. PlayedOn (meaning_of K.Registry) r.0 r.1 (told.past_play (meaning_of K.Registry) entries.now gone.now oids.now objects.now pos)) }
@@ -61,8 +61,7 @@ pub fn past_at<K: Registry>(
     oid: Oid,
     pos: Pos,
 ) -> Result<PastTurn<K>, NoMemory>
-    requires asked { K.is_object oid ≡ true }
-    requires hosted { list_all K.is_object oids.now ≡ true }
+    requires spelled { AreSpelled entries.now }
     requires header { is_header objects.now ≡ true }
     requires reach { pos ≤ 2 ^ 62 }
     ensures { IfOk result (λ t. KeepsTurn (meaning_of K.Registry) t (told.past_at (meaning_of K.Registry) entries.now gone.now oids.now objects.now oid pos)) }

@@ -1,65 +1,52 @@
-ghost use Rattle.std.specs.Prelude.{◌≤◌, ◌^◌};
+ghost use Rattle.std.specs.Prelude.{◌≡◌, ◌≤◌, ◌^◌, true, IfOk};
+ghost use Rattle.tg_ckpt.specs.Saving.{AreSpelled};
+ghost use Rattle.tg_entry.specs.Format.{entry};
 
 use super::*;
 use std::alloc::Global;
 use std::test::Fail;
-use tg_base::{Blob, List, NoMemory, Oid, Pos};
+use tg_base::{List, Oid, Pos};
 use tg_dir::{Directory, DirectoryAns, DirectoryAsk};
-use tg_entry::{Body, Entries, Entry, Head, WriteOp};
+use tg_entry::{Entries, Entry, EntryFault, decode};
 use tg_kind::Kind;
 use tg_play::View;
 
 const DIR: Oid = Oid(0);
 
-// The bytes of an op that registers a register under its number's digit.
-fn op(alloc: Global, digit: u8) -> Result<Blob, NoMemory> {
+// The body of a checkpoint below 1 that saves the directory as it was at first, at version 1.
+const SAVED: [u8; 63] =
+    *b"\0\0\0\0\0\0\0\0\0\0\0\x01\0\0\0\0\0\0\0\x01\0\0\0\0\0\0\0\x01\0\0\0\x1f\0\0\0\0\x01\0\x04dir0\0\0\0\0\0\0\0\0\0\0\0\0\0\0\0\0\0\0\0\0";
+
+// The entry of client 0, number 1, in the directory's stream, with the body of a tag that bytes spell.
+fn decoded(alloc: Global, tag: u8, body: &[u8]) -> Result<Entry, EntryFault>
+    ensures { IfOk result (λ e. entry.fits e ≡ true) }
+{
     let mut bytes = List::new(alloc);
-    bytes.extend(&[1, 0, 1, digit, 2, 0, 0, digit])?;
-    Blob::new(bytes).ok_or(NoMemory)
+    bytes.extend(&[0x54, 2, tag, 0, 0, 0, 0, 0, 1, 1])?;
+    bytes.extend(&[0; 37])?;
+    bytes.extend(body)?;
+    decode(alloc, bytes.as_slice())
 }
 
-// An entry of no stream.
-fn entry(alloc: Global, body: Body) -> Entry {
-    let head = Head {
-        format: 2,
-        client: 0,
-        number: 1,
-        streams: List::new(alloc),
-    };
-    Entry { head, body }
-}
-
-// A record that reads nothing and writes such an op.
-fn record(alloc: Global, digit: u8) -> Result<Entry, NoMemory> {
-    let mut writes = List::new(alloc);
-    let op = op(alloc, digit)?;
-    writes.push(WriteOp { oid: DIR, op })?;
-    let reads = List::new(alloc);
-    Ok(entry(alloc, Body::Commit { reads, writes }))
-}
-
-// A checkpoint below 1 that saves the directory as it was at first.
-fn saved(alloc: Global) -> Result<Entry, NoMemory> {
-    let directory = Directory::fresh(alloc, DIR, &[])?;
-    let state = directory.save(alloc)?;
-    let keys = List::new(alloc);
-    let body = Body::Checkpoint {
-        oid: DIR,
-        upto: 1,
-        version: 1,
-        whole: 1,
-        keys,
-        state,
-    };
-    Ok(entry(alloc, body))
+// A record that reads nothing and registers a register under its number's digit.
+fn record(alloc: Global, digit: u8) -> Result<Entry, EntryFault>
+    ensures { IfOk result (λ e. entry.fits e ≡ true) }
+{
+    let body = [0, 1, 0, 0, 0, 0, 0, 8, 1, 0, 1, digit, 2, 0, 0, digit];
+    decoded(alloc, 1, &body)
 }
 
 // Two records and the checkpoint.
-fn log(alloc: Global) -> Result<Entries, NoMemory> {
+fn log(alloc: Global) -> Result<Entries, EntryFault>
+    ensures { IfOk result (λ es. AreSpelled es) }
+{
+    let first = record(alloc, 49)?;
+    let second = record(alloc, 50)?;
+    let saved = decoded(alloc, 3, &SAVED)?;
     let mut entries = Entries::new(alloc);
-    entries.push(0, record(alloc, 49)?)?;
-    entries.push(1, record(alloc, 50)?)?;
-    entries.push(2, saved(alloc)?)?;
+    entries.push(0, first)?;
+    entries.push(1, second)?;
+    entries.push(2, saved)?;
     Ok(entries)
 }
 

@@ -7,8 +7,8 @@ ghost use Rattle.tg_protocol.specs.Past as past;
 ghost use Rattle.tg_protocol.specs.Views as views;
 
 use std::alloc::Global;
-use tg_base::{NoMemory, Pos, ReadMark};
-use tg_entry::{Body, Entry};
+use tg_base::{NoMemory, Pos};
+use tg_entry::{Body, Entries, Entry};
 use tg_play::{decision_at, decisions_of, lacks_decision};
 
 // Whether the entry is a commit record.
@@ -29,8 +29,8 @@ fn is_record_at(pos: Pos, entry: &Entry, at: Pos) -> bool
     pos == at && is_commit(entry)
 }
 
-/// The commit record at a position, if there is one. It takes no memory.
-pub fn commit_at(entries: &[(Pos, Entry)], at: Pos) -> Option<&Entry>
+// The commit record at a position, if there is one.
+fn commit_in(entries: &[(Pos, Entry)], at: Pos) -> Option<&Entry>
     ensures { option_copied result ≡ past.commit_at entries.now at }
 {
     for placed in entries {
@@ -41,27 +41,23 @@ pub fn commit_at(entries: &[(Pos, Entry)], at: Pos) -> Option<&Entry>
     None
 }
 
-/// What a commit record reads; nothing of another entry. It takes no memory.
-pub fn reads_of(entry: &Entry) -> &[ReadMark]
-    ensures { result.now ≡ told.reads_of entry.now }
+/// The commit record at a position, if there is one. It takes no memory.
+pub fn commit_at(entries: &Entries, at: Pos) -> Option<&Entry>
+    ensures { option_copied result ≡ past.commit_at entries.now at }
 {
-    match &entry.body {
-        Body::Commit { reads, .. } => reads.as_slice(),
-        Body::Decision { .. } => &[],
-        Body::Checkpoint { .. } => &[],
-    }
+    commit_in(entries.as_slice(), at)
 }
 
 /// Whether the record at a position needs a decision record that isn't among the entries.
 /// An `Err` is want of memory.
 pub fn needs_decision(
     alloc: Global,
-    entries: &[(Pos, Entry)],
+    entries: &Entries,
     at: Pos,
     entry: &Entry,
 ) -> Result<bool, NoMemory>
     ensures { IfOk result (λ needs. needs ≡ (told.needs_decision entry.now && not (is_some (views.decision_in entries.now at)))) }
 {
-    let decisions = decisions_of(alloc, entries)?;
+    let decisions = decisions_of(alloc, entries.as_slice())?;
     Ok(lacks_decision(entry, decision_at(&decisions, at)))
 }

@@ -1,7 +1,6 @@
 //! What a turn of a rescue comes to.
 
 ghost use Rattle.std.specs.Prelude.{◌≡◌, ◌<◌, ◌^◌, ℕ, true, IfOk};
-ghost use Rattle.std.specs.List.{list_all};
 ghost use Rattle.std.specs.Option.{option_copied};
 ghost use Rattle.tg_kind.specs.Headers.{is_header};
 ghost use Rattle.tg_kind.specs.Of.{meaning_of};
@@ -9,17 +8,18 @@ ghost use Rattle.tg_model.specs.declared.play.PlayEnd.TheVariants as ends;
 ghost use Rattle.tg_protocol.specs.Past as told;
 ghost use Rattle.tg_protocol.specs.Views as views;
 ghost use Rattle.tg_protocol.specs.Words.{has_oid};
-ghost use Rattle.tg_play.specs.Relations.{KeepsView};
-ghost use Rattle.tg_rescue.specs.Answers.{told_turn, by_block, is_yes, judged_by, missing_by, Settles, SettlesBy};
+ghost use Rattle.tg_play.specs.Relations.{told_verdict, KeepsView};
+ghost use Rattle.tg_ckpt.specs.Saving.{AreSpelled};
+ghost use Rattle.tg_rescue.specs.Answers.{told_turn, by_block, judged_by};
 
-use crate::records::{commit_at, needs_decision, reads_of};
+use crate::records::{commit_at, needs_decision};
 use std::alloc::Global;
 use tg_base::{List, NoMemory, Oid, Pos};
 use tg_ckpt::view_bases;
 use tg_entry::{Entries, Entry};
 use tg_kind::Registry;
 use tg_model::PlayEnd;
-use tg_play::{Base, View};
+use tg_play::{Base, Verdict, View};
 
 /// What a turn of a rescue comes to.
 #[derive(Clone, Copy, Debug, PartialEq, Eq)]
@@ -66,43 +66,20 @@ fn blocked<K: Registry>(found: Option<&Entry>, oids: &[Oid], pos: Pos, missing: 
     }
 }
 
-// The object without which a record at a position isn't decided by a view that has played past it.
-fn missing_of<K: Registry>(view: &View<K>, entry: &Entry, at: Pos) -> Option<Oid>
-    ensures { (v : views.View (meaning_of K.Registry)) → KeepsView (meaning_of K.Registry) view.now v → result ≡ missing_by (meaning_of K.Registry) v entry.now at (views.fate_of (meaning_of K.Registry) v at) }
-{
-    match view.fate(at) {
-        None => view.unknown(reads_of(entry), at),
-        Some(_) => None,
-    }
-}
-
-// Whether a record is committed by its fate.
-fn is_yes(fate: Option<bool>) -> bool
-    ensures { result ≡ is_yes fate }
-{
-    match fate {
-        None => false,
-        Some(yes) => yes,
-    }
-}
-
-// What is known of the record at a position by a view that has played past it.
+// What is known of the record at a position by what becomes of it.
 fn judged<K: Registry>(
-    view: &View<K>,
+    verdict: Verdict,
     entry: &Entry,
     oids: &[Oid],
     at: Pos,
     needs: bool,
 ) -> RescueTurn
-    ensures { (v : views.View (meaning_of K.Registry)) → KeepsView (meaning_of K.Registry) view.now v → told_turn (meaning_of K.Registry) result ≡ judged_by (meaning_of K.Registry) v entry.now oids.now at needs }
+    ensures { told_turn (meaning_of K.Registry) result ≡ judged_by (meaning_of K.Registry) (told_verdict verdict) entry.now oids.now at needs }
 {
-    // A record that the play went past has a fate, unless a version of its reads is unknown.
-    match missing_of(view, entry, at) {
-        None => RescueTurn::Known {
-            yes: is_yes(view.fate(at)),
-            needs,
-        },
-        Some(missing) => blocked::<K>(Some(entry), oids, at, missing),
+    match verdict {
+        Verdict::Commits => RescueTurn::Known { yes: true, needs },
+        Verdict::Aborts => RescueTurn::Known { yes: false, needs },
+        Verdict::Unknown(missing) => blocked::<K>(Some(entry), oids, at, missing),
     }
 }
 
@@ -110,17 +87,18 @@ fn judged<K: Registry>(
 fn played<K: Registry>(
     alloc: Global,
     view: &View<K>,
-    entries: &[(Pos, Entry)],
+    entries: &Entries,
     oids: &[Oid],
     at: Pos,
 ) -> Result<RescueTurn, NoMemory>
-    ensures { (p : views.Play (meaning_of K.Registry)) (upto : ℕ) → KeepsView (meaning_of K.Registry) view.now p.view → Settles (meaning_of K.Registry) p.view entries.now at → p.came ≡ ends.Played upto → IfOk result (λ t. told_turn (meaning_of K.Registry) t ≡ told.rescue_played (meaning_of K.Registry) p entries.now oids.now at) }
+    ensures { (p : views.Play (meaning_of K.Registry)) (upto : ℕ) → KeepsView (meaning_of K.Registry) view.now p.view → p.came ≡ ends.Played upto → IfOk result (λ t. told_turn (meaning_of K.Registry) t ≡ told.rescue_played (meaning_of K.Registry) p entries.now oids.now at) }
 {
     match commit_at(entries, at) {
         None => Ok(RescueTurn::Absent),
         Some(entry) => {
             let needs = needs_decision(alloc, entries, at, entry)?;
-            Ok(judged(view, entry, oids, at, needs))
+            let verdict = view.outcome(entries, at, entry);
+            Ok(judged::<K>(verdict, entry, oids, at, needs))
         }
     }
 }
@@ -130,11 +108,11 @@ fn turn<K: Registry>(
     alloc: Global,
     view: &View<K>,
     came: PlayEnd,
-    entries: &[(Pos, Entry)],
+    entries: &Entries,
     oids: &[Oid],
     at: Pos,
 ) -> Result<RescueTurn, NoMemory>
-    ensures { (p : views.Play (meaning_of K.Registry)) → KeepsView (meaning_of K.Registry) view.now p.view → came ≡ p.came → SettlesBy (meaning_of K.Registry) p.came p.view entries.now at → IfOk result (λ t. told_turn (meaning_of K.Registry) t ≡ told.rescue_played (meaning_of K.Registry) p entries.now oids.now at) }
+    ensures { (p : views.Play (meaning_of K.Registry)) → KeepsView (meaning_of K.Registry) view.now p.view → came ≡ p.came → IfOk result (λ t. told_turn (meaning_of K.Registry) t ≡ told.rescue_played (meaning_of K.Registry) p entries.now oids.now at) }
 {
     match came {
         PlayEnd::Played { .. } => played(alloc, view, entries, oids, at),
@@ -161,7 +139,7 @@ pub fn rescue_turn<K: Registry>(
     objects: &[Oid],
     at: Pos,
 ) -> Result<RescueTurn, NoMemory>
-    requires set { list_all K.is_object oids.now ≡ true }
+    requires spelled { AreSpelled entries.now }
     requires header { is_header objects.now ≡ true }
     requires reach { at < 2 ^ 62 }
     ensures { IfOk result (λ t. told_turn (meaning_of K.Registry) t ≡ told.rescue_turn (meaning_of K.Registry) entries.now gone.now oids.now objects.now at) }
@@ -169,5 +147,5 @@ pub fn rescue_turn<K: Registry>(
     let bases: List<Base<K>> = view_bases(alloc, entries, gone, objects, oids)?;
     let view = View::start(alloc, bases)?;
     let played = view.play(alloc, entries, at + 1)?;
-    turn(alloc, &played.0, played.1, entries.as_slice(), oids, at)
+    turn(alloc, &played.0, played.1, entries, oids, at)
 }

@@ -8,8 +8,8 @@ pub returns : goal.returns
 returns g c = elim c.match-base.branch [
   | in-None w ↦
       given _ c.match-base.result _ w.result-is
-      (reached_none (means g.K.Kind g.K.Registry) (last_base (means g.K.Kind g.K.Registry) c.args.entries.now c.args.oid c.args.below c.args.pos) c.in_ok-base.base c.args.below c.in_ok-base.ensures w.in-None.is)
+      (reached_none (means g.K.Kind g.K.Registry) (last_base (means g.K.Kind g.K.Registry) c.args.entries.now c.args.oid c.args.below c.args.pos) c.in_ok-base.base c.args.below c.in_ok-base.ensures.told w.in-None.is)
   | in-Some w ↦
       given _ c.match-base.result _ w.result-is
-      (reached_some (means g.K.Kind g.K.Registry) (last_base (means g.K.Kind g.K.Registry) c.args.entries.now c.args.oid c.args.below c.args.pos) c.in_ok-base.base _ c.args.below c.in_ok-base.ensures w.in-Some.is)
+      (reached_some (means g.K.Kind g.K.Registry) (last_base (means g.K.Kind g.K.Registry) c.args.entries.now c.args.oid c.args.below c.args.pos) c.in_ok-base.base _ c.args.below c.in_ok-base.ensures.told w.in-Some.is)
 ]
