@@ -1,5 +1,5 @@
 -- The bases and the view at a past position are those of the definitions.
-use Rattle.std.specs.Prelude.{◌≡◌, ℕ, zero, suc, ◌+◌, ◌<◌, Bool, true, false, cond, ◌&&◌, List, [], ◌∷◌, ◌++◌, map, length, Option, Some, None, is_some, Result, Ok, Err, IfOk, refl}
+use Rattle.std.specs.Prelude.{◌≡◌, ℕ, zero, suc, ◌+◌, ◌<◌, cond, List, [], ◌∷◌, ◌++◌, map, length, Option, Some, None, is_some, Result, Ok, Err, IfOk, refl}
 use Rattle.std.proofs.Common.{get_or, drop, sym, ap, ◌∙◌, subst, arith}
 use Rattle.tg_base.specs.declared.ids.Oid.{Oid}
 use Rattle.tg_kind.specs.Meaning.{Meaning}

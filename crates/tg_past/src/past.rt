@@ -49,7 +49,8 @@ fn played<K: Registry>(
 ///
 /// An object whose walk met a trim, as `gone` tells with the position, begins at its highest checkpoint from there to
 /// the position. Where there is none, the asked object is gone, and another one begins as in a new view. The view
-/// plays the entries below the position; decision records are taken from all entries, also from later ones.
+/// plays the entries below the position; decision records are taken from all entries, also from later ones. The
+/// entries have a spelling, as those that were read have, so that checkpoints give lawful bases.
 ///
 /// An `Err` is want of memory.
 pub fn past_at<K: Registry>(

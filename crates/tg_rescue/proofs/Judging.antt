@@ -10,7 +10,7 @@ use Rattle.tg_protocol.specs.Words.{has_oid}
 use Rattle.tg_protocol.specs.Entries.{needs_decision}
 use Rattle.tg_protocol.specs.Views.{Entries, decision_in, Verdict, Commits, Aborts, Unknown, View, Play, outcome, view_start, play}
 use Rattle.tg_protocol.specs.Checkpoints.{Trims, view_bases}
-use Rattle.tg_protocol.specs.Past.{RescueTurn, Absent, StuckAt, Known, commit_at, record_block, entry_block, block_in, known_by, at_record, grows, rescue_by, rescue_played, rescue_turn}
+use Rattle.tg_protocol.specs.Past.{RescueTurn, Absent, StuckAt, commit_at, record_block, entry_block, block_in, known_by, at_record, grows, rescue_by, rescue_played, rescue_turn}
 use Rattle.tg_rescue.specs.Answers.{stuck_or_absent, by_block, judged_by, told_turn}
 use Rattle.tg_play.specs.Kept.{Kept}
 use Rattle.tg_play.specs.Relations.{KeepsView}

@@ -128,7 +128,8 @@ fn turn<K: Registry>(
 /// The view begins and plays as any new view does, the record itself included. Where the play is blocked by an object
 /// outside the set, or the record is passed over and a version of such an object is unknown, that object joins the
 /// set, which has 128 objects at most. Else it is told whether there is a commit record at the position, and whether
-/// it is committed: by its fate in the view, and so by a decision record among the entries before anything else.
+/// it is committed: by its fate in the view, and so by a decision record among the entries before anything else. The
+/// entries have a spelling, as those that were read have, so that checkpoints give lawful bases.
 ///
 /// An `Err` is want of memory.
 pub fn rescue_turn<K: Registry>(

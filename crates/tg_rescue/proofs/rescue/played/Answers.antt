@@ -1,4 +1,4 @@
-use Rattle.std.proofs.Common.{ap, ◌∙◌}
+use Rattle.std.proofs.Common.{◌∙◌}
 use Rattle.tg_play.proofs.Means.{means}
 use Rattle.tg_rescue.proofs.Judging.{absent_turn, judged_turn}
 use Rattle.tg_rescue.proofs.rescue.played.Goals as goal
