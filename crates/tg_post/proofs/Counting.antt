@@ -49,7 +49,7 @@ module _ (ps : List Packet) (ws : List ℕ) where
 
   pub is_posted : (ds : List ℕ) (p : Packet) (qs : List Packet) (ks : List ℕ) → qs ≡ ps ++ p ∷ [] → ks ≡ ws ++ length ps ∷ []
       → ◌≡◌ {A = PostState} (record { packets = qs; waiting = ks; delivered = ds; bytes = bytes_of qs })
-        (posted (record { packets = ps; waiting = ws; delivered = ds; bytes = bytes_of ps }) (p ∷ []))
+      (posted (record { packets = ps; waiting = ws; delivered = ds; bytes = bytes_of ps }) (p ∷ []))
   is_posted ds p qs ks h e = λ i. record { packets = h i; waiting = e i; delivered = ds; bytes = (ap bytes_of h ∙ bytes_last ps p) i }
 
   -- a packet waits no more
@@ -64,12 +64,12 @@ module _ (ps : List Packet) (ws : List ℕ) where
 
   pub is_lost : (ds : List ℕ) (n a : ℕ) (ks : List ℕ) → IsCounted ps ws a → ks ≡ remove_key (is_at (nat_cmp n)) ws
       → ◌≡◌ {A = PostState} (record { packets = ps; waiting = ks; delivered = reverse ds; bytes = bytes_of ps })
-        (lost (record { packets = ps; waiting = ws; delivered = reverse ds; bytes = bytes_of ps }) n)
+      (lost (record { packets = ps; waiting = ws; delivered = reverse ds; bytes = bytes_of ps }) n)
   is_lost ds n a ks h e = λ i. record { packets = ps; waiting = waits_less n a ks h e i; delivered = reverse ds; bytes = bytes_of ps }
 
   pub is_handed : (ds es : List ℕ) (n a : ℕ) (ks : List ℕ) → IsCounted ps ws a → ks ≡ remove_key (is_at (nat_cmp n)) ws → es ≡ ds ++ n ∷ []
       → ◌≡◌ {A = PostState} (record { packets = ps; waiting = ks; delivered = reverse es; bytes = bytes_of ps })
-        (handed (record { packets = ps; waiting = ws; delivered = reverse ds; bytes = bytes_of ps }) n)
+      (handed (record { packets = ps; waiting = ws; delivered = reverse ds; bytes = bytes_of ps }) n)
   is_handed ds es n a ks h e f = λ i. record { packets = ps; waiting = waits_less n a ks h e i; delivered = (ap reverse f ∙ reverse-append ds (n ∷ [])) i; bytes = bytes_of ps }
 
 -- ---- several packets, one after the other
@@ -91,5 +91,6 @@ posted_next s p ps = λ i. record s { packets = joined s.packets ps p i; waiting
   where
     waits : (s.waiting ++ numbers 1 (length s.packets)) ++ numbers (length ps) (length (s.packets ++ p ∷ [])) ≡ s.waiting ++ numbers (length (p ∷ ps)) (length s.packets)
     waits = ap (λ (n : ℕ). (s.waiting ++ length s.packets ∷ []) ++ numbers (length ps) n) (length_last s.packets p) ∙ joined s.waiting (numbers (length ps) (length s.packets + 1)) (length s.packets)
+
     sums : (s.bytes + bytes_of (p ∷ [])) + bytes_of ps ≡ s.bytes + bytes_of (p ∷ ps)
     sums = omega arith

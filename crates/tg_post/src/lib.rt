@@ -7,6 +7,5 @@ mod sizes;
 pub use post::Post;
 pub use sizes::size;
 
-
 #[cfg(test)]
 mod tests;

@@ -59,7 +59,9 @@ fn layout_bytes(layout: &Projection) -> u64
 {
     let gone = layout.gone.len() as u64;
     let ranges = ranges_bytes(layout.ranges.as_slice());
-    ranges.saturating_add(22).saturating_add(gone.saturating_mul(2))
+    ranges
+        .saturating_add(22)
+        .saturating_add(gone.saturating_mul(2))
 }
 
 fn accepted_bytes(accepted: &Option<(Ballot, Projection)>) -> u64

@@ -117,10 +117,7 @@ impl Cells {
 }
 
 /// The positions of the cells of segments.
-fn positions_of(
-    alloc: Global,
-    segments: &BTreeMap<u64, Segment>,
-) -> Result<List<Pos>, NoMemory>
+fn positions_of(alloc: Global, segments: &BTreeMap<u64, Segment>) -> Result<List<Pos>, NoMemory>
     ensures { IfOk result (λ ps. ps ≡ positions (cells_of segments.now.entries)) }
 {
     let mut found = List::new(alloc);
