@@ -12,4 +12,4 @@ pub returns : goal.returns
 unfolding with_change
 returns g c = λ ns k.
     subst (λ (p : Part). IfOk c.note.result (λ v. Keeps v (changed (record { oid = c.args.write.now.oid; part = p; version = c.args.pos + 1 } ∷ ns))))
-    (c.in_ok-touch.ensures ∙ ap (λ (o : Option g.row.K-Op.Denot). touched (means g.K.Kind g.K.Registry) o) c.in_ok-op.ensures) (c.note.ensures (changed ns) k)
+    (c.in_ok-touch.ensures.part ∙ ap (λ (o : Option g.row.K-Op.Denot). touched (means g.K.Kind g.K.Registry) o) c.in_ok-op.ensures) (c.note.ensures (changed ns) k)
