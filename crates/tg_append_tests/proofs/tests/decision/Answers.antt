@@ -6,7 +6,7 @@ use Rattle.tg_entry.specs.declared.entry.Body.TheVariants.{Decision}
 use Rattle.tg_entry.specs.Drafts.{IsDraft}
 use Rattle.tg_entry.specs.Records.{IsHead}
 use Rattle.tg_entry.proofs.Fits.{records_fit}
-use Rattle.tg_append.proofs.tests.decision.Goals as goal
+use Rattle.tg_append_tests.proofs.tests.decision.Goals as goal
 
 abbrev head_of : List StreamLink → Head
 head_of ls = record { format = 2; client = 0; number = 1; streams = ls }

@@ -8,7 +8,7 @@ use Rattle.tg_entry.specs.declared.entry.Body.TheVariants.{Commit}
 use Rattle.tg_entry.specs.Drafts.{IsDraft}
 use Rattle.tg_entry.specs.Records.{IsHead, IsCommit}
 use Rattle.tg_entry.proofs.Fits.{records_fit}
-use Rattle.tg_entry.proofs.tests.draft_of.Goals as goal
+use Rattle.tg_entry_tests.proofs.tests.draft_of.Goals as goal
 
 abbrev head_of : List StreamLink → Head
 head_of ls = record { format = 2; client = 0; number = 1; streams = ls }
