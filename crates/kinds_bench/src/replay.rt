@@ -19,6 +19,7 @@ use tg_tree::{Tree, TreeAns, TreeAsk, TreeOp};
 // The state of an object, saved and loaded. What was saved always loads, so that an `Err` is want of memory.
 fn reloaded<K: Kind>(alloc: Global, oid: Oid, state: &K) -> Result<K, NoMemory>
     requires state { K.is_state oid state.now ≡ true }
+    requires object { K.is_object oid ≡ true }
     ensures { IfOk result (λ s. s ≡ state.now) }
 {
     let bytes = state.save(alloc)?;
@@ -31,6 +32,7 @@ fn reloaded<K: Kind>(alloc: Global, oid: Oid, state: &K) -> Result<K, NoMemory>
 
 // The answer to an ask after an op on a new object, whose state was saved and loaded. An `Err` is want of memory.
 fn replayed<K: Kind>(alloc: Global, oid: Oid, op: &K::Op, ask: &K::Ask) -> Result<K::Ans, NoMemory>
+    requires { K.is_object oid ≡ true }
     ensures { IfOk result (λ a. a ≡ K.answered (K.applied (K.first oid []) op.now) ask.now) }
 {
     let _known = K::touch(op);

@@ -8,6 +8,7 @@ use tg_kind::{Kind, KindFault};
 
 // The answer to an ask after an op, from a fresh state that was saved and loaded again.
 fn replayed<K: Kind>(alloc: Global, oid: Oid, op: &K::Op, ask: &K::Ask) -> Result<K::Ans, KindFault>
+    requires { K.is_object oid ≡ true }
     ensures { IfOk result (λ a. a ≡ K.answered (K.applied (K.first oid []) op.now) ask.now) }
 {
     let state = K::fresh(alloc, oid, &[])?;
