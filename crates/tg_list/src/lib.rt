@@ -4,6 +4,3 @@
 mod text_list;
 
 pub use text_list::{TextList, TextListAns, TextListAsk, TextListOp};
-
-#[cfg(test)]
-mod tests;

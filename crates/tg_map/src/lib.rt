@@ -5,6 +5,3 @@ mod map;
 mod word;
 
 pub use map::{Map, MapAns, MapAsk, MapOp};
-
-#[cfg(test)]
-mod tests;

@@ -146,6 +146,15 @@ impl<K: Registry> View<K> {
         decision_at(&self.played.fates, pos)
     }
 
+    /// What becomes of the commit record at a position by the entries: as the first decision record for it says, if
+    /// there is one, else as the versions of its reads say. It takes no memory.
+    pub fn verdict(&self, entries: &Entries, pos: Pos, entry: &Entry) -> Verdict
+        ensures { (v : told.View (meaning_of K.Registry)) → KeepsView (meaning_of K.Registry) self.now v → told_verdict result ≡ told.verdict (meaning_of K.Registry) v entries.now pos entry.now }
+    {
+        let decision = decision_among(entries.as_slice(), pos);
+        self.played.verdict(decision, reads_of(entry), pos)
+    }
+
     /// What becomes of the commit record at a position: as the view's fate says, where a play told it, else as the
     /// first decision record for it among the entries says, if there is one, else as the versions of its reads say.
     /// It takes no memory.

@@ -4,6 +4,3 @@
 mod set;
 
 pub use set::{Set, SetAns, SetAsk, SetOp};
-
-#[cfg(test)]
-mod tests;

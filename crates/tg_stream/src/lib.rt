@@ -23,6 +23,3 @@ pub use members::Members;
 pub use paused::PausedWalk;
 pub use step::{Next, Step};
 pub use walk::{Walk, WalkStep};
-
-#[cfg(test)]
-mod tests;

@@ -19,6 +19,7 @@ use Rattle.tg_task.specs.declared.paused.Paused.{Paused}
 use Rattle.tg_task.specs.declared.paused.Paused.TheVariants as given
 use Rattle.tg_task.specs.declared.hand.Hand.{Hand}
 use Rattle.tg_task.specs.declared.hand.Hand.TheVariants as hand
+use Rattle.tg_task.specs.declared.work.Job.{Job}
 use Rattle.tg_task.specs.declared.work.Work.{Work}
 
 module _ (m : Meaning) where
@@ -33,6 +34,9 @@ module _ (m : Meaning) where
 
   abbrev pub HandOf : Type 0
   HandOf = Hand m.state m.op m.ask m.answer
+
+  abbrev pub JobOf : Type 0
+  JobOf = Job m.state m.op m.ask m.answer
 
   abbrev pub WorkOf : Type 0
   WorkOf = Work m.state m.op m.ask m.answer
@@ -68,24 +72,28 @@ module _ (m : Meaning) where
   KeepsHand (hand.Learning ws t) (told.Learning vs u) = (ws ≡ vs) × GoesOn t u
   KeepsHand _ _ = ⊥
 
-  -- a command in hand, with what it has in hand by the rules
-  abbrev pub work_of : WorkOf → told.Hand m → told.Work m
-  work_of w h = record {
-    command = w.command;
+  -- a command that waits, with what it has in hand by the rules
+  abbrev pub work_of : JobOf → told.Hand m → told.Work m
+  work_of j h = record {
+    command = j.command;
     hand = h;
-    gone = w.gone;
-    gone_before = w.gone_before;
-    tail = w.tail;
-    lasts = w.lasts;
-    oids = w.oids;
-    lo = w.lo;
-    found = w.found;
-    trims = w.trims;
-    at = w.at;
+    gone = j.gone;
+    gone_before = j.gone_before;
+    tail = j.tail;
+    lasts = j.lasts;
+    oids = j.oids;
+    lo = j.lo;
+    found = j.found;
+    trims = j.trims;
+    at = j.at;
   }
 
+  -- but for what it has in hand
+  abbrev pub KeepsJob : JobOf → told.Work m → Type 0
+  KeepsJob j u = u ≡ work_of j u.hand
+
   pub record KeepsWork (w : WorkOf) (u : told.Work m) : Type 0 where
-    pub is : u ≡ work_of w u.hand
+    pub is : KeepsJob w.job u
     pub hand : KeepsHand w.hand u.hand
 
   abbrev pub KeepsMaybe : Option WorkOf → Option (told.Work m) → Type 0

@@ -12,7 +12,7 @@ pub use hand::{Hand, latest_requests};
 pub use paused::Paused;
 pub use purpose::Purpose;
 pub use task::Task;
-pub use work::Work;
+pub use work::{Job, Work};
 
 #[cfg(test)]
 mod tests;

@@ -6,11 +6,10 @@ use tg_kind::Registry;
 use tg_known::StreamPositions;
 use tg_model::CommandOf;
 
-/// A command that waits for its reply.
+/// A command that waits for its reply, and how far it has come, but for what it has in hand.
 #[derive(Drop)]
-pub struct Work<K: Registry> {
+pub struct Job<K: Registry> {
     pub command: CommandOf<K>,
-    pub hand: Hand<K>,
     /// The greatest position below which a unit has said, while this command waits, that all is trimmed.
     pub gone: Pos,
     /// What it was when the sync began.
@@ -29,4 +28,11 @@ pub struct Work<K: Registry> {
     pub trims: List<(Oid, Pos)>,
     /// The position of the record that `end` appended, and 0 before.
     pub at: Pos,
+}
+
+/// A command that waits for its reply.
+#[derive(Drop)]
+pub struct Work<K: Registry> {
+    pub job: Job<K>,
+    pub hand: Hand<K>,
 }

@@ -1,8 +1,8 @@
-use super::*;
 use std::alloc::Global;
 use std::test::Fail;
 use tg_base::{List, Oid};
 use tg_kind::{Key, Kind, KindFault, Scope, Text, text_in};
+use tg_map::{Map, MapAns, MapAsk};
 
 // The first map.
 const MAP: Oid = Oid(0x0300_0000);

@@ -1,8 +1,8 @@
-use super::*;
 use std::alloc::Global;
 use std::test::Fail;
 use tg_base::{List, Oid};
 use tg_kind::{Kind, KindFault, Scope};
+use tg_list::{TextList, TextListAns, TextListAsk};
 
 // The first list.
 const LIST: Oid = Oid(0x0400_0000);

@@ -1,8 +1,8 @@
-use super::*;
 use std::alloc::Global;
 use std::test::Fail;
 use tg_base::{List, Oid};
 use tg_kind::{Key, Kind, KindFault, Scope};
+use tg_set::{Set, SetAns, SetAsk};
 
 // The first set.
 const SET: Oid = Oid(0x0600_0000);
