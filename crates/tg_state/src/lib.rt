@@ -15,6 +15,3 @@ pub use moved::Moved;
 pub use objects::HeaderObjects;
 pub use replies::one_note;
 pub use state::State;
-
-#[cfg(test)]
-mod tests;

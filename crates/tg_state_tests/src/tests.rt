@@ -1,6 +1,5 @@
 ghost use Rattle.std.specs.Prelude.{◌≡◌, IfOk};
 
-use super::*;
 use std::alloc::Global;
 use std::test::Fail;
 use tg_base::{Chain, Cluster, List, Oid, Projection, Range, Rids};
@@ -8,6 +7,7 @@ use tg_dir::Directory;
 use tg_kind::Kind;
 use tg_known::{Known, StreamPositions};
 use tg_model::{Command, Refusal, What};
+use tg_state::{HeaderObjects, State};
 use tg_task::Job;
 
 const DIR: Oid = Oid(0);
