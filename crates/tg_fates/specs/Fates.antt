@@ -2,6 +2,7 @@
 use Rattle.std.specs.Prelude.{◌≡◌, ℕ, ◌≤◌, Bool, [], Option, Some, None, Result, Ok, Err, IfOk}
 use Rattle.tg_base.specs.declared.fault.NoMemory.{NoMemory}
 use Rattle.tg_base.specs.declared.ids.Oid.{Oid}
+use Rattle.tg_base.specs.declared.marks.ReadMark.{ReadMark}
 use Rattle.tg_entry.specs.declared.entry.Entry.{Entry}
 use Rattle.tg_kind.specs.Meaning.{Meaning}
 use Rattle.tg_model.specs.Kinds.{WhatOf}
@@ -19,6 +20,11 @@ use Rattle.tg_protocol.specs.Answers.{Moved, moved, ask_answer, answers, aborted
 use Rattle.tg_fates.specs.declared.asked.Answer.{Answer}
 use Rattle.tg_task.specs.Tasks.{JobOf, KeepsJob}
 use Rattle.tg_state.specs.States.{StateOf, MovedOf, Rest, client_of, KeepsViewIf, KeepsMoved}
+
+-- the open transaction with one read more
+abbrev pub Notes : Option Tx → ReadMark → ℕ → Option Tx → Type 0
+Notes None r at t = ⊥
+Notes (Some s) r at t = t ≡ Some (tx_read s r at)
 
 module _ (m : Meaning) where
   -- A client that has played is told to move so, whichever client of the rules is kept: by its view, the command that

@@ -9,7 +9,7 @@ ghost use Rattle.tg_protocol.specs.Views as views;
 ghost use Rattle.tg_play.specs.Relations.{KeepsView};
 ghost use Rattle.tg_fates.specs.Fates.{Asks, Tells, asked_in, asked_told};
 
-use crate::asked::{Answer, answer, noted};
+use crate::asked::{Answer, answer_of, noted};
 use crate::closing::tx_number;
 use std::alloc::Global;
 use tg_base::{NoMemory, Oid, Pos};
@@ -32,24 +32,16 @@ fn asked<K: Registry>(
     ensures { Tells (meaning_of K.Registry) state result (λ c. asked_told (meaning_of K.Registry) c tail oid ask answer c.tx) }
 {
     let Answer { ans, part, version } = answer;
-    match state.tx {
-        None => Err(NoMemory),
-        Some(tx) => {
-            let number = tx.number();
-            let tx = noted(tx, oid, part, tail, version)?;
-            let state = State {
-                tx: Some(tx),
-                ..state
-            };
-            let what = What::Asked {
-                oid,
-                ask,
-                at: tail,
-                ans,
-            };
-            state.answers(alloc, number, what)
-        }
-    }
+    let number = tx_number(&state.tx);
+    let tx = noted(state.tx, oid, part, tail, version)?;
+    let state = State { tx, ..state };
+    let what = What::Asked {
+        oid,
+        ask,
+        at: tail,
+        ans,
+    };
+    state.answers(alloc, number, what)
 }
 
 // What a view answers, and a refusal where the object isn't hosted. An `Err` is want of memory, or a read that the
@@ -66,7 +58,7 @@ fn asks<K: Registry>(
 {
     match &state.view {
         None => Err(NoMemory),
-        Some(view) => match answer(view, alloc, oid, &ask)? {
+        Some(view) => match answer_of(view, alloc, oid, &ask)? {
             None => state.refuses(alloc, number, Refusal::NotHosted { oid }),
             Some(answer) => asked(state, alloc, tail, oid, ask, answer),
         },

@@ -8,7 +8,7 @@ ghost use Rattle.tg_kind.specs.Parts as scopes;
 ghost use Rattle.tg_protocol.specs.Transactions.{tx_read};
 ghost use Rattle.tg_protocol.specs.Views as views;
 ghost use Rattle.tg_play.specs.Relations.{KeepsView};
-ghost use Rattle.tg_fates.specs.Fates.{IsAnswer};
+ghost use Rattle.tg_fates.specs.Fates.{IsAnswer, Notes};
 
 use std::alloc::Global;
 use tg_base::{Blob, List, NoMemory, Oid, Part, Pos};
@@ -56,7 +56,7 @@ fn looked_at<K: Registry>(alloc: Global, ask: &K::Ask) -> Result<Part, NoMemory>
 }
 
 /// What a view answers to an ask, None where it doesn't host the object. An `Err` is want of memory.
-pub fn answer<K: Registry>(
+pub fn answer_of<K: Registry>(
     view: &View<K>,
     alloc: Global,
     oid: Oid,
@@ -83,8 +83,8 @@ fn is_object(oid: Oid) -> bool
     oid.0 == 0 || (0x0100_0000..0x0700_0000).contains(&oid.0)
 }
 
-/// The transaction with one read more. An `Err` is want of memory, or a read that it doesn't take.
-pub fn noted<K: Registry>(
+// The transaction with one read more. An `Err` is want of memory, or a read that it doesn't take.
+fn with_read<K: Registry>(
     tx: Tx<K>,
     oid: Oid,
     part: Part,
@@ -101,5 +101,25 @@ pub fn noted<K: Registry>(
     match tx.read(oid, part, at, version) {
         Ok(()) => Ok(tx),
         Err(_) => Err(NoMemory),
+    }
+}
+
+/// The open transaction with one read more.
+///
+/// An `Err` is want of memory, or of numbers: a read that the transaction doesn't take, or of an object with a number
+/// that entries may not name. Where none is open there is none with a read either.
+pub fn noted<K: Registry>(
+    tx: Option<Tx<K>>,
+    oid: Oid,
+    part: Part,
+    at: Pos,
+    version: u64,
+) -> Result<Option<Tx<K>>, NoMemory>
+    requires { is_part part ≡ true }
+    ensures { IfOk result (λ t. Notes tx (record { oid = oid; part = part; version = version }) at t) }
+{
+    match tx {
+        None => Err(NoMemory),
+        Some(tx) => Ok(Some(with_read(tx, oid, part, at, version)?)),
     }
 }

@@ -12,7 +12,7 @@ mod fate;
 mod records;
 
 pub use ask::on_ask;
-pub use asked::{Answer, answer, noted};
+pub use asked::{Answer, answer_of, noted};
 pub use decide::on_decide;
 pub use end::on_end;
 pub use fate::on_fate;
