@@ -13,7 +13,6 @@ use std::alloc::Global;
 use tg_base::{NoMemory, Pos};
 use tg_entry::Entries;
 use tg_kind::Registry;
-use tg_known::{new_entries_suffice, words_are_the_rules};
 use tg_model::{Command, CommandOf};
 use tg_play::View;
 use tg_state::State;
@@ -53,8 +52,6 @@ pub fn entries_of<K: Registry>(
     ensures suffice { (r : Rest (meaning_of K.Registry)) (w : clients.Work (meaning_of K.Registry)) → KeepsViewIf (meaning_of K.Registry) state.now.view r.view → KeepsJob (meaning_of K.Registry) job.now w → IfOk result (λ es. Suffice (meaning_of K.Registry) (client_of (meaning_of K.Registry) state.now r) w es) }
     ensures spelled { IfOk result (λ es. AreSpelled es) }
 {
-    new_entries_suffice::<K>();
-    words_are_the_rules::<K>();
     let known = &state.known;
     let settled = known.settled();
     if plays_from(&state.view, settled) && goes_by_new::<K>(&job.command, job.at, settled) {

@@ -1,9 +1,9 @@
 //! What a client does once all streams of a command are walked: it plays its view, and answers.
 #![tactic(auto)]
 
-mod answered;
+mod answering;
 mod entries;
-mod played;
-mod walked;
+mod playing;
+mod following;
 
-pub use walked::walked;
+pub use following::walked;

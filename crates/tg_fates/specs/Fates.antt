@@ -16,7 +16,7 @@ use Rattle.tg_protocol.specs.Transactions.{Tx, tx_read}
 use Rattle.tg_protocol.specs.Views.{Entries, View, state_of, view_version}
 use Rattle.tg_protocol.specs.Versions.{Changed}
 use Rattle.tg_protocol.specs.Clients.{Client, Work}
-use Rattle.tg_protocol.specs.Answers.{Moved, moved, ask_answer, answers, aborted, refuses, lacks_decision, unsure, end_decided, blocks, decides_if}
+use Rattle.tg_protocol.specs.Answers.{Moved, moved, answers, aborted, refuses, lacks_decision, unsure, end_decided, blocks, decides_if}
 use Rattle.tg_fates.specs.declared.asked.Answer.{Answer}
 use Rattle.tg_task.specs.Tasks.{JobOf, KeepsJob}
 use Rattle.tg_state.specs.States.{StateOf, MovedOf, Rest, client_of, KeepsViewIf, KeepsMoved}
@@ -57,11 +57,6 @@ module _ (m : Meaning) where
   abbrev pub asked_told : Client m → ℕ → Oid → m.ask → Answer m.answer → Option Tx → Moved m
   asked_told c at o q a None = moved m c []
   asked_told c at o q a (Some t) = answers m (record c { tx = Some (tx_read t (record { oid = o; part = a.part; version = a.version }) at) }) t.number (what.Asked o q at a.ans)
-
-  -- the answer in a transaction that is open, or none
-  abbrev pub asked_in : Client m → Work m → Oid → m.ask → View m → ℕ → Option Tx → Moved m
-  asked_in c w o q v number None = moved m c []
-  asked_in c w o q v number (Some t) = ask_answer m c w t o q v (state_of m v o)
 
   -- the refusal of a play that is blocked at or below the record at a position
   abbrev pub blocked_by : Entries → ℕ → PlayEnd → Option Refusal

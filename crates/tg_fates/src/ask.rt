@@ -1,13 +1,12 @@
 //! The answer to an ask.
 
-ghost use Rattle.std.specs.Prelude.{◌≡◌, true};
+ghost use Rattle.std.specs.Prelude.{◌≡◌, true, Some};
 ghost use Rattle.tg_entry.specs.Records.{is_part};
 ghost use Rattle.tg_kind.specs.Of.{meaning_of};
 ghost use Rattle.tg_protocol.specs.Answers as told;
-ghost use Rattle.tg_protocol.specs.Clients as clients;
+ghost use Rattle.tg_protocol.specs.Transactions.{Tx};
 ghost use Rattle.tg_protocol.specs.Views as views;
-ghost use Rattle.tg_play.specs.Relations.{KeepsView};
-ghost use Rattle.tg_fates.specs.Fates.{Asks, Tells, asked_in, asked_told};
+ghost use Rattle.tg_fates.specs.Fates.{Asks, Tells, asked_told};
 
 use crate::asked::{Answer, answer_of, noted};
 use crate::closing::tx_number;
@@ -54,7 +53,7 @@ fn asks<K: Registry>(
     ask: K::Ask,
     number: u32,
 ) -> Result<Moved<K>, NoMemory>
-    ensures { Asks (meaning_of K.Registry) state tail result (λ c w v. asked_in (meaning_of K.Registry) c w oid ask v number c.tx) }
+    ensures { (t : Tx) → state.tx ≡ Some t → number ≡ t.number → Asks (meaning_of K.Registry) state tail result (λ c w v. told.ask_answer (meaning_of K.Registry) c w t oid ask v (views.state_of (meaning_of K.Registry) v oid)) }
 {
     match &state.view {
         None => Err(NoMemory),

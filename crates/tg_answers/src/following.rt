@@ -8,9 +8,9 @@ ghost use Rattle.tg_state.specs.States.{Rest, client_of, KeepsViewIf, KeepsMoved
 ghost use Rattle.tg_task.specs.Tasks.{KeepsJob};
 ghost use Rattle.tg_answers.specs.Playing.{Follows};
 
-use crate::answered::answered;
+use crate::answering::answered;
 use crate::entries::entries_of;
-use crate::played::played;
+use crate::playing::played;
 use std::alloc::Global;
 use tg_base::{NoMemory, Pos};
 use tg_kind::{Kind, Registry};
@@ -57,10 +57,14 @@ pub fn walked<K: Registry>(
 {
     match &job.command {
         Command::AskAt { at, oid, ask } => {
+            let (at, oid) = (*at, *oid);
             let ask = K::copy_ask(ask)?;
-            on_ask_at(state, alloc, job, *at, *oid, ask)
+            on_ask_at(state, alloc, job, at, oid, ask)
         }
-        Command::Rescue { at } => on_rescue(state, alloc, job, *at),
+        Command::Rescue { at } => {
+            let at = *at;
+            on_rescue(state, alloc, job, at)
+        }
         _ => plays(state, alloc, job),
     }
 }

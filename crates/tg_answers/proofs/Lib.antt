@@ -1,0 +1,2 @@
+pub mod Sufficing
+pub mod Entering
