@@ -72,9 +72,10 @@ pub fn played<K: Registry>(
     if target > MOST {
         return Err(NoMemory);
     }
+    let kept = state.view;
     let objects = &state.objects;
     let hosted = state.hosted.as_slice();
-    let view = view_or_new(state.view, alloc, entries, trims, objects, hosted)?;
+    let view = view_or_new(kept, alloc, entries, trims, objects, hosted)?;
     let (view, came) = view.play(alloc, entries, target)?;
     let state = State {
         view: Some(view),
