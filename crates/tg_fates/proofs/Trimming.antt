@@ -1,8 +1,19 @@
 -- Where walks met a trim.
-use Rattle.std.proofs.Common.{◌≡◌, ℕ, Bool, true, false, List, [], ◌∷◌, Option, Some, None, cond, nat_lt, sym, ap, ◌∙◌}
+use Rattle.std.proofs.Common.{◌≡◌, ℕ, zero, suc, ◌+◌, ◌<◌, Bool, true, false, List, [], ◌∷◌, length, get_or, drop, Option, Some, None, cond, nat_lt, refl, sym, ap, ◌∙◌, arith}
 use Rattle.tg_base.specs.declared.ids.Oid.{Oid}
 use Rattle.tg_kind.specs.Meaning.{Meaning}
 use Rattle.tg_protocol.specs.Answers.{trim_above}
+
+drop_first : {X : Type 0} (xs : List X) (n : ℕ) (d : X) → n < length xs → drop n xs ≡ get_or xs n d ∷ drop (suc n) xs
+drop_first [] n d h = absurd (omega (arith, h))
+drop_first (y ∷ ys) zero d h = refl
+drop_first (y ∷ ys) (suc n) d h = drop_first ys n d (omega (arith, h))
+
+-- what is left begins with the item at its place
+pub drop_at : {X : Type 0} (xs : List X) (n : ℕ) (d : X) → n < length xs → drop n xs ≡ get_or xs n d ∷ drop (n + 1) xs
+drop_at {X} xs n d h =
+    let same : suc n ≡ n + 1 = omega arith in
+    drop_first xs n d h ∙ ap (λ (k : ℕ). get_or xs n d ∷ drop k xs) same
 
 module _ (m : Meaning) where
   abbrev pub Trims : Type 0

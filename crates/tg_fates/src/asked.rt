@@ -2,7 +2,7 @@
 
 ghost use Rattle.std.specs.Prelude.{◌≡◌, ◌≤◌, true, length, IfOk, IfSome};
 ghost use Rattle.tg_base.specs.declared.marks.Part.TheVariants.{Text};
-ghost use Rattle.tg_entry.specs.Records.{is_object, is_part};
+ghost use Rattle.tg_entry.specs.Records.{is_part};
 ghost use Rattle.tg_kind.specs.Of.{meaning_of};
 ghost use Rattle.tg_kind.specs.Parts as scopes;
 ghost use Rattle.tg_protocol.specs.Transactions.{tx_read};
@@ -14,6 +14,7 @@ use std::alloc::Global;
 use tg_base::{Blob, List, NoMemory, Oid, Part, Pos};
 use tg_kind::{Key, Registry, Scope};
 use tg_play::View;
+use tg_state::is_object;
 use tg_tx::Tx;
 
 /// The answer to an ask, the part at which it looks, and the version of that part.
@@ -74,13 +75,6 @@ pub fn answer_of<K: Registry>(
             Ok(Some(Answer { ans, part, version }))
         }
     }
-}
-
-// Whether entries may name the object: it is the directory, or of one of the other kinds.
-fn is_object(oid: Oid) -> bool
-    ensures { result ≡ is_object oid }
-{
-    oid.0 == 0 || (0x0100_0000..0x0700_0000).contains(&oid.0)
 }
 
 // The transaction with one read more. An `Err` is want of memory, or a read that it doesn't take.

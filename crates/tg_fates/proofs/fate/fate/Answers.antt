@@ -1,4 +1,4 @@
-use Rattle.std.proofs.Common.{Some, None, sym, ◌∙◌}
+use Rattle.std.proofs.Common.{Some, None, refl, sym, ◌∙◌}
 use Rattle.tg_play.proofs.Means.{means}
 use Rattle.tg_fates.proofs.Telling.{fate_kept}
 use Rattle.tg_fates.proofs.fate.fate.Goals as goal
