@@ -38,7 +38,7 @@ module _ (m : Meaning) where
   own_play c w es target = play m (own_view m c w es) es target
 
   -- a client's view has played so
-  pub record HasPlayed (s : StateOf m) (r : Rest m) (w : Work m) (es : Entries) (target : ℕ) (t : StateOf m) (came : PlayEnd) : Type 0 where
+  pub record HasPlayed (s : StateOf m) (r : Rest m) (w : Work m) (es : Entries) (target : ℕ) (t : StateOf m) (ends : PlayEnd) : Type 0 where
     pub state : t ≡ record s { view = t.view }
     pub view : KeepsViewIf m t.view (Some (own_play (client_of m s r) w es target).view)
-    pub came : came ≡ (own_play (client_of m s r) w es target).came
+    pub came : ends ≡ (own_play (client_of m s r) w es target).came

@@ -3,7 +3,7 @@
 ghost use Rattle.std.specs.Prelude.{◌≡◌};
 ghost use Rattle.tg_kind.specs.Of.{meaning_of};
 ghost use Rattle.tg_protocol.specs.Answers as told;
-ghost use Rattle.tg_protocol.specs.Views.{Entries};
+ghost use Rattle.tg_protocol.specs.Views as views;
 ghost use Rattle.tg_fates.specs.Fates.{Moves};
 
 use std::alloc::Global;
@@ -23,7 +23,7 @@ fn asked<K: Registry>(
     job: Job<K>,
     came: PlayEnd,
 ) -> Result<Moved<K>, NoMemory>
-    ensures { (es : Entries) → Moves (meaning_of K.Registry) state job result (λ c w v. told.answer_by (meaning_of K.Registry) c w es (record { view = v; came = came }) w.command) }
+    ensures { (es : views.Entries) → Moves (meaning_of K.Registry) state job result (λ c w v. told.answer_by (meaning_of K.Registry) c w es (record { view = v; came = came }) w.command) }
 {
     let Job { command, tail, .. } = job;
     match command {

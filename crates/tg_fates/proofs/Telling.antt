@@ -25,7 +25,7 @@ use Rattle.tg_protocol.specs.Answers.{Moved, answers, refuses, ask_answer, ask_i
 use Rattle.tg_task.specs.Tasks.{JobOf, KeepsJob}
 use Rattle.tg_state.specs.States.{StateOf, MovedOf, Rest, client_of, KeepsViewIf, KeepsMoved}
 use Rattle.tg_fates.specs.declared.asked.Answer.{Answer}
-use Rattle.tg_fates.specs.Fates.{Answered, asked_told, changed_said, aborts_said, blocked_by}
+use Rattle.tg_fates.specs.Fates.{Notes, Answered, asked_told, changed_said, aborts_said, blocked_by}
 
 module _ (m : Meaning) where
   -- a step of the rules that is the same
@@ -179,3 +179,17 @@ module _ (m : Meaning) where
 
   pub came_as : (c : Client m) (w : Work m) (o : Oid) (q : m.ask) (v : View m) (x y : PlayEnd) → x ≡ y → on_ask m c w o q v y ≡ on_ask m c w o q v x
   came_as c w o q v x y h = ap (λ (z : PlayEnd). on_ask m c w o q v z) (sym h)
+
+  -- the answer in a transaction that notes the read
+  asked_by : (c : Client m) (old n at : ℕ) (o : Oid) (q : m.ask) (a : Answer m.answer) (s t : Option Tx) (x : Result (MovedOf m) NoMemory) →
+      n ≡ tx_number m s → Notes s (record { oid = o; part = a.part; version = a.version }) at t →
+      IfOk x (λ y. KeepsMoved m old y (answers m (record c { tx = t }) n (what.Asked o q at a.ans))) → IfOk x (λ y. KeepsMoved m old y (asked_told m c at o q a s))
+  asked_by c old n at o q a None t x hn ht h = absurd ht
+  asked_by c old n at o q a (Some s) t x hn ht h =
+      subst (λ (k : ℕ). IfOk x (λ y. KeepsMoved m old y (answers m (record c { tx = Some (tx_read s (record { oid = o; part = a.part; version = a.version }) at) }) k (what.Asked o q at a.ans)))) hn
+      (subst (λ (u : Option Tx). IfOk x (λ y. KeepsMoved m old y (answers m (record c { tx = u }) n (what.Asked o q at a.ans)))) ht h)
+
+  pub asked_as : (s : StateOf m) (r : Rest m) (old n at : ℕ) (o : Oid) (q : m.ask) (a : Answer m.answer) (u : Option Tx) (x : Result (MovedOf m) NoMemory) →
+      n ≡ tx_number m s.tx → Notes s.tx (record { oid = o; part = a.part; version = a.version }) at u →
+      IfOk x (λ y. KeepsMoved m old y (answers m (client_of m (record s { tx = u }) r) n (what.Asked o q at a.ans))) → IfOk x (λ y. KeepsMoved m old y (asked_told m (client_of m s r) at o q a s.tx))
+  asked_as s r old n at o q a u x hn ht h = asked_by (client_of m s r) old n at o q a s.tx u x hn ht h
