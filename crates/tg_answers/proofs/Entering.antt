@@ -1,12 +1,10 @@
 -- The entries that are played, in the words of the rules.
-use Rattle.std.proofs.Common.{◌≡◌, ℕ, ◌≤◌, Bool, true, Option, Some, None, refl, sym, ap, subst, ◌∙◌}
-use Rattle.tg_base.specs.declared.ids.Oid.{Oid}
+use Rattle.std.proofs.Common.{◌≡◌, true, sym, ap, subst, ◌∙◌}
 use Rattle.tg_kind.specs.Meaning.{Meaning}
-use Rattle.tg_protocol.specs.Views.{Entries, View}
+use Rattle.tg_protocol.specs.Views.{Entries}
 use Rattle.tg_protocol.specs.Clients as rules
 use Rattle.tg_protocol.specs.Clients.{Client, Work}
 use Rattle.tg_protocol.specs.Answers.{plays_own}
-use Rattle.tg_known.specs.Words.{entries_from}
 use Rattle.tg_known.specs.Known.{all_entries, new_entries, CommitsBelow}
 use Rattle.tg_known.proofs.Ruled.{as_ruled}
 use Rattle.tg_known.proofs.Played.{new_played}

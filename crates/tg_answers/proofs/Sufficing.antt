@@ -1,5 +1,5 @@
 -- The new entries suffice for a view that has come so far.
-use Rattle.std.proofs.Common.{◌≡◌, ℕ, ◌≤◌, Bool, true, false, not, ◌&&◌, nat_le, Option, Some, None, refl, sym, ap, ◌∙◌}
+use Rattle.std.proofs.Common.{◌≡◌, ℕ, ◌≤◌, Bool, true, false, not, ◌&&◌, Option, Some, None, refl, ap, ◌∙◌}
 use Rattle.std.proofs.lemmas.Bool.{leb-true}
 use Rattle.std.specs.Prelude.{is_some}
 use Rattle.tg_base.specs.declared.ids.Oid.{Oid}
@@ -14,7 +14,7 @@ use Rattle.tg_protocol.specs.Past.{commit_at}
 use Rattle.tg_protocol.specs.Versions.{Changed}
 use Rattle.tg_protocol.specs.Views.{Entries, View, Play, Verdict, Commits, Aborts, Unknown, verdict, unknown_in, changed_in, play}
 use Rattle.tg_protocol.specs.Clients.{Client, Work}
-use Rattle.tg_protocol.specs.Answers.{Moved, lacks_decision, aborted, end_decided, end_aborted, end_no, end_by, end_record, on_end, answer_by, view_or_new, own_view, with_view, play_target, played_on, plays_own}
+use Rattle.tg_protocol.specs.Answers.{lacks_decision, aborted, end_decided, end_aborted, end_no, end_by, end_record, on_end, answer_by, view_or_new, own_view, with_view, play_target, played_on, plays_own}
 use Rattle.tg_model.specs.declared.trace.What.TheVariants as what
 use Rattle.tg_known.specs.Words.{entries_from}
 use Rattle.tg_known.specs.Rules.{PlaysNew}

@@ -1,5 +1,5 @@
 -- What follows a walk, along what is known of it.
-use Rattle.std.proofs.Common.{◌≡◌, ℕ, ◌≤◌, List, [], Option, Some, Result, refl, sym, ap, subst, ◌∙◌}
+use Rattle.std.proofs.Common.{◌≡◌, ℕ, ◌≤◌, List, [], Some, Result, refl, sym, ap, subst, ◌∙◌}
 use Rattle.std.specs.Prelude.{IfOk}
 use Rattle.tg_base.specs.declared.fault.NoMemory.{NoMemory}
 use Rattle.tg_kind.specs.Meaning.{Meaning}
@@ -7,7 +7,7 @@ use Rattle.tg_base.specs.declared.ids.Oid.{Oid}
 use Rattle.tg_model.specs.Kinds.{CommandOf, NoteOf}
 use Rattle.tg_model.specs.declared.command.Command.TheVariants as cmd
 use Rattle.tg_model.specs.declared.play.PlayEnd.{PlayEnd}
-use Rattle.tg_protocol.specs.Views.{Entries, View, Play}
+use Rattle.tg_protocol.specs.Views.{Entries, Play}
 use Rattle.tg_protocol.specs.Clients.{Client, Work, all_entries}
 use Rattle.tg_protocol.specs.Answers.{Moved, replies, answer_by, play_target, played_on, plays_own, walked_for, walked}
 use Rattle.tg_task.specs.Tasks.{JobOf, KeepsJob}
@@ -46,7 +46,7 @@ module _ (m : Meaning) where
       let e : target ≡ play_target m w w.command = ht ∙ ap (λ (y : CommandOf m). play_target m w y) (sym (ap (λ (u : Work m). u.command) hj)) in
       let n : old ≤ t.rids.next = subst (λ (u : StateOf m). old ≤ u.rids.next) (sym h.state) hn in
       let b : answer_by m (client_of m t q) w es (record { view = p.view; came = came }) w.command ≡ played_on m (client_of m s r) w es p
-          = λ i. answer_by m (client_of m (h.state i) q) w es (record { view = p.view; came = h.came i }) w.command in
+      = λ i. answer_by m (client_of m (h.state i) q) w es (record { view = p.view; came = h.came i }) w.command in
       moves_same x old _ _
       (b ∙ ap (λ (k : ℕ). played_on m (client_of m s r) w es (own_play m (client_of m s r) w es k)) e ∙ hs)
       (f q w p.view old refl n h.view hj)

@@ -1,6 +1,5 @@
 //! Commands are answered, once the view has played.
 
-ghost use Rattle.std.specs.Prelude.{◌≡◌};
 ghost use Rattle.tg_kind.specs.Of.{meaning_of};
 ghost use Rattle.tg_protocol.specs.Answers as told;
 ghost use Rattle.tg_protocol.specs.Views as views;

@@ -1,6 +1,6 @@
 //! Which entries a command plays.
 
-ghost use Rattle.std.specs.Prelude.{◌≡◌, ◌≤◌, Option, IfOk};
+ghost use Rattle.std.specs.Prelude.{◌≡◌, Option, IfOk};
 ghost use Rattle.tg_kind.specs.Of.{meaning_of};
 ghost use Rattle.tg_protocol.specs.Clients as clients;
 ghost use Rattle.tg_protocol.specs.Views as views;

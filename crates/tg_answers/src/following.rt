@@ -30,11 +30,7 @@ fn target_of<K: Registry>(command: &CommandOf<K>, at: Pos, tail: Pos) -> Pos
 }
 
 // The client's own view plays, and the command is answered. An `Err` is want of memory, or of numbers.
-fn plays<K: Registry>(
-    state: State<K>,
-    alloc: Global,
-    job: Job<K>,
-) -> Result<Moved<K>, NoMemory>
+fn plays<K: Registry>(state: State<K>, alloc: Global, job: Job<K>) -> Result<Moved<K>, NoMemory>
     ensures { Follows (meaning_of K.Registry) state job result (λ c w. told.plays_own (meaning_of K.Registry) c w (clients.all_entries (meaning_of K.Registry) c w c.hosted)) }
 {
     let entries = entries_of(&state, alloc, &job)?;

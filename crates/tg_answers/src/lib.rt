@@ -3,7 +3,7 @@
 
 mod answering;
 mod entries;
-mod playing;
 mod following;
+mod playing;
 
 pub use following::walked;

@@ -1,6 +1,6 @@
 //! A client's view plays.
 
-ghost use Rattle.std.specs.Prelude.{◌≡◌, ◌≤◌, ◌^◌, Option, IfOk};
+ghost use Rattle.std.specs.Prelude.{◌≡◌, ◌^◌, Option, IfOk};
 ghost use Rattle.tg_kind.specs.Of.{meaning_of};
 ghost use Rattle.tg_protocol.specs.Answers as told;
 ghost use Rattle.tg_protocol.specs.Clients.{Client, Work};

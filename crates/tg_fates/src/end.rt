@@ -1,6 +1,5 @@
 //! The end of a transaction.
 
-ghost use Rattle.std.specs.Prelude.{◌≡◌};
 ghost use Rattle.tg_kind.specs.Of.{meaning_of};
 ghost use Rattle.tg_protocol.specs.Answers as told;
 ghost use Rattle.tg_protocol.specs.Past.{commit_at};
@@ -33,7 +32,14 @@ fn decided<K: Registry>(
 {
     let (yes, what) = answer;
     if needs_decision(alloc, entries, at, entry)? {
-        return state.decides(alloc, job, entry, at, yes, Purpose::Decides { answer: what });
+        return state.decides(
+            alloc,
+            job,
+            entry,
+            at,
+            yes,
+            Purpose::Decides { answer: what },
+        );
     }
     closes(state, alloc, what)
 }

@@ -48,11 +48,7 @@ fn aborted_by<K: Registry>(
 }
 
 // The answer that a record isn't committed, None where it is unknown which read has changed. An `Err` is want of memory.
-fn abort<K: Registry>(
-    view: &View<K>,
-    at: Pos,
-    entry: &Entry,
-) -> Result<Option<WhatOf<K>>, NoMemory>
+fn abort<K: Registry>(view: &View<K>, at: Pos, entry: &Entry) -> Result<Option<WhatOf<K>>, NoMemory>
     ensures { (v : views.View (meaning_of K.Registry)) → KeepsView (meaning_of K.Registry) view.now v → IfOk result (λ x. x ≡ aborts_said (meaning_of K.Registry) at (views.unknown_in (meaning_of K.Registry) v (reads_of entry.now) at) (views.changed_in (meaning_of K.Registry) v (reads_of entry.now) at)) }
 {
     let reads = reads_of(entry);
