@@ -8,16 +8,18 @@ use Rattle.tg_protocol.specs.Requests.{drawn_from}
 use Rattle.tg_protocol.specs.Views.{View, state_of}
 use Rattle.tg_protocol.specs.Words.{directory}
 use Rattle.tg_protocol.specs.Clients as told
-use Rattle.tg_protocol.specs.ClientSteps.{asks_latest, client_asks, task_awaited}
+use Rattle.tg_protocol.specs.ClientSteps.{asks_latest, client_asks, task_asks, task_awaited}
 use Rattle.tg_protocol.specs.Answers.{Moved as ToldMoved}
 use Rattle.tg_protocol.specs.Walking.{Walk}
 use Rattle.tg_play.specs.Kept.{Kept}
 use Rattle.tg_play.specs.Relations.{KeepsView}
 use Rattle.tg_known.specs.Known.{Knowledge}
 use Rattle.tg_known.specs.Walks.{OverSettled, FindsDown}
-use Rattle.tg_task.specs.Tasks.{WorkOf, KeepsMaybe, IsFit, IsPausedFit}
+use Rattle.tg_numbers.specs.Numbers.{all_from}
+use Rattle.tg_task.specs.Tasks.{TaskOf, WorkOf, told_task, KeepsMaybe, IsFit, IsPausedFit}
 use Rattle.tg_state.specs.declared.state.State.{State}
 use Rattle.tg_state.specs.declared.moved.Moved.{Moved}
+use Rattle.tg_state.specs.declared.begin.Begun.{Begun}
 
 module _ (m : Meaning) where
   abbrev pub StateOf : Type 0
@@ -106,6 +108,13 @@ module _ (m : Meaning) where
   abbrev pub IsFitIf : Knowledge → Layout → Option (told.Work m) → Type 0
   IsFitIf k p None = Unit {0}
   IsFitIf k p (Some w) = IsClientFit k p w.hand
+
+  -- a task that has begun in this layout, where this was the next request number: all that it awaits was drawn in its beginning
+  pub record IsBegun (k : Knowledge) (p : Layout) (old : ℕ) (b : Begun (TaskOf m)) : Type 0 where
+    pub sends : b.sends ≡ drawn_from old (task_asks m p (told_task m b.machine))
+    pub fresh : all_from old (task_asks m p (told_task m b.machine)) ≡ true
+    pub drawn : all_below b.rids.next (task_awaited m p (told_task m b.machine)) ≡ true
+    pub fit : IsTaskFit k p (told_task m b.machine)
 
   -- a client of the rules is kept so, with this command in hand
   pub record KeepsClient (s : StateOf) (w : Option (WorkOf m)) (c : told.Client m) : Type 0 where
