@@ -111,6 +111,13 @@ impl CopyRange {
         }
     }
 
+    /// The spare, and the stripe that it is to hold.
+    pub fn spare(&self) -> Join
+        ensures { result ≡ spare_of self.now }
+    {
+        self.join
+    }
+
     /// The spare and the stripe, with which it starts over where its caller learns a newer layout meanwhile.
     pub fn pause(self) -> Join
         ensures { result ≡ spare_of self }

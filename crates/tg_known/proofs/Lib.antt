@@ -9,6 +9,7 @@ pub mod Finding
 pub mod Gathering
 pub mod Giving
 pub mod Settling
+pub mod Spelled
 pub mod Leaving
 pub mod Keeping
 pub mod Ordered

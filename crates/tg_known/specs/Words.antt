@@ -1,11 +1,12 @@
 -- What a client knows by position and by stream. The rules' words of the same names have a meaning of kinds as a
 -- parameter that they don't use; these are equal to them.
-use Rattle.std.specs.Prelude.{ℕ, Bool, true, false, ◌&&◌, nat_lt, nat_le, List, [], ◌∷◌, filter, Option, Some, None, if◌then◌else◌}
-use Rattle.std.specs.List.{list_any}
+use Rattle.std.specs.Prelude.{◌≡◌, ℕ, Bool, true, false, ◌&&◌, nat_lt, nat_le, List, [], ◌∷◌, filter, Option, Some, None, if◌then◌else◌}
+use Rattle.std.specs.List.{list_all, list_any}
 use Rattle.tg_base.specs.declared.cell.Cell.{Cell}
 use Rattle.tg_base.specs.declared.cell.Cell.TheVariants.{Junk, Data}
 use Rattle.tg_base.specs.declared.ids.Oid.{Oid}
 use Rattle.tg_entry.specs.declared.entry.Entry.{Entry}
+use Rattle.tg_entry.specs.Format.{entry}
 use Rattle.tg_protocol.specs.Words.{oid_eq, oid_lt, has_num, with_nums, cell_at}
 use Rattle.tg_protocol.specs.Entries.{is_commit}
 use Rattle.tg_protocol.specs.Pages.{entry_of}
@@ -71,6 +72,15 @@ entry_if p (Some e) es = (p, e) ∷ es
 abbrev pub entries_at : List (ℕ × Cell) → List ℕ → Entries
 entries_at cells [] = []
 entries_at cells (p ∷ ps) = entry_if p (cell_entry (cell_at cells p)) (entries_at cells ps)
+
+-- the entry has a spelling, where there is one
+abbrev pub fits_by : Option Entry → Bool
+fits_by None = true
+fits_by (Some e) = entry.fits e
+
+-- each of them has a spelling
+abbrev pub AreSpelled : Entries → Type 0
+AreSpelled es = list_all (λ (x : ℕ × Entry). entry.fits x.1) es ≡ true
 
 -- those from a position on
 abbrev pub entries_from : ℕ → Entries → Entries

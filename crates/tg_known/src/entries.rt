@@ -5,7 +5,7 @@ ghost use Rattle.tg_entry.specs.Drafts.{all_below};
 ghost use Rattle.tg_protocol.specs.Words.{cell_at};
 ghost use Rattle.tg_protocol.specs.Entries.{is_commit};
 ghost use Rattle.tg_protocol.specs.Pages.{entry_of};
-ghost use Rattle.tg_known.specs.Words.{cell_entry, entry_if, entries_at, commits_by, commit_of};
+ghost use Rattle.tg_known.specs.Words.{cell_entry, entry_if, entries_at, commits_by, commit_of, fits_by, AreSpelled};
 
 use crate::positions::Positions;
 use std::alloc::Global;
@@ -16,7 +16,8 @@ use tg_entry::{Body, Entries, Entry, EntryFault, decode};
 /// The entry whose spelling a page is, None where it is no entry's.
 #[tactic(auto, unfolding(tg_protocol::specs::Pages::entry_of))]
 fn entry_of(alloc: Global, page: &Blob) -> Result<Option<Entry>, NoMemory>
-    ensures { IfOk result (λ e. e ≡ entry_of page.now) }
+    ensures entry { IfOk result (λ e. e ≡ entry_of page.now) }
+    ensures spelled { IfOk result (λ e. fits_by e ≡ true) }
 {
     match decode(alloc, page.as_slice()) {
         Ok(entry) => Ok(Some(entry)),
@@ -27,7 +28,8 @@ fn entry_of(alloc: Global, page: &Blob) -> Result<Option<Entry>, NoMemory>
 
 /// The entry that a cell holds, None where it holds none.
 fn entry_in(alloc: Global, cell: &Cell) -> Result<Option<Entry>, NoMemory>
-    ensures { IfOk result (λ e. e ≡ cell_entry (Some cell.now)) }
+    ensures entry { IfOk result (λ e. e ≡ cell_entry (Some cell.now)) }
+    ensures spelled { IfOk result (λ e. fits_by e ≡ true) }
 {
     match cell {
         Cell::Junk => Ok(None),
@@ -62,7 +64,8 @@ pub fn commits(alloc: Global, cell: &Cell) -> Result<bool, NoMemory>
 
 /// The entry at a position, None where no page of one is known there.
 fn entry_at(alloc: Global, cells: &BTreeMap<u64, Cell>, pos: Pos) -> Result<Option<Entry>, NoMemory>
-    ensures { IfOk result (λ e. e ≡ cell_entry (cell_at cells.now.entries pos)) }
+    ensures entry { IfOk result (λ e. e ≡ cell_entry (cell_at cells.now.entries pos)) }
+    ensures spelled { IfOk result (λ e. fits_by e ≡ true) }
 {
     match cells.get(&pos) {
         None => Ok(None),
@@ -94,13 +97,14 @@ fn commit_of(entry: Entry) -> Option<Entry>
     None
 }
 
-/// The entries at these positions, as far as their pages are known.
+/// The entries at these positions, as far as their pages are known. Each has a spelling, since it was read from a page.
 pub fn entries_at(
     alloc: Global,
     cells: &BTreeMap<u64, Cell>,
     positions: &Positions,
 ) -> Result<Entries, NoMemory>
-    ensures { IfOk result (λ es. es ≡ entries_at cells.now.entries positions.now) }
+    ensures entries { IfOk result (λ es. es ≡ entries_at cells.now.entries positions.now) }
+    ensures spelled { IfOk result (λ es. AreSpelled es) }
 {
     let mut entries = Entries::new(alloc);
     for pos in positions.as_set() {

@@ -3,7 +3,7 @@
 ghost use Rattle.std.specs.Prelude.{◌≡◌, [], max, min, filter, option_copied, IfOk, if◌then◌else◌, nat_lt, ◌&&◌, ◌||◌, None};
 ghost use Rattle.tg_protocol.specs.Words.{cell_at, with_nums, has_num};
 ghost use Rattle.tg_protocol.specs.Past.{commit_at};
-ghost use Rattle.tg_known.specs.Words.{within, any_has, entries_at};
+ghost use Rattle.tg_known.specs.Words.{within, any_has, entries_at, AreSpelled};
 ghost use Rattle.tg_known.specs.Known.{nothing, learnt, owned, keeping, lent, returned, given_up, settled_after, settles_to, IsSettled, member_positions, all_positions, all_entries, member_entries, new_entries, CommitsBelow};
 
 use crate::by_stream::StreamPositions;
@@ -178,7 +178,7 @@ impl Known {
     }
 
     /// The entries below a tail: those of the members of these streams, among the positions found and those kept, and
-    /// the client's own commit records. It goes over all that is known.
+    /// the client's own commit records. Each has a spelling, since it was read from a page. It goes over all that is known.
     pub fn entries(
         &self,
         alloc: Global,
@@ -186,7 +186,8 @@ impl Known {
         streams: &[Oid],
         tail: Pos,
     ) -> Result<Entries, NoMemory>
-        ensures { IfOk result (λ es. es ≡ all_entries self.now found.now streams.now tail) }
+        ensures entries { IfOk result (λ es. es ≡ all_entries self.now found.now streams.now tail) }
+        ensures spelled { IfOk result (λ es. AreSpelled es) }
     {
         let positions = self.positions(alloc, found, streams, 0, tail)?;
         entries_at(alloc, &self.cells, &positions)
@@ -200,7 +201,8 @@ impl Known {
         streams: &[Oid],
         tail: Pos,
     ) -> Result<Entries, NoMemory>
-        ensures { IfOk result (λ es. es ≡ member_entries self.now found.now streams.now tail) }
+        ensures entries { IfOk result (λ es. es ≡ member_entries self.now found.now streams.now tail) }
+        ensures spelled { IfOk result (λ es. AreSpelled es) }
     {
         let positions = self.members(alloc, found, streams, 0, tail)?;
         entries_at(alloc, &self.cells, &positions)
@@ -216,6 +218,7 @@ impl Known {
         tail: Pos,
     ) -> Result<Entries, NoMemory>
         ensures entries { IfOk result (λ es. es ≡ new_entries self.now found.now streams.now tail) }
+        ensures spelled { IfOk result (λ es. AreSpelled es) }
         ensures others { CommitsBelow self.now.settled (all_entries self.now found.now streams.now tail) }
     {
         let positions = self.positions(alloc, found, streams, self.settled, tail)?;
@@ -243,7 +246,8 @@ impl Known {
     /// The entries at these positions, each once and in order, as far as their pages are known: those of the members
     /// that a walk found, say.
     pub fn entries_of(&self, alloc: Global, positions: &[Pos]) -> Result<Entries, NoMemory>
-        ensures { IfOk result (λ es. es ≡ entries_at self.now.cells (with_nums positions.now [])) }
+        ensures entries { IfOk result (λ es. es ≡ entries_at self.now.cells (with_nums positions.now [])) }
+        ensures spelled { IfOk result (λ es. AreSpelled es) }
     {
         let positions = Positions::new(alloc).put_all(positions)?;
         entries_at(alloc, &self.cells, &positions)

@@ -112,7 +112,7 @@ feed_plain p s (Looking r) u IsWhole n h = ends_plain (copy_asks p) n n Whole (o
 feed_plain p s (Looking r) u (IsMissing pos) n h = from_plain p _ pos n _
 feed_plain p s (Looking r) u _ n h = stays p _ n n (omega arith) h
 
-if_plain : (b : Bool) (p : Layout) (c : Copying) (u : ℕ) (m : Msg) (n : ℕ) → IsDrawn p c n → Plain (copy_asks p) n (copy_fed_if b p c u m n)
+pub if_plain : (b : Bool) (p : Layout) (c : Copying) (u : ℕ) (m : Msg) (n : ℕ) → IsDrawn p c n → Plain (copy_asks p) n (copy_fed_if b p c u m n)
 if_plain true p c u m n h = feed_plain p (spare_of c) c.work u (reply m) n h
 if_plain false p c u m n h = stays p c n n (omega arith) h
 

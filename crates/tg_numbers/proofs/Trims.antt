@@ -35,7 +35,7 @@ feed_plain p t u (IsGone b) n h = gone_plain (trim_asks p) n b _ (left_plain p t
 feed_plain p t u (IsFenced e) n h = learns_if_plain (nat_lt p.epoch e) p t n h
 feed_plain p t u _ n h = stays p t n h
 
-if_plain : (b : Bool) (p : Layout) (t : Trims) (u : ℕ) (m : Msg) (n : ℕ) → all_drawn n (trim_asks p t) ≡ true → Plain (trim_asks p) n (trim_fed_if b p t u m n)
+pub if_plain : (b : Bool) (p : Layout) (t : Trims) (u : ℕ) (m : Msg) (n : ℕ) → all_drawn n (trim_asks p t) ≡ true → Plain (trim_asks p) n (trim_fed_if b p t u m n)
 if_plain true p t u m n h = feed_plain p t u (reply m) n h
 if_plain false p t u m n h = stays p t n h
 

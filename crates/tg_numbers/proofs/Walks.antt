@@ -81,7 +81,7 @@ feed_plain p w (Some j) u x n h =
     let c = cell_plain j u x n h in
     next_plain p (walk_of (course_of w) (Some j)) j.place.pos (cell_feed j u x n).to n (cell_feed j u x n).next c.grows c.drawn h
 
-if_plain : (b : Bool) (p : Layout) (w : Walk) (u : ℕ) (m : Msg) (n : ℕ) → IsDrawn w n → Plain walk_asks n (walk_fed_if b p w u m n)
+pub if_plain : (b : Bool) (p : Layout) (w : Walk) (u : ℕ) (m : Msg) (n : ℕ) → IsDrawn w n → Plain walk_asks n (walk_fed_if b p w u m n)
 if_plain true p w u m n h = feed_plain p w w.job u (reply m) n h
 if_plain false p w u m n h = stays w n n (omega arith) h
 

@@ -4,6 +4,7 @@
 mod records;
 mod rescue;
 
+pub use records::{commit_at, needs_decision};
 pub use rescue::{RescueTurn, rescue_turn};
 
 #[cfg(test)]

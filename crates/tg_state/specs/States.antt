@@ -8,13 +8,18 @@ use Rattle.tg_protocol.specs.Requests.{drawn_from}
 use Rattle.tg_protocol.specs.Views.{View, state_of}
 use Rattle.tg_protocol.specs.Words.{directory}
 use Rattle.tg_protocol.specs.Clients as told
-use Rattle.tg_protocol.specs.ClientSteps.{asks_latest, client_asks, task_awaited}
+use Rattle.tg_protocol.specs.ClientSteps.{asks_latest, client_asks, task_asks, task_awaited}
 use Rattle.tg_protocol.specs.Answers.{Moved as ToldMoved}
+use Rattle.tg_protocol.specs.Walking.{Walk}
 use Rattle.tg_play.specs.Kept.{Kept}
 use Rattle.tg_play.specs.Relations.{KeepsView}
-use Rattle.tg_task.specs.Tasks.{WorkOf, KeepsMaybe, IsHandFit}
+use Rattle.tg_known.specs.Known.{Knowledge}
+use Rattle.tg_known.specs.Walks.{OverSettled, FindsDown}
+use Rattle.tg_numbers.specs.Numbers.{all_from}
+use Rattle.tg_task.specs.Tasks.{TaskOf, WorkOf, told_task, KeepsMaybe, IsFit, IsPausedFit}
 use Rattle.tg_state.specs.declared.state.State.{State}
 use Rattle.tg_state.specs.declared.moved.Moved.{Moved}
+use Rattle.tg_state.specs.declared.begin.Begun.{Begun}
 
 module _ (m : Meaning) where
   abbrev pub StateOf : Type 0
@@ -79,9 +84,37 @@ module _ (m : Meaning) where
   AreDrawn next p None = Unit {0}
   AreDrawn next p (Some w) = are_drawn next p w.hand ≡ true
 
-  abbrev pub IsFitIf : Layout → Option (told.Work m) → Type 0
-  IsFitIf p None = Unit {0}
-  IsFitIf p (Some w) = IsHandFit m p w.hand
+  -- What a machine in hand keeps.
+
+  -- a walk goes over settled cells, and finds members only below those that it has found
+  pub record WalksOn (k : Knowledge) (w : Walk) : Type 0 where
+    pub settled : OverSettled k.own k.settled w
+    pub finds : FindsDown w
+
+  -- and a reconfiguration goes on where the client stands
+  abbrev pub IsTaskFit : Knowledge → Layout → told.Task m → Type 0
+  IsTaskFit k p (told.Walking w os) = WalksOn k w
+  IsTaskFit k p (told.Reconfiguring r) = r.stand ≡ p
+  IsTaskFit k p t = IsFit m p t
+
+  abbrev pub IsLeftFit : Knowledge → told.Task m → Type 0
+  IsLeftFit k (told.Walking w os) = WalksOn k w
+  IsLeftFit k t = IsPausedFit m t
+
+  abbrev pub IsClientFit : Knowledge → Layout → told.Hand m → Type 0
+  IsClientFit k p (told.Doing t) = IsTaskFit k p t
+  IsClientFit k p (told.Learning ws t) = IsLeftFit k t
+
+  abbrev pub IsFitIf : Knowledge → Layout → Option (told.Work m) → Type 0
+  IsFitIf k p None = Unit {0}
+  IsFitIf k p (Some w) = IsClientFit k p w.hand
+
+  -- a task that has begun in this layout, where this was the next request number: all that it awaits was drawn in its beginning
+  pub record IsBegun (k : Knowledge) (p : Layout) (old : ℕ) (b : Begun (TaskOf m)) : Type 0 where
+    pub sends : b.sends ≡ drawn_from old (task_asks m p (told_task m b.machine))
+    pub fresh : all_from old (task_asks m p (told_task m b.machine)) ≡ true
+    pub drawn : all_below b.rids.next (task_awaited m p (told_task m b.machine)) ≡ true
+    pub fit : IsTaskFit k p (told_task m b.machine)
 
   -- a client of the rules is kept so, with this command in hand
   pub record KeepsClient (s : StateOf) (w : Option (WorkOf m)) (c : told.Client m) : Type 0 where
@@ -89,7 +122,7 @@ module _ (m : Meaning) where
     pub view : KeepsViewIf s.view c.view
     pub work : KeepsMaybe m w c.work
     pub drawn : AreDrawn c.next c.stand c.work
-    pub fit : IsFitIf c.stand c.work
+    pub fit : IsFitIf s.known c.stand c.work
 
   -- what a step made of a client whose next request number was this one
   pub record KeepsMoved (old : ℕ) (r : MovedOf) (x : ToldMoved m) : Type 0 where

@@ -2,14 +2,16 @@
 #![tactic(auto)]
 
 mod begin;
+mod decision;
 mod moved;
+mod objects;
 mod replies;
 mod state;
+mod waits;
 
 pub use begin::Begun;
+pub use decision::is_object;
 pub use moved::Moved;
+pub use objects::HeaderObjects;
 pub use replies::one_note;
 pub use state::State;
-
-#[cfg(test)]
-mod tests;

@@ -1,6 +1,7 @@
 //! A client's state, but for the command in hand.
 
-use tg_base::{List, Oid, Pos, Projection, Rids};
+use crate::objects::HeaderObjects;
+use tg_base::{List, Oid, Projection, Rids};
 use tg_kind::Registry;
 use tg_known::Known;
 use tg_play::View;
@@ -14,7 +15,7 @@ pub struct State<K: Registry> {
     /// How many layout servers there are.
     pub layouts: u16,
     /// The header's objects.
-    pub objects: List<Oid>,
+    pub objects: HeaderObjects,
     /// How many steps it has taken.
     pub calls: u32,
     /// The next request number.

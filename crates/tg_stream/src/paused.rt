@@ -37,6 +37,13 @@ impl Model for PausedWalk {
 }
 
 impl PausedWalk {
+    /// The object whose stream is walked.
+    pub fn oid(&self) -> Oid
+        ensures { result ≡ self.now.oid }
+    {
+        self.oid
+    }
+
     /// Goes on in a newer layout, where it was.
     pub fn resume(
         self,

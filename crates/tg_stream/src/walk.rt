@@ -112,6 +112,15 @@ impl Walk {
 }
 
 impl Walk {
+    /// The object whose stream is walked.
+    pub fn oid(&self) -> Oid
+        ensures { result ≡ self.now.oid }
+    {
+        self.course.oid()
+    }
+}
+
+impl Walk {
     /// Goes on over known cells, to the first position that must be read or to the end.
     pub(crate) fn go_on(
         alloc: Global,

@@ -91,6 +91,13 @@ impl Trims {
         requests(alloc, proj.epoch, self.below, self.waits.as_slice())
     }
 
+    /// The position below which all is trimmed.
+    pub fn below(&self) -> Pos
+        ensures { result ≡ self.now.below }
+    {
+        self.below
+    }
+
     /// The position below which all is trimmed, with which it starts over where its caller learns a newer layout
     /// meanwhile.
     pub fn pause(self) -> Pos

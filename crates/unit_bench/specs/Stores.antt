@@ -7,7 +7,7 @@ use Rattle.tg_base.specs.declared.msg.Msg.TheVariants.{Write, Held}
 use Rattle.tg_protocol.specs.Units.{UnitState, UnitTurn, new_unit, unit_step}
 use Rattle.unit_bench.specs.declared.order.Order.{Order}
 use Rattle.unit_bench.specs.declared.order.Order.TheVariants.{Rising, Scattered, Sparse}
-use Rattle.unit_bench.specs.declared.rounds.Rounds.{Rounds}
+use Rattle.unit_bench.specs.declared.load.Load.{Load}
 
 abbrev pub order_named : List ℕ → Option Order
 order_named word =
@@ -41,13 +41,13 @@ abbrev pub held : Order → ℕ → ℕ → ℕ
 held order count zero = 0
 held order count (suc n) = held order count n + is_held (sent (stored order count n) (position order count n)).says
 
--- how many of all rounds, modulo 2^64
-abbrev pub total : Rounds → ℕ
-total r = r.rounds * held r.order r.count r.count % 2 ^ 64
+-- how many on all units, modulo 2^64
+abbrev pub total : Load → ℕ
+total l = l.units * held l.order l.count l.count % 2 ^ 64
 
 abbrev pub number_of : List ℕ → ℕ
 number_of word = digits_value 10 (without_leading_plus word)
 
 -- the words name the order and the numbers
-abbrev pub AreWords : List ℕ → List ℕ → List ℕ → Rounds → Type 0
-AreWords order count rounds r = (order_named order ≡ Some r.order) × (r.count ≡ number_of count) × (r.rounds ≡ number_of rounds)
+abbrev pub AreWords : List ℕ → List ℕ → List ℕ → Load → Type 0
+AreWords order count units l = (order_named order ≡ Some l.order) × (l.count ≡ number_of count) × (l.units ≡ number_of units)

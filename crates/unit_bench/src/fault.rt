@@ -8,8 +8,8 @@ use thiserror::Error;
 /// Why there is no answer.
 #[derive(Clone, Copy, Debug, PartialEq, Eq, Error)]
 pub enum Fault {
-    /// The words are no order with a count and, it may be, with rounds.
-    #[error("the words are ORDER COUNT [ROUNDS]")]
+    /// The words are no order with a count and, it may be, with a number of units.
+    #[error("the words are ORDER COUNT [UNITS]")]
     Words,
     /// Memory ran out.
     #[error("out of memory")]

@@ -1,14 +1,14 @@
-//! Times a storage unit: `unit_bench ORDER COUNT [ROUNDS]` sends so many pages to a new unit, in that order, so many
-//! times, and prints how many of them the units hold.
+//! Times a storage unit: `unit_bench ORDER COUNT [UNITS]` sends so many pages to each of some new units, in that order, the
+//! units by turns, and prints how many of them the units hold.
 #![tactic(auto)]
 
 mod fault;
+mod load;
 mod order;
-mod rounds;
 mod stores;
 
 use crate::fault::Fault;
-use crate::rounds::Rounds;
+use crate::load::Load;
 use std::io;
 use std::process::ExitCode;
 
@@ -16,9 +16,9 @@ use std::process::ExitCode;
 fn main(rt: HostRuntime) -> io::Result<ExitCode> {
     let alloc = rt.alloc();
     let words: Vec<String> = std::env::args(&rt)?.skip(1).collect(alloc)?;
-    let fault = match Rounds::of(words.as_slice()) {
+    let fault = match Load::of(words.as_slice()) {
         None => Fault::Words,
-        Some(rounds) => match rounds.sum(alloc) {
+        Some(load) => match load.sum(alloc) {
             Ok(sum) => {
                 println!(rt; "{sum}")?;
                 return Ok(ExitCode::SUCCESS);

@@ -5,6 +5,7 @@ use Rattle.tg_protocol.specs.Views.{Entries}
 use Rattle.tg_known.specs.Words.{entries_at}
 use Rattle.tg_known.proofs.Ascending.{left_above, above_none, above_next, sorted_rises}
 use Rattle.tg_known.proofs.Finding.{one_entry}
+use Rattle.tg_known.proofs.Spelled.{none_spelled, next_spelled}
 use Rattle.tg_known.proofs.Unions.{rises}
 use Rattle.tg_known.proofs.entries.entries_at.Goals as goal
 
@@ -16,6 +17,7 @@ loop-pos-init c =
       put = ap (λ (es : Entries). es ++ entries_at cells c.into_iter-pos-iterator.result) c.new-entries.ensures ∙ ap (entries_at cells) (gives.0 ∙ c.as_set-pos-items.ensures);
       left = ap (λ (es : Entries). left_above es c.into_iter-pos-iterator.result) c.new-entries.ensures
           ∙ above_none c.into_iter-pos-iterator.result (ap rises gives.0 ∙ sorted_rises c.as_set-pos-items.result.now.keys gives.4);
+      spelled = none_spelled c.new-entries.result c.new-entries.ensures;
     }
 
 pub loop-pos-preserved : goal.loop-pos-preserved
@@ -26,7 +28,8 @@ loop-pos-preserved c =
     let new = c.put_entry.new.entries in
     let front = rest_more deref c.loop-pos.pos-iterator c.next.new.self c.next.result c.in-Some.pos c.in-Some.is c.next.ensures.steps in
     record {
-      put = one_entry cells pos c.next.new.self c.in_ok-entry.entry old new (entries_at cells c.args.positions.now) c.in_ok-entry.ensures c.in_ok-put_entry.ensures
+      put = one_entry cells pos c.next.new.self c.in_ok-entry.entry old new (entries_at cells c.args.positions.now) c.in_ok-entry.ensures.entry c.in_ok-put_entry.ensures
           (ap (λ (ps : List ℕ). old ++ entries_at cells ps) (sym front) ∙ c.loop-pos.invariant.put);
       left = above_next old new c.in_ok-entry.entry pos c.next.new.self c.in_ok-put_entry.ensures (ap (left_above old) (sym front) ∙ c.loop-pos.invariant.left);
+      spelled = next_spelled old new c.in_ok-entry.entry pos c.in_ok-put_entry.ensures c.loop-pos.invariant.spelled c.in_ok-entry.ensures.spelled;
     }

@@ -1,5 +1,5 @@
 use Rattle.std.proofs.Common.{◌≡◌, ◌++◌, true}
-use Rattle.tg_known.specs.Words.{entries_at}
+use Rattle.tg_known.specs.Words.{entries_at, AreSpelled}
 use Rattle.tg_known.proofs.Ascending.{left_above}
 use Rattle.tg_known.proofs.entries.entries_at.Given as goal
 
@@ -7,4 +7,5 @@ abbrev pub invariant-loop-pos : goal.invariant-loop-pos
 invariant-loop-pos l = record {
   put : l.entries ++ entries_at l.cells.entries l.pos-iterator ≡ entries_at l.cells.entries l.positions;
   left : left_above l.entries l.pos-iterator ≡ true;
+  spelled : AreSpelled l.entries;
 }

@@ -5,10 +5,10 @@ use Rattle.tg_known.specs.Known.{Knowledge, all_positions}
 use Rattle.tg_known.proofs.Gathering.{all_are}
 use Rattle.tg_known.proofs.known.Known.entries.Goals as goal
 
-pub returns : goal.returns
-returns c =
+pub returns-clause-entries : goal.returns-clause-entries
+returns-clause-entries c =
     let here = within 0 c.args.tail (all_positions c.args.self.now c.args.found.now c.args.streams.now) in
-    ok_then c.entries_at.result c.entries_at.ensures
+    ok_then c.entries_at.result c.entries_at.ensures.entries
     (λ es e.
     e
     ∙ ap (entries_at c.self.inside.cells.entries) c.in_ok-positions.ensures

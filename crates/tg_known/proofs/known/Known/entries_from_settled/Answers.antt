@@ -14,7 +14,7 @@ returns-in_err-positions-clause-others c =
 pub returns-clause-entries : goal.returns-clause-entries
 returns-clause-entries c =
     let all = all_positions c.args.self.now c.args.found.now c.args.streams.now in
-    ok_then c.entries_at.result c.entries_at.ensures
+    ok_then c.entries_at.result c.entries_at.ensures.entries
     (λ es e.
     e
     ∙ ap (entries_at c.self.inside.cells.entries) c.in_ok-positions.ensures

@@ -5,10 +5,10 @@ use Rattle.tg_known.specs.Known.{Knowledge, member_positions}
 use Rattle.tg_known.proofs.Gathering.{members_at}
 use Rattle.tg_known.proofs.known.Known.member_entries.Goals as goal
 
-pub returns : goal.returns
-returns c =
+pub returns-clause-entries : goal.returns-clause-entries
+returns-clause-entries c =
     let here = within 0 c.args.tail (member_positions c.args.self.now c.args.found.now c.args.streams.now) in
-    ok_then c.entries_at.result c.entries_at.ensures
+    ok_then c.entries_at.result c.entries_at.ensures.entries
     (λ es e.
     e
     ∙ ap (entries_at c.self.inside.cells.entries) c.in_ok-positions.ensures

@@ -1,0 +1,3 @@
+pub mod Servers
+pub mod Rows
+pub mod Kept

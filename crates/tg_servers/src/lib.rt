@@ -1,0 +1,10 @@
+//! The servers of a world: its units, layout servers and sequencers, with all packets that were ever sent, the archive
+//! of trimmed cells, and which nodes have stopped.
+#![tactic(auto)]
+
+mod first;
+mod rows;
+mod servers;
+mod starts;
+
+pub use servers::Servers;
