@@ -1,0 +1,10 @@
+mod Bounds
+mod Changing
+mod Links
+mod Lists
+mod Means
+mod Openings
+mod Pairs
+mod Plays
+mod Ruled
+mod Writing

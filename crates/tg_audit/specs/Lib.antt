@@ -1,0 +1,5 @@
+pub mod Judging
+pub mod Ruling
+pub mod Same
+pub mod SameLaws
+pub mod Told

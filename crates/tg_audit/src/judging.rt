@@ -1,0 +1,457 @@
+//! The judge's tests, and the verdict.
+
+ghost use Rattle.std.specs.Prelude.{◌≡◌, ◌+◌, nat_le, true, IfOk};
+ghost use Rattle.std.specs.List.{list_any};
+ghost use Rattle.tg_kind.specs.Of.{meaning_of};
+ghost use Rattle.tg_kind.specs.Headers.{is_header};
+ghost use Rattle.tg_audit.specs.Judging as of;
+ghost use Rattle.tg_audit.specs.Ruling as rule;
+ghost use Rattle.tg_audit.specs.Told.{verdict_of};
+ghost use Rattle.tg_base.specs.declared.fault.Clause.TheVariants as clause;
+ghost use Rattle.tg_audit.specs.declared.verdict.Verdict.TheVariants.{Illegal};
+
+use crate::asks::{all_at, has_asked, has_ended, is_of};
+use crate::entries::{has_cause, has_commit, has_entry, has_stamp, only_at};
+use crate::judged::Judged;
+use crate::points::{bound, points};
+use crate::puts::{are_puts, has_put};
+use crate::run::Run;
+use crate::verdict::Verdict;
+use crate::versions::{changed, looks_at};
+use std::alloc::Global;
+use tg_base::{Clause, NoMemory, Oid, Part, Pos};
+use tg_model::{DoneOf, MarkOf, Refusal, What};
+
+// The clause, where its test fails.
+fn failed(clause: Clause, right: bool) -> Option<Clause>
+    ensures { result ≡ of.failed clause right }
+{
+    if right { None } else { Some(clause) }
+}
+
+impl<'a, K: Judged> Run<'a, K> {
+    // The greatest point of a reply before the transaction's last begin.
+    #[tactic(auto, unfolding(crate::specs::Ruling::bound))]
+    fn bound(&self, client: u16, tx: u32) -> u128
+        requires { of.IsRun (meaning_of K.Registry) self.now.objects.now self.now.trace.now self.now.points.now }
+        ensures { result ≡ rule.bound (meaning_of K.Registry) K.same_ops K.same_answers self.now.objects.now self.now.history.now self.now.trace.now client tx }
+    {
+        bound::<K>(self.trace, self.points, client, tx)
+    }
+
+    // Whether a place isn't below the transaction's bound.
+    fn is_bounded(&self, client: u16, tx: u32, at: Pos) -> bool
+        requires { of.IsRun (meaning_of K.Registry) self.now.objects.now self.now.trace.now self.now.points.now }
+        ensures { result ≡ nat_le (rule.bound (meaning_of K.Registry) K.same_ops K.same_answers self.now.objects.now self.now.history.now self.now.trace.now client tx) at }
+    {
+        self.bound(client, tx) <= u128::from(at)
+    }
+
+    // Whether an answer is that at its snapshot, which is that of the transaction's earlier ones.
+    fn is_right_answer(
+        &self,
+        alloc: Global,
+        earlier: &[MarkOf<K>],
+        client: u16,
+        tx: u32,
+        oid: Oid,
+        ask: &K::Ask,
+        at: Pos,
+        ans: &K::Ans,
+    ) -> Result<bool, NoMemory>
+        requires { of.IsRun (meaning_of K.Registry) self.now.objects.now self.now.trace.now self.now.points.now }
+        ensures { IfOk result (λ b. b ≡ rule.right_answer (meaning_of K.Registry) K.same_ops K.same_answers self.now.objects.now self.now.history.now self.now.trace.now earlier.now client tx oid ask.now at ans.now) }
+    {
+        if !all_at::<K>(earlier, client, tx, at) {
+            return Ok(false);
+        }
+        self.holds(alloc, at, oid, ask, ans)
+    }
+
+    // Whether a committed transaction that wrote is in the history with its writes, and its answers hold there.
+    fn is_right_write(&self, alloc: Global, client: u16, tx: u32, at: Pos) -> Result<bool, NoMemory>
+        requires { of.IsRun (meaning_of K.Registry) self.now.objects.now self.now.trace.now self.now.points.now }
+        ensures { IfOk result (λ b. b ≡ rule.right_write (meaning_of K.Registry) K.same_ops K.same_answers self.now.objects.now self.now.history.now self.now.trace.now client tx at) }
+    {
+        if !has_commit::<K>(self.history, self.trace, client, tx, at) {
+            return Ok(false);
+        }
+        self.all_hold(alloc, client, tx, at)
+    }
+
+    // Whether a committed transaction that wrote nothing is at its snapshot, or at 0 where it asked nothing.
+    fn is_right_read(&self, client: u16, tx: u32, at: Pos) -> bool
+        ensures { result ≡ rule.right_read (meaning_of K.Registry) K.same_ops K.same_answers self.now.objects.now self.now.history.now self.now.trace.now client tx at }
+    {
+        let trace = self.trace;
+        all_at::<K>(trace, client, tx, at) && (has_asked::<K>(trace, client, tx) || at == 0)
+    }
+
+    #[tactic(auto, unfolding(crate::specs::Ruling::right_commit))]
+    fn is_right_commit(
+        &self,
+        alloc: Global,
+        client: u16,
+        tx: u32,
+        at: Pos,
+    ) -> Result<bool, NoMemory>
+        requires { of.IsRun (meaning_of K.Registry) self.now.objects.now self.now.trace.now self.now.points.now }
+        ensures { IfOk result (λ b. b ≡ rule.right_commit (meaning_of K.Registry) K.same_ops K.same_answers self.now.objects.now self.now.history.now self.now.trace.now client tx at) }
+    {
+        if has_put::<K>(self.trace, client, tx) {
+            self.is_right_write(alloc, client, tx, at)
+        } else {
+            Ok(self.is_right_read(client, tx, at))
+        }
+    }
+
+    // Whether an ask at a snapshot looked at a part that had the one version there and has the other at a place.
+    fn explains(
+        &self,
+        ask: &K::Ask,
+        snapshot: Pos,
+        at: Pos,
+        oid: Oid,
+        part: &Part,
+        seen: u64,
+        now: u64,
+    ) -> bool
+        ensures { result ≡ rule.explains_part (meaning_of K.Registry) K.same_ops K.same_answers self.now.objects.now self.now.history.now self.now.trace.now at oid part.now seen now ask.now snapshot }
+    {
+        let history = self.history;
+        looks_at::<K>(ask, part)
+            && has_cause::<K>(history, oid, part, now, snapshot, at)
+            && u128::from(seen) == changed::<K>(history, oid, part, snapshot)
+            && u128::from(now) == changed::<K>(history, oid, part, at)
+    }
+
+    // The same of a reply, if it answers an ask of the transaction about the object.
+    fn is_explained(
+        &self,
+        mark: &MarkOf<K>,
+        client: u16,
+        tx: u32,
+        place: Pos,
+        object: Oid,
+        part: &Part,
+        seen: u64,
+        now: u64,
+    ) -> bool
+        ensures { result ≡ of.meets (meaning_of K.Registry) client tx (rule.explains (meaning_of K.Registry) K.same_ops K.same_answers self.now.objects.now self.now.history.now self.now.trace.now place object part.now seen now) mark.now }
+    {
+        if !is_of::<K>(mark, client, tx) {
+            return false;
+        }
+        match &mark.what {
+            What::Asked { oid, ask, at, .. } => {
+                oid.0 == object.0 && self.explains(ask, *at, place, object, part, seen, now)
+            }
+            _ => false,
+        }
+    }
+
+    // Whether one of the transaction's asks looked at what was changed.
+    fn has_reason(
+        &self,
+        client: u16,
+        tx: u32,
+        at: Pos,
+        oid: Oid,
+        part: &Part,
+        seen: u64,
+        now: u64,
+    ) -> bool
+        ensures { result ≡ list_any (of.meets (meaning_of K.Registry) client tx (rule.explains (meaning_of K.Registry) K.same_ops K.same_answers self.now.objects.now self.now.history.now self.now.trace.now at oid part.now seen now)) self.now.trace.now }
+    {
+        let trace = self.trace;
+        trace.iter().any(|mark| self.is_explained(mark, client, tx, at, oid, part, seen, now))
+    }
+
+    // Whether an aborted transaction isn't in the history, and one of its asks looked at what was changed.
+    #[tactic(auto, unfolding(crate::specs::Ruling::right_abort))]
+    fn is_right_abort(
+        &self,
+        client: u16,
+        tx: u32,
+        at: Pos,
+        oid: Oid,
+        part: &Part,
+        seen: u64,
+        now: u64,
+    ) -> bool
+        ensures { result ≡ rule.right_abort (meaning_of K.Registry) K.same_ops K.same_answers self.now.objects.now self.now.history.now self.now.trace.now client tx at oid part.now seen now }
+    {
+        if has_entry::<K>(self.history, client, tx) {
+            return false;
+        }
+        self.has_reason(client, tx, at, oid, part, seen, now)
+    }
+
+    fn is_right_fate(&self, at: Pos, fate: Option<bool>) -> bool
+        ensures { result ≡ rule.right_fate (meaning_of K.Registry) K.same_ops K.same_answers self.now.objects.now self.now.history.now self.now.trace.now at fate }
+    {
+        match fate {
+            None => true,
+            Some(true) => has_stamp::<K>(self.history, at),
+            Some(false) => !has_stamp::<K>(self.history, at),
+        }
+    }
+
+    // The clause that fails at an answer.
+    #[tactic(auto, unfolding(crate::specs::Ruling::answer_fault))]
+    fn asked_fault(
+        &self,
+        alloc: Global,
+        earlier: &[MarkOf<K>],
+        client: u16,
+        tx: u32,
+        oid: Oid,
+        ask: &K::Ask,
+        at: Pos,
+        ans: &K::Ans,
+    ) -> Result<Option<Clause>, NoMemory>
+        requires { of.IsRun (meaning_of K.Registry) self.now.objects.now self.now.trace.now self.now.points.now }
+        ensures { IfOk result (λ f. f ≡ rule.answer_fault (meaning_of K.Registry) K.same_ops K.same_answers self.now.objects.now self.now.history.now self.now.trace.now earlier.now client tx oid ask.now at ans.now) }
+    {
+        if !self.is_right_answer(alloc, earlier, client, tx, oid, ask, at, ans)? {
+            return Ok(Some(Clause::A));
+        }
+        Ok(failed(Clause::E, self.is_bounded(client, tx, at)))
+    }
+
+    fn commit_fault(
+        &self,
+        alloc: Global,
+        client: u16,
+        tx: u32,
+        at: Pos,
+    ) -> Result<Option<Clause>, NoMemory>
+        requires { of.IsRun (meaning_of K.Registry) self.now.objects.now self.now.trace.now self.now.points.now }
+        ensures { IfOk result (λ f. f ≡ of.failed clause.B (rule.right_commit (meaning_of K.Registry) K.same_ops K.same_answers self.now.objects.now self.now.history.now self.now.trace.now client tx at)) }
+    {
+        let right = self.is_right_commit(alloc, client, tx, at)?;
+        Ok(failed(Clause::B, right))
+    }
+
+    // The clause that fails where a command was refused.
+    fn refused_fault(&self, client: u16, tx: u32, why: Refusal) -> Option<Clause>
+        ensures { result ≡ rule.refused_fault (meaning_of K.Registry) K.same_ops K.same_answers self.now.objects.now self.now.history.now self.now.trace.now client tx why }
+    {
+        match why {
+            Refusal::Forgotten { at, .. } => {
+                failed(Clause::D, only_at::<K>(self.history, client, tx, at))
+            }
+            _ => None,
+        }
+    }
+
+    // The clause that fails at a reply of a transaction.
+    #[tactic(auto, unfolding(crate::specs::Ruling::transaction_fault))]
+    fn transaction_fault(
+        &self,
+        alloc: Global,
+        earlier: &[MarkOf<K>],
+        mark: &MarkOf<K>,
+    ) -> Result<Option<Clause>, NoMemory>
+        requires { of.IsRun (meaning_of K.Registry) self.now.objects.now self.now.trace.now self.now.points.now }
+        ensures { IfOk result (λ f. f ≡ rule.transaction_fault (meaning_of K.Registry) K.same_ops K.same_answers self.now.objects.now self.now.history.now self.now.trace.now earlier.now mark.now.client mark.now.tx mark.now.what) }
+    {
+        let client = mark.client;
+        let tx = mark.tx;
+        match &mark.what {
+            What::Asked { oid, ask, at, ans } => {
+                self.asked_fault(alloc, earlier, client, tx, *oid, ask, *at, ans)
+            }
+            What::Committed { at } => self.commit_fault(alloc, client, tx, *at),
+            What::Aborted {
+                at,
+                oid,
+                part,
+                seen,
+                now,
+            } => {
+                let right = self.is_right_abort(client, tx, *at, *oid, part, *seen, *now);
+                Ok(failed(Clause::C, right))
+            }
+            What::Unsure { at, .. } => {
+                let right = only_at::<K>(self.history, client, tx, *at);
+                Ok(failed(Clause::D, right))
+            }
+            What::Refused { why } => Ok(self.refused_fault(client, tx, *why)),
+            What::Dropped => {
+                let right = !has_entry::<K>(self.history, client, tx);
+                Ok(failed(Clause::D, right))
+            }
+            _ => Ok(None),
+        }
+    }
+
+    // The clause that fails at a reply.
+    #[tactic(auto, unfolding(crate::specs::Ruling::mark_fault))]
+    fn mark_fault(
+        &self,
+        alloc: Global,
+        earlier: &[MarkOf<K>],
+        mark: &MarkOf<K>,
+    ) -> Result<Option<Clause>, NoMemory>
+        requires { of.IsRun (meaning_of K.Registry) self.now.objects.now self.now.trace.now self.now.points.now }
+        ensures { IfOk result (λ f. f ≡ rule.mark_fault (meaning_of K.Registry) K.same_ops K.same_answers self.now.objects.now self.now.history.now self.now.trace.now earlier.now mark.now) }
+    {
+        match &mark.what {
+            What::Fate { at, yes } => Ok(failed(Clause::D, self.is_right_fate(*at, *yes))),
+            What::Decided { at, yes } => Ok(failed(Clause::D, self.is_right_fate(*at, *yes))),
+            _ => {
+                if mark.tx == 0 {
+                    return Ok(None);
+                }
+                self.transaction_fault(alloc, earlier, mark)
+            }
+        }
+    }
+
+    // Whether an entry is that of an ended transaction with its writes, the first one, and its answers hold there.
+    fn is_right_entry(
+        &self,
+        alloc: Global,
+        earlier: &[DoneOf<K>],
+        done: &DoneOf<K>,
+    ) -> Result<bool, NoMemory>
+        requires { of.IsRun (meaning_of K.Registry) self.now.objects.now self.now.trace.now self.now.points.now }
+        ensures { IfOk result (λ b. b ≡ rule.right_entry (meaning_of K.Registry) K.same_ops K.same_answers self.now.objects.now self.now.history.now self.now.trace.now earlier.now done.now) }
+    {
+        let client = done.client;
+        let tx = done.number;
+        if tx == 0 || !has_ended::<K>(self.trace, client, tx) {
+            return Ok(false);
+        }
+        if !are_puts::<K>(done.writes.as_slice(), self.trace, client, tx) {
+            return Ok(false);
+        }
+        if has_entry::<K>(earlier, client, tx) {
+            return Ok(false);
+        }
+        self.all_hold(alloc, client, tx, done.stamp)
+    }
+
+    // The clause that fails at an entry.
+    #[tactic(auto, unfolding(crate::specs::Ruling::done_fault))]
+    fn done_fault(
+        &self,
+        alloc: Global,
+        earlier: &[DoneOf<K>],
+        done: &DoneOf<K>,
+    ) -> Result<Option<Clause>, NoMemory>
+        requires { of.IsRun (meaning_of K.Registry) self.now.objects.now self.now.trace.now self.now.points.now }
+        ensures { IfOk result (λ f. f ≡ rule.done_fault (meaning_of K.Registry) K.same_ops K.same_answers self.now.objects.now self.now.history.now self.now.trace.now earlier.now done.now) }
+    {
+        if !self.is_right_entry(alloc, earlier, done)? {
+            return Ok(Some(Clause::D));
+        }
+        Ok(failed(
+            Clause::E,
+            self.is_bounded(done.client, done.number, done.stamp),
+        ))
+    }
+
+    // The first reply at which a clause fails.
+    fn in_trace(&self, alloc: Global) -> Result<Option<(usize, Clause)>, NoMemory>
+        requires { of.IsRun (meaning_of K.Registry) self.now.objects.now self.now.trace.now self.now.points.now }
+        ensures { IfOk result (λ f. f ≡ rule.in_trace (meaning_of K.Registry) K.same_ops K.same_answers self.now.objects.now self.now.history.now self.now.trace.now) }
+    {
+        let trace = self.trace;
+        for place in 0..trace.len() {
+            if let Some(clause) = self.mark_fault(alloc, &trace[..place], &trace[place])? {
+                return Ok(Some((place, clause)));
+            }
+        }
+        Ok(None)
+    }
+
+    // The first entry at which a clause fails.
+    fn in_history(&self, alloc: Global) -> Result<Option<(usize, Clause)>, NoMemory>
+        requires { of.IsRun (meaning_of K.Registry) self.now.objects.now self.now.trace.now self.now.points.now }
+        ensures { IfOk result (λ f. f ≡ rule.in_history (meaning_of K.Registry) K.same_ops K.same_answers self.now.objects.now self.now.history.now self.now.trace.now) }
+    {
+        let history = self.history;
+        for place in 0..history.len() {
+            if let Some(clause) = self.done_fault(alloc, &history[..place], &history[place])? {
+                return Ok(Some((place, clause)));
+            }
+        }
+        Ok(None)
+    }
+}
+
+// The verdict that names an item's line, where the first item has this one. A line past 64 bits is taken as want of
+// memory, which has no room for so many.
+fn illegal(first: u64, place: usize, clause: Clause) -> Result<Verdict, NoMemory>
+    ensures { IfOk result (λ v. v ≡ Illegal (first + place) clause) }
+{
+    match first.checked_add(place as u64) {
+        Some(line) => Ok(Verdict::Illegal { line, clause }),
+        None => Err(NoMemory),
+    }
+}
+
+impl<'a, K: Judged> Run<'a, K> {
+    // The verdict where no clause fails at a reply.
+    fn past_trace(&self, alloc: Global) -> Result<Verdict, NoMemory>
+        requires { of.IsRun (meaning_of K.Registry) self.now.objects.now self.now.trace.now self.now.points.now }
+        ensures { IfOk result (λ v. v ≡ rule.past_trace (meaning_of K.Registry) K.same_ops K.same_answers self.now.objects.now self.now.history.now self.now.trace.now) }
+    {
+        let Some((place, clause)) = self.in_history(alloc)? else {
+            return Ok(Verdict::Legal);
+        };
+        let Some(first) = (self.trace.len() as u64).checked_add(3) else {
+            return Err(NoMemory);
+        };
+        illegal(first, place, clause)
+    }
+
+    fn verdict(&self, alloc: Global) -> Result<Verdict, NoMemory>
+        requires { of.IsRun (meaning_of K.Registry) self.now.objects.now self.now.trace.now self.now.points.now }
+        ensures { IfOk result (λ v. v ≡ rule.verdict (meaning_of K.Registry) K.same_ops K.same_answers self.now.objects.now self.now.history.now self.now.trace.now) }
+    {
+        match self.in_trace(alloc)? {
+            Some((place, clause)) => illegal(2, place, clause),
+            None => self.past_trace(alloc),
+        }
+    }
+}
+
+// The verdict by the judge's tests of one reply or entry at a time.
+fn ruled<K: Judged>(
+    alloc: Global,
+    objects: &[Oid],
+    history: &[DoneOf<K>],
+    trace: &[MarkOf<K>],
+) -> Result<Verdict, NoMemory>
+    requires { is_header objects.now ≡ true }
+    ensures { IfOk result (λ v. v ≡ rule.verdict (meaning_of K.Registry) K.same_ops K.same_answers objects.now history.now trace.now) }
+{
+    let points = points::<K>(alloc, trace)?;
+    let run: Run<'_, K> = Run {
+        objects,
+        history,
+        trace,
+        points: points.as_slice(),
+    };
+    run.verdict(alloc)
+}
+
+/// The verdict on a run by the objects of its header, its committed transactions and its replies: legal, or the first
+/// line of its transcript at which a clause of a legal run fails, and the first such clause there. An `Err` is want of
+/// memory.
+///
+/// It goes over the replies once for each answer, outcome and entry, and plays the object of each answer anew.
+pub fn verdict_on<K: Judged>(
+    alloc: Global,
+    objects: &[Oid],
+    history: &[DoneOf<K>],
+    trace: &[MarkOf<K>],
+) -> Result<Verdict, NoMemory>
+    requires { is_header objects.now ≡ true }
+    ensures { IfOk result (λ v. v ≡ verdict_of (meaning_of K.Registry) K.same_ops K.same_answers objects.now history.now trace.now) }
+{
+    ruled::<K>(alloc, objects, history, trace)
+}
