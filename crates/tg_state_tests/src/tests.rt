@@ -15,11 +15,15 @@ const DIR: Oid = Oid(0);
 // The values are large, so want of memory ends a test at once, and what a step made of a client is told in numbers.
 
 /// One unit, and one sequencer.
-fn layout(alloc: Global) -> Projection {
+fn layout(rt: &HostRuntime, alloc: Global) -> Projection {
     let mut stripes = List::new(alloc);
-    stripes.push(Chain::of(&[0]).unwrap()).unwrap();
+    stripes
+        .push(Chain::of(&[0]).unwrap())
+        .expect(rt, "memory");
     let mut ranges = List::new(alloc);
-    ranges.push(Range { lo: 0, stripes }).unwrap();
+    ranges
+        .push(Range { lo: 0, stripes })
+        .expect(rt, "memory");
     Projection {
         epoch: 1,
         seq: 0,
@@ -31,9 +35,11 @@ fn layout(alloc: Global) -> Projection {
 }
 
 /// One unit, one layout server, one sequencer and one client, with no object but the directory.
-fn cluster(alloc: Global) -> Cluster {
+fn cluster(rt: &HostRuntime, alloc: Global) -> Cluster {
     let mut chains = List::new(alloc);
-    chains.push(Chain::of(&[0]).unwrap()).unwrap();
+    chains
+        .push(Chain::of(&[0]).unwrap())
+        .expect(rt, "memory");
     Cluster {
         units: 1,
         layouts: 1,
@@ -62,27 +68,27 @@ fn job(alloc: Global) -> Job<Directory> {
 }
 
 /// The directory alone.
-fn directory(alloc: Global) -> List<Oid> {
+fn directory(rt: &HostRuntime, alloc: Global) -> List<Oid> {
     let mut oids = List::new(alloc);
-    oids.push(DIR).unwrap();
+    oids.push(DIR).expect(rt, "memory");
     oids
 }
 
 /// A client that has taken no step yet, and whose next request number is 7.
-fn client(alloc: Global) -> State<Directory>
+fn client(rt: &HostRuntime, alloc: Global) -> State<Directory>
     ensures { result.rids.next ≡ 7 }
 {
     State {
         num: 2,
         layouts: 1,
-        objects: HeaderObjects::of(&cluster(alloc)).unwrap(),
+        objects: HeaderObjects::of(&cluster(rt, alloc)).expect(rt, "memory"),
         calls: 0,
         rids: Rids { next: 7 },
-        stand: layout(alloc),
+        stand: layout(rt, alloc),
         known: Known::new(alloc),
-        hosted: directory(alloc),
+        hosted: directory(rt, alloc),
         view: None,
-        dir: Directory::fresh(alloc, DIR, &[]).unwrap(),
+        dir: Directory::fresh(alloc, DIR, &[]).expect(rt, "memory"),
         tx: None,
         begun: 0,
         decisions: 0,
@@ -98,11 +104,11 @@ fn counts(moved: Moved<Directory>) -> (usize, usize, bool) {
 #[test]
 fn a_reply_has_one_note(rt: HostRuntime) -> Result<(), Fail> {
     let alloc = rt.alloc();
-    let refused = client(alloc).refuses(alloc, 3, Refusal::NoTx).unwrap();
+    let refused = client(&rt, alloc).refuses(alloc, 3, Refusal::NoTx).expect(&rt, "memory");
     assert_eq!(rt; counts(refused), (0, 1, false));
-    let answered = client(alloc)
+    let answered = client(&rt, alloc)
         .answers(alloc, 0, What::Trimmed { mark: 5 })
-        .unwrap();
+        .expect(&rt, "memory");
     assert_eq!(rt; counts(answered), (0, 1, false));
     Ok(())
 }
@@ -110,13 +116,13 @@ fn a_reply_has_one_note(rt: HostRuntime) -> Result<(), Fail> {
 #[test]
 fn a_machine_begins_with_a_request_for_each_server(rt: HostRuntime) -> Result<(), Fail> {
     let alloc = rt.alloc();
-    let synced = client(alloc)
-        .syncs(alloc, job(alloc), directory(alloc))
-        .unwrap();
+    let synced = client(&rt, alloc)
+        .syncs(alloc, job(alloc), directory(&rt, alloc))
+        .expect(&rt, "memory");
     assert_eq!(rt; counts(synced), (1, 0, true));
-    let trimmed = client(alloc).trims(alloc, job(alloc), 5).unwrap();
+    let trimmed = client(&rt, alloc).trims(alloc, job(alloc), 5).expect(&rt, "memory");
     assert_eq!(rt; counts(trimmed), (1, 0, true));
-    let nothing = client(alloc).trims(alloc, job(alloc), 0).unwrap();
+    let nothing = client(&rt, alloc).trims(alloc, job(alloc), 0).expect(&rt, "memory");
     assert_eq!(rt; counts(nothing), (0, 1, false));
     Ok(())
 }
