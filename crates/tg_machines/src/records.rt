@@ -1,0 +1,37 @@
+//! Records that were appended, and the pages that are known of them.
+
+ghost use Rattle.std.specs.Prelude.{◌≡◌, IfOk};
+ghost use Rattle.tg_base.specs.declared.cell.Cell.TheVariants.{Data};
+ghost use Rattle.tg_kind.specs.Of.{meaning_of};
+ghost use Rattle.tg_protocol.specs.Clients.{tx_number as number_of};
+ghost use Rattle.tg_known.specs.Known.{learnt, owned};
+
+use tg_base::{Blob, Cell, NoMemory, Pos};
+use tg_kind::Registry;
+use tg_state::State;
+
+/// The page of an append that has ended is known. An `Err` is want of memory.
+pub fn knows_page<K: Registry>(state: State<K>, pos: Pos, page: Blob) -> Result<State<K>, NoMemory>
+    ensures { IfOk result (λ s. s ≡ record state { known = learnt state.known pos (Data page) }) }
+{
+    let known = state.known.learn(pos, Cell::Data(page))?;
+    Ok(State { known, ..state })
+}
+
+/// Likewise, as one of the client's own records. An `Err` is want of memory.
+pub fn owns<K: Registry>(state: State<K>, pos: Pos, page: Blob) -> Result<State<K>, NoMemory>
+    ensures { IfOk result (λ s. s ≡ record state { known = owned state.known pos page }) }
+{
+    let known = state.known.own_record(pos, page)?;
+    Ok(State { known, ..state })
+}
+
+/// The number of the open transaction, and 0 where none is open. It takes no memory.
+pub fn tx_number<K: Registry>(state: &State<K>) -> u32
+    ensures { result ≡ number_of (meaning_of K.Registry) state.now.tx }
+{
+    match &state.tx {
+        None => 0,
+        Some(tx) => tx.number(),
+    }
+}
