@@ -1,6 +1,7 @@
 ghost use Rattle.std.specs.Prelude.{◌≡◌};
 
 use std::alloc::Global;
+use std::process::Abort;
 use std::test::Fail;
 use tg_base::{Chain, Cluster, List, Oid, Projection, Range, Rids};
 use tg_dir::Directory;
@@ -15,15 +16,11 @@ const DIR: Oid = Oid(0);
 // The values are large, so want of memory ends a test at once, and what a step made of a client is told in numbers.
 
 /// One unit, and one sequencer.
-fn layout(rt: &HostRuntime, alloc: Global) -> Projection {
+fn layout(rt: &impl Abort, alloc: Global) -> Projection {
     let mut stripes = List::new(alloc);
-    stripes
-        .push(Chain::of(&[0]).unwrap())
-        .expect(rt, "memory");
+    stripes.push(Chain::of(&[0]).unwrap()).expect(rt, "memory");
     let mut ranges = List::new(alloc);
-    ranges
-        .push(Range { lo: 0, stripes })
-        .expect(rt, "memory");
+    ranges.push(Range { lo: 0, stripes }).expect(rt, "memory");
     Projection {
         epoch: 1,
         seq: 0,
@@ -35,11 +32,9 @@ fn layout(rt: &HostRuntime, alloc: Global) -> Projection {
 }
 
 /// One unit, one layout server, one sequencer and one client, with no object but the directory.
-fn cluster(rt: &HostRuntime, alloc: Global) -> Cluster {
+fn cluster(rt: &impl Abort, alloc: Global) -> Cluster {
     let mut chains = List::new(alloc);
-    chains
-        .push(Chain::of(&[0]).unwrap())
-        .expect(rt, "memory");
+    chains.push(Chain::of(&[0]).unwrap()).expect(rt, "memory");
     Cluster {
         units: 1,
         layouts: 1,
@@ -68,14 +63,14 @@ fn job(alloc: Global) -> Job<Directory> {
 }
 
 /// The directory alone.
-fn directory(rt: &HostRuntime, alloc: Global) -> List<Oid> {
+fn directory(rt: &impl Abort, alloc: Global) -> List<Oid> {
     let mut oids = List::new(alloc);
     oids.push(DIR).expect(rt, "memory");
     oids
 }
 
 /// A client that has taken no step yet, and whose next request number is 7.
-fn client(rt: &HostRuntime, alloc: Global) -> State<Directory>
+fn client(rt: &impl Abort, alloc: Global) -> State<Directory>
     ensures { result.rids.next ≡ 7 }
 {
     State {
@@ -104,7 +99,9 @@ fn counts(moved: Moved<Directory>) -> (usize, usize, bool) {
 #[test]
 fn a_reply_has_one_note(rt: HostRuntime) -> Result<(), Fail> {
     let alloc = rt.alloc();
-    let refused = client(&rt, alloc).refuses(alloc, 3, Refusal::NoTx).expect(&rt, "memory");
+    let refused = client(&rt, alloc)
+        .refuses(alloc, 3, Refusal::NoTx)
+        .expect(&rt, "memory");
     assert_eq!(rt; counts(refused), (0, 1, false));
     let answered = client(&rt, alloc)
         .answers(alloc, 0, What::Trimmed { mark: 5 })
@@ -120,9 +117,13 @@ fn a_machine_begins_with_a_request_for_each_server(rt: HostRuntime) -> Result<()
         .syncs(alloc, job(alloc), directory(&rt, alloc))
         .expect(&rt, "memory");
     assert_eq!(rt; counts(synced), (1, 0, true));
-    let trimmed = client(&rt, alloc).trims(alloc, job(alloc), 5).expect(&rt, "memory");
+    let trimmed = client(&rt, alloc)
+        .trims(alloc, job(alloc), 5)
+        .expect(&rt, "memory");
     assert_eq!(rt; counts(trimmed), (1, 0, true));
-    let nothing = client(&rt, alloc).trims(alloc, job(alloc), 0).expect(&rt, "memory");
+    let nothing = client(&rt, alloc)
+        .trims(alloc, job(alloc), 0)
+        .expect(&rt, "memory");
     assert_eq!(rt; counts(nothing), (0, 1, false));
     Ok(())
 }
