@@ -1,4 +1,5 @@
 use std::alloc::Global;
+use std::process::Abort;
 use std::test::Fail;
 use tg_answers::walked;
 use tg_base::{
@@ -47,11 +48,11 @@ const ADDS: [u8; 64] = [
 // The values are large, so want of memory ends a test at once, and what a step made of a client is told in a few words.
 
 /// One unit, and one sequencer.
-fn layout(alloc: Global) -> Projection {
+fn layout(rt: &impl Abort, alloc: Global) -> Projection {
     let mut stripes = List::new(alloc);
-    stripes.push(Chain::of(&[0]).unwrap()).unwrap();
+    stripes.push(Chain::of(&[0]).unwrap()).expect(rt, "memory");
     let mut ranges = List::new(alloc);
-    ranges.push(Range { lo: 0, stripes }).unwrap();
+    ranges.push(Range { lo: 0, stripes }).expect(rt, "memory");
     Projection {
         epoch: 1,
         seq: 0,
@@ -63,9 +64,9 @@ fn layout(alloc: Global) -> Projection {
 }
 
 /// One unit, one layout server, one sequencer and one client, with no object but the directory.
-fn cluster(alloc: Global) -> Cluster {
+fn cluster(rt: &impl Abort, alloc: Global) -> Cluster {
     let mut chains = List::new(alloc);
-    chains.push(Chain::of(&[0]).unwrap()).unwrap();
+    chains.push(Chain::of(&[0]).unwrap()).expect(rt, "memory");
     Cluster {
         units: 1,
         layouts: 1,
@@ -78,33 +79,38 @@ fn cluster(alloc: Global) -> Cluster {
 }
 
 /// The directory alone.
-fn directory(alloc: Global) -> List<Oid> {
+fn directory(rt: &impl Abort, alloc: Global) -> List<Oid> {
     let mut oids = List::new(alloc);
-    oids.push(DIR).unwrap();
+    oids.push(DIR).expect(rt, "memory");
     oids
 }
 
 /// A view of the directory, which has played nothing.
-fn view(alloc: Global) -> View<Directory> {
-    let base = fresh_base(alloc, DIR, &[]).unwrap();
+fn view(rt: &impl Abort, alloc: Global) -> View<Directory> {
+    let base = fresh_base(alloc, DIR, &[]).expect(rt, "memory");
     let mut bases = List::new(alloc);
-    bases.push(base).unwrap();
-    View::start(alloc, bases).unwrap()
+    bases.push(base).expect(rt, "memory");
+    View::start(alloc, bases).expect(rt, "memory")
 }
 
 /// A client with such a view, with this transaction open, and which knows this of the log.
-fn client_with(alloc: Global, known: Known, tx: Option<Tx<Directory>>) -> State<Directory> {
+fn client_with(
+    rt: &impl Abort,
+    alloc: Global,
+    known: Known,
+    tx: Option<Tx<Directory>>,
+) -> State<Directory> {
     State {
         num: 2,
         layouts: 1,
-        objects: HeaderObjects::of(&cluster(alloc)).unwrap(),
+        objects: HeaderObjects::of(&cluster(rt, alloc)).expect(rt, "memory"),
         calls: 0,
         rids: Rids { next: 7 },
-        stand: layout(alloc),
+        stand: layout(rt, alloc),
         known,
-        hosted: directory(alloc),
-        view: Some(view(alloc)),
-        dir: Directory::fresh(alloc, DIR, &[]).unwrap(),
+        hosted: directory(rt, alloc),
+        view: Some(view(rt, alloc)),
+        dir: Directory::fresh(alloc, DIR, &[]).expect(rt, "memory"),
         tx,
         begun: 1,
         decisions: 0,
@@ -113,33 +119,40 @@ fn client_with(alloc: Global, known: Known, tx: Option<Tx<Directory>>) -> State<
 }
 
 /// A client that knows nothing of the log, with no transaction open.
-fn client(alloc: Global) -> State<Directory> {
-    client_with(alloc, Known::new(alloc), None)
+fn client(rt: &impl Abort, alloc: Global) -> State<Directory> {
+    client_with(rt, alloc, Known::new(alloc), None)
 }
 
 /// A client that knows nothing of the log, in its first transaction.
-fn client_in_tx(alloc: Global) -> State<Directory> {
-    client_with(alloc, Known::new(alloc), Some(Tx::open(alloc, 1)))
+fn client_in_tx(rt: &impl Abort, alloc: Global) -> State<Directory> {
+    client_with(rt, alloc, Known::new(alloc), Some(Tx::open(alloc, 1)))
 }
 
 /// A page of the counter's stream.
-fn page(alloc: Global) -> Blob {
+fn page(rt: &impl Abort, alloc: Global) -> Blob {
     let mut bytes = List::new(alloc);
-    bytes.extend(&ADDS).unwrap();
-    Blob::new(bytes).unwrap()
+    bytes.extend(&ADDS).expect(rt, "memory");
+    Blob::new(bytes).expect(rt, "a page")
 }
 
 /// A client that has itself written the record at 1.
-fn client_with_record(alloc: Global) -> State<Directory> {
-    let known = Known::new(alloc).own_record(1, page(alloc)).unwrap();
-    client_with(alloc, known, None)
+fn client_with_record(rt: &impl Abort, alloc: Global) -> State<Directory> {
+    let known = Known::new(alloc)
+        .own_record(1, page(rt, alloc))
+        .expect(rt, "memory");
+    client_with(rt, alloc, known, None)
 }
 
 /// A command whose streams are walked up to the tail 3; a walk of the counter's stream met a trim at 2.
-fn job(alloc: Global, command: CommandOf<Directory>, trimmed: bool) -> Job<Directory> {
+fn job(
+    rt: &impl Abort,
+    alloc: Global,
+    command: CommandOf<Directory>,
+    trimmed: bool,
+) -> Job<Directory> {
     let mut trims = List::new(alloc);
     if trimmed {
-        trims.push((COUNTER, 2)).unwrap();
+        trims.push((COUNTER, 2)).expect(rt, "memory");
     }
     Job {
         command,
@@ -147,7 +160,7 @@ fn job(alloc: Global, command: CommandOf<Directory>, trimmed: bool) -> Job<Direc
         gone_before: 0,
         tail: 3,
         lasts: List::new(alloc),
-        oids: directory(alloc),
+        oids: directory(rt, alloc),
         lo: 0,
         found: StreamPositions::new(alloc),
         trims,
@@ -156,8 +169,8 @@ fn job(alloc: Global, command: CommandOf<Directory>, trimmed: bool) -> Job<Direc
 }
 
 /// Likewise, where no walk met a trim.
-fn walk(alloc: Global, command: CommandOf<Directory>) -> Job<Directory> {
-    job(alloc, command, false)
+fn walk(rt: &impl Abort, alloc: Global, command: CommandOf<Directory>) -> Job<Directory> {
+    job(rt, alloc, command, false)
 }
 
 /// What is told of a step, in a few words.
@@ -210,7 +223,9 @@ fn first(notes: &[NoteOf<Directory>]) -> Told {
 }
 
 /// How many packets are sent, how many notes are told, the first of them, and whether the command waits.
-fn seen(moved: Moved<Directory>) -> (usize, usize, Told, bool) {
+type Seen = (usize, usize, Told, bool);
+
+fn seen(moved: Moved<Directory>) -> Seen {
     let told = first(moved.notes.as_slice());
     (
         moved.sends.len(),
@@ -221,20 +236,20 @@ fn seen(moved: Moved<Directory>) -> (usize, usize, Told, bool) {
 }
 
 /// A reply of one note.
-fn reply(told: Told) -> (usize, usize, Told, bool) {
+fn reply(told: Told) -> Seen {
     (0, 1, told, false)
 }
 
 /// A refusal.
-fn refusal(why: Refusal) -> (usize, usize, Told, bool) {
+fn refusal(why: Refusal) -> Seen {
     reply(Told::Refused(why))
 }
 
 /// A command that waits for a server's answer.
-const WAITS: (usize, usize, Told, bool) = (1, 0, Told::Nothing, true);
+const WAITS: Seen = (1, 0, Told::Nothing, true);
 
 /// The record that reads the directory as it was at first and writes this object, in this object's stream.
-fn record(alloc: Global, oid: Oid) -> Entry {
+fn record(rt: &impl Abort, alloc: Global, oid: Oid) -> Entry {
     let mut reads = List::new(alloc);
     reads
         .push(ReadMark {
@@ -242,20 +257,20 @@ fn record(alloc: Global, oid: Oid) -> Entry {
             part: Part::All,
             version: 0,
         })
-        .unwrap();
+        .expect(rt, "memory");
     let mut bytes = List::new(alloc);
-    bytes.push(1).unwrap();
-    let op = Blob::new(bytes).unwrap();
+    bytes.push(1).expect(rt, "memory");
+    let op = Blob::new(bytes).expect(rt, "a page");
     let mut writes = List::new(alloc);
-    writes.push(WriteOp { oid, op }).unwrap();
-    entry_in(alloc, oid, Body::Commit { reads, writes })
+    writes.push(WriteOp { oid, op }).expect(rt, "memory");
+    entry_in(rt, alloc, oid, Body::Commit { reads, writes })
 }
 
 /// An entry in an object's stream.
-fn entry_in(alloc: Global, oid: Oid, body: Body) -> Entry {
+fn entry_in(rt: &impl Abort, alloc: Global, oid: Oid, body: Body) -> Entry {
     let backs = Backs::of(&[]).unwrap();
     let mut streams = List::new(alloc);
-    streams.push(StreamLink { oid, backs }).unwrap();
+    streams.push(StreamLink { oid, backs }).expect(rt, "memory");
     let head = Head {
         format: 2,
         client: 2,
@@ -266,15 +281,15 @@ fn entry_in(alloc: Global, oid: Oid, body: Body) -> Entry {
 }
 
 /// Such a record at 1.
-fn entries(alloc: Global, oid: Oid) -> Entries {
+fn entries(rt: &impl Abort, alloc: Global, oid: Oid) -> Entries {
     let mut entries = Entries::new(alloc);
-    entries.push(1, record(alloc, oid)).unwrap();
+    entries.push(1, record(rt, alloc, oid)).expect(rt, "memory");
     entries
 }
 
 /// What the directory as a view has it answers to an ask of its floor, with the version of the part that it looked at.
-fn answer(alloc: Global, oid: Oid) -> Option<(Option<Pos>, u64)> {
-    match answer_of(&view(alloc), alloc, oid, &DirectoryAsk::Floor).unwrap() {
+fn answer(rt: &impl Abort, alloc: Global, oid: Oid) -> Option<(Option<Pos>, u64)> {
+    match answer_of(&view(rt, alloc), alloc, oid, &DirectoryAsk::Floor).expect(rt, "memory") {
         None => None,
         Some(answer) => Some((floor_in(&answer.ans), answer.version)),
     }
@@ -283,64 +298,57 @@ fn answer(alloc: Global, oid: Oid) -> Option<(Option<Pos>, u64)> {
 #[test]
 fn a_view_answers_of_what_it_hosts(rt: HostRuntime) -> Result<(), Fail> {
     let alloc = rt.alloc();
-    assert_eq!(rt; answer(alloc, DIR), Some((Some(0), 0)));
-    assert_eq!(rt; answer(alloc, COUNTER), None);
+    assert_eq!(rt; answer(&rt, alloc, DIR), Some((Some(0), 0)));
+    assert_eq!(rt; answer(&rt, alloc, COUNTER), None);
     Ok(())
 }
 
 /// What comes of an ask of the floor of an object.
-fn asks(
-    alloc: Global,
-    state: State<Directory>,
-    oid: Oid,
-    came: PlayEnd,
-) -> (usize, usize, Told, bool) {
-    seen(on_ask(state, alloc, 3, oid, DirectoryAsk::Floor, came).unwrap())
+fn asks(rt: &impl Abort, alloc: Global, state: State<Directory>, oid: Oid, came: PlayEnd) -> Seen {
+    seen(on_ask(state, alloc, 3, oid, DirectoryAsk::Floor, came).expect(rt, "memory"))
 }
 
 #[test]
 fn an_ask_is_answered_in_a_transaction(rt: HostRuntime) -> Result<(), Fail> {
     let alloc = rt.alloc();
-    let answered = asks(alloc, client_in_tx(alloc), DIR, PLAYED);
+    let answered = asks(&rt, alloc, client_in_tx(&rt, alloc), DIR, PLAYED);
     assert_eq!(rt; answered, reply(Told::Floor(0)));
-    let elsewhere = asks(alloc, client_in_tx(alloc), COUNTER, PLAYED);
+    let elsewhere = asks(&rt, alloc, client_in_tx(&rt, alloc), COUNTER, PLAYED);
     assert_eq!(rt; elsewhere, refusal(Refusal::NotHosted { oid: COUNTER }));
-    let outside = asks(alloc, client(alloc), DIR, PLAYED);
+    let outside = asks(&rt, alloc, client(&rt, alloc), DIR, PLAYED);
     assert_eq!(rt; outside, refusal(Refusal::NoTx));
-    let blocked = asks(alloc, client_in_tx(alloc), DIR, BLOCKED);
+    let blocked = asks(&rt, alloc, client_in_tx(&rt, alloc), DIR, BLOCKED);
     assert_eq!(rt; blocked, refusal(UNDECIDED));
     Ok(())
 }
 
 /// What the end of a transaction comes to over these entries.
-fn ends(alloc: Global, entries: &Entries, came: PlayEnd) -> (usize, usize, Told, bool) {
-    let job = walk(alloc, Command::End);
-    seen(on_end(client_in_tx(alloc), alloc, job, entries, came).unwrap())
+fn ends(rt: &impl Abort, alloc: Global, entries: &Entries, came: PlayEnd) -> Seen {
+    let job = walk(rt, alloc, Command::End);
+    seen(on_end(client_in_tx(rt, alloc), alloc, job, entries, came).expect(rt, "memory"))
 }
 
 #[test]
 fn a_transaction_ends(rt: HostRuntime) -> Result<(), Fail> {
     let alloc = rt.alloc();
-    let absent = ends(alloc, &Entries::new(alloc), PLAYED);
+    let absent = ends(&rt, alloc, &Entries::new(alloc), PLAYED);
     assert_eq!(rt; absent, reply(Told::Unsure(1, 1)));
-    let blocked = ends(alloc, &entries(alloc, DIR), BLOCKED);
+    let blocked = ends(&rt, alloc, &entries(&rt, alloc, DIR), BLOCKED);
     assert_eq!(rt; blocked, reply(Told::Unsure(1, 1)));
-    let committed = ends(alloc, &entries(alloc, DIR), PLAYED);
+    let committed = ends(&rt, alloc, &entries(&rt, alloc, DIR), PLAYED);
     assert_eq!(rt; committed, reply(Told::Committed(1)));
     // The record reads one object and writes another, so that its decision is written first.
-    assert_eq!(rt; ends(alloc, &entries(alloc, COUNTER), PLAYED), WAITS);
+    assert_eq!(rt;
+        ends(&rt, alloc, &entries(&rt, alloc, COUNTER), PLAYED),
+        WAITS
+    );
     Ok(())
 }
 
 /// What is told of the fate of the record at 1 over these entries.
-fn fate(
-    alloc: Global,
-    entries: &Entries,
-    trimmed: bool,
-    came: PlayEnd,
-) -> (usize, usize, Told, bool) {
-    let job = job(alloc, Command::Fate { at: 1 }, trimmed);
-    seen(on_fate(client(alloc), alloc, job, entries, 1, came).unwrap())
+fn fate(rt: &impl Abort, alloc: Global, entries: &Entries, trimmed: bool, came: PlayEnd) -> Seen {
+    let job = job(rt, alloc, Command::Fate { at: 1 }, trimmed);
+    seen(on_fate(client(rt, alloc), alloc, job, entries, 1, came).expect(rt, "memory"))
 }
 
 #[test]
@@ -348,33 +356,34 @@ fn the_fate_of_a_record_is_told(rt: HostRuntime) -> Result<(), Fail> {
     let alloc = rt.alloc();
     let none = Entries::new(alloc);
     assert_eq!(rt;
-        fate(alloc, &none, false, PLAYED),
+        fate(&rt, alloc, &none, false, PLAYED),
         reply(Told::Fate(1, None))
     );
     assert_eq!(rt;
-        fate(alloc, &none, false, BLOCKED),
+        fate(&rt, alloc, &none, false, BLOCKED),
         reply(Told::Fate(1, None))
     );
     let forgotten = Refusal::Forgotten { at: 1, below: 2 };
-    assert_eq!(rt; fate(alloc, &none, true, PLAYED), refusal(forgotten));
-    let some = entries(alloc, DIR);
+    assert_eq!(rt; fate(&rt, alloc, &none, true, PLAYED), refusal(forgotten));
+    let some = entries(&rt, alloc, DIR);
     assert_eq!(rt;
-        fate(alloc, &some, false, PLAYED),
+        fate(&rt, alloc, &some, false, PLAYED),
         reply(Told::Fate(1, Some(true)))
     );
-    assert_eq!(rt; fate(alloc, &some, false, BLOCKED), refusal(UNDECIDED));
+    assert_eq!(rt; fate(&rt, alloc, &some, false, BLOCKED), refusal(UNDECIDED));
     Ok(())
 }
 
 /// What the decision of the record at 1 comes to over these entries.
 fn decides(
+    rt: &impl Abort,
     alloc: Global,
     entries: &Entries,
     trimmed: bool,
     came: PlayEnd,
-) -> (usize, usize, Told, bool) {
-    let job = job(alloc, Command::Decide { at: 1 }, trimmed);
-    seen(on_decide(client(alloc), alloc, job, entries, 1, came).unwrap())
+) -> Seen {
+    let job = job(rt, alloc, Command::Decide { at: 1 }, trimmed);
+    seen(on_decide(client(rt, alloc), alloc, job, entries, 1, came).expect(rt, "memory"))
 }
 
 #[test]
@@ -382,145 +391,173 @@ fn a_record_is_decided(rt: HostRuntime) -> Result<(), Fail> {
     let alloc = rt.alloc();
     let none = Entries::new(alloc);
     assert_eq!(rt;
-        decides(alloc, &none, false, PLAYED),
+        decides(&rt, alloc, &none, false, PLAYED),
         reply(Told::Decided(1, None))
     );
     let forgotten = Refusal::Forgotten { at: 1, below: 2 };
-    assert_eq!(rt; decides(alloc, &none, true, PLAYED), refusal(forgotten));
-    let own = entries(alloc, DIR);
     assert_eq!(rt;
-        decides(alloc, &own, false, PLAYED),
+        decides(&rt, alloc, &none, true, PLAYED),
+        refusal(forgotten)
+    );
+    let own = entries(&rt, alloc, DIR);
+    assert_eq!(rt;
+        decides(&rt, alloc, &own, false, PLAYED),
         reply(Told::Decided(1, Some(true)))
     );
-    assert_eq!(rt; decides(alloc, &own, false, BLOCKED), refusal(UNDECIDED));
     assert_eq!(rt;
-        decides(alloc, &entries(alloc, COUNTER), false, PLAYED),
+        decides(&rt, alloc, &own, false, BLOCKED),
+        refusal(UNDECIDED)
+    );
+    assert_eq!(rt;
+        decides(&rt, alloc, &entries(&rt, alloc, COUNTER), false, PLAYED),
         WAITS
     );
     Ok(())
 }
 
 /// What a checkpoint of the directory comes to.
-fn checkpoints(alloc: Global, came: PlayEnd) -> (usize, usize, Told, bool) {
-    let job = walk(alloc, Command::Checkpoint { oid: DIR });
-    seen(on_checkpoint(client(alloc), alloc, job, DIR, came).unwrap())
+fn checkpoints(rt: &impl Abort, alloc: Global, came: PlayEnd) -> Seen {
+    let job = walk(rt, alloc, Command::Checkpoint { oid: DIR });
+    seen(on_checkpoint(client(rt, alloc), alloc, job, DIR, came).expect(rt, "memory"))
 }
 
 #[test]
 fn a_checkpoint_is_appended(rt: HostRuntime) -> Result<(), Fail> {
     let alloc = rt.alloc();
-    assert_eq!(rt; checkpoints(alloc, PLAYED), WAITS);
-    assert_eq!(rt; checkpoints(alloc, BLOCKED), refusal(UNDECIDED));
+    assert_eq!(rt; checkpoints(&rt, alloc, PLAYED), WAITS);
+    assert_eq!(rt; checkpoints(&rt, alloc, BLOCKED), refusal(UNDECIDED));
     Ok(())
 }
 
 /// The bytes of a directory at first.
-fn saved(alloc: Global) -> List<u8> {
+fn saved(rt: &impl Abort, alloc: Global) -> List<u8> {
     Directory::fresh(alloc, DIR, &[])
-        .unwrap()
+        .expect(rt, "memory")
         .save(alloc)
-        .unwrap()
+        .expect(rt, "memory")
 }
 
 /// A checkpoint of the directory below 2, at 2.
-fn saves(alloc: Global) -> Entries {
+fn saves(rt: &impl Abort, alloc: Global) -> Entries {
     let body = Body::Checkpoint {
         oid: DIR,
         upto: 2,
         version: 0,
         whole: 0,
         keys: List::new(alloc),
-        state: saved(alloc),
+        state: saved(rt, alloc),
     };
     let mut entries = Entries::new(alloc);
-    entries.push(2, entry_in(alloc, DIR, body)).unwrap();
+    entries
+        .push(2, entry_in(rt, alloc, DIR, body))
+        .expect(rt, "memory");
     entries
 }
 
 /// What it comes to that the directory is forgotten below 2, over these entries.
-fn forgets(alloc: Global, entries: &Entries, came: PlayEnd) -> (usize, usize, Told, bool) {
-    let job = walk(alloc, Command::Forget { oid: DIR, mark: 2 });
-    seen(on_forget(client(alloc), alloc, job, entries, DIR, 2, came).unwrap())
+fn forgets(rt: &impl Abort, alloc: Global, entries: &Entries, came: PlayEnd) -> Seen {
+    let job = walk(rt, alloc, Command::Forget { oid: DIR, mark: 2 });
+    seen(on_forget(client(rt, alloc), alloc, job, entries, DIR, 2, came).expect(rt, "memory"))
 }
 
 #[test]
 fn a_mark_is_appended(rt: HostRuntime) -> Result<(), Fail> {
     let alloc = rt.alloc();
-    let some = saves(alloc);
-    assert_eq!(rt; forgets(alloc, &some, PLAYED), (1, 3, Told::Begin, true));
-    assert_eq!(rt; forgets(alloc, &some, BLOCKED), refusal(UNDECIDED));
-    let unsaved = forgets(alloc, &Entries::new(alloc), PLAYED);
+    let some = saves(&rt, alloc);
+    assert_eq!(rt;
+        forgets(&rt, alloc, &some, PLAYED),
+        (1, 3, Told::Begin, true)
+    );
+    assert_eq!(rt; forgets(&rt, alloc, &some, BLOCKED), refusal(UNDECIDED));
+    let unsaved = forgets(&rt, alloc, &Entries::new(alloc), PLAYED);
     assert_eq!(rt; unsaved, refusal(Refusal::NoCheckpoint { oid: DIR }));
     Ok(())
 }
 
 /// What a trim comes to.
-fn trims(alloc: Global, came: PlayEnd) -> (usize, usize, Told, bool) {
-    seen(on_trim(client(alloc), alloc, walk(alloc, Command::Trim), came).unwrap())
+fn trims(rt: &impl Abort, alloc: Global, came: PlayEnd) -> Seen {
+    seen(on_trim(
+        client(rt, alloc),
+        alloc,
+        walk(rt, alloc, Command::Trim),
+        came,
+    )
+    .expect(rt, "memory"))
 }
 
 #[test]
 fn nothing_is_trimmed_without_marks(rt: HostRuntime) -> Result<(), Fail> {
     let alloc = rt.alloc();
-    assert_eq!(rt; trims(alloc, PLAYED), reply(Told::Trimmed(0)));
-    assert_eq!(rt; trims(alloc, BLOCKED), refusal(UNDECIDED));
+    assert_eq!(rt; trims(&rt, alloc, PLAYED), reply(Told::Trimmed(0)));
+    assert_eq!(rt; trims(&rt, alloc, BLOCKED), refusal(UNDECIDED));
     Ok(())
 }
 
 /// What an ask of an object's floor at a past position comes to.
-fn asks_at(alloc: Global, at: Pos, oid: Oid) -> (usize, usize, Told, bool) {
+fn asks_at(rt: &impl Abort, alloc: Global, at: Pos, oid: Oid) -> Seen {
     let ask = DirectoryAsk::Floor;
-    let job = walk(alloc, Command::AskAt { at, oid, ask });
+    let job = walk(rt, alloc, Command::AskAt { at, oid, ask });
     let ask = DirectoryAsk::Floor;
-    seen(on_ask_at(client(alloc), alloc, job, at, oid, ask).unwrap())
+    seen(on_ask_at(client(rt, alloc), alloc, job, at, oid, ask).expect(rt, "memory"))
 }
 
 #[test]
 fn an_object_is_asked_as_it_stood(rt: HostRuntime) -> Result<(), Fail> {
     let alloc = rt.alloc();
-    assert_eq!(rt; asks_at(alloc, 3, DIR), reply(Told::PastFloor(0)));
+    assert_eq!(rt; asks_at(&rt, alloc, 3, DIR), reply(Told::PastFloor(0)));
     let ahead = refusal(Refusal::Ahead { tail: 3 });
-    assert_eq!(rt; asks_at(alloc, 4, DIR), ahead);
+    assert_eq!(rt; asks_at(&rt, alloc, 4, DIR), ahead);
     Ok(())
 }
 
 /// What a rescue of the record at 1 comes to.
-fn rescues(alloc: Global, state: State<Directory>, trimmed: bool) -> (usize, usize, Told, bool) {
-    let job = job(alloc, Command::Rescue { at: 1 }, trimmed);
-    seen(on_rescue(state, alloc, job, 1).unwrap())
+fn rescues(rt: &impl Abort, alloc: Global, state: State<Directory>, trimmed: bool) -> Seen {
+    let job = job(rt, alloc, Command::Rescue { at: 1 }, trimmed);
+    seen(on_rescue(state, alloc, job, 1).expect(rt, "memory"))
 }
 
 #[test]
 fn a_record_is_rescued(rt: HostRuntime) -> Result<(), Fail> {
     let alloc = rt.alloc();
-    let none = rescues(alloc, client(alloc), false);
+    let none = rescues(&rt, alloc, client(&rt, alloc), false);
     assert_eq!(rt; none, reply(Told::Rescued(1, None)));
-    let forgotten = rescues(alloc, client(alloc), true);
+    let forgotten = rescues(&rt, alloc, client(&rt, alloc), true);
     assert_eq!(rt; forgotten, refusal(Refusal::Forgotten { at: 1, below: 2 }));
-    let own = rescues(alloc, client_with_record(alloc), false);
+    let own = rescues(&rt, alloc, client_with_record(&rt, alloc), false);
     assert_eq!(rt; own, reply(Told::Rescued(1, Some(true))));
     Ok(())
 }
 
 /// What a command comes to, once its streams are walked.
 fn after_walks(
+    rt: &impl Abort,
     alloc: Global,
     state: State<Directory>,
     command: CommandOf<Directory>,
-) -> (usize, usize, Told, bool) {
-    seen(walked(state, alloc, walk(alloc, command)).unwrap())
+) -> Seen {
+    seen(walked(state, alloc, walk(rt, alloc, command)).expect(rt, "memory"))
 }
 
 #[test]
 fn a_command_is_answered_once_its_streams_are_walked(rt: HostRuntime) -> Result<(), Fail> {
     let alloc = rt.alloc();
-    let trimmed = after_walks(alloc, client(alloc), Command::Trim);
+    let trimmed = after_walks(&rt, alloc, client(&rt, alloc), Command::Trim);
     assert_eq!(rt; trimmed, reply(Told::Trimmed(0)));
-    let fate = after_walks(alloc, client(alloc), Command::Fate { at: 1 });
+    let fate = after_walks(&rt, alloc, client(&rt, alloc), Command::Fate { at: 1 });
     assert_eq!(rt; fate, reply(Told::Fate(1, None)));
-    let own = after_walks(alloc, client_with_record(alloc), Command::Fate { at: 1 });
+    let own = after_walks(
+        &rt,
+        alloc,
+        client_with_record(&rt, alloc),
+        Command::Fate { at: 1 },
+    );
     assert_eq!(rt; own, reply(Told::Fate(1, Some(true))));
-    let saved = after_walks(alloc, client(alloc), Command::Checkpoint { oid: DIR });
+    let saved = after_walks(
+        &rt,
+        alloc,
+        client(&rt, alloc),
+        Command::Checkpoint { oid: DIR },
+    );
     assert_eq!(rt; saved, WAITS);
     Ok(())
 }
@@ -529,14 +566,24 @@ fn a_command_is_answered_once_its_streams_are_walked(rt: HostRuntime) -> Result<
 fn asks_and_records_are_answered_once_streams_are_walked(rt: HostRuntime) -> Result<(), Fail> {
     let alloc = rt.alloc();
     let (oid, ask) = (DIR, DirectoryAsk::Floor);
-    let asked = after_walks(alloc, client_in_tx(alloc), Command::Ask { oid, ask });
+    let asked = after_walks(
+        &rt,
+        alloc,
+        client_in_tx(&rt, alloc),
+        Command::Ask { oid, ask },
+    );
     assert_eq!(rt; asked, reply(Told::Floor(0)));
-    let ended = after_walks(alloc, client_in_tx(alloc), Command::End);
+    let ended = after_walks(&rt, alloc, client_in_tx(&rt, alloc), Command::End);
     assert_eq!(rt; ended, reply(Told::Unsure(1, 1)));
     let (at, ask) = (2, DirectoryAsk::Floor);
-    let past = after_walks(alloc, client(alloc), Command::AskAt { at, oid, ask });
+    let past = after_walks(
+        &rt,
+        alloc,
+        client(&rt, alloc),
+        Command::AskAt { at, oid, ask },
+    );
     assert_eq!(rt; past, reply(Told::PastFloor(0)));
-    let rescued = after_walks(alloc, client(alloc), Command::Rescue { at: 1 });
+    let rescued = after_walks(&rt, alloc, client(&rt, alloc), Command::Rescue { at: 1 });
     assert_eq!(rt; rescued, reply(Told::Rescued(1, None)));
     Ok(())
 }
@@ -545,7 +592,13 @@ fn asks_and_records_are_answered_once_streams_are_walked(rt: HostRuntime) -> Res
 fn layout_servers_are_asked_for_a_newer_layout(rt: HostRuntime) -> Result<(), Fail> {
     let alloc = rt.alloc();
     let paused = Paused::Trim { below: 2 };
-    let learning = learns(client(alloc), alloc, walk(alloc, Command::Trim), paused).unwrap();
+    let learning = learns(
+        client(&rt, alloc),
+        alloc,
+        walk(&rt, alloc, Command::Trim),
+        paused,
+    )
+    .expect(&rt, "memory");
     assert_eq!(rt; seen(learning), WAITS);
     Ok(())
 }
@@ -553,10 +606,10 @@ fn layout_servers_are_asked_for_a_newer_layout(rt: HostRuntime) -> Result<(), Fa
 #[test]
 fn a_record_is_appended(rt: HostRuntime) -> Result<(), Fail> {
     let alloc = rt.alloc();
-    let draft = Draft::new(record(alloc, DIR));
-    let (job, none) = (walk(alloc, Command::End), List::new(alloc));
-    let appending = client(alloc).appends(alloc, job, draft, Purpose::Writes, none);
-    assert_eq!(rt; seen(appending.unwrap()), WAITS);
+    let draft = Draft::new(record(&rt, alloc, DIR));
+    let (job, none) = (walk(&rt, alloc, Command::End), List::new(alloc));
+    let appending = client(&rt, alloc).appends(alloc, job, draft, Purpose::Writes, none);
+    assert_eq!(rt; seen(appending.expect(&rt, "memory")), WAITS);
     Ok(())
 }
 
@@ -571,16 +624,18 @@ fn decision_in(entry: &Entry) -> Option<(u32, Oid, Pos, bool)> {
 #[test]
 fn a_decision_record_is_appended(rt: HostRuntime) -> Result<(), Fail> {
     let alloc = rt.alloc();
-    let of = record(alloc, COUNTER);
-    let draft = client(alloc).decision(alloc, &of, 1, true).unwrap();
+    let of = record(&rt, alloc, COUNTER);
+    let draft = client(&rt, alloc)
+        .decision(alloc, &of, 1, true)
+        .expect(&rt, "memory");
     assert_eq!(rt; decision_in(draft.entry()), Some((1, COUNTER, 1, true)));
     let yes = Some(true);
     let answer = What::Decided { at: 1, yes };
     let (job, purpose) = (
-        walk(alloc, Command::Decide { at: 1 }),
+        walk(&rt, alloc, Command::Decide { at: 1 }),
         Purpose::Decides { answer },
     );
-    let deciding = client(alloc).decides(alloc, job, &of, 1, true, purpose);
-    assert_eq!(rt; seen(deciding.unwrap()), WAITS);
+    let deciding = client(&rt, alloc).decides(alloc, job, &of, 1, true, purpose);
+    assert_eq!(rt; seen(deciding.expect(&rt, "memory")), WAITS);
     Ok(())
 }
