@@ -8,7 +8,7 @@ use tg_base::{
 };
 use tg_ckpt::fresh_base;
 use tg_dir::{Directory, DirectoryAns, DirectoryAsk};
-use tg_entry::{Body, Draft, Entries, Entry, Head, WriteOp};
+use tg_entry::{Body, Entries, Entry, Head, WriteOp};
 use tg_fates::{answer_of, on_ask, on_decide, on_end, on_fate};
 use tg_kind::Kind;
 use tg_known::{Known, StreamPositions};
@@ -606,7 +606,10 @@ fn layout_servers_are_asked_for_a_newer_layout(rt: HostRuntime) -> Result<(), Fa
 #[test]
 fn a_record_is_appended(rt: HostRuntime) -> Result<(), Fail> {
     let alloc = rt.alloc();
-    let draft = Draft::new(record(&rt, alloc, DIR));
+    let of = record(&rt, alloc, DIR);
+    let draft = client(&rt, alloc)
+        .decision(alloc, &of, 1, true)
+        .expect(&rt, "memory");
     let (job, none) = (walk(&rt, alloc, Command::End), List::new(alloc));
     let appending = client(&rt, alloc).appends(alloc, job, draft, Purpose::Writes, none);
     assert_eq!(rt; seen(appending.expect(&rt, "memory")), WAITS);
