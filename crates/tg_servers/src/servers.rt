@@ -2,6 +2,7 @@
 
 ghost use Rattle.std.specs.Prelude.{◌≡◌, ◌<◌, ◌+◌, ◌++◌, nat_lt, Some, length, map, slice_get, slice_index_or, IfOk, OnOk};
 ghost use Rattle.tg_base.specs.declared.packet.Packet.{Packet};
+ghost use Rattle.tg_protocol.specs.Logs.{newest};
 ghost use Rattle.tg_protocol.specs.Units.{UnitState, unit_step};
 ghost use Rattle.tg_protocol.specs.Words.{node_eq, numbers, seqr_id};
 ghost use Rattle.tg_servers.specs.Servers.{servers_start, count_of, has_stopped, runs, nodes, node_of, log, counted, taken, takes, ticked, receiver_of, archive_by, unit_takes, layout_takes, seqr_takes, seqr_ticks, stops, sends, hands, loses, servers_limit};
@@ -12,7 +13,9 @@ use crate::starts::{new_layouts, new_seqrs, new_units};
 use std::alloc::Global;
 use std::collections::BTreeMap;
 use std::marker::Model;
-use tg_base::{Cell, Cluster, List, Msg, NoMemory, NodeId, Out, Pos, Projection, Role, Which};
+use tg_base::{
+    Cell, Cluster, List, Msg, NoMemory, NodeId, Out, Packet, Pos, Projection, Role, Which,
+};
 use tg_layout::Layout;
 use tg_logs::{archive_trim, log_of, newest};
 use tg_post::Post;
@@ -283,11 +286,12 @@ impl Servers {
         } = self;
         let packet = &post.packets()[number as usize];
         let (from, to, rid) = (packet.from, packet.to, packet.rid);
-        let layout = newest(&first, post.packets(), cluster.layouts);
         archive_after(
             alloc,
             &mut archive,
-            layout,
+            &first,
+            post.packets(),
+            cluster.layouts,
             units.as_slice(),
             num as usize,
             &packet.msg,
@@ -468,16 +472,20 @@ fn seqr(num: u16) -> NodeId
 fn archive_after(
     alloc: Global,
     archive: &mut BTreeMap<Pos, Cell>,
-    layout: &Projection,
+    first: &Projection,
+    packets: &[Packet],
+    layouts: u16,
     units: &[Unit],
     num: usize,
     msg: &Msg,
 ) -> Result<(), NoMemory>
     requires { num < length units.now }
-    ensures { (d : UnitState) → OnOk result (archive.new.entries ≡ archive_by layout.now units.now archive.old.entries (slice_index_or units.now num d) (unit_step (slice_index_or units.now num d) msg.now).now.low (nat_lt (slice_index_or units.now num d).low (unit_step (slice_index_or units.now num d) msg.now).now.low)) }
+    ensures { (d : UnitState) → OnOk result (archive.new.entries ≡ archive_by (newest first.now packets.now layouts) units.now archive.old.entries (slice_index_or units.now num d) (unit_step (slice_index_or units.now num d) msg.now).now.low (nat_lt (slice_index_or units.now num d).low (unit_step (slice_index_or units.now num d) msg.now).now.low)) }
 {
     let low = units[num].low_after(msg);
     if units[num].low() < low {
+        // It is found among all packets, so only where something is dropped.
+        let layout = newest(first, packets, layouts);
         return archive_trim(alloc, archive, layout, units, num, low);
     }
     Ok(())

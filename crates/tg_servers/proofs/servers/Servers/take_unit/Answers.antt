@@ -17,7 +17,7 @@ pub returns-clause-now : goal.returns-clause-now
 returns-clause-now c = λ p at to.
     let s : ServersState = (record { cluster = c.self.inside.cluster; units = c.self.inside.units.items; layouts = c.self.inside.layouts.items; seqrs = states_of c.self.inside.seqrs.items; stopped = c.self.inside.stopped; post = c.self.inside.post; archive = c.self.inside.archive.entries; steps = c.self.inside.steps }) in
     let found : c.index-packets-number.result ≡ p = packet_got c.packets.result.now c.args.self.post.packets c.args.number c.index-packets-number.result p (c.packets.ensures ∙ ap (λ (x : ServersState). x.post.packets) c.self.view_is) at c.index-packets-number.is in
-    unit_took s p c.index-packets-number.result c.args.num found to c.newest-layout.result.now c.as_slice.result.now c.unit_takes.new.units.items c.archive_after.new.archive.entries c.in_ok-says.says c.answer.new.self
-    (c.newest-layout.ensures ∙ ap (λ (h : Header). newest c.self.inside.first c.packets-2.result.now h.layouts) c.cluster.view_is ∙ ap (λ (q : Layout). newest q c.packets-2.result.now c.self.inside.cluster.layouts) c.self.invariant.begins ∙ ap (λ (qs : List Packet). newest (first_layout c.self.inside.cluster) qs c.self.inside.cluster.layouts) c.packets-2.ensures) c.as_slice.ensures.value
+    unit_took s p c.index-packets-number.result c.args.num found to (newest c.self.inside.first c.packets-2.result.now c.cluster.inside.layouts) c.as_slice.result.now c.unit_takes.new.units.items c.archive_after.new.archive.entries c.in_ok-says.says c.answer.new.self
+    (ap (λ (h : Header). newest c.self.inside.first c.packets-2.result.now h.layouts) c.cluster.view_is ∙ ap (λ (q : Layout). newest q c.packets-2.result.now c.self.inside.cluster.layouts) c.self.invariant.begins ∙ ap (λ (qs : List Packet). newest (first_layout c.self.inside.cluster) qs c.self.inside.cluster.layouts) c.packets-2.ensures) c.as_slice.ensures.value
     c.in_ok-says.ensures.now c.in_ok-archive_after.ensures c.in_ok-says.ensures.says c.in_ok-answer.ensures
     ∙ ap (λ (x : ServersState). counted (unit_takes x p)) c.self.view_is
