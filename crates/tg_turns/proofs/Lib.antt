@@ -1,0 +1,4 @@
+pub mod Fed
+pub mod Awaited
+pub mod Resumed
+pub mod Delivered
