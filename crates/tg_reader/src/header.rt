@@ -25,7 +25,7 @@ pub enum Opening {
     Outside { line: u64 },
 }
 
-/// Reads the header of a script, and no further than the line that is refused.
+/// Reads the header of a script.
 ///
 /// An `Err` is a fault of the source, or want of memory.
 pub fn read_header<S: Source>(
