@@ -1,10 +1,1 @@
-pub mod Lists
-pub mod Steps
-pub mod Scripts
-pub mod Texts
-pub mod Numbers
-pub mod Lines
-pub mod Objects
-pub mod Exact
-pub mod Promises
 pub mod FormsRead

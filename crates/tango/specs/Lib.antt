@@ -1,8 +1,1 @@
-pub mod Words
-pub mod Script
-pub mod Transcript
-pub mod Reading
-pub mod Runs
-pub mod Stages
 pub mod Forms
-pub mod Top

@@ -2,14 +2,7 @@
 #![tactic(auto)]
 
 mod forms;
-mod number;
-mod progress;
-mod reading;
-mod replay;
-mod run;
-mod script;
 mod top;
-mod transcript;
 
 use std::io::{self, Write};
 use std::process::ExitCode;

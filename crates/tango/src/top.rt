@@ -1,24 +1,20 @@
 //! The top call: what the program does with words, a source, a sink and a link.
 
-ghost use Rattle.std.specs.Prelude.{◌≡◌, ◌≢◌, ◌⊎◌, ℕ, List, None, Some, map, IfOk, IfSome, string_bytes};
+ghost use Rattle.std.specs.Prelude.{◌≡◌, ◌≢◌, ◌⊎◌, ℕ, List, None, Some, map, IfSome, string_bytes};
 ghost use Rattle.tg_base.specs.declared.fault.Which.{Which};
-ghost use Rattle.tg_base.specs.declared.fault.Which.TheVariants.{Steps};
 ghost use Rattle.tg_io.specs.Bytes.{Takes};
 ghost use Rattle.tg_io.specs.Faults.{Rose, StaysSure};
 ghost use Rattle.tg_io.specs.declared.status.Status.TheVariants.{Done, Words, Script as AtLine, ReadFault, WriteFault, Limit, NoMemory as OutOfMemory};
 ghost use Rattle.tango.specs.Forms.{form_of};
 ghost use Rattle.tango.specs.declared.forms.Form.TheVariants.{Replay};
-ghost use Rattle.tango.specs.Runs.{Script, IsScript, IsWithin, Tells, FirstOutside, PassesLimit, Replayed, Refused, Limited, transcript};
-ghost use Rattle.tango.specs.Stages.{Finished, printed};
-ghost use Rattle.tango.specs.Top.{Told, Written, IsCutShort, IsOfReplay, TellsLegal, TellsFull};
+ghost use Rattle.tg_replay.specs.Runs.{Script, IsScript, IsWithin, Tells, FirstOutside, PassesLimit, Replayed, Refused, Limited};
+ghost use Rattle.tg_replay.specs.Outcomes.{Told, IsCutShort, IsOfReplay};
 
 use crate::forms::{Form, read_form};
-use crate::reading::read_script;
-use crate::run::{Finish, Run};
-use crate::transcript::render;
 use std::alloc::Global;
-use tg_base::{List, NoMemory};
-use tg_io::{IoErr, Link, Sink, Source, Status, write_all};
+use tg_base::NoMemory;
+use tg_io::{Link, Sink, Source, Status};
+use tg_replay::replay;
 
 /// Runs the program. `words` are those after its name; a replay reads its script from the source,
 /// writes its transcript to the sink, and leaves the link unused.
@@ -34,12 +30,9 @@ pub fn tango<S: Source, K: Sink, L: Link>(
     ensures no_form { form_of (map string_bytes words.now) ≡ None → (result ≡ Words) ⊎ (result ≡ OutOfMemory) }
     // At `Done` the text was read to its end, and what was written is the transcript of the world of its steps.
     ensures done { result ≡ Done → Told (S.left source.old) (K.written sink.old) (K.written sink.new) Replayed }
-    // The replies and the history of each script that the text tells are legal.
-    ensures legal { IfSome (S.left source.old) TellsLegal }
-    ensures full { IfSome (S.left source.old) TellsFull }
     // A line is refused that is the first outside, after the transcript of the events before it.
     ensures script { (line : ℕ) → result ≡ AtLine line → Told (S.left source.old) (K.written sink.old) (K.written sink.new) (λ text out. Refused text line out) }
-    // The limit of steps stops a run, after the transcript of the steps before it.
+    // A limit stops a run, after the transcript of the steps before it.
     ensures limit { (which : Which) → result ≡ Limit which → Told (S.left source.old) (K.written sink.old) (K.written sink.new) (λ text out. Limited text which out) }
     // A fault has its cause in a count that rose.
     ensures read_fault { result ≡ ReadFault → Rose (S.faults source.old) (S.faults source.new) }
@@ -54,78 +47,16 @@ pub fn tango<S: Source, K: Sink, L: Link>(
     ensures refuses { form_of (map string_bytes words.now) ≡ Some Replay → (Rose (S.faults source.old) (S.faults source.new) → ⊥) → (Rose (K.faults sink.old) (K.faults sink.new) → ⊥) →
         IfSome (S.left source.old) (λ text. (line : ℕ) (s : Script) → FirstOutside text line s → (result ≡ AtLine line) ⊎ (result ≡ OutOfMemory)) }
     ensures limits { form_of (map string_bytes words.now) ≡ Some Replay → (Rose (S.faults source.old) (S.faults source.new) → ⊥) → (Rose (K.faults sink.old) (K.faults sink.new) → ⊥) →
-        IfSome (S.left source.old) (λ text. (s : Script) → PassesLimit text s → (result ≡ Limit Steps) ⊎ (result ≡ OutOfMemory)) }
+        IfSome (S.left source.old) (λ text. (which : Which) (s : Script) → PassesLimit text which s → (result ≡ Limit which) ⊎ (result ≡ OutOfMemory)) }
     // What is sure never to fail stays so.
     ensures source { StaysSure (S.sure source.old) (S.sure source.new) (S.faults source.old) (S.faults source.new) }
     ensures sink { StaysSure (K.sure sink.old) (K.sure sink.new) (K.faults sink.old) (K.faults sink.new) }
     ensures link { link.new ≡ link.old }
 {
-    tg_world::every_world_is_legal();
-    tg_world::full_has_cause();
     match read_form(alloc, words) {
         Ok(Some(Form::Replay)) => replay(alloc, source, sink),
         Ok(None) => Status::Words,
         Err(NoMemory) => Status::NoMemory,
-    }
-}
-
-/// Reads a script from the source, and writes the transcript of its run to the sink.
-fn replay<S: Source, K: Sink>(alloc: Global, source: &mut S, sink: &mut K) -> Status
-    ensures written { Told (S.left source.old) (K.written sink.old) (K.written sink.new) (λ text out. Written text result out) }
-    ensures read_fault { result ≡ ReadFault → Rose (S.faults source.old) (S.faults source.new) }
-    ensures write_fault { result ≡ WriteFault → Rose (K.faults sink.old) (K.faults sink.new) }
-    ensures silent { result ≡ ReadFault → K.written sink.new ≡ K.written sink.old }
-    ensures ways { IsOfReplay result }
-    ensures source { StaysSure (S.sure source.old) (S.sure source.new) (S.faults source.old) (S.faults source.new) }
-    ensures sink { StaysSure (K.sure sink.old) (K.sure sink.new) (K.faults sink.old) (K.faults sink.new) }
-{
-    match read_script(alloc, source) {
-        Ok(finish) => report(alloc, finish, sink),
-        Err(IoErr::Failed) => Status::ReadFault,
-        Err(IoErr::NoMemory) => Status::NoMemory,
-    }
-}
-
-/// Writes the transcript of what reading has come to.
-fn report<K: Sink>(alloc: Global, finish: Finish, sink: &mut K) -> Status
-    ensures written { (text : List ℕ) → Finished text finish → (out : List ℕ) × Takes (K.written sink.old) out (K.written sink.new) × Written text result out }
-    ensures write_fault { result ≡ WriteFault → Rose (K.faults sink.old) (K.faults sink.new) }
-    ensures ways { IsOfReplay result }
-    ensures no_read { result ≢ ReadFault }
-    ensures sink { StaysSure (K.sure sink.old) (K.sure sink.new) (K.faults sink.old) (K.faults sink.new) }
-{
-    let Ok(text) = text_of(alloc, &finish.run) else {
-        return Status::NoMemory;
-    };
-    match write_all(sink, text.as_slice()) {
-        Ok(()) => finish.end.status(),
-        Err(IoErr::Failed) => Status::WriteFault,
-        Err(IoErr::NoMemory) => Status::NoMemory,
-    }
-}
-
-/// The transcript of a run, or nothing of none.
-fn text_of(alloc: Global, run: &Option<Run>) -> Result<List<u8>, NoMemory>
-    ensures { IfOk result (λ text. text ≡ printed run.now) }
-{
-    match run {
-        None => Ok(List::new(alloc)),
-        Some(run) => run.transcript(alloc),
-    }
-}
-
-impl Run {
-    /// The transcript of its world.
-    fn transcript(&self, alloc: Global) -> Result<List<u8>, NoMemory>
-        ensures { IfOk result (λ text. text ≡ transcript self.now.objects self.now.world) }
-    {
-        let history = self.world.history()?;
-        render(
-            alloc,
-            self.objects.as_slice(),
-            self.world.trace(),
-            history.as_slice(),
-        )
     }
 }
 

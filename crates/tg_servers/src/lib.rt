@@ -7,4 +7,5 @@ mod rows;
 mod servers;
 mod starts;
 
+pub use first::first_of;
 pub use servers::Servers;

@@ -1,6 +1,6 @@
 //! What a walk has found so far.
 
-ghost use Rattle.std.specs.Prelude.{ℕ, ◌≡◌, ◌<◌, ◌≤◌, ◌+◌, ◌^◌, Some, None, Option, is_some, IfOk, OnOk, OnErr};
+ghost use Rattle.std.specs.Prelude.{ℕ, ◌≡◌, ◌<◌, ◌≤◌, ◌+◌, ◌^◌, Some, None, Option, is_some, option_copied, IfOk, OnOk, OnErr};
 ghost use Rattle.tg_protocol.specs.Cells.{CellJob};
 ghost use Rattle.tg_protocol.specs.Words.{cell_at, with_cell};
 ghost use Rattle.tg_protocol.specs.Walking.{at_least, next_visit, steps_left, walked, walk_again};
@@ -42,6 +42,13 @@ impl PausedWalk {
         ensures { result ≡ self.now.oid }
     {
         self.oid
+    }
+
+    /// The cell that is known at a position, None where none is. It takes no memory.
+    pub fn cell(&self, pos: Pos) -> Option<&Cell>
+        ensures { option_copied result ≡ cell_at self.now.cells pos }
+    {
+        self.cells.get(pos)
     }
 
     /// Goes on in a newer layout, where it was.

@@ -1,9 +1,10 @@
 //! The walk of a stream.
 
-ghost use Rattle.std.specs.Prelude.{ℕ, ◌≡◌, ◌<◌, ◌≤◌, ◌+◌, ◌^◌, ◌&&◌, Some, None, Option, false, IfOk, IsOk, OnErr};
+ghost use Rattle.std.specs.Prelude.{ℕ, ◌≡◌, ◌<◌, ◌≤◌, ◌+◌, ◌^◌, ◌&&◌, Some, None, Option, false, option_copied, IfOk, IsOk, OnErr};
 ghost use Rattle.tg_base.specs.Layouts.{Layout};
 ghost use Rattle.tg_protocol.specs.Requests.{awaits, learns, ends, met_gone};
 ghost use Rattle.tg_protocol.specs.Cells.{CellJob, get_cell, place_in};
+ghost use Rattle.tg_protocol.specs.Words.{cell_at};
 ghost use Rattle.tg_protocol.specs.Walking.{walk_asks, walk_start, walks, walked, walk_end, reads_turn};
 ghost use Rattle.tg_chain.specs.Turns.{needs_memory};
 ghost use Rattle.tg_chain.specs.Ends.{get_end};
@@ -18,7 +19,7 @@ use crate::place::units_at;
 use crate::step::{Next, Step};
 use std::alloc::Global;
 use std::marker::Model;
-use tg_base::{Backs, List, Msg, NoMemory, NodeId, Oid, Out, Pos, Projection, Rids, Turn};
+use tg_base::{Backs, Cell, List, Msg, NoMemory, NodeId, Oid, Out, Pos, Projection, Rids, Turn};
 use tg_chain::{GetCell, GetCellEnd};
 
 /// A step of a walk.
@@ -117,6 +118,13 @@ impl Walk {
         ensures { result ≡ self.now.oid }
     {
         self.course.oid()
+    }
+
+    /// The cell that is known at a position, None where none is. It takes no memory.
+    pub fn cell(&self, pos: Pos) -> Option<&Cell>
+        ensures { option_copied result ≡ cell_at self.now.cells pos }
+    {
+        self.course.cell(pos)
     }
 }
 

@@ -1,11 +1,14 @@
-pub mod Lists
-pub mod Moves
-pub mod Sent
-pub mod Pages
-pub mod Rising
-pub mod Full
-pub mod Stories
-pub mod Sound
-pub mod Turns
-pub mod Runs
-pub mod Told
+mod Moving
+mod Rows
+mod Whole
+mod Moves
+mod Turns
+mod Turned
+mod Telling
+mod Replies
+mod Events
+mod Happening
+mod Draining
+mod Ticking
+mod Rounds
+mod Parts

@@ -1,58 +1,113 @@
--- One case for each kind of step.
-use Rattle.std.proofs.Common.{◌≡◌, ℕ, ◌+◌, List, [], ◌∷◌, refl, Some, None, Option}
-use Rattle.std.specs.Prelude.{slice_get, Contains}
-use Rattle.tg_world.specs.declared.first.Command.{Command}
-use Rattle.tg_world.specs.declared.first.Event.{Event}
-use Rattle.tg_world.specs.declared.first.Event.TheVariants.{Command as Commands, Deliver}
-use Rattle.tg_world.specs.declared.client.Client.{Client}
-use Rattle.tg_world.specs.declared.msg.Packet.{Packet}
-use Rattle.tg_world.specs.declared.world.Step.{Step}
-use Rattle.tg_world.specs.Names.{Place, AtUnit, AtSeqr, AtClient, Nowhere, place}
-use Rattle.tg_world.specs.Nodes.{commanded, given}
-use Rattle.tg_world.specs.Worlds.{Worlds, unit_moves, seqr_moves, client_moves, gives, comes_to, comes, commands, acts, happens, run}
-use Rattle.tg_world.proofs.Lists.{contains_got}
+-- Moves of servers are those of the world.
+use Rattle.std.specs.Prelude.{◌≡◌, ℕ, Bool, true, false, cond, not, ◌&&◌, nat_lt, List, [], ◌∷◌, slice_set, Option, Some, None, refl}
+use Rattle.std.proofs.Common.{sym, ap, subst, ◌∙◌}
+use Rattle.tg_base.specs.declared.cell.Cell.{Cell}
+use Rattle.tg_base.specs.declared.ids.NodeId.{NodeId}
+use Rattle.tg_base.specs.declared.ids.Role.{Role}
+use Rattle.tg_base.specs.declared.ids.Role.TheVariants as role
+use Rattle.tg_base.specs.declared.msg.Msg.{Msg}
+use Rattle.tg_base.specs.declared.packet.Packet.{Packet}
+use Rattle.tg_kind.specs.Meaning.{Meaning}
+use Rattle.tg_protocol.specs.Clients.{Client}
+use Rattle.tg_protocol.specs.Words.{with_cell}
+use Rattle.tg_protocol.specs.Units.{UnitState, UnitTurn, unit_step}
+use Rattle.tg_protocol.specs.LayoutServers.{LayoutTurn, layout_step}
+use Rattle.tg_protocol.specs.Logs.{Log}
+use Rattle.tg_protocol.specs.Worlds as world
+use Rattle.tg_protocol.specs.Worlds.{World, latest, log, unit_moves, layout_moves, seqr_moves}
+use Rattle.tg_logs.specs.Archives.{archived}
+use Rattle.tg_post.specs.Posts.{answer_from}
+use Rattle.tg_servers.specs.Servers as servers
+use Rattle.tg_servers.specs.Servers.{unit_takes, layout_takes, seqr_takes, seqr_ticks}
+use Rattle.tg_world.specs.Clients.{KeepsClients}
+use Rattle.tg_world.specs.Kept.{KeptOf, IsWhole, world_of, KeepsWorld}
+use Rattle.tg_world.proofs.Moving.{keeps_length}
 
--- what is to be shown of a fact, for each kind of step
-pub record Cases (w : Worlds) (event : ℕ) (what : Event) (P : Worlds → Type 0) : Type 0 where
-  pub idle : P w
-  pub by_unit : (p : Packet) → Contains w.packets p → place p.to ≡ AtUnit → P (unit_moves w p)
-  pub by_seqr : (p : Packet) → Contains w.packets p → place p.to ≡ AtSeqr → P (seqr_moves w p)
-  pub by_answer : (k : ℕ) (p : Packet) (c : Client) → Contains w.packets p → place p.to ≡ AtClient k → slice_get w.clients k ≡ Some c → P (client_moves w event k (given k c p))
-  pub by_command : (k : ℕ) (cmd : Command) (c : Client) → what ≡ Commands k cmd → slice_get w.clients k ≡ Some c → P (client_moves w event k (commanded k c cmd))
+module _ (m : Meaning) where
+  -- ---- a world that is kept so
 
-module _ (w : Worlds) (event : ℕ) (what : Event) (P : Worlds → Type 0) (cases : Cases w event what P) where
-  to_client : (k : ℕ) (p : Packet) → Contains w.packets p → place p.to ≡ AtClient k → (o : Option Client) → slice_get w.clients k ≡ o → P (gives w event k p o)
-  to_client k p s e None g = cases.idle
-  to_client k p s e (Some c) g = cases.by_answer k p c s e g
+  pub keeps_at : (k : KeptOf m) (cs : List (Client m)) (w : World m) → KeepsClients m k.clients cs → world_of m k cs ≡ w → KeepsWorld m k w
+  keeps_at k cs w h e = subst (λ (v : World m). KeepsWorld m k v) e (record { clients = h; same = refl })
 
-  to_place : (p : Packet) → Contains w.packets p → (at : Place) → place p.to ≡ at → P (comes_to w event p at)
-  to_place p s AtUnit e = cases.by_unit p s e
-  to_place p s AtSeqr e = cases.by_seqr p s e
-  to_place p s (AtClient k) e = to_client k p s e (slice_get w.clients k) refl
-  to_place p s Nowhere e = cases.idle
+  -- a step of a kept world, by what it is on that world with these clients
+  pub moved : (k l : KeptOf m) (w : World m) (f : World m → World m) (cs : List (Client m)) → KeepsWorld m k w → KeepsClients m l.clients cs → world_of m l cs ≡ f (world_of m k w.clients)
+      → KeepsWorld m l (f w)
+  moved k l w f cs h c e = subst (λ (v : World m). KeepsWorld m l (f v)) h.same (keeps_at l cs (f (world_of m k w.clients)) c e)
 
-  at_packet : (i : ℕ) (o : Option Packet) → slice_get w.packets i ≡ o → P (comes w event o)
-  at_packet i None e = cases.idle
-  at_packet i (Some p) e = to_place p (contains_got w.packets i p e) (place p.to) refl
+  -- what is told of a kept world
+  pub told_of : (k : KeptOf m) (w : World m) (P : World m → Type 0) → KeepsWorld m k w → P (world_of m k w.clients) → P w
+  told_of k w P h p = subst P h.same p
 
-  at_command : (k : ℕ) (cmd : Command) → what ≡ Commands k cmd → (o : Option Client) → slice_get w.clients k ≡ o → P (commands w event k cmd o)
-  at_command k cmd is None e = cases.idle
-  at_command k cmd is (Some c) e = cases.by_command k cmd c is e
+  -- ---- the same nodes run
 
-  at_event : (e : Event) → what ≡ e → P (acts w event e)
-  at_event (Commands k cmd) is = at_command k cmd is (slice_get w.clients k) refl
-  at_event (Deliver i) is = at_packet i (slice_get w.packets i) refl
+  pub count_same : (k : KeptOf m) (cs : List (Client m)) → IsWhole k.servers k.clients k.told k.told_noted k.noted → KeepsClients m k.clients cs → (r : Role) → servers.count_of k.servers r ≡ world.count_of m (world_of m k cs) r
+  count_same k cs h c role.Unit = refl
+  count_same k cs h c role.Layout = refl
+  count_same k cs h c role.Seqr = refl
+  count_same k cs h c role.Client = sym h.many ∙ keeps_length m k.clients cs c
 
-pub step_cases : (w : Worlds) (s : Step) (P : Worlds → Type 0) → Cases (record w { steps = w.steps + 1 }) s.event s.what P → P (happens w s)
-unfolding happens
-step_cases w s P cases = at_event (record w { steps = w.steps + 1 }) s.event s.what P cases s.what refl
+  pub runs_same : (k : KeptOf m) (cs : List (Client m)) → IsWhole k.servers k.clients k.told k.told_noted k.noted → KeepsClients m k.clients cs → (n : NodeId) → servers.runs k.servers n ≡ world.runs m (world_of m k cs) n
+  runs_same k cs h c n = ap (λ (x : ℕ). nat_lt n.num x && not (servers.has_stopped k.servers n)) (count_same k cs h c n.role)
 
--- a fact that each step keeps, where the steps are as they should be, holds after all of them
-abbrev pub Each : {A : Type 0} → (A → Type 0) → List A → Type 0
-Each P [] = Unit {0}
-Each P (x ∷ xs) = P x × Each P xs
+  -- ---- moves of servers
 
-pub run_keeps : (Ok : Step → Type 0) (P : Worlds → Type 0) → ((w : Worlds) (s : Step) → Ok s → P w → P (happens w s)) → (ss : List Step) (w : Worlds) → Each Ok ss → P w → P (run ss w)
-unfolding run
-run_keeps Ok P step [] w oks h = h
-run_keeps Ok P step (s ∷ ss) w oks h = run_keeps Ok P step ss (happens w s) oks.1 (step w s oks.0 h)
+  answers_same : (p : Packet) (o : Option Msg) → answer_from p.to p.from p.rid o ≡ world.answer_to m p o
+  answers_same p None = refl
+  answers_same p (Some x) = refl
+
+  archived_same : (xs : List (ℕ × Cell)) (low : ℕ) (archive : Log) → archived xs low archive ≡ world.archived m xs low archive
+  archived_same [] low archive = refl
+  archived_same (x ∷ xs) low archive = ap (λ (l : Log). cond (nat_lt x.0 low) (with_cell l x.0 x.1) l) (archived_same xs low archive)
+
+  archive_same : (k : KeptOf m) (cs : List (Client m)) (u : UnitState) (low : ℕ) (b : Bool)
+      → servers.archive_by (servers.latest k.servers) k.servers.units k.servers.archive u low b ≡ world.archive_after m (world_of m k cs) u low b
+  unfolding latest log
+  archive_same k cs u low false = refl
+  archive_same k cs u low true =
+      archived_same (servers.log k.servers) low (archived u.cells low k.servers.archive)
+      ∙ ap (λ (l : Log). world.archived m (servers.log k.servers) low l) (archived_same u.cells low k.servers.archive)
+
+  unit_same : (k : KeptOf m) (cs : List (Client m)) (p : Packet) → world_of m (record k { servers = unit_takes k.servers p }) cs ≡ unit_moves m (world_of m k cs) p.to.num p
+  unfolding unit_takes unit_moves
+  unit_same k cs p =
+      let u : UnitState = servers.unit_at k.servers p.to.num in
+      let t : UnitTurn = unit_step u p.msg in
+      λ i. world.sends m (record (world_of m k cs) { units = slice_set k.servers.units p.to.num t.now; archive = archive_same k cs u t.now.low (nat_lt u.low t.now.low) i }) (answers_same p t.says i)
+
+  layout_same : (k : KeptOf m) (cs : List (Client m)) (p : Packet) → world_of m (record k { servers = layout_takes k.servers p }) cs ≡ layout_moves m (world_of m k cs) p.to.num p
+  unfolding layout_takes layout_moves
+  layout_same k cs p =
+      let t : LayoutTurn = layout_step (servers.layout_at k.servers p.to.num) p.msg in
+      λ i. world.sends m (record (world_of m k cs) { layouts = slice_set k.servers.layouts p.to.num t.now }) (answers_same p t.says i)
+
+  seqr_same : (k : KeptOf m) (cs : List (Client m)) (p : Packet) → world_of m (record k { servers = seqr_takes k.servers p }) cs ≡ seqr_moves m (world_of m k cs) p.to.num p
+  unfolding seqr_takes seqr_moves
+  seqr_same k cs p = refl
+
+  ticks_same : (k : KeptOf m) (cs : List (Client m)) (n : ℕ) → world_of m (record k { servers = seqr_ticks k.servers n }) cs ≡ world.ticks m (world_of m k cs) n role.Seqr
+  unfolding seqr_ticks
+  ticks_same k cs n = refl
+
+  -- a server takes a packet
+  pub takes_same : (k : KeptOf m) (cs : List (Client m)) (p : Packet) (r : Role) → (r ≡ role.Client → ⊥) → world_of m (record k { servers = servers.takes k.servers p r }) cs ≡ world.moves m (world_of m k cs) p r
+  takes_same k cs p role.Unit h = unit_same k cs p
+  takes_same k cs p role.Layout h = layout_same k cs p
+  takes_same k cs p role.Seqr h = seqr_same k cs p
+  takes_same k cs p role.Client h = absurd (h refl)
+
+  -- a packet comes to a server, or to a node that doesn't run
+  pub comes_same : (k : KeptOf m) (cs : List (Client m)) (p : Packet) (b : Bool) → (b ≡ true → p.to.role ≡ role.Client → ⊥)
+      → world_of m (record k { servers = servers.taken b k.servers p }) cs ≡ world.comes m b (world_of m k cs) p
+  comes_same k cs p true h = takes_same k cs p p.to.role (h refl)
+  comes_same k cs p false h = refl
+
+  pub ticked_same : (k : KeptOf m) (cs : List (Client m)) (n : NodeId) (b : Bool) → (b ≡ true → n.role ≡ role.Client → ⊥)
+      → world_of m (record k { servers = servers.ticked b k.servers n }) cs ≡ world.ticks_if m b (world_of m k cs) n
+  ticked_same k cs n false h = refl
+  ticked_same k cs n true h = by n.role (h refl)
+    where
+      by : (r : Role) → (r ≡ role.Client → ⊥) → world_of m (record k { servers = servers.ticks k.servers n.num r }) cs ≡ world.ticks m (world_of m k cs) n.num r
+      by role.Unit e = refl
+      by role.Layout e = refl
+      by role.Seqr e = ticks_same k cs n.num
+      by role.Client e = absurd (e refl)

@@ -1,7 +1,4 @@
-pub mod Trace
-pub mod Legal
-pub mod Names
-pub mod Page
-pub mod Nodes
-pub mod Worlds
-pub mod Laws
+pub mod Checks
+pub mod Clients
+pub mod Kept
+pub mod Runs

@@ -1,19 +1,15 @@
-//! The world of the first path: one storage unit, one sequencer, the clients, and every packet that
-//! was ever sent. Any of these packets may arrive, in any order, again, or never.
+//! A world: all nodes of a cluster, all packets that were ever sent, and one step of it.
 #![tactic(auto)]
 
-mod client;
-mod first;
-mod laws;
-mod msg;
-mod page;
-mod seqr;
-mod unit;
+mod check;
+mod clients;
+mod going;
+mod ran;
+mod told;
 mod world;
 
-pub use first::{Command, Done, Event, Mark, Op, Refusal, What};
-pub use laws::{every_world_is_legal, full_has_cause};
-pub use world::{Step, World};
-
-#[cfg(test)]
-mod tests;
+pub use check::StepFault;
+pub use going::{happens, updates};
+pub use ran::{Ran, drain, settle};
+pub use told::Noted;
+pub use world::World;

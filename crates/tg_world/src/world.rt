@@ -1,256 +1,565 @@
-//! All nodes, and all packets.
+//! All nodes and all packets, and one step.
 
-ghost use Rattle.std.specs.Prelude.{◌≡◌, ◌<◌, ◌-◌, ◌^◌, ◌++◌, length, map, slice_get, IfOk, IfSome, OnOk};
-ghost use Rattle.std.specs.Option.{option_to_list};
-ghost use Rattle.std.specs.List.{flat_map};
-ghost use Rattle.tg_world.specs.Page.{record_of};
-ghost use Rattle.tg_world.specs.Worlds.{start, happens, acts, commands, comes, gives, unit_moves, seqr_moves, client_moves, marked, done_at, history, is_idle};
+ghost use Rattle.std.specs.Prelude.{◌≡◌, ◌<◌, ◌≤◌, ◌+◌, ◌^◌, Some, None, map, length, slice_get, slice_index_or, option_copied, IfOk, OnOk, IsSome, replicate, is_some, true};
+ghost use Rattle.tg_base.specs.declared.packet.Packet.{Packet};
+ghost use Rattle.tg_kind.specs.Of.{meaning_of};
+ghost use Rattle.tg_model.specs.declared.command.Event.TheVariants as event;
+ghost use Rattle.tg_protocol.specs.Words.{client_id};
+ghost use Rattle.tg_protocol.specs.Worlds as seen;
+ghost use Rattle.tg_servers.specs.Servers.{counted, hands, loses, taken, ticked, runs, stops, receiver_of};
+ghost use Rattle.tg_world.specs.Checks.{declares};
+ghost use Rattle.tg_world.specs.Kept.{IsWhole, IsWorld, KeepsWorld};
+ghost use Rattle.tg_world.specs.Runs.{due_of, end_of, noted_after, runs_client};
+ghost use Rattle.tg_client.specs.Kept.{KeepsClient};
+ghost use Rattle.tg_protocol.specs.Clients as rules;
+ghost use Rattle.tg_base.specs.declared.ids.Role.TheVariants as role;
 
-use crate::client::{Client, Turn};
-use crate::first::{Command, Done, Event, Mark, What};
-use crate::msg::Packet;
-use crate::page::read_page;
-use crate::seqr::Seqr;
-use crate::unit::Unit;
+use crate::clients::{command, deliver, new_clients, tick};
+use crate::told::{Noted, tell};
 use std::alloc::Global;
 use std::marker::Model;
-use tg_base::{Blob, List, NoMemory, Pos, Role};
+use tg_base::{Cell, Cluster, List, NoMemory, NodeId, Packet, Pos, Role, Which};
+use tg_client::Client;
+use tg_kind::Registry;
+use tg_logs::history_of;
+use tg_model::{CommandOf, DoneOf, Event, EventOf, MarkOf};
+use tg_servers::Servers;
 
-/// An event, and the number of the script's line that it is of.
-#[derive(Clone, Copy, Debug, PartialEq, Eq)]
-pub struct Step {
-    pub event: u64,
-    pub what: Event,
+/// How many steps a run has at most.
+const MAX_STEPS: u32 = 200_000;
+
+/// A world: all nodes of a cluster, all packets that were ever sent, and the replies so far.
+///
+/// Each clause speaks of any world of the definitions that this one keeps: a step takes it to the definitions' step,
+/// and the answers are those of the definitions.
+#[derive(Drop)]
+pub struct World<K: Registry> {
+    servers: Servers,
+    clients: Vec<Client<K>>,
+    told: Vec<MarkOf<K>>,
+    told_noted: Vec<Noted>,
+    noted: Vec<Noted>,
+    event: u64,
 }
 
-/// A storage unit, a sequencer, clients, every packet that was ever sent, and the replies so far.
-#[derive(Debug, Drop)]
-pub struct World {
-    alloc: Global,
-    steps: u64,
-    seqr: Seqr,
-    unit: Unit,
-    clients: Vec<Client>,
-    packets: List<Packet>,
-    trace: List<Mark>,
+impl<K: Registry> Model for World<K> {
+    ghost use Rattle.tg_model.specs.declared.trace.Mark.{Mark};
+    ghost use Rattle.tg_client.specs.declared.client.Client.{Client as KeptClient};
+    ghost use Rattle.tg_world.specs.Kept.{Kept, IsWhole as IsSound};
+
+    ghost Value = { Kept (KeptClient K K.Op K.Ask K.Ans) (Mark K.Op K.Ask K.Ans) };
+
+    ghost view = { λ w. record { servers = w.servers; clients = w.clients.items; told = w.told.items; told_noted = w.told_noted.items; noted = w.noted.items; event = w.event } };
+
+    ghost invariant = { λ w. IsSound w.servers w.clients.items w.told.items w.told_noted.items w.noted.items };
 }
 
-impl Model for World {
-    ghost use Rattle.tg_world.specs.Worlds.{Worlds};
-
-    ghost Value = { Worlds };
-
-    ghost view = { λ w. record { steps = w.steps; limit = w.seqr.limit; next = w.seqr.next; cells = w.unit; clients = w.clients.items; packets = w.packets; trace = w.trace } };
-}
-
-impl World {
-    /// The world of so many clients, and a log of so many positions, before its first step.
-    #[tactic(auto, unfolding(crate::specs::Worlds::start))]
-    pub fn new(alloc: Global, clients: u16, limit: u64) -> Result<World, NoMemory>
-        ensures { IfOk result (λ w. w ≡ start clients limit) }
+impl<K: Registry> World<K> {
+    /// The world that a header declares, before its first step. An `Err` is want of memory.
+    #[tactic(auto, using(crate::proofs::Telling::starts))]
+    pub fn start(alloc: Global, cluster: &Cluster) -> Result<World<K>, NoMemory>
+        ensures { IfOk result (λ w. KeepsWorld (meaning_of K.Registry) w (seen.start (meaning_of K.Registry) cluster.now)) }
     {
+        let servers = Servers::start(alloc, cluster)?;
+        let clients = new_clients(alloc, cluster)?;
+        let noted = new_noted(alloc, cluster.clients)?;
         Ok(World {
-            alloc,
-            steps: 0,
-            seqr: Seqr { limit, next: 0 },
-            unit: Unit::new(alloc),
-            clients: vec![in alloc; Client::Idle; clients as usize]?,
-            packets: List::new(alloc),
-            trace: List::new(alloc),
+            servers,
+            clients,
+            told: Vec::new(alloc),
+            told_noted: Vec::new(alloc),
+            noted,
+            event: 0,
         })
     }
 
-    /// One step: a command to a client, or the arrival of any packet that was ever sent.
-    #[tactic(auto, unfolding(crate::specs::Worlds::happens))]
-    pub fn step(mut self, step: &Step) -> Result<World, NoMemory>
-        requires { self.steps < 2 ^ 64 - 1 }
-        ensures { IfOk result (λ w. w ≡ happens self step.now) }
+    /// Every world keeps the rules.
+    pub fn rules(&self)
+        ensures few { self.now.servers.steps ≤ 200000 }
+        ensures whole { IsWhole self.now.servers self.now.clients self.now.told self.now.told_noted self.now.noted }
     {
-        self.steps += 1;
-        match step.what {
-            Event::Command { client, cmd } => self.command(step.event, client, &cmd),
-            Event::Deliver { packet } => self.deliver(step.event, packet),
-        }
+        let _event = self.event;
     }
 
-    /// A client that there is is given a command.
-    fn command(self, event: u64, client: u16, cmd: &Command) -> Result<World, NoMemory>
-        ensures { IfOk result (λ w. w ≡ commands self event client cmd.now (slice_get self.clients client)) }
+    /// How many steps were taken. It takes no memory.
+    #[tactic(auto, using(crate::proofs::Telling::steps_told))]
+    pub fn steps(&self) -> u32
+        ensures { (w : seen.World (meaning_of K.Registry)) → KeepsWorld (meaning_of K.Registry) self.now w → result ≡ w.steps }
     {
-        match self.client(client) {
-            None => Ok(self),
-            Some(state) => self.client_moves(event, client, state.command(client, cmd)),
-        }
+        self.servers.steps()
     }
 
-    /// A packet that was sent comes to its node.
-    fn deliver(self, event: u64, packet: u64) -> Result<World, NoMemory>
-        ensures { IfOk result (λ w. w ≡ comes self event (slice_get self.packets packet)) }
-    {
-        let at = packet as usize;
-        let Some(packet) = self.packets.as_slice().get(at) else {
-            return Ok(self);
-        };
-        let to = packet.to;
-        match to.role {
-            Role::Unit if to.num == 0 => self.unit_takes(at),
-            Role::Seqr if to.num == 0 => self.seqr_takes(at),
-            Role::Client => self.client_takes(event, to.num, at),
-            _ => Ok(self),
-        }
-    }
-
-    /// The packet at this place comes to the unit.
-    #[tactic(auto, unfolding(crate::specs::Worlds::unit_moves))]
-    fn unit_takes(mut self, at: usize) -> Result<World, NoMemory>
-        requires { at < length self.packets }
-        ensures { IfOk result (λ w. IfSome (slice_get self.packets at) (λ p. w ≡ unit_moves self p)) }
-    {
-        let unit = self.unit;
-        let packet = &self.packets.as_slice()[at];
-        let (unit, says) = unit.step(&packet.msg)?;
-        let out = packet.answer(says);
-        self.unit = unit;
-        send(&mut self.packets, out)?;
-        Ok(self)
-    }
-
-    /// The packet at this place comes to the sequencer.
-    #[tactic(auto, unfolding(crate::specs::Worlds::seqr_moves))]
-    fn seqr_takes(mut self, at: usize) -> Result<World, NoMemory>
-        requires { at < length self.packets }
-        ensures { IfOk result (λ w. IfSome (slice_get self.packets at) (λ p. w ≡ seqr_moves self p)) }
-    {
-        let packet = &self.packets.as_slice()[at];
-        let (seqr, says) = self.seqr.step(&packet.msg);
-        let out = packet.answer(says);
-        self.seqr = seqr;
-        send(&mut self.packets, out)?;
-        Ok(self)
-    }
-
-    /// The packet at this place comes to a client, if there is that client.
-    fn client_takes(self, event: u64, client: u16, at: usize) -> Result<World, NoMemory>
-        requires { at < length self.packets }
-        ensures { IfOk result (λ w. IfSome (slice_get self.packets at) (λ p. w ≡ gives self event client p (slice_get self.clients client))) }
-    {
-        let packet = &self.packets.as_slice()[at];
-        match self.client(client) {
-            None => Ok(self),
-            Some(state) => {
-                let turn = state.deliver(self.alloc, client, packet)?;
-                self.client_moves(event, client, turn)
-            }
-        }
-    }
-
-    /// A client has made its turn.
-    #[tactic(auto, unfolding(crate::specs::Worlds::client_moves))]
-    fn client_moves(mut self, event: u64, client: u16, turn: Turn) -> Result<World, NoMemory>
-        requires { client < length self.clients }
-        ensures { IfOk result (λ w. w ≡ client_moves self event client turn) }
-    {
-        let Turn {
-            now,
-            out,
-            reply,
-            outcome,
-        } = turn;
-        self.clients[client as usize] = now;
-        send(&mut self.packets, out)?;
-        mark(&mut self.trace, event, client, reply)?;
-        mark(&mut self.trace, event, client, outcome)?;
-        Ok(self)
-    }
-
-    /// How far a client has come, if there is that client.
-    fn client(&self, client: u16) -> Option<Client>
-        ensures { result ≡ slice_get self.now.clients client }
-    {
-        self.clients.as_slice().get(client as usize).copied()
-    }
-
-    /// How many steps were made.
-    pub fn steps(&self) -> u64
-        ensures { result ≡ self.now.steps }
-    {
-        self.steps
-    }
-
-    /// How many packets were sent.
+    /// How many packets were sent. It takes no memory.
+    #[tactic(auto, using(crate::proofs::Telling::packets_told))]
     pub fn sent(&self) -> u64
-        ensures { result ≡ length self.now.packets }
+        ensures { (w : seen.World (meaning_of K.Registry)) → KeepsWorld (meaning_of K.Registry) self.now w → result ≡ length w.packets }
     {
-        self.packets.len() as u64
+        self.servers.post().sent()
     }
 
-    /// The replies, in the order in which they were given.
-    pub fn trace(&self) -> &[Mark]
-        ensures { result.now ≡ self.now.trace }
+    /// The packet with a number: None exactly where it isn't sent yet. It takes no memory.
+    #[tactic(auto, using(crate::proofs::Telling::packets_told))]
+    pub fn packet(&self, number: u64) -> Option<&Packet>
+        ensures { (w : seen.World (meaning_of K.Registry)) → KeepsWorld (meaning_of K.Registry) self.now w → option_copied result ≡ slice_get w.packets number }
     {
-        self.trace.as_slice()
+        self.servers.post().packet(number)
     }
 
-    /// Whether there is this client, and its transaction wasn't begun.
-    pub fn is_idle(&self, client: u16) -> bool
-        ensures { result ≡ is_idle self.now client }
+    /// The replies so far. It takes no memory.
+    #[tactic(auto, using(crate::proofs::Telling::trace_told))]
+    pub fn trace(&self) -> &[MarkOf<K>]
+        ensures { (w : seen.World (meaning_of K.Registry)) → KeepsWorld (meaning_of K.Registry) self.now w → result.now ≡ seen.trace (meaning_of K.Registry) w }
     {
-        matches!(self.client(client), Some(Client::Idle))
+        self.told.as_slice()
     }
 
-    /// The committed transactions, in order.
-    #[tactic(auto, unfolding(crate::specs::Worlds::history))]
-    pub fn history(&self) -> Result<List<Done>, NoMemory>
-        ensures { IfOk result (λ h. h ≡ history self.now) }
+    /// What was noted of each reply's client. It takes no memory.
+    #[tactic(auto, using(crate::proofs::Telling::noted_told))]
+    pub fn trace_noted(&self) -> &[Noted]
+        ensures { (w : seen.World (meaning_of K.Registry)) → KeepsWorld (meaning_of K.Registry) self.now w → result.now ≡ map (λ t. t.noted) w.told }
     {
-        let mut done = List::new(self.alloc);
-        for (pos, page) in self.unit.pages() {
-            put_done(&mut done, self.alloc, *pos, page)?;
+        self.told_noted.as_slice()
+    }
+
+    /// The limit that was reached, if one was: the steps before the bytes. It takes no memory.
+    #[tactic(auto, using(crate::proofs::Telling::limit_told))]
+    pub fn limit(&self) -> Option<Which>
+        ensures { (w : seen.World (meaning_of K.Registry)) → KeepsWorld (meaning_of K.Registry) self.now w → result ≡ seen.limit_of (meaning_of K.Registry) w }
+    {
+        self.servers.limit()
+    }
+
+    /// Whether the header declares a node, and it hasn't stopped. It takes no memory.
+    #[tactic(auto, using(crate::proofs::Telling::runs_told))]
+    pub fn runs(&self, node: NodeId) -> bool
+        ensures { (w : seen.World (meaning_of K.Registry)) → KeepsWorld (meaning_of K.Registry) self.now w → result ≡ seen.runs (meaning_of K.Registry) w node }
+    {
+        self.servers.runs(node)
+    }
+
+    /// Whether the header declares a node. It takes no memory.
+    #[tactic(auto, using(crate::proofs::Telling::declares_told))]
+    pub fn declares(&self, node: NodeId) -> bool
+        ensures { (w : seen.World (meaning_of K.Registry)) → KeepsWorld (meaning_of K.Registry) self.now w → result ≡ declares (meaning_of K.Registry) w node }
+    {
+        (node.num as usize) < self.servers.count(node.role)
+    }
+
+    /// All nodes: units, layout servers, sequencers and clients. An `Err` is want of memory.
+    #[tactic(auto, using(crate::proofs::Telling::nodes_told))]
+    pub fn nodes(&self, alloc: Global) -> Result<Vec<NodeId>, NoMemory>
+        ensures { (w : seen.World (meaning_of K.Registry)) → KeepsWorld (meaning_of K.Registry) self.now w → IfOk result (λ ns. ns.items ≡ seen.nodes (meaning_of K.Registry) w) }
+    {
+        self.servers.nodes(alloc)
+    }
+
+    /// The client with a number: None exactly where the header declares no such client. It takes no memory.
+    pub fn client(&self, num: u16) -> Option<&Client<K>>
+        ensures { option_copied result ≡ slice_get self.now.clients num }
+    {
+        self.clients.get(num as usize)
+    }
+
+    /// The lowest packet that waits, where no limit is reached. It takes no memory.
+    #[tactic(auto, using(crate::proofs::Telling::due_told))]
+    pub fn due(&self) -> Option<u64>
+        ensures due { (w : seen.World (meaning_of K.Registry)) → KeepsWorld (meaning_of K.Registry) self.now w → result ≡ due_of (meaning_of K.Registry) w }
+        ensures room { IsSome result → self.now.servers.steps < 200000 }
+    {
+        match self.servers.limit() {
+            Some(_) => None,
+            None => self.servers.post().first_waiting(),
         }
-        Ok(done)
     }
-}
 
-/// Sends a packet, if there is one.
-fn send(packets: &mut List<Packet>, out: Option<Packet>) -> Result<(), NoMemory>
-    ensures { OnOk result (packets.new ≡ packets.old ++ option_to_list out) }
-{
-    match out {
-        None => Ok(()),
-        Some(packet) => packets.push(packet),
+    /// The limit that keeps a packet that waits, if one does. It takes no memory.
+    #[tactic(auto, using(crate::proofs::Telling::end_told))]
+    pub fn end(&self) -> Option<Which>
+        ensures { (w : seen.World (meaning_of K.Registry)) → KeepsWorld (meaning_of K.Registry) self.now w → result ≡ end_of (meaning_of K.Registry) w }
+    {
+        match self.servers.post().first_waiting() {
+            None => None,
+            Some(_) => self.limit(),
+        }
     }
-}
 
-/// Puts what a client answers last, if it does.
-fn mark(trace: &mut List<Mark>, event: u64, client: u16, says: Option<What>) -> Result<(), NoMemory>
-    ensures { OnOk result (trace.new ≡ trace.old ++ marked event client (option_to_list says)) }
-{
-    match says {
-        None => Ok(()),
-        Some(what) => trace.push(Mark {
+    /// The log. An `Err` is want of memory.
+    #[tactic(auto, using(crate::proofs::Telling::log_told))]
+    pub fn log(&self, alloc: Global) -> Result<List<(Pos, Cell)>, NoMemory>
+        ensures { (w : seen.World (meaning_of K.Registry)) → KeepsWorld (meaning_of K.Registry) self.now w → IfOk result (λ l. l ≡ seen.log (meaning_of K.Registry) w) }
+    {
+        self.servers.log(alloc)
+    }
+
+    /// The committed transactions, by position. An `Err` is want of memory, or a commit record at 2 ^ 62 or further,
+    /// where no node stores one.
+    #[tactic(auto, using(crate::proofs::Telling::history_told))]
+    pub fn history(&self, alloc: Global) -> Result<List<DoneOf<K>>, NoMemory>
+        ensures { (w : seen.World (meaning_of K.Registry)) → KeepsWorld (meaning_of K.Registry) self.now w → IfOk result (λ ds. ds ≡ seen.history (meaning_of K.Registry) w) }
+    {
+        let log = self.log(alloc)?;
+        history_of::<K>(alloc, log.as_slice())
+    }
+
+    /// The next event begins. An `Err` is want of numbers, which no run comes to.
+    pub fn next_event(self) -> Result<World<K>, NoMemory>
+        ensures { (w : seen.World (meaning_of K.Registry)) → KeepsWorld (meaning_of K.Registry) self w → IfOk result (λ r. KeepsWorld (meaning_of K.Registry) r (seen.next_event (meaning_of K.Registry) w)) }
+    {
+        let event = self.event.checked_add(1).ok_or(NoMemory)?;
+        let mut world = self;
+        world.event = event;
+        Ok(world)
+    }
+
+    /// One step: an event, which on a stopped node does nothing but count.
+    ///
+    /// An `Err` is want of memory, or of numbers: no step follows the 200,000th. Nothing is left of the world then.
+    #[tactic(auto, using(crate::proofs::Events::lose_keeps))]
+    pub fn step(self, alloc: Global, event: EventOf<K>) -> Result<World<K>, NoMemory>
+        requires { IsWorld (meaning_of K.Registry) self }
+        ensures keeps { (w : seen.World (meaning_of K.Registry)) → KeepsWorld (meaning_of K.Registry) self w → IfOk result (λ r. KeepsWorld (meaning_of K.Registry) r (seen.happens (meaning_of K.Registry) w event)) }
+        ensures steps { IfOk result (λ r. r.servers.steps ≡ self.servers.steps + 1) }
+    {
+        if self.servers.steps() >= MAX_STEPS {
+            return Err(NoMemory);
+        }
+        match event {
+            Event::Command { client, cmd } => self.command(alloc, client, cmd),
+            Event::Deliver { packet } => self.deliver(alloc, packet),
+            Event::Lose { packet } => Ok(self.lose(packet)),
+            Event::Tick { node } => self.tick(alloc, node),
+            Event::Stop { node } => self.stop(node),
+        }
+    }
+
+    // A client is given a command.
+    fn command(
+        self,
+        alloc: Global,
+        client: u16,
+        command: CommandOf<K>,
+    ) -> Result<World<K>, NoMemory>
+        requires { self.servers.steps < 200000 }
+        ensures keeps { (w : seen.World (meaning_of K.Registry)) → KeepsWorld (meaning_of K.Registry) self w → IfOk result (λ r. KeepsWorld (meaning_of K.Registry) r (seen.happens (meaning_of K.Registry) w (event.Command client command))) }
+        ensures steps { IfOk result (λ r. r.servers.steps ≡ self.servers.steps + 1) }
+    {
+        if self.servers.runs(client_node(client)) {
+            return self.commanded(alloc, client, command);
+        }
+        Ok(self.idle())
+    }
+
+    // Whether a node is a client that runs.
+    fn runs_client(&self, node: NodeId) -> bool
+        ensures { result ≡ runs_client self.now.servers node }
+    {
+        match node.role {
+            Role::Client => self.servers.runs(node),
+            _ => false,
+        }
+    }
+
+    // A step that does nothing but count.
+    #[tactic(auto, using(crate::proofs::Moving::whole_next))]
+    fn idle(self) -> World<K>
+        requires { self.servers.steps < 200000 }
+        ensures { result ≡ record self { servers = counted self.servers } }
+    {
+        let mut world = self;
+        world.servers.count_step();
+        world
+    }
+
+    // A client that runs is given a command.
+    fn commanded(self, alloc: Global, client: u16, cmd: CommandOf<K>) -> Result<World<K>, NoMemory>
+        requires room { self.servers.steps < 200000 }
+        requires within { client < length self.clients }
+        ensures keeps { (w : seen.World (meaning_of K.Registry)) → KeepsWorld (meaning_of K.Registry) self w → IfOk result (λ r. KeepsWorld (meaning_of K.Registry) r (seen.counted (meaning_of K.Registry) (seen.commands (meaning_of K.Registry) true w client cmd))) }
+        ensures steps { IfOk result (λ r. r.servers.steps ≡ self.servers.steps + 1) }
+    {
+        let World {
+            mut servers,
+            mut clients,
+            mut told,
+            mut told_noted,
+            mut noted,
+            event,
+        } = self;
+        note_client(&mut noted, &clients[client as usize], client as usize);
+        let (outs, notes) = command(alloc, &mut clients, client as usize, cmd)?;
+        tell::<K>(
+            &mut told,
+            &mut told_noted,
             event,
             client,
-            tx: 1,
-            what,
-        }),
+            noted[client as usize],
+            notes,
+        )?;
+        servers.send(client_node(client), outs.as_slice())?;
+        servers.count_step();
+        Ok(World {
+            servers,
+            clients,
+            told,
+            told_noted,
+            noted,
+            event,
+        })
+    }
+
+    // A packet is delivered.
+    fn deliver(self, alloc: Global, number: u64) -> Result<World<K>, NoMemory>
+        requires room { self.servers.steps < 200000 }
+        requires kept { IsWorld (meaning_of K.Registry) self }
+        ensures keeps { (w : seen.World (meaning_of K.Registry)) → KeepsWorld (meaning_of K.Registry) self w → IfOk result (λ r. KeepsWorld (meaning_of K.Registry) r (seen.happens (meaning_of K.Registry) w (event.Deliver number))) }
+        ensures steps { IfOk result (λ r. r.servers.steps ≡ self.servers.steps + 1) }
+    {
+        match self.servers.receiver(number) {
+            None => Ok(self.idle()),
+            Some(node) => self.deliver_to(alloc, number, node),
+        }
+    }
+
+    // A packet is delivered to this node.
+    fn deliver_to(self, alloc: Global, number: u64, node: NodeId) -> Result<World<K>, NoMemory>
+        requires kept { IsWorld (meaning_of K.Registry) self }
+        requires room { self.servers.steps < 200000 }
+        requires sent { receiver_of (slice_get self.servers.post.packets number) ≡ Some node }
+        ensures keeps { (w : seen.World (meaning_of K.Registry)) → KeepsWorld (meaning_of K.Registry) self w → IfOk result (λ r. KeepsWorld (meaning_of K.Registry) r (seen.happens (meaning_of K.Registry) w (event.Deliver number))) }
+        ensures steps { IfOk result (λ r. r.servers.steps ≡ self.servers.steps + 1) }
+    {
+        self.rules();
+        if self.runs_client(node) {
+            return self.deliver_client(alloc, number, node.num);
+        }
+        self.deliver_server(alloc, number)
+    }
+
+    // A packet is delivered to a server, or to a node that doesn't run.
+    #[tactic(auto, using(crate::proofs::Moving::whole_next))]
+    fn deliver_server(self, alloc: Global, number: u64) -> Result<World<K>, NoMemory>
+        requires { self.servers.steps < 200000 }
+        ensures now { (p : Packet) → slice_get self.servers.post.packets number ≡ Some p → IfOk result (λ r. r ≡ record self { servers = counted (taken (runs self.servers p.to) (hands self.servers number) p) }) }
+        ensures steps { IfOk result (λ r. r.servers.steps ≡ self.servers.steps + 1) }
+    {
+        let World {
+            mut servers,
+            clients,
+            told,
+            told_noted,
+            noted,
+            event,
+        } = self;
+        servers.hand(number)?;
+        let servers = servers.take(alloc, number)?;
+        Ok(World {
+            servers,
+            clients,
+            told,
+            told_noted,
+            noted,
+            event,
+        })
+    }
+
+    // A packet is delivered to a client that runs.
+    fn deliver_client(self, alloc: Global, number: u64, num: u16) -> Result<World<K>, NoMemory>
+        requires kept { IsWorld (meaning_of K.Registry) self }
+        requires room { self.servers.steps < 200000 }
+        requires within { num < length self.clients }
+        requires sent { number < length self.servers.post.packets }
+        ensures steps { IfOk result (λ r. r.servers.steps ≡ self.servers.steps + 1) }
+        ensures keeps { (w : seen.World (meaning_of K.Registry)) (p : Packet) → KeepsWorld (meaning_of K.Registry) self w → slice_get self.servers.post.packets number ≡ Some p → p.to.num ≡ num → IfOk result (λ r. KeepsWorld (meaning_of K.Registry) r (seen.counted (meaning_of K.Registry) (seen.client_moves (meaning_of K.Registry) (seen.handed (meaning_of K.Registry) w number) num p))) }
+    {
+        let World {
+            mut servers,
+            mut clients,
+            mut told,
+            mut told_noted,
+            noted,
+            event,
+        } = self;
+        let packet = &servers.post().packets()[number as usize];
+        let (outs, notes) = deliver(
+            alloc,
+            &mut clients,
+            num as usize,
+            packet.from,
+            packet.rid,
+            &packet.msg,
+        )?;
+        tell::<K>(
+            &mut told,
+            &mut told_noted,
+            event,
+            num,
+            noted[num as usize],
+            notes,
+        )?;
+        servers.hand(number)?;
+        servers.send(client_node(num), outs.as_slice())?;
+        servers.count_step();
+        Ok(World {
+            servers,
+            clients,
+            told,
+            told_noted,
+            noted,
+            event,
+        })
+    }
+
+    // A packet is lost.
+    #[tactic(auto, using(crate::proofs::Moving::whole_next))]
+    fn lose(self, number: u64) -> World<K>
+        requires { self.servers.steps < 200000 }
+        ensures { result ≡ record self { servers = counted (loses self.servers number) } }
+    {
+        let mut world = self;
+        world.servers.lose(number);
+        world.servers.count_step();
+        world
+    }
+
+    // A node's tick.
+    fn tick(self, alloc: Global, node: NodeId) -> Result<World<K>, NoMemory>
+        requires room { self.servers.steps < 200000 }
+        requires kept { IsWorld (meaning_of K.Registry) self }
+        ensures keeps { (w : seen.World (meaning_of K.Registry)) → KeepsWorld (meaning_of K.Registry) self w → IfOk result (λ r. KeepsWorld (meaning_of K.Registry) r (seen.happens (meaning_of K.Registry) w (event.Tick node))) }
+        ensures steps { IfOk result (λ r. r.servers.steps ≡ self.servers.steps + 1) }
+    {
+        self.rules();
+        if self.runs_client(node) {
+            return self.tick_client(alloc, node.num);
+        }
+        self.tick_server(alloc, node)
+    }
+
+    // The tick of a server, or of a node that doesn't run.
+    #[tactic(auto, using(crate::proofs::Moving::whole_next))]
+    fn tick_server(self, alloc: Global, node: NodeId) -> Result<World<K>, NoMemory>
+        requires { self.servers.steps < 200000 }
+        ensures now { IfOk result (λ r. r ≡ record self { servers = counted (ticked (runs self.servers node) self.servers node) }) }
+        ensures steps { IfOk result (λ r. r.servers.steps ≡ self.servers.steps + 1) }
+    {
+        let World {
+            servers,
+            clients,
+            told,
+            told_noted,
+            noted,
+            event,
+        } = self;
+        let servers = servers.tick(alloc, node)?;
+        Ok(World {
+            servers,
+            clients,
+            told,
+            told_noted,
+            noted,
+            event,
+        })
+    }
+
+    // The tick of a client that runs.
+    fn tick_client(self, alloc: Global, num: u16) -> Result<World<K>, NoMemory>
+        requires kept { IsWorld (meaning_of K.Registry) self }
+        requires room { self.servers.steps < 200000 }
+        requires within { num < length self.clients }
+        ensures keeps { (w : seen.World (meaning_of K.Registry)) → KeepsWorld (meaning_of K.Registry) self w → IfOk result (λ r. KeepsWorld (meaning_of K.Registry) r (seen.counted (meaning_of K.Registry) (seen.ticks (meaning_of K.Registry) w num role.Client))) }
+        ensures steps { IfOk result (λ r. r.servers.steps ≡ self.servers.steps + 1) }
+    {
+        let World {
+            mut servers,
+            mut clients,
+            mut told,
+            mut told_noted,
+            noted,
+            event,
+        } = self;
+        let (outs, notes) = tick(alloc, &mut clients, num as usize)?;
+        tell::<K>(
+            &mut told,
+            &mut told_noted,
+            event,
+            num,
+            noted[num as usize],
+            notes,
+        )?;
+        servers.send(client_node(num), outs.as_slice())?;
+        servers.count_step();
+        Ok(World {
+            servers,
+            clients,
+            told,
+            told_noted,
+            noted,
+            event,
+        })
+    }
+
+    // A node stops.
+    fn stop(self, node: NodeId) -> Result<World<K>, NoMemory>
+        requires { self.servers.steps < 200000 }
+        ensures keeps { (w : seen.World (meaning_of K.Registry)) → KeepsWorld (meaning_of K.Registry) self w → IfOk result (λ r. KeepsWorld (meaning_of K.Registry) r (seen.happens (meaning_of K.Registry) w (event.Stop node))) }
+        ensures steps { IfOk result (λ r. r.servers.steps ≡ self.servers.steps + 1) }
+    {
+        if self.servers.runs(node) {
+            return self.stopped(node);
+        }
+        Ok(self.idle())
+    }
+
+    #[tactic(auto, using(crate::proofs::Moving::whole_next))]
+    fn stopped(self, node: NodeId) -> Result<World<K>, NoMemory>
+        requires { self.servers.steps < 200000 }
+        ensures now { IfOk result (λ r. r ≡ record self { servers = counted (stops self.servers node) }) }
+        ensures steps { IfOk result (λ r. r.servers.steps ≡ self.servers.steps + 1) }
+    {
+        let mut world = self;
+        world.servers.stop(node)?;
+        world.servers.count_step();
+        Ok(world)
     }
 }
 
-/// Puts what the page at a position says last, if it says something.
-fn put_done(done: &mut List<Done>, alloc: Global, stamp: Pos, page: &Blob) -> Result<(), NoMemory>
-    ensures { OnOk result (done.new ≡ done.old ++ done_at stamp (record_of page.now)) }
+fn client_node(num: u16) -> NodeId
+    ensures { result ≡ client_id num }
 {
-    match read_page(page) {
-        None => Ok(()),
-        Some(said) => {
-            let mut writes = List::new(alloc);
-            writes.push((said.oid, said.op))?;
-            done.push(Done {
-                stamp,
-                client: said.client,
-                number: said.number,
-                writes,
-            })
-        }
+    NodeId {
+        role: Role::Client,
+        num,
     }
+}
+
+// Nothing is noted yet of so many clients.
+fn new_noted(alloc: Global, count: u16) -> Result<Vec<Noted>, NoMemory>
+    ensures { IfOk result (λ ns. ns.items ≡ replicate count (record { next = 1; epoch = 1; upto = 0 })) }
+{
+    let mut noted = Vec::new(alloc);
+    for _num in 0..count {
+        noted.push(Noted {
+            next: 1,
+            epoch: 1,
+            upto: 0,
+        })?;
+    }
+    Ok(noted)
+}
+
+// What is noted of a client when it is given a command while none waits.
+#[tactic(auto, using(crate::proofs::Moving::length_set))]
+fn note_client<K: Registry>(noted: &mut Vec<Noted>, client: &Client<K>, num: usize)
+    requires { num < length noted.old.items }
+    ensures many { length noted.new.items ≡ length noted.old.items }
+    ensures now { (c : rules.Client (meaning_of K.Registry)) → KeepsClient (meaning_of K.Registry) client.now c → noted.new.items ≡ noted_after (meaning_of K.Registry) noted.old.items num c (is_some c.work) }
+{
+    if client.is_busy() {
+        return;
+    }
+    noted[num] = Noted {
+        next: client.next(),
+        epoch: client.epoch(),
+        upto: client.upto(),
+    };
 }

@@ -1,6 +1,6 @@
 use super::*;
 use std::test::Fail;
-use tg_base::Which;
+use tg_base::{List, Which};
 use tg_io::{MemLink, MemSink, MemSource};
 
 const HEADER: &str =
@@ -109,16 +109,11 @@ fn lines_outside(rt: HostRuntime) -> Result<(), Fail> {
             4,
             "objects ctr0 ctr1\nhistory 0\n",
         ),
-        (
-            HEADER,
-            "c0 update ctr2 add 5",
-            4,
-            "objects ctr0 ctr1\nhistory 0\n",
-        ),
+        (HEADER, "tick u1", 4, "objects ctr0 ctr1\nhistory 0\n"),
         (HEADER, "\n", 4, "objects ctr0 ctr1\nhistory 0\n"),
         ("", "", 1, ""),
         (
-            "cluster units 2 layouts 1 seqs 1 clients 3 limit 100\n",
+            "cluster units 65 layouts 1 seqs 1 clients 3 limit 100\n",
             "chains u0\n",
             1,
             "",
@@ -137,7 +132,7 @@ fn lines_outside(rt: HostRuntime) -> Result<(), Fail> {
         ),
         (
             "cluster units 1 layouts 1 seqs 1 clients 3 limit 100\nchains u0\n",
-            "objects map0\n",
+            "objects ctr0 ctr0\n",
             3,
             "",
         ),
@@ -231,5 +226,55 @@ fn the_limit_of_steps(rt: HostRuntime) -> Result<(), Fail> {
     assert!(rt; ends(rt.alloc(), 199_997, "deliver 0\n", limit, "history 0\n")?);
     let begun = "199998 c1 1 begin\nhistory 0\n";
     assert!(rt; ends(rt.alloc(), 199_996, "c1 update ctr1 add 1", limit, begun)?);
+    Ok(())
+}
+
+/// A run of three clients, in which a unit and its sequencer are replaced after thirty of sixty updates.
+fn realistic(alloc: Global) -> Result<List<u8>, NoMemory> {
+    let mut text = bytes(
+        alloc,
+        "cluster units 4 layouts 3 seqs 2 clients 3 limit 10000\nchains u0,u1/u2,u3\nobjects ctr0 map0 list0\n",
+    )?;
+    for number in 0..20 {
+        if number == 10 {
+            text.extend(b"stop u1\nc0 reconf s1 drop u1\nsettle\n".as_slice())?;
+        }
+        let set = 3 * number;
+        let push = set + 1;
+        let add = set + 2;
+        let updates = format!(in alloc;
+            "c0 update map0 set k{set} v{set}\nsettle\nc1 update list0 push_back o{push}\nsettle\nc2 update ctr0 add {add}\nsettle\n"
+        )?;
+        text.extend(updates.as_bytes())?;
+    }
+    text.extend(
+        b"c1 host ctr0\nc1 host list0\nc1 begin\nc1 ask ctr0 value\nsettle\nc1 ask list0 len\n".as_slice(),
+    )?;
+    text.extend(b"c1 put list0 push_back total610\nc1 end\nsettle\n".as_slice())?;
+    Ok(text)
+}
+
+/// Whether a front of so many whole lines ends as it should: without a whole header at the line after its last.
+fn cut_ends(alloc: Global, front: &List<u8>, lines: u64) -> Result<bool, NoMemory> {
+    let (status, _) = outcome(alloc, &["replay"], front.clone()?, &[], &[])?;
+    match lines {
+        0 | 1 | 2 => Ok(status == Status::Script { line: lines + 1 }),
+        _ => Ok(status == Status::Done),
+    }
+}
+
+#[test]
+fn a_script_cut_after_each_line(rt: HostRuntime) -> Result<(), Fail> {
+    let text = realistic(rt.alloc())?;
+    let mut front = List::new(rt.alloc());
+    let mut lines = 0;
+    for byte in text.as_slice() {
+        front.push(*byte)?;
+        if *byte == b'\n' {
+            lines = u64::saturating_add(lines, 1);
+            assert!(rt; cut_ends(rt.alloc(), &front, lines)?);
+        }
+    }
+    assert_eq!(rt; lines, 135);
     Ok(())
 }

@@ -1,13 +1,12 @@
-use Rattle.std.proofs.Common.{rules, ◌≡◌, map, ap, ◌∙◌}
-use Rattle.std.specs.List.{flat_map}
-use Rattle.std.specs.Map.Iter.{deref_pair}
-use Rattle.std.proofs.lemmas.Map.Iter.{iter_end}
-use Rattle.tg_world.specs.Page.{record_of}
-use Rattle.tg_world.specs.Worlds.{done_at, history}
+use Rattle.std.proofs.Common.{◌≡◌, ◌∙◌, List, ap, subst}
+use Rattle.std.specs.Prelude.{IfOk}
+use Rattle.tg_play.proofs.Means.{means}
+use Rattle.tg_model.specs.Kinds.{DoneOf}
+use Rattle.tg_protocol.specs.Logs.{Log, history_of}
+use Rattle.tg_world.proofs.Telling.{history_told}
 use Rattle.tg_world.proofs.world.World.history.Goals as goal
 
 pub returns : goal.returns
-unfolding history
-returns c =
-    let e : map deref_pair c.loop-pos.yielded ≡ c.args.self.now.cells = search (rules, iter_end) in
-    c.loop-pos.invariant ∙ ap (flat_map (λ cell. done_at cell.0 (record_of cell.1))) e
+returns g c = λ w h.
+    let m = means g.K.Kind g.K.Registry in
+    subst (λ (x : List (DoneOf m)). IfOk c.history_of.result (λ ds. ds ≡ x)) (ap (λ (l : Log). history_of m l) c.as_slice.ensures ∙ history_told m c.args.self.now w h c.in_ok-log.log (c.in_ok-log.ensures w h)) c.history_of.ensures

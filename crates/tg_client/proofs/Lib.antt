@@ -1,0 +1,8 @@
+mod Accepting
+mod Early
+mod Fresh
+mod Putting
+mod Said
+mod Stepping
+mod Testing
+mod Ticked

@@ -1,0 +1,7 @@
+use Rattle.std.proofs.Common.{sym, ap}
+use Rattle.tg_protocol.specs.Clients as told
+use Rattle.tg_play.proofs.Means.{means}
+use Rattle.tg_client.proofs.client.Client.next.Goals as goal
+
+pub returns : goal.returns
+returns g c = λ d h. sym (ap (λ (x : told.Client (means g.K.Kind g.K.Registry)). x.next) h.is)

@@ -1,0 +1,128 @@
+-- From the lines of a text to how its reading ends.
+use Rattle.std.proofs.Common.{◌≡◌, ℕ, ◌+◌, ◌≤◌, List, [], ◌∷◌, ◌++◌, length, sym, ap, ◌∙◌, subst, append_assoc, arith, Some, None, Option, Result, IfOk, IfSome}
+use Rattle.std.proofs.lemmas.List.{append-nil}
+use Rattle.tg_base.specs.Clusters.{Header, IsHeader}
+use Rattle.tg_io.specs.declared.fault.IoErr.{IoErr}
+use Rattle.tg_protocol.specs.Worlds.{start}
+use Rattle.tg_script.specs.Headers.{header_lines}
+use Rattle.tg_script.specs.Lines.{IsLine as IsLineOf}
+use Rattle.tg_script.specs.declared.line.Line.{Line}
+use Rattle.tg_world.specs.Kept.{KeepsWorld}
+use Rattle.tg_reader.specs.Lines.{lines, ahead, TakesLine}
+use Rattle.tg_reader.specs.Openings.{Opened}
+use Rattle.tg_reader.specs.declared.header.Opening.TheVariants.{Opens, Outside as IsOutsideAt}
+use Rattle.tg_replay.specs.Any.{all_kinds}
+use Rattle.tg_replay.specs.Runs.{Script, IsLine, MayCome, Runs, line_on, line_text, world_of}
+use Rattle.tg_replay.specs.declared.stages.Run.{Run}
+use Rattle.tg_replay.specs.declared.stages.End.{End}
+use Rattle.tg_replay.specs.declared.stages.End.TheVariants.{Whole, Outside, Limited}
+use Rattle.tg_replay.specs.declared.stages.Finish.{Finish}
+use Rattle.tg_replay.specs.declared.stages.Fed.{Fed}
+use Rattle.tg_replay.specs.declared.stages.Fed.TheVariants.{Goes, Stops}
+use Rattle.tg_replay.specs.Stages.{IsRunOf, Reads, StillReads, Ends, Finished, Took, IsOutside, IsMade, GoesOnKept, status_of}
+use Rattle.tg_replay.proofs.Lists.{length_last}
+use Rattle.tg_replay.proofs.Scripts.{longer, run_longer, opening, run_opens, run_goes_on, run_ends, run_limited, passes_limit, refuses_event, first_event, refuses_header}
+
+-- how reading has ended, from its status and its run
+pub ended : (text : List ℕ) (f : Finish) (end : End) (o : Option Run) → f.end ≡ end → f.run ≡ o → Ends text (status_of end) o → Finished text f
+ended text f end o e g h = subst (λ (x : End). Ends text (status_of x) f.run) (sym e) (subst (λ (y : Option Run). Ends text (status_of end) y) (sym g) h)
+
+-- What a text spells, as a line below a header.
+
+pub line_of : (h : Header) (text : List ℕ) (l : Line) → IsLineOf h text l → IsLine h l
+line_of h text l is = record { fits = is.fits; short = subst (λ (t : List ℕ). length t ≤ 8192) is.spelled is.short }
+
+pub text_of_line : (h : Header) (text : List ℕ) (l : Line) → IsLine h l → text ≡ line_text l → IsLineOf h text l
+text_of_line h text l is e = record { spelled = e; fits = is.fits; short = subst (λ (t : List ℕ). length t ≤ 8192) (sym e) is.short }
+
+-- a line that no script has next
+pub outside_took : (text line : List ℕ) (read more : List (List ℕ)) (r : Run) (s : Script) (f : Fed) → IsRunOf read r s → lines text ≡ read ++ line ∷ more →
+    ((m : Line) → IsLine s.header m → MayCome (world_of s) m → line ≡ line_text m → ⊥) → IsOutside r f → Took text (read ++ line ∷ []) f
+outside_took text line read more r s (Goes q) h cut none m = absurd m
+outside_took text line read more r s (Stops f) h cut none m =
+    let at : 4 + r.events ≡ 4 + length s.events = ap (λ n. 4 + n) h.events in
+    ended text f (Outside (4 + r.events)) (Some r) m.0 m.1 (
+      s,
+      h.world,
+      h.cluster,
+      refuses_event text line read more r s h cut none (4 + r.events) at,
+      h.events,
+      first_event text line read more r s h cut none (4 + r.events) at,
+    )
+
+pub outside_kept : (r : Run) (f : Fed) → IsOutside r f → GoesOnKept f
+outside_kept r (Goes q) m = absurd m
+outside_kept r (Stops f) m = tt
+
+-- what is made of a line that may come
+pub made_took : (text line : List ℕ) (read more : List (List ℕ)) (r : Run) (s : Script) (l : Line) (f : Fed) → IsRunOf read r s → lines text ≡ read ++ line ∷ more →
+    IsLine s.header l → MayCome (world_of s) l → line ≡ line_text l → ((m : Line) → IsLine s.header m → line ≡ line_text m → m ≡ l) →
+    IsMade r (line_on (world_of s) l) f → Took text (read ++ line ∷ []) f
+made_took text line read more r s l (Goes q) h cut is comes spelled one m = (longer s l, run_goes_on read r q s line l h is comes spelled one m.0 m.1)
+made_took text line read more r s l (Stops f) h cut is comes spelled one m =
+    let events : m.run.events ≡ length (s.events ++ l ∷ []) = let a = h.events in let b = length_last s.events l in let e = m.after.events in omega arith in
+    ended text f (Limited m.which) (Some m.run) m.end m.is (
+      longer s l,
+      subst (λ (x : Runs). KeepsWorld all_kinds m.run.world x.world) (sym (run_longer s l h.within)) m.after.world,
+      m.after.cluster ∙ h.cluster,
+      run_limited text line read more r s l m.which h cut is comes spelled m.over,
+      events,
+      passes_limit text line read more r s l m.which h cut is comes spelled m.over,
+    )
+
+-- Line by line.
+
+pub still_none : (before : Option (List ℕ)) (r : Run) → StillReads before before r r
+still_none None r = tt
+still_none (Some rest) r = λ text h. h
+
+-- what feeding a line to a run comes to
+abbrev pub Feeds : Run → List ℕ → Fed → Type 0
+Feeds r line f = (text : List ℕ) (read more : List (List ℕ)) (s : Script) → lines text ≡ read ++ line ∷ more → IsRunOf read r s → Took text (read ++ line ∷ []) f
+
+pub still_more : (before rest after : Option (List ℕ)) (r q next : Run) (line : List ℕ) → StillReads before rest r q → TakesLine rest after (Some line) → Feeds q line (Goes next) → StillReads before after r next
+still_more None rest after r q next line h t f = tt
+still_more (Some before) None after r q next line h t f = absurd h
+still_more (Some before) (Some rest) None r q next line h t f = t
+still_more (Some before) (Some rest) (Some after) r q next line h t f = λ text reads.
+    let is = h text reads in
+    let cut : lines text ≡ is.read ++ line ∷ lines after = is.cut ∙ ap (λ (ls : List (List ℕ)). is.read ++ ls) t in
+    let took = f text is.read (lines after) is.script cut is.run in
+    record { read = is.read ++ line ∷ []; script = took.0; run = took.1; cut = cut ∙ sym (append_assoc is.read (line ∷ []) (lines after)) }
+
+pub still_stops : (before rest after : Option (List ℕ)) (r q : Run) (f : Finish) (line : List ℕ) → StillReads before rest r q → TakesLine rest after (Some line) → Feeds q line (Stops f) →
+    IfSome before (λ rest. (text : List ℕ) → Reads text r rest → Finished text f)
+still_stops None rest after r q f line h t feeds = tt
+still_stops (Some before) None after r q f line h t feeds = absurd h
+still_stops (Some before) (Some rest) None r q f line h t feeds = absurd t
+still_stops (Some before) (Some rest) (Some after) r q f line h t feeds = λ text reads.
+    let is = h text reads in
+    feeds text is.read (lines after) is.script (is.cut ∙ ap (λ (ls : List (List ℕ)). is.read ++ ls) t) is.run
+
+pub still_ends : (before rest after : Option (List ℕ)) (r q : Run) (f : Finish) → StillReads before rest r q → TakesLine rest after None → f.end ≡ Whole → f.run ≡ Some q →
+    IfSome before (λ rest. (text : List ℕ) → Reads text r rest → Finished text f)
+still_ends None rest after r q f h t e g = tt
+still_ends (Some before) None after r q f h t e g = absurd h
+still_ends (Some before) (Some rest) None r q f h t e g = absurd t
+still_ends (Some before) (Some rest) (Some after) r q f h t e g = λ text reads.
+    let is = h text reads in
+    let cut : lines text ≡ is.read = is.cut ∙ ap (λ (bs : List ℕ). is.read ++ lines bs) t.0 ∙ append-nil is.read in
+    ended text f Whole (Some q) e g (is.script, is.run.world, is.run.cluster, run_ends text is.read q is.script is.run cut, is.run.events, (is.run.lawful, is.run.within, cut ∙ is.run.lines))
+
+-- The header.
+
+pub header_outside : (none : List ℕ) (left rest : Option (List ℕ)) (n : ℕ) (f : Finish) → none ≡ [] → Opened (ahead none left) rest (IsOutsideAt n) → f.end ≡ Outside n → f.run ≡ None → IfSome left (λ text. Finished text f)
+header_outside none None rest n f e h g i = tt
+header_outside none (Some text) None n f e h g i = absurd h
+header_outside none (Some text) (Some rest) n f e h g i =
+    let is = subst (λ (bs : List ℕ). Opened (Some (bs ++ text)) (Some rest) (IsOutsideAt n)) e h in
+    ended text f (Outside n) None g i (refuses_header text n is.0 is.1)
+
+pub header_opens : (none : List ℕ) (left rest : Option (List ℕ)) (h : Header) (r : Run) (result : Result Finish IoErr) → none ≡ [] → Opened (ahead none left) rest (Opens h) →
+    IsHeader h → r.cluster ≡ h → KeepsWorld all_kinds r.world (start all_kinds h) → r.events ≡ 0 →
+    IfSome rest (λ rest. (text : List ℕ) → Reads text r rest → IfOk result (Finished text)) → IfSome left (λ text. IfOk result (Finished text))
+header_opens none None rest h r result e is lawful cluster world events ends = tt
+header_opens none (Some text) None h r result e is lawful cluster world events ends = absurd is
+header_opens none (Some text) (Some rest) h r result e is lawful cluster world events ends =
+    let cut = subst (λ (bs : List ℕ). Opened (Some (bs ++ text)) (Some rest) (Opens h)) e is in
+    ends text (record { read = header_lines h; script = opening h; run = run_opens h r lawful cluster world events; cut = cut })

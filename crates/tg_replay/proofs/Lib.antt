@@ -1,0 +1,6 @@
+pub mod Lists
+pub mod Making
+pub mod Scripts
+pub mod Feeding
+pub mod Exact
+pub mod Promises

@@ -1,0 +1,4 @@
+pub mod Any
+pub mod Runs
+pub mod Stages
+pub mod Outcomes

@@ -1,0 +1,57 @@
+//! Reading a script from a source.
+
+ghost use Rattle.std.specs.Prelude.{ℕ, List, IfOk, IfSome};
+ghost use Rattle.tg_io.specs.Faults.{HasCause, StaysSure};
+ghost use Rattle.tg_reader.specs.Lines.{ahead};
+ghost use Rattle.tg_world.specs.Kept.{IsWorld};
+ghost use Rattle.tg_replay.specs.Any.{all_kinds};
+ghost use Rattle.tg_replay.specs.Stages.{Finished, Reads};
+
+use crate::stages::{End, Fed, Finish, Run};
+use std::alloc::Global;
+use tg_io::{IoErr, Source};
+use tg_reader::{LineReader, Opening, read_header};
+
+/// Reads a script to its end, or to where its run ends.
+pub fn read_script<S: Source>(alloc: Global, source: &mut S) -> Result<Finish, IoErr>
+    ensures finished { IfSome (S.left source.old) (λ text. IfOk result (Finished text)) }
+    ensures cause { HasCause (S.faults source.old) (S.faults source.new) result }
+    ensures sure { StaysSure (S.sure source.old) (S.sure source.new) (S.faults source.old) (S.faults source.new) }
+{
+    let mut reader = LineReader::new();
+    match read_header(alloc, &mut reader, source)? {
+        Opening::Outside { line } => Ok(Finish {
+            end: End::Outside { line },
+            run: None,
+        }),
+        Opening::Opens(cluster) => {
+            let run = Run::start(alloc, cluster)?;
+            read_events(alloc, run, &mut reader, source)
+        }
+    }
+}
+
+// Reads the events of a script.
+fn read_events<S: Source>(
+    alloc: Global,
+    run: Run,
+    reader: &mut LineReader,
+    source: &mut S,
+) -> Result<Finish, IoErr>
+    requires { IsWorld all_kinds run.world }
+    ensures finished { IfSome (ahead reader.old (S.left source.old)) (λ rest. (text : List ℕ) → Reads text run rest → IfOk result (Finished text)) }
+    ensures cause { HasCause (S.faults source.old) (S.faults source.new) result }
+    ensures sure { StaysSure (S.sure source.old) (S.sure source.new) (S.faults source.old) (S.faults source.new) }
+{
+    let mut run = run;
+    while let Some(line) = reader.next(alloc, source)? {
+        match run.feed(alloc, line.as_slice())? {
+            Fed::Goes(next) => run = next,
+            Fed::Stops(finish) => return Ok(finish),
+        }
+    }
+    Ok(Finish {
+        end: End::Whole,
+        run: Some(run),
+    })
+}

@@ -1,0 +1,11 @@
+use Rattle.std.proofs.Common.{◌∙◌, ap}
+use Rattle.tg_play.proofs.Means.{means}
+use Rattle.tg_world.specs.Kept.{KeptOf}
+use Rattle.tg_world.proofs.Telling.{noted_told}
+use Rattle.tg_world.proofs.Whole.{whole_of}
+use Rattle.tg_world.proofs.world.World.trace_noted.Goals as goal
+
+pub returns : goal.returns
+returns g c = λ w h.
+    let m = means g.K.Kind g.K.Registry in
+    c.as_slice.ensures.value ∙ ap (λ (k : KeptOf m). k.told_noted) c.self.view_is ∙ noted_told m c.args.self.now w h (whole_of m _ c.args.self.now c.self.view_is c.self.invariant)
