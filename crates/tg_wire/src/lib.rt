@@ -5,6 +5,7 @@ mod coding;
 mod fault;
 mod layout_messages;
 mod reads;
+mod rules;
 mod seqr_messages;
 mod shapes;
 mod sizes;
@@ -15,6 +16,7 @@ mod writes;
 
 pub use coding::{decode, encode, no_spelling_begins_another, size};
 pub use fault::WireFault;
+pub use rules::fits;
 pub use typing::types;
 
 #[cfg(test)]

@@ -1,0 +1,9 @@
+//! The words after the program's name, read as one of its forms.
+#![tactic(auto)]
+
+mod forms;
+mod numbers;
+#[cfg(test)]
+mod tests;
+
+pub use forms::{Form, read_form};

@@ -1,0 +1,5 @@
+mod Grammar
+mod Texts
+mod Begun
+mod Scripts
+mod Promises

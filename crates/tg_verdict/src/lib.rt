@@ -1,0 +1,9 @@
+//! The verdict on a transcript that is read from a source, as it is told on a sink.
+#![tactic(auto)]
+
+mod judging;
+mod line;
+#[cfg(test)]
+mod tests;
+
+pub use judging::judge;
