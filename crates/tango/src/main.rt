@@ -1,7 +1,6 @@
 //! Tango objects over a CORFU log: the program.
 #![tactic(auto)]
 
-mod forms;
 mod top;
 
 use std::io::{self, Write};
@@ -16,7 +15,7 @@ fn main(rt: HostRuntime) -> io::Result<ExitCode> {
     let words: Vec<String> = std::env::args(&rt)?.skip(1).collect(alloc)?;
     let mut source = Reading::new(rt.stdin());
     let mut sink = Writing::new(rt.stdout());
-    // A replay uses no link.
+    // No form that is run uses the link.
     let mut link = MemLink::new(alloc, List::new(alloc), List::new(alloc));
     let status = top::tango(alloc, words.as_slice(), &mut source, &mut sink, &mut link);
     // Where there is no memory for the line, the status alone tells.

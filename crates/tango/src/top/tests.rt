@@ -93,7 +93,8 @@ fn is_no_form(alloc: Global, words: &[&str]) -> Result<bool, NoMemory> {
 #[test]
 fn words_that_are_no_form(rt: HostRuntime) -> Result<(), Fail> {
     assert!(rt; is_no_form(rt.alloc(), &["replay", "x"])?);
-    assert!(rt; is_no_form(rt.alloc(), &["audit"])?);
+    assert!(rt; is_no_form(rt.alloc(), &["bench", "7"])?);
+    assert!(rt; is_no_form(rt.alloc(), &["live"])?);
     assert!(rt; is_no_form(rt.alloc(), &["--help"])?);
     assert!(rt; is_no_form(rt.alloc(), &[])?);
     Ok(())
@@ -276,5 +277,30 @@ fn a_script_cut_after_each_line(rt: HostRuntime) -> Result<(), Fail> {
         }
     }
     assert_eq!(rt; lines, 135);
+    Ok(())
+}
+
+#[test]
+fn a_made_load(rt: HostRuntime) -> Result<(), Fail> {
+    let alloc = rt.alloc();
+    let (status, sink) = outcome(alloc, &["bench", "0", "1"], bytes(alloc, "")?, &[], &[])?;
+    let want =
+        "events 23\npackets 14\ncommitted 1\naborted 0\nunsure 0\nrefused 0\nhistory 1\nlast 0\n";
+    assert!(rt; status == Status::Done);
+    assert!(rt; sink.written() == want.as_bytes());
+    Ok(())
+}
+
+#[test]
+fn an_audit(rt: HostRuntime) -> Result<(), Fail> {
+    let alloc = rt.alloc();
+    let legal =
+        "objects ctr0 ctr1\n1 c0 1 begin\n1 c0 1 put ctr0 add 5\n1 c0 1 end\n5 c0 1 committed 0\nhistory 1\n0 c0 1 ctr0 add 5\n";
+    let (status, sink) = outcome(alloc, &["audit"], bytes(alloc, legal)?, &[], &[])?;
+    assert!(rt; status == Status::Done);
+    assert!(rt; sink.written() == b"legal\n".as_slice());
+    let (status, sink) = outcome(alloc, &["audit"], bytes(alloc, "objects\n")?, &[], &[])?;
+    assert!(rt; status == Status::Script { line: 2 });
+    assert!(rt; sink.written().is_empty());
     Ok(())
 }
