@@ -101,3 +101,9 @@ limits s before after ReadFault by w u over = absurd w
 limits s before after LinkFault by w u over = absurd w
 limits s before after (Illegal line clause) by w u over = absurd w
 limits s before after (AtLine n) by w u over = absurd w
+
+-- a run's end is no fault
+pub ends_well : (end : End) (X : Type 0) → status_of end ≡ WriteFault → X
+ends_well Whole X e = absurd cc
+ends_well (Outside line) X e = absurd cc
+ends_well (Limited which) X e = absurd cc

@@ -236,13 +236,13 @@ fn realistic(alloc: Global) -> Result<List<u8>, NoMemory> {
         alloc,
         "cluster units 4 layouts 3 seqs 2 clients 3 limit 10000\nchains u0,u1/u2,u3\nobjects ctr0 map0 list0\n",
     )?;
-    for number in 0..20 {
+    for number in 0..20_u64 {
         if number == 10 {
             text.extend(b"stop u1\nc0 reconf s1 drop u1\nsettle\n".as_slice())?;
         }
-        let set = 3 * number;
-        let push = set + 1;
-        let add = set + 2;
+        let set = number.saturating_mul(3);
+        let push = set.saturating_add(1);
+        let add = set.saturating_add(2);
         let updates = format!(in alloc;
             "c0 update map0 set k{set} v{set}\nsettle\nc1 update list0 push_back o{push}\nsettle\nc2 update ctr0 add {add}\nsettle\n"
         )?;

@@ -1,7 +1,7 @@
-use Rattle.std.proofs.Common.{ℕ, List, sym, subst}
+use Rattle.std.proofs.Common.{ℕ, List, sym, subst, ◌∙◌}
 use Rattle.tg_io.specs.declared.status.Status.{Status}
 use Rattle.tg_load.specs.Loads.{IsSummed, Written}
-use Rattle.tg_load.proofs.Promises.{written_none, written_whole, written_front}
+use Rattle.tg_load.proofs.Promises.{written_none, written_whole, written_front, ends_well}
 use Rattle.tg_load.proofs.loading.report.Goals as goal
 
 pub returns-in_default-clause-written : goal.returns-in_default-clause-written
@@ -26,3 +26,6 @@ returns-clause-written g c = λ s text lawful tells finished.
     let end = c.args.finish.end in
     let summed = subst (λ (x : List ℕ). IsSummed s end x) (sym c.as_slice.ensures) (c.in-Ok.ensures s text end lawful tells finished) in
     written_front s end (g.K.Sink.written c.args.sink.now) (g.K.Sink.written c.write_all.new.sink) c.as_slice.result.now summed c.in-Err-NoMemory.ensures.front
+
+pub returns-in-Ok-write_all-clause-write_fault : goal.returns-in-Ok-write_all-clause-write_fault
+returns-in-Ok-write_all-clause-write_fault g c = λ e. ends_well c.args.finish.end _ (sym c.status.ensures ∙ e)
