@@ -1,0 +1,273 @@
+-- How following a text ends, and what is promised of it.
+use Rattle.std.proofs.Common.{◌≡◌, ◌⊎◌, ℕ, suc, ◌+◌, ◌<◌, ◌≤◌, Bool, true, false, List, [], ◌∷◌, ◌++◌, length, take, drop, Option, Some, None, IfSome, Result, Err, sym, refl, subst, ap, ◌∙◌, arith, inl, inr, ⊎_elim}
+use Rattle.tg_base.specs.Clusters.{Header, IsHeader}
+use Rattle.tg_base.specs.declared.fault.Which.{Which}
+use Rattle.tg_base.specs.declared.ids.NodeId.{NodeId}
+use Rattle.tg_io.specs.declared.link.Arrival.{Arrival}
+use Rattle.tg_io.specs.declared.link.Sent.{Sent}
+use Rattle.tg_io.specs.declared.status.Status.{Status}
+use Rattle.tg_io.specs.declared.status.Status.TheVariants as status
+use Rattle.tg_io.specs.Faults.{Rose}
+use Rattle.tg_io.specs.declared.fault.IoErr.{IoErr}
+use Rattle.tg_io.specs.declared.fault.IoErr.TheVariants.{Failed}
+use Rattle.tg_io.proofs.Bytes.{grows_none}
+use Rattle.tg_io.proofs.Faults.{rose_later, rose_since}
+use Rattle.tg_reader.specs.Lines.{lines, ahead, TakesLine}
+use Rattle.tg_reader.specs.Openings.{Opened}
+use Rattle.tg_reader.specs.declared.header.Opening.TheVariants.{Opens, Outside}
+use Rattle.tg_script.specs.Headers.{header_lines, IsFirstOutside}
+use Rattle.tg_script.specs.Nodes.{is_declared}
+use Rattle.tg_script.proofs.Clusters.{same_header}
+use Rattle.tg_orders.specs.Lines.{IsAsked}
+use Rattle.tg_orders.specs.declared.asked.Asked.{Asked}
+use Rattle.tg_own.specs.Nodes.{node_start}
+use Rattle.tg_own.specs.Kept.{KeepsNode, IsNode}
+use Rattle.tg_node.specs.Any.{all_kinds}
+use Rattle.tg_node.specs.Sessions.{Session, opening}
+use Rattle.tg_node.specs.Texts.{Seen, IsSeen, Point, session_at, answers_at, Followed, RefusedLine, Undeclared, RefusedHeader, Refused, Limited, IsCutShort, Outcome, Told, IsOfNode, AreAsked, IsText}
+use Rattle.tg_node.specs.Steps.{IsSound}
+use Rattle.tg_node.specs.Stages.{seen, Follows, Follow, StillFollows, IsOfLine, IsRefused, GoesSound, Causes, LineCauses}
+use Rattle.tg_node.specs.declared.nodes.Node.{Node}
+use Rattle.tg_node.specs.declared.stages.Run.{Run}
+use Rattle.tg_node.specs.declared.stages.Next.{Next}
+use Rattle.tg_node.specs.declared.stages.Next.TheVariants.{Goes, Ends}
+use Rattle.tg_node.proofs.Stepping.{take_before}
+use Rattle.tg_node.proofs.Following.{cut_here, text_ended}
+
+-- Line by line.
+
+pub still_none : (first : Option (List ℕ)) (r : Run) (was : Seen) → StillFollows first first r was r was
+still_none None r was = tt
+still_none (Some bytes) r was = λ text before f. (refl, f)
+
+pub still_more : (first rest left : Option (List ℕ)) (r q x : Run) (was now later : Seen) (line : List ℕ) → StillFollows first rest r was q now → TakesLine rest left (Some line)
+    → ((text : List ℕ) (before : Seen) (more : List (List ℕ)) → Follows text before now q (line ∷ more) → Follow text q.id before later more (Goes x)) → StillFollows first left r was x later
+still_more None rest left r q x was now later line h takes step = tt
+still_more (Some bytes) None left r q x was now later line h takes step = absurd h
+still_more (Some bytes) (Some rest) None r q x was now later line h takes step = absurd takes
+still_more (Some bytes) (Some rest) (Some left) r q x was now later line h takes step = λ text before f.
+    let here = h text before f in
+    let next = step text before (lines left) (subst (λ (ls : List (List ℕ)). Follows text before now q ls) takes here.1) in
+    (next.0 ∙ here.0, next.1)
+
+outcome_of : (text : List ℕ) (n k : NodeId) (s : Status) (before now : Seen) → n ≡ k → Outcome text n s before now → Outcome text k s before now
+outcome_of text n k s before now e h = subst (λ (x : NodeId). Outcome text x s before now) e h
+
+pub still_ends : (first rest left : Option (List ℕ)) (r q : Run) (was now later : Seen) (line : List ℕ) (s : Status) → StillFollows first rest r was q now → TakesLine rest left (Some line)
+    → ((text : List ℕ) (before : Seen) (more : List (List ℕ)) → Follows text before now q (line ∷ more) → Follow text q.id before later more (Ends s))
+    → IfSome first (λ bytes. (text : List ℕ) (before : Seen) → Follows text before was r (lines bytes) → Outcome text r.id s before later)
+still_ends None rest left r q was now later line s h takes step = tt
+still_ends (Some bytes) None left r q was now later line s h takes step = absurd h
+still_ends (Some bytes) (Some rest) None r q was now later line s h takes step = absurd takes
+still_ends (Some bytes) (Some rest) (Some left) r q was now later line s h takes step = λ text before f.
+    let here = h text before f in
+    outcome_of text q.id r.id s before later here.0 (step text before (lines left) (subst (λ (ls : List (List ℕ)). Follows text before now q ls) takes here.1))
+
+pub still_done : (first rest left : Option (List ℕ)) (r q : Run) (was : Seen) (sent : Option (List Sent)) (handed : Option (List (Option Arrival))) (written : Option (List ℕ)) → StillFollows first rest r was q (seen sent handed written) → TakesLine rest left None
+    → IfSome first (λ bytes. (text : List ℕ) (before : Seen) → Follows text before was r (lines bytes) → Outcome text r.id status.Done before (seen sent handed written))
+still_done None rest left r q was sent handed written h takes = tt
+still_done (Some bytes) None left r q was sent handed written h takes = absurd h
+still_done (Some bytes) (Some rest) None r q was sent handed written h takes = absurd takes
+still_done (Some bytes) (Some rest) (Some left) r q was sent handed written h takes = λ text before f.
+    let here = h text before f in
+    outcome_of text q.id r.id status.Done before (seen sent handed written) here.0
+    (text_ended text before (seen sent handed written) q (subst (λ (b : List ℕ). Follows text before (seen sent handed written) q (lines b)) takes.0 here.1))
+
+-- a run that a fault ends
+pub still_cut : (first rest : Option (List ℕ)) (r q : Run) (was : Seen) (sent : Option (List Sent)) (handed : Option (List (Option Arrival))) (written : Option (List ℕ)) → StillFollows first rest r was q (seen sent handed written)
+    → IfSome first (λ bytes. (text : List ℕ) (before : Seen) → Follows text before was r (lines bytes) → IsCutShort text r.id before (seen sent handed written))
+still_cut None rest r q was sent handed written h = tt
+still_cut (Some bytes) None r q was sent handed written h = absurd h
+still_cut (Some bytes) (Some rest) r q was sent handed written h = λ text before f.
+    let here = h text before f in
+    subst (λ (n : NodeId). IsCutShort text n before (seen sent handed written)) here.0 (cut_here text before (seen sent handed written) q (lines rest) sent handed here.1)
+
+-- The opening.
+
+pub opens : (text : List ℕ) (n : NodeId) (h : Header) (k : Node) (rest : List ℕ) (sent : Option (List Sent)) (handed : Option (List (Option Arrival))) (written : Option (List ℕ)) → IsHeader h → is_declared h n ≡ true → lines text ≡ header_lines h ++ lines rest → KeepsNode all_kinds 0 k.own (node_start all_kinds h n) → k.steps ≡ 0
+    → k.received ≡ 0 → k.replies ≡ [] → Follows text (seen sent handed written) (seen sent handed written) (record { id = n; cluster = h; lines = 0; node = k }) (lines rest)
+opens text n h k rest sent handed written lawful declared cut keeps steps received none = record {
+  point = record { header = h; lawful = lawful; declared = declared; read = []; rest = lines rest; deeds = []; cut = cut; done = tt; few = omega arith; fewer = omega arith };
+  left = refl;
+  header = refl;
+  lines = refl;
+  steps = steps;
+  received = received;
+  none = none;
+  keeps = subst (λ (j : ℕ). KeepsNode all_kinds j k.own (node_start all_kinds h n)) (sym steps) keeps;
+  seen = record { sent = grows_none sent; handed = grows_none handed; written = grows_none written };
+}
+
+pub opens_sound : (n : NodeId) (h : Header) (k : Node) → KeepsNode all_kinds 0 k.own (node_start all_kinds h n) → k.steps ≡ 0 → k.received ≡ 0 → IsSound k
+opens_sound n h k keeps steps received = record {
+  node = record { node = node_start all_kinds h n; keeps = subst (λ (j : ℕ). KeepsNode all_kinds j k.own (node_start all_kinds h n)) (sym steps) keeps };
+  steps = omega (arith, steps);
+  received = omega (arith, received);
+}
+
+pub undeclared : (text : List ℕ) (n : NodeId) (h : Header) (rest : List ℕ) (now : Seen) → IsHeader h → is_declared h n ≡ false → lines text ≡ header_lines h ++ lines rest → Refused text n 1 now now
+undeclared text n h rest now lawful missing cut = inr (inl (record { header = h; lawful = lawful; rest = lines rest; cut = cut; missing = missing; place = refl }), refl)
+
+-- the text of a source before anything is read
+pub header_opens : (left : Option (List ℕ)) (held : List ℕ) (rest : Option (List ℕ)) (n : NodeId) (h : Header) (s : Status) (before now : Seen) → held ≡ [] → Opened (ahead held left) rest (Opens h)
+    → IfSome rest (λ bytes. (text : List ℕ) → lines text ≡ header_lines h ++ lines bytes → Outcome text n s before now) → Told left (λ text. Outcome text n s before now)
+header_opens None held rest n h s before now e opened f = tt
+header_opens (Some text) held None n h s before now e opened f = absurd opened
+header_opens (Some text) held (Some bytes) n h s before now e opened f = f text (sym (ap (λ (x : List ℕ). lines (x ++ text)) e) ∙ opened)
+
+pub header_outside : (left : Option (List ℕ)) (held : List ℕ) (rest : Option (List ℕ)) (n : NodeId) (k : ℕ) (now : Seen) → held ≡ [] → Opened (ahead held left) rest (Outside k) → Told left (λ text. Outcome text n (status.Script k) now now)
+header_outside None held rest n k now e opened = tt
+header_outside (Some text) held None n k now e opened = absurd opened
+header_outside (Some text) held (Some bytes) n k now e opened =
+    inr (inr (record { few = opened.0; outside = subst (λ (x : List ℕ). IsFirstOutside (lines (x ++ text)) k) e opened.1 }), refl)
+
+pub told_cut : (left : Option (List ℕ)) (n : NodeId) (now : Seen) → Told left (λ text. IsCutShort text n now now)
+told_cut None n now = tt
+told_cut (Some text) n now = inl refl
+
+-- What is promised.
+
+pub told_as : (left : Option (List ℕ)) (n : NodeId) (s t : Status) (before now : Seen) → Told left (λ text. Outcome text n s before now) → s ≡ t → Told left (λ text. Outcome text n t before now)
+told_as None n s t before now h e = tt
+told_as (Some text) n s t before now h e = subst (λ (x : Status). Outcome text n x before now) e h
+
+-- the parts of a text are those of its header and the lines after it
+same_parts : (text : List ℕ) (a b : Header) (xs ys : List (List ℕ)) → IsHeader a → IsHeader b → lines text ≡ header_lines a ++ xs → lines text ≡ header_lines b ++ ys → (a ≡ b) × (xs ≡ ys)
+same_parts text a b xs ys la lb e f =
+    let same : header_lines a ++ xs ≡ header_lines b ++ ys = sym e ∙ f in
+    (same_header a b la lb (header_lines a) refl (ap (λ (ls : List (List ℕ)). take 3 ls) same), ap (λ (ls : List (List ℕ)). drop 3 ls) same)
+
+asked_there : (h : Header) (n : NodeId) (xs ys : List (List ℕ)) (line : List ℕ) → AreAsked h n (xs ++ line ∷ ys) → (a : Asked) × IsAsked h n line a
+asked_there h n [] ys line is = is.0
+asked_there h n (x ∷ xs) ys line is = asked_there h n xs ys line is.1
+
+none_outside : (text : List ℕ) (n : NodeId) (k : ℕ) (before now : Seen) → Refused text n k before now → IsText text n → ⊥
+none_outside text n k before now (inl r) t =
+    let p = same_parts text r.point.header t.header (r.point.read ++ r.point.rest) t.body r.point.lawful t.lawful r.point.cut t.cut in
+    let body : r.point.read ++ r.line ∷ r.more ≡ t.body = ap (λ (x : List (List ℕ)). r.point.read ++ x) (sym r.next) ∙ p.1 in
+    let asked = asked_there t.header n r.point.read r.more r.line (subst (λ (x : List (List ℕ)). AreAsked t.header n x) (sym body) t.asked) in
+    r.outside asked.0 (subst (λ (h : Header). IsAsked h n r.line asked.0) (sym p.0) asked.1)
+none_outside text n k before now (inr (inl u, same)) t =
+    let p = same_parts text u.header t.header u.rest t.body u.lawful t.lawful u.cut t.cut in
+    let missing : is_declared t.header n ≡ false = subst (λ (h : Header). is_declared h n ≡ false) p.0 u.missing in
+    let declared = t.declared in absurd cc
+none_outside text n k before now (inr (inr o, same)) t =
+    o.outside.outside (record { header = t.header; lawful = t.lawful; same = ap (λ (ls : List (List ℕ)). take k ls) t.cut ∙ take_before (header_lines t.header) t.body k o.few })
+
+completes : (text : List ℕ) (n : NodeId) (s : Status) (before now : Seen) → Outcome text n s before now → (s ≡ status.ReadFault → ⊥) → (s ≡ status.WriteFault → ⊥) → (s ≡ status.LinkFault → ⊥) → IsText text n
+    → (s ≡ status.Done) ⊎ (((w : Which) × (s ≡ status.Limit w)) ⊎ (s ≡ status.NoMemory))
+completes text n status.Done before now h r w l t = inl refl
+completes text n (status.Illegal line c) before now h r w l t = absurd h
+completes text n status.Words before now h r w l t = absurd h
+completes text n (status.Script k) before now h r w l t = absurd (none_outside text n k before now h t)
+completes text n status.ReadFault before now h r w l t = absurd (r refl)
+completes text n status.WriteFault before now h r w l t = absurd (w refl)
+completes text n status.LinkFault before now h r w l t = absurd (l refl)
+completes text n (status.Limit which) before now h r w l t = inr (inl (which, refl))
+completes text n status.NoMemory before now h r w l t = inr (inr refl)
+
+pub complete_told : (left : Option (List ℕ)) (n : NodeId) (s : Status) (before now : Seen) → Told left (λ text. Outcome text n s before now) → (s ≡ status.ReadFault → ⊥) → (s ≡ status.WriteFault → ⊥) → (s ≡ status.LinkFault → ⊥)
+    → Told left (λ text. IsText text n → (s ≡ status.Done) ⊎ (((w : Which) × (s ≡ status.Limit w)) ⊎ (s ≡ status.NoMemory)))
+complete_told None n s before now h r w l = tt
+complete_told (Some text) n s before now h r w l = λ t. completes text n s before now h r w l t
+
+pub cut_told : (left : Option (List ℕ)) (n : NodeId) (s : Status) (before now : Seen) → Told left (λ text. Outcome text n s before now)
+    → (s ≡ status.ReadFault) ⊎ ((s ≡ status.WriteFault) ⊎ ((s ≡ status.LinkFault) ⊎ (s ≡ status.NoMemory))) → Told left (λ text. IsCutShort text n before now)
+cut_told left n s before now h (inl e) = told_as left n s status.ReadFault before now h e
+cut_told left n s before now h (inr (inl e)) = told_as left n s status.WriteFault before now h e
+cut_told left n s before now h (inr (inr (inl e))) = told_as left n s status.LinkFault before now h e
+cut_told left n s before now h (inr (inr (inr e))) = told_as left n s status.NoMemory before now h e
+
+-- Causes.
+
+of_node : (s : Status) → IsOfLine (Ends s) → IsOfNode s
+of_node status.Done h = absurd h
+of_node (status.Illegal line c) h = absurd h
+of_node status.Words h = absurd h
+of_node (status.Script k) h = tt
+of_node status.ReadFault h = absurd h
+of_node status.WriteFault h = tt
+of_node status.LinkFault h = tt
+of_node (status.Limit w) h = tt
+of_node status.NoMemory h = tt
+
+no_read : (s : Status) → IsOfLine (Ends s) → s ≡ status.ReadFault → ⊥
+no_read s h e = let x : IsOfLine (Ends status.ReadFault) = subst (λ (y : Status). IsOfLine (Ends y)) e h in x
+
+-- a line ends a run
+pub causes_ends : (r0 r1 r2 w0 w1 w2 l0 l1 l2 : ℕ) (s : Status) → r0 ≤ r1 → r1 ≤ r2 → w0 ≤ w1 → l0 ≤ l1 → LineCauses w1 w2 l1 l2 (Ends s) → Causes r0 r2 w0 w2 l0 l2 s
+causes_ends r0 r1 r2 w0 w1 w2 l0 l1 l2 s r q w l h = record {
+  read = λ e. absurd (no_read s h.ways e);
+  write = λ e. rose_since w0 w1 w2 w h.write_later (h.write (ap Ends e));
+  link = λ e. rose_since l0 l1 l2 l h.link_later (h.link (ap Ends e));
+  ways = of_node s h.ways;
+  read_later = omega (arith, r, q);
+}
+
+pub causes_read : (r0 r1 r2 w0 w1 l0 l1 : ℕ) → r0 ≤ r1 → r1 ≤ r2 → Rose r1 r2 → Causes r0 r2 w0 w1 l0 l1 status.ReadFault
+causes_read r0 r1 r2 w0 w1 l0 l1 r q rose = record { read = λ e. rose_since r0 r1 r2 r q rose; write = λ e. absurd cc; link = λ e. absurd cc; ways = tt; read_later = omega (arith, r, q) }
+
+pub causes_done : (r0 r1 r2 w0 w1 l0 l1 : ℕ) → r0 ≤ r1 → r1 ≤ r2 → Causes r0 r2 w0 w1 l0 l1 status.Done
+causes_done r0 r1 r2 w0 w1 l0 l1 r q = record { read = λ e. absurd cc; write = λ e. absurd cc; link = λ e. absurd cc; ways = tt; read_later = omega (arith, r, q) }
+
+pub causes_none : (r0 r1 r2 w0 w1 l0 l1 : ℕ) → r0 ≤ r1 → r1 ≤ r2 → Causes r0 r2 w0 w1 l0 l1 status.NoMemory
+causes_none r0 r1 r2 w0 w1 l0 l1 r q = record { read = λ e. absurd cc; write = λ e. absurd cc; link = λ e. absurd cc; ways = tt; read_later = omega (arith, r, q) }
+
+pub causes_script : (k r0 r1 w0 w1 l0 l1 : ℕ) → r0 ≤ r1 → Causes r0 r1 w0 w1 l0 l1 (status.Script k)
+causes_script k r0 r1 w0 w1 l0 l1 r = record { read = λ e. absurd cc; write = λ e. absurd cc; link = λ e. absurd cc; ways = tt; read_later = r }
+
+-- a header was read before
+pub causes_since : (r0 r1 r2 w0 w1 l0 l1 : ℕ) (s : Status) → r0 ≤ r1 → Causes r1 r2 w0 w1 l0 l1 s → Causes r0 r2 w0 w1 l0 l1 s
+causes_since r0 r1 r2 w0 w1 l0 l1 s r h = record {
+  read = λ e. rose_since r0 r1 r2 r h.read_later (h.read e);
+  write = h.write;
+  link = h.link;
+  ways = h.ways;
+  read_later = let q : r1 ≤ r2 = h.read_later in omega (arith, r, q);
+}
+
+-- what a line's causes are, from those of what it does and of what it writes
+pub line_writes : (w0 w1 l0 l1 : ℕ) (x : Next) → IsOfLine x → (x ≡ Ends status.WriteFault → Rose w0 w1) → (x ≡ Ends status.LinkFault → ⊥) → w0 ≤ w1 → l0 ≤ l1 → LineCauses w0 w1 l0 l1 x
+line_writes w0 w1 l0 l1 x ways write link w l = record { write = write; link = λ e. absurd (link e); ways = ways; write_later = w; link_later = l }
+
+pub line_link : (w l0 l1 : ℕ) → l0 ≤ l1 → Rose l0 l1 → LineCauses w w l0 l1 (Ends status.LinkFault)
+line_link w l0 l1 l rose = let same : w ≤ w = omega arith in record { write = λ e. absurd cc; link = λ e. rose; ways = tt; write_later = same; link_later = l }
+
+pub line_none : (w l0 l1 : ℕ) → l0 ≤ l1 → LineCauses w w l0 l1 (Ends status.NoMemory)
+line_none w l0 l1 l = let same : w ≤ w = omega arith in record { write = λ e. absurd cc; link = λ e. absurd cc; ways = tt; write_later = same; link_later = l }
+
+pub line_refuses : (w l k : ℕ) (x : Next) → IsRefused k x → LineCauses w w l l x
+line_refuses w l k (Ends (status.Script j)) h = let a : w ≤ w = omega arith in let b : l ≤ l = omega arith in record { write = λ e. absurd cc; link = λ e. absurd cc; ways = tt; write_later = a; link_later = b }
+line_refuses w l k (Ends status.NoMemory) h = let b : l ≤ l = omega arith in line_none w l l b
+line_refuses w l k (Goes q) h = absurd h
+line_refuses w l k (Ends status.Done) h = absurd h
+line_refuses w l k (Ends (status.Illegal line c)) h = absurd h
+line_refuses w l k (Ends status.Words) h = absurd h
+line_refuses w l k (Ends status.ReadFault) h = absurd h
+line_refuses w l k (Ends status.WriteFault) h = absurd h
+line_refuses w l k (Ends status.LinkFault) h = absurd h
+line_refuses w l k (Ends (status.Limit v)) h = absurd h
+
+pub refused_sound : (k : ℕ) (x : Next) → IsRefused k x → GoesSound x
+refused_sound k (Goes q) h = absurd h
+refused_sound k (Ends s) h = tt
+
+-- Where the source tells its text.
+
+pub if_any : {X : Type 0} (o : Option X) (P : X → Type 0) → ((x : X) → P x) → IfSome o P
+if_any None P h = tt
+if_any (Some x) P h = h x
+
+pub if_weaker : {X : Type 0} (o : Option X) (P Q : X → Type 0) → ((x : X) → P x → Q x) → IfSome o P → IfSome o Q
+if_weaker None P Q h k = tt
+if_weaker (Some x) P Q h k = h x k
+
+-- what following a line gives, by the line and by what came of it
+pub line_step : (q : Run) (now later : Seen) (held line : List ℕ) (x y : Next) → held ≡ line → x ≡ y → ((text : List ℕ) (before : Seen) (more : List (List ℕ)) → Follows text before now q (held ∷ more) → Follow text q.id before later more x)
+    → (text : List ℕ) (before : Seen) (more : List (List ℕ)) → Follows text before now q (line ∷ more) → Follow text q.id before later more y
+line_step q now later held line x y e is h = λ text before more f.
+    subst (λ (z : Next). Follow text q.id before later more z) is (h text before more (subst (λ (l : List ℕ). Follows text before now q (l ∷ more)) (sym e) f))
+
+-- an error that is a failure
+pub failed : {X : Type 0} (e : IoErr) → e ≡ Failed → ◌≡◌ {A = Result X IoErr} (Err e) (Err Failed)
+failed {X} e h = ap (λ (f : IoErr). Err f) h

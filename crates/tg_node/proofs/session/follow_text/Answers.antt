@@ -1,0 +1,96 @@
+use Rattle.std.proofs.Common.{ℕ, List, Option, ◌≡◌, ◌≤◌, ◌∙◌, ap, sym, refl, subst, arith}
+use Rattle.tg_io.proofs.Faults.{sure_since}
+use Rattle.tg_reader.specs.Lines.{ahead, TakesLine}
+use Rattle.tg_node.specs.Stages.{seen, GoesSound, LineCauses}
+use Rattle.tg_node.specs.declared.stages.Next.{Next}
+use Rattle.tg_node.specs.declared.stages.Next.TheVariants.{Goes, Ends}
+use Rattle.tg_node.proofs.Ending.{still_none, still_more, still_ends, still_done, still_cut, line_step, causes_ends, causes_done, causes_read, causes_none, failed}
+use Rattle.tg_node.proofs.session.follow_text.Goals as goal
+
+pub loop-line-init : goal.loop-line-init
+loop-line-init g c = record {
+  follows = still_none (ahead c.args.reader.now (g.S.Source.left c.args.source.now)) c.args.run (seen (g.L.Link.sent c.args.link.now) (g.L.Link.handed c.args.link.now) (g.K.Sink.written c.args.sink.now));
+  sound = c.requires;
+  read_later = omega arith;
+  write_later = omega arith;
+  link_later = omega arith;
+  source = record { sure = λ e. e; still = λ e. refl };
+  sink = record { sure = λ e. e; still = λ e. refl };
+  link = record { sure = λ e. e; still = λ e. refl };
+}
+
+pub follow_line-requires : goal.follow_line-requires
+follow_line-requires g c = c.loop-line.invariant.sound
+
+pub loop-line-preserved : goal.loop-line-preserved
+loop-line-preserved g c =
+    let i = c.loop-line.invariant in
+    let s = c.in-Ok-Some in
+    let l = c.follow_line in
+    let now = seen (g.L.Link.sent c.loop-line.link) (g.L.Link.handed c.loop-line.link) (g.K.Sink.written c.loop-line.sink) in
+    let later = seen (g.L.Link.sent l.new.link) (g.L.Link.handed l.new.link) (g.K.Sink.written l.new.sink) in
+    let r0 : g.S.Source.faults c.args.source.now ≤ g.S.Source.faults c.loop-line.source = i.read_later in
+    let r1 : g.S.Source.faults c.loop-line.source ≤ g.S.Source.faults c.next.new.source = s.ensures.cause.later in
+    let w0 : g.K.Sink.faults c.args.sink.now ≤ g.K.Sink.faults c.loop-line.sink = i.write_later in
+    let w1 : g.K.Sink.faults c.loop-line.sink ≤ g.K.Sink.faults l.new.sink = l.ensures.causes.write_later in
+    let l0 : g.L.Link.faults c.args.link.now ≤ g.L.Link.faults c.loop-line.link = i.link_later in
+    let l1 : g.L.Link.faults c.loop-line.link ≤ g.L.Link.faults l.new.link = l.ensures.causes.link_later in
+    record {
+      follows =
+          still_more (ahead c.args.reader.now (g.S.Source.left c.args.source.now)) (ahead c.loop-line.reader (g.S.Source.left c.loop-line.source)) (ahead c.next.new.self (g.S.Source.left c.next.new.source)) c.args.run c.loop-line.run c.in-Goes.next
+          (seen (g.L.Link.sent c.args.link.now) (g.L.Link.handed c.args.link.now) (g.K.Sink.written c.args.sink.now)) now later s.line i.follows (subst (λ (o : Option (List ℕ)). TakesLine (ahead c.loop-line.reader (g.S.Source.left c.loop-line.source)) (ahead c.next.new.self (g.S.Source.left c.next.new.source)) o) s.field-0-is s.ensures.line)
+          (line_step c.loop-line.run now later c.as_slice.result.now s.line l.result (Goes c.in-Goes.next) c.as_slice.ensures c.in-Goes.is l.ensures.follows);
+      sound = subst GoesSound c.in-Goes.is l.ensures.sound;
+      read_later = omega (arith, r0, r1);
+      write_later = omega (arith, w0, w1);
+      link_later = omega (arith, l0, l1);
+      source = sure_since _ _ _ _ _ _ i.source s.ensures.sure;
+      sink = sure_since _ _ _ _ _ _ i.sink l.ensures.sink;
+      link = sure_since _ _ _ _ _ _ i.link l.ensures.link;
+    }
+
+pub returns-in-Ends-clause-outcome : goal.returns-in-Ends-clause-outcome
+returns-in-Ends-clause-outcome g c =
+    let i = c.loop-line.invariant in
+    let s = c.in-Ok-Some in
+    let l = c.follow_line in
+    let now = seen (g.L.Link.sent c.loop-line.link) (g.L.Link.handed c.loop-line.link) (g.K.Sink.written c.loop-line.sink) in
+    let later = seen (g.L.Link.sent l.new.link) (g.L.Link.handed l.new.link) (g.K.Sink.written l.new.sink) in
+    still_ends (ahead c.args.reader.now (g.S.Source.left c.args.source.now)) (ahead c.loop-line.reader (g.S.Source.left c.loop-line.source)) (ahead c.next.new.self (g.S.Source.left c.next.new.source)) c.args.run c.loop-line.run
+    (seen (g.L.Link.sent c.args.link.now) (g.L.Link.handed c.args.link.now) (g.K.Sink.written c.args.sink.now)) now later s.line c.in-Ends.status i.follows (subst (λ (o : Option (List ℕ)). TakesLine (ahead c.loop-line.reader (g.S.Source.left c.loop-line.source)) (ahead c.next.new.self (g.S.Source.left c.next.new.source)) o) s.field-0-is s.ensures.line)
+    (line_step c.loop-line.run now later c.as_slice.result.now s.line l.result (Ends c.in-Ends.status) c.as_slice.ensures c.in-Ends.is l.ensures.follows)
+
+pub returns-in-Ends-clause-causes : goal.returns-in-Ends-clause-causes
+returns-in-Ends-clause-causes g c =
+    let i = c.loop-line.invariant in
+    let l = c.follow_line in
+    causes_ends (g.S.Source.faults c.args.source.now) (g.S.Source.faults c.loop-line.source) (g.S.Source.faults c.next.new.source) (g.K.Sink.faults c.args.sink.now) (g.K.Sink.faults c.loop-line.sink) (g.K.Sink.faults l.new.sink)
+    (g.L.Link.faults c.args.link.now) (g.L.Link.faults c.loop-line.link) (g.L.Link.faults l.new.link) c.in-Ends.status i.read_later c.in-Ok-Some.ensures.cause.later i.write_later i.link_later
+    (subst (λ (x : Next). LineCauses (g.K.Sink.faults c.loop-line.sink) (g.K.Sink.faults l.new.sink) (g.L.Link.faults c.loop-line.link) (g.L.Link.faults l.new.link) x) c.in-Ends.is l.ensures.causes)
+
+pub returns-in-Ok-None-clause-outcome : goal.returns-in-Ok-None-clause-outcome
+returns-in-Ok-None-clause-outcome g c =
+    still_done (ahead c.args.reader.now (g.S.Source.left c.args.source.now)) (ahead c.loop-line.reader (g.S.Source.left c.loop-line.source)) (ahead c.next.new.self (g.S.Source.left c.next.new.source)) c.args.run c.loop-line.run
+    (seen (g.L.Link.sent c.args.link.now) (g.L.Link.handed c.args.link.now) (g.K.Sink.written c.args.sink.now)) (g.L.Link.sent c.loop-line.link) (g.L.Link.handed c.loop-line.link) (g.K.Sink.written c.loop-line.sink) c.loop-line.invariant.follows (subst (λ (o : Option (List ℕ)). TakesLine (ahead c.loop-line.reader (g.S.Source.left c.loop-line.source)) (ahead c.next.new.self (g.S.Source.left c.next.new.source)) o) c.in-Ok-None.field-0-is c.in-Ok-None.ensures.line)
+
+pub returns-in-Ok-None-clause-causes : goal.returns-in-Ok-None-clause-causes
+returns-in-Ok-None-clause-causes g c =
+    causes_done (g.S.Source.faults c.args.source.now) (g.S.Source.faults c.loop-line.source) (g.S.Source.faults c.next.new.source) _ _ _ _ c.loop-line.invariant.read_later c.in-Ok-None.ensures.cause.later
+
+pub returns-in-Err-Failed-clause-outcome : goal.returns-in-Err-Failed-clause-outcome
+returns-in-Err-Failed-clause-outcome g c =
+    still_cut (ahead c.args.reader.now (g.S.Source.left c.args.source.now)) (ahead c.loop-line.reader (g.S.Source.left c.loop-line.source)) c.args.run c.loop-line.run
+    (seen (g.L.Link.sent c.args.link.now) (g.L.Link.handed c.args.link.now) (g.K.Sink.written c.args.sink.now)) (g.L.Link.sent c.loop-line.link) (g.L.Link.handed c.loop-line.link) (g.K.Sink.written c.loop-line.sink) c.loop-line.invariant.follows
+
+pub returns-in-Err-Failed-clause-causes : goal.returns-in-Err-Failed-clause-causes
+returns-in-Err-Failed-clause-causes g c =
+    causes_read (g.S.Source.faults c.args.source.now) (g.S.Source.faults c.loop-line.source) (g.S.Source.faults c.next.new.source) _ _ _ _ c.loop-line.invariant.read_later c.in-Err-Failed.ensures.cause.later (c.in-Err-Failed.ensures.cause.failed (failed c.in-Err-Failed.field-0 c.in-Err-Failed.field-0-is))
+
+pub returns-in-Err-NoMemory-clause-outcome : goal.returns-in-Err-NoMemory-clause-outcome
+returns-in-Err-NoMemory-clause-outcome g c =
+    still_cut (ahead c.args.reader.now (g.S.Source.left c.args.source.now)) (ahead c.loop-line.reader (g.S.Source.left c.loop-line.source)) c.args.run c.loop-line.run
+    (seen (g.L.Link.sent c.args.link.now) (g.L.Link.handed c.args.link.now) (g.K.Sink.written c.args.sink.now)) (g.L.Link.sent c.loop-line.link) (g.L.Link.handed c.loop-line.link) (g.K.Sink.written c.loop-line.sink) c.loop-line.invariant.follows
+
+pub returns-in-Err-NoMemory-clause-causes : goal.returns-in-Err-NoMemory-clause-causes
+returns-in-Err-NoMemory-clause-causes g c =
+    causes_none (g.S.Source.faults c.args.source.now) (g.S.Source.faults c.loop-line.source) (g.S.Source.faults c.next.new.source) _ _ _ _ c.loop-line.invariant.read_later c.in-Err-NoMemory.ensures.cause.later

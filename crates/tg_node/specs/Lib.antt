@@ -1,0 +1,5 @@
+pub mod Any
+pub mod Sessions
+pub mod Texts
+pub mod Steps
+pub mod Stages

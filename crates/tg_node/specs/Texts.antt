@@ -1,0 +1,173 @@
+-- What is promised of a node that follows a text.
+use Rattle.std.specs.Prelude.{◌≡◌, ◌⊎◌, ℕ, ◌+◌, ◌-◌, ◌<◌, ◌≤◌, Bool, true, false, List, [], ◌∷◌, ◌++◌, length, take, Option, Some, None}
+use Rattle.tg_base.specs.Clusters.{Header, IsHeader}
+use Rattle.tg_base.specs.declared.fault.Which.{Which}
+use Rattle.tg_base.specs.declared.fault.Which.TheVariants as which
+use Rattle.tg_base.specs.declared.ids.NodeId.{NodeId}
+use Rattle.tg_io.specs.Bytes.{Grows, Takes, TakesFront}
+use Rattle.tg_io.specs.declared.link.Arrival.{Arrival}
+use Rattle.tg_io.specs.declared.link.Sent.{Sent}
+use Rattle.tg_io.specs.declared.status.Status.{Status}
+use Rattle.tg_io.specs.declared.status.Status.TheVariants.{Done, Script as AtLine, ReadFault, WriteFault, LinkFault, Limit, NoMemory, Words, Illegal}
+use Rattle.tg_script.specs.Headers.{header_lines, IsFirstOutside}
+use Rattle.tg_script.specs.Nodes.{is_declared}
+use Rattle.tg_reader.specs.Lines.{lines}
+use Rattle.tg_mail.specs.Mail.{all_sent}
+use Rattle.tg_orders.specs.Lines.{IsAsked}
+use Rattle.tg_orders.specs.Replies.{replies_text}
+use Rattle.tg_orders.specs.declared.asked.Asked.{Asked}
+use Rattle.tg_orders.specs.declared.asked.Asked.TheVariants.{Tick, Wait, Given, Update}
+use Rattle.tg_node.specs.Sessions.{Deed, Session, IsWhole, inputs_of, datagrams_in, answers_of, steps_of, datagrams_of, plays, session, opening}
+
+-- What a link and a sink tell: what was sent, the answers of `recv`, and what was written.
+pub record Seen : Type 0 where
+  pub sent : Option (List Sent)
+  pub handed : Option (List (Option Arrival))
+  pub written : Option (List ℕ)
+
+-- Over a session the packets were sent as their spellings, in order, these answers were handed, and its replies were written.
+pub record IsSeen (s : Session) (answers : List (Option Arrival)) (before after : Seen) : Type 0 where
+  pub sent : Grows before.sent (all_sent s.sent) after.sent
+  pub handed : Grows before.handed answers after.handed
+  pub written : Takes before.written (replies_text s.replies) after.written
+
+-- each line asks what was done, and each wait had all its answers
+abbrev pub AreDone : Header → NodeId → List (List ℕ) → List Deed → Type 0
+AreDone h n [] [] = Unit {0}
+AreDone h n (t ∷ ts) (d ∷ ds) = IsAsked h n t d.asked × IsWhole d.asked d.answers × AreDone h n ts ds
+AreDone h n ts ds = ⊥
+
+-- A text so far: its header, which declares the node, and the lines that were followed, within the limits.
+pub record Point (text : List ℕ) (n : NodeId) : Type 0 where
+  pub header : Header
+  pub lawful : IsHeader header
+  pub declared : is_declared header n ≡ true
+  pub read : List (List ℕ)
+  pub rest : List (List ℕ)
+  pub deeds : List Deed
+  pub cut : lines text ≡ header_lines header ++ read ++ rest
+  pub done : AreDone header n read deeds
+  pub few : steps_of n deeds ≤ 200000
+  pub fewer : datagrams_of deeds ≤ 1000000
+
+abbrev pub session_at : {text : List ℕ} {n : NodeId} → Point text n → Session
+session_at {text} {n} p = session p.header n p.deeds
+
+abbrev pub answers_at : {text : List ℕ} {n : NodeId} → Point text n → List (Option Arrival)
+answers_at p = answers_of p.deeds
+
+-- The text was followed to its end.
+pub record Followed (text : List ℕ) (n : NodeId) (before after : Seen) : Type 0 where
+  pub point : Point text n
+  pub end : point.rest ≡ []
+  pub seen : IsSeen (session_at point) (answers_at point) before after
+
+-- Line k is the first that no text of the node has, after the session of the lines before it.
+pub record RefusedLine (text : List ℕ) (n : NodeId) (k : ℕ) (before after : Seen) : Type 0 where
+  pub point : Point text n
+  pub line : List ℕ
+  pub more : List (List ℕ)
+  pub next : point.rest ≡ line ∷ more
+  pub place : k ≡ 4 + length point.deeds
+  pub outside : (a : Asked) → IsAsked point.header n line a → ⊥
+  pub seen : IsSeen (session_at point) (answers_at point) before after
+
+-- The header doesn't declare the node, which is refused at line 1.
+pub record Undeclared (text : List ℕ) (n : NodeId) (k : ℕ) : Type 0 where
+  pub header : Header
+  pub lawful : IsHeader header
+  pub rest : List (List ℕ)
+  pub cut : lines text ≡ header_lines header ++ rest
+  pub missing : is_declared header n ≡ false
+  pub place : k ≡ 1
+
+-- line k is of the header's, and the first outside
+pub record RefusedHeader (text : List ℕ) (k : ℕ) : Type 0 where
+  pub few : k ≤ 3
+  pub outside : IsFirstOutside (lines text) k
+
+abbrev pub Refused : List ℕ → NodeId → ℕ → Seen → Seen → Type 0
+Refused text n k before after = RefusedLine text n k before after ⊎ ((Undeclared text n k ⊎ RefusedHeader text k) × (after ≡ before))
+
+-- A line that was begun: a wait may have had some of its answers only.
+abbrev pub IsPart : Asked → List (Option Arrival) → Type 0
+IsPart (Wait calls) answers = length answers ≤ calls
+IsPart a answers = answers ≡ []
+
+-- a further step is asked; a wait takes no answer after the one that asks it
+abbrev pub IsPast : Asked → ℕ → Type 0
+IsPast (Wait calls) steps = steps ≡ 200001
+IsPast a steps = 200000 < steps
+
+abbrev pub IsAnother : Asked → List (Option Arrival) → Type 0
+IsAnother (Wait calls) answers = length answers < calls
+IsAnother a answers = ⊥
+
+-- Which limit is passed: a step past the 200,000th is asked, or a datagram past the 1,000,000th, with so many steps and datagrams in all.
+abbrev pub IsOver : Which → Deed → ℕ → ℕ → Type 0
+IsOver which.Steps d steps datagrams = IsPast d.asked steps
+IsOver which.Datagrams d steps datagrams = (datagrams ≡ 1000000) × (steps ≤ 200000) × IsAnother d.asked d.answers
+IsOver which.Bytes d steps datagrams = ⊥
+
+-- A limit is passed in the midst of the line after a point.
+pub record Midst (text : List ℕ) (n : NodeId) (w : Which) : Type 0 where
+  pub point : Point text n
+  pub line : List ℕ
+  pub more : List (List ℕ)
+  pub next : point.rest ≡ line ∷ more
+  pub last : Deed
+  pub asked : IsAsked point.header n line last.asked
+  pub part : IsPart last.asked last.answers
+  pub over : IsOver w last (steps_of n point.deeds + length (inputs_of n last)) (datagrams_of point.deeds + datagrams_in last.answers)
+
+-- the first 200,000 steps are made
+abbrev pub session_in : {text : List ℕ} {n : NodeId} {w : Which} → Midst text n w → Session
+session_in {text} {n} m = plays n (1 + length m.point.deeds) (take (200000 - steps_of n m.point.deeds) (inputs_of n m.last)) (session_at m.point)
+
+abbrev pub answers_in : {text : List ℕ} {n : NodeId} {w : Which} → Midst text n w → List (Option Arrival)
+answers_in m = answers_at m.point ++ m.last.answers
+
+pub record Limited (text : List ℕ) (n : NodeId) (w : Which) (before after : Seen) : Type 0 where
+  pub midst : Midst text n w
+  pub seen : IsSeen (session_in midst) (answers_in midst) before after
+
+-- Some front of the replies of a session was written.
+abbrev pub IsFront : Session → Seen → Seen → Type 0
+IsFront s before after = TakesFront before.written (replies_text s.replies) after.written
+
+abbrev pub IsCutShort : List ℕ → NodeId → Seen → Seen → Type 0
+IsCutShort text n before after = (after.written ≡ before.written)
+    ⊎ (((p : Point text n) × IsFront (session_at p) before after) ⊎ ((w : Which) × (m : Midst text n w) × IsFront (session_in m) before after))
+
+-- What each status says.
+abbrev pub Outcome : List ℕ → NodeId → Status → Seen → Seen → Type 0
+Outcome text n Done before after = Followed text n before after
+Outcome text n (AtLine k) before after = Refused text n k before after
+Outcome text n (Limit w) before after = Limited text n w before after
+Outcome text n Words before after = ⊥
+Outcome text n (Illegal line clause) before after = ⊥
+Outcome text n _ before after = IsCutShort text n before after
+
+-- where the source tells its text
+abbrev pub Told : Option (List ℕ) → (List ℕ → Type 0) → Type 0
+Told (Some text) P = P text
+Told None P = Unit {0}
+
+-- a node ends by none of the others
+abbrev pub IsOfNode : Status → Type 0
+IsOfNode Words = ⊥
+IsOfNode (Illegal line clause) = ⊥
+IsOfNode status = Unit {0}
+
+-- A whole text of a node: its header declares the node, and each line asks something of it.
+abbrev pub AreAsked : Header → NodeId → List (List ℕ) → Type 0
+AreAsked h n [] = Unit {0}
+AreAsked h n (t ∷ ts) = ((a : Asked) × IsAsked h n t a) × AreAsked h n ts
+
+pub record IsText (text : List ℕ) (n : NodeId) : Type 0 where
+  pub header : Header
+  pub lawful : IsHeader header
+  pub declared : is_declared header n ≡ true
+  pub body : List (List ℕ)
+  pub cut : lines text ≡ header_lines header ++ body
+  pub asked : AreAsked header n body

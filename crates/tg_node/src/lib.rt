@@ -1,0 +1,14 @@
+//! One node over a link: it follows the lines of a text.
+#![tactic(auto)]
+
+mod follow;
+mod lines;
+mod nodes;
+mod session;
+mod stages;
+mod waits;
+
+pub use session::node;
+
+#[cfg(test)]
+mod tests;

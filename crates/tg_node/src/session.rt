@@ -1,0 +1,153 @@
+//! One node over a link: its lines are read from a source, its packets go over the link, and the lines of its replies
+//! are written to a sink, line by line.
+
+ghost use Rattle.std.specs.Prelude.{◌≡◌, ◌⊎◌, ◌++◌, ℕ, List, IfSome};
+ghost use Rattle.tg_base.specs.declared.fault.Which.{Which};
+ghost use Rattle.tg_io.specs.Faults.{Rose, StaysSure};
+ghost use Rattle.tg_io.specs.declared.status.Status.TheVariants.{Done, Script as AtLine, ReadFault, WriteFault, LinkFault, Limit, NoMemory as OutOfMemory};
+ghost use Rattle.tg_reader.specs.Lines.{ahead, lines};
+ghost use Rattle.tg_script.specs.Nodes.{is_declared};
+ghost use Rattle.tg_script.specs.Headers.{header_lines};
+ghost use Rattle.tg_node.specs.Texts.{Seen, Outcome, Followed, Refused, Limited, IsCutShort, IsText, IsOfNode, Told};
+ghost use Rattle.tg_node.specs.Steps.{IsSound};
+ghost use Rattle.tg_node.specs.Stages.{Causes, Follows, seen};
+
+use crate::follow::follow_line;
+use crate::nodes::Node;
+use crate::stages::{Next, Run};
+use std::alloc::Global;
+use tg_base::{Cluster, NodeId, Role};
+use tg_io::{IoErr, Link, Sink, Source, Status};
+use tg_reader::{LineReader, Opening, read_header};
+
+/// Runs one node of the cluster that a header declares, by the lines of a text.
+pub fn node<S: Source, K: Sink, L: Link>(
+    alloc: Global,
+    id: NodeId,
+    source: &mut S,
+    sink: &mut K,
+    link: &mut L,
+) -> Status
+    // At `Done` the text was followed to its end: the packets of its session were sent, its waits took the answers that
+    // were handed, and its replies were written.
+    ensures done { result ≡ Done → Told (S.left source.old) (λ text. Followed text id (seen (L.sent link.old) (L.handed link.old) (K.written sink.old)) (seen (L.sent link.new) (L.handed link.new) (K.written sink.new))) }
+    // A line is refused that is the first outside, after the session of the lines before it.
+    ensures script { (line : ℕ) → result ≡ AtLine line → Told (S.left source.old) (λ text. Refused text id line (seen (L.sent link.old) (L.handed link.old) (K.written sink.old)) (seen (L.sent link.new) (L.handed link.new) (K.written sink.new))) }
+    // A limit stops a session, after the steps before it.
+    ensures limit { (which : Which) → result ≡ Limit which → Told (S.left source.old) (λ text. Limited text id which (seen (L.sent link.old) (L.handed link.old) (K.written sink.old)) (seen (L.sent link.new) (L.handed link.new) (K.written sink.new))) }
+    // A fault has its cause in a count that rose.
+    ensures read_fault { result ≡ ReadFault → Rose (S.faults source.old) (S.faults source.new) }
+    ensures write_fault { result ≡ WriteFault → Rose (K.faults sink.old) (K.faults sink.new) }
+    ensures link_fault { result ≡ LinkFault → Rose (L.faults link.old) (L.faults link.new) }
+    // What is written then is a front of a session's replies, or nothing.
+    ensures cut_short { (result ≡ ReadFault) ⊎ ((result ≡ WriteFault) ⊎ ((result ≡ LinkFault) ⊎ (result ≡ OutOfMemory))) → Told (S.left source.old) (λ text. IsCutShort text id (seen (L.sent link.old) (L.handed link.old) (K.written sink.old)) (seen (L.sent link.new) (L.handed link.new) (K.written sink.new))) }
+    ensures ways { IsOfNode result }
+    // Without a fault a whole text is followed, unless a limit is reached or memory runs out.
+    ensures complete { (Rose (S.faults source.old) (S.faults source.new) → ⊥) → (Rose (K.faults sink.old) (K.faults sink.new) → ⊥) → (Rose (L.faults link.old) (L.faults link.new) → ⊥) →
+        Told (S.left source.old) (λ text. IsText text id → (result ≡ Done) ⊎ (((which : Which) × (result ≡ Limit which)) ⊎ (result ≡ OutOfMemory))) }
+    // What is sure never to fail stays so.
+    ensures source { StaysSure (S.sure source.old) (S.sure source.new) (S.faults source.old) (S.faults source.new) }
+    ensures sink { StaysSure (K.sure sink.old) (K.sure sink.new) (K.faults sink.old) (K.faults sink.new) }
+    ensures link { StaysSure (L.sure link.old) (L.sure link.new) (L.faults link.old) (L.faults link.new) }
+{
+    run_node(alloc, id, source, sink, link)
+}
+
+// What each status says.
+fn run_node<S: Source, K: Sink, L: Link>(
+    alloc: Global,
+    id: NodeId,
+    source: &mut S,
+    sink: &mut K,
+    link: &mut L,
+) -> Status
+    ensures outcome { Told (S.left source.old) (λ text. Outcome text id result (seen (L.sent link.old) (L.handed link.old) (K.written sink.old)) (seen (L.sent link.new) (L.handed link.new) (K.written sink.new))) }
+    ensures causes { Causes (S.faults source.old) (S.faults source.new) (K.faults sink.old) (K.faults sink.new) (L.faults link.old) (L.faults link.new) result }
+    ensures source { StaysSure (S.sure source.old) (S.sure source.new) (S.faults source.old) (S.faults source.new) }
+    ensures sink { StaysSure (K.sure sink.old) (K.sure sink.new) (K.faults sink.old) (K.faults sink.new) }
+    ensures link { StaysSure (L.sure link.old) (L.sure link.new) (L.faults link.old) (L.faults link.new) }
+{
+    let mut reader = LineReader::new();
+    match read_header(alloc, &mut reader, source) {
+        Ok(Opening::Opens(cluster)) => {
+            follow_header(alloc, id, cluster, &mut reader, source, sink, link)
+        }
+        Ok(Opening::Outside { line }) => Status::Script { line },
+        Err(IoErr::Failed) => Status::ReadFault,
+        Err(IoErr::NoMemory) => Status::NoMemory,
+    }
+}
+
+// The lines after a header are followed, if it declares the node.
+fn follow_header<S: Source, K: Sink, L: Link>(
+    alloc: Global,
+    id: NodeId,
+    cluster: Cluster,
+    reader: &mut LineReader,
+    source: &mut S,
+    sink: &mut K,
+    link: &mut L,
+) -> Status
+    ensures outcome { IfSome (ahead reader.old (S.left source.old)) (λ rest. (text : List ℕ) → lines text ≡ header_lines cluster ++ lines rest → Outcome text id result (seen (L.sent link.old) (L.handed link.old) (K.written sink.old)) (seen (L.sent link.new) (L.handed link.new) (K.written sink.new))) }
+    ensures causes { Causes (S.faults source.old) (S.faults source.new) (K.faults sink.old) (K.faults sink.new) (L.faults link.old) (L.faults link.new) result }
+    ensures source { StaysSure (S.sure source.old) (S.sure source.new) (S.faults source.old) (S.faults source.new) }
+    ensures sink { StaysSure (K.sure sink.old) (K.sure sink.new) (K.faults sink.old) (K.faults sink.new) }
+    ensures link { StaysSure (L.sure link.old) (L.sure link.new) (L.faults link.old) (L.faults link.new) }
+{
+    cluster.rules();
+    if !declares(&cluster, id) {
+        return Status::Script { line: 1 };
+    }
+    let Ok(node) = Node::start(alloc, &cluster, id) else {
+        return Status::NoMemory;
+    };
+    let run = Run {
+        id,
+        cluster,
+        lines: 0,
+        node,
+    };
+    follow_text(alloc, run, reader, source, sink, link)
+}
+
+// Whether a cluster has this node. It takes no memory.
+fn declares(cluster: &Cluster, id: NodeId) -> bool
+    ensures { result ≡ is_declared cluster.now id }
+{
+    match id.role {
+        Role::Unit => id.num < cluster.units,
+        Role::Layout => id.num < cluster.layouts,
+        Role::Seqr => id.num < cluster.seqs,
+        Role::Client => id.num < cluster.clients,
+    }
+}
+
+// The lines after a header are followed.
+fn follow_text<S: Source, K: Sink, L: Link>(
+    alloc: Global,
+    run: Run,
+    reader: &mut LineReader,
+    source: &mut S,
+    sink: &mut K,
+    link: &mut L,
+) -> Status
+    requires { IsSound run.node }
+    ensures outcome { IfSome (ahead reader.old (S.left source.old)) (λ rest. (text : List ℕ) (before : Seen) → Follows text before (seen (L.sent link.old) (L.handed link.old) (K.written sink.old)) run (lines rest) → Outcome text run.id result before (seen (L.sent link.new) (L.handed link.new) (K.written sink.new))) }
+    ensures causes { Causes (S.faults source.old) (S.faults source.new) (K.faults sink.old) (K.faults sink.new) (L.faults link.old) (L.faults link.new) result }
+    ensures source { StaysSure (S.sure source.old) (S.sure source.new) (S.faults source.old) (S.faults source.new) }
+    ensures sink { StaysSure (K.sure sink.old) (K.sure sink.new) (K.faults sink.old) (K.faults sink.new) }
+    ensures link { StaysSure (L.sure link.old) (L.sure link.new) (L.faults link.old) (L.faults link.new) }
+{
+    let mut run = run;
+    loop {
+        match reader.next(alloc, source) {
+            Ok(Some(line)) => match follow_line(alloc, run, line.as_slice(), sink, link) {
+                Next::Goes(next) => run = next,
+                Next::Ends(status) => return status,
+            },
+            Ok(None) => return Status::Done,
+            Err(IoErr::Failed) => return Status::ReadFault,
+            Err(IoErr::NoMemory) => return Status::NoMemory,
+        }
+    }
+}
