@@ -147,11 +147,13 @@ fn lines_outside(rt: HostRuntime) -> Result<(), Fail> {
 
 #[test]
 fn a_second_update_of_a_client(rt: HostRuntime) -> Result<(), Fail> {
+    // The first one waits for its reply.
     let events = "c0 update ctr0 add 5\nc0 update ctr0 add 7\n";
     let (status, sink) = replayed(rt.alloc(), HEADER, events)?;
     let mut want = bytes(rt.alloc(), UPDATED)?;
-    want.extend(b"history 0\n".as_slice())?;
-    assert!(rt; status == Status::Script { line: 5 });
+    want.extend(b"2 c0 0 refused busy end\n2 c0 0 refused busy end\n".as_slice())?;
+    want.extend(b"2 c0 0 refused busy end\nhistory 0\n".as_slice())?;
+    assert!(rt; status == Status::Done);
     assert!(rt; sink.written() == want.as_slice());
     Ok(())
 }
