@@ -1,0 +1,96 @@
+#!/usr/bin/env python3
+"""cluster.py PROGRAM: starts a cluster of single nodes on this machine, and runs a client on it.
+
+    python3 examples/cluster.py crates/tango/out/tango
+
+Each unit, layout server and sequencer of the header below is a process of its own, `PROGRAM node ID`, and so is the
+client. Their packets go over UDP on 127.0.0.1. A node does nothing by itself: it reads lines, and each `wait N` lets it look
+N times for a datagram. So this script feeds each node such lines, gives the client its commands one after the other, and a
+`tick` where an answer takes long, as a packet may be lost. It prints what the client writes.
+"""
+
+import os
+import subprocess
+import sys
+import time
+
+HEADER = "cluster units 2 layouts 1 seqs 1 clients 1 limit 1000\nchains u0,u1\nobjects ctr0 map0\n"
+NODES = ["u0", "u1", "l0", "s0"]
+COMMANDS = [
+    "c0 host ctr0",
+    "c0 host map0",
+    "c0 update ctr0 add 5",
+    "c0 update map0 set colour green",
+    "c0 begin",
+    "c0 ask ctr0 value",
+    "c0 ask map0 get colour",
+    "c0 put ctr0 add 37",
+    "c0 end",
+]
+# A command is answered by the first line with one of these words.
+ANSWERS = {
+    "host": ["hosted"],
+    "begin": ["begin"],
+    "put": ["put"],
+    "ask": ["asked"],
+    "end": ["committed", "aborted", "unsure"],
+    "update": ["committed", "aborted", "unsure"],
+}
+LONGEST = 20.0
+
+
+class Node:
+    def __init__(self, program, name):
+        self.name, self.said = name, b""
+        self.process = subprocess.Popen([program, "node", name], stdin=subprocess.PIPE, stdout=subprocess.PIPE, bufsize=0)
+        os.set_blocking(self.process.stdout.fileno(), False)
+        self.tell(HEADER)
+
+    def tell(self, text):
+        self.process.stdin.write(text.encode())
+
+    def lines(self):
+        """The whole lines that it has written since the last time."""
+        self.said += self.process.stdout.read() or b""
+        *whole, self.said = self.said.split(b"\n")
+        return [it.decode() for it in whole]
+
+
+def main():
+    program = sys.argv[1]
+    servers = [Node(program, name) for name in NODES]
+    client = Node(program, "c0")
+    nodes = [*servers, client]
+    try:
+        for command in COMMANDS:
+            print(f"> {command}")
+            client.tell(f"{command}\n")
+            words, begun, ticked = ANSWERS[command.split()[1]] + ["refused"], time.time(), time.time()
+            answered = False
+            while not answered:
+                for node in nodes:
+                    node.tell("wait 2000\n")
+                time.sleep(0.01)
+                for line in client.lines():
+                    print(f"  {line}")
+                    answered = answered or line.split()[3] in words
+                if time.time() - ticked > 0.5:
+                    client.tell("tick\n")
+                    ticked = time.time()
+                if time.time() - begun > LONGEST:
+                    sys.exit(f"no answer to {command}")
+    finally:
+        for node in nodes:
+            node.process.stdin.close()
+        for node in nodes:
+            try:
+                node.process.wait(10)
+            except subprocess.TimeoutExpired:
+                node.process.kill()
+    statuses = {node.name: node.process.returncode for node in nodes}
+    print(f"statuses: {statuses}")
+    sys.exit(any(statuses.values()))
+
+
+if __name__ == "__main__":
+    main()
