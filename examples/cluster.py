@@ -4,9 +4,10 @@
     python3 examples/cluster.py crates/tango/out/tango
 
 Each unit, layout server and sequencer of the header below is a process of its own, `PROGRAM node ID`, and so is the
-client. Their packets go over UDP on 127.0.0.1. A node does nothing by itself: it reads lines, and each `wait N` lets it look
-N times for a datagram. So this script feeds each node such lines, gives the client its commands one after the other, and a
-`tick` where an answer takes long, as a packet may be lost. It prints what the client writes.
+client. Their packets go over UDP on 127.0.0.1, where each node has a port of its own from 42000 on. A node does nothing by
+itself: it reads lines, and each `wait N` lets it look N times for a datagram. So this script feeds each node such lines,
+gives the client its commands one after the other, and a `tick` where an answer takes long, as a packet may be lost. It prints
+what the client writes, and ends with 0 where every node ended so.
 """
 
 import os
@@ -47,7 +48,10 @@ class Node:
         self.tell(HEADER)
 
     def tell(self, text):
-        self.process.stdin.write(text.encode())
+        try:
+            self.process.stdin.write(text.encode())
+        except BrokenPipeError:
+            sys.exit(f"{self.name} has ended with status {self.process.wait()}")
 
     def lines(self):
         """The whole lines that it has written since the last time."""
@@ -69,7 +73,7 @@ def main():
             answered = False
             while not answered:
                 for node in nodes:
-                    node.tell("wait 2000\n")
+                    node.tell("wait 200\n")
                 time.sleep(0.01)
                 for line in client.lines():
                     print(f"  {line}")

@@ -1,3 +1,5 @@
+mod links;
+
 use super::*;
 use std::test::Fail;
 use tg_base::{List, Which};
@@ -34,14 +36,26 @@ fn outcome(
     reads: &[u64],
     writes: &[u64],
 ) -> Result<(Status, MemSink), NoMemory> {
+    let mut link = MemLink::new(alloc, List::new(alloc), List::new(alloc));
+    outcome_over(alloc, words, text, reads, writes, &mut link)
+}
+
+/// The same over a link.
+fn outcome_over(
+    alloc: Global,
+    words: &[&str],
+    text: List<u8>,
+    reads: &[u64],
+    writes: &[u64],
+    link: &mut MemLink,
+) -> Result<(Status, MemSink), NoMemory> {
     let mut given = Vec::new(alloc);
     for word in words {
         given.push(String::from_str(alloc, word)?)?;
     }
     let mut source = MemSource::new(text, calls(alloc, reads)?);
     let mut sink = MemSink::new(alloc, calls(alloc, writes)?);
-    let mut link = MemLink::new(alloc, List::new(alloc), List::new(alloc));
-    let status = tango(alloc, given.as_slice(), &mut source, &mut sink, &mut link);
+    let status = tango(alloc, given.as_slice(), &mut source, &mut sink, link);
     Ok((status, sink))
 }
 
@@ -94,7 +108,9 @@ fn is_no_form(alloc: Global, words: &[&str]) -> Result<bool, NoMemory> {
 fn words_that_are_no_form(rt: HostRuntime) -> Result<(), Fail> {
     assert!(rt; is_no_form(rt.alloc(), &["replay", "x"])?);
     assert!(rt; is_no_form(rt.alloc(), &["bench", "7"])?);
-    assert!(rt; is_no_form(rt.alloc(), &["live"])?);
+    assert!(rt; is_no_form(rt.alloc(), &["live", "x"])?);
+    assert!(rt; is_no_form(rt.alloc(), &["node"])?);
+    assert!(rt; is_no_form(rt.alloc(), &["node", "x0"])?);
     assert!(rt; is_no_form(rt.alloc(), &["--help"])?);
     assert!(rt; is_no_form(rt.alloc(), &[])?);
     Ok(())
