@@ -1,10 +1,10 @@
 #!/usr/bin/env python3
-"""cluster.py PROGRAM: starts a cluster of single nodes on this machine, and runs a client on it.
+"""cluster.py PROGRAM [HEADER]: starts a cluster of single nodes on this machine, and runs a client on it.
 
     python3 examples/cluster.py crates/tango/out/tango
 
-Each unit, layout server and sequencer of the header below is a process of its own, `PROGRAM node ID`, and so is the
-client. Their packets go over UDP on 127.0.0.1, where each node has a port of its own from 42000 on. A node does nothing by
+HEADER is a file with a script's three lines, examples/cluster.header where none is given. Each unit, layout server and
+sequencer that it declares is a process of its own, `PROGRAM node ID`, and so is the client c0. Their packets go over UDP on 127.0.0.1, where each node has a port of its own from 42000 on. A node does nothing by
 itself: it reads lines, and each `wait N` lets it look N times for a datagram. So this script feeds each node such lines,
 gives the client its commands one after the other, and a `tick` where an answer takes long, as a packet may be lost. It prints
 what the client writes, and ends with 0 where every node ended so.
@@ -15,8 +15,7 @@ import subprocess
 import sys
 import time
 
-HEADER = "cluster units 2 layouts 1 seqs 1 clients 1 limit 1000\nchains u0,u1\nobjects ctr0 map0\n"
-NODES = ["u0", "u1", "l0", "s0"]
+HEADER = os.path.join(os.path.dirname(os.path.abspath(__file__)), "cluster.header")
 COMMANDS = [
     "c0 host ctr0",
     "c0 host map0",
@@ -41,11 +40,11 @@ LONGEST = 20.0
 
 
 class Node:
-    def __init__(self, program, name):
+    def __init__(self, program, name, header):
         self.name, self.said = name, b""
         self.process = subprocess.Popen([program, "node", name], stdin=subprocess.PIPE, stdout=subprocess.PIPE, bufsize=0)
         os.set_blocking(self.process.stdout.fileno(), False)
-        self.tell(HEADER)
+        self.tell(header)
 
     def tell(self, text):
         try:
@@ -60,10 +59,19 @@ class Node:
         return [it.decode() for it in whole]
 
 
+def servers_of(header):
+    """The names of the units, layout servers and sequencers that a header declares."""
+    words = header.split("\n")[0].split()
+    counts = dict(zip(words[1::2], words[2::2]))
+    return [f"{role[0]}{it}" for role in ("units", "layouts", "seqs") for it in range(int(counts[role]))]
+
+
 def main():
-    program = sys.argv[1]
-    servers = [Node(program, name) for name in NODES]
-    client = Node(program, "c0")
+    program, *files = sys.argv[1:]
+    with open(files[0] if files else HEADER) as it:
+        header = it.read()
+    servers = [Node(program, name, header) for name in servers_of(header)]
+    client = Node(program, "c0", header)
     nodes = [*servers, client]
     try:
         for command in COMMANDS:
