@@ -60,5 +60,5 @@ returns-in-Ok-Some-Node-clause-node_cut_short g c = λ id named. moved_node (map
 pub returns-in-Ok-Some-Node-clause-node_complete : goal.returns-in-Ok-Some-Node-clause-node_complete
 returns-in-Ok-Some-Node-clause-node_complete g c = λ id named. moved_node (map string_bytes c.args.words.now) c.in-Ok-Some-Node.field-0 c.in-Ok-Some-Node.field-0-0 c.in-Ok-Some-Node.id id
     (λ n. (Rose (g.S.Source.faults c.args.source.now) (g.S.Source.faults c.node.new.source) → ⊥) → (Rose (g.K.Sink.faults c.args.sink.now) (g.K.Sink.faults c.node.new.sink) → ⊥) → (Rose (g.L.Link.faults c.args.link.now) (g.L.Link.faults c.node.new.link) → ⊥) →
-        Told (g.S.Source.left c.args.source.now) (λ text. IsText text n → (c.node.result ≡ Done) ⊎ (((which : Which) × (c.node.result ≡ Limit which)) ⊎ (c.node.result ≡ NoMemory))))
+    Told (g.S.Source.left c.args.source.now) (λ text. IsText text n → (c.node.result ≡ Done) ⊎ (((which : Which) × (c.node.result ≡ Limit which)) ⊎ (c.node.result ≡ NoMemory))))
     c.in-Ok-Some-Node.ensures c.in-Ok-Some-Node.field-0-is c.in-Ok-Some-Node.field-0-0-is named c.node.ensures.complete

@@ -30,7 +30,7 @@ fn joined(alloc: Global, parts: &[&str]) -> Result<List<u8>, NoMemory> {
 }
 
 /// A link of which these calls fail.
-fn link(alloc: Global, fails: &[u64]) -> Result<MemLink, NoMemory> {
+fn failing(alloc: Global, fails: &[u64]) -> Result<MemLink, NoMemory> {
     Ok(MemLink::new(alloc, List::new(alloc), calls(alloc, fails)?))
 }
 
@@ -39,11 +39,14 @@ fn first(role: Role) -> NodeId {
     NodeId { role, num: 0 }
 }
 
-/// One of the datagrams that no node sent.
-fn stranger(alloc: Global, datagram: &[u8]) -> Result<List<u8>, NoMemory> {
+/// A datagram that no node sent comes to a node.
+fn comes(alloc: Global, link: MemLink, node: NodeId, datagram: &[u8]) -> Result<MemLink, NoMemory> {
     let mut bytes = List::new(alloc);
     bytes.extend(datagram)?;
-    Ok(bytes)
+    if bytes.len() > 8_192 {
+        return Err(NoMemory);
+    }
+    link.inject(node, bytes)
 }
 
 #[test]
@@ -52,7 +55,10 @@ fn a_live_run_and_its_recording(rt: HostRuntime) -> Result<(), Fail> {
     let text = joined(alloc, &[HEADER, UPDATE])?;
     let (status, sink) = outcome(alloc, &["live"], text, &[], &[])?;
     let committed = "5 c0 1 committed 0\n";
-    let want = joined(alloc, &[HEADER, RECORDED, TICKS, UPDATED, committed, HISTORY])?;
+    let want = joined(
+        alloc,
+        &[HEADER, RECORDED, TICKS, UPDATED, committed, HISTORY],
+    )?;
     assert!(rt; status == Status::Done);
     assert!(rt; sink.written() == want.as_slice());
     Ok(())
@@ -62,39 +68,34 @@ fn a_live_run_and_its_recording(rt: HostRuntime) -> Result<(), Fail> {
 fn datagrams_of_strangers_are_passed_by(rt: HostRuntime) -> Result<(), Fail> {
     let alloc = rt.alloc();
     // The repeat of the first packet is delivered at the node to which it was sent, and there alone.
-    let mut link = link(alloc, &[])?
-        .inject(first(Role::Seqr), stranger(alloc, &[])?)?
-        .inject(first(Role::Seqr), stranger(alloc, &ASKS[..30])?)?
-        .inject(first(Role::Unit), stranger(alloc, &ASKS)?)?
-        .inject(first(Role::Seqr), stranger(alloc, &ASKS)?)?;
+    let link = failing(alloc, &[])?;
+    let link = comes(alloc, link, first(Role::Seqr), &[])?;
+    let link = comes(alloc, link, first(Role::Seqr), &ASKS[..30])?;
+    let link = comes(alloc, link, first(Role::Unit), &ASKS)?;
+    let mut link = comes(alloc, link, first(Role::Seqr), &ASKS)?;
     let text = joined(alloc, &[HEADER, UPDATE])?;
     let (status, sink) = outcome_over(alloc, &["live"], text, &[], &[], &mut link)?;
     let committed = "7 c0 1 committed 0\n";
-    let want = joined(alloc, &[HEADER, RECORDED_TWICE, TICKS, UPDATED, committed, HISTORY])?;
+    let want = joined(
+        alloc,
+        &[HEADER, RECORDED_TWICE, TICKS, UPDATED, committed, HISTORY],
+    )?;
     assert!(rt; status == Status::Done);
     assert!(rt; sink.written() == want.as_slice());
     Ok(())
 }
 
-/// Where a recording ends and its transcript begins.
-fn end_of_recording(written: &[u8]) -> Option<(usize, usize)> {
-    let line = b"\ntranscript\n";
-    for at in 0..written.len() {
-        if written[at..].starts_with(line) {
-            return Some((at + 1, at + line.len()));
-        }
-    }
-    None
-}
-
 /// Whether the recording in an output, where it is replayed, gives the transcript in it.
 fn replays(alloc: Global, written: &[u8]) -> Result<bool, NoMemory> {
-    let Some((end, begin)) = end_of_recording(written) else {
+    let Ok(text) = std::str::from_utf8(written) else {
         return Ok(false);
     };
-    let recording = stranger(alloc, &written[..end])?;
-    let (status, sink) = outcome(alloc, &["replay"], recording, &[], &[])?;
-    Ok(status == Status::Done && sink.written() == &written[begin..])
+    let Some((recording, transcript)) = text.split_once("\ntranscript\n") else {
+        return Ok(false);
+    };
+    let script = bytes(alloc, recording)?;
+    let (status, sink) = outcome(alloc, &["replay"], script, &[], &[])?;
+    Ok(status == Status::Done && sink.written() == transcript.as_bytes())
 }
 
 #[test]
@@ -111,7 +112,10 @@ fn a_live_run_delivers_by_itself(rt: HostRuntime) -> Result<(), Fail> {
     let alloc = rt.alloc();
     let text = joined(alloc, &[HEADER, "deliver 0\n"])?;
     let (status, sink) = outcome(alloc, &["live"], text, &[], &[])?;
-    let want = joined(alloc, &[HEADER, "transcript\nobjects ctr0 ctr1\nhistory 0\n"])?;
+    let want = joined(
+        alloc,
+        &[HEADER, "transcript\nobjects ctr0 ctr1\nhistory 0\n"],
+    )?;
     assert!(rt; status == Status::Script { line: 4 });
     assert!(rt; sink.written() == want.as_slice());
     Ok(())
@@ -123,13 +127,13 @@ fn calls_of_a_link_that_fail(rt: HostRuntime) -> Result<(), Fail> {
     // Four packets are sent and received, and twice nothing is at hand.
     for call in 0..10 {
         let text = joined(alloc, &[HEADER, UPDATE])?;
-        let mut link = link(alloc, &[call])?;
+        let mut link = failing(alloc, &[call])?;
         let (status, sink) = outcome_over(alloc, &["live"], text, &[], &[], &mut link)?;
         assert!(rt; status == Status::LinkFault);
         assert!(rt; sink.written().is_empty());
     }
     let text = joined(alloc, &[HEADER, UPDATE])?;
-    let mut link = link(alloc, &[10])?;
+    let mut link = failing(alloc, &[10])?;
     let (status, _) = outcome_over(alloc, &["live"], text, &[], &[], &mut link)?;
     assert!(rt; status == Status::Done);
     Ok(())
@@ -154,7 +158,7 @@ fn calls_of_a_live_run_that_fail(rt: HostRuntime) -> Result<(), Fail> {
 #[test]
 fn a_sequencer_answers(rt: HostRuntime) -> Result<(), Fail> {
     let alloc = rt.alloc();
-    let mut link = link(alloc, &[])?.inject(first(Role::Seqr), stranger(alloc, &ASKS)?)?;
+    let mut link = comes(alloc, failing(alloc, &[])?, first(Role::Seqr), &ASKS)?;
     let text = joined(alloc, &[HEADER, "wait 4\n"])?;
     let (status, sink) = outcome_over(alloc, &["node", "s0"], text, &[], &[], &mut link)?;
     assert!(rt; status == Status::Done);
@@ -171,7 +175,7 @@ fn a_sequencer_answers(rt: HostRuntime) -> Result<(), Fail> {
 #[test]
 fn a_client_asks(rt: HostRuntime) -> Result<(), Fail> {
     let alloc = rt.alloc();
-    let mut link = link(alloc, &[])?;
+    let mut link = failing(alloc, &[])?;
     let text = joined(alloc, &[HEADER, "c0 update ctr0 add 5\n"])?;
     let (status, sink) = outcome_over(alloc, &["node", "c0"], text, &[], &[], &mut link)?;
     assert!(rt; status == Status::Done);
@@ -197,7 +201,7 @@ fn a_node_that_is_not_declared(rt: HostRuntime) -> Result<(), Fail> {
 #[test]
 fn a_node_whose_link_fails(rt: HostRuntime) -> Result<(), Fail> {
     let alloc = rt.alloc();
-    let mut link = link(alloc, &[0])?;
+    let mut link = failing(alloc, &[0])?;
     let text = joined(alloc, &[HEADER, "wait 1\n"])?;
     let (status, sink) = outcome_over(alloc, &["node", "s0"], text, &[], &[], &mut link)?;
     assert!(rt; status == Status::LinkFault);
