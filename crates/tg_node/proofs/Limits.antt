@@ -77,16 +77,16 @@ deed_same d e a b = λ i. record { asked = a i; answers = b i }
 
 -- a course goes on where a shorter one ends
 record GoesOn (h : Header) (n : NodeId) (ds es : List Deed) (rest more : List (List ℕ)) (x y : List (Option Arrival)) : Type 0 where
-  lines : List (List ℕ)
+  texts : List (List ℕ)
   deeds : List Deed
-  done : AreDone h n lines deeds
+  done : AreDone h n texts deeds
   all : ds ≡ es ++ deeds
-  cut : lines ++ rest ≡ more
+  cut : texts ++ rest ≡ more
   answers : answers_of deeds ++ x ≡ y
 
 goes_on : (h : Header) → IsHeader h → (n : NodeId) (ts : List (List ℕ)) (ds : List Deed) (us : List (List ℕ)) (es : List Deed) (rest more : List (List ℕ)) (x y : List (Option Arrival)) → AreDone h n ts ds → AreDone h n us es
     → ts ++ rest ≡ us ++ more → length us ≤ length ts → answers_of ds ++ x ≡ answers_of es ++ y → GoesOn h n ds es rest more x y
-goes_on h lawful n ts ds [] [] rest more x y done also cut le answers = record { lines = ts; deeds = ds; done = done; all = refl; cut = cut; answers = answers }
+goes_on h lawful n ts ds [] [] rest more x y done also cut le answers = record { texts = ts; deeds = ds; done = done; all = refl; cut = cut; answers = answers }
 goes_on h lawful n ts ds [] (e ∷ es) rest more x y done also cut le answers = absurd also
 goes_on h lawful n ts ds (u ∷ us) [] rest more x y done also cut le answers = absurd also
 goes_on h lawful n [] ds (u ∷ us) (e ∷ es) rest more x y done also cut le answers = absurd (omega (arith, le))
@@ -99,7 +99,7 @@ goes_on h lawful n (t ∷ ts) (d ∷ ds) (u ∷ us) (e ∷ es) rest more x y don
     let split = fronts_same d.answers e.answers (answers_of ds ++ x) (answers_of es ++ y) many flat in
     let few : length us ≤ length ts = omega (arith, le) in
     let g = goes_on h lawful n ts ds us es rest more x y done.2 also.2 parts.1 few split.1 in
-    record { lines = g.lines; deeds = g.deeds; done = g.done; all = cons_same d e ds (es ++ g.deeds) (deed_same d e asked split.0) g.all; cut = g.cut; answers = g.answers }
+    record { texts = g.texts; deeds = g.deeds; done = g.done; all = cons_same d e ds (es ++ g.deeds) (deed_same d e asked split.0) g.all; cut = g.cut; answers = g.answers }
 
 -- A line that is done passes no limit.
 
@@ -125,9 +125,9 @@ done_within n which.Steps (Wait calls) got more bs steps datagrams whole part e 
     let same = all_taken got more bs e (omega (arith, few, many)) in
     let past : steps + length (packets_in n got) ≡ 200001 = subst (λ (l : List (Option Arrival)). steps + length (packets_in n l) ≡ 200001) (sym same) over in
     omega (arith, past, le)
-done_within n which.Steps Tick got more bs steps datagrams whole part e over le = omega (arith, over, le)
-done_within n which.Steps (Given c) got more bs steps datagrams whole part e over le = omega (arith, over, le)
-done_within n which.Steps (Update oid op) got more bs steps datagrams whole part e over le = omega (arith, over, le)
+done_within n which.Steps Tick got more bs steps datagrams whole part e over le = let past : 200000 < steps + 1 = over in let few : steps + 1 ≤ 200000 = le in omega (arith, past, few)
+done_within n which.Steps (Given c) got more bs steps datagrams whole part e over le = let past : 200000 < steps + 1 = over in let few : steps + 1 ≤ 200000 = le in omega (arith, past, few)
+done_within n which.Steps (Update oid op) got more bs steps datagrams whole part e over le = let past : 200000 < steps + 3 = over in let few : steps + 3 ≤ 200000 = le in omega (arith, past, few)
 done_within n which.Datagrams (Wait calls) got more bs steps datagrams whole part e over le =
     let another : length bs < calls = over.2 in
     let all : length got ≡ calls = whole in
@@ -139,15 +139,15 @@ done_within n which.Datagrams (Update oid op) got more bs steps datagrams whole 
 done_within n which.Bytes a got more bs steps datagrams whole part e over le = absurd over
 
 -- a course that goes on at a line is within the limits there
-goes_within : (h : Header) → IsHeader h → (n : NodeId) (w : Which) (ds es : List Deed) (rest : List (List ℕ)) (line : List ℕ) (more : List (List ℕ)) (l : Deed) (x : List (Option Arrival)) (datagrams : ℕ) (lines : List (List ℕ)) (deeds : List Deed)
-    → AreDone h n lines deeds → ds ≡ es ++ deeds → lines ++ rest ≡ line ∷ more → answers_of deeds ++ x ≡ l.answers → length es < length ds → IsAsked h n line l.asked → IsPart l.asked l.answers
+goes_within : (h : Header) → IsHeader h → (n : NodeId) (w : Which) (ds es : List Deed) (rest : List (List ℕ)) (line : List ℕ) (more : List (List ℕ)) (l : Deed) (x : List (Option Arrival)) (datagrams : ℕ) (texts : List (List ℕ)) (deeds : List Deed)
+    → AreDone h n texts deeds → ds ≡ es ++ deeds → texts ++ rest ≡ line ∷ more → answers_of deeds ++ x ≡ l.answers → length es < length ds → IsAsked h n line l.asked → IsPart l.asked l.answers
     → IsOver w l (steps_of n es + length (inputs_of n l)) datagrams → steps_of n ds ≤ 200000 → ⊥
 goes_within h lawful n w ds es rest line more l x datagrams [] [] done all cut answers lt asked part over few =
     let same : length ds ≡ length es = ap length (all ∙ append-nil es) in omega (arith, same, lt)
 goes_within h lawful n w ds es rest line more l x datagrams [] (d ∷ deeds) done all cut answers lt asked part over few = absurd done
-goes_within h lawful n w ds es rest line more l x datagrams (t ∷ lines) [] done all cut answers lt asked part over few = absurd done
-goes_within h lawful n w ds es rest line more l x datagrams (t ∷ lines) (d ∷ deeds) done all cut answers lt asked part over few =
-    let parts = head_same t line (lines ++ rest) more cut in
+goes_within h lawful n w ds es rest line more l x datagrams (t ∷ texts) [] done all cut answers lt asked part over few = absurd done
+goes_within h lawful n w ds es rest line more l x datagrams (t ∷ texts) (d ∷ deeds) done all cut answers lt asked part over few =
+    let parts = head_same t line (texts ++ rest) more cut in
     let same : d.asked ≡ l.asked = asked_once h lawful n line d.asked l.asked (subst (λ (y : List ℕ). IsAsked h n y d.asked) parts.0 done.0) asked in
     let steps : steps_of n ds ≡ steps_of n es + (length (inputs_by n d.asked d.answers) + steps_of n deeds) = ap (steps_of n) all ∙ steps_both n es (d ∷ deeds) in
     let made : steps_of n es + length (inputs_by n d.asked d.answers) ≤ 200000 = omega (arith, steps, few) in
@@ -165,7 +165,7 @@ not_midst text n w p m x answers lt =
     let few : length q.read ≡ length q.deeds = many_done q.header n q.read q.deeds q.done in
     let le : length q.read ≤ length p.read = omega (arith, many, few, lt) in
     let g = goes_on q.header q.lawful n p.read p.deeds q.read q.deeds p.rest (m.line ∷ m.more) x m.last.answers mine q.done cut le answers in
-    goes_within q.header q.lawful n w p.deeds q.deeds p.rest m.line m.more m.last x (datagrams_of q.deeds + datagrams_in m.last.answers) g.lines g.deeds g.done g.all g.cut g.answers lt m.asked m.part m.over p.few
+    goes_within q.header q.lawful n w p.deeds q.deeds p.rest m.line m.more m.last x (datagrams_of q.deeds + datagrams_in m.last.answers) g.texts g.deeds g.done g.all g.cut g.answers lt m.asked m.part m.over p.few
 
 -- One limit is passed.
 
@@ -198,8 +198,8 @@ same_midst text n w v m o answers e =
     let g = goes_on q.header q.lawful n p.read p.deeds q.read q.deeds (m.line ∷ m.more) (o.line ∷ o.more) m.last.answers o.last.answers mine q.done cut le answers in
     let both : length p.deeds ≡ length q.deeds + length g.deeds = ap length g.all ∙ many_both q.deeds g.deeds in
     let none : g.deeds ≡ [] = no_items g.deeds (omega (arith, both, e)) in
-    let lines_too : length g.lines ≡ length g.deeds = many_done q.header n g.lines g.deeds g.done in
-    let no_lines : g.lines ≡ [] = no_items g.lines (lines_too ∙ ap length none) in
+    let lines_too : length g.texts ≡ length g.deeds = many_done q.header n g.texts g.deeds g.done in
+    let no_lines : g.texts ≡ [] = no_items g.texts (lines_too ∙ ap length none) in
     let deeds : p.deeds ≡ q.deeds = g.all ∙ ap (λ (ds : List Deed). q.deeds ++ ds) none ∙ append-nil q.deeds in
     let line = head_same m.line o.line m.more o.more (sym (ap (λ (ls : List (List ℕ)). ls ++ m.line ∷ m.more) no_lines) ∙ g.cut) in
     let replies : m.last.answers ≡ o.last.answers = sym (ap (λ (ds : List Deed). answers_of ds ++ m.last.answers) none) ∙ g.answers in
