@@ -1,9 +1,12 @@
 -- The first lines of a node's text, and what they are.
-use Rattle.std.proofs.Common.{◌≡◌, ◌⊎◌, ◌↔◌, ℕ, zero, suc, ◌+◌, ◌<◌, ◌≤◌, Bool, true, List, [], ◌∷◌, ◌++◌, length, take, Option, Some, None, refl, sym, ap, ◌∙◌, subst, arith, codes, ⊎_elim, inl, inr}
+use Rattle.std.proofs.Common.{◌≡◌, ◌⊎◌, ◌↔◌, ℕ, zero, suc, ◌+◌, ◌<◌, ◌≤◌, Bool, true, List, [], ◌∷◌, ◌++◌, length, take, Option, Some, None, Result, Ok, Err, IsTrue, refl, sym, ap, ◌∙◌, subst, arith, codes, ⊎_elim, inl, inr}
 use Rattle.std.specs.Prelude.{nat_lt}
 use Rattle.std.proofs.lemmas.Bool.{lt-ltb}
 use Rattle.std.proofs.lemmas.Bool.Decides.{nat_tests}
+use Rattle.std.proofs.lemmas.Fmt.{decimal_digit}
 use Rattle.std.proofs.lemmas.List.{append-nil, take-take}
+use Rattle.tg_base.specs.declared.fault.TextFault.{TextFault}
+use Rattle.tg_base.specs.declared.fault.TextFault.TheVariants as fault
 use Rattle.tg_base.specs.declared.ids.NodeId.{NodeId}
 use Rattle.tg_base.specs.declared.ids.Role.{Role}
 use Rattle.tg_base.specs.declared.ids.Role.TheVariants as role
@@ -13,7 +16,7 @@ use Rattle.tg_codec.proofs.Laws.{and-left, both}
 use Rattle.tg_any.proofs.Fronts.{some_is}
 use Rattle.tg_any.specs.Words.{joined}
 use Rattle.tg_script.specs.declared.header.Sizes.{Sizes}
-use Rattle.tg_script.specs.Headers.{are_sizes, sizes, sizes_of, header_lines, IsFront, IsFirstOutside, sizes_in}
+use Rattle.tg_script.specs.Headers.{are_sizes, sizes, sizes_of, header_lines, IsFront, IsFirstOutside, OnOutside, sizes_in}
 use Rattle.tg_script.specs.Nodes.{count_of, is_declared}
 use Rattle.tg_script.proofs.Clusters.{header_sizes, lines_again}
 use Rattle.tg_reader.specs.Lines.{lines, TakesLine}
@@ -45,6 +48,13 @@ first_declared ls n h lawful e = (
   λ b. same_nodes h b.0.header n (same_sizes h b.0.header lawful b.0.lawful (sym e ∙ b.1)) ∙ b.0.declared,
 )
 
+-- the first line is all that matters
+pub first_alone : (ls : List (List ℕ)) (line : List ℕ) (n : NodeId) (b : Bool) → take 1 ls ≡ line ∷ [] → IsTrue b ↔ Begins (line ∷ []) n 1 → IsTrue b ↔ Begins ls n 1
+first_alone ls line n b e h = (
+  λ t. let x = h.0 t in (x.0, e ∙ x.1),
+  λ x. h.1 (x.0, sym e ∙ x.1),
+)
+
 -- The least header with a first line.
 
 one_unit : (units : ℕ) → 0 < units → are_chains units ((0 ∷ []) ∷ []) ≡ true
@@ -60,7 +70,7 @@ least_lawful : (h : Header) → IsHeader h → IsHeader (least_of h)
 least_lawful h e = let s = header_sizes h e in both _ _ (both _ _ s (one_unit h.units (some_units (sizes_of h) s))) refl
 
 least_lines : (h : Header) → header_lines (least_of h) ≡ joined (sizes.spell (sizes_of h)) ∷ codes "chains u0" ∷ codes "objects" ∷ []
-least_lines h = refl
+least_lines h = ap (λ (zero_word : List ℕ). joined (sizes.spell (sizes_of h)) ∷ (codes "chains u" ++ zero_word) ∷ codes "objects" ∷ []) (decimal_digit 0 (omega arith))
 
 first_same : (a b : List ℕ) → ◌≡◌ {A = List (List ℕ)} (a ∷ []) (b ∷ []) → a ≡ b
 first_same a b e = cc
@@ -116,6 +126,11 @@ header_first ls n k few b out =
         outside = λ x. out.outside (record { header = x.0.header; lawful = x.0.lawful; same = x.1 ∙ take_before (header_lines x.0.header) x.0.body k most });
       },
     )
+
+pub fault_first : {A : Type 0} (r : Result A TextFault) (ls : List (List ℕ)) (n : NodeId) → length ls ≤ 3 → Begins ls n 1 → OnOutside r (λ k. IsFirstOutside ls k) → OnOutside r (λ k. (k ≤ 3) × FirstOutside ls n k)
+fault_first (Ok x) ls n few b out = tt
+fault_first (Err fault.NoMemory) ls n few b out = tt
+fault_first (Err (fault.Outside k)) ls n few b out = header_first ls n k few b out
 
 -- where the first line declares the node, its header does
 pub header_declares : (ls : List (List ℕ)) (n : NodeId) (h : Header) → IsHeader h → Begins ls n 1 → ls ≡ header_lines h → is_declared h n ≡ true
