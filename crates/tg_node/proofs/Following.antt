@@ -21,7 +21,7 @@ use Rattle.tg_orders.specs.declared.asked.Asked.{Asked}
 use Rattle.tg_own.specs.Kept.{KeepsNode}
 use Rattle.tg_node.specs.Any.{all_kinds}
 use Rattle.tg_node.specs.Sessions.{AnyInput, Deed, Session, IsWhole, inputs_by, inputs_of, datagrams_in, answers_of, steps_of, datagrams_of, plays, plays_lines, session, opening}
-use Rattle.tg_node.specs.Texts.{Seen, IsSeen, AreAsked, NodeText, text_lines, IsText, Begins, FirstOutside, AreDone, Point, session_at, answers_at, Followed, RefusedLine, IsPart, IsPast, IsAnother, IsOver, Midst, session_in, answers_in, Limited, IsFront, IsCutShort, Outcome}
+use Rattle.tg_node.specs.Texts.{Seen, IsSeen, AreAsked, NodeText, text_lines, IsText, Begins, FirstOutside, AreDone, Point, session_at, answers_at, Followed, IsPart, IsPast, IsAnother, IsOver, Midst, session_in, answers_in, Limited, IsFront, IsCutShort, Outcome}
 use Rattle.tg_node.specs.Steps.{Stands, IsSound, after, Goes, EndsLine, TakesLine, TookLine}
 use Rattle.tg_node.specs.Stages.{seen, Follows, Follow, IsWritten, IsRefused}
 use Rattle.tg_node.specs.declared.nodes.Node.{Node}

@@ -1,5 +1,5 @@
 -- A limit that is passed stops a session: what a line asks and the answers that were handed tell how far it comes.
-use Rattle.std.proofs.Common.{◌≡◌, ◌⊎◌, ℕ, zero, suc, ◌+◌, ◌<◌, ◌≤◌, List, [], ◌∷◌, ◌++◌, length, take, drop, Option, Some, None, IfSome, sym, refl, subst, ap, ◌∙◌, arith, inl, inr, ⊎_elim}
+use Rattle.std.proofs.Common.{◌≡◌, ◌⊎◌, ℕ, suc, ◌+◌, ◌<◌, ◌≤◌, List, [], ◌∷◌, ◌++◌, length, Option, Some, None, IfSome, sym, refl, subst, ap, ◌∙◌, arith, inl, inr, ⊎_elim}
 use Rattle.std.proofs.lemmas.List.{append_assoc, append-nil}
 use Rattle.tg_base.specs.Clusters.{Header, IsHeader}
 use Rattle.tg_base.specs.declared.fault.Which.{Which}
@@ -10,16 +10,13 @@ use Rattle.tg_io.specs.Bytes.{Grows}
 use Rattle.tg_io.specs.declared.link.Arrival.{Arrival}
 use Rattle.tg_io.specs.declared.status.Status.{Status}
 use Rattle.tg_io.specs.declared.status.Status.TheVariants as status
-use Rattle.tg_reader.specs.Lines.{lines}
-use Rattle.tg_script.specs.Headers.{header_lines}
-use Rattle.tg_script.proofs.Clusters.{same_header}
 use Rattle.tg_script.proofs.EventLines.{line_only}
 use Rattle.tg_orders.specs.Lines.{IsAsked, own_read, asked_of}
 use Rattle.tg_orders.specs.declared.asked.Asked.{Asked}
 use Rattle.tg_orders.specs.declared.asked.Asked.TheVariants.{Tick, Wait, Given, Update}
 use Rattle.tg_orders.proofs.Reading.{own_only, line_again}
 use Rattle.tg_node.specs.Sessions.{Deed, IsWhole, inputs_by, inputs_of, answers_of, steps_of, datagrams_of, datagrams_in, packets_in}
-use Rattle.tg_node.specs.Texts.{Seen, FirstOutside, Begins, AreDone, Point, answers_at, IsPart, IsPast, IsAnother, IsOver, Midst, answers_in, PassesLimit, Refused, Outcome, Told}
+use Rattle.tg_node.specs.Texts.{Seen, AreDone, Point, answers_at, IsPart, IsPast, IsOver, Midst, answers_in, PassesLimit, Refused, Outcome, Told}
 use Rattle.tg_node.proofs.Openings.{le_or_lt}
 use Rattle.tg_node.proofs.Following.{many_done, midst_begins, same_parts}
 use Rattle.tg_node.proofs.Ending.{IsUndisturbed}
