@@ -1,7 +1,6 @@
 -- How following a text ends, and what is promised of it.
-use Rattle.std.proofs.Common.{◌≡◌, ◌⊎◌, ℕ, suc, ◌+◌, ◌<◌, ◌≤◌, Bool, true, false, List, [], ◌∷◌, ◌++◌, length, take, drop, Option, Some, None, IfSome, Result, Err, sym, refl, subst, ap, ◌∙◌, arith, inl, inr, ⊎_elim}
+use Rattle.std.proofs.Common.{◌≡◌, ◌⊎◌, ℕ, ◌+◌, ◌<◌, ◌≤◌, Bool, true, false, List, [], ◌∷◌, ◌++◌, take, Option, Some, None, IfSome, Result, Err, sym, refl, subst, ap, ◌∙◌, arith, inl, inr, ⊎_elim}
 use Rattle.tg_base.specs.Clusters.{Header, IsHeader}
-use Rattle.tg_base.specs.declared.fault.Which.{Which}
 use Rattle.tg_base.specs.declared.ids.NodeId.{NodeId}
 use Rattle.tg_io.specs.declared.link.Arrival.{Arrival}
 use Rattle.tg_io.specs.declared.link.Sent.{Sent}
@@ -13,26 +12,23 @@ use Rattle.tg_io.specs.declared.fault.IoErr.TheVariants.{Failed}
 use Rattle.tg_io.proofs.Bytes.{grows_none}
 use Rattle.tg_io.proofs.Faults.{rose_later, rose_since}
 use Rattle.tg_reader.specs.Lines.{lines, ahead, TakesLine}
-use Rattle.tg_reader.specs.Openings.{Opened}
 use Rattle.tg_reader.specs.declared.header.Opening.TheVariants.{Opens, Outside}
-use Rattle.tg_script.specs.Headers.{header_lines, IsFirstOutside}
+use Rattle.tg_script.specs.Headers.{header_lines}
 use Rattle.tg_script.specs.Nodes.{is_declared}
-use Rattle.tg_script.proofs.Clusters.{same_header}
-use Rattle.tg_orders.specs.Lines.{IsAsked}
-use Rattle.tg_orders.specs.declared.asked.Asked.{Asked}
 use Rattle.tg_own.specs.Nodes.{node_start}
 use Rattle.tg_own.specs.Kept.{KeepsNode, IsNode}
 use Rattle.tg_node.specs.Any.{all_kinds}
 use Rattle.tg_node.specs.Sessions.{Session, opening}
-use Rattle.tg_node.specs.Texts.{Seen, IsSeen, Point, session_at, answers_at, Followed, RefusedLine, Undeclared, RefusedHeader, Refused, Limited, IsCutShort, Outcome, Told, IsOfNode, AreAsked, IsText}
+use Rattle.tg_node.specs.Texts.{Seen, IsSeen, IsText, FirstOutside, Refused, IsWithin, IsCutShort, Outcome, Told, IsOfNode}
+use Rattle.tg_node.specs.Openings.{Opened}
 use Rattle.tg_node.specs.Steps.{IsSound}
 use Rattle.tg_node.specs.Stages.{seen, Follows, Follow, StillFollows, IsOfLine, IsRefused, GoesSound, Causes, LineCauses}
 use Rattle.tg_node.specs.declared.nodes.Node.{Node}
 use Rattle.tg_node.specs.declared.stages.Run.{Run}
 use Rattle.tg_node.specs.declared.stages.Next.{Next}
 use Rattle.tg_node.specs.declared.stages.Next.TheVariants.{Goes, Ends}
-use Rattle.tg_node.proofs.Stepping.{take_before}
-use Rattle.tg_node.proofs.Following.{cut_here, text_ended}
+use Rattle.tg_node.proofs.Openings.{le_or_lt}
+use Rattle.tg_node.proofs.Following.{cut_here, text_ended, point_tells}
 
 -- Line by line.
 
@@ -105,21 +101,18 @@ opens_sound n h k keeps steps received = record {
   received = omega (arith, received);
 }
 
-pub undeclared : (text : List ℕ) (n : NodeId) (h : Header) (rest : List ℕ) (now : Seen) → IsHeader h → is_declared h n ≡ false → lines text ≡ header_lines h ++ lines rest → Refused text n 1 now now
-undeclared text n h rest now lawful missing cut = inr (inl (record { header = h; lawful = lawful; rest = lines rest; cut = cut; missing = missing; place = refl }), refl)
-
 -- the text of a source before anything is read
-pub header_opens : (left : Option (List ℕ)) (held : List ℕ) (rest : Option (List ℕ)) (n : NodeId) (h : Header) (s : Status) (before now : Seen) → held ≡ [] → Opened (ahead held left) rest (Opens h)
-    → IfSome rest (λ bytes. (text : List ℕ) → lines text ≡ header_lines h ++ lines bytes → Outcome text n s before now) → Told left (λ text. Outcome text n s before now)
+pub header_opens : (left : Option (List ℕ)) (held : List ℕ) (rest : Option (List ℕ)) (n : NodeId) (h : Header) (s : Status) (before now : Seen) → held ≡ [] → Opened n (ahead held left) rest (Opens h)
+    → IfSome rest (λ bytes. (text : List ℕ) → lines text ≡ header_lines h ++ lines bytes → is_declared h n ≡ true → Outcome text n s before now) → Told left (λ text. Outcome text n s before now)
 header_opens None held rest n h s before now e opened f = tt
 header_opens (Some text) held None n h s before now e opened f = absurd opened
-header_opens (Some text) held (Some bytes) n h s before now e opened f = f text (sym (ap (λ (x : List ℕ). lines (x ++ text)) e) ∙ opened)
+header_opens (Some text) held (Some bytes) n h s before now e opened f = f text (sym (ap (λ (x : List ℕ). lines (x ++ text)) e) ∙ opened.0) opened.1
 
-pub header_outside : (left : Option (List ℕ)) (held : List ℕ) (rest : Option (List ℕ)) (n : NodeId) (k : ℕ) (now : Seen) → held ≡ [] → Opened (ahead held left) rest (Outside k) → Told left (λ text. Outcome text n (status.Script k) now now)
+pub header_outside : (left : Option (List ℕ)) (held : List ℕ) (rest : Option (List ℕ)) (n : NodeId) (k : ℕ) (now : Seen) → held ≡ [] → Opened n (ahead held left) rest (Outside k) → Told left (λ text. Outcome text n (status.Script k) now now)
 header_outside None held rest n k now e opened = tt
 header_outside (Some text) held None n k now e opened = absurd opened
 header_outside (Some text) held (Some bytes) n k now e opened =
-    inr (inr (record { few = opened.0; outside = subst (λ (x : List ℕ). IsFirstOutside (lines (x ++ text)) k) e opened.1 }), refl)
+    inr (record { first = subst (λ (x : List ℕ). FirstOutside (lines (x ++ text)) n k) e opened.1; few = opened.0; still = refl })
 
 pub told_cut : (left : Option (List ℕ)) (n : NodeId) (now : Seen) → Told left (λ text. IsCutShort text n now now)
 told_cut None n now = tt
@@ -131,45 +124,61 @@ pub told_as : (left : Option (List ℕ)) (n : NodeId) (s t : Status) (before now
 told_as None n s t before now h e = tt
 told_as (Some text) n s t before now h e = subst (λ (x : Status). Outcome text n x before now) e h
 
--- the parts of a text are those of its header and the lines after it
-same_parts : (text : List ℕ) (a b : Header) (xs ys : List (List ℕ)) → IsHeader a → IsHeader b → lines text ≡ header_lines a ++ xs → lines text ≡ header_lines b ++ ys → (a ≡ b) × (xs ≡ ys)
-same_parts text a b xs ys la lb e f =
-    let same : header_lines a ++ xs ≡ header_lines b ++ ys = sym e ∙ f in
-    (same_header a b la lb (header_lines a) refl (ap (λ (ls : List (List ℕ)). take 3 ls) same), ap (λ (ls : List (List ℕ)). drop 3 ls) same)
+-- where nothing failed
+pub record IsUndisturbed (s : Status) : Type 0 where
+  pub reads : s ≡ status.ReadFault → ⊥
+  pub writes : s ≡ status.WriteFault → ⊥
+  pub sends : s ≡ status.LinkFault → ⊥
 
-asked_there : (h : Header) (n : NodeId) (xs ys : List (List ℕ)) (line : List ℕ) → AreAsked h n (xs ++ line ∷ ys) → (a : Asked) × IsAsked h n line a
-asked_there h n [] ys line is = is.0
-asked_there h n (x ∷ xs) ys line is = asked_there h n xs ys line is.1
+-- of two lines the earlier is the first outside
+not_before : (ls : List (List ℕ)) (n : NodeId) (j k : ℕ) → FirstOutside ls n j → FirstOutside ls n k → j < k → ⊥
+not_before ls n j k a b lt = a.outside (b.before j a.line lt)
 
-none_outside : (text : List ℕ) (n : NodeId) (k : ℕ) (before now : Seen) → Refused text n k before now → IsText text n → ⊥
-none_outside text n k before now (inl r) t =
-    let p = same_parts text r.point.header t.header (r.point.read ++ r.point.rest) t.body r.point.lawful t.lawful r.point.cut t.cut in
-    let body : r.point.read ++ r.line ∷ r.more ≡ t.body = ap (λ (x : List (List ℕ)). r.point.read ++ x) (sym r.next) ∙ p.1 in
-    let asked = asked_there t.header n r.point.read r.more r.line (subst (λ (x : List (List ℕ)). AreAsked t.header n x) (sym body) t.asked) in
-    r.outside asked.0 (subst (λ (h : Header). IsAsked h n r.line asked.0) (sym p.0) asked.1)
-none_outside text n k before now (inr (inl u, same)) t =
-    let p = same_parts text u.header t.header u.rest t.body u.lawful t.lawful u.cut t.cut in
-    let missing : is_declared t.header n ≡ false = subst (λ (h : Header). is_declared h n ≡ false) p.0 u.missing in
-    let declared = t.declared in absurd cc
-none_outside text n k before now (inr (inr o, same)) t =
-    o.outside.outside (record { header = t.header; lawful = t.lawful; same = ap (λ (ls : List (List ℕ)). take k ls) t.cut ∙ take_before (header_lines t.header) t.body k o.few })
+first_once : (ls : List (List ℕ)) (n : NodeId) (j k : ℕ) → FirstOutside ls n j → FirstOutside ls n k → j ≡ k
+first_once ls n j k a b = ⊎_elim
+    (λ (le : j ≤ k). ⊎_elim (λ (ge : k ≤ j). let e : j ≡ k = omega (arith, le, ge) in e) (λ (lt : j < k). absurd (not_before ls n j k a b lt)) (le_or_lt k j))
+    (λ (lt : k < j). absurd (not_before ls n k j b a lt))
+    (le_or_lt j k)
 
-completes : (text : List ℕ) (n : NodeId) (s : Status) (before now : Seen) → Outcome text n s before now → (s ≡ status.ReadFault → ⊥) → (s ≡ status.WriteFault → ⊥) → (s ≡ status.LinkFault → ⊥) → IsText text n
-    → (s ≡ status.Done) ⊎ (((w : Which) × (s ≡ status.Limit w)) ⊎ (s ≡ status.NoMemory))
-completes text n status.Done before now h r w l t = inl refl
-completes text n (status.Illegal line c) before now h r w l t = absurd h
-completes text n status.Words before now h r w l t = absurd h
-completes text n (status.Script k) before now h r w l t = absurd (none_outside text n k before now h t)
-completes text n status.ReadFault before now h r w l t = absurd (r refl)
-completes text n status.WriteFault before now h r w l t = absurd (w refl)
-completes text n status.LinkFault before now h r w l t = absurd (l refl)
-completes text n (status.Limit which) before now h r w l t = inr (inl (which, refl))
-completes text n status.NoMemory before now h r w l t = inr (inr refl)
+first_refused : (text : List ℕ) (n : NodeId) (k : ℕ) (before now : Seen) → Refused text n k before now → FirstOutside (lines text) n k
+first_refused text n k before now (inl r) = r.first
+first_refused text n k before now (inr r) = r.first
 
-pub complete_told : (left : Option (List ℕ)) (n : NodeId) (s : Status) (before now : Seen) → Told left (λ text. Outcome text n s before now) → (s ≡ status.ReadFault → ⊥) → (s ≡ status.WriteFault → ⊥) → (s ≡ status.LinkFault → ⊥)
-    → Told left (λ text. IsText text n → (s ≡ status.Done) ⊎ (((w : Which) × (s ≡ status.Limit w)) ⊎ (s ≡ status.NoMemory)))
-complete_told None n s before now h r w l = tt
-complete_told (Some text) n s before now h r w l = λ t. completes text n s before now h r w l t
+-- no line of a text of the node is outside
+whole_inside : (text : List ℕ) (n : NodeId) (k : ℕ) → IsText text n → FirstOutside (lines text) n k → ⊥
+whole_inside text n k t out = out.outside (t.0, ap (λ (ls : List (List ℕ)). take k ls) t.1)
+
+completes : (text : List ℕ) (n : NodeId) (s : Status) (before now : Seen) → Outcome text n s before now → IsUndisturbed s → IsText text n → IsWithin text n before.handed now.handed → (s ≡ status.Done) ⊎ (s ≡ status.NoMemory)
+completes text n status.Done before now h u t within = inl refl
+completes text n status.NoMemory before now h u t within = inr refl
+completes text n (status.Illegal line c) before now h u t within = absurd h
+completes text n status.Words before now h u t within = absurd h
+completes text n (status.Script k) before now h u t within = absurd (whole_inside text n k t (first_refused text n k before now h))
+completes text n status.ReadFault before now h u t within = absurd (u.reads refl)
+completes text n status.WriteFault before now h u t within = absurd (u.writes refl)
+completes text n status.LinkFault before now h u t within = absurd (u.sends refl)
+completes text n (status.Limit w) before now h u t within = absurd (within w (h.midst, h.seen.handed))
+
+refuses : (text : List ℕ) (n : NodeId) (s : Status) (k : ℕ) (before now : Seen) → Outcome text n s before now → IsUndisturbed s → FirstOutside (lines text) n k → IsWithin text n before.handed now.handed → (s ≡ status.Script k) ⊎ (s ≡ status.NoMemory)
+refuses text n status.Done k before now h u out within = absurd (whole_inside text n k (point_tells text n h.point h.end) out)
+refuses text n status.NoMemory k before now h u out within = inr refl
+refuses text n (status.Illegal line c) k before now h u out within = absurd h
+refuses text n status.Words k before now h u out within = absurd h
+refuses text n (status.Script j) k before now h u out within = inl (ap status.Script (first_once (lines text) n j k (first_refused text n j before now h) out))
+refuses text n status.ReadFault k before now h u out within = absurd (u.reads refl)
+refuses text n status.WriteFault k before now h u out within = absurd (u.writes refl)
+refuses text n status.LinkFault k before now h u out within = absurd (u.sends refl)
+refuses text n (status.Limit w) k before now h u out within = absurd (within w (h.midst, h.seen.handed))
+
+pub complete_told : (left : Option (List ℕ)) (n : NodeId) (s : Status) (before now : Seen) → Told left (λ text. Outcome text n s before now) → IsUndisturbed s
+    → Told left (λ text. IsText text n → IsWithin text n before.handed now.handed → (s ≡ status.Done) ⊎ (s ≡ status.NoMemory))
+complete_told None n s before now h u = tt
+complete_told (Some text) n s before now h u = λ t within. completes text n s before now h u t within
+
+pub refuses_told : (left : Option (List ℕ)) (n : NodeId) (s : Status) (before now : Seen) → Told left (λ text. Outcome text n s before now) → IsUndisturbed s
+    → Told left (λ text. (k : ℕ) → FirstOutside (lines text) n k → IsWithin text n before.handed now.handed → (s ≡ status.Script k) ⊎ (s ≡ status.NoMemory))
+refuses_told None n s before now h u = tt
+refuses_told (Some text) n s before now h u = λ k out within. refuses text n s k before now h u out within
 
 pub cut_told : (left : Option (List ℕ)) (n : NodeId) (s : Status) (before now : Seen) → Told left (λ text. Outcome text n s before now)
     → (s ≡ status.ReadFault) ⊎ ((s ≡ status.WriteFault) ⊎ ((s ≡ status.LinkFault) ⊎ (s ≡ status.NoMemory))) → Told left (λ text. IsCutShort text n before now)

@@ -1,8 +1,8 @@
 -- A session goes on by a line, or ends at it.
-use Rattle.std.proofs.Common.{◌≡◌, ℕ, zero, suc, ◌+◌, ◌-◌, ◌<◌, ◌≤◌, List, [], ◌∷◌, ◌++◌, length, take, Option, Some, None, sym, refl, subst, ap, ◌∙◌, arith, inl, inr}
+use Rattle.std.proofs.Common.{◌≡◌, ℕ, zero, suc, ◌+◌, ◌-◌, ◌<◌, ◌≤◌, List, [], ◌∷◌, ◌++◌, length, take, drop, Option, Some, None, sym, refl, subst, ap, ◌∙◌, arith, inl, inr}
 use Rattle.std.specs.Prelude.{MatchOption}
 use Rattle.std.proofs.lemmas.List.{append_assoc, append-nil}
-use Rattle.tg_base.specs.Clusters.{Header}
+use Rattle.tg_base.specs.Clusters.{Header, IsHeader}
 use Rattle.tg_base.specs.declared.fault.Which.{Which}
 use Rattle.tg_base.specs.declared.fault.Which.TheVariants as which
 use Rattle.tg_base.specs.declared.ids.NodeId.{NodeId}
@@ -13,6 +13,7 @@ use Rattle.tg_io.specs.declared.status.Status.TheVariants as status
 use Rattle.tg_io.proofs.Bytes.{grows_none, grows_more, front_after}
 use Rattle.tg_reader.specs.Lines.{lines}
 use Rattle.tg_script.specs.Headers.{header_lines}
+use Rattle.tg_script.proofs.Clusters.{same_header}
 use Rattle.tg_mail.specs.Mail.{all_sent}
 use Rattle.tg_orders.specs.Lines.{IsAsked}
 use Rattle.tg_orders.specs.Replies.{replies_text}
@@ -20,7 +21,7 @@ use Rattle.tg_orders.specs.declared.asked.Asked.{Asked}
 use Rattle.tg_own.specs.Kept.{KeepsNode}
 use Rattle.tg_node.specs.Any.{all_kinds}
 use Rattle.tg_node.specs.Sessions.{AnyInput, Deed, Session, IsWhole, inputs_by, inputs_of, datagrams_in, answers_of, steps_of, datagrams_of, plays, plays_lines, session, opening}
-use Rattle.tg_node.specs.Texts.{Seen, IsSeen, AreDone, Point, session_at, answers_at, Followed, RefusedLine, IsPart, IsPast, IsAnother, IsOver, Midst, session_in, answers_in, Limited, IsFront, IsCutShort, Outcome}
+use Rattle.tg_node.specs.Texts.{Seen, IsSeen, AreAsked, NodeText, text_lines, IsText, Begins, FirstOutside, AreDone, Point, session_at, answers_at, Followed, IsPart, IsPast, IsAnother, IsOver, Midst, session_in, answers_in, Limited, IsFront, IsCutShort, Outcome}
 use Rattle.tg_node.specs.Steps.{Stands, IsSound, after, Goes, EndsLine, TakesLine, TookLine}
 use Rattle.tg_node.specs.Stages.{seen, Follows, Follow, IsWritten, IsRefused}
 use Rattle.tg_node.specs.declared.nodes.Node.{Node}
@@ -29,7 +30,7 @@ use Rattle.tg_node.specs.declared.nodes.Place.{Place}
 use Rattle.tg_node.specs.declared.stages.Run.{Run}
 use Rattle.tg_node.specs.declared.stages.Next.{Next}
 use Rattle.tg_node.specs.declared.stages.Next.TheVariants.{Goes as GoesOn, Ends}
-use Rattle.tg_node.proofs.Stepping.{take_all, datagrams_both}
+use Rattle.tg_node.proofs.Stepping.{take_all, take_before, datagrams_both}
 
 -- One line more.
 
@@ -238,19 +239,113 @@ module _ (text : List ℕ) (before now : Seen) (r : Run) (line : List ℕ) (more
   line_follows written (Ends status.ReadFault) h = absurd h
   line_follows written (Ends status.LinkFault) h = absurd h
 
+-- The first line outside, after the lines of a point.
+
+-- the parts of a text are those of its header and the lines after it
+pub same_parts : (text : List ℕ) (a b : Header) (xs ys : List (List ℕ)) → IsHeader a → IsHeader b → lines text ≡ header_lines a ++ xs → lines text ≡ header_lines b ++ ys → (a ≡ b) × (xs ≡ ys)
+same_parts text a b xs ys lawful also e f =
+    let same : header_lines a ++ xs ≡ header_lines b ++ ys = sym e ∙ f in
+    (same_header a b lawful also (header_lines a) refl (ap (λ (ls : List (List ℕ)). take 3 ls) same), ap (λ (ls : List (List ℕ)). drop 3 ls) same)
+
+each_asked : (h : Header) (n : NodeId) (ts : List (List ℕ)) (ds : List Deed) → AreDone h n ts ds → AreAsked h n ts
+each_asked h n [] [] done = tt
+each_asked h n (t ∷ ts) (d ∷ ds) done = ((d.asked, done.0), each_asked h n ts ds done.2)
+each_asked h n [] (d ∷ ds) done = absurd done
+each_asked h n (t ∷ ts) [] done = absurd done
+
+pub many_done : (h : Header) (n : NodeId) (ts : List (List ℕ)) (ds : List Deed) → AreDone h n ts ds → length ts ≡ length ds
+many_done h n [] [] done = refl
+many_done h n (t ∷ ts) (d ∷ ds) done = ap suc (many_done h n ts ds done.2)
+many_done h n [] (d ∷ ds) done = absurd done
+many_done h n (t ∷ ts) [] done = absurd done
+
+-- the text that ends at a point
+abbrev text_at : {text : List ℕ} {n : NodeId} → Point text n → NodeText n
+text_at {text} {n} p = record { header = p.header; lawful = p.lawful; declared = p.declared; body = p.read; asked = each_asked p.header n p.read p.deeds p.done }
+
+-- the lines up to a point begin a text
+pub point_begins : (text : List ℕ) (n : NodeId) (p : Point text n) (k : ℕ) → k ≤ 3 + length p.deeds → Begins (lines text) n k
+point_begins text n p k le =
+    let all = text_lines (text_at p) in
+    let many : length p.read ≡ length p.deeds = many_done p.header n p.read p.deeds p.done in
+    let long : k ≤ length all = omega (arith, le, many) in
+    (text_at p, ap (λ (ls : List (List ℕ)). take k ls) p.cut ∙ take_before all p.rest k long)
+
+-- a text that is followed to its end is one of the node
+pub point_tells : (text : List ℕ) (n : NodeId) (p : Point text n) → p.rest ≡ [] → IsText text n
+point_tells text n p e = (text_at p, p.cut ∙ ap (λ (ls : List (List ℕ)). text_lines (text_at p) ++ ls) e ∙ append-nil (text_lines (text_at p)))
+
+asked_front : (h : Header) (n : NodeId) (k : ℕ) (ts : List (List ℕ)) → AreAsked h n ts → AreAsked h n (take k ts)
+asked_front h n zero ts is = tt
+asked_front h n (suc k) [] is = tt
+asked_front h n (suc k) (t ∷ ts) is = (is.0, asked_front h n k ts is.1)
+
+asked_there : (h : Header) (n : NodeId) (xs ys : List (List ℕ)) (line : List ℕ) → AreAsked h n (xs ++ line ∷ ys) → (a : Asked) × IsAsked h n line a
+asked_there h n [] ys line is = is.0
+asked_there h n (x ∷ xs) ys line is = asked_there h n xs ys line is.1
+
+-- a text with the lines up to a point asks something by the line after it
+after_point : (text : List ℕ) (n : NodeId) (p : Point text n) (line : List ℕ) (more : List (List ℕ)) → p.rest ≡ line ∷ more → (t : NodeText n)
+    → take (suc (suc (suc (suc (length p.read))))) (lines text) ≡ take (suc (suc (suc (suc (length p.read))))) (text_lines t) → (a : Asked) × IsAsked p.header n line a
+after_point text n p line more next t e =
+    let j = length p.read in
+    let upto = p.read ++ line ∷ [] in
+    let many : length upto ≡ suc j = many_more p.read line in
+    let short : suc j ≤ length upto = omega (arith, many) in
+    let long : length upto ≤ suc j = omega (arith, many) in
+    let body : p.read ++ p.rest ≡ upto ++ more = ap (λ (ls : List (List ℕ)). p.read ++ ls) next ∙ sym (append_assoc p.read (line ∷ []) more) in
+    let all : header_lines p.header ++ upto ≡ take (suc (suc (suc (suc j)))) (text_lines t) =
+    sym (ap (λ (ls : List (List ℕ)). header_lines p.header ++ ls) (ap (λ (ls : List (List ℕ)). take (suc j) ls) body ∙ take_before upto more (suc j) short ∙ take_all upto (suc j) long))
+    ∙ sym (ap (λ (ls : List (List ℕ)). take (suc (suc (suc (suc j)))) ls) p.cut) ∙ e in
+    let first : header_lines p.header ≡ header_lines t.header = ap (λ (ls : List (List ℕ)). take 3 ls) all in
+    let rest : upto ≡ take (suc j) t.body = ap (λ (ls : List (List ℕ)). drop 3 ls) all in
+    let same : p.header ≡ t.header = same_header p.header t.header p.lawful t.lawful (header_lines p.header) refl first in
+    let asked = asked_there t.header n p.read [] line (subst (λ (ls : List (List ℕ)). AreAsked t.header n ls) (sym rest) (asked_front t.header n (suc j) t.body t.asked)) in
+    (asked.0, subst (λ (h : Header). IsAsked h n line asked.0) (sym same) asked.1)
+
+asked_more : (h : Header) (n : NodeId) (ts : List (List ℕ)) (line : List ℕ) (a : Asked) → AreAsked h n ts → IsAsked h n line a → AreAsked h n (ts ++ line ∷ [])
+asked_more h n [] line a is asked = ((a, asked), tt)
+asked_more h n (t ∷ ts) line a is asked = (is.0, asked_more h n ts line a is.1 asked)
+
+-- the lines up to the one in whose midst a limit is passed begin a text
+pub midst_begins : (text : List ℕ) (n : NodeId) (w : Which) (m : Midst text n w) (k : ℕ) → k ≤ 4 + length m.point.deeds → Begins (lines text) n k
+midst_begins text n w m k le =
+    let p = m.point in
+    let upto = p.read ++ m.line ∷ [] in
+    let t : NodeText n =
+    record { header = p.header; lawful = p.lawful; declared = p.declared; body = upto; asked = asked_more p.header n p.read m.line m.last.asked (each_asked p.header n p.read p.deeds p.done) m.asked } in
+    let many : length p.read ≡ length p.deeds = many_done p.header n p.read p.deeds p.done in
+    let lines_all : length upto ≡ suc (length p.read) = many_more p.read m.line in
+    let long : k ≤ length (text_lines t) = omega (arith, le, many, lines_all) in
+    let body : p.read ++ p.rest ≡ upto ++ m.more = ap (λ (ls : List (List ℕ)). p.read ++ ls) m.next ∙ sym (append_assoc p.read (m.line ∷ []) m.more) in (
+      t,
+      ap (λ (ls : List (List ℕ)). take k ls) p.cut ∙ ap (λ (ls : List (List ℕ)). take k (header_lines p.header ++ ls)) body ∙ take_before (text_lines t) m.more k long,
+    )
+
+-- a line that asks nothing is the first outside
+line_first : (text : List ℕ) (n : NodeId) (p : Point text n) (line : List ℕ) (more : List (List ℕ)) (k : ℕ) → p.rest ≡ line ∷ more → k ≡ 4 + length p.deeds → ((a : Asked) → IsAsked p.header n line a → ⊥) → FirstOutside (lines text) n k
+line_first text n p line more k next at none =
+    let many : length p.read ≡ length p.deeds = many_done p.header n p.read p.deeds p.done in
+    let here : k ≡ suc (suc (suc (suc (length p.read)))) = omega (arith, at, many) in
+    record {
+      line = omega (arith, at);
+      before = λ m low lt. let le : m ≤ 3 + length p.deeds = omega (arith, at, lt) in point_begins text n p m le;
+      outside = λ b.
+          let asked = after_point text n p line more next b.0 (subst (λ (j : ℕ). take j (lines text) ≡ take j (text_lines b.0)) here b.1) in
+          none asked.0 asked.1;
+    }
+
 -- a line is refused
 pub line_refused : (text : List ℕ) (before now : Seen) (r : Run) (line : List ℕ) (more : List (List ℕ)) (x : Next) → Follows text before now r (line ∷ more) → ((a : Asked) → IsAsked r.cluster r.id line a → ⊥) → IsRefused r.lines x
     → Follow text r.id before (seen now.sent now.handed now.written) more x
 line_refused text before now r line more (Ends (status.Script k)) f none at =
     let l : r.lines ≡ length f.point.deeds = f.lines in
     let place : k ≡ 4 + r.lines = at in
+    let at_line : k ≡ 4 + length f.point.deeds = omega (arith, place, l) in
     inl (record {
+      first = line_first text r.id f.point line more k f.left at_line (λ a is. none a (subst (λ (h : Header). IsAsked h r.id line a) (sym f.header) is));
       point = f.point;
-      line = line;
-      more = more;
-      next = f.left;
-      place = omega (arith, place, l);
-      outside = λ a is. none a (subst (λ (h : Header). IsAsked h r.id line a) (sym f.header) is);
+      place = at_line;
       seen = record { sent = f.seen.sent; handed = f.seen.handed; written = f.seen.written };
     })
 line_refused text before now r line more (Ends status.NoMemory) f none at = cut_here text before now r (line ∷ more) now.sent now.handed f

@@ -1,5 +1,6 @@
 pub mod Any
 pub mod Sessions
 pub mod Texts
+pub mod Openings
 pub mod Steps
 pub mod Stages

@@ -9,7 +9,7 @@ use Rattle.tg_io.specs.declared.link.Arrival.{Arrival}
 use Rattle.tg_io.specs.declared.link.Sent.{Sent}
 use Rattle.tg_io.specs.declared.status.Status.{Status}
 use Rattle.tg_io.specs.declared.status.Status.TheVariants.{Done, Script as AtLine, ReadFault, WriteFault, LinkFault, Limit, NoMemory, Words, Illegal}
-use Rattle.tg_script.specs.Headers.{header_lines, IsFirstOutside}
+use Rattle.tg_script.specs.Headers.{header_lines}
 use Rattle.tg_script.specs.Nodes.{is_declared}
 use Rattle.tg_reader.specs.Lines.{lines}
 use Rattle.tg_mail.specs.Mail.{all_sent}
@@ -30,6 +30,37 @@ pub record IsSeen (s : Session) (answers : List (Option Arrival)) (before after 
   pub sent : Grows before.sent (all_sent s.sent) after.sent
   pub handed : Grows before.handed answers after.handed
   pub written : Takes before.written (replies_text s.replies) after.written
+
+-- each line asks something of the node
+abbrev pub AreAsked : Header → NodeId → List (List ℕ) → Type 0
+AreAsked h n [] = Unit {0}
+AreAsked h n (t ∷ ts) = ((a : Asked) × IsAsked h n t a) × AreAsked h n ts
+
+-- What a text of a node says: a header that declares the node, and lines that ask something of it.
+pub record NodeText (n : NodeId) : Type 0 where
+  pub header : Header
+  pub lawful : IsHeader header
+  pub declared : is_declared header n ≡ true
+  pub body : List (List ℕ)
+  pub asked : AreAsked header n body
+
+abbrev pub text_lines : {n : NodeId} → NodeText n → List (List ℕ)
+text_lines t = header_lines t.header ++ t.body
+
+-- the text is one of the node
+abbrev pub IsText : List ℕ → NodeId → Type 0
+IsText text n = (t : NodeText n) × (lines text ≡ text_lines t)
+
+-- the first k lines are those of a text of the node
+abbrev pub Begins : List (List ℕ) → NodeId → ℕ → Type 0
+Begins ls n k = (t : NodeText n) × (take k ls ≡ take k (text_lines t))
+
+-- Line k, from 1, is the first that no text of the node has after the lines before it. It may be the one after the last.
+-- So the first line is outside where it doesn't declare the node, whatever stands below it.
+pub record FirstOutside (ls : List (List ℕ)) (n : NodeId) (k : ℕ) : Type 0 where
+  pub line : 1 ≤ k
+  pub before : (m : ℕ) → 1 ≤ m → m < k → Begins ls n m
+  pub outside : Begins ls n k → ⊥
 
 -- each line asks what was done, and each wait had all its answers
 abbrev pub AreDone : Header → NodeId → List (List ℕ) → List Deed → Type 0
@@ -62,32 +93,21 @@ pub record Followed (text : List ℕ) (n : NodeId) (before after : Seen) : Type 
   pub end : point.rest ≡ []
   pub seen : IsSeen (session_at point) (answers_at point) before after
 
--- Line k is the first that no text of the node has, after the session of the lines before it.
+-- Line k, below the header, is the first outside, after the session of the lines before it.
 pub record RefusedLine (text : List ℕ) (n : NodeId) (k : ℕ) (before after : Seen) : Type 0 where
+  pub first : FirstOutside (lines text) n k
   pub point : Point text n
-  pub line : List ℕ
-  pub more : List (List ℕ)
-  pub next : point.rest ≡ line ∷ more
   pub place : k ≡ 4 + length point.deeds
-  pub outside : (a : Asked) → IsAsked point.header n line a → ⊥
   pub seen : IsSeen (session_at point) (answers_at point) before after
 
--- The header doesn't declare the node, which is refused at line 1.
-pub record Undeclared (text : List ℕ) (n : NodeId) (k : ℕ) : Type 0 where
-  pub header : Header
-  pub lawful : IsHeader header
-  pub rest : List (List ℕ)
-  pub cut : lines text ≡ header_lines header ++ rest
-  pub missing : is_declared header n ≡ false
-  pub place : k ≡ 1
-
--- line k is of the header's, and the first outside
-pub record RefusedHeader (text : List ℕ) (k : ℕ) : Type 0 where
+-- Line k is one of the header's three and the first outside, and nothing is done.
+pub record RefusedHeader (text : List ℕ) (n : NodeId) (k : ℕ) (before after : Seen) : Type 0 where
+  pub first : FirstOutside (lines text) n k
   pub few : k ≤ 3
-  pub outside : IsFirstOutside (lines text) k
+  pub still : after ≡ before
 
 abbrev pub Refused : List ℕ → NodeId → ℕ → Seen → Seen → Type 0
-Refused text n k before after = RefusedLine text n k before after ⊎ ((Undeclared text n k ⊎ RefusedHeader text k) × (after ≡ before))
+Refused text n k before after = RefusedLine text n k before after ⊎ RefusedHeader text n k before after
 
 -- A line that was begun: a wait may have had some of its answers only.
 abbrev pub IsPart : Asked → List (Option Arrival) → Type 0
@@ -131,6 +151,14 @@ pub record Limited (text : List ℕ) (n : NodeId) (w : Which) (before after : Se
   pub midst : Midst text n w
   pub seen : IsSeen (session_in midst) (answers_in midst) before after
 
+-- a limit is passed with the answers that were handed
+abbrev pub PassesLimit : List ℕ → NodeId → Which → Option (List (Option Arrival)) → Option (List (Option Arrival)) → Type 0
+PassesLimit text n w handed after = (m : Midst text n w) × Grows handed (answers_in m) after
+
+-- no limit is passed with them
+abbrev pub IsWithin : List ℕ → NodeId → Option (List (Option Arrival)) → Option (List (Option Arrival)) → Type 0
+IsWithin text n handed after = (w : Which) → PassesLimit text n w handed after → ⊥
+
 -- Some front of the replies of a session was written.
 abbrev pub IsFront : Session → Seen → Seen → Type 0
 IsFront s before after = TakesFront before.written (replies_text s.replies) after.written
@@ -158,16 +186,3 @@ abbrev pub IsOfNode : Status → Type 0
 IsOfNode Words = ⊥
 IsOfNode (Illegal line clause) = ⊥
 IsOfNode status = Unit {0}
-
--- A whole text of a node: its header declares the node, and each line asks something of it.
-abbrev pub AreAsked : Header → NodeId → List (List ℕ) → Type 0
-AreAsked h n [] = Unit {0}
-AreAsked h n (t ∷ ts) = ((a : Asked) × IsAsked h n t a) × AreAsked h n ts
-
-pub record IsText (text : List ℕ) (n : NodeId) : Type 0 where
-  pub header : Header
-  pub lawful : IsHeader header
-  pub declared : is_declared header n ≡ true
-  pub body : List (List ℕ)
-  pub cut : lines text ≡ header_lines header ++ body
-  pub asked : AreAsked header n body

@@ -2,6 +2,7 @@
 #![tactic(auto)]
 
 mod follow;
+mod header;
 mod lines;
 mod nodes;
 mod session;

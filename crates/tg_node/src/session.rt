@@ -1,24 +1,25 @@
 //! One node over a link: its lines are read from a source, its packets go over the link, and the lines of its replies
 //! are written to a sink, line by line.
 
-ghost use Rattle.std.specs.Prelude.{◌≡◌, ◌⊎◌, ◌++◌, ℕ, List, IfSome};
+ghost use Rattle.std.specs.Prelude.{◌≡◌, ◌⊎◌, ◌++◌, ℕ, List, true, IfSome};
 ghost use Rattle.tg_base.specs.declared.fault.Which.{Which};
 ghost use Rattle.tg_io.specs.Faults.{Rose, StaysSure};
 ghost use Rattle.tg_io.specs.declared.status.Status.TheVariants.{Done, Script as AtLine, ReadFault, WriteFault, LinkFault, Limit, NoMemory as OutOfMemory};
 ghost use Rattle.tg_reader.specs.Lines.{ahead, lines};
 ghost use Rattle.tg_script.specs.Nodes.{is_declared};
 ghost use Rattle.tg_script.specs.Headers.{header_lines};
-ghost use Rattle.tg_node.specs.Texts.{Seen, Outcome, Followed, Refused, Limited, IsCutShort, IsText, IsOfNode, Told};
+ghost use Rattle.tg_node.specs.Texts.{Seen, Outcome, Followed, FirstOutside, Refused, PassesLimit, IsWithin, Limited, IsCutShort, IsText, IsOfNode, Told};
 ghost use Rattle.tg_node.specs.Steps.{IsSound};
 ghost use Rattle.tg_node.specs.Stages.{Causes, Follows, seen};
 
 use crate::follow::follow_line;
+use crate::header::read_own_header;
 use crate::nodes::Node;
 use crate::stages::{Next, Run};
 use std::alloc::Global;
-use tg_base::{Cluster, NodeId, Role};
+use tg_base::{Cluster, NodeId};
 use tg_io::{IoErr, Link, Sink, Source, Status};
-use tg_reader::{LineReader, Opening, read_header};
+use tg_reader::{LineReader, Opening};
 
 /// Runs one node of the cluster that a header declares, by the lines of a text.
 pub fn node<S: Source, K: Sink, L: Link>(
@@ -42,9 +43,14 @@ pub fn node<S: Source, K: Sink, L: Link>(
     // What is written then is a front of a session's replies, or nothing.
     ensures cut_short { (result ≡ ReadFault) ⊎ ((result ≡ WriteFault) ⊎ ((result ≡ LinkFault) ⊎ (result ≡ OutOfMemory))) → Told (S.left source.old) (λ text. IsCutShort text id (seen (L.sent link.old) (L.handed link.old) (K.written sink.old)) (seen (L.sent link.new) (L.handed link.new) (K.written sink.new))) }
     ensures ways { IsOfNode result }
-    // Without a fault a whole text is followed, unless a limit is reached or memory runs out.
+    // Without a fault each text has its status, unless memory runs out. Whether a limit is passed depends on the answers
+    // that the link hands.
     ensures complete { (Rose (S.faults source.old) (S.faults source.new) → ⊥) → (Rose (K.faults sink.old) (K.faults sink.new) → ⊥) → (Rose (L.faults link.old) (L.faults link.new) → ⊥) →
-        Told (S.left source.old) (λ text. IsText text id → (result ≡ Done) ⊎ (((which : Which) × (result ≡ Limit which)) ⊎ (result ≡ OutOfMemory))) }
+        Told (S.left source.old) (λ text. IsText text id → IsWithin text id (L.handed link.old) (L.handed link.new) → (result ≡ Done) ⊎ (result ≡ OutOfMemory)) }
+    ensures refuses { (Rose (S.faults source.old) (S.faults source.new) → ⊥) → (Rose (K.faults sink.old) (K.faults sink.new) → ⊥) → (Rose (L.faults link.old) (L.faults link.new) → ⊥) →
+        Told (S.left source.old) (λ text. (line : ℕ) → FirstOutside (lines text) id line → IsWithin text id (L.handed link.old) (L.handed link.new) → (result ≡ AtLine line) ⊎ (result ≡ OutOfMemory)) }
+    ensures limits { (Rose (S.faults source.old) (S.faults source.new) → ⊥) → (Rose (K.faults sink.old) (K.faults sink.new) → ⊥) → (Rose (L.faults link.old) (L.faults link.new) → ⊥) →
+        Told (S.left source.old) (λ text. IfSome (L.handed link.old) (λ handed. (which : Which) → PassesLimit text id which (L.handed link.old) (L.handed link.new) → (result ≡ Limit which) ⊎ (result ≡ OutOfMemory))) }
     // What is sure never to fail stays so.
     ensures source { StaysSure (S.sure source.old) (S.sure source.new) (S.faults source.old) (S.faults source.new) }
     ensures sink { StaysSure (K.sure sink.old) (K.sure sink.new) (K.faults sink.old) (K.faults sink.new) }
@@ -68,7 +74,7 @@ fn run_node<S: Source, K: Sink, L: Link>(
     ensures link { StaysSure (L.sure link.old) (L.sure link.new) (L.faults link.old) (L.faults link.new) }
 {
     let mut reader = LineReader::new();
-    match read_header(alloc, &mut reader, source) {
+    match read_own_header(alloc, id, &mut reader, source) {
         Ok(Opening::Opens(cluster)) => {
             follow_header(alloc, id, cluster, &mut reader, source, sink, link)
         }
@@ -78,7 +84,7 @@ fn run_node<S: Source, K: Sink, L: Link>(
     }
 }
 
-// The lines after a header are followed, if it declares the node.
+// The lines after a header that declares the node are followed.
 fn follow_header<S: Source, K: Sink, L: Link>(
     alloc: Global,
     id: NodeId,
@@ -88,16 +94,13 @@ fn follow_header<S: Source, K: Sink, L: Link>(
     sink: &mut K,
     link: &mut L,
 ) -> Status
-    ensures outcome { IfSome (ahead reader.old (S.left source.old)) (λ rest. (text : List ℕ) → lines text ≡ header_lines cluster ++ lines rest → Outcome text id result (seen (L.sent link.old) (L.handed link.old) (K.written sink.old)) (seen (L.sent link.new) (L.handed link.new) (K.written sink.new))) }
+    ensures outcome { IfSome (ahead reader.old (S.left source.old)) (λ rest. (text : List ℕ) → lines text ≡ header_lines cluster ++ lines rest → is_declared cluster id ≡ true → Outcome text id result (seen (L.sent link.old) (L.handed link.old) (K.written sink.old)) (seen (L.sent link.new) (L.handed link.new) (K.written sink.new))) }
     ensures causes { Causes (S.faults source.old) (S.faults source.new) (K.faults sink.old) (K.faults sink.new) (L.faults link.old) (L.faults link.new) result }
     ensures source { StaysSure (S.sure source.old) (S.sure source.new) (S.faults source.old) (S.faults source.new) }
     ensures sink { StaysSure (K.sure sink.old) (K.sure sink.new) (K.faults sink.old) (K.faults sink.new) }
     ensures link { StaysSure (L.sure link.old) (L.sure link.new) (L.faults link.old) (L.faults link.new) }
 {
     cluster.rules();
-    if !declares(&cluster, id) {
-        return Status::Script { line: 1 };
-    }
     let Ok(node) = Node::start(alloc, &cluster, id) else {
         return Status::NoMemory;
     };
@@ -108,18 +111,6 @@ fn follow_header<S: Source, K: Sink, L: Link>(
         node,
     };
     follow_text(alloc, run, reader, source, sink, link)
-}
-
-// Whether a cluster has this node. It takes no memory.
-fn declares(cluster: &Cluster, id: NodeId) -> bool
-    ensures { result ≡ is_declared cluster.now id }
-{
-    match id.role {
-        Role::Unit => id.num < cluster.units,
-        Role::Layout => id.num < cluster.layouts,
-        Role::Seqr => id.num < cluster.seqs,
-        Role::Client => id.num < cluster.clients,
-    }
 }
 
 // The lines after a header are followed.

@@ -80,3 +80,30 @@ fn a_line_of_another_client(rt: HostRuntime) -> Result<(), Fail> {
     assert_eq!(rt; link.sent().len(), 0);
     Ok(())
 }
+
+// The line at which a client's header is refused, of which the second line is outside in any case; 0 where none is.
+fn refused(alloc: Global, num: u16) -> Result<u64, NoMemory> {
+    let mut lines = List::new(alloc);
+    lines.extend(
+        b"cluster units 1 layouts 1 seqs 1 clients 3 limit 100\nchains u1\nobjects ctr0\n",
+    )?;
+    let mut source = MemSource::new(lines, List::new(alloc));
+    let mut sink = MemSink::new(alloc, List::new(alloc));
+    let mut link = MemLink::new(alloc, List::new(alloc), List::new(alloc));
+    let id = NodeId {
+        role: Role::Client,
+        num,
+    };
+    match node(alloc, id, &mut source, &mut sink, &mut link) {
+        Status::Script { line } => Ok(line),
+        _ => Ok(0),
+    }
+}
+
+#[test]
+fn a_header_without_the_node(rt: HostRuntime) -> Result<(), Fail> {
+    let alloc = rt.alloc();
+    assert_eq!(rt; refused(alloc, 2)?, 2);
+    assert_eq!(rt; refused(alloc, 3)?, 1);
+    Ok(())
+}

@@ -1,5 +1,6 @@
 use Rattle.tg_io.specs.declared.status.Status.TheVariants as status
-use Rattle.tg_node.proofs.Ending.{told_as, complete_told, cut_told}
+use Rattle.tg_node.proofs.Ending.{told_as, complete_told, refuses_told, cut_told}
+use Rattle.tg_node.proofs.Limits.{limits_told}
 use Rattle.tg_node.proofs.session.node.Goals as goal
 
 pub returns-clause-done : goal.returns-clause-done
@@ -16,5 +17,18 @@ returns-clause-cut_short g c = λ e. cut_told (g.S.Source.left c.args.source.now
 
 pub returns-clause-complete : goal.returns-clause-complete
 returns-clause-complete g c = λ no_read no_write no_link.
-    complete_told (g.S.Source.left c.args.source.now) c.args.id c.run_node.result _ _ c.run_node.ensures.outcome (λ e. no_read (c.run_node.ensures.causes.read e)) (λ e. no_write (c.run_node.ensures.causes.write e))
-    (λ e. no_link (c.run_node.ensures.causes.link e))
+    let r = c.run_node in
+    complete_told (g.S.Source.left c.args.source.now) c.args.id r.result _ _ r.ensures.outcome
+    (record { reads = λ e. no_read (r.ensures.causes.read e); writes = λ e. no_write (r.ensures.causes.write e); sends = λ e. no_link (r.ensures.causes.link e) })
+
+pub returns-clause-refuses : goal.returns-clause-refuses
+returns-clause-refuses g c = λ no_read no_write no_link.
+    let r = c.run_node in
+    refuses_told (g.S.Source.left c.args.source.now) c.args.id r.result _ _ r.ensures.outcome
+    (record { reads = λ e. no_read (r.ensures.causes.read e); writes = λ e. no_write (r.ensures.causes.write e); sends = λ e. no_link (r.ensures.causes.link e) })
+
+pub returns-clause-limits : goal.returns-clause-limits
+returns-clause-limits g c = λ no_read no_write no_link.
+    let r = c.run_node in
+    limits_told (g.S.Source.left c.args.source.now) c.args.id r.result _ _ r.ensures.outcome
+    (record { reads = λ e. no_read (r.ensures.causes.read e); writes = λ e. no_write (r.ensures.causes.write e); sends = λ e. no_link (r.ensures.causes.link e) })

@@ -1,27 +1,27 @@
 use Rattle.std.proofs.Common.{subst, arith}
 use Rattle.tg_reader.specs.Lines.{ahead}
-use Rattle.tg_reader.specs.Openings.{Opened}
 use Rattle.tg_reader.specs.declared.header.Opening.{Opening}
+use Rattle.tg_node.specs.Openings.{Opened}
 use Rattle.tg_node.specs.Stages.{seen}
 use Rattle.tg_node.proofs.Ending.{header_opens, header_outside, told_cut, causes_since, causes_script, causes_read, causes_none, failed}
 use Rattle.tg_node.proofs.session.run_node.Goals as goal
 
 pub returns-in-Ok-Opens-clause-outcome : goal.returns-in-Ok-Opens-clause-outcome
 returns-in-Ok-Opens-clause-outcome g c =
-    let rest = ahead c.read_header.new.reader (g.S.Source.left c.read_header.new.source) in
-    header_opens (g.S.Source.left c.args.source.now) c.new-reader.result rest c.args.id c.in-Ok-Opens.cluster c.follow_header.result _ _ c.new-reader.ensures (subst (λ (o : Opening). Opened (ahead c.new-reader.result (g.S.Source.left c.args.source.now)) rest o) c.in-Ok-Opens.field-0-is c.in-Ok-Opens.ensures.opened) c.follow_header.ensures.outcome
+    let rest = ahead c.read_own_header.new.reader (g.S.Source.left c.read_own_header.new.source) in
+    header_opens (g.S.Source.left c.args.source.now) c.new-reader.result rest c.args.id c.in-Ok-Opens.cluster c.follow_header.result _ _ c.new-reader.ensures (subst (λ (o : Opening). Opened c.args.id (ahead c.new-reader.result (g.S.Source.left c.args.source.now)) rest o) c.in-Ok-Opens.field-0-is c.in-Ok-Opens.ensures.opened) c.follow_header.ensures.outcome
 
 pub returns-in-Ok-Opens-clause-causes : goal.returns-in-Ok-Opens-clause-causes
 returns-in-Ok-Opens-clause-causes g c =
-    causes_since (g.S.Source.faults c.args.source.now) (g.S.Source.faults c.read_header.new.source) (g.S.Source.faults c.follow_header.new.source) _ _ _ _ c.follow_header.result c.in-Ok-Opens.ensures.cause.later c.follow_header.ensures.causes
+    causes_since (g.S.Source.faults c.args.source.now) (g.S.Source.faults c.read_own_header.new.source) (g.S.Source.faults c.follow_header.new.source) _ _ _ _ c.follow_header.result c.in-Ok-Opens.ensures.cause.later c.follow_header.ensures.causes
 
 pub returns-in-Ok-Outside-clause-outcome : goal.returns-in-Ok-Outside-clause-outcome
 returns-in-Ok-Outside-clause-outcome g c =
-    let rest = ahead c.read_header.new.reader (g.S.Source.left c.read_header.new.source) in
-    header_outside (g.S.Source.left c.args.source.now) c.new-reader.result rest c.args.id c.in-Ok-Outside.line _ c.new-reader.ensures (subst (λ (o : Opening). Opened (ahead c.new-reader.result (g.S.Source.left c.args.source.now)) rest o) c.in-Ok-Outside.field-0-is c.in-Ok-Outside.ensures.opened)
+    let rest = ahead c.read_own_header.new.reader (g.S.Source.left c.read_own_header.new.source) in
+    header_outside (g.S.Source.left c.args.source.now) c.new-reader.result rest c.args.id c.in-Ok-Outside.line _ c.new-reader.ensures (subst (λ (o : Opening). Opened c.args.id (ahead c.new-reader.result (g.S.Source.left c.args.source.now)) rest o) c.in-Ok-Outside.field-0-is c.in-Ok-Outside.ensures.opened)
 
 pub returns-in-Ok-Outside-clause-causes : goal.returns-in-Ok-Outside-clause-causes
-returns-in-Ok-Outside-clause-causes g c = causes_script c.in-Ok-Outside.line (g.S.Source.faults c.args.source.now) (g.S.Source.faults c.read_header.new.source) _ _ _ _ c.in-Ok-Outside.ensures.cause.later
+returns-in-Ok-Outside-clause-causes g c = causes_script c.in-Ok-Outside.line (g.S.Source.faults c.args.source.now) (g.S.Source.faults c.read_own_header.new.source) _ _ _ _ c.in-Ok-Outside.ensures.cause.later
 
 pub returns-in-Err-Failed-clause-outcome : goal.returns-in-Err-Failed-clause-outcome
 returns-in-Err-Failed-clause-outcome g c = told_cut (g.S.Source.left c.args.source.now) c.args.id (seen (g.L.Link.sent c.args.link.now) (g.L.Link.handed c.args.link.now) (g.K.Sink.written c.args.sink.now))
@@ -31,9 +31,9 @@ returns-in-Err-NoMemory-clause-outcome g c = told_cut (g.S.Source.left c.args.so
 
 pub returns-in-Err-Failed-clause-causes : goal.returns-in-Err-Failed-clause-causes
 returns-in-Err-Failed-clause-causes g c =
-    causes_read (g.S.Source.faults c.args.source.now) (g.S.Source.faults c.args.source.now) (g.S.Source.faults c.read_header.new.source) _ _ _ _ (omega arith) c.in-Err-Failed.ensures.cause.later
+    causes_read (g.S.Source.faults c.args.source.now) (g.S.Source.faults c.args.source.now) (g.S.Source.faults c.read_own_header.new.source) _ _ _ _ (omega arith) c.in-Err-Failed.ensures.cause.later
     (c.in-Err-Failed.ensures.cause.failed (failed c.in-Err-Failed.field-0 c.in-Err-Failed.field-0-is))
 
 pub returns-in-Err-NoMemory-clause-causes : goal.returns-in-Err-NoMemory-clause-causes
 returns-in-Err-NoMemory-clause-causes g c =
-    causes_none (g.S.Source.faults c.args.source.now) (g.S.Source.faults c.args.source.now) (g.S.Source.faults c.read_header.new.source) _ _ _ _ (omega arith) c.in-Err-NoMemory.ensures.cause.later
+    causes_none (g.S.Source.faults c.args.source.now) (g.S.Source.faults c.args.source.now) (g.S.Source.faults c.read_own_header.new.source) _ _ _ _ (omega arith) c.in-Err-NoMemory.ensures.cause.later
