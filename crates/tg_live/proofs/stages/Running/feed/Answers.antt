@@ -1,12 +1,21 @@
-use Rattle.std.proofs.Common.{◌≡◌, ◌∙◌, ℕ, Bool, true, false, Some, Option, IfSome, sym, ap, subst}
+use Rattle.std.proofs.Common.{◌≡◌, ℕ, false, Some, Option, IfSome, sym, subst}
 use Rattle.std.proofs.lemmas.Result.{IfOk-weaker}
 use Rattle.tg_base.specs.Clusters.{Header}
 use Rattle.tg_script.specs.Lines.{IsLine as IsLineOf}
 use Rattle.tg_script.specs.declared.line.Line.{Line}
 use Rattle.tg_live.specs.Scripts.{is_delivery}
 use Rattle.tg_live.specs.Stages.{over}
-use Rattle.tg_live.proofs.Feeding.{line_of, text_of_line, outside_took, outside_kept, made_took}
+use Rattle.tg_live.proofs.Feeding.{line_of, text_of_line, outside_took, made_took}
 use Rattle.tg_live.proofs.stages.Running.feed.Goals as goal
+
+pub returns-in_default-clause-took : goal.returns-in_default-clause-took
+returns-in_default-clause-took g c = λ handed sent text read more s cut h.
+    outside_took (over handed (g.L.Link.handed c.args.link.now) sent (g.L.Link.sent c.args.link.now)) text c.args.line.now read more c.args.self s c.in_ok-outside.field-0 h cut
+    (λ l live e.
+    let found : c.in_ok-event.field-0 ≡ Some l =
+    c.in_ok-event.ensures.only l (subst (λ (x : Header). IsLineOf x c.args.line.now l) (sym h.kept.cluster) (text_of_line s.header c.args.line.now l live.line e)) live.free in
+    let none = c.in_default.is in
+    absurd cc) c.in_ok-outside.ensures
 
 pub returns-clause-took : goal.returns-clause-took
 returns-clause-took g c = IfOk-weaker c.take.result _ _ (λ f m. λ handed sent text read more s cut h.
