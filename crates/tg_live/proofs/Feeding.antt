@@ -52,7 +52,7 @@ outside_kept r (Stops f) m = tt
 
 -- what is made of a line
 pub made_took : (o : Over) (text line : List ℕ) (read more : List (List ℕ)) (r : Running) (s : Script) (l : Line) (f : Fed) (h : IsRunOf o read r s) → (handed : Handed) (sent : Carried) (w : Went)
-    → lines text ≡ read ++ line ∷ more → IsLiveLine s.header l → line ≡ line_text l → ((m : Line) → IsLine s.header m → line ≡ line_text m → m ≡ l)
+    → lines text ≡ read ++ line ∷ more → IsLiveLine s.header l → line ≡ line_text l → ((m : Line) → IsLiveLine s.header m → line ≡ line_text m → m ≡ l)
     → Made (IsFed l) s.header o.sent sent o.handed_after handed h.live w → IsAfter r w f → Took (later o handed sent) text (read ++ line ∷ []) f
 made_took o text line read more r s l (Goes q) h handed sent w cut is spelled one made a =
     (longer s l, subst (λ (x : Running). IsRunOf (later o handed sent) (read ++ line ∷ []) x (longer s l)) (sym a.1) (run_goes_on o read r s line l h handed sent w is spelled one made a.0))

@@ -4,17 +4,34 @@ use Rattle.std.proofs.lemmas.List.{map-append}
 use Rattle.tg_base.specs.Clusters.{Header}
 use Rattle.tg_base.specs.declared.fault.Which.{Which}
 use Rattle.tg_io.specs.declared.link.Sent.{Sent}
+use Rattle.tg_io.proofs.Bytes.{grows_none}
 use Rattle.tg_match.specs.Books.{IsBook}
-use Rattle.tg_protocol.specs.Worlds.{limit_of}
+use Rattle.tg_protocol.specs.Worlds.{limit_of, start}
 use Rattle.tg_replay.specs.Any.{all_kinds}
 use Rattle.tg_replay.specs.Runs.{Worlds, Runs, line_on, line_text}
 use Rattle.tg_script.specs.Headers.{lines_text}
 use Rattle.tg_script.specs.declared.line.Line.{Line}
 use Rattle.tg_world.specs.Kept.{KeepsWorld}
 use Rattle.tg_live.specs.declared.live.Live.{Live as Kept}
-use Rattle.tg_live.specs.Sends.{spellings, IsMadeOver}
-use Rattle.tg_live.specs.Lives.{Live, LiveRan, goes, stops, recorded, recorded_by, after_line, received}
+use Rattle.tg_live.specs.Sends.{spellings, AreFit, IsMadeOver}
+use Rattle.tg_live.specs.Lives.{Live, LiveRan, goes, stops, opened, recorded, recorded_by, after_line, received}
 use Rattle.tg_live.specs.Kept.{Keeps}
+
+none_fit : AreFit []
+none_fit = record { each = λ i p e. absurd cc }
+
+-- before the first line
+pub opened_keeps : (h : Header) (k : Kept) (sent : Option (List Sent)) → k.cluster ≡ h → KeepsWorld all_kinds k.world (start all_kinds h) → IsBook k.book [] [] → k.recording ≡ [] → k.received ≡ 0 → Keeps h sent sent k (opened h)
+unfolding start
+opened_keeps h k sent cluster world book recording received = record {
+  cluster = cluster;
+  world = world;
+  fit = none_fit;
+  book = book;
+  recording = recording;
+  received = received;
+  sent = grows_none sent;
+}
 
 -- a limit was reached already
 pub recorded_stops : (l : Live) (x : Line) (which : Which) → limit_of all_kinds l.world ≡ Some which → recorded l x ≡ stops l which

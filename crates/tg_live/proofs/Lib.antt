@@ -3,6 +3,7 @@ pub mod Growing
 pub mod Steps
 pub mod Keeping
 pub mod Parts
+pub mod Playing
 pub mod Ticking
 pub mod Recording
 pub mod Scripts

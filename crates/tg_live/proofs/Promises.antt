@@ -1,5 +1,5 @@
 -- From what a live run writes to what is promised of it.
-use Rattle.std.proofs.Common.{◌≡◌, ◌⊎◌, ◌∙◌, ℕ, List, [], take, refl, sym, ap, subst, inl, inr, Option, Some, None, IfSome}
+use Rattle.std.proofs.Common.{◌≡◌, ◌⊎◌, ◌∙◌, ℕ, List, [], take, refl, sym, ap, subst, inl, inr, Option, Some, None, Result, Ok, Err, IfOk, IfSome}
 use Rattle.tg_base.specs.Clusters.{Header}
 use Rattle.tg_base.specs.declared.fault.Which.{Which}
 use Rattle.tg_io.specs.declared.link.Sent.{Sent}
@@ -36,6 +36,11 @@ finish_told (Some text) before after o status finish h w = w o text h
 -- what is printed of a live run that is kept so
 pub printed_run : (o : Over) (text : List ℕ) (status : Status) (k : Kept) (out : List ℕ) → ((h : Header) (first now : Option (List Sent)) (l : Live) → Keeps h first now k l → out ≡ printed h l) → Ends o text status (Some k) → Outcome o text status out
 printed_run o text status k out f e = subst (λ (x : List ℕ). Outcome o text status x) (sym (f e.0 o.sent o.sent_after e.1 e.2)) e.3
+
+pub text_said : {E : Type 0} (r : Result (List ℕ) E) (k : Kept) → ((h : Header) (first now : Option (List Sent)) (l : Live) → Keeps h first now k l → IfOk r (λ out. out ≡ printed h l))
+    → IfOk r (λ out. (o : Over) (text : List ℕ) (status : Status) → Ends o text status (Some k) → Outcome o text status out)
+text_said (Ok out) k f = λ o text status e. printed_run o text status k out f e
+text_said (Err e) k f = tt
 
 pub printed_none : (o : Over) (text : List ℕ) (status : Status) (out : List ℕ) → out ≡ [] → Ends o text status None → Outcome o text status out
 printed_none o text status out e h = subst (λ (x : List ℕ). Outcome o text status x) (sym e) h

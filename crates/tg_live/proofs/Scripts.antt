@@ -9,7 +9,7 @@ use Rattle.tg_io.specs.declared.link.Sent.{Sent}
 use Rattle.tg_io.proofs.Bytes.{grows_none}
 use Rattle.tg_reader.specs.Lines.{lines}
 use Rattle.tg_replay.specs.Any.{all_kinds}
-use Rattle.tg_replay.specs.Runs.{Script, IsLine, line_text, text_lines, front, Begins}
+use Rattle.tg_replay.specs.Runs.{Script, line_text, text_lines, front, Begins}
 use Rattle.tg_replay.proofs.Lists.{front_and_next, front_more, take_next, length_last, last_or_before, take_whole, take_within, take_self, image}
 use Rattle.tg_script.specs.Headers.{header_lines, IsFirstOutside}
 use Rattle.tg_script.specs.declared.line.Line.{Line}
@@ -107,7 +107,7 @@ later o handed sent = record o { handed_after = handed; sent_after = sent }
 
 -- a run goes on by a line
 pub run_goes_on : (o : Over) (read : List (List ℕ)) (r : Running) (s : Script) (line : List ℕ) (l : Line) (h : IsRunOf o read r s) → (handed : Option (List Answer)) (sent : Option (List Sent)) (w : Went)
-    → IsLiveLine s.header l → line ≡ line_text l → ((m : Line) → IsLine s.header m → line ≡ line_text m → m ≡ l)
+    → IsLiveLine s.header l → line ≡ line_text l → ((m : Line) → IsLiveLine s.header m → line ≡ line_text m → m ≡ l)
     → Made (IsFed l) s.header o.sent sent o.handed_after handed h.live w → w.stopped ≡ None → IsRunOf (later o handed sent) (read ++ line ∷ []) (record { live = w.live; lines = r.lines + 1 }) (longer s l)
 run_goes_on o read r s line l h handed sent w is spelled one m none =
     let on : m.end ≡ goes m.end.live = (let e : m.end.stopped ≡ None = sym m.kept.stopped ∙ none in λ i. record { live = m.end.live; stopped = e i }) in
@@ -123,7 +123,7 @@ run_goes_on o read r s line l h handed sent w is spelled one m none =
       only = λ t lawful e.
           let e2 : take (suc (length read)) (text_lines t) ≡ read ++ line ∷ [] = ap (λ n. take n (text_lines t)) (sym (length_last read line)) ∙ e in
           let n = next_line o read r s h t lawful line e2 in
-          let event : n.event ≡ l = one n.event n.is.line n.spelled in
+          let event : n.event ≡ l = one n.event n.is n.spelled in
           let whole : take (length (s.events ++ l ∷ [])) t.events ≡ s.events ++ l ∷ [] =
           ap (λ k. take k t.events) (length_last s.events l) ∙ take_next t.events (length s.events) n.event n.there
           ∙ ap (λ (x : List Line). x ++ n.event ∷ []) (ap (λ (x : Script). x.events) n.same) ∙ ap (λ (x : Line). s.events ++ x ∷ []) event in

@@ -1,12 +1,14 @@
 //! A live run, line by line of its script.
 
-ghost use Rattle.std.specs.Prelude.{◌≡◌, ◌+◌, ◌<◌, ℕ, List, Option, length, IfOk, IfSome};
+ghost use Rattle.std.specs.Prelude.{◌≡◌, ◌+◌, ◌<◌, ℕ, false, List, Option, Some, length, IfOk, IfSome};
 ghost use Rattle.tg_base.specs.Clusters.{Header};
 ghost use Rattle.tg_io.specs.Faults.{HasCause, StaysSure};
 ghost use Rattle.tg_io.specs.declared.link.Sent.{Sent};
 ghost use Rattle.tg_reader.specs.Lines.{ahead, TakesLine};
 ghost use Rattle.tg_reader.specs.Openings.{Opened};
 ghost use Rattle.tg_replay.specs.Any.{all_kinds};
+ghost use Rattle.tg_script.specs.Lines.{IsLine};
+ghost use Rattle.tg_script.specs.declared.line.Line.{Line as event_line};
 ghost use Rattle.tg_world.specs.Kept.{IsWorld};
 ghost use Rattle.tg_live.specs.Causes.{of_source, of_link, HasCauses, HasReadCause, HasLinkCause};
 ghost use Rattle.tg_live.specs.Kept.{Keeps, Made};
@@ -19,7 +21,7 @@ ghost use Rattle.tg_live.specs.Stages.{Finished, Reads, IsOutside, IsAfter, Goes
 use crate::live::{Live, Went};
 use crate::stages::{Fed, Finish, Running, Stop};
 use std::alloc::Global;
-use tg_base::NoMemory;
+use tg_base::{Cluster, List, NoMemory};
 use tg_io::{IoErr, Link, Source};
 use tg_model::Event;
 use tg_reader::{LineReader, Opening, read_header};
@@ -98,7 +100,7 @@ fn next_line<S: Source>(
     alloc: Global,
     reader: &mut LineReader,
     source: &mut S,
-) -> Result<Option<tg_base::List<u8>>, Stop>
+) -> Result<Option<List<u8>>, Stop>
     ensures line { IfOk result (TakesLine (ahead reader.old (S.left source.old)) (ahead reader.new (S.left source.new))) }
     ensures less { IfOk result (λ line. IfSome line (λ l. length reader.new + S.room source.new < length reader.old + S.room source.old)) }
     ensures cause { HasReadCause (S.faults source.old) (S.faults source.new) result }
@@ -153,12 +155,9 @@ impl Running {
         ensures cause { HasCause (L.faults link.old) (L.faults link.new) result }
         ensures sure { StaysSure (L.sure link.old) (L.sure link.new) (L.faults link.old) (L.faults link.new) }
     {
-        let Some(event) = parse_line(alloc, &self.live.cluster, line)? else {
+        let Some(event) = live_line(alloc, &self.live.cluster, line)? else {
             return Ok(self.outside()?);
         };
-        if is_delivery(&event) {
-            return Ok(self.outside()?);
-        }
         self.take(alloc, link, event)
     }
 
@@ -221,6 +220,22 @@ impl Live {
             }
         }
     }
+}
+
+// The value of a line that a live script may have: None where it is outside the grammar, names a node that the header
+// doesn't declare, or delivers or loses a packet by number. An `Err` is want of memory.
+fn live_line(alloc: Global, cluster: &Cluster, line: &[u8]) -> Result<Option<Line>, NoMemory>
+    ensures found { IfOk result (λ x. IfSome x (IsLine cluster.now line.now)) }
+    ensures free { IfOk result (λ x. IfSome x (λ l. is_delivery l ≡ false)) }
+    ensures only { (l : event_line) → IsLine cluster.now line.now l → is_delivery l ≡ false → IfOk result (λ x. x ≡ Some l) }
+{
+    let Some(event) = parse_line(alloc, cluster, line)? else {
+        return Ok(None);
+    };
+    if is_delivery(&event) {
+        return Ok(None);
+    }
+    Ok(Some(event))
 }
 
 // Whether a line delivers or loses a packet by number.
