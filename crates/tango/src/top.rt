@@ -11,6 +11,7 @@ ghost use Rattle.tg_forms.specs.Forms.{form_of};
 ghost use Rattle.tg_forms.specs.declared.forms.Form.TheVariants.{Replay, Live, Node, Bench, Audit};
 ghost use Rattle.tg_replay.specs.Runs.{Script, IsScript, IsWithin, Tells, FirstOutside, PassesLimit, Replayed, Refused, Limited, run_of};
 ghost use Rattle.tg_replay.specs.Outcomes.{Told, IsCutShort, IsOfReplay};
+ghost use Rattle.tg_reader.specs.Lines.{lines};
 ghost use Rattle.tg_live.specs.Outcomes as lives;
 ghost use Rattle.tg_live.specs.Outcomes.{IsOfLive, IsWholeOr};
 ghost use Rattle.tg_live.specs.Scripts as recordings;
@@ -93,9 +94,14 @@ pub fn tango<S: Source, K: Sink, L: Link>(
     // What is written at a fault is a front of a session's replies, or nothing.
     ensures node_cut_short { (id : NodeId) → form_of (map string_bytes words.now) ≡ Some (Node id) → (result ≡ ReadFault) ⊎ ((result ≡ WriteFault) ⊎ ((result ≡ LinkFault) ⊎ (result ≡ OutOfMemory))) → nodes.Told (S.left source.old) (λ text. nodes.IsCutShort text id (seen (L.sent link.old) (L.handed link.old) (K.written sink.old)) (seen (L.sent link.new) (L.handed link.new) (K.written sink.new))) }
     ensures node_ways { (id : NodeId) → form_of (map string_bytes words.now) ≡ Some (Node id) → IsOfNode result }
-    // Without a fault a whole text is followed, unless a limit is reached or memory runs out.
+    // Without a fault each text has its status, unless memory runs out. Whether a limit is passed depends on the answers
+    // that the link hands.
     ensures node_complete { (id : NodeId) → form_of (map string_bytes words.now) ≡ Some (Node id) → (Rose (S.faults source.old) (S.faults source.new) → ⊥) → (Rose (K.faults sink.old) (K.faults sink.new) → ⊥) → (Rose (L.faults link.old) (L.faults link.new) → ⊥) →
-        nodes.Told (S.left source.old) (λ text. IsText text id → (result ≡ Done) ⊎ (((which : Which) × (result ≡ Limit which)) ⊎ (result ≡ OutOfMemory))) }
+        nodes.Told (S.left source.old) (λ text. IsText text id → nodes.IsWithin text id (L.handed link.old) (L.handed link.new) → (result ≡ Done) ⊎ (result ≡ OutOfMemory)) }
+    ensures node_refuses { (id : NodeId) → form_of (map string_bytes words.now) ≡ Some (Node id) → (Rose (S.faults source.old) (S.faults source.new) → ⊥) → (Rose (K.faults sink.old) (K.faults sink.new) → ⊥) → (Rose (L.faults link.old) (L.faults link.new) → ⊥) →
+        nodes.Told (S.left source.old) (λ text. (line : ℕ) → nodes.FirstOutside (lines text) id line → nodes.IsWithin text id (L.handed link.old) (L.handed link.new) → (result ≡ AtLine line) ⊎ (result ≡ OutOfMemory)) }
+    ensures node_limits { (id : NodeId) → form_of (map string_bytes words.now) ≡ Some (Node id) → (Rose (S.faults source.old) (S.faults source.new) → ⊥) → (Rose (K.faults sink.old) (K.faults sink.new) → ⊥) → (Rose (L.faults link.old) (L.faults link.new) → ⊥) →
+        nodes.Told (S.left source.old) (λ text. IfSome (L.handed link.old) (λ handed. (which : Which) → nodes.PassesLimit text id which (L.handed link.old) (L.handed link.new) → (result ≡ Limit which) ⊎ (result ≡ OutOfMemory))) }
     // A made load: its run is a replay's, and what is written is the summary of the world that it comes to, or of the steps before a limit.
     ensures load_done { (start count : ℕ) → form_of (map string_bytes words.now) ≡ Some (Bench start count) → result ≡ Done → IsWithin (load start count) × Takes (K.written sink.old) (summary (load start count)) (K.written sink.new) }
     ensures load_limit { (start count : ℕ) → form_of (map string_bytes words.now) ≡ Some (Bench start count) → (which : Which) → result ≡ Limit which → ((run_of (load start count)).stopped ≡ Some which) × Takes (K.written sink.old) (summary (load start count)) (K.written sink.new) }
