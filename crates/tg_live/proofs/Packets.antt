@@ -29,13 +29,14 @@ image f (x ∷ xs) zero y e = let h : f x ≡ y = cc in (x, refl, h)
 image f (x ∷ xs) (suc k) y e = image f xs k y e
 
 pub goes_to : (ps : List Packet) (p : Packet) → IsPrefixFree packet → AreFit ps → packet.fits p ≡ true → GoesTo (spellings ps) (packet.spell p) p.to
-goes_to ps p free fit is = record { each = λ i x at same.
-    let found = image (λ (q : Packet). (q.to, packet.spell q)) ps i x at in
-    let q = found.0 in
-    let spelled : packet.spell q ≡ packet.spell p = ap (λ (y : NodeId × List ℕ). y.1) found.2 ∙ same in
-    let one : q ≡ p = free q p [] [] (fit.each i q found.1) is (ap (λ (bs : List ℕ). bs ++ []) spelled) in
-    sym (ap (λ (y : NodeId × List ℕ). y.0) found.2) ∙ ap (λ (y : Packet). y.to) one
-  }
+goes_to ps p free fit is = record {
+  each = λ i x at same.
+      let found = image (λ (q : Packet). (q.to, packet.spell q)) ps i x at in
+      let q = found.0 in
+      let spelled : packet.spell q ≡ packet.spell p = ap (λ (y : NodeId × List ℕ). y.1) found.2 ∙ same in
+      let one : q ≡ p = free q p [] [] (fit.each i q found.1) is (ap (λ (bs : List ℕ). bs ++ []) spelled) in
+      sym (ap (λ (y : NodeId × List ℕ). y.0) found.2) ∙ ap (λ (y : Packet). y.to) one;
+}
 
 pub spellings_more : (ps : List Packet) (p : Packet) → spellings (ps ++ p ∷ []) ≡ spellings ps ++ (p.to, packet.spell p) ∷ []
 spellings_more ps p = map-append (λ (q : Packet). (q.to, packet.spell q)) ps (p ∷ [])
@@ -54,11 +55,12 @@ got_last (z ∷ zs) x zero y e = inl e
 got_last (z ∷ zs) x (suc i) y e = got_last zs x i y e
 
 pub fit_more : (ps : List Packet) (p : Packet) → AreFit ps → packet.fits p ≡ true → AreFit (ps ++ p ∷ [])
-fit_more ps p fit is = record { each = λ i q e. ⊎_elim
-    (λ (h : slice_get ps i ≡ Some q). fit.each i q h)
-    (λ (h : p ≡ q). subst (λ (x : Packet). packet.fits x ≡ true) h is)
-    (got_last ps p i q e)
-  }
+fit_more ps p fit is = record {
+  each = λ i q e. ⊎_elim
+      (λ (h : slice_get ps i ≡ Some q). fit.each i q h)
+      (λ (h : p ≡ q). subst (λ (x : Packet). packet.fits x ≡ true) h is)
+      (got_last ps p i q e);
+}
 
 pub grows_by : {X : Type 0} (a b c : Option (List X)) (x y : List X) → Grows a x b → Grows b y c → Grows a (x ++ y) c
 grows_by None b c x y h k = subst (λ (o : Option (List _)). Grows o y c) h k

@@ -41,6 +41,7 @@ recorded_tells h l x t = at (limit_of all_kinds l.world)
   where
     on : lines_on (l.lines ++ x ∷ []) (start all_kinds h) ≡ line_on l.world x
     on = lines_longer l.lines x (start all_kinds h) (ap (λ (q : Runs). q.stopped) t) ∙ ap (λ (q : Runs). line_on q.world x) t
+
     at : (o : Option Which) → TellsRan h (recorded_by o l x)
     at (Some y) = ap (λ (q : Runs). q.world) t
     at None = line_tells h l x (line_on l.world x) on

@@ -23,7 +23,6 @@ pub ticked_none : (ns : List NodeId) (l : Live) → ns ≡ [] → ticked ns l �
 unfolding ticked
 ticked_none ns l e = ap (λ (xs : List NodeId). ticked xs l) e
 
-
 pub ticked_over : (all : List NodeId) (n : NodeId) (ns : List NodeId) (l : Live) → all ≡ n ∷ ns → runs all_kinds l.world n ≡ false → ticked all l ≡ ticked ns l
 unfolding ticked
 ticked_over all n ns l e h =

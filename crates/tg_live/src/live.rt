@@ -218,7 +218,13 @@ impl Live {
     {
         let mut live = self;
         match live.book.arrived(node, datagram) {
-            Some(packet) => live.recorded(alloc, link, Line::Event { event: Event::Deliver { packet } }),
+            Some(packet) => live.recorded(
+                alloc,
+                link,
+                Line::Event {
+                    event: Event::Deliver { packet },
+                },
+            ),
             None => Ok(Went {
                 live,
                 stopped: None,

@@ -106,12 +106,7 @@ impl Live {
     }
 
     // One tick of each of these nodes that runs.
-    fn tick_all<L: Link>(
-        self,
-        alloc: Global,
-        link: &mut L,
-        nodes: &[NodeId],
-    ) -> Result<Went, IoErr>
+    fn tick_all<L: Link>(self, alloc: Global, link: &mut L, nodes: &[NodeId]) -> Result<Went, IoErr>
         requires { IsWorld all_kinds self.world }
         ensures kept { IfOk result (λ w. IsWorld all_kinds w.live.world) }
         ensures ticked { (h : Header) (first : Option (List Sent)) (l : live) → Keeps h first (L.sent link.old) self l → IfOk result (λ w. KeepsRan h first (L.sent link.new) w (ticked nodes.now l)) }

@@ -80,11 +80,7 @@ fn run_lines<S: Source, L: Link>(
 }
 
 // The header, where only the source can fail.
-fn open<S: Source>(
-    alloc: Global,
-    reader: &mut LineReader,
-    source: &mut S,
-) -> Result<Opening, Stop>
+fn open<S: Source>(alloc: Global, reader: &mut LineReader, source: &mut S) -> Result<Opening, Stop>
     ensures opened { IfOk result (Opened (ahead reader.old (S.left source.old)) (ahead reader.new (S.left source.new))) }
     ensures cause { HasReadCause (S.faults source.old) (S.faults source.new) result }
     ensures sure { StaysSure (S.sure source.old) (S.sure source.new) (S.faults source.old) (S.faults source.new) }
