@@ -8,7 +8,7 @@ use Rattle.tg_replay.specs.Runs.{IsWithin, run_of}
 use Rattle.tg_load.specs.Loads.{load, summary, IsFront}
 use Rattle.tg_node.specs.Stages.{seen}
 use Rattle.tg_reader.specs.Lines.{lines}
-use Rattle.tg_node.specs.Texts.{Told, Followed, FirstOutside, Refused, PassesLimit, IsWithin, Limited, IsCutShort, IsText}
+use Rattle.tg_node.specs.Texts.{Told, Followed, FirstOutside, Refused, PassesLimit, IsWithin as WithNoLimit, Limited, IsCutShort, IsText}
 use Rattle.tango.proofs.Loads.{moved}
 use Rattle.tango.proofs.Nodes.{moved as moved_node}
 use Rattle.tango.proofs.top.tango.Goals as goal
@@ -60,12 +60,12 @@ returns-in-Ok-Some-Node-clause-node_cut_short g c = λ id named. moved_node (map
 
 pub returns-in-Ok-Some-Node-clause-node_complete : goal.returns-in-Ok-Some-Node-clause-node_complete
 returns-in-Ok-Some-Node-clause-node_complete g c = λ id named. moved_node (map string_bytes c.args.words.now) c.in-Ok-Some-Node.field-0 c.in-Ok-Some-Node.field-0-0 c.in-Ok-Some-Node.id id
-    (λ n. (Rose (g.S.Source.faults c.args.source.now) (g.S.Source.faults c.node.new.source) → ⊥) → (Rose (g.K.Sink.faults c.args.sink.now) (g.K.Sink.faults c.node.new.sink) → ⊥) → (Rose (g.L.Link.faults c.args.link.now) (g.L.Link.faults c.node.new.link) → ⊥) → Told (g.S.Source.left c.args.source.now) (λ text. IsText text n → IsWithin text n (g.L.Link.handed c.args.link.now) (g.L.Link.handed c.node.new.link) → (c.node.result ≡ Done) ⊎ (c.node.result ≡ NoMemory)))
+    (λ n. (Rose (g.S.Source.faults c.args.source.now) (g.S.Source.faults c.node.new.source) → ⊥) → (Rose (g.K.Sink.faults c.args.sink.now) (g.K.Sink.faults c.node.new.sink) → ⊥) → (Rose (g.L.Link.faults c.args.link.now) (g.L.Link.faults c.node.new.link) → ⊥) → Told (g.S.Source.left c.args.source.now) (λ text. IsText text n → WithNoLimit text n (g.L.Link.handed c.args.link.now) (g.L.Link.handed c.node.new.link) → (c.node.result ≡ Done) ⊎ (c.node.result ≡ NoMemory)))
     c.in-Ok-Some-Node.ensures c.in-Ok-Some-Node.field-0-is c.in-Ok-Some-Node.field-0-0-is named c.node.ensures.complete
 
 pub returns-in-Ok-Some-Node-clause-node_refuses : goal.returns-in-Ok-Some-Node-clause-node_refuses
 returns-in-Ok-Some-Node-clause-node_refuses g c = λ id named. moved_node (map string_bytes c.args.words.now) c.in-Ok-Some-Node.field-0 c.in-Ok-Some-Node.field-0-0 c.in-Ok-Some-Node.id id
-    (λ n. (Rose (g.S.Source.faults c.args.source.now) (g.S.Source.faults c.node.new.source) → ⊥) → (Rose (g.K.Sink.faults c.args.sink.now) (g.K.Sink.faults c.node.new.sink) → ⊥) → (Rose (g.L.Link.faults c.args.link.now) (g.L.Link.faults c.node.new.link) → ⊥) → Told (g.S.Source.left c.args.source.now) (λ text. (line : ℕ) → FirstOutside (lines text) n line → IsWithin text n (g.L.Link.handed c.args.link.now) (g.L.Link.handed c.node.new.link) → (c.node.result ≡ Script line) ⊎ (c.node.result ≡ NoMemory)))
+    (λ n. (Rose (g.S.Source.faults c.args.source.now) (g.S.Source.faults c.node.new.source) → ⊥) → (Rose (g.K.Sink.faults c.args.sink.now) (g.K.Sink.faults c.node.new.sink) → ⊥) → (Rose (g.L.Link.faults c.args.link.now) (g.L.Link.faults c.node.new.link) → ⊥) → Told (g.S.Source.left c.args.source.now) (λ text. (line : ℕ) → FirstOutside (lines text) n line → WithNoLimit text n (g.L.Link.handed c.args.link.now) (g.L.Link.handed c.node.new.link) → (c.node.result ≡ Script line) ⊎ (c.node.result ≡ NoMemory)))
     c.in-Ok-Some-Node.ensures c.in-Ok-Some-Node.field-0-is c.in-Ok-Some-Node.field-0-0-is named c.node.ensures.refuses
 
 pub returns-in-Ok-Some-Node-clause-node_limits : goal.returns-in-Ok-Some-Node-clause-node_limits
