@@ -1,7 +1,11 @@
-use Rattle.std.proofs.Common.{◌≡◌, ◌∙◌, ◌≤◌, ◌<◌, ◌+◌, ◌-◌, ℕ, List, Option, Some, None, take, refl, sym, subst, arith, rules}
+use Rattle.std.proofs.Common.{◌≡◌, ◌∙◌, ◌≤◌, ◌<◌, ◌+◌, ◌-◌, ℕ, List, Option, Some, None, Err, take, refl, sym, ap, subst, arith, rules, Ok, Result}
 use Rattle.tg_base.specs.declared.fault.Which.TheVariants.{Datagrams}
 use Rattle.tg_base.specs.declared.ids.NodeId.{NodeId}
-use Rattle.tg_io.proofs.Faults.{sure_since}
+use Rattle.std.proofs.lemmas.Result.{err_from_is_err_and}
+use Rattle.tg_io.proofs.Faults.{rose_since, sure_since}
+use Rattle.tg_io.specs.Faults.{HasCause}
+use Rattle.tg_io.specs.declared.fault.IoErr.{IoErr}
+use Rattle.tg_io.specs.declared.fault.IoErr.TheVariants.{Failed}
 use Rattle.tg_io.specs.Links.{Adds, arrival_of}
 use Rattle.tg_io.specs.declared.link.Arrival.{Arrival}
 use Rattle.tg_io.specs.declared.link.Sent.{Sent}
@@ -27,6 +31,23 @@ returns-then-full-clause-drained g c = λ h f k keeps.
     let same : c.datagrams.live.received ≡ d.live.received = d.kept.received in
     let many : 1000000 ≤ d.live.received = omega arith in
     drains_limit h f k (g.L.Link.sent c.datagrams.link) (g.L.Link.handed c.args.link.now) (g.L.Link.handed c.datagrams.link) c.datagrams.live (record { live = c.datagrams.live; stopped = Some Datagrams }) d many refl refl
+
+-- the fault of a call that failed
+abbrev fault_or : {X : Type 0} → IoErr → Result X IoErr → IoErr
+fault_or other (Err e) = e
+fault_or other (Ok x) = other
+
+pub returns-in_err-answer-clause-cause : goal.returns-in_err-answer-clause-cause
+returns-in_err-answer-clause-cause g c =
+    let before : g.L.Link.faults c.args.link.now ≤ g.L.Link.faults c.datagrams.link = c.datagrams.invariant.later in
+    let k : HasCause {X = Option (NodeId × ℕ)} (g.L.Link.faults c.datagrams.link) (g.L.Link.faults c.recv.new.self) (Err c.in_err-answer.field-0.0) = c.in_err-answer.ensures.cause in
+    let later : g.L.Link.faults c.datagrams.link ≤ g.L.Link.faults c.recv.new.self = k.later in
+    let p = err_from_is_err_and c.from_residual.result c.from_residual.ensures.1 in
+    let end : c.from_residual.result ≡ Err c.in_err-answer.field-0.0 = p.1 ∙ ap Err p.2 in
+    record {
+      later = omega arith;
+      failed = λ e. rose_since _ _ _ before later (k.failed (ap Err (ap (fault_or Failed) (sym end ∙ e))));
+    }
 
 pub returns-in_default-clause-drained : goal.returns-in_default-clause-drained
 returns-in_default-clause-drained g c = λ h f k keeps.
