@@ -1,7 +1,7 @@
 use crate::run;
 use std::alloc::Global;
 use std::test::Fail;
-use tg_base::{List, NoMemory, NodeId, Role};
+use tg_base::{List, NoMemory};
 use tg_io::{MemLink, MemSink, MemSource, Status};
 
 const SCRIPT: &str =
@@ -9,12 +9,6 @@ const SCRIPT: &str =
 
 const SAID: &str =
     "cluster units 1 layouts 1 seqs 1 clients 3 limit 100\nchains u0\nobjects ctr0 ctr1\nc0 update ctr0 add 5\ndeliver 0\ndeliver 1\ndeliver 2\ndeliver 3\ntick u0\ntick l0\ntick s0\ntick c0\ntick c1\ntick c2\ntranscript\nobjects ctr0 ctr1\n1 c0 1 begin\n1 c0 1 put ctr0 add 5\n1 c0 1 end\n5 c0 1 committed 0\nhistory 1\n0 c0 1 ctr0 add 5\n";
-
-// A token that c0 asks of s0, number 1, for ctr0 in epoch 1: the first packet of the script.
-const ASKS: [u8; 31] = [
-    0x54, 0x50, 1, 3, 0, 0, 2, 0, 0, 0, 0, 0, 0, 0, 0, 0, 1, 0x32, 0, 0, 0, 0, 0, 0, 0, 1, 1, 1, 0,
-    0, 0,
-];
 
 fn bytes(alloc: Global, text: &[u8]) -> Result<List<u8>, NoMemory> {
     let mut list = List::new(alloc);
@@ -32,29 +26,4 @@ fn a_live_run_and_its_recording(rt: HostRuntime) -> Result<(), Fail> {
     assert_eq!(rt; status, Status::Done);
     assert_eq!(rt; sink.written(), SAID.as_bytes());
     Ok(())
-}
-
-// The packet that asks once more, for s0 and for u0, and bytes that spell no packet: the one for s0 alone is delivered.
-#[test]
-fn strangers_are_passed_by(rt: HostRuntime) -> Result<(), Fail> {
-    let alloc = rt.alloc();
-    let mut source = MemSource::new(bytes(alloc, SCRIPT.as_bytes())?, List::new(alloc));
-    let mut sink = MemSink::new(alloc, List::new(alloc));
-    let mut link = MemLink::new(alloc, List::new(alloc), List::new(alloc))
-        .inject(node(Role::Seqr), bytes(alloc, &[])?)?
-        .inject(node(Role::Seqr), bytes(alloc, &ASKS[..30])?)?
-        .inject(node(Role::Unit), bytes(alloc, &ASKS)?)?
-        .inject(node(Role::Seqr), bytes(alloc, &ASKS)?)?;
-    let status = run(alloc, &mut source, &mut sink, &mut link);
-    assert_eq!(rt; status, Status::Done);
-    assert!(rt; sink.written().starts_with(TWICE.as_bytes()));
-    Ok(())
-}
-
-// The first packet is delivered by the datagram that was injected, and once more by its own.
-const TWICE: &str =
-    "cluster units 1 layouts 1 seqs 1 clients 3 limit 100\nchains u0\nobjects ctr0 ctr1\nc0 update ctr0 add 5\ndeliver 0\ndeliver 0\n";
-
-fn node(role: Role) -> NodeId {
-    NodeId { role, num: 0 }
 }
