@@ -1,5 +1,3 @@
-mod links;
-
 use super::*;
 use std::test::Fail;
 use tg_base::{List, Which};
@@ -36,26 +34,14 @@ fn outcome(
     reads: &[u64],
     writes: &[u64],
 ) -> Result<(Status, MemSink), NoMemory> {
-    let mut link = MemLink::new(alloc, List::new(alloc), List::new(alloc));
-    outcome_over(alloc, words, text, reads, writes, &mut link)
-}
-
-/// The same over a link.
-fn outcome_over(
-    alloc: Global,
-    words: &[&str],
-    text: List<u8>,
-    reads: &[u64],
-    writes: &[u64],
-    link: &mut MemLink,
-) -> Result<(Status, MemSink), NoMemory> {
     let mut given = Vec::new(alloc);
     for word in words {
         given.push(String::from_str(alloc, word)?)?;
     }
     let mut source = MemSource::new(text, calls(alloc, reads)?);
     let mut sink = MemSink::new(alloc, calls(alloc, writes)?);
-    let status = tango(alloc, given.as_slice(), &mut source, &mut sink, link);
+    let mut link = MemLink::new(alloc, List::new(alloc), List::new(alloc));
+    let status = tango(alloc, given.as_slice(), &mut source, &mut sink, &mut link);
     Ok((status, sink))
 }
 
