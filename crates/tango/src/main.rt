@@ -3,26 +3,31 @@
 
 mod top;
 
+use std::alloc::Global;
 use std::io::{self, ErrorKind, Write};
+use std::net::Net;
 use std::process::ExitCode;
-use tg_base::List;
-use tg_io::{MemLink, Reading, Status, Writing};
+use tg_base::NoMemory;
+use tg_forms::{Form, read_form};
+use tg_io::{Reading, Status, Writing};
+use tg_udp::UdpLink;
 
-/// Runs the program on the standard streams. It ends with the status, and says on standard error why
-/// a run wasn't done.
+/// Runs the program on the standard streams and, where packets go over a link, on UDP sockets of this machine. It ends
+/// with the status, and says on standard error why a run wasn't done.
 fn main(rt: HostRuntime) -> io::Result<ExitCode> {
     let alloc = rt.alloc();
     let status = match std::env::args(&rt) {
         Ok(all) => {
             let words: Result<Vec<String>, _> = all.skip(1).collect(alloc);
             match words {
-                Ok(words) => {
-                    let mut source = Reading::new(rt.stdin());
-                    let mut sink = Writing::new(rt.stdout());
-                    // No form that is run uses the link.
-                    let mut link = MemLink::new(alloc, List::new(alloc), List::new(alloc));
-                    top::tango(alloc, words.as_slice(), &mut source, &mut sink, &mut link)
-                }
+                Ok(words) => match link_for(alloc, &rt, words.as_slice()) {
+                    Ok(mut link) => {
+                        let mut source = Reading::new(rt.stdin());
+                        let mut sink = Writing::new(rt.stdout());
+                        top::tango(alloc, words.as_slice(), &mut source, &mut sink, &mut link)
+                    }
+                    Err(NoMemory) => Status::NoMemory,
+                },
                 Err(_) => Status::NoMemory,
             }
         }
@@ -37,4 +42,17 @@ fn main(rt: HostRuntime) -> io::Result<ExitCode> {
         let _ = eprintln!(rt; "{line}");
     }
     Ok(ExitCode::from(status.code()))
+}
+
+/// The link that the words ask for: of the node that they name, else of all nodes. No port is bound before its first
+/// call, and so none by the forms that don't use it. An `Err` is want of memory.
+fn link_for<'a, N: Net>(
+    alloc: Global,
+    net: &'a N,
+    words: &[String],
+) -> Result<UdpLink<'a, N>, NoMemory> {
+    match read_form(alloc, words)? {
+        Some(Form::Node(id)) => Ok(UdpLink::of_node(alloc, net, id)),
+        _ => Ok(UdpLink::of_all(alloc, net)),
+    }
 }

@@ -1,14 +1,25 @@
 //! The top call: what the program does with words, a source, a sink and a link.
 
-ghost use Rattle.std.specs.Prelude.{◌≡◌, ◌⊎◌, ℕ, List, true, None, Some, map, IfSome, string_bytes};
+ghost use Rattle.std.specs.Prelude.{◌≡◌, ◌⊎◌, ℕ, List, true, false, None, Some, map, IfSome, string_bytes};
 ghost use Rattle.tg_base.specs.declared.fault.Clause.{Clause};
 ghost use Rattle.tg_base.specs.declared.fault.Which.{Which};
+ghost use Rattle.tg_base.specs.declared.ids.NodeId.{NodeId};
 ghost use Rattle.tg_io.specs.Bytes.{Takes};
 ghost use Rattle.tg_io.specs.Faults.{Rose, StaysSure};
-ghost use Rattle.tg_io.specs.declared.status.Status.TheVariants.{Done, Illegal, Words, Script as AtLine, ReadFault, WriteFault, Limit, NoMemory as OutOfMemory};
-ghost use Rattle.tg_forms.specs.declared.forms.Form.TheVariants.{Replay, Bench, Audit};
+ghost use Rattle.tg_io.specs.declared.status.Status.TheVariants.{Done, Illegal, Words, Script as AtLine, ReadFault, WriteFault, LinkFault, Limit, NoMemory as OutOfMemory};
+ghost use Rattle.tg_forms.specs.Forms.{form_of};
+ghost use Rattle.tg_forms.specs.declared.forms.Form.TheVariants.{Replay, Live, Node, Bench, Audit};
 ghost use Rattle.tg_replay.specs.Runs.{Script, IsScript, IsWithin, Tells, FirstOutside, PassesLimit, Replayed, Refused, Limited, run_of};
 ghost use Rattle.tg_replay.specs.Outcomes.{Told, IsCutShort, IsOfReplay};
+ghost use Rattle.tg_reader.specs.Lines.{lines};
+ghost use Rattle.tg_live.specs.Outcomes as lives;
+ghost use Rattle.tg_live.specs.Outcomes.{IsOfLive, IsWholeOr};
+ghost use Rattle.tg_live.specs.Scripts as recordings;
+ghost use Rattle.tg_live.specs.Scripts.{IsLiveScript};
+ghost use Rattle.tg_live.specs.Stages.{over};
+ghost use Rattle.tg_node.specs.Stages.{seen};
+ghost use Rattle.tg_node.specs.Texts as nodes;
+ghost use Rattle.tg_node.specs.Texts.{IsText, IsOfNode};
 ghost use Rattle.tg_load.specs.Loads.{load, summary, IsFront, IsOfLoad};
 ghost use Rattle.tg_trace.specs.Reading.{IsFirstOutside};
 ghost use Rattle.tg_trace.specs.Transcripts.{rendered, is_transcript};
@@ -17,18 +28,20 @@ ghost use Rattle.tg_audit.specs.declared.verdict.Verdict.TheVariants as verdict;
 ghost use Rattle.tg_verdict.specs.Verdicts.{judged, status_of};
 ghost use Rattle.tg_verdict.specs.Outcomes as verdicts;
 ghost use Rattle.tg_verdict.specs.Outcomes.{IsToldOf, IsRefused, IsSilent, IsOfJudge};
-ghost use Rattle.tango.specs.Forms.{form_run};
+ghost use Rattle.tango.specs.Forms.{is_over_link};
 
 use std::alloc::Global;
 use tg_base::NoMemory;
 use tg_forms::{Form, read_form};
 use tg_io::{Link, Sink, Source, Status};
+use tg_live::run;
 use tg_load::bench;
+use tg_node::node;
 use tg_replay::replay;
 use tg_verdict::judge;
 
-/// Runs the program. `words` are those after its name; a replay reads its script and an audit its transcript from the
-/// source, each writes to the sink, and the link is left alone.
+/// Runs the program. `words` are those after its name. A replay and a live run read a script from the source, a node its
+/// lines and an audit a transcript; each writes to the sink. Packets of a live run and of a node go over the link.
 pub fn tango<S: Source, K: Sink, L: Link>(
     alloc: Global,
     words: &[String],
@@ -37,58 +50,94 @@ pub fn tango<S: Source, K: Sink, L: Link>(
     link: &mut L,
 ) -> Status
     // Words that are no form are told so, and no others.
-    ensures words { result ≡ Words → form_run (map string_bytes words.now) ≡ None }
-    ensures no_form { form_run (map string_bytes words.now) ≡ None → (result ≡ Words) ⊎ (result ≡ OutOfMemory) }
-    ensures no_output { form_run (map string_bytes words.now) ≡ None → K.written sink.new ≡ K.written sink.old }
+    ensures words { result ≡ Words → form_of (map string_bytes words.now) ≡ None }
+    ensures no_form { form_of (map string_bytes words.now) ≡ None → (result ≡ Words) ⊎ (result ≡ OutOfMemory) }
+    ensures no_output { form_of (map string_bytes words.now) ≡ None → K.written sink.new ≡ K.written sink.old }
     // A replay: at `Done` the text was read to its end, and what was written is the transcript of the world of its steps.
-    ensures done { form_run (map string_bytes words.now) ≡ Some Replay → result ≡ Done → Told (S.left source.old) (K.written sink.old) (K.written sink.new) Replayed }
+    ensures done { form_of (map string_bytes words.now) ≡ Some Replay → result ≡ Done → Told (S.left source.old) (K.written sink.old) (K.written sink.new) Replayed }
     // A line is refused that is the first outside, after the transcript of the events before it.
-    ensures script { form_run (map string_bytes words.now) ≡ Some Replay → (line : ℕ) → result ≡ AtLine line → Told (S.left source.old) (K.written sink.old) (K.written sink.new) (λ text out. Refused text line out) }
+    ensures script { form_of (map string_bytes words.now) ≡ Some Replay → (line : ℕ) → result ≡ AtLine line → Told (S.left source.old) (K.written sink.old) (K.written sink.new) (λ text out. Refused text line out) }
     // A limit stops a run, after the transcript of the steps before it.
-    ensures limit { form_run (map string_bytes words.now) ≡ Some Replay → (which : Which) → result ≡ Limit which → Told (S.left source.old) (K.written sink.old) (K.written sink.new) (λ text out. Limited text which out) }
+    ensures limit { form_of (map string_bytes words.now) ≡ Some Replay → (which : Which) → result ≡ Limit which → Told (S.left source.old) (K.written sink.old) (K.written sink.new) (λ text out. Limited text which out) }
     // What is written at a fault is a front of a transcript, or nothing.
-    ensures cut_short { form_run (map string_bytes words.now) ≡ Some Replay → (result ≡ WriteFault) ⊎ (result ≡ OutOfMemory) → Told (S.left source.old) (K.written sink.old) (K.written sink.new) IsCutShort }
-    ensures silent { form_run (map string_bytes words.now) ≡ Some Replay → result ≡ ReadFault → K.written sink.new ≡ K.written sink.old }
-    ensures ways { form_run (map string_bytes words.now) ≡ Some Replay → IsOfReplay result }
+    ensures cut_short { form_of (map string_bytes words.now) ≡ Some Replay → (result ≡ WriteFault) ⊎ (result ≡ OutOfMemory) → Told (S.left source.old) (K.written sink.old) (K.written sink.new) IsCutShort }
+    ensures silent { form_of (map string_bytes words.now) ≡ Some Replay → result ≡ ReadFault → K.written sink.new ≡ K.written sink.old }
+    ensures ways { form_of (map string_bytes words.now) ≡ Some Replay → IsOfReplay result }
     // Without a fault each text has its status, unless memory runs out.
-    ensures complete { form_run (map string_bytes words.now) ≡ Some Replay → (Rose (S.faults source.old) (S.faults source.new) → ⊥) → (Rose (K.faults sink.old) (K.faults sink.new) → ⊥) →
+    ensures complete { form_of (map string_bytes words.now) ≡ Some Replay → (Rose (S.faults source.old) (S.faults source.new) → ⊥) → (Rose (K.faults sink.old) (K.faults sink.new) → ⊥) →
         IfSome (S.left source.old) (λ text. (s : Script) → IsScript s → IsWithin s → Tells text s → (result ≡ Done) ⊎ (result ≡ OutOfMemory)) }
-    ensures refuses { form_run (map string_bytes words.now) ≡ Some Replay → (Rose (S.faults source.old) (S.faults source.new) → ⊥) → (Rose (K.faults sink.old) (K.faults sink.new) → ⊥) →
+    ensures refuses { form_of (map string_bytes words.now) ≡ Some Replay → (Rose (S.faults source.old) (S.faults source.new) → ⊥) → (Rose (K.faults sink.old) (K.faults sink.new) → ⊥) →
         IfSome (S.left source.old) (λ text. (line : ℕ) (s : Script) → FirstOutside text line s → (result ≡ AtLine line) ⊎ (result ≡ OutOfMemory)) }
-    ensures limits { form_run (map string_bytes words.now) ≡ Some Replay → (Rose (S.faults source.old) (S.faults source.new) → ⊥) → (Rose (K.faults sink.old) (K.faults sink.new) → ⊥) →
+    ensures limits { form_of (map string_bytes words.now) ≡ Some Replay → (Rose (S.faults source.old) (S.faults source.new) → ⊥) → (Rose (K.faults sink.old) (K.faults sink.new) → ⊥) →
         IfSome (S.left source.old) (λ text. (which : Which) (s : Script) → PassesLimit text which s → (result ≡ Limit which) ⊎ (result ≡ OutOfMemory)) }
+    // A live run: at `Done` the text was read to its end, and a live run of its script took the answers that the link
+    // handed over, sent the packets of its world, and was printed: its recording, whose world is the run's, and its transcript.
+    ensures live_done { form_of (map string_bytes words.now) ≡ Some Live → result ≡ Done → Told (S.left source.old) (K.written sink.old) (K.written sink.new) (recordings.Replayed (over (L.handed link.old) (L.handed link.new) (L.sent link.old) (L.sent link.new))) }
+    // A line is refused that is the first outside, after the live run of the lines before it.
+    ensures live_script { form_of (map string_bytes words.now) ≡ Some Live → (line : ℕ) → result ≡ AtLine line → Told (S.left source.old) (K.written sink.old) (K.written sink.new) (λ text out. recordings.Refused (over (L.handed link.old) (L.handed link.new) (L.sent link.old) (L.sent link.new)) text line out) }
+    // A limit stops a run, which is printed as far as it came.
+    ensures live_limit { form_of (map string_bytes words.now) ≡ Some Live → (which : Which) → result ≡ Limit which → Told (S.left source.old) (K.written sink.old) (K.written sink.new) (λ text out. recordings.Limited (over (L.handed link.old) (L.handed link.new) (L.sent link.old) (L.sent link.new)) text which out) }
+    // What is written at a fault is a front of what a run prints, or nothing.
+    ensures live_cut_short { form_of (map string_bytes words.now) ≡ Some Live → (result ≡ WriteFault) ⊎ (result ≡ OutOfMemory) → Told (S.left source.old) (K.written sink.old) (K.written sink.new) (lives.IsCutShort (over (L.handed link.old) (L.handed link.new) (L.sent link.old) (L.sent link.new))) }
+    ensures live_silent { form_of (map string_bytes words.now) ≡ Some Live → (result ≡ ReadFault) ⊎ (result ≡ LinkFault) → K.written sink.new ≡ K.written sink.old }
+    ensures live_ways { form_of (map string_bytes words.now) ≡ Some Live → IsOfLive result }
+    // Without a fault a script is run whole, unless a limit stops it or memory runs out.
+    ensures live_complete { form_of (map string_bytes words.now) ≡ Some Live → (Rose (S.faults source.old) (S.faults source.new) → ⊥) → (Rose (K.faults sink.old) (K.faults sink.new) → ⊥) → (Rose (L.faults link.old) (L.faults link.new) → ⊥) →
+        IfSome (S.left source.old) (λ text. (s : Script) → IsLiveScript s → Tells text s → IsWholeOr result) }
+    // A node: at `Done` the text was followed to its end: the packets of its session were sent, its waits took the answers
+    // that were handed, and its replies were written.
+    ensures node_done { (id : NodeId) → form_of (map string_bytes words.now) ≡ Some (Node id) → result ≡ Done → nodes.Told (S.left source.old) (λ text. nodes.Followed text id (seen (L.sent link.old) (L.handed link.old) (K.written sink.old)) (seen (L.sent link.new) (L.handed link.new) (K.written sink.new))) }
+    // A line is refused that is the first outside, after the session of the lines before it.
+    ensures node_script { (id : NodeId) → form_of (map string_bytes words.now) ≡ Some (Node id) → (line : ℕ) → result ≡ AtLine line → nodes.Told (S.left source.old) (λ text. nodes.Refused text id line (seen (L.sent link.old) (L.handed link.old) (K.written sink.old)) (seen (L.sent link.new) (L.handed link.new) (K.written sink.new))) }
+    // A limit stops a session, after the steps before it.
+    ensures node_limit { (id : NodeId) → form_of (map string_bytes words.now) ≡ Some (Node id) → (which : Which) → result ≡ Limit which → nodes.Told (S.left source.old) (λ text. nodes.Limited text id which (seen (L.sent link.old) (L.handed link.old) (K.written sink.old)) (seen (L.sent link.new) (L.handed link.new) (K.written sink.new))) }
+    // What is written at a fault is a front of a session's replies, or nothing.
+    ensures node_cut_short { (id : NodeId) → form_of (map string_bytes words.now) ≡ Some (Node id) → (result ≡ ReadFault) ⊎ ((result ≡ WriteFault) ⊎ ((result ≡ LinkFault) ⊎ (result ≡ OutOfMemory))) → nodes.Told (S.left source.old) (λ text. nodes.IsCutShort text id (seen (L.sent link.old) (L.handed link.old) (K.written sink.old)) (seen (L.sent link.new) (L.handed link.new) (K.written sink.new))) }
+    ensures node_ways { (id : NodeId) → form_of (map string_bytes words.now) ≡ Some (Node id) → IsOfNode result }
+    // Without a fault each text has its status, unless memory runs out. Whether a limit is passed depends on the answers
+    // that the link hands.
+    ensures node_complete { (id : NodeId) → form_of (map string_bytes words.now) ≡ Some (Node id) → (Rose (S.faults source.old) (S.faults source.new) → ⊥) → (Rose (K.faults sink.old) (K.faults sink.new) → ⊥) → (Rose (L.faults link.old) (L.faults link.new) → ⊥) →
+        nodes.Told (S.left source.old) (λ text. IsText text id → nodes.IsWithin text id (L.handed link.old) (L.handed link.new) → (result ≡ Done) ⊎ (result ≡ OutOfMemory)) }
+    ensures node_refuses { (id : NodeId) → form_of (map string_bytes words.now) ≡ Some (Node id) → (Rose (S.faults source.old) (S.faults source.new) → ⊥) → (Rose (K.faults sink.old) (K.faults sink.new) → ⊥) → (Rose (L.faults link.old) (L.faults link.new) → ⊥) →
+        nodes.Told (S.left source.old) (λ text. (line : ℕ) → nodes.FirstOutside (lines text) id line → nodes.IsWithin text id (L.handed link.old) (L.handed link.new) → (result ≡ AtLine line) ⊎ (result ≡ OutOfMemory)) }
+    ensures node_limits { (id : NodeId) → form_of (map string_bytes words.now) ≡ Some (Node id) → (Rose (S.faults source.old) (S.faults source.new) → ⊥) → (Rose (K.faults sink.old) (K.faults sink.new) → ⊥) → (Rose (L.faults link.old) (L.faults link.new) → ⊥) →
+        nodes.Told (S.left source.old) (λ text. IfSome (L.handed link.old) (λ handed. (which : Which) → nodes.PassesLimit text id which (L.handed link.old) (L.handed link.new) → (result ≡ Limit which) ⊎ (result ≡ OutOfMemory))) }
     // A made load: its run is a replay's, and what is written is the summary of the world that it comes to, or of the steps before a limit.
-    ensures load_done { (start count : ℕ) → form_run (map string_bytes words.now) ≡ Some (Bench start count) → result ≡ Done → IsWithin (load start count) × Takes (K.written sink.old) (summary (load start count)) (K.written sink.new) }
-    ensures load_limit { (start count : ℕ) → form_run (map string_bytes words.now) ≡ Some (Bench start count) → (which : Which) → result ≡ Limit which → ((run_of (load start count)).stopped ≡ Some which) × Takes (K.written sink.old) (summary (load start count)) (K.written sink.new) }
-    ensures load_cut_short { (start count : ℕ) → form_run (map string_bytes words.now) ≡ Some (Bench start count) → (result ≡ WriteFault) ⊎ (result ≡ OutOfMemory) → IsFront (load start count) (K.written sink.old) (K.written sink.new) }
-    ensures load_ways { (start count : ℕ) → form_run (map string_bytes words.now) ≡ Some (Bench start count) → IsOfLoad result }
-    ensures load_complete { (start count : ℕ) → form_run (map string_bytes words.now) ≡ Some (Bench start count) → (Rose (K.faults sink.old) (K.faults sink.new) → ⊥) → IsWithin (load start count) → (result ≡ Done) ⊎ (result ≡ OutOfMemory) }
-    ensures load_limits { (start count : ℕ) → form_run (map string_bytes words.now) ≡ Some (Bench start count) → (Rose (K.faults sink.old) (K.faults sink.new) → ⊥) → (which : Which) → (run_of (load start count)).stopped ≡ Some which → (result ≡ Limit which) ⊎ (result ≡ OutOfMemory) }
+    ensures load_done { (start count : ℕ) → form_of (map string_bytes words.now) ≡ Some (Bench start count) → result ≡ Done → IsWithin (load start count) × Takes (K.written sink.old) (summary (load start count)) (K.written sink.new) }
+    ensures load_limit { (start count : ℕ) → form_of (map string_bytes words.now) ≡ Some (Bench start count) → (which : Which) → result ≡ Limit which → ((run_of (load start count)).stopped ≡ Some which) × Takes (K.written sink.old) (summary (load start count)) (K.written sink.new) }
+    ensures load_cut_short { (start count : ℕ) → form_of (map string_bytes words.now) ≡ Some (Bench start count) → (result ≡ WriteFault) ⊎ (result ≡ OutOfMemory) → IsFront (load start count) (K.written sink.old) (K.written sink.new) }
+    ensures load_ways { (start count : ℕ) → form_of (map string_bytes words.now) ≡ Some (Bench start count) → IsOfLoad result }
+    ensures load_complete { (start count : ℕ) → form_of (map string_bytes words.now) ≡ Some (Bench start count) → (Rose (K.faults sink.old) (K.faults sink.new) → ⊥) → IsWithin (load start count) → (result ≡ Done) ⊎ (result ≡ OutOfMemory) }
+    ensures load_limits { (start count : ℕ) → form_of (map string_bytes words.now) ≡ Some (Bench start count) → (Rose (K.faults sink.old) (K.faults sink.new) → ⊥) → (which : Which) → (run_of (load start count)).stopped ≡ Some which → (result ≡ Limit which) ⊎ (result ≡ OutOfMemory) }
     // An audit: the verdict on the transcript that the text is, and its line; a line that is the first outside is refused, and nothing is written.
-    ensures legal { form_run (map string_bytes words.now) ≡ Some Audit → result ≡ Done → Told (S.left source.old) (K.written sink.old) (K.written sink.new) (IsToldOf verdict.Legal) }
-    ensures illegal { form_run (map string_bytes words.now) ≡ Some Audit → (line : ℕ) (clause : Clause) → result ≡ Illegal line clause → Told (S.left source.old) (K.written sink.old) (K.written sink.new) (IsToldOf (verdict.Illegal line clause)) }
-    ensures outside { form_run (map string_bytes words.now) ≡ Some Audit → (line : ℕ) → result ≡ AtLine line → Told (S.left source.old) (K.written sink.old) (K.written sink.new) (IsRefused line) }
-    ensures verdict_cut_short { form_run (map string_bytes words.now) ≡ Some Audit → (result ≡ WriteFault) ⊎ (result ≡ OutOfMemory) → Told (S.left source.old) (K.written sink.old) (K.written sink.new) verdicts.IsCutShort }
-    ensures verdict_silent { form_run (map string_bytes words.now) ≡ Some Audit → IsSilent result → K.written sink.new ≡ K.written sink.old }
-    ensures verdict_ways { form_run (map string_bytes words.now) ≡ Some Audit → IsOfJudge result }
-    ensures judges { form_run (map string_bytes words.now) ≡ Some Audit → (Rose (S.faults source.old) (S.faults source.new) → ⊥) → (Rose (K.faults sink.old) (K.faults sink.new) → ⊥) →
+    ensures legal { form_of (map string_bytes words.now) ≡ Some Audit → result ≡ Done → Told (S.left source.old) (K.written sink.old) (K.written sink.new) (IsToldOf verdict.Legal) }
+    ensures illegal { form_of (map string_bytes words.now) ≡ Some Audit → (line : ℕ) (clause : Clause) → result ≡ Illegal line clause → Told (S.left source.old) (K.written sink.old) (K.written sink.new) (IsToldOf (verdict.Illegal line clause)) }
+    ensures outside { form_of (map string_bytes words.now) ≡ Some Audit → (line : ℕ) → result ≡ AtLine line → Told (S.left source.old) (K.written sink.old) (K.written sink.new) (IsRefused line) }
+    ensures verdict_cut_short { form_of (map string_bytes words.now) ≡ Some Audit → (result ≡ WriteFault) ⊎ (result ≡ OutOfMemory) → Told (S.left source.old) (K.written sink.old) (K.written sink.new) verdicts.IsCutShort }
+    ensures verdict_silent { form_of (map string_bytes words.now) ≡ Some Audit → IsSilent result → K.written sink.new ≡ K.written sink.old }
+    ensures verdict_ways { form_of (map string_bytes words.now) ≡ Some Audit → IsOfJudge result }
+    ensures judges { form_of (map string_bytes words.now) ≡ Some Audit → (Rose (S.faults source.old) (S.faults source.new) → ⊥) → (Rose (K.faults sink.old) (K.faults sink.new) → ⊥) →
         IfSome (S.left source.old) (λ text. (t : Transcript) → is_transcript t ≡ true → text ≡ rendered t → (result ≡ status_of (judged t)) ⊎ (result ≡ OutOfMemory)) }
-    ensures judges_outside { form_run (map string_bytes words.now) ≡ Some Audit → (Rose (S.faults source.old) (S.faults source.new) → ⊥) → (Rose (K.faults sink.old) (K.faults sink.new) → ⊥) →
+    ensures judges_outside { form_of (map string_bytes words.now) ≡ Some Audit → (Rose (S.faults source.old) (S.faults source.new) → ⊥) → (Rose (K.faults sink.old) (K.faults sink.new) → ⊥) →
         IfSome (S.left source.old) (λ text. (line : ℕ) → IsFirstOutside text line → (result ≡ AtLine line) ⊎ (result ≡ OutOfMemory)) }
     // A fault has its cause in a count that rose.
     ensures read_fault { result ≡ ReadFault → Rose (S.faults source.old) (S.faults source.new) }
     ensures write_fault { result ≡ WriteFault → Rose (K.faults sink.old) (K.faults sink.new) }
+    ensures link_fault { result ≡ LinkFault → Rose (L.faults link.old) (L.faults link.new) }
     // What is sure never to fail stays so.
     ensures source { StaysSure (S.sure source.old) (S.sure source.new) (S.faults source.old) (S.faults source.new) }
     ensures sink { StaysSure (K.sure sink.old) (K.sure sink.new) (K.faults sink.old) (K.faults sink.new) }
-    ensures link { link.new ≡ link.old }
+    ensures link { StaysSure (L.sure link.old) (L.sure link.new) (L.faults link.old) (L.faults link.new) }
+    // The other forms leave the link alone, and so do words that are none.
+    ensures alone { is_over_link (form_of (map string_bytes words.now)) ≡ false → link.new ≡ link.old }
 {
     match read_form(alloc, words) {
         Ok(Some(Form::Replay)) => replay(alloc, source, sink),
+        Ok(Some(Form::Live)) => run(alloc, source, sink, link),
+        Ok(Some(Form::Node(id))) => node(alloc, id, source, sink, link),
         Ok(Some(Form::Bench { start, count })) => bench(alloc, start, count, sink),
         Ok(Some(Form::Audit)) => judge(alloc, source, sink),
-        // The others aren't run yet.
-        Ok(_) => Status::Words,
+        Ok(None) => Status::Words,
         Err(NoMemory) => Status::NoMemory,
     }
 }

@@ -10,6 +10,3 @@ mod stages;
 mod waits;
 
 pub use session::node;
-
-#[cfg(test)]
-mod tests;

@@ -94,7 +94,9 @@ fn is_no_form(alloc: Global, words: &[&str]) -> Result<bool, NoMemory> {
 fn words_that_are_no_form(rt: HostRuntime) -> Result<(), Fail> {
     assert!(rt; is_no_form(rt.alloc(), &["replay", "x"])?);
     assert!(rt; is_no_form(rt.alloc(), &["bench", "7"])?);
-    assert!(rt; is_no_form(rt.alloc(), &["live"])?);
+    assert!(rt; is_no_form(rt.alloc(), &["live", "x"])?);
+    assert!(rt; is_no_form(rt.alloc(), &["node"])?);
+    assert!(rt; is_no_form(rt.alloc(), &["node", "x0"])?);
     assert!(rt; is_no_form(rt.alloc(), &["--help"])?);
     assert!(rt; is_no_form(rt.alloc(), &[])?);
     Ok(())

@@ -1,11 +1,16 @@
-use Rattle.std.proofs.Common.{◌≡◌, ◌⊎◌, ℕ, Some, map, string_bytes}
+use Rattle.std.proofs.Common.{◌≡◌, ◌⊎◌, ℕ, Some, map, string_bytes, IfSome}
 use Rattle.tg_base.specs.declared.fault.Which.{Which}
+use Rattle.tg_base.specs.declared.ids.NodeId.{NodeId}
 use Rattle.tg_io.specs.Bytes.{Takes}
 use Rattle.tg_io.specs.Faults.{Rose}
-use Rattle.tg_io.specs.declared.status.Status.TheVariants.{Done, WriteFault, Limit, NoMemory}
+use Rattle.tg_io.specs.declared.status.Status.TheVariants.{Done, Script, ReadFault, WriteFault, LinkFault, Limit, NoMemory}
 use Rattle.tg_replay.specs.Runs.{IsWithin, run_of}
 use Rattle.tg_load.specs.Loads.{load, summary, IsFront}
+use Rattle.tg_node.specs.Stages.{seen}
+use Rattle.tg_reader.specs.Lines.{lines}
+use Rattle.tg_node.specs.Texts.{Told, Followed, FirstOutside, Refused, PassesLimit, IsWithin as WithNoLimit, Limited, IsCutShort, IsText}
 use Rattle.tango.proofs.Loads.{moved}
+use Rattle.tango.proofs.Nodes.{moved as moved_node}
 use Rattle.tango.proofs.top.tango.Goals as goal
 
 pub returns-in-Ok-Some-Bench-clause-load_done : goal.returns-in-Ok-Some-Bench-clause-load_done
@@ -32,3 +37,38 @@ pub returns-in-Ok-Some-Bench-clause-load_limits : goal.returns-in-Ok-Some-Bench-
 returns-in-Ok-Some-Bench-clause-load_limits g c = λ start count named. moved (map string_bytes c.args.words.now) c.in-Ok-Some-Bench.field-0 c.in-Ok-Some-Bench.field-0-0 c.in-Ok-Some-Bench.start c.in-Ok-Some-Bench.count start count
     (λ s n. (Rose (g.K.Sink.faults c.args.sink.now) (g.K.Sink.faults c.bench.new.sink) → ⊥) → (which : Which) → (run_of (load s n)).stopped ≡ Some which → (c.bench.result ≡ Limit which) ⊎ (c.bench.result ≡ NoMemory))
     c.in-Ok-Some-Bench.ensures c.in-Ok-Some-Bench.field-0-is c.in-Ok-Some-Bench.field-0-0-is named c.bench.ensures.limits
+
+pub returns-in-Ok-Some-Node-clause-node_done : goal.returns-in-Ok-Some-Node-clause-node_done
+returns-in-Ok-Some-Node-clause-node_done g c = λ id named. moved_node (map string_bytes c.args.words.now) c.in-Ok-Some-Node.field-0 c.in-Ok-Some-Node.field-0-0 c.in-Ok-Some-Node.id id
+    (λ n. c.node.result ≡ Done → Told (g.S.Source.left c.args.source.now) (λ text. Followed text n (seen (g.L.Link.sent c.args.link.now) (g.L.Link.handed c.args.link.now) (g.K.Sink.written c.args.sink.now)) (seen (g.L.Link.sent c.node.new.link) (g.L.Link.handed c.node.new.link) (g.K.Sink.written c.node.new.sink))))
+    c.in-Ok-Some-Node.ensures c.in-Ok-Some-Node.field-0-is c.in-Ok-Some-Node.field-0-0-is named c.node.ensures.done
+
+pub returns-in-Ok-Some-Node-clause-node_script : goal.returns-in-Ok-Some-Node-clause-node_script
+returns-in-Ok-Some-Node-clause-node_script g c = λ id named. moved_node (map string_bytes c.args.words.now) c.in-Ok-Some-Node.field-0 c.in-Ok-Some-Node.field-0-0 c.in-Ok-Some-Node.id id
+    (λ n. (line : ℕ) → c.node.result ≡ Script line → Told (g.S.Source.left c.args.source.now) (λ text. Refused text n line (seen (g.L.Link.sent c.args.link.now) (g.L.Link.handed c.args.link.now) (g.K.Sink.written c.args.sink.now)) (seen (g.L.Link.sent c.node.new.link) (g.L.Link.handed c.node.new.link) (g.K.Sink.written c.node.new.sink))))
+    c.in-Ok-Some-Node.ensures c.in-Ok-Some-Node.field-0-is c.in-Ok-Some-Node.field-0-0-is named c.node.ensures.script
+
+pub returns-in-Ok-Some-Node-clause-node_limit : goal.returns-in-Ok-Some-Node-clause-node_limit
+returns-in-Ok-Some-Node-clause-node_limit g c = λ id named. moved_node (map string_bytes c.args.words.now) c.in-Ok-Some-Node.field-0 c.in-Ok-Some-Node.field-0-0 c.in-Ok-Some-Node.id id
+    (λ n. (which : Which) → c.node.result ≡ Limit which → Told (g.S.Source.left c.args.source.now) (λ text. Limited text n which (seen (g.L.Link.sent c.args.link.now) (g.L.Link.handed c.args.link.now) (g.K.Sink.written c.args.sink.now)) (seen (g.L.Link.sent c.node.new.link) (g.L.Link.handed c.node.new.link) (g.K.Sink.written c.node.new.sink))))
+    c.in-Ok-Some-Node.ensures c.in-Ok-Some-Node.field-0-is c.in-Ok-Some-Node.field-0-0-is named c.node.ensures.limit
+
+pub returns-in-Ok-Some-Node-clause-node_cut_short : goal.returns-in-Ok-Some-Node-clause-node_cut_short
+returns-in-Ok-Some-Node-clause-node_cut_short g c = λ id named. moved_node (map string_bytes c.args.words.now) c.in-Ok-Some-Node.field-0 c.in-Ok-Some-Node.field-0-0 c.in-Ok-Some-Node.id id
+    (λ n. (c.node.result ≡ ReadFault) ⊎ ((c.node.result ≡ WriteFault) ⊎ ((c.node.result ≡ LinkFault) ⊎ (c.node.result ≡ NoMemory))) → Told (g.S.Source.left c.args.source.now) (λ text. IsCutShort text n (seen (g.L.Link.sent c.args.link.now) (g.L.Link.handed c.args.link.now) (g.K.Sink.written c.args.sink.now)) (seen (g.L.Link.sent c.node.new.link) (g.L.Link.handed c.node.new.link) (g.K.Sink.written c.node.new.sink))))
+    c.in-Ok-Some-Node.ensures c.in-Ok-Some-Node.field-0-is c.in-Ok-Some-Node.field-0-0-is named c.node.ensures.cut_short
+
+pub returns-in-Ok-Some-Node-clause-node_complete : goal.returns-in-Ok-Some-Node-clause-node_complete
+returns-in-Ok-Some-Node-clause-node_complete g c = λ id named. moved_node (map string_bytes c.args.words.now) c.in-Ok-Some-Node.field-0 c.in-Ok-Some-Node.field-0-0 c.in-Ok-Some-Node.id id
+    (λ n. (Rose (g.S.Source.faults c.args.source.now) (g.S.Source.faults c.node.new.source) → ⊥) → (Rose (g.K.Sink.faults c.args.sink.now) (g.K.Sink.faults c.node.new.sink) → ⊥) → (Rose (g.L.Link.faults c.args.link.now) (g.L.Link.faults c.node.new.link) → ⊥) → Told (g.S.Source.left c.args.source.now) (λ text. IsText text n → WithNoLimit text n (g.L.Link.handed c.args.link.now) (g.L.Link.handed c.node.new.link) → (c.node.result ≡ Done) ⊎ (c.node.result ≡ NoMemory)))
+    c.in-Ok-Some-Node.ensures c.in-Ok-Some-Node.field-0-is c.in-Ok-Some-Node.field-0-0-is named c.node.ensures.complete
+
+pub returns-in-Ok-Some-Node-clause-node_refuses : goal.returns-in-Ok-Some-Node-clause-node_refuses
+returns-in-Ok-Some-Node-clause-node_refuses g c = λ id named. moved_node (map string_bytes c.args.words.now) c.in-Ok-Some-Node.field-0 c.in-Ok-Some-Node.field-0-0 c.in-Ok-Some-Node.id id
+    (λ n. (Rose (g.S.Source.faults c.args.source.now) (g.S.Source.faults c.node.new.source) → ⊥) → (Rose (g.K.Sink.faults c.args.sink.now) (g.K.Sink.faults c.node.new.sink) → ⊥) → (Rose (g.L.Link.faults c.args.link.now) (g.L.Link.faults c.node.new.link) → ⊥) → Told (g.S.Source.left c.args.source.now) (λ text. (line : ℕ) → FirstOutside (lines text) n line → WithNoLimit text n (g.L.Link.handed c.args.link.now) (g.L.Link.handed c.node.new.link) → (c.node.result ≡ Script line) ⊎ (c.node.result ≡ NoMemory)))
+    c.in-Ok-Some-Node.ensures c.in-Ok-Some-Node.field-0-is c.in-Ok-Some-Node.field-0-0-is named c.node.ensures.refuses
+
+pub returns-in-Ok-Some-Node-clause-node_limits : goal.returns-in-Ok-Some-Node-clause-node_limits
+returns-in-Ok-Some-Node-clause-node_limits g c = λ id named. moved_node (map string_bytes c.args.words.now) c.in-Ok-Some-Node.field-0 c.in-Ok-Some-Node.field-0-0 c.in-Ok-Some-Node.id id
+    (λ n. (Rose (g.S.Source.faults c.args.source.now) (g.S.Source.faults c.node.new.source) → ⊥) → (Rose (g.K.Sink.faults c.args.sink.now) (g.K.Sink.faults c.node.new.sink) → ⊥) → (Rose (g.L.Link.faults c.args.link.now) (g.L.Link.faults c.node.new.link) → ⊥) → Told (g.S.Source.left c.args.source.now) (λ text. IfSome (g.L.Link.handed c.args.link.now) (λ handed. (which : Which) → PassesLimit text n which (g.L.Link.handed c.args.link.now) (g.L.Link.handed c.node.new.link) → (c.node.result ≡ Limit which) ⊎ (c.node.result ≡ NoMemory))))
+    c.in-Ok-Some-Node.ensures c.in-Ok-Some-Node.field-0-is c.in-Ok-Some-Node.field-0-0-is named c.node.ensures.limits

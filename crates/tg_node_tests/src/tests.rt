@@ -1,8 +1,8 @@
-use crate::node;
 use std::alloc::Global;
 use std::test::Fail;
 use tg_base::{List, NoMemory, NodeId, Role};
 use tg_io::{MemLink, MemSink, MemSource, Sink, Status};
+use tg_node::node;
 
 const HEADER: &str =
     "cluster units 1 layouts 1 seqs 1 clients 3 limit 100\nchains u0\nobjects ctr0 ctr1\n";

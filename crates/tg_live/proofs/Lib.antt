@@ -1,0 +1,13 @@
+pub mod Packets
+pub mod Growing
+pub mod Steps
+pub mod Keeping
+pub mod Parts
+pub mod Playing
+pub mod Ticking
+pub mod Recording
+pub mod Scripts
+pub mod Feeding
+pub mod Promises
+pub mod Options
+pub mod Printing

@@ -1,0 +1,18 @@
+use Rattle.std.proofs.Common.{◌≡◌, ◌∙◌, Some, None, IfOk, refl, sym, subst}
+use Rattle.tg_protocol.specs.Worlds.{limit_of}
+use Rattle.tg_replay.specs.Any.{all_kinds}
+use Rattle.tg_live.specs.Lives.{LiveRan}
+use Rattle.tg_live.specs.Kept.{KeepsRan}
+use Rattle.tg_live.proofs.Keeping.{recorded_stops, recorded_goes}
+use Rattle.tg_live.proofs.live.Live.recorded.Goals as goal
+
+pub returns-in-Some-clause-recorded : goal.returns-in-Some-clause-recorded
+returns-in-Some-clause-recorded g c = λ h first l k.
+    let over : limit_of all_kinds l.world ≡ Some c.in-Some.which = sym (c.limit.ensures l.world k.world) ∙ c.in-Some.is in
+    subst (λ (r : LiveRan). KeepsRan h first (g.L.Link.sent c.args.link.now) (record { live = c.args.self; stopped = Some c.in-Some.which }) r)
+    (sym (recorded_stops l c.args.line c.in-Some.which over)) (record { live = k; stopped = refl })
+
+pub returns-in-None-clause-recorded : goal.returns-in-None-clause-recorded
+returns-in-None-clause-recorded g c = λ h first l k.
+    let on : limit_of all_kinds l.world ≡ None = sym (c.limit.ensures l.world k.world) ∙ c.in-None.is in
+    subst (λ (r : LiveRan). IfOk c.made.result (λ w. KeepsRan h first (g.L.Link.sent c.made.new.link) w r)) (sym (recorded_goes l c.args.line on)) (c.made.ensures.made h first l k)

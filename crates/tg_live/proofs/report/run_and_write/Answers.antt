@@ -1,0 +1,9 @@
+use Rattle.tg_live.specs.Stages.{over}
+use Rattle.tg_live.proofs.Promises.{finish_told}
+use Rattle.tg_live.proofs.report.run_and_write.Goals as goal
+
+pub returns-in-Ok-clause-written : goal.returns-in-Ok-clause-written
+returns-in-Ok-clause-written g c =
+    finish_told (g.S.Source.left c.args.source.now) (g.K.Sink.written c.args.sink.now) (g.K.Sink.written c.report.new.sink)
+    (over (g.L.Link.handed c.args.link.now) (g.L.Link.handed c.run_script.new.link) (g.L.Link.sent c.args.link.now) (g.L.Link.sent c.run_script.new.link))
+    c.report.result c.in-Ok.finish c.in-Ok.ensures.finished c.report.ensures.written

@@ -1,0 +1,7 @@
+pub mod Sends
+pub mod Lives
+pub mod Kept
+pub mod Scripts
+pub mod Outcomes
+pub mod Stages
+pub mod Causes

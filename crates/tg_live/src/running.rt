@@ -1,0 +1,247 @@
+//! A live run, line by line of its script.
+
+ghost use Rattle.std.specs.Prelude.{◌≡◌, ◌+◌, ◌<◌, ℕ, false, List, Option, Some, length, IfOk, IfSome};
+ghost use Rattle.tg_base.specs.Clusters.{Header};
+ghost use Rattle.tg_io.specs.Faults.{HasCause, StaysSure};
+ghost use Rattle.tg_io.specs.declared.link.Sent.{Sent};
+ghost use Rattle.tg_reader.specs.Lines.{ahead, TakesLine};
+ghost use Rattle.tg_reader.specs.Openings.{Opened};
+ghost use Rattle.tg_replay.specs.Any.{all_kinds};
+ghost use Rattle.tg_script.specs.Lines.{IsLine};
+ghost use Rattle.tg_script.specs.declared.line.Line.{Line as event_line};
+ghost use Rattle.tg_world.specs.Kept.{IsWorld};
+ghost use Rattle.tg_live.specs.Causes.{of_source, of_link, HasCauses, HasReadCause, HasLinkCause};
+ghost use Rattle.tg_live.specs.Kept.{Keeps, Made};
+ghost use Rattle.tg_live.specs.Lives.{Live as live, IsFed};
+ghost use Rattle.tg_live.specs.Scripts.{is_delivery};
+ghost use Rattle.tg_live.specs.declared.live.Went.{Went as went_so};
+ghost use Rattle.tg_live.specs.declared.stages.Running.{Running as running};
+ghost use Rattle.tg_live.specs.Stages.{Finished, Reads, IsOutside, IsAfter, GoesOnKept, Handed, Carried, over, Feeds};
+
+use crate::live::{Live, Went};
+use crate::stages::{Fed, Finish, Running, Stop};
+use std::alloc::Global;
+use tg_base::{Cluster, List, NoMemory};
+use tg_io::{IoErr, Link, Source};
+use tg_model::Event;
+use tg_reader::{LineReader, Opening, read_header};
+use tg_replay::End;
+use tg_script::{Line, parse_line};
+
+/// Runs a script to its end, or to where its run ends.
+pub(crate) fn run_script<S: Source, L: Link>(
+    alloc: Global,
+    source: &mut S,
+    link: &mut L,
+) -> Result<Finish, Stop>
+    ensures finished { IfSome (S.left source.old) (λ text. IfOk result (Finished (over (L.handed link.old) (L.handed link.new) (L.sent link.old) (L.sent link.new)) text)) }
+    ensures causes { HasCauses (S.faults source.old) (S.faults source.new) (L.faults link.old) (L.faults link.new) result }
+    ensures source { StaysSure (S.sure source.old) (S.sure source.new) (S.faults source.old) (S.faults source.new) }
+    ensures link { StaysSure (L.sure link.old) (L.sure link.new) (L.faults link.old) (L.faults link.new) }
+{
+    let mut reader = LineReader::new();
+    match open(alloc, &mut reader, source)? {
+        Opening::Outside { line } => Ok(Finish {
+            end: End::Outside { line },
+            live: None,
+        }),
+        Opening::Opens(cluster) => {
+            let live = Live::start(alloc, cluster)?;
+            run_lines(alloc, Running { live, lines: 0 }, &mut reader, source, link)
+        }
+    }
+}
+
+// Runs the lines of a script.
+fn run_lines<S: Source, L: Link>(
+    alloc: Global,
+    running: Running,
+    reader: &mut LineReader,
+    source: &mut S,
+    link: &mut L,
+) -> Result<Finish, Stop>
+    requires { IsWorld all_kinds running.live.world }
+    ensures finished { IfSome (ahead reader.old (S.left source.old)) (λ rest. (handed : Handed) (sent : Carried) (text : List ℕ) → Reads (over handed (L.handed link.old) sent (L.sent link.old)) text running rest → IfOk result (Finished (over handed (L.handed link.new) sent (L.sent link.new)) text)) }
+    ensures causes { HasCauses (S.faults source.old) (S.faults source.new) (L.faults link.old) (L.faults link.new) result }
+    ensures source { StaysSure (S.sure source.old) (S.sure source.new) (S.faults source.old) (S.faults source.new) }
+    ensures link { StaysSure (L.sure link.old) (L.sure link.new) (L.faults link.old) (L.faults link.new) }
+{
+    let mut running = running;
+    while let Some(line) = next_line(alloc, reader, source)? {
+        match running.fed(alloc, link, line.as_slice())? {
+            Fed::Goes(next) => running = next,
+            Fed::Stops(finish) => return Ok(finish),
+        }
+    }
+    Ok(Finish {
+        end: End::Whole,
+        live: Some(running.live),
+    })
+}
+
+// The header, where only the source can fail.
+fn open<S: Source>(alloc: Global, reader: &mut LineReader, source: &mut S) -> Result<Opening, Stop>
+    ensures opened { IfOk result (Opened (ahead reader.old (S.left source.old)) (ahead reader.new (S.left source.new))) }
+    ensures cause { HasReadCause (S.faults source.old) (S.faults source.new) result }
+    ensures sure { StaysSure (S.sure source.old) (S.sure source.new) (S.faults source.old) (S.faults source.new) }
+{
+    match read_header(alloc, reader, source) {
+        Ok(opening) => Ok(opening),
+        Err(error) => Err(source_stop(error)),
+    }
+}
+
+// The next line, where only the source can fail.
+fn next_line<S: Source>(
+    alloc: Global,
+    reader: &mut LineReader,
+    source: &mut S,
+) -> Result<Option<List<u8>>, Stop>
+    ensures line { IfOk result (TakesLine (ahead reader.old (S.left source.old)) (ahead reader.new (S.left source.new))) }
+    ensures less { IfOk result (λ line. IfSome line (λ l. length reader.new + S.room source.new < length reader.old + S.room source.old)) }
+    ensures cause { HasReadCause (S.faults source.old) (S.faults source.new) result }
+    ensures sure { StaysSure (S.sure source.old) (S.sure source.new) (S.faults source.old) (S.faults source.new) }
+{
+    match reader.next(alloc, source) {
+        Ok(line) => Ok(line),
+        Err(error) => Err(source_stop(error)),
+    }
+}
+
+// Why the source gave nothing.
+fn source_stop(error: IoErr) -> Stop
+    ensures { result ≡ of_source error }
+{
+    match error {
+        IoErr::Failed => Stop::Read,
+        IoErr::NoMemory => Stop::NoMemory,
+    }
+}
+
+// Why the link gave nothing.
+fn link_stop(error: IoErr) -> Stop
+    ensures { result ≡ of_link error }
+{
+    match error {
+        IoErr::Failed => Stop::Carry,
+        IoErr::NoMemory => Stop::NoMemory,
+    }
+}
+
+impl Running {
+    // Takes the next line, where only the link can fail.
+    fn fed<L: Link>(self, alloc: Global, link: &mut L, line: &[u8]) -> Result<Fed, Stop>
+        requires { IsWorld all_kinds self.live.world }
+        ensures kept { IfOk result GoesOnKept }
+        ensures took { IfOk result (Feeds self line.now (L.handed link.old) (L.handed link.new) (L.sent link.old) (L.sent link.new)) }
+        ensures cause { HasLinkCause (L.faults link.old) (L.faults link.new) result }
+        ensures sure { StaysSure (L.sure link.old) (L.sure link.new) (L.faults link.old) (L.faults link.new) }
+    {
+        match self.feed(alloc, link, line) {
+            Ok(fed) => Ok(fed),
+            Err(error) => Err(link_stop(error)),
+        }
+    }
+
+    // Takes the next line. An `Err` is a fault of the link, or want of memory.
+    fn feed<L: Link>(self, alloc: Global, link: &mut L, line: &[u8]) -> Result<Fed, IoErr>
+        requires { IsWorld all_kinds self.live.world }
+        ensures kept { IfOk result GoesOnKept }
+        ensures took { IfOk result (Feeds self line.now (L.handed link.old) (L.handed link.new) (L.sent link.old) (L.sent link.new)) }
+        ensures cause { HasCause (L.faults link.old) (L.faults link.new) result }
+        ensures sure { StaysSure (L.sure link.old) (L.sure link.new) (L.faults link.old) (L.faults link.new) }
+    {
+        let Some(event) = live_line(alloc, &self.live.cluster, line)? else {
+            return Ok(self.outside()?);
+        };
+        self.take(alloc, link, event)
+    }
+
+    // A line of the script. An `Err` is a fault of the link, or want of memory.
+    fn take<L: Link>(self, alloc: Global, link: &mut L, line: Line) -> Result<Fed, IoErr>
+        requires { IsWorld all_kinds self.live.world }
+        ensures kept { IfOk result GoesOnKept }
+        ensures made { IfOk result (λ f. (h : Header) (first : Option (List Sent)) (l : live) → Keeps h first (L.sent link.old) self.live l → (w : went_so) × Made (IsFed line) h first (L.sent link.new) (L.handed link.old) (L.handed link.new) l w × IsAfter self w f) }
+        ensures cause { HasCause (L.faults link.old) (L.faults link.new) result }
+        ensures sure { StaysSure (L.sure link.old) (L.sure link.new) (L.faults link.old) (L.faults link.new) }
+    {
+        let Running { live, lines } = self;
+        let lines = lines.checked_add(1).ok_or(NoMemory)?;
+        let went = live.play(alloc, link, line)?;
+        Ok(after(lines, went))
+    }
+
+    // The next line is outside.
+    fn outside(self) -> Result<Fed, NoMemory>
+        ensures { IfOk result (IsOutside self) }
+    {
+        let line = self.lines.checked_add(4).ok_or(NoMemory)?;
+        Ok(Fed::Stops(Finish {
+            end: End::Outside { line },
+            live: Some(self.live),
+        }))
+    }
+}
+
+// A run after a line, which goes on unless a limit was reached.
+fn after(lines: u64, went: Went) -> Fed
+    ensures after { (r : running) → lines ≡ r.lines + 1 → IsAfter r went result }
+    ensures kept { IsWorld all_kinds went.live.world → GoesOnKept result }
+{
+    let Went { live, stopped } = went;
+    match stopped {
+        None => Fed::Goes(Running { live, lines }),
+        Some(which) => Fed::Stops(Finish {
+            end: End::Limited { which },
+            live: Some(live),
+        }),
+    }
+}
+
+impl Live {
+    // A line's steps, as far as the limits allow. An `Err` is a fault of the link, or want of memory.
+    fn play<L: Link>(self, alloc: Global, link: &mut L, line: Line) -> Result<Went, IoErr>
+        requires { IsWorld all_kinds self.world }
+        ensures kept { IfOk result (λ w. IsWorld all_kinds w.live.world) }
+        ensures fed { (h : Header) (first : Option (List Sent)) (l : live) → Keeps h first (L.sent link.old) self l → IfOk result (Made (IsFed line) h first (L.sent link.new) (L.handed link.old) (L.handed link.new) l) }
+        ensures cause { HasCause (L.faults link.old) (L.faults link.new) result }
+        ensures sure { StaysSure (L.sure link.old) (L.sure link.new) (L.faults link.old) (L.faults link.new) }
+    {
+        match line {
+            Line::Drain => self.drain(alloc, link),
+            Line::Settle => self.settle(alloc, link),
+            Line::Event { event } => self.recorded(alloc, link, Line::Event { event }),
+            Line::Update { client, oid, op } => {
+                self.recorded(alloc, link, Line::Update { client, oid, op })
+            }
+        }
+    }
+}
+
+// The value of a line that a live script may have: None where it is outside the grammar, names a node that the header
+// doesn't declare, or delivers or loses a packet by number. An `Err` is want of memory.
+fn live_line(alloc: Global, cluster: &Cluster, line: &[u8]) -> Result<Option<Line>, NoMemory>
+    ensures found { IfOk result (λ x. IfSome x (IsLine cluster.now line.now)) }
+    ensures free { IfOk result (λ x. IfSome x (λ l. is_delivery l ≡ false)) }
+    ensures only { (l : event_line) → IsLine cluster.now line.now l → is_delivery l ≡ false → IfOk result (λ x. x ≡ Some l) }
+{
+    let Some(event) = parse_line(alloc, cluster, line)? else {
+        return Ok(None);
+    };
+    if is_delivery(&event) {
+        return Ok(None);
+    }
+    Ok(Some(event))
+}
+
+// Whether a line delivers or loses a packet by number.
+fn is_delivery(line: &Line) -> bool
+    ensures { result ≡ is_delivery line.now }
+{
+    match line {
+        Line::Event {
+            event: Event::Deliver { .. } | Event::Lose { .. },
+        } => true,
+        _ => false,
+    }
+}
