@@ -107,3 +107,21 @@ fn a_header_without_the_node(rt: HostRuntime) -> Result<(), Fail> {
     assert_eq!(rt; refused(alloc, 3)?, 1);
     Ok(())
 }
+
+#[test]
+fn a_link_that_fails(rt: HostRuntime) -> Result<(), Fail> {
+    let alloc = rt.alloc();
+    let mut source = MemSource::new(text(alloc, "wait 1\n")?, List::new(alloc));
+    let mut sink = MemSink::new(alloc, List::new(alloc));
+    let mut fails = List::new(alloc);
+    fails.push(0)?;
+    let mut link = MemLink::new(alloc, List::new(alloc), fails);
+    let id = NodeId {
+        role: Role::Seqr,
+        num: 0,
+    };
+    let status = node(alloc, id, &mut source, &mut sink, &mut link);
+    assert_eq!(rt; status, Status::LinkFault);
+    assert_eq!(rt; sink.written().len(), 0);
+    Ok(())
+}
