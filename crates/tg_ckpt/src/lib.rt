@@ -12,6 +12,3 @@ pub use bases::{fresh_base, last_base, load_from, view_base, view_bases};
 pub use fault::CkptFault;
 pub use forgetting::may_forget;
 pub use saving::checkpoint;
-
-#[cfg(test)]
-mod tests;

@@ -20,6 +20,3 @@ pub use laws::{
     copy_waits_for_answers,
 };
 pub use step::{Next, Step};
-
-#[cfg(test)]
-mod tests;

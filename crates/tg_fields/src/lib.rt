@@ -12,6 +12,3 @@ pub use layouts::{
     ANY_EPOCH, projection_in, put_projection, put_vote, size_projection, size_proposal, size_vote,
     vote_in,
 };
-
-#[cfg(test)]
-mod tests;

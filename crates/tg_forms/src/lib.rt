@@ -3,7 +3,5 @@
 
 mod forms;
 mod numbers;
-#[cfg(test)]
-mod tests;
 
 pub use forms::{Form, read_form};

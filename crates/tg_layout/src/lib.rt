@@ -5,6 +5,3 @@ mod server;
 mod vote;
 
 pub use server::Layout;
-
-#[cfg(test)]
-mod tests;

@@ -4,7 +4,5 @@
 mod counting;
 mod loading;
 mod summary;
-#[cfg(test)]
-mod tests;
 
 pub use loading::bench;

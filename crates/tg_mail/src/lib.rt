@@ -6,6 +6,3 @@ mod sending;
 
 pub use receiving::{Came, receive};
 pub use sending::{send, send_all};
-
-#[cfg(test)]
-mod tests;

@@ -5,6 +5,3 @@ mod bases;
 mod past;
 
 pub use past::{PastTurn, past_at};
-
-#[cfg(test)]
-mod tests;

@@ -17,6 +17,3 @@ pub use decisions::{decision_at, decisions_of, lacks_decision};
 pub use ops::{op_of, touched_by};
 pub use verdict::Verdict;
 pub use view::View;
-
-#[cfg(test)]
-mod tests;

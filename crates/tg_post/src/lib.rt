@@ -6,6 +6,3 @@ mod sizes;
 
 pub use post::Post;
 pub use sizes::size;
-
-#[cfg(test)]
-mod tests;

@@ -6,6 +6,3 @@ mod line_reader;
 
 pub use header::{Opening, read_header};
 pub use line_reader::{LineReader, read_all};
-
-#[cfg(test)]
-mod tests;

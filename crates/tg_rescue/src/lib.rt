@@ -6,6 +6,3 @@ mod rescue;
 
 pub use records::{commit_at, needs_decision};
 pub use rescue::{RescueTurn, rescue_turn};
-
-#[cfg(test)]
-mod tests;

@@ -13,6 +13,3 @@ pub use paused::Paused;
 pub use purpose::Purpose;
 pub use task::Task;
 pub use work::{Job, Work};
-
-#[cfg(test)]
-mod tests;

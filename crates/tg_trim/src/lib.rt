@@ -15,6 +15,3 @@ pub use laws::{
 };
 pub use step::{Next, Step};
 pub use trims::{TrimStep, Trims};
-
-#[cfg(test)]
-mod tests;

@@ -11,6 +11,3 @@ mod writes;
 
 pub use fault::TxFault;
 pub use tx::Tx;
-
-#[cfg(test)]
-mod tests;

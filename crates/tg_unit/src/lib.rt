@@ -7,6 +7,3 @@ mod unit;
 
 pub use segment::Segment;
 pub use unit::Unit;
-
-#[cfg(test)]
-mod tests;

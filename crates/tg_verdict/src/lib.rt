@@ -3,7 +3,5 @@
 
 mod judging;
 mod line;
-#[cfg(test)]
-mod tests;
 
 pub use judging::judge;

@@ -18,6 +18,3 @@ pub use coding::{decode, encode, no_spelling_begins_another, size};
 pub use fault::WireFault;
 pub use rules::fits;
 pub use typing::types;
-
-#[cfg(test)]
-mod tests;
