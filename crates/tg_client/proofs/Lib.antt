@@ -1,8 +1,4 @@
-mod Accepting
-mod Early
 mod Fresh
-mod Putting
-mod Said
 mod Stepping
 mod Testing
 mod Ticked

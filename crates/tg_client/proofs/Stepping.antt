@@ -20,7 +20,8 @@ use Rattle.tg_protocol.specs.Answers.{Moved, moved, note}
 use Rattle.tg_protocol.specs.ClientSteps.{ClientTurn, client_asks, called, given, feed, refused_or, client_command, client_deliver, client_tick}
 use Rattle.tg_task.specs.Tasks.{WorkOf, KeepsMaybe}
 use Rattle.tg_state.specs.States.{StateOf, MovedOf, KeepsClient, KeepsMoved}
-use Rattle.tg_client.specs.Kept.{idle, KeepsStep}
+use Rattle.tg_commands.specs.Idle.{idle}
+use Rattle.tg_client.specs.Kept.{KeepsStep}
 
 module _ (m : Meaning) where
   counted-kept : (s : StateOf m) (w : Option (WorkOf m)) (c : Client m) → KeepsClient m s w c → KeepsClient m (record s { calls = s.calls + 1 }) w (called m c)

@@ -18,8 +18,9 @@ use Rattle.tg_task.specs.declared.task.Task.TheVariants as task
 use Rattle.tg_task.specs.declared.hand.Hand.TheVariants as hand
 use Rattle.tg_state.specs.States.{StateOf, MovedOf, Rest, client_of, rest_of, are_drawn, AreDrawn, IsTaskFit, IsClientFit, IsFitIf, KeepsClient, KeepsMoved}
 use Rattle.tg_moves.specs.Moves.{IsKept}
-use Rattle.tg_client.specs.Kept.{idle, Draws, KeepsStep}
-use Rattle.tg_client.proofs.Said.{is_idle}
+use Rattle.tg_commands.specs.Idle.{idle}
+use Rattle.tg_client.specs.Kept.{Draws, KeepsStep}
+use Rattle.tg_commands.proofs.Said.{is_idle}
 
 module _ (m : Meaning) where
   -- What a machine in hand keeps.

@@ -1,15 +1,14 @@
 -- What is kept of a client, and the clients of the rules that are kept so.
-use Rattle.std.specs.Prelude.{◌≡◌, ℕ, ◌+◌, List, ◌++◌, Option, None}
+use Rattle.std.specs.Prelude.{◌≡◌, ℕ, ◌+◌, List, ◌++◌}
 use Rattle.tg_base.specs.Layouts.{Layout}
 use Rattle.tg_base.specs.declared.packet.Out.{Out}
 use Rattle.tg_kind.specs.Meaning.{Meaning}
 use Rattle.tg_protocol.specs.Requests.{waits_for}
 use Rattle.tg_protocol.specs.Words.{numbers}
-use Rattle.tg_protocol.specs.Views.{View}
 use Rattle.tg_protocol.specs.Clients as told
 use Rattle.tg_protocol.specs.ClientSteps.{ClientTurn, asks_latest, hand_again_asks}
 use Rattle.tg_task.specs.Tasks.{WorkOf, KeepsHand}
-use Rattle.tg_state.specs.States.{StateOf, MovedOf, client_of}
+use Rattle.tg_state.specs.States.{MovedOf}
 use Rattle.tg_state.specs.States as states
 use Rattle.tg_moves.specs.Moves.{IsKept}
 use Rattle.tg_client.specs.declared.client.Client.{Client}
@@ -25,10 +24,6 @@ module _ (m : Meaning) where
   -- some client of the rules is kept so
   abbrev pub IsClient : Kept → Type 0
   IsClient k = IsKept m k.state k.work
-
-  -- a client for which no command waits, with this view and the directory played so far
-  abbrev pub idle : StateOf m → Option (View m) → ℕ → told.Client m
-  idle s v n = client_of m s (record { view = v; played = n; work = None })
 
   -- what a whole step gives
   pub record KeepsStep (r : MovedOf m) (x : ClientTurn m) : Type 0 where

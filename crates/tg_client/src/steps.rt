@@ -8,15 +8,13 @@ ghost use Rattle.tg_protocol.specs.ClientSteps.{refused_or, client_command, clie
 ghost use Rattle.tg_protocol.specs.Views.{View};
 ghost use Rattle.tg_state.specs.States.{KeepsViewIf, KeepsClient, KeepsMoved};
 ghost use Rattle.tg_moves.specs.Moves.{IsKept};
-ghost use Rattle.tg_client.specs.Kept.{idle, KeepsStep};
+ghost use Rattle.tg_commands.specs.Idle.{idle};
+ghost use Rattle.tg_client.specs.Kept.{KeepsStep};
 
-use crate::accepts::accepts;
 use crate::counting::given;
-use crate::puts::refuses;
-use crate::refusals::refusal;
-use crate::small::says;
 use std::alloc::Global;
 use tg_base::{List, Msg, NoMemory, NodeId};
+use tg_commands::{accepts, refusal, refuses, says};
 use tg_kind::Registry;
 use tg_model::{CommandOf, Refusal, What};
 use tg_state::{Moved, State, one_note};

@@ -11,10 +11,10 @@ ghost use Rattle.tg_state.specs.States.{KeepsClient};
 ghost use Rattle.tg_moves.specs.Moves.{IsKept};
 ghost use Rattle.tg_client.specs.Kept.{Draws, KeepsStep};
 
-use crate::small::{next_count, says};
 use std::alloc::Global;
 use tg_asking::{ask_alike, ask_servers};
 use tg_base::{List, Msg, NoMemory, Out, Rids, Role};
+use tg_commands::{next_count, says};
 use tg_kind::Registry;
 use tg_state::{Moved, State};
 use tg_task::{Hand, Work};

@@ -4,8 +4,8 @@ use Rattle.tg_state.specs.States.{KeepsClient}
 use Rattle.tg_play.proofs.Means.{means}
 use Rattle.tg_protocol.specs.Clients.{refusal}
 use Rattle.tg_protocol.specs.ClientSteps.{refused_or}
-use Rattle.tg_client.specs.Kept.{idle}
-use Rattle.tg_client.proofs.Said.{is_idle}
+use Rattle.tg_commands.specs.Idle.{idle}
+use Rattle.tg_commands.proofs.Said.{is_idle}
 use Rattle.tg_client.proofs.Stepping.{step_as, command_told}
 use Rattle.tg_client.proofs.steps.commanded.Goals as goal
 

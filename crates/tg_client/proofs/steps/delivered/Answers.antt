@@ -6,8 +6,8 @@ use Rattle.tg_protocol.specs.Answers.{moved}
 use Rattle.tg_protocol.specs.ClientSteps.{feed}
 use Rattle.tg_protocol.specs.Replies.{reply}
 use Rattle.tg_moves.specs.Moves.{IsKept}
-use Rattle.tg_client.specs.Kept.{idle}
-use Rattle.tg_client.proofs.Said.{is_idle, next_is}
+use Rattle.tg_commands.specs.Idle.{idle}
+use Rattle.tg_commands.proofs.Said.{is_idle, next_is}
 use Rattle.tg_client.proofs.Stepping.{step_as, says_as, delivery_told, fed_told}
 use Rattle.tg_client.proofs.steps.delivered.Goals as goal
 

@@ -1,0 +1,4 @@
+mod Accepted
+mod Early
+mod Putting
+pub mod Said
