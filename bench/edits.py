@@ -3,7 +3,7 @@
 
     python3 bench/edits.py tg_unit tg_seqr
 
-The gate tries the edits in crates/NAME/must-fail. Those of other crates stand in crates/NAME/edits: each crate that has
+The gate tries the edits in crates/NAME/must-fail. The others stand in crates/NAME/edits: each crate that has
 edits is proved once more before they are tried, so all of them together take longer than all proofs. This copies the
 repository to a folder of its own, takes each named crate's edits (without names, every crate's) for its must-fail
 edits, and runs `rt must-fail` of these crates there. Its status is that command's.

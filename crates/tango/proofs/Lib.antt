@@ -1,2 +1,3 @@
+mod Lawful
 mod Loads
 mod Nodes

@@ -13,9 +13,9 @@ ghost use Rattle.tg_replay.specs.Runs.{Script, IsScript, IsWithin, Tells, FirstO
 ghost use Rattle.tg_replay.specs.Outcomes.{Told, IsCutShort, IsOfReplay};
 ghost use Rattle.tg_reader.specs.Lines.{lines};
 ghost use Rattle.tg_live.specs.Outcomes as lives;
-ghost use Rattle.tg_live.specs.Outcomes.{IsOfLive, IsWholeOr};
+ghost use Rattle.tg_live.specs.Outcomes.{IsOfLive};
 ghost use Rattle.tg_live.specs.Scripts as recordings;
-ghost use Rattle.tg_live.specs.Scripts.{IsLiveScript};
+ghost use Rattle.tg_live.specs.Scripts.{IsLiveScript, PassesNone};
 ghost use Rattle.tg_live.specs.Stages.{over};
 ghost use Rattle.tg_node.specs.Stages.{seen};
 ghost use Rattle.tg_node.specs.Texts as nodes;
@@ -29,11 +29,14 @@ ghost use Rattle.tg_verdict.specs.Verdicts.{judged, status_of};
 ghost use Rattle.tg_verdict.specs.Outcomes as verdicts;
 ghost use Rattle.tg_verdict.specs.Outcomes.{IsToldOf, IsRefused, IsSilent, IsOfJudge};
 ghost use Rattle.tango.specs.Forms.{is_over_link};
+ghost use Rattle.tango.specs.Lawful.{IsLegalText, IsIllegalText};
 
 use std::alloc::Global;
+use tg_any::AnyKind;
 use tg_base::NoMemory;
 use tg_forms::{Form, read_form};
 use tg_io::{Link, Sink, Source, Status};
+use tg_judge::verdicts_are_true;
 use tg_live::run;
 use tg_load::bench;
 use tg_node::node;
@@ -81,9 +84,14 @@ pub fn tango<S: Source, K: Sink, L: Link>(
     ensures live_cut_short { form_of (map string_bytes words.now) ≡ Some Live → (result ≡ WriteFault) ⊎ (result ≡ OutOfMemory) → Told (S.left source.old) (K.written sink.old) (K.written sink.new) (lives.IsCutShort (over (L.handed link.old) (L.handed link.new) (L.sent link.old) (L.sent link.new))) }
     ensures live_silent { form_of (map string_bytes words.now) ≡ Some Live → (result ≡ ReadFault) ⊎ (result ≡ LinkFault) → K.written sink.new ≡ K.written sink.old }
     ensures live_ways { form_of (map string_bytes words.now) ≡ Some Live → IsOfLive result }
-    // Without a fault a script is run whole, unless a limit stops it or memory runs out.
+    // Without a fault each text has its status, unless memory runs out. Whether a limit is passed depends on the answers
+    // that the link hands.
     ensures live_complete { form_of (map string_bytes words.now) ≡ Some Live → (Rose (S.faults source.old) (S.faults source.new) → ⊥) → (Rose (K.faults sink.old) (K.faults sink.new) → ⊥) → (Rose (L.faults link.old) (L.faults link.new) → ⊥) →
-        IfSome (S.left source.old) (λ text. (s : Script) → IsLiveScript s → Tells text s → IsWholeOr result) }
+        IfSome (S.left source.old) (λ text. (s : Script) → IsLiveScript s → Tells text s → PassesNone (over (L.handed link.old) (L.handed link.new) (L.sent link.old) (L.sent link.new)) text → (result ≡ Done) ⊎ (result ≡ OutOfMemory)) }
+    ensures live_refuses { form_of (map string_bytes words.now) ≡ Some Live → (Rose (S.faults source.old) (S.faults source.new) → ⊥) → (Rose (K.faults sink.old) (K.faults sink.new) → ⊥) → (Rose (L.faults link.old) (L.faults link.new) → ⊥) →
+        IfSome (S.left source.old) (λ text. (line : ℕ) (before : Script) → recordings.FirstOutside text line before → PassesNone (over (L.handed link.old) (L.handed link.new) (L.sent link.old) (L.sent link.new)) text → (result ≡ AtLine line) ⊎ (result ≡ OutOfMemory)) }
+    ensures live_limits { form_of (map string_bytes words.now) ≡ Some Live → (Rose (S.faults source.old) (S.faults source.new) → ⊥) → (Rose (K.faults sink.old) (K.faults sink.new) → ⊥) → (Rose (L.faults link.old) (L.faults link.new) → ⊥) →
+        IfSome (S.left source.old) (λ text. IfSome (L.handed link.old) (λ handed. (which : Which) → recordings.PassesLimit (over (L.handed link.old) (L.handed link.new) (L.sent link.old) (L.sent link.new)) text which → (result ≡ Limit which) ⊎ (result ≡ OutOfMemory))) }
     // A node: at `Done` the text was followed to its end: the packets of its session were sent, its waits took the answers
     // that were handed, and its replies were written.
     ensures node_done { (id : NodeId) → form_of (map string_bytes words.now) ≡ Some (Node id) → result ≡ Done → nodes.Told (S.left source.old) (λ text. nodes.Followed text id (seen (L.sent link.old) (L.handed link.old) (K.written sink.old)) (seen (L.sent link.new) (L.handed link.new) (K.written sink.new))) }
@@ -113,6 +121,9 @@ pub fn tango<S: Source, K: Sink, L: Link>(
     ensures legal { form_of (map string_bytes words.now) ≡ Some Audit → result ≡ Done → Told (S.left source.old) (K.written sink.old) (K.written sink.new) (IsToldOf verdict.Legal) }
     ensures illegal { form_of (map string_bytes words.now) ≡ Some Audit → (line : ℕ) (clause : Clause) → result ≡ Illegal line clause → Told (S.left source.old) (K.written sink.old) (K.written sink.new) (IsToldOf (verdict.Illegal line clause)) }
     ensures outside { form_of (map string_bytes words.now) ≡ Some Audit → (line : ℕ) → result ≡ AtLine line → Told (S.left source.old) (K.written sink.old) (K.written sink.new) (IsRefused line) }
+    // So it says legal of a text exactly where the run that the text renders is legal.
+    ensures lawful { form_of (map string_bytes words.now) ≡ Some Audit → result ≡ Done → Told (S.left source.old) (K.written sink.old) (K.written sink.new) IsLegalText }
+    ensures unlawful { form_of (map string_bytes words.now) ≡ Some Audit → (line : ℕ) (clause : Clause) → result ≡ Illegal line clause → Told (S.left source.old) (K.written sink.old) (K.written sink.new) IsIllegalText }
     ensures verdict_cut_short { form_of (map string_bytes words.now) ≡ Some Audit → (result ≡ WriteFault) ⊎ (result ≡ OutOfMemory) → Told (S.left source.old) (K.written sink.old) (K.written sink.new) verdicts.IsCutShort }
     ensures verdict_silent { form_of (map string_bytes words.now) ≡ Some Audit → IsSilent result → K.written sink.new ≡ K.written sink.old }
     ensures verdict_ways { form_of (map string_bytes words.now) ≡ Some Audit → IsOfJudge result }
@@ -136,7 +147,10 @@ pub fn tango<S: Source, K: Sink, L: Link>(
         Ok(Some(Form::Live)) => run(alloc, source, sink, link),
         Ok(Some(Form::Node(id))) => node(alloc, id, source, sink, link),
         Ok(Some(Form::Bench { start, count })) => bench(alloc, start, count, sink),
-        Ok(Some(Form::Audit)) => judge(alloc, source, sink),
+        Ok(Some(Form::Audit)) => {
+            verdicts_are_true::<AnyKind>();
+            judge(alloc, source, sink)
+        }
         Ok(None) => Status::Words,
         Err(NoMemory) => Status::NoMemory,
     }

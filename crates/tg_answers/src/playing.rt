@@ -72,14 +72,12 @@ pub fn played<K: Registry>(
     if target > MOST {
         return Err(NoMemory);
     }
+    let mut state = state;
     let kept = state.view;
     let objects = &state.objects;
     let hosted = state.hosted.as_slice();
     let view = view_or_new(kept, alloc, entries, trims, objects, hosted)?;
     let (view, came) = view.play(alloc, entries, target)?;
-    let state = State {
-        view: Some(view),
-        ..state
-    };
+    state.view = Some(view);
     Ok((state, came))
 }

@@ -28,6 +28,3 @@ pub use marks::{Part, ReadMark, StreamLink};
 pub use msg::Msg;
 pub use packet::{Out, Packet, Rids};
 pub use turn::{Stand, Turn};
-
-#[cfg(test)]
-mod tests;

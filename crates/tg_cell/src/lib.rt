@@ -6,6 +6,3 @@ mod register;
 
 pub use counter::{Counter, CounterAns, CounterAsk, CounterOp};
 pub use register::{Register, RegisterAns, RegisterAsk, RegisterOp};
-
-#[cfg(test)]
-mod tests;

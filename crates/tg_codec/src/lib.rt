@@ -22,6 +22,3 @@ pub use streams::{
 };
 pub use whole::{ended, refused};
 pub use write::{put_text, put_u16, put_u32, put_u64, put_zeros};
-
-#[cfg(test)]
-mod tests;

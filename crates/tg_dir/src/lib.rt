@@ -11,6 +11,3 @@ pub use directory::{Directory, DirectoryAns, DirectoryAsk, DirectoryOp};
 pub use listing::Listing;
 pub use object::Object;
 pub use spelling::put_spelling;
-
-#[cfg(test)]
-mod tests;

@@ -32,8 +32,9 @@ fn asked<K: Registry>(
 {
     let Answer { ans, part, version } = answer;
     let number = tx_number(&state.tx);
+    let mut state = state;
     let tx = noted(state.tx, oid, part, tail, version)?;
-    let state = State { tx, ..state };
+    state.tx = tx;
     let what = What::Asked {
         oid,
         ask,

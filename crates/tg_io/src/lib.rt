@@ -15,8 +15,6 @@ mod sink;
 mod source;
 mod status;
 mod streams;
-#[cfg(test)]
-mod tests;
 
 pub use datagram::Datagram;
 pub use fault::IoErr;

@@ -15,6 +15,3 @@ pub use kind::Kind;
 pub use registry::Registry;
 pub use scope::{Key, Scope};
 pub use text::{Text, put_word, text_in};
-
-#[cfg(test)]
-mod tests;

@@ -9,5 +9,6 @@ pub mod Recording
 pub mod Scripts
 pub mod Feeding
 pub mod Promises
+pub mod Exact
 pub mod Options
 pub mod Printing

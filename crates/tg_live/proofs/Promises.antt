@@ -17,8 +17,9 @@ use Rattle.tg_live.specs.declared.live.Live.{Live as Kept}
 use Rattle.tg_live.specs.declared.stages.Finish.{Finish}
 use Rattle.tg_live.specs.Lives.{Live}
 use Rattle.tg_live.specs.Kept.{Keeps}
-use Rattle.tg_live.specs.Scripts.{Over, IsLiveScript, FirstOutside, Outcome, printed}
-use Rattle.tg_live.specs.Outcomes.{Written, IsOfLive, IsFront, IsWholeOr}
+use Rattle.tg_live.specs.Scripts as scripts
+use Rattle.tg_live.specs.Scripts.{Over, IsLiveScript, FirstOutside, PassesLimit, PassesNone, Outcome, printed}
+use Rattle.tg_live.specs.Outcomes.{Written, IsOfLive, IsFront}
 use Rattle.tg_live.specs.Stages.{Finished, Ends}
 
 -- what was written with a status
@@ -91,19 +92,23 @@ pub record IsUndisturbed (status : Status) : Type 0 where
   pub writes : status ≡ WriteFault → ⊥
   pub carries : status ≡ LinkFault → ⊥
 
--- a live script is run whole, unless a limit stops it
-pub completes : (o : Over) (text out : List ℕ) (status : Status) (s : Script) → Written o text status out → IsOfLive status → IsUndisturbed status → IsLiveScript s → Tells text s → IsWholeOr status
-completes o text out Done s w ways u lawful tells = inl refl
-completes o text out NoMemory s w ways u lawful tells = inr (inl refl)
-completes o text out Words s w ways u lawful tells = absurd ways
-completes o text out ReadFault s w ways u lawful tells = absurd (u.reads refl)
-completes o text out WriteFault s w ways u lawful tells = absurd (u.writes refl)
-completes o text out LinkFault s w ways u lawful tells = absurd (u.carries refl)
-completes o text out (Illegal line clause) s w ways u lawful tells = absurd ways
-completes o text out (AtLine n) s w ways u lawful tells = absurd (w.first.outside s lawful (ap (λ (ls : List (List ℕ)). take n ls) tells))
-completes o text out (Limit which) s w ways u lawful tells = inr (inr (which, refl))
+-- a run that a limit has stopped passes it
+pub passes : (o : Over) (text out : List ℕ) (which : Which) → scripts.Limited o text which out → PassesLimit o text which
+passes o text out which w = record { script = w.script; lawful = w.lawful; begins = w.begins; end = w.end; over = w.over; answers = w.run.answers; lived = w.run.lived; took = w.run.took }
+
+-- a live script that passes no limit is run whole
+completes : (o : Over) (text out : List ℕ) (status : Status) (s : Script) → Written o text status out → IsOfLive status → IsUndisturbed status → IsLiveScript s → Tells text s → PassesNone o text → (status ≡ Done) ⊎ (status ≡ NoMemory)
+completes o text out Done s w ways u lawful tells within = inl refl
+completes o text out NoMemory s w ways u lawful tells within = inr refl
+completes o text out Words s w ways u lawful tells within = absurd ways
+completes o text out ReadFault s w ways u lawful tells within = absurd (u.reads refl)
+completes o text out WriteFault s w ways u lawful tells within = absurd (u.writes refl)
+completes o text out LinkFault s w ways u lawful tells within = absurd (u.carries refl)
+completes o text out (Illegal line clause) s w ways u lawful tells within = absurd ways
+completes o text out (AtLine n) s w ways u lawful tells within = absurd (w.first.outside s lawful (ap (λ (ls : List (List ℕ)). take n ls) tells))
+completes o text out (Limit which) s w ways u lawful tells within = absurd (within which (passes o text out which w))
 
 pub complete_told : (left before after : Option (List ℕ)) (o : Over) (status : Status) → Told left before after (λ text out. Written o text status out) → IsOfLive status → IsUndisturbed status →
-    IfSome left (λ text. (s : Script) → IsLiveScript s → Tells text s → IsWholeOr status)
+    IfSome left (λ text. (s : Script) → IsLiveScript s → Tells text s → PassesNone o text → (status ≡ Done) ⊎ (status ≡ NoMemory))
 complete_told None before after o status h ways u = tt
-complete_told (Some text) before after o status h ways u = λ s lawful tells. completes o text h.0 status s h.2 ways u lawful tells
+complete_told (Some text) before after o status h ways u = λ s lawful tells within. completes o text h.0 status s h.2 ways u lawful tells within

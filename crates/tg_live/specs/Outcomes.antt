@@ -1,6 +1,5 @@
 -- What is promised of a live run.
 use Rattle.std.specs.Prelude.{◌≡◌, ◌⊎◌, ℕ, ◌++◌, List, [], Option, Some, None}
-use Rattle.tg_base.specs.declared.fault.Which.{Which}
 use Rattle.tg_io.specs.declared.status.Status.{Status}
 use Rattle.tg_io.specs.declared.status.Status.TheVariants.{Done, Limit, Illegal, Words, ReadFault, WriteFault, LinkFault, NoMemory}
 use Rattle.tg_live.specs.Scripts.{Over, Outcome}
@@ -27,7 +26,3 @@ abbrev pub IsOfLive : Status → Type 0
 IsOfLive Words = ⊥
 IsOfLive (Illegal line clause) = ⊥
 IsOfLive status = Unit {0}
-
--- A run is whole, unless memory runs out or a limit stops it.
-abbrev pub IsWholeOr : Status → Type 0
-IsWholeOr status = (status ≡ Done) ⊎ ((status ≡ NoMemory) ⊎ ((which : Which) × (status ≡ Limit which)))

@@ -100,6 +100,21 @@ pub record Limited (o : Over) (text : List ℕ) (which : Which) (out : List ℕ)
   pub run : RunsOver o script end
   pub printed : out ≡ printed script.header end.live
 
+-- A text passes a limit, with the answers that the link handed over: it begins with a script in whose last line, by a live
+-- run that takes these answers, another step or another datagram is asked for than the limits allow.
+pub record PassesLimit (o : Over) (text : List ℕ) (which : Which) : Type 0 where
+  pub script : Script
+  pub lawful : IsLiveScript script
+  pub begins : Begins text (3 + length script.events) script
+  pub end : LiveRan
+  pub over : end.stopped ≡ Some which
+  pub answers : List Answer
+  pub lived : IsLived script.events answers (opened script.header) end
+  pub took : Grows o.handed answers o.handed_after
+
+abbrev pub PassesNone : Over → List ℕ → Type 0
+PassesNone o text = (which : Which) → PassesLimit o text which → ⊥
+
 -- What the status says of the text, and what is printed with it.
 abbrev pub Outcome : Over → List ℕ → Status → List ℕ → Type 0
 Outcome o text Done out = Replayed o text out

@@ -16,8 +16,8 @@ ghost use Rattle.tg_replay.specs.Outcomes.{Told};
 ghost use Rattle.tg_replay.specs.Runs.{Script, Tells, transcript};
 ghost use Rattle.tg_live.specs.Kept.{Keeps};
 ghost use Rattle.tg_live.specs.Lives.{Live as live};
-ghost use Rattle.tg_live.specs.Outcomes.{Written, IsCutShort, IsOfLive, IsWholeOr};
-ghost use Rattle.tg_live.specs.Scripts.{Over, IsLiveScript, Replayed, Refused, Limited, Outcome, printed};
+ghost use Rattle.tg_live.specs.Outcomes.{Written, IsCutShort, IsOfLive};
+ghost use Rattle.tg_live.specs.Scripts.{Over, IsLiveScript, Replayed, FirstOutside, Refused, Limited, PassesLimit, PassesNone, Outcome, printed};
 ghost use Rattle.tg_live.specs.Stages.{Finished, Ends, over};
 
 use crate::live::Live;
@@ -52,9 +52,14 @@ pub fn run<S: Source, K: Sink, L: Link>(
     ensures cut_short { (result ≡ WriteFault) ⊎ (result ≡ OutOfMemory) → Told (S.left source.old) (K.written sink.old) (K.written sink.new) (IsCutShort (over (L.handed link.old) (L.handed link.new) (L.sent link.old) (L.sent link.new))) }
     ensures silent { (result ≡ ReadFault) ⊎ (result ≡ LinkFault) → K.written sink.new ≡ K.written sink.old }
     ensures ways { IsOfLive result }
-    // Without a fault a script is run whole, unless a limit stops it or memory runs out.
+    // Without a fault each text has its status, unless memory runs out. Whether a limit is passed depends on the answers
+    // that the link hands.
     ensures complete { (Rose (S.faults source.old) (S.faults source.new) → ⊥) → (Rose (K.faults sink.old) (K.faults sink.new) → ⊥) → (Rose (L.faults link.old) (L.faults link.new) → ⊥) →
-        IfSome (S.left source.old) (λ text. (s : Script) → IsLiveScript s → Tells text s → IsWholeOr result) }
+        IfSome (S.left source.old) (λ text. (s : Script) → IsLiveScript s → Tells text s → PassesNone (over (L.handed link.old) (L.handed link.new) (L.sent link.old) (L.sent link.new)) text → (result ≡ Done) ⊎ (result ≡ OutOfMemory)) }
+    ensures refuses { (Rose (S.faults source.old) (S.faults source.new) → ⊥) → (Rose (K.faults sink.old) (K.faults sink.new) → ⊥) → (Rose (L.faults link.old) (L.faults link.new) → ⊥) →
+        IfSome (S.left source.old) (λ text. (line : ℕ) (before : Script) → FirstOutside text line before → PassesNone (over (L.handed link.old) (L.handed link.new) (L.sent link.old) (L.sent link.new)) text → (result ≡ AtLine line) ⊎ (result ≡ OutOfMemory)) }
+    ensures limits { (Rose (S.faults source.old) (S.faults source.new) → ⊥) → (Rose (K.faults sink.old) (K.faults sink.new) → ⊥) → (Rose (L.faults link.old) (L.faults link.new) → ⊥) →
+        IfSome (S.left source.old) (λ text. IfSome (L.handed link.old) (λ handed. (which : Which) → PassesLimit (over (L.handed link.old) (L.handed link.new) (L.sent link.old) (L.sent link.new)) text which → (result ≡ Limit which) ⊎ (result ≡ OutOfMemory))) }
     // What is sure never to fail stays so.
     ensures source { StaysSure (S.sure source.old) (S.sure source.new) (S.faults source.old) (S.faults source.new) }
     ensures sink { StaysSure (K.sure sink.old) (K.sure sink.new) (K.faults sink.old) (K.faults sink.new) }

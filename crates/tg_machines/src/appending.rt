@@ -58,7 +58,8 @@ fn judges<K: Registry>(
 {
     let oids = hosted_by(&state, alloc)?;
     let state = owns(state, pos, page)?;
-    let job = Job { at: pos, ..job };
+    let mut job = job;
+    job.at = pos;
     state.syncs(alloc, job, oids)
 }
 
@@ -247,7 +248,8 @@ pub fn on_append<K: Registry>(
     ensures { (r : Rest (meaning_of K.Registry)) (w : told.Work (meaning_of K.Registry)) (old : ℕ) (t : AppendTurn) → Holds (meaning_of K.Registry) state job r w old → AppendShown old state.stand state.rids.next rids.next step t → IfOk result (λ x. KeepsMoved (meaning_of K.Registry) old x (steps.on_append (meaning_of K.Registry) (client_of (meaning_of K.Registry) state r) w (told_purpose (meaning_of K.Registry) purpose) t)) }
 {
     let AppendStep { next, gone, outs } = step;
-    let state = State { rids, ..state };
+    let mut state = state;
+    state.rids = rids;
     let job = meets(job, gone);
     match next {
         Next::Goes { machine } => {

@@ -32,7 +32,8 @@ fn changes_on<K: Registry>(
     ensures { (r : Rest (meaning_of K.Registry)) (w : told.Work (meaning_of K.Registry)) (old : ℕ) → Holds (meaning_of K.Registry) state job r w old → Changes old state.rids.next reconf outs → IfOk result (λ x. KeepsMoved (meaning_of K.Registry) old x (steps.goes_on (meaning_of K.Registry) (steps.stands (meaning_of K.Registry) (client_of (meaning_of K.Registry) state r) reconf.stand) w (told.Reconfiguring reconf) [])) }
 {
     let stand = reconf.stand().copy()?;
-    let state = State { stand, ..state };
+    let mut state = state;
+    state.stand = stand;
     Ok(goes_on(state, alloc, job, Task::Reconf { reconf }, outs))
 }
 
@@ -73,7 +74,8 @@ pub fn on_reconf<K: Registry>(
     ensures { (r : Rest (meaning_of K.Registry)) (w : told.Work (meaning_of K.Registry)) (old : ℕ) (t : ReconfTurn) → Holds (meaning_of K.Registry) state job r w old → ReconfShown old state.rids.next rids.next step t → IfOk result (λ x. KeepsMoved (meaning_of K.Registry) old x (steps.on_reconf (meaning_of K.Registry) (client_of (meaning_of K.Registry) state r) w t)) }
 {
     let Step { next, outs } = step;
-    let state = State { rids, ..state };
+    let mut state = state;
+    state.rids = rids;
     match next {
         Next::Goes { machine } => changes_on(state, alloc, job, machine, outs),
         Next::Learns { machine } => {

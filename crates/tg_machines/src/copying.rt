@@ -52,7 +52,8 @@ pub fn on_copy<K: Registry>(
     ensures { (r : Rest (meaning_of K.Registry)) (w : told.Work (meaning_of K.Registry)) (old : ℕ) (c : Copying) (t : CopyTurn) → Holds (meaning_of K.Registry) state job r w old → spare_of c ≡ spare → CopyShown old state.stand state.rids.next rids.next step t → IfOk result (λ x. KeepsMoved (meaning_of K.Registry) old x (steps.on_copy (meaning_of K.Registry) (client_of (meaning_of K.Registry) state r) w c t)) }
 {
     let CopyStep { next, gone, outs } = step;
-    let state = State { rids, ..state };
+    let mut state = state;
+    state.rids = rids;
     let job = meets(job, gone);
     match next {
         Next::Goes { machine } => Ok(goes_on(

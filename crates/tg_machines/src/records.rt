@@ -14,16 +14,20 @@ use tg_state::State;
 pub fn knows_page<K: Registry>(state: State<K>, pos: Pos, page: Blob) -> Result<State<K>, NoMemory>
     ensures { IfOk result (λ s. s ≡ record state { known = learnt state.known pos (Data page) }) }
 {
+    let mut state = state;
     let known = state.known.learn(pos, Cell::Data(page))?;
-    Ok(State { known, ..state })
+    state.known = known;
+    Ok(state)
 }
 
 /// Likewise, as one of the client's own records. An `Err` is want of memory.
 pub fn owns<K: Registry>(state: State<K>, pos: Pos, page: Blob) -> Result<State<K>, NoMemory>
     ensures { IfOk result (λ s. s ≡ record state { known = owned state.known pos page }) }
 {
+    let mut state = state;
     let known = state.known.own_record(pos, page)?;
-    Ok(State { known, ..state })
+    state.known = known;
+    Ok(state)
 }
 
 /// The number of the open transaction, and 0 where none is open. It takes no memory.

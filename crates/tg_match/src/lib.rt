@@ -8,6 +8,3 @@ mod book;
 mod copies;
 
 pub use book::Book;
-
-#[cfg(test)]
-mod tests;

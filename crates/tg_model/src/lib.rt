@@ -18,6 +18,3 @@ pub use kinds::{CommandOf, DoneOf, EventOf, MarkOf, NoteOf, WhatOf};
 pub use play::PlayEnd;
 pub use refusal::Refusal;
 pub use trace::{Mark, Note, What};
-
-#[cfg(test)]
-mod tests;

@@ -74,8 +74,10 @@ fn waits_for_layout<K: Registry>(
 {
     let Asked { waits, sends, rids } = asked;
     let hand = Hand::Learning { waits, paused };
+    let mut state = state;
+    state.rids = rids;
     Moved {
-        state: State { rids, ..state },
+        state,
         work: Some(Work { job, hand }),
         sends,
         notes: List::new(alloc),
@@ -112,6 +114,7 @@ pub fn stays<K: Registry>(state: State<K>, alloc: Global, work: Work<K>) -> Move
 pub fn meets<K: Registry>(job: Job<K>, gone: Pos) -> Job<K>
     ensures { result ≡ record job { gone = max job.gone gone } }
 {
-    let most = job.gone.max(gone);
-    Job { gone: most, ..job }
+    let mut job = job;
+    job.gone = job.gone.max(gone);
+    job
 }

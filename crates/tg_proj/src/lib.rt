@@ -11,6 +11,3 @@ pub use fault::ProjFault;
 pub use next::next_of;
 pub use place::{chain_of, range_of};
 pub use refusal::{change_fault, next_ok, spare_fault};
-
-#[cfg(test)]
-mod tests;

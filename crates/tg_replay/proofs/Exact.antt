@@ -27,10 +27,10 @@ same_line : (h : Header) → IsHeader h → (l m : Line) → IsLine h l → IsLi
 same_line h lawful l m is also e =
     same_value _ l m (line_only h lawful (line_text l) l (text_of_line h (line_text l) l is refl)) (line_only h lawful (line_text l) m (text_of_line h (line_text l) m also e))
 
-head_same : {A : Type 0} (x y : A) (xs ys : List A) → x ∷ xs ≡ y ∷ ys → (x ≡ y) × (xs ≡ ys)
+pub head_same : {A : Type 0} (x y : A) (xs ys : List A) → x ∷ xs ≡ y ∷ ys → (x ≡ y) × (xs ≡ ys)
 head_same x y xs ys e = (cc, cc)
 
-cons_same : {A : Type 0} (x y : A) (xs ys : List A) → x ≡ y → xs ≡ ys → x ∷ xs ≡ y ∷ ys
+pub cons_same : {A : Type 0} (x y : A) (xs ys : List A) → x ≡ y → xs ≡ ys → x ∷ xs ≡ y ∷ ys
 cons_same x y xs ys e f = cc
 
 same_events : (h : Header) → IsHeader h → (k : ℕ) (xs ys : List Line) → ((j : ℕ) (l : Line) → slice_get xs j ≡ Some l → IsLine h l) → ((j : ℕ) (l : Line) → slice_get ys j ≡ Some l → IsLine h l) →
@@ -45,22 +45,23 @@ same_events h lawful (suc k) (x ∷ xs) (y ∷ ys) f g e =
     (same_events h lawful k xs ys (λ j l i. f (suc j) l i) (λ j l i. g (suc j) l i) parts.1)
 
 -- scripts with the same first lines have the same header and first events
-same_front : (k : ℕ) (s t : Script) → IsScript s → IsScript t → take (suc (suc (suc k))) (text_lines s) ≡ take (suc (suc (suc k))) (text_lines t) → front k s ≡ front k t
-same_front k s t h g e =
+pub same_front : (k : ℕ) (s t : Script) → IsHeader s.header → IsHeader t.header → ((j : ℕ) (l : Line) → slice_get s.events j ≡ Some l → IsLine s.header l) → ((j : ℕ) (l : Line) → slice_get t.events j ≡ Some l → IsLine t.header l) →
+    take (suc (suc (suc k))) (text_lines s) ≡ take (suc (suc (suc k))) (text_lines t) → front k s ≡ front k t
+same_front k s t h g of_s of_t e =
     let first : header_lines s.header ≡ header_lines t.header = ap (λ (ls : List (List ℕ)). take 3 ls) e in
     let rest : take k (map line_text s.events) ≡ take k (map line_text t.events) = ap (λ (ls : List (List ℕ)). drop 3 ls) e in
-    let header : s.header ≡ t.header = same_header s.header t.header h.header g.header (header_lines s.header) refl first in
-    let each : (j : ℕ) (l : Line) → slice_get t.events j ≡ Some l → IsLine s.header l = λ j l i. subst (λ (x : Header). IsLine x l) (sym header) (g.each j l i) in
-    let events : take k s.events ≡ take k t.events = same_events s.header h.header k s.events t.events h.each each rest in
+    let header : s.header ≡ t.header = same_header s.header t.header h g (header_lines s.header) refl first in
+    let each : (j : ℕ) (l : Line) → slice_get t.events j ≡ Some l → IsLine s.header l = λ j l i. subst (λ (x : Header). IsLine x l) (sym header) (of_t j l i) in
+    let events : take k s.events ≡ take k t.events = same_events s.header h k s.events t.events of_s each rest in
     λ i. record { header = header i; events = events i }
 
-three_more : (k : ℕ) → 3 + k ≡ suc (suc (suc k))
+pub three_more : (k : ℕ) → 3 + k ≡ suc (suc (suc k))
 three_more k = omega arith
 
 agree : (text : List ℕ) (k : ℕ) (s t : Script) → IsScript s → IsScript t → Begins text (3 + k) s → Begins text (3 + k) t → front k s ≡ front k t
-agree text k s t h g a b = same_front k s t h g (subst (λ n. take n (text_lines s) ≡ take n (text_lines t)) (three_more k) (sym a ∙ b))
+agree text k s t h g a b = same_front k s t h.header g.header h.each g.each (subst (λ n. take n (text_lines s) ≡ take n (text_lines t)) (three_more k) (sym a ∙ b))
 
-begins_less : (text : List ℕ) (m n : ℕ) (s : Script) → m ≤ n → Begins text n s → Begins text m s
+pub begins_less : (text : List ℕ) (m n : ℕ) (s : Script) → m ≤ n → Begins text n s → Begins text m s
 begins_less text m n s le h = sym (take-take m n (lines text) le) ∙ ap (λ (ls : List (List ℕ)). take m ls) h ∙ take-take m n (text_lines s) le
 
 pub tells_begins : (text : List ℕ) (n : ℕ) (s : Script) → Tells text s → Begins text n s
@@ -88,7 +89,7 @@ no_limit o by e f = absurd cc
 over_within : (k : ℕ) (s : Script) (by : Which) (p : Script) → front k s ≡ p → (run_of p).stopped ≡ Some by → IsWithin s → ⊥
 over_within k s by p e over within = no_limit (run_of p).stopped by (front_within k s p e within) over
 
-le_or_lt : (m n : ℕ) → (m ≤ n) ⊎ (n < m)
+pub le_or_lt : (m n : ℕ) → (m ≤ n) ⊎ (n < m)
 le_or_lt zero n = inl (omega arith)
 le_or_lt (suc m) zero = inr (omega arith)
 le_or_lt (suc m) (suc n) = ⊎_elim (λ (h : m ≤ n). inl (omega arith)) (λ (h : n < m). inr (omega arith)) (le_or_lt m n)

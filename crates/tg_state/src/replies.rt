@@ -43,8 +43,9 @@ impl<K: Registry> State<K> {
         ensures { (r : Rest (meaning_of K.Registry)) (old : ℕ) → KeepsViewIf (meaning_of K.Registry) self.view r.view → IfOk result (λ x. KeepsMoved (meaning_of K.Registry) old x (told.replies (meaning_of K.Registry) (client_of (meaning_of K.Registry) self r) notes)) }
     {
         let upto = self.upto();
-        let known = self.known.give_up(alloc, upto)?;
-        let state = State { known, ..self };
+        let mut state = self;
+        let known = state.known.give_up(alloc, upto)?;
+        state.known = known;
         Ok(Moved {
             state,
             work: None,
@@ -82,7 +83,11 @@ impl<K: Registry> State<K> {
     {
         match self.played_directory()? {
             None => Ok(self),
-            Some(dir) => Ok(State { dir, ..self }),
+            Some(dir) => {
+                let mut state = self;
+                state.dir = dir;
+                Ok(state)
+            }
         }
     }
 
@@ -98,6 +103,8 @@ impl<K: Registry> State<K> {
     pub fn closed(self) -> State<K>
         ensures { result ≡ record self { tx = None } }
     {
-        State { tx: None, ..self }
+        let mut state = self;
+        state.tx = None;
+        state
     }
 }

@@ -29,7 +29,8 @@ impl<K: Registry> State<K> {
             rids,
         } = begun;
         let hand = Hand::Doing { task: machine };
-        let state = State { rids, ..self };
+        let mut state = self;
+        state.rids = rids;
         Moved {
             state,
             work: Some(Work { job, hand }),
@@ -92,8 +93,8 @@ impl<K: Registry> State<K> {
         ensures { (r : Rest (meaning_of K.Registry)) (w : rules.Work (meaning_of K.Registry)) (old : ℕ) → old ≤ self.rids.next → KeepsViewIf (meaning_of K.Registry) self.view r.view → KeepsJob (meaning_of K.Registry) job w → IfOk result (λ x. KeepsMoved (meaning_of K.Registry) old x (told.appends (meaning_of K.Registry) (told.with_decision (meaning_of K.Registry) (client_of (meaning_of K.Registry) self r)) w (told.decision (meaning_of K.Registry) (client_of (meaning_of K.Registry) self r) entry.now at yes) (told_purpose (meaning_of K.Registry) purpose) [])) }
     {
         let draft = self.decision(alloc, entry, at, yes)?;
-        let decisions = self.decisions + 1;
-        let state = State { decisions, ..self };
+        let mut state = self;
+        state.decisions += 1;
         state.appends(alloc, job, draft, purpose, List::new(alloc))
     }
 
@@ -128,12 +129,10 @@ impl<K: Registry> State<K> {
 fn over_streams<K: Registry>(alloc: Global, job: Job<K>, oids: List<Oid>) -> Job<K>
     ensures { result ≡ record job { oids = oids; gone_before = job.gone; trims = []; found = [] } }
 {
-    let gone_before = job.gone;
-    Job {
-        gone_before,
-        oids,
-        found: StreamPositions::new(alloc),
-        trims: List::new(alloc),
-        ..job
-    }
+    let mut job = job;
+    job.gone_before = job.gone;
+    job.oids = oids;
+    job.found = StreamPositions::new(alloc);
+    job.trims = List::new(alloc);
+    job
 }

@@ -5,6 +5,3 @@ mod link;
 mod ports;
 
 pub use link::UdpLink;
-
-#[cfg(test)]
-mod tests;

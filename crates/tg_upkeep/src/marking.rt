@@ -150,7 +150,8 @@ fn marks<K: Registry>(
         oid,
         mark,
     };
-    let state = State { begun, ..state };
+    let mut state = state;
+    state.begun = begun;
     state.appends(alloc, job, marking.draft, purpose, marking.notes)
 }
 

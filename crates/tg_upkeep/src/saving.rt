@@ -78,10 +78,8 @@ fn puts<K: Registry>(
         oid,
         upto: job.tail,
     };
-    let state = State {
-        checkpoints,
-        ..state
-    };
+    let mut state = state;
+    state.checkpoints = checkpoints;
     state.appends(alloc, job, draft, purpose, List::new(alloc))
 }
 

@@ -5,6 +5,3 @@ mod object;
 mod versions;
 
 pub use versions::Versions;
-
-#[cfg(test)]
-mod tests;

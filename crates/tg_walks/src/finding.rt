@@ -43,9 +43,11 @@ pub fn lend<K: Registry>(state: State<K>, alloc: Global, lo: Pos) -> (State<K>, 
     ensures state { result.0 ≡ record state { known = lent state.known lo } }
     ensures settled { IsSettled state.known.own (lent state.known lo).settled result.1 }
 {
+    let mut state = state;
     let mut known = state.known;
     let cells = known.lend(alloc, lo);
-    (State { known, ..state }, cells)
+    state.known = known;
+    (state, cells)
 }
 
 /// The cells come back from a walk, and the members that it has found are kept where the stream is hosted.
@@ -80,8 +82,10 @@ pub fn take_back<K: Registry>(
     ensures { IfOk result (λ s. s ≡ record state { known = came_back (has_oid oid state.hosted) state.known oid list.now cells }) }
 {
     let is_hosted = is_among(state.hosted.as_slice(), oid);
+    let mut state = state;
     let known = come_back(state.known, alloc, is_hosted, oid, list, cells)?;
-    Ok(State { known, ..state })
+    state.known = known;
+    Ok(state)
 }
 
 /// What a walk has found, and where it met a trim. An `Err` is want of memory.
@@ -94,13 +98,12 @@ pub fn finds<K: Registry>(
 ) -> Result<Job<K>, NoMemory>
     ensures { IfOk result (λ j. j ≡ found_in (meaning_of K.Registry) job oid list.now gone) }
 {
+    let mut job = job;
     let found = job.found.keep(alloc, oid, list)?;
     let trims = with_trim(job.trims, oid, gone)?;
-    Ok(Job {
-        found,
-        trims,
-        ..job
-    })
+    job.found = found;
+    job.trims = trims;
+    Ok(job)
 }
 
 /// Where a walk met a trim, if it did, after others.

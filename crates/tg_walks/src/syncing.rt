@@ -44,8 +44,10 @@ fn knows_settled<K: Registry>(
 ) -> Result<State<K>, NoMemory>
     ensures { IfOk result (λ s. s ≡ record state { known = knowing state.known settled }) }
 {
+    let mut state = state;
     let known = knows(state.known, settled)?;
-    Ok(State { known, ..state })
+    state.known = known;
+    Ok(state)
 }
 
 /// Whether a view has played a record's position and tells no fate of it.
@@ -107,12 +109,10 @@ fn synced<K: Registry>(
     let oids = copied(alloc, &job.oids)?;
     let lo = lo_for(&state, &job.command);
     let state = knows_settled(state, settled)?;
-    let job = Job {
-        tail,
-        lasts,
-        lo,
-        ..job
-    };
+    let mut job = job;
+    job.tail = tail;
+    job.lasts = lasts;
+    job.lo = lo;
     walks(state, alloc, job, oids)
 }
 
@@ -128,7 +128,8 @@ pub fn on_sync<K: Registry>(
     ensures { (r : Rest (meaning_of K.Registry)) (w : told.Work (meaning_of K.Registry)) (old : ℕ) (t : SyncTurn) → Holds (meaning_of K.Registry) state job r w old → SyncShown old state.stand state.rids.next rids.next step t → IfOk result (λ x. KeepsMoved (meaning_of K.Registry) old x (steps.on_sync (meaning_of K.Registry) (client_of (meaning_of K.Registry) state r) w t)) }
 {
     let SyncStep { next, gone, outs } = step;
-    let state = State { rids, ..state };
+    let mut state = state;
+    state.rids = rids;
     let job = meets(job, gone);
     match next {
         Next::Goes { machine } => Ok(goes_on(

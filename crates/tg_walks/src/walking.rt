@@ -88,7 +88,8 @@ pub fn walks<K: Registry>(
                 walk: machine,
                 rest,
             };
-            let state = State { rids, ..state };
+            let mut state = state;
+            state.rids = rids;
             Ok(goes_on(state, alloc, job, task, outs))
         }
         Next::Learns { .. } => unreachable!(),
@@ -109,20 +110,16 @@ fn starts_over<K: Registry>(
 ) -> Result<Moved<K>, NoMemory>
     ensures { (r : Rest (meaning_of K.Registry)) (w : told.Work (meaning_of K.Registry)) (old : ℕ) → Holds (meaning_of K.Registry) state job r w old → IfOk result (λ x. KeepsMoved (meaning_of K.Registry) old x (steps.starts_over (meaning_of K.Registry) (client_of (meaning_of K.Registry) state r) w rest (w.lo == 0))) }
 {
-    let state = State {
-        view: None,
-        ..state
-    };
+    let mut state = state;
+    state.view = None;
     if job.lo == 0 {
         return walks(state, alloc, job, rest);
     }
     let oids = copied(alloc, &job.oids)?;
-    let job = Job {
-        lo: 0,
-        found: StreamPositions::new(alloc),
-        trims: List::new(alloc),
-        ..job
-    };
+    let mut job = job;
+    job.lo = 0;
+    job.found = StreamPositions::new(alloc);
+    job.trims = List::new(alloc);
     walks(state, alloc, job, oids)
 }
 
@@ -199,7 +196,8 @@ pub fn on_walk<K: Registry>(
     ensures { (r : Rest (meaning_of K.Registry)) (w : told.Work (meaning_of K.Registry)) (old : ℕ) (t : WalkTurn) → Holds (meaning_of K.Registry) state job r w old → WalkShown old state.known state.rids.next rids.next step t → IfOk result (λ x. KeepsMoved (meaning_of K.Registry) old x (steps.on_walk (meaning_of K.Registry) (client_of (meaning_of K.Registry) state r) w oid rest t)) }
 {
     let WalkStep { next, gone, outs } = step;
-    let state = State { rids, ..state };
+    let mut state = state;
+    state.rids = rids;
     let job = meets(job, gone);
     match next {
         Next::Goes { machine } => {

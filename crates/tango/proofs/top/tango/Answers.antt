@@ -9,6 +9,7 @@ use Rattle.tg_load.specs.Loads.{load, summary, IsFront}
 use Rattle.tg_node.specs.Stages.{seen}
 use Rattle.tg_reader.specs.Lines.{lines}
 use Rattle.tg_node.specs.Texts.{Told, Followed, FirstOutside, Refused, PassesLimit, IsWithin as WithNoLimit, Limited, IsCutShort, IsText}
+use Rattle.tango.proofs.Lawful.{legal_told, illegal_told}
 use Rattle.tango.proofs.Loads.{moved}
 use Rattle.tango.proofs.Nodes.{moved as moved_node}
 use Rattle.tango.proofs.top.tango.Goals as goal
@@ -72,3 +73,11 @@ pub returns-in-Ok-Some-Node-clause-node_limits : goal.returns-in-Ok-Some-Node-cl
 returns-in-Ok-Some-Node-clause-node_limits g c = λ id named. moved_node (map string_bytes c.args.words.now) c.in-Ok-Some-Node.field-0 c.in-Ok-Some-Node.field-0-0 c.in-Ok-Some-Node.id id
     (λ n. (Rose (g.S.Source.faults c.args.source.now) (g.S.Source.faults c.node.new.source) → ⊥) → (Rose (g.K.Sink.faults c.args.sink.now) (g.K.Sink.faults c.node.new.sink) → ⊥) → (Rose (g.L.Link.faults c.args.link.now) (g.L.Link.faults c.node.new.link) → ⊥) → Told (g.S.Source.left c.args.source.now) (λ text. IfSome (g.L.Link.handed c.args.link.now) (λ handed. (which : Which) → PassesLimit text n which (g.L.Link.handed c.args.link.now) (g.L.Link.handed c.node.new.link) → (c.node.result ≡ Limit which) ⊎ (c.node.result ≡ NoMemory))))
     c.in-Ok-Some-Node.ensures c.in-Ok-Some-Node.field-0-is c.in-Ok-Some-Node.field-0-0-is named c.node.ensures.limits
+
+pub returns-in-Ok-Some-Audit-clause-lawful : goal.returns-in-Ok-Some-Audit-clause-lawful
+returns-in-Ok-Some-Audit-clause-lawful g c = λ named done.
+    legal_told c.verdicts_are_true.ensures (g.S.Source.left c.args.source.now) (g.K.Sink.written c.args.sink.now) (g.K.Sink.written c.judge.new.sink) (c.judge.ensures.done done)
+
+pub returns-in-Ok-Some-Audit-clause-unlawful : goal.returns-in-Ok-Some-Audit-clause-unlawful
+returns-in-Ok-Some-Audit-clause-unlawful g c = λ named line clause is.
+    illegal_told c.verdicts_are_true.ensures (g.S.Source.left c.args.source.now) (g.K.Sink.written c.args.sink.now) (g.K.Sink.written c.judge.new.sink) line clause (c.judge.ensures.illegal line clause is)

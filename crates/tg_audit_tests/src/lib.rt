@@ -1,5 +1,0 @@
-//! Tests of audits, apart from their crate, since a check of tests proves it once more.
-#![tactic(auto)]
-
-#[cfg(test)]
-mod tests;

@@ -1,5 +1,0 @@
-//! Tests of tg_ckpt, apart from it, since a check of tests proves the crate once more.
-#![tactic(auto)]
-
-#[cfg(test)]
-mod tests;

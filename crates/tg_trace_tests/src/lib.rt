@@ -1,5 +1,0 @@
-//! Tests of transcripts. They stand apart, since a check of tests proves their whole crate once more.
-#![tactic(auto)]
-
-#[cfg(test)]
-mod tests;
