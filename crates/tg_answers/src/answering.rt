@@ -24,8 +24,8 @@ fn asked<K: Registry>(
 ) -> Result<Moved<K>, NoMemory>
     ensures { (es : views.Entries) → Moves (meaning_of K.Registry) state job result (λ c w v. told.answer_by (meaning_of K.Registry) c w es (record { view = v; came = came }) w.command) }
 {
-    let Job { command, tail, .. } = job;
-    match command {
+    let tail = job.tail;
+    match job.into_command() {
         Command::Ask { oid, ask } => on_ask(state, alloc, tail, oid, ask, came),
         _ => Err(NoMemory),
     }

@@ -38,10 +38,15 @@ pub type AppendStep = Step<Append, PausedAppend, AppendEnd>;
 
 /// Asks the sequencer for a token, and puts the entry's page to the token's position in the same epoch. A page
 /// is never put in a later epoch: there the position is settled first, or the token is dead.
-#[derive(Drop)]
 pub struct Append {
     draft: Draft,
     state: AppendState,
+}
+
+impl Drop for Append {
+    fn drop(self) {
+        let Append { draft: _, state: _ } = self;
+    }
 }
 
 impl Model for Append {
@@ -56,10 +61,15 @@ impl Model for Append {
 }
 
 /// What goes on of an append in a newer layout: the entry, and the token that it has.
-#[derive(Drop)]
 pub struct PausedAppend {
     draft: Draft,
     token: Option<Token>,
+}
+
+impl Drop for PausedAppend {
+    fn drop(self) {
+        let PausedAppend { draft: _, token: _ } = self;
+    }
 }
 
 impl Model for PausedAppend {

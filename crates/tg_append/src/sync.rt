@@ -36,10 +36,15 @@ pub type SyncStep = Step<Sync, List<Oid>, Confirmed>;
 /// Asks the sequencer for the tail and the last positions of each object's stream. Past the epoch's start the
 /// last position below the tail is then settled. Else its chain is probed, and so it is where that position
 /// is gone.
-#[derive(Drop)]
 pub struct Sync {
     oids: List<Oid>,
     state: SyncState,
+}
+
+impl Drop for Sync {
+    fn drop(self) {
+        let Sync { oids: _, state: _ } = self;
+    }
 }
 
 impl Model for Sync {
@@ -129,7 +134,8 @@ impl Sync {
     pub fn pause(self) -> List<Oid>
         ensures { result ≡ oids_of self }
     {
-        self.oids
+        let Sync { oids, state: _ } = self;
+        oids
     }
 }
 

@@ -17,10 +17,15 @@ use std::marker::Model;
 use tg_base::{Cell, Chain, Epoch, List, Msg, NoMemory, NodeId, Out, Pos, Rids, Turn};
 
 /// Fills a position at the head of its chain, and carries what the head holds down to each next unit.
-#[derive(Drop)]
 pub struct FillCell {
     place: CellPlace,
     state: FillState,
+}
+
+impl Drop for FillCell {
+    fn drop(self) {
+        let FillCell { place: _, state: _ } = self;
+    }
 }
 
 impl Model for FillCell {

@@ -17,9 +17,14 @@ use std::marker::Model;
 use tg_base::{Chain, Epoch, List, Msg, NoMemory, NodeId, Out, Pos, Rids, Turn};
 
 /// Reads a position at the last unit of its chain. Where that has no cell, the position is filled.
-#[derive(Drop)]
 pub struct GetCell {
     state: GetState,
+}
+
+impl Drop for GetCell {
+    fn drop(self) {
+        let GetCell { state: _ } = self;
+    }
 }
 
 impl Model for GetCell {
@@ -74,7 +79,8 @@ impl GetCell {
         ensures err { OnErr result (rids.new ≡ rids.old) }
         ensures drawn { rids.new.next ≤ rids.old.next + 1 }
     {
-        match self.state {
+        let GetCell { state } = self;
+        match state {
             GetState::Fills { fill } => {
                 let turn = fill.feed(alloc, from, rid, msg, rids)?;
                 Ok(as_get(turn))

@@ -15,10 +15,15 @@ use std::marker::Model;
 use tg_base::{List, Msg, NoMemory, NodeId, Out, Projection, Rids, Role, Stand, Turn};
 
 /// Asks all layout servers for the latest layout, until one of them tells a newer one.
-#[derive(Drop)]
 pub struct Learn {
     stand: Stand,
     waits: List<(u16, u64)>,
+}
+
+impl Drop for Learn {
+    fn drop(self) {
+        let Learn { stand: _, waits: _ } = self;
+    }
 }
 
 impl Model for Learn {

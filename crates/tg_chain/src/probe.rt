@@ -18,10 +18,15 @@ use tg_base::{Chain, Epoch, List, Msg, NoMemory, NodeId, Out, Pos, Rids, Role, T
 
 /// Asks all units of a chain at once whether they hold no positions at all, which each answers in the
 /// epoch alone.
-#[derive(Drop)]
 pub struct Probe {
     place: CellPlace,
     waits: List<(u16, u64)>,
+}
+
+impl Drop for Probe {
+    fn drop(self) {
+        let Probe { place: _, waits: _ } = self;
+    }
 }
 
 impl Model for Probe {
@@ -160,10 +165,8 @@ impl Probe {
             let outs = List::new(alloc);
             return Ok(Turn::End { end, outs });
         }
-        let machine = Probe {
-            place: self.place,
-            waits: kept,
-        };
+        let Probe { place, waits: _ } = self;
+        let machine = Probe { place, waits: kept };
         Ok(Turn::More {
             machine,
             outs: List::new(alloc),

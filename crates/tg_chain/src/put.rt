@@ -15,12 +15,22 @@ use std::marker::Model;
 use tg_base::{Blob, Cell, Chain, Epoch, List, Msg, NoMemory, NodeId, Out, Pos, Rids, Turn};
 
 /// Writes a page to each unit of a chain in turn, from the head on.
-#[derive(Drop)]
 pub struct PutCell {
     place: CellPlace,
     rid: u64,
     page: Blob,
     at: usize,
+}
+
+impl Drop for PutCell {
+    fn drop(self) {
+        let PutCell {
+            place: _,
+            rid: _,
+            page: _,
+            at: _,
+        } = self;
+    }
 }
 
 impl Model for PutCell {
@@ -164,9 +174,15 @@ impl PutCell {
         ensures err { OnErr result (rids.new ≡ rids.old) }
         ensures drawn { rids.new.next ≤ rids.old.next + 1 }
     {
-        let at = self.at + 1;
-        if at < self.place.len() {
-            return PutCell::ask(alloc, self.place, self.page, at, rids);
+        let PutCell {
+            place,
+            rid: _,
+            page,
+            at,
+        } = self;
+        let at = at + 1;
+        if at < place.len() {
+            return PutCell::ask(alloc, place, page, at, rids);
         }
         Ok(Turn::End {
             end: PutCellEnd::Done,

@@ -32,11 +32,16 @@ fn directory_alone(alloc: Global) -> Result<List<Oid>, NoMemory>
 /// A client.
 ///
 /// Each clause speaks of any client of the rules that this one keeps.
-#[derive(Drop)]
 pub struct Client<K: Registry> {
     pub state: State<K>,
     /// The command that waits for its reply, if one does.
     pub work: Option<Work<K>>,
+}
+
+impl<K: Registry> Drop for Client<K> {
+    fn drop(self) {
+        let Client { state: _, work: _ } = self;
+    }
 }
 
 /// A client after a step, with what it sends and what it answers.

@@ -30,10 +30,15 @@ pub type CopyStep = Step<CopyRange, Join, CopyEnd>;
 /// Seals the spare at the layout's epoch, and brings it the cells of the stripe, rising. What a unit of the stripe
 /// has trimmed is trimmed in the spare too. At the end the spare is asked whether it has each position, and the
 /// first that it lacks is brought again.
-#[derive(Drop)]
 pub struct CopyRange {
     join: Join,
     state: CopyState,
+}
+
+impl Drop for CopyRange {
+    fn drop(self) {
+        let CopyRange { join: _, state: _ } = self;
+    }
 }
 
 impl Model for CopyRange {

@@ -15,9 +15,14 @@ use std::marker::Model;
 use tg_base::{NoMemory, Oid, Pos};
 
 /// Positions of members by stream: streams rise by object, and so do the positions of each.
-#[derive(Drop)]
 pub struct StreamPositions {
     streams: BTreeMap<Oid, Positions>,
+}
+
+impl Drop for StreamPositions {
+    fn drop(self) {
+        let StreamPositions { streams: _ } = self;
+    }
 }
 
 impl Model for StreamPositions {

@@ -23,12 +23,22 @@ use tg_stream::Cells;
 ///
 /// Own records, junk and kept positions are never given up. What a command does goes by what is known from the settled
 /// position on, so a history costs it nothing.
-#[derive(Drop)]
 pub struct Known {
     cells: BTreeMap<u64, Cell>,
     own: Positions,
     kept: StreamPositions,
     settled: Pos,
+}
+
+impl Drop for Known {
+    fn drop(self) {
+        let Known {
+            cells: _,
+            own: _,
+            kept: _,
+            settled: _,
+        } = self;
+    }
 }
 
 impl Model for Known {

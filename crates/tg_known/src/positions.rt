@@ -10,9 +10,14 @@ use std::marker::Model;
 use tg_base::{NoMemory, Pos};
 
 /// Positions, each once and rising.
-#[derive(Drop)]
 pub struct Positions {
     set: BTreeSet<u64>,
+}
+
+impl Drop for Positions {
+    fn drop(self) {
+        let Positions { set: _ } = self;
+    }
 }
 
 impl Model for Positions {

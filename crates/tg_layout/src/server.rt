@@ -10,10 +10,18 @@ use std::marker::Model;
 use tg_base::{Ballot, Epoch, Msg, NoMemory, Projection};
 
 /// A layout server.
-#[derive(Drop)]
 pub struct Layout {
     latest: Projection,
     votes: BTreeMap<Epoch, Vote>,
+}
+
+impl Drop for Layout {
+    fn drop(self) {
+        let Layout {
+            latest: _,
+            votes: _,
+        } = self;
+    }
 }
 
 impl Model for Layout {
@@ -113,9 +121,10 @@ impl Layout {
         if latest.epoch >= proj.epoch {
             return self.tell();
         }
+        let Layout { latest: _, votes } = self;
         let newer = Layout {
             latest: proj,
-            votes: self.votes,
+            votes,
         };
         newer.tell()
     }

@@ -26,7 +26,6 @@ use tg_script::{Line, print_line};
 use tg_world::{Ran, World, drain, happens, settle, updates};
 
 /// All nodes of a script, whose packets go over a link.
-#[derive(Drop)]
 pub struct Live {
     pub cluster: Cluster,
     pub world: World<AnyKind>,
@@ -36,6 +35,18 @@ pub struct Live {
     pub recording: List<u8>,
     /// How many datagrams the link has handed over.
     pub received: u32,
+}
+
+impl Drop for Live {
+    fn drop(self) {
+        let Live {
+            cluster: _,
+            world: _,
+            book: _,
+            recording: _,
+            received: _,
+        } = self;
+    }
 }
 
 /// A live run after several steps, and the limit that stopped them, if one did.

@@ -15,10 +15,18 @@ use tg_base::{NoMemory, NodeId};
 ///
 /// Each clause speaks of the datagrams whose book it is: `sent` has them by packet number, each with its node, and
 /// `delivered` the numbers that were delivered, the last one first.
-#[derive(Drop)]
 pub struct Book {
     copies: BTreeMap<Vec<u8>, Copies>,
     count: u64,
+}
+
+impl Drop for Book {
+    fn drop(self) {
+        let Book {
+            copies: _,
+            count: _,
+        } = self;
+    }
 }
 
 impl Book {

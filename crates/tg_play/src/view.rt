@@ -35,9 +35,14 @@ use tg_model::PlayEnd;
 ///
 /// Its versions are such as a checkpoint tells: no part of an object is later than the object, and no object is later
 /// than the view or its base.
-#[derive(Drop)]
 pub struct View<K> {
     played: Played<K>,
+}
+
+impl<K: Drop> Drop for View<K> {
+    fn drop(self) {
+        let View { played: _ } = self;
+    }
 }
 
 impl<K> Model for View<K> {

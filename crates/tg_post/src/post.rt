@@ -11,13 +11,23 @@ use tg_base::{Msg, NoMemory, NodeId, Out, Packet};
 
 /// All packets that were ever sent, numbered from 0 in the order in which they were sent; which of them wait, and
 /// which were delivered.
-#[derive(Drop)]
 pub struct Post {
     packets: Vec<Packet>,
     waiting: BTreeSet<u64>,
     // The last one stands last.
     delivered: Vec<u64>,
     bytes: u64,
+}
+
+impl Drop for Post {
+    fn drop(self) {
+        let Post {
+            packets: _,
+            waiting: _,
+            delivered: _,
+            bytes: _,
+        } = self;
+    }
 }
 
 impl Model for Post {

@@ -12,10 +12,15 @@ use tg_base::{List, NoMemory, Out, Projection, Rids};
 
 /// Changes the layout of a cluster: seals the units, agrees on the next layout, tells it, and starts its
 /// sequencer.
-#[derive(Drop)]
 pub struct Reconf {
     plan: Plan,
     work: Work,
+}
+
+impl Drop for Reconf {
+    fn drop(self) {
+        let Reconf { plan: _, work: _ } = self;
+    }
 }
 
 impl Model for Reconf {

@@ -10,10 +10,15 @@ use std::marker::Model;
 use tg_base::{List, Msg, NoMemory, NodeId, Out, Projection};
 
 /// A sequencer, and how many steps it has taken. Before it issues positions of a newer layout, it scans the log.
-#[derive(Drop)]
 pub struct Seqr {
     state: State,
     calls: u32,
+}
+
+impl Drop for Seqr {
+    fn drop(self) {
+        let Seqr { state: _, calls: _ } = self;
+    }
 }
 
 impl Model for Seqr {
@@ -65,8 +70,9 @@ impl Seqr {
         ensures calls { IfOk result (λ r. r.0.calls ≡ self.calls + 1) }
         ensures free { takes_memory self.state from rid msg.now ≡ false → IsOk result }
     {
-        let calls = self.calls + 1;
-        let (state, outs) = self.state.step(alloc, from, rid, msg)?;
+        let Seqr { state, calls } = self;
+        let calls = calls + 1;
+        let (state, outs) = state.step(alloc, from, rid, msg)?;
         Ok((Seqr { state, calls }, outs))
     }
 
@@ -80,8 +86,9 @@ impl Seqr {
         ensures calls { IfOk result (λ r. r.0.calls ≡ self.calls + 1) }
         ensures free { self.state.scan ≡ None → IsOk result }
     {
-        let calls = self.calls + 1;
-        let (state, outs) = self.state.tick(alloc)?;
+        let Seqr { state, calls } = self;
+        let calls = calls + 1;
+        let (state, outs) = state.tick(alloc)?;
         Ok((Seqr { state, calls }, outs))
     }
 }

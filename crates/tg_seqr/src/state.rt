@@ -21,7 +21,6 @@ use tg_chain::{GetCell, GetCellEnd};
 use tg_proj::chain_of;
 
 /// What a sequencer knows. While `next` is below the layout's start it scans the log, a position after the other.
-#[derive(Drop)]
 pub struct State {
     num: u16,
     limit: u64,
@@ -32,6 +31,22 @@ pub struct State {
     streams: Streams,
     fence: Option<Epoch>,
     scan: Option<GetCell>,
+}
+
+impl Drop for State {
+    fn drop(self) {
+        let State {
+            num: _,
+            limit: _,
+            rids: _,
+            epoch: _,
+            proj: _,
+            next: _,
+            streams: _,
+            fence: _,
+            scan: _,
+        } = self;
+    }
 }
 
 impl Model for State {

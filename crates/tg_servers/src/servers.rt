@@ -31,7 +31,6 @@ const MOST_BYTES: u64 = 268_435_456;
 /// All servers of a world, with all packets, the archive, and which nodes have stopped.
 ///
 /// A method that moves a server gives the servers up where memory runs out.
-#[derive(Drop)]
 pub struct Servers {
     cluster: Cluster,
     first: Projection,
@@ -42,6 +41,22 @@ pub struct Servers {
     post: Post,
     archive: BTreeMap<Pos, Cell>,
     steps: u32,
+}
+
+impl Drop for Servers {
+    fn drop(self) {
+        let Servers {
+            cluster: _,
+            first: _,
+            units: _,
+            layouts: _,
+            seqrs: _,
+            stopped: _,
+            post: _,
+            archive: _,
+            steps: _,
+        } = self;
+    }
 }
 
 impl Model for Servers {

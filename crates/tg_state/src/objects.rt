@@ -7,9 +7,14 @@ use std::marker::Model;
 use tg_base::{Cluster, List, NoMemory, Oid};
 
 /// The objects that a header registers: at most 256, each once, and without the directory.
-#[derive(Drop)]
 pub struct HeaderObjects {
     list: List<Oid>,
+}
+
+impl Drop for HeaderObjects {
+    fn drop(self) {
+        let HeaderObjects { list: _ } = self;
+    }
 }
 
 impl Model for HeaderObjects {

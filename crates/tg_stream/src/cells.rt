@@ -9,9 +9,14 @@ use std::marker::Model;
 use tg_base::{Cell, NoMemory, Pos};
 
 /// Known cells by position. A cell that is final stays so, and isn't read again.
-#[derive(Drop)]
 pub struct Cells {
     map: BTreeMap<u64, Cell>,
+}
+
+impl Drop for Cells {
+    fn drop(self) {
+        let Cells { map: _ } = self;
+    }
 }
 
 impl Model for Cells {
@@ -44,7 +49,8 @@ impl Cells {
     pub fn into_map(self) -> BTreeMap<u64, Cell>
         ensures { result.entries ≡ self }
     {
-        self.map
+        let Cells { map } = self;
+        map
     }
 
     /// The cell at a position: None exactly where none is known. It takes no memory.
@@ -58,7 +64,7 @@ impl Cells {
     pub fn put(self, pos: Pos, cell: Cell) -> Result<Cells, NoMemory>
         ensures { IfOk result (λ c. c ≡ with_cell self pos cell) }
     {
-        let mut map = self.map;
+        let Cells { mut map } = self;
         map.insert(pos, cell)?;
         Ok(Cells { map })
     }
@@ -67,7 +73,7 @@ impl Cells {
     pub fn forget_below(self, pos: Pos) -> Cells
         ensures { result ≡ cells_from pos self }
     {
-        let mut map = self.map;
+        let Cells { mut map } = self;
         drop_below(&mut map, pos);
         Cells { map }
     }

@@ -17,7 +17,6 @@ use std::marker::Model;
 use tg_base::{Backs, Cell, List, NoMemory, Oid, Pos, Projection, Rids};
 
 /// What goes on of a walk in a newer layout: the known cells, where it goes on, and the members found so far.
-#[derive(Drop)]
 pub struct PausedWalk {
     oid: Oid,
     lo: Pos,
@@ -25,6 +24,18 @@ pub struct PausedWalk {
     trail: Trail,
     // as they are found, falling
     members: Vec<Pos>,
+}
+
+impl Drop for PausedWalk {
+    fn drop(self) {
+        let PausedWalk {
+            oid: _,
+            lo: _,
+            cells: _,
+            trail: _,
+            members: _,
+        } = self;
+    }
 }
 
 impl Model for PausedWalk {
@@ -131,9 +142,11 @@ impl PausedWalk {
         ensures { members_of result ≡ walked (walk_of self None) gone }
     {
         let PausedWalk {
+            oid: _,
+            lo: _,
             cells,
+            trail: _,
             mut members,
-            ..
         } = self;
         members.reverse();
         let list = List::from_vec(members);

@@ -28,11 +28,20 @@ pub type WalkStep = Step<Walk, PausedWalk, Members>;
 /// Finds the members of a stream: from its last positions down by the pointers of the entries that it meets.
 /// Positions whose cells are known cost no message. Where four pointers lead to no entry of the stream, it goes
 /// down position by position until one does.
-#[derive(Drop)]
 pub struct Walk {
     course: PausedWalk,
     pos: Pos,
     get: GetCell,
+}
+
+impl Drop for Walk {
+    fn drop(self) {
+        let Walk {
+            course: _,
+            pos: _,
+            get: _,
+        } = self;
+    }
 }
 
 impl Model for Walk {
@@ -108,7 +117,12 @@ impl Walk {
     pub fn pause(self) -> PausedWalk
         ensures { result ≡ course_of self }
     {
-        self.course
+        let Walk {
+            course,
+            pos: _,
+            get: _,
+        } = self;
+        course
     }
 }
 

@@ -1,5 +1,7 @@
 //! A command that waits for its reply.
 
+ghost use Rattle.std.specs.Prelude.{◌≡◌};
+
 use crate::hand::Hand;
 use tg_base::{List, Oid, Pos, StreamLink};
 use tg_kind::Registry;
@@ -7,7 +9,6 @@ use tg_known::StreamPositions;
 use tg_model::CommandOf;
 
 /// A command that waits for its reply, and how far it has come, but for what it has in hand.
-#[derive(Drop)]
 pub struct Job<K: Registry> {
     pub command: CommandOf<K>,
     /// The greatest position below which a unit has said, while this command waits, that all is trimmed.
@@ -28,6 +29,44 @@ pub struct Job<K: Registry> {
     pub trims: List<(Oid, Pos)>,
     /// The position of the record that `end` appended, and 0 before.
     pub at: Pos,
+}
+
+impl<K: Registry> Drop for Job<K> {
+    fn drop(self) {
+        let Job {
+            command: _,
+            gone: _,
+            gone_before: _,
+            tail: _,
+            lasts: _,
+            oids: _,
+            lo: _,
+            found: _,
+            trims: _,
+            at: _,
+        } = self;
+    }
+}
+
+impl<K: Registry> Job<K> {
+    /// Its command.
+    pub fn into_command(self) -> CommandOf<K>
+        ensures { result ≡ self.command }
+    {
+        let Job {
+            command,
+            gone: _,
+            gone_before: _,
+            tail: _,
+            lasts: _,
+            oids: _,
+            lo: _,
+            found: _,
+            trims: _,
+            at: _,
+        } = self;
+        command
+    }
 }
 
 /// A command that waits for its reply.

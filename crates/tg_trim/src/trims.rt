@@ -22,11 +22,16 @@ use tg_base::{Epoch, List, Msg, NoMemory, NodeId, Out, Pos, Projection, Rids, Ro
 pub type TrimStep = Step<Trims, Pos, TrimEnd>;
 
 /// Asks every unit that stands in a chain of the layout to trim all below a position, and waits for each.
-#[derive(Drop)]
 pub struct Trims {
     below: Pos,
     /// The units that haven't answered, each with the number of its request.
     waits: List<(u16, u64)>,
+}
+
+impl Drop for Trims {
+    fn drop(self) {
+        let Trims { below: _, waits: _ } = self;
+    }
 }
 
 impl Model for Trims {

@@ -34,11 +34,8 @@ fn syncs_again<K: Registry>(
 ) -> Result<Moved<K>, NoMemory>
     ensures { (r : Rest (meaning_of K.Registry)) (w : told.Work (meaning_of K.Registry)) (old : ℕ) (t : told.Task (meaning_of K.Registry)) → Holds (meaning_of K.Registry) state job r w old → GoesOn (meaning_of K.Registry) (given.Sync oids) t → IfOk result (λ x. KeepsMoved (meaning_of K.Registry) old x (steps.task_again (meaning_of K.Registry) (client_of (meaning_of K.Registry) state r) w t)) }
 {
-    let gone = job.gone;
-    let job = Job {
-        gone_before: gone,
-        ..job
-    };
+    let mut job = job;
+    job.gone_before = job.gone;
     let mut rids = drawing(state.rids)?;
     let step = Sync::start(alloc, &state.stand, oids, &mut rids)?;
     on_sync(state, alloc, job, rids, step)

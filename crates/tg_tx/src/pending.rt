@@ -19,12 +19,22 @@ use tg_base::{Blob, List, NoMemory, Oid, Pos, ReadMark};
 use tg_entry::{Body, Draft, Entry, Head, WriteOp};
 
 /// What an open transaction has read, and what it will write.
-#[derive(Drop)]
 pub struct Pending {
     number: u32,
     reads: List<ReadMark>,
     writes: List<WriteOp>,
     snapshot: Option<Pos>,
+}
+
+impl Drop for Pending {
+    fn drop(self) {
+        let Pending {
+            number: _,
+            reads: _,
+            writes: _,
+            snapshot: _,
+        } = self;
+    }
 }
 
 impl Model for Pending {

@@ -15,10 +15,18 @@ use tg_entry::Draft;
 use tg_kind::Kind;
 
 /// An open transaction: what it has read, with versions, and what it will write.
-#[derive(Drop)]
 pub struct Tx<K: Kind> {
     pending: Pending,
     kind: PhantomData<K>,
+}
+
+impl<K: Kind> Drop for Tx<K> {
+    fn drop(self) {
+        let Tx {
+            pending: _,
+            kind: _,
+        } = self;
+    }
 }
 
 impl<K: Kind> Model for Tx<K> {

@@ -15,12 +15,22 @@ use std::marker::Model;
 use tg_base::{Cell, Epoch, List, Msg, NoMemory, Pos};
 
 /// A storage unit (Balakrishnan and others, "CORFU: a shared log design for flash clusters", 2012).
-#[derive(Drop)]
 pub struct Unit {
     epoch: Epoch,
     low: Pos,
     high: Pos,
     cells: Cells,
+}
+
+impl Drop for Unit {
+    fn drop(self) {
+        let Unit {
+            epoch: _,
+            low: _,
+            high: _,
+            cells: _,
+        } = self;
+    }
 }
 
 impl Model for Unit {

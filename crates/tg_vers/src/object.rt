@@ -14,11 +14,20 @@ use std::marker::Model;
 use tg_base::{List, NoMemory, Part};
 
 /// The version of an object's whole, and those of the parts that were changed after it.
-#[derive(Drop)]
 pub struct Object {
     version: u64,
     whole: u64,
     keys: BTreeMap<Part, u64>,
+}
+
+impl Drop for Object {
+    fn drop(self) {
+        let Object {
+            version: _,
+            whole: _,
+            keys: _,
+        } = self;
+    }
 }
 
 impl Model for Object {
@@ -104,7 +113,11 @@ impl Object {
     fn note_whole(self, version: u64) -> Object
         ensures { result ≡ record { version = version; whole = version; keys = [] } }
     {
-        let mut keys = self.keys;
+        let Object {
+            version: _,
+            whole: _,
+            mut keys,
+        } = self;
         keys.clear();
         Object {
             version,

@@ -19,9 +19,14 @@ use tg_base::{List, NoMemory, Oid, Part, Pos, ReadMark};
 ///
 /// Each clause speaks of any history of changes that these versions keep: a note takes a step of
 /// the history, and the answers are those of the history.
-#[derive(Drop)]
 pub struct Versions {
     objects: BTreeMap<Oid, Object>,
+}
+
+impl Drop for Versions {
+    fn drop(self) {
+        let Versions { objects: _ } = self;
+    }
 }
 
 impl Model for Versions {

@@ -7,9 +7,10 @@ ghost use Rattle.tg_known.specs.Known.{IsSettled, lent};
 ghost use Rattle.tg_walks.specs.Finding.{trims_after, found_in, came_back, first_and_others};
 
 use std::alloc::Global;
+use std::mem;
 use tg_base::{List, NoMemory, Oid, Pos};
 use tg_kind::Registry;
-use tg_known::Known;
+use tg_known::{Known, StreamPositions};
 use tg_state::State;
 use tg_stream::Cells;
 use tg_task::Job;
@@ -99,10 +100,10 @@ pub fn finds<K: Registry>(
     ensures { IfOk result (λ j. j ≡ found_in (meaning_of K.Registry) job oid list.now gone) }
 {
     let mut job = job;
-    let found = job.found.keep(alloc, oid, list)?;
-    let trims = with_trim(job.trims, oid, gone)?;
-    job.found = found;
-    job.trims = trims;
+    let found = mem::replace(&mut job.found, StreamPositions::new(alloc));
+    job.found = found.keep(alloc, oid, list)?;
+    let trims = mem::replace(&mut job.trims, List::new(alloc));
+    job.trims = with_trim(trims, oid, gone)?;
     Ok(job)
 }
 

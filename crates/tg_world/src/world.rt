@@ -32,7 +32,6 @@ const MAX_STEPS: u32 = 200_000;
 ///
 /// Each clause speaks of any world of the definitions that this one keeps: a step takes it to the definitions' step,
 /// and the answers are those of the definitions.
-#[derive(Drop)]
 pub struct World<K: Registry> {
     servers: Servers,
     clients: Vec<Client<K>>,
@@ -40,6 +39,19 @@ pub struct World<K: Registry> {
     told_noted: Vec<Noted>,
     noted: Vec<Noted>,
     event: u64,
+}
+
+impl<K: Registry> Drop for World<K> {
+    fn drop(self) {
+        let World {
+            servers: _,
+            clients: _,
+            told: _,
+            told_noted: _,
+            noted: _,
+            event: _,
+        } = self;
+    }
 }
 
 impl<K: Registry> Model for World<K> {
@@ -516,10 +528,24 @@ impl<K: Registry> World<K> {
         ensures now { IfOk result (λ r. r ≡ record self { servers = counted (stops self.servers node) }) }
         ensures steps { IfOk result (λ r. r.servers.steps ≡ self.servers.steps + 1) }
     {
-        let mut world = self;
-        world.servers.stop(node)?;
-        world.servers.count_step();
-        Ok(world)
+        let World {
+            mut servers,
+            clients,
+            told,
+            told_noted,
+            noted,
+            event,
+        } = self;
+        servers.stop(node)?;
+        servers.count_step();
+        Ok(World {
+            servers,
+            clients,
+            told,
+            told_noted,
+            noted,
+            event,
+        })
     }
 }
 
