@@ -43,6 +43,7 @@ pub struct Append {
     state: AppendState,
 }
 
+// By hand, since a derived drop is proved anew wherever a value is dropped.
 impl Drop for Append {
     fn drop(self) {
         let Append { draft: _, state: _ } = self;
@@ -66,6 +67,7 @@ pub struct PausedAppend {
     token: Option<Token>,
 }
 
+// By hand, since a derived drop is proved anew wherever a value is dropped.
 impl Drop for PausedAppend {
     fn drop(self) {
         let PausedAppend { draft: _, token: _ } = self;

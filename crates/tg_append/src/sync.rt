@@ -41,6 +41,7 @@ pub struct Sync {
     state: SyncState,
 }
 
+// By hand, since a derived drop is proved anew wherever a value is dropped.
 impl Drop for Sync {
     fn drop(self) {
         let Sync { oids: _, state: _ } = self;

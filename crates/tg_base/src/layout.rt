@@ -28,7 +28,7 @@ impl Range {
 }
 
 /// The layout of an epoch. A range reaches up to the next one's `lo`, and the last is open.
-#[derive(Clone, Debug, PartialEq, Drop)]
+#[derive(Clone, Debug, PartialEq)]
 pub struct Projection {
     pub epoch: Epoch,
     /// The sequencer.
@@ -40,6 +40,20 @@ pub struct Projection {
     /// The units dropped so far, rising.
     pub gone: List<u16>,
     pub ranges: List<Range>,
+}
+
+// By hand, since a derived drop is proved anew wherever a value is dropped.
+impl Drop for Projection {
+    fn drop(self) {
+        let Projection {
+            epoch: _,
+            seq: _,
+            start: _,
+            by: _,
+            gone: _,
+            ranges: _,
+        } = self;
+    }
 }
 
 impl Model for Projection {

@@ -11,7 +11,7 @@ use crate::list::List;
 use crate::marks::StreamLink;
 
 /// What a node asks of another, or answers.
-#[derive(Debug, Drop)]
+#[derive(Debug)]
 pub enum Msg {
     // To units.
     Read {
@@ -128,6 +128,75 @@ pub enum Msg {
     Full {
         limit: u64,
     },
+}
+
+// By hand, since a derived drop is proved anew wherever a value is dropped.
+impl Drop for Msg {
+    fn drop(self) {
+        match self {
+            Msg::Read { epoch: _, pos: _ } => {}
+            Msg::Write {
+                epoch: _,
+                pos: _,
+                page: _,
+            } => {}
+            Msg::Fill { epoch: _, pos: _ } => {}
+            Msg::Copy {
+                epoch: _,
+                pos: _,
+                cell: _,
+            } => {}
+            Msg::Has {
+                epoch: _,
+                lo: _,
+                hi: _,
+                step: _,
+            } => {}
+            Msg::Seal { epoch: _ } => {}
+            Msg::Trim { epoch: _, below: _ } => {}
+            Msg::Held => {}
+            Msg::Taken { cell: _ } => {}
+            Msg::Unwritten => {}
+            Msg::Gone { below: _ } => {}
+            Msg::Fenced { epoch: _ } => {}
+            Msg::Sealed { epoch: _, high: _ } => {}
+            Msg::Missing { pos: _ } => {}
+            Msg::Whole => {}
+            Msg::Prepare {
+                epoch: _,
+                ballot: _,
+            } => {}
+            Msg::Accept {
+                epoch: _,
+                ballot: _,
+                proj: _,
+            } => {}
+            Msg::Decided { proj: _ } => {}
+            Msg::AskLatest => {}
+            Msg::Promise {
+                epoch: _,
+                ballot: _,
+                accepted: _,
+            } => {}
+            Msg::Nack {
+                epoch: _,
+                ballot: _,
+            } => {}
+            Msg::Accepted {
+                epoch: _,
+                ballot: _,
+            } => {}
+            Msg::Latest { proj: _ } => {}
+            Msg::Learn { proj: _ } => {}
+            Msg::Token { epoch: _, oids: _ } => {}
+            Msg::Check { epoch: _, oids: _ } => {}
+            Msg::Issued { pos: _, links: _ } => {}
+            Msg::Tail { tail: _, links: _ } => {}
+            Msg::Scanning { next: _, start: _ } => {}
+            Msg::OldEpoch { epoch: _ } => {}
+            Msg::Full { limit: _ } => {}
+        }
+    }
 }
 
 impl Msg {

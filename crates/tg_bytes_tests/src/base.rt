@@ -90,9 +90,10 @@ fn a_message_is_copied_whole(rt: HostRuntime) -> Result<(), Fail> {
         ranges,
     };
     let msg = Msg::Latest { proj };
-    match (&msg, msg.copy().map_err(|_| "memory")?) {
+    let same = msg.copy().map_err(|_| "memory")?;
+    match (&msg, &same) {
         (Msg::Latest { proj }, Msg::Latest { proj: copy }) => {
-            assert!(rt; proj.is_same(&copy));
+            assert!(rt; proj.is_same(copy));
             assert_eq!(rt;
                 copy.ranges.as_slice()[0].stripes.as_slice()[0].as_slice(),
                 [0u16, 1].as_slice()

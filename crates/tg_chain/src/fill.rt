@@ -22,6 +22,7 @@ pub struct FillCell {
     state: FillState,
 }
 
+// By hand, since a derived drop is proved anew wherever a value is dropped.
 impl Drop for FillCell {
     fn drop(self) {
         let FillCell { place: _, state: _ } = self;

@@ -21,6 +21,7 @@ pub struct GetCell {
     state: GetState,
 }
 
+// By hand, since a derived drop is proved anew wherever a value is dropped.
 impl Drop for GetCell {
     fn drop(self) {
         let GetCell { state: _ } = self;

@@ -20,6 +20,7 @@ pub struct Learn {
     waits: List<(u16, u64)>,
 }
 
+// By hand, since a derived drop is proved anew wherever a value is dropped.
 impl Drop for Learn {
     fn drop(self) {
         let Learn { stand: _, waits: _ } = self;

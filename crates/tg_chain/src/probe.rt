@@ -23,6 +23,7 @@ pub struct Probe {
     waits: List<(u16, u64)>,
 }
 
+// By hand, since a derived drop is proved anew wherever a value is dropped.
 impl Drop for Probe {
     fn drop(self) {
         let Probe { place: _, waits: _ } = self;

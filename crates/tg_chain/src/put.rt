@@ -22,6 +22,7 @@ pub struct PutCell {
     at: usize,
 }
 
+// By hand, since a derived drop is proved anew wherever a value is dropped.
 impl Drop for PutCell {
     fn drop(self) {
         let PutCell {

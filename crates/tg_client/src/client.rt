@@ -38,6 +38,7 @@ pub struct Client<K: Registry> {
     pub work: Option<Work<K>>,
 }
 
+// By hand, since a derived drop is proved anew wherever a value is dropped.
 impl<K: Registry> Drop for Client<K> {
     fn drop(self) {
         let Client { state: _, work: _ } = self;

@@ -35,6 +35,7 @@ pub struct CopyRange {
     state: CopyState,
 }
 
+// By hand, since a derived drop is proved anew wherever a value is dropped.
 impl Drop for CopyRange {
     fn drop(self) {
         let CopyRange { join: _, state: _ } = self;

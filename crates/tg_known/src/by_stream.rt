@@ -19,6 +19,7 @@ pub struct StreamPositions {
     streams: BTreeMap<Oid, Positions>,
 }
 
+// By hand, since a derived drop is proved anew wherever a value is dropped.
 impl Drop for StreamPositions {
     fn drop(self) {
         let StreamPositions { streams: _ } = self;

@@ -30,6 +30,7 @@ pub struct Known {
     settled: Pos,
 }
 
+// By hand, since a derived drop is proved anew wherever a value is dropped.
 impl Drop for Known {
     fn drop(self) {
         let Known {

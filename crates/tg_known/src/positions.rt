@@ -14,6 +14,7 @@ pub struct Positions {
     set: BTreeSet<u64>,
 }
 
+// By hand, since a derived drop is proved anew wherever a value is dropped.
 impl Drop for Positions {
     fn drop(self) {
         let Positions { set: _ } = self;

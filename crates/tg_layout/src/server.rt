@@ -15,6 +15,7 @@ pub struct Layout {
     votes: BTreeMap<Epoch, Vote>,
 }
 
+// By hand, since a derived drop is proved anew wherever a value is dropped.
 impl Drop for Layout {
     fn drop(self) {
         let Layout {

@@ -37,6 +37,7 @@ pub struct Live {
     pub received: u32,
 }
 
+// By hand, since a derived drop is proved anew wherever a value is dropped.
 impl Drop for Live {
     fn drop(self) {
         let Live {

@@ -30,9 +30,15 @@ const UNSET: u8 = 0x31;
 const MOST: usize = 0xffff_ffff;
 
 /// Pairs of a key and its value, in the order in which their keys came.
-#[derive(Drop)]
 pub struct Map {
     pairs: IndexMap<Word, Word>,
+}
+
+// By hand, since a derived drop is proved anew wherever a value is dropped.
+impl Drop for Map {
+    fn drop(self) {
+        let Map { pairs: _ } = self;
+    }
 }
 
 impl Model for Map {

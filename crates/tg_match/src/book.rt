@@ -20,6 +20,7 @@ pub struct Book {
     count: u64,
 }
 
+// By hand, since a derived drop is proved anew wherever a value is dropped.
 impl Drop for Book {
     fn drop(self) {
         let Book {

@@ -4,7 +4,7 @@ use crate::refusal::Refusal;
 use tg_base::{Epoch, Oid, Part, Pos};
 
 /// What a client answers.
-#[derive(Debug, Drop)]
+#[derive(Debug)]
 pub enum What<Op, Ask, Ans> {
     /// A transaction was begun.
     Begin,
@@ -97,6 +97,57 @@ pub enum What<Op, Ask, Ans> {
         at: Pos,
         yes: Option<bool>,
     },
+}
+
+// By hand, since a derived drop is proved anew wherever a value is dropped.
+impl<Op: Drop, Ask: Drop, Ans: Drop> Drop for What<Op, Ask, Ans> {
+    fn drop(self) {
+        match self {
+            What::Begin => {}
+            What::Put { oid: _, op: _ } => {}
+            What::Asked {
+                oid: _,
+                ask: _,
+                at: _,
+                ans: _,
+            } => {}
+            What::End => {}
+            What::Committed { at: _ } => {}
+            What::Aborted {
+                at: _,
+                oid: _,
+                part: _,
+                seen: _,
+                now: _,
+            } => {}
+            What::Unsure { at: _, pos: _ } => {}
+            What::Dropped => {}
+            What::Hosted { oid: _ } => {}
+            What::Fate { at: _, yes: _ } => {}
+            What::Decided { at: _, yes: _ } => {}
+            What::Saved {
+                oid: _,
+                at: _,
+                upto: _,
+            } => {}
+            What::Marked { oid: _, mark: _ } => {}
+            What::Trimmed { mark: _ } => {}
+            What::Installed { epoch: _ } => {}
+            What::Refused { why: _ } => {}
+            What::Copied {
+                unit: _,
+                range: _,
+                stripe: _,
+            } => {}
+            What::Past {
+                oid: _,
+                ask: _,
+                at: _,
+                ans: _,
+            } => {}
+            What::Rescued { at: _, yes: _ } => {}
+        }
+    }
 }
 
 /// What a client answers, with the number of the transaction that it speaks of, or 0.

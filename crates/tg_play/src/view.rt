@@ -39,6 +39,7 @@ pub struct View<K> {
     played: Played<K>,
 }
 
+// By hand, since a derived drop is proved anew wherever a value is dropped.
 impl<K: Drop> Drop for View<K> {
     fn drop(self) {
         let View { played: _ } = self;

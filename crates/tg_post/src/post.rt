@@ -19,6 +19,7 @@ pub struct Post {
     bytes: u64,
 }
 
+// By hand, since a derived drop is proved anew wherever a value is dropped.
 impl Drop for Post {
     fn drop(self) {
         let Post {

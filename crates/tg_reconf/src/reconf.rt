@@ -17,6 +17,7 @@ pub struct Reconf {
     work: Work,
 }
 
+// By hand, since a derived drop is proved anew wherever a value is dropped.
 impl Drop for Reconf {
     fn drop(self) {
         let Reconf { plan: _, work: _ } = self;

@@ -15,6 +15,7 @@ pub struct Seqr {
     calls: u32,
 }
 
+// By hand, since a derived drop is proved anew wherever a value is dropped.
 impl Drop for Seqr {
     fn drop(self) {
         let Seqr { state: _, calls: _ } = self;

@@ -33,6 +33,7 @@ pub struct State {
     scan: Option<GetCell>,
 }
 
+// By hand, since a derived drop is proved anew wherever a value is dropped.
 impl Drop for State {
     fn drop(self) {
         let State {

@@ -43,6 +43,7 @@ pub struct Servers {
     steps: u32,
 }
 
+// By hand, since a derived drop is proved anew wherever a value is dropped.
 impl Drop for Servers {
     fn drop(self) {
         let Servers {

@@ -11,6 +11,7 @@ pub struct HeaderObjects {
     list: List<Oid>,
 }
 
+// By hand, since a derived drop is proved anew wherever a value is dropped.
 impl Drop for HeaderObjects {
     fn drop(self) {
         let HeaderObjects { list: _ } = self;

@@ -13,6 +13,7 @@ pub struct Cells {
     map: BTreeMap<u64, Cell>,
 }
 
+// By hand, since a derived drop is proved anew wherever a value is dropped.
 impl Drop for Cells {
     fn drop(self) {
         let Cells { map: _ } = self;

@@ -26,6 +26,7 @@ pub struct PausedWalk {
     members: Vec<Pos>,
 }
 
+// By hand, since a derived drop is proved anew wherever a value is dropped.
 impl Drop for PausedWalk {
     fn drop(self) {
         let PausedWalk {

@@ -34,6 +34,7 @@ pub struct Walk {
     get: GetCell,
 }
 
+// By hand, since a derived drop is proved anew wherever a value is dropped.
 impl Drop for Walk {
     fn drop(self) {
         let Walk {

@@ -31,6 +31,7 @@ pub struct Job<K: Registry> {
     pub at: Pos,
 }
 
+// By hand, since a derived drop is proved anew wherever a value is dropped.
 impl<K: Registry> Drop for Job<K> {
     fn drop(self) {
         let Job {

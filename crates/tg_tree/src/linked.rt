@@ -29,10 +29,19 @@ impl Copied for Option<Text> {
 }
 
 /// A text or nothing, by path, with the children of each path that has any.
-#[derive(Drop)]
 pub struct Nodes {
     held: PathMap<Option<Text>>,
     children: PathMap<PathSet>,
+}
+
+// By hand, since a derived drop is proved anew wherever a value is dropped.
+impl Drop for Nodes {
+    fn drop(self) {
+        let Nodes {
+            held: _,
+            children: _,
+        } = self;
+    }
 }
 
 impl Model for Nodes {

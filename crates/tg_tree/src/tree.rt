@@ -35,10 +35,16 @@ const STORE: u8 = 0x51;
 const DELETE: u8 = 0x52;
 
 /// Paths, each with a text or nothing, of which each but `/` has its parent there.
-#[derive(Drop)]
 pub struct Tree {
     alloc: Global,
     nodes: Nodes,
+}
+
+// By hand, since a derived drop is proved anew wherever a value is dropped.
+impl Drop for Tree {
+    fn drop(self) {
+        let Tree { alloc: _, nodes: _ } = self;
+    }
 }
 
 impl Model for Tree {

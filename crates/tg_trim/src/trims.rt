@@ -28,6 +28,7 @@ pub struct Trims {
     waits: List<(u16, u64)>,
 }
 
+// By hand, since a derived drop is proved anew wherever a value is dropped.
 impl Drop for Trims {
     fn drop(self) {
         let Trims { below: _, waits: _ } = self;

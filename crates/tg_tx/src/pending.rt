@@ -26,6 +26,7 @@ pub struct Pending {
     snapshot: Option<Pos>,
 }
 
+// By hand, since a derived drop is proved anew wherever a value is dropped.
 impl Drop for Pending {
     fn drop(self) {
         let Pending {

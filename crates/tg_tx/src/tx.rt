@@ -20,6 +20,7 @@ pub struct Tx<K: Kind> {
     kind: PhantomData<K>,
 }
 
+// By hand, since a derived drop is proved anew wherever a value is dropped.
 impl<K: Kind> Drop for Tx<K> {
     fn drop(self) {
         let Tx {

@@ -22,6 +22,7 @@ pub struct Unit {
     cells: Cells,
 }
 
+// By hand, since a derived drop is proved anew wherever a value is dropped.
 impl Drop for Unit {
     fn drop(self) {
         let Unit {

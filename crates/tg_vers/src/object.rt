@@ -20,6 +20,7 @@ pub struct Object {
     keys: BTreeMap<Part, u64>,
 }
 
+// By hand, since a derived drop is proved anew wherever a value is dropped.
 impl Drop for Object {
     fn drop(self) {
         let Object {

@@ -23,6 +23,7 @@ pub struct Versions {
     objects: BTreeMap<Oid, Object>,
 }
 
+// By hand, since a derived drop is proved anew wherever a value is dropped.
 impl Drop for Versions {
     fn drop(self) {
         let Versions { objects: _ } = self;

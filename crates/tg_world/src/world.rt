@@ -41,6 +41,7 @@ pub struct World<K: Registry> {
     event: u64,
 }
 
+// By hand, since a derived drop is proved anew wherever a value is dropped.
 impl<K: Registry> Drop for World<K> {
     fn drop(self) {
         let World {
