@@ -4,7 +4,7 @@
 An op is to cost about the same however large its object is, so the larger may take at most 13 times the smaller. A run doesn't free its
 objects, and takes up to 0.6 GB.
 
-The program is crates/kinds_bench/out/kinds_bench, once `rt run` has built it."""
+The program is crates/bench_kinds/out/bench_kinds, once `rt run` has built it."""
 import sys
 
 import times

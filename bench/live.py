@@ -6,7 +6,7 @@
 For each script `PROGRAM live` runs over UDP sockets of 127.0.0.1. It writes a recording, the line `transcript`, and the
 transcript; `PROGRAM replay` of the recording has to print the same transcript. What the run took is told beside: two live
 runs of one script need not print the same, since a datagram may come late or never. With no script the realistic run of
-replay_bench's data is taken. Where no socket can be bound the script is skipped, with status 0.
+bench_replay's data is taken. Where no socket can be bound the script is skipped, with status 0.
 """
 
 import os
@@ -15,7 +15,7 @@ import subprocess
 import sys
 import time
 
-REALISTIC = "crates/replay_bench/data/long_run.script"
+REALISTIC = "crates/bench_replay/data/long_run.script"
 
 
 def can_bind():

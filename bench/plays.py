@@ -4,7 +4,7 @@
 A play is to take the time of the entries that it is given, so the larger may take at most 14 times the smaller; and a
 view that has played more is to take ten more in about the same time, at most twice that of the smaller.
 
-The program is crates/plays_bench/out/plays_bench, once `rt run` has built it."""
+The program is crates/bench_plays/out/bench_plays, once `rt run` has built it."""
 import sys
 
 import times

@@ -1,11 +1,11 @@
-"""Writes the worked runs and the judged texts as lemmas of tg_rows.
+"""Writes the worked runs and the judged texts as lemmas of tg_law_examples.
 
-python3 bench/rows.py FOLDER NAME=LABEL.. > crates/tg_rows/proofs/FILE.antt
+python3 bench/rows.py FOLDER NAME=LABEL.. > crates/tg_law_examples/proofs/FILE.antt
 
 FOLDER has NAME.script and NAME.transcript; LABEL is the lemma's name, or `run_NAME` where none is given. Each lemma says
 that the script's events give the transcript's marks and history, and is proved by computing.
 
-python3 bench/rows.py judged > crates/tg_rows/proofs/Judged.antt
+python3 bench/rows.py judged > crates/tg_law_examples/proofs/Judged.antt
 
 For each bench/judged/NAME.transcript a lemma says that its first fault is the one of NAME.verdict.
 """
@@ -245,10 +245,10 @@ def judged():
     print('use Rattle.tg_model.specs.Traces.{Trace, puts_of}')
     print('use Rattle.tg_model.specs.Verdicts.{asks_in, bound_in, entries_fault, replies_fault, fault}')
     print('use Rattle.tg_protocol.specs.Words.{bytes_eq}')
-    print('use Rattle.tg_rows.proofs.Sameness.{same}')
-    print('use Rattle.tg_rows.proofs.SevenKinds.{kinds}')
-    print('use Rattle.tg_rows.proofs.SevenKinds as kind')
-    print('use Rattle.tg_rows.proofs.Shown.{obj, mark, done}')
+    print('use Rattle.tg_law_examples.proofs.Sameness.{same}')
+    print('use Rattle.tg_law_examples.proofs.SevenKinds.{kinds}')
+    print('use Rattle.tg_law_examples.proofs.SevenKinds as kind')
+    print('use Rattle.tg_law_examples.proofs.Shown.{obj, mark, done}')
     for file in sorted(os.listdir(folder)):
         name, _, ending = file.partition('.')
         if ending != 'transcript':
@@ -302,9 +302,9 @@ def main():
                 fresh.append(n)
             seen.setdefault(n, module)
         print('use Rattle.%s.{%s}' % (module, ', '.join(fresh)))
-    print('use Rattle.tg_rows.proofs.SevenKinds.{kinds}')
-    print('use Rattle.tg_rows.proofs.SevenKinds as kind')
-    print('use Rattle.tg_rows.proofs.Shown.{Shown, shown, obj, mark, done}')
+    print('use Rattle.tg_law_examples.proofs.SevenKinds.{kinds}')
+    print('use Rattle.tg_law_examples.proofs.SevenKinds as kind')
+    print('use Rattle.tg_law_examples.proofs.Shown.{Shown, shown, obj, mark, done}')
     words, have = [], set()
     for module, n in opened:
         words.append(n if n not in have else '%s_%s' % (module.split('.')[-1].lower(), n))

@@ -7,7 +7,7 @@ caches hold. A run doesn't free its units, and takes up to 0.6 GB.
 
 Stores with one cell in each segment, as no log has them, are timed too, and nothing is wanted of their ratio.
 
-The program is crates/unit_bench/out/unit_bench, once `rt run` has built it."""
+The program is crates/bench_unit/out/bench_unit, once `rt run` has built it."""
 import sys
 
 import times

@@ -9,15 +9,15 @@ use Rattle.tg_audit.specs.Told.{told_of, sameness}
 use Rattle.tg_audit.specs.Same.{same_op, same_answer}
 use Rattle.tg_audit.specs.SameLaws.{same_op_exact, same_answer_exact}
 use Rattle.tg_audit.specs.declared.verdict.Verdict.TheVariants as verdict
-use Rattle.tg_judge.specs.Laws.{AllAbove, Rises, VerdictsAreTrue}
+use Rattle.tg_law_verdicts.specs.Laws.{AllAbove, Rises, VerdictsAreTrue}
 use Rattle.tg_model.specs.Verdicts.{Fault, IsSameness, fault}
 use Rattle.tg_replay.specs.Outcomes.{Told}
 use Rattle.tg_trace.specs.Transcripts.{Entry, objects, reply, count, entry, stamps, is_transcript}
 use Rattle.tg_trace.specs.declared.transcript.Transcript.{Transcript}
-use Rattle.tg_verdict.specs.Kinds.{all_kinds}
-use Rattle.tg_verdict.specs.Outcomes as verdicts
-use Rattle.tg_verdict.specs.Outcomes.{IsToldOf}
-use Rattle.tg_verdict.specs.Verdicts.{judged}
+use Rattle.tg_audit_run.specs.Kinds.{all_kinds}
+use Rattle.tg_audit_run.specs.Outcomes as verdicts
+use Rattle.tg_audit_run.specs.Outcomes.{IsToldOf}
+use Rattle.tg_audit_run.specs.Verdicts.{judged}
 use Rattle.tango.specs.Lawful.{IsLegalRun, IsLegalText, IsIllegalText}
 
 both_true : (a b : Bool) → (a && b) ≡ true → (a ≡ true) × (b ≡ true)

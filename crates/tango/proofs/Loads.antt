@@ -1,8 +1,8 @@
 -- The load that the words name.
 use Rattle.std.proofs.Common.{◌≡◌, ℕ, List, Option, Some, sym, ap, ◌∙◌, subst}
-use Rattle.tg_forms.specs.Forms.{form_of}
-use Rattle.tg_forms.specs.declared.forms.Form.{Form}
-use Rattle.tg_forms.specs.declared.forms.Form.TheVariants.{Bench}
+use Rattle.tango_words.specs.Forms.{form_of}
+use Rattle.tango_words.specs.declared.forms.Form.{Form}
+use Rattle.tango_words.specs.declared.forms.Form.TheVariants.{Bench}
 
 abbrev start_in : Option Form → ℕ
 start_in (Some (Bench start count)) = start

@@ -1,9 +1,9 @@
 -- The node that the words name.
 use Rattle.std.proofs.Common.{◌≡◌, ℕ, List, Option, Some, sym, ap, ◌∙◌, subst}
 use Rattle.tg_base.specs.declared.ids.NodeId.{NodeId}
-use Rattle.tg_forms.specs.Forms.{form_of}
-use Rattle.tg_forms.specs.declared.forms.Form.{Form}
-use Rattle.tg_forms.specs.declared.forms.Form.TheVariants.{Node}
+use Rattle.tango_words.specs.Forms.{form_of}
+use Rattle.tango_words.specs.declared.forms.Form.{Form}
+use Rattle.tango_words.specs.declared.forms.Form.TheVariants.{Node}
 
 -- the node of a form, else the one given
 abbrev node_of : NodeId → Option Form → NodeId

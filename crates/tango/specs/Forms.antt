@@ -1,7 +1,7 @@
 -- The forms that use the link.
 use Rattle.std.specs.Prelude.{Bool, true, false, Option, Some}
-use Rattle.tg_forms.specs.declared.forms.Form.{Form}
-use Rattle.tg_forms.specs.declared.forms.Form.TheVariants.{Live, Node}
+use Rattle.tango_words.specs.declared.forms.Form.{Form}
+use Rattle.tango_words.specs.declared.forms.Form.TheVariants.{Live, Node}
 
 -- a live run and a node send and receive
 abbrev pub is_over_link : Option Form → Bool

@@ -7,10 +7,10 @@ use std::alloc::Global;
 use std::io::{self, ErrorKind, Write};
 use std::net::Net;
 use std::process::ExitCode;
+use tango_words::{Form, read_form};
 use tg_base::NoMemory;
-use tg_forms::{Form, read_form};
 use tg_io::{Reading, Status, Writing};
-use tg_udp::UdpLink;
+use tg_link_udp::UdpLink;
 
 /// Runs the program on the standard streams and, where packets go over a link, on UDP sockets of this machine. It ends
 /// with the status, and says on standard error why a run wasn't done.

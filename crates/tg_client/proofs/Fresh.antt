@@ -6,13 +6,13 @@ use Rattle.tg_base.specs.Layouts.{Layout}
 use Rattle.tg_base.specs.declared.ids.Oid.{Oid}
 use Rattle.tg_base.specs.declared.packet.Rids.{Rids}
 use Rattle.tg_kind.specs.Meaning.{Meaning}
-use Rattle.tg_known.specs.Known.{Knowledge, nothing}
+use Rattle.tg_client_cells.specs.Known.{Knowledge, nothing}
 use Rattle.tg_protocol.specs.Layouts.{first_layout}
 use Rattle.tg_protocol.specs.Words.{directory}
 use Rattle.tg_protocol.specs.Clients.{Work, new_client}
 use Rattle.tg_protocol.specs.ClientSteps.{client_asks}
-use Rattle.tg_task.specs.Tasks.{WorkOf, KeepsMaybe}
-use Rattle.tg_state.specs.States.{StateOf, client_of}
+use Rattle.tg_client_work.specs.Tasks.{WorkOf, KeepsMaybe}
+use Rattle.tg_client_state.specs.States.{StateOf, client_of}
 use Rattle.tg_client.specs.Kept.{KeepsClient}
 
 module _ (m : Meaning) where

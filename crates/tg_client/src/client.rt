@@ -14,11 +14,11 @@ use crate::steps::{commanded, delivered};
 use crate::ticks::ticked;
 use std::alloc::Global;
 use tg_base::{Cell, Cluster, Epoch, List, Msg, NoMemory, NodeId, Oid, Out, Pos, Rids};
+use tg_client_cells::Known;
+use tg_client_state::{HeaderObjects, Moved, State};
+use tg_client_work::Work;
 use tg_kind::Registry;
-use tg_known::Known;
 use tg_model::{CommandOf, NoteOf};
-use tg_state::{HeaderObjects, Moved, State};
-use tg_task::Work;
 
 /// The directory alone. An `Err` is want of memory.
 fn directory_alone(alloc: Global) -> Result<List<Oid>, NoMemory>

@@ -5,13 +5,13 @@ ghost use Rattle.tg_kind.specs.Of.{meaning_of};
 ghost use Rattle.tg_protocol.specs.Answers as told;
 ghost use Rattle.tg_protocol.specs.Clients as clients;
 ghost use Rattle.tg_protocol.specs.ClientSteps as steps;
-ghost use Rattle.tg_state.specs.States.{KeepsMoved};
+ghost use Rattle.tg_client_state.specs.States.{KeepsMoved};
 ghost use Rattle.tg_client.specs.Kept.{KeepsStep};
 
 use tg_base::NoMemory;
-use tg_commands::next_count;
+use tg_client_commands::next_count;
+use tg_client_state::Moved;
 use tg_kind::Registry;
-use tg_state::Moved;
 
 /// What a step made of a client, with one step more counted. An `Err` is want of numbers.
 pub fn given<K: Registry>(moved: Moved<K>) -> Result<Moved<K>, NoMemory>

@@ -10,7 +10,7 @@ use Rattle.tg_io.specs.declared.link.Arrival.{Arrival}
 use Rattle.tg_io.specs.declared.status.Status.{Status}
 use Rattle.tg_io.specs.declared.status.Status.TheVariants.{Done, Illegal, Words, Script as AtLine, ReadFault, WriteFault, LinkFault, Limit, NoMemory}
 use Rattle.tg_protocol.specs.Worlds.{nodes}
-use Rattle.tg_reader.specs.Lines.{lines}
+use Rattle.tg_lines.specs.Lines.{lines}
 use Rattle.tg_replay.specs.Any.{all_kinds}
 use Rattle.tg_replay.specs.Outcomes.{Told}
 use Rattle.tg_replay.specs.Runs.{Script, Tells, Begins, front, line_text, text_lines}

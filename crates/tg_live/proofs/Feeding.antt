@@ -7,9 +7,9 @@ use Rattle.tg_io.specs.declared.link.Sent.{Sent}
 use Rattle.tg_script.specs.Headers.{header_lines}
 use Rattle.tg_script.specs.Lines.{IsLine as IsLineOf}
 use Rattle.tg_script.specs.declared.line.Line.{Line}
-use Rattle.tg_reader.specs.Lines.{lines, ahead, TakesLine}
-use Rattle.tg_reader.specs.Openings.{Opened}
-use Rattle.tg_reader.specs.declared.header.Opening.TheVariants.{Opens, Outside as IsOutsideAt}
+use Rattle.tg_lines.specs.Lines.{lines, ahead, TakesLine}
+use Rattle.tg_lines.specs.Openings.{Opened}
+use Rattle.tg_lines.specs.declared.header.Opening.TheVariants.{Opens, Outside as IsOutsideAt}
 use Rattle.tg_replay.specs.Runs.{Script, IsLine, line_text}
 use Rattle.tg_replay.specs.Stages.{status_of}
 use Rattle.tg_replay.specs.declared.stages.End.{End}

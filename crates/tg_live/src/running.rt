@@ -4,8 +4,8 @@ ghost use Rattle.std.specs.Prelude.{◌≡◌, ◌+◌, ◌<◌, ℕ, false, Lis
 ghost use Rattle.tg_base.specs.Clusters.{Header};
 ghost use Rattle.tg_io.specs.Faults.{HasCause, StaysSure};
 ghost use Rattle.tg_io.specs.declared.link.Sent.{Sent};
-ghost use Rattle.tg_reader.specs.Lines.{ahead, TakesLine};
-ghost use Rattle.tg_reader.specs.Openings.{Opened};
+ghost use Rattle.tg_lines.specs.Lines.{ahead, TakesLine};
+ghost use Rattle.tg_lines.specs.Openings.{Opened};
 ghost use Rattle.tg_replay.specs.Any.{all_kinds};
 ghost use Rattle.tg_script.specs.Lines.{IsLine};
 ghost use Rattle.tg_script.specs.declared.line.Line.{Line as event_line};
@@ -23,8 +23,8 @@ use crate::stages::{Fed, Finish, Running, Stop};
 use std::alloc::Global;
 use tg_base::{Cluster, List, NoMemory};
 use tg_io::{IoErr, Link, Source};
+use tg_lines::{LineReader, Opening, read_header};
 use tg_model::Event;
-use tg_reader::{LineReader, Opening, read_header};
 use tg_replay::End;
 use tg_script::{Line, parse_line};
 

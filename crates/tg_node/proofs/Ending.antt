@@ -11,12 +11,12 @@ use Rattle.tg_io.specs.declared.fault.IoErr.{IoErr}
 use Rattle.tg_io.specs.declared.fault.IoErr.TheVariants.{Failed}
 use Rattle.tg_io.proofs.Bytes.{grows_none}
 use Rattle.tg_io.proofs.Faults.{rose_later, rose_since}
-use Rattle.tg_reader.specs.Lines.{lines, ahead, TakesLine}
-use Rattle.tg_reader.specs.declared.header.Opening.TheVariants.{Opens, Outside}
+use Rattle.tg_lines.specs.Lines.{lines, ahead, TakesLine}
+use Rattle.tg_lines.specs.declared.header.Opening.TheVariants.{Opens, Outside}
 use Rattle.tg_script.specs.Headers.{header_lines}
 use Rattle.tg_script.specs.Nodes.{is_declared}
-use Rattle.tg_own.specs.Nodes.{node_start}
-use Rattle.tg_own.specs.Kept.{KeepsNode, IsNode}
+use Rattle.tg_node_state.specs.Nodes.{node_start}
+use Rattle.tg_node_state.specs.Kept.{KeepsNode, IsNode}
 use Rattle.tg_node.specs.Any.{all_kinds}
 use Rattle.tg_node.specs.Sessions.{Session, opening}
 use Rattle.tg_node.specs.Texts.{Seen, IsSeen, IsText, FirstOutside, Refused, IsWithin, IsCutShort, Outcome, Told, IsOfNode}

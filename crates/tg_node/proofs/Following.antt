@@ -11,14 +11,14 @@ use Rattle.tg_io.specs.declared.link.Arrival.{Arrival}
 use Rattle.tg_io.specs.declared.link.Sent.{Sent}
 use Rattle.tg_io.specs.declared.status.Status.TheVariants as status
 use Rattle.tg_io.proofs.Bytes.{grows_none, grows_more, front_after}
-use Rattle.tg_reader.specs.Lines.{lines}
+use Rattle.tg_lines.specs.Lines.{lines}
 use Rattle.tg_script.specs.Headers.{header_lines}
 use Rattle.tg_script.proofs.Clusters.{same_header}
-use Rattle.tg_mail.specs.Mail.{all_sent}
-use Rattle.tg_orders.specs.Lines.{IsAsked}
-use Rattle.tg_orders.specs.Replies.{replies_text}
-use Rattle.tg_orders.specs.declared.asked.Asked.{Asked}
-use Rattle.tg_own.specs.Kept.{KeepsNode}
+use Rattle.tg_link_packets.specs.Mail.{all_sent}
+use Rattle.tg_node_lines.specs.Lines.{IsAsked}
+use Rattle.tg_node_lines.specs.Replies.{replies_text}
+use Rattle.tg_node_lines.specs.declared.asked.Asked.{Asked}
+use Rattle.tg_node_state.specs.Kept.{KeepsNode}
 use Rattle.tg_node.specs.Any.{all_kinds}
 use Rattle.tg_node.specs.Sessions.{AnyInput, Deed, Session, IsWhole, inputs_by, inputs_of, datagrams_in, answers_of, steps_of, datagrams_of, plays, plays_lines, session, opening}
 use Rattle.tg_node.specs.Texts.{Seen, IsSeen, AreAsked, NodeText, text_lines, IsText, Begins, FirstOutside, AreDone, Point, session_at, answers_at, Followed, IsPart, IsPast, IsAnother, IsOver, Midst, session_in, answers_in, Limited, IsFront, IsCutShort, Outcome}

@@ -19,10 +19,10 @@ use Rattle.tg_script.specs.declared.header.Sizes.{Sizes}
 use Rattle.tg_script.specs.Headers.{are_sizes, sizes, sizes_of, header_lines, IsFront, IsFirstOutside, OnOutside, sizes_in}
 use Rattle.tg_script.specs.Nodes.{count_of, is_declared}
 use Rattle.tg_script.proofs.Clusters.{header_sizes, lines_again}
-use Rattle.tg_reader.specs.Lines.{lines, TakesLine}
-use Rattle.tg_reader.specs.Openings.{Reached}
-use Rattle.tg_reader.specs.declared.header.Opening.{Opening}
-use Rattle.tg_reader.specs.declared.header.Opening.TheVariants.{Opens, Outside}
+use Rattle.tg_lines.specs.Lines.{lines, TakesLine}
+use Rattle.tg_lines.specs.Openings.{Reached}
+use Rattle.tg_lines.specs.declared.header.Opening.{Opening}
+use Rattle.tg_lines.specs.declared.header.Opening.TheVariants.{Opens, Outside}
 use Rattle.tg_node.specs.Texts.{text_lines, Begins, FirstOutside}
 use Rattle.tg_node.specs.Openings.{Opened, IsOpening}
 use Rattle.tg_node.proofs.Stepping.{take_all, take_before}

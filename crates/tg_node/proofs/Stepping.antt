@@ -4,7 +4,7 @@ use Rattle.std.specs.Prelude.{nat_le, is_some, ◌&&◌, Result, Ok, Err, IfOk}
 use Rattle.tg_io.specs.declared.fault.IoErr.{IoErr}
 use Rattle.tg_base.specs.Orders.{node_eq}
 use Rattle.tg_codec.specs.Whole.{whole}
-use Rattle.tg_packets.specs.Packets.{packet}
+use Rattle.tg_wire_format.specs.Packets.{packet}
 use Rattle.std.specs.List.{flat_map}
 use Rattle.std.proofs.lemmas.Bool.Decides.{nat_tests}
 use Rattle.std.proofs.lemmas.List.{append_assoc, append-nil, map-append}
@@ -18,16 +18,16 @@ use Rattle.tg_io.specs.Links.{Adds}
 use Rattle.tg_io.specs.declared.link.Arrival.{Arrival}
 use Rattle.tg_io.specs.declared.link.Sent.{Sent}
 use Rattle.tg_io.proofs.Bytes.{grows_none, grows_more}
-use Rattle.tg_mail.specs.Mail.{all_sent, packets_from, came_to, taken_by, taken_if}
-use Rattle.tg_mail.specs.declared.receiving.Came.{Came}
-use Rattle.tg_mail.specs.declared.receiving.Came.TheVariants as came
-use Rattle.tg_orders.specs.Replies.{replies_in, replies_text}
-use Rattle.tg_orders.specs.declared.asked.Asked.{Asked}
-use Rattle.tg_orders.specs.declared.asked.Asked.TheVariants.{Tick, Wait, Given, Update}
-use Rattle.tg_own.specs.Nodes.{Node as RuleNode, node_step}
-use Rattle.tg_own.specs.Kept.{SteppedOf, KeepsTurn, KeepsNode, IsNode}
-use Rattle.tg_own.specs.declared.input.Input.TheVariants as input
-use Rattle.tg_own.proofs.Roles.{is_later}
+use Rattle.tg_link_packets.specs.Mail.{all_sent, packets_from, came_to, taken_by, taken_if}
+use Rattle.tg_link_packets.specs.declared.receiving.Came.{Came}
+use Rattle.tg_link_packets.specs.declared.receiving.Came.TheVariants as came
+use Rattle.tg_node_lines.specs.Replies.{replies_in, replies_text}
+use Rattle.tg_node_lines.specs.declared.asked.Asked.{Asked}
+use Rattle.tg_node_lines.specs.declared.asked.Asked.TheVariants.{Tick, Wait, Given, Update}
+use Rattle.tg_node_state.specs.Nodes.{Node as RuleNode, node_step}
+use Rattle.tg_node_state.specs.Kept.{SteppedOf, KeepsTurn, KeepsNode, IsNode}
+use Rattle.tg_node_state.specs.declared.input.Input.TheVariants as input
+use Rattle.tg_node_state.proofs.Roles.{is_later}
 use Rattle.tg_trace.specs.Transcripts.{Reply, reply_text}
 use Rattle.tg_node.specs.Any.{all_kinds}
 use Rattle.tg_node.specs.Sessions.{AnyInput, Deed, Session, IsWhole, inputs_by, input_of, packets_in, datagrams_in, datagrams_by, plays, steps}

@@ -3,9 +3,9 @@ use Rattle.std.specs.Prelude.{◌≡◌, ℕ, ◌≤◌, true, List, ◌++◌, O
 use Rattle.tg_base.specs.declared.ids.NodeId.{NodeId}
 use Rattle.tg_script.specs.Headers.{header_lines}
 use Rattle.tg_script.specs.Nodes.{is_declared}
-use Rattle.tg_reader.specs.Lines.{lines}
-use Rattle.tg_reader.specs.declared.header.Opening.{Opening}
-use Rattle.tg_reader.specs.declared.header.Opening.TheVariants.{Opens, Outside}
+use Rattle.tg_lines.specs.Lines.{lines}
+use Rattle.tg_lines.specs.declared.header.Opening.{Opening}
+use Rattle.tg_lines.specs.declared.header.Opening.TheVariants.{Opens, Outside}
 use Rattle.tg_node.specs.Texts.{FirstOutside}
 
 -- the text begins with a header that declares the node, and the rest is still to come; or one of the first three lines is the first outside

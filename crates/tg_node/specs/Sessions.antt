@@ -6,14 +6,14 @@ use Rattle.tg_base.specs.declared.ids.NodeId.{NodeId}
 use Rattle.tg_base.specs.declared.packet.Packet.{Packet}
 use Rattle.tg_io.specs.declared.link.Arrival.{Arrival}
 use Rattle.tg_model.specs.declared.command.Command.TheVariants as cmd
-use Rattle.tg_mail.specs.Mail.{came_to, packets_from}
-use Rattle.tg_mail.specs.declared.receiving.Came.{Came}
-use Rattle.tg_mail.specs.declared.receiving.Came.TheVariants as came
-use Rattle.tg_orders.specs.Replies.{replies_in}
-use Rattle.tg_orders.specs.declared.asked.Asked.{Asked}
-use Rattle.tg_orders.specs.declared.asked.Asked.TheVariants.{Tick, Wait, Given, Update}
-use Rattle.tg_own.specs.Nodes.{Node, NodeTurn, InputOf, node_start, node_step}
-use Rattle.tg_own.specs.declared.input.Input.TheVariants as input
+use Rattle.tg_link_packets.specs.Mail.{came_to, packets_from}
+use Rattle.tg_link_packets.specs.declared.receiving.Came.{Came}
+use Rattle.tg_link_packets.specs.declared.receiving.Came.TheVariants as came
+use Rattle.tg_node_lines.specs.Replies.{replies_in}
+use Rattle.tg_node_lines.specs.declared.asked.Asked.{Asked}
+use Rattle.tg_node_lines.specs.declared.asked.Asked.TheVariants.{Tick, Wait, Given, Update}
+use Rattle.tg_node_state.specs.Nodes.{Node, NodeTurn, InputOf, node_start, node_step}
+use Rattle.tg_node_state.specs.declared.input.Input.TheVariants as input
 use Rattle.tg_trace.specs.Transcripts.{Reply}
 use Rattle.tg_node.specs.Any.{all_kinds}
 

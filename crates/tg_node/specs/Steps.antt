@@ -6,11 +6,11 @@ use Rattle.tg_base.specs.declared.ids.NodeId.{NodeId}
 use Rattle.tg_io.specs.Bytes.{Grows}
 use Rattle.tg_io.specs.declared.link.Arrival.{Arrival}
 use Rattle.tg_io.specs.declared.link.Sent.{Sent}
-use Rattle.tg_mail.specs.Mail.{all_sent}
-use Rattle.tg_orders.specs.Replies.{replies_text}
-use Rattle.tg_orders.specs.declared.asked.Asked.{Asked}
-use Rattle.tg_orders.specs.declared.asked.Asked.TheVariants.{Tick, Wait, Given, Update}
-use Rattle.tg_own.specs.Kept.{KeepsNode, IsNode}
+use Rattle.tg_link_packets.specs.Mail.{all_sent}
+use Rattle.tg_node_lines.specs.Replies.{replies_text}
+use Rattle.tg_node_lines.specs.declared.asked.Asked.{Asked}
+use Rattle.tg_node_lines.specs.declared.asked.Asked.TheVariants.{Tick, Wait, Given, Update}
+use Rattle.tg_node_state.specs.Kept.{KeepsNode, IsNode}
 use Rattle.tg_node.specs.Any.{all_kinds}
 use Rattle.tg_node.specs.Sessions.{AnyInput, Deed, Session, IsWhole, inputs_by, packets_in, datagrams_in, plays}
 use Rattle.tg_node.specs.Texts.{IsPart, IsPast, IsAnother}

@@ -11,12 +11,12 @@ use Rattle.tg_io.specs.declared.status.Status.{Status}
 use Rattle.tg_io.specs.declared.status.Status.TheVariants.{Done, Script as AtLine, ReadFault, WriteFault, LinkFault, Limit, NoMemory, Words, Illegal}
 use Rattle.tg_script.specs.Headers.{header_lines}
 use Rattle.tg_script.specs.Nodes.{is_declared}
-use Rattle.tg_reader.specs.Lines.{lines}
-use Rattle.tg_mail.specs.Mail.{all_sent}
-use Rattle.tg_orders.specs.Lines.{IsAsked}
-use Rattle.tg_orders.specs.Replies.{replies_text}
-use Rattle.tg_orders.specs.declared.asked.Asked.{Asked}
-use Rattle.tg_orders.specs.declared.asked.Asked.TheVariants.{Tick, Wait, Given, Update}
+use Rattle.tg_lines.specs.Lines.{lines}
+use Rattle.tg_link_packets.specs.Mail.{all_sent}
+use Rattle.tg_node_lines.specs.Lines.{IsAsked}
+use Rattle.tg_node_lines.specs.Replies.{replies_text}
+use Rattle.tg_node_lines.specs.declared.asked.Asked.{Asked}
+use Rattle.tg_node_lines.specs.declared.asked.Asked.TheVariants.{Tick, Wait, Given, Update}
 use Rattle.tg_node.specs.Sessions.{Deed, Session, IsWhole, inputs_of, datagrams_in, answers_of, steps_of, datagrams_of, plays, session, opening}
 
 -- What a link and a sink tell: what was sent, the answers of `recv`, and what was written.

@@ -2,7 +2,7 @@
 
 ghost use Rattle.std.specs.Prelude.{◌≡◌, ◌≤◌, ◌∷◌, ◌↔◌, [], codes, length, true, IfOk, IfSome, IsTrue};
 ghost use Rattle.tg_io.specs.Faults.{HasCause, StaysSure};
-ghost use Rattle.tg_reader.specs.Lines.{ahead};
+ghost use Rattle.tg_lines.specs.Lines.{ahead};
 ghost use Rattle.tg_script.specs.Headers.{OnOutside, header_lines};
 ghost use Rattle.tg_script.specs.Nodes.{is_declared};
 ghost use Rattle.tg_node.specs.Texts.{Begins, FirstOutside};
@@ -11,7 +11,7 @@ ghost use Rattle.tg_node.specs.Openings.{IsOpening, Opened};
 use std::alloc::Global;
 use tg_base::{Cluster, List, NoMemory, NodeId, Role, TextFault};
 use tg_io::{IoErr, Source};
-use tg_reader::{LineReader, Opening};
+use tg_lines::{LineReader, Opening};
 use tg_script::parse_header;
 
 /// How many lines a header has.

@@ -3,7 +3,7 @@
 ghost use Rattle.std.specs.Prelude.{◌≡◌, ◌∷◌, [], IfOk};
 ghost use Rattle.tg_io.specs.Faults.{HasCause, StaysSure};
 ghost use Rattle.tg_model.specs.declared.command.Command.TheVariants as cmd;
-ghost use Rattle.tg_own.specs.declared.input.Input.TheVariants as comes;
+ghost use Rattle.tg_node_state.specs.declared.input.Input.TheVariants as comes;
 ghost use Rattle.tg_node.specs.Steps.{IsSound, Makes, TookLine};
 
 use crate::nodes::{Moved, Node, Place};
@@ -12,8 +12,8 @@ use tg_any::{AnyKind, AnyOp};
 use tg_base::{Oid, Which};
 use tg_io::{IoErr, Link};
 use tg_model::Command;
-use tg_orders::Asked;
-use tg_own::{Input, InputOf};
+use tg_node_lines::Asked;
+use tg_node_state::{Input, InputOf};
 
 impl Node {
     /// What a line asks, as far as the limits allow. An `Err` is a fault of the link, or want of memory.

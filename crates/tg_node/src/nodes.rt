@@ -3,8 +3,8 @@
 ghost use Rattle.std.specs.Prelude.{◌≡◌, ◌+◌, ◌<◌, ◌++◌, ◌∷◌, [], nat_le, List, Option, Some, None, IfOk};
 ghost use Rattle.tg_io.specs.Faults.{HasCause, StaysSure};
 ghost use Rattle.tg_io.specs.declared.link.Sent.{Sent};
-ghost use Rattle.tg_own.specs.Kept.{KeepsNode, IsNode};
-ghost use Rattle.tg_own.specs.Nodes.{node_start};
+ghost use Rattle.tg_node_state.specs.Kept.{KeepsNode, IsNode};
+ghost use Rattle.tg_node_state.specs.Nodes.{node_start};
 ghost use Rattle.tg_node.specs.Any.{all_kinds};
 ghost use Rattle.tg_node.specs.Sessions.{Session, turned};
 ghost use Rattle.tg_node.specs.Steps.{Stands, Goes, IsSound};
@@ -13,9 +13,9 @@ use std::alloc::Global;
 use tg_any::AnyKind;
 use tg_base::{Cluster, List, NoMemory, NodeId, Which};
 use tg_io::{IoErr, Link};
-use tg_mail::send_all;
-use tg_orders::write_replies;
-use tg_own::{InputOf, Own, Stepped};
+use tg_link_packets::send_all;
+use tg_node_lines::write_replies;
+use tg_node_state::{InputOf, Own, Stepped};
 
 /// How many steps a node takes at most.
 pub const MOST_STEPS: u32 = 200_000;

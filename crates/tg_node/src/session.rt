@@ -5,7 +5,7 @@ ghost use Rattle.std.specs.Prelude.{◌≡◌, ◌⊎◌, ◌++◌, ℕ, List, t
 ghost use Rattle.tg_base.specs.declared.fault.Which.{Which};
 ghost use Rattle.tg_io.specs.Faults.{Rose, StaysSure};
 ghost use Rattle.tg_io.specs.declared.status.Status.TheVariants.{Done, Script as AtLine, ReadFault, WriteFault, LinkFault, Limit, NoMemory as OutOfMemory};
-ghost use Rattle.tg_reader.specs.Lines.{ahead, lines};
+ghost use Rattle.tg_lines.specs.Lines.{ahead, lines};
 ghost use Rattle.tg_script.specs.Nodes.{is_declared};
 ghost use Rattle.tg_script.specs.Headers.{header_lines};
 ghost use Rattle.tg_node.specs.Texts.{Seen, Outcome, Followed, FirstOutside, Refused, PassesLimit, IsWithin, Limited, IsCutShort, IsText, IsOfNode, Told};
@@ -19,7 +19,7 @@ use crate::stages::{Next, Run};
 use std::alloc::Global;
 use tg_base::{Cluster, NodeId};
 use tg_io::{IoErr, Link, Sink, Source, Status};
-use tg_reader::{LineReader, Opening};
+use tg_lines::{LineReader, Opening};
 
 /// Runs one node of the cluster that a header declares, by the lines of a text.
 pub fn node<S: Source, K: Sink, L: Link>(

@@ -4,15 +4,15 @@ ghost use Rattle.std.specs.Prelude.{◌≡◌, ◌+◌, ◌<◌, Option, IfOk};
 ghost use Rattle.tg_io.specs.Faults.{HasCause, StaysSure};
 ghost use Rattle.tg_io.specs.Links.{Adds};
 ghost use Rattle.tg_io.specs.declared.link.Arrival.{Arrival};
-ghost use Rattle.tg_orders.specs.declared.asked.Asked.TheVariants.{Wait};
+ghost use Rattle.tg_node_lines.specs.declared.asked.Asked.TheVariants.{Wait};
 ghost use Rattle.tg_node.specs.Steps.{IsSound, TakesOne, TookLine};
 
 use crate::nodes::{MOST_DATAGRAMS, Moved, Node, Place};
 use std::alloc::Global;
 use tg_base::Which;
 use tg_io::{IoErr, Link};
-use tg_mail::{Came, receive};
-use tg_own::Input;
+use tg_link_packets::{Came, receive};
+use tg_node_state::Input;
 
 impl Node {
     /// So many calls of `recv`, as far as the limits allow. Each packet to the node is a step, and other datagrams are

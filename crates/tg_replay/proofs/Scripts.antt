@@ -12,7 +12,7 @@ use Rattle.tg_world.specs.Kept.{KeepsWorld}
 use Rattle.tg_replay.specs.Any.{all_kinds}
 use Rattle.tg_replay.specs.declared.stages.Run.{Run}
 use Rattle.tg_replay.specs.Runs.{Script, IsScript, IsWithin, IsLine, MayCome, Runs, line_on, lines_on, line_text, text_lines, run_of, world_of, front, transcript, FirstOutside, PassesLimit, Replayed, Refused, Limited, printed_before}
-use Rattle.tg_reader.specs.Lines.{lines}
+use Rattle.tg_lines.specs.Lines.{lines}
 use Rattle.tg_replay.specs.Stages.{IsRunOf, IsAfter}
 use Rattle.tg_replay.proofs.Lists.{front_and_next, front_more, take_next, length_last, last_or_before, take_whole, take_within, take_self, image}
 use Rattle.tg_replay.proofs.Making.{lines_longer}

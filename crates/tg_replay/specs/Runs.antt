@@ -16,7 +16,7 @@ use Rattle.tg_script.specs.Lines.{line_words, line_fits}
 use Rattle.tg_script.specs.declared.line.Line.{Line}
 use Rattle.tg_script.specs.declared.line.Line.TheVariants as line
 use Rattle.tg_trace.specs.Transcripts.{rendered}
-use Rattle.tg_reader.specs.Lines.{lines}
+use Rattle.tg_lines.specs.Lines.{lines}
 use Rattle.tg_world.specs.Runs.{happens_on, updates_on}
 use Rattle.tg_replay.specs.Any.{all_kinds}
 

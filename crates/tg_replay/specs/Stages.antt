@@ -16,7 +16,7 @@ use Rattle.tg_replay.specs.declared.stages.Run.{Run}
 use Rattle.tg_replay.specs.declared.stages.Finish.{Finish}
 use Rattle.tg_replay.specs.declared.stages.Fed.{Fed}
 use Rattle.tg_replay.specs.declared.stages.Fed.TheVariants.{Goes, Stops}
-use Rattle.tg_reader.specs.Lines.{lines}
+use Rattle.tg_lines.specs.Lines.{lines}
 use Rattle.tg_replay.specs.Runs.{Script, IsScript, IsWithin, Tells, FirstOutside, PassesLimit, Outcome, Runs, Worlds, text_lines, world_of, transcript, front}
 
 -- A run that was read: its script, which no other has in these lines.

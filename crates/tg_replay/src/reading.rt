@@ -2,7 +2,7 @@
 
 ghost use Rattle.std.specs.Prelude.{ℕ, List, IfOk, IfSome};
 ghost use Rattle.tg_io.specs.Faults.{HasCause, StaysSure};
-ghost use Rattle.tg_reader.specs.Lines.{ahead};
+ghost use Rattle.tg_lines.specs.Lines.{ahead};
 ghost use Rattle.tg_world.specs.Kept.{IsWorld};
 ghost use Rattle.tg_replay.specs.Any.{all_kinds};
 ghost use Rattle.tg_replay.specs.Stages.{Finished, Reads};
@@ -10,7 +10,7 @@ ghost use Rattle.tg_replay.specs.Stages.{Finished, Reads};
 use crate::stages::{End, Fed, Finish, Run};
 use std::alloc::Global;
 use tg_io::{IoErr, Source};
-use tg_reader::{LineReader, Opening, read_header};
+use tg_lines::{LineReader, Opening, read_header};
 
 /// Reads a script to its end, or to where its run ends.
 pub fn read_script<S: Source>(alloc: Global, source: &mut S) -> Result<Finish, IoErr>

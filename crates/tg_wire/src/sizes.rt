@@ -2,14 +2,14 @@
 
 ghost use Rattle.std.specs.Prelude.{◌≡◌, ◌≤◌, length};
 ghost use Rattle.tg_codec.specs.Codec.{from_table};
-ghost use Rattle.tg_packets.specs.Messages.{tag_of, messages, message};
-ghost use Rattle.tg_packets.specs.Short.{IsShort};
+ghost use Rattle.tg_wire_format.specs.Messages.{tag_of, messages, message};
+ghost use Rattle.tg_wire_format.specs.Short.{IsShort};
 
 use tg_base::Msg;
 use tg_codec::size_links;
-use tg_fields::{size_cell, size_objects, size_projection, size_proposal, size_vote};
+use tg_wire_fields::{size_cell, size_objects, size_projection, size_proposal, size_vote};
 
-#[tactic(auto, unfolding(tg_packets::specs::Messages::read, tg_packets::specs::Messages::write, tg_packets::specs::Messages::fill, tg_packets::specs::Messages::copy, tg_packets::specs::Messages::has, tg_packets::specs::Messages::seal, tg_packets::specs::Messages::trim, tg_packets::specs::Messages::held, tg_packets::specs::Messages::taken, tg_packets::specs::Messages::unwritten, tg_packets::specs::Messages::gone, tg_packets::specs::Messages::fenced, tg_packets::specs::Messages::sealed, tg_packets::specs::Messages::missing, tg_packets::specs::Messages::whole, tg_packets::specs::Messages::prepare, tg_packets::specs::Messages::accept, tg_packets::specs::Messages::decided, tg_packets::specs::Messages::ask_latest, tg_packets::specs::Messages::promise, tg_packets::specs::Messages::nack, tg_packets::specs::Messages::accepted, tg_packets::specs::Messages::latest, tg_packets::specs::Messages::learn, tg_packets::specs::Messages::token, tg_packets::specs::Messages::check, tg_packets::specs::Messages::issued, tg_packets::specs::Messages::tail, tg_packets::specs::Messages::scanning, tg_packets::specs::Messages::old_epoch, tg_packets::specs::Messages::full))]
+#[tactic(auto, unfolding(tg_wire_format::specs::Messages::read, tg_wire_format::specs::Messages::write, tg_wire_format::specs::Messages::fill, tg_wire_format::specs::Messages::copy, tg_wire_format::specs::Messages::has, tg_wire_format::specs::Messages::seal, tg_wire_format::specs::Messages::trim, tg_wire_format::specs::Messages::held, tg_wire_format::specs::Messages::taken, tg_wire_format::specs::Messages::unwritten, tg_wire_format::specs::Messages::gone, tg_wire_format::specs::Messages::fenced, tg_wire_format::specs::Messages::sealed, tg_wire_format::specs::Messages::missing, tg_wire_format::specs::Messages::whole, tg_wire_format::specs::Messages::prepare, tg_wire_format::specs::Messages::accept, tg_wire_format::specs::Messages::decided, tg_wire_format::specs::Messages::ask_latest, tg_wire_format::specs::Messages::promise, tg_wire_format::specs::Messages::nack, tg_wire_format::specs::Messages::accepted, tg_wire_format::specs::Messages::latest, tg_wire_format::specs::Messages::learn, tg_wire_format::specs::Messages::token, tg_wire_format::specs::Messages::check, tg_wire_format::specs::Messages::issued, tg_wire_format::specs::Messages::tail, tg_wire_format::specs::Messages::scanning, tg_wire_format::specs::Messages::old_epoch, tg_wire_format::specs::Messages::full))]
 fn size_fields(value: &Msg) -> usize
     requires { IsShort value.now }
     ensures len { result ≡ length ((from_table messages (tag_of value.now)).spell value.now) }
@@ -55,7 +55,7 @@ fn size_fields(value: &Msg) -> usize
 }
 
 /// The length of the spelling of a message behind its tag. It takes no memory.
-#[tactic(auto, unfolding(tg_packets::specs::Messages::message))]
+#[tactic(auto, unfolding(tg_wire_format::specs::Messages::message))]
 pub fn size_message(value: &Msg) -> usize
     requires { IsShort value.now }
     ensures len { result ≡ length (message.spell value.now) }

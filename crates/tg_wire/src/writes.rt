@@ -2,8 +2,8 @@
 
 ghost use Rattle.std.specs.Prelude.{◌≡◌, ◌++◌, OnOk};
 ghost use Rattle.tg_codec.specs.Codec.{from_table};
-ghost use Rattle.tg_packets.specs.Messages.{tag_of, messages, message};
-ghost use Rattle.tg_packets.specs.Short.{IsShort};
+ghost use Rattle.tg_wire_format.specs.Messages.{tag_of, messages, message};
+ghost use Rattle.tg_wire_format.specs.Short.{IsShort};
 
 use crate::shapes::{
     put_four, put_page, put_proposal, put_round, put_round_vote, put_stream_links, put_streams,
@@ -11,7 +11,7 @@ use crate::shapes::{
 };
 use tg_base::{List, Msg, NoMemory};
 use tg_codec::put_u64;
-use tg_fields::{put_cell, put_projection};
+use tg_wire_fields::{put_cell, put_projection};
 
 // The number that stands for a message.
 fn tag_of(value: &Msg) -> u8
@@ -52,7 +52,7 @@ fn tag_of(value: &Msg) -> u8
     }
 }
 
-#[tactic(auto, unfolding(tg_packets::specs::Messages::read, tg_packets::specs::Messages::write, tg_packets::specs::Messages::fill, tg_packets::specs::Messages::copy, tg_packets::specs::Messages::has, tg_packets::specs::Messages::seal, tg_packets::specs::Messages::trim, tg_packets::specs::Messages::held, tg_packets::specs::Messages::taken, tg_packets::specs::Messages::unwritten, tg_packets::specs::Messages::gone, tg_packets::specs::Messages::fenced, tg_packets::specs::Messages::sealed, tg_packets::specs::Messages::missing, tg_packets::specs::Messages::whole, tg_packets::specs::Messages::prepare, tg_packets::specs::Messages::accept, tg_packets::specs::Messages::decided, tg_packets::specs::Messages::ask_latest, tg_packets::specs::Messages::promise, tg_packets::specs::Messages::nack, tg_packets::specs::Messages::accepted, tg_packets::specs::Messages::latest, tg_packets::specs::Messages::learn, tg_packets::specs::Messages::token, tg_packets::specs::Messages::check, tg_packets::specs::Messages::issued, tg_packets::specs::Messages::tail, tg_packets::specs::Messages::scanning, tg_packets::specs::Messages::old_epoch, tg_packets::specs::Messages::full))]
+#[tactic(auto, unfolding(tg_wire_format::specs::Messages::read, tg_wire_format::specs::Messages::write, tg_wire_format::specs::Messages::fill, tg_wire_format::specs::Messages::copy, tg_wire_format::specs::Messages::has, tg_wire_format::specs::Messages::seal, tg_wire_format::specs::Messages::trim, tg_wire_format::specs::Messages::held, tg_wire_format::specs::Messages::taken, tg_wire_format::specs::Messages::unwritten, tg_wire_format::specs::Messages::gone, tg_wire_format::specs::Messages::fenced, tg_wire_format::specs::Messages::sealed, tg_wire_format::specs::Messages::missing, tg_wire_format::specs::Messages::whole, tg_wire_format::specs::Messages::prepare, tg_wire_format::specs::Messages::accept, tg_wire_format::specs::Messages::decided, tg_wire_format::specs::Messages::ask_latest, tg_wire_format::specs::Messages::promise, tg_wire_format::specs::Messages::nack, tg_wire_format::specs::Messages::accepted, tg_wire_format::specs::Messages::latest, tg_wire_format::specs::Messages::learn, tg_wire_format::specs::Messages::token, tg_wire_format::specs::Messages::check, tg_wire_format::specs::Messages::issued, tg_wire_format::specs::Messages::tail, tg_wire_format::specs::Messages::scanning, tg_wire_format::specs::Messages::old_epoch, tg_wire_format::specs::Messages::full))]
 fn put_fields(value: &Msg, out: &mut List<u8>) -> Result<(), NoMemory>
     requires { IsShort value.now }
     ensures { OnOk result (out.new ≡ out.old ++ (from_table messages (tag_of value.now)).spell value.now) }
@@ -106,7 +106,7 @@ fn put_fields(value: &Msg, out: &mut List<u8>) -> Result<(), NoMemory>
 }
 
 /// Puts a message last, behind its tag.
-#[tactic(auto, unfolding(tg_packets::specs::Messages::message))]
+#[tactic(auto, unfolding(tg_wire_format::specs::Messages::message))]
 pub fn put_message(value: &Msg, out: &mut List<u8>) -> Result<(), NoMemory>
     requires { IsShort value.now }
     ensures { OnOk result (out.new ≡ out.old ++ message.spell value.now) }

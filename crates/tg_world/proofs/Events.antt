@@ -11,7 +11,7 @@ use Rattle.tg_model.specs.Kinds.{CommandOf}
 use Rattle.tg_protocol.specs.Words.{client_id}
 use Rattle.tg_protocol.specs.Worlds as world
 use Rattle.tg_protocol.specs.Worlds.{World, happens}
-use Rattle.tg_servers.specs.Servers as servers
+use Rattle.tg_world_servers.specs.Servers as servers
 use Rattle.tg_world.specs.Kept.{KeptOf, IsWhole, KeepsWorld}
 use Rattle.tg_world.proofs.Moves.{moved, runs_same, comes_same, ticked_same}
 

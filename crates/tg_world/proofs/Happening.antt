@@ -12,8 +12,8 @@ use Rattle.tg_model.specs.declared.command.Event.TheVariants.{Command as Command
 use Rattle.tg_protocol.specs.Words.{client_id}
 use Rattle.tg_protocol.specs.Worlds as world
 use Rattle.tg_protocol.specs.Worlds.{World, happens}
-use Rattle.tg_servers.specs.Servers as servers
-use Rattle.tg_servers.specs.Servers.{receiver_of}
+use Rattle.tg_world_servers.specs.Servers as servers
+use Rattle.tg_world_servers.specs.Servers.{receiver_of}
 use Rattle.tg_world.specs.Kept.{KeptOf, IsWhole, KeepsWorld}
 use Rattle.tg_world.specs.Runs.{is_client, runs_client}
 use Rattle.tg_world.proofs.Whole.{if_ok}

@@ -15,10 +15,10 @@ use Rattle.tg_protocol.specs.LayoutServers.{LayoutTurn, layout_step}
 use Rattle.tg_protocol.specs.Logs.{Log}
 use Rattle.tg_protocol.specs.Worlds as world
 use Rattle.tg_protocol.specs.Worlds.{World, latest, log, unit_moves, layout_moves, seqr_moves}
-use Rattle.tg_logs.specs.Archives.{archived}
-use Rattle.tg_post.specs.Posts.{answer_from}
-use Rattle.tg_servers.specs.Servers as servers
-use Rattle.tg_servers.specs.Servers.{unit_takes, layout_takes, seqr_takes, seqr_ticks}
+use Rattle.tg_world_log.specs.Archives.{archived}
+use Rattle.tg_world_packets.specs.Posts.{answer_from}
+use Rattle.tg_world_servers.specs.Servers as servers
+use Rattle.tg_world_servers.specs.Servers.{unit_takes, layout_takes, seqr_takes, seqr_ticks}
 use Rattle.tg_world.specs.Clients.{KeepsClients}
 use Rattle.tg_world.specs.Kept.{KeptOf, IsWhole, world_of, KeepsWorld}
 use Rattle.tg_world.proofs.Moving.{keeps_length}

@@ -6,7 +6,7 @@ use Rattle.tg_base.specs.Clusters.{Header}
 use Rattle.tg_kind.specs.Meaning.{Meaning}
 use Rattle.tg_protocol.specs.Clients.{Client}
 use Rattle.tg_protocol.specs.Worlds.{Noted}
-use Rattle.tg_servers.specs.Servers.{ServersState}
+use Rattle.tg_world_servers.specs.Servers.{ServersState}
 use Rattle.tg_client.specs.Kept.{Kept, KeepsClient}
 use Rattle.tg_world.specs.Clients.{KeepsClients}
 use Rattle.tg_world.specs.Kept.{IsWhole}

@@ -5,14 +5,14 @@ use Rattle.tg_base.specs.Clusters.{Header}
 use Rattle.tg_base.specs.declared.ids.NodeId.{NodeId}
 use Rattle.tg_kind.specs.Meaning.{Meaning}
 use Rattle.tg_model.specs.Kinds.{MarkOf}
-use Rattle.tg_post.specs.Posts.{first_of}
+use Rattle.tg_world_packets.specs.Posts.{first_of}
 use Rattle.tg_protocol.specs.Words.{numbers, unit_id, layout_id, seqr_id, client_id}
 use Rattle.tg_protocol.specs.Clients.{new_client}
 use Rattle.tg_protocol.specs.Logs.{Log, history_of}
 use Rattle.tg_protocol.specs.Worlds as world
 use Rattle.tg_protocol.specs.Worlds.{World, Noted, latest, log, history, limit_of, start}
-use Rattle.tg_servers.specs.Servers as servers
-use Rattle.tg_servers.specs.Servers.{servers_limit, servers_start}
+use Rattle.tg_world_servers.specs.Servers as servers
+use Rattle.tg_world_servers.specs.Servers.{servers_limit, servers_start}
 use Rattle.tg_world.specs.Clients.{KeepsClients}
 use Rattle.tg_world.specs.Kept.{KeptOf, IsWhole, told_all, KeepsWorld}
 use Rattle.tg_world.specs.Runs.{due_by, due_of, end_by, end_of}

@@ -10,8 +10,8 @@ use Rattle.tg_protocol.specs.Clients.{Client, new_client, upto}
 use Rattle.tg_protocol.specs.ClientSteps.{ClientTurn, client_command, client_deliver}
 use Rattle.tg_protocol.specs.Worlds as world
 use Rattle.tg_protocol.specs.Worlds.{World, Noted, client_turned}
-use Rattle.tg_servers.specs.Servers as servers
-use Rattle.tg_servers.specs.Servers.{ServersState}
+use Rattle.tg_world_servers.specs.Servers as servers
+use Rattle.tg_world_servers.specs.Servers.{ServersState}
 use Rattle.tg_client.specs.Kept.{Kept as KeptClient, KeepsClient}
 use Rattle.tg_world.specs.Clients.{KeepsClients}
 use Rattle.tg_world.specs.Kept.{KeptOf, told_all, told_by, world_of, KeepsWorld}

@@ -7,8 +7,8 @@ use Rattle.tg_protocol.specs.Clients.{Client}
 use Rattle.tg_protocol.specs.ClientSteps.{ClientTurn}
 use Rattle.tg_protocol.specs.Worlds as world
 use Rattle.tg_protocol.specs.Worlds.{World, Noted, client_turned}
-use Rattle.tg_servers.specs.Servers as servers
-use Rattle.tg_servers.specs.Servers.{ServersState}
+use Rattle.tg_world_servers.specs.Servers as servers
+use Rattle.tg_world_servers.specs.Servers.{ServersState}
 use Rattle.tg_client.specs.Kept.{Kept as KeptClient}
 use Rattle.tg_world.specs.Kept.{KeptOf, told_all, told_by, world_of}
 

@@ -10,7 +10,7 @@ use Rattle.tg_base.specs.declared.ids.Role.TheVariants as role
 use Rattle.tg_kind.specs.Meaning.{Meaning}
 use Rattle.tg_protocol.specs.Words.{first_some, where_true}
 use Rattle.tg_protocol.specs.Worlds.{Noted}
-use Rattle.tg_servers.specs.Servers.{ServersState, servers_limit, servers_start, runs, count_of, has_stopped}
+use Rattle.tg_world_servers.specs.Servers.{ServersState, servers_limit, servers_start, runs, count_of, has_stopped}
 use Rattle.tg_world.specs.Clients.{KeepsClients, AreClients}
 use Rattle.tg_world.specs.Kept.{KeptOf, IsWhole, IsWorld}
 

@@ -6,7 +6,7 @@ use Rattle.tg_protocol.specs.Clients.{Client}
 use Rattle.tg_protocol.specs.Worlds as world
 use Rattle.tg_client.specs.Kept.{Kept as KeptClient}
 use Rattle.tg_model.specs.Kinds.{MarkOf}
-use Rattle.tg_servers.specs.Servers.{ServersState}
+use Rattle.tg_world_servers.specs.Servers.{ServersState}
 use Rattle.tg_world.specs.Clients.{KeepsClients}
 
 -- a world of clients of type C, and replies of type T

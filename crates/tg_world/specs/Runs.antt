@@ -11,7 +11,7 @@ use Rattle.tg_model.specs.declared.command.Command.TheVariants as cmd
 use Rattle.tg_model.specs.declared.command.Event.TheVariants as event
 use Rattle.tg_protocol.specs.Clients.{Client, upto}
 use Rattle.tg_protocol.specs.Worlds.{World, Noted, Ran, ran, happens, lowest, limit_of, unless_stopped}
-use Rattle.tg_servers.specs.Servers.{ServersState, runs}
+use Rattle.tg_world_servers.specs.Servers.{ServersState, runs}
 
 abbrev pub is_client : Role → Bool
 is_client role.Client = true

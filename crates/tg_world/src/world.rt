@@ -6,7 +6,7 @@ ghost use Rattle.tg_kind.specs.Of.{meaning_of};
 ghost use Rattle.tg_model.specs.declared.command.Event.TheVariants as event;
 ghost use Rattle.tg_protocol.specs.Words.{client_id};
 ghost use Rattle.tg_protocol.specs.Worlds as seen;
-ghost use Rattle.tg_servers.specs.Servers.{counted, hands, loses, taken, ticked, runs, stops, receiver_of};
+ghost use Rattle.tg_world_servers.specs.Servers.{counted, hands, loses, taken, ticked, runs, stops, receiver_of};
 ghost use Rattle.tg_world.specs.Checks.{declares};
 ghost use Rattle.tg_world.specs.Kept.{IsWhole, IsWorld, KeepsWorld};
 ghost use Rattle.tg_world.specs.Runs.{due_of, end_of, noted_after, runs_client};
@@ -21,9 +21,9 @@ use std::marker::Model;
 use tg_base::{Cell, Cluster, List, NoMemory, NodeId, Packet, Pos, Role, Which};
 use tg_client::Client;
 use tg_kind::Registry;
-use tg_logs::history_of;
 use tg_model::{CommandOf, DoneOf, Event, EventOf, MarkOf};
-use tg_servers::Servers;
+use tg_world_log::history_of;
+use tg_world_servers::Servers;
 
 /// How many steps a run has at most.
 const MAX_STEPS: u32 = 200_000;

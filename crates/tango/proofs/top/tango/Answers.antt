@@ -5,9 +5,9 @@ use Rattle.tg_io.specs.Bytes.{Takes}
 use Rattle.tg_io.specs.Faults.{Rose}
 use Rattle.tg_io.specs.declared.status.Status.TheVariants.{Done, Script, ReadFault, WriteFault, LinkFault, Limit, NoMemory}
 use Rattle.tg_replay.specs.Runs.{IsWithin, run_of}
-use Rattle.tg_load.specs.Loads.{load, summary, IsFront}
+use Rattle.tg_bench.specs.Loads.{load, summary, IsFront}
 use Rattle.tg_node.specs.Stages.{seen}
-use Rattle.tg_reader.specs.Lines.{lines}
+use Rattle.tg_lines.specs.Lines.{lines}
 use Rattle.tg_node.specs.Texts.{Told, Followed, FirstOutside, Refused, PassesLimit, IsWithin as WithNoLimit, Limited, IsCutShort, IsText}
 use Rattle.tango.proofs.Lawful.{legal_told, illegal_told}
 use Rattle.tango.proofs.Loads.{moved}

@@ -1,6 +1,6 @@
 use Rattle.std.proofs.Common.{◌≤◌, ℕ, List, Option, Some, refl, subst, arith}
 use Rattle.tg_io.proofs.Faults.{sure_since}
-use Rattle.tg_reader.specs.Lines.{ahead, TakesLine}
+use Rattle.tg_lines.specs.Lines.{ahead, TakesLine}
 use Rattle.tg_replay.specs.declared.stages.End.TheVariants.{Whole}
 use Rattle.tg_live.specs.declared.stages.Fed.{Fed}
 use Rattle.tg_live.specs.Stages.{GoesOnKept, Feeds}

@@ -1,7 +1,7 @@
 use Rattle.std.proofs.Common.{None, refl, subst}
-use Rattle.tg_reader.specs.Lines.{ahead}
-use Rattle.tg_reader.specs.Openings.{Opened}
-use Rattle.tg_reader.specs.declared.header.Opening.{Opening}
+use Rattle.tg_lines.specs.Lines.{ahead}
+use Rattle.tg_lines.specs.Openings.{Opened}
+use Rattle.tg_lines.specs.declared.header.Opening.{Opening}
 use Rattle.tg_replay.specs.declared.stages.End.TheVariants.{Outside}
 use Rattle.tg_live.proofs.Feeding.{header_outside, header_opens}
 use Rattle.tg_live.proofs.running.run_script.Goals as goal

@@ -1,5 +1,5 @@
 use Rattle.std.proofs.Common.{◌≡◌, ◌≤◌, ℕ, List, length, Option, IfSome, subst, arith}
-use Rattle.tg_reader.specs.Lines.{ahead, TakesLine}
+use Rattle.tg_lines.specs.Lines.{ahead, TakesLine}
 use Rattle.tg_node.specs.Texts.{FirstOutside}
 use Rattle.tg_node.specs.Openings.{IsOpening}
 use Rattle.tg_node.proofs.Openings.{opened_outside, opened_end, opened_whole}

@@ -1,7 +1,7 @@
 use Rattle.std.proofs.Common.{◌≤◌, ◌-◌, length}
 use Rattle.tg_io.specs.Faults.{StaysSure}
-use Rattle.tg_reader.specs.Lines.{ahead}
-use Rattle.tg_reader.specs.Openings.{Reached}
+use Rattle.tg_lines.specs.Lines.{ahead}
+use Rattle.tg_lines.specs.Openings.{Reached}
 use Rattle.tg_node.proofs.header.read_own_header.Given as goal
 
 abbrev pub invariant-loop-alloc : goal.invariant-loop-alloc

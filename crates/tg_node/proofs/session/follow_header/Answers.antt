@@ -1,5 +1,5 @@
 use Rattle.std.proofs.Common.{refl, inl, arith}
-use Rattle.tg_reader.specs.Lines.{ahead}
+use Rattle.tg_lines.specs.Lines.{ahead}
 use Rattle.tg_node.specs.Stages.{seen}
 use Rattle.tg_node.proofs.Ending.{if_any, if_weaker, opens, opens_sound, causes_none}
 use Rattle.tg_node.proofs.session.follow_header.Goals as goal

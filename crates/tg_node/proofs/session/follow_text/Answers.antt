@@ -1,6 +1,6 @@
 use Rattle.std.proofs.Common.{ℕ, List, Option, ◌≡◌, ◌≤◌, ◌∙◌, ap, sym, refl, subst, arith}
 use Rattle.tg_io.proofs.Faults.{sure_since}
-use Rattle.tg_reader.specs.Lines.{ahead, TakesLine}
+use Rattle.tg_lines.specs.Lines.{ahead, TakesLine}
 use Rattle.tg_node.specs.Stages.{seen, GoesSound, LineCauses}
 use Rattle.tg_node.specs.declared.stages.Next.{Next}
 use Rattle.tg_node.specs.declared.stages.Next.TheVariants.{Goes, Ends}

@@ -1,6 +1,6 @@
 use Rattle.std.proofs.Common.{◌≤◌, ◌+◌, length}
 use Rattle.tg_io.specs.Faults.{StaysSure}
-use Rattle.tg_reader.specs.Lines.{ahead}
+use Rattle.tg_lines.specs.Lines.{ahead}
 use Rattle.tg_node.specs.Steps.{IsSound}
 use Rattle.tg_node.specs.Stages.{StillFollows, seen}
 use Rattle.tg_node.proofs.session.follow_text.Given as goal

@@ -1,6 +1,6 @@
 use Rattle.std.proofs.Common.{subst, arith}
-use Rattle.tg_reader.specs.Lines.{ahead}
-use Rattle.tg_reader.specs.declared.header.Opening.{Opening}
+use Rattle.tg_lines.specs.Lines.{ahead}
+use Rattle.tg_lines.specs.declared.header.Opening.{Opening}
 use Rattle.tg_node.specs.Openings.{Opened}
 use Rattle.tg_node.specs.Stages.{seen}
 use Rattle.tg_node.proofs.Ending.{header_opens, header_outside, told_cut, causes_since, causes_script, causes_read, causes_none, failed}

@@ -1,6 +1,6 @@
 use Rattle.std.proofs.Common.{sym, ap, ◌∙◌}
 use Rattle.tg_protocol.specs.Clients.{upto}
-use Rattle.tg_state.specs.States.{rest_of}
+use Rattle.tg_client_state.specs.States.{rest_of}
 use Rattle.tg_play.proofs.Means.{means}
 use Rattle.tg_client.proofs.client.Client.upto.Goals as goal
 

@@ -1,5 +1,5 @@
 use Rattle.std.proofs.Common.{◌≡◌, ◌+◌, ◌<◌, ◌∙◌, [], ◌∷◌, refl, ap, sym, subst, arith}
-use Rattle.tg_mail.specs.declared.receiving.Came.TheVariants as came
+use Rattle.tg_link_packets.specs.declared.receiving.Came.TheVariants as came
 use Rattle.tg_node.specs.Sessions.{datagrams_in}
 use Rattle.tg_node.specs.Steps.{IsSound}
 use Rattle.tg_node.specs.declared.nodes.Node.{Node}

@@ -1,7 +1,7 @@
 use Rattle.std.proofs.Common.{◌≡◌, [], ◌∷◌, ◌∙◌, sym}
 use Rattle.std.proofs.lemmas.Result.{IfOk-weaker}
 use Rattle.tg_model.specs.declared.command.Command.TheVariants as cmd
-use Rattle.tg_own.specs.declared.input.Input.TheVariants as input
+use Rattle.tg_node_state.specs.declared.input.Input.TheVariants as input
 use Rattle.tg_node.proofs.Stepping.{makes_by, makes_part, makes_more, makes_on}
 use Rattle.tg_node.proofs.nodes.Node.update.Goals as goal
 

@@ -5,7 +5,7 @@ use Rattle.tg_play.proofs.Means.{means}
 use Rattle.tg_protocol.specs.Words.{client_id}
 use Rattle.tg_protocol.specs.Clients.{new_client}
 use Rattle.tg_protocol.specs.Worlds.{client}
-use Rattle.tg_servers.specs.Servers.{ServersState, counted, sends}
+use Rattle.tg_world_servers.specs.Servers.{ServersState, counted, sends}
 use Rattle.tg_world.specs.Kept.{KeptOf, KeepsWorld}
 use Rattle.tg_world.proofs.Whole.{noted_within}
 use Rattle.tg_world.proofs.Moving.{was_there, whole_turned}

@@ -6,7 +6,7 @@ use Rattle.tg_protocol.specs.Words.{client_id}
 use Rattle.tg_protocol.specs.Clients.{new_client}
 use Rattle.tg_protocol.specs.ClientSteps.{client_tick}
 use Rattle.tg_protocol.specs.Worlds.{client}
-use Rattle.tg_servers.specs.Servers.{ServersState, counted, sends}
+use Rattle.tg_world_servers.specs.Servers.{ServersState, counted, sends}
 use Rattle.tg_world.specs.Kept.{KeptOf, KeepsWorld}
 use Rattle.tg_world.proofs.Moving.{was_there}
 use Rattle.tg_world.proofs.Whole.{are_of, noted_within}

@@ -1,0 +1,24 @@
+//! Replays scripts: `bench_replay FILE ..` prints the transcript of each, one after the other.
+#![tactic(auto)]
+
+use std::process::ExitCode;
+use std::{fs, io};
+use tg_io::{Reading, Status, Writing};
+use tg_replay::replay;
+
+/// Prints the transcripts of the files that the words after the program's name tell.
+fn main(rt: HostRuntime) -> io::Result<ExitCode> {
+    let alloc = rt.alloc();
+    let names: Vec<String> = std::env::args(&rt)?.skip(1).collect(alloc)?;
+    let mut sink = Writing::new(rt.stdout());
+    for name in names.as_slice() {
+        let mut source = Reading::new(fs::open(&rt, name.as_str())?);
+        let status = replay(alloc, &mut source, &mut sink);
+        if status != Status::Done {
+            let code = status.code();
+            eprintln!(rt; "bench_replay: {name}: status {code}")?;
+            return Ok(ExitCode::from(code));
+        }
+    }
+    Ok(ExitCode::SUCCESS)
+}

@@ -1,0 +1,25 @@
+//! Why there is no answer.
+
+ghost use Rattle.std.specs.Prelude.{◌≡◌};
+ghost use Rattle.bench_unit.specs.declared.fault.Fault.TheVariants.{NoMemory};
+
+use thiserror::Error;
+
+/// Why there is no answer.
+#[derive(Clone, Copy, Debug, PartialEq, Eq, Error)]
+pub enum Fault {
+    /// The words are no order with a count and, it may be, with a number of units.
+    #[error("the words are ORDER COUNT [UNITS]")]
+    Words,
+    /// Memory ran out.
+    #[error("out of memory")]
+    NoMemory,
+}
+
+impl From<tg_base::NoMemory> for Fault {
+    ghost from_gives = { λ _ e. e ≡ NoMemory };
+
+    fn from(_e: tg_base::NoMemory) -> Fault {
+        Fault::NoMemory
+    }
+}

@@ -1,0 +1,28 @@
+use std::alloc::Global;
+use std::test::Fail;
+use tg_base::{NodeId, Role};
+use tg_live_match::Book;
+
+fn unit(num: u16) -> NodeId {
+    NodeId {
+        role: Role::Unit,
+        num,
+    }
+}
+
+// Packets 0 and 2 are spelled alike and go to u0, packet 1 goes to u1.
+#[test]
+fn equal_packets_come_in_turn_and_then_the_first_again(rt: HostRuntime) -> Result<(), Fail> {
+    let alloc: Global = rt.alloc();
+    let mut book = Book::new(alloc);
+    book.note(alloc, unit(0), b"a")?;
+    book.note(alloc, unit(1), b"b")?;
+    book.note(alloc, unit(0), b"a")?;
+    assert_eq!(rt; book.arrived(unit(0), b"a"), Some(0));
+    assert_eq!(rt; book.arrived(unit(1), b"b"), Some(1));
+    assert_eq!(rt; book.arrived(unit(0), b"a"), Some(2));
+    assert_eq!(rt; book.arrived(unit(0), b"a"), Some(0));
+    assert_eq!(rt; book.arrived(unit(1), b"a"), None);
+    assert_eq!(rt; book.arrived(unit(0), b"c"), None);
+    Ok(())
+}

@@ -1,0 +1,69 @@
+//! Commands are answered, once the view has played.
+
+ghost use Rattle.tg_kind.specs.Of.{meaning_of};
+ghost use Rattle.tg_protocol.specs.Answers as told;
+ghost use Rattle.tg_protocol.specs.Views as views;
+ghost use Rattle.tg_client_answers_tx.specs.Fates.{Moves};
+
+use std::alloc::Global;
+use tg_base::{List, NoMemory};
+use tg_client_answers_tx::{on_ask, on_decide, on_end, on_fate};
+use tg_client_answers_upkeep::{on_checkpoint, on_forget, on_trim};
+use tg_client_state::{Moved, State};
+use tg_client_work::Job;
+use tg_entry::Entries;
+use tg_kind::Registry;
+use tg_model::{Command, PlayEnd};
+
+// A command `ask` is answered, and no other one. An `Err` is want of memory, or of numbers.
+fn asked<K: Registry>(
+    state: State<K>,
+    alloc: Global,
+    job: Job<K>,
+    came: PlayEnd,
+) -> Result<Moved<K>, NoMemory>
+    ensures { (es : views.Entries) → Moves (meaning_of K.Registry) state job result (λ c w v. told.answer_by (meaning_of K.Registry) c w es (record { view = v; came = came }) w.command) }
+{
+    let tail = job.tail;
+    match job.into_command() {
+        Command::Ask { oid, ask } => on_ask(state, alloc, tail, oid, ask, came),
+        _ => Err(NoMemory),
+    }
+}
+
+/// The command is answered by what the view has played, and where the play came to. Commands that play nothing are
+/// answered by nothing here.
+///
+/// An `Err` is want of memory, or of numbers. A client that keeps no view has no answer either.
+pub fn answered<K: Registry>(
+    state: State<K>,
+    alloc: Global,
+    job: Job<K>,
+    entries: &Entries,
+    came: PlayEnd,
+) -> Result<Moved<K>, NoMemory>
+    ensures { Moves (meaning_of K.Registry) state job result (λ c w v. told.answer_by (meaning_of K.Registry) c w entries.now (record { view = v; came = came }) w.command) }
+{
+    match &job.command {
+        Command::Ask { .. } => asked(state, alloc, job, came),
+        Command::End => on_end(state, alloc, job, entries, came),
+        Command::Fate { at } => {
+            let at = *at;
+            on_fate(state, alloc, job, entries, at, came)
+        }
+        Command::Decide { at } => {
+            let at = *at;
+            on_decide(state, alloc, job, entries, at, came)
+        }
+        Command::Checkpoint { oid } => {
+            let oid = *oid;
+            on_checkpoint(state, alloc, job, oid, came)
+        }
+        Command::Forget { oid, mark } => {
+            let (oid, mark) = (*oid, *mark);
+            on_forget(state, alloc, job, entries, oid, mark, came)
+        }
+        Command::Trim => on_trim(state, alloc, job, came),
+        _ => state.replies(alloc, List::new(alloc)),
+    }
+}

@@ -1,0 +1,62 @@
+-- Entries that are put in order.
+use Rattle.std.proofs.Common.{◌≡◌, ℕ, Bool, true, ◌&&◌, List, [], ◌∷◌, ◌++◌, nat_lt, Less, Option, Some, None, refl, ap, ◌∙◌, arith}
+use Rattle.std.specs.List.{list_all, AllByRecursion}
+use Rattle.std.specs.List.Sorted.{IsStrictlySortedBy}
+use Rattle.std.specs.Ordering.{nat_cmp}
+use Rattle.std.proofs.lemmas.Bool.Decides.{nat_tests}
+use Rattle.std.proofs.lemmas.List.{append-nil}
+use Rattle.std.proofs.lemmas.Map.Keys.{sorted_head, sorted_tail}
+use Rattle.tg_entry.specs.declared.entry.Entry.{Entry}
+use Rattle.tg_entry.specs.Drafts.{all_below}
+use Rattle.tg_protocol.specs.Views.{Entries}
+use Rattle.tg_client_cells.specs.Words.{entry_if}
+use Rattle.tg_client_cells.proofs.Unions.{rises}
+
+-- the positions that are left rise, and all entries stand below each
+abbrev pub left_above : Entries → List ℕ → Bool
+left_above es ps = rises ps && list_all (λ q. all_below q es) ps
+
+below-last : (q p : ℕ) (e : Entry) (es : Entries) → all_below q es ≡ true → nat_lt p q ≡ true → all_below q (es ++ (p, e) ∷ []) ≡ true
+below-last q p e [] h lt = rw lt refl
+below-last q p e (x ∷ es) h lt =
+    let head : nat_lt x.0 q ≡ true = grind arith in
+    let tail : all_below q es ≡ true = grind arith in
+    rw head (below-last q p e es tail lt)
+
+below-put : (q p : ℕ) (x : Option Entry) (es : Entries) → all_below q es ≡ true → nat_lt p q ≡ true → all_below q (es ++ entry_if p x []) ≡ true
+below-put q p None es h lt = ap (all_below q) (append-nil es) ∙ h
+below-put q p (Some e) es h lt = below-last q p e es h lt
+
+below-all : (p : ℕ) (x : Option Entry) (es : Entries) (ps : List ℕ) → list_all (λ q. nat_lt p q) ps ≡ true → list_all (λ q. all_below q es) ps ≡ true → list_all (λ q. all_below q (es ++ entry_if p x [])) ps ≡ true
+below-all p x es [] lt h = refl
+below-all p x es (q ∷ ps) lt h =
+    let lt-one : nat_lt p q ≡ true = grind arith in
+    let lt-more : list_all (λ r. nat_lt p r) ps ≡ true = grind arith in
+    let one : all_below q es ≡ true = grind arith in
+    let more : list_all (λ r. all_below r es) ps ≡ true = grind arith in
+    rw (below-put q p x es one lt-one) (below-all p x es ps lt-more more)
+
+pub above_next : (es new : Entries) (x : Option Entry) (p : ℕ) (ps : List ℕ) → new ≡ es ++ entry_if p x [] → left_above es (p ∷ ps) ≡ true → left_above new ps ≡ true
+above_next es new x p ps put h =
+    let over : list_all (λ q. nat_lt p q) ps ≡ true = grind arith in
+    let rest : rises ps ≡ true = grind arith in
+    let more : list_all (λ q. all_below q es) ps ≡ true = grind arith in
+    ap (λ (l : Entries). left_above l ps) put ∙ ap (λ b. b && list_all (λ q. all_below q (es ++ entry_if p x [])) ps) rest ∙ below-all p x es ps over more
+
+none-above : (ps : List ℕ) → list_all (λ q. all_below q []) ps ≡ true
+none-above [] = refl
+none-above (p ∷ ps) = none-above ps
+
+pub above_none : (ps : List ℕ) → rises ps ≡ true → left_above [] ps ≡ true
+above_none ps h = ap (λ b. b && list_all (λ q. all_below q []) ps) h ∙ none-above ps
+
+less-all : (p : ℕ) (ps : List ℕ) → AllByRecursion (λ q. nat_cmp p q ≡ Less) ps → list_all (λ q. nat_lt p q) ps ≡ true
+less-all p [] h = refl
+less-all p (q ∷ ps) h =
+    let one : nat_lt p q ≡ true = grind (arith, nat_tests, h.0) in
+    rw one (less-all p ps h.1)
+
+-- positions of a set
+pub sorted_rises : (ps : List ℕ) → IsStrictlySortedBy nat_cmp ps → rises ps ≡ true
+sorted_rises [] h = refl
+sorted_rises (p ∷ ps) h = rw (less-all p ps (sorted_head nat_cmp p ps h)) (sorted_rises ps (sorted_tail nat_cmp p ps h))

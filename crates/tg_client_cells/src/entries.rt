@@ -1,0 +1,129 @@
+//! The entries of known pages.
+
+ghost use Rattle.std.specs.Prelude.{◌≡◌, ◌++◌, [], true, Some, IfOk, OnOk};
+ghost use Rattle.tg_entry.specs.Drafts.{all_below};
+ghost use Rattle.tg_protocol.specs.Words.{cell_at};
+ghost use Rattle.tg_protocol.specs.Entries.{is_commit};
+ghost use Rattle.tg_protocol.specs.Pages.{entry_of};
+ghost use Rattle.tg_client_cells.specs.Words.{cell_entry, entry_if, entries_at, commits_by, commit_of, fits_by, AreSpelled};
+
+use crate::positions::Positions;
+use std::alloc::Global;
+use std::collections::BTreeMap;
+use tg_base::{Blob, Cell, NoMemory, Pos};
+use tg_entry::{Body, Entries, Entry, EntryFault, decode};
+
+/// The entry whose spelling a page is, None where it is no entry's.
+#[tactic(auto, unfolding(tg_protocol::specs::Pages::entry_of))]
+fn entry_of(alloc: Global, page: &Blob) -> Result<Option<Entry>, NoMemory>
+    ensures entry { IfOk result (λ e. e ≡ entry_of page.now) }
+    ensures spelled { IfOk result (λ e. fits_by e ≡ true) }
+{
+    match decode(alloc, page.as_slice()) {
+        Ok(entry) => Ok(Some(entry)),
+        Err(EntryFault::NoMemory) => Err(NoMemory),
+        Err(_) => Ok(None),
+    }
+}
+
+/// The entry that a cell holds, None where it holds none.
+fn entry_in(alloc: Global, cell: &Cell) -> Result<Option<Entry>, NoMemory>
+    ensures entry { IfOk result (λ e. e ≡ cell_entry (Some cell.now)) }
+    ensures spelled { IfOk result (λ e. fits_by e ≡ true) }
+{
+    match cell {
+        Cell::Junk => Ok(None),
+        Cell::Data(page) => entry_of(alloc, page),
+    }
+}
+
+/// Whether an entry decides nothing, if there is one.
+fn commits_by(entry: &Option<Entry>) -> bool
+    ensures { result ≡ commits_by entry.now }
+{
+    match entry {
+        None => true,
+        Some(entry) => is_commit(entry),
+    }
+}
+
+/// Whether an entry is a commit record.
+fn is_commit(entry: &Entry) -> bool
+    ensures { result ≡ is_commit entry.now }
+{
+    matches!(entry.body, Body::Commit { .. })
+}
+
+/// Whether a cell holds no entry but a commit record.
+pub fn commits(alloc: Global, cell: &Cell) -> Result<bool, NoMemory>
+    ensures { IfOk result (λ c. c ≡ commits_by (cell_entry (Some cell.now))) }
+{
+    let entry = entry_in(alloc, cell)?;
+    Ok(commits_by(&entry))
+}
+
+/// The entry at a position, None where no page of one is known there.
+fn entry_at(alloc: Global, cells: &BTreeMap<u64, Cell>, pos: Pos) -> Result<Option<Entry>, NoMemory>
+    ensures entry { IfOk result (λ e. e ≡ cell_entry (cell_at cells.now.entries pos)) }
+    ensures spelled { IfOk result (λ e. fits_by e ≡ true) }
+{
+    match cells.get(&pos) {
+        None => Ok(None),
+        Some(cell) => entry_in(alloc, cell),
+    }
+}
+
+/// The commit record at a position, None where no page of one is known there.
+pub fn commit_at(
+    alloc: Global,
+    cells: &BTreeMap<u64, Cell>,
+    pos: Pos,
+) -> Result<Option<Entry>, NoMemory>
+    ensures { IfOk result (λ e. e ≡ commit_of (cell_entry (cell_at cells.now.entries pos))) }
+{
+    match entry_at(alloc, cells, pos)? {
+        None => Ok(None),
+        Some(entry) => Ok(commit_of(entry)),
+    }
+}
+
+/// The entry, if it is a commit record.
+fn commit_of(entry: Entry) -> Option<Entry>
+    ensures { result ≡ commit_of (Some entry) }
+{
+    if is_commit(&entry) {
+        return Some(entry);
+    }
+    None
+}
+
+/// The entries at these positions, as far as their pages are known. Each has a spelling, since it was read from a page.
+pub fn entries_at(
+    alloc: Global,
+    cells: &BTreeMap<u64, Cell>,
+    positions: &Positions,
+) -> Result<Entries, NoMemory>
+    ensures entries { IfOk result (λ es. es ≡ entries_at cells.now.entries positions.now) }
+    ensures spelled { IfOk result (λ es. AreSpelled es) }
+{
+    let mut entries = Entries::new(alloc);
+    for pos in positions.as_set() {
+        let entry = entry_at(alloc, cells, *pos)?;
+        put_entry(&mut entries, *pos, entry)?;
+    }
+    Ok(entries)
+}
+
+/// Puts an entry last, where there is one.
+fn put_entry(entries: &mut Entries, pos: Pos, entry: Option<Entry>) -> Result<(), NoMemory>
+    requires { all_below pos entries.old ≡ true }
+    ensures { OnOk result (entries.new ≡ entries.old ++ entry_if pos entry []) }
+{
+    match entry {
+        None => Ok(()),
+        Some(entry) => {
+            entries.push(pos, entry)?;
+            Ok(())
+        }
+    }
+}

@@ -1,0 +1,329 @@
+//! What a client knows of the log.
+
+ghost use Rattle.std.specs.Prelude.{◌≡◌, [], max, min, filter, option_copied, IfOk, if◌then◌else◌, nat_lt, ◌&&◌, ◌||◌, None};
+ghost use Rattle.tg_protocol.specs.Words.{cell_at, with_nums, has_num};
+ghost use Rattle.tg_protocol.specs.Past.{commit_at};
+ghost use Rattle.tg_client_cells.specs.Words.{within, any_has, entries_at, AreSpelled};
+ghost use Rattle.tg_client_cells.specs.Known.{nothing, learnt, owned, keeping, lent, returned, given_up, settled_after, settles_to, IsSettled, member_positions, all_positions, all_entries, member_entries, new_entries, CommitsBelow};
+
+use crate::by_stream::StreamPositions;
+use crate::entries::{commit_at, entries_at};
+use crate::pages::{all_commit, drop_others};
+use crate::positions::Positions;
+use std::alloc::Global;
+use std::collections::BTreeMap;
+use std::marker::Model;
+use std::mem;
+use tg_base::{Blob, Cell, NoMemory, Oid, Pos};
+use tg_entry::{Entries, Entry};
+use tg_stream::Cells;
+
+/// Known cells, the positions of the client's own commit records, those of the members of the streams that it hosts,
+/// and a position up to which cells are settled: below it each known page is one of the client's own commit records.
+///
+/// Own records, junk and kept positions are never given up. What a command does goes by what is known from the settled
+/// position on, so a history costs it nothing.
+pub struct Known {
+    cells: BTreeMap<u64, Cell>,
+    own: Positions,
+    kept: StreamPositions,
+    settled: Pos,
+}
+
+// By hand, since a derived drop is proved anew wherever a value is dropped.
+impl Drop for Known {
+    fn drop(self) {
+        let Known {
+            cells: _,
+            own: _,
+            kept: _,
+            settled: _,
+        } = self;
+    }
+}
+
+impl Model for Known {
+    ghost use Rattle.tg_client_cells.specs.Known.{Knowledge, IsSettled};
+
+    ghost Value = { Knowledge };
+
+    ghost view = { λ k. record { cells = k.cells.entries; own = k.own; kept = k.kept; settled = k.settled } };
+
+    ghost invariant = { λ k. IsSettled k.own k.settled k.cells.entries };
+}
+
+impl Known {
+    /// Nothing is known. It takes no memory.
+    pub fn new(alloc: Global) -> Known
+        ensures { result ≡ nothing }
+    {
+        Known {
+            cells: BTreeMap::new(alloc),
+            own: Positions::new(alloc),
+            kept: StreamPositions::new(alloc),
+            settled: 0,
+        }
+    }
+
+    /// The cell at a position, None where none is known. It takes no memory.
+    pub fn cell(&self, pos: Pos) -> Option<&Cell>
+        ensures { option_copied result ≡ cell_at self.now.cells pos }
+    {
+        self.cells.get(&pos)
+    }
+
+    /// The position below which each known page is one of the client's own commit records.
+    pub fn settled(&self) -> Pos
+        ensures { result ≡ self.now.settled }
+    {
+        self.settled
+    }
+
+    /// The positions of the members of hosted streams.
+    pub fn kept(&self) -> &StreamPositions
+        ensures { result.now ≡ self.now.kept }
+    {
+        &self.kept
+    }
+
+    /// The cell at a position becomes known. Where memory runs out, all is given up.
+    pub fn learn(self, pos: Pos, cell: Cell) -> Result<Known, NoMemory>
+        ensures { IfOk result (λ k. k ≡ learnt self pos cell) }
+    {
+        let Known {
+            mut cells,
+            own,
+            kept,
+            settled,
+        } = self;
+        cells.insert(pos, cell)?;
+        Ok(Known {
+            cells,
+            own,
+            kept,
+            settled: settled.min(pos),
+        })
+    }
+
+    /// The page at a position becomes known, as one of the client's own commit records. Where memory runs out, all is
+    /// given up.
+    pub fn own_record(self, pos: Pos, page: Blob) -> Result<Known, NoMemory>
+        ensures { IfOk result (λ k. k ≡ owned self pos page) }
+    {
+        let Known {
+            mut cells,
+            own,
+            kept,
+            settled,
+        } = self;
+        cells.insert(pos, Cell::Data(page))?;
+        let own = own.put(pos)?;
+        Ok(Known {
+            cells,
+            own,
+            kept,
+            settled: settled.min(pos),
+        })
+    }
+
+    /// Members of a hosted stream are kept, with those that are kept already. Where memory runs out, all is given up.
+    pub fn keep_members(self, alloc: Global, oid: Oid, positions: &[Pos]) -> Result<Known, NoMemory>
+        ensures { IfOk result (λ k. k ≡ keeping self oid positions.now) }
+    {
+        let Known {
+            cells,
+            own,
+            kept,
+            settled,
+        } = self;
+        let kept = kept.keep(alloc, oid, positions)?;
+        Ok(Known {
+            cells,
+            own,
+            kept,
+            settled,
+        })
+    }
+
+    /// The cells, for walks down to a position: none is known until they come back. It takes no memory.
+    pub fn lend(&mut self, alloc: Global, lo: Pos) -> Cells
+        ensures cells { result ≡ self.old.cells }
+        ensures left { self.new ≡ lent self.old lo }
+        ensures settled { IsSettled self.new.own self.new.settled result }
+    {
+        self.settled = self.settled.min(lo);
+        let cells = mem::replace(&mut self.cells, BTreeMap::new(alloc));
+        Cells::from_map(cells)
+    }
+
+    /// The cells come back from a walk. It takes no memory.
+    pub fn take_back(&mut self, cells: Cells)
+        requires { IsSettled self.old.own self.old.settled cells }
+        ensures { self.new ≡ returned self.old cells }
+    {
+        self.cells = cells.into_map();
+    }
+
+    /// Pages below a position are given up, but not those of the client's own commit records, nor junk. The time goes
+    /// by the cells from the settled position to this one, which is settled then. Where memory runs out, all is given
+    /// up.
+    ///
+    /// Where a page that isn't a commit record was learnt at the position of an own one, the settled position stays.
+    pub fn give_up(self, alloc: Global, upto: Pos) -> Result<Known, NoMemory>
+        ensures { IfOk result (λ k. k ≡ given_up self upto) }
+    {
+        let Known {
+            mut cells,
+            own,
+            kept,
+            settled,
+        } = self;
+        let all = all_commit(alloc, &cells, &own, settled, upto)?;
+        drop_others(alloc, &mut cells, &own, settled, upto)?;
+        Ok(Known {
+            cells,
+            own,
+            kept,
+            settled: settled_after(all, settled, upto),
+        })
+    }
+
+    /// The entries below a tail: those of the members of these streams, among the positions found and those kept, and
+    /// the client's own commit records. Each has a spelling, since it was read from a page. It goes over all that is known.
+    pub fn entries(
+        &self,
+        alloc: Global,
+        found: &StreamPositions,
+        streams: &[Oid],
+        tail: Pos,
+    ) -> Result<Entries, NoMemory>
+        ensures entries { IfOk result (λ es. es ≡ all_entries self.now found.now streams.now tail) }
+        ensures spelled { IfOk result (λ es. AreSpelled es) }
+    {
+        let positions = self.positions(alloc, found, streams, 0, tail)?;
+        entries_at(alloc, &self.cells, &positions)
+    }
+
+    /// Likewise without its own records.
+    pub fn member_entries(
+        &self,
+        alloc: Global,
+        found: &StreamPositions,
+        streams: &[Oid],
+        tail: Pos,
+    ) -> Result<Entries, NoMemory>
+        ensures entries { IfOk result (λ es. es ≡ member_entries self.now found.now streams.now tail) }
+        ensures spelled { IfOk result (λ es. AreSpelled es) }
+    {
+        let positions = self.members(alloc, found, streams, 0, tail)?;
+        entries_at(alloc, &self.cells, &positions)
+    }
+
+    /// Of those entries the ones from the settled position on. All others are commit records. The time goes by how many
+    /// positions are known from there on.
+    pub fn entries_from_settled(
+        &self,
+        alloc: Global,
+        found: &StreamPositions,
+        streams: &[Oid],
+        tail: Pos,
+    ) -> Result<Entries, NoMemory>
+        ensures entries { IfOk result (λ es. es ≡ new_entries self.now found.now streams.now tail) }
+        ensures spelled { IfOk result (λ es. AreSpelled es) }
+        ensures others { CommitsBelow self.now.settled (all_entries self.now found.now streams.now tail) }
+    {
+        let positions = self.positions(alloc, found, streams, self.settled, tail)?;
+        entries_at(alloc, &self.cells, &positions)
+    }
+
+    /// The commit record at a position among all those entries, None where there is none. It takes logarithmic time for
+    /// each stream.
+    pub fn commit_at(
+        &self,
+        alloc: Global,
+        found: &StreamPositions,
+        streams: &[Oid],
+        tail: Pos,
+        pos: Pos,
+    ) -> Result<Option<Entry>, NoMemory>
+        ensures { IfOk result (λ e. e ≡ commit_at (all_entries self.now found.now streams.now tail) pos) }
+    {
+        if !self.has(found, streams, tail, pos) {
+            return Ok(None);
+        }
+        commit_at(alloc, &self.cells, pos)
+    }
+
+    /// The entries at these positions, each once and in order, as far as their pages are known: those of the members
+    /// that a walk found, say.
+    pub fn entries_of(&self, alloc: Global, positions: &[Pos]) -> Result<Entries, NoMemory>
+        ensures entries { IfOk result (λ es. es ≡ entries_at self.now.cells (with_nums positions.now [])) }
+        ensures spelled { IfOk result (λ es. AreSpelled es) }
+    {
+        let positions = Positions::new(alloc).put_all(positions)?;
+        entries_at(alloc, &self.cells, &positions)
+    }
+}
+
+impl Known {
+    /// Whether a position below a tail is one of the members' or of the own records'.
+    fn has(&self, found: &StreamPositions, streams: &[Oid], tail: Pos, pos: Pos) -> bool
+        ensures { result ≡ (nat_lt pos tail && has_num pos (all_positions self.now found.now streams.now)) }
+    {
+        pos < tail && self.has_any(found, streams, pos)
+    }
+
+    /// Likewise wherever the tail is.
+    fn has_any(&self, found: &StreamPositions, streams: &[Oid], pos: Pos) -> bool
+        ensures { result ≡ (has_num pos self.now.own || (any_has found.now streams.now pos || any_has self.now.kept streams.now pos)) }
+    {
+        self.own.has(pos) || self.has_member(found, streams, pos)
+    }
+
+    /// Likewise without the own records.
+    fn has_member(&self, found: &StreamPositions, streams: &[Oid], pos: Pos) -> bool
+        ensures { result ≡ (any_has found.now streams.now pos || any_has self.now.kept streams.now pos) }
+    {
+        found.any_has(streams, pos) || self.kept.any_has(streams, pos)
+    }
+
+    /// The positions of members, from `low` on and below `high`.
+    fn members(
+        &self,
+        alloc: Global,
+        found: &StreamPositions,
+        streams: &[Oid],
+        low: Pos,
+        high: Pos,
+    ) -> Result<Positions, NoMemory>
+        ensures { IfOk result (λ p. p ≡ within low high (member_positions self.now found.now streams.now)) }
+    {
+        let kept = self.kept.gather(streams, low, high, Positions::new(alloc))?;
+        found.gather(streams, low, high, kept)
+    }
+
+    /// Likewise with those of the own records.
+    fn positions(
+        &self,
+        alloc: Global,
+        found: &StreamPositions,
+        streams: &[Oid],
+        low: Pos,
+        high: Pos,
+    ) -> Result<Positions, NoMemory>
+        ensures { IfOk result (λ p. p ≡ within low high (all_positions self.now found.now streams.now)) }
+    {
+        let members = self.members(alloc, found, streams, low, high)?;
+        members.put_within(&self.own, low, high)
+    }
+}
+
+/// Up to where cells are settled once a position was given up.
+fn settled_after(all: bool, settled: Pos, upto: Pos) -> Pos
+    ensures { result ≡ (if all then max settled upto else settled) }
+{
+    if all {
+        return settled.max(upto);
+    }
+    settled
+}

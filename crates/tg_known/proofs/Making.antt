@@ -1,8 +1,0 @@
--- What is known, by its parts.
-use Rattle.std.specs.Prelude.{ℕ, List}
-use Rattle.tg_base.specs.declared.cell.Cell.{Cell}
-use Rattle.tg_known.specs.Words.{ByStream}
-use Rattle.tg_known.specs.Known.{Knowledge}
-
-abbrev pub made : List (ℕ × Cell) → List ℕ → ByStream → ℕ → Knowledge
-made cells own kept settled = record { cells = cells; own = own; kept = kept; settled = settled }

@@ -1,5 +1,0 @@
-use Rattle.tg_known.proofs.Keeping.{keeps_settled}
-use Rattle.tg_known.proofs.laws.walks_keep_settled.Goals as goal
-
-pub returns : goal.returns
-returns c = keeps_settled

@@ -1,5 +1,0 @@
-use Rattle.tg_known.proofs.Ruled.{as_ruled}
-use Rattle.tg_known.proofs.laws.words_are_the_rules.Goals as goal
-
-pub returns : goal.returns
-returns g c = as_ruled _

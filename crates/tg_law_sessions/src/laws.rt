@@ -1,0 +1,15 @@
+//! What holds of nodes that each take their own inputs.
+
+ghost use Rattle.tg_kind.specs.Of.{meaning_of};
+ghost use Rattle.tg_law_sessions.specs.Sessions.{SessionsMakeARun};
+
+use tg_kind::Registry;
+
+/// Nodes that each take their own inputs make a run. Let each node of a header have its session: ticks,
+/// packets that come to it, and commands to a client. Take all their steps in one order that keeps each
+/// session's own and in which a packet is sent before it is taken. Then there are events, one for each step,
+/// by which a world has sent those packets and told those replies in that order; and each of its nodes, with
+/// the packets and the replies of that node, is what its session gives by itself.
+pub fn sessions_make_a_run<K: Registry>()
+    ensures { SessionsMakeARun (meaning_of K.Registry) }
+{}

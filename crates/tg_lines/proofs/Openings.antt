@@ -1,0 +1,88 @@
+-- The first lines of a text, and what they are.
+use Rattle.std.proofs.Common.{◌≡◌, ℕ, zero, suc, ◌<◌, ◌≤◌, ◌⊎◌, inl, inr, List, [], ◌∷◌, ◌++◌, length, take, Option, Some, None, refl, sym, ap, ◌∙◌, subst, append_assoc, arith, ⊎_elim}
+use Rattle.std.proofs.lemmas.List.{append-nil, take-append-le}
+use Rattle.tg_script.specs.Headers.{header_lines, IsFront, IsFirstOutside}
+use Rattle.tg_lines.specs.Lines.{lines, TakesLine}
+use Rattle.tg_lines.specs.Openings.{Opened, IsOpening, Reached}
+use Rattle.tg_lines.specs.declared.header.Opening.{Opening}
+use Rattle.tg_lines.specs.declared.header.Opening.TheVariants.{Opens, Outside}
+
+-- one line more
+pub reached_more : (text before after : Option (List ℕ)) (ls : List (List ℕ)) (line : List ℕ) → Reached text before ls → TakesLine before after (Some line) → Reached text after (ls ++ line ∷ [])
+reached_more None before after ls line h t = tt
+reached_more (Some text) None after ls line h t = absurd h
+reached_more (Some text) (Some rest) None ls line h t = t
+reached_more (Some text) (Some rest) (Some more) ls line h t = h ∙ ap (λ (xs : List (List ℕ)). ls ++ xs) t ∙ sym (append_assoc ls (line ∷ []) (lines more))
+
+pub reached_none : (text : Option (List ℕ)) (ls : List (List ℕ)) → ls ≡ [] → Reached text text ls
+reached_none None ls e = tt
+reached_none (Some text) ls e = ap (λ (xs : List (List ℕ)). xs ++ lines text) (sym e)
+
+front_kept : (xs ys : List (List ℕ)) (n : ℕ) → take n ys ≡ take n xs → IsFront xs n → IsFront ys n
+front_kept xs ys n e f = record { header = f.header; lawful = f.lawful; same = e ∙ f.same }
+
+take_more : (xs ys : List (List ℕ)) (n : ℕ) → n ≤ length xs → take n (xs ++ ys) ≡ take n xs
+take_more xs ys n h = rw take-append-le refl
+
+-- what follows doesn't matter
+outside_more : (xs ys : List (List ℕ)) (n : ℕ) → n ≤ length xs → IsFirstOutside xs n → IsFirstOutside (xs ++ ys) n
+outside_more xs ys n le h = record {
+  before = λ m lt. front_kept xs (xs ++ ys) m (take_more xs ys m (omega arith)) (h.before m lt);
+  outside = λ f. h.outside (front_kept (xs ++ ys) xs n (sym (take_more xs ys n le)) f);
+}
+
+take_all : (xs : List (List ℕ)) (n : ℕ) → length xs ≤ n → take n xs ≡ xs
+take_all [] zero le = refl
+take_all [] (suc n) le = refl
+take_all (x ∷ xs) zero le = absurd (omega arith)
+take_all (x ∷ xs) (suc n) le = ap (λ (ys : List (List ℕ)). x ∷ ys) (take_all xs n (omega arith))
+
+le_or_lt : (m n : ℕ) → (m ≤ n) ⊎ (n < m)
+le_or_lt zero n = inl (omega arith)
+le_or_lt (suc m) zero = inr (omega arith)
+le_or_lt (suc m) (suc n) = ⊎_elim (λ (h : m ≤ n). inl (omega arith)) (λ (h : n < m). inr (omega arith)) (le_or_lt m n)
+
+-- three lines that begin a header are all of it
+not_past : (xs : List (List ℕ)) (n : ℕ) → length xs ≤ 3 → 3 < n → IsFirstOutside xs n → ⊥
+not_past xs n few past h =
+    let f = h.before 3 past in
+    let le : 3 ≤ n = omega arith in
+    let long : length xs ≤ n = omega arith in
+    h.outside (record {
+      header = f.header;
+      lawful = f.lawful;
+      same = take_all xs n long ∙ sym (take_all xs 3 few) ∙ f.same ∙ sym (take_all (header_lines f.header) n le);
+    })
+
+few_lines : (xs : List (List ℕ)) (n : ℕ) → length xs ≤ 3 → IsFirstOutside xs n → n ≤ 3
+few_lines xs n few h = ⊎_elim (λ (le : n ≤ 3). le) (λ (lt : 3 < n). absurd (not_past xs n few lt h)) (le_or_lt n 3)
+
+-- a line is refused before more is read
+pub opened_outside : (text rest : Option (List ℕ)) (ls : List (List ℕ)) (n : ℕ) → Reached text rest ls → length ls ≤ 3 → n ≤ length ls → IsFirstOutside ls n → Opened text rest (Outside n)
+opened_outside None rest ls n h few le out = tt
+opened_outside (Some text) None ls n h few le out = h
+opened_outside (Some text) (Some rest) ls n h few le out =
+    let three : n ≤ 3 = omega arith in
+    (three, subst (λ (xs : List (List ℕ)). IsFirstOutside xs n) (sym h) (outside_more ls (lines rest) n le out))
+
+-- three lines were read
+pub opened_whole : (text rest : Option (List ℕ)) (ls : List (List ℕ)) (o : Opening) → Reached text rest ls → length ls ≡ 3 → IsOpening ls o → Opened text rest o
+opened_whole None rest ls o h three is = tt
+opened_whole (Some text) None ls o h three is = h
+opened_whole (Some text) (Some rest) ls (Opens header) h three is = h ∙ ap (λ (xs : List (List ℕ)). xs ++ lines rest) is
+opened_whole (Some text) (Some rest) ls (Outside n) h three is =
+    let few : length ls ≤ 3 = omega arith in
+    let most : n ≤ 3 = few_lines ls n few is in
+    let le : n ≤ length ls = omega arith in
+    opened_outside (Some text) (Some rest) ls n h few le is
+
+-- the text ends among them
+pub opened_end : (text before after : Option (List ℕ)) (ls : List (List ℕ)) (o : Opening) → Reached text before ls → TakesLine before after None → length ls ≤ 3 → IsOpening ls o → Opened text after o
+opened_end None before after ls o h t few is = tt
+opened_end (Some text) None after ls o h t few is = absurd h
+opened_end (Some text) (Some rest) None ls o h t few is = t
+opened_end (Some text) (Some rest) (Some more) ls (Opens header) h t few is =
+    h ∙ ap (λ (xs : List ℕ). ls ++ lines xs) t.0 ∙ ap (λ (xs : List ℕ). ls ++ lines xs) (sym t.1) ∙ ap (λ (xs : List (List ℕ)). xs ++ lines more) is
+opened_end (Some text) (Some rest) (Some more) ls (Outside n) h t few is =
+    let all : lines text ≡ ls = h ∙ ap (λ (xs : List ℕ). ls ++ lines xs) t.0 ∙ append-nil ls in
+    (few_lines ls n few is, subst (λ (xs : List (List ℕ)). IsFirstOutside xs n) (sym all) is)

@@ -1,0 +1,43 @@
+use Rattle.std.proofs.Common.{◌≡◌, ◌≤◌, ◌+◌, List, [], ℕ, Bool, Option, false, length, sym, subst, refl, arith}
+use Rattle.tg_io.proofs.Faults.{sure_since}
+use Rattle.tg_lines.specs.Lines.{IsTaken, TakesLine, ahead}
+use Rattle.tg_lines.proofs.Pieces.{begun_more, begun_ends, begun_fed, begun_last, gives_end, taken_counts}
+use Rattle.tg_lines.proofs.line_reader.LineReader.next.Goals as goal
+
+pub returns-then-branch-clause-line : goal.returns-then-branch-clause-line
+returns-then-branch-clause-line g c =
+    let t = subst (λ (b : Bool). IsTaken c.loop-line.self c.take.new.self c.loop-line.line c.take.new.line b) c.if-branch.true c.in_ok-take.ensures in
+    begun_ends (ahead c.args.self.now (g.S.Source.left c.args.source.now)) (g.S.Source.left c.loop-line.source) c.loop-line.self c.take.new.self c.loop-line.line c.take.new.line c.loop-line.invariant.begun t
+
+pub returns-then-not-branch-clause-line : goal.returns-then-not-branch-clause-line
+returns-then-not-branch-clause-line g c =
+    let text = ahead c.args.self.now (g.S.Source.left c.args.source.now) in
+    let was = g.S.Source.left c.loop-line.source in
+    let is = g.S.Source.left c.fill.new.source in
+    let t = subst (λ (b : Bool). IsTaken c.loop-line.self c.take.new.self c.loop-line.line c.take.new.line b) c.if-branch.false c.in_ok-take.ensures in
+    let more = begun_more text was c.loop-line.self c.take.new.self c.loop-line.line c.take.new.line c.loop-line.invariant.begun t in
+    let on = begun_fed text was is c.take.new.self c.fill.new.self c.take.new.line more (t.all refl) c.in_ok-fill.ensures.given in
+    let stops : c.in_ok-fill.field-0 ≡ false = c.if-not-branch.true in
+    let none : c.fill.new.self ≡ [] = c.in_ok-fill.ensures.none stops in
+    let end = gives_end was is c.fill.new.self c.in_ok-fill.ensures.given none (c.in_ok-fill.ensures.end stops) in
+    subst (λ (last : Option (List ℕ)). TakesLine text (ahead c.fill.new.self is) last) (sym c.ended.ensures) (begun_last text is c.fill.new.self c.take.new.line on none end)
+
+pub loop-line-preserved : goal.loop-line-preserved
+loop-line-preserved g c =
+    let text = ahead c.args.self.now (g.S.Source.left c.args.source.now) in
+    let was = g.S.Source.left c.loop-line.source in
+    let is = g.S.Source.left c.fill.new.source in
+    let i = c.loop-line.invariant in
+    let t = subst (λ (b : Bool). IsTaken c.loop-line.self c.take.new.self c.loop-line.line c.take.new.line b) c.if-branch.false c.in_ok-take.ensures in
+    let more = begun_more text was c.loop-line.self c.take.new.self c.loop-line.line c.take.new.line i.begun t in
+    let counts : length c.take.new.self + length c.take.new.line ≤ length c.loop-line.self + length c.loop-line.line = taken_counts c.loop-line.self c.take.new.self c.loop-line.line c.take.new.line t in
+    let room : g.S.Source.room c.fill.new.source + length c.fill.new.self ≡ g.S.Source.room c.loop-line.source = c.in_ok-fill.ensures.room in
+    let before : length c.loop-line.self + length c.loop-line.line + g.S.Source.room c.loop-line.source ≤ length c.args.self.now + g.S.Source.room c.args.source.now = i.count in
+    let later : g.S.Source.faults c.args.source.now ≤ g.S.Source.faults c.loop-line.source = i.later in
+    let rose : g.S.Source.faults c.loop-line.source ≤ g.S.Source.faults c.fill.new.source = c.in_ok-fill.ensures.cause.later in
+    record {
+      begun = begun_fed text was is c.take.new.self c.fill.new.self c.take.new.line more (t.all refl) c.in_ok-fill.ensures.given;
+      count = omega arith;
+      later = omega arith;
+      sure = sure_since _ _ _ _ _ _ i.sure c.in_ok-fill.ensures.sure;
+    }

@@ -1,5 +1,0 @@
-use Rattle.std.proofs.Common.{length}
-use Rattle.tg_logs.proofs.history.+put_ops.Given as goal
-
-abbrev pub decreases-put_ops : goal.decreases-put_ops
-decreases-put_ops g l = length l.writes.now

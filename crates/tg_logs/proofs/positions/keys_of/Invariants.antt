@@ -1,6 +1,0 @@
-use Rattle.std.proofs.Common.{◌≡◌, ◌++◌}
-use Rattle.tg_protocol.specs.Logs.{positions}
-use Rattle.tg_logs.proofs.positions.keys_of.Given as goal
-
-abbrev pub invariant-loop-pos : goal.invariant-loop-pos
-invariant-loop-pos l = l.found ++ positions l.pos-iterator ≡ positions l.archive.entries

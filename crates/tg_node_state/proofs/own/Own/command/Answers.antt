@@ -1,0 +1,32 @@
+use Rattle.std.proofs.Common.{◌≡◌, ◌+◌, ◌≤◌, IfOk, refl, sym, subst, arith}
+use Rattle.tg_play.proofs.Means.{means}
+use Rattle.tg_node_state.specs.Nodes.{Node, node_commands, UnitNode, LayoutNode, SeqrNode}
+use Rattle.tg_node_state.specs.Kept.{Kept, KeepsNode, KeepsTurn}
+use Rattle.tg_node_state.proofs.Roles.{unit_kept, layout_kept, seqr_kept, client_kept}
+use Rattle.tg_node_state.proofs.own.Own.command.Goals as goal
+
+pub returns-in-Unit : goal.returns-in-Unit
+returns-in-Unit g c = λ steps n k.
+    let m = means g.K.Kind g.K.Registry in
+    unit_kept m steps c.in-Unit.unit n (λ (x : Node m). KeepsTurn m (steps + 1) c.still.result (node_commands m x c.args.command)) (subst (λ (o : Kept m). KeepsNode m steps o n) c.in-Unit.is k)
+    (record { now = subst (λ (o : Kept m). KeepsNode m (steps + 1) o (UnitNode c.in-Unit.unit)) (sym c.still.ensures.own) refl; sends = c.still.ensures.sends; notes = c.still.ensures.notes })
+
+pub returns-in-Layout : goal.returns-in-Layout
+returns-in-Layout g c = λ steps n k.
+    let m = means g.K.Kind g.K.Registry in
+    layout_kept m steps c.in-Layout.layout n (λ (x : Node m). KeepsTurn m (steps + 1) c.still-in-Layout.result (node_commands m x c.args.command)) (subst (λ (o : Kept m). KeepsNode m steps o n) c.in-Layout.is k)
+    (record { now = subst (λ (o : Kept m). KeepsNode m (steps + 1) o (LayoutNode c.in-Layout.layout)) (sym c.still-in-Layout.ensures.own) refl; sends = c.still-in-Layout.ensures.sends; notes = c.still-in-Layout.ensures.notes })
+
+pub returns-in-Seqr : goal.returns-in-Seqr
+returns-in-Seqr g c = λ steps n k.
+    let m = means g.K.Kind g.K.Registry in
+    let q = c.in-Seqr.seqr in
+    seqr_kept m steps q n (λ (x : Node m). KeepsTurn m (steps + 1) c.still-in-Seqr.result (node_commands m x c.args.command)) (subst (λ (o : Kept m). KeepsNode m steps o n) c.in-Seqr.is k)
+    (λ le. let more : q.calls ≤ steps + 1 = omega (arith, le) in
+    record { now = subst (λ (o : Kept m). KeepsNode m (steps + 1) o (SeqrNode q.state)) (sym c.still-in-Seqr.ensures.own) (refl, more); sends = c.still-in-Seqr.ensures.sends; notes = c.still-in-Seqr.ensures.notes })
+
+pub returns-in-Client : goal.returns-in-Client
+returns-in-Client g c = λ steps n k.
+    let m = means g.K.Kind g.K.Registry in
+    client_kept m steps c.in-Client.client n (λ (x : Node m). IfOk c.client_commands.result (λ t. KeepsTurn m (steps + 1) t (node_commands m x c.args.command)))
+    (subst (λ (o : Kept m). KeepsNode m steps o n) c.in-Client.is k) (λ d h. c.client_commands.ensures (steps + 1) d h)

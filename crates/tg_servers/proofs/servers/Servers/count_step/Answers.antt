@@ -1,5 +1,0 @@
-use Rattle.tg_servers.proofs.Moving.{whole_more}
-use Rattle.tg_servers.proofs.servers.Servers.count_step.Goals as goal
-
-pub invariant_of-self : goal.invariant_of-self
-invariant_of-self c = whole_more c.self.inside.cluster c.self.inside.first c.self.inside.seqrs.items c.self.inside.steps c.self.invariant

@@ -1,5 +1,0 @@
-use Rattle.tg_sizes.proofs.Packets.{packet_len}
-use Rattle.tg_sizes.proofs.sizes_agree.Goals as goal
-
-pub returns : goal.returns
-returns c = packet_len c.args.packet.now c.requires

@@ -1,5 +1,0 @@
-use Rattle.std.proofs.Common.{length}
-use Rattle.tg_walks.proofs.walking.+walks.Given as goal
-
-abbrev pub decreases-walks : goal.decreases-walks
-decreases-walks g l = length l.oids
