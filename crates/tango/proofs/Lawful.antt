@@ -9,7 +9,8 @@ use Rattle.tg_audit.specs.Told.{told_of, sameness}
 use Rattle.tg_audit.specs.Same.{same_op, same_answer}
 use Rattle.tg_audit.specs.SameLaws.{same_op_exact, same_answer_exact}
 use Rattle.tg_audit.specs.declared.verdict.Verdict.TheVariants as verdict
-use Rattle.tg_law_verdicts.specs.Laws.{AllAbove, Rises, VerdictsAreTrue}
+use Rattle.tg_law_verdicts.specs.Laws.{VerdictsAreTrue}
+use Rattle.tg_model.specs.Stores.{AllAbove, Rises}
 use Rattle.tg_model.specs.Verdicts.{Fault, IsSameness, fault}
 use Rattle.tg_replay.specs.Outcomes.{Told}
 use Rattle.tg_trace.specs.Transcripts.{Entry, objects, reply, count, entry, stamps, is_transcript}

@@ -5,3 +5,4 @@ pub mod Scripts
 pub mod Outcomes
 pub mod Stages
 pub mod Causes
+pub mod Headline

@@ -1,5 +1,5 @@
 -- The plain machine: the states of objects, and the list of committed transactions that makes them.
-use Rattle.std.specs.Prelude.{ℕ, ◌+◌, Bool, ◌&&◌, ◌==◌, nat_lt, List, [], ◌∷◌, Contains, ◌≡◌, if◌then◌else◌}
+use Rattle.std.specs.Prelude.{ℕ, ◌+◌, ◌<◌, Bool, ◌&&◌, ◌==◌, nat_lt, List, [], ◌∷◌, Contains, ◌≡◌, if◌then◌else◌}
 use Rattle.std.specs.List.{list_any}
 use Rattle.tg_base.specs.Orders.{oid_eq}
 use Rattle.tg_base.specs.declared.ids.Oid.{Oid}
@@ -29,6 +29,16 @@ module _ (m : Meaning) where
 
   abbrev pub History : Type 0
   History = List (DoneOf m)
+
+  -- every stamp is above this entry's
+  abbrev pub AllAbove : DoneOf m → History → Type 0
+  AllAbove d [] = Unit {0}
+  AllAbove d (e ∷ es) = (d.stamp < e.stamp) × AllAbove d es
+
+  -- the stamps rise
+  abbrev pub Rises : History → Type 0
+  Rises [] = Unit {0}
+  Rises (d ∷ ds) = AllAbove d ds × Rises ds
 
   -- the writes of every transaction with a stamp below n
   unfoldable pub store_after : List Oid → Store → History → ℕ → Store

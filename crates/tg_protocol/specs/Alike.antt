@@ -1,5 +1,5 @@
 -- What is told of the log is true of it.
-use Rattle.std.specs.Prelude.{◌≡◌, ℕ, ◌+◌, ◌<◌, ◌≤◌, Bool, true, false, List, ◌∷◌, ◌++◌, length, Option, Some, Contains, ◌⊎◌, ◌≢◌}
+use Rattle.std.specs.Prelude.{◌≡◌, ℕ, ◌<◌, ◌≤◌, Bool, true, false, List, ◌∷◌, ◌++◌, Some, Contains, ◌⊎◌, ◌≢◌}
 use Rattle.tg_base.specs.Layouts.{Layout}
 use Rattle.tg_base.specs.declared.ids.Oid.{Oid}
 use Rattle.tg_base.specs.declared.marks.Part.{Part}
@@ -12,28 +12,27 @@ use Rattle.tg_entry.specs.declared.entry.Body.TheVariants.{Decision, Checkpoint}
 use Rattle.tg_entry.specs.declared.entry.Entry.{Entry}
 use Rattle.tg_kind.specs.Meaning.{Meaning}
 use Rattle.tg_protocol.specs.Words.{client_id, unit_id, seqr_id, directory}
-use Rattle.tg_proj.specs.Places.{range_at}
-use Rattle.tg_protocol.specs.Layouts.{first_layout, range_end, units_of}
+use Rattle.tg_protocol.specs.Layouts.{units_of}
+use Rattle.tg_protocol.specs.Trimming.{has_stripe}
 use Rattle.tg_protocol.specs.Entries.{is_commit, needs_decision}
 use Rattle.tg_protocol.specs.Versions.{version_in}
 use Rattle.tg_protocol.specs.Views.{View, fate_of}
-use Rattle.tg_protocol.specs.Logs.{decided, entries_of, version, outcome}
+use Rattle.tg_protocol.specs.Logs.{entries_of, version, outcome}
 use Rattle.tg_model.specs.declared.refusal.Refusal.TheVariants as cause
 use Rattle.tg_model.specs.declared.trace.What.TheVariants as told
 use Rattle.tg_model.specs.Kinds.{WhatOf, DoneOf}
 use Rattle.tg_model.specs.Stores.{state_at, answer_at, is_stamp}
+use Rattle.tg_model.specs.Traces.{IsOf}
 use Rattle.tg_protocol.specs.Worlds.{World, Told, client, unit, log, history}
+use Rattle.tg_protocol.specs.Chosen.{Sent, IsDecided}
 
 module _ (m : Meaning) where
-  -- Packets that were sent.
-
-  abbrev pub Sent : World m → Packet → Type 0
-  Sent w p = Contains w.packets p
+  -- Messages that were sent.
 
   -- a node sent this client a message with this number
   pub record SentTo (w : World m) (k rid : ℕ) (x : Msg) : Type 0 where
     pub packet : Packet
-    pub sent : Sent w packet
+    pub sent : Sent m w packet
     pub to : packet.to ≡ client_id k
     pub number : packet.rid ≡ rid
     pub says : packet.msg ≡ x
@@ -84,55 +83,54 @@ module _ (m : Meaning) where
     pub keys : List (Part × ℕ)
     pub state : List ℕ
     pub here : HasEntry w p entry
+    pub by : entry.head.client ≡ t.mark.client
     pub saves : entry.body ≡ Checkpoint o u version whole keys state
     pub issued_links : List StreamLink
     pub issued : SentNow w t (msg.Issued p issued_links)
     pub tail_links : List StreamLink
     pub tail : SentNow w t (msg.Tail u tail_links)
 
-  abbrev pub decided_in : World m → ℕ → Option Layout
-  decided_in w e = decided (first_layout w.cluster) w.packets w.cluster.layouts e
-
-  -- every unit of a layout that was decided at or past an epoch has trimmed up to a position
-  abbrev pub AllTrimmed : World m → ℕ → ℕ → Type 0
-  AllTrimmed w e0 n = (e : ℕ) (q : Layout) (u : ℕ) → e0 ≤ e → decided_in w e ≡ Some q → Contains (units_of q) u → n ≤ (unit m w u).low
+  -- every unit of some layout that was decided at or past an epoch has trimmed up to a position
+  pub record UnitsTrimmed (w : World m) (e0 n : ℕ) : Type 0 where
+    pub epoch : ℕ
+    pub later : e0 ≤ epoch
+    pub layout : Layout
+    pub decided : IsDecided m w epoch layout
+    pub units : (u : ℕ) → Contains (units_of layout) u → n ≤ (unit m w u).low
 
   pub record TrimmedTo (w : World m) (t : Told m) (n : ℕ) : Type 0 where
     pub tail : ℕ
     pub links : List StreamLink
     pub synced : SentNow w t (msg.Tail tail links)
     pub floor : n ≡ m.floor (state_at m w.cluster.objects (history m w) tail directory)
-    pub units : AllTrimmed w t.noted.epoch n
+    pub units : UnitsTrimmed w t.noted.epoch n
 
   -- the layout of a later epoch, of this client or of another
   pub record DecidedBy (w : World m) (t : Told m) (e : ℕ) : Type 0 where
     pub proj : Layout
-    pub is : decided_in w e ≡ Some proj
+    pub is : IsDecided m w e proj
     pub later : t.noted.epoch < e
 
+  -- a unit said that it has all of a stripe of the layout that was decided for the epoch in which it was asked
   pub record CopiedBy (w : World m) (t : Told m) (u r s : ℕ) : Type 0 where
-    pub proj : Layout
-    pub asked : ℕ
     pub epoch : ℕ
+    pub layout : Layout
+    pub decided : IsDecided m w epoch layout
+    pub asked : ℕ
     pub now : t.noted.next ≤ asked
-    pub look : Sent w (record {
-      from = client_id t.mark.client;
-      to = unit_id u;
-      rid = asked;
-      msg = msg.Has epoch ((range_at proj.ranges r).lo + s) (range_end proj r) (length (range_at proj.ranges r).stripes);
-    })
-    pub whole : Sent w (record { from = unit_id u; to = client_id t.mark.client; rid = asked; msg = msg.Whole })
+    pub look : Sent m w (record { from = client_id t.mark.client; to = unit_id u; rid = asked; msg = has_stripe epoch layout r s })
+    pub whole : Sent m w (record { from = unit_id u; to = client_id t.mark.client; rid = asked; msg = msg.Whole })
 
-  -- Truth of a mark.
-  abbrev pub IsTrue : World m → Told m → WhatOf m → Type 0
-  IsTrue w t (told.Fate p (Some b)) = Outcome w p b
-  IsTrue w t (told.Decided p (Some b)) = Outcome w p b
-  IsTrue w t (told.Aborted p o k seen now) = HasRecord w p t.mark.client t.mark.tx × (outcome m (log m w) p ≡ false)
-  IsTrue w t (told.Unsure p q) = HasRecord w p t.mark.client t.mark.tx × HasCommit w q
-  IsTrue w t (told.Saved o p u) = SavedAt w t o p u
-  IsTrue w t (told.Trimmed n) = TrimmedTo w t n
-  IsTrue w t (told.Copied u r s) = CopiedBy w t u r s
-  IsTrue w t _ = Unit {0}
+  -- The log agrees with what a reply tells of it. Other replies tell nothing of it here.
+  abbrev pub LogAgrees : World m → Told m → WhatOf m → Type 0
+  LogAgrees w t (told.Fate p (Some b)) = Outcome w p b
+  LogAgrees w t (told.Decided p (Some b)) = Outcome w p b
+  LogAgrees w t (told.Aborted p o k seen now) = HasRecord w p t.mark.client t.mark.tx × (outcome m (log m w) p ≡ false)
+  LogAgrees w t (told.Unsure p q) = HasRecord w p t.mark.client t.mark.tx × HasCommit w q
+  LogAgrees w t (told.Saved o p u) = SavedAt w t o p u
+  LogAgrees w t (told.Trimmed n) = TrimmedTo w t n
+  LogAgrees w t (told.Copied u r s) = CopiedBy w t u r s
+  LogAgrees w t _ = Unit {0}
 
   -- a mark of a client's transaction
   pub record OfTx (w : World m) (k x : ℕ) (what : WhatOf m) : Type 0 where
@@ -154,6 +152,7 @@ module _ (m : Meaning) where
     pub committed : last.mark.what ≡ told.Committed at
     pub done : DoneOf m
     pub in_history : Contains (history m w) done
+    pub of : IsOf m done k last.mark.tx
     pub stamp : done.stamp ≡ at
     pub writes : Contains done.writes (directory, m.mark_op o n)
 
@@ -161,7 +160,7 @@ module _ (m : Meaning) where
 
   pub record HeardTail (w : World m) (t : Told m) (q : Layout) : Type 0 where
     pub packet : Packet
-    pub sent : Sent w packet
+    pub sent : Sent m w packet
     pub from : packet.from ≡ seqr_id q.seq
     pub to : packet.to ≡ client_id t.mark.client
     pub now : t.noted.next ≤ packet.rid
@@ -233,7 +232,7 @@ module _ (m : Meaning) where
   pub record Alike (w : World m) : Type 0 where
     pub decisions : (at p : ℕ) (e : Entry) (b : Bool) → HasEntry w at e → e.body ≡ Decision p b → Outcome w p b
     pub fates : (k p : ℕ) (v : View m) (b : Bool) → (client m w k).view ≡ Some v → fate_of m v p ≡ Some b → Outcome w p b
-    pub marks : (t : Told m) → Contains w.told t → IsTrue w t t.mark.what
+    pub marks : (t : Told m) → Contains w.told t → LogAgrees w t t.mark.what
     pub committed : (t : Told m) (p : ℕ) (o : Oid) (op : m.op) → Contains w.told t → t.mark.what ≡ told.Committed p →
         OfTx w t.mark.client t.mark.tx (told.Put o op) → HasRecord w p t.mark.client t.mark.tx × (outcome m (log m w) p ≡ true)
     pub marked : (before after : List (Told m)) (t : Told m) (o : Oid) (n : ℕ) → w.told ≡ before ++ t ∷ after → t.mark.what ≡ told.Marked o n →

@@ -96,13 +96,6 @@ module _ (m : Meaning) where
   abbrev pub lasts_of : Work m → Oid → List ℕ
   lasts_of w o = backs_of (link_of o w.lasts)
 
-  abbrev pub kept_if : Bool → Client m → Oid → List ℕ → Client m
-  kept_if true c o ps = record c { kept = with_positions m c.kept o ps }
-  kept_if false c o ps = c
-
-  abbrev pub with_members : Client m → Oid → Members → Client m
-  with_members c o x = kept_if (hosts_oid m c o) (record c { cells = x.cells }) o x.list
-
   abbrev pub trims_with : List (Oid × ℕ) → Oid → Option ℕ → List (Oid × ℕ)
   trims_with ts o None = ts
   trims_with ts o (Some b) = ts ++ (o, b) ∷ []
@@ -114,6 +107,9 @@ module _ (m : Meaning) where
   abbrev pub lends : Client m → Client m
   lends c = record c { cells = [] }
 
+  abbrev pub takes_back : Client m → Members → Client m
+  takes_back c x = record c { cells = x.cells }
+
   abbrev pub start_walk : Client m → Work m → Oid → Turn Walk Members
   start_walk c w o = walk_start c.stand o (lasts_of w o) w.lo c.cells c.next
 
@@ -123,7 +119,7 @@ module _ (m : Meaning) where
   walks (o ∷ os) c w = elim ((start_walk c w o).to) as (λ _. Moved m) [
     | Goes x ↦ goes_on (lends (after_turn c (start_walk c w o))) w (Walking x os) []
     | Learns x ↦ moved m c []
-    | Ends x ↦ walks os (with_members c o x) (found_by w o x)
+    | Ends x ↦ walks os (takes_back c x) (found_by w o x)
   ]
 
   -- Syncs.
@@ -194,7 +190,7 @@ module _ (m : Meaning) where
   walk_ended_by c w o os x (Some b) = at_trim c w os b (stale c w o x b)
 
   abbrev pub walk_ended : Client m → Work m → Oid → List Oid → Members → Moved m
-  walk_ended c w o os x = walk_ended_by (with_members c o x) (found_by w o x) o os x x.gone
+  walk_ended c w o os x = walk_ended_by (takes_back c x) (found_by w o x) o os x x.gone
 
   abbrev pub walk_to : Client m → Work m → Oid → List Oid → Next Walk Members → Moved m
   walk_to c w o os (Goes x) = goes_on c w (Walking x os) []

@@ -78,7 +78,6 @@ module _ (m : Meaning) where
     pub cells : List (ℕ × Cell)  -- known ones, while no stream is walked
     pub hosted : List Oid  -- rising, the directory first
     pub view : Option (View m)  -- the kept one
-    pub kept : List (Oid × List ℕ)  -- positions of members, by stream
     pub own : List ℕ  -- positions of its own commit records
     pub dir : m.state  -- the directory as last played
     pub played : ℕ  -- and the position to which that play came
@@ -99,7 +98,6 @@ module _ (m : Meaning) where
     cells = [];
     hosted = directory ∷ [];
     view = None;
-    kept = [];
     own = [];
     dir = m.fresh directory h.objects;
     played = 0;
@@ -171,20 +169,20 @@ module _ (m : Meaning) where
   positions_of xs [] = []
   positions_of xs (o ∷ os) = with_nums (positions_in xs o) (positions_of xs os)
 
-  -- the positions of the members of these streams
-  abbrev pub member_positions : Client → Work → List Oid → List ℕ
-  member_positions c w os = with_nums (positions_of w.found os) (positions_of c.kept os)
+  -- the positions of the members of these streams, as far as this command's own walks found them
+  abbrev pub member_positions : Work → List Oid → List ℕ
+  member_positions w os = positions_of w.found os
 
   abbrev pub below : ℕ → List ℕ → List ℕ
   below t ps = filter (λ p. nat_lt p t) ps
 
   -- the entries below the tail: the members of these streams, and the client's own commit records
   abbrev pub all_entries : Client → Work → List Oid → Entries
-  all_entries c w os = entries_at c.cells (below w.tail (with_nums c.own (member_positions c w os)))
+  all_entries c w os = entries_at c.cells (below w.tail (with_nums c.own (member_positions w os)))
 
   -- those without its own records
   abbrev pub member_entries : Client → Work → List Oid → Entries
-  member_entries c w os = entries_at c.cells (below w.tail (member_positions c w os))
+  member_entries c w os = entries_at c.cells (below w.tail (member_positions w os))
 
   -- Refusals before any work, each command's in the order in which they are tested.
 

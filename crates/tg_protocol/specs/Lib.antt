@@ -24,6 +24,14 @@ pub mod ClientSteps
 pub mod Sizes
 pub mod Logs
 pub mod Worlds
+pub mod Runs
+pub mod Chosen
 pub mod Alike
 pub mod Stuck
 pub mod Following
+pub mod Holding
+pub mod Playing
+pub mod Headline
+pub mod Causes
+pub mod Finishing
+pub mod Claims

@@ -9,7 +9,8 @@ use Rattle.tg_model.specs.declared.command.Command.TheVariants as cmd
 use Rattle.tg_model.specs.declared.refusal.Refusal.TheVariants as cause
 use Rattle.tg_model.specs.declared.trace.What.TheVariants as told
 use Rattle.tg_model.specs.Kinds.{CommandOf, EventOf}
-use Rattle.tg_protocol.specs.Alike.{Sent, SentNow}
+use Rattle.tg_protocol.specs.Alike.{SentNow}
+use Rattle.tg_protocol.specs.Chosen.{Sent}
 use Rattle.tg_protocol.specs.Clients.{Work}
 use Rattle.tg_protocol.specs.Logs.{path}
 use Rattle.tg_protocol.specs.Words.{client_id, unit_id}

@@ -2,3 +2,4 @@ pub mod Any
 pub mod Runs
 pub mod Stages
 pub mod Outcomes
+pub mod Headline
