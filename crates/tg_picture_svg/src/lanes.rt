@@ -1,0 +1,123 @@
+//! Lanes, with what happens at one node alone, and bands.
+
+use crate::places::{LABEL, Places, TOP};
+use crate::tags::{Spot, open_rect, put_cross, put_label, put_line, put_number};
+use std::alloc::Global;
+use tg_base::{List, NoMemory, NodeId, Role};
+use tg_picture::{Band, Moment, put_decimal, put_name};
+
+// How far a band reaches over the outermost lane.
+const REACH: u64 = 24;
+
+/// Puts a lane for each node with its name, down to where the node stopped.
+pub fn put_lanes(
+    places: &Places,
+    lanes: &[(NodeId, Option<u64>)],
+    out: &mut List<u8>,
+) -> Result<(), NoMemory> {
+    for (node, stop) in lanes {
+        let x = places.lane(*node);
+        let end = match stop {
+            None => places.bottom,
+            Some(step) => places.row(*step),
+        };
+        put_line(b"lane", (x, TOP), (x, end), out)?;
+        if stop.is_some() && end < places.bottom {
+            put_cross((x, end), out)?;
+        }
+        out.extend(b"<text class=\"name\"")?;
+        put_number(b"x", x, out)?;
+        put_number(b"y", TOP - 10, out)?;
+        out.push(b'>')?;
+        put_name(*node, out)?;
+        out.extend(b"</text>\n")?;
+    }
+    Ok(())
+}
+
+/// Puts a dot where a client was given a command, or time passed at a node and something came of it.
+pub fn put_dots(places: &Places, moments: &[Moment], out: &mut List<u8>) -> Result<(), NoMemory> {
+    let mut step = places.first;
+    for moment in moments {
+        if moment.shows
+            && let Some(node) = moment.node
+        {
+            out.extend(b"<circle class=\"dot\"")?;
+            put_number(b"cx", places.lane(node), out)?;
+            put_number(b"cy", places.row(step), out)?;
+            out.extend(b" r=\"3\"/>\n")?;
+        }
+        step = step.saturating_add(1);
+    }
+    Ok(())
+}
+
+/// Puts a band over the lanes that it fences: of a seal over its unit's, and of a new epoch over those of all servers.
+pub fn put_bands(
+    alloc: Global,
+    places: &Places,
+    bands: &[Band],
+    out: &mut List<u8>,
+) -> Result<(), NoMemory> {
+    for band in bands {
+        match band {
+            Band::Sealed { step, unit, epoch } => {
+                let x = places.lane(*unit);
+                let y = places.row(*step);
+                put_band(b"seal", (x, x), y, out)?;
+                out.extend(b"<title>")?;
+                put_name(*unit, out)?;
+                out.extend(b" is sealed for epoch ")?;
+                put_decimal(*epoch, out)?;
+                out.extend(b"</title></rect>\n")?;
+            }
+            Band::Decided { step, epoch } => {
+                let y = places.row(*step);
+                let (left, right) = servers_of(places);
+                put_band(b"decided", (left, right), y, out)?;
+                out.extend(b"<title>the layout of epoch ")?;
+                put_decimal(*epoch, out)?;
+                out.extend(b" is decided</title></rect>\n")?;
+                let mut label = List::new(alloc);
+                label.extend(b"epoch ")?;
+                put_decimal(*epoch, &mut label)?;
+                let spot = Spot {
+                    x: left.saturating_add(8),
+                    y: y.saturating_add(4),
+                    class: b"banded",
+                };
+                put_label(spot, label.as_slice(), LABEL, b"", out)?;
+            }
+        }
+    }
+    Ok(())
+}
+
+// Puts a band's rectangle, up to what is said of it.
+fn put_band(class: &[u8], lanes: (u64, u64), y: u64, out: &mut List<u8>) -> Result<(), NoMemory> {
+    let (left, right) = lanes;
+    let width = right.saturating_sub(left).saturating_add(2 * REACH);
+    open_rect(
+        class,
+        (left.saturating_sub(REACH), y.saturating_sub(9)),
+        (width, 20),
+        out,
+    )?;
+    out.push(b'>')
+}
+
+// Where the first server's lane stands, and the last one's.
+fn servers_of(places: &Places) -> (u64, u64) {
+    let mut left = places.width;
+    let mut right = 0;
+    for (node, x) in places.lanes.as_slice() {
+        match node.role {
+            Role::Client => {}
+            _ => {
+                left = left.min(*x);
+                right = right.max(*x);
+            }
+        }
+    }
+    (left, right)
+}
