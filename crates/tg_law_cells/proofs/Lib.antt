@@ -1,0 +1,11 @@
+pub mod Justified
+pub mod Jobs
+pub mod Hands
+pub mod Sent
+pub mod Chains
+pub mod Stores
+pub mod Befores
+pub mod Settles
+pub mod Roots
+pub mod Successors
+pub mod Settling
