@@ -35,7 +35,7 @@ use Rattle.tg_law_layouts.proofs.Layouts.{Chosen, more, one_chosen, read_stays, 
 use Rattle.tg_law_layouts.proofs.Standing.{IsKnown, known_grows, Says}
 use Rattle.tg_law_layouts.proofs.Decided.{lay_holds}
 use Rattle.tg_law_layouts.proofs.Successions.{Good}
-use Rattle.tg_law_layouts.proofs.Succeeding.{good_or_first}
+use Rattle.tg_law_layouts.proofs.Succeeding.{Any, good_or_first}
 use Rattle.tg_law_layouts.proofs.Latest.{newest_known, newest_last}
 
 -- The header's layout keeps the rules.
@@ -87,12 +87,12 @@ module _ (m : Meaning) (h : Header) (xs : Moves m) where
 
   -- the parts of a successor
   pub record Made (q : Layout) : Type 0 where
-    pub good : Good (after m h xs).packets K q
+    pub good : Good (after m h xs).packets K Any q
     pub is : q ≡ next_layout good.old good.change q.by q.start
     pub may : MayFollow good.old good.change q.start
     pub epoch : q.epoch ≡ good.old.epoch + 1
 
-  made : (q : Layout) → Good (after m h xs).packets K q → Made q
+  made : (q : Layout) → Good (after m h xs).packets K Any q → Made q
   made q s = record {
     good = s;
     is = s.is ∙ next_is s.old s.change q.by q.start;
@@ -132,7 +132,7 @@ module _ (m : Meaning) (h : Header) (xs : Moves m) where
     pub first_or : (q : Layout) → K q → (q ≡ first_layout h) ⊎ Made q
     first_or q k = by (good_or_first m h xs give q k)
       where
-        by : (q ≡ first_layout h) ⊎ Good (after m h xs).packets K q → (q ≡ first_layout h) ⊎ Made q
+        by : (q ≡ first_layout h) ⊎ Good (after m h xs).packets K Any q → (q ≡ first_layout h) ⊎ Made q
         by (inl e) = inl e
         by (inr s) = inr (made q s)
 
@@ -243,7 +243,7 @@ module _ (m : Meaning) (h : Header) (xs : Moves m) where
     sound_here : LayoutsSound m (after m h xs)
     sound_here e q d = let a = known e q d in record { epoch = a.1; rules = rules q a.0; near = near q a.0 }
 
-    follows : (q : Layout) → (g : Good (after m h xs).packets K q) → Follows m (after m h xs) g.old q
+    follows : (q : Layout) → (g : Good (after m h xs).packets K Any q) → Follows m (after m h xs) g.old q
     follows q g = record {
       change = g.change;
       lawful = g.allowed;

@@ -39,7 +39,8 @@ use Rattle.tg_law_moves.proofs.Besides.{sync_besides, append_besides, append_aga
 use Rattle.tg_law_layouts.proofs.Plain.{on_sync_plain, on_walk_plain, on_append_plain, on_trims_plain, on_copy_plain, host_plain, begin_plain, put_plain, asks_plain, ends_plain, drop_plain, syncs_plain, WorkCalm, Plain}
 use Rattle.tg_law_layouts.proofs.Pax.{task_reconf, reconf_of, calm_none}
 
-module _ (ps : List Packet) (K : Layout → Type 0) where
+-- what is known of each proposal besides is X
+module _ (ps : List Packet) (K : Layout → Type 0) (X : Layout → Type 0) where
   -- sealed for a layout, with nothing at or past its start
   pub record Acked (u : ℕ) (q : Layout) : Type 0 where
     pub high : ℕ
@@ -72,6 +73,7 @@ module _ (ps : List Packet) (K : Layout → Type 0) where
     pub sealed : (u : ℕ) → Has (units_of q) u → Seals ps u q.epoch (high u)
     pub starts : q.start ≡ new_start old.start (acks_of q high)
     pub whole : (j : Join) → change.join ≡ Some j → Whole q.epoch old j
+    pub more : X q
     pub acked : (u : ℕ) → Has (units_in q.ranges) u → Acked u q
     pub near : old.start < 2 ^ 62 → q.start < 2 ^ 62
 
@@ -293,9 +295,17 @@ module _ (ps : List Packet) (K : Layout → Type 0) where
   unfolding next_of units_of
   units_are p c by start = ap (λ (us : List ℕ). with_nums us []) (same_units p c by start)
 
-  own_good : (r : Reconf) (acks : Acks) → Sealed r [] acks → IsLooked r → Good (next_of r.stand r.change r.me (new_start r.stand.start acks))
+  -- a reconfiguration's own proposal
+  abbrev pub own_of : Reconf → Acks → Layout
+  own_of r acks = next_of r.stand r.change r.me (new_start r.stand.start acks)
+
+  -- what is known of it once nothing more is looked at
+  abbrev pub Ready : Reconf → Type 0
+  Ready r = (acks : Acks) → Sealed r [] acks → IsLooked r → X (own_of r acks)
+
+  own_good : (r : Reconf) (acks : Acks) → Sealed r [] acks → IsLooked r → X (own_of r acks) → Good (next_of r.stand r.change r.me (new_start r.stand.start acks))
   unfolding next_of
-  own_good r acks s whole = record {
+  own_good r acks s whole x = record {
     old = r.stand;
     known = s.early.known;
     change = r.change;
@@ -307,6 +317,7 @@ module _ (ps : List Packet) (K : Layout → Type 0) where
     sealed = λ u g. (s.ok u (high_of acks u) (covered (next_units r.stand r.change) acks s.cover u (subst (λ (us : List ℕ). Has us u) (units_are r.stand r.change r.me start) g))).0;
     starts = same_start (next_units r.stand r.change) acks r.stand.start s.cover s.acked ∙ ap (λ (us : List ℕ). new_start r.stand.start (map (λ (v : ℕ). (v, high_of acks v)) us)) (sym (units_are r.stand r.change r.me start));
     whole = whole;
+    more = x;
     acked = λ u h. by u (s.cover u (sealed_units r.stand r.change r.me start u h));
     near = λ n. start_near acks r.stand.start n (λ u h g. (s.ok u h g).1);
   }
@@ -395,30 +406,30 @@ module _ (ps : List Packet) (K : Layout → Type 0) where
   looks_good true r next e k = record { known = e.known; allowed = e.allowed; lawful = e.lawful }
   looks_good false r next e k = k
 
-  proposes_good : (r : Reconf) (acks : Acks) (next : ℕ) → Sealed r [] acks → IsLooked r → NextGood (proposes r acks next).to
-  proposes_good r acks next s w = (own_good r acks s w, (λ b g. absurd g))
+  proposes_good : (r : Reconf) (acks : Acks) (next : ℕ) → Sealed r [] acks → IsLooked r → Ready r → NextGood (proposes r acks next).to
+  proposes_good r acks next s w x = (own_good r acks s w (x acks s w), (λ b g. absurd g))
 
   -- what a reconfiguration knows of its seals doesn't hang on its work
   sealed_still : (r : Reconf) (w : ReconfWork) (ws : Waits) (acks : Acks) → Sealed r ws acks → Sealed (record r { work = w }) ws acks
   sealed_still r w ws acks s = record { early = record { known = s.early.known; allowed = s.early.allowed; lawful = s.early.lawful }; ok = s.ok; cover = s.cover; waited = s.waited; acked = s.acked }
 
-  after_good : (r : Reconf) (acks : Acks) (next : ℕ) (j : Option Join) → r.change.join ≡ j → Sealed r [] acks → NextGood (after_seals r acks next j).to
-  after_good r acks next None e s = proposes_good r acks next s (λ i f. absurd (no i (sym e ∙ f)))
+  after_good : (r : Reconf) (acks : Acks) (next : ℕ) (j : Option Join) → r.change.join ≡ j → (r.change.join ≡ None → Ready r) → Sealed r [] acks → NextGood (after_seals r acks next j).to
+  after_good r acks next None e x s = proposes_good r acks next s (λ i f. absurd (no i (sym e ∙ f))) (x e)
     where
       no : (i : Join) → None ≡ Some i → ⊥
       no i e = cc
-  after_good r acks next (Some j) e s = sealed_still r (LookingAgain next acks) [] acks s
+  after_good r acks next (Some j) e x s = sealed_still r (LookingAgain next acks) [] acks s
 
-  left_good : (r : Reconf) (ws : Waits) (acks : Acks) (next : ℕ) → Sealed r ws acks → NextGood (seals_left r ws acks next).to
-  left_good r [] acks next s = after_good r acks next r.change.join refl s
-  left_good r (w ∷ ws) acks next s = sealed_still r (Sealing (w ∷ ws) acks) (w ∷ ws) acks s
+  left_good : (r : Reconf) (ws : Waits) (acks : Acks) (next : ℕ) → (r.change.join ≡ None → Ready r) → Sealed r ws acks → NextGood (seals_left r ws acks next).to
+  left_good r [] acks next x s = after_good r acks next r.change.join refl x s
+  left_good r (w ∷ ws) acks next x s = sealed_still r (Sealing (w ∷ ws) acks) (w ∷ ws) acks s
 
   -- a wait that is left was there before
   left_waits : (n : ℕ) (ws : Waits) (x : ℕ × ℕ) → Has (without_wait n ws) x → Has ws x
   left_waits n ws x h = has_filter (λ (w : ℕ × ℕ). not (w.0 == n)) ws x h
 
-  sealed_good : (r : Reconf) (u e h : ℕ) (ws : Waits) (acks : Acks) (next : ℕ) (b : Bool) → (e == next_epoch r) ≡ b → Seals ps u e h × (h < 2 ^ 62) × Among ws u → Sealed r ws acks → WorkGood r r.work → NextGood (sealed_if r u h ws acks next b).to
-  sealed_good r u e h ws acks next true i s y k = left_good r (without_wait u ws) ((u, h) ∷ acks) next (record {
+  sealed_good : (r : Reconf) (u e h : ℕ) (ws : Waits) (acks : Acks) (next : ℕ) (b : Bool) → (e == next_epoch r) ≡ b → Seals ps u e h × (h < 2 ^ 62) × Among ws u → (r.change.join ≡ None → Ready r) → Sealed r ws acks → WorkGood r r.work → NextGood (sealed_if r u h ws acks next b).to
+  sealed_good r u e h ws acks next true i s x y k = left_good r (without_wait u ws) ((u, h) ∷ acks) next x (record {
     early = y.early;
     ok = acks_more (next_epoch r) acks u h (subst (λ (f : ℕ). Seals ps u f h × (h < 2 ^ 62)) (same e (next_epoch r) i) (s.0, s.1)) y.ok;
     cover = covers_more _ ws acks u h y.cover;
@@ -428,7 +439,7 @@ module _ (ps : List Packet) (K : Layout → Type 0) where
     where
       same : (x y : ℕ) → (x == y) ≡ true → x ≡ y
       same x y e = grind arith
-  sealed_good r u e h ws acks next false i s y k = k
+  sealed_good r u e h ws acks next false i s x y k = k
 
   pub first_good : (r : Reconf) (next : ℕ) (j : Option Join) → Early r → NextGood (first_step r next j).to
   first_good r next None e = seals_good r next e
@@ -503,8 +514,8 @@ module _ (ps : List Packet) (K : Layout → Type 0) where
   -- An awaited answer, and a newer layout.
 
   abbrev pub SealTold : Reconf → ReconfWork → ℕ → Reply → Type 0
-  SealTold r (Sealing ws acks) n (replied.IsSealed e h) = Seals ps n e h × (h < 2 ^ 62) × Among ws n
-  SealTold r (LookingAgain k acks) n replied.IsWhole = IsLooked r
+  SealTold r (Sealing ws acks) n (replied.IsSealed e h) = (Seals ps n e h × (h < 2 ^ 62) × Among ws n) × (r.change.join ≡ None → Ready r)
+  SealTold r (LookingAgain k acks) n replied.IsWhole = IsLooked r × Ready r
   SealTold r w n x = Unit {0}
 
   abbrev pub PromiseTold : ReconfWork → Reply → Type 0
@@ -518,9 +529,9 @@ module _ (ps : List Packet) (K : Layout → Type 0) where
   feed_good r (LookingSpare i) n rid replied.IsWhole next k g s p = seals_good r next g
   feed_good r (LookingSpare i) n rid (replied.IsMissing q) next k g s p = tt
   feed_good r (LookingSpare i) n rid (replied.IsFenced e) next k g s p = seals_if_good _ r next g k
-  feed_good r (Sealing ws acks) n rid (replied.IsSealed e h) next k g s p = sealed_good r n e h ws acks next _ refl s g k
+  feed_good r (Sealing ws acks) n rid (replied.IsSealed e h) next k g s p = sealed_good r n e h ws acks next _ refl s.0 s.1 g k
   feed_good r (Sealing ws acks) n rid (replied.IsFenced e) next k g s p = learns_good _ r next k
-  feed_good r (LookingAgain i acks) n rid replied.IsWhole next k g s p = proposes_good r acks next g s
+  feed_good r (LookingAgain i acks) n rid replied.IsWhole next k g s p = proposes_good r acks next g s.0 s.1
   feed_good r (LookingAgain i acks) n rid (replied.IsMissing q) next k g s p = tt
   feed_good r (LookingAgain i acks) n rid (replied.IsFenced e) next k g s p = learns_good _ r next k
   feed_good r (Agreeing v) n rid x next k g s p = vote_good r v v.later n rid x next k g.0 g.1 p
@@ -556,10 +567,10 @@ module _ (ps : List Packet) (K : Layout → Type 0) where
 
 -- A client's step.
 
-module _ (m : Meaning) (ps : List Packet) (K : Layout → Type 0) where
+module _ (m : Meaning) (ps : List Packet) (K : Layout → Type 0) (X : Layout → Type 0) where
   abbrev pub ReconfGood : Option Reconf → Type 0
   ReconfGood None = Unit {0}
-  ReconfGood (Some r) = WorkGood ps K r r.work
+  ReconfGood (Some r) = WorkGood ps K X r r.work
 
   pub record MovedGood (x : Moved m) : Type 0 where
     pub hand : ReconfGood (reconf_of m x.now.work)
@@ -570,10 +581,10 @@ module _ (m : Meaning) (ps : List Packet) (K : Layout → Type 0) where
   plain_good : (c : Client m) (x : Moved m) → Plain m c x → MovedGood x
   plain_good c x f = calm_good x f.calm
 
-  turn_good : (c : Client m) (w : Work m) (t : ReconfTurn) → NextGood ps K t.to → MovedGood (on_reconf m c w t)
+  turn_good : (c : Client m) (w : Work m) (t : ReconfTurn) → NextGood ps K X t.to → MovedGood (on_reconf m c w t)
   turn_good c w t h = by t.to h
     where
-      by : (to : Next Reconf ReconfEnd) → NextGood ps K to → MovedGood (reconf_to m (after_turn m c t) w to)
+      by : (to : Next Reconf ReconfEnd) → NextGood ps K X to → MovedGood (reconf_to m (after_turn m c t) w to)
       by (Goes s) h = record { hand = h }
       by (Learns s) h = record { hand = h }
       by (Ends (Installed e p)) h = record { hand = tt }
@@ -587,12 +598,12 @@ module _ (m : Meaning) (ps : List Packet) (K : Layout → Type 0) where
   -- what an awaited answer tells a reconfiguration
   abbrev pub HearsSeal : Option Reconf → ℕ → Reply → Type 0
   HearsSeal None n x = Unit {0}
-  HearsSeal (Some r) n x = SealTold ps K r r.work n x × PromiseTold ps K r.work x
+  HearsSeal (Some r) n x = SealTold ps K X r r.work n x × PromiseTold ps K X r.work x
 
   module _ (x : Packet) where
     task_good : (c : Client m) (w : Work m) (t : Task m) → ReconfGood (task_reconf m t) → HearsSeal (task_reconf m t) x.from.num (reply x.msg) → MovedGood (task_feed m c w t x.from.num x.rid (reply x.msg))
     unfolding task_feed
-    task_good c w (Reconfiguring r) h s = turn_good c w (reconf_feed r r.work x.from.num x.rid (reply x.msg) c.next) (feed_good ps K r r.work x.from.num x.rid (reply x.msg) c.next h h s.0 s.1)
+    task_good c w (Reconfiguring r) h s = turn_good c w (reconf_feed r r.work x.from.num x.rid (reply x.msg) c.next) (feed_good ps K X r r.work x.from.num x.rid (reply x.msg) c.next h h s.0 s.1)
     task_good c w (Syncing y) h s = plain_good c _ (on_sync_plain m c w _ (sync_besides c.stand y y.work x.from.num (reply x.msg) c.next))
     task_good c w (Walking y os) h s = plain_good c _ (on_walk_plain m c w y.oid os (walk_feed c.stand y y.job x.from.num (reply x.msg) c.next))
     task_good c w (Appending y z) h s = plain_good c _ (on_append_plain m c w z _ (append_besides c.stand y y.token y.work x.from.num (reply x.msg) c.next refl))
@@ -601,7 +612,7 @@ module _ (m : Meaning) (ps : List Packet) (K : Layout → Type 0) where
 
     again_good : (c : Client m) (w : Work m) (t : Task m) (q : Layout) → ReconfGood (task_reconf m t) → MovedGood (step.on_newer m c w t x.from.num x.rid q)
     unfolding task_again
-    again_good c w (Reconfiguring r) q h = turn_good c w (reconf_latest r r.work x.from.num x.rid q c.next) (latest_good ps K r r.work x.from.num x.rid q c.next h)
+    again_good c w (Reconfiguring r) q h = turn_good c w (reconf_latest r r.work x.from.num x.rid q c.next) (latest_good ps K X r r.work x.from.num x.rid q c.next h)
     again_good c w (Syncing s) q h = plain_good (stands m c q) _ (on_sync_plain m (stands m c q) _ (sync_again s c.next) (sync_again_besides q s c.next))
     again_good c w (Walking y os) q h = plain_good (stands m c q) _ (on_walk_plain m (stands m c q) w y.oid os (walk_again q y c.next))
     again_good c w (Appending y z) q h = plain_good (stands m c q) _ (on_append_plain m (stands m c q) w z _ (append_again_besides q y c.next))
@@ -636,7 +647,7 @@ module _ (m : Meaning) (ps : List Packet) (K : Layout → Type 0) where
 
   accepts_good : (c : Client m) (x : CommandOf m) → c.work ≡ None → K c.stand → ((y : Changed) → x ≡ cmd.Reconf y → (change_fault c.stand y ≡ None) × IsChange y) → MovedGood (accepts m c x)
   unfolding accepts reconf_start
-  accepts_good c (cmd.Reconf x) e k f = turn_good c (new_work m (cmd.Reconf x)) (reconf_start c.stand c.layouts x c.num c.next) (first_good ps K (record { change = x; me = c.num; layouts = c.layouts; stand = c.stand; work = SealingSpare 0 }) c.next x.join (record { known = k; allowed = (f x refl).0; lawful = (f x refl).1 }))
+  accepts_good c (cmd.Reconf x) e k f = turn_good c (new_work m (cmd.Reconf x)) (reconf_start c.stand c.layouts x c.num c.next) (first_good ps K X (record { change = x; me = c.num; layouts = c.layouts; stand = c.stand; work = SealingSpare 0 }) c.next x.join (record { known = k; allowed = (f x refl).0; lawful = (f x refl).1 }))
   accepts_good c (cmd.Copy u r s) e k f = copies_good c (new_work m (cmd.Copy u r s)) (record { unit = u; range = r; stripe = s; work = copying.Sealing 0 }) None
   accepts_good c (cmd.Host o) e k f = plain_good c _ (host_plain m c o e)
   accepts_good c cmd.Begin e k f = plain_good c _ (begin_plain m c e)

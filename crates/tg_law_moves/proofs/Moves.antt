@@ -170,20 +170,36 @@ module _ (m : Meaning) where
   run_keeps_of Q P keeps (Next ∷ ms) w q h = run_keeps_of Q P keeps ms (next_event m w) q h
   run_keeps_of Q P keeps (Takes e ∷ ms) w q h = run_keeps_of Q P keeps ms (happens m w e) q.1 (step_cases_of Q w P (keeps (config m w) h) e q.0)
 
+  -- A fact that each step from a world of the run keeps, by what is known of all its worlds.
+  pub run_keeps_with : (Q : CommandOf m → Type 0) (P R : Config m → Type 0) → ((c : Config m) → R c → P c → CasesOf Q c P) → (ms : Moves m) (w : World m) → ((ys : Moves m) → AllGive Q ys → R (config m (run m ys w))) → AllGive Q ms → P (config m w) → P (config m (run m ms w))
+  unfolding run
+  run_keeps_with Q P R keeps [] w r q h = h
+  run_keeps_with Q P R keeps (Next ∷ ms) w r q h = run_keeps_with Q P R keeps ms (next_event m w) (λ ys g. r (Next ∷ ys) g) q h
+  run_keeps_with Q P R keeps (Takes e ∷ ms) w r q h = run_keeps_with Q P R keeps ms (happens m w e) (λ ys g. r (Takes e ∷ ys) (q.0, g)) q.1 (step_cases_of Q w P (keeps (config m w) (r [] tt) h) e q.0)
+
+  pub above_of : (Q : CommandOf m → Type 0) (A B : Config m → Type 0) (c : Config m) → A c → B c → Cases c A → CasesOf Q c (λ d. A d → B d) → CasesOf Q c (λ d. A d × B d)
+  above_of Q A B c x y l k = record {
+    idle = (x, y);
+    unit = λ u p a less. let z = l.unit u p a less in (z, k.unit u p a less z);
+    layout = λ n p a less. let z = l.layout n p a less in (z, k.layout n p a less z);
+    seqr = λ s t i less. let z = l.seqr s t i less in (z, k.seqr s t i less z);
+    client = λ n t i g less. let z = l.client n t i less in (z, k.client n t i g less z);
+  }
+
   -- A fact over others that are kept whatever is commanded.
-  pub keeps_above_of : (Q : CommandOf m → Type 0) (A B : Config m → Type 0) → Keeps A → ((c : Config m) → A c → B c → CasesOf Q c B) → KeepsOf Q (λ c. A c × B c)
+  pub keeps_above_of : (Q : CommandOf m → Type 0) (A B : Config m → Type 0) → Keeps A → ((c : Config m) → A c → B c → CasesOf Q c (λ d. A d → B d)) → KeepsOf Q (λ c. A c × B c)
   keeps_above_of Q A B low keeps c h = record {
-    idle = (l.idle, k.idle);
-    unit = λ u p a less. (l.unit u p a less, k.unit u p a less);
-    layout = λ n p a less. (l.layout n p a less, k.layout n p a less);
-    seqr = λ s t i less. (l.seqr s t i less, k.seqr s t i less);
-    client = λ n t i g less. (l.client n t i less, k.client n t i g less);
+    idle = h;
+    unit = λ u p a less. let x = l.unit u p a less in (x, k.unit u p a less x);
+    layout = λ n p a less. let x = l.layout n p a less in (x, k.layout n p a less x);
+    seqr = λ s t i less. let x = l.seqr s t i less in (x, k.seqr s t i less x);
+    client = λ n t i g less. let x = l.client n t i less in (x, k.client n t i g less x);
   }
     where
       l : Cases c A
       l = low c h.0
 
-      k : CasesOf Q c B
+      k : CasesOf Q c (λ d. A d → B d)
       k = keeps c h.0 h.1
 
   pub cases_map : (c : Config m) (A B : Config m → Type 0) → ((d : Config m) → A d → B d) → Cases c A → Cases c B

@@ -1,10 +1,11 @@
 -- A unit's step: how it grows, and what its answer tells.
-use Rattle.std.proofs.Common.{◌≡◌, ◌⊎◌, ℕ, ◌<◌, ◌≤◌, List, [], ◌∷◌, true, false, refl, inl, inr, arith, Some, None, Option}
+use Rattle.std.proofs.Common.{◌≡◌, ◌⊎◌, ℕ, zero, suc, ◌+◌, ◌<◌, ◌≤◌, List, [], ◌∷◌, Bool, true, false, ◌||◌, refl, sym, subst, inl, inr, arith, Some, None, Option}
+use Rattle.std.specs.Prelude.{nat_lt, is_some, ◌==◌}
 use Rattle.tg_base.specs.declared.cell.Cell.{Cell}
 use Rattle.tg_base.specs.declared.msg.Msg.{Msg}
 use Rattle.tg_base.specs.declared.msg.Msg.TheVariants as msg
 use Rattle.tg_protocol.specs.Words.{cell_at, cells_from, cell_eq, bytes_eq, plus_one}
-use Rattle.tg_protocol.specs.Units.{UnitState, new_unit, UnitAsk, unit_ask, on_ask, unit_step}
+use Rattle.tg_protocol.specs.Units.{UnitState, new_unit, UnitAsk, Looks, unit_ask, settled_at, first_missing, how_many, in_epoch, on_has, on_ask, unit_step}
 use Rattle.tg_law_steps.proofs.Units.{cell_stored, cell_kept, cell_stays, low_rises, epoch_rises}
 use Rattle.tg_law_moves.specs.Telling.{Claim, claimed, is_request}
 
@@ -124,17 +125,73 @@ holds_grows s t k g h = record {
 pub holds_now : (s : UnitState) (k : Claim) → UnitRight s → Now s k → Holds s k
 holds_now s k r n = record { epoch = let e = n.epoch in omega (arith, e); high = r.below k.pos k.cell n.cell; cell = inl n.cell }
 
+-- A unit that is whole.
+
+-- the unit has a cell there, or has trimmed it
+abbrev pub IsHeld : UnitState → ℕ → Type 0
+IsHeld s p = ((x : Cell) × (cell_at s.cells p ≡ Some x)) ⊎ (p < s.low)
+
+pub held_grows : (s t : UnitState) (p : ℕ) → UnitGrows s t → IsHeld s p → IsHeld t p
+held_grows s t p g (inl h) = by (g.cells p h.0 h.1)
+  where
+    by : (cell_at t.cells p ≡ Some h.0) ⊎ (p < t.low) → IsHeld t p
+    by (inl x) = inl (h.0, x)
+    by (inr x) = inr x
+held_grows s t p g (inr h) = let a = g.low in inr (omega (arith, a, h))
+
+-- one of so many positions, a step apart
+abbrev pub InSteps : ℕ → ℕ → ℕ → ℕ → Type 0
+InSteps step zero lo p = ⊥
+InSteps step (suc n) lo p = (p ≡ lo) ⊎ InSteps step n (lo + step) p
+
+below_low : (p low : ℕ) → (nat_lt p low || false) ≡ true → p < low
+below_low p low h = grind arith
+
+settled_held : (s : UnitState) (p : ℕ) → settled_at s p ≡ true → IsHeld s p
+settled_held s p h = by (cell_at s.cells p) refl h
+  where
+    by : (o : Option Cell) → cell_at s.cells p ≡ o → (nat_lt p s.low || is_some o) ≡ true → IsHeld s p
+    by None e h = inr (below_low p s.low h)
+    by (Some x) e h = inl (x, e)
+
+missing_more : (s : UnitState) (step n lo p : ℕ) (b : Bool) → settled_at s lo ≡ b → (first_missing s step n (lo + step) ≡ None → InSteps step n (lo + step) p → IsHeld s p)
+    → (elim b as (λ _. Option ℕ) [ true ↦ first_missing s step n (lo + step) | false ↦ Some lo ]) ≡ None → (p ≡ lo) ⊎ InSteps step n (lo + step) p → IsHeld s p
+missing_more s step n lo p true e rest h (inl i) = subst (λ (q : ℕ). IsHeld s q) (sym i) (settled_held s lo e)
+missing_more s step n lo p true e rest h (inr i) = rest h i
+missing_more s step n lo p false e rest h i = absurd (cc)
+
+none_missing : (s : UnitState) (step n lo p : ℕ) → first_missing s step n lo ≡ None → InSteps step n lo p → IsHeld s p
+unfolding first_missing
+none_missing s step zero lo p h i = absurd i
+none_missing s step (suc n) lo p h i = missing_more s step n lo p (settled_at s lo) refl (λ g j. none_missing s step n (lo + step) p g j) h i
+
+look_by : (s : UnitState) (b : Bool) (o : Option ℕ) (p : ℕ) → (o ≡ None → IsHeld s p) → (in_epoch b s (on_has s o)).says ≡ Some msg.Whole → IsHeld (in_epoch b s (on_has s o)).now p
+look_by s true None p f h = f refl
+look_by s true (Some q) p f h = absurd (cc)
+look_by s false o p f h = absurd (cc)
+
+look_whole : (s : UnitState) (e lo hi step p : ℕ) → InSteps step (how_many lo hi step) lo p → (on_ask s (Looks e lo hi step)).says ≡ Some msg.Whole → IsHeld (on_ask s (Looks e lo hi step)).now p
+unfolding on_ask
+look_whole s e lo hi step p i h = look_by s (s.epoch == e) (first_missing s step (how_many lo hi step) lo) p (λ n. none_missing s step (how_many lo hi step) lo p n i) h
+
+-- it answers that it has these positions
+ask_whole : (s : UnitState) (a : UnitAsk) (e lo hi step : ℕ) → a ≡ Looks e lo hi step → (on_ask s a).says ≡ Some msg.Whole → (p : ℕ) → InSteps step (how_many lo hi step) lo p → IsHeld (on_ask s a).now p
+ask_whole s a e lo hi step is h p i =
+    subst (λ (b : UnitAsk). IsHeld (on_ask s b).now p) (sym is) (look_whole s e lo hi step p i (subst (λ (b : UnitAsk). (on_ask s b).says ≡ Some msg.Whole) is h))
+
 -- all that an answer tells
 pub record IsTrue (s : UnitState) (a : UnitAsk) (x : Msg) : Type 0 where
   pub cell : (k : Claim) → claimed a x ≡ Some k → Holds s k
   pub sealed : (e h : ℕ) → x ≡ msg.Sealed e h → e ≤ s.epoch
   pub gone : (b : ℕ) → x ≡ msg.Gone b → b ≤ s.low
+  pub whole : (e lo hi step : ℕ) → a ≡ Looks e lo hi step → x ≡ msg.Whole → (p : ℕ) → InSteps step (how_many lo hi step) lo p → IsHeld s p
 
 pub true_grows : (s t : UnitState) (a : UnitAsk) (x : Msg) → UnitGrows s t → IsTrue s a x → IsTrue t a x
 true_grows s t a x g h = record {
   cell = λ k is. holds_grows s t k g (h.cell k is);
   sealed = λ e i is. let a = g.epoch in let b = h.sealed e i is in omega (arith, a, b);
   gone = λ b is. let a = g.low in let c = h.gone b is in omega (arith, a, c);
+  whole = λ e lo hi step i j p k. held_grows s t p g (h.whole e lo hi step i j p k);
 }
 
 ask_sealed : (s : UnitState) (a : UnitAsk) (e h : ℕ) → (on_ask s a).says ≡ Some (msg.Sealed e h) → (e ≡ (on_ask s a).now.epoch) × (h ≡ s.high) × (h ≡ (on_ask s a).now.high)
@@ -159,6 +216,7 @@ true_now s m x r says = record {
   cell = λ k is. holds_now _ k (right_step s m r) (claim_now s m x k says is);
   sealed = λ e h is. let a = (ask_sealed s (unit_ask m) e h (said _ x _ says is)).0 in omega (arith, a);
   gone = λ b is. let a = ask_gone s (unit_ask m) b (said _ x _ says is) in omega (arith, a);
+  whole = λ e lo hi step i is p k. ask_whole s (unit_ask m) e lo hi step i (said _ x _ says is) p k;
 }
 
 -- what is answered is a request, and the answer is none
