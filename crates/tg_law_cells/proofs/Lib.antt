@@ -7,5 +7,8 @@ pub mod Stores
 pub mod Befores
 pub mod Settles
 pub mod Roots
+pub mod Stripes
 pub mod Successors
+pub mod Owned
+pub mod Joining
 pub mod Settling

@@ -38,7 +38,7 @@ use Rattle.tg_protocol.specs.Runs.{Moves, run}
 use Rattle.tg_law_moves.specs.After.{after}
 
 -- what is stored was sent down a chain or aside
-stored_just : (ps : List Packet) (L : Layout → Type 0) (to : NodeId) (y : Msg) (k : Claim) → claimed (unit_ask y) msg.Held ≡ Some k → Justified ps L to y → GoesDown ps L to k.epoch k.pos k.cell ⊎ GoesAside ps L k.epoch k.pos k.cell
+pub stored_just : (ps : List Packet) (L : Layout → Type 0) (to : NodeId) (y : Msg) (k : Claim) → claimed (unit_ask y) msg.Held ≡ Some k → Justified ps L to y → GoesDown ps L to k.epoch k.pos k.cell ⊎ GoesAside ps L k.epoch k.pos k.cell
 unfolding claimed unit_ask
 stored_just ps L to (msg.Write e p d) k is j = inl (subst (λ (x : Claim). GoesDown ps L to x.epoch x.pos x.cell) (same _ k is) j)
   where

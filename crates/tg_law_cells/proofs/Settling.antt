@@ -41,6 +41,7 @@ use Rattle.tg_law_cells.proofs.Sent.{told_grows}
 use Rattle.tg_law_cells.proofs.Settles.{Settled, Rooted, Got, Next, After, ToldBefore, last_settles, settled_stays, settled_once, settled_present}
 use Rattle.tg_law_cells.proofs.Settles.{Line as Facts}
 use Rattle.tg_law_cells.proofs.Roots.{Roots, roots_hold}
+use Rattle.tg_law_cells.proofs.Joining.{Brought, joins_bring}
 use Rattle.tg_law_cells.proofs.Successors.{words, next, none_gone, stands_there, single_there, some_there}
 
 under : (p high start : ℕ) → plus_one p ≤ high → high ≤ start → start < 2 ^ 62 → p < start
@@ -182,15 +183,15 @@ module _ (m : Meaning) (h : Header) (xs ys : Moves m) (header : IsHeader h) (giv
   here : (q : Layout) → IsOfDecided m (after m h (xs ++ ys)) q → K m h (xs ++ ys) q
   here q d = (known m h (xs ++ ys) q.epoch q d).0
 
-  told_law : SettledTold m (after m h xs) (after m h (xs ++ ys))
+  told_law : JoinsTold m (after m h (xs ++ ys)) → SettledTold m (after m h xs) (after m h (xs ++ ys))
   told_law f pos c s q u k t told at =
       settled_stays words (K m h (xs ++ ys)) _ (facts m h (xs ++ ys) header give f) (roots m h (xs ++ ys) header give f).tells pos c s.layout.epoch (settled pos c s) q (here q t.decided) t.later u k (has_contained _ u t.here) (tells_of _ u k told) at
 
-  once_law : SettledOnce m (after m h xs) (after m h (xs ++ ys))
+  once_law : JoinsTold m (after m h (xs ++ ys)) → SettledOnce m (after m h xs) (after m h (xs ++ ys))
   once_law f pos c d s t =
       settled_once words (K m h (xs ++ ys)) _ (facts m h (xs ++ ys) header give f) (roots m h (xs ++ ys) header give f).tells pos d c t.layout.epoch s.layout.epoch (settled_here pos d t) (settled pos c s)
 
-  kept_law : SettledKept m (after m h xs) (after m h (xs ++ ys))
+  kept_law : JoinsTold m (after m h (xs ++ ys)) → SettledKept m (after m h xs) (after m h (xs ++ ys))
   kept_law f pos c x s q u t at = by _ (r.cells u pos x at)
     where
       r : Roots m h words (after m h (xs ++ ys)).packets (facts m h (xs ++ ys) header give f) (config m (after m h (xs ++ ys)))
@@ -203,7 +204,7 @@ module _ (m : Meaning) (h : Header) (xs ys : Moves m) (header : IsHeader h) (giv
           how (inl g) = sym g.own.cell ∙ settled_stays words (K m h (xs ++ ys)) _ (facts m h (xs ++ ys) header give f) r.tells pos c s.layout.epoch (settled pos c s) q (here q t.decided) t.later u g.own.claim (has_contained _ u t.here) g.own.tells g.own.pos
           how (inr y) = settled_once words (K m h (xs ++ ys)) _ (facts m h (xs ++ ys) header give f) r.tells pos c x s.layout.epoch o.layout.epoch (settled pos c s) y
 
-  chain_law : ChainKept m (after m h xs) (after m h (xs ++ ys))
+  chain_law : JoinsTold m (after m h (xs ++ ys)) → ChainKept m (after m h xs) (after m h (xs ++ ys))
   chain_law f pos c x s q d le at =
       let a = head_has (after m h (xs ++ ys)).units pos (chain_of q pos) x at in
       kept_law f pos c x s q a.0 (record { decided = d; later = le; here = contained _ a.0 a.1 }) a.2
@@ -211,7 +212,7 @@ module _ (m : Meaning) (h : Header) (xs ys : Moves m) (header : IsHeader h) (giv
   abbrev Low : ℕ → ℕ → Type 0
   Low u p = p < (unit_in m (config m (after m h (xs ++ ys))) u).low
 
-  held_law : SettledHeld m (after m h xs) (after m h (xs ++ ys))
+  held_law : JoinsTold m (after m h (xs ++ ys)) → JoinsWhole m (after m h (xs ++ ys)) → SettledHeld m (after m h xs) (after m h (xs ++ ys))
   held_law f w pos c s q u t = by (settled_present words (K m h (xs ++ ys)) _ (facts m h (xs ++ ys) header give f) Low whole (roots m h (xs ++ ys) header give f).tells pos c s.layout.epoch (settled pos c s) q (here q t.decided) t.later u (has_contained _ u t.here))
     where
       whole : (p q : Layout) (p' v : ℕ) → K m h (xs ++ ys) p → K m h (xs ++ ys) q → Next words p q → words.Joins p q p' v → p' < q.start → ToldBefore words (K m h (xs ++ ys)) (after m h (xs ++ ys)).packets v q.epoch p' ⊎ Low v p'
@@ -227,7 +228,7 @@ module _ (m : Meaning) (h : Header) (xs ys : Moves m) (header : IsHeader h) (giv
           (told_holds m (config m (after m h (xs ++ ys))) u t.claim (base m h (xs ++ ys)) t.tells).cell)
       by (inr t) = inr t
 
-  in_log_law : SettledInLog m (after m h xs) (after m h (xs ++ ys))
+  in_log_law : JoinsTold m (after m h (xs ++ ys)) → JoinsWhole m (after m h (xs ++ ys)) → SettledInLog m (after m h xs) (after m h (xs ++ ys))
   in_log_law f w pos c s q d le kept = ap (λ o. or_else o (cell_at (after m h (xs ++ ys)).archive pos)) (whole_chain (after m h (xs ++ ys)).units pos (chain_of q pos) c (some_there q pos (rules m h (xs ++ ys) header give q (here q d))) each)
     where
       each : (u : ℕ) → Has (chain_of q pos) u → cell_at (unit_in m (config m (after m h (xs ++ ys))) u).cells pos ≡ Some c
@@ -237,7 +238,7 @@ module _ (m : Meaning) (h : Header) (xs ys : Moves m) (header : IsHeader h) (giv
           by (inl x) = x
           by (inr x) = let k = kept u (contained _ u g) in absurd (omega (arith, x, k))
 
-last_law : (m : Meaning) (h : Header) (xs : Moves m) → IsHeader h → AllGive m (LawfulCommand m) xs → LastSettles m (after m h xs)
+last_law : (m : Meaning) (h : Header) (xs : Moves m) → IsHeader h → AllGive m (LawfulCommand m) xs → JoinsTold m (after m h xs) → LastSettles m (after m h xs)
 last_law m h xs header give f q pos c d t =
     let b = told_by _ (last_unit (place_in q pos)) q.epoch pos c t in
     let r = (roots m h xs header give f).tells (last_unit (place_in q pos)) b.claim b.tells in
@@ -248,24 +249,50 @@ last_law m h xs header give f q pos c d t =
     let s = last_settles words (K m h xs) _ (facts m h xs header give f) q pos c (known m h xs q.epoch q d).0 b root in
     record { layout = s.layout; decided = decided_for m h xs header give s.layout s.decided; told = λ k less. up_to (after m h xs).packets _ _ _ c (s.told k less) }
 
+-- What units that join bring.
+
+module _ (m : Meaning) (h : Header) (xs : Moves m) (header : IsHeader h) (give : AllGive m (LawfulCommand m) xs) where
+  brought : (p q : Layout) (pos u : ℕ) → Joins m (after m h xs) p q pos u → Brought m h xs header give u q.epoch pos
+  brought p q pos u j =
+      joins_bring m h xs header give q (known m h xs q.epoch q j.after).0 p (known m h xs p.epoch p j.before).0 j.next pos u (has_contained _ u j.here) (λ g. j.new (contained _ u g)) j.old
+
+  before : (u e pos : ℕ) → ToldBefore words (K m h xs) (after m h xs).packets u e pos → HadBefore (after m h xs).packets u e pos
+  before u e pos t = record { claim = t.claim; told = told_of _ u t.claim t.tells; at = t.at; early = t.early }
+
+  told_here : JoinsTold m (after m h xs)
+  told_here p q pos u k j t at = before u q.epoch pos ((brought p q pos u j).told k (tells_of _ u k t) at)
+
+  whole_here : JoinsWhole m (after m h xs)
+  whole_here p q pos u j = by (brought p q pos u j).had
+    where
+      by : ToldBefore words (K m h xs) (after m h xs).packets u q.epoch pos ⊎ (pos < (unit_in m (config m (after m h xs)) u).low) → HadBefore (after m h xs).packets u q.epoch pos ⊎ (pos < (unit_in m (config m (after m h xs)) u).low)
+      by (inl x) = inl (before u q.epoch pos x)
+      by (inr x) = inr x
+
 module _ (m : Meaning) where
-  pub last_settles_where_joins_told : Always m (LastSettles m)
-  last_settles_where_joins_told = always_lawful m (LastSettles m) (last_law m)
+  pub joins_tell_old_cells : Always m (JoinsTold m)
+  joins_tell_old_cells = always_lawful m (JoinsTold m) (λ h xs a b. told_here m h xs a b)
 
-  pub settled_told_where_joins_told : EachLater m (SettledTold m)
-  settled_told_where_joins_told = later_lawful m (SettledTold m) (λ h xs ys a b c. told_law m h xs ys a c)
+  pub joins_are_whole : Always m (JoinsWhole m)
+  joins_are_whole = always_lawful m (JoinsWhole m) (λ h xs a b. whole_here m h xs a b)
 
-  pub settled_once_where_joins_told : EachLater m (SettledOnce m)
-  settled_once_where_joins_told = later_lawful m (SettledOnce m) (λ h xs ys a b c. once_law m h xs ys a c)
+  pub last_settles_cells : Always m (LastSettles m)
+  last_settles_cells = always_lawful m (LastSettles m) (λ h xs a b. last_law m h xs a b (told_here m h xs a b))
 
-  pub settled_kept_where_joins_told : EachLater m (SettledKept m)
-  settled_kept_where_joins_told = later_lawful m (SettledKept m) (λ h xs ys a b c. kept_law m h xs ys a c)
+  pub settled_is_told : EachLater m (SettledTold m)
+  settled_is_told = later_lawful m (SettledTold m) (λ h xs ys a b c. told_law m h xs ys a c (told_here m h (xs ++ ys) a c))
 
-  pub chain_kept_where_joins_told : EachLater m (ChainKept m)
-  chain_kept_where_joins_told = later_lawful m (ChainKept m) (λ h xs ys a b c. chain_law m h xs ys a c)
+  pub one_is_settled : EachLater m (SettledOnce m)
+  one_is_settled = later_lawful m (SettledOnce m) (λ h xs ys a b c. once_law m h xs ys a c (told_here m h (xs ++ ys) a c))
 
-  pub settled_held_where_joins_whole : EachLater m (SettledHeld m)
-  settled_held_where_joins_whole = later_lawful m (SettledHeld m) (λ h xs ys a b c. held_law m h xs ys a c)
+  pub units_keep_settled : EachLater m (SettledKept m)
+  units_keep_settled = later_lawful m (SettledKept m) (λ h xs ys a b c. kept_law m h xs ys a c (told_here m h (xs ++ ys) a c))
 
-  pub settled_in_log_where_joins_whole : EachLater m (SettledInLog m)
-  settled_in_log_where_joins_whole = later_lawful m (SettledInLog m) (λ h xs ys a b c. in_log_law m h xs ys a c)
+  pub chains_keep_settled : EachLater m (ChainKept m)
+  chains_keep_settled = later_lawful m (ChainKept m) (λ h xs ys a b c. chain_law m h xs ys a c (told_here m h (xs ++ ys) a c))
+
+  pub settled_is_held : EachLater m (SettledHeld m)
+  settled_is_held = later_lawful m (SettledHeld m) (λ h xs ys a b c. held_law m h xs ys a c (told_here m h (xs ++ ys) a c) (whole_here m h (xs ++ ys) a c))
+
+  pub settled_is_in_log : EachLater m (SettledInLog m)
+  settled_is_in_log = later_lawful m (SettledInLog m) (λ h xs ys a b c. in_log_law m h xs ys a c (told_here m h (xs ++ ys) a c) (whole_here m h (xs ++ ys) a c))

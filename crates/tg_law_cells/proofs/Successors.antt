@@ -18,7 +18,10 @@ use Rattle.tg_proj.specs.Follows.{Follows, IsJoined}
 use Rattle.tg_proj.proofs.Ranges.{range_found, each_passes, some_stripe}
 use Rattle.tg_proj.proofs.Chains.{length-next_ranges, units_of-append, units_of-opened}
 use Rattle.tg_proj.proofs.Allowed.{stripe_rules}
-use Rattle.tg_protocol.specs.Layouts.{chain_of}
+use Rattle.tg_protocol.specs.Units.{how_many}
+use Rattle.tg_protocol.specs.Layouts.{chain_of, range_end}
+use Rattle.tg_law_moves.proofs.Units.{InSteps}
+use Rattle.tg_law_cells.proofs.Stripes.{in_stripe}
 use Rattle.tg_law_moves.proofs.Members.{Has, has_left, has_right, has_either, has_filter, found, passes_somewhere}
 use Rattle.tg_law_cells.proofs.Befores.{Before, has_at, before_has}
 use Rattle.tg_law_cells.proofs.Settles.{Words, Next}
@@ -197,6 +200,13 @@ or_right a b h = grind arith
 not_false : (b : Bool) → b ≡ false → not b ≡ true
 not_false b h = grind arith
 
+-- the join of a unit that joins the chain of a position, which is one of those that it was asked for
+pub record JoinsAt (p : Layout) (c : Changed) (pos u : ℕ) : Type 0 where
+  pub join : Join
+  pub is : c.join ≡ Some join
+  pub unit : join.unit ≡ u
+  pub steps : InSteps (length (range_at p.ranges join.range).stripes) (how_many ((range_at p.ranges join.range).lo + join.stripe) (range_end p join.range) (length (range_at p.ranges join.range).stripes)) ((range_at p.ranges join.range).lo + join.stripe) pos
+
 module _ (p : Layout) (c : Changed) (q : Layout) (f : Follows p c q) (before : IsLayout p) (after : IsLayout q) (ranges : q.ranges ≡ next_ranges c 0 p.ranges ++ opened_at c.opened q.start) where
   long : length q.ranges ≡ length p.ranges + length (opened_at c.opened q.start)
   long = ap length ranges ∙ (length-append (next_ranges c 0 p.ranges) (opened_at c.opened q.start) ∙ ap (λ n. n + length (opened_at c.opened q.start)) (length-next_ranges c 0 p.ranges))
@@ -233,6 +243,8 @@ module _ (p : Layout) (c : Changed) (q : Layout) (f : Follows p c q) (before : I
     pub stripe : ℕ
     pub there : range < length p.ranges
     pub less : stripe < length (range_at p.ranges range).stripes
+    pub at : IsRangeOf p.ranges pos range
+    pub stripe_is : stripe ≡ stripe_number (range_at p.ranges range) pos
     pub old : chain_of p pos ≡ chain_at p.ranges range stripe
     pub now : chain_of q pos ≡ kept c.drop (chain_at p.ranges range stripe) ++ joined c.join range stripe
 
@@ -250,6 +262,8 @@ module _ (p : Layout) (c : Changed) (q : Layout) (f : Follows p c q) (before : I
         stripe = a.stripe;
         there = a.is.there;
         less = a.less;
+        at = a.is;
+        stripe_is = a.stripe_is;
         old = a.chain;
         now = b.chain ∙ (ap (λ k. chain_at q.ranges k b.stripe) e ∙ (ap (λ k. chain_at q.ranges a.range k) stripe ∙ f.chains a.range a.stripe a.is.there a.less));
       }
@@ -314,6 +328,35 @@ module _ (p : Layout) (c : Changed) (q : Layout) (f : Follows p c q) (before : I
       by a (inr x) =
           let n = joined_new a.range a.stripe u x in
           inr (h, (λ g. contrary _ (has_true _ u (subst (λ xs. Has xs u) a.old g)) n.0), (λ g. contrary _ (gone_later u g) n.1))
+
+  pub joins_at : (pos u : ℕ) → pos < q.start → Has (chain_of q pos) u → (Has (chain_of p pos) u → ⊥) → JoinsAt p c pos u
+  joins_at pos u below h new = let a = chain_now pos below in by a (has_either _ _ u (subst (λ xs. Has xs u) a.now h))
+    where
+      steps : (a : ChainNow pos) (j : Join) → IsJoined p q j → j.range ≡ a.range → j.stripe ≡ a.stripe
+          → InSteps (length (range_at p.ranges j.range).stripes) (how_many ((range_at p.ranges j.range).lo + j.stripe) (range_end p j.range) (length (range_at p.ranges j.range).stripes)) ((range_at p.ranges j.range).lo + j.stripe) pos
+      steps a j i e f =
+          let there = i.there in
+          in_stripe (range_at p.ranges j.range).lo (range_end p j.range) (length (range_at p.ranges j.range).stripes) j.stripe pos (omega (arith, there))
+          (subst (λ (n : ℕ). (range_at p.ranges n).lo ≤ pos) (sym e) a.at.reached)
+          (a.at.last (j.range + 1) (omega (arith, e)) i.closed)
+          (f ∙ (a.stripe_is ∙ ap (λ (n : ℕ). stripe_number (range_at p.ranges n) pos) (sym e)))
+
+      at : (a : ChainNow pos) (o : Option Join) → c.join ≡ o → IfSome o (IsJoined p q) → (j : Join) → o ≡ Some j → (b : Bool) → (j.range == a.range && j.stripe == a.stripe) ≡ b → Has (if b then j.unit ∷ [] else []) u → JoinsAt p c pos u
+      at a None e i j f b g h = absurd (cc)
+      at a (Some k) e i j f true g (inl x) = record { join = j; is = e ∙ f; unit = sym x; steps = steps a j (subst (λ (z : Join). IsJoined p q z) (same_join k j f) i) (equal j.range a.range (and-left _ _ g)) (equal j.stripe a.stripe (and-right _ _ g)) }
+        where
+          same_join : (x y : Join) → Some x ≡ Some y → x ≡ y
+          same_join x y e = cc
+      at a (Some k) e i j f true g (inr x) = absurd x
+      at a (Some k) e i j f false g x = absurd x
+
+      joins : (a : ChainNow pos) (o : Option Join) → c.join ≡ o → IfSome o (IsJoined p q) → Has (joined o a.range a.stripe) u → JoinsAt p c pos u
+      joins a None e i x = absurd x
+      joins a (Some j) e i x = at a (Some j) e i j refl (j.range == a.range && j.stripe == a.stripe) refl x
+
+      by : (a : ChainNow pos) → Has (kept c.drop (chain_at p.ranges a.range a.stripe)) u ⊎ Has (joined c.join a.range a.stripe) u → JoinsAt p c pos u
+      by a (inl x) = absurd (new (subst (λ xs. Has xs u) (sym a.old) (has_filter _ (chain_at p.ranges a.range a.stripe) u x)))
+      by a (inr x) = joins a c.join refl f.join x
 
   in_order : (pos w v : ℕ) → pos < q.start → Before (chain_of q pos) w v → Has (chain_of p pos) v → Before (chain_of p pos) w v
   in_order pos w v below b h = let a = chain_now pos below in by a (before_either _ _ w v (subst (λ xs. Before xs w v) a.now b))

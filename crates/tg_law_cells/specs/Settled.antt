@@ -27,7 +27,7 @@ module _ (m : Meaning) where
     pub decided : IsOfDecided m w layout
     pub told : FirstTold w.packets (place_in layout pos) c (length (chain_of layout pos))
 
-  -- Joins. What follows is a premise of the laws below, asked of the later world alone.
+  -- Joins.
 
   -- a unit joins the chain of a position, which is older than the layout
   pub record Joins (w : World m) (p q : Layout) (pos u : ℕ) : Type 0 where
@@ -56,34 +56,34 @@ module _ (m : Meaning) where
 
   -- no unit of a later layout's chain tells another cell than the settled one
   abbrev pub SettledTold : World m → World m → Type 0
-  SettledTold w v = JoinsTold v → (pos : ℕ) (c : Cell) (s : IsSettled w pos c) (q : Layout) (u : ℕ) (k : Claim) →
+  SettledTold w v = (pos : ℕ) (c : Cell) (s : IsSettled w pos c) (q : Layout) (u : ℕ) (k : Claim) →
       StandsLater v s.layout q pos u → Told v.packets u k → k.pos ≡ pos → k.cell ≡ c
 
   -- a position has one settled cell, in all worlds of a run
   abbrev pub SettledOnce : World m → World m → Type 0
-  SettledOnce w v = JoinsTold v → (pos : ℕ) (c d : Cell) → IsSettled w pos c → IsSettled v pos d → c ≡ d
+  SettledOnce w v = (pos : ℕ) (c d : Cell) → IsSettled w pos c → IsSettled v pos d → c ≡ d
 
   -- what the last unit of a decided layout's chain has told in its epoch or before is settled
   abbrev pub LastSettles : World m → Type 0
-  LastSettles w = JoinsTold w → (q : Layout) (pos : ℕ) (c : Cell) → IsOfDecided m w q →
+  LastSettles w = (q : Layout) (pos : ℕ) (c : Cell) → IsOfDecided m w q →
       ToldUpTo w.packets (last_unit (place_in q pos)) q.epoch pos c → IsSettled w pos c
 
   -- no unit of a later layout's chain has another cell
   abbrev pub SettledKept : World m → World m → Type 0
-  SettledKept w v = JoinsTold v → (pos : ℕ) (c x : Cell) (s : IsSettled w pos c) (q : Layout) (u : ℕ) →
+  SettledKept w v = (pos : ℕ) (c x : Cell) (s : IsSettled w pos c) (q : Layout) (u : ℕ) →
       StandsLater v s.layout q pos u → cell_at (unit m v u).cells pos ≡ Some x → x ≡ c
 
   -- nor has a later layout's whole chain
   abbrev pub ChainKept : World m → World m → Type 0
-  ChainKept w v = JoinsTold v → (pos : ℕ) (c x : Cell) (s : IsSettled w pos c) (q : Layout) → IsOfDecided m v q → s.layout.epoch ≤ q.epoch →
+  ChainKept w v = (pos : ℕ) (c x : Cell) (s : IsSettled w pos c) (q : Layout) → IsOfDecided m v q → s.layout.epoch ≤ q.epoch →
       chain_cell v.units pos (chain_of q pos) ≡ Some x → x ≡ c
 
   -- each unit of a later layout's chain has a settled cell, or has trimmed it
   abbrev pub SettledHeld : World m → World m → Type 0
-  SettledHeld w v = JoinsTold v → JoinsWhole v → (pos : ℕ) (c : Cell) (s : IsSettled w pos c) (q : Layout) (u : ℕ) →
+  SettledHeld w v = (pos : ℕ) (c : Cell) (s : IsSettled w pos c) (q : Layout) (u : ℕ) →
       StandsLater v s.layout q pos u → (cell_at (unit m v u).cells pos ≡ Some c) ⊎ (pos < (unit m v u).low)
 
   -- where no unit of the chain has trimmed it, the whole chain has it: so it is a cell of the log
   abbrev pub SettledInLog : World m → World m → Type 0
-  SettledInLog w v = JoinsTold v → JoinsWhole v → (pos : ℕ) (c : Cell) (s : IsSettled w pos c) (q : Layout) → IsOfDecided m v q → s.layout.epoch ≤ q.epoch →
+  SettledInLog w v = (pos : ℕ) (c : Cell) (s : IsSettled w pos c) (q : Layout) → IsOfDecided m v q → s.layout.epoch ≤ q.epoch →
       ((u : ℕ) → Contains (chain_of q pos) u → (unit m v u).low ≤ pos) → log_cell q v.units v.archive pos ≡ Some c
