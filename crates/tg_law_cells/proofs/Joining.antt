@@ -3,17 +3,14 @@ use Rattle.std.proofs.Common.{◌≡◌, ◌⊎◌, ℕ, zero, suc, ◌+◌, ◌
 use Rattle.tg_base.specs.Layouts.{Layout, IsLayout}
 use Rattle.tg_base.specs.Changes.{Changed}
 use Rattle.tg_base.specs.Clusters.{Header, IsHeader}
-use Rattle.tg_base.specs.declared.cell.Cell.{Cell}
 use Rattle.tg_base.specs.declared.ids.NodeId.{NodeId}
 use Rattle.tg_base.specs.declared.msg.Msg.TheVariants as msg
 use Rattle.tg_base.specs.declared.packet.Packet.{Packet}
 use Rattle.tg_kind.specs.Meaning.{Meaning}
 use Rattle.tg_proj.specs.Next.{next_layout}
 use Rattle.tg_proj.specs.Places.{range_at}
-use Rattle.tg_proj.specs.Refusals.{early_refusal}
 use Rattle.tg_proj.proofs.Allowed.{later_start}
 use Rattle.tg_proj.proofs.Following.{next_follows}
-use Rattle.tg_protocol.specs.Words.{cell_at}
 use Rattle.tg_protocol.specs.Layouts.{first_layout, chain_of, range_end, next_of, change_fault}
 use Rattle.tg_protocol.specs.Units.{Looks, unit_ask}
 use Rattle.tg_protocol.specs.Trimming.{has_stripe}

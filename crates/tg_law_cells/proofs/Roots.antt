@@ -34,7 +34,7 @@ use Rattle.tg_law_cells.proofs.Stores.{Below, start_below}
 use Rattle.tg_law_cells.proofs.Stores.{keeps as low_keeps}
 use Rattle.tg_law_cells.proofs.Settles.{Words, Settled, Rooted, end_settles}
 use Rattle.tg_law_cells.proofs.Settles.{Line as Facts}
-use Rattle.tg_protocol.specs.Runs.{Moves, run}
+use Rattle.tg_protocol.specs.Runs.{Moves}
 use Rattle.tg_law_moves.specs.After.{after}
 
 -- what is stored was sent down a chain or aside

@@ -1,7 +1,7 @@
 -- A settled cell stays: the laws, from how decided layouts follow each other.
-use Rattle.std.proofs.Common.{◌≡◌, ◌⊎◌, ℕ, zero, suc, ◌+◌, ◌^◌, ◌<◌, ◌≤◌, List, [], ◌∷◌, ◌++◌, length, true, false, ◌&&◌, refl, sym, ap, ◌∙◌, subst, inl, inr, arith, Some, None, Option}
-use Rattle.std.specs.Prelude.{Contains, slice_index_or}
-use Rattle.tg_base.specs.Layouts.{Layout, IsLayout}
+use Rattle.std.proofs.Common.{◌≡◌, ◌⊎◌, ℕ, zero, suc, ◌^◌, ◌<◌, ◌≤◌, List, [], ◌∷◌, ◌++◌, length, true, false, ◌&&◌, refl, sym, ap, ◌∙◌, subst, inl, inr, arith, Some, None, Option}
+use Rattle.std.specs.Prelude.{slice_index_or}
+use Rattle.tg_base.specs.Layouts.{Layout}
 use Rattle.tg_base.specs.Units.{has}
 use Rattle.tg_base.specs.Clusters.{Header, IsHeader}
 use Rattle.tg_base.specs.declared.cell.Cell.{Cell}
@@ -17,12 +17,11 @@ use Rattle.tg_protocol.specs.Words.{plus_one, cell_at, cell_eq, bytes_eq, where_
 use Rattle.tg_protocol.specs.Layouts.{first_layout, chain_of}
 use Rattle.tg_protocol.specs.Units.{UnitState, new_unit}
 use Rattle.tg_protocol.specs.Cells.{place_in, last_unit}
-use Rattle.tg_protocol.specs.Logs.{chain_cell, if_all_hold, all_hold as each_holds, holds_it, unit_cells, log_cell}
-use Rattle.tg_protocol.specs.Worlds.{World}
+use Rattle.tg_protocol.specs.Logs.{chain_cell, if_all_hold, all_hold as each_holds, holds_it, unit_cells}
 use Rattle.tg_protocol.specs.Runs.{Moves, LawfulCommand, Always, EachLater}
 use Rattle.tg_law_moves.specs.After.{after}
 use Rattle.tg_law_moves.specs.Configs.{config, unit_in}
-use Rattle.tg_law_moves.specs.Telling.{Claim, Told}
+use Rattle.tg_law_moves.specs.Telling.{Claim}
 use Rattle.tg_law_moves.proofs.Members.{Has, has_contained}
 use Rattle.tg_law_moves.proofs.Lists.{contained}
 use Rattle.tg_law_moves.proofs.Moves.{AllGive}
@@ -30,11 +29,11 @@ use Rattle.tg_law_moves.proofs.Always.{always_lawful, later_lawful}
 use Rattle.tg_law_requests.proofs.Told.{Tells, told_holds}
 use Rattle.tg_law_requests.proofs.Starts.{all_hold, known as base, tells_of}
 use Rattle.tg_law_layouts.specs.Decisions.{IsOfDecided}
-use Rattle.tg_law_layouts.proofs.Standing.{IsKnown, known_grows}
+use Rattle.tg_law_layouts.proofs.Standing.{known_grows}
 use Rattle.tg_law_layouts.proofs.Layouts.{more, has_header}
 use Rattle.tg_law_layouts.proofs.Deciding.{K, Made, known, decided_for, first_or, rules, near, once}
 use Rattle.tg_law_cells.specs.Chains.{ToldUpTo}
-use Rattle.tg_law_cells.specs.Settled.{HadBefore, IsSettled, Joins, JoinsTold, JoinsWhole, StandsLater, SettledTold, SettledOnce, LastSettles, SettledKept, ChainKept, SettledHeld, SettledInLog}
+use Rattle.tg_law_cells.specs.Settled.{HadBefore, IsSettled, Joins, JoinsTold, JoinsWhole, SettledTold, SettledOnce, LastSettles, SettledKept, ChainKept, SettledHeld, SettledInLog}
 use Rattle.tg_law_cells.proofs.Justified.{ToldBy}
 use Rattle.tg_law_cells.proofs.Stores.{told_of, up_to}
 use Rattle.tg_law_cells.proofs.Sent.{told_grows}
@@ -276,11 +275,11 @@ module _ (m : Meaning) where
   pub joins_are_whole : Always m (JoinsWhole m)
   joins_are_whole = always_lawful m (JoinsWhole m) (λ h xs a b. whole_here m h xs a b)
 
-  pub last_settles_cells : Always m (LastSettles m)
-  last_settles_cells = always_lawful m (LastSettles m) (λ h xs a b. last_law m h xs a b (told_here m h xs a b))
+  pub last_unit_settles : Always m (LastSettles m)
+  last_unit_settles = always_lawful m (LastSettles m) (λ h xs a b. last_law m h xs a b (told_here m h xs a b))
 
-  pub settled_is_told : EachLater m (SettledTold m)
-  settled_is_told = later_lawful m (SettledTold m) (λ h xs ys a b c. told_law m h xs ys a c (told_here m h (xs ++ ys) a c))
+  pub units_tell_settled : EachLater m (SettledTold m)
+  units_tell_settled = later_lawful m (SettledTold m) (λ h xs ys a b c. told_law m h xs ys a c (told_here m h (xs ++ ys) a c))
 
   pub one_is_settled : EachLater m (SettledOnce m)
   one_is_settled = later_lawful m (SettledOnce m) (λ h xs ys a b c. once_law m h xs ys a c (told_here m h (xs ++ ys) a c))

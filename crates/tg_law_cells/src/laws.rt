@@ -25,12 +25,12 @@ pub fn joins_are_whole<K: Registry>()
 {}
 
 /// What the last unit of a decided layout's chain has told, in its epoch or before, is settled.
-pub fn last_settles_cells<K: Registry>()
+pub fn last_unit_settles<K: Registry>()
     ensures { Always (meaning_of K.Registry) (LastSettles (meaning_of K.Registry)) }
 {}
 
 /// No unit of a later layout's chain tells another cell than a settled one.
-pub fn settled_is_told<K: Registry>()
+pub fn units_tell_settled<K: Registry>()
     ensures { EachLater (meaning_of K.Registry) (SettledTold (meaning_of K.Registry)) }
 {}
 

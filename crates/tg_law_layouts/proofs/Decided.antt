@@ -20,12 +20,12 @@ use Rattle.tg_protocol.specs.Reconfiguring.{Reconf}
 use Rattle.tg_protocol.specs.Clients.{Work, Client, new_client}
 use Rattle.tg_protocol.specs.ClientSteps.{ClientTurn}
 use Rattle.tg_protocol.specs.Worlds.{start, packet_of, answer_to}
-use Rattle.tg_law_moves.proofs.Members.{Has, has_left, has_either, has_map, has_contained, passes_somewhere}
+use Rattle.tg_law_moves.proofs.Members.{Has, has_left, has_either, has_map, passes_somewhere}
 use Rattle.tg_law_agreement.proofs.Facts.{Proposed, proposed_grows}
 use Rattle.tg_law_agreement.proofs.Facts.{Accepts as Acceptance}
 use Rattle.tg_law_agreement.proofs.Servers.{Moved, Kept, Promises, Votes, server_moves}
 use Rattle.tg_law_moves.specs.Configs.{Config, config, layout_in, seqr_in, client_in}
-use Rattle.tg_law_moves.proofs.Lists.{contained, at_set, at_map, at_replicate}
+use Rattle.tg_law_moves.proofs.Lists.{at_set, at_map, at_replicate}
 use Rattle.tg_law_moves.proofs.Moves.{Cases, Comes, unit_turn, layout_turn, seqr_turn, client_turn, SeqrInput, Hears, Ticks, ClientInput, Commanded, Hears', Ticks', Keeps, cases_map, keeps_above, run_keeps}
 use Rattle.tg_law_moves.proofs.Growth.{outs_from, answer_from}
 use Rattle.tg_law_requests.proofs.Answered.{turn_on, said_by}
@@ -34,7 +34,7 @@ use Rattle.tg_law_requests.proofs.Numbers.{seqr_input_draws}
 use Rattle.tg_law_layouts.proofs.Pax.{WorkerOk, ClientOk, reconf_of}
 use Rattle.tg_law_layouts.proofs.Pax as pax
 use Rattle.tg_law_layouts.proofs.Decisions.{Pax, pax_keep, input_fine}
-use Rattle.tg_law_layouts.proofs.Layouts.{start_pax, has_header}
+use Rattle.tg_law_layouts.proofs.Layouts.{start_pax}
 use Rattle.tg_law_layouts.proofs.Tellings.{Tells}
 use Rattle.tg_law_layouts.proofs.Known.{HandKnown, ReconfKnown, Fits}
 use Rattle.tg_law_layouts.proofs.Standing.{IsKnown, known_grows, work_grows, WasProposed, winner, Says, quiet_says}

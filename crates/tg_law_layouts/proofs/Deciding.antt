@@ -1,35 +1,32 @@
 -- Decided layouts in the words of the laws.
-use Rattle.std.proofs.Common.{◌≡◌, ◌⊎◌, ℕ, zero, suc, ◌+◌, ◌^◌, ◌<◌, ◌≤◌, List, [], ◌∷◌, ◌++◌, length, true, false, ◌&&◌, refl, sym, ap, ◌∙◌, subst, inl, inr, arith, Some, None, Option, append-nil, Bool}
-use Rattle.std.specs.Prelude.{Contains, nat_lt}
+use Rattle.std.proofs.Common.{◌≡◌, ◌⊎◌, ℕ, zero, suc, ◌+◌, ◌^◌, ◌<◌, ◌≤◌, [], ◌∷◌, ◌++◌, length, true, ◌&&◌, refl, sym, ap, ◌∙◌, subst, inl, inr, arith, append-nil, Bool}
+use Rattle.std.specs.Prelude.{nat_lt}
 use Rattle.std.specs.List.{list_all, concat}
 use Rattle.tg_base.specs.Layouts.{Layout, IsLayout, is_range}
 use Rattle.tg_base.specs.Changes.{Changed}
 use Rattle.tg_base.specs.Clusters.{Header, IsHeader, are_chains, are_objects, is_odd_to_seven}
 use Rattle.tg_base.specs.Units.{is_within, is_chain, is_distinct}
-use Rattle.tg_base.specs.declared.change.Join.{Join}
 use Rattle.tg_base.specs.declared.msg.Msg.{Msg}
 use Rattle.tg_base.specs.declared.msg.Msg.TheVariants as msg
-use Rattle.tg_base.specs.declared.packet.Packet.{Packet}
 use Rattle.tg_base.proofs.Exact.{and-left, and-right}
 use Rattle.tg_base.proofs.Rules.{IsLayout-from}
 use Rattle.tg_kind.specs.Meaning.{Meaning}
 use Rattle.tg_proj.specs.Next.{next_layout}
 use Rattle.tg_proj.specs.Refusals.{early_refusal, MayFollow}
 use Rattle.tg_proj.proofs.Following.{next_keeps_rules}
-use Rattle.tg_protocol.specs.Layouts.{first_layout, units_of, next_of, change_fault}
-use Rattle.tg_protocol.specs.Logs.{by_majority, newest, decided}
+use Rattle.tg_protocol.specs.Layouts.{first_layout, next_of, change_fault}
+use Rattle.tg_protocol.specs.Logs.{by_majority, newest}
 use Rattle.tg_protocol.specs.Worlds.{World, latest}
 use Rattle.tg_protocol.specs.Runs.{Moves, LawfulCommand, Always, EachLater}
-use Rattle.tg_protocol.specs.Chosen.{Sent, IsDecided, IsChosen, OneLayout, LatestDecided}
-use Rattle.tg_protocol.specs.Following.{SealedAt, HasStripe, Follows, FollowsSome, LayoutsFollow}
+use Rattle.tg_protocol.specs.Chosen.{IsDecided, IsChosen, OneLayout, LatestDecided}
+use Rattle.tg_protocol.specs.Following.{Follows, FollowsSome, LayoutsFollow}
 use Rattle.tg_law_moves.specs.After.{after}
-use Rattle.tg_law_moves.specs.Configs.{config}
-use Rattle.tg_law_moves.proofs.Members.{Has, has_contained}
+use Rattle.tg_law_moves.proofs.Members.{has_contained}
 use Rattle.tg_law_moves.proofs.Lists.{contained}
 use Rattle.tg_law_moves.proofs.Moves.{AllGive}
 use Rattle.tg_law_moves.proofs.Always.{always_lawful, later_lawful, each_later}
 use Rattle.tg_law_agreement.proofs.Facts.{Proposed}
-use Rattle.tg_law_layouts.specs.Decisions.{DecidedStays, ReadStays, IsOfDecided, TellsDecided, LayoutsKnown, IsSound, LayoutsSound}
+use Rattle.tg_law_layouts.specs.Decisions.{DecidedStays, ReadStays, IsOfDecided, TellsDecided, LayoutsKnown, LayoutsSound}
 use Rattle.tg_law_layouts.proofs.Tellings.{Won}
 use Rattle.tg_law_layouts.proofs.Layouts.{Chosen, more, one_chosen, read_stays, has_header, pax}
 use Rattle.tg_law_layouts.proofs.Standing.{IsKnown, known_grows, Says}

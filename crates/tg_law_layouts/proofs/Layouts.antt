@@ -16,7 +16,7 @@ use Rattle.tg_protocol.specs.Logs.{has_accepted, acceptances, by_majority, decid
 use Rattle.tg_protocol.specs.Clients.{Client, new_client}
 use Rattle.tg_protocol.specs.Worlds.{World, start}
 use Rattle.tg_law_moves.proofs.Scripts.{run_both}
-use Rattle.tg_law_moves.proofs.Members.{Has, found, passes_somewhere, has_contained}
+use Rattle.tg_law_moves.proofs.Members.{Has, found, passes_somewhere}
 use Rattle.tg_law_agreement.proofs.Facts.{Proposed, Truth, agreed, proposed_grows}
 use Rattle.tg_law_agreement.proofs.Servers.{Stands}
 use Rattle.tg_law_moves.specs.Configs.{Config, config}

@@ -1,12 +1,12 @@
 -- From each list of moves to the worlds that lawful runs come to.
-use Rattle.std.proofs.Common.{◌≡◌, List, [], ◌∷◌, ◌++◌, ap, ◌∙◌, sym, subst, refl, inl, inr}
+use Rattle.std.proofs.Common.{◌≡◌, [], ◌∷◌, ◌++◌, ap, ◌∙◌, sym, subst, refl, inl, inr}
 use Rattle.std.specs.Prelude.{Contains}
 use Rattle.tg_base.specs.Clusters.{Header, IsHeader}
 use Rattle.tg_kind.specs.Meaning.{Meaning}
 use Rattle.tg_model.specs.declared.command.Event.TheVariants.{Command as Commands, Deliver, Lose, Tick, Stop}
 use Rattle.tg_model.specs.Kinds.{EventOf}
 use Rattle.tg_protocol.specs.Worlds.{World, start}
-use Rattle.tg_protocol.specs.Runs.{Move, Moves, Next, Takes, run, Reaches, Later, Always, EachLater, LawfulCommand, LawfulEvent, LawfulMove}
+use Rattle.tg_protocol.specs.Runs.{Move, Moves, Next, Takes, run, Always, EachLater, LawfulCommand, LawfulEvent, LawfulMove}
 use Rattle.tg_law_moves.specs.After.{after}
 use Rattle.tg_law_moves.proofs.Members.{Has}
 use Rattle.tg_law_moves.proofs.Lists.{contained}

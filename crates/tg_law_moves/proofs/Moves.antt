@@ -1,5 +1,5 @@
 -- A step of a world, as one of five moves.
-use Rattle.std.proofs.Common.{◌≡◌, ℕ, ◌<◌, List, [], ◌∷◌, ◌++◌, length, map, Bool, true, false, refl, sym, subst, arith, Some, None, Option}
+use Rattle.std.proofs.Common.{◌≡◌, ℕ, ◌<◌, [], ◌∷◌, ◌++◌, length, map, Bool, true, false, refl, arith, Some, None, Option}
 use Rattle.std.specs.Prelude.{slice_get, slice_set, is_some}
 use Rattle.tg_base.specs.declared.ids.NodeId.{NodeId}
 use Rattle.tg_base.specs.declared.ids.Role.{Role}
