@@ -4,7 +4,7 @@ use Rattle.tg_base.specs.Layouts.{Layout}
 use Rattle.tg_base.specs.declared.ids.Ballot.{Ballot}
 use Rattle.tg_protocol.specs.Words.{ballot_lt}
 use Rattle.tg_protocol.specs.Reconfiguring.{Before, greater, greatest}
-use Rattle.tg_law_agreement.proofs.Members.{Has}
+use Rattle.tg_law_moves.proofs.Members.{Has}
 
 pub equal_or_less : (a b : Ballot) → ballot_lt b a ≡ false → (a ≡ b) ⊎ (ballot_lt a b ≡ true)
 equal_or_less a b h = grind arith

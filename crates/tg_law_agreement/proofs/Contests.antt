@@ -22,7 +22,7 @@ use Rattle.tg_protocol.specs.Replies as replies
 use Rattle.tg_protocol.specs.Reconfiguring.{Before, SealingSpare, Reconf, ReconfEnd, ReconfTurn, reconf_start, first_step, later_asks, reconf_asks, reconf_awaited, reconf_feed, reconf_latest}
 use Rattle.tg_law_agreement.specs.Contests.{Proposer, Contest, Event, Arrives, Answers, Ticks, packet_of, packets_of, goes_on, asks_of, resent, ClientTurn, rests, after, fed_if, hears_reply, hears_at, hears, client_turned, to_client, answer_to, to_server, comes, arrives, ticks, happens, run, Wish, begins_by, proposers_from, packets_from, contest}
 use Rattle.tg_law_agreement.specs.Laws.{IsChosen, IsFresh, IsProposed, OneIsChosen, ChosenIsProposed}
-use Rattle.tg_law_agreement.proofs.Members.{Has, has_left, has_either, has_got, has_contained, has_map, has_filter, placed, set_long, got_below}
+use Rattle.tg_law_moves.proofs.Members.{Has, has_left, has_either, has_got, has_contained, has_map, has_filter, placed, set_long, got_below}
 use Rattle.tg_law_agreement.proofs.Counts.{majorities_meet}
 use Rattle.tg_law_agreement.proofs.Ballots.{not_less_then}
 use Rattle.tg_law_agreement.proofs.Facts.{Proposed, Promised, Elected, Covers, Truth, IsMost, Grows, proposed_grows, elected_grows, agreed}

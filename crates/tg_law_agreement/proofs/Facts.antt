@@ -10,7 +10,7 @@ use Rattle.tg_base.specs.declared.packet.Packet.{Packet}
 use Rattle.tg_protocol.specs.Words.{role_code, layout_id, node_eq, ballot_lt}
 use Rattle.tg_protocol.specs.Logs.{is_acceptance, has_accepted, acceptances}
 use Rattle.tg_protocol.specs.Reconfiguring.{Before, greatest, value_or}
-use Rattle.tg_law_agreement.proofs.Members.{Has, found}
+use Rattle.tg_law_moves.proofs.Members.{Has, found}
 use Rattle.tg_law_agreement.proofs.Counts.{count, Meet, majorities_meet}
 use Rattle.tg_law_agreement.proofs.Ballots.{equal_or_less, less_or_not, by_ballots, top_above, top_there}
 

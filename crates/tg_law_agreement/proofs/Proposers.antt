@@ -19,7 +19,7 @@ use Rattle.tg_protocol.specs.Trimming.{learns_if, has_stripe}
 use Rattle.tg_protocol.specs.Replies.{Reply}
 use Rattle.tg_protocol.specs.Replies as reply
 use Rattle.tg_protocol.specs.Reconfiguring.{Acks, join_asks, at_work, with_stage, Before, Stage, Preparing, Accepting, Later, Voting, ReconfWork, SealingSpare, LookingSpare, Sealing, LookingAgain, Agreeing, Telling, Starting, Reconf, ReconfEnd, ReconfTurn, next_epoch, servers, ballot_of, is_majority, greatest, value_or, proposes, seals, after_seals, seals_left, seals_if, looks_if, sealed_if, promised, promised_on, accepted, accepted_on, tells, nacked, sets_if, round_after, stage_feed, begun, is_answer, later_feed, vote_feed, has_rid, reconf_feed, reconf_latest, reconf_awaited, reconf_again_asks, reconf_asks, reconf_work_asks, later_asks, stage_asks, set_asks, this_or, heard, heard_on, adopts, own_decided, on_newer, same_vote, is_of_epoch, started_if}
-use Rattle.tg_law_agreement.proofs.Members.{Has, has_left, has_right, has_either, has_map}
+use Rattle.tg_law_moves.proofs.Members.{Has, has_left, has_right, has_either, has_map}
 use Rattle.tg_law_agreement.proofs.Ballots.{equal_or_less, top_there}
 use Rattle.tg_law_agreement.proofs.Counts.{count, count_one_more, Implies}
 use Rattle.tg_law_agreement.proofs.Facts.{Proposed, Promised, Elected, Truth, Grows, proposed_grows, promised_grows, elected_grows}

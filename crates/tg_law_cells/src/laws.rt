@@ -1,0 +1,60 @@
+//! What holds of every world to which a run of lawful events comes, and of each later one. A cell is settled once
+//! every unit of a decided layout's chain has told it.
+
+ghost use Rattle.tg_kind.specs.Of.{meaning_of};
+ghost use Rattle.tg_law_cells.specs.Chains.{StoresJustified};
+ghost use Rattle.tg_law_cells.specs.Settled.{ChainKept, JoinsTold, JoinsWhole, LastSettles, SettledHeld, SettledInLog, SettledKept, SettledOnce, SettledTold};
+ghost use Rattle.tg_protocol.specs.Runs.{Always, EachLater};
+
+use tg_kind::Registry;
+
+/// A page, a cell or junk goes to a unit only where the units before it in a decided layout's chain have told it, or,
+/// to a spare unit, where the chain's last unit has.
+pub fn stores_are_justified<K: Registry>()
+    ensures { Always (meaning_of K.Registry) (StoresJustified (meaning_of K.Registry)) }
+{}
+
+/// What a unit that joins the chain of a position has told of it, it told before the layout's epoch too.
+pub fn joins_tell_old_cells<K: Registry>()
+    ensures { Always (meaning_of K.Registry) (JoinsTold (meaning_of K.Registry)) }
+{}
+
+/// A unit that joins the chain of a position told its cell before the layout's epoch, or has trimmed it.
+pub fn joins_are_whole<K: Registry>()
+    ensures { Always (meaning_of K.Registry) (JoinsWhole (meaning_of K.Registry)) }
+{}
+
+/// What the last unit of a decided layout's chain has told, in its epoch or before, is settled.
+pub fn last_unit_settles<K: Registry>()
+    ensures { Always (meaning_of K.Registry) (LastSettles (meaning_of K.Registry)) }
+{}
+
+/// No unit of a later layout's chain tells another cell than a settled one.
+pub fn units_tell_settled<K: Registry>()
+    ensures { EachLater (meaning_of K.Registry) (SettledTold (meaning_of K.Registry)) }
+{}
+
+/// A position has one settled cell, in a world and all later ones.
+pub fn one_is_settled<K: Registry>()
+    ensures { EachLater (meaning_of K.Registry) (SettledOnce (meaning_of K.Registry)) }
+{}
+
+/// No unit of a later layout's chain has another cell than a settled one.
+pub fn units_keep_settled<K: Registry>()
+    ensures { EachLater (meaning_of K.Registry) (SettledKept (meaning_of K.Registry)) }
+{}
+
+/// Nor has a later layout's whole chain.
+pub fn chains_keep_settled<K: Registry>()
+    ensures { EachLater (meaning_of K.Registry) (ChainKept (meaning_of K.Registry)) }
+{}
+
+/// Each unit of a later layout's chain has a settled cell, or has trimmed it.
+pub fn settled_is_held<K: Registry>()
+    ensures { EachLater (meaning_of K.Registry) (SettledHeld (meaning_of K.Registry)) }
+{}
+
+/// A settled cell that no unit of the chain has trimmed is in the log.
+pub fn settled_is_in_log<K: Registry>()
+    ensures { EachLater (meaning_of K.Registry) (SettledInLog (meaning_of K.Registry)) }
+{}

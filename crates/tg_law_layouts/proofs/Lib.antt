@@ -1,0 +1,15 @@
+pub mod Plain
+pub mod Phases
+pub mod Votes
+pub mod Pax
+pub mod Decisions
+pub mod Layouts
+pub mod Tellings
+pub mod Known
+pub mod Standing
+pub mod Lays
+pub mod Decided
+pub mod Successions
+pub mod Succeeding
+pub mod Latest
+pub mod Deciding

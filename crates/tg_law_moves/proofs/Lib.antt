@@ -1,0 +1,14 @@
+pub mod Members
+pub mod Lists
+pub mod Scripts
+pub mod Moves
+pub mod Always
+pub mod Units
+pub mod Growth
+pub mod Draws
+pub mod Machines
+pub mod Reconfs
+pub mod Clients
+pub mod Turns
+pub mod Seqrs
+pub mod Besides
