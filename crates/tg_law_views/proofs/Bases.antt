@@ -10,7 +10,6 @@ use Rattle.tg_protocol.specs.Words.{oid_eq}
 use Rattle.tg_protocol.specs.Versions.{based, no_versions}
 use Rattle.tg_protocol.specs.Views.{Entries, Base, fresh_base}
 use Rattle.tg_protocol.specs.Checkpoints.{Trims, trim_of, base_at, base_in, loaded, option_list, bases_in, lower, least_base, from_upto, load_from, base_or, base_by, view_base, view_bases}
-use Rattle.tg_protocol.specs.Worlds.{start}
 use Rattle.tg_law_plays.specs.Sound.{IsRising, IsBase, AreBases, base_among}
 use Rattle.tg_law_history.proofs.Members.{has_either, has_kept, Has, same_oid}
 use Rattle.tg_law_views.specs.Views.{IsTrueBase}

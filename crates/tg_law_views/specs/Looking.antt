@@ -1,5 +1,5 @@
 -- Views that answer, judge, save and rescue.
-use Rattle.std.specs.Prelude.{◌≡◌, ℕ, ◌+◌, ◌≤◌, true, List, [], Some, None, Contains}
+use Rattle.std.specs.Prelude.{◌≡◌, ℕ, ◌+◌, ◌≤◌, true, List, Some, None, Contains}
 use Rattle.tg_base.specs.declared.ids.Oid.{Oid}
 use Rattle.tg_entry.specs.declared.entry.Entry.{Entry}
 use Rattle.tg_kind.specs.Meaning.{Meaning}
@@ -7,7 +7,6 @@ use Rattle.tg_model.specs.declared.play.PlayEnd.TheVariants.{Played}
 use Rattle.tg_protocol.specs.Entries.{is_commit}
 use Rattle.tg_protocol.specs.Views.{Entries, Base, View, Play, base_of, state_of, fate_of, view_start, play}
 use Rattle.tg_protocol.specs.Checkpoints.{Trims, view_bases}
-use Rattle.tg_protocol.specs.ClientSteps.{stands}
 use Rattle.tg_law_plays.specs.Sound.{IsSound}
 use Rattle.tg_law_history.specs.Logs.{state_below}
 use Rattle.tg_law_views.specs.Views.{IsTrueView, AreTrueDecisions, CanJudge}
