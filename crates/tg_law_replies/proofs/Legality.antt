@@ -50,7 +50,7 @@ module _ (m : Meaning) (apart : Apart m) (objects : List Oid) (es : Entries) (tr
   stands : (p : ℕ) (e : Entry) → Contains es (p, e) → commits m objects es p e ≡ true → Contains history (done_at m p e)
   stands p e i c = contained_has history (done_at m p e) (made_has m [] 0 es p e rising (has_contained es (p, e) i) (commits_at m objects es rising p e ∙ c))
 
-  made_of : (d : DoneOf m) (h : IsMade d) (k x : ℕ) → IsOf m d k x → HasRecordOf m objects es trace h.at k x
+  made_of : (d : DoneOf m) (h : IsMade d) (k x : ℕ) → IsOf m d k x → HasRecordOf es h.at k x
   made_of d h k x of = record {
     entry = h.entry;
     here = h.here;
@@ -81,12 +81,12 @@ module _ (m : Meaning) (apart : Apart m) (objects : List Oid) (es : Entries) (tr
             ∙ sym (log_answers_stay m apart objects es t p o q rising le (current p e (record { oid = o; part = m.look q; version = version_below m objects es t o (m.look q) }) c r.1)),
       )
 
-  holds_of : (p k x : ℕ) (r : HasRecordOf m objects es trace p k x) → commits m objects es p r.entry ≡ true → AsksHoldAt m objects history trace k x p
+  holds_of : (p k x : ℕ) (r : HasRecordOf es p k x) → commits m objects es p r.entry ≡ true → AsksHoldAt m objects history trace k x p
   holds_of p k x r c =
       subst (λ (i : ℕ). AsksHoldAt m objects history trace i x p) r.client
       (subst (λ (i : ℕ). AsksHoldAt m objects history trace r.entry.head.client i p) r.number (holds p r.entry r.here c))
 
-  puts_are : (p k x : ℕ) (r : HasRecordOf m objects es trace p k x) → (done_at m p r.entry).writes ≡ puts_of m trace k x
+  puts_are : (p k x : ℕ) (r : HasRecordOf es p k x) → (done_at m p r.entry).writes ≡ puts_of m trace k x
   puts_are p k x r = (so.records p r.entry r.here r.commit).writes ∙ (ap (λ (i : ℕ). puts_of m trace i r.entry.head.number) r.client ∙ ap (λ (i : ℕ). puts_of m trace k i) r.number)
 
   -- The clauses.

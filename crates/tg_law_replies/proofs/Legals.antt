@@ -273,7 +273,7 @@ module _ (m : Meaning) (w : World m) (listed : AreListed (entries_in m w)) (righ
       f : IsFailed m objects es (logs_rise m w) listed p o part seen now
       f = not_committed (told.Aborted p o part seen now) (so_told tells.event k x (told.Aborted p o part seen now) tells.here) refl
 
-      rec : HasRecordOf m objects es (trace m w) p k x
+      rec : HasRecordOf es p k x
       rec = of.aborted k x p o part seen now tells
 
       same : f.out.entry ≡ rec.entry

@@ -60,15 +60,15 @@ pub record IsOfRun (m : Meaning) (w : World m) : Type 0 where
   pub numbers : (u : MarkOf m) → Contains (trace m w) u → u.tx ≤ (client m w u.client).begun
   pub known : (p : ℕ) (e : Entry) → Contains (entries_in m w) (p, e) → is_commit e ≡ true → (0 < e.head.number) × (e.head.number ≤ (client m w e.head.client).begun)
   pub sealed : (k : ℕ) (t : Tx) → (client m w k).tx ≡ Some t → IsSealed m (entries_in m w) (trace m w) k t
-  pub once : (p q k x : ℕ) → HasRecordOf m w.cluster.objects (entries_in m w) (trace m w) p k x → HasRecordOf m w.cluster.objects (entries_in m w) (trace m w) q k x → p ≡ q
+  pub once : (p q k x : ℕ) → HasRecordOf (entries_in m w) p k x → HasRecordOf (entries_in m w) q k x → p ≡ q
   pub committed : (k x p : ℕ) → Tells m (trace m w) k x (told.Committed p) → puts_of m (trace m w) k x ≢ [] →
-      (r : HasRecordOf m w.cluster.objects (entries_in m w) (trace m w) p k x) × (commits m w.cluster.objects (entries_in m w) p r.entry ≡ true)
+      (r : HasRecordOf (entries_in m w) p k x) × (commits m w.cluster.objects (entries_in m w) p r.entry ≡ true)
   pub only_read : (k x p : ℕ) (o : Oid) (q : m.ask) (t : ℕ) (a : m.answer) → Tells m (trace m w) k x (told.Committed p) → puts_of m (trace m w) k x ≡ [] → Tells m (trace m w) k x (told.Asked o q t a) → p ≡ t
   pub did_nothing : (k x p : ℕ) → Tells m (trace m w) k x (told.Committed p) → puts_of m (trace m w) k x ≡ [] → HasNoAsk m (trace m w) k x → p ≡ 0
-  pub aborted : (k x p : ℕ) (o : Oid) (part : Part) (seen now : ℕ) → Tells m (trace m w) k x (told.Aborted p o part seen now) → HasRecordOf m w.cluster.objects (entries_in m w) (trace m w) p k x
-  pub unsure : (k x p q : ℕ) → Tells m (trace m w) k x (told.Unsure p q) → HasRecordOf m w.cluster.objects (entries_in m w) (trace m w) p k x
-  pub forgotten : (k x p n q : ℕ) → Tells m (trace m w) k x (told.Refused (cause.Forgotten p n)) → HasRecordOf m w.cluster.objects (entries_in m w) (trace m w) q k x → q ≡ p
-  pub dropped : (k x q : ℕ) → Tells m (trace m w) k x told.Dropped → HasRecordOf m w.cluster.objects (entries_in m w) (trace m w) q k x → ⊥
+  pub aborted : (k x p : ℕ) (o : Oid) (part : Part) (seen now : ℕ) → Tells m (trace m w) k x (told.Aborted p o part seen now) → HasRecordOf (entries_in m w) p k x
+  pub unsure : (k x p q : ℕ) → Tells m (trace m w) k x (told.Unsure p q) → HasRecordOf (entries_in m w) p k x
+  pub forgotten : (k x p n q : ℕ) → Tells m (trace m w) k x (told.Refused (cause.Forgotten p n)) → HasRecordOf (entries_in m w) q k x → q ≡ p
+  pub dropped : (k x q : ℕ) → Tells m (trace m w) k x told.Dropped → HasRecordOf (entries_in m w) q k x → ⊥
   pub order : InOrder m (history m w) (trace m w)
 
 -- what a run tells of outcomes, and what its views have of them, is so

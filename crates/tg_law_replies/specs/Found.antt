@@ -43,7 +43,7 @@ module _ (m : Meaning) where
     Fits c v (cmd.Checkpoint o) = Contains c.hosted o × (m.load o (m.save (state_below m h.objects es v.tail o)) ≡ Some (state_below m h.objects es v.tail o))
     Fits c v x = Unit {0}
 
-    -- a client whose streams are walked: its entries are of the log, none of a hosted stream lacks, and each was in some client's hand
+    -- a client whose streams are walked: none of the entries of a hosted stream lacks, and each was begun by its client
     pub record HasFound (c : Client m) (v : Work m) : Type 0 where
       pub written : (p : ℕ) (e : Entry) → Contains (mine c v) (p, e) → WasBegun m h before e
       pub objects_are : c.objects ≡ h.objects

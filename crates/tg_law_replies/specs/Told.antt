@@ -16,6 +16,14 @@ use Rattle.tg_model.specs.Legal.{Legal}
 use Rattle.tg_law_plays.specs.Sound.{IsRising}
 use Rattle.tg_law_history.specs.Logs.{AreSpelled, state_below, version_below, commits, HasOutcome}
 
+-- the log has a commit record of a client's transaction at a position
+pub record HasRecordOf (es : Entries) (p k x : ℕ) : Type 0 where
+  pub entry : Entry
+  pub here : Contains es (p, entry)
+  pub commit : is_commit entry ≡ true
+  pub client : entry.head.client ≡ k
+  pub number : entry.head.number ≡ x
+
 module _ (m : Meaning) (objects : List Oid) (es : Entries) (trace : Trace m) where
   -- a read is of something that the transaction asked, with the version at its snapshot
   pub record IsOfAsk (k x p : ℕ) (r : ReadMark) : Type 0 where
@@ -35,16 +43,8 @@ module _ (m : Meaning) (objects : List Oid) (es : Entries) (trace : Trace m) whe
         (t ≤ p) × Contains (reads_of e) (record { oid = o; part = m.look q; version = version_below m objects es t o (m.look q) })
     pub reads : (r : ReadMark) → Contains (reads_of e) r → IsOfAsk e.head.client e.head.number p r
 
-  -- the record of a transaction
-  pub record HasRecordOf (p k x : ℕ) : Type 0 where
-    pub entry : Entry
-    pub here : Contains es (p, entry)
-    pub commit : is_commit entry ≡ true
-    pub client : entry.head.client ≡ k
-    pub number : entry.head.number ≡ x
-
   pub record HasFailed (p k x : ℕ) (o : Oid) (part : Part) (seen now : ℕ) : Type 0 where
-    pub rec : HasRecordOf p k x
+    pub rec : HasRecordOf es p k x
     pub outcome : commits m objects es p rec.entry ≡ false
     pub read : Contains (reads_of rec.entry) (record { oid = o; part = part; version = seen })
     pub is : now ≡ version_below m objects es p o part
@@ -55,14 +55,14 @@ module _ (m : Meaning) (objects : List Oid) (es : Entries) (trace : Trace m) whe
     pub answers : (k x : ℕ) (o : Oid) (q : m.ask) (t : ℕ) (a : m.answer) → Tells m trace k x (told.Asked o q t a) → a ≡ m.answers (state_below m objects es t o) q
     pub one_snapshot : (k x : ℕ) (o r : Oid) (q s : m.ask) (t u : ℕ) (a b : m.answer) → Tells m trace k x (told.Asked o q t a) → Tells m trace k x (told.Asked r s u b) → t ≡ u
     pub records : (p : ℕ) (e : Entry) → Contains es (p, e) → is_commit e ≡ true → IsRecord p e
-    pub once : (p q k x : ℕ) → HasRecordOf p k x → HasRecordOf q k x → p ≡ q
-    pub committed : (k x p : ℕ) → Tells m trace k x (told.Committed p) → puts_of m trace k x ≢ [] → (r : HasRecordOf p k x) × (commits m objects es p r.entry ≡ true)
+    pub once : (p q k x : ℕ) → HasRecordOf es p k x → HasRecordOf es q k x → p ≡ q
+    pub committed : (k x p : ℕ) → Tells m trace k x (told.Committed p) → puts_of m trace k x ≢ [] → (r : HasRecordOf es p k x) × (commits m objects es p r.entry ≡ true)
     pub only_read : (k x p : ℕ) (o : Oid) (q : m.ask) (t : ℕ) (a : m.answer) → Tells m trace k x (told.Committed p) → puts_of m trace k x ≡ [] → Tells m trace k x (told.Asked o q t a) → p ≡ t
     pub did_nothing : (k x p : ℕ) → Tells m trace k x (told.Committed p) → puts_of m trace k x ≡ [] → HasNoAsk m trace k x → p ≡ 0
     pub aborted : (k x p : ℕ) (o : Oid) (part : Part) (seen now : ℕ) → Tells m trace k x (told.Aborted p o part seen now) → HasFailed p k x o part seen now
-    pub unsure : (k x p q : ℕ) → Tells m trace k x (told.Unsure p q) → HasRecordOf p k x
-    pub forgotten : (k x p n q : ℕ) → Tells m trace k x (told.Refused (cause.Forgotten p n)) → HasRecordOf q k x → q ≡ p
-    pub dropped : (k x q : ℕ) → Tells m trace k x told.Dropped → HasRecordOf q k x → ⊥
+    pub unsure : (k x p q : ℕ) → Tells m trace k x (told.Unsure p q) → HasRecordOf es p k x
+    pub forgotten : (k x p n q : ℕ) → Tells m trace k x (told.Refused (cause.Forgotten p n)) → HasRecordOf es q k x → q ≡ p
+    pub dropped : (k x q : ℕ) → Tells m trace k x told.Dropped → HasRecordOf es q k x → ⊥
     pub fates : (k x p : ℕ) (b : Bool) → Says m trace k x (told.Fate p (Some b)) → HasOutcome m objects es p b
     pub decided : (k x p : ℕ) (b : Bool) → Says m trace k x (told.Decided p (Some b)) → HasOutcome m objects es p b
     pub order : InOrder m (history_after m [] es) trace
