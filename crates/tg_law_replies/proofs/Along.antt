@@ -5,11 +5,11 @@ use Rattle.tg_kind.specs.Meaning.{Meaning}
 use Rattle.tg_protocol.specs.Worlds.{World, start, happens, next_event}
 use Rattle.tg_protocol.specs.Runs.{Move, Moves, Next, Takes, run}
 
-with_none : {X : Type 0} → (xs : List X) → xs ++ [] ≡ xs
+pub with_none : {X : Type 0} → (xs : List X) → xs ++ [] ≡ xs
 with_none [] = refl
 with_none (x ∷ xs) = ap (λ ys. x ∷ ys) (with_none xs)
 
-one_by_one : {X : Type 0} → (xs : List X) (y : X) (ys : List X) → xs ++ y ∷ ys ≡ (xs ++ y ∷ []) ++ ys
+pub one_by_one : {X : Type 0} → (xs : List X) (y : X) (ys : List X) → xs ++ y ∷ ys ≡ (xs ++ y ∷ []) ++ ys
 one_by_one [] y ys = refl
 one_by_one (x ∷ xs) y ys = ap (λ zs. x ∷ zs) (one_by_one xs y ys)
 
@@ -18,7 +18,7 @@ module _ (m : Meaning) where
   moved_by Next w = next_event m w
   moved_by (Takes e) w = happens m w e
 
-  run_on : (ms : Moves m) (x : Move m) (w : World m) → run m (ms ++ x ∷ []) w ≡ moved_by x (run m ms w)
+  pub run_on : (ms : Moves m) (x : Move m) (w : World m) → run m (ms ++ x ∷ []) w ≡ moved_by x (run m ms w)
   unfolding run
   run_on [] Next w = refl
   run_on [] (Takes e) w = refl
