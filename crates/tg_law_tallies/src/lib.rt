@@ -3,4 +3,4 @@
 
 mod laws;
 
-pub use laws::past_is_told;
+pub use laws::{commit_is_told, past_is_told};
