@@ -1,0 +1,7 @@
+//! What the laws of the log ask of the kinds of objects, of all kinds that the program has: a directory whose floor
+//! rises by marks, and states that load again from what is saved of them.
+#![tactic(auto)]
+
+mod laws;
+
+pub use laws::{kinds_are_states, kinds_have_directory};

@@ -1,0 +1,15 @@
+pub mod Along
+pub mod Ready
+pub mod Legality
+pub mod Books
+pub mod Closed
+pub mod Moves
+pub mod Upkeep
+pub mod Played
+pub mod Turns
+pub mod Steps
+pub mod Runs
+pub mod Kept
+pub mod Found
+pub mod Legals
+pub mod Rescues

@@ -1,0 +1,116 @@
+-- What is told of rescues and of the past is so, and so is what is written.
+use Rattle.std.proofs.Common.{◌≡◌, ℕ, [], true, false, refl, sym, ap, ◌∙◌, subst, Some, Contains}
+use Rattle.tg_base.specs.Clusters.{Header}
+use Rattle.tg_entry.specs.declared.entry.Entry.{Entry}
+use Rattle.tg_kind.specs.Meaning.{Meaning}
+use Rattle.tg_model.specs.Kinds.{DoneOf}
+use Rattle.tg_model.specs.declared.trace.What.TheVariants as told
+use Rattle.tg_model.specs.Stores.{has_stamp, is_stamp}
+use Rattle.tg_protocol.specs.Views.{Entries}
+use Rattle.tg_protocol.specs.Logs.{history_of, history_after, done_at}
+use Rattle.tg_protocol.specs.Worlds.{World, history}
+use Rattle.tg_protocol.specs.Alike.{RescueTrue}
+use Rattle.tg_law_plays.specs.Sound.{IsRising}
+use Rattle.tg_law_history.specs.Logs.{commits, AreListed}
+use Rattle.tg_law_history.specs.Worlds.{entries_in}
+use Rattle.tg_law_history.proofs.Members.{Has, has_contained, same_number, number_same, passes_somewhere, none_passes, contrary}
+use Rattle.tg_law_history.proofs.Ledger.{one_entry}
+use Rattle.tg_law_history.proofs.Versions.{commits_at}
+use Rattle.tg_law_history.proofs.History.{Made, has_made, made_has}
+use Rattle.tg_law_history.proofs.Cells.{logs_rise, outcomes_are}
+use Rattle.tg_law_replies.specs.Laws.{RunsTellTruth}
+use Rattle.tg_law_replies.proofs.Steps.{IsRightWorld}
+use Rattle.tg_law_replies.proofs.Legals.{true_reply}
+use Rattle.std.proofs.Common.{refl, List}
+use Rattle.tg_base.specs.declared.ids.Oid.{Oid}
+use Rattle.tg_entry.specs.declared.entry.Body.{Body}
+use Rattle.tg_protocol.specs.Logs.{version}
+use Rattle.tg_protocol.specs.Views.{Entries}
+use Rattle.tg_protocol.specs.Worlds.{start}
+use Rattle.tg_protocol.specs.Runs.{Moves, Reaches}
+use Rattle.tg_protocol.specs.Holding.{EntriesOwn}
+use Rattle.tg_protocol.specs.Alike.{PastTrue}
+use Rattle.tg_law_history.specs.Logs.{state_below}
+use Rattle.tg_law_replies.specs.Laws.{ClientsFind, TellsSo, WritesTruth, RunsTellTruth, RunsWriteTruth}
+use Rattle.tg_law_replies.proofs.Moves.{TrueBody, TrueDraft}
+use Rattle.tg_law_replies.proofs.Along.{Along, at_end}
+use Rattle.tg_law_replies.proofs.Runs.{Right, lawful_in}
+use Rattle.tg_law_replies.proofs.Found.{all_ready, was_begun}
+use Rattle.tg_law_replies.proofs.Legals.{tells_outcomes}
+
+-- A committed record stands in the history, and no other does.
+
+module _ (m : Meaning) (es : Entries) (rising : IsRising es) where
+  stamped : (p : ℕ) (e : Entry) → Contains es (p, e) → commits m [] es p e ≡ true → is_stamp m (history_after m [] es) p ≡ true
+  stamped p e i c =
+      passes_somewhere (has_stamp m p) (history_after m [] es) (done_at m p e) (made_has m [] 0 es p e rising (has_contained es (p, e) i) (commits_at m [] es rising p e ∙ c)) (number_same p p refl)
+
+  unstamped : (p : ℕ) (e : Entry) → Contains es (p, e) → commits m [] es p e ≡ false → is_stamp m (history_after m [] es) p ≡ false
+  unstamped p e i c = none_passes (has_stamp m p) (history_after m [] es) none
+    where
+      none : (d : DoneOf m) → Has (history_after m [] es) d → has_stamp m p d ≡ true → ⊥
+      none d j passes =
+          let k : Made m [] es d = has_made m [] 0 es d rising j in
+          let at : k.at ≡ p = sym (ap (λ (x : DoneOf m). x.stamp) k.is) ∙ same_number d.stamp p passes in
+          let same = one_entry 0 es p k.entry e rising (subst (λ (n : ℕ). Has es (n, k.entry)) at k.here) (has_contained es (p, e) i) in
+          contrary (commits m [] es p e) c
+          (subst (λ (x : Entry). commits m [] es p x ≡ true) same (subst (λ (n : ℕ). commits m [] es n k.entry ≡ true) at (sym (commits_at m [] es rising k.at k.entry) ∙ k.commit)))
+
+module _ (m : Meaning) (h : Header) (w : World m) (listed : AreListed (entries_in m w)) (right : IsRightWorld m h.objects (entries_in m w) (logs_rise m w) listed w) where
+  rescues_true : RescueTrue m w
+  unfolding history history_of
+  rescues_true = record {
+    yes_told = λ t p i is. let r = (true_reply m h w listed right t (told.Rescued p (Some true)) i is refl).0 in stamped m (entries_in m w) (logs_rise m w) p r.entry r.here r.outcome;
+    no_told = λ t p i is. let r = (true_reply m h w listed right t (told.Rescued p (Some false)) i is refl).0 in
+        ((outcomes_are m w h.objects p false r).0, unstamped m (entries_in m w) (logs_rise m w) p r.entry r.here r.outcome);
+    recorded = λ t p b e i is j needs. let r = (true_reply m h w listed right t (told.Rescued p (Some b)) i is refl).1 e j needs in
+        record { at = r.at; entry = r.entry; is_yes = r.is_yes; here = r.here; decides = r.is };
+  }
+
+-- What a run tells.
+
+module _ (m : Meaning) (h : Header) (ms : Moves m) (w : World m) (r : Reaches m h ms w) (listed : AreListed (entries_in m w)) (finds : ClientsFind m h ms w) where
+  abbrev es : Entries
+  es = entries_in m w
+
+  rising : IsRising es
+  rising = logs_rise m w
+
+  all : Along m (Right m h (entries_in m w) (logs_rise m w) listed) ms (start m h)
+  all = all_ready m h es (logs_rise m w) listed ms (lawful_in m h ms w es (logs_rise m w) listed r) finds
+
+  right : IsRightWorld m h.objects (entries_in m w) (logs_rise m w) listed w
+  right = subst (λ (u : World m). Right m h es (logs_rise m w) listed u) (sym r.goes.is) (at_end m (Right m h es (logs_rise m w) listed) ms (start m h) all)
+
+  past_true : PastTrue m w
+  unfolding history history_of
+  past_true t o q p a i is =
+      true_reply m h w listed right t (told.Past o q p a) i is refl
+      ∙ ap (λ (os : List Oid). m.answers (state_below m os (entries_in m w) p o) q) (sym right.objects_are)
+
+  tells_so : TellsSo m w
+  tells_so = record { past = past_true; rescues = rescues_true m h w listed right; outcomes = tells_outcomes m h w listed right }
+
+  -- The log's decision records and checkpoints.
+
+  writes_truth : EntriesOwn m h ms w → WritesTruth m w
+  unfolding version history history_of
+  writes_truth own = record {
+    decisions = λ at p e b i is. outcomes_are m w h.objects p b (subst (λ (x : Body). TrueBody m h.objects es (logs_rise m w) listed x) is (entry_true at e i).0);
+    checkpoints = λ p e o u v whole keys state i format is.
+        let c = subst (λ (x : Body). TrueBody m h.objects es (logs_rise m w) listed x) is (entry_true p e i).0 in
+        record {
+          saved = c.saved ∙ ap (λ (os : List Oid). m.save (state_below m os es u o)) (sym right.objects_are);
+          version_all = c.version_all;
+          parts = c.parts;
+        };
+  }
+    where
+      entry_true : (p : ℕ) (e : Entry) → Contains (entries_in m w) (p, e) → TrueDraft m h.objects (entries_in m w) (logs_rise m w) listed e
+      entry_true p e i = was_begun m h (entries_in m w) (logs_rise m w) listed ms all e (own p e i)
+
+pub runs_tell_truth : (m : Meaning) → RunsTellTruth m
+runs_tell_truth m h ms w r listed finds = tells_so m h ms w r listed finds
+
+pub runs_write_truth : (m : Meaning) → RunsWriteTruth m
+runs_write_truth m h ms w r listed finds own = writes_truth m h ms w r listed finds own

@@ -1,0 +1,6 @@
+//! Runs for which the premises of the laws hold, computed by the definitions.
+#![tactic(auto)]
+
+mod laws;
+
+pub use laws::{commit_is_told, past_is_told};

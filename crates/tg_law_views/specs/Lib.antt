@@ -1,0 +1,5 @@
+pub mod Views
+pub mod Looking
+pub mod Exact
+pub mod Walks
+pub mod Laws
