@@ -22,18 +22,19 @@ use Rattle.tg_model.specs.Kinds.{CommandOf, EventOf, WhatOf}
 use Rattle.tg_model.specs.Stores.{state_at}
 use Rattle.tg_model.specs.Words.{word_of}
 use Rattle.tg_proj.specs.Places.{chain_at}
-use Rattle.tg_protocol.specs.Words.{client_id, unit_id, directory, with_oid, with_nums, or_else}
+use Rattle.tg_protocol.specs.Words.{client_id, unit_id, directory, with_oid, or_else}
 use Rattle.tg_protocol.specs.Layouts.{change_fault, next_of}
 use Rattle.tg_protocol.specs.Entries.{is_commit, lists, needs_decision, reads_of, entry_size}
 use Rattle.tg_protocol.specs.Transactions.{Tx, read_before, with_read, tx_streams, record_size}
 use Rattle.tg_protocol.specs.Logs.{version}
 use Rattle.tg_protocol.specs.Checkpoints.{base_at, checkpoint}
-use Rattle.tg_protocol.specs.Views.{Base, View, Entries, base_of, decision_in, unknown_by}
-use Rattle.tg_protocol.specs.Clients.{Client, Work, hosts_oid, write_of, by_layout, copy_fault, entries_at, positions_of}
+use Rattle.tg_protocol.specs.Views.{Base, View, base_of, decision_in, unknown_by}
+use Rattle.tg_protocol.specs.Clients.{Client, Work, hosts_oid, write_of, by_layout, copy_fault}
 use Rattle.tg_protocol.specs.Worlds.{World, Told, client, runs, log, history, happens}
 use Rattle.tg_protocol.specs.Chosen.{Sent}
 use Rattle.tg_protocol.specs.Alike.{SentNow, HasEntry, OvertakenBy}
 use Rattle.tg_protocol.specs.Stuck.{asks_for, command_in, WalkMetTrim}
+use Rattle.tg_protocol.specs.Walked.{Walked, walked_in, entries_had}
 use Rattle.tg_protocol.specs.Playing.{Replies, Answers}
 
 -- how many there may be
@@ -169,33 +170,35 @@ module _ (m : Meaning) where
     pub synced : SentNow m w t (msg.Tail tail links)
     pub below : p < tail
 
-  -- the entries that a client still has
-  abbrev pub held_entries : Client m → Entries
-  held_entries c = entries_at m c.cells (with_nums c.own (positions_of m c.kept c.hosted))
-
-  -- the entry is one for the client's view: it is its own, or stands in a stream that it hosts
+  -- the entry is one for the client's view: it is a record of its own, whose append has ended, or stands in a stream that it hosts
   abbrev pub IsFor : Client m → ℕ → Entry → Type 0
-  IsFor c k e = (e.head.client ≡ k) ⊎ ((s : Oid) × (hosts_oid m c s ≡ true) × (lists e s ≡ true))
+  IsFor c p e = Contains c.own p ⊎ ((s : Oid) × (hosts_oid m c s ≡ true) × (lists e s ≡ true))
 
   -- the client's view doesn't know the version of what a record reads: the object isn't hosted, or begins later, with a later version
   pub record IsUnknown (w : World m) (t : Told m) (p : ℕ) (o : Oid) : Type 0 where
     pub reads : HasReadOf w p o
-    pub seen : IsFor (client m w t.mark.client) t.mark.client reads.entry
+    pub seen : IsFor (client m w t.mark.client) p reads.entry
     pub below : IsBelowTail w t p
     pub view : View m
     pub is : (client m w t.mark.client).view ≡ Some view
     pub unknown : unknown_by m p (base_of m view o) reads.read ≡ true
 
-  -- and the client has no decision record for it
-  pub record IsUndecided (w : World m) (t : Told m) (p : ℕ) (o : Oid) : Type 0 where
-    pub unknown : IsUnknown w t p o
-    pub none : decision_in (held_entries (client m w t.mark.client)) p ≡ None
+  -- where this step ends the client's walks, it has no decision record for a position
+  pub record LacksDecision (w : World m) (e : EventOf m) (t : Told m) (p : ℕ) : Type 0 where
+    pub had : Walked m
+    pub walked : walked_in m w e t.mark.client ≡ Some had
+    pub none : decision_in (entries_had m had) p ≡ None
 
-  -- below a past position, or at or below a record to be rescued, the stream of the object was walked as far as a trim
-  abbrev pub StuckFor : CommandOf m → World m → Told m → ℕ → Oid → Type 0
-  StuckFor (cmd.AskAt at p q) w t pos o = (pos < at) × HasReadOf w pos o
-  StuckFor (cmd.Rescue at) w t pos o = (pos ≤ at) × HasReadOf w pos o × WalkMetTrim m w t o
-  StuckFor x w t pos o = IsUndecided w t pos o
+  -- the object isn't hosted, or its stream was walked as far as a trim
+  abbrev pub IsOutOfReach : World m → Told m → Oid → Type 0
+  IsOutOfReach w t o = (hosts_oid m (client m w t.mark.client) o ≡ false) ⊎ WalkMetTrim m w t o
+
+  -- what a record reads is unknown to the client's view; for a record below a past position it is out of reach, and for one at or
+  -- below that of a rescue its stream was walked as far as a trim
+  abbrev pub CantKnow : CommandOf m → World m → Told m → ℕ → Oid → Type 0
+  CantKnow (cmd.AskAt at p q) w t pos o = (pos < at) × HasReadOf w pos o × IsOutOfReach w t o
+  CantKnow (cmd.Rescue at) w t pos o = (pos ≤ at) × HasReadOf w pos o × WalkMetTrim m w t o
+  CantKnow x w t pos o = IsUnknown w t pos o
 
   -- no checkpoint of the object below the tail reaches the mark
   pub record HasNoBase (w : World m) (t : Told m) (o : Oid) (mark : ℕ) : Type 0 where
@@ -204,14 +207,16 @@ module _ (m : Meaning) where
     pub synced : SentNow m w t (msg.Tail tail links)
     pub none : (p : ℕ) (e : Entry) (b : Base m) → HasEntry m w p e → p < tail → base_at m o e ≡ Some b → mark ≤ b.upto → ⊥
 
-  -- a record of the object's stream below the mark needs a decision record, and the client has none
-  pub record IsOpen (w : World m) (t : Told m) (o : Oid) (mark p : ℕ) : Type 0 where
+  -- a record of the object's stream below the mark needs a decision record, and the client has none; it is the least such that it has
+  pub record IsOpen (w : World m) (e : EventOf m) (t : Told m) (o : Oid) (mark p : ℕ) : Type 0 where
     pub entry : Entry
-    pub here : HasEntry m w p entry
+    pub here : HasEntry m (happens m w e) p entry
     pub in_stream : lists entry o ≡ true
     pub needs : needs_decision entry ≡ true
     pub below : p < mark
-    pub none : decision_in (held_entries (client m w t.mark.client)) p ≡ None
+    pub lacks : LacksDecision w e t p
+    pub least : (q : ℕ) (d : Entry) → Contains (entries_had m lacks.had) (q, d) → q < p → lists d o ≡ true → needs_decision d ≡ true →
+        is_some (decision_in (entries_had m lacks.had) q) ≡ true
 
   -- a unit answered a request of this command
   pub record Answered (w : World m) (t : Told m) (asks : Msg → Type 0) (u : ℕ) (answer : Msg) : Type 0 where
@@ -259,18 +264,18 @@ module _ (m : Meaning) where
   IsRescue x = ⊥
 
   -- of a command that waited before this step; a copy is tried anew in each newer layout
-  abbrev pub CauseLater : World m → World m → Told m → CommandOf m → Refusal → Type 0
-  CauseLater before w t x (cause.Undecided p o) = StuckFor x w t p o
-  CauseLater before w t x (cause.NoCheckpoint o) = IsForget x (λ p n. (p ≡ o) × HasNoBase w t o n)
-  CauseLater before w t x (cause.OpenDecision p) = IsForget x (λ o n. IsOpen w t o n p)
-  CauseLater before w t x (cause.LogFull limit) = SentNow m w t (msg.Full limit)
-  CauseLater before w t x (cause.Forgotten at below) = NamedTrimmed x w t at below ⊎ OwnTrimmed w t at below
-  CauseLater before w t x (cause.Ahead tail) = IsAhead x w t tail
-  CauseLater before w t x (cause.NotWhole u pos) = Answered w t IsLook u (msg.Missing pos)
-  CauseLater before w t x (cause.Overtaken e) = OvertakenBy m w t e
-  CauseLater before w t x (cause.TooLarge n) = IsTooLarge x w t n
-  CauseLater before w t x (cause.TooMany many.Hosted) = IsRescue x × IsWide before t.mark.client
-  CauseLater before w t x why = layout_cause (client m w t.mark.client).stand x ≡ Some why
+  abbrev pub CauseLater : World m → EventOf m → Told m → CommandOf m → Refusal → Type 0
+  CauseLater w e t x (cause.Undecided p o) = CantKnow x (happens m w e) t p o × LacksDecision w e t p
+  CauseLater w e t x (cause.NoCheckpoint o) = IsForget x (λ p n. (p ≡ o) × HasNoBase (happens m w e) t o n)
+  CauseLater w e t x (cause.OpenDecision p) = IsForget x (λ o n. IsOpen w e t o n p)
+  CauseLater w e t x (cause.LogFull limit) = SentNow m (happens m w e) t (msg.Full limit)
+  CauseLater w e t x (cause.Forgotten at below) = NamedTrimmed x (happens m w e) t at below ⊎ OwnTrimmed (happens m w e) t at below
+  CauseLater w e t x (cause.Ahead tail) = IsAhead x (happens m w e) t tail
+  CauseLater w e t x (cause.NotWhole u pos) = Answered (happens m w e) t IsLook u (msg.Missing pos)
+  CauseLater w e t x (cause.Overtaken epoch) = OvertakenBy m (happens m w e) t epoch
+  CauseLater w e t x (cause.TooLarge n) = IsTooLarge x (happens m w e) t n
+  CauseLater w e t x (cause.TooMany many.Hosted) = IsRescue x × IsWide w t.mark.client
+  CauseLater w e t x why = layout_cause (client m (happens m w e) t.mark.client).stand x ≡ Some why
 
   -- Each refusal has its cause.
 
@@ -285,7 +290,7 @@ module _ (m : Meaning) where
   pub record HasCause (w : World m) (e : EventOf m) (t : Told m) (why : Refusal) : Type 0 where
     pub command : CommandOf m
     pub answered : command_at w e t.mark.client ≡ Some command
-    pub because : CauseAtOnce w t.mark.client command why ⊎ CauseLater w (happens m w e) t command why
+    pub because : CauseAtOnce w t.mark.client command why ⊎ CauseLater w e t command why
 
   abbrev pub RefusalsTrue : World m → EventOf m → Type 0
   RefusalsTrue w e = (t : Told m) (why : Refusal) → Replies m w e t → t.mark.what ≡ told.Refused why → HasCause w e t why
@@ -299,14 +304,14 @@ module _ (m : Meaning) where
       Answers m w e k IsRefused
 
   -- `unsure`: a record at or below one's own isn't decided; of one's own a decision record may say no
-  pub record IsUnsure (w : World m) (t : Told m) (at p : ℕ) : Type 0 where
+  pub record IsUnsure (w : World m) (e : EventOf m) (t : Told m) (at p : ℕ) : Type 0 where
     pub upto : p ≤ at
     pub missing : Oid
-    pub unknown : IsUnknown w t p missing
-    pub none : p < at → decision_in (held_entries (client m w t.mark.client)) p ≡ None
+    pub unknown : IsUnknown (happens m w e) t p missing
+    pub lacks : p < at → LacksDecision w e t p
 
   abbrev pub UnsureTrue : World m → EventOf m → Type 0
-  UnsureTrue w e = (t : Told m) (at p : ℕ) → Replies m w e t → t.mark.what ≡ told.Unsure at p → IsUnsure (happens m w e) t at p
+  UnsureTrue w e = (t : Told m) (at p : ℕ) → Replies m w e t → t.mark.what ≡ told.Unsure at p → IsUnsure w e t at p
 
   -- `aborted` names the least of the reads whose versions differ
   abbrev pub AbortsLeast : World m → Type 0
@@ -318,7 +323,7 @@ module _ (m : Meaning) where
     pub tail : ℕ
     pub links : List StreamLink
     pub synced : SentNow m w t (msg.Tail tail links)
-    pub none : (e : Entry) → HasEntry m w p e → is_commit e ≡ true → p < tail → IsFor (client m w t.mark.client) t.mark.client e → ⊥
+    pub none : (e : Entry) → HasEntry m w p e → is_commit e ≡ true → p < tail → IsFor (client m w t.mark.client) p e → ⊥
 
   abbrev pub SaysNone : WhatOf m → (ℕ → Type 0) → Type 0
   SaysNone (told.Fate p None) P = P p

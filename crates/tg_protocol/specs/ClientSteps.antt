@@ -169,25 +169,28 @@ module _ (m : Meaning) where
   plays_kept (cmd.Rescue p) = false
   plays_kept x = true
 
-  -- a trim above the kept view's `upto` gives the view up; unless all was walked from 0, the walks start over
-  abbrev pub starts_over : Client m → Work m → List Oid → Bool → Moved m
-  starts_over c w os true = walks os (record c { view = None }) w
-  starts_over c w os false = walks w.oids (record c { view = None }) (record w { lo = 0; found = []; trims = [] })
-
-  abbrev pub over_trim : Client m → Work m → List Oid → Bool → Moved m
-  over_trim c w os true = starts_over c w os (w.lo == 0)
-  over_trim c w os false = walks os c w
-
+  -- a trim above the kept view's `upto` gives the view up at once
   abbrev pub gives_up : Client m → Work m → ℕ → Bool
   gives_up c w b = plays_kept w.command && is_some c.view && nat_lt (upto m c) b
 
-  abbrev pub at_trim : Client m → Work m → List Oid → ℕ → Bool → Moved m
-  at_trim c w os b true = syncs m c w w.oids
-  at_trim c w os b false = over_trim c w os (gives_up c w b)
+  abbrev pub given_up_if : Bool → Client m → Client m
+  given_up_if true c = record c { view = None }
+  given_up_if false c = c
+
+  -- and the walks start over from the first stream, unless all was walked from 0
+  abbrev pub starts_over : Client m → Work m → List Oid → Bool → Moved m
+  starts_over c w os true = walks w.oids c (record w { lo = 0; found = []; trims = [] })
+  starts_over c w os false = walks os c w
+
+  -- with a stale tail they start over in any case, after a new sync
+  abbrev pub at_trim : Client m → Work m → List Oid → Bool → Bool → Moved m
+  at_trim c w os true over = syncs m c w w.oids
+  at_trim c w os false over = starts_over c w os over
 
   abbrev pub walk_ended_by : Client m → Work m → Oid → List Oid → Members → Option ℕ → Moved m
   walk_ended_by c w o os x None = walks os c w
-  walk_ended_by c w o os x (Some b) = at_trim c w os b (stale c w o x b)
+  walk_ended_by c w o os x (Some b) =
+      at_trim (given_up_if (gives_up c w b) c) w os (stale c w o x b) (gives_up c w b && not (w.lo == 0))
 
   abbrev pub walk_ended : Client m → Work m → Oid → List Oid → Members → Moved m
   walk_ended c w o os x = walk_ended_by (takes_back c x) (found_by w o x) o os x x.gone

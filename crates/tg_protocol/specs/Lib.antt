@@ -30,6 +30,7 @@ pub mod Alike
 pub mod Stuck
 pub mod Following
 pub mod Holding
+pub mod Walked
 pub mod Playing
 pub mod Headline
 pub mod Causes

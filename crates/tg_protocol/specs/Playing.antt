@@ -1,5 +1,5 @@
--- Clients at work: what they read, what they keep, and from where they play on.
-use Rattle.std.specs.Prelude.{◌≡◌, ℕ, ◌<◌, ◌≤◌, ◌⊎◌, ◌++◌, ◌&&◌, nat_lt, nat_le, Bool, true, false, List, filter, Option, Some, None, Contains}
+-- Clients at work: what they read, what their walks find, and from where they play on.
+use Rattle.std.specs.Prelude.{◌≡◌, ℕ, ◌<◌, ◌≤◌, ◌⊎◌, ◌++◌, ◌&&◌, nat_lt, nat_le, true, List, filter, Some, None, Contains}
 use Rattle.tg_base.specs.Layouts.{Layout}
 use Rattle.tg_base.specs.declared.cell.Cell.TheVariants.{Data}
 use Rattle.tg_base.specs.declared.ids.Oid.{Oid}
@@ -17,12 +17,10 @@ use Rattle.tg_protocol.specs.Words.{client_id}
 use Rattle.tg_protocol.specs.Layouts.{range_end}
 use Rattle.tg_protocol.specs.Entries.{is_commit}
 use Rattle.tg_protocol.specs.Pages.{entry_of}
-use Rattle.tg_protocol.specs.Syncing.{SyncWork, Checking, Settling, Probing}
-use Rattle.tg_protocol.specs.Views.{Base, View, base_of}
 use Rattle.tg_protocol.specs.Logs.{members, path}
-use Rattle.tg_protocol.specs.Clients.{Task, Syncing, Walking, Work, upto, known, positions_in}
-use Rattle.tg_protocol.specs.ClientSteps.{task_in, plays_kept}
+use Rattle.tg_protocol.specs.Clients.{Work, upto, known}
 use Rattle.tg_protocol.specs.Worlds.{World, Told, client, noted_of, log, happens}
+use Rattle.tg_protocol.specs.Walked.{Walked, walked_in, walked_from, positions_found}
 use Rattle.tg_protocol.specs.Runs.{Moves, Takes, Later}
 use Rattle.tg_protocol.specs.Chosen.{Sent, IsDecided}
 use Rattle.tg_protocol.specs.Alike.{SentTo}
@@ -42,46 +40,18 @@ module _ (m : Meaning) where
     pub client : told.mark.client ≡ k
     pub holds : P told
 
-  -- Exact syncs.
-
-  -- the tail that is being confirmed, once the sequencer has told it
-  abbrev pub tail_in : SyncWork → Option ℕ
-  tail_in (Checking r) = None
-  tail_in (Settling a j) = Some a.tail
-  tail_in (Probing a j) = Some a.tail
-
-  -- the tail up to which a client walks or will walk
-  abbrev pub walks_to : Work m → Task m → Option ℕ
-  walks_to v (Syncing s) = tail_in s.work
-  walks_to v (Walking x os) = Some v.tail
-  walks_to v t = None
-
-  abbrev pub is_walk : Task m → Bool
-  is_walk (Syncing s) = true
-  is_walk (Walking x os) = true
-  is_walk t = false
-
-  abbrev pub is_on_walks : Option (Work m) → Bool
-  is_on_walks None = false
-  is_on_walks (Some v) = is_walk (task_in m v.hand)
-
-  -- A client begins to play its view up to a tail: in this step it ends the walks of its hosted streams.
-  pub record BeginsPlay (w : World m) (e : EventOf m) (k tail : ℕ) (v : View m) : Type 0 where
-    pub work : Work m
-    pub before : (client m w k).work ≡ Some work
-    pub kept : plays_kept m work.command ≡ true
-    pub walked : walks_to work (task_in m work.hand) ≡ Some tail
-    pub ended : is_on_walks (client m (happens m w e) k).work ≡ false
-    pub view : (client m (happens m w e) k).view ≡ Some v
+  -- Exact syncs: where a step ends the walks of a command, the positions found of each stream that it walked, from where its walk
+  -- ended up to the tail, are exactly the stream's members there, in this and in each later world.
 
   abbrev pub from_to : ℕ → ℕ → List ℕ → List ℕ
   from_to lo hi ps = filter (λ p. nat_le lo p && nat_lt p hi) ps
 
-  -- Then it keeps of each hosted stream exactly the members from the object's base on, and they are the same in each later world.
+  abbrev pub IsExact : World m → Walked m → Oid → Type 0
+  IsExact w x o = from_to (walked_from m x o) x.work.tail (positions_found m x o) ≡ members (log m w) o (walked_from m x o) x.work.tail
+
   abbrev pub SyncsExact : World m → EventOf m → Type 0
-  SyncsExact w e = (later : World m) → Later m (happens m w e) later → (k tail : ℕ) (v : View m) (o : Oid) (b : Base m) →
-      BeginsPlay w e k tail v → base_of m v o ≡ Some b →
-      from_to b.upto tail (positions_in m (client m (happens m w e) k).kept o) ≡ members (log m later) o b.upto tail
+  SyncsExact w e = (later : World m) → Later m (happens m w e) later → (k : ℕ) (x : Walked m) (o : Oid) →
+      walked_in m w e k ≡ Some x → Contains x.work.oids o → IsExact later x o
 
   -- Pointers at work: a client reads on the path from a tail that it was told, or in a stripe that it was to copy.
 
