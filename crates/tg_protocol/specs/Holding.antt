@@ -17,7 +17,7 @@ use Rattle.tg_model.specs.Stores.{state_at}
 use Rattle.tg_model.specs.Traces.{Trace, Tells, puts_of, point_of}
 use Rattle.tg_model.specs.Legal.{AnswersRight, CommitsRight, EntriesRight, HasNoAsk, InOrder}
 use Rattle.tg_protocol.specs.Words.{directory}
-use Rattle.tg_protocol.specs.Entries.{is_commit, lists, reads_of, writes_of, streams_of, linked}
+use Rattle.tg_protocol.specs.Entries.{is_commit, needs_decision, lists, reads_of, writes_of, streams_of, linked}
 use Rattle.tg_protocol.specs.Appending.{Append}
 use Rattle.tg_protocol.specs.Checkpoints.{base_at}
 use Rattle.tg_protocol.specs.Views.{Base}
@@ -25,7 +25,7 @@ use Rattle.tg_protocol.specs.Clients.{Task, Appending, Work, write_of}
 use Rattle.tg_protocol.specs.ClientSteps.{task_in}
 use Rattle.tg_protocol.specs.Worlds.{World, Told, unit, client, trace, log, history}
 use Rattle.tg_protocol.specs.Runs.{Moves, Passes}
-use Rattle.tg_protocol.specs.Alike.{SentTo, HasEntry, HasRecord}
+use Rattle.tg_protocol.specs.Alike.{SentTo, HasEntry, HasRecord, HasDecision}
 
 module _ (m : Meaning) where
   -- the log has some cell at a position
@@ -160,3 +160,10 @@ module _ (m : Meaning) where
   pub record TrimsSpare (w : World m) : Type 0 where
     pub whole : (u p : ℕ) → p < (unit m w u).low → HasCell w p
     pub based : (u p : ℕ) (e : Entry) (o : Oid) → p < (unit m w u).low → HasEntry m w p e → lists e o ≡ true → HasBasePast w o (unit m w u).low
+
+  -- An object is marked only where it has a checkpoint that reaches the mark, and where each record of its stream below
+  -- the mark that needs a decision record has one.
+  pub record MarksRest (w : World m) : Type 0 where
+    pub based : (t : Told m) (o : Oid) (n : ℕ) → Contains w.told t → t.mark.what ≡ told.Marked o n → HasBasePast w o n
+    pub decided : (t : Told m) (o : Oid) (n p : ℕ) (e : Entry) → Contains w.told t → t.mark.what ≡ told.Marked o n →
+        HasEntry m w p e → p < n → lists e o ≡ true → needs_decision e ≡ true → HasDecision m w p
