@@ -25,6 +25,8 @@ HOLD = ['crossed_reads', 'orphan_decided', 'unsure_then_fate', 'refusals', 'full
 # how many walks each of these ends, all of them exact in its last world
 WALKS = {'crossed_reads': 4, 'unit_joins': 1, 'checkpoints_and_trim': 6, 'rescue_by_part': 5}
 PATHS = ['crossed_reads', 'checkpoints_and_trim', 'view_plays_on']
+# the run of which claims are proved as they stand
+PROVED = 'checkpoints_and_trim'
 OWN = ['crossed_reads', 'checkpoints_and_trim', 'carried_by_scan']
 # settlings that begin with all packets lost: whether they answer the one that waits in time, and whether it was answered before
 SETTLINGS = {'past_answers': ' ∷ '.join(['(true, false)'] * 5 + ['[]']), 'overtaken_and_refused': '(true, false) ∷ []'}
@@ -103,7 +105,12 @@ def running():
     runs = sorted(set(HOLD) | set(WALKS) | set(PATHS) | set(OWN) | set(SETTLINGS))
     opened = imports(runs)
     print('use Rattle.tg_law_instances.proofs.Tests.{world_fails, path_fails}')
-    print('use Rattle.tg_law_instances.proofs.StepTests.{drain_ev, tick_ev, round_ev, step_fails, run_fails, failures, exact_at_end, own_at_end, settlings_of}')
+    print('use Rattle.tg_law_instances.proofs.StepTests.{drain_ev, tick_ev, round_ev, step_fails, run_fails, failures, exact_at_end, own_at_end, settlings_of, log_stays}')
+    print('use Rattle.std.specs.Prelude.{take}')
+    print('use Rattle.tg_model.specs.Stores.{Rises}')
+    print('use Rattle.tg_protocol.specs.Holding.{EntriesOnce, LogStays}')
+    print('use Rattle.tg_law_instances.proofs.Tests.{W, rises, once}')
+    print('use Rattle.tg_law_instances.proofs.Sound.{rises_sound, once_sound, stays_sound}')
     for run in HOLD:
         lemma('holds_of_' + run, 'failures %s ≡ []' % script(run), opened)
     for run in WALKS:
@@ -114,6 +121,24 @@ def running():
         lemma('own_of_' + run, 'own_at_end %s ≡ true' % script(run), opened)
     for run in SETTLINGS:
         lemma('settlings_of_' + run, 'settlings_of %s ≡ %s' % (script(run), SETTLINGS[run]), opened)
+
+
+    print()
+    print('-- And claims as they stand, by tests that prove them: of a run with a trim, before which and after which cells stay.')
+    print()
+    print('abbrev whole : W')
+    print('whole = replay kinds %s' % script(PROVED))
+    print()
+    print('abbrev front : W')
+    print('front = replay kinds %s_header (take 14 %s_script)' % (PROVED, PROVED))
+    for name, test, claim, by in (
+            ('rising', 'rises (history kinds whole)', 'Rises kinds (history kinds whole)', 'rises_sound (history kinds whole)'),
+            ('alone', 'once (entries_of (log kinds whole))', 'EntriesOnce kinds whole', 'once_sound whole'),
+            ('staying', 'log_stays front whole', 'LogStays kinds front whole', 'stays_sound front whole')):
+        lemma(name + '_test', test + ' ≡ true', opened)
+        print()
+        print('%s : %s' % (name, claim))
+        print('%s = %s %s_test' % (name, by, name))
 
 
 def listed(words):
