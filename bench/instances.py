@@ -16,12 +16,13 @@ RUNS = {
     'new_sequencer': 'Moves', 'carried_by_scan': 'Moves', 'unit_joins': 'Moves', 'overtaken_and_refused': 'Moves',
     'checkpoints_and_trim': 'Moves', 'two_keys': 'Moves',
     'past_answers': 'Farther', 'past_trimmed': 'Farther', 'rescue_by_part': 'Farther', 'open_record': 'Farther',
+    'rescue_and_trim': 'Farther',
     'view_plays_on': 'PlayingOn',
 }
 # runs at each step and line of which each claim holds
 HOLD = ['crossed_reads', 'orphan_decided', 'unsure_then_fate', 'refusals', 'full_log', 'new_sequencer', 'carried_by_scan',
         'unit_joins', 'overtaken_and_refused', 'checkpoints_and_trim', 'past_answers', 'past_trimmed', 'rescue_by_part',
-        'open_record', 'view_plays_on']
+        'rescue_and_trim', 'open_record', 'view_plays_on']
 # how many walks each of these ends, all of them exact in its last world
 WALKS = {'crossed_reads': 4, 'unit_joins': 1, 'checkpoints_and_trim': 6, 'rescue_by_part': 5}
 PATHS = ['crossed_reads', 'checkpoints_and_trim', 'view_plays_on']
@@ -35,6 +36,9 @@ WORLDS = [
     ('reply_of_crossed_reads', 'doctored 11', 'crossed_reads', 'IsLegal LogAgrees'),
     ('reply_of_trim', 'doctored 16', 'checkpoints_and_trim', 'LogAgrees'),
     ('reply_of_join', 'doctored 3', 'unit_joins', 'IsLegal LogAgrees'),
+    ('reply_of_past', 'doctored 9', 'past_answers', 'LogAgrees'),
+    ('reply_of_rescue', 'doctored 10', 'rescue_by_part', 'LogAgrees'),
+    ('abort_of_the_last', 'replied_so named_late', 'crossed_reads', 'IsLegal LogAgrees'),
     ('page_twice', 'copied 1 7', 'two_updates', 'IsLegal Once Linked'),
     ('unheard_join', 'unheard', 'unit_joins', 'Linked LogAgrees'),
     ('untold_reads', 'untold', 'crossed_reads', 'IsLegal RecordsOwn'),
@@ -171,7 +175,7 @@ def changed():
     print('use Rattle.tg_law_instances.proofs.StepTests.{drain_ev, tick_ev, round_ev, step_fails, run_fails, changed_so, replied, ends_walks, sends_reads, log_stays, are_own}')
     print('use Rattle.tg_law_instances.proofs.Changes.{%s}' % ', '.join(
         ['doctored', 'copied', 'unheard', 'untold', 'trimmed_more as trims_more', 'unarchived', 'played_more as plays_more', 'replaced', 'two_layouts',
-         'higher', 'reads as reads_at', 'viewless', 'closed', 'with_client', 'knows_log', 'reads_low', 'emptied', 'replied_so', 'accepted', 'none_there as says_none', 'last_wrong']))
+         'higher', 'reads as reads_at', 'viewless', 'closed', 'with_client', 'knows_log', 'reads_low', 'emptied', 'replied_so', 'accepted', 'none_there as says_none', 'last_wrong', 'named_late']))
     print('use Rattle.std.specs.Prelude.{◌++◌, pos}')
     print('use Rattle.tg_base.specs.Clusters.{Header}')
     print('use Rattle.tg_model.specs.declared.command.Command.TheVariants as cmd')

@@ -171,3 +171,8 @@ accepted what = what
 abbrev pub none_there : WhatOf kinds → WhatOf kinds
 none_there (told.Fate p b) = told.Fate p None
 none_there what = what
+
+-- an abort names an object after all others
+abbrev pub named_late : WhatOf kinds → WhatOf kinds
+named_late (told.Aborted p o k seen now) = told.Aborted p (record { 0 = 4294967295 }) k seen now
+named_late what = what

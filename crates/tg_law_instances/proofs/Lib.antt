@@ -5,3 +5,4 @@ pub mod Sound
 mod Running
 mod Changed
 mod Reached
+mod OldPages

@@ -1,6 +1,6 @@
 -- Tests that passed prove the claims that they test: stamps that rise, entries that stand once, cells that stay.
-use Rattle.std.proofs.Common.{◌≡◌, ◌⊎◌, ℕ, zero, suc, ◌<◌, List, [], ◌∷◌, Bool, true, false, Option, Some, None, refl, sym, ap, ◌∙◌, subst, inl, inr, arith, cond, ◌≢◌}
-use Rattle.std.specs.Prelude.{Contains, ◌&&◌, ◌==◌, not, nat_lt}
+use Rattle.std.proofs.Common.{◌≡◌, ℕ, ◌<◌, List, [], ◌∷◌, Bool, true, false, Option, Some, None, refl, sym, ap, ◌∙◌, subst, inl, inr, arith, cond, ◌≢◌}
+use Rattle.std.specs.Prelude.{◌&&◌, ◌==◌, not, nat_lt}
 use Rattle.std.specs.List.{list_any, list_all}
 use Rattle.std.specs.Ordering.{nat_cmp}
 use Rattle.std.specs.BTreeMap.{is_at}
@@ -17,7 +17,7 @@ use Rattle.tg_protocol.specs.Views.{Entries}
 use Rattle.tg_protocol.specs.Logs.{Log, entries_of}
 use Rattle.tg_protocol.specs.Worlds.{log}
 use Rattle.tg_protocol.specs.Holding.{EntriesOnce, LogStays}
-use Rattle.tg_law_verdicts.proofs.Members.{Has, has_contained, contained_has, contrary, and_both, both_and, not_true, no_pass, all_pass}
+use Rattle.tg_law_verdicts.proofs.Members.{Has, has_contained, contained_has, and_both, both_and, not_true, no_pass, all_pass}
 use Rattle.tg_law_verdicts.proofs.Tests.{same_number, number_same}
 use Rattle.tg_law_examples.proofs.SevenKinds.{kinds}
 use Rattle.tg_law_instances.proofs.Tests.{W, rises, same_head, once}
@@ -59,7 +59,7 @@ once_of (z ∷ zs) o x y (inr i) (inr j) s r = once_of zs (and_both (not (list_a
 pub once_sound : (w : W) → once (entries_of (log kinds w)) ≡ true → EntriesOnce kinds w
 once_sound w o p q e f he hf c t n =
     once_of (entries_of (log kinds w)) o (p, e) (q, f) (has_contained {X = ℕ × Entry} (entries_of (log kinds w)) (p, e) he) (has_contained {X = ℕ × Entry} (entries_of (log kinds w)) (q, f) hf)
-        (heads_same e f c n t) (heads_same f e (sym c) (sym n) (sym t))
+    (heads_same e f c n t) (heads_same f e (sym c) (sym n) (sym t))
 
 -- Cells stay.
 
@@ -112,4 +112,4 @@ stays_by l p c (Some d) s e = cell_has l p c (s ∙ ap (λ x. Some x) (sym (cell
 pub stays_sound : (w v : W) → log_stays w v ≡ true → LogStays kinds w v
 stays_sound w v t p c h =
     contained_has {X = ℕ × Cell} (log kinds v) (p, c) (stays_by (log kinds v) p c (cell_at (log kinds v) p) refl
-        (all_pass (λ (x : ℕ × Cell). same_cell x.1 (cell_at (log kinds v) x.0)) (log kinds w) t (p, c) (has_contained {X = ℕ × Cell} (log kinds w) (p, c) h)))
+    (all_pass (λ (x : ℕ × Cell). same_cell x.1 (cell_at (log kinds v) x.0)) (log kinds w) t (p, c) (has_contained {X = ℕ × Cell} (log kinds w) (p, c) h)))
