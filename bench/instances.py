@@ -58,6 +58,7 @@ STEPS = [
     ('accepted_all', 'replied', '(replied_so accepted)', 'refusals', 'CausesRefuse;CausesRefuse;CausesRefuse;CausesRefuse;CausesRefuse;CausesRefuse'),
     ('wrong_cause', 'replied', 'last_wrong', 'open_record', 'CausesTrue'),
     ('wrong_trim', 'replied', 'last_wrong', 'past_trimmed', 'CausesTrue;CausesTrue'),
+    ('stuck_untrimmed', 'replied', 'untrimmed', 'rescue_and_trim', 'CausesTrue'),
     ('none_there', 'replied', '(replied_so none_there)', 'unsure_then_fate', 'NonesTrue'),
     ('closed_by_refusals', 'replied', '(with_client closed 0)', 'refusals', 'RefusalsKeep;RefusalsKeep;RefusalsKeep;RefusalsKeep;RefusalsKeep'),
 ]
@@ -175,7 +176,7 @@ def changed():
     print('use Rattle.tg_law_instances.proofs.StepTests.{drain_ev, tick_ev, round_ev, step_fails, run_fails, changed_so, replied, ends_walks, sends_reads, log_stays, are_own}')
     print('use Rattle.tg_law_instances.proofs.Changes.{%s}' % ', '.join(
         ['doctored', 'copied', 'unheard', 'untold', 'trimmed_more as trims_more', 'unarchived', 'played_more as plays_more', 'replaced', 'two_layouts',
-         'higher', 'reads as reads_at', 'viewless', 'closed', 'with_client', 'knows_log', 'reads_low', 'emptied', 'replied_so', 'accepted', 'none_there as says_none', 'last_wrong', 'named_late']))
+         'higher', 'reads as reads_at', 'viewless', 'closed', 'with_client', 'knows_log', 'reads_low', 'emptied', 'replied_so', 'accepted', 'none_there as says_none', 'last_wrong', 'named_late', 'untrimmed']))
     print('use Rattle.std.specs.Prelude.{◌++◌, pos}')
     print('use Rattle.tg_base.specs.Clusters.{Header}')
     print('use Rattle.tg_model.specs.declared.command.Command.TheVariants as cmd')

@@ -176,3 +176,12 @@ none_there what = what
 abbrev pub named_late : WhatOf kinds → WhatOf kinds
 named_late (told.Aborted p o k seen now) = told.Aborted p (record { 0 = 4294967295 }) k seen now
 named_late what = what
+
+-- no unit said that it had trimmed
+
+abbrev pub ungone : Msg → Msg
+ungone (msg.Gone b) = msg.Held
+ungone x = x
+
+abbrev pub untrimmed : W → W
+untrimmed w = record w { packets = map (λ (p : Packet). record p { msg = ungone p.msg }) w.packets }
