@@ -39,6 +39,9 @@ WORLDS = [
     ('reply_of_past', 'doctored 9', 'past_answers', 'LogAgrees'),
     ('reply_of_rescue', 'doctored 10', 'rescue_by_part', 'LogAgrees'),
     ('abort_of_the_last', 'replied_so named_late', 'crossed_reads', 'IsLegal LogAgrees'),
+    ('record_undecided', 'undecided', 'orphan_decided', 'LogAgrees'),
+    ('rescue_undecided', 'undecided', 'rescue_by_part', 'LogAgrees'),
+    ('mark_of_another', 'replied_so marked_less', 'checkpoints_and_trim', 'LogAgrees'),
     ('page_twice', 'copied 1 7', 'two_updates', 'IsLegal Once Linked'),
     ('unheard_join', 'unheard', 'unit_joins', 'Linked LogAgrees'),
     ('untold_reads', 'untold', 'crossed_reads', 'IsLegal RecordsOwn'),
@@ -176,7 +179,7 @@ def changed():
     print('use Rattle.tg_law_instances.proofs.StepTests.{drain_ev, tick_ev, round_ev, step_fails, run_fails, changed_so, replied, ends_walks, sends_reads, log_stays, are_own}')
     print('use Rattle.tg_law_instances.proofs.Changes.{%s}' % ', '.join(
         ['doctored', 'copied', 'unheard', 'untold', 'trimmed_more as trims_more', 'unarchived', 'played_more as plays_more', 'replaced', 'two_layouts',
-         'higher', 'reads as reads_at', 'viewless', 'closed', 'with_client', 'knows_log', 'reads_low', 'emptied', 'replied_so', 'accepted', 'none_there as says_none', 'last_wrong', 'named_late', 'untrimmed']))
+         'higher', 'reads as reads_at', 'viewless', 'closed', 'with_client', 'knows_log', 'reads_low', 'emptied', 'replied_so', 'accepted', 'none_there as says_none', 'last_wrong', 'named_late', 'untrimmed', 'undecided', 'marked_less']))
     print('use Rattle.std.specs.Prelude.{◌++◌, pos}')
     print('use Rattle.tg_base.specs.Clusters.{Header}')
     print('use Rattle.tg_model.specs.declared.command.Command.TheVariants as cmd')

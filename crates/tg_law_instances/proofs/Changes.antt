@@ -1,5 +1,5 @@
 -- Worlds in which one reply, or one fact, was changed.
-use Rattle.std.specs.Prelude.{ℕ, zero, suc, ◌+◌, ◌-◌, ◌==◌, List, [], ◌∷◌, ◌++◌, map, length, slice_set, not, Option, Some, None, if◌then◌else◌, pos}
+use Rattle.std.specs.Prelude.{ℕ, zero, suc, ◌+◌, ◌-◌, ◌==◌, List, [], ◌∷◌, ◌++◌, map, length, slice_set, not, Option, Some, None, if◌then◌else◌, pos, Bool, true, false}
 use Rattle.tg_base.specs.declared.packet.Packet.{Packet}
 use Rattle.tg_base.specs.declared.msg.Msg.{Msg}
 use Rattle.tg_base.specs.declared.msg.Msg.TheVariants as msg
@@ -7,10 +7,14 @@ use Rattle.tg_model.specs.declared.refusal.Refusal.TheVariants as cause
 use Rattle.tg_model.specs.declared.trace.What.TheVariants as told
 use Rattle.tg_model.specs.Kinds.{WhatOf}
 use Rattle.tg_base.specs.declared.cell.Cell.{Cell}
-use Rattle.tg_base.specs.declared.cell.Cell.TheVariants.{Junk}
+use Rattle.tg_base.specs.declared.cell.Cell.TheVariants.{Junk, Data}
 use Rattle.tg_protocol.specs.Words.{cell_at, client_id, unit_id}
 use Rattle.tg_protocol.specs.Units.{UnitState}
 use Rattle.tg_protocol.specs.Clients.{Client}
+use Rattle.tg_entry.specs.declared.entry.Body.{Body}
+use Rattle.tg_entry.specs.declared.entry.Body.TheVariants.{Decision}
+use Rattle.tg_entry.specs.declared.entry.Entry.{Entry}
+use Rattle.tg_protocol.specs.Pages.{entry_of}
 use Rattle.tg_protocol.specs.Worlds.{Told, unit, client, log}
 use Rattle.tg_law_examples.proofs.SevenKinds.{kinds}
 use Rattle.tg_law_examples.proofs.SevenKinds as kind
@@ -185,3 +189,28 @@ ungone x = x
 
 abbrev pub untrimmed : W → W
 untrimmed w = record w { packets = map (λ (p : Packet). record p { msg = ungone p.msg }) w.packets }
+
+-- no page of a decision record is left
+
+abbrev pub is_decision : Body → Bool
+is_decision (Decision p b) = true
+is_decision body = false
+
+abbrev pub decides_at : Option Entry → Bool
+decides_at None = false
+decides_at (Some e) = is_decision e.body
+
+abbrev pub undecided_cell : Cell → Cell
+undecided_cell Junk = Junk
+undecided_cell (Data d) = if decides_at (entry_of d) then Junk else Data d
+
+abbrev pub undecided_at : ℕ × Cell → ℕ × Cell
+undecided_at x = (x.0, undecided_cell x.1)
+
+abbrev pub undecided : W → W
+undecided w = record w { units = map (λ (u : UnitState). record u { cells = map undecided_at u.cells }) w.units }
+
+-- a mark says less than what was marked
+abbrev pub marked_less : WhatOf kinds → WhatOf kinds
+marked_less (told.Marked o n) = told.Marked o 0
+marked_less what = what

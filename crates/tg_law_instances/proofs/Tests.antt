@@ -1,5 +1,5 @@
 -- The claims on worlds as tests that compute, of the worked runs' kinds.
-use Rattle.std.specs.Prelude.{ℕ, ◌+◌, ◌&&◌, ◌||◌, ◌==◌, not, nat_lt, nat_le, Bool, true, false, List, [], ◌∷◌, ◌++◌, map, length, Option, Some, None, is_some, if◌then◌else◌}
+use Rattle.std.specs.Prelude.{ℕ, ◌+◌, ◌&&◌, ◌||◌, ◌==◌, not, nat_lt, nat_le, Bool, true, false, List, [], ◌∷◌, ◌++◌, map, length, Option, Some, None, is_some, if◌then◌else◌, find}
 use Rattle.std.specs.Cmp.Lexicographic.{pointwise}
 use Rattle.std.specs.List.{list_any, list_all}
 use Rattle.tg_base.specs.Layouts.{Layout}
@@ -23,7 +23,7 @@ use Rattle.tg_model.specs.Kinds.{EventOf, MarkOf, WhatOf, DoneOf}
 use Rattle.tg_model.specs.Stores.{state_at, answer_at, is_stamp}
 use Rattle.tg_model.specs.Traces.{puts_of}
 use Rattle.tg_model.specs.Verdicts.{fault}
-use Rattle.tg_protocol.specs.Words.{oid_eq, part_eq, bytes_eq, cell_at, node_eq, has_num, directory, client_id, unit_id, numbers}
+use Rattle.tg_protocol.specs.Words.{oid_eq, part_eq, bytes_eq, cell_at, node_eq, has_num, directory, client_id, unit_id, numbers, seqr_id}
 use Rattle.tg_protocol.specs.Layouts.{units_of, first_layout}
 use Rattle.tg_protocol.specs.Entries.{is_commit, lists, needs_decision, reads_of, writes_of, streams_of}
 use Rattle.tg_protocol.specs.Views.{Base, View, Entries, decision_in}
@@ -295,24 +295,77 @@ abbrev pub is_saved : W → Entries → Told kinds → Oid → ℕ → Body → 
 is_saved w es t o u (Checkpoint p v a b c d) = oid_eq o p && (u == v)
 is_saved w es t o u body = false
 
+-- a record that needs a decision record has one, or the client met the log's end or a trim
+
+abbrev pub is_full_log : Msg → Bool
+is_full_log (msg.Full n) = true
+is_full_log x = false
+
+abbrev pub needs_one : Entries → ℕ → Bool
+needs_one es p = entry_here es p needs_decision
+
+abbrev pub met_end : W → ℕ → ℕ → Bool
+met_end w k next = heard w k next is_full_log || heard w k next (is_gone_above 0)
+
+abbrev pub recorded : W → Entries → Told kinds → ℕ → Bool
+recorded w es t p = implies (has_record es p t.mark.client t.mark.tx && needs_one es p) (has_decision es p || met_end w t.mark.client 0)
+
+abbrev pub recorded_now : W → Entries → Told kinds → ℕ → Bool
+recorded_now w es t p = implies (needs_one es p) (has_decision es p || met_end w t.mark.client t.noted.next)
+
+-- the new sequencer's tail, or a later layout, was heard
+
+abbrev pub is_later : ℕ → Msg → Bool
+is_later e (msg.Latest q) = nat_lt e q.epoch
+is_later e x = false
+
+abbrev pub heard_new : W → Told kinds → ℕ → Layout → Bool
+heard_new w t e q = heard w t.mark.client 0 (is_later e)
+    || list_any (λ (p : Packet). node_eq p.from (seqr_id q.seq) && node_eq p.to (client_id t.mark.client) && nat_le t.noted.next p.rid && is_tail (λ x. true) p.msg) w.packets
+
 abbrev pub agrees : W → Entries → List (ℕ × Layout) → Told kinds → WhatOf kinds → Bool
 agrees w es qs t (told.Fate p (Some b)) = outcome_is w es p b && bool_eq b (is_stamp kinds (history kinds w) p)
-agrees w es qs t (told.Decided p (Some b)) = outcome_is w es p b
-agrees w es qs t (told.Rescued p (Some b)) = outcome_is w es p b
-agrees w es qs t (told.Committed p) = implies (not (length (puts_of kinds (trace kinds w) t.mark.client t.mark.tx) == 0)) (has_record es p t.mark.client t.mark.tx && outcome_is w es p true)
-agrees w es qs t (told.Aborted p o k seen now) = has_record es p t.mark.client t.mark.tx && outcome_is w es p false
+agrees w es qs t (told.Decided p (Some b)) = outcome_is w es p b && recorded_now w es t p
+agrees w es qs t (told.Rescued p (Some b)) = outcome_is w es p b && implies (needs_one es p) (has_decision es p)
+agrees w es qs t (told.Committed p) = implies (not (length (puts_of kinds (trace kinds w) t.mark.client t.mark.tx) == 0)) (has_record es p t.mark.client t.mark.tx && outcome_is w es p true && recorded w es t p)
+agrees w es qs t (told.Aborted p o k seen now) = has_record es p t.mark.client t.mark.tx && outcome_is w es p false && recorded w es t p
     && list_all (λ (x : ℕ × Entry). implies (x.0 == p) (list_all (λ r. implies (read_before r (record { oid = o; part = k; version = seen })) (version kinds (log kinds w) r.oid r.part p == r.version)) (reads_of x.1))) es
 agrees w es qs t (told.Unsure p q) = has_record es p t.mark.client t.mark.tx && has_commit es q
 agrees w es qs t (told.Saved o p u) = entry_here es p (λ e. (e.head.client == t.mark.client) && is_saved w es t o u e.body) && heard_now w t (is_issued p (λ ls. true)) && heard_now w t (is_tail (λ x. x == u))
 agrees w es qs t (told.Trimmed n) = heard_now w t (is_tail (λ x. kinds.floor (state_at kinds w.cluster.objects (history kinds w) x directory) == n)) && is_trimmed w qs t.noted.epoch n
 agrees w es qs t (told.Copied u r s) = is_copied w qs t u r s
-agrees w es qs t (told.Installed e) = list_any (λ (x : ℕ × Layout). (x.0 == e) && (x.1.by == t.mark.client) && nat_lt t.noted.epoch e) qs
+agrees w es qs t (told.Installed e) = list_any (λ (x : ℕ × Layout). (x.0 == e) && (x.1.by == t.mark.client) && nat_lt t.noted.epoch e && heard_new w t e x.1) qs
 agrees w es qs t (told.Refused (cause.Overtaken e)) = list_any (λ (x : ℕ × Layout). (x.0 == e) && not (x.1.by == t.mark.client) && nat_lt t.noted.epoch e) qs
 agrees w es qs t (told.Past o q p a) = same.answers a (answer_at kinds w.cluster.objects (history kinds w) p o q)
 agrees w es qs t what = true
 
+-- a mark comes after the commit of the transaction that marks
+
+abbrev pub does_mark : Oid → ℕ → DoneOf kinds → Bool
+does_mark o n d = list_any (λ x. oid_eq x.0 directory && bytes_eq (kinds.spell x.1) (kinds.spell (kinds.mark_op o n))) d.writes
+
+abbrev pub commits_mark : W → Oid → ℕ → Told kinds → WhatOf kinds → Bool
+commits_mark w o n t (told.Committed p) = list_any (λ (d : DoneOf kinds). (d.stamp == p) && (d.client == t.mark.client) && (d.number == t.mark.tx) && does_mark o n d) (history kinds w)
+commits_mark w o n t what = false
+
+abbrev pub marked_by : W → Oid → ℕ → Option (Told kinds) → Bool
+marked_by w o n None = false
+marked_by w o n (Some t) = commits_mark w o n t t.mark.what
+
+abbrev pub of_client : ℕ → Told kinds → Bool
+of_client k t = t.mark.client == k
+
+-- of the replies before, the last one first
+abbrev pub mark_follows : W → List (Told kinds) → ℕ → WhatOf kinds → Bool
+mark_follows w before k (told.Marked o n) = marked_by w o n (find (of_client k) before)
+mark_follows w before k what = true
+
+abbrev pub marks_follow : W → List (Told kinds) → List (Told kinds) → Bool
+marks_follow w before [] = true
+marks_follow w before (t ∷ ts) = mark_follows w before t.mark.client t.mark.what && marks_follow w (t ∷ before) ts
+
 abbrev pub all_agree : W → Entries → List (ℕ × Layout) → Bool
-all_agree w es qs = list_all (λ (t : Told kinds). agrees w es qs t t.mark.what) w.told
+all_agree w es qs = list_all (λ (t : Told kinds). agrees w es qs t t.mark.what) w.told && marks_follow w [] w.told
 
 abbrev pub read_pos : Msg → Option ℕ
 read_pos (msg.Read e p) = Some p
