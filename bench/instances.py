@@ -42,6 +42,7 @@ WORLDS = [
     ('record_undecided', 'undecided', 'orphan_decided', 'LogAgrees'),
     ('rescue_undecided', 'undecided', 'rescue_by_part', 'LogAgrees'),
     ('mark_of_another', 'replied_so marked_less', 'checkpoints_and_trim', 'LogAgrees'),
+    ('record_before_reply', 'replied_so commits_later', 'past_answers', 'IsLegal LogAgrees InOrder'),
     ('page_twice', 'copied 1 7', 'two_updates', 'IsLegal Once Linked'),
     ('unheard_join', 'unheard', 'unit_joins', 'Linked LogAgrees'),
     ('untold_reads', 'untold', 'crossed_reads', 'IsLegal RecordsOwn'),
@@ -179,7 +180,7 @@ def changed():
     print('use Rattle.tg_law_instances.proofs.StepTests.{drain_ev, tick_ev, round_ev, step_fails, run_fails, changed_so, replied, ends_walks, sends_reads, log_stays, are_own}')
     print('use Rattle.tg_law_instances.proofs.Changes.{%s}' % ', '.join(
         ['doctored', 'copied', 'unheard', 'untold', 'trimmed_more as trims_more', 'unarchived', 'played_more as plays_more', 'replaced', 'two_layouts',
-         'higher', 'reads as reads_at', 'viewless', 'closed', 'with_client', 'knows_log', 'reads_low', 'emptied', 'replied_so', 'accepted', 'none_there as says_none', 'last_wrong', 'named_late', 'untrimmed', 'undecided', 'marked_less']))
+         'higher', 'reads as reads_at', 'viewless', 'closed', 'with_client', 'knows_log', 'reads_low', 'emptied', 'replied_so', 'accepted', 'none_there as says_none', 'last_wrong', 'named_late', 'untrimmed', 'undecided', 'marked_less', 'commits_later']))
     print('use Rattle.std.specs.Prelude.{◌++◌, pos}')
     print('use Rattle.tg_base.specs.Clusters.{Header}')
     print('use Rattle.tg_model.specs.declared.command.Command.TheVariants as cmd')

@@ -1,6 +1,6 @@
 -- Changed worlds, and changed steps, of worked runs, and the claims that fail of them.
 use Rattle.std.proofs.Common.{◌≡◌, List, [], ◌∷◌, refl}
-use Rattle.std.specs.Prelude.{true, false}
+use Rattle.std.specs.Prelude.{false}
 use Rattle.tg_model.specs.Stores.{store_after, changed}
 use Rattle.tg_model.specs.Traces.{puts_of}
 use Rattle.tg_model.specs.Verdicts.{asks_in, bound_in, entries_fault, replies_fault, fault}
@@ -45,7 +45,7 @@ use Rattle.tg_law_examples.proofs.PlayingOn.{view_plays_on_header, view_plays_on
 use Rattle.tg_law_instances.proofs.Tests as claim
 use Rattle.tg_law_instances.proofs.Tests.{world_fails, path_fails}
 use Rattle.tg_law_instances.proofs.StepTests.{drain_ev, tick_ev, round_ev, step_fails, run_fails, changed_so, replied, ends_walks, sends_reads, log_stays, are_own}
-use Rattle.tg_law_instances.proofs.Changes.{doctored, copied, unheard, untold, trimmed_more as trims_more, unarchived, played_more as plays_more, replaced, two_layouts, higher, reads as reads_at, viewless, closed, with_client, knows_log, reads_low, emptied, replied_so, accepted, none_there as says_none, last_wrong, named_late, untrimmed, undecided, marked_less}
+use Rattle.tg_law_instances.proofs.Changes.{doctored, copied, unheard, untold, trimmed_more as trims_more, unarchived, played_more as plays_more, replaced, two_layouts, higher, reads as reads_at, viewless, closed, with_client, knows_log, reads_low, emptied, replied_so, accepted, none_there as says_none, last_wrong, named_late, untrimmed, undecided, marked_less, commits_later}
 use Rattle.std.specs.Prelude.{◌++◌, pos}
 use Rattle.tg_base.specs.Clusters.{Header}
 use Rattle.tg_model.specs.declared.command.Command.TheVariants as cmd
@@ -103,6 +103,10 @@ rescue_undecided = refl
 mark_of_another : world_fails (replied_so marked_less (replay kinds checkpoints_and_trim_header checkpoints_and_trim_script)) ≡ claim.LogAgrees ∷ []
 unfolding u8_at u16_at u32_at u64_at raw_at fixed_at read_many spell_many fit_many marks reads writes keys new_fields old_fields body entry role_code node_eq bytes_eq bytes_lt part_eq part_lt cell_eq chain_of units_of next_of change_fault new_unit unit_ask first_missing on_ask unit_step new_layout layout_ask on_layout_ask layout_step reply work_asks put_cell get_cell fill_cell probe work_feed cell_feed entry_size needs_decision page_of entry_of new_seqr seqr_step seqr_tick append_work_asks append_start append_feed append_again sync_work_asks sync_start sync_feed walk_on walk_start walk_feed no_versions based version_of with_change parts_of decision_in view_start view_version view_parts unknown_in changed_in verdict outcome step_at play_on play read_fault write_fault commit_record open_decision checkpoint bases_in load_from view_base view_bases may_forget commit_at past_at rescue_turn trim_start trim_feed copy_work_asks copy_start copy_feed reconf_work_asks reconf_start reconf_feed reconf_latest new_client entries_at copy_fault tests refusal appends syncs walked task_asks client_asks walks task_feed task_again accepts client_command client_deliver client_tick fields_size decided newest log_of entries_of members path_on path changes_below version logs_outcome history_of start latest log history unit_moves layout_moves seqr_moves client_turned happens limit_of drain_on drain tick_all rounds settle line lines run walks_end store_after changed puts_of asks_in bound_in entries_fault replies_fault fault world_fails path_fails drain_ev tick_ev round_ev step_fails run_fails
 mark_of_another = refl
+
+record_before_reply : world_fails (replied_so commits_later (replay kinds past_answers_header past_answers_script)) ≡ claim.IsLegal ∷ claim.LogAgrees ∷ claim.InOrder ∷ []
+unfolding u8_at u16_at u32_at u64_at raw_at fixed_at read_many spell_many fit_many marks reads writes keys new_fields old_fields body entry role_code node_eq bytes_eq bytes_lt part_eq part_lt cell_eq chain_of units_of next_of change_fault new_unit unit_ask first_missing on_ask unit_step new_layout layout_ask on_layout_ask layout_step reply work_asks put_cell get_cell fill_cell probe work_feed cell_feed entry_size needs_decision page_of entry_of new_seqr seqr_step seqr_tick append_work_asks append_start append_feed append_again sync_work_asks sync_start sync_feed walk_on walk_start walk_feed no_versions based version_of with_change parts_of decision_in view_start view_version view_parts unknown_in changed_in verdict outcome step_at play_on play read_fault write_fault commit_record open_decision checkpoint bases_in load_from view_base view_bases may_forget commit_at past_at rescue_turn trim_start trim_feed copy_work_asks copy_start copy_feed reconf_work_asks reconf_start reconf_feed reconf_latest new_client entries_at copy_fault tests refusal appends syncs walked task_asks client_asks walks task_feed task_again accepts client_command client_deliver client_tick fields_size decided newest log_of entries_of members path_on path changes_below version logs_outcome history_of start latest log history unit_moves layout_moves seqr_moves client_turned happens limit_of drain_on drain tick_all rounds settle line lines run walks_end store_after changed puts_of asks_in bound_in entries_fault replies_fault fault world_fails path_fails drain_ev tick_ev round_ev step_fails run_fails
+record_before_reply = refl
 
 page_twice : world_fails (copied 1 7 (replay kinds two_updates_header two_updates_script)) ≡ claim.IsLegal ∷ claim.Once ∷ claim.Linked ∷ []
 unfolding u8_at u16_at u32_at u64_at raw_at fixed_at read_many spell_many fit_many marks reads writes keys new_fields old_fields body entry role_code node_eq bytes_eq bytes_lt part_eq part_lt cell_eq chain_of units_of next_of change_fault new_unit unit_ask first_missing on_ask unit_step new_layout layout_ask on_layout_ask layout_step reply work_asks put_cell get_cell fill_cell probe work_feed cell_feed entry_size needs_decision page_of entry_of new_seqr seqr_step seqr_tick append_work_asks append_start append_feed append_again sync_work_asks sync_start sync_feed walk_on walk_start walk_feed no_versions based version_of with_change parts_of decision_in view_start view_version view_parts unknown_in changed_in verdict outcome step_at play_on play read_fault write_fault commit_record open_decision checkpoint bases_in load_from view_base view_bases may_forget commit_at past_at rescue_turn trim_start trim_feed copy_work_asks copy_start copy_feed reconf_work_asks reconf_start reconf_feed reconf_latest new_client entries_at copy_fault tests refusal appends syncs walked task_asks client_asks walks task_feed task_again accepts client_command client_deliver client_tick fields_size decided newest log_of entries_of members path_on path changes_below version logs_outcome history_of start latest log history unit_moves layout_moves seqr_moves client_turned happens limit_of drain_on drain tick_all rounds settle line lines run walks_end store_after changed puts_of asks_in bound_in entries_fault replies_fault fault world_fails path_fails drain_ev tick_ev round_ev step_fails run_fails

@@ -214,3 +214,8 @@ undecided w = record w { units = map (λ (u : UnitState). record u { cells = map
 abbrev pub marked_less : WhatOf kinds → WhatOf kinds
 marked_less (told.Marked o n) = told.Marked o 0
 marked_less what = what
+
+-- commits are told as later ones
+abbrev pub commits_later : WhatOf kinds → WhatOf kinds
+commits_later (told.Committed p) = told.Committed (p + 40)
+commits_later what = what

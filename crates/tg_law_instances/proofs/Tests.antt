@@ -22,7 +22,7 @@ use Rattle.tg_model.specs.declared.trace.What.TheVariants as told
 use Rattle.tg_model.specs.Kinds.{EventOf, MarkOf, WhatOf, DoneOf}
 use Rattle.tg_model.specs.Stores.{state_at, answer_at, is_stamp}
 use Rattle.tg_model.specs.Traces.{puts_of}
-use Rattle.tg_model.specs.Verdicts.{fault}
+use Rattle.tg_model.specs.Verdicts.{fault, bound}
 use Rattle.tg_protocol.specs.Words.{oid_eq, part_eq, bytes_eq, cell_at, node_eq, has_num, directory, client_id, unit_id, numbers, seqr_id}
 use Rattle.tg_protocol.specs.Layouts.{units_of, first_layout}
 use Rattle.tg_protocol.specs.Entries.{is_commit, lists, needs_decision, reads_of, writes_of, streams_of}
@@ -36,7 +36,7 @@ use Rattle.tg_protocol.specs.Worlds.{World, Told, unit, client, latest, log, his
 use Rattle.tg_law_examples.proofs.SevenKinds.{kinds, State}
 use Rattle.tg_law_examples.proofs.Sameness.{same}
 
--- what was tested, by the name of the claim
+-- What was tested, by the name of the claim.
 pub data Claim : Type 0 where
   StampsRise : Claim  -- of a world: `Rises`
   IsLegal : Claim  -- `Legal`, by the judge's verdict
@@ -52,6 +52,7 @@ pub data Claim : Type 0 where
   LayoutsFollow : Claim  -- as far as seals and starts go
   LogAgrees : Claim  -- what replies tell: the rest of `Alike`, `RepliesHaveRecords`, `AbortsLeast`, `PastTrue`, `RescueTrue`
   MarksRest : Claim
+  InOrder : Claim  -- `RecordsInOrder`, of commit records; of places by the judge
   ReadsOnPath : Claim  -- where nothing is copied
   Stands : Claim  -- of a step: the four rules of `PlaysOn`
   Falls : Claim
@@ -390,6 +391,11 @@ is_client w n = list_any (λ k. node_eq n (client_id k)) (numbers w.cluster.clie
 abbrev pub reads_on_path : W → Log → Bool
 reads_on_path w l = list_all (λ (x : Packet). implies (is_client w x.from) (on_path w l x.from (read_pos x.msg))) w.packets
 
+-- no commit record precedes a reply that came before its transaction's `begin`
+abbrev pub in_order : W → Entries → Bool
+in_order w es = list_all (λ (x : ℕ × Entry). implies (is_commit x.1)
+    (nat_le (bound kinds same w.cluster.objects (history kinds w) (trace kinds w) x.1.head.client x.1.head.number) x.0)) es
+
 abbrev pub fails : Claim → Bool → List Claim
 fails n true = []
 fails n false = n ∷ []
@@ -398,7 +404,7 @@ abbrev pub world_by : W → Log → Entries → List (ℕ × Layout) → List Cl
 world_by w l es qs =
     fails StampsRise (rises (history kinds w)) ++ fails IsLegal (not (is_some (fault kinds same w.cluster.objects (history kinds w) (trace kinds w))))
     ++ fails Once (once es) ++ fails Linked (linked w es) ++ fails RecordsOwn (records_own w es) ++ fails TrimsSpare (trims_spare w l es) ++ fails FloorsStay (floors_stay w l)
-    ++ fails DirectoryTrue (directories w) ++ fails CheckpointsTrue (checkpoints w es) ++ fails FatesTrue (decisions w es) ++ fails OneLayout (one_layout qs && latest_decided w qs) ++ fails LayoutsFollow (follow w qs) ++ fails LogAgrees (all_agree w es qs) ++ fails MarksRest (marks_rest w es)
+    ++ fails DirectoryTrue (directories w) ++ fails CheckpointsTrue (checkpoints w es) ++ fails FatesTrue (decisions w es) ++ fails OneLayout (one_layout qs && latest_decided w qs) ++ fails LayoutsFollow (follow w qs) ++ fails LogAgrees (all_agree w es qs) ++ fails MarksRest (marks_rest w es) ++ fails InOrder (in_order w es)
 
 unfoldable pub world_fails : W → List Claim
 world_fails w = world_by w (log kinds w) (entries_of (log kinds w)) (layouts w)
