@@ -330,7 +330,8 @@ def main():
         print('%s = refl' % row)
 
 
-if sys.argv[1] == 'judged':
-    judged()
-else:
-    main()
+if __name__ == '__main__':
+    if sys.argv[1] == 'judged':
+        judged()
+    else:
+        main()

@@ -4,9 +4,9 @@ pub mod Sameness
 pub mod Shown
 mod Tables
 mod Votes
-mod First
-mod Moves
-mod Farther
+pub mod First
+pub mod Moves
+pub mod Farther
 mod Corners
 mod Stops
 mod LateStops
@@ -16,4 +16,4 @@ mod Long
 mod Judged
 mod Random
 mod RandomMoves
-mod PlayingOn
+pub mod PlayingOn

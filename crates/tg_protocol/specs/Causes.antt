@@ -170,11 +170,13 @@ module _ (m : Meaning) where
     pub synced : SentNow m w t (msg.Tail tail links)
     pub below : p < tail
 
-  -- the entry is one for the client's view: it is a record of its own, whose append has ended, or stands in a stream that it hosts
+  -- the entry is one for the client's view: it is a record of its own, whose append has ended, or stands in a stream
+  -- that it hosts
   abbrev pub IsFor : Client m → ℕ → Entry → Type 0
   IsFor c p e = Contains c.own p ⊎ ((s : Oid) × (hosts_oid m c s ≡ true) × (lists e s ≡ true))
 
-  -- the client's view doesn't know the version of what a record reads: the object isn't hosted, or begins later, with a later version
+  -- the client's view doesn't know the version of what a record reads: the object isn't hosted, or begins later, with
+  -- a later version
   pub record IsUnknown (w : World m) (t : Told m) (p : ℕ) (o : Oid) : Type 0 where
     pub reads : HasReadOf w p o
     pub seen : IsFor (client m w t.mark.client) p reads.entry
@@ -193,8 +195,8 @@ module _ (m : Meaning) where
   abbrev pub IsOutOfReach : World m → Told m → Oid → Type 0
   IsOutOfReach w t o = (hosts_oid m (client m w t.mark.client) o ≡ false) ⊎ WalkMetTrim m w t o
 
-  -- what a record reads is unknown to the client's view; for a record below a past position it is out of reach, and for one at or
-  -- below that of a rescue its stream was walked as far as a trim
+  -- what a record reads is unknown to the client's view; for a record below a past position it is out of reach, and
+  -- for one at or below that of a rescue its stream was walked as far as a trim
   abbrev pub CantKnow : CommandOf m → World m → Told m → ℕ → Oid → Type 0
   CantKnow (cmd.AskAt at p q) w t pos o = (pos < at) × HasReadOf w pos o × IsOutOfReach w t o
   CantKnow (cmd.Rescue at) w t pos o = (pos ≤ at) × HasReadOf w pos o × WalkMetTrim m w t o
@@ -207,7 +209,8 @@ module _ (m : Meaning) where
     pub synced : SentNow m w t (msg.Tail tail links)
     pub none : (p : ℕ) (e : Entry) (b : Base m) → HasEntry m w p e → p < tail → base_at m o e ≡ Some b → mark ≤ b.upto → ⊥
 
-  -- a record of the object's stream below the mark needs a decision record, and the client has none; it is the least such that it has
+  -- a record of the object's stream below the mark needs a decision record, and the client has none; it is the least
+  -- such that it has
   pub record IsOpen (w : World m) (e : EventOf m) (t : Told m) (o : Oid) (mark p : ℕ) : Type 0 where
     pub entry : Entry
     pub here : HasEntry m (happens m w e) p entry

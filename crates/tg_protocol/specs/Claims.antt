@@ -5,7 +5,7 @@ use Rattle.tg_protocol.specs.Chosen.{OneLayout, LatestDecided}
 use Rattle.tg_protocol.specs.Following.{LayoutsFollow}
 use Rattle.tg_protocol.specs.Alike.{CheckpointsTrue}
 use Rattle.tg_protocol.specs.Stuck.{StuckTrue}
-use Rattle.tg_protocol.specs.Holding.{LogStays, EntriesOnce, EntriesLinked, EntriesOwn, RecordsOwn, RepliesHaveRecords, RecordsInOrder, SerialFirst, FloorsStay, TrimsSpare}
+use Rattle.tg_protocol.specs.Holding.{LogStays, EntriesOnce, EntriesLinked, EntriesOwn, RecordsOwn, RepliesHaveRecords, RecordsInOrder, SerialFirst, FloorsStay, TrimsSpare, MarksRest}
 use Rattle.tg_protocol.specs.Playing.{SyncsExact, ReadsOnPath, PlaysOn}
 use Rattle.tg_protocol.specs.Headline.{Holds}
 use Rattle.tg_protocol.specs.Causes.{DirectoryTrue, RefusalsTrue, CausesRefuse, AbortsLeast, NonesTrue, UnsureTrue, RefusalsKeep}
@@ -38,6 +38,7 @@ pub record Forgetting (m : Meaning) : Type 0 where
   pub checkpoints : Always m (CheckpointsTrue m)
   pub floors : Always m (FloorsStay m)
   pub trims : Always m (TrimsSpare m)
+  pub marks : Always m (MarksRest m)
 
 -- Answers and their causes.
 pub record CausesHold (m : Meaning) : Type 0 where

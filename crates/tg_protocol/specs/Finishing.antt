@@ -79,7 +79,8 @@ module _ (m : Meaning) where
   IsSpareReady w (cmd.Copy u r s) = (runs m w (unit_id u) ≡ true) × ((unit m w u).epoch ≤ (latest m w).epoch)
   IsSpareReady w x = Unit {0}
 
-  -- The bound: c is the length of the longest chain, next is the sequencer's next position, n is how many units there are.
+  -- The bound: c is the length of the longest chain, next is the sequencer's next position, n is how many units there
+  -- are.
   abbrev pub bound : CommandOf m → ℕ → ℕ → ℕ → ℕ
   bound cmd.Trim c next n = 16 * c * (next + 4) + 2 * n
   bound (cmd.Rescue p) c next n = 128 * (16 * c * (next + 4))

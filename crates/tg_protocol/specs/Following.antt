@@ -38,8 +38,8 @@ module _ (m : Meaning) where
     pub number : answer.rid ≡ asked.rid
     pub whole : answer.msg ≡ msg.Whole
 
-  -- q is p after a lawful change. Each unit of q was sealed at q's epoch and told its `high`, and q starts at the greatest
-  -- of these and of p's start.
+  -- q is p after a lawful change. Each unit of q was sealed at q's epoch and told its `high`, and q starts at the
+  -- greatest of these and of p's start.
   pub record Follows (w : World m) (p q : Layout) : Type 0 where
     pub change : Changed
     pub lawful : change_fault p change ≡ None

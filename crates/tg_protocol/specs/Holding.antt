@@ -17,7 +17,7 @@ use Rattle.tg_model.specs.Stores.{state_at}
 use Rattle.tg_model.specs.Traces.{Trace, Tells, puts_of, point_of}
 use Rattle.tg_model.specs.Legal.{AnswersRight, CommitsRight, EntriesRight, HasNoAsk, InOrder}
 use Rattle.tg_protocol.specs.Words.{directory}
-use Rattle.tg_protocol.specs.Entries.{is_commit, lists, reads_of, writes_of, streams_of, linked}
+use Rattle.tg_protocol.specs.Entries.{is_commit, needs_decision, lists, reads_of, writes_of, streams_of, linked}
 use Rattle.tg_protocol.specs.Appending.{Append}
 use Rattle.tg_protocol.specs.Checkpoints.{base_at}
 use Rattle.tg_protocol.specs.Views.{Base}
@@ -25,7 +25,7 @@ use Rattle.tg_protocol.specs.Clients.{Task, Appending, Work, write_of}
 use Rattle.tg_protocol.specs.ClientSteps.{task_in}
 use Rattle.tg_protocol.specs.Worlds.{World, Told, unit, client, trace, log, history}
 use Rattle.tg_protocol.specs.Runs.{Moves, Passes}
-use Rattle.tg_protocol.specs.Alike.{SentTo, HasEntry, HasRecord}
+use Rattle.tg_protocol.specs.Alike.{SentTo, HasEntry, HasRecord, HasDecision}
 
 module _ (m : Meaning) where
   -- the log has some cell at a position
@@ -72,8 +72,8 @@ module _ (m : Meaning) where
   abbrev pub EntriesOwn : Header → Moves m → World m → Type 0
   EntriesOwn h ms w = (p : ℕ) (e : Entry) → HasEntry m w p e → WasBegun h ms e
 
-  -- A commit record is that of a transaction which was ended: its writes spell what was put, in order, and its reads name
-  -- what was asked.
+  -- A commit record is that of a transaction which was ended: its writes spell what was put, in order, and its reads
+  -- name what was asked.
 
   pub record AskedOf (w : World m) (k x : ℕ) (o : Oid) (part : Part) : Type 0 where
     pub ask : m.ask
@@ -121,7 +121,8 @@ module _ (m : Meaning) where
   abbrev pub RepliesHaveRecords : World m → Type 0
   RepliesHaveRecords w = (t : Told m) → Contains w.told t → HasItsRecord w t.mark.client t.mark.tx t.mark.what
 
-  -- Order: no place of a transaction precedes a reply that came before its `begin`; nor does its record, committed or not.
+  -- Order: no place of a transaction precedes a reply that came before its `begin`; nor does its record, committed or
+  -- not.
   pub record RecordsInOrder (w : World m) : Type 0 where
     pub places : InOrder m (history m w) (trace m w)
     pub records : (before after : Trace m) (b r : MarkOf m) (p n : ℕ) → trace m w ≡ before ++ b ∷ after → b.what ≡ told.Begin → 0 < b.tx →
@@ -154,7 +155,15 @@ module _ (m : Meaning) where
     pub gives : base_at m o entry ≡ Some base
     pub reaches : n ≤ base.upto
 
-  -- What a unit has trimmed is in the log for good, and nobody needs it: an object with an entry there has a later base.
+  -- What a unit has trimmed is in the log for good, and nobody needs it: an object with an entry there has a later
+  -- base.
   pub record TrimsSpare (w : World m) : Type 0 where
     pub whole : (u p : ℕ) → p < (unit m w u).low → HasCell w p
     pub based : (u p : ℕ) (e : Entry) (o : Oid) → p < (unit m w u).low → HasEntry m w p e → lists e o ≡ true → HasBasePast w o (unit m w u).low
+
+  -- An object is marked only where it has a checkpoint that reaches the mark, and where each record of its stream below
+  -- the mark that needs a decision record has one.
+  pub record MarksRest (w : World m) : Type 0 where
+    pub based : (t : Told m) (o : Oid) (n : ℕ) → Contains w.told t → t.mark.what ≡ told.Marked o n → HasBasePast w o n
+    pub decided : (t : Told m) (o : Oid) (n p : ℕ) (e : Entry) → Contains w.told t → t.mark.what ≡ told.Marked o n →
+        HasEntry m w p e → p < n → lists e o ≡ true → needs_decision e ≡ true → HasDecision m w p

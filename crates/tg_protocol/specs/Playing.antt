@@ -40,8 +40,8 @@ module _ (m : Meaning) where
     pub client : told.mark.client ≡ k
     pub holds : P told
 
-  -- Exact syncs: where a step ends the walks of a command, the positions found of each stream that it walked, from where its walk
-  -- ended up to the tail, are exactly the stream's members there, in this and in each later world.
+  -- Exact syncs: where a step ends the walks of a command, the positions found of each stream that it walked, from
+  -- where its walk ended up to the tail, are exactly the stream's members there, in this and in each later world.
 
   abbrev pub from_to : ℕ → ℕ → List ℕ → List ℕ
   from_to lo hi ps = filter (λ p. nat_le lo p && nat_lt p hi) ps
@@ -84,7 +84,8 @@ module _ (m : Meaning) where
 
   -- Playing on.
 
-  -- a unit answered the client's command that all is trimmed below a position, above where its view stood when it was given
+  -- a unit answered the client's command that all is trimmed below a position, above where its view stood when it was
+  -- given
   pub record MetTrimAbove (w : World m) (k : ℕ) : Type 0 where
     pub rid : ℕ
     pub below : ℕ

@@ -28,8 +28,8 @@ abbrev pub most_steps : ℕ
 most_steps = 119 * 200000
 
 module _ (m : Meaning) where
-  -- Lawful events: their nodes are declared. An op that its object allows has a spelling, what an ask looks at has one too,
-  -- and a change keeps the rules of layouts.
+  -- Lawful events: their nodes are declared. An op that its object allows has a spelling, what an ask looks at has
+  -- one too, and a change keeps the rules of layouts.
 
   abbrev pub LawfulCommand : CommandOf m → Type 0
   LawfulCommand (cmd.Put o op) = m.allows o op ≡ true → m.read o (m.spell op) ≡ Some op
@@ -88,7 +88,8 @@ module _ (m : Meaning) where
   abbrev pub IsQuiet : World m → Type 0
   IsQuiet w = w.waiting ≡ []
 
-  -- What holds of every world of every run, of each of them by its run, of every step, and of every world and each later one.
+  -- What holds of every world of every run, of each of them by its run, of every step, and of every world and each
+  -- later one.
 
   abbrev pub Always : (World m → Type 0) → Type 0
   Always P = (h : Header) (ms : Moves) (w : World m) → Reaches h ms w → P w

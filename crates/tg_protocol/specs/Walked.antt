@@ -1,6 +1,5 @@
 -- Where a step brings a client to the end of its walks: what it has there, before it plays.
 use Rattle.std.specs.Prelude.{ℕ, Bool, true, false, not, ◌&&◌, ◌==◌, nat_lt, List, [], ◌∷◌, Option, Some, None, slice_get, if◌then◌else◌}
-use Rattle.tg_base.specs.Layouts.{Layout}
 use Rattle.tg_base.specs.declared.ids.NodeId.{NodeId}
 use Rattle.tg_base.specs.declared.ids.Oid.{Oid}
 use Rattle.tg_base.specs.declared.packet.Packet.{Packet}
@@ -10,7 +9,7 @@ use Rattle.tg_model.specs.Kinds.{EventOf}
 use Rattle.tg_protocol.specs.Words.{node_eq, layout_id, client_id}
 use Rattle.tg_protocol.specs.Requests.{awaits, Next, Goes, Learns, Ends}
 use Rattle.tg_protocol.specs.Replies.{Reply, IsLatest, reply}
-use Rattle.tg_protocol.specs.Syncing.{Sync, Confirmed, sync_feed, sync_again}
+use Rattle.tg_protocol.specs.Syncing.{Sync, Confirmed, sync_feed}
 use Rattle.tg_protocol.specs.Walking.{Walk, Members, walk_feed, walk_again}
 use Rattle.tg_protocol.specs.Checkpoints.{trim_of}
 use Rattle.tg_protocol.specs.Views.{Entries}
@@ -24,7 +23,8 @@ module _ (m : Meaning) where
     pub client : Client m
     pub work : Work m
 
-  -- The end to which walks come in a step, None where they come to none: they read on, sync anew, or learn a newer layout.
+  -- The end to which walks come in a step, None where they come to none: they read on, sync anew, or learn a newer
+  -- layout.
 
   -- one stream after the other, each as far as known cells lead
   unfoldable pub walks_end : List Oid → Client m → Work m → Option Walked
@@ -40,7 +40,8 @@ module _ (m : Meaning) where
   sync_end c w (Ends x) = walks_end w.oids (knows m c x.settled) (record w { tail = x.tail; lasts = x.lasts; lo = lo_for m c w.command })
   sync_end c w x = None
 
-  -- a walk has met a trim: the tail is stale, or the view is given up and all is walked from 0, or the next streams follow
+  -- a walk has met a trim: the tail is stale, or the view is given up and all is walked from 0, or the next streams
+  -- follow
   abbrev pub trim_end : Client m → Work m → List Oid → Bool → Bool → Option Walked
   trim_end c w os true over = None
   trim_end c w os false true = walks_end w.oids c (record w { lo = 0; found = []; trims = [] })

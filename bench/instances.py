@@ -1,0 +1,205 @@
+"""Writes the claims on runs as lemmas that compute, of worked runs and of changed ones, for tg_law_instances.
+
+python3 bench/instances.py running > crates/tg_law_instances/proofs/Running.antt
+python3 bench/instances.py changed > crates/tg_law_instances/proofs/Changed.antt
+
+The tests and the changes are those of proofs/Tests.antt, StepTests.antt and Changes.antt; the runs are those of tg_law_examples.
+"""
+import sys
+
+import rows
+
+# the file of tg_law_examples that has the run
+RUNS = {
+    'crossed_reads': 'First', 'orphan_decided': 'First', 'unsure_then_fate': 'First', 'refusals': 'First', 'hole_filled': 'First',
+    'full_log': 'First', 'two_updates': 'First', 'page_carried_down': 'First',
+    'new_sequencer': 'Moves', 'carried_by_scan': 'Moves', 'unit_joins': 'Moves', 'overtaken_and_refused': 'Moves',
+    'checkpoints_and_trim': 'Moves', 'two_keys': 'Moves',
+    'past_answers': 'Farther', 'past_trimmed': 'Farther', 'rescue_by_part': 'Farther', 'open_record': 'Farther',
+    'rescue_and_trim': 'Farther',
+    'view_plays_on': 'PlayingOn',
+}
+# runs at each step and line of which each claim holds
+HOLD = ['crossed_reads', 'orphan_decided', 'unsure_then_fate', 'refusals', 'full_log', 'new_sequencer', 'carried_by_scan',
+        'unit_joins', 'overtaken_and_refused', 'checkpoints_and_trim', 'past_answers', 'past_trimmed', 'rescue_by_part',
+        'rescue_and_trim', 'open_record', 'view_plays_on']
+# how many walks each of these ends, all of them exact in its last world
+WALKS = {'crossed_reads': 4, 'unit_joins': 1, 'checkpoints_and_trim': 6, 'rescue_by_part': 5}
+PATHS = ['crossed_reads', 'checkpoints_and_trim', 'view_plays_on']
+# the run of which claims are proved as they stand
+PROVED = 'checkpoints_and_trim'
+OWN = ['crossed_reads', 'checkpoints_and_trim', 'carried_by_scan']
+# settlings that begin with all packets lost: whether they answer the one that waits in time, and whether it was answered before
+SETTLINGS = {'past_answers': ' ∷ '.join(['(true, false)'] * 5 + ['[]']), 'overtaken_and_refused': '(true, false) ∷ []'}
+# a changed world of a run, and the claims that fail of it
+WORLDS = [
+    ('reply_of_crossed_reads', 'doctored 11', 'crossed_reads', 'IsLegal LogAgrees'),
+    ('reply_of_trim', 'doctored 16', 'checkpoints_and_trim', 'LogAgrees'),
+    ('reply_of_join', 'doctored 3', 'unit_joins', 'IsLegal LogAgrees'),
+    ('reply_of_past', 'doctored 9', 'past_answers', 'LogAgrees'),
+    ('reply_of_rescue', 'doctored 10', 'rescue_by_part', 'LogAgrees'),
+    ('abort_of_the_last', 'replied_so named_late', 'crossed_reads', 'IsLegal LogAgrees'),
+    ('record_undecided', 'undecided', 'orphan_decided', 'LogAgrees'),
+    ('rescue_undecided', 'undecided', 'rescue_by_part', 'LogAgrees'),
+    ('mark_of_another', 'replied_so marked_less', 'checkpoints_and_trim', 'LogAgrees'),
+    ('record_before_reply', 'replied_so commits_later', 'past_answers', 'IsLegal LogAgrees InOrder'),
+    ('page_twice', 'copied 1 7', 'two_updates', 'IsLegal Once Linked'),
+    ('unheard_join', 'unheard', 'unit_joins', 'Linked LogAgrees'),
+    ('untold_reads', 'untold', 'crossed_reads', 'IsLegal RecordsOwn'),
+    ('trimmed_more', 'trimmed_more 0 4', 'checkpoints_and_trim', 'IsLegal TrimsSpare DirectoryTrue FatesTrue LogAgrees MarksRest'),
+    ('unarchived_trim', 'unarchived', 'checkpoints_and_trim', 'IsLegal TrimsSpare FloorsStay CheckpointsTrue FatesTrue'),
+    ('played_more', 'played_more 1 0', 'checkpoints_and_trim', 'DirectoryTrue'),
+    ('replaced_page', 'replaced 0', 'checkpoints_and_trim', 'IsLegal CheckpointsTrue FatesTrue'),
+    ('another_layout', 'two_layouts', 'unit_joins', 'OneLayout'),
+    ('higher_seals', 'higher', 'carried_by_scan', 'LayoutsFollow'),
+]
+# changed steps of a run, and the claims that fail of each
+STEPS = [
+    ('viewless_asks', 'replied', '(with_client viewless 1)', 'hole_filled', 'Stands;Falls'),
+    ('knows_all_pages', 'replied', '(λ w. with_client (knows_log w) 1 w)', 'page_carried_down', 'GivesUp;GivesUp'),
+    ('reads_from_0', 'sends_reads', 'reads_low', 'plays_on_further', 'ReadsOn'),
+    ('emptied_log', 'ends_walks', 'emptied', 'two_keys', 'SyncsExact;SyncsExact'),
+    ('accepted_all', 'replied', '(replied_so accepted)', 'refusals', 'CausesRefuse;CausesRefuse;CausesRefuse;CausesRefuse;CausesRefuse;CausesRefuse'),
+    ('wrong_cause', 'replied', 'last_wrong', 'open_record', 'CausesTrue'),
+    ('wrong_trim', 'replied', 'last_wrong', 'past_trimmed', 'CausesTrue;CausesTrue'),
+    ('stuck_untrimmed', 'replied', 'untrimmed', 'rescue_and_trim', 'CausesTrue'),
+    ('none_there', 'replied', '(replied_so none_there)', 'unsure_then_fate', 'NonesTrue'),
+    ('closed_by_refusals', 'replied', '(with_client closed 0)', 'refusals', 'RefusalsKeep;RefusalsKeep;RefusalsKeep;RefusalsKeep;RefusalsKeep'),
+]
+WORLD_TESTS = 'store_after changed puts_of asks_in bound_in entries_fault replies_fault fault world_fails path_fails'
+STEP_TESTS = 'drain_ev tick_ev round_ev step_fails run_fails'
+
+
+def imports(runs):
+    """The lines that name what the runs compute by, and the words that open it."""
+    opened = rows.unfoldables()
+    by, words, have = {}, [], {}
+    for module, name in opened:
+        short = name if name not in have else '%s_%s' % (module.split('.')[-1].lower(), name)
+        have.setdefault(name, module)
+        words.append(short)
+        by.setdefault(module, []).append(name if short == name else '%s as %s' % (name, short))
+    by.setdefault('tg_protocol.specs.Worlds', []).append('replay')
+    print('use Rattle.std.proofs.Common.{◌≡◌, List, [], ◌∷◌, refl}')
+    print('use Rattle.std.specs.Prelude.{true, false}')
+    print('use Rattle.tg_model.specs.Stores.{store_after, changed}')
+    print('use Rattle.tg_model.specs.Traces.{puts_of}')
+    print('use Rattle.tg_model.specs.Verdicts.{asks_in, bound_in, entries_fault, replies_fault, fault}')
+    for module in by:
+        print('use Rattle.%s.{%s}' % (module, ', '.join(by[module])))
+    print('use Rattle.tg_law_examples.proofs.SevenKinds.{kinds}')
+    for file in sorted({RUNS[r] for r in runs}):
+        names = [r for r in runs if RUNS[r] == file]
+        print('use Rattle.tg_law_examples.proofs.%s.{%s}' % (file, ', '.join('%s_header, %s_script' % (r, r) for r in names)))
+    return ' '.join(words)
+
+
+def lemma(name, statement, opened):
+    print()
+    print('%s : %s' % (name, statement))
+    print('unfolding %s %s %s' % (opened, WORLD_TESTS, STEP_TESTS))
+    print('%s = refl' % name)
+
+
+def script(run):
+    return '%s_header %s_script' % (run, run)
+
+
+def world(run):
+    return '(replay kinds %s)' % script(run)
+
+
+def running():
+    print('-- Worked runs, at each step and line of which the claims hold.')
+    runs = sorted(set(HOLD) | set(WALKS) | set(PATHS) | set(OWN) | set(SETTLINGS))
+    opened = imports(runs)
+    print('use Rattle.tg_law_instances.proofs.Tests.{world_fails, path_fails}')
+    print('use Rattle.tg_law_instances.proofs.StepTests.{drain_ev, tick_ev, round_ev, step_fails, run_fails, failures, exact_at_end, own_at_end, settlings_of, log_stays}')
+    print('use Rattle.std.specs.Prelude.{take}')
+    print('use Rattle.tg_model.specs.Stores.{Rises}')
+    print('use Rattle.tg_protocol.specs.Holding.{EntriesOnce, LogStays}')
+    print('use Rattle.tg_law_instances.proofs.Tests.{W, rises, once}')
+    print('use Rattle.tg_law_instances.proofs.Sound.{rises_sound, once_sound, stays_sound}')
+    for run in HOLD:
+        lemma('holds_of_' + run, 'failures %s ≡ []' % script(run), opened)
+    for run in WALKS:
+        lemma('walks_of_' + run, 'exact_at_end %s ≡ (%d, true)' % (script(run), WALKS[run]), opened)
+    for run in PATHS:
+        lemma('paths_of_' + run, 'path_fails %s ≡ []' % world(run), opened)
+    for run in OWN:
+        lemma('own_of_' + run, 'own_at_end %s ≡ true' % script(run), opened)
+    for run in SETTLINGS:
+        lemma('settlings_of_' + run, 'settlings_of %s ≡ %s' % (script(run), SETTLINGS[run]), opened)
+
+
+    print()
+    print('-- And claims as they stand, by tests that prove them: of a run with a trim, before which and after which cells stay.')
+    print()
+    print('abbrev whole : W')
+    print('whole = replay kinds %s' % script(PROVED))
+    print()
+    print('abbrev front : W')
+    print('front = replay kinds %s_header (take 14 %s_script)' % (PROVED, PROVED))
+    for name, test, claim, by in (
+            ('rising', 'rises (history kinds whole)', 'Rises kinds (history kinds whole)', 'rises_sound (history kinds whole)'),
+            ('alone', 'once (entries_of (log kinds whole))', 'EntriesOnce kinds whole', 'once_sound whole'),
+            ('staying', 'log_stays front whole', 'LogStays kinds front whole', 'stays_sound front whole')):
+        lemma(name + '_test', test + ' ≡ true', opened)
+        print()
+        print('%s : %s' % (name, claim))
+        print('%s = %s %s_test' % (name, by, name))
+
+
+def listed(words):
+    return ' ∷ '.join(words.split() + ['[]'])
+
+
+# a run whose client asks again after two further updates, so that it reads on from where its view stands
+FURTHER = """
+abbrev plays_on_further_header : Header
+plays_on_further_header = view_plays_on_header
+
+abbrev plays_on_further_script : List (Line kinds)
+plays_on_further_script = view_plays_on_script ++
+    Happens (Commands 1 cmd.End) ∷
+    Update 0 (obj 16777216) (kind.Add (pos 1)) ∷
+    Settle ∷
+    Update 0 (obj 16777216) (kind.Add (pos 1)) ∷
+    Settle ∷
+    Happens (Commands 1 cmd.Begin) ∷
+    Happens (Commands 1 (cmd.Ask (obj 16777216) kind.Value)) ∷
+    Settle ∷ []"""
+
+
+def changed():
+    print('-- Changed worlds, and changed steps, of worked runs, and the claims that fail of them.')
+    runs = sorted(({w[2] for w in WORLDS} | {s[3] for s in STEPS} | {'crossed_reads', 'view_plays_on'}) - {'plays_on_further'})
+    opened = imports(runs)
+    print('use Rattle.tg_law_instances.proofs.Tests as claim')
+    print('use Rattle.tg_law_instances.proofs.Tests.{world_fails, path_fails}')
+    print('use Rattle.tg_law_instances.proofs.StepTests.{drain_ev, tick_ev, round_ev, step_fails, run_fails, changed_so, replied, ends_walks, sends_reads, log_stays, are_own}')
+    print('use Rattle.tg_law_instances.proofs.Changes.{%s}' % ', '.join(
+        ['doctored', 'copied', 'unheard', 'untold', 'trimmed_more as trims_more', 'unarchived', 'played_more as plays_more', 'replaced', 'two_layouts',
+         'higher', 'reads as reads_at', 'viewless', 'closed', 'with_client', 'knows_log', 'reads_low', 'emptied', 'replied_so', 'accepted', 'none_there as says_none', 'last_wrong', 'named_late', 'untrimmed', 'undecided', 'marked_less', 'commits_later']))
+    print('use Rattle.std.specs.Prelude.{◌++◌, pos}')
+    print('use Rattle.tg_base.specs.Clusters.{Header}')
+    print('use Rattle.tg_model.specs.declared.command.Command.TheVariants as cmd')
+    print('use Rattle.tg_model.specs.declared.command.Event.TheVariants.{Command as Commands}')
+    print('use Rattle.tg_protocol.specs.Worlds.{Line, Happens, Update, Settle}')
+    print('use Rattle.tg_law_examples.proofs.SevenKinds as kind')
+    print('use Rattle.tg_law_examples.proofs.Shown.{obj}')
+    print(FURTHER)
+    again = {'trimmed_more': 'trims_more', 'played_more': 'plays_more', 'none_there': 'says_none'}
+    for name, change, run, fail in WORLDS:
+        words = ' '.join(again.get(w, w) for w in change.split())
+        lemma(name, 'world_fails (%s %s) ≡ %s' % (words, world(run), listed(fail and ' '.join('claim.' + f for f in fail.split()))), opened)
+    lemma('read_off_path', 'path_fails (reads_at 1 40 %s) ≡ claim.ReadsOnPath ∷ []' % world('crossed_reads'), opened)
+    lemma('none_begun', 'are_own [] %s ≡ false' % world('crossed_reads'), opened)
+    lemma('cells_lost', 'log_stays %s (emptied %s) ≡ false' % (world('crossed_reads'), world('crossed_reads')), opened)
+    for name, which, change, run, fail in STEPS:
+        steps = ['(%s)' % listed(' '.join('claim.' + f for f in step.split())) for step in fail.split(';') if step]
+        lemma(name, 'changed_so %s %s %s ≡ %s' % (which, change.replace('none_there', 'says_none'), script(run), ' ∷ '.join(steps + ['[]'])), opened)
+
+
+if __name__ == '__main__':
+    {'running': running, 'changed': changed}[sys.argv[1]]()
