@@ -101,7 +101,7 @@ impl<K: Registry> Hosted<K> {
     /// The object after a write, which is played unless the base is past the position.
     /// An `Err` is want of memory.
     pub fn write(self, alloc: Global, write: &WriteOp, pos: Pos) -> Result<Hosted<K>, NoMemory>
-        requires { pos < 2 ^ 62 }
+        requires { pos + 1 < 2 ^ 64 }
         ensures kept { (b : told.Base (meaning_of K.Registry)) (s : Option K) (ns : List Noted) → KeepsHosted (meaning_of K.Registry) write.now.oid self b s ns → IfOk result (λ h. KeepsHosted (meaning_of K.Registry) write.now.oid h b (written_state (meaning_of K.Registry) pos write.now b s) (written_noted (meaning_of K.Registry) pos write.now b ns)) }
         ensures lawful { IsLawfulHosted (pos + 1) write.now.oid self → IfOk result (λ h. IsLawfulHosted (pos + 1) write.now.oid h) }
     {
@@ -120,7 +120,7 @@ impl<K: Registry> Hosted<K> {
         op: &Option<K::Op>,
         pos: Pos,
     ) -> Result<Hosted<K>, NoMemory>
-        requires reach { pos < 2 ^ 62 }
+        requires reach { pos + 1 < 2 ^ 64 }
         requires begun { self.upto ≤ pos }
         ensures kept { (b : told.Base (meaning_of K.Registry)) (s : Option K) (ns : List Noted) → KeepsHosted (meaning_of K.Registry) oid self b s ns → IfOk result (λ h. KeepsHosted (meaning_of K.Registry) oid h b (told.applied (meaning_of K.Registry) op.now s) (record { oid = oid; part = told.touched (meaning_of K.Registry) op.now; version = pos + 1 } ∷ ns)) }
         ensures lawful { IsLawfulHosted (pos + 1) oid self → IfOk result (λ h. IsLawfulHosted (pos + 1) oid h) }

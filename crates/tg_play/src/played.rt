@@ -56,7 +56,6 @@ impl<K: Registry> Played<K> {
         from: Pos,
         upto: Pos,
     ) -> Result<PlayEnd, NoMemory>
-        requires reach { upto ≤ 2 ^ 62 }
         requires rising { IsInOrder entries.now }
         requires decided { decisions.now.entries ≡ decisions_kept entries.now }
         requires begun { from ≡ self.old.upto }
@@ -93,7 +92,7 @@ impl<K: Registry> Played<K> {
         pos: Pos,
         entry: &Entry,
     ) -> Result<Option<Oid>, NoMemory>
-        requires { pos < 2 ^ 62 }
+        requires { pos + 1 < 2 ^ 64 }
         ensures stepped { (v : told.View (meaning_of K.Registry)) (es : List (ℕ × Entry)) → decisions.now.entries ≡ decisions_kept es → KeepsTo (meaning_of K.Registry) pos self.old v → IfOk result (λ missing. Stepped (meaning_of K.Registry) pos self.new v missing (told.step_at (meaning_of K.Registry) v es pos entry.now)) }
         ensures lawful { (bound : ℕ) → AreLawful bound self.old.objects → IfOk result (λ missing. StaysLawful bound pos missing self.new.objects) }
     {
@@ -146,7 +145,7 @@ impl<K: Registry> Played<K> {
         verdict: Verdict,
         writes: &[WriteOp],
     ) -> Result<Option<Oid>, NoMemory>
-        requires { pos < 2 ^ 62 }
+        requires { pos + 1 < 2 ^ 64 }
         ensures stepped { (v : told.View (meaning_of K.Registry)) (e : Entry) → writes_of e ≡ writes.now → KeepsTo (meaning_of K.Registry) pos self.old v → IfOk result (λ missing. Stepped (meaning_of K.Registry) pos self.new v missing (record_made (meaning_of K.Registry) v pos e needs (told_verdict verdict))) }
         ensures lawful { (bound : ℕ) → AreLawful bound self.old.objects → IfOk result (λ missing. StaysLawful bound pos missing self.new.objects) }
     {
@@ -197,7 +196,7 @@ impl<K: Registry> Played<K> {
 
     // Plays a record's writes.
     fn write_all(&mut self, alloc: Global, pos: Pos, writes: &[WriteOp]) -> Result<(), NoMemory>
-        requires { pos < 2 ^ 62 }
+        requires { pos + 1 < 2 ^ 64 }
         ensures rest { OnOk result (self.new ≡ record self.old { objects = self.new.objects }) }
         ensures objects { (v : told.View (meaning_of K.Registry)) → KeepsObjects (meaning_of K.Registry) self.old.objects v → OnOk result (KeepsObjects (meaning_of K.Registry) self.new.objects (told.write_all (meaning_of K.Registry) pos v writes.now)) }
         ensures lawful { AreLawful (pos + 1) self.old.objects → OnOk result (AreLawful (pos + 1) self.new.objects) }

@@ -42,7 +42,7 @@ pub fn write_all<K: Registry>(
     pos: Pos,
     writes: &[WriteOp],
 ) -> Result<(), NoMemory>
-    requires { pos < 2 ^ 62 }
+    requires { pos + 1 < 2 ^ 64 }
     ensures objects { (v : told.View (meaning_of K.Registry)) → KeepsObjects (meaning_of K.Registry) objects.old.entries v → OnOk result (KeepsObjects (meaning_of K.Registry) objects.new.entries (told.write_all (meaning_of K.Registry) pos v writes.now)) }
     ensures lawful { AreLawful (pos + 1) objects.old.entries → OnOk result (AreLawful (pos + 1) objects.new.entries) }
 {

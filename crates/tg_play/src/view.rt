@@ -1,6 +1,6 @@
 //! A client's view.
 
-ghost use Rattle.std.specs.Prelude.{◌≡◌, ◌≤◌, ◌^◌, ℕ, IfOk};
+ghost use Rattle.std.specs.Prelude.{◌≡◌, ℕ, IfOk};
 ghost use Rattle.std.specs.Option.{option_copied};
 ghost use Rattle.tg_base.specs.declared.marks.Part.TheVariants.{All};
 ghost use Rattle.tg_entry.specs.declared.entry.Entry.{Entry};
@@ -216,7 +216,6 @@ impl<K: Registry> View<K> {
         entries: &Entries,
         upto: Pos,
     ) -> Result<(View<K>, PlayEnd), NoMemory>
-        requires { upto ≤ 2 ^ 62 }
         ensures view { (v : told.View (meaning_of K.Registry)) → KeepsView (meaning_of K.Registry) self v → IfOk result (λ r. KeepsView (meaning_of K.Registry) r.0 (told.play (meaning_of K.Registry) v entries.now upto).view) }
         ensures came { (v : told.View (meaning_of K.Registry)) → KeepsView (meaning_of K.Registry) self v → IfOk result (λ r. r.1 ≡ (told.play (meaning_of K.Registry) v entries.now upto).came) }
     {

@@ -112,7 +112,7 @@ impl Versions {
     ///
     /// An `Err` is want of memory; nothing is left of the versions then.
     pub fn note(self, alloc: Global, oid: Oid, touch: &Part, pos: Pos) -> Result<Versions, NoMemory>
-        requires { pos < 2 ^ 62 }
+        requires { pos + 1 < 2 ^ 64 }
         ensures { (v : told.Versions) → Keeps self v → IfOk result (λ r. Keeps r (with_change v oid touch.now pos)) }
     {
         let versions = self.noted(alloc, oid, touch, pos + 1)?;
