@@ -68,20 +68,30 @@ fn stand_at(entries: &Entries, places: &[Pos]) -> bool {
     true
 }
 
-/// Members of the counter at 1, 3 and 8, of which 8 isn't known, an own record at 2, and a page at 6.
+/// Pages at 1, 3 and 6, and an own record at 2.
 fn some_known(alloc: Global) -> Result<Known, Fail> {
     let known = learn(alloc, Known::new(alloc), 1)?;
     let known = own(alloc, known, 2)?;
     let known = learn(alloc, known, 3)?;
-    let known = learn(alloc, known, 6)?;
-    taken(known.keep_members(alloc, COUNTER, &[1, 3, 8]))
+    learn(alloc, known, 6)
 }
 
-/// A member of another stream at 6.
-fn some_found(alloc: Global) -> Result<StreamPositions, Fail> {
-    let found = StreamPositions::new(alloc).keep(alloc, OTHER, &[6]);
+fn kept(
+    alloc: Global,
+    found: StreamPositions,
+    oid: Oid,
+    positions: &[Pos],
+) -> Result<StreamPositions, Fail> {
+    let found = found.keep(alloc, oid, positions);
     let found = found.map_err(|_| "memory")?;
     Ok(found)
+}
+
+/// Members of the counter at 1, 3 and 8, of which 8 isn't known, and one of another stream at 6.
+fn some_found(alloc: Global) -> Result<StreamPositions, Fail> {
+    let found = kept(alloc, StreamPositions::new(alloc), COUNTER, &[1, 3])?;
+    let found = kept(alloc, found, OTHER, &[6])?;
+    kept(alloc, found, COUNTER, &[8])
 }
 
 #[test]

@@ -1,5 +1,6 @@
 ghost use Rattle.std.specs.Prelude.{◌≡◌, true, IfOk};
 ghost use Rattle.tg_ckpt.specs.Saving.{AreSpelled};
+ghost use Rattle.tg_entry.specs.Drafts.{all_below};
 ghost use Rattle.tg_entry.specs.Format.{entry};
 
 use std::alloc::Global;
@@ -61,7 +62,8 @@ fn decoded(alloc: Global, item: Item) -> Result<Entry, EntryFault>
 
 // Entries at 1 and 3.
 fn log(alloc: Global, first: Item, second: Item) -> Result<Entries, EntryFault>
-    ensures { IfOk result (λ es. AreSpelled es) }
+    ensures spelled { IfOk result (λ es. AreSpelled es) }
+    ensures below { IfOk result (λ es. all_below 4 es ≡ true) }
 {
     let first = decoded(alloc, first)?;
     let second = decoded(alloc, second)?;
@@ -79,7 +81,7 @@ fn turn(
     gone: &[(Oid, Pos)],
 ) -> Result<RescueTurn, EntryFault> {
     let entries = log(alloc, first, second)?;
-    let turn = rescue_turn::<Directory>(alloc, &entries, gone, &[DIR], &[], 1)?;
+    let turn = rescue_turn::<Directory>(alloc, &entries, 4, gone, &[DIR], &[], 1)?;
     Ok(turn)
 }
 

@@ -1,6 +1,6 @@
 //! A client's view plays.
 
-ghost use Rattle.std.specs.Prelude.{◌≡◌, ◌^◌, Option, IfOk};
+ghost use Rattle.std.specs.Prelude.{◌≡◌, Option, IfOk};
 ghost use Rattle.tg_kind.specs.Of.{meaning_of};
 ghost use Rattle.tg_protocol.specs.Answers as told;
 ghost use Rattle.tg_protocol.specs.Clients.{Client, Work};
@@ -18,9 +18,6 @@ use tg_entry::Entries;
 use tg_kind::Registry;
 use tg_model::PlayEnd;
 use tg_play::{Base, View};
-
-// No position of a log is above it.
-const MOST: Pos = 1 << 62;
 
 // A new view of the hosted objects, which has played nothing. An `Err` is want of memory.
 fn new_view<K: Registry>(
@@ -58,7 +55,7 @@ fn view_or_new<K: Registry>(
 /// The client whose view has played these entries up to a target, and where the play came to. Where none was kept, a new
 /// view of the hosted objects begins.
 ///
-/// An `Err` is want of memory, or of numbers: no position is above 2^62.
+/// An `Err` is want of memory.
 pub fn played<K: Registry>(
     state: State<K>,
     alloc: Global,
@@ -69,9 +66,6 @@ pub fn played<K: Registry>(
     requires { AreSpelled entries.now }
     ensures { (r : Rest (meaning_of K.Registry)) (w : Work (meaning_of K.Registry)) → KeepsViewIf (meaning_of K.Registry) state.view r.view → w.trims ≡ trims.now → IfOk result (λ x. HasPlayed (meaning_of K.Registry) state r w entries.now target x.0 x.1) }
 {
-    if target > MOST {
-        return Err(NoMemory);
-    }
     let mut state = state;
     let kept = state.view;
     let objects = &state.objects;

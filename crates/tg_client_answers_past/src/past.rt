@@ -22,9 +22,6 @@ use tg_model::{PlayEnd, Refusal, What};
 use tg_past::{PastTurn, past_at};
 use tg_play::View;
 
-/// Past views reach up to here.
-const FAR: Pos = 1 << 62;
-
 /// The entries of the streams that are walked, below the tail. An `Err` is want of memory.
 fn entries<K: Registry>(state: &State<K>, alloc: Global, job: &Job<K>) -> Result<Entries, NoMemory>
     ensures entries { (r : Rest (meaning_of K.Registry)) (w : rules.Work (meaning_of K.Registry)) → KeepsJob (meaning_of K.Registry) job.now w → IfOk result (λ es. es ≡ rules.member_entries (meaning_of K.Registry) (client_of (meaning_of K.Registry) state.now r) w w.oids) }
@@ -35,7 +32,7 @@ fn entries<K: Registry>(state: &State<K>, alloc: Global, job: &Job<K>) -> Result
         .member_entries(alloc, &job.found, job.oids.as_slice(), job.tail)
 }
 
-/// What becomes of the ask. An `Err` is want of memory; and a position above 2^62 is given up.
+/// What becomes of the ask. An `Err` is want of memory.
 fn turn<K: Registry>(
     state: &State<K>,
     alloc: Global,
@@ -45,9 +42,6 @@ fn turn<K: Registry>(
 ) -> Result<PastTurn<K>, NoMemory>
     ensures { (r : Rest (meaning_of K.Registry)) (w : rules.Work (meaning_of K.Registry)) → KeepsJob (meaning_of K.Registry) job.now w → IfOk result (λ t. KeepsTurn (meaning_of K.Registry) t (views.past_at (meaning_of K.Registry) (rules.member_entries (meaning_of K.Registry) (client_of (meaning_of K.Registry) state.now r) w w.oids) w.trims w.oids state.now.objects oid at)) }
 {
-    if at > FAR {
-        return Err(NoMemory);
-    }
     let entries = entries(state, alloc, job)?;
     past_at(
         alloc,

@@ -1,6 +1,6 @@
 //! The rescue of a record.
 
-ghost use Rattle.std.specs.Prelude.{◌≡◌, ◌≤◌, ◌++◌, ◌∷◌, [], ℕ, OnOk, IfOk};
+ghost use Rattle.std.specs.Prelude.{◌≡◌, ◌≤◌, ◌++◌, ◌∷◌, [], ℕ, true, OnOk, IfOk};
 ghost use Rattle.tg_kind.specs.Of.{meaning_of};
 ghost use Rattle.tg_model.specs.declared.trace.What.TheVariants as marks;
 ghost use Rattle.tg_protocol.specs.Answers as told;
@@ -9,6 +9,7 @@ ghost use Rattle.tg_protocol.specs.Past as views;
 ghost use Rattle.tg_protocol.specs.Views as plays;
 ghost use Rattle.tg_protocol.specs.Words.{with_oid};
 ghost use Rattle.tg_rescue.specs.Answers.{told_turn};
+ghost use Rattle.tg_entry.specs.Drafts.{all_below};
 ghost use Rattle.tg_client_cells.specs.Words.{AreSpelled};
 ghost use Rattle.tg_client_work.specs.Tasks.{KeepsJob};
 ghost use Rattle.tg_client_state.specs.States.{Rest, client_of, KeepsViewIf, KeepsMoved};
@@ -23,20 +24,18 @@ use tg_kind::Registry;
 use tg_model::{Refusal, What};
 use tg_rescue::{RescueTurn, rescue_turn};
 
-/// A record below this position is rescued; the rules know none from there on.
-const FAR: Pos = 1 << 62;
-
 /// The entries of the streams that are walked, below the tail, and the client's own records. An `Err` is want of memory.
 fn entries<K: Registry>(state: &State<K>, alloc: Global, job: &Job<K>) -> Result<Entries, NoMemory>
     ensures entries { (r : Rest (meaning_of K.Registry)) (w : rules.Work (meaning_of K.Registry)) → KeepsJob (meaning_of K.Registry) job.now w → IfOk result (λ es. es ≡ rules.all_entries (meaning_of K.Registry) (client_of (meaning_of K.Registry) state.now r) w w.oids) }
     ensures spelled { IfOk result (λ es. AreSpelled es) }
+    ensures below { IfOk result (λ es. all_below job.now.tail es ≡ true) }
 {
     state
         .known
         .entries(alloc, &job.found, job.oids.as_slice(), job.tail)
 }
 
-/// A turn of the rescue. An `Err` is want of memory; and a position from 2^62 on is given up.
+/// A turn of the rescue. An `Err` is want of memory.
 fn turn<K: Registry>(
     state: &State<K>,
     alloc: Global,
@@ -45,13 +44,11 @@ fn turn<K: Registry>(
 ) -> Result<RescueTurn, NoMemory>
     ensures { (r : Rest (meaning_of K.Registry)) (w : rules.Work (meaning_of K.Registry)) → KeepsJob (meaning_of K.Registry) job.now w → IfOk result (λ t. told_turn (meaning_of K.Registry) t ≡ views.rescue_turn (meaning_of K.Registry) (rules.all_entries (meaning_of K.Registry) (client_of (meaning_of K.Registry) state.now r) w w.oids) w.trims w.oids state.now.objects at) }
 {
-    if at >= FAR {
-        return Err(NoMemory);
-    }
     let entries = entries(state, alloc, job)?;
     rescue_turn::<K>(
         alloc,
         &entries,
+        job.tail,
         job.trims.as_slice(),
         job.oids.as_slice(),
         state.objects.as_slice(),
@@ -223,7 +220,7 @@ fn after<K: Registry>(
 }
 
 /// What `rescue` comes to: the record at the position is told committed or not, after a decision record where it needs
-/// one, or the set of objects grows. An `Err` is want of memory, or of numbers; and a position from 2^62 on is given up.
+/// one, or the set of objects grows. An `Err` is want of memory, or of numbers.
 pub fn on_rescue<K: Registry>(
     state: State<K>,
     alloc: Global,

@@ -47,18 +47,15 @@ module _ (m : Meaning) where
       ∙ ap (λ (x : Option Entry). rules.entry_if m p x (entries_at cells ps)) (entry-same (cell_at cells p))
       ∙ ap (rules.entry_if m p (rules.cell_entry m (cell_at cells p))) (at-same cells ps)
 
-  members-same : (found kept : ByStream) (os : List Oid) → with_nums (positions_of found os) (positions_of kept os) ≡ with_nums (rules.positions_of m found os) (rules.positions_of m kept os)
-  members-same found kept os = ap (λ (l : List ℕ). with_nums l (positions_of kept os)) (of-same found os) ∙ ap (with_nums (rules.positions_of m found os)) (of-same kept os)
-
   all-same : (c : Client m) (w : Work m) (os : List Oid) (s : ℕ) → all_entries (known_by m c s) w.found os w.tail ≡ rules.all_entries m c w os
   all-same c w os s =
-      ap (λ (l : List ℕ). entries_at c.cells (below w.tail (with_nums c.own l))) (members-same w.found c.kept os)
-      ∙ at-same c.cells (rules.below m w.tail (with_nums c.own (rules.member_positions m c w os)))
+      ap (λ (l : List ℕ). entries_at c.cells (below w.tail (with_nums c.own l))) (of-same w.found os)
+      ∙ at-same c.cells (rules.below m w.tail (with_nums c.own (rules.member_positions m w os)))
 
   found-same : (c : Client m) (w : Work m) (os : List Oid) (s : ℕ) → member_entries (known_by m c s) w.found os w.tail ≡ rules.member_entries m c w os
   found-same c w os s =
-      ap (λ (l : List ℕ). entries_at c.cells (below w.tail l)) (members-same w.found c.kept os)
-      ∙ at-same c.cells (rules.below m w.tail (rules.member_positions m c w os))
+      ap (λ (l : List ℕ). entries_at c.cells (below w.tail l)) (of-same w.found os)
+      ∙ at-same c.cells (rules.below m w.tail (rules.member_positions m w os))
 
   page-same : (c : Cell) → is_page c ≡ replies.is_page m c
   page-same Junk = refl

@@ -1,5 +1,5 @@
 -- Positions by stream.
-use Rattle.std.proofs.Common.{◌≡◌, ℕ, ◌<◌, true, ◌||◌, List, [], ◌∷◌, Less, refl, sym, ap, subst, ◌∙◌, inl, inr, arith}
+use Rattle.std.proofs.Common.{◌≡◌, ℕ, ◌+◌, ◌-◌, ◌<◌, ◌≤◌, true, ◌||◌, List, [], ◌∷◌, length, get_or, drop, Less, refl, sym, ap, subst, ◌∙◌, inl, inr, arith}
 use Rattle.std.specs.Prelude.{unwrap_or}
 use Rattle.std.specs.List.{AllByRecursion}
 use Rattle.std.specs.List.Sorted.{IsStrictlySortedBy}
@@ -7,13 +7,13 @@ use Rattle.std.specs.BTreeMap.{insert_entry, is_at}
 use Rattle.std.specs.Map.{lookup, remove_entry, keys_of}
 use Rattle.std.proofs.lemmas.Bool.{cases_eq, cases_lt}
 use Rattle.std.proofs.lemmas.Bool.Decides.{nat_tests}
+use Rattle.std.proofs.lemmas.List.{drop_more}
 use Rattle.std.proofs.lemmas.Map.Keys.{sorted_head, sorted_tail}
 use Rattle.tg_base.specs.Orders.{oid_cmp}
 use Rattle.tg_base.specs.declared.ids.Oid.{Oid}
 use Rattle.tg_protocol.specs.Words.{has_num, with_nums}
 use Rattle.tg_client_cells.specs.Words.{ByStream, positions_in, with_positions, positions_of, any_has, is_within, within}
-use Rattle.tg_client_cells.specs.Gathered.{gathered}
-use Rattle.tg_client_cells.proofs.Unions.{rises, rises_union, filter_union, join, has_all}
+use Rattle.tg_client_cells.proofs.Unions.{rises, rises_union, filter_union, has_all}
 
 same-oid : (a b : Oid) → a.0 ≡ b.0 → a ≡ b
 same-oid a b e = ap (λ n. record { 0 = n }) e
@@ -91,12 +91,19 @@ pub rises_of : (xs : ByStream) (os : List Oid) → rises (positions_of xs os) �
 rises_of xs [] = refl
 rises_of xs (o ∷ os) = rises_union (positions_in xs o) (positions_of xs os) (rises_of xs os)
 
-pub gathered_is : (xs : ByStream) (os : List Oid) (low high : ℕ) (ps : List ℕ) → rises ps ≡ true → gathered xs os low high (within low high ps) ≡ within low high (with_nums (positions_of xs os) ps)
-gathered_is xs [] low high ps h = refl
-gathered_is xs (o ∷ os) low high ps h =
-    ap (with_nums (within low high (positions_in xs o))) (gathered_is xs os low high ps h)
-    ∙ sym (filter_union (is_within low high) (positions_in xs o) (with_nums (positions_of xs os) ps) (rises_union (positions_of xs os) ps h))
-    ∙ ap (within low high) (sym (join (positions_in xs o) (positions_of xs os) ps))
+gathered_first : (xs : ByStream) (o : Oid) (os : List Oid) (low high : ℕ) → with_nums (within low high (positions_in xs o)) (within low high (positions_of xs os)) ≡ within low high (positions_of xs (o ∷ os))
+gathered_first xs o os low high = sym (filter_union (is_within low high) (positions_in xs o) (positions_of xs os) (rises_of xs os))
+
+-- with the positions of one stream more, from the last on
+pub gathered_more : (xs : ByStream) (os : List Oid) (low high i : ℕ) (now next : List ℕ) → 0 < i → i ≤ length os → now ≡ within low high (positions_of xs (drop i os)) →
+    next ≡ with_nums (within low high (positions_in xs (get_or os (i - 1) (record { 0 = 0 })))) now → next ≡ within low high (positions_of xs (drop (i - 1) os))
+gathered_more xs os low high i now next some bound was put =
+    let o : Oid = get_or os (i - 1) (record { 0 = 0 }) in
+    let same : (i - 1) + 1 ≡ i = omega (arith, some) in
+    put
+    ∙ ap (with_nums (within low high (positions_in xs o))) (was ∙ ap (λ n. within low high (positions_of xs (drop n os))) (sym same))
+    ∙ gathered_first xs o (drop ((i - 1) + 1) os) low high
+    ∙ ap (λ (ps : List Oid). within low high (positions_of xs ps)) (sym (drop_more os (i - 1) (record { 0 = 0 }) (omega (arith, some, bound))))
 
 pub has_of : (p : ℕ) (xs : ByStream) (os : List Oid) → has_num p (positions_of xs os) ≡ any_has xs os p
 has_of p xs [] = refl

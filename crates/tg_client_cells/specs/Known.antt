@@ -8,16 +8,15 @@ use Rattle.tg_entry.specs.declared.entry.Entry.{Entry}
 use Rattle.tg_protocol.specs.Words.{has_num, with_num, with_nums, with_cell}
 use Rattle.tg_protocol.specs.Entries.{is_commit}
 use Rattle.tg_protocol.specs.Views.{Entries}
-use Rattle.tg_client_cells.specs.Words.{ByStream, with_positions, positions_of, below, cells_within, is_page, cell_entry, commits_by, entries_at, entries_from}
+use Rattle.tg_client_cells.specs.Words.{ByStream, positions_of, below, cells_within, is_page, cell_entry, commits_by, entries_at, entries_from}
 
 pub record Knowledge : Type 0 where
   pub cells : List (ℕ × Cell)  -- the known ones, by position
   pub own : List ℕ  -- positions of the client's own commit records
-  pub kept : ByStream  -- positions of members of hosted streams
   pub settled : ℕ  -- below it each known page is one of the client's own commit records
 
 abbrev pub nothing : Knowledge
-nothing = record { cells = []; own = []; kept = []; settled = 0 }
+nothing = record { cells = []; own = []; settled = 0 }
 
 -- Settled cells.
 
@@ -39,9 +38,6 @@ learnt k p c = record k { cells = with_cell k.cells p c; settled = min k.settled
 
 abbrev pub owned : Knowledge → ℕ → List ℕ → Knowledge
 owned k p d = record k { cells = with_cell k.cells p (Data d); own = with_num p k.own; settled = min k.settled p }
-
-abbrev pub keeping : Knowledge → Oid → List ℕ → Knowledge
-keeping k o ps = record k { kept = with_positions k.kept o ps }
 
 -- a walk from `lo` on has the cells
 abbrev pub lent : Knowledge → ℕ → Knowledge
@@ -72,12 +68,9 @@ given_up k upto = record k { cells = filter (keeps upto k.own) k.cells; settled 
 
 -- Entries.
 
--- the positions of the members of these streams, among those found and those kept
-abbrev pub member_positions : Knowledge → ByStream → List Oid → List ℕ
-member_positions k found os = with_nums (positions_of found os) (positions_of k.kept os)
-
+-- the positions of the members found of these streams, and of the client's own commit records
 abbrev pub all_positions : Knowledge → ByStream → List Oid → List ℕ
-all_positions k found os = with_nums k.own (member_positions k found os)
+all_positions k found os = with_nums k.own (positions_of found os)
 
 -- the entries below the tail: the members of these streams, and the client's own commit records
 abbrev pub all_entries : Knowledge → ByStream → List Oid → ℕ → Entries
@@ -85,7 +78,7 @@ all_entries k found os tail = entries_at k.cells (below tail (all_positions k fo
 
 -- those without its own records
 abbrev pub member_entries : Knowledge → ByStream → List Oid → ℕ → Entries
-member_entries k found os tail = entries_at k.cells (below tail (member_positions k found os))
+member_entries k found os tail = entries_at k.cells (below tail (positions_of found os))
 
 -- those from the settled position on
 abbrev pub new_entries : Knowledge → ByStream → List Oid → ℕ → Entries

@@ -1,5 +1,4 @@
 pub mod Words
-pub mod Gathered
 pub mod Pruned
 pub mod Known
 pub mod Walks

@@ -14,7 +14,7 @@ use Rattle.tg_client_cells.specs.Known.{Knowledge, keeps, all_entries, member_en
 
 -- what a client of the rules knows, where this much is settled
 abbrev pub known_by : (m : Meaning) → Client m → ℕ → Knowledge
-known_by m c s = record { cells = c.cells; own = c.own; kept = c.kept; settled = s }
+known_by m c s = record { cells = c.cells; own = c.own; settled = s }
 
 -- the words are the rules', for the kinds of any implementation
 pub record AsRuled (m : Meaning) : Type 0 where

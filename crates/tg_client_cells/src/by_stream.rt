@@ -5,8 +5,7 @@ ghost use Rattle.std.specs.BTreeMap.{is_at};
 ghost use Rattle.std.specs.Map.{remove_entry};
 ghost use Rattle.tg_base.specs.Orders.{oid_cmp};
 ghost use Rattle.tg_protocol.specs.Words.{has_num, with_nums};
-ghost use Rattle.tg_client_cells.specs.Words.{positions_in, with_positions, any_has, within};
-ghost use Rattle.tg_client_cells.specs.Gathered.{gathered};
+ghost use Rattle.tg_client_cells.specs.Words.{positions_in, with_positions, positions_of, any_has, within};
 
 use crate::positions::Positions;
 use std::alloc::Global;
@@ -91,25 +90,24 @@ impl StreamPositions {
         }
     }
 
-    /// Puts the positions of these streams, from `low` on and below `high`, to others. Where memory runs out, all are
-    /// given up.
+    /// The positions of these streams, from `low` on and below `high`.
     pub fn gather(
         &self,
+        alloc: Global,
         streams: &[Oid],
         low: Pos,
         high: Pos,
-        positions: Positions,
     ) -> Result<Positions, NoMemory>
-        ensures { IfOk result (λ p. p ≡ gathered self.now streams.now low high positions) }
+        ensures { IfOk result (λ p. p ≡ within low high (positions_of self.now streams.now)) }
     {
-        let mut positions = positions;
+        let mut positions = Positions::new(alloc);
         for at in (0..streams.len()).rev() {
             positions = self.gather_one(streams[at], low, high, positions)?;
         }
         Ok(positions)
     }
 
-    /// Likewise those of one stream.
+    /// Puts those of one stream to others. Where memory runs out, all are given up.
     fn gather_one(
         &self,
         oid: Oid,

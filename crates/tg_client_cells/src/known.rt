@@ -1,10 +1,11 @@
 //! What a client knows of the log.
 
-ghost use Rattle.std.specs.Prelude.{◌≡◌, [], max, min, filter, option_copied, IfOk, if◌then◌else◌, nat_lt, ◌&&◌, ◌||◌, None};
+ghost use Rattle.std.specs.Prelude.{◌≡◌, [], true, max, min, filter, option_copied, IfOk, if◌then◌else◌, nat_lt, ◌&&◌, ◌||◌, None};
 ghost use Rattle.tg_protocol.specs.Words.{cell_at, with_nums, has_num};
 ghost use Rattle.tg_protocol.specs.Past.{commit_at};
-ghost use Rattle.tg_client_cells.specs.Words.{within, any_has, entries_at, AreSpelled};
-ghost use Rattle.tg_client_cells.specs.Known.{nothing, learnt, owned, keeping, lent, returned, given_up, settled_after, settles_to, IsSettled, member_positions, all_positions, all_entries, member_entries, new_entries, CommitsBelow};
+ghost use Rattle.tg_entry.specs.Drafts.{all_below};
+ghost use Rattle.tg_client_cells.specs.Words.{positions_of, within, any_has, entries_at, AreSpelled};
+ghost use Rattle.tg_client_cells.specs.Known.{nothing, learnt, owned, lent, returned, given_up, settled_after, settles_to, IsSettled, all_positions, all_entries, member_entries, new_entries, CommitsBelow};
 
 use crate::by_stream::StreamPositions;
 use crate::entries::{commit_at, entries_at};
@@ -18,15 +19,14 @@ use tg_base::{Blob, Cell, NoMemory, Oid, Pos};
 use tg_entry::{Entries, Entry};
 use tg_stream::Cells;
 
-/// Known cells, the positions of the client's own commit records, those of the members of the streams that it hosts,
-/// and a position up to which cells are settled: below it each known page is one of the client's own commit records.
+/// Known cells, the positions of the client's own commit records, and a position up to which cells are settled: below
+/// it each known page is one of the client's own commit records.
 ///
-/// Own records, junk and kept positions are never given up. What a command does goes by what is known from the settled
+/// Own records and junk are never given up. What a command does goes by what is known from the settled
 /// position on, so a history costs it nothing.
 pub struct Known {
     cells: BTreeMap<u64, Cell>,
     own: Positions,
-    kept: StreamPositions,
     settled: Pos,
 }
 
@@ -36,7 +36,6 @@ impl Drop for Known {
         let Known {
             cells: _,
             own: _,
-            kept: _,
             settled: _,
         } = self;
     }
@@ -47,7 +46,7 @@ impl Model for Known {
 
     ghost Value = { Knowledge };
 
-    ghost view = { λ k. record { cells = k.cells.entries; own = k.own; kept = k.kept; settled = k.settled } };
+    ghost view = { λ k. record { cells = k.cells.entries; own = k.own; settled = k.settled } };
 
     ghost invariant = { λ k. IsSettled k.own k.settled k.cells.entries };
 }
@@ -60,7 +59,6 @@ impl Known {
         Known {
             cells: BTreeMap::new(alloc),
             own: Positions::new(alloc),
-            kept: StreamPositions::new(alloc),
             settled: 0,
         }
     }
@@ -79,13 +77,6 @@ impl Known {
         self.settled
     }
 
-    /// The positions of the members of hosted streams.
-    pub fn kept(&self) -> &StreamPositions
-        ensures { result.now ≡ self.now.kept }
-    {
-        &self.kept
-    }
-
     /// The cell at a position becomes known. Where memory runs out, all is given up.
     pub fn learn(self, pos: Pos, cell: Cell) -> Result<Known, NoMemory>
         ensures { IfOk result (λ k. k ≡ learnt self pos cell) }
@@ -93,14 +84,12 @@ impl Known {
         let Known {
             mut cells,
             own,
-            kept,
             settled,
         } = self;
         cells.insert(pos, cell)?;
         Ok(Known {
             cells,
             own,
-            kept,
             settled: settled.min(pos),
         })
     }
@@ -113,7 +102,6 @@ impl Known {
         let Known {
             mut cells,
             own,
-            kept,
             settled,
         } = self;
         cells.insert(pos, Cell::Data(page))?;
@@ -121,27 +109,7 @@ impl Known {
         Ok(Known {
             cells,
             own,
-            kept,
             settled: settled.min(pos),
-        })
-    }
-
-    /// Members of a hosted stream are kept, with those that are kept already. Where memory runs out, all is given up.
-    pub fn keep_members(self, alloc: Global, oid: Oid, positions: &[Pos]) -> Result<Known, NoMemory>
-        ensures { IfOk result (λ k. k ≡ keeping self oid positions.now) }
-    {
-        let Known {
-            cells,
-            own,
-            kept,
-            settled,
-        } = self;
-        let kept = kept.keep(alloc, oid, positions)?;
-        Ok(Known {
-            cells,
-            own,
-            kept,
-            settled,
         })
     }
 
@@ -175,7 +143,6 @@ impl Known {
         let Known {
             mut cells,
             own,
-            kept,
             settled,
         } = self;
         let all = all_commit(alloc, &cells, &own, settled, upto)?;
@@ -183,13 +150,11 @@ impl Known {
         Ok(Known {
             cells,
             own,
-            kept,
             settled: settled_after(all, settled, upto),
         })
     }
 
-    /// The entries below a tail: those of the members of these streams, among the positions found and those kept, and
-    /// the client's own commit records. Each has a spelling, since it was read from a page. It goes over all that is known.
+    /// The entries below a tail: those of the members found of these streams, and the client's own commit records. Each has a spelling, since it was read from a page. It goes over all that is known.
     pub fn entries(
         &self,
         alloc: Global,
@@ -199,6 +164,7 @@ impl Known {
     ) -> Result<Entries, NoMemory>
         ensures entries { IfOk result (λ es. es ≡ all_entries self.now found.now streams.now tail) }
         ensures spelled { IfOk result (λ es. AreSpelled es) }
+        ensures below { IfOk result (λ es. all_below tail es ≡ true) }
     {
         let positions = self.positions(alloc, found, streams, 0, tail)?;
         entries_at(alloc, &self.cells, &positions)
@@ -215,7 +181,7 @@ impl Known {
         ensures entries { IfOk result (λ es. es ≡ member_entries self.now found.now streams.now tail) }
         ensures spelled { IfOk result (λ es. AreSpelled es) }
     {
-        let positions = self.members(alloc, found, streams, 0, tail)?;
+        let positions = found.gather(alloc, streams, 0, tail)?;
         entries_at(alloc, &self.cells, &positions)
     }
 
@@ -275,34 +241,12 @@ impl Known {
 
     /// Likewise wherever the tail is.
     fn has_any(&self, found: &StreamPositions, streams: &[Oid], pos: Pos) -> bool
-        ensures { result ≡ (has_num pos self.now.own || (any_has found.now streams.now pos || any_has self.now.kept streams.now pos)) }
+        ensures { result ≡ (has_num pos self.now.own || any_has found.now streams.now pos) }
     {
-        self.own.has(pos) || self.has_member(found, streams, pos)
+        self.own.has(pos) || found.any_has(streams, pos)
     }
 
-    /// Likewise without the own records.
-    fn has_member(&self, found: &StreamPositions, streams: &[Oid], pos: Pos) -> bool
-        ensures { result ≡ (any_has found.now streams.now pos || any_has self.now.kept streams.now pos) }
-    {
-        found.any_has(streams, pos) || self.kept.any_has(streams, pos)
-    }
-
-    /// The positions of members, from `low` on and below `high`.
-    fn members(
-        &self,
-        alloc: Global,
-        found: &StreamPositions,
-        streams: &[Oid],
-        low: Pos,
-        high: Pos,
-    ) -> Result<Positions, NoMemory>
-        ensures { IfOk result (λ p. p ≡ within low high (member_positions self.now found.now streams.now)) }
-    {
-        let kept = self.kept.gather(streams, low, high, Positions::new(alloc))?;
-        found.gather(streams, low, high, kept)
-    }
-
-    /// Likewise with those of the own records.
+    /// The positions of these streams' members and of the own records, from `low` on and below `high`.
     fn positions(
         &self,
         alloc: Global,
@@ -313,7 +257,7 @@ impl Known {
     ) -> Result<Positions, NoMemory>
         ensures { IfOk result (λ p. p ≡ within low high (all_positions self.now found.now streams.now)) }
     {
-        let members = self.members(alloc, found, streams, low, high)?;
+        let members = found.gather(alloc, streams, low, high)?;
         members.put_within(&self.own, low, high)
     }
 }

@@ -1,5 +1,5 @@
-//! What a client knows of the log: cells, the positions of its own commit records and of the members of the streams
-//! that it hosts, the entries that these make, and what a reply gives up.
+//! What a client knows of the log: cells, the positions of its own commit records, the members that a command's walks
+//! found, the entries that these make, and what a reply gives up.
 #![tactic(auto)]
 
 mod by_stream;

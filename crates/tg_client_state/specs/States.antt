@@ -46,7 +46,6 @@ module _ (m : Meaning) where
     cells = s.known.cells;
     hosted = s.hosted;
     view = r.view;
-    kept = s.known.kept;
     own = s.known.own;
     dir = s.dir;
     played = r.played;

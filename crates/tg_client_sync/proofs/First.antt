@@ -9,7 +9,6 @@ use Rattle.tg_base.specs.declared.ids.Oid.{Oid}
 use Rattle.tg_base.specs.declared.packet.Out.{Out}
 use Rattle.tg_base.specs.declared.packet.Rids.{Rids}
 use Rattle.tg_kind.specs.Meaning.{Meaning}
-use Rattle.tg_protocol.specs.Words.{has_oid}
 use Rattle.tg_protocol.specs.Entries.{backs_of, link_of}
 use Rattle.tg_protocol.specs.Requests.{Next}
 use Rattle.tg_protocol.specs.Walking.{Walk, Members, WalkTurn, walk_asks, walk_start}
@@ -21,7 +20,7 @@ use Rattle.tg_stream.specs.declared.step.Next.TheVariants as given
 use Rattle.tg_stream.specs.declared.members.Members.{Members as GivenEnd}
 use Rattle.tg_stream.specs.Turns.{shown, by_walk, given_to, new_asks}
 use Rattle.tg_stream.specs.Walks.{Course, members_of}
-use Rattle.tg_client_cells.specs.Known.{Knowledge, IsSettled, lent}
+use Rattle.tg_client_cells.specs.Known.{Knowledge, IsSettled, lent, returned}
 use Rattle.tg_client_cells.specs.Walks.{ThenSettled, ThenInOrder}
 use Rattle.tg_client_cells.proofs.Keeping.{keeps_settled}
 use Rattle.tg_client_cells.proofs.Ordered.{finds_in_order}
@@ -33,9 +32,9 @@ use Rattle.tg_client_state.specs.States.{StateOf, Rest, client_of, KeepsViewIf}
 use Rattle.tg_client_moves.specs.Moves.{Holds, Carries}
 use Rattle.tg_client_moves.specs.Steps.{Fits}
 use Rattle.tg_client_moves.proofs.Turning.{ThenSent, fits_later}
-use Rattle.tg_client_sync.specs.Finding.{came_back, found_in, first_and_others}
+use Rattle.tg_client_sync.specs.Finding.{found_in, first_and_others}
 use Rattle.tg_client_sync.proofs.Strides.{on_case, paused_case, over_case, new_sent}
-use Rattle.tg_client_sync.proofs.Founds.{starts_not, starts_alone, came, found_job, first_goes, first_ends}
+use Rattle.tg_client_sync.proofs.Founds.{starts_not, starts_alone, found_job, first_goes, first_ends}
 
 -- Lists by their first element.
 
@@ -143,7 +142,7 @@ module _ (m : Meaning) where
   pub walk_known : (P : Moved m → Type 0) (s : StateOf m) (j : JobOf m) (o : Oid) (os : List Oid) (now : ℕ) (step : Step Walk Course GivenEnd) (x : GivenEnd) (r : Rest m) (w : told.Work m) →
       step.next ≡ given.Ends x → KeepsJob m j w →
       shown step now ≡ by_walk s.rids.next (walk_start s.stand o (backs_of (link_of o j.lasts)) j.lo s.known.cells s.rids.next) →
-      (KeepsJob m (found_in m j o x.list x.gone) (found_by m w o (members_of x)) → P (walks m os (client_of m (record s { known = came_back (has_oid o s.hosted) (lent s.known j.lo) o x.list x.cells }) r) (found_by m w o (members_of x)))) →
+      (KeepsJob m (found_in m j o x.list x.gone) (found_by m w o (members_of x)) → P (walks m os (client_of m (record s { known = returned (lent s.known j.lo) x.cells }) r) (found_by m w o (members_of x)))) →
       P (walks m (o ∷ os) (client_of m s r) w)
   walk_known P s j o os now step x r w is hj e f =
       let t : WalkTurn = walk_start s.stand o (backs_of (link_of o j.lasts)) j.lo s.known.cells s.rids.next in
@@ -151,8 +150,7 @@ module _ (m : Meaning) where
       over_case (λ to. t.to ≡ to → P (walks m (o ∷ os) (client_of m s r) w)) (members_of x) t.to (sym (ap given_to is) ∙ ap (λ v. v.to) e)
       (λ q.
       subst P (sym (first_ends m (client_of m s r) w o os (members_of x) (sym (ap (λ (u : WalkTurn). u.to) same) ∙ q)))
-      (subst (λ c. P (walks m os c (found_by m w o (members_of x)))) (sym (came m (record s { known = lent s.known j.lo }) r o (members_of x)))
-      (f (found_job m j w o (members_of x) hj)))) refl
+      (f (found_job m j w o (members_of x) hj))) refl
 
   -- By what the calls give.
 
@@ -176,14 +174,13 @@ module _ (m : Meaning) where
       (ends_settled u.stand o (backs_of (link_of o j.lasts)) (lent s.known j.lo) j.lo cells u.rids.next now step x (least-low s.known j.lo) settled is e)
 
   pub known_at : (P : Moved m → Type 0) (s u v : StateOf m) (cells : List (ℕ × Cell)) (j k : JobOf m) (o : Oid) (os xs : List Oid) (now : ℕ) (step : Step Walk Course GivenEnd) (ps : List ℕ) (x : GivenEnd) (r : Rest m) (w : told.Work m) (old : ℕ) →
-      first_and_others xs ≡ Some (o, os) → cells ≡ s.known.cells → u ≡ record s { known = lent s.known j.lo } → ps ≡ x.list → v ≡ record u { known = came_back (has_oid o u.hosted) u.known o ps x.cells } → k ≡ found_in m j o ps x.gone →
+      first_and_others xs ≡ Some (o, os) → cells ≡ s.known.cells → u ≡ record s { known = lent s.known j.lo } → ps ≡ x.list → v ≡ record u { known = returned u.known x.cells } → k ≡ found_in m j o ps x.gone →
       step.next ≡ given.Ends x → Holds m s j r w old → shown step now ≡ by_walk u.rids.next (walk_start u.stand o (backs_of (link_of o j.lasts)) j.lo cells u.rids.next) →
       (Holds m v k r (found_by m w o (members_of x)) old → P (walks m os (client_of m v r) (found_by m w o (members_of x)))) →
       P (walks m xs (client_of m s r) w)
   known_at P s u v cells j k o os xs now step ps x r w old hx hc hs hp hu hj is h e f =
-      let hv : v ≡ record u { known = came_back (has_oid o u.hosted) u.known o x.list x.cells } = hu ∙ ap (λ (qs : List ℕ). record u { known = came_back (has_oid o u.hosted) u.known o qs x.cells }) hp in
       let hk : k ≡ found_in m j o x.list x.gone = hj ∙ ap (λ (qs : List ℕ). found_in m j o qs x.gone) hp in
-      let full : v ≡ record s { known = came_back (has_oid o s.hosted) (lent s.known j.lo) o x.list x.cells } = hv ∙ ap (λ (y : StateOf m). record y { known = came_back (has_oid o y.hosted) y.known o x.list x.cells }) hs in
+      let full : v ≡ record s { known = returned (lent s.known j.lo) x.cells } = hu ∙ ap (λ (y : StateOf m). record y { known = returned y.known x.cells }) hs in
       subst (λ (ys : List Oid). P (walks m ys (client_of m s r) w)) (sym (by_first xs o os hx))
       (walk_known P s j o os now step x r w is h.job
       (subst (λ (cs : List (ℕ × Cell)). shown step now ≡ by_walk s.rids.next (walk_start s.stand o (backs_of (link_of o j.lasts)) j.lo cs s.rids.next)) hc

@@ -4,18 +4,17 @@ use Rattle.tg_base.specs.Layouts.{Layout}
 use Rattle.tg_base.specs.declared.cell.Cell.{Cell}
 use Rattle.tg_base.specs.declared.ids.Oid.{Oid}
 use Rattle.tg_kind.specs.Meaning.{Meaning}
-use Rattle.tg_protocol.specs.Words.{has_oid, cell_at}
+use Rattle.tg_protocol.specs.Words.{cell_at}
 use Rattle.tg_protocol.specs.Requests.{Next, Goes, Learns, Ends}
 use Rattle.tg_protocol.specs.Cells.{place_in, get_cell}
 use Rattle.tg_protocol.specs.Walking.{Walk, Members, WalkTurn, walk_on, walk_start, visited, reads_turn, next_visit, steps_left, trail}
 use Rattle.tg_protocol.specs.Answers.{Moved, moved, walked}
 use Rattle.tg_protocol.specs.Clients as told
-use Rattle.tg_protocol.specs.ClientSteps.{kept_if, with_members, trims_with, found_by, lends, after_turn, goes_on, start_walk, walks}
+use Rattle.tg_protocol.specs.ClientSteps.{takes_back, trims_with, found_by, lends, after_turn, goes_on, start_walk, walks}
 use Rattle.tg_stream.proofs.Visits.{on-none, on-known, on-unknown, on-zero}
 use Rattle.tg_client_cells.proofs.Ruled.{as_ruled}
 use Rattle.tg_client_work.specs.Tasks.{JobOf, work_of, KeepsJob}
-use Rattle.tg_client_state.specs.States.{StateOf, Rest, client_of}
-use Rattle.tg_client_sync.specs.Finding.{came_back, trims_after, found_in}
+use Rattle.tg_client_sync.specs.Finding.{trims_after, found_in}
 
 -- A walk that begins over known cells has no newer layout to learn.
 
@@ -72,14 +71,6 @@ starts_alone p o lasts lo cells n =
     on-alone p n (steps_left (next_visit begun)) begun
 
 module _ (m : Meaning) where
-  came-if : (b : Bool) (s : StateOf m) (r : Rest m) (o : Oid) (x : Members) →
-      kept_if m b (record (client_of m s r) { cells = x.cells }) o x.list ≡ client_of m (record s { known = came_back b s.known o x.list x.cells }) r
-  came-if true s r o x = ap (λ k. record (client_of m s r) { cells = x.cells; kept = k }) (sym ((as_ruled m).with_positions s.known.kept o x.list))
-  came-if false s r o x = refl
-
-  pub came : (s : StateOf m) (r : Rest m) (o : Oid) (x : Members) → with_members m (client_of m s r) o x ≡ client_of m (record s { known = came_back (has_oid o s.hosted) s.known o x.list x.cells }) r
-  came s r o x = came-if (has_oid o s.hosted) s r o x
-
   trims-same : (ts : List (Oid × ℕ)) (o : Oid) (g : Option ℕ) → trims_with m ts o g ≡ trims_after ts o g
   trims-same ts o None = refl
   trims-same ts o (Some b) = refl
@@ -95,7 +86,7 @@ module _ (m : Meaning) where
   first-walk c w o os y = elim y as (λ _. Moved m) [
     | Goes x ↦ goes_on m (lends m (after_turn m c (start_walk m c w o))) w (told.Walking x os) []
     | Learns x ↦ moved m c []
-    | Ends x ↦ walks m os (with_members m c o x) (found_by m w o x)
+    | Ends x ↦ walks m os (takes_back m c x) (found_by m w o x)
   ]
 
   pub none_left : (c : told.Client m) (w : told.Work m) → walked m c w ≡ walks m [] c w
@@ -108,6 +99,6 @@ module _ (m : Meaning) where
   first_goes c w o os x e = ap (first-walk c w o os) e
 
   pub first_ends : (c : told.Client m) (w : told.Work m) (o : Oid) (os : List Oid) (x : Members) → (start_walk m c w o).to ≡ Ends x →
-      walks m (o ∷ os) c w ≡ walks m os (with_members m c o x) (found_by m w o x)
+      walks m (o ∷ os) c w ≡ walks m os (takes_back m c x) (found_by m w o x)
   unfolding walks first-walk
   first_ends c w o os x e = ap (first-walk c w o os) e

@@ -2,28 +2,17 @@
 
 ghost use Rattle.std.specs.Prelude.{◌≡◌, IfOk};
 ghost use Rattle.tg_kind.specs.Of.{meaning_of};
-ghost use Rattle.tg_protocol.specs.Words.{has_oid};
-ghost use Rattle.tg_client_cells.specs.Known.{IsSettled, lent};
-ghost use Rattle.tg_client_sync.specs.Finding.{trims_after, found_in, came_back, first_and_others};
+ghost use Rattle.tg_client_cells.specs.Known.{IsSettled, lent, returned};
+ghost use Rattle.tg_client_sync.specs.Finding.{trims_after, found_in, first_and_others};
 
 use std::alloc::Global;
 use std::mem;
 use tg_base::{List, NoMemory, Oid, Pos};
-use tg_client_cells::{Known, StreamPositions};
+use tg_client_cells::StreamPositions;
 use tg_client_state::State;
 use tg_client_work::Job;
 use tg_kind::Registry;
 use tg_stream::Cells;
-
-/// Whether an object is one of these. It takes no memory.
-fn is_among(oids: &[Oid], oid: Oid) -> bool
-    ensures { result ≡ has_oid oid oids.now }
-{
-    match oids {
-        [] => false,
-        [first, others @ ..] => first.0 == oid.0 || is_among(others, oid),
-    }
-}
 
 /// The first stream, and the others. It takes no memory.
 #[tactic(auto, using(crate::proofs::First::none_of, crate::proofs::First::some_of))]
@@ -51,42 +40,16 @@ pub fn lend<K: Registry>(state: State<K>, alloc: Global, lo: Pos) -> (State<K>, 
     (state, cells)
 }
 
-/// The cells come back from a walk, and the members that it has found are kept where the stream is hosted.
-fn come_back(
-    known: Known,
-    alloc: Global,
-    is_hosted: bool,
-    oid: Oid,
-    list: &[Pos],
-    cells: Cells,
-) -> Result<Known, NoMemory>
-    requires { IsSettled known.own known.settled cells }
-    ensures { IfOk result (λ k. k ≡ came_back is_hosted known oid list.now cells) }
-{
-    let mut known = known;
-    known.take_back(cells);
-    if is_hosted {
-        return known.keep_members(alloc, oid, list);
-    }
-    Ok(known)
-}
-
-/// Likewise of a client. An `Err` is want of memory.
-pub fn take_back<K: Registry>(
-    state: State<K>,
-    alloc: Global,
-    oid: Oid,
-    list: &[Pos],
-    cells: Cells,
-) -> Result<State<K>, NoMemory>
+/// The cells come back from a walk. It takes no memory.
+pub fn take_back<K: Registry>(state: State<K>, cells: Cells) -> State<K>
     requires { IsSettled state.known.own state.known.settled cells }
-    ensures { IfOk result (λ s. s ≡ record state { known = came_back (has_oid oid state.hosted) state.known oid list.now cells }) }
+    ensures { result ≡ record state { known = returned state.known cells } }
 {
-    let is_hosted = is_among(state.hosted.as_slice(), oid);
     let mut state = state;
-    let known = come_back(state.known, alloc, is_hosted, oid, list, cells)?;
+    let mut known = state.known;
+    known.take_back(cells);
     state.known = known;
-    Ok(state)
+    state
 }
 
 /// What a walk has found, and where it met a trim. An `Err` is want of memory.

@@ -1,17 +1,16 @@
 //! Streams are walked one after the other.
 
-ghost use Rattle.std.specs.Prelude.{◌≡◌, ℕ, ◌==◌, IfOk};
+ghost use Rattle.std.specs.Prelude.{◌≡◌, ℕ, Some, IfOk};
 ghost use Rattle.tg_kind.specs.Of.{meaning_of};
 ghost use Rattle.tg_protocol.specs.Answers as synced_by;
 ghost use Rattle.tg_protocol.specs.Clients as told;
 ghost use Rattle.tg_protocol.specs.ClientSteps as steps;
 ghost use Rattle.tg_protocol.specs.Walking.{WalkTurn, Members as ToldMembers, walk_start};
 ghost use Rattle.tg_protocol.specs.Entries.{backs_of, link_of};
-ghost use Rattle.tg_protocol.specs.Words.{has_oid};
 ghost use Rattle.tg_stream.specs.Turns.{shown, by_walk};
-ghost use Rattle.tg_client_sync.specs.Finding.{came_back, found_in};
+ghost use Rattle.tg_client_sync.specs.Finding.{found_in};
 ghost use Rattle.tg_stream.specs.Walks.{members_of};
-ghost use Rattle.tg_client_cells.specs.Known.{IsSettled};
+ghost use Rattle.tg_client_cells.specs.Known.{IsSettled, returned};
 ghost use Rattle.tg_client_cells.specs.Walks.{InOrder};
 ghost use Rattle.tg_client_state.specs.States.{Rest, client_of, KeepsMoved};
 ghost use Rattle.tg_client_moves.specs.Moves.{Holds};
@@ -47,7 +46,7 @@ fn begins_walk<K: Registry>(
     Ok((step, rids))
 }
 
-/// The cells come back from a walk, and what it has found is kept.
+/// The cells come back from a walk, and the command has what it found.
 fn found<K: Registry>(
     state: State<K>,
     alloc: Global,
@@ -58,12 +57,11 @@ fn found<K: Registry>(
     cells: Cells,
 ) -> Result<(State<K>, Job<K>), NoMemory>
     requires { IsSettled state.known.own state.known.settled cells }
-    ensures state { IfOk result (λ f. f.0 ≡ record state { known = came_back (has_oid oid state.hosted) state.known oid list.now cells }) }
+    ensures state { IfOk result (λ f. f.0 ≡ record state { known = returned state.known cells }) }
     ensures job { IfOk result (λ f. f.1 ≡ found_in (meaning_of K.Registry) job oid list.now gone) }
 {
     let job = finds(job, alloc, oid, list, gone)?;
-    let state = take_back(state, alloc, oid, list, cells)?;
-    Ok((state, job))
+    Ok((take_back(state, cells), job))
 }
 
 /// The streams are walked one after the other, each as far as known cells lead. Where all are walked the command goes
@@ -101,18 +99,17 @@ pub fn walks<K: Registry>(
     }
 }
 
-/// The kept view is given up. Unless all was walked from the beginning on, the walks start over.
+/// The walks start over from the first stream, down to 0; or else the other streams are walked.
 fn starts_over<K: Registry>(
     state: State<K>,
     alloc: Global,
     job: Job<K>,
     rest: List<Oid>,
+    is_over: bool,
 ) -> Result<Moved<K>, NoMemory>
-    ensures { (r : Rest (meaning_of K.Registry)) (w : told.Work (meaning_of K.Registry)) (old : ℕ) → Holds (meaning_of K.Registry) state job r w old → IfOk result (λ x. KeepsMoved (meaning_of K.Registry) old x (steps.starts_over (meaning_of K.Registry) (client_of (meaning_of K.Registry) state r) w rest (w.lo == 0))) }
+    ensures { (r : Rest (meaning_of K.Registry)) (w : told.Work (meaning_of K.Registry)) (old : ℕ) → Holds (meaning_of K.Registry) state job r w old → IfOk result (λ x. KeepsMoved (meaning_of K.Registry) old x (steps.starts_over (meaning_of K.Registry) (client_of (meaning_of K.Registry) state r) w rest is_over)) }
 {
-    let mut state = state;
-    state.view = None;
-    if job.lo == 0 {
+    if !is_over {
         return walks(state, alloc, job, rest);
     }
     let oids = copied(alloc, &job.oids)?;
@@ -135,7 +132,24 @@ fn syncs_again<K: Registry>(
     state.syncs(alloc, job, oids)
 }
 
-/// A walk has met a trim, and these are its members.
+/// The kept view was looked at: with a stale tail all begins with a sync again, else the walks start over or go on.
+fn goes_on_from<K: Registry>(
+    state: State<K>,
+    alloc: Global,
+    job: Job<K>,
+    rest: List<Oid>,
+    is_old: bool,
+    is_over: bool,
+) -> Result<Moved<K>, NoMemory>
+    ensures { (r : Rest (meaning_of K.Registry)) (w : told.Work (meaning_of K.Registry)) (old : ℕ) → Holds (meaning_of K.Registry) state job r w old → IfOk result (λ x. KeepsMoved (meaning_of K.Registry) old x (steps.at_trim (meaning_of K.Registry) (client_of (meaning_of K.Registry) state r) w rest is_old is_over)) }
+{
+    if is_old {
+        return syncs_again(state, alloc, job);
+    }
+    starts_over(state, alloc, job, rest, is_over)
+}
+
+/// A walk has met a trim, and these are its members: a kept view that ends below the trim is given up.
 fn at_trim<K: Registry>(
     state: State<K>,
     alloc: Global,
@@ -146,18 +160,17 @@ fn at_trim<K: Registry>(
     rest: List<Oid>,
 ) -> Result<Moved<K>, NoMemory>
     requires { InOrder list }
-    ensures { (r : Rest (meaning_of K.Registry)) (w : told.Work (meaning_of K.Registry)) (old : ℕ) (x : ToldMembers) → x.list ≡ list → Holds (meaning_of K.Registry) state job r w old → IfOk result (λ y. KeepsMoved (meaning_of K.Registry) old y (steps.at_trim (meaning_of K.Registry) (client_of (meaning_of K.Registry) state r) w rest below (steps.stale (meaning_of K.Registry) (client_of (meaning_of K.Registry) state r) w oid x below))) }
+    ensures { (r : Rest (meaning_of K.Registry)) (w : told.Work (meaning_of K.Registry)) (old : ℕ) (x : ToldMembers) → x.list ≡ list → Holds (meaning_of K.Registry) state job r w old → IfOk result (λ y. KeepsMoved (meaning_of K.Registry) old y (steps.walk_ended_by (meaning_of K.Registry) (client_of (meaning_of K.Registry) state r) w oid rest x (Some below))) }
 {
     let list = list.as_slice();
     let is_old = is_stale::<K>(&state.known, alloc, job.gone_before, oid, list, below)?;
-    if is_old {
-        return syncs_again(state, alloc, job);
+    if !gives_view_up(&state, &job.command, below) {
+        return goes_on_from(state, alloc, job, rest, is_old, false);
     }
-    let gives_up = gives_view_up(&state, &job.command, below);
-    if gives_up {
-        return starts_over(state, alloc, job, rest);
-    }
-    walks(state, alloc, job, rest)
+    let is_over = job.lo != 0;
+    let mut state = state;
+    state.view = None;
+    goes_on_from(state, alloc, job, rest, is_old, is_over)
 }
 
 /// The walk of a stream has ended.

@@ -1,6 +1,6 @@
 //! What a view at a past position is.
 
-ghost use Rattle.std.specs.Prelude.{◌≡◌, ◌≤◌, ◌^◌, true, IfOk};
+ghost use Rattle.std.specs.Prelude.{◌≡◌, true, IfOk};
 ghost use Rattle.tg_kind.specs.Headers.{is_header};
 ghost use Rattle.tg_kind.specs.Of.{meaning_of};
 ghost use Rattle.tg_protocol.specs.Past as told;
@@ -37,7 +37,6 @@ fn played<K: Registry>(
 ) -> Result<(View<K>, PlayEnd), NoMemory>
     requires spelled { AreSpelled entries.now }
     requires header { is_header objects.now ≡ true }
-    requires reach { pos ≤ 2 ^ 62 }
     ensures { IfOk result (λ r. PlayedOn (meaning_of K.Registry) r.0 r.1 (told.past_play (meaning_of K.Registry) entries.now gone.now oids.now objects.now pos)) }
 {
     let bases = past_bases(alloc, entries, gone, objects, oids, pos)?;
@@ -64,7 +63,6 @@ pub fn past_at<K: Registry>(
 ) -> Result<PastTurn<K>, NoMemory>
     requires spelled { AreSpelled entries.now }
     requires header { is_header objects.now ≡ true }
-    requires reach { pos ≤ 2 ^ 62 }
     ensures { IfOk result (λ t. KeepsTurn (meaning_of K.Registry) t (told.past_at (meaning_of K.Registry) entries.now gone.now oids.now objects.now oid pos)) }
 {
     match lost::<K>(alloc, entries, gone, oid, pos)? {

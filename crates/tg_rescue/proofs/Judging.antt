@@ -1,5 +1,5 @@
 -- What a view tells of a record is what the definitions' turn tells.
-use Rattle.std.specs.Prelude.{◌≡◌, ℕ, ◌+◌, Result, IfOk, Bool, cond, not, ◌&&◌, List, Option, Some, None, is_some, refl}
+use Rattle.std.specs.Prelude.{◌≡◌, ℕ, Bool, cond, not, ◌&&◌, List, Option, Some, None, is_some, refl}
 use Rattle.std.proofs.Common.{sym, ap, ◌∙◌}
 use Rattle.tg_base.specs.declared.ids.Oid.{Oid}
 use Rattle.tg_entry.specs.declared.entry.Entry.{Entry}
@@ -8,13 +8,9 @@ use Rattle.tg_model.specs.declared.play.PlayEnd.{PlayEnd}
 use Rattle.tg_model.specs.declared.play.PlayEnd.TheVariants.{Played, Blocked}
 use Rattle.tg_protocol.specs.Words.{has_oid}
 use Rattle.tg_protocol.specs.Entries.{needs_decision}
-use Rattle.tg_protocol.specs.Views.{Entries, decision_in, Verdict, Commits, Aborts, Unknown, View, Play, outcome, view_start, play}
-use Rattle.tg_protocol.specs.Checkpoints.{Trims, view_bases}
-use Rattle.tg_protocol.specs.Past.{RescueTurn, Absent, StuckAt, commit_at, record_block, entry_block, block_in, known_by, at_record, grows, rescue_by, rescue_played, rescue_turn}
-use Rattle.tg_rescue.specs.Answers.{stuck_or_absent, by_block, judged_by, told_turn}
-use Rattle.tg_play.specs.Kept.{Kept}
-use Rattle.tg_play.specs.Relations.{KeepsView}
-use Rattle.tg_rescue.specs.declared.rescue.RescueTurn as declared
+use Rattle.tg_protocol.specs.Views.{Entries, decision_in, Verdict, Commits, Aborts, Unknown, View, Play, outcome}
+use Rattle.tg_protocol.specs.Past.{RescueTurn, Absent, StuckAt, commit_at, record_block, entry_block, block_in, known_by, at_record, grows, rescue_by, rescue_played}
+use Rattle.tg_rescue.specs.Answers.{stuck_or_absent, by_block, judged_by}
 
 module _ (m : Meaning) where
   -- the definitions' turn, by the record that is there
@@ -83,13 +79,3 @@ module _ (m : Meaning) where
       (λ i. judged_by m (told i) e oids at (same i))
       ∙ sym (some_entry p.view es oids at e)
       ∙ entry_is p es oids at upto (Some e) is came
-
-  -- ---- a turn
-
-  pub turn_is : {E : Type 0} (r : Result declared.RescueTurn E) (c : Kept m.state) (came : PlayEnd) (es : Entries) (gone : Trims) (oids objects : List Oid) (at : ℕ)
-      → KeepsView m c (play m (view_start m (view_bases m es gone objects oids)) es (at + 1)).view
-      → came ≡ (play m (view_start m (view_bases m es gone objects oids)) es (at + 1)).came
-      → ((p : Play m) → KeepsView m c p.view → came ≡ p.came → IfOk r (λ t. told_turn m t ≡ rescue_played m p es oids at))
-      → IfOk r (λ t. told_turn m t ≡ rescue_turn m es gone oids objects at)
-  unfolding rescue_turn
-  turn_is {E} r c came es gone oids objects at k end f = f (play m (view_start m (view_bases m es gone objects oids)) es (at + 1)) k end

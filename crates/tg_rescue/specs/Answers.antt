@@ -1,5 +1,5 @@
 -- What is answered, by the definitions' answers.
-use Rattle.std.specs.Prelude.{ℕ, Bool, true, false, List, Option, Some, None, if◌then◌else◌}
+use Rattle.std.specs.Prelude.{ℕ, ◌+◌, nat_lt, Bool, true, false, List, Option, Some, None, if◌then◌else◌}
 use Rattle.tg_base.specs.declared.ids.Oid.{Oid}
 use Rattle.tg_entry.specs.declared.entry.Entry.{Entry}
 use Rattle.tg_kind.specs.Meaning.{Meaning}
@@ -8,6 +8,10 @@ use Rattle.tg_protocol.specs.Views.{Verdict, Commits, Aborts, Unknown}
 use Rattle.tg_protocol.specs.Past as told
 use Rattle.tg_rescue.specs.declared.rescue.RescueTurn.{RescueTurn}
 use Rattle.tg_rescue.specs.declared.rescue.RescueTurn.TheVariants.{Wider, Wide, Absent, Stuck, Known}
+
+-- up to where a play takes in the record at a position, where all entries are below a tail
+abbrev pub play_end : ℕ → ℕ → ℕ
+play_end at tail = if nat_lt at tail then at + 1 else tail
 
 module _ (m : Meaning) where
   abbrev pub told_turn : RescueTurn → told.RescueTurn m

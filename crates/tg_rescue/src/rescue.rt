@@ -1,6 +1,6 @@
 //! What a turn of a rescue comes to.
 
-ghost use Rattle.std.specs.Prelude.{◌≡◌, ◌<◌, ◌^◌, ℕ, true, IfOk};
+ghost use Rattle.std.specs.Prelude.{◌≡◌, ℕ, true, IfOk};
 ghost use Rattle.std.specs.Option.{option_copied};
 ghost use Rattle.tg_kind.specs.Headers.{is_header};
 ghost use Rattle.tg_kind.specs.Of.{meaning_of};
@@ -10,7 +10,8 @@ ghost use Rattle.tg_protocol.specs.Views as views;
 ghost use Rattle.tg_protocol.specs.Words.{has_oid};
 ghost use Rattle.tg_play.specs.Relations.{told_verdict, KeepsView};
 ghost use Rattle.tg_ckpt.specs.Saving.{AreSpelled};
-ghost use Rattle.tg_rescue.specs.Answers.{told_turn, by_block, judged_by};
+ghost use Rattle.tg_entry.specs.Drafts.{all_below};
+ghost use Rattle.tg_rescue.specs.Answers.{told_turn, by_block, judged_by, play_end};
 
 use crate::records::{commit_at, needs_decision};
 use std::alloc::Global;
@@ -122,6 +123,16 @@ fn turn<K: Registry>(
     }
 }
 
+// Up to where a play takes in the record at a position, where all entries are below a tail.
+fn end_of(at: Pos, tail: Pos) -> Pos
+    ensures { result ≡ play_end at tail }
+{
+    if at < tail {
+        return at + 1;
+    }
+    tail
+}
+
 /// A turn of rescuing the record at a position: what a new view over a set of objects tells of it, over the entries
 /// of their streams below a tail.
 ///
@@ -135,6 +146,7 @@ fn turn<K: Registry>(
 pub fn rescue_turn<K: Registry>(
     alloc: Global,
     entries: &Entries,
+    tail: Pos,
     gone: &[(Oid, Pos)],
     oids: &[Oid],
     objects: &[Oid],
@@ -142,11 +154,11 @@ pub fn rescue_turn<K: Registry>(
 ) -> Result<RescueTurn, NoMemory>
     requires spelled { AreSpelled entries.now }
     requires header { is_header objects.now ≡ true }
-    requires reach { at < 2 ^ 62 }
+    requires below { all_below tail entries.now ≡ true }
     ensures { IfOk result (λ t. told_turn (meaning_of K.Registry) t ≡ told.rescue_turn (meaning_of K.Registry) entries.now gone.now oids.now objects.now at) }
 {
     let bases: List<Base<K>> = view_bases(alloc, entries, gone, objects, oids)?;
     let view = View::start(alloc, bases)?;
-    let played = view.play(alloc, entries, at + 1)?;
+    let played = view.play(alloc, entries, end_of(at, tail))?;
     turn(alloc, &played.0, played.1, entries, oids, at)
 }

@@ -18,9 +18,8 @@ invariant_of-result c =
 pub returns : goal.returns
 returns c =
     let own = c.self.inside.own in
-    let kept = c.self.inside.kept in
     let s = c.self.inside.settled in
     let cells = c.self.inside.cells.entries in
-    ap (λ (cs : List (ℕ × Cell)). made cs own kept c.settled_after.result) (c.in_ok-drop_others.ensures ∙ pruned_is own s c.args.upto cells c.self.invariant)
-    ∙ ap (made (filter (keeps c.args.upto own) cells) own kept) (c.settled_after.ensures ∙ ap (λ b. cond b (max s c.args.upto) s) c.in_ok-all.ensures)
+    ap (λ (cs : List (ℕ × Cell)). made cs own c.settled_after.result) (c.in_ok-drop_others.ensures ∙ pruned_is own s c.args.upto cells c.self.invariant)
+    ∙ ap (made (filter (keeps c.args.upto own) cells) own) (c.settled_after.ensures ∙ ap (λ b. cond b (max s c.args.upto) s) c.in_ok-all.ensures)
     ∙ ap (λ (k : Knowledge). given_up k c.args.upto) c.self.view_is

@@ -14,6 +14,6 @@ invariant_of-result c =
 
 pub returns : goal.returns
 returns c =
-    ap (λ (n : ℕ). made c.insert.new.self.entries c.self.inside.own c.self.inside.kept n) c.min.ensures
-    ∙ ap (λ (cs : List (ℕ × Cell)). made cs c.self.inside.own c.self.inside.kept (min c.self.inside.settled c.args.pos)) c.in_ok-insert.ensures.entries
+    ap (λ (n : ℕ). made c.insert.new.self.entries c.self.inside.own n) c.min.ensures
+    ∙ ap (λ (cs : List (ℕ × Cell)). made cs c.self.inside.own (min c.self.inside.settled c.args.pos)) c.in_ok-insert.ensures.entries
     ∙ ap (λ (k : Knowledge). learnt k c.args.pos c.args.cell) c.self.view_is

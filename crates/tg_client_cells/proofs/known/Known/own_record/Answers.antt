@@ -19,7 +19,7 @@ invariant_of-result c =
 pub returns : goal.returns
 returns c =
     let low = min c.self.inside.settled c.args.pos in
-    ap (λ (n : ℕ). made c.insert.new.self.entries c.in_ok-own.own c.self.inside.kept n) c.min.ensures
-    ∙ ap (λ (ps : List ℕ). made c.insert.new.self.entries ps c.self.inside.kept low) c.in_ok-own.ensures
-    ∙ ap (λ (cs : List (ℕ × Cell)). made cs (with_num c.args.pos c.self.inside.own) c.self.inside.kept low) c.in_ok-insert.ensures.entries
+    ap (λ (n : ℕ). made c.insert.new.self.entries c.in_ok-own.own n) c.min.ensures
+    ∙ ap (λ (ps : List ℕ). made c.insert.new.self.entries ps low) c.in_ok-own.ensures
+    ∙ ap (λ (cs : List (ℕ × Cell)). made cs (with_num c.args.pos c.self.inside.own) low) c.in_ok-insert.ensures.entries
     ∙ ap (λ (k : Knowledge). owned k c.args.pos c.args.page) c.self.view_is
