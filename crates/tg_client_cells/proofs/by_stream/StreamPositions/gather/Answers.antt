@@ -4,6 +4,6 @@ use Rattle.tg_client_cells.proofs.by_stream.StreamPositions.gather.Goals as goal
 
 pub loop-at-preserved : goal.loop-at-preserved
 loop-at-preserved c = record {
-  within = omega (arith, c.loop-at.invariant.within);
-  gathered = gathered_more c.args.self.now c.args.streams.now c.args.low c.args.high c.loop-at.at c.loop-at.positions c.in_ok-positions.positions c.loop-at-test.true c.loop-at.invariant.within c.loop-at.invariant.gathered c.in_ok-positions.ensures;
+  bound = omega (arith, c.loop-at.invariant.bound);
+  gathered = gathered_more c.args.self.now c.args.streams.now c.args.low c.args.high c.loop-at.at c.loop-at.positions c.in_ok-positions.positions c.loop-at-test.true c.loop-at.invariant.bound c.loop-at.invariant.gathered c.in_ok-positions.ensures;
 }
