@@ -1,3 +1,4 @@
+pub mod Acts
 pub mod Bytes
 pub mod Calls
 pub mod Faults

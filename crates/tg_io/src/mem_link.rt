@@ -110,6 +110,8 @@ impl MemLink {
 }
 
 impl Link for MemLink {
+    ghost use Rattle.std.proofs.Common.{rules, arith};
+
     ghost faults = { λ s. failures s.calls };
 
     ghost sent = { λ s. Some s.sent };
@@ -169,6 +171,8 @@ impl Link for MemLink {
         self.handed.push_reserved(next);
         Ok(answer)
     }
+
+    ghost one_list = { λ s. Prim.search (rules, arith) };
 }
 
 // What a rule does with a datagram of at most 8,192 bytes. An `Err` changes nothing.

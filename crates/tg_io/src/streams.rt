@@ -2,8 +2,8 @@
 //!
 //! A call that the system interrupts is made again, as with std's own; every other error counts as a fault.
 
-ghost use Rattle.std.specs.Prelude.{◌≡◌, ◌<◌, ◌≤◌, ◌+◌, ◌-◌, ◌^◌, None, false, length, take, IfSome, IfOk, OnErr};
-ghost use Rattle.std.specs.Io.KnownBytes.{Appends, Consumes, IsAtEnd};
+ghost use Rattle.std.specs.Prelude.{◌≡◌, ◌<◌, ◌≤◌, ◌+◌, ◌-◌, ◌^◌, None, false, length, take, IfSome, IfOk, OnErr, IfNone};
+ghost use Rattle.std.specs.Io.KnownBytes.{Appends, Consumes, IsAtEnd, Keeps};
 ghost use Rattle.tg_io.specs.Faults.{HasCause, Rose};
 
 use crate::fault::IoErr;
@@ -44,7 +44,8 @@ impl<R: Read> Source for Reading<R> {
 
     ghost sure = { λ _. false };
 
-    /// Fails at an error of the reader, and where it gives more than there is room for.
+    /// Fails at an error of the reader, which then has what it had, and where it gives more than there is room for.
+    /// A fault is counted only there.
     fn read(&mut self, buf: &mut [u8]) -> Result<usize, IoErr>
         ensures count { IfOk result (λ n. n ≤ length buf.new) }
         ensures bytes { IfOk result (λ n. Consumes (R.remaining self.old.reader) (R.remaining self.new.reader) (take n buf.new)) }
@@ -52,6 +53,8 @@ impl<R: Read> Source for Reading<R> {
         ensures room { IfOk result (λ n. 2 ^ 64 - 1 - self.new.given + n ≡ 2 ^ 64 - 1 - self.old.given) }
         ensures kept { OnErr result (self.new.given ≡ self.old.given) }
         ensures cause { HasCause self.old.faults self.new.faults result }
+        ensures still { IfOk result (λ _. self.new.faults ≡ self.old.faults) }
+        ensures none_lost { OnErr result (self.old.given + length buf.old < 2 ^ 64 → Keeps (R.remaining self.old.reader) (R.remaining self.new.reader)) }
     {
         let count = read_once(&mut self.reader, buf);
         let given = count.and_then(|count| self.given.checked_add(count as u64));
@@ -89,12 +92,15 @@ impl<W: Write> Sink for Writing<W> {
 
     ghost sure = { λ _. false };
 
-    /// Fails at an error of the writer, and where it takes nothing of a piece that isn't empty.
+    /// Fails at an error of the writer, and where it takes nothing of a piece that isn't empty. The writer then has
+    /// what it had. A fault is counted only there.
     fn write(&mut self, piece: &[u8]) -> Result<usize, IoErr>
         ensures count { IfOk result (λ n. n ≤ length piece.now) }
         ensures some { IfOk result (λ n. 0 < length piece.now → 0 < n) }
         ensures bytes { IfOk result (λ n. Appends (W.contents self.old.writer) (W.contents self.new.writer) (take n piece.now)) }
         ensures cause { HasCause self.old.faults self.new.faults result }
+        ensures still { IfOk result (λ _. self.new.faults ≡ self.old.faults) }
+        ensures none_kept { OnErr result (Keeps (W.contents self.old.writer) (W.contents self.new.writer)) }
     {
         match write_once(&mut self.writer, piece) {
             Some(count) if count > 0 || piece.is_empty() => Ok(count),
@@ -119,6 +125,7 @@ fn read_once<R: Read>(reader: &mut R, buf: &mut [u8]) -> Option<usize>
     ensures count { IfSome result (λ n. n ≤ length buf.new) }
     ensures bytes { IfSome result (λ n. Consumes (R.remaining reader.old) (R.remaining reader.new) (take n buf.new)) }
     ensures end { IfSome result (λ n. n ≡ 0 → 0 < length buf.old → IsAtEnd (R.remaining reader.new)) }
+    ensures none_lost { IfNone result (Keeps (R.remaining reader.old) (R.remaining reader.new)) }
 {
     for _ in 0..u64::MAX {
         match reader.read(buf) {
@@ -134,6 +141,7 @@ fn read_once<R: Read>(reader: &mut R, buf: &mut [u8]) -> Option<usize>
 fn write_once<W: Write>(writer: &mut W, piece: &[u8]) -> Option<usize>
     ensures count { IfSome result (λ n. n ≤ length piece.now) }
     ensures bytes { IfSome result (λ n. Appends (W.contents writer.old) (W.contents writer.new) (take n piece.now)) }
+    ensures none_kept { IfNone result (Keeps (W.contents writer.old) (W.contents writer.new)) }
 {
     for _ in 0..u64::MAX {
         match writer.write(piece) {

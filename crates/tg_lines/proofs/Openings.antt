@@ -1,9 +1,10 @@
 -- The first lines of a text, and what they are.
-use Rattle.std.proofs.Common.{◌≡◌, ℕ, zero, suc, ◌<◌, ◌≤◌, ◌⊎◌, inl, inr, List, [], ◌∷◌, ◌++◌, length, take, Option, Some, None, refl, sym, ap, ◌∙◌, subst, append_assoc, arith, ⊎_elim}
-use Rattle.std.proofs.lemmas.List.{append-nil, take-append-le}
+use Rattle.std.proofs.Common.{◌≡◌, ℕ, zero, suc, ◌+◌, ◌<◌, ◌≤◌, ◌⊎◌, inl, inr, List, [], ◌∷◌, ◌++◌, length, take, Option, Some, None, refl, sym, ap, ◌∙◌, subst, append_assoc, length-append, arith, ⊎_elim, IfNone}
+use Rattle.std.proofs.lemmas.List.{append-nil, take-append-le, length-take-le}
+use Rattle.tg_base.specs.Clusters.{Header, IsHeader}
 use Rattle.tg_script.specs.Headers.{header_lines, IsFront, IsFirstOutside}
 use Rattle.tg_lines.specs.Lines.{lines, TakesLine}
-use Rattle.tg_lines.specs.Openings.{Opened, IsOpening, Reached}
+use Rattle.tg_lines.specs.Openings.{Opened, Took, IsOpening, Reached}
 use Rattle.tg_lines.specs.declared.header.Opening.{Opening}
 use Rattle.tg_lines.specs.declared.header.Opening.TheVariants.{Opens, Outside}
 
@@ -86,3 +87,74 @@ opened_end (Some text) (Some rest) (Some more) ls (Opens header) h t few is =
 opened_end (Some text) (Some rest) (Some more) ls (Outside n) h t few is =
     let all : lines text ≡ ls = h ∙ ap (λ (xs : List ℕ). ls ++ lines xs) t.0 ∙ append-nil ls in
     (few_lines ls n few is, subst (λ (xs : List (List ℕ)). IsFirstOutside xs n) (sym all) is)
+
+-- one line is the first outside
+pub not_before : (ls : List (List ℕ)) (m n : ℕ) → n < m → IsFirstOutside ls m → IsFirstOutside ls n → ⊥
+not_before ls m n lt h g = g.outside (h.before n lt)
+
+-- no line of a header is outside
+pub whole_front : (ls : List (List ℕ)) (h : Header) (n : ℕ) → IsHeader h → ls ≡ header_lines h → IsFirstOutside ls n → ⊥
+whole_front ls h n lawful e out = out.outside (record { header = h; lawful = lawful; same = ap (λ (xs : List (List ℕ)). take n xs) e })
+
+-- what is outside among more lines was so among fewer
+outside_less : (xs ys : List (List ℕ)) (n : ℕ) → n ≤ length xs → IsFirstOutside (xs ++ ys) n → IsFirstOutside xs n
+outside_less xs ys n le h = record {
+  before = λ m lt. front_kept (xs ++ ys) xs m (sym (take_more xs ys m (omega arith))) (h.before m lt);
+  outside = λ f. h.outside (front_kept xs (xs ++ ys) n (take_more xs ys n le) f);
+}
+
+-- Lines of which none before the last is the first outside.
+abbrev pub AreClean : List (List ℕ) → Type 0
+AreClean ls = (n : ℕ) → n < length ls → IsFirstOutside ls n → ⊥
+
+pub clean_more : (ls : List (List ℕ)) (line : List ℕ) → ((n : ℕ) → n ≤ length ls → IsFirstOutside ls n → ⊥) → AreClean (ls ++ line ∷ [])
+clean_more ls line h n lt out =
+    let many : length (ls ++ line ∷ []) ≡ length ls + 1 = length-append ls (line ∷ []) in
+    let le : n ≤ length ls = omega arith in
+    h n le (outside_less ls (line ∷ []) n le out)
+
+-- the last line is outside
+last_outside : (ls : List (List ℕ)) (n : ℕ) → AreClean ls → n ≤ length ls → IsFirstOutside ls n → length ls ≡ n
+last_outside ls n clean le out = ⊎_elim (λ (h : length ls ≤ n). omega arith) (λ (h : n < length ls). absurd (clean n h out)) (le_or_lt (length ls) n)
+
+pub took_last : (text rest : Option (List ℕ)) (ls : List (List ℕ)) (n : ℕ) → Reached text rest ls → AreClean ls → n ≤ length ls → IsFirstOutside ls n → Took text rest (Outside n)
+took_last None rest ls n h clean le out = tt
+took_last (Some text) None ls n h clean le out = h
+took_last (Some text) (Some rest) ls n h clean le out = (ls, h, inl (last_outside ls n clean le out))
+
+-- three lines were read
+pub took_whole : (text rest : Option (List ℕ)) (ls : List (List ℕ)) (o : Opening) → Reached text rest ls → AreClean ls → length ls ≡ 3 → IsOpening ls o → Took text rest o
+took_whole None rest ls o h clean three is = tt
+took_whole (Some text) None ls o h clean three is = h
+took_whole (Some text) (Some rest) ls (Opens header) h clean three is = h ∙ ap (λ (xs : List (List ℕ)). xs ++ lines rest) is
+took_whole (Some text) (Some rest) ls (Outside n) h clean three is =
+    let few : length ls ≤ 3 = omega arith in
+    let most : n ≤ 3 = few_lines ls n few is in
+    took_last (Some text) (Some rest) ls n h clean (omega arith) is
+
+-- a header has the line after these
+next_outside : (ls : List (List ℕ)) (n : ℕ) → length ls < 3 → IsFirstOutside ls n → length ls + 1 < n → ⊥
+next_outside ls n few out past =
+    let f = out.before (length ls + 1) past in
+    let all : take (length ls + 1) ls ≡ ls = take_all ls (length ls + 1) (omega arith) in
+    let many : length ls ≡ length (take (length ls + 1) (header_lines f.header)) = ap length (sym all ∙ f.same) in
+    let taken : length (take (length ls + 1) (header_lines f.header)) ≡ length ls + 1 = length-take-le (length ls + 1) (header_lines f.header) (omega arith) in
+    omega arith
+
+-- the text ends among them
+pub took_end : (text before after : Option (List ℕ)) (ls : List (List ℕ)) (o : Opening) → Reached text before ls → TakesLine before after None → ((n : ℕ) → n ≤ length ls → IsFirstOutside ls n → ⊥) → length ls < 3 → IsOpening ls o → Took text after o
+took_end None before after ls o h t clean few is = tt
+took_end (Some text) None after ls o h t clean few is = absurd h
+took_end (Some text) (Some rest) None ls o h t clean few is = t
+took_end (Some text) (Some rest) (Some more) ls (Opens header) h t clean few is =
+    h ∙ ap (λ (xs : List ℕ). ls ++ lines xs) t.0 ∙ ap (λ (xs : List ℕ). ls ++ lines xs) (sym t.1) ∙ ap (λ (xs : List (List ℕ)). xs ++ lines more) is
+took_end (Some text) (Some rest) (Some more) ls (Outside n) h t clean few is =
+    let all : lines text ≡ ls ++ lines more = h ∙ ap (λ (xs : List ℕ). ls ++ lines xs) (t.0 ∙ sym t.1) in
+    let above : length ls < n = ⊎_elim (λ (le : n ≤ length ls). absurd (clean n le is)) (λ (lt : length ls < n). lt) (le_or_lt n (length ls)) in
+    let below : n ≤ length ls + 1 = ⊎_elim (λ (le : n ≤ length ls + 1). le) (λ (lt : length ls + 1 < n). absurd (next_outside ls n few is lt)) (le_or_lt n (length ls + 1)) in
+    (ls, all, inr (t.1, omega arith))
+
+-- none was refused of those so far
+pub unrefused : (r : Option ℕ) (ls : List (List ℕ)) → ((n : ℕ) → r ≡ Some n → ⊥) → IfNone r ((n : ℕ) → n ≤ length ls → IsFirstOutside ls n → ⊥) → (n : ℕ) → n ≤ length ls → IsFirstOutside ls n → ⊥
+unrefused None ls not h = h
+unrefused (Some n) ls not h = absurd (not n refl)

@@ -1,5 +1,5 @@
 -- What the first lines of a text are.
-use Rattle.std.specs.Prelude.{◌≡◌, ℕ, ◌≤◌, ◌++◌, List, Option, Some, None}
+use Rattle.std.specs.Prelude.{◌≡◌, ◌⊎◌, ℕ, ◌+◌, ◌≤◌, ◌++◌, List, [], length, Option, Some, None}
 use Rattle.tg_script.specs.Headers.{header_lines, IsFirstOutside}
 use Rattle.tg_lines.specs.Lines.{lines}
 use Rattle.tg_lines.specs.declared.header.Opening.{Opening}
@@ -15,6 +15,17 @@ abbrev pub Opened : Option (List ℕ) → Option (List ℕ) → Opening → Type
 Opened (Some text) (Some rest) opening = IsOpened text rest opening
 Opened (Some text) None opening = ⊥
 Opened None rest opening = Unit {0}
+
+-- What was taken of the text: a header's lines; or those up to and with the one that is outside, which the text may lack.
+abbrev pub TookLines : List ℕ → List ℕ → Opening → Type 0
+TookLines text rest (Opens h) = lines text ≡ header_lines h ++ lines rest
+TookLines text rest (Outside n) = (read : List (List ℕ)) × (lines text ≡ read ++ lines rest) × ((length read ≡ n) ⊎ ((rest ≡ []) × (length read + 1 ≡ n)))
+
+-- as far as the source tells its text
+abbrev pub Took : Option (List ℕ) → Option (List ℕ) → Opening → Type 0
+Took (Some text) (Some rest) opening = TookLines text rest opening
+Took (Some text) None opening = ⊥
+Took None rest opening = Unit {0}
 
 -- these lines were the first of a text, and the rest is still to come, as far as the source tells its text
 abbrev pub Reached : Option (List ℕ) → Option (List ℕ) → List (List ℕ) → Type 0

@@ -1,9 +1,9 @@
 //! The header of a script.
 
-ghost use Rattle.std.specs.Prelude.{◌≤◌, length, IfOk, IfSome};
+ghost use Rattle.std.specs.Prelude.{◌≡◌, ◌≤◌, ℕ, length, IfOk, IfSome, IfNone};
 ghost use Rattle.tg_io.specs.Faults.{HasCause, StaysSure};
 ghost use Rattle.tg_lines.specs.Lines.{ahead};
-ghost use Rattle.tg_lines.specs.Openings.{Opened, IsOpening};
+ghost use Rattle.tg_lines.specs.Openings.{Opened, Took, IsOpening};
 ghost use Rattle.tg_script.specs.Headers.{IsFirstOutside};
 
 use crate::line_reader::LineReader;
@@ -25,7 +25,7 @@ pub enum Opening {
     Outside { line: u64 },
 }
 
-/// Reads the header of a script.
+/// Reads the header of a script. A line that is outside is refused as soon as it is read.
 ///
 /// An `Err` is a fault of the source, or want of memory.
 pub fn read_header<S: Source>(
@@ -36,6 +36,9 @@ pub fn read_header<S: Source>(
     ensures opened { IfOk result (Opened (ahead reader.old (S.left source.old)) (ahead reader.new (S.left source.new))) }
     ensures cause { HasCause (S.faults source.old) (S.faults source.new) result }
     ensures sure { StaysSure (S.sure source.old) (S.sure source.new) (S.faults source.old) (S.faults source.new) }
+    // No line is taken after the one that is outside.
+    ensures took { IfOk result (Took (ahead reader.old (S.left source.old)) (ahead reader.new (S.left source.new))) }
+    ensures still { IfOk result (λ _. S.faults source.new ≡ S.faults source.old) }
 {
     let mut lines: List<List<u8>> = List::new(alloc);
     while lines.len() < HEADER {
@@ -52,14 +55,20 @@ pub fn read_header<S: Source>(
 }
 
 // The first line that is outside, if one of these is.
+#[tactic(auto, using(crate::proofs::Openings::not_before, crate::proofs::Openings::whole_front))]
 fn refused(alloc: Global, lines: &[List<u8>]) -> Result<Option<u64>, NoMemory>
     requires { length lines.now ≤ 3 }
-    ensures { IfOk result (λ r. IfSome r (λ n. (n ≤ length lines.now) × IsFirstOutside lines.now n)) }
+    ensures some { IfOk result (λ r. IfSome r (λ n. (n ≤ length lines.now) × IsFirstOutside lines.now n)) }
+    ensures none { IfOk result (λ r. IfNone r ((n : ℕ) → n ≤ length lines.now → IsFirstOutside lines.now n → ⊥)) }
 {
     match parse_header(alloc, lines) {
+        Ok(cluster) => {
+            cluster.rules();
+            Ok(None)
+        }
         Err(TextFault::Outside { line }) if line <= lines.len() as u64 => Ok(Some(line)),
         Err(TextFault::NoMemory) => Err(NoMemory),
-        _ => Ok(None),
+        Err(TextFault::Outside { .. }) => Ok(None),
     }
 }
 

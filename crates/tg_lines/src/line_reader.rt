@@ -1,9 +1,10 @@
 //! The lines of a text that comes in pieces.
 
-ghost use Rattle.std.specs.Prelude.{◌≡◌, ◌≤◌, ◌<◌, ◌+◌, ◌==◌, List, [], length, position, true, false, IfOk, IfSome};
-ghost use Rattle.tg_io.specs.Bytes.{Gives};
+ghost use Rattle.std.specs.Prelude.{◌≡◌, ◌≤◌, ◌<◌, ◌+◌, ◌==◌, ◌∷◌, List, [], length, position, true, false, IfOk, IfSome};
+ghost use Rattle.tg_io.specs.Bytes.{Gives, Grows};
 ghost use Rattle.tg_io.specs.Faults.{HasCause, StaysSure};
-ghost use Rattle.tg_lines.specs.Lines.{IsTaken, TakesLine, ahead, last_of};
+ghost use Rattle.tg_lines.specs.Lines.{IsTaken, IsUnbroken, TakesLine, ahead, last_of};
+ghost use Rattle.tg_lines.specs.Reads.{ReadsLine};
 
 use std::alloc::Global;
 use std::marker::Model;
@@ -57,6 +58,10 @@ impl LineReader {
         ensures less { IfOk result (λ line. IfSome line (λ l. length self.new + S.room source.new < length self.old + S.room source.old)) }
         ensures cause { HasCause (S.faults source.old) (S.faults source.new) result }
         ensures sure { StaysSure (S.sure source.old) (S.sure source.new) (S.faults source.old) (S.faults source.new) }
+        // A line at hand is given without a read, and no read follows the one that brings its line feed.
+        ensures at_hand { (IsUnbroken self.old → ⊥) → source.new ≡ source.old }
+        ensures reads { IfOk result (ReadsLine self.old self.new (S.pieces source.old) (S.pieces source.new)) }
+        ensures still { IfOk result (λ _. S.faults source.new ≡ S.faults source.old) }
     {
         let mut line = List::new(alloc);
         loop {
@@ -97,6 +102,8 @@ impl LineReader {
         ensures room { IfOk result (λ some. S.room source.new + length self.new ≡ S.room source.old) }
         ensures cause { HasCause (S.faults source.old) (S.faults source.new) result }
         ensures sure { StaysSure (S.sure source.old) (S.sure source.new) (S.faults source.old) (S.faults source.new) }
+        ensures piece { IfOk result (λ some. Grows (S.pieces source.old) (self.new ∷ []) (S.pieces source.new)) }
+        ensures still { IfOk result (λ some. S.faults source.new ≡ S.faults source.old) }
     {
         let count = source.read(&mut self.piece)?;
         self.from = 0;

@@ -1,11 +1,14 @@
 -- Packets as datagrams: what a node sends over a link, and which packet has come to it.
-use Rattle.std.specs.Prelude.{ℕ, Bool, true, false, ◌&&◌, List, map, Option, Some, None, Result, Ok, Err}
+use Rattle.std.specs.Prelude.{◌≡◌, ◌⊎◌, ℕ, Bool, true, false, ◌&&◌, List, ◌∷◌, ◌++◌, map, Option, Some, None, Result, Ok, Err}
 use Rattle.tg_base.specs.declared.ids.NodeId.{NodeId}
 use Rattle.tg_base.specs.declared.packet.Out.{Out}
 use Rattle.tg_base.specs.declared.packet.Packet.{Packet}
 use Rattle.tg_codec.specs.Whole.{whole}
 use Rattle.tg_wire_format.specs.Packets.{packet}
 use Rattle.tg_base.specs.Orders.{node_eq}
+use Rattle.tg_io.specs.Acts.{Act, Goes, Comes}
+use Rattle.tg_io.specs.Bytes.{Grows}
+use Rattle.tg_io.specs.Links.{Adds}
 use Rattle.tg_io.specs.declared.link.Arrival.{Arrival}
 use Rattle.tg_io.specs.declared.link.Sent.{Sent}
 use Rattle.tg_link_packets.specs.declared.receiving.Came.{Came}
@@ -38,3 +41,29 @@ taken_by n to (Err at) = Stranger
 abbrev pub came_to : NodeId → Option Arrival → Came
 came_to n None = Nothing
 came_to n (Some a) = taken_by n a.to (whole packet a.datagram)
+
+-- packets that go out one after another, as what a program does with a link
+abbrev pub all_gone : List Packet → List Act
+all_gone ps = map (λ p. Goes (sent_of p)) ps
+
+-- What a link is sent, and what a program does with it, before a call and after it.
+pub record Outgoing : Type 0 where
+  pub sent : Option (List Sent)
+  pub acts : Option (List Act)
+
+-- these packets went out, in order, and nothing else was done
+pub record GoesOut (before : Outgoing) (ps : List Packet) (after : Outgoing) : Type 0 where
+  pub sent : Grows before.sent (all_sent ps) after.sent
+  pub acts : Grows before.acts (all_gone ps) after.acts
+
+-- Of what a node has to send, all before the one that failed went out, and nothing after it.
+pub record IsCutOff (node : NodeId) (outs : List Out) (before after : Outgoing) : Type 0 where
+  pub done : List Out
+  pub failed : Out
+  pub rest : List Out
+  pub split : outs ≡ done ++ failed ∷ rest
+  pub gone : GoesOut before (packets_from node done) after
+
+-- at most one answer was handed
+abbrev pub HandsOne : Option (List Act) → Option (List Act) → Type 0
+HandsOne before after = (after ≡ before) ⊎ ((a : Option Arrival) × Adds before (Comes a) after)

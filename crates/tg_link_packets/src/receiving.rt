@@ -1,11 +1,12 @@
 //! What comes to a node over a link.
 
-ghost use Rattle.std.specs.Prelude.{◌≡◌, ◌&&◌, Option, Some, Ok, IfOk};
+ghost use Rattle.std.specs.Prelude.{◌≡◌, ◌&&◌, Option, Some, Ok, IfOk, OnErr};
 ghost use Rattle.tg_base.specs.Orders.{node_eq};
 ghost use Rattle.tg_io.specs.Faults.{HasCause, StaysSure};
+ghost use Rattle.tg_io.specs.Acts.{Comes};
 ghost use Rattle.tg_io.specs.Links.{Adds};
 ghost use Rattle.tg_io.specs.declared.link.Arrival.{Arrival};
-ghost use Rattle.tg_link_packets.specs.Mail.{came_to, taken_by};
+ghost use Rattle.tg_link_packets.specs.Mail.{HandsOne, came_to, taken_by};
 
 use std::alloc::Global;
 use tg_base::{NoMemory, NodeId, Packet};
@@ -23,12 +24,17 @@ pub enum Came {
     Taken { packet: Packet },
 }
 
-/// The next answer of a link, as it is for a node. An `Err` is a fault of the link, or want of memory.
+/// The next answer of a link, as it is for a node. An `Err` is a fault of the link, or want of memory; the answer may have
+/// been taken then.
 pub fn receive<L: Link>(alloc: Global, node: NodeId, link: &mut L) -> Result<Came, IoErr>
     ensures came { IfOk result (λ came. (a : Option Arrival) × Adds (L.handed link.old) a (L.handed link.new) × (came ≡ came_to node a)) }
     ensures sent { L.sent link.new ≡ L.sent link.old }
     ensures cause { HasCause (L.faults link.old) (L.faults link.new) result }
     ensures sure { StaysSure (L.sure link.old) (L.sure link.new) (L.faults link.old) (L.faults link.new) }
+    // That answer is all that is done with the link.
+    ensures act { IfOk result (λ came. (a : Option Arrival) × Adds (L.handed link.old) a (L.handed link.new) × Adds (L.acts link.old) (Comes a) (L.acts link.new) × (came ≡ came_to node a)) }
+    ensures one { OnErr result (HandsOne (L.acts link.old) (L.acts link.new)) }
+    ensures still { IfOk result (λ _. L.faults link.new ≡ L.faults link.old) }
 {
     let mut buffer = [0; 8192];
     let Some((to, count)) = link.recv(&mut buffer)? else {

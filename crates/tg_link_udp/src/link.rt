@@ -1,7 +1,9 @@
 //! A link over UDP sockets. Nothing is told of what is sent and handed.
 
-ghost use Rattle.std.specs.Prelude.{◌≡◌, ◌≤◌, None, false, length, IfOk, IfSome};
+ghost use Rattle.std.specs.Prelude.{◌≡◌, ◌≤◌, ◌↔◌, None, false, length, IsTrue, IfOk, IfSome, OnOk, option_copied};
 ghost use Rattle.tg_io.specs.Faults.{HasCause, Rose};
+ghost use Rattle.tg_link_udp.specs.Addresses.{IsHere, IsOfNode};
+ghost use Rattle.tg_link_udp.specs.Sockets.{IsPortAt, socket_of};
 
 use crate::ports::{is_port, most, port};
 use std::alloc::Global;
@@ -69,8 +71,10 @@ fn raised(faults: u64) -> u64
 }
 
 // An address on this machine.
-fn address(port: u16) -> SocketAddr {
-    SocketAddr::new(IpAddr::V4(Ipv4Addr::LOCALHOST), port)
+fn address(port: u16) -> SocketAddr
+    ensures { IsHere result port }
+{
+    SocketAddr::new(IpAddr::V4(Ipv4Addr::new(127, 0, 0, 1)), port)
 }
 
 // A socket that doesn't wait, bound to a node's port. None where it can't be bound.
@@ -114,13 +118,18 @@ fn bind_all<N: Net>(alloc: Global, net: &N, node: Option<NodeId>) -> Result<List
 }
 
 // The socket of a node, if it is bound.
-fn socket_of(ports: &[Port], node: NodeId) -> Option<&UdpSocket> {
-    for port in ports {
-        if port.node.is_same(node) {
-            return Some(&port.socket);
+fn socket_of(ports: &[Port], node: NodeId) -> Option<&UdpSocket>
+    ensures { option_copied result ≡ socket_of ports.now node }
+{
+    match ports {
+        [] => None,
+        [port, others @ ..] => {
+            if port.node.is_same(node) {
+                return Some(&port.socket);
+            }
+            socket_of(others, node)
         }
     }
-    None
 }
 
 // Sends a datagram. One for which the system has no room is lost, as others are on their way.
@@ -139,9 +148,14 @@ fn sent(ports: &[Port], from: NodeId, to: NodeId, datagram: &[u8]) -> Option<()>
     None
 }
 
-// Whether an address is a node's.
-fn is_node(address: SocketAddr) -> bool {
-    address.ip() == IpAddr::V4(Ipv4Addr::LOCALHOST) && is_port(address.port())
+// Whether an address is a node's; a stranger's is not.
+fn is_node(address: SocketAddr) -> bool
+    ensures { IsTrue result ↔ IsOfNode address }
+{
+    match address.ip() {
+        IpAddr::V4(ip) => ip.octets() == [127, 0, 0, 1] && is_port(address.port()),
+        IpAddr::V6(_) => false,
+    }
 }
 
 // What a socket has at hand: how many bytes it put into the buffer.
@@ -168,7 +182,8 @@ fn come_from(
     buf: &mut [u8],
 ) -> io::Result<Option<(usize, NodeId, usize)>>
     requires { end ≤ length ports.now }
-    ensures { IfOk result (λ r. IfSome r (λ came. came.2 ≤ length buf.new)) }
+    ensures count { IfOk result (λ r. IfSome r (λ came. came.2 ≤ length buf.new)) }
+    ensures node { IfOk result (λ r. IfSome r (λ came. IsPortAt ports.now came.0 came.1)) }
 {
     for place in first..end {
         let port = &ports[place];
@@ -185,7 +200,8 @@ fn come_in_turn(
     first: usize,
     buf: &mut [u8],
 ) -> io::Result<Option<(usize, NodeId, usize)>>
-    ensures { IfOk result (λ r. IfSome r (λ came. came.2 ≤ length buf.new)) }
+    ensures count { IfOk result (λ r. IfSome r (λ came. came.2 ≤ length buf.new)) }
+    ensures node { IfOk result (λ r. IfSome r (λ came. IsPortAt ports.now came.0 came.1)) }
 {
     let first = first.min(ports.len());
     match come_from(ports, first, ports.len(), buf)? {
@@ -197,7 +213,8 @@ fn come_in_turn(
 impl<'a, N: Net> UdpLink<'a, N> {
     // Binds the ports, if that wasn't done.
     fn open(&mut self) -> Result<(), IoErr>
-        ensures { HasCause self.old.faults self.new.faults result }
+        ensures cause { HasCause self.old.faults self.new.faults result }
+        ensures still { OnOk result (self.new.faults ≡ self.old.faults) }
     {
         if !self.ports.is_empty() {
             return Ok(());
@@ -217,6 +234,8 @@ impl<'a, N: Net> UdpLink<'a, N> {
 }
 
 impl<'a, N: Net> Link for UdpLink<'a, N> {
+    ghost use Rattle.std.proofs.Common.{rules, arith};
+
     ghost faults = { λ s. s.faults };
 
     ghost sent = { λ _. None };
@@ -253,4 +272,6 @@ impl<'a, N: Net> Link for UdpLink<'a, N> {
             }
         }
     }
+
+    ghost one_list = { λ s. Prim.search (rules, arith) };
 }

@@ -1,14 +1,15 @@
-use Rattle.std.proofs.Common.{◌≡◌, ◌≤◌, ℕ, List, length, Option, IfSome, subst, arith}
+use Rattle.std.proofs.Common.{◌≡◌, ◌<◌, ◌≤◌, ◌+◌, ◌∷◌, ◌++◌, [], ◌∙◌, ℕ, List, length, Option, Some, IfSome, IfNone, ap, sym, subst, length-append, arith}
 use Rattle.tg_script.specs.Headers.{IsFirstOutside}
 use Rattle.tg_lines.specs.Lines.{ahead, TakesLine}
-use Rattle.tg_lines.specs.Openings.{IsOpening}
-use Rattle.tg_lines.proofs.Openings.{opened_outside, opened_end, opened_whole}
+use Rattle.tg_lines.specs.Openings.{IsOpening, Reached}
+use Rattle.tg_lines.proofs.Openings.{AreClean, opened_outside, opened_end, opened_whole, reached_more, clean_more, took_end, took_whole, unrefused}
+use Rattle.tg_io.proofs.Faults.{sure_since}
 use Rattle.tg_lines.proofs.header.read_header.Goals as goal
 
 pub returns-in-Some-clause-opened : goal.returns-in-Some-clause-opened
 returns-in-Some-clause-opened g c =
     let i = c.loop-alloc.invariant in
-    let h = subst (λ (o : Option ℕ). IfSome o (λ n. (n ≤ length c.as_slice.result.now) × IsFirstOutside c.as_slice.result.now n)) c.in-Some.is c.in_ok-line.ensures in
+    let h = subst (λ (o : Option ℕ). IfSome o (λ n. (n ≤ length c.as_slice.result.now) × IsFirstOutside c.as_slice.result.now n)) c.in-Some.is c.in_ok-line.ensures.some in
     let k = subst (λ (ls : List (List ℕ)). (c.in-Some.line ≤ length ls) × IsFirstOutside ls c.in-Some.line) c.as_slice.ensures h in
     opened_outside (ahead c.args.reader.now (g.S.Source.left c.args.source.now)) (ahead c.loop-alloc.reader (g.S.Source.left c.loop-alloc.source)) c.loop-alloc.lines c.in-Some.line i.reached i.few k.0 k.1
 
@@ -30,3 +31,48 @@ returns-clause-opened g c =
     let three : length c.loop-alloc.lines ≡ 3 = omega arith in
     let is = subst (λ (ls : List (List ℕ)). IsOpening ls c.in_ok-whole_header.field-0) c.as_slice-2.ensures c.in_ok-whole_header.ensures in
     opened_whole (ahead c.args.reader.now (g.S.Source.left c.args.source.now)) (ahead c.loop-alloc.reader (g.S.Source.left c.loop-alloc.source)) c.loop-alloc.lines c.in_ok-whole_header.field-0 i.reached three is
+
+pub loop-alloc-preserved : goal.loop-alloc-preserved
+loop-alloc-preserved g c =
+    let i = c.loop-alloc.invariant in
+    let before = ahead c.loop-alloc.reader (g.S.Source.left c.loop-alloc.source) in
+    let after = ahead c.next.new.self (g.S.Source.left c.next.new.source) in
+    let line = c.in-Some-2.line in
+    let took = subst (λ (o : Option (List ℕ)). TakesLine before after o) c.in-Some-2.is c.in_ok-line-2.ensures.line in
+    let pushed : c.push.new.self ≡ c.loop-alloc.lines ++ line ∷ [] = c.in_ok-push-in-Some-2.ensures.ok in
+    let many : length c.push.new.self ≡ length c.loop-alloc.lines + 1 = ap length pushed ∙ length-append c.loop-alloc.lines (line ∷ []) in
+    let count : c.len.result ≡ length c.loop-alloc.lines = c.len.ensures in
+    let below = c.loop-alloc-test.true in
+    let none = subst (λ (ls : List (List ℕ)). IfNone c.in_ok-line.field-0 ((n : ℕ) → n ≤ length ls → IsFirstOutside ls n → ⊥)) c.as_slice.ensures c.in_ok-line.ensures.none in
+    record {
+      reached = subst (λ (ls : List (List ℕ)). Reached (ahead c.args.reader.now (g.S.Source.left c.args.source.now)) after ls) (sym pushed)
+          (reached_more (ahead c.args.reader.now (g.S.Source.left c.args.source.now)) before after c.loop-alloc.lines line i.reached took);
+      few = omega arith;
+      still = c.in_ok-line-2.ensures.still ∙ i.still;
+      sure = sure_since _ _ _ _ _ _ i.sure c.in_ok-line-2.ensures.sure;
+      clean = subst AreClean (sym pushed) (clean_more c.loop-alloc.lines line (unrefused c.in_ok-line.field-0 c.loop-alloc.lines c.in_default.not-Some none));
+    }
+
+pub returns-in-None-clause-took : goal.returns-in-None-clause-took
+returns-in-None-clause-took g c =
+    let i = c.loop-alloc.invariant in
+    let before = ahead c.loop-alloc.reader (g.S.Source.left c.loop-alloc.source) in
+    let after = ahead c.next.new.self (g.S.Source.left c.next.new.source) in
+    let end = subst (λ (o : Option (List ℕ)). TakesLine before after o) c.in-None.is c.in_ok-line-2.ensures.line in
+    let is = subst (λ (ls : List (List ℕ)). IsOpening ls c.in_ok-whole_header-in-None.field-0) c.as_slice-in-None.ensures c.in_ok-whole_header-in-None.ensures in
+    let none = subst (λ (ls : List (List ℕ)). IfNone c.in_ok-line.field-0 ((n : ℕ) → n ≤ length ls → IsFirstOutside ls n → ⊥)) c.as_slice.ensures c.in_ok-line.ensures.none in
+    let count : c.len.result ≡ length c.loop-alloc.lines = c.len.ensures in
+    let below = c.loop-alloc-test.true in
+    let few : length c.loop-alloc.lines < 3 = omega arith in
+    took_end (ahead c.args.reader.now (g.S.Source.left c.args.source.now)) before after c.loop-alloc.lines c.in_ok-whole_header-in-None.field-0 i.reached end
+    (unrefused c.in_ok-line.field-0 c.loop-alloc.lines c.in_default.not-Some none) few is
+
+pub returns-clause-took : goal.returns-clause-took
+returns-clause-took g c =
+    let i = c.loop-alloc.invariant in
+    let few : length c.loop-alloc.lines ≤ 3 = i.few in
+    let many : c.len.result ≡ length c.loop-alloc.lines = c.len.ensures in
+    let past = c.loop-alloc-test.false in
+    let three : length c.loop-alloc.lines ≡ 3 = omega arith in
+    let is = subst (λ (ls : List (List ℕ)). IsOpening ls c.in_ok-whole_header.field-0) c.as_slice-2.ensures c.in_ok-whole_header.ensures in
+    took_whole (ahead c.args.reader.now (g.S.Source.left c.args.source.now)) (ahead c.loop-alloc.reader (g.S.Source.left c.loop-alloc.source)) c.loop-alloc.lines c.in_ok-whole_header.field-0 i.reached i.clean three is

@@ -1,15 +1,17 @@
-use Rattle.std.proofs.Common.{◌≤◌, ◌-◌, length}
+use Rattle.std.proofs.Common.{◌≡◌, ◌≤◌, ◌-◌, length}
 use Rattle.tg_io.specs.Faults.{StaysSure}
 use Rattle.tg_lines.specs.Lines.{ahead}
 use Rattle.tg_lines.specs.Openings.{Reached}
+use Rattle.tg_lines.proofs.Openings.{AreClean}
 use Rattle.tg_lines.proofs.header.read_header.Given as goal
 
 abbrev pub invariant-loop-alloc : goal.invariant-loop-alloc
 invariant-loop-alloc g l = record {
   reached : Reached (ahead l.fn.reader (g.S.Source.left l.fn.source)) (ahead l.reader (g.S.Source.left l.source)) l.lines;
   few : length l.lines ≤ 3;
-  later : g.S.Source.faults l.fn.source ≤ g.S.Source.faults l.source;
+  still : g.S.Source.faults l.source ≡ g.S.Source.faults l.fn.source;
   sure : StaysSure (g.S.Source.sure l.fn.source) (g.S.Source.sure l.source) (g.S.Source.faults l.fn.source) (g.S.Source.faults l.source);
+  clean : AreClean l.lines;
 }
 
 abbrev pub decreases-loop-alloc : goal.decreases-loop-alloc

@@ -1,8 +1,23 @@
-use Rattle.std.proofs.Common.{◌≡◌, ◌≤◌, ◌+◌, List, [], ℕ, Bool, Option, false, length, sym, subst, refl, arith}
+use Rattle.std.proofs.Common.{◌≡◌, ◌≤◌, ◌+◌, List, [], ℕ, Bool, Option, false, length, sym, ap, subst, refl, arith, ◌∙◌}
 use Rattle.tg_io.proofs.Faults.{sure_since}
 use Rattle.tg_lines.specs.Lines.{IsTaken, TakesLine, ahead}
-use Rattle.tg_lines.proofs.Pieces.{begun_more, begun_ends, begun_fed, begun_last, gives_end, taken_counts}
+use Rattle.tg_lines.proofs.Pieces.{begun_none, begun_more, begun_ends, begun_fed, begun_last, gives_end, taken_counts}
+use Rattle.tg_lines.specs.Reads.{ReadsLine}
+use Rattle.tg_lines.proofs.Reading.{reading_none, reading_next, reading_feed, reading_end, found_first}
 use Rattle.tg_lines.proofs.line_reader.LineReader.next.Goals as goal
+
+pub loop-line-init : goal.loop-line-init
+loop-line-init g c =
+    let none : c.new-line.result ≡ [] = c.new-line.ensures in
+    let zero : length c.new-line.result ≡ 0 = ap length none in
+    record {
+      begun = begun_none (ahead c.args.self.now (g.S.Source.left c.args.source.now)) c.new-line.result none;
+      count = omega arith;
+      still = refl;
+      sure = record { sure = λ t. t; still = λ t. refl };
+      reading = reading_none c.args.self.now c.new-line.result (g.S.Source.pieces c.args.source.now) none;
+      hand = λ broken. (refl, refl);
+    }
 
 pub returns-then-branch-clause-line : goal.returns-then-branch-clause-line
 returns-then-branch-clause-line g c =
@@ -33,11 +48,23 @@ loop-line-preserved g c =
     let counts : length c.take.new.self + length c.take.new.line ≤ length c.loop-line.self + length c.loop-line.line = taken_counts c.loop-line.self c.take.new.self c.loop-line.line c.take.new.line t in
     let room : g.S.Source.room c.fill.new.source + length c.fill.new.self ≡ g.S.Source.room c.loop-line.source = c.in_ok-fill.ensures.room in
     let before : length c.loop-line.self + length c.loop-line.line + g.S.Source.room c.loop-line.source ≤ length c.args.self.now + g.S.Source.room c.args.source.now = i.count in
-    let later : g.S.Source.faults c.args.source.now ≤ g.S.Source.faults c.loop-line.source = i.later in
-    let rose : g.S.Source.faults c.loop-line.source ≤ g.S.Source.faults c.fill.new.source = c.in_ok-fill.ensures.cause.later in
     record {
       begun = begun_fed text was is c.take.new.self c.fill.new.self c.take.new.line more (t.all refl) c.in_ok-fill.ensures.given;
       count = omega arith;
-      later = omega arith;
+      still = c.in_ok-fill.ensures.still ∙ i.still;
       sure = sure_since _ _ _ _ _ _ i.sure c.in_ok-fill.ensures.sure;
+      reading = reading_next c.args.self.now c.loop-line.self c.take.new.self c.loop-line.line c.take.new.line c.fill.new.self _ _ _ i.reading t c.in_ok-fill.ensures.piece;
+      hand = λ broken. absurd (found_first c.args.self.now c.loop-line.self c.take.new.self c.loop-line.line c.take.new.line i.hand t broken);
     }
+
+pub returns-then-branch-clause-reads : goal.returns-then-branch-clause-reads
+returns-then-branch-clause-reads g c =
+    let t = subst (λ (b : Bool). IsTaken c.loop-line.self c.take.new.self c.loop-line.line c.take.new.line b) c.if-branch.true c.in_ok-take.ensures in
+    reading_feed c.args.self.now c.loop-line.self c.take.new.self c.loop-line.line c.take.new.line _ _ c.loop-line.invariant.reading t
+
+pub returns-then-not-branch-clause-reads : goal.returns-then-not-branch-clause-reads
+returns-then-not-branch-clause-reads g c =
+    let t = subst (λ (b : Bool). IsTaken c.loop-line.self c.take.new.self c.loop-line.line c.take.new.line b) c.if-branch.false c.in_ok-take.ensures in
+    let none : c.fill.new.self ≡ [] = c.in_ok-fill.ensures.none c.if-not-branch.true in
+    let ends = reading_end c.args.self.now c.loop-line.self c.take.new.self c.loop-line.line c.take.new.line c.fill.new.self _ _ _ c.loop-line.invariant.reading t c.in_ok-fill.ensures.piece none in
+    subst (λ (last : Option (List ℕ)). ReadsLine c.args.self.now c.fill.new.self (g.S.Source.pieces c.args.source.now) (g.S.Source.pieces c.fill.new.source) last) (sym c.ended.ensures) ends
