@@ -10,7 +10,7 @@ use Rattle.tg_entry.specs.declared.entry.Entry.{Entry}
 use Rattle.tg_protocol.specs.Past.{commit_at}
 use Rattle.tg_protocol.specs.Views.{Entries}
 use Rattle.tg_client_cells.specs.Words.{ByStream, positions_of, any_has, is_within, within, below, cell_entry, entry_if, entries_at, commit_of}
-use Rattle.tg_client_cells.specs.Known.{Knowledge, all_positions, all_entries, member_entries, new_entries}
+use Rattle.tg_client_cells.specs.Known.{Knowledge, all_positions, all_entries, new_entries}
 use Rattle.tg_client_cells.proofs.Unions.{filter_union, has_all}
 use Rattle.tg_client_cells.proofs.Streams.{rises_of, has_of}
 use Rattle.tg_client_cells.proofs.Finding.{within_zero, new_at, commit_found, has_below}
@@ -20,9 +20,6 @@ positions_are k found os low high = sym (filter_union (is_within low high) k.own
 
 pub all_are : (k : Knowledge) (found : ByStream) (os : List Oid) (tail : ℕ) → entries_at k.cells (within 0 tail (all_positions k found os)) ≡ all_entries k found os tail
 all_are k found os tail = ap (entries_at k.cells) (within_zero tail (all_positions k found os))
-
-pub members_at : (k : Knowledge) (found : ByStream) (os : List Oid) (tail : ℕ) → entries_at k.cells (within 0 tail (positions_of found os)) ≡ member_entries k found os tail
-members_at k found os tail = ap (entries_at k.cells) (within_zero tail (positions_of found os))
 
 pub new_are : (k : Knowledge) (found : ByStream) (os : List Oid) (tail : ℕ) → entries_at k.cells (within k.settled tail (all_positions k found os)) ≡ new_entries k found os tail
 new_are k found os tail = new_at k.settled tail k.cells (all_positions k found os)

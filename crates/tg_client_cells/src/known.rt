@@ -22,8 +22,8 @@ use tg_stream::Cells;
 /// Known cells, the positions of the client's own commit records, and a position up to which cells are settled: below
 /// it each known page is one of the client's own commit records.
 ///
-/// Own records and junk are never given up. What a command does goes by what is known from the settled
-/// position on, so a history costs it nothing.
+/// Own records and junk are never given up. What a command does goes by what is known from the settled position on, so
+/// a history costs it nothing.
 pub struct Known {
     cells: BTreeMap<u64, Cell>,
     own: Positions,
@@ -154,7 +154,8 @@ impl Known {
         })
     }
 
-    /// The entries below a tail: those of the members found of these streams, and the client's own commit records. Each has a spelling, since it was read from a page. It goes over all that is known.
+    /// The entries below a tail: those of the members found of these streams, and the client's own commit records. Each
+    /// has a spelling, since it was read from a page. It goes over all that is known.
     pub fn entries(
         &self,
         alloc: Global,
