@@ -1,11 +1,10 @@
 -- A play up to the tail tells of a record past it what a play past the record does.
-use Rattle.std.specs.Prelude.{◌≡◌, ℕ, ◌+◌, ◌<◌, ◌≤◌, Bool, true, false, cond, ◌&&◌, ◌==◌, nat_le, nat_lt, List, [], ◌∷◌, Option, Some, None, Result, IfOk, refl}
+use Rattle.std.specs.Prelude.{◌≡◌, ℕ, ◌+◌, ◌<◌, ◌≤◌, Bool, true, false, cond, ◌&&◌, ◌==◌, nat_le, nat_lt, List, [], ◌∷◌, Some, None, Result, IfOk, refl}
 use Rattle.std.proofs.Common.{inl, inr, sym, ap, subst, ◌∙◌, arith}
 use Rattle.std.proofs.lemmas.Bool.{cases_lt}
 use Rattle.std.proofs.lemmas.Bool.Decides.{nat_tests}
 use Rattle.tg_base.specs.declared.ids.Oid.{Oid}
 use Rattle.tg_entry.specs.Drafts.{all_below}
-use Rattle.tg_entry.specs.declared.entry.Entry.{Entry}
 use Rattle.tg_kind.specs.Meaning.{Meaning}
 use Rattle.tg_model.specs.declared.play.PlayEnd.{PlayEnd}
 use Rattle.tg_model.specs.declared.play.PlayEnd.TheVariants.{Played, Blocked}
@@ -87,7 +86,7 @@ module _ (m : Meaning) where
       → came ≡ (play m (view_start m (view_bases m es gone objects oids)) es upto).came
       → ((p : Play m) → KeepsView m c p.view → came ≡ p.came → IfOk r (λ t. told_turn m t ≡ rescue_played m p es oids at))
       → IfOk r (λ t. told_turn m t ≡ rescue_turn m es gone oids objects at)
-  unfolding rescue_turn
+  unfolding rescue_turn view_start
   turn_is {E} r c came es tail gone oids objects at upto is h k end f =
       let v = view_start m (view_bases m es gone objects oids) in
       subst (λ (x : RescueTurn m). IfOk r (λ t. told_turn m t ≡ x)) (ap (λ (n : ℕ). rescue_played m (play m v es n) es oids at) is ∙ same_turn v es oids tail at refl h) (f (play m v es upto) k end)
