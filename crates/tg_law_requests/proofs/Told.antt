@@ -61,7 +61,7 @@ module _ (m : Meaning) where
   same_ask : (c : Config m) (u : ℕ) (a p : Packet) → Base c → (h : Answered m c u a) → Has c.packets p → is_request p.msg ≡ true → p.to ≡ a.from → a.to ≡ p.from → a.rid ≡ p.rid → h.ask.msg ≡ p.msg
   same_ask c u a p b h sent request to back number = b.numbers.same h.ask p h.asked sent h.request request (h.from ∙ back) (h.to ∙ sym to) (h.rid ∙ number)
 
-  -- what was told holds (UNIT1, UNIT3)
+  -- what was told holds
   pub told_holds : (c : Config m) (u : ℕ) (k : Claim) → Base c → Tells c.packets u k → Holds (unit_in m c u) k
   told_holds c u k b t =
       let h = b.units.answered u t.answer t.answered t.from_unit in
@@ -72,9 +72,9 @@ module _ (m : Meaning) where
   seal_holds c u e h b s = (b.units.answered u s.answer s.answered s.from_unit).true.sealed e h s.is
 
   pub record Facts (c : Config m) : Type 0 where
-    -- a position has one cell (UNIT4)
+    -- a position has one cell
     pub once : (u : ℕ) (k l : Claim) → Tells c.packets u k → Tells c.packets u l → k.pos ≡ l.pos → k.cell ≡ l.cell
-    -- what is told below a seal's epoch lies below its high (UNIT5)
+    -- what is told below a seal's epoch lies below its high
     pub sealed : (u e h : ℕ) (k : Claim) → Seals c.packets u e h → Tells c.packets u k → k.epoch < e → plus_one k.pos ≤ h
 
   -- Units are quiet.
