@@ -1,4 +1,4 @@
-ghost use Rattle.std.specs.Prelude.{◌≡◌, ◌≤◌, ◌^◌, true, IfOk};
+ghost use Rattle.std.specs.Prelude.{◌≡◌, true, IfOk};
 ghost use Rattle.tg_ckpt.specs.Saving.{AreSpelled};
 ghost use Rattle.tg_entry.specs.Format.{entry};
 
@@ -59,9 +59,7 @@ fn listed(alloc: Global, view: &View<Directory>) -> Option<usize> {
 }
 
 // How many objects the directory lists at a position, itself among them, or the trim below which it is gone.
-fn met(alloc: Global, gone: &[(Oid, Pos)], pos: Pos) -> Option<Result<usize, Pos>>
-    requires { pos ≤ 2 ^ 62 }
-{
+fn met(alloc: Global, gone: &[(Oid, Pos)], pos: Pos) -> Option<Result<usize, Pos>> {
     let entries = log(alloc).ok()?;
     let turn: PastTurn<Directory> = past_at(alloc, &entries, gone, &[DIR], &[], DIR, pos).ok()?;
     match turn {
@@ -76,6 +74,7 @@ fn a_past_view_has_what_is_below_its_position(rt: HostRuntime) -> Result<(), Fai
     assert_eq!(rt; met(alloc, &[], 0), Some(Ok(1)));
     assert_eq!(rt; met(alloc, &[], 1), Some(Ok(2)));
     assert_eq!(rt; met(alloc, &[], 2), Some(Ok(3)));
+    assert_eq!(rt; met(alloc, &[], u64::MAX), Some(Ok(3)));
     // From the checkpoint on, there is the second record alone.
     assert_eq!(rt; met(alloc, &[(DIR, 1)], 2), Some(Ok(2)));
     assert_eq!(rt; met(alloc, &[(DIR, 1)], 0), Some(Err(1)));

@@ -1,4 +1,4 @@
-ghost use Rattle.std.specs.Prelude.{◌<◌, ◌≤◌, ◌^◌};
+ghost use Rattle.std.specs.Prelude.{◌<◌, ◌≤◌};
 
 use std::alloc::Global;
 use std::test::Fail;
@@ -145,9 +145,7 @@ fn twice(
     second: &Entries,
     upto: Pos,
     at: [Pos; 2],
-) -> Result<(PlayEnd, Seen, Seen), NoMemory>
-    requires { upto ≤ 2 ^ 62 }
-{
+) -> Result<(PlayEnd, Seen, Seen), NoMemory> {
     let (view, end) = view.play(alloc, first, upto)?;
     let before = look(alloc, &view, at);
     let (view, _) = view.play(alloc, second, 9)?;

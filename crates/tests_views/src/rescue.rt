@@ -73,16 +73,27 @@ fn log(alloc: Global, first: Item, second: Item) -> Result<Entries, EntryFault>
     Ok(entries)
 }
 
-// A turn for position 1, over such entries and with the directory as the set.
+// A turn for a position, over such entries and with the directory as the set.
+fn turn_at(
+    alloc: Global,
+    first: Item,
+    second: Item,
+    gone: &[(Oid, Pos)],
+    at: Pos,
+) -> Result<RescueTurn, EntryFault> {
+    let entries = log(alloc, first, second)?;
+    let turn = rescue_turn::<Directory>(alloc, &entries, 4, gone, &[DIR], &[], at)?;
+    Ok(turn)
+}
+
+// Likewise for position 1.
 fn turn(
     alloc: Global,
     first: Item,
     second: Item,
     gone: &[(Oid, Pos)],
 ) -> Result<RescueTurn, EntryFault> {
-    let entries = log(alloc, first, second)?;
-    let turn = rescue_turn::<Directory>(alloc, &entries, 4, gone, &[DIR], &[], 1)?;
-    Ok(turn)
+    turn_at(alloc, first, second, gone, 1)
 }
 
 #[test]
@@ -111,5 +122,13 @@ fn a_record_is_rescued_or_the_set_grows(rt: HostRuntime) -> Result<(), Fail> {
         missing: DIR,
     });
     assert_eq!(rt; told, [wider, no, yes, stuck, Ok(RescueTurn::Absent)]);
+    Ok(())
+}
+
+#[test]
+fn no_record_is_past_the_tail(rt: HostRuntime) -> Result<(), Fail> {
+    let alloc = rt.alloc();
+    let told = turn_at(alloc, Item::Reads(0), Item::Saved, &[], u64::MAX);
+    assert_eq!(rt; told, Ok(RescueTurn::Absent));
     Ok(())
 }
