@@ -6,7 +6,7 @@ use Rattle.tg_base.specs.declared.ids.Oid.{Oid}
 use Rattle.tg_kind.specs.Meaning.{Meaning}
 use Rattle.tg_protocol.specs.Walking.{Members}
 use Rattle.tg_protocol.specs.Checkpoints.{load_from}
-use Rattle.tg_protocol.specs.Answers.{Moved, syncs}
+use Rattle.tg_protocol.specs.Answers.{Moved}
 use Rattle.tg_protocol.specs.Clients as told
 use Rattle.tg_protocol.specs.ClientSteps.{found_by, takes_back, walks, knows, lo_for, synced, stale, starts_over, at_trim, gives_up, given_up_if, walk_ended_by, walk_ended}
 use Rattle.tg_append.specs.declared.ends.Confirmed.{Confirmed as GivenEnd}

@@ -1,4 +1,4 @@
-use Rattle.std.proofs.Common.{Bool, sym, subst}
+use Rattle.std.proofs.Common.{sym, subst}
 use Rattle.std.specs.Prelude.{IfOk}
 use Rattle.tg_play.proofs.Means.{means}
 use Rattle.tg_protocol.specs.ClientSteps.{starts_over}
