@@ -1,7 +1,7 @@
 #!/usr/bin/env python3
 """names.py: prints each name in backquotes in the documents that the repository doesn't have.
 
-The documents are README.md, docs/*.md, docs/notes/*.md, examples/README.md and crates/*/README.md. A name is a word of
+The documents are README.md, docs/*.md, examples/README.md and crates/*/README.md; docs/notes speaks of drafts. A name is a word of
 code (`unit_step`), words joined by `::` (`tg_wire::fits`: the second one has to stand in that crate), or a path or file
 (`specs/Laws.antt`). It has to stand as a word outside comments in some crate's src, specs, proofs, must-fail or edits, to be
 a file there, or a file of the repository. Where a crate is named beside the word (`fits` of `tg_wire`, `fits` in `tg_wire`,
@@ -84,7 +84,7 @@ def main():
     places = modules(found)
     everything = set().union(*found.values())
     files = [os.path.relpath(os.path.join(folder, name), TOP) for folder, _, names in os.walk(TOP) if "/.git" not in folder and "/out" not in folder for name in names]
-    documents = [it for form in ("README.md", "docs/*.md", "docs/notes/*.md", "examples/README.md", "crates/*/README.md") for it in sorted(glob.glob(os.path.join(TOP, form)))]
+    documents = [it for form in ("README.md", "docs/*.md", "examples/README.md", "crates/*/README.md") for it in sorted(glob.glob(os.path.join(TOP, form)))]
     lacking = 0
     for document in documents:
         with open(document, encoding="utf-8") as file:
