@@ -18,7 +18,7 @@ use Rattle.tg_protocol.specs.Clients.{Walking, Work, Client, upto, upto_in, posi
 use Rattle.tg_protocol.specs.Answers.{Moved, moved, walked, syncs, keeps}
 use Rattle.tg_protocol.specs.ClientSteps.{after_turn, met, goes_on, takes_back, found_by, lends, start_walk, walks, fate_missing, zero_if, lo_for, knows, synced, sync_to, on_sync, stale, plays_kept, gives_up, given_up_if, starts_over, at_trim, walk_ended_by, walk_ended, walk_to, on_walk, lasts_of, task_feed, task_again}
 use Rattle.tg_law_replies.specs.Steps.{EachWalk, EachSync, EachOver, EachTrim, EachEnd, EachWalked}
-use Rattle.tg_law_walks.specs.Streams.{IsByPosition, AreKnown, AreLinked}
+use Rattle.tg_law_walks.specs.Streams.{rises, IsByPosition, AreKnown, AreLinked}
 use Rattle.tg_law_walks.specs.Walks.{AreMore, IsExact, Walks, Begins}
 use Rattle.tg_law_walks.specs.Rounds.{Round, round, IsRound, IsSyncing, IsAtWalk, IsConfirmed, Comes, On, Over}
 use Rattle.tg_law_walks.specs.Laws.{SyncEndsAs, SyncsCome, WalksCome, SyncsComeAgain, WalksComeAgain, IsFound, SyncsBegin, SyncsFind, WalksFind, WalksFindAgain, RepliesKnow}
@@ -27,10 +27,10 @@ use Rattle.tg_law_walks.proofs.Cells.{more_known, fewer_known}
 use Rattle.tg_law_walks.proofs.Turns.{walks_start, walks_feed, walks_again}
 use Rattle.tg_law_walks.proofs.Finds.{no_view, with_cells, more_cells, gives_up_view, starts_anew, finds, safe_unless}
 
-none_num : (b : ℕ) → None ≡ Some b → ⊥
+pub none_num : (b : ℕ) → None ≡ Some b → ⊥
 none_num b e = cc
 
-some_num : (a b : ℕ) → Some a ≡ Some b → a ≡ b
+pub some_num : (a b : ℕ) → Some a ≡ Some b → a ≡ b
 some_num a b e = cc
 
 module _ (m : Meaning) (l : Log) (byp : IsByPosition l) (linked : AreLinked l) where
@@ -55,7 +55,7 @@ module _ (m : Meaning) (l : Log) (byp : IsByPosition l) (linked : AreLinked l) w
   at_walk r o os x h grows known is = subst (λ y. IsRound m l (with_cells m r x.cells) (y ∷ os)) (sym is) (more_cells m l byp r (o ∷ os) x.cells h known grows)
 
   -- a round after a walk that met no trim
-  next_alone : (c : Client m) (w : Work m) (cells : List (ℕ × Cell)) (o : Oid) (os : List Oid) (x : Members) → IsRound m l (round m c w cells) (o ∷ os) → AreMore cells x.cells → IsExact l o w.lo w.tail x → x.gone ≡ None →
+  pub next_alone : (c : Client m) (w : Work m) (cells : List (ℕ × Cell)) (o : Oid) (os : List Oid) (x : Members) → IsRound m l (round m c w cells) (o ∷ os) → AreMore cells x.cells → IsExact l o w.lo w.tail x → x.gone ≡ None →
       IsRound m l (round m (takes_back m c x) (found_by m w o x) (takes_back m c x).cells) os
   next_alone c w cells o os x h grows exact none =
       finds m l byp (round m c w cells) o os x h grows exact (λ b e. absurd (none_num b (sym none ∙ e)))
@@ -98,10 +98,10 @@ module _ (m : Meaning) (l : Log) (byp : IsByPosition l) (linked : AreLinked l) w
     view_test b true (Some y) u k i f = let is : y ≡ u = cc in subst (λ (z : View m). nat_lt z.upto b ≡ false) is f
     view_test b false y u k i f = absurd (cc)
 
-    not_below : (b : ℕ) → gives_up m d v b ≡ false → (u : View m) → plays_kept m w.command ≡ true → c.view ≡ Some u → b ≤ u.upto
+    pub not_below : (b : ℕ) → gives_up m d v b ≡ false → (u : View m) → plays_kept m w.command ≡ true → c.view ≡ Some u → b ≤ u.upto
     not_below b g u p i = not_lt u.upto b (view_test b (plays_kept m w.command) c.view u p i g)
 
-    gone_view : (u : View m) → None ≡ Some u → ⊥
+    pub gone_view : (u : View m) → None ≡ Some u → ⊥
     gone_view u i = cc
 
     -- the view is given up
@@ -137,7 +137,7 @@ module _ (m : Meaning) (l : Log) (byp : IsByPosition l) (linked : AreLinked l) w
   walk_to_comes c w cells o os (Learns x) h b = On _ (record { round = at_walk (round m c w cells) o os x h b.2 b.3.known b.0; walk = b.3; low = b.1 })
   walk_to_comes c w cells o os (Ends x) h b = ended_come c w cells o os x h b.0 b.1
 
-  begins_walks : (o : Oid) (lo tail : ℕ) (cells : List (ℕ × Cell)) (x : Next Walk Members) → Begins l o lo tail cells x → Walks l o lo tail cells x
+  pub begins_walks : (o : Oid) (lo tail : ℕ) (cells : List (ℕ × Cell)) (x : Next Walk Members) → Begins l o lo tail cells x → Walks l o lo tail cells x
   begins_walks o lo tail cells (Goes v) h = h
   begins_walks o lo tail cells (Learns v) h = absurd h
   begins_walks o lo tail cells (Ends x) h = (h.0, h.1)
@@ -164,7 +164,7 @@ module _ (m : Meaning) (l : Log) (byp : IsByPosition l) (linked : AreLinked l) w
   none_trim : (ts : List (Oid × ℕ)) (o : Oid) (b : ℕ) → ts ≡ [] → Rattle.tg_protocol.specs.Checkpoints.trim_of ts o ≡ Some b → ⊥
   none_trim ts o b is e = none_num b (sym (ap (λ (ys : List (Oid × ℕ)). Rattle.tg_protocol.specs.Checkpoints.trim_of ys o) is) ∙ e)
 
-  confirmed_round : (c : Client m) (w : Work m) (x : Confirmed) (cells : List (ℕ × Cell)) → AreKnown l cells → IsSyncing m l (round m c w c.cells) → IsConfirmed m l (round m c w c.cells) x →
+  pub confirmed_round : (c : Client m) (w : Work m) (x : Confirmed) (cells : List (ℕ × Cell)) → AreKnown l cells → IsSyncing m l (round m c w c.cells) → IsConfirmed m l (round m c w c.cells) x →
       IsRound m l (round m c (record w { tail = x.tail; lasts = x.lasts; lo = lo_for m c w.command }) cells) w.oids
   confirmed_round c w x cells known h k = record {
     known = known;
@@ -177,6 +177,7 @@ module _ (m : Meaning) (l : Log) (byp : IsByPosition l) (linked : AreLinked l) w
     whole = lo_whole c w.command;
     only = λ o q i. absurd (has_contained [] q (subst (λ (ys : List (Oid × List ℕ)). Contains (positions_in m ys o) q) h.found i));
     rising = subst (Rattle.tg_law_walks.specs.Rounds.AreRising m) (sym h.found) tt;
+    each = λ o. subst (λ (ys : List (Oid × List ℕ)). rises 0 (positions_in m ys o) ≡ true) (sym h.found) refl;
     left = λ o i. i;
     walked = λ o i. inl i;
     trimmed = λ o b e. absurd (none_trim w.trims o b h.trims e);

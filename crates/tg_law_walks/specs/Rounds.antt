@@ -18,7 +18,7 @@ use Rattle.tg_protocol.specs.Clients.{Task, Syncing, Walking, Work, Client, upto
 use Rattle.tg_protocol.specs.Answers.{Moved, walked, own_view, play_target}
 use Rattle.tg_protocol.specs.ClientSteps.{plays_kept, task_in}
 use Rattle.tg_law_views.specs.Views.{AreEntriesFor}
-use Rattle.tg_law_walks.specs.Streams.{stands_in, AreKnown, IsGood}
+use Rattle.tg_law_walks.specs.Streams.{rises, stands_in, AreKnown, IsGood}
 use Rattle.tg_law_walks.specs.Walks.{IsWalking}
 
 module _ (m : Meaning) where
@@ -117,6 +117,7 @@ module _ (m : Meaning) where
       pub whole : plays_kept m r.command ≡ false → r.lo ≡ 0
       pub only : (o : Oid) (q : ℕ) → Contains (positions_in m r.found o) q → (q < r.tail) × (stands_in l o q ≡ true)
       pub rising : AreRising r.found
+      pub each : (o : Oid) → rises 0 (positions_in m r.found o) ≡ true
       pub left : (o : Oid) → Contains rest o → Contains r.oids o
       pub walked : (o : Oid) → Contains r.oids o → Contains rest o ⊎ (trim_of r.trims o ≡ None → HasAll r o r.lo)
       pub trimmed : (o : Oid) (b : ℕ) → trim_of r.trims o ≡ Some b → IsTrimmed r o b
