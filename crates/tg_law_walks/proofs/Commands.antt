@@ -25,7 +25,7 @@ use Rattle.tg_law_walks.specs.Laws.{SyncEndsAs, SyncsCome, WalksCome, SyncsComeA
 use Rattle.tg_law_walks.proofs.Members.{has_contained, contained_has, same_number, not_lt}
 use Rattle.tg_law_walks.proofs.Cells.{more_known, fewer_known}
 use Rattle.tg_law_walks.proofs.Turns.{walks_start, walks_feed, walks_again}
-use Rattle.tg_law_walks.proofs.Finds.{no_view, with_cells, more_cells, gives_up_view, starts_anew, finds, safe_unless}
+use Rattle.tg_law_walks.proofs.Rounds.{no_view, with_cells, more_cells, gives_up_view, starts_anew, finds, safe_unless}
 
 pub none_num : (b : ℕ) → None ≡ Some b → ⊥
 none_num b e = cc

@@ -1,7 +1,6 @@
 -- Where a step ends a command's walks, what they have found is exactly the log's.
-use Rattle.std.proofs.Common.{◌≡◌, ◌⊎◌, ℕ, ◌+◌, ◌<◌, ◌≤◌, List, [], ◌∷◌, Bool, true, false, refl, sym, ap, ◌∙◌, subst, inl, inr, arith, filter, cond, Option, Some, None}
+use Rattle.std.proofs.Common.{◌≡◌, ◌⊎◌, ℕ, ◌≤◌, List, [], ◌∷◌, Bool, true, false, refl, sym, ◌∙◌, subst, inl, inr, arith, filter, Option, Some, None}
 use Rattle.std.specs.Prelude.{not, nat_lt, nat_le, ◌&&◌, ◌==◌, Contains, slice_get, if◌then◌else◌}
-use Rattle.std.proofs.lemmas.Bool.Decides.{nat_tests}
 use Rattle.tg_base.specs.declared.cell.Cell.{Cell}
 use Rattle.tg_base.specs.Layouts.{Layout}
 use Rattle.tg_base.specs.declared.ids.NodeId.{NodeId}
@@ -17,24 +16,22 @@ use Rattle.tg_protocol.specs.Syncing.{Sync, Confirmed, sync_feed}
 use Rattle.tg_protocol.specs.Walking.{Walk, Members, walk_feed, walk_again}
 use Rattle.tg_protocol.specs.Logs.{Log, members}
 use Rattle.tg_protocol.specs.Checkpoints.{trim_of}
-use Rattle.tg_protocol.specs.Views.{View}
-use Rattle.tg_protocol.specs.Clients.{Task, Syncing, Walking, Hand, Doing, Learning, Work, Client, positions_in}
+use Rattle.tg_protocol.specs.Clients.{Task, Syncing, Walking, Hand, Doing, Learning, Work, Client}
 use Rattle.tg_protocol.specs.ClientSteps.{task_awaited, task_in, after_turn, met, takes_back, found_by, start_walk, knows, lo_for, stale, gives_up, given_up_if, stands, lasts_of}
 use Rattle.tg_protocol.specs.Worlds.{World, client, runs}
 use Rattle.tg_protocol.specs.Walked.{Walked, walks_end, sync_end, trim_end, walked_end, walk_end, task_end, again_end, hand_end, reply_end, work_end, packet_end, walked_in, from_trim, walked_from, positions_found}
-use Rattle.tg_protocol.specs.Playing.{from_to}
-use Rattle.tg_law_walks.specs.Streams.{rises, IsByPosition, AreLinked, stands_in}
+use Rattle.tg_law_walks.specs.Streams.{IsByPosition, AreLinked}
 use Rattle.tg_law_walks.specs.Walks.{AreMore, IsExact, Walks, Begins}
-use Rattle.tg_law_walks.specs.Rounds.{Round, round, HasAll, IsRound, IsSyncing, IsAtWalk, IsAtTask, IsAtWork, IsConfirmed}
+use Rattle.tg_law_walks.specs.Rounds.{Round, round, HasAll, IsRound, IsSyncing, IsAtTask, IsAtWork}
 use Rattle.tg_law_walks.specs.Laws.{SyncEndsAs}
 use Rattle.tg_law_walks.specs.Ends.{IsExactIn, RoundsExact, TaskEndsAs, HandEndsAs, WorkEndsAs, StepEndsAs, StepsExact}
-use Rattle.tg_law_walks.proofs.Members.{Has, has_contained, contained_has, same_number, and_both, both_and, of_le, of_lt, lt_of}
+use Rattle.tg_law_walks.proofs.Members.{Has, has_contained, contained_has, same_number, and_both, both_and, of_le, of_lt}
 use Rattle.tg_law_walks.proofs.Positions.{rises_filter, has_filter, filter_passes}
 use Rattle.tg_law_walks.proofs.Stretches.{has_stretch, stretch_has}
 use Rattle.tg_law_walks.proofs.Rising.{same_rising, filter_has, stretch_rises, stretch_from}
 use Rattle.tg_law_walks.proofs.Cells.{more_known}
 use Rattle.tg_law_walks.proofs.Turns.{walks_start, walks_feed, walks_again}
-use Rattle.tg_law_walks.proofs.Finds.{no_view, with_cells, more_cells, gives_up_view, starts_anew, finds, safe_unless}
+use Rattle.tg_law_walks.proofs.Rounds.{no_view, with_cells, more_cells, gives_up_view, starts_anew, finds, safe_unless}
 use Rattle.tg_law_walks.proofs.Commands.{none_num, some_num, begins_walks, confirmed_round, next_alone, not_below, gone_view}
 
 module _ (m : Meaning) (l : Log) (byp : IsByPosition l) where
@@ -142,8 +139,10 @@ module _ (m : Meaning) (l : Log) (byp : IsByPosition l) (linked : AreLinked l) w
         let h' = gives_up_view m l byp s (o ∷ os) (same_number w.lo 0 z) h in
         walks_found os (record d { view = None }) v
         (finds m l byp (no_view m s) o os x h' grows exact
-        (λ a f. record { safe = safe_unless m l byp (no_view m s) o os x h' grows exact a x.cells refl f (subst (λ n. stale m d v o x n ≡ false) (some_num b a (sym e ∙ f)) t);
-          kept = λ u p i. absurd (gone_view m l byp linked c w cells o os x h grows exact u i) }))
+        (λ a f. record {
+          safe = safe_unless m l byp (no_view m s) o os x h' grows exact a x.cells refl f (subst (λ n. stale m d v o x n ≡ false) (some_num b a (sym e ∙ f)) t);
+          kept = λ u p i. absurd (gone_view m l byp linked c w cells o os x h grows exact u i);
+        }))
     up_found b e t false z = walks_found w.oids (record d { view = None }) (record v { lo = 0; found = []; trims = [] }) (starts_anew m l byp (with_cells m s x.cells) (o ∷ os) (more_cells m l byp s (o ∷ os) x.cells h exact.known grows))
 
     trim_found : (b : ℕ) → x.gone ≡ Some b → (t : Bool) → stale m d v o x b ≡ t → (u : Bool) → gives_up m d v b ≡ u → Found (trim_end m (given_up_if m u d) v os t (u && not (w.lo == 0)))

@@ -1,14 +1,13 @@
 -- A cell that a log is read to have at a position stands in it there.
-use Rattle.std.proofs.Common.{◌≡◌, ◌⊎◌, ℕ, zero, suc, List, [], ◌∷◌, Bool, true, false, refl, sym, ap, ◌∙◌, subst, inl, inr, arith, Option, Some, None, nat_cmp, cond}
-use Rattle.std.specs.Prelude.{slice_index_or}
+use Rattle.std.proofs.Common.{◌≡◌, ℕ, zero, suc, List, [], ◌∷◌, Bool, true, false, refl, sym, ap, ◌∙◌, inl, inr, arith, Option, Some, None, nat_cmp, cond}
 use Rattle.std.specs.BTreeMap.{is_at}
 use Rattle.tg_base.specs.Layouts.{Layout}
 use Rattle.tg_base.specs.declared.cell.Cell.{Cell}
 use Rattle.tg_kind.specs.Meaning.{Meaning}
-use Rattle.tg_protocol.specs.Words.{cell_at, with_nums, or_else, where_true}
+use Rattle.tg_protocol.specs.Words.{cell_at, with_nums, or_else}
 use Rattle.tg_protocol.specs.Layouts.{chain_of}
 use Rattle.tg_protocol.specs.Units.{UnitState, new_unit}
-use Rattle.tg_protocol.specs.Logs.{Log, unit_cells, if_all_hold, all_hold, chain_cell, log_cell, positions, all_positions, cell_if, cells_of, log_of}
+use Rattle.tg_protocol.specs.Logs.{Log, unit_cells, if_all_hold, chain_cell, log_cell, positions, all_positions, cell_if, cells_of, log_of}
 use Rattle.tg_protocol.specs.Worlds.{World, latest, log}
 use Rattle.tg_law_walks.proofs.Members.{Has}
 use Rattle.tg_law_walks.proofs.Positions.{nums_left, nums_right}

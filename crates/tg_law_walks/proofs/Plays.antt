@@ -17,16 +17,18 @@ use Rattle.tg_protocol.specs.Clients.{Work, Client, upto_in, positions_in, entri
 use Rattle.tg_protocol.specs.Answers.{view_or_new, play_target}
 use Rattle.tg_protocol.specs.ClientSteps.{plays_kept}
 use Rattle.tg_law_plays.specs.Sound.{IsRising}
-use Rattle.tg_law_views.specs.Views.{reach}
+use Rattle.tg_law_views.specs.Views.{reach, AreEntriesFor}
 use Rattle.tg_law_walks.specs.Streams.{IsByPosition, stands_in}
 use Rattle.tg_law_walks.specs.Rounds.{round, HasAll, IsSafe, IsRound, IsPlayable}
+use Rattle.tg_law_views.specs.Exact.{AreExact, or_first}
 use Rattle.tg_law_walks.specs.Laws.{RoundsPlay, PastPlays, RescuesPlay}
+use Rattle.tg_law_walks.specs.Finding.{WalksFromStart, RoundsFindAll, RoundsFindMore}
 use Rattle.tg_law_walks.proofs.Members.{Has, has_contained, contained_has, of_lt, lt_of, same_oid, same_number}
 use Rattle.tg_law_walks.proofs.Cells.{there_entry, entry_there, pair}
 use Rattle.tg_law_walks.proofs.Stretches.{entry_stand}
 use Rattle.tg_law_walks.proofs.Positions.{nums_right, all_rise, rises_filter, has_filter, filter_passes, in_positions, positions_rise}
 use Rattle.tg_law_walks.proofs.Saves.{entries_have, have_entries, entries_rising, load_gives, last_gives, gives_load}
-use Rattle.tg_law_walks.proofs.Finds.{entry_read, read_entry}
+use Rattle.tg_law_walks.proofs.Rounds.{entry_read, read_entry}
 
 module _ (m : Meaning) (l : Log) (byp : IsByPosition l) (c : Client m) (w : Work m) (h : IsRound m l (round m c w c.cells) []) (os : List Oid) (extra : List ℕ) (sub : (o : Oid) → Contains os o → Contains w.oids o) where
   abbrev pub own : Entries
@@ -115,9 +117,10 @@ module _ (m : Meaning) (l : Log) (byp : IsByPosition l) (c : Client m) (w : Work
   new_base o b e = let k = find_base os o b e in record { hosted = contained_has os o k.0; is = k.1 }
 
   -- a stream whose walk met a trim, by what the entries have of it
-  from_load : (o : Oid) (n : ℕ) (x : Option (Base m)) → Contains os o → trim_of w.trims o ≡ Some n → load_from m own o n ≡ x → From o (base_or m c.objects o x).upto
-  from_load o n (Some b) hosted t e p d le less i f = let low = (load_gives m own o n b e).1 in trimmed o n hosted t p d (omega (arith, low, le)) less i f
-  from_load o n None hosted t e p d le less i f = by (h.trimmed o n t).safe
+
+  -- no entry saves it there, so nothing of it stands below
+  pub none_saved : (o : Oid) (n : ℕ) → Contains os o → trim_of w.trims o ≡ Some n → load_from m own o n ≡ None → (p : ℕ) (d : Entry) → Has (entries_of l) (p, d) → lists d o ≡ true → n ≤ p
+  none_saved o n hosted t e p d i f = by (h.trimmed o n t).safe
     where
       none_some : (x : Option (Base m)) → x ≡ None → is_some x ≡ true → ⊥
       none_some None g k = cc
@@ -133,8 +136,8 @@ module _ (m : Meaning) (l : Log) (byp : IsByPosition l) (c : Client m) (w : Work
           test true g = grind (arith, nat_tests)
           test false g = absurd (none p (grind (arith, nat_tests)) stands)
 
-      by : IsSafe m l (round m c w c.cells) o n → Has own (p, d)
-      by (inr none) = trimmed o n hosted t p d (apart none) less i f
+      by : IsSafe m l (round m c w c.cells) o n → n ≤ p
+      by (inr none) = apart none
       by (inl s) =
           absurd (none_some (load_from m own o n) e
           (gives_load m own o n s.at s.entry
@@ -145,6 +148,24 @@ module _ (m : Meaning) (l : Log) (byp : IsByPosition l) (c : Client m) (w : Work
           (of_lt s.at w.tail s.below))
           s.here)
           s.saves))
+
+  from_load : (o : Oid) (n : ℕ) (x : Option (Base m)) → Contains os o → trim_of w.trims o ≡ Some n → load_from m own o n ≡ x → From o (base_or m c.objects o x).upto
+  from_load o n (Some b) hosted t e p d le less i f = let low = (load_gives m own o n b e).1 in trimmed o n hosted t p d (omega (arith, low, le)) less i f
+  from_load o n None hosted t e p d le less i f = trimmed o n hosted t p d (none_saved o n hosted t e p d i f) less i f
+
+  -- All of these streams, for a command that walks from 0.
+
+  all_low : (o : Oid) (t : Option ℕ) → Contains os o → w.lo ≡ 0 → trim_of w.trims o ≡ t → From o (or_first t)
+  all_low o None hosted none e p d le less i f = untrimmed o hosted e p d (omega (arith, none)) less i f
+  all_low o (Some b) hosted none e p d le less i f = trimmed o b hosted e p d le less i f
+
+  pub own_exact : w.lo ≡ 0 → AreExact m (entries_of l) (entries_at m c.cells (below m w.tail (with_nums extra (member_positions m w os)))) w.trims os w.tail
+  own_exact none = record {
+    rising = own_rising;
+    only = own_only;
+    all = λ o p e hosted i f le less. contained_has own (p, e) (all_low o (trim_of w.trims o) hosted none refl p e le less (has_contained (entries_of l) (p, e) i) f);
+    none_below = λ o b p e hosted t n i f. none_saved o b hosted t n p e (has_contained (entries_of l) (p, e) i) f;
+  }
 
   from_trim : (o : Oid) (t : Option ℕ) → Contains os o → w.lo ≡ 0 → trim_of w.trims o ≡ t → From o (base_by m own c.objects o t).upto
   from_trim o None hosted none e p d le less i f = untrimmed o hosted e p d (omega (arith, none)) less i f
@@ -258,6 +279,17 @@ module _ (m : Meaning) (l : Log) (byp : IsByPosition l) (c : Client m) (w : Work
   view_low None is = omega arith
   view_low (Some v) is = kept_low w.command refl v is
 
+  -- all that it needs for its kept view, up to the tail
+  pub more_for : (objects : List Oid) (v : View m) → plays_kept m w.command ≡ true → c.view ≡ Some v → AreEntriesFor m objects (entries_of l) v (all_entries m c w c.hosted) w.tail × (v.upto ≤ play_target m w w.command)
+  more_for objects v plays is = (
+    record {
+      rising = own_rising m l byp c w h c.hosted c.own h.hosts;
+      only = own_only m l byp c w h c.hosted c.own h.hosts;
+      all = λ o b p e has i f le less. contained_has mine (p, e) (kept_from v o plays is (h.bases v o b is has) p e (max_left v.upto b.upto p le) less (has_contained (entries_of l) (p, e) i) f);
+    },
+    kept_low w.command refl v is,
+  )
+
   pub plays : (objects : List Oid) → plays_kept m w.command ≡ true → IsPlayable m l objects c w
   plays objects k = record { entries = record { rising = own_rising m l byp c w h c.hosted c.own h.hosts; only = own_only m l byp c w h c.hosted c.own h.hosts; all = all_for c.view refl k }; low = view_low c.view refl }
 
@@ -294,3 +326,20 @@ rescues_play m l objects c w p e byp h is has =
       only = own_only m l byp c w h w.oids c.own all;
       all = new_for m l byp c w h w.oids c.own all (p + 1) (within m l byp c w h w.oids c.own all p e (commit_has (all_entries m c w w.oids) p e has)) (h.whole (ap (plays_kept m) is));
     }
+
+pub rounds_find_all : (m : Meaning) → RoundsFindAll m
+rounds_find_all m l c w byp h from = record {
+  hosted = own_exact m l byp c w h c.hosted c.own h.hosts (zero' from);
+  members = own_exact m l byp c w h w.oids [] all (zero' from);
+  all = own_exact m l byp c w h w.oids c.own all (zero' from);
+}
+  where
+    all : (x : Oid) → Contains w.oids x → Contains w.oids x
+    all x i = i
+
+    zero' : WalksFromStart m c w → w.lo ≡ 0
+    zero' (inl is) = let low = h.low in let none : upto_in m c.view ≡ 0 = ap (upto_in m) is in omega (arith, low, none)
+    zero' (inr is) = h.whole is
+
+pub rounds_find_more : (m : Meaning) → RoundsFindMore m
+rounds_find_more m l objects c w v byp h plays is = more_for m l byp c w h objects v plays is

@@ -1,33 +1,29 @@
 -- What walks read is settled, and the log's where it isn't trimmed.
-use Rattle.std.proofs.Common.{◌≡◌, ◌⊎◌, ℕ, ◌≤◌, List, [], ◌++◌, length, true, refl, sym, ap, ◌∙◌, subst, inl, inr, Option, Some, None}
+use Rattle.std.proofs.Common.{◌≡◌, ◌⊎◌, ℕ, [], ◌++◌, length, refl, sym, ap, ◌∙◌, subst, inl, inr, Option, Some, None}
 use Rattle.std.specs.Prelude.{Contains}
 use Rattle.tg_base.specs.Clusters.{Header}
 use Rattle.tg_base.specs.Layouts.{Layout}
 use Rattle.tg_base.specs.declared.cell.Cell.{Cell}
 use Rattle.tg_base.specs.declared.packet.Packet.{Packet}
 use Rattle.tg_kind.specs.Meaning.{Meaning}
-use Rattle.tg_protocol.specs.Words.{cell_at, unit_id, client_id}
-use Rattle.tg_protocol.specs.Requests.{Next, Goes, Learns, Ends}
+use Rattle.tg_protocol.specs.Words.{cell_at}
+use Rattle.tg_protocol.specs.Requests.{Next, Ends}
 use Rattle.tg_protocol.specs.Replies.{reply}
-use Rattle.tg_protocol.specs.Cells.{Place, place_in, last_unit, CellJob, CellEnd, Done, cell_feed}
+use Rattle.tg_protocol.specs.Cells.{Place, place_in, CellJob, CellEnd, Done, cell_feed}
 use Rattle.tg_protocol.specs.Walking.{Walk}
-use Rattle.tg_protocol.specs.Clients.{Walking, Hand, Doing, Work}
+use Rattle.tg_protocol.specs.Clients.{Walking, Hand, Work}
 use Rattle.tg_protocol.specs.Worlds.{World, start, client, latest, log}
-use Rattle.tg_protocol.specs.Runs.{Move, Moves, run, Goes as Leads, Reaches, Later, Always, EachLater, LawfulMove}
-use Rattle.tg_protocol.specs.Chosen.{IsDecided}
-use Rattle.tg_law_moves.specs.Configs.{Config, config, client_in}
-use Rattle.tg_law_moves.specs.After.{after}
-use Rattle.tg_law_moves.specs.Telling.{Claim, claimed}
+use Rattle.tg_protocol.specs.Runs.{Move, Moves, run, Reaches, Later, Always, EachLater, LawfulMove}
+use Rattle.tg_law_moves.specs.Configs.{config}
 use Rattle.tg_law_moves.proofs.Members.{Has, has_contained, has_either}
 use Rattle.tg_law_moves.proofs.Lists.{contained}
 use Rattle.tg_law_moves.proofs.Clients.{reserved, hand_reserved, work_reserved}
 use Rattle.tg_law_moves.proofs.Scripts.{run_both}
 use Rattle.tg_law_requests.proofs.Starts.{All, all_hold}
-use Rattle.tg_law_layouts.specs.Decisions.{IsOfDecided}
 use Rattle.tg_law_layouts.proofs.Layouts.{has_header}
 use Rattle.tg_law_layouts.proofs.Deciding.{layouts_are_known, latest_decided, decided_stays}
 use Rattle.tg_law_cells.specs.Settled.{IsSettled}
-use Rattle.tg_law_cells.proofs.Justified.{heard, EndOk, NextOk, ToldBy, Upto}
+use Rattle.tg_law_cells.proofs.Justified.{heard, EndOk, NextOk}
 use Rattle.tg_law_cells.proofs.Jobs.{JobOk, MaybeOk, cell_ok}
 use Rattle.tg_law_cells.proofs.Hands as hands
 use Rattle.tg_law_cells.proofs.Sent.{Heard, task_claims}
@@ -66,9 +62,11 @@ module _ (m : Meaning) where
 
       ends_so : (j : CellJob) (c : Cell) → walk.job ≡ Some j → (cell_feed j x.from.num (reply x.msg) (client m w k).next).to ≡ Ends (Done c) → JobOk w.packets stand j × EndOk w.packets j.place (Done c)
       ends_so j c e f =
-          let o : JobOk w.packets stand j = subst (λ (i : Option CellJob). MaybeOk w.packets stand i) e job_ok in
-          (o, subst (λ (y : Next CellJob CellEnd). NextOk w.packets j.place y) f
-          (cell_ok w.packets stand j x.msg o (subst (λ (i : Option CellJob). Rattle.tg_law_cells.proofs.Jobs.MaybeClaims w.packets stand i x.msg) e claims) x.from.num (client m w k).next))
+          let o : JobOk w.packets stand j = subst (λ (i : Option CellJob). MaybeOk w.packets stand i) e job_ok in (
+            o,
+            subst (λ (y : Next CellJob CellEnd). NextOk w.packets j.place y) f
+                (cell_ok w.packets stand j x.msg o (subst (λ (i : Option CellJob). Rattle.tg_law_cells.proofs.Jobs.MaybeClaims w.packets stand i x.msg) e claims) x.from.num (client m w k).next),
+          )
 
       settled_by : (pos : ℕ) (c : Cell) → EndOk w.packets (place_in stand pos) (Done c) → IsSettled m w pos c
       settled_by pos c (inl f) = record { layout = stand; decided = (layouts_are_known m h ms w r).clients k; told = first_told w.packets (place_in stand pos) c (length (place_in stand pos).chain) f }
