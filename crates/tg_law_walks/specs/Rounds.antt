@@ -124,7 +124,8 @@ module _ (m : Meaning) where
       pub hosts : (o : Oid) → Contains r.hosted o → Contains r.oids o
       pub bases : (v : View m) (o : Oid) (b : Base m) → r.view ≡ Some v → base_of m v o ≡ Some b → Contains r.hosted o
 
-    -- a client that syncs
+    -- A client that syncs. At a command's beginning this is a premise: there lacks that a client's known cells stay the log's
+    -- through its appends, and that its view has bases of hosted objects alone.
     pub record IsSyncing (r : Round) : Type 0 where
       pub known : AreKnown l r.cells
       pub found : r.found ≡ []
@@ -147,7 +148,8 @@ module _ (m : Meaning) where
     IsAtWork c None = Unit {0}
     IsAtWork c (Some w) = IsAtTask c w (task_in m w.hand)
 
-    -- what a sync ends with
+    -- What a sync ends with. Of a run's last log this is a premise: there lacks that the lists of the tail's answer are good for
+    -- it (`SeqrsTell`), that the tail is past what the client has played and appended, and what trims leave of each stream.
     pub record IsConfirmed (r : Round) (x : Confirmed) : Type 0 where
       pub settled : (q : ℕ) (c : Cell) → x.settled ≡ Some (q, c) → cell_at l q ≡ Some c
       pub lists : (o : Oid) → Contains r.oids o → IsGood l o x.tail (backs_of (link_of o x.lasts))
