@@ -6,6 +6,7 @@ pub mod Hands
 pub mod Sent
 pub mod Pages
 pub mod Own
+pub mod Held
 pub mod Backs
 pub mod Listing
 pub mod Naming

@@ -17,6 +17,9 @@ use Rattle.tg_law_moves.specs.Configs.{Config, config}
 use Rattle.tg_law_moves.proofs.Lists.{contained, at_map}
 use Rattle.tg_law_moves.proofs.Moves.{Keeps, cases_map, keeps_above, run_keeps}
 use Rattle.tg_law_tokens.specs.Issuing.{IsOwnPage, PagesOwn}
+use Rattle.tg_law_requests.proofs.Starts.{All}
+use Rattle.tg_law_cells.proofs.Owned as stores
+use Rattle.tg_law_cells.proofs.Owned.{owned_keep, start_owned}
 use Rattle.tg_law_tokens.proofs.Owning.{Owned}
 use Rattle.tg_law_tokens.proofs.Jobs.{MaybeOk}
 use Rattle.tg_law_tokens.proofs.Hands as hands
@@ -34,7 +37,7 @@ module _ (m : Meaning) where
   unfolding new_seqr
   start_scan h n s = tt
 
-  start_pages : (h : Header) → Pages m (config m (start m h))
+  pub start_pages : (h : Header) → Pages m (config m (start m h))
   unfolding start
   start_pages h = record {
     hands = λ k. at_map (new_client m h) (numbers h.clients 0) k (new_client m h k) (λ (x : Client m). hands.WorkOk m [] (client_id k) x.stand x.work) (λ j. start_client h (client_id k) j) (start_client h (client_id k) k);
@@ -42,16 +45,25 @@ module _ (m : Meaning) where
     sent = λ x g. absurd g;
   }
 
-  low_of : (c : Config m) → issues.Low m c → Low m c
-  low_of c a = record { numbers = a.0.0.0; issuing = a.1 }
+  abbrev pub Base : Config m → Type 0
+  Base c = issues.Low m c × stores.Owned m c
 
-  keeps : Keeps m (λ c. issues.Low m c × Pages m c)
-  keeps = keeps_above m (issues.Low m) (Pages m) (low_keeps m) (λ c a f. cases_map m c (Pages m) (λ d. issues.Low m d → Pages m d) (λ d x y. x) (pages_keep m c (low_of c a) f))
+  base_keeps : Keeps m Base
+  base_keeps = keeps_above m (issues.Low m) (stores.Owned m) (low_keeps m) (λ c a f. cases_map m c (λ d. All m d → stores.Owned m d) (λ d. issues.Low m d → stores.Owned m d) (λ d g y. g y.0) (owned_keep m c a.0 f))
+
+  pub low_of : (c : Config m) → Base c → Low m c
+  low_of c a = record { all = a.0.0; issuing = a.0.1; stores = a.1 }
+
+  pub keeps : Keeps m (λ c. Base c × Pages m c)
+  keeps = keeps_above m Base (Pages m) base_keeps (λ c a f. cases_map m c (Pages m) (λ d. Base d → Pages m d) (λ d x y. x) (pages_keep m c (low_of c a) f))
+
+  pub both_hold : (h : Header) (xs : Moves m) → Base (config m (after m h xs)) × Pages m (config m (after m h xs))
+  both_hold h xs = run_keeps m (λ c. Base c × Pages m c) keeps xs (start m h) ((start_low m h, start_owned m h), start_pages h)
 
   pub pages_hold : (h : Header) (xs : Moves m) → Pages m (config m (after m h xs))
-  pages_hold h xs = (run_keeps m (λ c. issues.Low m c × Pages m c) keeps xs (start m h) (start_low m h, start_pages h)).1
+  pages_hold h xs = (both_hold h xs).1
 
-  own_page : (w : World m) (n : NodeId) (e p : ℕ) (d : List ℕ) → Owned w.packets n e p d → IsOwnPage m w n e p d
+  pub own_page : (w : World m) (n : NodeId) (e p : ℕ) (d : List ℕ) → Owned w.packets n e p d → IsOwnPage m w n e p d
   own_page w n e p d o = record {
     seqr = o.seqr;
     draft = o.draft;

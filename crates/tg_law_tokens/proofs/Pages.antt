@@ -34,13 +34,23 @@ use Rattle.tg_law_moves.proofs.Turns.{not_busy, task_again_reserved, asked_await
 use Rattle.tg_law_moves.proofs.Moves.{Cases, Comes, seqr_turn, client_turn, SeqrInput, Hears, Ticks, ClientInput, Commanded, Hears', Ticks'}
 use Rattle.tg_law_requests.proofs.Answered.{turn_on}
 use Rattle.tg_law_requests.proofs.Numbers.{Numbers, layout_answer}
-use Rattle.tg_law_tokens.proofs.Owning.{NextOk}
+use Rattle.tg_base.specs.declared.cell.Cell.{Cell}
+use Rattle.tg_protocol.specs.Units.{unit_ask}
+use Rattle.tg_law_moves.specs.Telling.{Claim, claimed}
+use Rattle.tg_law_requests.proofs.Told.{Tells}
+use Rattle.tg_law_requests.proofs.Starts.{All}
+use Rattle.tg_law_cells.proofs.Justified.{heard, scan_told}
+use Rattle.tg_law_cells.proofs.Owned as stores
+use Rattle.tg_law_tokens.proofs.Owning.{NextOk, Pair, OwnCell}
 use Rattle.tg_law_tokens.proofs.Issues.{Issuing, token_asks}
 use Rattle.tg_law_tokens.proofs.Jobs.{JobOk, job_of, cell_ok, MaybeOk}
 use Rattle.tg_law_tokens.proofs.Hands as hands
 use Rattle.tg_law_tokens.proofs.Hands.{TaskOk, HandOk, Fine, newer_fine, task_fine, refused_fine}
 use Rattle.tg_law_moves.proofs.Besides.{none_learns}
-use Rattle.tg_law_tokens.proofs.Sent.{Justified, AllJust, none_just, both_just, asked_just, maybe_just, one_just, just_grows, maybe_grows, task_just, task_grows, Heard, task_claims}
+use Rattle.tg_law_tokens.proofs.Sent.{Justified, AllJust, none_just, both_just, asked_just, maybe_just, one_just, just_grows, maybe_grows, task_just, task_grows, Heard, HeardUnit, task_claims, maybe_claims}
+
+some_claim : (a b : Claim) → Some a ≡ Some b → a ≡ b
+some_claim a b e = cc
 
 module _ (m : Meaning) where
   module _ (ps : List Packet) (me : NodeId) where
@@ -154,12 +164,12 @@ module _ (m : Meaning) where
     fed_fine true s t k h = record { ok = h refl; sends = λ o g. scan_just t (h refl) o (has_filter _ (seqr_asks t) o g) }
     fed_fine false s t k h = record { ok = k; sends = none_just ps me }
 
-    scan_fed_fine : (s : SeqrState) (j : Option CellJob) (x : Packet) → s.scan ≡ j → MaybeOk ps me s.proj s.scan → ScanFine (scan_fed s j x.from x.rid x.msg)
-    scan_fed_fine s None x e k = record { ok = k; sends = none_just ps me }
-    scan_fed_fine s (Some j) x e k = fed_fine _ s (scan_turn s (cell_feed j x.from.num (reply x.msg) s.rids)) k (λ a.
+    scan_fed_fine : (s : SeqrState) (j : Option CellJob) (x : Packet) → s.scan ≡ j → MaybeOk ps me s.proj s.scan → HeardUnit ps me x.from x.rid x.msg (seqr_asks s) → ScanFine (scan_fed s j x.from x.rid x.msg)
+    scan_fed_fine s None x e k g = record { ok = k; sends = none_just ps me }
+    scan_fed_fine s (Some j) x e k g = fed_fine _ s (scan_turn s (cell_feed j x.from.num (reply x.msg) s.rids)) k (λ a.
         let o : JobOk ps me s.proj j = subst (λ (i : Option CellJob). MaybeOk ps me s.proj i) e k in
         next_ok (record s { rids = (cell_feed j x.from.num (reply x.msg) s.rids).next }) j (cell_feed j x.from.num (reply x.msg) s.rids).to o k
-        (cell_ok ps me s.proj j x.msg o tt x.from.num s.rids))
+        (cell_ok ps me s.proj j x.msg o (maybe_claims ps me x.from x.rid x.msg s.proj (Some j) a (subst (λ (i : Option CellJob). HeardUnit ps me x.from x.rid x.msg (scan_asks i)) e g)) x.from.num s.rids))
 
     -- an answer changes nothing of the scan
     answer_fine : (s t : SeqrState) (to : NodeId) (rid : ℕ) (x : Msg) → t.proj ≡ s.proj → t.scan ≡ s.scan → Justified ps me to x → MaybeOk ps me s.proj s.scan → ScanFine (record { now = t; sends = record { to = to; rid = rid; msg = x } ∷ [] })
@@ -202,12 +212,12 @@ module _ (m : Meaning) where
     token_fine s os from rid true k = answer_fine s s from rid (msg.Scanning s.next s.proj.start) refl refl tt k
     token_fine s os from rid false k = issue_fine s os from rid _ k
 
-    step_fine : (s : SeqrState) (x : Packet) (y : Msg) → x.msg ≡ y → MaybeOk ps me s.proj s.scan → ScanFine (seqr_step s x.from x.rid y)
+    step_fine : (s : SeqrState) (x : Packet) (y : Msg) → x.msg ≡ y → MaybeOk ps me s.proj s.scan → HeardUnit ps me x.from x.rid x.msg (seqr_asks s) → ScanFine (seqr_step s x.from x.rid y)
     unfolding seqr_step
-    step_fine s x (msg.Learn q) e k = learn_or_fine s q x.from x.rid _ k
-    step_fine s x (msg.Token f os) e k = own_fine _ s x.from x.rid _ k (token_fine s os x.from x.rid _ k)
-    step_fine s x (msg.Check f os) e k = own_fine _ s x.from x.rid _ k (answer_fine s s x.from x.rid _ refl refl (stand_just x.from s (links_of s.lists os) _) k)
-    step_fine s x y e k = subst (λ (z : Msg). ScanFine (scan_fed s s.scan x.from x.rid z)) e (scan_fed_fine s s.scan x refl k)
+    step_fine s x (msg.Learn q) e k g = learn_or_fine s q x.from x.rid _ k
+    step_fine s x (msg.Token f os) e k g = own_fine _ s x.from x.rid _ k (token_fine s os x.from x.rid _ k)
+    step_fine s x (msg.Check f os) e k g = own_fine _ s x.from x.rid _ k (answer_fine s s x.from x.rid _ refl refl (stand_just x.from s (links_of s.lists os) _) k)
+    step_fine s x y e k g = subst (λ (z : Msg). ScanFine (scan_fed s s.scan x.from x.rid z)) e (scan_fed_fine s s.scan x refl k g)
 
   -- Over worlds.
 
@@ -217,8 +227,9 @@ module _ (m : Meaning) where
     pub sent : (x : Packet) → Has c.packets x → Justified c.packets x.from x.to x.msg
 
   pub record Low (c : Config m) : Type 0 where
-    pub numbers : Numbers m c
+    pub all : All m c
     pub issuing : Issuing m c
+    pub stores : stores.Owned m c
 
   work_grows : (ps qs : List Packet) → ((x : Packet) → Has ps x → Has qs x) → (me : NodeId) (p : Layout) (w : Option (Work m)) → hands.WorkOk m ps me p w → hands.WorkOk m qs me p w
   work_grows ps qs more me p None k = tt
@@ -240,6 +251,7 @@ module _ (m : Meaning) where
   answer_just : (ps : List Packet) (me to : NodeId) (x : Msg) → is_request x ≡ false → Justified ps me to x
   unfolding is_request
   answer_just ps me to (msg.Write e p d) h = absurd (cc)
+  answer_just ps me to (msg.Copy e p c) h = absurd (cc)
   answer_just ps me to x h = tt
 
   said_just : (ps : List Packet) (p : Packet) (o : Option Msg) → ((y : Msg) → o ≡ Some y → is_request y ≡ false) → (x : Packet) → Has (answer_to m p o) x → Justified ps x.from x.to x.msg
@@ -265,9 +277,23 @@ module _ (m : Meaning) where
     abbrev ps : List Packet
     ps = c.packets
 
-    -- what a client hears of a sequencer
-    heard_of : (k : ℕ) (x : Packet) → Comes m c x (client_id k) → Heard ps (client_id k) x.from x.rid x.msg (reserved m (client_in m c k))
-    heard_of k x comes o g to number s from pos ls is =
+    -- a cell that is stored for a request is an own page's
+    pub own_stored : (x : Packet) (y : Msg) (k : Claim) → x.msg ≡ y → Justified ps x.from x.to y → claimed (unit_ask y) msg.Held ≡ Some k → OwnCell ps k.pos k.cell
+    unfolding claimed unit_ask
+    own_stored x (msg.Write e p d) k i j s = subst (λ (l : Claim). OwnCell ps l.pos l.cell) (some_claim _ k s) (x.from, e, j)
+    own_stored x (msg.Copy e p c) k i j s = subst (λ (l : Claim). OwnCell ps l.pos l.cell) (some_claim _ k s) j
+    own_stored x (msg.Fill e p) k i j s = subst (λ (l : Claim). OwnCell ps l.pos l.cell) (some_claim _ k s) tt
+    own_stored x y k i j s = absurd (cc)
+
+    own_told : (u : ℕ) (k : Claim) → Tells ps u k → OwnCell ps k.pos k.cell
+    own_told u k t =
+        let s = low.stores.tells u k t in
+        let same = low.all.1.once u s.claim k s.told t s.at in
+        subst (λ (c : Cell). OwnCell ps k.pos c) same (subst (λ (p : ℕ). OwnCell ps p s.claim.cell) s.at (own_stored s.ask s.ask.msg s.claim refl (h.sent s.ask s.asked) s.stores))
+
+    -- what a client hears of a sequencer and of units
+    issued_to : (k : ℕ) (x : Packet) → Comes m c x (client_id k) → (o : Out) → Has (reserved m (client_in m c k)) o → o.to ≡ x.from → o.rid ≡ x.rid → (s : ℕ) → x.from ≡ seqr_id s → (pos : ℕ) (ls : List StreamLink) → x.msg ≡ msg.Issued pos ls → Pair ps (client_id k) s o.msg pos ls
+    issued_to k x comes o g to number s from pos ls is =
         let a = (low.issuing.ours s x pos ls comes.sent from is).asked in
         record {
           ask = a.ask;
@@ -279,9 +305,15 @@ module _ (m : Meaning) where
           from_seqr = from;
           back = comes.to_node;
           number = sym a.rid;
-          asks = sym ((low.numbers.clients k).agree o a.ask g a.has (a.from ∙ comes.to_node) (token_asks _ _ _ a.is) (number ∙ sym a.rid) (to ∙ sym a.to));
+          asks = sym ((low.all.0.0.clients k).agree o a.ask g a.has (a.from ∙ comes.to_node) (token_asks _ _ _ a.is) (number ∙ sym a.rid) (to ∙ sym a.to));
           issues = is;
         }
+
+    heard_of : (k : ℕ) (x : Packet) → Comes m c x (client_id k) → Heard ps (client_id k) x.from x.rid x.msg (reserved m (client_in m c k))
+    heard_of k x comes = (issued_to k x comes, λ o g to number u from l is. own_told u l ((heard m c low.all.0.0 low.all.0.1 k u o x g comes.sent comes.to_node from to number).tells l is))
+
+    scan_heard : (s : ℕ) (x : Packet) → Comes m c x (seqr_id s) → HeardUnit ps (seqr_id s) x.from x.rid x.msg (seqr_asks (seqr_in m c s))
+    scan_heard s x comes o g to number u from l is = own_told u l (scan_told m c low.all.0.0 low.all.0.1 s u o x g comes.sent comes.to_node from to number l is)
 
     input_fine : (k : ℕ) (t : ClientTurn m) → ClientInput m c k t → TurnFine ps (client_id k) t
     input_fine k t (Commanded x) = command_fine ps (client_id k) (client_in m c k) x (h.hands k)
@@ -290,7 +322,7 @@ module _ (m : Meaning) where
 
     scan_fine : (s : ℕ) (t : SeqrTurn) → SeqrInput m c s t → ScanFine ps (seqr_id s) t
     unfolding seqr_tick
-    scan_fine s t (Hears x comes) = step_fine ps (seqr_id s) (seqr_in m c s) x x.msg refl (h.scans s)
+    scan_fine s t (Hears x comes) = step_fine ps (seqr_id s) (seqr_in m c s) x x.msg refl (h.scans s) (scan_heard s x comes)
     scan_fine s t Ticks = record { ok = h.scans s; sends = scan_just ps (seqr_id s) (seqr_in m c s) (h.scans s) }
 
     by_client' : (k : ℕ) (t : ClientTurn m) → ClientInput m c k t → k < length c.clients → Pages (client_turn m c k t)

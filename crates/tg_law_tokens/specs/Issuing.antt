@@ -1,6 +1,7 @@
 -- Tokens: positions that sequencers issue, and the pages that their owners send.
-use Rattle.std.specs.Prelude.{◌≡◌, ℕ, ◌<◌, Bool, true, false, List}
+use Rattle.std.specs.Prelude.{◌≡◌, ℕ, ◌<◌, Bool, true, false, List, Some}
 use Rattle.tg_base.specs.Layouts.{Layout}
+use Rattle.tg_base.specs.declared.cell.Cell.TheVariants.{Data}
 use Rattle.tg_base.specs.declared.ids.NodeId.{NodeId}
 use Rattle.tg_base.specs.declared.ids.Oid.{Oid}
 use Rattle.tg_base.specs.declared.marks.StreamLink.{StreamLink}
@@ -9,11 +10,11 @@ use Rattle.tg_base.specs.declared.msg.Msg.TheVariants as msg
 use Rattle.tg_base.specs.declared.packet.Packet.{Packet}
 use Rattle.tg_entry.specs.declared.entry.Entry.{Entry}
 use Rattle.tg_kind.specs.Meaning.{Meaning}
-use Rattle.tg_protocol.specs.Words.{seqr_id}
+use Rattle.tg_protocol.specs.Words.{seqr_id, cell_at}
 use Rattle.tg_protocol.specs.Entries.{streams_of, linked}
 use Rattle.tg_protocol.specs.Pages.{page_of}
 use Rattle.tg_protocol.specs.Appending.{names_all}
-use Rattle.tg_protocol.specs.Worlds.{World}
+use Rattle.tg_protocol.specs.Worlds.{World, unit}
 use Rattle.tg_protocol.specs.Chosen.{Sent, IsDecided}
 
 unfoldable pub is_issued : Msg → Bool
@@ -69,3 +70,13 @@ module _ (m : Meaning) where
   -- a page is sent to a unit only for the position, and in the epoch, of a token that was issued to its sender
   abbrev pub PagesOwn : World m → Type 0
   PagesOwn w = (x : Packet) (epoch pos : ℕ) (d : List ℕ) → Sent m w x → x.msg ≡ msg.Write epoch pos d → IsOwnPage w x.from epoch pos d
+
+  -- a page of the token of some node, in some epoch
+  pub record IsOfToken (w : World m) (pos : ℕ) (page : List ℕ) : Type 0 where
+    pub node : NodeId
+    pub epoch : ℕ
+    pub own : IsOwnPage w node epoch pos page
+
+  -- a page that a unit has is one of a token that was issued with its position
+  abbrev pub UnitPagesOwn : World m → Type 0
+  UnitPagesOwn w = (u p : ℕ) (d : List ℕ) → cell_at (unit m w u).cells p ≡ Some (Data d) → IsOfToken w p d

@@ -1,6 +1,6 @@
 //! Tokens, in every run of every cluster, whatever was lost, repeated or stopped: what sequencers issue, and what
 //! appends do with it. In an epoch one sequencer issues, each position once. Whoever sends a page sends it to the
-//! position of its own token, with the links that were issued with it; and these links, as far as they go back in
+//! position of its own token, with the links that were issued with it, and units have no other pages; and these links, as far as they go back in
 //! one epoch, miss no earlier position of the stream but what four later ones have pushed out.
 //!
 //! Proved for every lawful header and every run of lawful events, with no other premise.
@@ -8,4 +8,6 @@
 
 mod laws;
 
-pub use laws::{issued_once, issuer_is_named, lists_are_full, one_issuer, pages_are_own};
+pub use laws::{
+    issued_once, issuer_is_named, lists_are_full, one_issuer, pages_are_own, units_hold_own_pages,
+};
