@@ -7,6 +7,7 @@ pub mod Sent
 pub mod Pages
 pub mod Own
 pub mod Held
+pub mod Archive
 pub mod Backs
 pub mod Listing
 pub mod Naming

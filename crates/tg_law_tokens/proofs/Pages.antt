@@ -33,7 +33,7 @@ use Rattle.tg_law_moves.proofs.Clients.{reserved, work_reserved}
 use Rattle.tg_law_moves.proofs.Turns.{not_busy, task_again_reserved, asked_awaited}
 use Rattle.tg_law_moves.proofs.Moves.{Cases, Comes, seqr_turn, client_turn, SeqrInput, Hears, Ticks, ClientInput, Commanded, Hears', Ticks'}
 use Rattle.tg_law_requests.proofs.Answered.{turn_on}
-use Rattle.tg_law_requests.proofs.Numbers.{Numbers, layout_answer}
+use Rattle.tg_law_requests.proofs.Numbers.{layout_answer}
 use Rattle.tg_base.specs.declared.cell.Cell.{Cell}
 use Rattle.tg_protocol.specs.Units.{unit_ask}
 use Rattle.tg_law_moves.specs.Telling.{Claim, claimed}

@@ -1,5 +1,5 @@
 -- Tokens: positions that sequencers issue, and the pages that their owners send.
-use Rattle.std.specs.Prelude.{◌≡◌, ℕ, ◌<◌, Bool, true, false, List, Some}
+use Rattle.std.specs.Prelude.{◌≡◌, ℕ, ◌<◌, Bool, true, false, List, Some, Contains}
 use Rattle.tg_base.specs.Layouts.{Layout}
 use Rattle.tg_base.specs.declared.cell.Cell.TheVariants.{Data}
 use Rattle.tg_base.specs.declared.ids.NodeId.{NodeId}
@@ -14,7 +14,7 @@ use Rattle.tg_protocol.specs.Words.{seqr_id, cell_at}
 use Rattle.tg_protocol.specs.Entries.{streams_of, linked}
 use Rattle.tg_protocol.specs.Pages.{page_of}
 use Rattle.tg_protocol.specs.Appending.{names_all}
-use Rattle.tg_protocol.specs.Worlds.{World, unit}
+use Rattle.tg_protocol.specs.Worlds.{World, unit, log}
 use Rattle.tg_protocol.specs.Chosen.{Sent, IsDecided}
 
 unfoldable pub is_issued : Msg → Bool
@@ -80,3 +80,7 @@ module _ (m : Meaning) where
   -- a page that a unit has is one of a token that was issued with its position
   abbrev pub UnitPagesOwn : World m → Type 0
   UnitPagesOwn w = (u p : ℕ) (d : List ℕ) → cell_at (unit m w u).cells p ≡ Some (Data d) → IsOfToken w p d
+
+  -- nor has the log another, in its units or trimmed
+  abbrev pub LogPagesOwn : World m → Type 0
+  LogPagesOwn w = (p : ℕ) (d : List ℕ) → Contains (log m w) (p, Data d) → IsOfToken w p d

@@ -1,7 +1,7 @@
 //! What holds of every world to which a run of lawful events comes.
 
 ghost use Rattle.tg_kind.specs.Of.{meaning_of};
-ghost use Rattle.tg_law_tokens.specs.Issuing.{IssuedOnce, IssuerNamed, OneIssuer, PagesOwn, UnitPagesOwn};
+ghost use Rattle.tg_law_tokens.specs.Issuing.{IssuedOnce, IssuerNamed, LogPagesOwn, OneIssuer, PagesOwn, UnitPagesOwn};
 ghost use Rattle.tg_law_tokens.specs.Listing.{ListsFull};
 ghost use Rattle.tg_protocol.specs.Runs.{Always};
 
@@ -31,6 +31,11 @@ pub fn pages_are_own<K: Registry>()
 /// So is each page that a unit has, however it came there: put by its owner, carried down a chain, or copied.
 pub fn units_hold_own_pages<K: Registry>()
     ensures { Always (meaning_of K.Registry) (UnitPagesOwn (meaning_of K.Registry)) }
+{}
+
+/// So is each page of the log, trimmed or not.
+pub fn log_has_own_pages<K: Registry>()
+    ensures { Always (meaning_of K.Registry) (LogPagesOwn (meaning_of K.Registry)) }
 {}
 
 /// Of what a sequencer has issued to a stream in an epoch, the list that it gives with a later position misses only
