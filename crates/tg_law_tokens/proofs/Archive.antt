@@ -248,7 +248,7 @@ module _ (m : Meaning) where
   pub kept_hold : (h : Header) (ms : Moves m) → Kept (after m h ms)
   kept_hold h ms = subst Kept (from_start h ms) (kept_run h [] ms (start_kept h))
 
-  log_own : (h : Header) (ms : Moves m) → LogPagesOwn m (after m h ms)
+  pub log_own : (h : Header) (ms : Moves m) → LogPagesOwn m (after m h ms)
   log_own h ms p d i =
       of_token m (after m h ms) p d (stands_own (after m h ms) (held_hold m h ms) (kept_hold h ms) p (Data d) (log_stands (after m h ms) p (Data d) (has_contained (log m (after m h ms)) (p, Data d) i)))
 

@@ -8,6 +8,7 @@ pub mod Pages
 pub mod Own
 pub mod Held
 pub mod Archive
+pub mod Linked
 pub mod Backs
 pub mod Listing
 pub mod Naming

@@ -1,6 +1,7 @@
 //! What holds of every world to which a run of lawful events comes.
 
 ghost use Rattle.tg_kind.specs.Of.{meaning_of};
+ghost use Rattle.tg_law_tokens.specs.Entries.{LogEntriesLinked};
 ghost use Rattle.tg_law_tokens.specs.Issuing.{IssuedOnce, IssuerNamed, LogPagesOwn, OneIssuer, PagesOwn, UnitPagesOwn};
 ghost use Rattle.tg_law_tokens.specs.Listing.{ListsFull};
 ghost use Rattle.tg_protocol.specs.Runs.{Always};
@@ -36,6 +37,12 @@ pub fn units_hold_own_pages<K: Registry>()
 /// So is each page of the log, trimmed or not.
 pub fn log_has_own_pages<K: Registry>()
     ensures { Always (meaning_of K.Registry) (LogPagesOwn (meaning_of K.Registry)) }
+{}
+
+/// So an entry of the log is the draft of a token with the links that were issued with its position, if these fit the
+/// format of entries.
+pub fn log_entries_are_linked<K: Registry>()
+    ensures { Always (meaning_of K.Registry) (LogEntriesLinked (meaning_of K.Registry)) }
 {}
 
 /// Of what a sequencer has issued to a stream in an epoch, the list that it gives with a later position misses only

@@ -9,6 +9,6 @@
 mod laws;
 
 pub use laws::{
-    issued_once, issuer_is_named, lists_are_full, log_has_own_pages, one_issuer, pages_are_own,
-    units_hold_own_pages,
+    issued_once, issuer_is_named, lists_are_full, log_entries_are_linked, log_has_own_pages,
+    one_issuer, pages_are_own, units_hold_own_pages,
 };
