@@ -18,18 +18,19 @@ use Rattle.tg_protocol.specs.Logs.{Log, members}
 use Rattle.tg_protocol.specs.Checkpoints.{trim_of}
 use Rattle.tg_protocol.specs.Clients.{Task, Syncing, Walking, Hand, Doing, Learning, Work, Client}
 use Rattle.tg_protocol.specs.ClientSteps.{task_awaited, task_in, after_turn, met, takes_back, found_by, start_walk, knows, lo_for, stale, gives_up, given_up_if, stands, lasts_of}
-use Rattle.tg_protocol.specs.Worlds.{World, client, runs}
+use Rattle.tg_protocol.specs.Worlds.{World, client, runs, log}
 use Rattle.tg_protocol.specs.Walked.{Walked, walks_end, sync_end, trim_end, walked_end, walk_end, task_end, again_end, hand_end, reply_end, work_end, packet_end, walked_in, from_trim, walked_from, positions_found}
 use Rattle.tg_law_walks.specs.Streams.{IsByPosition, AreLinked}
 use Rattle.tg_law_walks.specs.Walks.{AreMore, IsExact, Walks, Begins}
 use Rattle.tg_law_walks.specs.Rounds.{Round, round, HasAll, IsRound, IsSyncing, IsAtTask, IsAtWork}
 use Rattle.tg_law_walks.specs.Laws.{SyncEndsAs}
-use Rattle.tg_law_walks.specs.Ends.{IsExactIn, RoundsExact, TaskEndsAs, HandEndsAs, WorkEndsAs, StepEndsAs, StepsExact}
+use Rattle.tg_law_walks.specs.Ends.{IsExactIn, RoundsExact, TaskEndsAs, HandEndsAs, WorkEndsAs, StepEndsAs, StepsExact, SyncsExactWhere}
 use Rattle.tg_law_walks.proofs.Members.{Has, has_contained, contained_has, same_number, and_both, both_and, of_le, of_lt}
 use Rattle.tg_law_walks.proofs.Positions.{rises_filter, has_filter, filter_passes}
 use Rattle.tg_law_walks.proofs.Stretches.{has_stretch, stretch_has}
 use Rattle.tg_law_walks.proofs.Rising.{same_rising, filter_has, stretch_rises, stretch_from}
 use Rattle.tg_law_walks.proofs.Cells.{more_known}
+use Rattle.tg_law_walks.proofs.Syncs.{logs_by_position}
 use Rattle.tg_law_walks.proofs.Turns.{walks_start, walks_feed, walks_again}
 use Rattle.tg_law_walks.proofs.Rounds.{no_view, with_cells, more_cells, gives_up_view, starts_anew, finds, safe_unless}
 use Rattle.tg_law_walks.proofs.Commands.{none_num, some_num, begins_walks, confirmed_round, next_alone, not_below, gone_view}
@@ -236,3 +237,8 @@ module _ (m : Meaning) (l : Log) (byp : IsByPosition l) (linked : AreLinked l) w
 
 pub steps_exact : (m : Meaning) → StepsExact m
 steps_exact m l w e k x o byp linked h f is i = rounds_exact m l x o byp (subst (Found m l byp linked) is (step_found m l byp linked w e k h f)) i
+
+pub syncs_exact_where : (m : Meaning) → SyncsExactWhere m
+syncs_exact_where m w e f later l k x o is i =
+    let t = f later l k in
+    steps_exact m (log m later) w e k x o (logs_by_position m later) t.linked t.work t.ends is i

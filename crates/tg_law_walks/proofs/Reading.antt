@@ -9,10 +9,11 @@ use Rattle.tg_kind.specs.Meaning.{Meaning}
 use Rattle.tg_protocol.specs.Words.{cell_at}
 use Rattle.tg_protocol.specs.Requests.{Next, Ends}
 use Rattle.tg_protocol.specs.Replies.{reply}
-use Rattle.tg_protocol.specs.Cells.{Place, place_in, CellJob, CellEnd, Done, cell_feed}
+use Rattle.tg_protocol.specs.Cells.{Place, place_in, CellJob, CellEnd, Done, cell_asks, cell_feed}
+use Rattle.tg_protocol.specs.Sequencers.{scan_asks}
 use Rattle.tg_protocol.specs.Walking.{Walk}
 use Rattle.tg_protocol.specs.Clients.{Walking, Hand, Work}
-use Rattle.tg_protocol.specs.Worlds.{World, start, client, latest, log}
+use Rattle.tg_protocol.specs.Worlds.{World, start, client, seqr, latest, log}
 use Rattle.tg_protocol.specs.Runs.{Move, Moves, run, Reaches, Later, Always, EachLater, LawfulMove}
 use Rattle.tg_law_moves.specs.Configs.{config}
 use Rattle.tg_law_moves.proofs.Members.{Has, has_contained, has_either}
@@ -23,15 +24,15 @@ use Rattle.tg_law_requests.proofs.Starts.{All, all_hold}
 use Rattle.tg_law_layouts.proofs.Layouts.{has_header}
 use Rattle.tg_law_layouts.proofs.Deciding.{layouts_are_known, latest_decided, decided_stays}
 use Rattle.tg_law_cells.specs.Settled.{IsSettled}
-use Rattle.tg_law_cells.proofs.Justified.{heard, EndOk, NextOk}
+use Rattle.tg_law_cells.proofs.Justified.{heard, scan_told, EndOk, NextOk}
 use Rattle.tg_law_cells.proofs.Jobs.{JobOk, MaybeOk, cell_ok}
 use Rattle.tg_law_cells.proofs.Hands as hands
-use Rattle.tg_law_cells.proofs.Sent.{Heard, task_claims}
+use Rattle.tg_law_cells.proofs.Sent.{Heard, task_claims, maybe_claims}
 use Rattle.tg_law_cells.proofs.Chains.{Cells}
 use Rattle.tg_law_cells.proofs.Stores.{cells_hold, up_to, first_told}
 use Rattle.tg_law_cells.proofs.Settling.{last_unit_settles, settled_is_in_log}
 use Rattle.tg_law_walks.specs.Walks.{EndsAs, JobEndsAs}
-use Rattle.tg_law_walks.specs.Reading.{Awaits, WalksReadSettled, IsUntrimmed, WalksReadLog}
+use Rattle.tg_law_walks.specs.Reading.{Awaits, ScanAwaits, ScansReadSettled, ScansReadLog, WalksReadSettled, IsUntrimmed, WalksReadLog}
 use Rattle.tg_law_walks.proofs.Logged.{log_at}
 
 module _ (m : Meaning) where
@@ -74,6 +75,30 @@ module _ (m : Meaning) where
 
       settled : (j : CellJob) (c : Cell) → walk.job ≡ Some j → (cell_feed j x.from.num (reply x.msg) (client m w k).next).to ≡ Ends (Done c) → IsSettled m w j.place.pos c
       settled j c e f = let s = ends_so j c e f in settled_by j.place.pos c (subst (λ (p : Place). EndOk w.packets p (Done c)) s.0.place s.1)
+
+    module _ (s : ℕ) (x : Packet) (j : CellJob) (a : ScanAwaits m w s x j) where
+      abbrev proj : Layout
+      proj = (seqr m w s).proj
+
+      scan_ok : JobOk w.packets proj j
+      scan_ok = subst (λ (i : Option CellJob). MaybeOk w.packets proj i) a.scans (cells.scans s)
+
+      scan_hears : Heard w.packets x.from x.rid x.msg (cell_asks j)
+      scan_hears = subst (λ (i : Option CellJob). Heard w.packets x.from x.rid x.msg (scan_asks i)) a.scans
+          (λ o g to number u from l is. scan_told m (config m w) all.0.0 all.0.1 s u o x g (has_contained w.packets x a.sent) a.to from to number l is)
+
+      scan_by : (pos : ℕ) (c : Cell) → EndOk w.packets (place_in proj pos) (Done c) → IsSettled m w pos c
+      scan_by pos c (inl f) = record { layout = proj; decided = (layouts_are_known m h ms w r).seqrs s; told = first_told w.packets (place_in proj pos) c (length (place_in proj pos).chain) f }
+      scan_by pos c (inr t) = last_unit_settles m h ms w r proj pos c ((layouts_are_known m h ms w r).seqrs s) (up_to w.packets _ _ _ c t)
+
+      scan_settled : (c : Cell) → (cell_feed j x.from.num (reply x.msg) (seqr m w s).rids).to ≡ Ends (Done c) → IsSettled m w j.place.pos c
+      scan_settled c f =
+          scan_by j.place.pos c (subst (λ (p : Place). EndOk w.packets p (Done c)) scan_ok.place
+          (subst (λ (y : Next CellJob CellEnd). NextOk w.packets j.place y) f
+          (cell_ok w.packets proj j x.msg scan_ok (maybe_claims w.packets x.from x.rid x.msg proj (Some j) a.awaited scan_hears) x.from.num (seqr m w s).rids)))
+
+  pub scans_read_settled : Always m (ScansReadSettled m)
+  scans_read_settled h ms w r s x j c a f = scan_settled h ms w r s x j a c f
 
   pub walks_read_settled : Always m (WalksReadSettled m)
   walks_read_settled h ms w r k x walk j c a e f = settled h ms w r k x walk a j c e f
@@ -120,3 +145,6 @@ module _ (m : Meaning) where
 
   pub walks_read_log : EachLater m (WalksReadLog m)
   walks_read_log h ms w v r l = read_log h ms w v r l
+
+  pub scans_read_log : EachLater m (ScansReadLog m)
+  scans_read_log h ms w v r l s x j c a kept f = in_log h ms w v r l j.place.pos c (scan_settled h ms w r s x j a c f) kept

@@ -13,9 +13,10 @@ use Rattle.tg_protocol.specs.Syncing.{sync_feed}
 use Rattle.tg_protocol.specs.Logs.{Log, members}
 use Rattle.tg_protocol.specs.Clients.{Task, Syncing, Walking, Hand, Doing, Learning, Work, Client}
 use Rattle.tg_protocol.specs.ClientSteps.{task_awaited}
-use Rattle.tg_protocol.specs.Worlds.{World, client}
+use Rattle.tg_protocol.specs.Worlds.{World, client, log, happens}
 use Rattle.tg_protocol.specs.Walked.{Walked, walked_in, walked_from, positions_found}
-use Rattle.tg_protocol.specs.Playing.{from_to}
+use Rattle.tg_protocol.specs.Playing.{from_to, SyncsExact}
+use Rattle.tg_protocol.specs.Runs.{Later}
 use Rattle.tg_law_walks.specs.Streams.{IsByPosition, AreLinked}
 use Rattle.tg_law_walks.specs.Walks.{JobEndsAs}
 use Rattle.tg_law_walks.specs.Rounds.{round, IsRound, IsAtWork}
@@ -57,3 +58,13 @@ module _ (m : Meaning) where
   StepsExact = (l : Log) (w : World m) (e : EventOf m) (k : ℕ) (x : Walked m) (o : Oid) → IsByPosition l → AreLinked l →
       IsAtWork m l (client m w k) (client m w k).work → StepEndsAs l w e k →
       walked_in m w e k ≡ Some x → Contains x.work.oids o → IsExactIn l x o
+
+  -- what `StepsExact` asks of a log
+  pub record IsTrueStep (l : Log) (w : World m) (e : EventOf m) (k : ℕ) : Type 0 where
+    pub linked : AreLinked l
+    pub work : IsAtWork m l (client m w k) (client m w k).work
+    pub ends : StepEndsAs l w e k
+
+  -- So the claim holds of a step for which this is so of the log of each later world.
+  abbrev pub SyncsExactWhere : Type 0
+  SyncsExactWhere = (w : World m) (e : EventOf m) → ((later : World m) → Later m (happens m w e) later → (k : ℕ) → IsTrueStep (log m later) w e k) → SyncsExact m w e

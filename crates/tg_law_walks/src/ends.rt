@@ -1,7 +1,7 @@
 //! What holds where a step ends the walks of a command.
 
 ghost use Rattle.tg_kind.specs.Of.{meaning_of};
-ghost use Rattle.tg_law_walks.specs.Ends.{RoundsExact, StepsExact};
+ghost use Rattle.tg_law_walks.specs.Ends.{RoundsExact, StepsExact, SyncsExactWhere};
 
 use tg_kind::Registry;
 
@@ -15,4 +15,10 @@ pub fn rounds_are_exact<K: Registry>()
 /// with its lists, or a walk's cell. Then, where the step ends its walks, what they found is exactly the log's.
 pub fn steps_are_exact<K: Registry>()
     ensures { StepsExact (meaning_of K.Registry) }
+{}
+
+/// So a command's syncs and walks are exact, as it is claimed of every step, where this is so of the log of each later
+/// world.
+pub fn syncs_are_exact<K: Registry>()
+    ensures { SyncsExactWhere (meaning_of K.Registry) }
 {}
