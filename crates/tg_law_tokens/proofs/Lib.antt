@@ -1,0 +1,15 @@
+pub mod Going
+pub mod Issues
+pub mod Owning
+pub mod Jobs
+pub mod Hands
+pub mod Sent
+pub mod Pages
+pub mod Own
+pub mod Held
+pub mod Archive
+pub mod Linked
+pub mod Backs
+pub mod Listing
+pub mod Naming
+pub mod Named
