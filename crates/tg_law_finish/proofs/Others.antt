@@ -20,7 +20,7 @@ use Rattle.tg_protocol.specs.Clients.{Client, new_client}
 use Rattle.tg_protocol.specs.ClientSteps.{client_deliver, client_tick, tick_by, called, ClientTurn}
 use Rattle.tg_protocol.specs.Worlds.{packet_of, answer_to}
 use Rattle.tg_law_steps.specs.Runs.{epoch_of}
-use Rattle.tg_law_finish.specs.Finishing.{one_if, cost}
+use Rattle.tg_law_finish.proofs.Counted.{one_if, cost}
 use Rattle.tg_law_finish.proofs.Nets.{Net, net_if, sent_if, net_after, net_ticked, sent_ticked, on_in, on_alike, Alike, alike_if, seqr_alike, client_alike, unit_of, layout_of, seqr_of, client_of}
 use Rattle.tg_law_finish.proofs.Lists.{Each, set_there, set_index, set_other}
 use Rattle.tg_law_finish.proofs.Strays.{AsksOf, Old, old_step, old_tick, unit_fences, unit_plain, is_plain}
