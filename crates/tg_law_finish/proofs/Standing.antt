@@ -10,7 +10,8 @@ use Rattle.tg_kind.specs.Meaning.{Meaning}
 use Rattle.tg_model.specs.Kinds.{CommandOf}
 use Rattle.tg_proj.specs.Places.{range_at}
 use Rattle.tg_proj.specs.Refusals.{units_of as units_in}
-use Rattle.tg_protocol.specs.Words.{with_num, with_nums}
+use Rattle.tg_base.specs.declared.cell.Cell.{Cell}
+use Rattle.tg_protocol.specs.Words.{cell_at, with_num, with_nums}
 use Rattle.tg_protocol.specs.Layouts.{chain_of, units_of}
 use Rattle.tg_protocol.specs.Cells.{CellJob}
 use Rattle.tg_protocol.specs.Sequencers.{SeqrState, scanning}
@@ -30,6 +31,7 @@ use Rattle.tg_law_layouts.proofs.Layouts.{start_pax, has_header}
 use Rattle.tg_law_layouts.proofs.Deciding.{one_layout, latest_decided, layouts_are_known, layouts_are_sound}
 use Rattle.tg_law_cells.proofs.Befores.{has_at}
 use Rattle.tg_law_cells.proofs.Chains.{Cells}
+use Rattle.tg_law_cells.proofs.Heads.{heads_have_cells}
 use Rattle.tg_law_cells.proofs.Jobs.{MaybeOk}
 use Rattle.tg_law_cells.proofs.Stores.{cells_hold}
 use Rattle.tg_law_cells.proofs.Successors.{place_of, stands_there, some_there}
@@ -48,6 +50,9 @@ unequal c d f = by (eqb c d) refl
     by : (b : Bool) → eqb c d ≡ b → eqb c d ≡ false
     by true e = absurd (f (same c d e))
     by false e = e
+
+less_not : (c d : ℕ) → c < d → nat_lt c d ≡ false → ⊥
+less_not c d l e = grind arith
 
 same_not : (c d : ℕ) → c ≡ d → eqb c d ≡ false → ⊥
 same_not c d e f = grind arith
@@ -203,6 +208,14 @@ module _ (m : Meaning) where
           away g = not_it (sym own ∙ ap (λ (y : Layout). y.seq) (one_layout m h ms w r p.epoch (seqr m w s).proj p
               (subst (λ n. Rattle.tg_protocol.specs.Chosen.IsDecided m w n (seqr m w s).proj) g ((layouts_are_known m h ms w r).seqrs s)) (latest_decided m h ms w r).decided))
 
+      head_has : (pos i : ℕ) (c : Cell) → i < length (chain_of p pos) → cell_at (unit m w (slice_index (chain_of p pos) i)).cells pos ≡ Some c
+          → nat_lt pos (unit m w (slice_index (chain_of p pos) 0)).low ≡ false → cell_at (unit m w (slice_index (chain_of p pos) 0)).cells pos ≡ Some c
+      head_has pos i c less has low = by (heads_have_cells m h ms w r p pos _ c (latest_decided m h ms w r).decided (contained (chain_of p pos) _ (has_at (chain_of p pos) i less)) (let e = (ready_unit pos i less).1 in omega (arith, e)) has)
+        where
+          by : (cell_at (unit m w (slice_index (chain_of p pos) 0)).cells pos ≡ Some c) ⊎ (pos < (unit m w (slice_index (chain_of p pos) 0)).low) → cell_at (unit m w (slice_index (chain_of p pos) 0)).cells pos ≡ Some c
+          by (inl e) = e
+          by (inr l) = absurd (less_not _ _ l low)
+
       pub lawful : Granted m w → Lawful m w p (longest_chain p)
       lawful g = record {
         some = λ pos. some_there p pos rules;
@@ -214,7 +227,7 @@ module _ (m : Meaning) where
         named = g.named;
         scans = λ s off. job_off s (seqr m w s).scan refl off ((cells_always h ms w r).scans s);
         unwritten = g.unwritten;
-        heads = g.heads;
+        heads = λ pos i c less has low. head_has pos i c less has low;
       }
         where
           cluster_limit : w.cluster.limit ≤ 2 ^ 62

@@ -1,6 +1,5 @@
 -- What is taken for granted of a world, since it isn't shown yet of each to which a run comes.
-use Rattle.std.specs.Prelude.{◌≡◌, ℕ, ◌<◌, nat_lt, true, false, List, length, slice_index, Some, None}
-use Rattle.tg_base.specs.declared.cell.Cell.{Cell}
+use Rattle.std.specs.Prelude.{◌≡◌, ℕ, ◌<◌, true, false, List, length, slice_index, None}
 use Rattle.tg_base.specs.declared.ids.Oid.{Oid}
 use Rattle.tg_kind.specs.Meaning.{Meaning}
 use Rattle.tg_protocol.specs.Words.{cell_at, too_far}
@@ -28,6 +27,3 @@ module _ (m : Meaning) where
     pub named : (os : List Oid) → names_all os (links_of (seqr m w (latest m w).seq).lists os) ≡ true
     -- no unit of its chain has a cell at the next position
     pub unwritten : (i : ℕ) → i < length (chain_at w (next_position w)) → cell_at (unit m w (chain_unit w (next_position w) i)).cells (next_position w) ≡ None
-    -- what a unit of a chain has, the first one has too, unless it has trimmed it
-    pub heads : (pos i : ℕ) (c : Cell) → i < length (chain_at w pos) → cell_at (unit m w (chain_unit w pos i)).cells pos ≡ Some c →
-        nat_lt pos (unit m w (chain_unit w pos 0)).low ≡ false → cell_at (unit m w (chain_unit w pos 0)).cells pos ≡ Some c
