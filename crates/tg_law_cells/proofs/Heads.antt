@@ -1,6 +1,5 @@
 -- What a unit of a chain has, the chain's first unit has too.
 use Rattle.std.proofs.Common.{◌≡◌, ◌⊎◌, ℕ, zero, suc, ◌<◌, ◌≤◌, sym, subst, inl, inr, arith, Some}
-use Rattle.std.specs.Prelude.{slice_index, Contains}
 use Rattle.tg_base.specs.Layouts.{Layout}
 use Rattle.tg_base.specs.Clusters.{Header, IsHeader}
 use Rattle.tg_base.specs.declared.cell.Cell.{Cell}
@@ -15,9 +14,8 @@ use Rattle.tg_law_moves.proofs.Moves.{AllGive}
 use Rattle.tg_law_moves.proofs.Always.{always_lawful}
 use Rattle.tg_law_requests.proofs.Told.{told_holds}
 use Rattle.tg_law_requests.proofs.Starts.{known as base}
-use Rattle.tg_law_layouts.specs.Decisions.{IsOfDecided}
 use Rattle.tg_law_layouts.proofs.Deciding.{K, known}
-use Rattle.tg_law_cells.specs.Settled.{HadBefore, Joins, head, HeadsHave}
+use Rattle.tg_law_cells.specs.Settled.{HadBefore, head, HeadsHave}
 use Rattle.tg_law_cells.proofs.Befores.{Before, At, at_has, before_at}
 use Rattle.tg_law_cells.proofs.Justified.{ToldBy}
 use Rattle.tg_law_cells.proofs.Settles.{Settled, Rooted, Got, Next, ToldBefore, before_tells, settled_present}

@@ -1,42 +1,31 @@
 -- The laws, from what is proved of a settling.
-use Rattle.std.proofs.Common.{◌≡◌, ◌≢◌, ◌⊎◌, ℕ, zero, suc, ◌+◌, ◌-◌, ◌*◌, ◌<◌, ◌≤◌, List, [], ◌∷◌, ◌++◌, length, filter, take, cond, Bool, true, false, ◌||◌, eqb, refl, ap, ◌∙◌, sym, subst, inl, inr, arith, Some, None, Option, length-append}
+use Rattle.std.proofs.Common.{◌≡◌, ◌≢◌, ℕ, zero, suc, ◌+◌, ◌-◌, ◌*◌, ◌<◌, ◌≤◌, List, [], ◌∷◌, ◌++◌, length, filter, take, cond, Bool, true, false, ◌||◌, eqb, refl, ap, ◌∙◌, sym, subst, inl, inr, arith, Some, None, Option, length-append}
 use Rattle.std.proofs.Math.Seq.{take-append_seam}
 use Rattle.std.proofs.lemmas.Nat.{mul-le}
 use Rattle.std.specs.Prelude.{slice_get, nat_lt, Contains}
-use Rattle.tg_base.specs.Clusters.{Header, IsHeader}
+use Rattle.tg_base.specs.Clusters.{Header}
 use Rattle.tg_base.specs.Layouts.{Layout}
 use Rattle.tg_base.specs.declared.ids.NodeId.{NodeId}
-use Rattle.tg_base.specs.declared.ids.Oid.{Oid}
 use Rattle.tg_base.specs.declared.packet.Packet.{Packet}
 use Rattle.tg_base.specs.declared.packet.Out.{Out}
-use Rattle.tg_base.specs.declared.cell.Cell.{Cell}
-use Rattle.tg_base.specs.declared.cell.Cell.TheVariants.{Data}
 use Rattle.tg_kind.specs.Meaning.{Meaning}
-use Rattle.tg_model.specs.declared.command.Command.TheVariants as cmd
 use Rattle.tg_model.specs.Kinds.{CommandOf}
 use Rattle.tg_protocol.specs.Words.{node_eq, client_id, seqr_id}
 use Rattle.tg_protocol.specs.Requests.{out}
 use Rattle.tg_base.specs.declared.msg.Msg.TheVariants as msg
-use Rattle.tg_protocol.specs.Entries.{link_of, backs_of}
-use Rattle.tg_protocol.specs.Layouts.{chain_of}
-use Rattle.tg_protocol.specs.Sequencers.{links_of}
 use Rattle.tg_protocol.specs.Cells.{CellWork, CellJob, Puts, Gets, Fills, Copies, Probes, place_in, work_asks}
 use Rattle.tg_protocol.specs.Appending.{Append, AppendWork, Asking, Putting, Judging, append_work_asks, append_asks}
 use Rattle.tg_protocol.specs.Syncing.{Sync, Checking, sync_asks, sync_work_asks}
 use Rattle.tg_protocol.specs.Clients.{Purpose, Appending, Syncing, Doing, Work, Client}
-use Rattle.tg_protocol.specs.ClientSteps.{task_awaited, task_asks}
+use Rattle.tg_protocol.specs.ClientSteps.{task_asks}
 use Rattle.tg_protocol.specs.Worlds.{World, seqr, client, latest, settle}
 use Rattle.tg_protocol.specs.Runs.{Moves, Reaches, Always}
-use Rattle.tg_protocol.specs.Finishing.{longest_chain, deliveries, delivered_since, is_with_client, passes, WaitsAlone, IsReadyFor, bound, bound_in}
-use Rattle.tg_law_moves.specs.Configs.{config, client_in}
-use Rattle.tg_law_moves.proofs.Always.{always}
+use Rattle.tg_protocol.specs.Finishing.{longest_chain, is_with_client, passes, WaitsAlone, IsReadyFor, bound, bound_in}
 use Rattle.tg_law_moves.proofs.Clients.{reserved, work_reserved}
 use Rattle.tg_law_moves.proofs.Lists.{contained}
 use Rattle.tg_law_moves.proofs.Members.{Has}
-use Rattle.tg_law_layouts.proofs.Decisions.{Pax}
-use Rattle.tg_law_cells.proofs.Stores.{low_of, start_below}
 use Rattle.tg_law_cells.proofs.Hands as hands
-use Rattle.tg_law_cells.proofs.Jobs.{JobOk, AppendOk}
+use Rattle.tg_law_cells.proofs.Jobs.{AppendOk}
 use Rattle.tg_law_finish.specs.Granted.{Granted}
 use Rattle.tg_law_finish.specs.Appends as appends
 use Rattle.tg_law_finish.specs.Appends.{WaitsForAppend, AppendStands, PuttingStands, JudgingStands}

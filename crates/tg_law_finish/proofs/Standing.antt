@@ -1,5 +1,5 @@
 -- What the settling's proof asks of a world holds of each to which a run comes, where a command waits alone and all stands ready.
-use Rattle.std.proofs.Common.{◌≡◌, ◌≢◌, ◌⊎◌, ℕ, zero, suc, ◌+◌, ◌^◌, ◌<◌, ◌≤◌, List, [], ◌∷◌, ◌++◌, length, Bool, true, false, eqb, refl, ap, ◌∙◌, sym, subst, inl, inr, arith, Some, None, Option}
+use Rattle.std.proofs.Common.{◌≡◌, ◌≢◌, ◌⊎◌, ℕ, zero, suc, ◌^◌, ◌<◌, ◌≤◌, List, [], ◌∷◌, length, Bool, true, false, eqb, refl, ap, ◌∙◌, sym, subst, inl, inr, arith, Some, None, Option}
 use Rattle.std.specs.Prelude.{slice_index, nat_lt, max, fold, flat_map, if◌then◌else◌, ◌&&◌}
 use Rattle.tg_base.proofs.Exact.{and-left, and-right}
 use Rattle.tg_base.specs.Clusters.{Header, IsHeader, is_odd_to_seven, are_chains, are_objects}
@@ -14,11 +14,9 @@ use Rattle.tg_base.specs.declared.cell.Cell.{Cell}
 use Rattle.tg_protocol.specs.Words.{cell_at, with_num, with_nums}
 use Rattle.tg_protocol.specs.Layouts.{chain_of, units_of}
 use Rattle.tg_protocol.specs.Cells.{CellJob}
-use Rattle.tg_protocol.specs.Sequencers.{SeqrState, scanning}
 use Rattle.tg_protocol.specs.Worlds.{World, start, unit, layout, seqr, client, latest}
 use Rattle.tg_protocol.specs.Runs.{Moves, Reaches, Always}
-use Rattle.tg_protocol.specs.Finishing.{longest_in, stripes_of, longest_chain, WaitsAlone, IsReadyFor}
-use Rattle.tg_law_moves.specs.After.{after}
+use Rattle.tg_protocol.specs.Finishing.{stripes_of, longest_chain, WaitsAlone, IsReadyFor}
 use Rattle.tg_law_moves.specs.Configs.{config}
 use Rattle.tg_law_moves.proofs.Always.{always}
 use Rattle.tg_law_moves.proofs.Moves.{run_keeps}
@@ -36,7 +34,7 @@ use Rattle.tg_law_cells.proofs.Jobs.{MaybeOk}
 use Rattle.tg_law_cells.proofs.Stores.{cells_hold}
 use Rattle.tg_law_cells.proofs.Successors.{place_of, stands_there, some_there}
 use Rattle.tg_law_finish.specs.Granted.{Granted}
-use Rattle.tg_law_finish.proofs.Scans.{Fine, Seqrs, seqrs_hold}
+use Rattle.tg_law_finish.proofs.Scans.{Seqrs, seqrs_hold}
 use Rattle.tg_law_finish.proofs.Working.{Working, Lawful, JobOff}
 
 -- Lists.

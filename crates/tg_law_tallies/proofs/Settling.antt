@@ -1,6 +1,6 @@
 -- Runs that leave a client waiting meet the premises of the laws on finishing, and their settlings are counted.
-use Rattle.std.proofs.Common.{◌≡◌, ◌≢◌, ℕ, zero, suc, ◌<◌, ◌≤◌, ◌%◌, List, [], ◌∷◌, length, Bool, true, false, refl, ap, sym, ◌∙◌, subst, inl, inr, arith, Some, None, Option}
-use Rattle.std.specs.Prelude.{Contains, slice_index, nat_lt, nat_le}
+use Rattle.std.proofs.Common.{◌≡◌, ◌≢◌, ℕ, zero, suc, ◌<◌, ◌≤◌, ◌%◌, List, [], ◌∷◌, length, true, false, refl, ap, sym, ◌∙◌, subst, inl, inr, arith, None}
+use Rattle.std.specs.Prelude.{Contains, nat_le}
 use Rattle.tg_model.specs.declared.command.Command.TheVariants as cmd
 use Rattle.tg_codec.specs.Reading.{u8_at, u16_at, u32_at, u64_at, raw_at, fixed_at}
 use Rattle.tg_codec.specs.Codec.{read_many, spell_many, fit_many}
@@ -33,21 +33,16 @@ use Rattle.tg_protocol.specs.ClientSteps.{task_asks, client_asks, walks, task_fe
 use Rattle.tg_protocol.specs.Sizes.{fields_size}
 use Rattle.tg_protocol.specs.Logs.{decided, newest, log_of, entries_of, members, path_on, path, changes_below, version, outcome, history_of}
 use Rattle.tg_base.specs.declared.ids.Oid.{Oid}
-use Rattle.tg_base.specs.declared.ids.Role.{Role}
-use Rattle.tg_base.specs.declared.ids.Role.TheVariants as role
-use Rattle.tg_base.specs.declared.packet.Packet.{Packet}
-use Rattle.tg_model.specs.declared.command.Event.TheVariants.{Command as Commands, Deliver, Lose}
-use Rattle.tg_base.specs.declared.cell.Cell.{Cell}
 use Rattle.tg_base.specs.declared.ids.Oid.{Oid}
 use Rattle.tg_base.specs.declared.marks.StreamLink.{StreamLink}
-use Rattle.tg_protocol.specs.Words.{cell_at, too_far, oid_eq, unit_id, seqr_id}
+use Rattle.tg_protocol.specs.Words.{cell_at, too_far, unit_id, seqr_id}
 use Rattle.tg_protocol.specs.Entries.{link_of, backs_of}
 use Rattle.tg_protocol.specs.Layouts.{first_layout}
 use Rattle.tg_protocol.specs.Sequencers.{links_of}
 use Rattle.tg_protocol.specs.Appending.{names_all}
 use Rattle.tg_protocol.specs.Worlds.{World, unit, seqr, client, runs, start, latest, log, history, unit_moves, layout_moves, seqr_moves, client_turned, happens, limit_of, drain_on, drain, tick_all, rounds, settle, line, lines}
-use Rattle.tg_protocol.specs.Runs.{Move, Moves, LawfulMove, Reaches, run}
-use Rattle.tg_protocol.specs.Finishing.{IsServing, WaitsAlone, IsReadyFor, MostRun, deliveries, is_with_client, bound_in}
+use Rattle.tg_protocol.specs.Runs.{Move, LawfulMove, Reaches, run}
+use Rattle.tg_protocol.specs.Finishing.{IsServing, WaitsAlone, IsReadyFor, MostRun}
 use Rattle.tg_law_history.proofs.Members.{Has, has_contained}
 use Rattle.tg_law_finish.specs.Granted.{Granted, chain_at, chain_unit, next_position}
 use Rattle.tg_law_finish.specs.Appends.{is_last, WaitsForAppend}
@@ -55,7 +50,7 @@ use Rattle.tg_law_finish.specs.Laws.{append_bound, ask_bound}
 use Rattle.tg_base.specs.Layouts.{Layout}
 use Rattle.tg_law_finish.specs.Asks.{is_ask, IsUntrimmed, WaitsForSync}
 use Rattle.tg_law_tallies.specs.Tallies.{tallies, tally, with_tally}
-use Rattle.tg_law_tallies.specs.Settled.{Counted, append_lost, ask_lost, AppendSettles, AskSettles, AppendIsAnswered, AskIsAnswered}
+use Rattle.tg_law_tallies.specs.Settled.{Counted, append_lost, ask_lost, AppendIsAnswered, AskIsAnswered}
 
 -- One unit holds each position.
 

@@ -1,5 +1,5 @@
 -- Runs that leave a client waiting, and what a settling makes of them.
-use Rattle.std.specs.Prelude.{◌≡◌, ℕ, List, [], ◌∷◌}
+use Rattle.std.specs.Prelude.{◌≡◌, ℕ, [], ◌∷◌}
 use Rattle.tg_model.specs.declared.command.Command.TheVariants as cmd
 use Rattle.tg_model.specs.declared.command.Event.TheVariants.{Command as Commands, Deliver, Lose}
 use Rattle.tg_model.specs.Kinds.{CommandOf}
