@@ -20,7 +20,7 @@ use Rattle.tg_protocol.specs.Clients.{Purpose, Appending, Syncing, Doing, Work, 
 use Rattle.tg_protocol.specs.ClientSteps.{task_asks}
 use Rattle.tg_protocol.specs.Worlds.{World, seqr, client, latest, settle}
 use Rattle.tg_protocol.specs.Runs.{Moves, Reaches, Always}
-use Rattle.tg_protocol.specs.Finishing.{longest_chain, is_with_client, passes, WaitsAlone, IsReadyFor, bound, bound_in}
+use Rattle.tg_protocol.specs.Finishing.{longest_chain, is_with_client, passes, WaitsAlone, IsReadyFor, bound, bound_in, Finishes, HasReply}
 use Rattle.tg_law_moves.proofs.Clients.{reserved, work_reserved}
 use Rattle.tg_law_moves.proofs.Lists.{contained}
 use Rattle.tg_law_moves.proofs.Members.{Has}
@@ -30,9 +30,13 @@ use Rattle.tg_law_finish.specs.Granted.{Granted}
 use Rattle.tg_law_finish.specs.Appends as appends
 use Rattle.tg_law_finish.specs.Appends.{WaitsForAppend, AppendStands, PuttingStands, JudgingStands}
 use Rattle.tg_law_finish.specs.Asks.{IsUntrimmed, WaitsForSync}
-use Rattle.tg_law_finish.specs.Laws.{Answered, AppendAnswered, AppendInTime, AskAnswered, AskInTime}
+use Rattle.tg_law_finish.specs.Laws.{IsAnswered, AppendAnswered, AppendInTime, AskAnswered, AskInTime}
 use Rattle.tg_law_finish.proofs.Asking.{Untrimmed, Asks, AllBelow}
-use Rattle.tg_law_finish.proofs.Counted.{is_of, one_if, cost, counted, Finishes}
+use Rattle.tg_law_finish.proofs.Counted.{is_of, one_if, cost, counted}
+use Rattle.tg_law_finish.proofs.Counted.{Finishes as Counted}
+use Rattle.tg_law_finish.proofs.Replying.{settle_replies}
+use Rattle.tg_law_finish.proofs.Telling.{CommandIs}
+use Rattle.tg_law_finish.specs.Commands.{is_ask, plays}
 use Rattle.tg_law_finish.proofs.Finishes.{writes_finish, asks_finish}
 use Rattle.tg_law_finish.proofs.Standing.{numbers_hold, cells_always, pax_always, working, lawful, cluster_is, header_limits}
 use Rattle.tg_law_finish.proofs.Writing.{Writes, Stands, InHand, PutStands, JudgeStands}
@@ -69,15 +73,16 @@ front_of xs ys zs e = subst (λ (l : List ℕ). take (length l - length ys) l �
     less : (xs ys : List ℕ) → length (xs ++ ys) - length ys ≡ length xs
     less xs ys = let a = length-append xs ys in omega (arith, a)
 
-answered_of : (m : Meaning) (k n : ℕ) (w v : World m) → Finishes m k n w v → Answered m w v k n
-answered_of m k n w v f = record {
+answered_of : (m : Meaning) (k n : ℕ) (w v : World m) → Counted m k n w v → HasReply m w v k (λ what. Unit {0}) → Finishes m w v k n (λ what. Unit {0})
+answered_of m k n w v f r = record {
   idle = f.answered;
+  reply = r;
   few = subst (λ (is : List ℕ). length (filter (λ i. passes m (is_with_client m k) (slice_get v.packets i)) is) ≤ n) (sym (front_of f.done w.delivered v.delivered f.since))
       (subst (λ c. c ≤ n) (counted_is m k v.packets f.done) f.few);
 }
 
-within : (m : Meaning) (k a b : ℕ) (w v : World m) → a ≤ b → Answered m w v k a → Answered m w v k b
-within m k a b w v le f = let few = f.few in record { idle = f.idle; few = omega (arith, le, few) }
+within : (m : Meaning) (k a b : ℕ) (w v : World m) → a ≤ b → Finishes m w v k a (λ what. Unit {0}) → Finishes m w v k b (λ what. Unit {0})
+within m k a b w v le f = let few = f.few in record { idle = f.idle; reply = f.reply; few = omega (arith, le, few) }
 
 -- The bounds of commands.
 
@@ -192,21 +197,30 @@ module _ (m : Meaning) (h : Header) (ms : Moves m) (w : World m) (r : Reaches m 
   few_layouts : w.cluster.layouts ≤ 7
   few_layouts = subst (λ (y : Header). y.layouts ≤ 7) (sym (cluster_is m h ms w r)) (header_limits h r.header).0
 
+  in_work : (work : Work m) → (client m w k).work ≡ Some work → CommandIs m work.command (client m w k).work
+  in_work work e = subst (λ (o : Option (Work m)). CommandIs m work.command o) (sym e) refl
+
+  asks_play : (x : CommandOf m) → is_ask m x ≡ true → plays m x ≡ true
+  unfolding is_ask plays
+  asks_play x e = grind arith
+
   longest : Granted m w → (x : CommandOf m) → WaitsAlone m w k x → IsReadyFor m w k → 1 ≤ longest_chain p
   longest g x a b = let l = lawful m h ms w r k x a b g in let y = l.some 0 in let z = l.short 0 in omega (arith, y, z)
 
-  pub append_answered : (x : CommandOf m) → WaitsAlone m w k x → IsReadyFor m w k → Granted m w → WaitsForAppend m w k → Answered m w (settle m w).world k (4 * longest_chain p + 2 * w.cluster.layouts + 2)
-  append_answered x a b g f = answered_of m k _ w _ (subst (λ l. Finishes m k (4 * longest_chain p + 2 * l + 2) w (settle m w).world) layouts_are
-      (writes_finish m w k p (longest_chain p) (working m h ms w r k x a b) (lawful m h ms w r k x a b g) (writes b.stand f) a.within))
+  pub append_answered : (x : CommandOf m) → WaitsAlone m w k x → IsReadyFor m w k → Granted m w → WaitsForAppend m w k → IsAnswered m w k (4 * longest_chain p + 2 * w.cluster.layouts + 2)
+  append_answered x a b g f =
+      let c = writes_finish m w k p (longest_chain p) (working m h ms w r k x a b) (lawful m h ms w r k x a b g) (writes b.stand f) a.within in
+      answered_of m k _ w _ (subst (λ l. Counted m k (4 * longest_chain p + 2 * l + 2) w (settle m w).world) layouts_are c) (settle_replies m k f.work.command f.command w (in_work f.work f.waits) c.answered)
 
-  pub append_in_time : (x : CommandOf m) → WaitsAlone m w k x → IsReadyFor m w k → Granted m w → WaitsForAppend m w k → Answered m w (settle m w).world k (bound_in m w x)
+  pub append_in_time : (x : CommandOf m) → WaitsAlone m w k x → IsReadyFor m w k → Granted m w → WaitsForAppend m w k → IsAnswered m w k (bound_in m w x)
   append_in_time x a b g f = within m k _ _ w _ (bounds m x _ _ _ _ (rooms _ _ _ (longest g x a b) few_layouts)) (append_answered x a b g f)
 
-  pub ask_answered : (x : CommandOf m) → WaitsAlone m w k x → IsReadyFor m w k → Granted m w → IsUntrimmed m w → WaitsForSync m w k → Answered m w (settle m w).world k (2 * ((longest_chain p + 1) * ((seqr m w p.seq).next + 1)) + 2 * w.cluster.layouts)
-  ask_answered x a b g u f = answered_of m k _ w _ (subst (λ l. Finishes m k (2 * ((longest_chain p + 1) * ((seqr m w p.seq).next + 1)) + 2 * l) w (settle m w).world) layouts_are
-      (asks_finish m w k p (longest_chain p) (working m h ms w r k x a b) (lawful m h ms w r k x a b g) (untrimmed u) (asks f) a.within))
+  pub ask_answered : (x : CommandOf m) → WaitsAlone m w k x → IsReadyFor m w k → Granted m w → IsUntrimmed m w → WaitsForSync m w k → IsAnswered m w k (2 * ((longest_chain p + 1) * ((seqr m w p.seq).next + 1)) + 2 * w.cluster.layouts)
+  ask_answered x a b g u f =
+      let c = asks_finish m w k p (longest_chain p) (working m h ms w r k x a b) (lawful m h ms w r k x a b g) (untrimmed u) (asks f) a.within in
+      answered_of m k _ w _ (subst (λ l. Counted m k (2 * ((longest_chain p + 1) * ((seqr m w p.seq).next + 1)) + 2 * l) w (settle m w).world) layouts_are c) (settle_replies m k f.work.command (asks_play f.work.command f.asks) w (in_work f.work f.waits) c.answered)
 
-  pub ask_in_time : (x : CommandOf m) → WaitsAlone m w k x → IsReadyFor m w k → Granted m w → IsUntrimmed m w → WaitsForSync m w k → Answered m w (settle m w).world k (bound_in m w x)
+  pub ask_in_time : (x : CommandOf m) → WaitsAlone m w k x → IsReadyFor m w k → Granted m w → IsUntrimmed m w → WaitsForSync m w k → IsAnswered m w k (bound_in m w x)
   ask_in_time x a b g u f = within m k _ _ w _ (bounds m x _ _ _ _ (each_room _ _ _ (longest g x a b) few_layouts)) (ask_answered x a b g u f)
 
 pub appends_are_answered : (m : Meaning) → Always m (AppendAnswered m)

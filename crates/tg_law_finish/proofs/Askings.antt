@@ -27,7 +27,7 @@ use Rattle.tg_law_finish.proofs.Others.{Keeps}
 use Rattle.tg_law_finish.proofs.Stores.{with_unit}
 use Rattle.tg_law_finish.proofs.Readings.{CellAsk, cell_ask, cell_keeps}
 use Rattle.tg_law_finish.proofs.Trails.{unknown, unknown_fewer, Low, TrailLow, Walked, WalkReads, WalkEnds}
-use Rattle.tg_law_finish.specs.Asks.{is_ask}
+use Rattle.tg_law_finish.specs.Commands.{is_ask}
 use Rattle.tg_law_finish.proofs.Readers.{Answers, Walks, WalksTo, ToOver, ToReads, walks_to}
 use Rattle.tg_base.specs.declared.marks.StreamLink.{StreamLink}
 use Rattle.tg_protocol.specs.Units.{unit_step}

@@ -15,7 +15,7 @@ use Rattle.tg_protocol.specs.Views.{View, Entries, Play, play}
 use Rattle.tg_protocol.specs.Clients.{Walking, Work, Client, all_entries}
 use Rattle.tg_protocol.specs.Answers.{Moved, moved, on_ask, on_fate, on_ask_at, walked_for, walked, own_view, play_target, with_view, answer_by, played_on}
 use Rattle.tg_protocol.specs.ClientSteps.{walks, start_walk, goes_on, lends, after_turn, takes_back, found_by, lasts_of}
-use Rattle.tg_law_finish.specs.Asks.{is_ask}
+use Rattle.tg_law_finish.specs.Commands.{is_ask}
 use Rattle.tg_law_finish.proofs.Trails.{Low, TrailLow, Walked, WalkReads, WalkEnds, walk_goes}
 
 module _ (m : Meaning) where

@@ -8,6 +8,7 @@ use Rattle.tg_protocol.specs.Cells.{CellWork, Puts, Fills, Copies}
 use Rattle.tg_protocol.specs.Appending.{Append, AppendWork, Asking, Putting, Judging, Token}
 use Rattle.tg_protocol.specs.Clients.{Purpose, Judged, Appending, Doing, Work}
 use Rattle.tg_protocol.specs.Worlds.{World, unit, client}
+use Rattle.tg_law_finish.specs.Commands.{plays}
 use Rattle.tg_law_finish.specs.Granted.{chain_at, chain_unit, next_position}
 
 module _ (m : Meaning) where
@@ -51,6 +52,7 @@ module _ (m : Meaning) where
   pub record WaitsForAppend (w : World m) (k : ℕ) : Type 0 where
     pub work : Work m
     pub waits : (client m w k).work ≡ Some work
+    pub command : plays m work.command ≡ true
     pub append : Append
     pub purpose : Purpose m
     pub hand : work.hand ≡ Doing (Appending append purpose)

@@ -1,25 +1,17 @@
 -- A client that waits for a sync, walks and an answer: of `ask`, `fate` and `ask-at`.
-use Rattle.std.specs.Prelude.{◌≡◌, ℕ, ◌<◌, Bool, true, false, List, Some, Contains}
+use Rattle.std.specs.Prelude.{◌≡◌, ℕ, ◌<◌, true, false, List, Some, Contains}
 use Rattle.tg_base.specs.declared.ids.Oid.{Oid}
 use Rattle.tg_kind.specs.Meaning.{Meaning}
-use Rattle.tg_model.specs.declared.command.Command.TheVariants as cmd
-use Rattle.tg_model.specs.Kinds.{CommandOf}
 use Rattle.tg_protocol.specs.Words.{too_far}
 use Rattle.tg_protocol.specs.Entries.{link_of, backs_of}
 use Rattle.tg_protocol.specs.Sequencers.{links_of}
 use Rattle.tg_protocol.specs.Syncing.{Sync, Checking}
 use Rattle.tg_protocol.specs.Clients.{Syncing, Doing, Work}
 use Rattle.tg_protocol.specs.Worlds.{World, unit, seqr, client, latest}
+use Rattle.tg_law_finish.specs.Commands.{is_ask}
 use Rattle.tg_law_finish.specs.Granted.{next_position}
 
 module _ (m : Meaning) where
-  -- commands that are answered as soon as all is walked
-  unfoldable pub is_ask : CommandOf m → Bool
-  is_ask (cmd.Ask o q) = true
-  is_ask (cmd.Fate p) = true
-  is_ask (cmd.AskAt p o q) = true
-  is_ask _ = false
-
   -- nothing is trimmed, and the latest layout's sequencer has issued a position since it serves
   pub record IsUntrimmed (w : World m) : Type 0 where
     pub lows : (u : ℕ) → (unit m w u).low ≡ 0
@@ -36,4 +28,4 @@ module _ (m : Meaning) where
     pub rid : ℕ
     pub hand : work.hand ≡ Doing (Syncing sync)
     pub first : sync.work ≡ Checking rid
-    pub asks : is_ask work.command ≡ true
+    pub asks : is_ask m work.command ≡ true
