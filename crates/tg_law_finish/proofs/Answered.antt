@@ -30,7 +30,7 @@ use Rattle.tg_law_finish.specs.Granted.{Granted}
 use Rattle.tg_law_finish.specs.Appends as appends
 use Rattle.tg_law_finish.specs.Appends.{WaitsForAppend, AppendStands, PuttingStands, JudgingStands}
 use Rattle.tg_law_finish.specs.Asks.{IsUntrimmed, WaitsForSync}
-use Rattle.tg_law_finish.specs.Laws.{IsAnswered, AppendAnswered, AppendInTime, AskAnswered, AskInTime}
+use Rattle.tg_law_finish.specs.Laws.{IsAnswered, AppendAnswered, AppendInTime, AskAnswered, AskInTime, EndsAreTold}
 use Rattle.tg_law_finish.proofs.Asking.{Untrimmed, Asks, AllBelow}
 use Rattle.tg_law_finish.proofs.Counted.{is_of, one_if, cost, counted}
 use Rattle.tg_law_finish.proofs.Counted.{Finishes as Counted}
@@ -234,3 +234,6 @@ asks_are_answered m h ms w r k x a b g u f = ask_answered m h ms w r k x a b g u
 
 pub asks_in_time : (m : Meaning) → Always m (AskInTime m)
 asks_in_time m h ms w r k x a b g u f = ask_in_time m h ms w r k x a b g u f
+
+pub ends_are_told : (m : Meaning) → EndsAreTold m
+ends_are_told m w k work e g idle = settle_replies m k work.command g w (subst (λ (o : Option (Work m)). CommandIs m work.command o) (sym e) refl) idle

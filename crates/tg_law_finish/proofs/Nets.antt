@@ -1,6 +1,6 @@
 -- Nodes and the queue of packets between them: a world, as far as its deliveries go.
 use Rattle.std.proofs.Common.{◌≡◌, ℕ, zero, suc, ◌+◌, ◌≤◌, List, [], ◌∷◌, ◌++◌, length, map, Bool, true, false, not, ◌&&◌, refl, ap, ◌∙◌, sym, subst, arith, Some, None, Option, filter, eqb}
-use Rattle.std.specs.Prelude.{slice_get, slice_set, slice_index_or, ⊤}
+use Rattle.std.specs.Prelude.{slice_get, slice_set, slice_index_or}
 use Rattle.tg_base.specs.Clusters.{Header}
 use Rattle.tg_base.specs.declared.ids.NodeId.{NodeId}
 use Rattle.tg_base.specs.declared.ids.Role.{Role}
@@ -10,6 +10,8 @@ use Rattle.tg_kind.specs.Meaning.{Meaning}
 use Rattle.tg_model.specs.declared.command.Event.TheVariants.{Deliver, Tick}
 use Rattle.std.specs.List.{list_any}
 use Rattle.std.specs.Prelude.{nat_lt}
+use Rattle.tg_law_finish.specs.Laws.{TakesTurn}
+use Rattle.tg_law_finish.specs.Queues.{Rises, Carries, Queue}
 use Rattle.tg_law_moves.proofs.Members.{set_long}
 use Rattle.tg_protocol.specs.Words.{node_eq, seqr_id, client_id, numbers}
 use Rattle.tg_protocol.specs.Layouts.{first_layout}
@@ -18,20 +20,9 @@ use Rattle.tg_protocol.specs.LayoutServers.{LayoutState, new_layout, layout_step
 use Rattle.tg_protocol.specs.Sequencers.{SeqrState, new_seqr, seqr_step, seqr_tick}
 use Rattle.tg_protocol.specs.Clients.{Client, new_client}
 use Rattle.tg_protocol.specs.ClientSteps.{client_deliver, client_tick}
-use Rattle.tg_protocol.specs.Worlds.{World, packet_of, answer_to, moves, comes, handed, delivers, runs, without_num, unit_moves, layout_moves, seqr_moves, client_turned, ticks, ticks_if, count_of, happens}
+use Rattle.tg_protocol.specs.Worlds.{World, packet_of, answer_to, moves, comes, handed, delivers, runs, without_num, unit_moves, layout_moves, seqr_moves, client_turned, ticks, ticks_if, count_of, happens, lowest}
 
 -- The packets of a world that wait, in their order.
-
--- numbers that rise, from one bound to another
-abbrev pub Rises : ℕ → List ℕ → ℕ → Type 0
-Rises lo [] hi = lo ≤ hi
-Rises lo (i ∷ is) hi = (lo ≤ i) × Rises (suc i) is hi
-
-abbrev pub Carries : List Packet → List ℕ → List Packet → Type 0
-Carries ps [] [] = ⊤
-Carries ps [] (p ∷ q) = ⊥
-Carries ps (i ∷ is) [] = ⊥
-Carries ps (i ∷ is) (p ∷ q) = (slice_get ps i ≡ Some p) × Carries ps is q
 
 rises_within : (lo hi : ℕ) (is : List ℕ) → Rises lo is hi → lo ≤ hi
 rises_within lo hi [] h = h
@@ -97,11 +88,6 @@ carries_new ps (x ∷ more) = (
 )
 
 module _ (m : Meaning) where
-  -- the packets that wait, oldest first
-  pub record Queue (w : World m) (q : List Packet) : Type 0 where
-    pub rises : Rises 0 w.waiting (length w.packets)
-    pub carries : Carries w.packets w.waiting q
-
   -- the states of all nodes
   pub record Net : Type 0 where
     pub units : List UnitState
@@ -177,7 +163,7 @@ module _ (m : Meaning) where
   counts_only w v is done s sent l = record { nodes = l.nodes; packets = l.packets; waiting = l.waiting; delivered = l.delivered; cluster = l.cluster; stopped = l.stopped }
 
   -- the oldest packet is delivered
-  pub first_delivered : (w : World m) (i : ℕ) (is : List ℕ) (p : Packet) (q : List Packet) → w.waiting ≡ i ∷ is → Queue w (p ∷ q)
+  pub first_delivered : (w : World m) (i : ℕ) (is : List ℕ) (p : Packet) (q : List Packet) → w.waiting ≡ i ∷ is → Queue m w (p ∷ q)
       → Later w (happens m w (Deliver i)) is (i ∷ []) (net_if (runs m w p.to) w.cluster (net w) p) (sent_if (runs m w p.to) w.cluster (net w) p)
   unfolding happens
   first_delivered w i is p q e queue =
@@ -187,7 +173,7 @@ module _ (m : Meaning) where
       counts_only w _ is (i ∷ []) _ _ (subst (λ js. Later w (delivers m w i (slice_get w.packets i)) js (i ∷ []) (net_if (runs m w p.to) w.cluster (net w) p) (sent_if (runs m w p.to) w.cluster (net w) p))
       (ap (λ js. without_num m i js) e ∙ first_goes i is (others_stay i (suc i) (length w.packets) is (omega arith) r.1)) l)
 
-  pub later_queue : (w v : World m) (is done : List ℕ) (s : Net) (sent q : List Packet) → Rises 0 is (length w.packets) → Carries w.packets is q → Later w v is done s sent → Queue v (q ++ sent)
+  pub later_queue : (w v : World m) (is done : List ℕ) (s : Net) (sent q : List Packet) → Rises 0 is (length w.packets) → Carries w.packets is q → Later w v is done s sent → Queue m v (q ++ sent)
   later_queue w v is done s sent q rises carries l = record {
     rises = subst (λ js. Rises 0 js (length v.packets)) (sym l.waiting) (subst (λ ps. Rises 0 (is ++ numbers (length sent) (length w.packets)) (length ps)) (sym l.packets)
         (subst (λ n. Rises 0 (is ++ numbers (length sent) (length w.packets)) n) (sym (length_both w.packets sent)) (rises_more 0 (length w.packets) (length sent) is rises)));
@@ -321,3 +307,25 @@ module _ (m : Meaning) where
   pub happens_counts : (w : World m) (i : ℕ) → (happens m w (Deliver i)).steps ≡ w.steps + 1
   unfolding happens
   happens_counts w i = ap (λ n. n + 1) (delivers_count w i (slice_get w.packets i))
+
+  -- the oldest packet's turn
+  pub takes_turn : (w : World m) (i : ℕ) (p : Packet) (q : List Packet) → lowest m w.waiting ≡ Some i → Queue m w (p ∷ q) → (slice_get w.packets i ≡ Some p) × TakesTurn m w (happens m w (Deliver i)) q
+  takes_turn w i p q e queue = by w.waiting refl e
+    where
+      one : (a b : ℕ) → Some a ≡ Some b → a ≡ b
+      one a b e = cc
+
+      here : (is : List ℕ) → w.waiting ≡ i ∷ is → (slice_get w.packets i ≡ Some p) × TakesTurn m w (happens m w (Deliver i)) q
+      here is e =
+          let c = subst (λ js. Carries w.packets js (p ∷ q)) e queue.carries in
+          let r = subst (λ js. Rises 0 js (length w.packets)) e queue.rises in
+          let l = first_delivered w i is p q e queue in
+          (c.0, record { sent = _; packets = l.packets; waiting = later_queue w _ is (i ∷ []) _ _ q (lower 0 i is _ r) c.1 l })
+        where
+          lower : (lo i : ℕ) (is : List ℕ) (hi : ℕ) → (lo ≤ i) × Rises (suc i) is hi → Rises lo is hi
+          lower lo i [] hi h = let a = h.0 in let b = h.1 in omega (arith, a, b)
+          lower lo i (j ∷ is) hi h = ((let a = h.0 in let b = h.1.0 in omega (arith, a, b)), h.1.1)
+
+      by : (is : List ℕ) → w.waiting ≡ is → lowest m is ≡ Some i → (slice_get w.packets i ≡ Some p) × TakesTurn m w (happens m w (Deliver i)) q
+      by [] f g = absurd cc
+      by (j ∷ is) f g = here is (f ∙ ap (λ n. n ∷ is) (one j i g))
