@@ -16,7 +16,7 @@ use Rattle.tg_law_requests.proofs.Told.{told_holds}
 use Rattle.tg_law_requests.proofs.Starts.{known as base}
 use Rattle.tg_law_layouts.proofs.Deciding.{K, known}
 use Rattle.tg_law_cells.specs.Settled.{HadBefore, head, HeadsHave}
-use Rattle.tg_law_cells.proofs.Befores.{Before, At, at_has, before_at}
+use Rattle.tg_law_cells.proofs.Befores.{Before, At, at_has, before_at, has_at}
 use Rattle.tg_law_cells.proofs.Justified.{ToldBy}
 use Rattle.tg_law_cells.proofs.Settles.{Settled, Rooted, Got, Next, ToldBefore, before_tells, settled_present}
 use Rattle.tg_law_cells.proofs.Successors.{words}
@@ -40,7 +40,7 @@ module _ (m : Meaning) (h : Header) (xs : Moves m) (header : IsHeader h) (give :
       had (inr y) = inr y
 
   some_there : (q : Layout) (pos u : ℕ) → (i : ℕ) × At (chain_of q pos) u i → Has (chain_of q pos) (head q pos)
-  some_there q pos u a = let l = a.1.within in Rattle.tg_law_cells.proofs.Befores.has_at (chain_of q pos) 0 (omega (arith, l))
+  some_there q pos u a = let l = a.1.within in has_at (chain_of q pos) 0 (omega (arith, l))
 
   below_head : (q : Layout) (pos u : ℕ) (c : Cell) → K m h xs q → Has (chain_of q pos) u → Has (chain_of q pos) (head q pos) → Before (chain_of q pos) (head q pos) u → Rooted words (K m h xs) (after m h xs).packets u q.epoch pos c → HasIt (head q pos) pos c
   below_head q pos u c d here first before root = by root.how

@@ -13,15 +13,15 @@ use Rattle.tg_model.specs.Kinds.{CommandOf}
 use Rattle.tg_protocol.specs.Words.{node_eq, client_id, seqr_id}
 use Rattle.tg_protocol.specs.Requests.{out}
 use Rattle.tg_base.specs.declared.msg.Msg.TheVariants as msg
-use Rattle.tg_protocol.specs.Cells.{CellWork, CellJob, Puts, Gets, Fills, Copies, Probes, place_in, work_asks}
+use Rattle.tg_protocol.specs.Cells.{CellWork, CellJob, Puts, Gets, Fills, Copies, Probes, place_in, work_asks, Place}
 use Rattle.tg_protocol.specs.Appending.{Append, AppendWork, Asking, Putting, Judging, append_work_asks, append_asks}
-use Rattle.tg_protocol.specs.Syncing.{Sync, Checking, sync_asks, sync_work_asks}
-use Rattle.tg_protocol.specs.Clients.{Purpose, Appending, Syncing, Doing, Work, Client}
+use Rattle.tg_protocol.specs.Syncing.{Sync, Checking, sync_asks, sync_work_asks, SyncWork}
+use Rattle.tg_protocol.specs.Clients.{Purpose, Appending, Syncing, Doing, Work, Client, Hand, Task}
 use Rattle.tg_protocol.specs.ClientSteps.{task_asks}
 use Rattle.tg_protocol.specs.Worlds.{World, seqr, client, latest, settle}
 use Rattle.tg_protocol.specs.Runs.{Moves, Reaches, Always}
 use Rattle.tg_protocol.specs.Finishing.{longest_chain, is_with_client, passes, WaitsAlone, IsReadyFor, bound, bound_in, Finishes, HasReply}
-use Rattle.tg_law_moves.proofs.Clients.{reserved, work_reserved}
+use Rattle.tg_law_moves.proofs.Clients.{reserved, work_reserved, hand_reserved}
 use Rattle.tg_law_moves.proofs.Lists.{contained}
 use Rattle.tg_law_moves.proofs.Members.{Has}
 use Rattle.tg_law_cells.proofs.Hands as hands
@@ -107,8 +107,8 @@ module _ (m : Meaning) (h : Header) (ms : Moves m) (w : World m) (r : Reaches m 
   below_next : (o : Out) → Has (reserved m (client m w k)) o → o.rid < (client m w k).next
   below_next o g = ((numbers_hold m h ms w r).clients k).open' o g
 
-  reserves : (c : Client m) (work : Work m) (t : Rattle.tg_protocol.specs.Clients.Task m) (o : Out) → c.work ≡ Some work → work.hand ≡ Doing t → Has (Rattle.tg_law_moves.proofs.Clients.hand_reserved m c.stand (Doing t)) o → Has (reserved m c) o
-  reserves c work t o e f g = subst (λ (y : Option (Work m)). Has (work_reserved m c.stand y) o) (sym e) (subst (λ (y : Rattle.tg_protocol.specs.Clients.Hand m). Has (Rattle.tg_law_moves.proofs.Clients.hand_reserved m c.stand y) o) (sym f) g)
+  reserves : (c : Client m) (work : Work m) (t : Task m) (o : Out) → c.work ≡ Some work → work.hand ≡ Doing t → Has (hand_reserved m c.stand (Doing t)) o → Has (reserved m c) o
+  reserves c work t o e f g = subst (λ (y : Option (Work m)). Has (work_reserved m c.stand y) o) (sym e) (subst (λ (y : Hand m). Has (hand_reserved m c.stand y) o) (sym f) g)
 
   -- Appends.
 
@@ -117,7 +117,7 @@ module _ (m : Meaning) (h : Header) (ms : Moves m) (w : World m) (r : Reaches m 
   append_below f o g = below_next o (reserves (client m w k) f.work (Appending f.append f.purpose) o f.waits f.hand g)
 
   append_ok : (f : WaitsForAppend m w k) → AppendOk w.packets (client m w k).stand f.append.work
-  append_ok f = subst (λ (y : Rattle.tg_protocol.specs.Clients.Hand m). hands.HandOk m w.packets (client m w k).stand y) f.hand (subst (λ (y : Option (Work m)). hands.WorkOk m w.packets (client m w k).stand y) f.waits ((cells_always m h ms w r).hands k))
+  append_ok f = subst (λ (y : Hand m). hands.HandOk m w.packets (client m w k).stand y) f.hand (subst (λ (y : Option (Work m)). hands.WorkOk m w.packets (client m w k).stand y) f.waits ((cells_always m h ms w r).hands k))
 
   in_hand : (a : Append) (pos i rid : ℕ) → rid < (client m w k).next → appends.InHand m w a pos i → InHand m w (client m w k) p a pos rid i
   in_hand a pos i rid less f = record { token = f.token; has = f.has; less = f.within; off = unequal _ _ f.issued; below = less }
@@ -145,8 +145,8 @@ module _ (m : Meaning) (h : Header) (ms : Moves m) (w : World m) (r : Reaches m 
   stands : (a : Append) (y : AppendWork) → ((o : Out) → Has (append_work_asks p a y) o → o.rid < (client m w k).next) → AppendOk w.packets p y → AppendStands m w a y → Stands m w (client m w k) p a y
   unfolding append_work_asks
   stands a (Asking rid) g ok f = g _ (inl refl)
-  stands a (Putting j) g ok f = (ok.place, putting a j.place.pos j.work 0 (λ o x. g o (subst (λ (b : Rattle.tg_protocol.specs.Cells.Place). Has (work_asks b j.work) o) (sym ok.place) x)) f)
-  stands a (Judging j) g ok f = (ok.place, judging a j.place.pos j.work 0 (λ o x. g o (subst (λ (b : Rattle.tg_protocol.specs.Cells.Place). Has (work_asks b j.work) o) (sym ok.place) x)) f)
+  stands a (Putting j) g ok f = (ok.place, putting a j.place.pos j.work 0 (λ o x. g o (subst (λ (b : Place). Has (work_asks b j.work) o) (sym ok.place) x)) f)
+  stands a (Judging j) g ok f = (ok.place, judging a j.place.pos j.work 0 (λ o x. g o (subst (λ (b : Place). Has (work_asks b j.work) o) (sym ok.place) x)) f)
 
   writes : (client m w k).stand ≡ p → (f : WaitsForAppend m w k) → Writes m w k p
   writes e f = record {
@@ -187,7 +187,7 @@ module _ (m : Meaning) (h : Header) (ms : Moves m) (w : World m) (r : Reaches m 
     hand = f.hand;
     first = f.first;
     below = below_next (asked f) (reserves (client m w k) f.work (Syncing f.sync) (asked f) f.waits f.hand
-        (subst (λ (y : Rattle.tg_protocol.specs.Syncing.SyncWork). Has (sync_work_asks (client m w k).stand f.sync y) (asked f)) (sym f.first) (inl refl)));
+        (subst (λ (y : SyncWork). Has (sync_work_asks (client m w k).stand f.sync y) (asked f)) (sym f.first) (inl refl)));
     asks = f.asks;
   }
 

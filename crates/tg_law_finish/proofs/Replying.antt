@@ -11,7 +11,7 @@ use Rattle.tg_model.specs.declared.command.Event.TheVariants.{Deliver, Tick}
 use Rattle.tg_model.specs.Kinds.{CommandOf, NoteOf}
 use Rattle.tg_protocol.specs.Clients.{Client, Work, new_client}
 use Rattle.tg_protocol.specs.ClientSteps.{ClientTurn}
-use Rattle.tg_protocol.specs.Worlds.{World, Told, client, runs, packet_of, mark_of, moves, comes, handed, delivers, ticks, ticks_if, unit_moves, layout_moves, seqr_moves, client_turned, happens, nodes, limit_of, Ran, drain_on, drain, tick_all, unless_stopped, rounds, settle, lowest}
+use Rattle.tg_protocol.specs.Worlds.{World, Told, client, runs, packet_of, mark_of, moves, comes, handed, delivers, ticks, ticks_if, unit_moves, layout_moves, seqr_moves, client_turned, happens, nodes, limit_of, Ran, drain_on, drain, tick_all, unless_stopped, rounds, settle, lowest, count_of}
 use Rattle.tg_protocol.specs.Finishing.{HasReply}
 use Rattle.tg_law_moves.proofs.Lists.{at_set, contained}
 use Rattle.tg_law_moves.proofs.Members.{Has, has_left, has_right}
@@ -82,7 +82,7 @@ module _ (m : Meaning) (k : ℕ) (x : CommandOf m) (good : plays m x ≡ true) w
 
   -- Deliveries and ticks.
 
-  on_long : (w : World m) (n : NodeId) → runs m w n ≡ true → n.num < Rattle.tg_protocol.specs.Worlds.count_of m w n.role
+  on_long : (w : World m) (n : NodeId) → runs m w n ≡ true → n.num < count_of m w n.role
   on_long w n e = grind arith
 
   moved : (w : World m) (p : Packet) (r : Role) → p.to.role ≡ r → runs m w p.to ≡ true → R w (moves m w p r)
@@ -90,7 +90,7 @@ module _ (m : Meaning) (k : ℕ) (x : CommandOf m) (good : plays m x ≡ true) w
   moved w p role.Unit e on = same w _ refl refl
   moved w p role.Layout e on = same w _ refl refl
   moved w p role.Seqr e on = same w _ refl refl
-  moved w p role.Client e on = turned w p.to.num _ (subst (λ r. p.to.num < Rattle.tg_protocol.specs.Worlds.count_of m w r) e (on_long w p.to on)) (λ h. deliver_told m (client m w p.to.num) p.from p.rid p.msg x good h)
+  moved w p role.Client e on = turned w p.to.num _ (subst (λ r. p.to.num < count_of m w r) e (on_long w p.to on)) (λ h. deliver_told m (client m w p.to.num) p.from p.rid p.msg x good h)
 
   coming : (w : World m) (i : ℕ) (p : Packet) (b : Bool) → runs m w p.to ≡ b → R w (comes m b (handed m w i) p)
   coming w i p false e = same w _ refl refl
@@ -111,7 +111,7 @@ module _ (m : Meaning) (k : ℕ) (x : CommandOf m) (good : plays m x ≡ true) w
   ticked w n role.Unit e on = none w
   ticked w n role.Layout e on = none w
   ticked w n role.Seqr e on = same w _ refl refl
-  ticked w n role.Client e on = turned w n.num _ (subst (λ r. n.num < Rattle.tg_protocol.specs.Worlds.count_of m w r) e (on_long w n on)) (λ h. inl (tick_told m (client m w n.num) x h))
+  ticked w n role.Client e on = turned w n.num _ (subst (λ r. n.num < count_of m w r) e (on_long w n on)) (λ h. inl (tick_told m (client m w n.num) x h))
 
   ticked_if : (w : World m) (n : NodeId) (b : Bool) → runs m w n ≡ b → R w (ticks_if m b w n)
   ticked_if w n false e = none w

@@ -1,6 +1,6 @@
 -- What the settling's proof asks of a world holds of each to which a run comes, where a command waits alone and all stands ready.
 use Rattle.std.proofs.Common.{◌≡◌, ◌≢◌, ◌⊎◌, ℕ, zero, suc, ◌^◌, ◌<◌, ◌≤◌, List, [], ◌∷◌, length, Bool, true, false, eqb, refl, ap, ◌∙◌, sym, subst, inl, inr, arith, Some, None, Option}
-use Rattle.std.specs.Prelude.{slice_index, nat_lt, max, fold, flat_map, if◌then◌else◌, ◌&&◌}
+use Rattle.std.specs.Prelude.{slice_index, nat_lt, max, fold, flat_map, if◌then◌else◌, ◌&&◌, slice_index_or}
 use Rattle.tg_base.proofs.Exact.{and-left, and-right}
 use Rattle.tg_base.specs.Clusters.{Header, IsHeader, is_odd_to_seven, are_chains, are_objects}
 use Rattle.tg_base.specs.Units.{is_within}
@@ -8,13 +8,13 @@ use Rattle.tg_base.specs.Layouts.{Layout, IsLayout}
 use Rattle.tg_base.specs.declared.layout.Range.{Range}
 use Rattle.tg_kind.specs.Meaning.{Meaning}
 use Rattle.tg_model.specs.Kinds.{CommandOf}
-use Rattle.tg_proj.specs.Places.{range_at}
+use Rattle.tg_proj.specs.Places.{range_at, chain_at}
 use Rattle.tg_proj.specs.Refusals.{units_of as units_in}
 use Rattle.tg_base.specs.declared.cell.Cell.{Cell}
-use Rattle.tg_protocol.specs.Words.{cell_at, with_num, with_nums}
+use Rattle.tg_protocol.specs.Words.{cell_at, with_num, with_nums, unit_id}
 use Rattle.tg_protocol.specs.Layouts.{chain_of, units_of}
-use Rattle.tg_protocol.specs.Cells.{CellJob}
-use Rattle.tg_protocol.specs.Worlds.{World, start, unit, layout, seqr, client, latest}
+use Rattle.tg_protocol.specs.Cells.{CellJob, Place}
+use Rattle.tg_protocol.specs.Worlds.{World, start, unit, layout, seqr, client, latest, runs}
 use Rattle.tg_protocol.specs.Runs.{Moves, Reaches, Always}
 use Rattle.tg_protocol.specs.Finishing.{stripes_of, longest_chain, WaitsAlone, IsReadyFor}
 use Rattle.tg_law_moves.specs.Configs.{config}
@@ -36,6 +36,7 @@ use Rattle.tg_law_cells.proofs.Successors.{place_of, stands_there, some_there}
 use Rattle.tg_law_finish.specs.Granted.{Granted}
 use Rattle.tg_law_finish.proofs.Scans.{Seqrs, seqrs_hold}
 use Rattle.tg_law_finish.proofs.Working.{Working, Lawful, JobOff}
+use Rattle.tg_protocol.specs.Chosen.{IsDecided}
 
 -- Lists.
 
@@ -97,12 +98,12 @@ at_most n (x ∷ cs) c (inl e) = let a = longer (max n (length x)) cs in let b =
     most a b = grind arith
 at_most n (x ∷ cs) c (inr h) = at_most (max n (length x)) cs c h
 
-stripe_in : (cs : List (List ℕ)) (k : ℕ) → k < length cs → Has cs (Rattle.std.specs.Prelude.slice_index_or cs k [])
+stripe_in : (cs : List (List ℕ)) (k : ℕ) → k < length cs → Has cs (slice_index_or cs k [])
 stripe_in [] k less = absurd (omega (arith, less))
 stripe_in (c ∷ cs) zero less = inl refl
 stripe_in (c ∷ cs) (suc k) less = inr (stripe_in cs k (omega (arith, less)))
 
-ranges_have : (rs : List Range) (n k : ℕ) → n < length rs → k < length (range_at rs n).stripes → Has (flat_map stripes_of rs) (Rattle.tg_proj.specs.Places.chain_at rs n k)
+ranges_have : (rs : List Range) (n k : ℕ) → n < length rs → k < length (range_at rs n).stripes → Has (flat_map stripes_of rs) (chain_at rs n k)
 ranges_have [] n k a b = absurd (omega (arith, a))
 ranges_have (r ∷ rs) zero k a b = has_left r.stripes (flat_map stripes_of rs) _ (stripe_in r.stripes k b)
 ranges_have (r ∷ rs) (suc n) k a b = has_right r.stripes (flat_map stripes_of rs) _ (ranges_have rs n k (omega (arith, a)) b)
@@ -156,7 +157,7 @@ module _ (m : Meaning) where
     in_units pos i less = nums_have (units_in p.ranges) _ (stands_there p pos _ rules (has_at (chain_of p pos) i less))
 
     module _ (k : ℕ) (x : CommandOf m) (a : WaitsAlone m w k x) (b : IsReadyFor m w k) where
-      ready_unit : (pos i : ℕ) → i < length (chain_of p pos) → (Rattle.tg_protocol.specs.Worlds.runs m w (Rattle.tg_protocol.specs.Words.unit_id (slice_index (chain_of p pos) i)) ≡ true) × ((unit m w (slice_index (chain_of p pos) i)).epoch ≡ p.epoch)
+      ready_unit : (pos i : ℕ) → i < length (chain_of p pos) → (runs m w (unit_id (slice_index (chain_of p pos) i)) ≡ true) × ((unit m w (slice_index (chain_of p pos) i)).epoch ≡ p.epoch)
       ready_unit pos i less = b.units (slice_index (chain_of p pos) i) (contained (units_of p) _ (in_units pos i less))
 
       not_below : (n k : ℕ) → n ≤ k → nat_lt k n ≡ false
@@ -187,7 +188,7 @@ module _ (m : Meaning) where
 
       job_off : (s : ℕ) (o : Option CellJob) → (seqr m w s).scan ≡ o → (eqb s p.seq ≡ false) → MaybeOk w.packets (seqr m w s).proj o → JobOff m p.epoch (seqr m w s).proj o
       job_off s None e off k = tt
-      job_off s (Some j) e off k = (unequal _ _ (λ i. away (sym (ap (λ (y : Rattle.tg_protocol.specs.Cells.Place). y.epoch) k.place) ∙ i)), unequal _ _ away)
+      job_off s (Some j) e off k = (unequal _ _ (λ i. away (sym (ap (λ (y : Place). y.epoch) k.place) ∙ i)), unequal _ _ away)
         where
           own : (seqr m w s).proj.seq ≡ s
           own = by ((seqrs_always h ms w r).fine s).own
@@ -204,7 +205,7 @@ module _ (m : Meaning) where
 
           away : (seqr m w s).proj.epoch ≡ p.epoch → ⊥
           away g = not_it (sym own ∙ ap (λ (y : Layout). y.seq) (one_layout m h ms w r p.epoch (seqr m w s).proj p
-              (subst (λ n. Rattle.tg_protocol.specs.Chosen.IsDecided m w n (seqr m w s).proj) g ((layouts_are_known m h ms w r).seqrs s)) (latest_decided m h ms w r).decided))
+              (subst (λ n. IsDecided m w n (seqr m w s).proj) g ((layouts_are_known m h ms w r).seqrs s)) (latest_decided m h ms w r).decided))
 
       head_has : (pos i : ℕ) (c : Cell) → i < length (chain_of p pos) → cell_at (unit m w (slice_index (chain_of p pos) i)).cells pos ≡ Some c
           → nat_lt pos (unit m w (slice_index (chain_of p pos) 0)).low ≡ false → cell_at (unit m w (slice_index (chain_of p pos) 0)).cells pos ≡ Some c
