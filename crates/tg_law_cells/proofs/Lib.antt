@@ -12,3 +12,4 @@ pub mod Successors
 pub mod Owned
 pub mod Joining
 pub mod Settling
+pub mod Heads

@@ -151,6 +151,13 @@ module _ (s : Words) where
               by (inl x) = x
               by (inr x) = absurd (l.out r u dr (a.next.gone u x) (l.stands r pos u dr g))
 
+      -- a unit that stands before one that got a cell has told it
+      pub before_tells : (q r : Layout) (w u pos : ℕ) (c : Cell) → D q → D r → r.epoch ≤ q.epoch → Got u pos c r → Has (chain_of q pos) u → Before (chain_of q pos) w u → ToldBy ps w q.epoch pos c
+      before_tells q r w u pos c dq dr le g h b =
+          let a = still_before (q.epoch - r.epoch) r q w u pos c dr dq (apart _ _ le) (subst (λ (v : ℕ). Has (chain_of r pos) v) g.at.is (has_at _ g.place g.at.within)) g.own h b in
+          let x = earlier (chain_of r pos) w u g.place a g.at (l.single r pos u dr) in
+          subst (λ (v : ℕ). ToldBy ps v q.epoch pos c) x.is (told_later _ _ _ pos c le (g.told x.place x.less))
+
       -- What the last unit of a chain has told is settled.
 
       settled_later : (e f pos : ℕ) (c : Cell) → e ≤ f → Settled e pos c → Settled f pos c

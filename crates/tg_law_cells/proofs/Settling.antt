@@ -258,10 +258,10 @@ module _ (m : Meaning) (h : Header) (xs : Moves m) (header : IsHeader h) (give :
   before : (u e pos : ℕ) → ToldBefore words (K m h xs) (after m h xs).packets u e pos → HadBefore (after m h xs).packets u e pos
   before u e pos t = record { claim = t.claim; told = told_of _ u t.claim t.tells; at = t.at; early = t.early }
 
-  told_here : JoinsTold m (after m h xs)
+  pub told_here : JoinsTold m (after m h xs)
   told_here p q pos u k j t at = before u q.epoch pos ((brought p q pos u j).told k (tells_of _ u k t) at)
 
-  whole_here : JoinsWhole m (after m h xs)
+  pub whole_here : JoinsWhole m (after m h xs)
   whole_here p q pos u j = by (brought p q pos u j).had
     where
       by : ToldBefore words (K m h xs) (after m h xs).packets u q.epoch pos ⊎ (pos < (unit_in m (config m (after m h xs)) u).low) → HadBefore (after m h xs).packets u q.epoch pos ⊎ (pos < (unit_in m (config m (after m h xs)) u).low)

@@ -6,7 +6,7 @@ use Rattle.tg_base.specs.declared.packet.Packet.{Packet}
 use Rattle.tg_kind.specs.Meaning.{Meaning}
 use Rattle.tg_protocol.specs.Words.{cell_at}
 use Rattle.tg_protocol.specs.Layouts.{chain_of}
-use Rattle.tg_protocol.specs.Cells.{place_in, last_unit}
+use Rattle.tg_protocol.specs.Cells.{place_in, unit_at, last_unit}
 use Rattle.tg_protocol.specs.Logs.{chain_cell, log_cell}
 use Rattle.tg_protocol.specs.Worlds.{World, unit}
 use Rattle.tg_law_moves.specs.Telling.{Claim, Told}
@@ -19,6 +19,10 @@ pub record HadBefore (ps : List Packet) (u epoch pos : ℕ) : Type 0 where
   pub told : Told ps u claim
   pub at : claim.pos ≡ pos
   pub early : claim.epoch < epoch
+
+-- the first unit of a position's chain
+abbrev pub head : Layout → ℕ → ℕ
+head q pos = unit_at (place_in q pos) 0
 
 module _ (m : Meaning) where
   -- every unit of a decided layout's chain has told the cell, in an epoch up to the layout's
@@ -87,3 +91,11 @@ module _ (m : Meaning) where
   abbrev pub SettledInLog : World m → World m → Type 0
   SettledInLog w v = (pos : ℕ) (c : Cell) (s : IsSettled w pos c) (q : Layout) → IsOfDecided m v q → s.layout.epoch ≤ q.epoch →
       ((u : ℕ) → Contains (chain_of q pos) u → (unit m v u).low ≤ pos) → log_cell q v.units v.archive pos ≡ Some c
+
+  -- Of one chain.
+
+  -- what a unit of a decided layout's chain has, and hasn't passed the layout's epoch, the first unit has too, or has
+  -- trimmed it
+  abbrev pub HeadsHave : World m → Type 0
+  HeadsHave w = (q : Layout) (pos u : ℕ) (c : Cell) → IsOfDecided m w q → Contains (chain_of q pos) u → (unit m w u).epoch ≤ q.epoch →
+      cell_at (unit m w u).cells pos ≡ Some c → (cell_at (unit m w (head q pos)).cells pos ≡ Some c) ⊎ (pos < (unit m w (head q pos)).low)

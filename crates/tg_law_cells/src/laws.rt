@@ -3,7 +3,7 @@
 
 ghost use Rattle.tg_kind.specs.Of.{meaning_of};
 ghost use Rattle.tg_law_cells.specs.Chains.{StoresJustified};
-ghost use Rattle.tg_law_cells.specs.Settled.{ChainKept, JoinsTold, JoinsWhole, LastSettles, SettledHeld, SettledInLog, SettledKept, SettledOnce, SettledTold};
+ghost use Rattle.tg_law_cells.specs.Settled.{ChainKept, HeadsHave, JoinsTold, JoinsWhole, LastSettles, SettledHeld, SettledInLog, SettledKept, SettledOnce, SettledTold};
 ghost use Rattle.tg_protocol.specs.Runs.{Always, EachLater};
 
 use tg_kind::Registry;
@@ -57,4 +57,10 @@ pub fn settled_is_held<K: Registry>()
 /// A settled cell that no unit of the chain has trimmed is in the log.
 pub fn settled_is_in_log<K: Registry>()
     ensures { EachLater (meaning_of K.Registry) (SettledInLog (meaning_of K.Registry)) }
+{}
+
+/// What a unit of a decided layout's chain has, and the unit hasn't passed the layout's epoch, the chain's first unit
+/// has too, or has trimmed it.
+pub fn heads_have_cells<K: Registry>()
+    ensures { Always (meaning_of K.Registry) (HeadsHave (meaning_of K.Registry)) }
 {}

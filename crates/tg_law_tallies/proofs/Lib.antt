@@ -1,3 +1,4 @@
 pub mod Steps
 pub mod Past
 pub mod Commit
+pub mod Settling

@@ -1,5 +1,6 @@
 //! Worked runs.
 
+ghost use Rattle.tg_law_tallies.specs.Settled.{AppendIsAnswered, AskIsAnswered};
 ghost use Rattle.tg_law_tallies.specs.Tallies.{PastIsTold, CommitIsTold};
 
 /// A run in which a client is told of the past is one for which `runs_tell_truth` asks no more than it has.
@@ -10,4 +11,16 @@ pub fn past_is_told()
 /// A run in which a transaction commits is one for which `runs_are_legal` asks no more than it has.
 pub fn commit_is_told()
     ensures { CommitIsTold }
+{}
+
+/// A run in which a client's request for a token is lost is one for which `appends_are_answered` asks no more than it
+/// has. A settling of it takes six deliveries with the client, where eight are allowed.
+pub fn append_is_answered()
+    ensures { AppendIsAnswered }
+{}
+
+/// A run in which a client's request for a tail is lost is one for which `asks_are_answered` asks no more than it has.
+/// A settling of it takes six deliveries with the client, where ten are allowed.
+pub fn ask_is_answered()
+    ensures { AskIsAnswered }
 {}

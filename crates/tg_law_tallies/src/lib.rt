@@ -3,4 +3,4 @@
 
 mod laws;
 
-pub use laws::{commit_is_told, past_is_told};
+pub use laws::{append_is_answered, ask_is_answered, commit_is_told, past_is_told};
