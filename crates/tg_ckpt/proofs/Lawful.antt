@@ -15,7 +15,7 @@ use Rattle.tg_protocol.specs.Words.{oid_eq}
 use Rattle.tg_protocol.specs.Versions.{based}
 use Rattle.tg_protocol.specs.Views as told
 use Rattle.tg_protocol.specs.Views.{Entries}
-use Rattle.tg_protocol.specs.Checkpoints.{Trims, trim_of, loaded, base_in, base_at, bases_in, load_from, base_or, base_by, view_base}
+use Rattle.tg_protocol.specs.Checkpoints.{TrimPoints, trim_of, loaded, base_in, base_at, bases_in, load_from, base_or, base_by, view_base}
 use Rattle.tg_protocol.specs.Past.{last_base}
 use Rattle.tg_play.specs.declared.base.Base.{Base}
 use Rattle.tg_play.specs.Lawful.{IsLawfulBase, AreLawfulBases}
@@ -142,7 +142,7 @@ module _ (m : Meaning) where
   pub fresh_lawful : (os : List Oid) (o : Oid) (b : Base m.state) → b ≡ kept_base m (told.fresh_base m os o) → IsLawfulBase b
   fresh_lawful os o b is = subst (λ (x : Base m.state). IsLawfulBase x) (sym is) (fresh os o)
 
-  begun : (os : List Oid) (gone : Trims) (o : Oid) (es : Entries) → AreSpelled es → IsLawfulBase (kept_base m (view_base m es gone os o))
+  begun : (os : List Oid) (gone : TrimPoints) (o : Oid) (es : Entries) → AreSpelled es → IsLawfulBase (kept_base m (view_base m es gone os o))
   unfolding view_base
   begun os gone o es h = by (trim_of gone o)
     where
@@ -154,12 +154,12 @@ module _ (m : Meaning) where
       by None = fresh os o
       by (Some below) = or_first (load_from m es o below) (load_lawful o below es h)
 
-  pub begun_lawful : (os : List Oid) (gone : Trims) (o : Oid) (es : Entries) (b : Base m.state) → b ≡ kept_base m (view_base m es gone os o) → AreSpelled es → IsLawfulBase b
+  pub begun_lawful : (os : List Oid) (gone : TrimPoints) (o : Oid) (es : Entries) (b : Base m.state) → b ≡ kept_base m (view_base m es gone os o) → AreSpelled es → IsLawfulBase b
   begun_lawful os gone o es b is h = subst (λ (x : Base m.state). IsLawfulBase x) (sym is) (begun os gone o es h)
 
-  each_begun : (os : List Oid) (gone : Trims) (es : Entries) (oids : List Oid) → AreSpelled es → AreLawfulBases (map (λ (o : Oid). kept_base m (view_base m es gone os o)) oids)
+  each_begun : (os : List Oid) (gone : TrimPoints) (es : Entries) (oids : List Oid) → AreSpelled es → AreLawfulBases (map (λ (o : Oid). kept_base m (view_base m es gone os o)) oids)
   each_begun os gone es [] h = tt
   each_begun os gone es (o ∷ oids) h = (begun os gone o es h, each_begun os gone es oids h)
 
-  pub all_lawful : (os : List Oid) (gone : Trims) (es : Entries) (oids : List Oid) (bs : List (Base m.state)) → bs ≡ map (λ (o : Oid). kept_base m (view_base m es gone os o)) oids → AreSpelled es → AreLawfulBases bs
+  pub all_lawful : (os : List Oid) (gone : TrimPoints) (es : Entries) (oids : List Oid) (bs : List (Base m.state)) → bs ≡ map (λ (o : Oid). kept_base m (view_base m es gone os o)) oids → AreSpelled es → AreLawfulBases bs
   all_lawful os gone es oids bs is h = subst (λ (xs : List (Base m.state)). AreLawfulBases xs) (sym is) (each_begun os gone es oids h)

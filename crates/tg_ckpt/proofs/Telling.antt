@@ -11,7 +11,7 @@ use Rattle.tg_protocol.specs.Words.{oid_eq}
 use Rattle.tg_protocol.specs.Versions.{Versions, no_versions, based}
 use Rattle.tg_protocol.specs.Views as told
 use Rattle.tg_protocol.specs.Views.{Entries}
-use Rattle.tg_protocol.specs.Checkpoints.{Trims, trim_of, loaded, base_in, base_at, option_list, bases_in, lower, least_base, higher, greatest_base, from_upto, within, load_from, base_or, base_by, view_base, view_bases}
+use Rattle.tg_protocol.specs.Checkpoints.{TrimPoints, trim_of, loaded, base_in, base_at, option_list, bases_in, lower, least_base, higher, greatest_base, from_upto, within, load_from, base_or, base_by, view_base, view_bases}
 use Rattle.tg_protocol.specs.Past.{last_base}
 use Rattle.tg_vers.specs.Kept.{Objects, notes_kept}
 use Rattle.tg_play.specs.declared.base.Base.{Base}
@@ -283,11 +283,11 @@ module _ (m : Meaning) where
   pub from_some : (os : List Oid) (o : Oid) (below : ℕ) (es : Entries) (b : Base m.state) → Some b ≡ lowest m o below es → b ≡ kept_base m (base_or m os o (load_from m es o below))
   from_some os o below es b is = some_kept os o b (load_from m es o below) (is ∙ lowest_told o below es)
 
-  pub view_none : (os : List Oid) (gone : Trims) (o : Oid) (es : Entries) (b : Base m.state) → None ≡ trim_of gone o → b ≡ kept_base m (told.fresh_base m os o) → b ≡ kept_base m (view_base m es gone os o)
+  pub view_none : (os : List Oid) (gone : TrimPoints) (o : Oid) (es : Entries) (b : Base m.state) → None ≡ trim_of gone o → b ≡ kept_base m (told.fresh_base m os o) → b ≡ kept_base m (view_base m es gone os o)
   unfolding view_base
   view_none os gone o es b none is = is ∙ ap (λ (t : Option ℕ). kept_base m (base_by m es os o t)) none
 
-  pub view_some : (os : List Oid) (gone : Trims) (o : Oid) (es : Entries) (b : Base m.state) (below : ℕ) → Some below ≡ trim_of gone o → b ≡ kept_base m (base_or m os o (load_from m es o below))
+  pub view_some : (os : List Oid) (gone : TrimPoints) (o : Oid) (es : Entries) (b : Base m.state) (below : ℕ) → Some below ≡ trim_of gone o → b ≡ kept_base m (base_or m os o (load_from m es o below))
       → b ≡ kept_base m (view_base m es gone os o)
   unfolding view_base
   view_some os gone o es b below some is = is ∙ ap (λ (t : Option ℕ). kept_base m (base_by m es os o t)) some
@@ -299,7 +299,7 @@ module _ (m : Meaning) where
   unfolding no_versions
   fresh_based os o = refl
 
-  view_based : (os : List Oid) (gone : Trims) (o : Oid) (es : Entries) → IsBasedOne (view_base m es gone os o)
+  view_based : (os : List Oid) (gone : TrimPoints) (o : Oid) (es : Entries) → IsBasedOne (view_base m es gone os o)
   unfolding view_base
   view_based os gone o es = by (trim_of gone o)
     where
@@ -314,15 +314,15 @@ module _ (m : Meaning) where
   pub fresh_keeps : (os : List Oid) (o : Oid) (b : Base m.state) → b ≡ kept_base m (told.fresh_base m os o) → KeepsBase m b (told.fresh_base m os o)
   fresh_keeps os o b is = subst (λ (c : Base m.state). KeepsBase m c (told.fresh_base m os o)) (sym is) (keeps_kept (told.fresh_base m os o) (fresh_based os o))
 
-  pub view_keeps : (os : List Oid) (gone : Trims) (o : Oid) (es : Entries) (b : Base m.state) → b ≡ kept_base m (view_base m es gone os o) → KeepsBase m b (view_base m es gone os o)
+  pub view_keeps : (os : List Oid) (gone : TrimPoints) (o : Oid) (es : Entries) (b : Base m.state) → b ≡ kept_base m (view_base m es gone os o) → KeepsBase m b (view_base m es gone os o)
   view_keeps os gone o es b is = subst (λ (c : Base m.state). KeepsBase m c (view_base m es gone os o)) (sym is) (keeps_kept (view_base m es gone os o) (view_based os gone o es))
 
-  each_keeps : (os : List Oid) (gone : Trims) (es : Entries) (oids : List Oid)
+  each_keeps : (os : List Oid) (gone : TrimPoints) (es : Entries) (oids : List Oid)
       → KeepsBases m (map (λ (o : Oid). kept_base m (view_base m es gone os o)) oids) (view_bases m es gone os oids)
   unfolding view_bases
   each_keeps os gone es [] = tt
   each_keeps os gone es (o ∷ oids) = (keeps_kept (view_base m es gone os o) (view_based os gone o es), each_keeps os gone es oids)
 
-  pub all_keep : (os : List Oid) (gone : Trims) (es : Entries) (oids : List Oid) (bs : List (Base m.state)) → bs ≡ map (λ (o : Oid). kept_base m (view_base m es gone os o)) oids
+  pub all_keep : (os : List Oid) (gone : TrimPoints) (es : Entries) (oids : List Oid) (bs : List (Base m.state)) → bs ≡ map (λ (o : Oid). kept_base m (view_base m es gone os o)) oids
       → KeepsBases m bs (view_bases m es gone os oids)
   all_keep os gone es oids bs is = subst (λ (cs : List (Base m.state)). KeepsBases m cs (view_bases m es gone os oids)) (sym is) (each_keeps os gone es oids)

@@ -8,7 +8,7 @@ use Rattle.tg_entry.specs.declared.entry.Entry.{Entry}
 use Rattle.tg_kind.specs.Meaning.{Meaning}
 use Rattle.tg_protocol.specs.Words.{or_else}
 use Rattle.tg_protocol.specs.Entries.{body_commits, is_commit, decides, needs_decision}
-use Rattle.tg_protocol.specs.Views.{Entries, decision_in, View, Play, Step, On, Stuck, verdict, by_decision, fate_or_verdict, fate_of, outcome, passed_over, record_step, entry_step, step_at, between, play_on, play_from, play, stands_at}
+use Rattle.tg_protocol.specs.Views.{Entries, decision_in, View, Play, Step, On, Stuck, verdict, by_decision, fate_or_verdict, fate_of, view_outcome, passed_over, record_step, entry_step, step_at, between, play_on, play_from, play, stands_at}
 use Rattle.tg_model.specs.declared.play.PlayEnd.TheVariants.{Blocked}
 use Rattle.tg_protocol.specs.Past.{commit_at}
 use Rattle.tg_client_cells.specs.Words.{entries_from}
@@ -131,8 +131,8 @@ outcome-by : (m : Meaning) (s : ℕ) (es : Entries) → CommitsBelow s es → (v
 outcome-by m s es h v p e None = verdict-same m s es h v p e
 outcome-by m s es h v p e (Some b) = refl
 
-outcome-same : (m : Meaning) (s : ℕ) (es : Entries) → CommitsBelow s es → (v : View m) (p : ℕ) (e : Entry) → outcome m v (entries_from s es) p e ≡ outcome m v es p e
-unfolding outcome
+outcome-same : (m : Meaning) (s : ℕ) (es : Entries) → CommitsBelow s es → (v : View m) (p : ℕ) (e : Entry) → view_outcome m v (entries_from s es) p e ≡ view_outcome m v es p e
+unfolding view_outcome
 outcome-same m s es h v p e = outcome-by m s es h v p e (fate_of m v p)
 
 plays-same : (m : Meaning) (s : ℕ) (es : Entries) → CommitsBelow s es → (v : View m) (target : ℕ) → s ≤ v.upto → play m v (entries_from s es) target ≡ play m v es target

@@ -4,7 +4,7 @@ use Rattle.tg_base.specs.declared.cell.Cell.{Cell}
 use Rattle.tg_base.specs.declared.ids.Oid.{Oid}
 use Rattle.tg_entry.specs.declared.entry.Entry.{Entry}
 use Rattle.tg_kind.specs.Meaning.{Meaning}
-use Rattle.tg_protocol.specs.Views.{Entries, View, decision_in, verdict, outcome, play}
+use Rattle.tg_protocol.specs.Views.{Entries, View, decision_in, verdict, view_outcome, play}
 use Rattle.tg_protocol.specs.Past.{commit_at}
 use Rattle.tg_protocol.specs.Clients as rules
 use Rattle.tg_protocol.specs.Clients.{Client, Work, upto}
@@ -29,7 +29,7 @@ pub record AsRuled (m : Meaning) : Type 0 where
 pub record PlaysNew (m : Meaning) (es : Entries) (s : ℕ) : Type 0 where
   pub decisions : (p : ℕ) → decision_in (entries_from s es) p ≡ decision_in es p
   pub verdicts : (v : View m) (p : ℕ) (e : Entry) → verdict m v (entries_from s es) p e ≡ verdict m v es p e
-  pub outcomes : (v : View m) (p : ℕ) (e : Entry) → outcome m v (entries_from s es) p e ≡ outcome m v es p e
+  pub outcomes : (v : View m) (p : ℕ) (e : Entry) → view_outcome m v (entries_from s es) p e ≡ view_outcome m v es p e
   pub commits : (p : ℕ) → s ≤ p → commit_at (entries_from s es) p ≡ commit_at es p
   pub plays : (v : View m) (target : ℕ) → s ≤ v.upto → play m v (entries_from s es) target ≡ play m v es target
 

@@ -25,7 +25,7 @@ use Rattle.tg_protocol.specs.Appending.{append_work_asks, append_start, append_f
 use Rattle.tg_protocol.specs.Syncing.{sync_work_asks, sync_start, sync_feed}
 use Rattle.tg_protocol.specs.Walking.{walk_on, walk_start, walk_feed}
 use Rattle.tg_protocol.specs.Versions.{no_versions, based, version_of, with_change, parts_of}
-use Rattle.tg_protocol.specs.Views.{decision_in, view_start, view_version, view_parts, unknown_in, changed_in, verdict, outcome as view_outcome, step_at, play_on, play}
+use Rattle.tg_protocol.specs.Views.{decision_in, view_start, view_version, view_parts, unknown_in, changed_in, verdict, view_outcome, step_at, play_on, play}
 use Rattle.tg_protocol.specs.Transactions.{read_fault, write_fault, commit_record}
 use Rattle.tg_protocol.specs.Checkpoints.{open_decision, checkpoint, bases_in, load_from, view_base, view_bases, may_forget}
 use Rattle.tg_protocol.specs.Past.{commit_at, past_at, rescue_turn}

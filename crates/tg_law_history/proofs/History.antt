@@ -11,7 +11,7 @@ use Rattle.tg_model.specs.Kinds.{DoneOf}
 use Rattle.tg_model.specs.Stores.{writes_part, changes, later_of, changed}
 use Rattle.tg_protocol.specs.Words.{oid_eq, overlap}
 use Rattle.tg_protocol.specs.Entries.{writes_of}
-use Rattle.tg_protocol.specs.Versions.{Noted}
+use Rattle.tg_protocol.specs.Versions.{PartVersion}
 use Rattle.tg_protocol.specs.Views.{Entries, touched}
 use Rattle.tg_protocol.specs.Logs.{commits_after, changes_after, op_if, ops_of, done_at, done_if, history_after}
 use Rattle.tg_law_plays.specs.Sound.{rise_from}
@@ -57,7 +57,7 @@ module _ (m : Meaning) where
   has_made xs r [] d rise i = absurd i
   has_made xs r (x ∷ es) d rise i =
       by (commits_after m (noted m xs) x.1) refl i
-      (λ j. has_made (after m xs x.0 x.1) (x.0 + 1) es d (rises_next r x es rise).1 (subst (λ (ns : List Noted). Has (history_after m ns es) d) (sym (noted_after m x.0 x.1 xs)) j))
+      (λ j. has_made (after m xs x.0 x.1) (x.0 + 1) es d (rises_next r x es rise).1 (subst (λ (ns : List PartVersion). Has (history_after m ns es) d) (sym (noted_after m x.0 x.1 xs)) j))
     where
       by : (b : Bool) → commits_after m (noted m xs) x.1 ≡ b → Has (done_if m b x.0 x.1 (history_after m (changes_after m (noted m xs) x.0 x.1) es)) d
           → (Has (history_after m (changes_after m (noted m xs) x.0 x.1) es) d → Made (after m xs x.0 x.1) es d) → Made xs (x ∷ es) d
@@ -79,7 +79,7 @@ module _ (m : Meaning) where
   made_has xs r (x ∷ es) p e rise (inr j) c =
       let later = has_from (x.0 + 1) es (p, e) (rises_next r x es rise).1 j in
       there (commits_after m (noted m xs) x.1)
-      (subst (λ (ns : List Noted). Has (history_after m ns es) (done_at m p e)) (noted_after m x.0 x.1 xs)
+      (subst (λ (ns : List PartVersion). Has (history_after m ns es) (done_at m p e)) (noted_after m x.0 x.1 xs)
       (made_has (after m xs x.0 x.1) (x.0 + 1) es p e (rises_next r x es rise).1 j (ap (λ (ys : Ledger m). commits_after m (noted m ys) e) (sym (on_below m xs x es p (omega (arith, later)))) ∙ c)))
     where
       there : (b : Bool) → Has (history_after m (changes_after m (noted m xs) x.0 x.1) es) (done_at m p e)
@@ -119,7 +119,7 @@ module _ (m : Meaning) where
     Spelled es = (p : ℕ) (e : Entry) (w : WriteOp) → Has es (p, e) → Has (writes_of e) w → (op : m.op) × (m.read w.oid w.op ≡ Some op)
 
     -- transactions from a position on make no change below it
-    none_changed : (r : ℕ) (es : Entries) (ns : List Noted) → rise_from r es ≡ true → n ≤ r → changed m (history_after m ns es) o k n ≡ 0
+    none_changed : (r : ℕ) (es : Entries) (ns : List PartVersion) → rise_from r es ≡ true → n ≤ r → changed m (history_after m ns es) o k n ≡ 0
     unfolding changed
     none_changed r [] ns rise le = refl
     none_changed r (x ∷ es) ns rise le =
@@ -176,7 +176,7 @@ module _ (m : Meaning) where
     version_made r (x ∷ es) xs rise le spelled =
         by (nat_lt x.0 n) refl
         (λ most. version_made (x.0 + 1) es (after m xs x.0 x.1) (rises_next r x es rise).1 most (λ p e w i j. spelled p e w (inr i) j)
-        ∙ ap (λ (ns : List Noted). later_of m (version_in m o k (after m xs x.0 x.1)) (changed m (history_after m ns es) o k n)) (noted_after m x.0 x.1 xs))
+        ∙ ap (λ (ns : List PartVersion). later_of m (version_in m o k (after m xs x.0 x.1)) (changed m (history_after m ns es) o k n)) (noted_after m x.0 x.1 xs))
       where
         by : (b : Bool) → nat_lt x.0 n ≡ b
             → (version_in m o k (after m xs x.0 x.1) ≤ x.0 + 1

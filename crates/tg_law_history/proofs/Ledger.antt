@@ -5,7 +5,7 @@ use Rattle.tg_entry.specs.declared.entry.WriteOp.{WriteOp}
 use Rattle.tg_entry.specs.declared.entry.Entry.{Entry}
 use Rattle.tg_kind.specs.Meaning.{Meaning}
 use Rattle.tg_protocol.specs.Entries.{writes_of}
-use Rattle.tg_protocol.specs.Versions.{Noted}
+use Rattle.tg_protocol.specs.Versions.{PartVersion}
 use Rattle.tg_protocol.specs.Views.{Entries}
 use Rattle.tg_protocol.specs.Logs.{change_of, commits_after, with_changes, changes_after, changes_below}
 use Rattle.tg_law_plays.specs.Sound.{rise_from}
@@ -38,7 +38,7 @@ module _ (m : Meaning) where
   Ledger = List (ℕ × WriteOp)
 
   -- as changes
-  abbrev pub noted : Ledger → List Noted
+  abbrev pub noted : Ledger → List PartVersion
   noted [] = []
   noted (x ∷ xs) = change_of m x.0 x.1 ∷ noted xs
 
@@ -69,7 +69,7 @@ module _ (m : Meaning) where
   pub noted_below : (xs : Ledger) (es : Entries) (n : ℕ) → noted (below xs es n) ≡ changes_below m (noted xs) es n
   unfolding below changes_below
   noted_below xs [] n = refl
-  noted_below xs (x ∷ es) n = by (nat_lt x.0 n) (noted_below (after xs x.0 x.1) es n ∙ ap (λ (ns : List Noted). changes_below m ns es n) (noted_after x.0 x.1 xs))
+  noted_below xs (x ∷ es) n = by (nat_lt x.0 n) (noted_below (after xs x.0 x.1) es n ∙ ap (λ (ns : List PartVersion). changes_below m ns es n) (noted_after x.0 x.1 xs))
     where
       by : (b : Bool) → noted (below (after xs x.0 x.1) es n) ≡ changes_below m (changes_after m (noted xs) x.0 x.1) es n
           → noted (if b then below (after xs x.0 x.1) es n else xs) ≡ (if b then changes_below m (changes_after m (noted xs) x.0 x.1) es n else noted xs)

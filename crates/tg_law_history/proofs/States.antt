@@ -11,7 +11,7 @@ use Rattle.tg_model.specs.Kinds.{DoneOf}
 use Rattle.tg_model.specs.Stores.{Store, state_in, with_state, after_writes, store_after}
 use Rattle.tg_protocol.specs.Words.{oid_eq, overlap, part_eq, bytes_eq}
 use Rattle.tg_protocol.specs.Entries.{writes_of}
-use Rattle.tg_protocol.specs.Versions.{Noted}
+use Rattle.tg_protocol.specs.Versions.{PartVersion}
 use Rattle.tg_protocol.specs.Views.{Entries, touched}
 use Rattle.tg_protocol.specs.Logs.{commits_after, changes_after, op_if, ops_of, done_if, history_after}
 use Rattle.tg_law_plays.specs.Sound.{rise_from, IsRising}
@@ -113,7 +113,7 @@ module _ (m : Meaning) (objects : List Oid) where
       by (Some op) is rest = rest _ ((p, w) ∷ xs) (write_agrees p w op st xs is h)
 
   -- entries from a position on leave the store below it as it is
-  late : (r : ℕ) (es : Entries) (ns : List Noted) (st : Store m) (n : ℕ) → rise_from r es ≡ true → n ≤ r → store_after m objects st (history_after m ns es) n ≡ st
+  late : (r : ℕ) (es : Entries) (ns : List PartVersion) (st : Store m) (n : ℕ) → rise_from r es ≡ true → n ≤ r → store_after m objects st (history_after m ns es) n ≡ st
   unfolding store_after
   late r [] ns st n h le = refl
   late r (x ∷ es) ns st n h le =
@@ -131,7 +131,7 @@ module _ (m : Meaning) (objects : List Oid) where
   history_agrees r [] n st xs rise h = h
   history_agrees r (x ∷ es) n st xs rise h =
       by (nat_lt x.0 n) refl
-      (λ s k. subst (λ (ns : List Noted). AreStates (store_after m objects s (history_after m ns es) n) (below m (after m xs x.0 x.1) es n)) (noted_after m x.0 x.1 xs)
+      (λ s k. subst (λ (ns : List PartVersion). AreStates (store_after m objects s (history_after m ns es) n) (below m (after m xs x.0 x.1) es n)) (noted_after m x.0 x.1 xs)
       (history_agrees (x.0 + 1) es n s (after m xs x.0 x.1) (rises_next r x es rise).1 k))
     where
       here : (b : Bool) (ys : Ledger m) (hs : List (DoneOf m)) → x.0 < n → ((s : Store m) → AreStates s (if b then with_writes m x.0 (writes_of x.1) xs else xs) → AreStates (store_after m objects s hs n) ys)

@@ -7,7 +7,7 @@ use Rattle.tg_entry.specs.declared.entry.WriteOp.{WriteOp}
 use Rattle.tg_entry.specs.declared.entry.Entry.{Entry}
 use Rattle.tg_kind.specs.Meaning.{Meaning}
 use Rattle.tg_protocol.specs.Entries.{writes_of}
-use Rattle.tg_protocol.specs.Versions.{Noted, noted_or}
+use Rattle.tg_protocol.specs.Versions.{PartVersion, noted_or}
 use Rattle.tg_protocol.specs.Views.{Entries}
 use Rattle.tg_protocol.specs.Logs.{commits_after, version_after}
 use Rattle.tg_law_plays.specs.Sound.{IsRising}
@@ -31,10 +31,10 @@ module _ (m : Meaning) (objects : List Oid) (es : Entries) (rising : IsRising es
   at n = below m [] es n
 
   pub version_at : (n : ℕ) (o : Oid) (k : Part) → version_in m o k (at n) ≡ version_below m objects es n o k
-  version_at n o k = ap (λ (ns : List Noted). version_after m ns o k) (noted_below m [] es n)
+  version_at n o k = ap (λ (ns : List PartVersion). version_after m ns o k) (noted_below m [] es n)
 
   pub commits_at : (p : ℕ) (e : Entry) → commits_after m (noted m (at p)) e ≡ commits m objects es p e
-  commits_at p e = ap (λ (ns : List Noted). commits_after m ns e) (noted_below m [] es p)
+  commits_at p e = ap (λ (ns : List PartVersion). commits_after m ns e) (noted_below m [] es p)
 
   pub version_most : (n : ℕ) (o : Oid) (k : Part) → version_in m o k (at n) ≤ n
   version_most n o k = grow_from m (λ (ys : Ledger m). version_in m o k ys ≤ n) [] 0 es 0 n rising (omega arith) step (omega arith)

@@ -5,7 +5,7 @@ use Rattle.tg_base.specs.declared.ids.Oid.{Oid}
 use Rattle.tg_base.specs.declared.marks.Part.{Part}
 use Rattle.tg_base.specs.declared.marks.Part.TheVariants.{All, Text, Num}
 use Rattle.tg_protocol.specs.Words.{oid_eq, bytes_eq, part_eq, part_lt, is_whole}
-use Rattle.tg_protocol.specs.Versions.{Based, Noted, key_version, version_in, base_version, noted_or, version_of, whole_noted, with_part, parts_noted, parts_based, base_parts, parts_of, based}
+use Rattle.tg_protocol.specs.Versions.{Based, PartVersion, key_version, version_in, base_version, noted_or, version_of, whole_noted, with_part, parts_noted, parts_based, base_parts, parts_of, based}
 use Rattle.tg_law_plays.specs.Sound.{AreKeys, IsBased, AreVersions, Fall}
 
 -- Equal parts.
@@ -96,8 +96,8 @@ part_differs a b h = by (part_eq b a) refl
 pub if_neither : (a b : Bool) (x y : ℕ) → a ≡ false → b ≡ false → (if a || b then x else y) ≡ y
 if_neither a b x y p q = grind arith
 
--- Noted versions below a bound are below a greater one.
-pub fall_more : (bound top : ℕ) (ns : List Noted) → bound ≤ top → Fall bound ns → Fall top ns
+-- PartVersion versions below a bound are below a greater one.
+pub fall_more : (bound top : ℕ) (ns : List PartVersion) → bound ≤ top → Fall bound ns → Fall top ns
 fall_more bound top [] le h = tt
 fall_more bound top (n ∷ ns) le h = let p = h.0 in (omega (arith, p, le), h.1)
 
@@ -141,7 +141,7 @@ module _ (o : Oid) where
   unnamed_base (Some b) k part h = unnamed_based b k (oid_eq b.oid o) refl part h
 
   -- what a change says of a part: its own version, or nothing
-  unnamed_more : (b : Option Based) (n : Noted) (ns : List Noted) (k : Part) (of whole : Bool) → oid_eq n.oid o ≡ of → is_whole n.part ≡ whole → is_whole k ≡ false
+  unnamed_more : (b : Option Based) (n : PartVersion) (ns : List PartVersion) (k : Part) (of whole : Bool) → oid_eq n.oid o ≡ of → is_whole n.part ≡ whole → is_whole k ≡ false
       → (names (parts_noted ns o (base_parts b o)) k ≡ false → noted_or b ns o k ≡ whole_noted b ns o)
       → names (if of && not whole then with_part n.part (parts_noted ns o (base_parts b o)) else parts_noted ns o (base_parts b o)) k ≡ false
       → (if of && (whole || is_whole k || part_eq n.part k) then n.version else noted_or b ns o k) ≡ (if of && whole then n.version else whole_noted b ns o)
@@ -152,14 +152,14 @@ module _ (o : Oid) where
       if_neither (is_whole k) (part_eq n.part k) n.version (noted_or b ns o k) part (part_differs k n.part t.0) ∙ rest t.1
 
   -- a part that no change and no key names has the whole's version
-  unnamed : (b : Option Based) (ns : List Noted) (k : Part) → is_whole k ≡ false → names (parts_noted ns o (base_parts b o)) k ≡ false → noted_or b ns o k ≡ whole_noted b ns o
+  unnamed : (b : Option Based) (ns : List PartVersion) (k : Part) → is_whole k ≡ false → names (parts_noted ns o (base_parts b o)) k ≡ false → noted_or b ns o k ≡ whole_noted b ns o
   unnamed b [] k part h = unnamed_base b k part h
   unnamed b (n ∷ ns) k part h = unnamed_more b n ns k (oid_eq n.oid o) (is_whole n.part) refl refl part (unnamed b ns k part) h
 
   -- No part's version is below the whole's.
 
   -- what was noted of the object is above a bound
-  abbrev pub After : ℕ → List Noted → Type 0
+  abbrev pub After : ℕ → List PartVersion → Type 0
   After upto [] = Unit {0}
   After upto (n ∷ ns) = (oid_eq n.oid o ≡ true → upto < n.version) × After upto ns
 
@@ -190,15 +190,15 @@ module _ (o : Oid) where
       at true = let p = h.whole in let q = h.version in omega (arith, p, q)
       at false = omega arith
 
-  whole_step : (b : Option Based) (n : Noted) (ns : List Noted) (bound : ℕ) (t : Bool) → n.version ≤ bound → whole_noted b ns o ≤ bound → (if t then n.version else whole_noted b ns o) ≤ bound
+  whole_step : (b : Option Based) (n : PartVersion) (ns : List PartVersion) (bound : ℕ) (t : Bool) → n.version ≤ bound → whole_noted b ns o ≤ bound → (if t then n.version else whole_noted b ns o) ≤ bound
   whole_step b n ns bound true p q = p
   whole_step b n ns bound false p q = q
 
-  whole_within : (b : Option Based) (ns : List Noted) (bound : ℕ) → Fall bound ns → whole_noted b [] o ≤ bound → whole_noted b ns o ≤ bound
+  whole_within : (b : Option Based) (ns : List PartVersion) (bound : ℕ) → Fall bound ns → whole_noted b [] o ≤ bound → whole_noted b ns o ≤ bound
   whole_within b [] bound fall h = h
   whole_within b (n ∷ ns) bound fall h = whole_step b n ns bound (oid_eq n.oid o && is_whole n.part) fall.0 (whole_within b ns bound (fall_more n.version bound ns fall.0 fall.1) h)
 
-  above_step : (b : Option Based) (n : Noted) (ns : List Noted) (k : Part) (upto : ℕ) (of whole same : Bool) → is_whole k ≡ false → (of ≡ true → upto < n.version) → whole_noted b [] o ≤ upto
+  above_step : (b : Option Based) (n : PartVersion) (ns : List PartVersion) (k : Part) (upto : ℕ) (of whole same : Bool) → is_whole k ≡ false → (of ≡ true → upto < n.version) → whole_noted b [] o ≤ upto
       → Fall n.version ns → whole_noted b ns o ≤ noted_or b ns o k
       → (if of && whole then n.version else whole_noted b ns o) ≤ (if of && (whole || is_whole k || same) then n.version else noted_or b ns o k)
   above_step b n ns k upto false whole same part later base fall rest = rest
@@ -217,7 +217,7 @@ module _ (o : Oid) where
       neither true x y w e h = absurd (cc)
       neither false x y w e h = h
 
-  above : (b : Option Based) (upto : ℕ) (ns : List Noted) (k : Part) (bound : ℕ) → is_whole k ≡ false → AreVersions o upto b → Fall bound ns → After upto ns → whole_noted b ns o ≤ noted_or b ns o k
+  above : (b : Option Based) (upto : ℕ) (ns : List PartVersion) (k : Part) (bound : ℕ) → is_whole k ≡ false → AreVersions o upto b → Fall bound ns → After upto ns → whole_noted b ns o ≤ noted_or b ns o k
   above b upto [] k bound part base fall later = base_above b upto k part base
   above b upto (n ∷ ns) k bound part base fall later =
       above_step b n ns k upto (oid_eq n.oid o) (is_whole n.part) (part_eq n.part k) part later.0 (base_within b upto base) fall.1 (above b upto ns k n.version part base fall.1 later.1)
@@ -255,7 +255,7 @@ module _ (version : Part → ℕ) (whole : ℕ) where
   key_of k (x ∷ xs) = key_step k x xs (part_eq k x) (nat_lt whole (version x)) refl refl (key_of k xs)
 
 -- each part's version is told
-pub told : (o : Oid) (b : Option Based) (upto bound : ℕ) (ns : List Noted) (k : Part) → AreVersions o upto b → Fall bound ns → After o upto ns
+pub told : (o : Oid) (b : Option Based) (upto bound : ℕ) (ns : List PartVersion) (k : Part) → AreVersions o upto b → Fall bound ns → After o upto ns
     → version_of (based o (noted_or b ns o All) (parts_of (record { base = b; noted = ns }) o).whole (parts_of (record { base = b; noted = ns }) o).keys) o k ≡ noted_or b ns o k
 unfolding version_of based parts_of
 told o b upto bound ns k base fall later = at k

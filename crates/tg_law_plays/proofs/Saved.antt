@@ -6,7 +6,7 @@ use Rattle.tg_base.specs.declared.marks.Part.{Part}
 use Rattle.tg_base.specs.declared.marks.Part.TheVariants.{All, Text, Num}
 use Rattle.tg_kind.specs.Meaning.{Meaning}
 use Rattle.tg_protocol.specs.Words.{oid_eq, overlap}
-use Rattle.tg_protocol.specs.Versions.{Parts, Based, Noted, key_version, version_in, base_version, noted_or, version_of, based, parts_of}
+use Rattle.tg_protocol.specs.Versions.{Parts, Based, PartVersion, key_version, version_in, base_version, noted_or, version_of, based, parts_of}
 use Rattle.tg_protocol.specs.Views.{Base, View, base_of, state_of, view_version, view_parts, played_version, played_parts}
 use Rattle.tg_protocol.specs.Checkpoints.{saved_bytes, checkpoint, base_at, loaded}
 use Rattle.tg_law_plays.specs.Sound.{Fall, AreKeys, IsBased, AreVersions, AreBases, AreAfter, IsSound, upto_of, base_among}
@@ -36,7 +36,7 @@ base_version_within o (Some b) upto k h = at (oid_eq b.oid o)
     at true = version_within o b upto k h
     at false = omega arith
 
-pub noted_within : (o : Oid) (b : Option Based) (ns : List Noted) (bound upto : ℕ) (k : Part) → AreVersions o upto b → upto ≤ bound → Fall bound ns → noted_or b ns o k ≤ bound
+pub noted_within : (o : Oid) (b : Option Based) (ns : List PartVersion) (bound upto : ℕ) (k : Part) → AreVersions o upto b → upto ≤ bound → Fall bound ns → noted_or b ns o k ≤ bound
 noted_within o b [] bound upto k base le h = let p = base_version_within o b upto k base in omega (arith, p, le)
 noted_within o b (n ∷ ns) bound upto k base le h = at (oid_eq n.oid o && overlap n.part k) (noted_within o b ns bound upto k base le (fall_more n.version bound ns h.0 h.1))
   where
@@ -65,7 +65,7 @@ module _ (m : Meaning) where
       at true same rest is = subst (λ (c : Base m). AreVersions o c.upto c.versions.base) (some_base x b is) (subst (λ (p : Oid). AreVersions p x.upto x.versions.base) (same_oid x.oid o same) h.0)
       at false same rest is = rest is
 
-  pub after_of : (bs : List (Base m)) (ns : List Noted) (o : Oid) (b : Base m) → base_among m bs o ≡ Some b → AreAfter m bs ns → After o b.upto ns
+  pub after_of : (bs : List (Base m)) (ns : List PartVersion) (o : Oid) (b : Base m) → base_among m bs o ≡ Some b → AreAfter m bs ns → After o b.upto ns
   after_of bs [] o b is h = tt
   after_of bs (n ∷ ns) o b is h = ((λ same. at (same_oid n.oid o same)), after_of bs ns o b is h.1)
     where

@@ -15,7 +15,7 @@ use Rattle.tg_model.specs.Kinds.{WhatOf, NoteOf}
 use Rattle.tg_protocol.specs.Words.{directory}
 use Rattle.tg_protocol.specs.Entries.{reads_of}
 use Rattle.tg_protocol.specs.Versions.{Changed}
-use Rattle.tg_protocol.specs.Views.{Entries, Verdict, Commits, Aborts, Unknown, Base, View, base_of, state_of, view_version, fate_of, changed_in, unknown_in, verdict, outcome, fate_or_verdict}
+use Rattle.tg_protocol.specs.Views.{Entries, Verdict, Commits, Aborts, Unknown, Base, View, base_of, state_of, view_version, fate_of, changed_in, unknown_in, verdict, view_outcome, fate_or_verdict}
 use Rattle.tg_protocol.specs.Checkpoints.{base_at}
 use Rattle.tg_protocol.specs.Past.{commit_at}
 use Rattle.tg_protocol.specs.Transactions.{Tx, tx_read, commit_record}
@@ -176,8 +176,8 @@ module _ (m : Meaning) (objects : List Oid) (es : Entries) (rising : IsRising es
 
   -- what a view says of a record: its fate, where it has one
   pub outcome_right : (v : View m) (own : Entries) (p : ℕ) (e : Entry) → IsTrueView m objects es v → (fate_of m v p ≡ None → IsJudge m objects es v own p e)
-      → (outcome m v own p e ≡ Commits → HasOutcome m objects es p true) × (outcome m v own p e ≡ Aborts → HasOutcome m objects es p false)
-  unfolding outcome
+      → (view_outcome m v own p e ≡ Commits → HasOutcome m objects es p true) × (view_outcome m v own p e ≡ Aborts → HasOutcome m objects es p false)
+  unfolding view_outcome
   outcome_right v own p e so judge = by (fate_of m v p) refl
     where
       no : Commits ≡ Aborts → ⊥
@@ -433,7 +433,7 @@ module _ (m : Meaning) (objects : List Oid) (es : Entries) (rising : IsRising es
     where
       by : Judges v own p → (e : Option Entry) → commit_at own p ≡ e → IsRightMove (decide_record m c w own v p e)
       by now None is = answers_right c 0 (told.Decided p None) h tt tt
-      by now (Some e) is = decide_verdict_right c w own e p (outcome m v own p e) h (outcome_right m objects es rising listed v own p e so (now e is))
+      by now (Some e) is = decide_verdict_right c w own e p (view_outcome m v own p e) h (outcome_right m objects es rising listed v own p e so (now e is))
 
       blocked : (q : ℕ) (x : Oid) → JudgesPast (Blocked q x) v own p → (b : Bool) → blocks m own p q ≡ b → IsRightMove (decide_blocked m c w own v p q x b)
       blocked q x judge true f = refuses_right c 0 (cause.Undecided q x) h

@@ -16,8 +16,8 @@ use Rattle.tg_model.specs.Kinds.{NoteOf}
 use Rattle.tg_protocol.specs.Words.{oid_eq, with_oid, directory, has_oid}
 use Rattle.tg_protocol.specs.Entries.{entry_size, needs_decision}
 use Rattle.tg_protocol.specs.Versions.{based, version_in, version_of}
-use Rattle.tg_protocol.specs.Views.{Entries, decision_in, Verdict, Commits, Aborts, Unknown, Base, View, Play, state_of, outcome, view_version, view_parts}
-use Rattle.tg_protocol.specs.Checkpoints.{Trims, base_at, base_in, loaded, saved_bytes, checkpoint, ForgetFault, NoCheckpoint, OpenDecision, may_forget}
+use Rattle.tg_protocol.specs.Views.{Entries, decision_in, Verdict, Commits, Aborts, Unknown, Base, View, Play, state_of, view_outcome, view_version, view_parts}
+use Rattle.tg_protocol.specs.Checkpoints.{TrimPoints, base_at, base_in, loaded, saved_bytes, checkpoint, ForgetFault, NoCheckpoint, OpenDecision, may_forget}
 use Rattle.tg_protocol.specs.Past.{commit_at, PastTurn, PastView, PastGone, past_at, RescueTurn, Wider, Wide, Absent, StuckAt, Known, block_in, known_by, at_record, grows, rescue_by, rescue_turn}
 use Rattle.tg_protocol.specs.Syncing.{sync_start}
 use Rattle.tg_protocol.specs.Trimming.{trim_start}
@@ -211,7 +211,7 @@ module _ (m : Meaning) (objects : List Oid) (es : Entries) (rising : IsRising es
   abbrev turn_if : Bool → RescueTurn m → RescueTurn m → RescueTurn m
   turn_if b x y = if b then x else y
 
-  rescued : (own : Entries) (gone : Trims) (oids os : List Oid) (p : ℕ) (b needs : Bool) → rescue_turn m own gone oids os p ≡ Known b needs
+  rescued : (own : Entries) (gone : TrimPoints) (oids os : List Oid) (p : ℕ) (b needs : Bool) → rescue_turn m own gone oids os p ≡ Known b needs
       → ((e : Entry) → commit_at own p ≡ Some e → IsRescuer m objects es own gone oids os p e) → HasOutcome m objects es p b × (needs ≡ false → IsRecorded es p)
   unfolding rescue_turn
   rescued own gone oids os p b needs is rescuer = came (rescuing m objects es own gone oids os p).came refl is
@@ -236,7 +236,7 @@ module _ (m : Meaning) (objects : List Oid) (es : Entries) (rising : IsRising es
               let f = decision_there own p c k in
               record { at = f.at; entry = f.entry; is_yes = c; here = r.only f.at f.entry (contained_has own (f.at, f.entry) f.here); is = f.is }
 
-      by : (t : ℕ) → (rescuing m objects es own gone oids os p).came ≡ Played t → (e : Entry) → commit_at own p ≡ Some e → (d : Verdict) → outcome m (rescuing m objects es own gone oids os p).view own p e ≡ d → known_by m own p e d ≡ Known b needs → HasOutcome m objects es p b × (needs ≡ false → IsRecorded es p)
+      by : (t : ℕ) → (rescuing m objects es own gone oids os p).came ≡ Played t → (e : Entry) → commit_at own p ≡ Some e → (d : Verdict) → view_outcome m (rescuing m objects es own gone oids os p).view own p e ≡ d → known_by m own p e d ≡ Known b needs → HasOutcome m objects es p b × (needs ≡ false → IsRecorded es p)
       by t end e here Commits o k =
           let r = rescuer e here in
           (subst (λ (x : Bool). HasOutcome m objects es p x) (ap word_in k) ((outcome_right m objects es rising listed (rescuing m objects es own gone oids os p).view own p e r.so (r.judge t end)).0 o), recorded e here r (ap needs_in k))
@@ -247,7 +247,7 @@ module _ (m : Meaning) (objects : List Oid) (es : Entries) (rising : IsRising es
 
       free : (t : ℕ) → (rescuing m objects es own gone oids os p).came ≡ Played t → (e : Option Entry) → commit_at own p ≡ e → at_record m (rescuing m objects es own gone oids os p).view own p None e ≡ Known b needs → HasOutcome m objects es p b × (needs ≡ false → IsRecorded es p)
       free t end None here k = absurd cc
-      free t end (Some e) here k = by t end e here (outcome m (rescuing m objects es own gone oids os p).view own p e) refl k
+      free t end (Some e) here k = by t end e here (view_outcome m (rescuing m objects es own gone oids os p).view own p e) refl k
 
       stuck : (x : ℕ × Oid) (e : Option Entry) → at_record m (rescuing m objects es own gone oids os p).view own p (Some x) e ≡ Known b needs → HasOutcome m objects es p b × (needs ≡ false → IsRecorded es p)
       stuck x None k = absurd cc

@@ -18,7 +18,7 @@ use Rattle.tg_protocol.specs.Units.{UnitTurn, unit_step}
 use Rattle.tg_protocol.specs.LayoutServers.{LayoutTurn, layout_step}
 use Rattle.tg_protocol.specs.Sequencers.{SeqrTurn, seqr_step, seqr_tick}
 use Rattle.tg_protocol.specs.ClientSteps.{ClientTurn, client_command, client_deliver, client_tick}
-use Rattle.tg_protocol.specs.Worlds.{World, Told, Noted, count_of, answer_to as answers_to, client, client_turned, comes, commands, counted, delivers, handed, happens, layout, layout_moves, mark_of, moves, noted_if, packet_of, runs, sends, seqr, seqr_moves, seqr_turned, ticks, ticks_if, unit, unit_moved, unit_moves}
+use Rattle.tg_protocol.specs.Worlds.{World, Told, CommandStart, count_of, answer_to as answers_to, client, client_turned, comes, commands, counted, delivers, handed, happens, layout, layout_moves, mark_of, moves, noted_if, packet_of, runs, sends, seqr, seqr_moves, seqr_turned, ticks, ticks_if, unit, unit_moved, unit_moves}
 use Rattle.tg_node_state.specs.Nodes.{NodeTurn, UnitNode, LayoutNode, SeqrNode, ClientNode, answer_to, client_turn, layout_turn, node_step, node_takes, node_ticks, seqr_turn, still, unit_turn}
 use Rattle.tg_node_state.specs.declared.input.Input.TheVariants as input
 use Rattle.tg_law_sessions.specs.Sessions.{Said, node_at, node_in, said_by, said_in, says_of, sends_of}
@@ -158,7 +158,7 @@ turned_still m w n = record {
 }
 
 -- what waits, what was delivered, what was noted of a client, and the count of steps don't matter
-around : (m : Meaning) (w v : World m) (n : NodeId) (t : NodeTurn m) (waiting delivered : List ℕ) (noted : List Noted) (steps : ℕ)
+around : (m : Meaning) (w v : World m) (n : NodeId) (t : NodeTurn m) (waiting delivered : List ℕ) (noted : List CommandStart) (steps : ℕ)
     → Turned m (record w { waiting = waiting; delivered = delivered; noted = noted }) v n t → Turned m w (record v { steps = steps }) n t
 around m w v n t waiting delivered noted steps h = record {
   cluster = h.cluster;

@@ -4,7 +4,7 @@ use Rattle.tg_base.specs.declared.ids.NodeId.{NodeId}
 use Rattle.tg_base.specs.declared.msg.Msg.{Msg}
 use Rattle.tg_base.specs.declared.msg.Msg.TheVariants as msg
 use Rattle.tg_base.specs.declared.packet.Out.{Out}
-use Rattle.tg_protocol.specs.Units.{UnitState, UnitAsk, Reads, Stores, Fills, Looks, Seals, Trims, Nothing, unit_step}
+use Rattle.tg_protocol.specs.Units.{UnitState, UnitAsk, Reads, Stores, Fills, Looks, Seals, TrimsBelow, Nothing, unit_step}
 use Rattle.tg_protocol.specs.Sequencers.{SeqrState, seqr_step}
 
 -- a unit after these messages
@@ -19,7 +19,7 @@ epoch_of (Stores e p c) = Some e
 epoch_of (Fills e p) = Some e
 epoch_of (Looks e lo hi step) = Some e
 epoch_of (Seals e) = None
-epoch_of (Trims e b) = Some e
+epoch_of (TrimsBelow e b) = Some e
 epoch_of Nothing = None
 
 -- a message that comes to a sequencer

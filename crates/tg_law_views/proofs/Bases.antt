@@ -9,7 +9,7 @@ use Rattle.tg_kind.specs.Meaning.{Meaning}
 use Rattle.tg_protocol.specs.Words.{oid_eq}
 use Rattle.tg_protocol.specs.Versions.{based, no_versions}
 use Rattle.tg_protocol.specs.Views.{Entries, Base, fresh_base}
-use Rattle.tg_protocol.specs.Checkpoints.{Trims, trim_of, base_at, base_in, loaded, option_list, bases_in, lower, least_base, from_upto, load_from, base_or, base_by, view_base, view_bases}
+use Rattle.tg_protocol.specs.Checkpoints.{TrimPoints, trim_of, base_at, base_in, loaded, option_list, bases_in, lower, least_base, from_upto, load_from, base_or, base_by, view_base, view_bases}
 use Rattle.tg_law_plays.specs.Sound.{IsRising, IsBase, AreBases, base_among}
 use Rattle.tg_law_history.proofs.Members.{has_either, has_kept, Has, same_oid}
 use Rattle.tg_law_views.specs.Views.{IsTrueBase}
@@ -93,7 +93,7 @@ module _ (m : Meaning) (objects : List Oid) (es : Entries) (rising : IsRising es
     pub of : b.oid ≡ o
     pub so : IsTrueBase m objects es o b
 
-  base_good : (own : Entries) (gone : Trims) (o : Oid) → ((p : ℕ) (e : Entry) (x : Oid) (b : Base m) → Has own (p, e) → base_at m x e ≡ Some b → IsTrueBase m objects es x b) → IsGoodBase o (view_base m own gone objects o)
+  base_good : (own : Entries) (gone : TrimPoints) (o : Oid) → ((p : ℕ) (e : Entry) (x : Oid) (b : Base m) → Has own (p, e) → base_at m x e ≡ Some b → IsTrueBase m objects es x b) → IsGoodBase o (view_base m own gone objects o)
   unfolding view_base
   base_good own gone o good = by (trim_of gone o)
     where
@@ -108,7 +108,7 @@ module _ (m : Meaning) (objects : List Oid) (es : Entries) (rising : IsRising es
       by None = fresh
       by (Some below) = from below (load_from m own o below) refl
 
-  pub bases_good : (own : Entries) (gone : Trims) (os : List Oid) → ((p : ℕ) (e : Entry) (x : Oid) (b : Base m) → Has own (p, e) → base_at m x e ≡ Some b → IsTrueBase m objects es x b) → (o : Oid) (b : Base m)
+  pub bases_good : (own : Entries) (gone : TrimPoints) (os : List Oid) → ((p : ℕ) (e : Entry) (x : Oid) (b : Base m) → Has own (p, e) → base_at m x e ≡ Some b → IsTrueBase m objects es x b) → (o : Oid) (b : Base m)
       → base_among m (view_bases m own gone objects os) o ≡ Some b → IsTrueBase m objects es o b
   unfolding view_bases
   bases_good own gone [] good o b is = absurd (none_is b is)
@@ -127,7 +127,7 @@ module _ (m : Meaning) (objects : List Oid) (es : Entries) (rising : IsRising es
 
 module _ (m : Meaning) (objects : List Oid) (es : Entries) (rising : IsRising es) where
   -- and lawful where those checkpoints are
-  pub bases_lawful : (own : Entries) (gone : Trims) (os : List Oid) → ((p : ℕ) (e : Entry) (x : Oid) (b : Base m) → Has own (p, e) → base_at m x e ≡ Some b → IsBase m b) → AreBases m (view_bases m own gone objects os)
+  pub bases_lawful : (own : Entries) (gone : TrimPoints) (os : List Oid) → ((p : ℕ) (e : Entry) (x : Oid) (b : Base m) → Has own (p, e) → base_at m x e ≡ Some b → IsBase m b) → AreBases m (view_bases m own gone objects os)
   unfolding view_bases view_base no_versions
   bases_lawful own gone [] good = tt
   bases_lawful own gone (x ∷ os) good = (by (trim_of gone x), bases_lawful own gone os good)

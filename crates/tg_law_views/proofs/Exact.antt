@@ -8,7 +8,7 @@ use Rattle.tg_model.specs.declared.play.PlayEnd.TheVariants.{Played}
 use Rattle.tg_protocol.specs.Words.{oid_eq}
 use Rattle.tg_protocol.specs.Entries.{lists}
 use Rattle.tg_protocol.specs.Views.{Entries, Base, View, Play, base_of, base_state, state_in, state_of, fate_of, fresh_base, view_start, play}
-use Rattle.tg_protocol.specs.Checkpoints.{Trims, trim_of, base_at, bases_in, from_upto, within, load_from, base_or, base_by, view_base, view_bases, higher, greatest_base, least_base}
+use Rattle.tg_protocol.specs.Checkpoints.{TrimPoints, trim_of, base_at, bases_in, from_upto, within, load_from, base_or, base_by, view_base, view_bases, higher, greatest_base, least_base}
 use Rattle.tg_protocol.specs.Past.{commit_at, PastView, PastGone, last_base, past_base_or, past_base_by, past_base, past_play, past_or_gone, past_by, past_at}
 use Rattle.tg_law_plays.specs.Sound.{IsRising, base_among}
 use Rattle.tg_law_history.specs.Logs.{AreListed}
@@ -88,7 +88,7 @@ module _ (m : Meaning) where
       no : (b : Bool) → None ≡ Some b → ⊥
       no b z = cc
 
-module _ (m : Meaning) (objects : List Oid) (es : Entries) (rising : IsRising es) (listed : AreListed es) (own : Entries) (gone : Trims) (oids : List Oid) (tail : ℕ) (exact : AreExact m es own gone oids tail)
+module _ (m : Meaning) (objects : List Oid) (es : Entries) (rising : IsRising es) (listed : AreListed es) (own : Entries) (gone : TrimPoints) (oids : List Oid) (tail : ℕ) (exact : AreExact m es own gone oids tail)
     (good : (p : ℕ) (e : Entry) (x : Oid) (b : Base m) → Has own (p, e) → base_at m x e ≡ Some b → IsTrueBase m objects es x b) where
   -- a base of an object is so, and nothing of the object that its walk didn't find comes after it
   pub record IsFirm (o : Oid) (b : Base m) : Type 0 where
@@ -290,7 +290,7 @@ module _ (m : Meaning) (objects : List Oid) (es : Entries) (rising : IsRising es
 
 -- The same, over true finds.
 
-module _ (m : Meaning) (objects oids : List Oid) (es own : Entries) (gone : Trims) (tail : ℕ) (rising : IsRising es) (listed : AreListed es) (found : AreTrueFinds m objects es own gone oids tail) where
+module _ (m : Meaning) (objects oids : List Oid) (es own : Entries) (gone : TrimPoints) (tail : ℕ) (rising : IsRising es) (listed : AreListed es) (found : AreTrueFinds m objects es own gone oids tail) where
   good_in : (p : ℕ) (e : Entry) (o : Oid) (b : Base m) → Has own (p, e) → base_at m o e ≡ Some b → IsTrueBase m objects es o b
   good_in p e o b i is = found.checkpoints p e o b (contained_has own (p, e) i) is
 

@@ -11,7 +11,7 @@ use Rattle.tg_kind.specs.Meaning.{Meaning}
 use Rattle.tg_model.specs.declared.play.PlayEnd.TheVariants.{Played, Blocked}
 use Rattle.tg_protocol.specs.Words.{oid_eq, overlap}
 use Rattle.tg_protocol.specs.Entries.{is_commit, reads_of, writes_of}
-use Rattle.tg_protocol.specs.Versions.{Noted, Changed, noted_or, no_versions, version_of, first_changed}
+use Rattle.tg_protocol.specs.Versions.{PartVersion, Changed, noted_or, no_versions, version_of, first_changed}
 use Rattle.tg_protocol.specs.Views.{Entries, decision_in, Verdict, Commits, Aborts, Unknown, Base, View, base_of, base_state, fresh_base, view_start, state_in, state_of, played_versions, played_version, view_version, fate_in, fate_of, past, version_by, version_at, unknown_by, unknown_in, changed_in, by_changes, by_versions, said, by_decision, verdict, with_state, applied, set_state, touched, note, write_by, plays, write, write_all, passed_over, with_fate, with_verdict, with_open, Play, stands_at, Step, On, Stuck, decided_step, record_step, entry_step, step_at, between, play_on, play_from, play}
 use Rattle.tg_protocol.specs.Logs.{version_after, is_current, commits_after, changes_below}
 use Rattle.tg_law_plays.specs.Sound.{IsRising, base_among}
@@ -70,7 +70,7 @@ module _ (m : Meaning) where
   said_commits false h = absurd cc
 
   -- The first read whose version differs is that which keeps a record from being committed.
-  by_reads : (f : ReadMark → ℕ) (ns : List Noted) (rs : List ReadMark) → ((r : ReadMark) → Has rs r → f r ≡ version_after m ns r.oid r.part)
+  by_reads : (f : ReadMark → ℕ) (ns : List PartVersion) (rs : List ReadMark) → ((r : ReadMark) → Has rs r → f r ≡ version_after m ns r.oid r.part)
       → by_changes m (first_changed f rs) ≡ said m (list_all (is_current m ns) rs)
   by_reads f ns [] h = refl
   by_reads f ns (r ∷ rs) h = by (f r == r.version) refl (by_reads f ns rs (λ s i. h s (inr i)))
@@ -292,7 +292,7 @@ module _ (m : Meaning) (objects : List Oid) (es : Entries) (rising : IsRising es
   below_or : (a b : ℕ) → (a < b) ⊎ (b ≤ a)
   below_or a b = grind arith
 
-  commit_of : (ns : List Noted) (e : Entry) → commits_after m ns e ≡ true → is_commit e ≡ true
+  commit_of : (ns : List PartVersion) (e : Entry) → commits_after m ns e ≡ true → is_commit e ≡ true
   commit_of ns e h = (and_both (is_commit e) (list_all (is_current m ns) (reads_of e)) h).0
 
   advance : (a b : ℕ) (v : View m) → a ≤ b → NoHit a b → IsAt a (log a) v → IsAt b (log b) v
@@ -720,7 +720,7 @@ module _ (m : Meaning) (objects : List Oid) (es : Entries) (rising : IsRising es
           by false rest i = rest i
 
       plain_version : (b : Base m) (o : Oid) (k : Part) → b.versions.noted ≡ [] → noted_or b.versions.base [] o k ≡ noted_or b.versions.base b.versions.noted o k
-      plain_version b o k e = ap (λ (ns : List Noted). noted_or b.versions.base ns o k) (sym e)
+      plain_version b o k e = ap (λ (ns : List PartVersion). noted_or b.versions.base ns o k) (sym e)
 
       first : (o : Oid) (b : Base m) → base_among m bs o ≡ Some b → b.upto ≤ 0 → b.state ≡ state_after m objects o (below m [] es 0)
       first o b is le = base_state_is m objects es rising bs bases o b is ∙ ap (λ (n : ℕ). state_after m objects o (below m [] es n)) (omega (arith, le))

@@ -6,7 +6,7 @@ use Rattle.tg_base.specs.declared.marks.Part.{Part}
 use Rattle.tg_base.specs.declared.marks.Part.TheVariants.{All, Text, Num}
 use Rattle.tg_kind.specs.Meaning.{Meaning}
 use Rattle.tg_protocol.specs.Words.{oid_eq, overlap, is_whole, part_eq, part_lt}
-use Rattle.tg_protocol.specs.Versions.{Based, Noted, Parts, key_version, version_in, base_version, noted_or, version_of, based, whole_noted, with_part, parts_noted, parts_based, base_parts, parts_of}
+use Rattle.tg_protocol.specs.Versions.{Based, PartVersion, Parts, key_version, version_in, base_version, noted_or, version_of, based, whole_noted, with_part, parts_noted, parts_based, base_parts, parts_of}
 use Rattle.tg_protocol.specs.Views.{Base, View, base_of, state_of, view_version, view_parts, played_version, played_parts}
 use Rattle.tg_protocol.specs.Checkpoints.{saved_bytes, checkpoint, base_at, loaded}
 use Rattle.tg_law_plays.specs.Sound.{Fall, AreKeys, IsBased, AreVersions, IsBase, IsSound}
@@ -56,17 +56,17 @@ module _ (o : Oid) (b : Option Based) (upto : ℕ) (lawful : AreVersions o upto 
       by : (b : Bool) → overlap k All ≡ true
       by c = grind arith
 
-  first_all : (n : Noted) (ns : List Noted) → noted_or b (n ∷ ns) o All ≡ (if oid_eq n.oid o then n.version else noted_or b ns o All)
+  first_all : (n : PartVersion) (ns : List PartVersion) → noted_or b (n ∷ ns) o All ≡ (if oid_eq n.oid o then n.version else noted_or b ns o All)
   first_all n ns = by (oid_eq n.oid o) refl
     where
       by : (t : Bool) → oid_eq n.oid o ≡ t → (if oid_eq n.oid o && overlap n.part All then n.version else noted_or b ns o All) ≡ (if t then n.version else noted_or b ns o All)
       by true e = ap (λ (c : Bool). if c && overlap n.part All then n.version else noted_or b ns o All) e ∙ ap (λ (c : Bool). if c then n.version else noted_or b ns o All) (all_overlaps n.part)
       by false e = ap (λ (c : Bool). if c && overlap n.part All then n.version else noted_or b ns o All) e
 
-  below_first : (n : Noted) (ns : List Noted) (k : Part) → oid_eq n.oid o ≡ true → Fall n.version ns → After o upto (n ∷ ns) → noted_or b ns o k ≤ n.version
+  below_first : (n : PartVersion) (ns : List PartVersion) (k : Part) → oid_eq n.oid o ≡ true → Fall n.version ns → After o upto (n ∷ ns) → noted_or b ns o k ≤ n.version
   below_first n ns k same fall after = let a = after.0 same in noted_within o b ns n.version upto k lawful (omega (arith, a)) fall
 
-  part_at_most : (ns : List Noted) (bound : ℕ) (k : Part) → Fall bound ns → After o upto ns → noted_or b ns o k ≤ noted_or b ns o All
+  part_at_most : (ns : List PartVersion) (bound : ℕ) (k : Part) → Fall bound ns → After o upto ns → noted_or b ns o k ≤ noted_or b ns o All
   part_at_most [] bound k fall after = base_all b lawful k
   part_at_most (n ∷ ns) bound k fall after = subst (λ (x : ℕ). noted_or b (n ∷ ns) o k ≤ x) (sym (first_all n ns)) (by (oid_eq n.oid o) refl (overlap n.part k) (part_at_most ns n.version k fall.1 after.1))
     where
@@ -75,7 +75,7 @@ module _ (o : Oid) (b : Option Based) (upto : ℕ) (lawful : AreVersions o upto 
       by true e false rest = below_first n ns k e fall.1 after
       by false e u rest = rest
 
-  whole_at_most : (ns : List Noted) (bound : ℕ) → Fall bound ns → After o upto ns → whole_noted b ns o ≤ noted_or b ns o All
+  whole_at_most : (ns : List PartVersion) (bound : ℕ) → Fall bound ns → After o upto ns → whole_noted b ns o ≤ noted_or b ns o All
   whole_at_most [] bound fall after = whole_all b lawful
   whole_at_most (n ∷ ns) bound fall after = subst (λ (x : ℕ). whole_noted b (n ∷ ns) o ≤ x) (sym (first_all n ns)) (by (oid_eq n.oid o) refl (is_whole n.part) (whole_at_most ns n.version fall.1 after.1))
     where
@@ -117,7 +117,7 @@ base_named (Some b) o = by (oid_eq b.oid o)
     by true = based_named b.keys
     by false = λ k i. absurd i
 
-noted_named : (ns : List Noted) (o : Oid) (ks : List Part) → AreNamed ks → AreNamed (parts_noted ns o ks)
+noted_named : (ns : List PartVersion) (o : Oid) (ks : List Part) → AreNamed ks → AreNamed (parts_noted ns o ks)
 noted_named [] o ks h = h
 noted_named (n ∷ ns) o ks h = by (oid_eq n.oid o) (is_whole n.part) refl (noted_named ns o ks h)
   where

@@ -7,7 +7,7 @@ use Rattle.tg_entry.specs.declared.entry.Entry.{Entry}
 use Rattle.tg_kind.specs.Meaning.{Meaning}
 use Rattle.tg_protocol.specs.Entries.{is_commit, reads_of, writes_of, lists, needs_decision}
 use Rattle.tg_protocol.specs.Views.{Entries, decision_in, View, fate_of, unknown_in}
-use Rattle.tg_protocol.specs.Checkpoints.{Trims, trim_of, load_from}
+use Rattle.tg_protocol.specs.Checkpoints.{TrimPoints, trim_of, load_from}
 use Rattle.tg_law_plays.specs.Sound.{IsRising}
 
 abbrev pub or_first : Option ℕ → ℕ
@@ -15,11 +15,11 @@ or_first None = 0
 or_first (Some b) = b
 
 -- where the walk of a stream met a trim, or the log's beginning
-abbrev pub low_of : Trims → Oid → ℕ
+abbrev pub low_of : TrimPoints → Oid → ℕ
 low_of gone o = or_first (trim_of gone o)
 
 -- Entries of the log, and among them all of these streams below a tail, from where their walks met a trim; where no checkpoint reaches that trim, nothing of the stream stands below it.
-pub record AreExact (m : Meaning) (es own : Entries) (gone : Trims) (oids : List Oid) (tail : ℕ) : Type 0 where
+pub record AreExact (m : Meaning) (es own : Entries) (gone : TrimPoints) (oids : List Oid) (tail : ℕ) : Type 0 where
   pub rising : IsRising own
   pub only : (p : ℕ) (e : Entry) → Contains own (p, e) → Contains es (p, e)
   pub all : (o : Oid) (p : ℕ) (e : Entry) → Contains oids o → Contains es (p, e) → lists e o ≡ true → low_of gone o ≤ p → p < tail → Contains own (p, e)

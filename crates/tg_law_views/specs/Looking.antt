@@ -6,7 +6,7 @@ use Rattle.tg_kind.specs.Meaning.{Meaning}
 use Rattle.tg_model.specs.declared.play.PlayEnd.TheVariants.{Played}
 use Rattle.tg_protocol.specs.Entries.{is_commit}
 use Rattle.tg_protocol.specs.Views.{Entries, Base, View, Play, base_of, state_of, fate_of, view_start, play}
-use Rattle.tg_protocol.specs.Checkpoints.{Trims, view_bases}
+use Rattle.tg_protocol.specs.Checkpoints.{TrimPoints, view_bases}
 use Rattle.tg_law_plays.specs.Sound.{IsSound}
 use Rattle.tg_law_history.specs.Logs.{state_below}
 use Rattle.tg_law_views.specs.Views.{IsTrueView, AreTrueDecisions, CanJudge}
@@ -36,11 +36,11 @@ module _ (m : Meaning) (objects : List Oid) (es : Entries) where
     pub low : base.upto ≤ t
     pub loads : m.load o (m.save (state_below m objects es t o)) ≡ Some (state_below m objects es t o)
 
-  abbrev pub rescuing : Entries → Trims → List Oid → List Oid → ℕ → Play m
+  abbrev pub rescuing : Entries → TrimPoints → List Oid → List Oid → ℕ → Play m
   rescuing own gone oids os p = play m (view_start m (view_bases m own gone os oids)) own (p + 1)
 
   -- the view of a rescue is true, and judges the record
-  pub record IsRescuer (own : Entries) (gone : Trims) (oids os : List Oid) (p : ℕ) (e : Entry) : Type 0 where
+  pub record IsRescuer (own : Entries) (gone : TrimPoints) (oids os : List Oid) (p : ℕ) (e : Entry) : Type 0 where
     pub only : (q : ℕ) (d : Entry) → Contains own (q, d) → Contains es (q, d)
     pub decisions : AreTrueDecisions m objects es own
     pub so : IsTrueView m objects es (rescuing own gone oids os p).view

@@ -5,7 +5,7 @@ use Rattle.tg_entry.specs.declared.entry.Entry.{Entry}
 use Rattle.tg_kind.specs.Meaning.{Meaning}
 use Rattle.tg_model.specs.declared.play.PlayEnd.TheVariants.{Played}
 use Rattle.tg_protocol.specs.Views.{Entries, Base, View, Play, fate_of, view_start, play}
-use Rattle.tg_protocol.specs.Checkpoints.{Trims, base_at, view_bases}
+use Rattle.tg_protocol.specs.Checkpoints.{TrimPoints, base_at, view_bases}
 use Rattle.tg_protocol.specs.Past.{commit_at, PastView, past_at}
 use Rattle.tg_law_plays.specs.Sound.{IsRising}
 use Rattle.tg_law_history.specs.Logs.{AreListed}
@@ -14,26 +14,26 @@ use Rattle.tg_law_views.specs.Looking.{IsTrueAt, IsRescuer}
 use Rattle.tg_law_views.specs.Exact.{AreExact, LeavesNone, AreWriting}
 
 -- entries that the walks of some streams found in a log, whose checkpoints and decision records are true of it
-pub record AreTrueFinds (m : Meaning) (objects : List Oid) (es own : Entries) (gone : Trims) (oids : List Oid) (tail : ℕ) : Type 0 where
+pub record AreTrueFinds (m : Meaning) (objects : List Oid) (es own : Entries) (gone : TrimPoints) (oids : List Oid) (tail : ℕ) : Type 0 where
   pub exact : AreExact m es own gone oids tail
   pub checkpoints : (p : ℕ) (e : Entry) (o : Oid) (b : Base m) → Contains own (p, e) → base_at m o e ≡ Some b → IsTrueBase m objects es o b
   pub decisions : AreTrueDecisions m objects es own
 
 -- a new view of the walked streams is true, however far below the tail it plays
 abbrev pub NewViewsTrue : Meaning → Type 0
-NewViewsTrue m = (objects oids : List Oid) (es own : Entries) (gone : Trims) (tail upto : ℕ) → IsRising es → AreListed es →
+NewViewsTrue m = (objects oids : List Oid) (es own : Entries) (gone : TrimPoints) (tail upto : ℕ) → IsRising es → AreListed es →
     AreTrueFinds m objects es own gone oids tail → upto ≤ tail →
     IsTrueView m objects es (play m (view_start m (view_bases m own gone objects oids)) own upto).view
 
 -- the view of a past position that isn't ahead of the tail is true and stands there, where its play came to its end
 abbrev pub PastViewsTrue : Meaning → Type 0
-PastViewsTrue m = (objects oids : List Oid) (es own : Entries) (gone : Trims) (tail p t : ℕ) (o : Oid) (v : Play m) → IsRising es → AreListed es →
+PastViewsTrue m = (objects oids : List Oid) (es own : Entries) (gone : TrimPoints) (tail p t : ℕ) (o : Oid) (v : Play m) → IsRising es → AreListed es →
     AreTrueFinds m objects es own gone oids tail → p ≤ tail → past_at m own gone oids objects o p ≡ PastView v → v.came ≡ Played t →
     IsTrueAt m objects es v.view p o
 
 -- the view of a rescue is true, and can judge the record that it was made for
 abbrev pub RescuesJudge : Meaning → Type 0
-RescuesJudge m = (objects oids : List Oid) (es own : Entries) (gone : Trims) (tail p : ℕ) (e : Entry) → IsRising es → AreListed es →
+RescuesJudge m = (objects oids : List Oid) (es own : Entries) (gone : TrimPoints) (tail p : ℕ) (e : Entry) → IsRising es → AreListed es →
     AreTrueFinds m objects es own gone oids tail → p < tail → commit_at own p ≡ Some e →
     IsRescuer m objects es own gone oids objects p e
 

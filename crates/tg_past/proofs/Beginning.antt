@@ -4,7 +4,7 @@ use Rattle.std.proofs.Common.{get_or, drop, sym, ap, ◌∙◌, subst, arith}
 use Rattle.tg_base.specs.declared.ids.Oid.{Oid}
 use Rattle.tg_kind.specs.Meaning.{Meaning}
 use Rattle.tg_model.specs.declared.play.PlayEnd.{PlayEnd}
-use Rattle.tg_protocol.specs.Checkpoints.{Trims, trim_of, base_by, view_base}
+use Rattle.tg_protocol.specs.Checkpoints.{TrimPoints, trim_of, base_by, view_base}
 use Rattle.tg_protocol.specs.Past.{PastTurn, PastView, PastGone, last_base, past_base_or, past_base_by, past_base, past_play, past_or_gone, past_by, past_at}
 use Rattle.tg_protocol.specs.Views as told
 use Rattle.tg_protocol.specs.Views.{Entries, fresh_base, Play}
@@ -83,7 +83,7 @@ module _ (m : Meaning) where
   -- ---- a base
 
   -- the object met no trim
-  pub untrimmed_base : (es : Entries) (gone : Trims) (objects : List Oid) (pos : ℕ) (o : Oid) (b : Base m.state) → None ≡ trim_of gone o → KeepsBase m b (fresh_base m objects o) → KeepsBase m b (past_base m es gone objects pos o)
+  pub untrimmed_base : (es : Entries) (gone : TrimPoints) (objects : List Oid) (pos : ℕ) (o : Oid) (b : Base m.state) → None ≡ trim_of gone o → KeepsBase m b (fresh_base m objects o) → KeepsBase m b (past_base m es gone objects pos o)
   untrimmed_base es gone objects pos o b is k = subst (λ (t : Option ℕ). KeepsBase m b (past_base_by m es objects pos o t)) is k
 
   none_last : (d : Option (told.Base m)) (b : Option (Base m.state)) → KeepsMaybe m b d → b ≡ None → d ≡ None
@@ -94,7 +94,7 @@ module _ (m : Meaning) where
       none : ◌≡◌ {A = Option (Base m.state)} (Some b) None → ⊥
       none h = cc
 
-  view_is : (es : Entries) (gone : Trims) (objects : List Oid) (pos : ℕ) (o : Oid) (below : ℕ) → trim_of gone o ≡ Some below → last_base m es o below pos ≡ None → view_base m es gone objects o ≡ past_base m es gone objects pos o
+  view_is : (es : Entries) (gone : TrimPoints) (objects : List Oid) (pos : ℕ) (o : Oid) (below : ℕ) → trim_of gone o ≡ Some below → last_base m es o below pos ≡ None → view_base m es gone objects o ≡ past_base m es gone objects pos o
   unfolding view_base
   view_is es gone objects pos o below is last =
       ap (λ (t : Option ℕ). base_by m es objects o t) is
@@ -102,7 +102,7 @@ module _ (m : Meaning) where
       ∙ ap (λ (t : Option ℕ). past_base_by m es objects pos o t) (sym is)
 
   -- no checkpoint reaches from the trim to the position
-  pub unreached_base : (es : Entries) (gone : Trims) (objects : List Oid) (pos : ℕ) (o : Oid) (below : ℕ) (b : Option (Base m.state)) (x : Base m.state)
+  pub unreached_base : (es : Entries) (gone : TrimPoints) (objects : List Oid) (pos : ℕ) (o : Oid) (below : ℕ) (b : Option (Base m.state)) (x : Base m.state)
       → trim_of gone o ≡ Some below → KeepsMaybe m b (last_base m es o below pos) → b ≡ None → KeepsBase m x (view_base m es gone objects o) → KeepsBase m x (past_base m es gone objects pos o)
   unreached_base es gone objects pos o below b x is k none h =
       subst (λ (d : told.Base m). KeepsBase m x d) (view_is es gone objects pos o below is (none_last (last_base m es o below pos) b k none)) h
@@ -119,7 +119,7 @@ module _ (m : Meaning) where
       none h = cc
 
   -- one does
-  pub reached_base : (es : Entries) (gone : Trims) (objects : List Oid) (pos : ℕ) (o : Oid) (below : ℕ) (b : Option (Base m.state)) (x : Base m.state)
+  pub reached_base : (es : Entries) (gone : TrimPoints) (objects : List Oid) (pos : ℕ) (o : Oid) (below : ℕ) (b : Option (Base m.state)) (x : Base m.state)
       → trim_of gone o ≡ Some below → KeepsMaybe m b (last_base m es o below pos) → b ≡ Some x → KeepsBase m x (past_base m es gone objects pos o)
   reached_base es gone objects pos o below b x is k some =
       subst (λ (t : Option ℕ). KeepsBase m x (past_base_by m es objects pos o t)) (sym is) (last_or es objects o below (last_base m es o below pos) b x k some)
@@ -157,13 +157,13 @@ module _ (m : Meaning) where
   played_both (Ok x) p v c = record { view = v; came = c }
   played_both (Err e) p v c = v
 
-  pub gone_turn : (es : Entries) (gone : Trims) (oids objects : List Oid) (o : Oid) (pos below : ℕ) (b : Option ℕ) → b ≡ lost_by m es o pos (trim_of gone o) → b ≡ Some below
+  pub gone_turn : (es : Entries) (gone : TrimPoints) (oids objects : List Oid) (o : Oid) (pos below : ℕ) (b : Option ℕ) → b ≡ lost_by m es o pos (trim_of gone o) → b ≡ Some below
       → KeepsTurn m (variants.Gone below) (past_at m es gone oids objects o pos)
   unfolding past_at
   gone_turn es gone oids objects o pos below b h is =
       subst (λ (t : PastTurn m). KeepsTurn m (variants.Gone below) t) (sym (gone_by es o pos below (trim_of gone o) (past_play m es gone oids objects pos) (sym h ∙ is))) refl
 
-  pub view_turn : (es : Entries) (gone : Trims) (oids objects : List Oid) (o : Oid) (pos : ℕ) (b : Option ℕ) (c : Kept m.state) (came : PlayEnd) → b ≡ lost_by m es o pos (trim_of gone o) → b ≡ None
+  pub view_turn : (es : Entries) (gone : TrimPoints) (oids objects : List Oid) (o : Oid) (pos : ℕ) (b : Option ℕ) (c : Kept m.state) (came : PlayEnd) → b ≡ lost_by m es o pos (trim_of gone o) → b ≡ None
       → PlayedOn m c came (past_play m es gone oids objects pos) → KeepsTurn m (variants.Played c came) (past_at m es gone oids objects o pos)
   unfolding past_at
   view_turn es gone oids objects o pos b c came h is k =

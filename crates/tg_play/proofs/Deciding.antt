@@ -4,7 +4,7 @@ use Rattle.std.proofs.Common.{sym, ap, ◌∙◌}
 use Rattle.tg_entry.specs.declared.entry.Entry.{Entry}
 use Rattle.tg_protocol.specs.Words.{or_else}
 use Rattle.tg_protocol.specs.Entries.{decides}
-use Rattle.tg_protocol.specs.Views.{Entries, View, decision_in, by_decision, verdict, fate_of, fate_or_verdict, outcome}
+use Rattle.tg_protocol.specs.Views.{Entries, View, decision_in, by_decision, verdict, fate_of, fate_or_verdict, view_outcome}
 use Rattle.tg_kind.specs.Meaning.{Meaning}
 use Rattle.tg_play.specs.Kept.{Kept, at_position}
 use Rattle.tg_play.specs.Relations.{KeepsView}
@@ -27,8 +27,8 @@ module _ (m : Meaning) where
   by_fate v es p e (Some b) = refl
 
   -- what is said of a record, by its fate or else by the decision record for it
-  pub outcome_told : (v : View m) (c : Kept m.state) (es : Entries) (p : ℕ) (e : Entry) (said : Option Bool) → KeepsView m c v → said ≡ or_else (at_position c.fates p) (decision_in es p) → by_decision m v e p said ≡ outcome m v es p e
-  unfolding outcome
+  pub outcome_told : (v : View m) (c : Kept m.state) (es : Entries) (p : ℕ) (e : Entry) (said : Option Bool) → KeepsView m c v → said ≡ or_else (at_position c.fates p) (decision_in es p) → by_decision m v e p said ≡ view_outcome m v es p e
+  unfolding view_outcome
   outcome_told v c es p e said k is =
       ap (λ (d : Option Bool). by_decision m v e p d)
       (is ∙ ap (λ (f : Option Bool). or_else f (decision_in es p)) (ap (λ (xs : List (ℕ × Bool)). at_position xs p) k.fates ∙ fates_told m v.fates p))

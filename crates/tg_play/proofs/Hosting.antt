@@ -13,7 +13,7 @@ use Rattle.tg_base.specs.declared.marks.ReadMark.{ReadMark}
 use Rattle.tg_entry.specs.declared.entry.WriteOp.{WriteOp}
 use Rattle.tg_kind.specs.Meaning.{Meaning}
 use Rattle.tg_protocol.specs.Words.{oid_eq}
-use Rattle.tg_protocol.specs.Versions.{Based, Noted, version_of, with_change}
+use Rattle.tg_protocol.specs.Versions.{Based, PartVersion, version_of, with_change}
 use Rattle.tg_protocol.specs.Views.{Base, View, base_of, state_in, state_of, past, plays, with_state, set_state, applied, touched, note, write_by, write, version_by, played_versions}
 use Rattle.tg_vers.specs.Kept.{Objects, Keeps}
 use Rattle.tg_vers.proofs.Lookups.{lookup_put, lookup_taken}
@@ -43,11 +43,11 @@ is_not_less : (p n : ℕ) → n ≤ p → nat_lt p n ≡ false
 is_not_less p n h = grind (arith, nat_tests)
 
 -- a change that is noted of an object is one of its own
-pub changed_keeps : (o : Oid) (h : Objects) (b : Option Based) (ns : List Noted) (k j : Part) (p : ℕ) → k ≡ j → Keeps h (with_change (own b o ns) o k p)
+pub changed_keeps : (o : Oid) (h : Objects) (b : Option Based) (ns : List PartVersion) (k j : Part) (p : ℕ) → k ≡ j → Keeps h (with_change (own b o ns) o k p)
     → Keeps h (own b o (record { oid = o; part = j; version = p + 1 } ∷ ns))
 unfolding with_change
 changed_keeps o h b ns k j p same keeps =
-    subst (λ (xs : List Noted). Keeps h (record { base = b; noted = xs })) (sym (own_same (record { oid = o; part = j; version = p + 1 }) ns o (oid_itself o)))
+    subst (λ (xs : List PartVersion). Keeps h (record { base = b; noted = xs })) (sym (own_same (record { oid = o; part = j; version = p + 1 }) ns o (oid_itself o)))
     (subst (λ (i : Part). Keeps h (record { base = b; noted = record { oid = o; part = i; version = p + 1 } ∷ own_noted o ns })) same keeps)
 
 module _ (m : Meaning) where
@@ -158,7 +158,7 @@ module _ (m : Meaning) where
       none h = cc
   own_told v y (Some s) k p t u has is = own_state v.states y s t has
 
-  other_keeps : (o : Oid) (x : Option (Hosted m.state)) (b : Option (Base m)) (s t : Option m.state) (ns : List Noted) (n : Noted) → t ≡ s → oid_eq n.oid o ≡ false
+  other_keeps : (o : Oid) (x : Option (Hosted m.state)) (b : Option (Base m)) (s t : Option m.state) (ns : List PartVersion) (n : PartVersion) → t ≡ s → oid_eq n.oid o ≡ false
       → KeepsObject m o x b s ns → KeepsObject m o x b t (n ∷ ns)
   other_keeps o None None s t ns n is e k = is ∙ k
   other_keeps o None (Some b) s t ns n is e k = absurd k
@@ -167,7 +167,7 @@ module _ (m : Meaning) where
     state = is ∙ k.state;
     base = k.base;
     upto = k.upto;
-    noted = subst (λ (ms : List Noted). Keeps h.noted (record { base = b.versions.base; noted = ms })) (sym (own_other n ns o e)) k.noted;
+    noted = subst (λ (ms : List PartVersion). Keeps h.noted (record { base = b.versions.base; noted = ms })) (sym (own_other n ns o e)) k.noted;
   }
 
   -- the object that is written is put back, the others stay
@@ -209,13 +209,13 @@ module _ (m : Meaning) where
       where
         own_keeps : KeepsHosted m y h b (state_of m (after v y s k p) y) (after v y s k p).noted
         own_keeps =
-            subst (λ (ns : List Noted). KeepsHosted m y h b (state_of m (after v y s k p) y) ns) (sym (more_noted v y s k p))
+            subst (λ (ns : List PartVersion). KeepsHosted m y h b (state_of m (after v y s k p) y) ns) (sym (more_noted v y s k p))
             (subst (λ (u : Option m.state). KeepsHosted m y h b u (record { oid = y; part = k; version = p + 1 } ∷ v.noted)) (sym (own_told v y s k p t h.state has mine.state)) mine)
 
         by : (o : Oid) (e : Bool) → oid_eq y o ≡ e → KeepsObject m o (hosted_of new o) (base_of m (after v y s k p) o) (state_of m (after v y s k p) o) (after v y s k p).noted
         by o true e = own_as v (after v y s k p) b (same_base v y s k p y ∙ is) own_keeps o e
         by o false e =
-            subst (λ (ns : List Noted). KeepsObject m o (hosted_of new o) (base_of m (after v y s k p) o) (state_of m (after v y s k p) o) ns) (sym (more_noted v y s k p))
+            subst (λ (ns : List PartVersion). KeepsObject m o (hosted_of new o) (base_of m (after v y s k p) o) (state_of m (after v y s k p) o) ns) (sym (more_noted v y s k p))
             (subst (λ (c : Option (Base m)). KeepsObject m o (hosted_of new o) c (state_of m (after v y s k p) o) (record { oid = y; part = k; version = p + 1 } ∷ v.noted)) (sym (same_base v y s k p o))
             (subst (λ (x : Option (Hosted m.state)). KeepsObject m o x (base_of m v o) (state_of m (after v y s k p) o) (record { oid = y; part = k; version = p + 1 } ∷ v.noted)) (sym (there_other o e))
             (other_keeps o (hosted_of hs o) (base_of m v o) (state_of m v o) (state_of m (after v y s k p) o) v.noted (record { oid = y; part = k; version = p + 1 }) (other_told v y s k p o e) e (keeps.each o))))

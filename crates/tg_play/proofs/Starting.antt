@@ -6,7 +6,7 @@ use Rattle.tg_base.specs.Orders.{oid_cmp}
 use Rattle.tg_base.specs.declared.ids.Oid.{Oid}
 use Rattle.tg_kind.specs.Meaning.{Meaning}
 use Rattle.tg_protocol.specs.Words.{oid_eq}
-use Rattle.tg_protocol.specs.Versions.{Noted}
+use Rattle.tg_protocol.specs.Versions.{PartVersion}
 use Rattle.tg_protocol.specs.Views as told
 use Rattle.tg_vers.specs.Kept.{Keeps}
 use Rattle.tg_vers.proofs.Lookups.{lookup_put}
@@ -44,7 +44,7 @@ module _ (m : Meaning) where
     state = ap (λ (s : m.state). Some s) (sym k.state);
     base = k.versions;
     upto = k.upto;
-    noted = subst (λ (ns : List Noted). Keeps b.vers (record { base = d.versions.base; noted = ns })) k.based k.versions;
+    noted = subst (λ (ns : List PartVersion). Keeps b.vers (record { base = d.versions.base; noted = ns })) k.based k.versions;
   }
 
   each_begun : (bs : List (Base m.state)) (ds : List (told.Base m)) → KeepsBases m bs ds → (o : Oid) → KeepsObject m o (hosted_of (hosts_from bs) o) (among ds o) (told.state_in m (states_of ds) o) []

@@ -10,7 +10,7 @@ use Rattle.tg_base.specs.declared.marks.Part.TheVariants.{All, Text, Num}
 use Rattle.tg_entry.specs.Reads.{is_all}
 use Rattle.tg_entry.specs.Records.{keys_rise}
 use Rattle.tg_protocol.specs.Words.{oid_eq, is_whole}
-use Rattle.tg_protocol.specs.Versions.{Versions, Based, Noted, version_of, whole_noted, with_part, parts_noted, parts_based, base_parts, Parts, parts_of}
+use Rattle.tg_protocol.specs.Versions.{Versions, Based, PartVersion, version_of, whole_noted, with_part, parts_noted, parts_based, base_parts, Parts, parts_of}
 use Rattle.tg_vers.specs.Kept as vers
 use Rattle.tg_vers.specs.Kept.{Objects, Keeps, kept_of, version_kept, parts_kept}
 use Rattle.tg_vers.proofs.Keeping.{version_told, parts_told}
@@ -22,7 +22,7 @@ use Rattle.tg_play.proofs.Truths.{both, first_true, rest_true, four}
 
 -- ---- parts that were noted or named rise, and the whole isn't one of them
 
-noted_rise : (ns : List Noted) (o : Oid) (ks : List Part) → Rising ks → Rising (parts_noted ns o ks)
+noted_rise : (ns : List PartVersion) (o : Oid) (ks : List Part) → Rising ks → Rising (parts_noted ns o ks)
 noted_rise [] o ks h = h
 noted_rise (n ∷ ns) o ks h = by (noted_rise ns o ks h) (oid_eq n.oid o) (is_whole n.part) refl
   where
@@ -113,7 +113,7 @@ keys_told v o version below each =
       rising = in_order (newer whole (rows f (parts_noted v.noted o (base_parts v.base o)))) (newer_rise whole (rows f (parts_noted v.noted o (base_parts v.base o))) (rows_rise f (parts_noted v.noted o (base_parts v.base o)) rise));
     }
 
-abbrev pub all_changes : Option Based → List Noted → Versions
+abbrev pub all_changes : Option Based → List PartVersion → Versions
 all_changes b ns = record { base = b; noted = ns }
 
 -- what lawful versions tell of an object's parts

@@ -10,7 +10,7 @@ use Rattle.tg_base.specs.declared.ids.Oid.{Oid}
 use Rattle.tg_entry.specs.declared.entry.Body.{Body}
 use Rattle.tg_entry.specs.declared.entry.Body.TheVariants.{Commit, Decision, Checkpoint}
 use Rattle.tg_protocol.specs.Words.{oid_eq}
-use Rattle.tg_protocol.specs.Versions.{Versions, Based, Noted}
+use Rattle.tg_protocol.specs.Versions.{Versions, Based, PartVersion}
 use Rattle.tg_protocol.specs.Views.{Entries}
 use Rattle.tg_play.specs.declared.base.Base.{Base}
 use Rattle.tg_play.specs.declared.hosted.Hosted.{Hosted}
@@ -61,8 +61,8 @@ decisions_kept [] = []
 decisions_kept (x ∷ xs) = with_decision (decisions_kept xs) x.1.body
 
 -- the changes of one object alone
-abbrev pub own_noted : Oid → List Noted → List Noted
-own_noted o ns = filter (λ (n : Noted). oid_eq n.oid o) ns
+abbrev pub own_noted : Oid → List PartVersion → List PartVersion
+own_noted o ns = filter (λ (n : PartVersion). oid_eq n.oid o) ns
 
-abbrev pub own : Option Based → Oid → List Noted → Versions
+abbrev pub own : Option Based → Oid → List PartVersion → Versions
 own b o ns = record { base = b; noted = own_noted o ns }

@@ -8,7 +8,7 @@ use Rattle.tg_base.specs.declared.marks.Part.TheVariants.{All, Text, Num}
 use Rattle.tg_entry.specs.Checkpoints.{Keyed}
 use Rattle.tg_entry.specs.Reads.{is_all}
 use Rattle.tg_entry.specs.Records.{is_number, keys_rise}
-use Rattle.tg_protocol.specs.Versions.{Based, Noted}
+use Rattle.tg_protocol.specs.Versions.{Based, PartVersion}
 use Rattle.tg_vers.specs.Kept as vers
 use Rattle.tg_vers.specs.Kept.{Objects, Keeps, kept_of, version_kept}
 use Rattle.tg_play.specs.declared.base.Base.{Base}
@@ -42,7 +42,7 @@ pub record IsTold (k : vers.Kept) : Type 0 where
 -- an object's versions: they keep some of the definitions, and no part is later than the object
 pub record IsLawful (o : Oid) (os : Objects) : Type 0 where
   pub base : Option Based
-  pub changes : List Noted
+  pub changes : List PartVersion
   pub keeps : Keeps os (own base o changes)
   pub told : IsTold (kept_of os o)
 

@@ -5,7 +5,7 @@ use Rattle.tg_entry.specs.declared.entry.Entry.{Entry}
 use Rattle.tg_entry.specs.declared.entry.WriteOp.{WriteOp}
 use Rattle.tg_kind.specs.Meaning.{Meaning}
 use Rattle.tg_model.specs.declared.play.PlayEnd.{PlayEnd}
-use Rattle.tg_protocol.specs.Versions.{Noted}
+use Rattle.tg_protocol.specs.Versions.{PartVersion}
 use Rattle.tg_protocol.specs.Views as told
 use Rattle.tg_vers.specs.Kept.{Keeps}
 use Rattle.tg_play.specs.declared.base.Base.{Base}
@@ -15,7 +15,7 @@ use Rattle.tg_play.specs.declared.verdict.Verdict.TheVariants as verdicts
 use Rattle.tg_play.specs.Kept.{Hosts, Kept, hosted_of, fates_kept, rising_positions, own}
 
 -- no change is noted above a position
-abbrev pub AtMost : ℕ → List Noted → Type 0
+abbrev pub AtMost : ℕ → List PartVersion → Type 0
 AtMost bound [] = Unit {0}
 AtMost bound (n ∷ ns) = (n.version ≤ bound) × AtMost bound ns
 
@@ -39,13 +39,13 @@ module _ (m : Meaning) where
   KeepsBases _ _ = ⊥
 
   -- a hosted object: its base, its state, and the changes that were noted
-  pub record KeepsHosted (o : Oid) (h : Hosted m.state) (b : told.Base m) (s : Option m.state) (ns : List Noted) : Type 0 where
+  pub record KeepsHosted (o : Oid) (h : Hosted m.state) (b : told.Base m) (s : Option m.state) (ns : List PartVersion) : Type 0 where
     pub state : s ≡ Some h.state
     pub base : Keeps h.base b.versions
     pub upto : h.upto ≡ b.upto
     pub noted : Keeps h.noted (own b.versions.base o ns)
 
-  abbrev pub KeepsObject : Oid → Option (Hosted m.state) → Option (told.Base m) → Option m.state → List Noted → Type 0
+  abbrev pub KeepsObject : Oid → Option (Hosted m.state) → Option (told.Base m) → Option m.state → List PartVersion → Type 0
   KeepsObject o None None s ns = s ≡ None
   KeepsObject o (Some h) (Some b) s ns = KeepsHosted o h b s ns
   KeepsObject o _ _ s ns = ⊥
@@ -69,7 +69,7 @@ module _ (m : Meaning) where
   abbrev pub written_state : ℕ → WriteOp → told.Base m → Option m.state → Option m.state
   written_state p w b s = if told.plays m p (Some b) then told.applied m (m.read w.oid w.op) s else s
 
-  abbrev pub written_noted : ℕ → WriteOp → told.Base m → List Noted → List Noted
+  abbrev pub written_noted : ℕ → WriteOp → told.Base m → List PartVersion → List PartVersion
   written_noted p w b ns = if told.plays m p (Some b) then record { oid = w.oid; part = told.touched m (m.read w.oid w.op); version = p + 1 } ∷ ns else ns
 
   -- what the record at a position makes of a view, or the object without which it can't be decided

@@ -2,7 +2,7 @@
 
 ghost use Rattle.std.specs.Prelude.{◌≡◌, ◌+◌, ◌<◌, ◌≤◌, ◌^◌, ◌∷◌, List, Option, Some, IfOk};
 ghost use Rattle.tg_kind.specs.Of.{meaning_of};
-ghost use Rattle.tg_protocol.specs.Versions.{Based, Noted, version_of, parts_of};
+ghost use Rattle.tg_protocol.specs.Versions.{Based, PartVersion, version_of, parts_of};
 ghost use Rattle.tg_protocol.specs.Versions as history;
 ghost use Rattle.tg_protocol.specs.Views as told;
 ghost use Rattle.tg_vers.specs.Kept.{Keeps};
@@ -51,15 +51,15 @@ impl<K> Hosted<K> {
 
     /// The version of a part as played.
     pub fn version(&self, oid: Oid, part: &Part) -> u64
-        ensures { (b : Option Based) (ns : List Noted) → Keeps self.now.noted (own b oid ns) → result ≡ version_of (record { base = b; noted = ns }) oid part.now }
+        ensures { (b : Option Based) (ns : List PartVersion) → Keeps self.now.noted (own b oid ns) → result ≡ version_of (record { base = b; noted = ns }) oid part.now }
     {
         self.noted.get(oid, part)
     }
 
     /// What is told of the parts as played. An `Err` is want of memory.
     pub fn parts(&self, alloc: Global, oid: Oid) -> Result<(u64, List<(Part, u64)>), NoMemory>
-        ensures whole { (b : Option Based) (ns : List Noted) → Keeps self.now.noted (own b oid ns) → IfOk result (λ p. p.0 ≡ (parts_of (record { base = b; noted = ns }) oid).whole) }
-        ensures keys { (b : Option Based) (ns : List Noted) → Keeps self.now.noted (own b oid ns) → IfOk result (λ p. p.1 ≡ (parts_of (record { base = b; noted = ns }) oid).keys) }
+        ensures whole { (b : Option Based) (ns : List PartVersion) → Keeps self.now.noted (own b oid ns) → IfOk result (λ p. p.0 ≡ (parts_of (record { base = b; noted = ns }) oid).whole) }
+        ensures keys { (b : Option Based) (ns : List PartVersion) → Keeps self.now.noted (own b oid ns) → IfOk result (λ p. p.1 ≡ (parts_of (record { base = b; noted = ns }) oid).keys) }
     {
         let parts = self.noted.parts(alloc, oid)?;
         Ok(parts)
@@ -86,14 +86,14 @@ impl<K: Registry> Hosted<K> {
 
     /// Whether the base tells only a later version of a read part.
     pub fn is_unknown(&self, read: &ReadMark, pos: Pos) -> bool
-        ensures { (b : told.Base (meaning_of K.Registry)) (s : Option K) (ns : List Noted) → KeepsHosted (meaning_of K.Registry) read.now.oid self.now b s ns → result ≡ told.unknown_by (meaning_of K.Registry) pos (Some b) read.now }
+        ensures { (b : told.Base (meaning_of K.Registry)) (s : Option K) (ns : List PartVersion) → KeepsHosted (meaning_of K.Registry) read.now.oid self.now b s ns → result ≡ told.unknown_by (meaning_of K.Registry) pos (Some b) read.now }
     {
         pos < self.upto && pos < self.base_version(read.oid, &read.part)
     }
 
     /// Whether a write at a position is played on the object.
     pub fn plays(&self, oid: Oid, pos: Pos) -> bool
-        ensures { (b : told.Base (meaning_of K.Registry)) (s : Option K) (ns : List Noted) → KeepsHosted (meaning_of K.Registry) oid self.now b s ns → result ≡ told.plays (meaning_of K.Registry) pos (Some b) }
+        ensures { (b : told.Base (meaning_of K.Registry)) (s : Option K) (ns : List PartVersion) → KeepsHosted (meaning_of K.Registry) oid self.now b s ns → result ≡ told.plays (meaning_of K.Registry) pos (Some b) }
     {
         pos >= self.upto
     }
@@ -102,7 +102,7 @@ impl<K: Registry> Hosted<K> {
     /// An `Err` is want of memory.
     pub fn write(self, alloc: Global, write: &WriteOp, pos: Pos) -> Result<Hosted<K>, NoMemory>
         requires { pos + 1 < 2 ^ 64 }
-        ensures kept { (b : told.Base (meaning_of K.Registry)) (s : Option K) (ns : List Noted) → KeepsHosted (meaning_of K.Registry) write.now.oid self b s ns → IfOk result (λ h. KeepsHosted (meaning_of K.Registry) write.now.oid h b (written_state (meaning_of K.Registry) pos write.now b s) (written_noted (meaning_of K.Registry) pos write.now b ns)) }
+        ensures kept { (b : told.Base (meaning_of K.Registry)) (s : Option K) (ns : List PartVersion) → KeepsHosted (meaning_of K.Registry) write.now.oid self b s ns → IfOk result (λ h. KeepsHosted (meaning_of K.Registry) write.now.oid h b (written_state (meaning_of K.Registry) pos write.now b s) (written_noted (meaning_of K.Registry) pos write.now b ns)) }
         ensures lawful { IsLawfulHosted (pos + 1) write.now.oid self → IfOk result (λ h. IsLawfulHosted (pos + 1) write.now.oid h) }
     {
         if self.upto > pos {
@@ -122,7 +122,7 @@ impl<K: Registry> Hosted<K> {
     ) -> Result<Hosted<K>, NoMemory>
         requires reach { pos + 1 < 2 ^ 64 }
         requires begun { self.upto ≤ pos }
-        ensures kept { (b : told.Base (meaning_of K.Registry)) (s : Option K) (ns : List Noted) → KeepsHosted (meaning_of K.Registry) oid self b s ns → IfOk result (λ h. KeepsHosted (meaning_of K.Registry) oid h b (told.applied (meaning_of K.Registry) op.now s) (record { oid = oid; part = told.touched (meaning_of K.Registry) op.now; version = pos + 1 } ∷ ns)) }
+        ensures kept { (b : told.Base (meaning_of K.Registry)) (s : Option K) (ns : List PartVersion) → KeepsHosted (meaning_of K.Registry) oid self b s ns → IfOk result (λ h. KeepsHosted (meaning_of K.Registry) oid h b (told.applied (meaning_of K.Registry) op.now s) (record { oid = oid; part = told.touched (meaning_of K.Registry) op.now; version = pos + 1 } ∷ ns)) }
         ensures lawful { IsLawfulHosted (pos + 1) oid self → IfOk result (λ h. IsLawfulHosted (pos + 1) oid h) }
     {
         let part = touched_by::<K>(alloc, op)?;

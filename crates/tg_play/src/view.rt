@@ -165,7 +165,7 @@ impl<K: Registry> View<K> {
     /// first decision record for it among the entries says, if there is one, else as the versions of its reads say.
     /// It takes no memory.
     pub fn outcome(&self, entries: &Entries, pos: Pos, entry: &Entry) -> Verdict
-        ensures { (v : told.View (meaning_of K.Registry)) → KeepsView (meaning_of K.Registry) self.now v → told_verdict result ≡ told.outcome (meaning_of K.Registry) v entries.now pos entry.now }
+        ensures { (v : told.View (meaning_of K.Registry)) → KeepsView (meaning_of K.Registry) self.now v → told_verdict result ≡ told.view_outcome (meaning_of K.Registry) v entries.now pos entry.now }
     {
         let said = self.said(entries, pos);
         self.played.verdict(said, reads_of(entry), pos)

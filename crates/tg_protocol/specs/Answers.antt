@@ -17,7 +17,7 @@ use Rattle.tg_protocol.specs.Appending.{Append, AppendEnd, append_start}
 use Rattle.tg_protocol.specs.Syncing.{Sync, Confirmed, sync_start}
 use Rattle.tg_protocol.specs.Trimming.{Trims, Trimmed, trim_start}
 use Rattle.tg_protocol.specs.Versions.{Changed}
-use Rattle.tg_protocol.specs.Views.{Entries, decision_in, Verdict, Commits, Aborts, Unknown, Base, View, Play, base_of, state_of, view_version, fate_of, changed_in, unknown_in, verdict, outcome, view_start, play}
+use Rattle.tg_protocol.specs.Views.{Entries, decision_in, Verdict, Commits, Aborts, Unknown, Base, View, Play, base_of, state_of, view_version, fate_of, changed_in, unknown_in, verdict, view_outcome, view_start, play}
 use Rattle.tg_protocol.specs.Checkpoints.{checkpoint, view_bases, NoCheckpoint, OpenDecision, ForgetFault, may_forget}
 use Rattle.tg_protocol.specs.Past.{commit_at, PastTurn, PastView, PastGone, past_at, RescueTurn, Wider, Wide, Absent, StuckAt, Known, rescue_turn}
 use Rattle.tg_protocol.specs.Transactions.{Tx, tx_read}
@@ -226,7 +226,7 @@ module _ (m : Meaning) where
 
   abbrev pub decide_record : Client m → Work m → Entries → View m → ℕ → Option Entry → Moved
   decide_record c w es v p None = answers c 0 (told.Decided p None)
-  decide_record c w es v p (Some e) = decide_verdict c w es p e (outcome m v es p e)
+  decide_record c w es v p (Some e) = decide_verdict c w es p e (view_outcome m v es p e)
 
   abbrev pub decide_blocked : Client m → Work m → Entries → View m → ℕ → ℕ → Oid → Bool → Moved
   decide_blocked c w es v p q x true = refuses c 0 (cause.Undecided q x)

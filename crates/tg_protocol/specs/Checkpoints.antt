@@ -12,10 +12,10 @@ use Rattle.tg_protocol.specs.Versions.{Versions, based, Parts}
 use Rattle.tg_protocol.specs.Views.{Entries, decision_in, Base, View, state_of, view_version, view_parts, fresh_base}
 
 -- where an object's walk met a trim
-abbrev pub Trims : Type 0
-Trims = List (Oid × ℕ)
+abbrev pub TrimPoints : Type 0
+TrimPoints = List (Oid × ℕ)
 
-abbrev pub trim_of : Trims → Oid → Option ℕ
+abbrev pub trim_of : TrimPoints → Oid → Option ℕ
 trim_of [] o = None
 trim_of (x ∷ xs) o = if oid_eq x.0 o then Some x.1 else trim_of xs o
 
@@ -98,10 +98,10 @@ module _ (m : Meaning) where
   base_by es objects o (Some below) = base_or objects o (load_from es o below)
 
   -- the base of an object in a new view: where its walk met a trim, a checkpoint from there on, if there is one; else fresh
-  unfoldable pub view_base : Entries → Trims → List Oid → Oid → Base m
+  unfoldable pub view_base : Entries → TrimPoints → List Oid → Oid → Base m
   view_base es gone objects o = base_by es objects o (trim_of gone o)
 
-  unfoldable pub view_bases : Entries → Trims → List Oid → List Oid → List (Base m)
+  unfoldable pub view_bases : Entries → TrimPoints → List Oid → List Oid → List (Base m)
   view_bases es gone objects os = map (view_base es gone objects) os
 
   -- why what is below a mark may not be forgotten

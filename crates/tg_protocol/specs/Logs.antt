@@ -20,7 +20,7 @@ use Rattle.tg_protocol.specs.Units.{UnitState, new_unit}
 use Rattle.tg_protocol.specs.Entries.{is_commit, reads_of, writes_of, lists}
 use Rattle.tg_protocol.specs.Pages.{entry_of}
 use Rattle.tg_protocol.specs.Walking.{Trail, trail, next_of_trail, trail_after, pointers_at}
-use Rattle.tg_protocol.specs.Versions.{Noted, noted_or}
+use Rattle.tg_protocol.specs.Versions.{PartVersion, noted_or}
 use Rattle.tg_protocol.specs.Views.{Entries, touched}
 use Rattle.tg_model.specs.Kinds.{DoneOf}
 
@@ -173,29 +173,29 @@ path l o ps = path_on l o (first_on ps + 2) (trail ps 0)
 -- Outcomes and history.
 
 module _ (m : Meaning) where
-  abbrev pub change_of : ℕ → WriteOp → Noted
+  abbrev pub change_of : ℕ → WriteOp → PartVersion
   change_of p w = record { oid = w.oid; part = touched m (m.read w.oid w.op); version = p + 1 }
 
   -- the version of a part after these committed changes, the last one first
-  abbrev pub version_after : List Noted → Oid → Part → ℕ
+  abbrev pub version_after : List PartVersion → Oid → Part → ℕ
   version_after ns o k = noted_or None ns o k
 
-  abbrev pub is_current : List Noted → ReadMark → Bool
+  abbrev pub is_current : List PartVersion → ReadMark → Bool
   is_current ns r = version_after ns r.oid r.part == r.version
 
   -- a record is committed where each of its reads has the version that its part has below it
-  abbrev pub commits_after : List Noted → Entry → Bool
+  abbrev pub commits_after : List PartVersion → Entry → Bool
   commits_after ns e = is_commit e && list_all (is_current ns) (reads_of e)
 
-  abbrev pub with_changes : ℕ → List WriteOp → List Noted → List Noted
+  abbrev pub with_changes : ℕ → List WriteOp → List PartVersion → List PartVersion
   with_changes p [] ns = ns
   with_changes p (w ∷ ws) ns = with_changes p ws (change_of p w ∷ ns)
 
-  abbrev pub changes_after : List Noted → ℕ → Entry → List Noted
+  abbrev pub changes_after : List PartVersion → ℕ → Entry → List PartVersion
   changes_after ns p e = if commits_after ns e then with_changes p (writes_of e) ns else ns
 
   -- the committed changes of the entries below a position, the last one first
-  unfoldable pub changes_below : List Noted → Entries → ℕ → List Noted
+  unfoldable pub changes_below : List PartVersion → Entries → ℕ → List PartVersion
   changes_below ns [] p = ns
   changes_below ns (x ∷ xs) p = if nat_lt x.0 p then changes_below (changes_after ns x.0 x.1) xs p else ns
 
@@ -225,7 +225,7 @@ module _ (m : Meaning) where
   done_if true p e ds = done_at p e ∷ ds
   done_if false p e ds = ds
 
-  abbrev pub history_after : List Noted → Entries → List (DoneOf m)
+  abbrev pub history_after : List PartVersion → Entries → List (DoneOf m)
   history_after ns [] = []
   history_after ns (x ∷ xs) = done_if (commits_after ns x.1) x.0 x.1 (history_after (changes_after ns x.0 x.1) xs)
 

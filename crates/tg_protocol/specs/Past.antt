@@ -7,8 +7,8 @@ use Rattle.tg_model.specs.declared.play.PlayEnd.{PlayEnd}
 use Rattle.tg_model.specs.declared.play.PlayEnd.TheVariants.{Played, Blocked}
 use Rattle.tg_protocol.specs.Words.{has_oid}
 use Rattle.tg_protocol.specs.Entries.{is_commit, needs_decision}
-use Rattle.tg_protocol.specs.Views.{Entries, decision_in, Verdict, Commits, Aborts, Unknown, Base, View, Play, view_start, fresh_base, outcome, play}
-use Rattle.tg_protocol.specs.Checkpoints.{Trims, trim_of, bases_in, greatest_base, within, base_or, load_from, view_bases}
+use Rattle.tg_protocol.specs.Views.{Entries, decision_in, Verdict, Commits, Aborts, Unknown, Base, View, Play, view_start, fresh_base, view_outcome, play}
+use Rattle.tg_protocol.specs.Checkpoints.{TrimPoints, trim_of, bases_in, greatest_base, within, base_or, load_from, view_bases}
 
 -- the commit record at a position
 unfoldable pub commit_at : Entries → ℕ → Option Entry
@@ -34,10 +34,10 @@ module _ (m : Meaning) where
   past_base_by es objects pos o None = fresh_base m objects o
   past_base_by es objects pos o (Some below) = past_base_or es objects o below (last_base es o below pos)
 
-  abbrev pub past_base : Entries → Trims → List Oid → ℕ → Oid → Base m
+  abbrev pub past_base : Entries → TrimPoints → List Oid → ℕ → Oid → Base m
   past_base es gone objects pos o = past_base_by es objects pos o (trim_of gone o)
 
-  abbrev pub past_play : Entries → Trims → List Oid → List Oid → ℕ → Play m
+  abbrev pub past_play : Entries → TrimPoints → List Oid → List Oid → ℕ → Play m
   past_play es gone oids objects pos = play m (view_start m (map (past_base es gone objects pos) oids)) es pos
 
   abbrev pub past_or_gone : Option (Base m) → ℕ → Play m → PastTurn
@@ -49,7 +49,7 @@ module _ (m : Meaning) where
   past_by es o pos (Some below) v = past_or_gone (last_base es o below pos) below v
 
   -- the view of these objects at a position, for an ask of one of them
-  unfoldable pub past_at : Entries → Trims → List Oid → List Oid → Oid → ℕ → PastTurn
+  unfoldable pub past_at : Entries → TrimPoints → List Oid → List Oid → Oid → ℕ → PastTurn
   past_at es gone oids objects o pos = past_by es o pos (trim_of gone o) (past_play es gone oids objects pos)
 
   -- Rescue.
@@ -68,7 +68,7 @@ module _ (m : Meaning) where
 
   abbrev pub entry_block : View m → Entries → ℕ → Option Entry → Option (ℕ × Oid)
   entry_block v es at None = None
-  entry_block v es at (Some e) = record_block v es at (outcome m v es at e)
+  entry_block v es at (Some e) = record_block v es at (view_outcome m v es at e)
 
   abbrev pub block_in : Play m → Entries → ℕ → PlayEnd → Option (ℕ × Oid)
   block_in p es at (Played upto) = entry_block p.view es at (commit_at es at)
@@ -82,7 +82,7 @@ module _ (m : Meaning) where
   abbrev pub at_record : View m → Entries → ℕ → Option (ℕ × Oid) → Option Entry → RescueTurn
   at_record v es at b None = Absent
   at_record v es at (Some b) (Some e) = StuckAt b.0 b.1
-  at_record v es at None (Some e) = known_by es at e (outcome m v es at e)
+  at_record v es at None (Some e) = known_by es at e (view_outcome m v es at e)
 
   abbrev pub grows : List Oid → Oid → RescueTurn
   grows oids o = if nat_le 128 (length oids) then Wide else Wider o
@@ -96,5 +96,5 @@ module _ (m : Meaning) where
   rescue_played p es oids at = rescue_by p es oids at (block_in p es at p.came)
 
   -- a turn of rescuing the record at a position, over the entries of these streams; the play takes in that record
-  unfoldable pub rescue_turn : Entries → Trims → List Oid → List Oid → ℕ → RescueTurn
+  unfoldable pub rescue_turn : Entries → TrimPoints → List Oid → List Oid → ℕ → RescueTurn
   rescue_turn es gone oids objects at = rescue_played (play m (view_start m (view_bases m es gone objects oids)) es (at + 1)) es oids at

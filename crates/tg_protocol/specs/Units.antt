@@ -22,7 +22,7 @@ pub data UnitAsk : Type 0 where
   Fills : (epoch pos : ℕ) → UnitAsk
   Looks : (epoch lo hi step : ℕ) → UnitAsk
   Seals : (epoch : ℕ) → UnitAsk
-  Trims : (epoch below : ℕ) → UnitAsk
+  TrimsBelow : (epoch below : ℕ) → UnitAsk
   Nothing : UnitAsk
 
 unfoldable pub unit_ask : Msg → UnitAsk
@@ -32,7 +32,7 @@ unit_ask (msg.Copy e p c) = Stores e p c
 unit_ask (msg.Fill e p) = Fills e p
 unit_ask (msg.Has e lo hi step) = Looks e lo hi step
 unit_ask (msg.Seal e) = Seals e
-unit_ask (msg.Trim e b) = Trims e b
+unit_ask (msg.Trim e b) = TrimsBelow e b
 unit_ask _ = Nothing
 
 -- a unit's state after a request, and its answer
@@ -105,7 +105,7 @@ on_ask s (Stores e p c) = at_cell s e p (on_store s p c (cell_at s.cells p))
 on_ask s (Fills e p) = at_cell s e p (on_store s p Junk (cell_at s.cells p))
 on_ask s (Looks e lo hi step) = in_epoch (s.epoch == e) s (on_has s (first_missing s step (how_many lo hi step) lo))
 on_ask s (Seals e) = on_seal s e (nat_lt e s.epoch)
-on_ask s (Trims e b) = in_epoch (s.epoch == e) s (on_trim s (max s.low b))
+on_ask s (TrimsBelow e b) = in_epoch (s.epoch == e) s (on_trim s (max s.low b))
 on_ask s Nothing = record { now = s; says = None }
 
 unfoldable pub unit_step : UnitState → Msg → UnitTurn

@@ -14,14 +14,14 @@ pub record Based : Type 0 where
   pub keys : List (Part × ℕ)
 
 -- a change that was noted
-pub record Noted : Type 0 where
+pub record PartVersion : Type 0 where
   pub oid : Oid
   pub part : Part
   pub version : ℕ
 
 pub record Versions : Type 0 where
   pub base : Option Based
-  pub noted : List Noted  -- the last one first
+  pub noted : List PartVersion  -- the last one first
 
 unfoldable pub no_versions : Versions
 no_versions = record { base = None; noted = [] }
@@ -43,7 +43,7 @@ base_version None o k = 0
 base_version (Some b) o k = if oid_eq b.oid o then version_in b k else 0
 
 -- the version noted last with a part that overlaps this one, else the base's
-abbrev pub noted_or : Option Based → List Noted → Oid → Part → ℕ
+abbrev pub noted_or : Option Based → List PartVersion → Oid → Part → ℕ
 noted_or b [] o k = base_version b o k
 noted_or b (n ∷ ns) o k = if oid_eq n.oid o && overlap n.part k then n.version else noted_or b ns o k
 
@@ -65,7 +65,7 @@ first_changed version (r ∷ rs) = if version r == r.version then first_changed 
 
 -- What a checkpoint tells.
 
-abbrev pub whole_noted : Option Based → List Noted → Oid → ℕ
+abbrev pub whole_noted : Option Based → List PartVersion → Oid → ℕ
 whole_noted None [] o = 0
 whole_noted (Some b) [] o = if oid_eq b.oid o then b.whole else 0
 whole_noted b (n ∷ ns) o = if oid_eq n.oid o && is_whole n.part then n.version else whole_noted b ns o
@@ -74,7 +74,7 @@ abbrev pub with_part : Part → List Part → List Part
 with_part k [] = k ∷ []
 with_part k (x ∷ xs) = if part_lt k x then k ∷ x ∷ xs else (if part_eq k x then x ∷ xs else x ∷ with_part k xs)
 
-abbrev pub parts_noted : List Noted → Oid → List Part → List Part
+abbrev pub parts_noted : List PartVersion → Oid → List Part → List Part
 parts_noted [] o ks = ks
 parts_noted (n ∷ ns) o ks = if oid_eq n.oid o && not (is_whole n.part) then with_part n.part (parts_noted ns o ks) else parts_noted ns o ks
 

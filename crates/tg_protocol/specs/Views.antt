@@ -12,7 +12,7 @@ use Rattle.tg_model.specs.declared.play.PlayEnd.{PlayEnd}
 use Rattle.tg_model.specs.declared.play.PlayEnd.TheVariants.{Played, Blocked}
 use Rattle.tg_protocol.specs.Words.{oid_eq, or_else}
 use Rattle.tg_protocol.specs.Entries.{is_commit, reads_of, writes_of, decides, needs_decision}
-use Rattle.tg_protocol.specs.Versions.{Versions, Noted, Changed, no_versions, version_of, first_changed, Parts, parts_of}
+use Rattle.tg_protocol.specs.Versions.{Versions, PartVersion, Changed, no_versions, version_of, first_changed, Parts, parts_of}
 
 -- entries with their positions, rising
 abbrev pub Entries : Type 0
@@ -40,7 +40,7 @@ module _ (m : Meaning) where
   pub record View : Type 0 where
     pub bases : List Base  -- one for each hosted object
     pub states : List (Oid × m.state)
-    pub noted : List Noted  -- changes since the bases, the last one first
+    pub noted : List PartVersion  -- changes since the bases, the last one first
     pub upto : ℕ  -- entries below it are played
     pub fates : List (ℕ × Bool)  -- of commit records
     pub open_records : List ℕ  -- played records that need a decision record and had none, the last one first
@@ -146,8 +146,8 @@ module _ (m : Meaning) where
   fate_or_verdict v es p e None = verdict v es p e
   fate_or_verdict v es p e (Some b) = said b
 
-  unfoldable pub outcome : View → Entries → ℕ → Entry → Verdict
-  outcome v es p e = fate_or_verdict v es p e (fate_of v p)
+  unfoldable pub view_outcome : View → Entries → ℕ → Entry → Verdict
+  view_outcome v es p e = fate_or_verdict v es p e (fate_of v p)
 
   -- applying a record
 

@@ -29,7 +29,7 @@ use Rattle.tg_protocol.specs.Clients.{Client, new_client, upto}
 use Rattle.tg_protocol.specs.ClientSteps.{ClientTurn, client_command, client_deliver, client_tick}
 
 -- what a world notes of a client when it is given a command while none waits
-pub record Noted : Type 0 where
+pub record CommandStart : Type 0 where
   pub next : ℕ  -- its next request number: answers from there on are of this command
   pub epoch : ℕ
   pub upto : ℕ
@@ -38,7 +38,7 @@ module _ (m : Meaning) where
   -- a mark, with what was noted of its client
   pub record Told : Type 0 where
     pub mark : MarkOf m
-    pub noted : Noted
+    pub noted : CommandStart
 
   pub record World : Type 0 where
     pub cluster : Header
@@ -52,7 +52,7 @@ module _ (m : Meaning) where
     pub delivered : List ℕ  -- the last one first; a packet may be delivered again
     pub archive : Log  -- cells of the log that were trimmed
     pub told : List Told
-    pub noted : List Noted  -- by client
+    pub noted : List CommandStart  -- by client
     pub event : ℕ
     pub steps : ℕ
     pub bytes : ℕ  -- of all packets
@@ -71,7 +71,7 @@ module _ (m : Meaning) where
   abbrev pub client : World → ℕ → Client m
   client w n = slice_index_or w.clients n (new_client m w.cluster n)
 
-  abbrev pub noted_of : World → ℕ → Noted
+  abbrev pub noted_of : World → ℕ → CommandStart
   noted_of w n = slice_index_or w.noted n (record { next = 1; epoch = 1; upto = 0 })
 
   abbrev pub has_stopped : World → NodeId → Bool

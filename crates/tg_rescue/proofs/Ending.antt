@@ -10,7 +10,7 @@ use Rattle.tg_model.specs.declared.play.PlayEnd.{PlayEnd}
 use Rattle.tg_model.specs.declared.play.PlayEnd.TheVariants.{Played, Blocked}
 use Rattle.tg_protocol.specs.Entries.{is_commit}
 use Rattle.tg_protocol.specs.Views.{Entries, View, Play, On, Stuck, stands_at, step_at, between, play_on, play, view_start}
-use Rattle.tg_protocol.specs.Checkpoints.{Trims, view_bases}
+use Rattle.tg_protocol.specs.Checkpoints.{TrimPoints, view_bases}
 use Rattle.tg_protocol.specs.Past.{RescueTurn, commit_at, rescue_played, rescue_turn}
 use Rattle.tg_play.specs.Kept.{Kept}
 use Rattle.tg_play.specs.Relations.{KeepsView}
@@ -80,7 +80,7 @@ module _ (m : Meaning) where
 
   -- ---- a turn
 
-  pub turn_is : {E : Type 0} (r : Result declared.RescueTurn E) (c : Kept m.state) (came : PlayEnd) (es : Entries) (tail : ℕ) (gone : Trims) (oids objects : List Oid) (at upto : ℕ)
+  pub turn_is : {E : Type 0} (r : Result declared.RescueTurn E) (c : Kept m.state) (came : PlayEnd) (es : Entries) (tail : ℕ) (gone : TrimPoints) (oids objects : List Oid) (at upto : ℕ)
       → upto ≡ play_end at tail → all_below tail es ≡ true
       → KeepsView m c (play m (view_start m (view_bases m es gone objects oids)) es upto).view
       → came ≡ (play m (view_start m (view_bases m es gone objects oids)) es upto).came

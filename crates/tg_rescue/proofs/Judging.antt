@@ -8,7 +8,7 @@ use Rattle.tg_model.specs.declared.play.PlayEnd.{PlayEnd}
 use Rattle.tg_model.specs.declared.play.PlayEnd.TheVariants.{Played, Blocked}
 use Rattle.tg_protocol.specs.Words.{has_oid}
 use Rattle.tg_protocol.specs.Entries.{needs_decision}
-use Rattle.tg_protocol.specs.Views.{Entries, decision_in, Verdict, Commits, Aborts, Unknown, View, Play, outcome}
+use Rattle.tg_protocol.specs.Views.{Entries, decision_in, Verdict, Commits, Aborts, Unknown, View, Play, view_outcome}
 use Rattle.tg_protocol.specs.Past.{RescueTurn, Absent, StuckAt, commit_at, record_block, entry_block, block_in, known_by, at_record, grows, rescue_by, rescue_played}
 use Rattle.tg_rescue.specs.Answers.{stuck_or_absent, by_block, judged_by}
 
@@ -65,15 +65,15 @@ module _ (m : Meaning) where
   both_is v es oids at e Aborts = refl
   both_is v es oids at e (Unknown o) = refl
 
-  split_is : (v : View m) (es : Entries) (oids : List Oid) (at : ℕ) (e : Entry) (d : Verdict) → turn_by v es oids at (record_block m v es at d) (Some e) ≡ by_both v es oids at e (outcome m v es at e) d
+  split_is : (v : View m) (es : Entries) (oids : List Oid) (at : ℕ) (e : Entry) (d : Verdict) → turn_by v es oids at (record_block m v es at d) (Some e) ≡ by_both v es oids at e (view_outcome m v es at e) d
   split_is v es oids at e Commits = refl
   split_is v es oids at e Aborts = refl
   split_is v es oids at e (Unknown o) = refl
 
-  some_entry : (v : View m) (es : Entries) (oids : List Oid) (at : ℕ) (e : Entry) → by_entry v es oids at (Some e) ≡ judged_by m (outcome m v es at e) e oids at (needs_now es at e)
-  some_entry v es oids at e = split_is v es oids at e (outcome m v es at e) ∙ both_is v es oids at e (outcome m v es at e)
+  some_entry : (v : View m) (es : Entries) (oids : List Oid) (at : ℕ) (e : Entry) → by_entry v es oids at (Some e) ≡ judged_by m (view_outcome m v es at e) e oids at (needs_now es at e)
+  some_entry v es oids at e = split_is v es oids at e (view_outcome m v es at e) ∙ both_is v es oids at e (view_outcome m v es at e)
 
-  pub judged_turn : (p : Play m) (es : Entries) (oids : List Oid) (at upto : ℕ) (e : Entry) (needs : Bool) (d : Verdict) → Some e ≡ commit_at es at → p.came ≡ Played upto → d ≡ outcome m p.view es at e → needs ≡ needs_now es at e
+  pub judged_turn : (p : Play m) (es : Entries) (oids : List Oid) (at upto : ℕ) (e : Entry) (needs : Bool) (d : Verdict) → Some e ≡ commit_at es at → p.came ≡ Played upto → d ≡ view_outcome m p.view es at e → needs ≡ needs_now es at e
       → judged_by m d e oids at needs ≡ rescue_played m p es oids at
   judged_turn p es oids at upto e needs d is came told same =
       (λ i. judged_by m (told i) e oids at (same i))

@@ -4,7 +4,7 @@ use Rattle.tg_base.specs.declared.cell.Cell.{Cell}
 use Rattle.tg_base.specs.declared.cell.Cell.TheVariants.{Junk}
 use Rattle.tg_base.specs.declared.msg.Msg.{Msg}
 use Rattle.tg_protocol.specs.Words.{cell_at, cell_eq}
-use Rattle.tg_protocol.specs.Units.{UnitState, UnitTurn, UnitAsk, Reads, Stores, Fills, Looks, Seals, Trims, Nothing, unit_ask, unit_step, on_ask, on_read, on_same, on_store, on_has, on_seal, on_trim, in_epoch, not_gone, at_cell, first_missing, how_many}
+use Rattle.tg_protocol.specs.Units.{UnitState, UnitTurn, UnitAsk, Reads, Stores, Fills, Looks, Seals, TrimsBelow, Nothing, unit_ask, unit_step, on_ask, on_read, on_same, on_store, on_has, on_seal, on_trim, in_epoch, not_gone, at_cell, first_missing, how_many}
 use Rattle.tg_unit.specs.Lows.{low_asked}
 
 abbrev IsKept : UnitState → UnitTurn → Type 0
@@ -53,7 +53,7 @@ asked_low s (Fills e p) = at_kept s e p (on_store s p Junk (cell_at s.cells p)) 
 asked_low s (Looks e lo hi step) =
     epoch_kept (s.epoch == e) s (on_has s (first_missing s step (how_many lo hi step) lo)) (has_kept s (first_missing s step (how_many lo hi step) lo))
 asked_low s (Seals e) = seal_kept s e (nat_lt e s.epoch)
-asked_low s (Trims e b) = trim_low s b (s.epoch == e)
+asked_low s (TrimsBelow e b) = trim_low s b (s.epoch == e)
 asked_low s Nothing = refl
 
 pub low_is : (s : UnitState) (m : Msg) → (unit_step s m).now.low ≡ low_asked s (unit_ask m)

@@ -3,7 +3,7 @@
 ghost use Rattle.std.specs.Prelude.{◌≡◌, ◌+◌, ◌≤◌, ◌<◌, ◌==◌, ◌↔◌, max, Some, None, option_copied, IsNone, IsOk, IfOk, IfSome, MatchOption};
 ghost use Rattle.tg_protocol.specs.Words.{cell_at, cell_eq};
 ghost use Rattle.tg_protocol.specs.Logs.{positions};
-ghost use Rattle.tg_protocol.specs.Units.{new_unit, unit_step, unit_ask, on_ask, first_missing, how_many, Reads, Stores, Looks, Seals, Trims};
+ghost use Rattle.tg_protocol.specs.Units.{new_unit, unit_step, unit_ask, on_ask, first_missing, how_many, Reads, Stores, Looks, Seals, TrimsBelow};
 ghost use Rattle.tg_unit.specs.Lows.{low_asked};
 ghost use Rattle.tg_unit.specs.Missing.{missing_from, TakesNoMemory};
 ghost use Rattle.tg_unit.specs.Segments.{cells_below, IsBare, TellsSegment};
@@ -161,7 +161,7 @@ impl Unit {
     }
 
     fn low_trimmed(&self, epoch: Epoch, below: Pos) -> Pos
-        ensures { result ≡ low_asked self.now (Trims epoch below) }
+        ensures { result ≡ low_asked self.now (TrimsBelow epoch below) }
     {
         if self.serves(epoch) {
             return self.low.max(below);
@@ -259,8 +259,8 @@ impl Unit {
 
     #[tactic(auto, unfolding(tg_protocol::specs::Units::on_ask))]
     fn trim(mut self, epoch: Epoch, below: Pos) -> (Unit, Option<Msg>)
-        ensures now { result.0 ≡ (on_ask self (Trims epoch below)).now }
-        ensures says { result.1 ≡ (on_ask self (Trims epoch below)).says }
+        ensures now { result.0 ≡ (on_ask self (TrimsBelow epoch below)).now }
+        ensures says { result.1 ≡ (on_ask self (TrimsBelow epoch below)).says }
     {
         if !self.serves(epoch) {
             let epoch = self.epoch;

@@ -11,7 +11,7 @@ use Rattle.tg_base.specs.declared.ids.Oid.{Oid}
 use Rattle.tg_base.specs.declared.marks.Part.{Part}
 use Rattle.tg_base.specs.declared.marks.Part.TheVariants.{All, Text, Num}
 use Rattle.tg_protocol.specs.Words.{oid_eq, part_eq, is_whole, overlap}
-use Rattle.tg_protocol.specs.Versions.{Versions, Based, Noted, no_versions, based, key_version, version_in, base_version, noted_or, version_of, with_change, whole_noted, with_part, parts_noted, parts_based, base_parts, parts_of}
+use Rattle.tg_protocol.specs.Versions.{Versions, Based, PartVersion, no_versions, based, key_version, version_in, base_version, noted_or, version_of, with_change, whole_noted, with_part, parts_noted, parts_based, base_parts, parts_of}
 use Rattle.tg_vers.specs.Kept.{Kept, Objects, Keeps, unchanged, version_kept, parts_kept, kept_of, noted_in, noted, keys_kept, based_kept, base_kept, notes_kept}
 use Rattle.tg_vers.proofs.Lookups.{lookup_put, lookup_taken}
 use Rattle.tg_vers.proofs.Order.{part_total, part_eq_is}
@@ -222,11 +222,11 @@ same_start (Some b) o = subst (λ (t : Bool). Same (unwrap_or (cond t (Some (bas
 
 -- ---- all notes
 
-whole_more : (b : Option Based) (n : Noted) (ns : List Noted) (o : Oid) → whole_noted b (n ∷ ns) o ≡ cond (oid_eq n.oid o && is_whole n.part) n.version (whole_noted b ns o)
+whole_more : (b : Option Based) (n : PartVersion) (ns : List PartVersion) (o : Oid) → whole_noted b (n ∷ ns) o ≡ cond (oid_eq n.oid o && is_whole n.part) n.version (whole_noted b ns o)
 whole_more None n ns o = refl
 whole_more (Some b) n ns o = refl
 
-pub same_notes : (b : Option Based) (ns : List Noted) (o : Oid) → Same (kept_of (notes_kept b ns) o) (noted_or b ns o) (parts_noted ns o (base_parts b o)) (whole_noted b ns o)
+pub same_notes : (b : Option Based) (ns : List PartVersion) (o : Oid) → Same (kept_of (notes_kept b ns) o) (noted_or b ns o) (parts_noted ns o (base_parts b o)) (whole_noted b ns o)
 same_notes b [] o = same_start b o
 same_notes b (n ∷ ns) o =
     subst (λ (x : Kept). Same x (noted_or b (n ∷ ns) o) (parts_noted (n ∷ ns) o (base_parts b o)) (whole_noted b (n ∷ ns) o)) (sym (kept_noted (notes_kept b ns) n.oid n.part n.version o))

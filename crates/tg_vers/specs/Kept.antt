@@ -10,7 +10,7 @@ use Rattle.tg_base.specs.declared.marks.Part.{Part}
 use Rattle.tg_base.specs.declared.marks.Part.TheVariants.{All, Text, Num}
 use Rattle.tg_base.specs.declared.marks.ReadMark.{ReadMark}
 use Rattle.tg_protocol.specs.Words.{is_whole}
-use Rattle.tg_protocol.specs.Versions.{Versions, Based, Noted, Changed, Parts}
+use Rattle.tg_protocol.specs.Versions.{Versions, Based, PartVersion, Changed, Parts}
 
 -- the versions of one object's parts
 pub record Kept : Type 0 where
@@ -61,7 +61,7 @@ abbrev pub base_kept : Option Based → Objects
 base_kept None = []
 base_kept (Some b) = (b.oid, based_kept b.version b.whole b.keys) ∷ []
 
-abbrev pub notes_kept : Option Based → List Noted → Objects
+abbrev pub notes_kept : Option Based → List PartVersion → Objects
 notes_kept b [] = base_kept b
 notes_kept b (n ∷ ns) = noted (notes_kept b ns) n.oid n.part n.version
 

@@ -5,7 +5,7 @@ use Rattle.std.proofs.lemmas.Bool.Decides.{nat_tests}
 use Rattle.tg_base.specs.Clusters.{Header}
 use Rattle.tg_kind.specs.Meaning.{Meaning}
 use Rattle.tg_protocol.specs.Clients.{Client}
-use Rattle.tg_protocol.specs.Worlds.{Noted}
+use Rattle.tg_protocol.specs.Worlds.{CommandStart}
 use Rattle.tg_world_servers.specs.Servers.{ServersState}
 use Rattle.tg_client.specs.Kept.{Kept, KeepsClient}
 use Rattle.tg_world.specs.Clients.{KeepsClients}
@@ -58,7 +58,7 @@ set_back {X} xs ys zs n y h e f = f ∙ ap (λ (l : List X). insert l n y) e ∙
 
 -- a world stays whole as its servers take a step, and a client of the row too
 
-pub whole_next : {C T : Type 0} (s t : ServersState) (ks : List C) (ts : List T) (us ns : List Noted) → IsWhole s ks ts us ns → t.cluster ≡ s.cluster → t.steps ≡ s.steps + 1 → s.steps < 200000 → IsWhole t ks ts us ns
+pub whole_next : {C T : Type 0} (s t : ServersState) (ks : List C) (ts : List T) (us ns : List CommandStart) → IsWhole s ks ts us ns → t.cluster ≡ s.cluster → t.steps ≡ s.steps + 1 → s.steps < 200000 → IsWhole t ks ts us ns
 whole_next s t ks ts us ns h e f room =
     record {
       many = h.many ∙ sym (ap (λ (c : Header). c.clients) e);
@@ -67,7 +67,7 @@ whole_next s t ks ts us ns h e f room =
       few = omega (arith, f, room);
     }
 
-pub whole_turned : {C T : Type 0} (s t : ServersState) (ks ls : List C) (ts vs : List T) (us xs ns ms : List Noted) → IsWhole s ks ts us ns → t.cluster ≡ s.cluster → t.steps ≡ s.steps + 1 → s.steps < 200000 → length ls ≡ length ks → length ms ≡ length ns
+pub whole_turned : {C T : Type 0} (s t : ServersState) (ks ls : List C) (ts vs : List T) (us xs ns ms : List CommandStart) → IsWhole s ks ts us ns → t.cluster ≡ s.cluster → t.steps ≡ s.steps + 1 → s.steps < 200000 → length ls ≡ length ks → length ms ≡ length ns
     → length xs ≡ length vs → IsWhole t ls vs xs ms
 whole_turned s t ks ls ts vs us xs ns ms h e f room many each noted =
     record {

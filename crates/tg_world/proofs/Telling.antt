@@ -10,7 +10,7 @@ use Rattle.tg_protocol.specs.Words.{numbers, unit_id, layout_id, seqr_id, client
 use Rattle.tg_protocol.specs.Clients.{new_client}
 use Rattle.tg_protocol.specs.Logs.{Log, history_of}
 use Rattle.tg_protocol.specs.Worlds as world
-use Rattle.tg_protocol.specs.Worlds.{World, Noted, latest, log, history, limit_of, start}
+use Rattle.tg_protocol.specs.Worlds.{World, CommandStart, latest, log, history, limit_of, start}
 use Rattle.tg_world_servers.specs.Servers as servers
 use Rattle.tg_world_servers.specs.Servers.{servers_limit, servers_start}
 use Rattle.tg_world.specs.Clients.{KeepsClients}
@@ -60,12 +60,12 @@ module _ (m : Meaning) (k : KeptOf m) (w : World m) (h : KeepsWorld m k w) where
       lowest_told = lowest_of k.servers.post.waiting ∙ ap (λ (v : World m). world.lowest m v.waiting) h.same
 
   module _ (whole : IsWhole k.servers k.clients k.told k.told_noted k.noted) where
-    marks : (ts : List (MarkOf m)) (ns : List Noted) → length ns ≡ length ts → ts ≡ map (λ (t : world.Told m). t.mark) (told_all m ts ns)
+    marks : (ts : List (MarkOf m)) (ns : List CommandStart) → length ns ≡ length ts → ts ≡ map (λ (t : world.Told m). t.mark) (told_all m ts ns)
     marks [] ns e = refl
     marks (t ∷ ts) [] e = absurd (omega (arith, e))
     marks (t ∷ ts) (n ∷ ns) e = let f : length ns ≡ length ts = omega (arith, e) in λ i. t ∷ marks ts ns f i
 
-    notes : (ts : List (MarkOf m)) (ns : List Noted) → length ns ≡ length ts → ns ≡ map (λ (t : world.Told m). t.noted) (told_all m ts ns)
+    notes : (ts : List (MarkOf m)) (ns : List CommandStart) → length ns ≡ length ts → ns ≡ map (λ (t : world.Told m). t.noted) (told_all m ts ns)
     notes [] [] e = refl
     notes [] (n ∷ ns) e = absurd (omega (arith, e))
     notes (t ∷ ts) [] e = absurd (omega (arith, e))

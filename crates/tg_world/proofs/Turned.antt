@@ -9,7 +9,7 @@ use Rattle.tg_protocol.specs.Words.{client_id}
 use Rattle.tg_protocol.specs.Clients.{Client, new_client, upto}
 use Rattle.tg_protocol.specs.ClientSteps.{ClientTurn, client_command, client_deliver}
 use Rattle.tg_protocol.specs.Worlds as world
-use Rattle.tg_protocol.specs.Worlds.{World, Noted, client_turned}
+use Rattle.tg_protocol.specs.Worlds.{World, CommandStart, client_turned}
 use Rattle.tg_world_servers.specs.Servers as servers
 use Rattle.tg_world_servers.specs.Servers.{ServersState}
 use Rattle.tg_client.specs.Kept.{Kept as KeptClient, KeepsClient}
@@ -22,14 +22,14 @@ use Rattle.tg_world.proofs.Turns.{noted_in, turned_same}
 
 module _ (m : Meaning) where
   -- what a turn leaves of a world
-  abbrev pub after_turn : ℕ → ServersState → List (KeptClient m) → List (MarkOf m) → List Noted → List Noted → KeptOf m
+  abbrev pub after_turn : ℕ → ServersState → List (KeptClient m) → List (MarkOf m) → List CommandStart → List CommandStart → KeptOf m
   after_turn event s ks ts us ns = record { servers = s; clients = ks; told = ts; told_noted = us; noted = ns; event = event }
 
   -- the parts of a turn of a client, of which this is noted
   pub record Parts (k : KeptOf m) (cs : List (Client m)) (n : ℕ) (t : ClientTurn m) (l : KeptOf m) : Type 0 where
     pub outs : List Out
     pub notes : List (NoteOf m)
-    pub noted : Noted
+    pub noted : CommandStart
     pub sent : outs ≡ t.sends
     pub replied : notes ≡ t.notes
     pub servers : l.servers ≡ servers.counted (servers.sends k.servers (client_id n) outs)
@@ -55,13 +55,13 @@ module _ (m : Meaning) where
       told : told_all m l.told l.told_noted ≡ told_all m k.told k.told_noted ++ map (told_by m k.event n (noted_in m l.noted n)) t.notes
       told =
           p.told ∙ ap (λ (xs : List (NoteOf m)). told_all m k.told k.told_noted ++ map (told_by m k.event n p.noted) xs) p.replied
-          ∙ ap (λ (x : Noted). told_all m k.told k.told_noted ++ map (told_by m k.event n x) t.notes) p.is_noted
+          ∙ ap (λ (x : CommandStart). told_all m k.told k.told_noted ++ map (told_by m k.event n x) t.notes) p.is_noted
 
   -- one that notes nothing
   pub turned_alike : (k : KeptOf m) (w : World m) (n : ℕ) (t : ClientTurn m) (l : KeptOf m) → KeepsWorld m k w → Parts k w.clients n t l → l.noted ≡ k.noted
       → KeepsWorld m l (world.counted m (client_turned m w n t))
   turned_alike k w n t l h p e =
-      subst (λ (ns : List Noted). KeepsWorld m l (world.counted m (client_turned m (record w { noted = ns }) n t))) (e ∙ ap (λ (v : World m). v.noted) h.same) (turned_keeps k w n t l h p)
+      subst (λ (ns : List CommandStart). KeepsWorld m l (world.counted m (client_turned m (record w { noted = ns }) n t))) (e ∙ ap (λ (v : World m). v.noted) h.same) (turned_keeps k w n t l h p)
 
   -- a delivery
   pub handed_keeps : (k : KeptOf m) (w : World m) (i : ℕ) → KeepsWorld m k w → KeepsWorld m (record k { servers = servers.hands k.servers i }) (world.handed m w i)
@@ -83,7 +83,7 @@ module _ (m : Meaning) where
       → KeepsWorld m l (world.counted m (world.commands m true w n x))
   commanded_keeps k w n x l h q e =
       subst (λ (v : World m). KeepsWorld m l (world.counted m (client_turned m v n (client_command m (world.client m w n) x))))
-      (ap (λ (ns : List Noted). record w { noted = ns }) (e ∙ ap (λ (v : World m). noted_after m v.noted n (world.client m w n) (is_some (world.client m w n).work)) h.same)
+      (ap (λ (ns : List CommandStart). record w { noted = ns }) (e ∙ ap (λ (v : World m). noted_after m v.noted n (world.client m w n) (is_some (world.client m w n).work)) h.same)
       ∙ noted_by w n (world.client m w n) (is_some (world.client m w n).work))
       (turned_keeps k w n (client_command m (world.client m w n) x) l h q)
 
@@ -92,7 +92,7 @@ module _ (m : Meaning) where
   client_there k w n c h within e =
       subst (λ (x : KeptClient m). KeepsClient m x (world.client m w n)) (sym e) (keeps_read m k.clients w.clients n c (new_client m w.cluster n) within h.clients)
 
-  pub length_noted : (ns : List Noted) (n : ℕ) (c : Client m) (b : Bool) → length (noted_after m ns n c b) ≡ length ns
+  pub length_noted : (ns : List CommandStart) (n : ℕ) (c : Client m) (b : Bool) → length (noted_after m ns n c b) ≡ length ns
   length_noted ns n c true = refl
   length_noted ns n c false = length_set ns n (record { next = c.next; epoch = c.stand.epoch; upto = upto m c })
 

@@ -6,7 +6,7 @@ use Rattle.tg_protocol.specs.Words.{client_id}
 use Rattle.tg_protocol.specs.Clients.{Client}
 use Rattle.tg_protocol.specs.ClientSteps.{ClientTurn}
 use Rattle.tg_protocol.specs.Worlds as world
-use Rattle.tg_protocol.specs.Worlds.{World, Noted, client_turned}
+use Rattle.tg_protocol.specs.Worlds.{World, CommandStart, client_turned}
 use Rattle.tg_world_servers.specs.Servers as servers
 use Rattle.tg_world_servers.specs.Servers.{ServersState}
 use Rattle.tg_client.specs.Kept.{Kept as KeptClient}
@@ -14,11 +14,11 @@ use Rattle.tg_world.specs.Kept.{KeptOf, told_all, told_by, world_of}
 
 module _ (m : Meaning) where
   -- what is noted of a client
-  abbrev pub noted_in : List Noted → ℕ → Noted
+  abbrev pub noted_in : List CommandStart → ℕ → CommandStart
   noted_in ns n = slice_index_or ns n (record { next = 1; epoch = 1; upto = 0 })
 
   -- the world after a client's turn, and the step counted
-  pub turned_same : (k : KeptOf m) (cs : List (Client m)) (n : ℕ) (t : ClientTurn m) (ns : List Noted) (s : ServersState) (ks : List (KeptClient m)) (ts : List (MarkOf m)) (us : List Noted)
+  pub turned_same : (k : KeptOf m) (cs : List (Client m)) (n : ℕ) (t : ClientTurn m) (ns : List CommandStart) (s : ServersState) (ks : List (KeptClient m)) (ts : List (MarkOf m)) (us : List CommandStart)
       → s ≡ servers.counted (servers.sends k.servers (client_id n) t.sends)
       → told_all m ts us ≡ told_all m k.told k.told_noted ++ map (told_by m k.event n (noted_in ns n)) t.notes
       → world_of m (record { servers = s; clients = ks; told = ts; told_noted = us; noted = ns; event = k.event }) (slice_set cs n t.now)

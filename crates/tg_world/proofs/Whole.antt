@@ -9,7 +9,7 @@ use Rattle.tg_base.specs.declared.ids.Role.{Role}
 use Rattle.tg_base.specs.declared.ids.Role.TheVariants as role
 use Rattle.tg_kind.specs.Meaning.{Meaning}
 use Rattle.tg_protocol.specs.Words.{first_some, where_true}
-use Rattle.tg_protocol.specs.Worlds.{Noted}
+use Rattle.tg_protocol.specs.Worlds.{CommandStart}
 use Rattle.tg_world_servers.specs.Servers.{ServersState, servers_limit, servers_start, runs, count_of, has_stopped}
 use Rattle.tg_world.specs.Clients.{KeepsClients, AreClients}
 use Rattle.tg_world.specs.Kept.{KeptOf, IsWhole, IsWorld}
@@ -36,13 +36,13 @@ length_replicate zero x = refl
 length_replicate (suc n) x = let h : length (replicate n x) ≡ n = length_replicate n x in omega (arith, h)
 
 -- the first world
-pub whole_start : {C T : Type 0} (h : Header) (s : ServersState) (ks : List C) (ts : List T) (us ns : List Noted) → s ≡ servers_start h → length ks ≡ h.clients → ts ≡ [] → us ≡ []
+pub whole_start : {C T : Type 0} (h : Header) (s : ServersState) (ks : List C) (ts : List T) (us ns : List CommandStart) → s ≡ servers_start h → length ks ≡ h.clients → ts ≡ [] → us ≡ []
     → ns ≡ replicate h.clients (record { next = 1; epoch = 1; upto = 0 }) → IsWhole s ks ts us ns
 unfolding servers_start
 whole_start {C} {T} h s ks ts us ns e many t u n = record {
   many = many ∙ sym (ap (λ (x : ServersState). x.cluster.clients) e);
-  each_noted = ap (λ (l : List Noted). length l) n ∙ length_replicate h.clients (record { next = 1; epoch = 1; upto = 0 }) ∙ sym (ap (λ (x : ServersState). x.cluster.clients) e);
-  replies_noted = ap (λ (l : List Noted). length l) u ∙ sym (ap (λ (l : List T). length l) t);
+  each_noted = ap (λ (l : List CommandStart). length l) n ∙ length_replicate h.clients (record { next = 1; epoch = 1; upto = 0 }) ∙ sym (ap (λ (x : ServersState). x.cluster.clients) e);
+  replies_noted = ap (λ (l : List CommandStart). length l) u ∙ sym (ap (λ (l : List T). length l) t);
   few = subst (λ (k : ℕ). k ≤ 200000) (sym (ap (λ (x : ServersState). x.steps) e)) (omega arith);
 }
 
@@ -70,7 +70,7 @@ module _ (m : Meaning) where
       first_true true b e = refl
       first_true false b e = e
 
-pub noted_within : {C T : Type 0} (s : ServersState) (ks : List C) (ts : List T) (us ns : List Noted) (n : ℕ) → IsWhole s ks ts us ns → n < length ks → n < length ns
+pub noted_within : {C T : Type 0} (s : ServersState) (ks : List C) (ts : List T) (us ns : List CommandStart) (n : ℕ) → IsWhole s ks ts us ns → n < length ks → n < length ns
 noted_within s ks ts us ns n h within = let many : length ks ≡ s.cluster.clients = h.many in let each : length ns ≡ s.cluster.clients = h.each_noted in omega (arith, many, each, within)
 
 -- what follows of a value follows of a result

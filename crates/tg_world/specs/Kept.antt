@@ -14,12 +14,12 @@ pub record Kept (C T : Type 0) : Type 0 where
   pub servers : ServersState
   pub clients : List C
   pub told : List T
-  pub told_noted : List world.Noted  -- of each reply's client
-  pub noted : List world.Noted
+  pub told_noted : List world.CommandStart  -- of each reply's client
+  pub noted : List world.CommandStart
   pub event : ℕ
 
 -- each declared client stands in both rows, and each reply has what was noted of its client
-pub record IsWhole {C T : Type 0} (servers : ServersState) (clients : List C) (told : List T) (told_noted noted : List world.Noted) : Type 0 where
+pub record IsWhole {C T : Type 0} (servers : ServersState) (clients : List C) (told : List T) (told_noted noted : List world.CommandStart) : Type 0 where
   pub many : length clients ≡ servers.cluster.clients
   pub each_noted : length noted ≡ servers.cluster.clients
   pub replies_noted : length told_noted ≡ length told
@@ -30,13 +30,13 @@ module _ (m : Meaning) where
   KeptOf = Kept (KeptClient m) (MarkOf m)
 
   -- replies, each with what was noted of its client
-  abbrev pub told_all : List (MarkOf m) → List world.Noted → List (world.Told m)
+  abbrev pub told_all : List (MarkOf m) → List world.CommandStart → List (world.Told m)
   told_all [] ns = []
   told_all (t ∷ ts) [] = []
   told_all (t ∷ ts) (n ∷ ns) = record { mark = t; noted = n } ∷ told_all ts ns
 
   -- the replies that notes make, in an event and of a client of which this was noted
-  abbrev pub told_by : ℕ → ℕ → world.Noted → NoteOf m → world.Told m
+  abbrev pub told_by : ℕ → ℕ → world.CommandStart → NoteOf m → world.Told m
   told_by event k n x = record { mark = record { event = event; client = k; tx = x.tx; what = x.what }; noted = n }
 
   -- the world of the definitions with these clients

@@ -10,7 +10,7 @@ use Rattle.tg_model.specs.Kinds.{EventOf}
 use Rattle.tg_model.specs.declared.command.Command.TheVariants as cmd
 use Rattle.tg_model.specs.declared.command.Event.TheVariants as event
 use Rattle.tg_protocol.specs.Clients.{Client, upto}
-use Rattle.tg_protocol.specs.Worlds.{World, Noted, Ran, ran, happens, lowest, limit_of, unless_stopped}
+use Rattle.tg_protocol.specs.Worlds.{World, CommandStart, Ran, ran, happens, lowest, limit_of, unless_stopped}
 use Rattle.tg_world_servers.specs.Servers.{ServersState, runs}
 
 abbrev pub is_client : Role → Bool
@@ -39,7 +39,7 @@ module _ (m : Meaning) where
   end_of w = end_by (limit_of m w) (lowest m w.waiting)
 
   -- what is noted after a command to a client that may be busy
-  abbrev pub noted_after : List Noted → ℕ → Client m → Bool → List Noted
+  abbrev pub noted_after : List CommandStart → ℕ → Client m → Bool → List CommandStart
   noted_after ns n c true = ns
   noted_after ns n c false = slice_set ns n (record { next = c.next; epoch = c.stand.epoch; upto = upto m c })
 

@@ -11,5 +11,5 @@ mod world;
 pub use check::StepFault;
 pub use going::{happens, updates};
 pub use ran::{Ran, drain, settle};
-pub use told::Noted;
+pub use told::CommandStart;
 pub use world::World;

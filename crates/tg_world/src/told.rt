@@ -11,15 +11,15 @@ use tg_model::{Mark, MarkOf, Note, NoteOf};
 
 /// What a world notes of a client when it is given a command while none waits.
 #[derive(Clone, Copy, Debug)]
-pub struct Noted {
+pub struct CommandStart {
     /// Its next request number: answers from there on are of this command.
     pub next: u64,
     pub epoch: Epoch,
     pub upto: Pos,
 }
 
-impl Model for Noted {
-    ghost use Rattle.tg_protocol.specs.Worlds.{Noted as Seen};
+impl Model for CommandStart {
+    ghost use Rattle.tg_protocol.specs.Worlds.{CommandStart as Seen};
 
     ghost Value = { Seen };
 
@@ -32,10 +32,10 @@ impl Model for Noted {
 /// is want of memory; some of them may be there then.
 pub fn tell<K: Registry>(
     told: &mut Vec<MarkOf<K>>,
-    told_noted: &mut Vec<Noted>,
+    told_noted: &mut Vec<CommandStart>,
     event: u64,
     client: u16,
-    noted: Noted,
+    noted: CommandStart,
     notes: List<NoteOf<K>>,
 ) -> Result<(), NoMemory>
     requires { length told_noted.old.items ≡ length told.old.items }

@@ -15,7 +15,7 @@ ghost use Rattle.tg_protocol.specs.Clients as rules;
 ghost use Rattle.tg_base.specs.declared.ids.Role.TheVariants as role;
 
 use crate::clients::{command, deliver, new_clients, tick};
-use crate::told::{Noted, tell};
+use crate::told::{CommandStart, tell};
 use std::alloc::Global;
 use std::marker::Model;
 use tg_base::{Cell, Cluster, List, NoMemory, NodeId, Packet, Pos, Role, Which};
@@ -36,8 +36,8 @@ pub struct World<K: Registry> {
     servers: Servers,
     clients: Vec<Client<K>>,
     told: Vec<MarkOf<K>>,
-    told_noted: Vec<Noted>,
-    noted: Vec<Noted>,
+    told_noted: Vec<CommandStart>,
+    noted: Vec<CommandStart>,
     event: u64,
 }
 
@@ -128,7 +128,7 @@ impl<K: Registry> World<K> {
 
     /// What was noted of each reply's client. It takes no memory.
     #[tactic(auto, using(crate::proofs::Telling::noted_told))]
-    pub fn trace_noted(&self) -> &[Noted]
+    pub fn trace_noted(&self) -> &[CommandStart]
         ensures { (w : seen.World (meaning_of K.Registry)) → KeepsWorld (meaning_of K.Registry) self.now w → result.now ≡ map (λ t. t.noted) w.told }
     {
         self.told_noted.as_slice()
@@ -560,12 +560,12 @@ fn client_node(num: u16) -> NodeId
 }
 
 // Nothing is noted yet of so many clients.
-fn new_noted(alloc: Global, count: u16) -> Result<Vec<Noted>, NoMemory>
+fn new_noted(alloc: Global, count: u16) -> Result<Vec<CommandStart>, NoMemory>
     ensures { IfOk result (λ ns. ns.items ≡ replicate count (record { next = 1; epoch = 1; upto = 0 })) }
 {
     let mut noted = Vec::new(alloc);
     for _num in 0..count {
-        noted.push(Noted {
+        noted.push(CommandStart {
             next: 1,
             epoch: 1,
             upto: 0,
@@ -576,7 +576,7 @@ fn new_noted(alloc: Global, count: u16) -> Result<Vec<Noted>, NoMemory>
 
 // What is noted of a client when it is given a command while none waits.
 #[tactic(auto, using(crate::proofs::Moving::length_set))]
-fn note_client<K: Registry>(noted: &mut Vec<Noted>, client: &Client<K>, num: usize)
+fn note_client<K: Registry>(noted: &mut Vec<CommandStart>, client: &Client<K>, num: usize)
     requires { num < length noted.old.items }
     ensures many { length noted.new.items ≡ length noted.old.items }
     ensures now { (c : rules.Client (meaning_of K.Registry)) → KeepsClient (meaning_of K.Registry) client.now c → noted.new.items ≡ noted_after (meaning_of K.Registry) noted.old.items num c (is_some c.work) }
@@ -584,7 +584,7 @@ fn note_client<K: Registry>(noted: &mut Vec<Noted>, client: &Client<K>, num: usi
     if client.is_busy() {
         return;
     }
-    noted[num] = Noted {
+    noted[num] = CommandStart {
         next: client.next(),
         epoch: client.epoch(),
         upto: client.upto(),

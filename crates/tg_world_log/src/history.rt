@@ -5,7 +5,7 @@ ghost use Rattle.std.specs.List.{list_all};
 ghost use Rattle.tg_entry.specs.Answers.{Decodes};
 ghost use Rattle.tg_kind.specs.Of.{meaning_of};
 ghost use Rattle.tg_protocol.specs.Logs.{entry_in, is_current, change_of, with_changes, changes_after, ops_of, op_if, history_of};
-ghost use Rattle.tg_protocol.specs.Versions.{Noted};
+ghost use Rattle.tg_protocol.specs.Versions.{PartVersion};
 ghost use Rattle.tg_vers.specs.Kept.{Keeps};
 ghost use Rattle.tg_world_log.specs.Turns.{changed, changes_by, dones_by, dones_of};
 
@@ -46,8 +46,8 @@ fn turn<K: Registry>(
     pos: Pos,
     cell: &Cell,
 ) -> Result<Versions, NoMemory>
-    ensures kept { (ns : List Noted) → Keeps versions (changed ns) → IfOk result (λ v. Keeps v (changed (changes_by (meaning_of K.Registry) ns pos (entry_in cell.now)))) }
-    ensures done { (ns : List Noted) → Keeps versions (changed ns) → OnOk result (dones.new ≡ dones.old ++ dones_by (meaning_of K.Registry) ns pos (entry_in cell.now)) }
+    ensures kept { (ns : List PartVersion) → Keeps versions (changed ns) → IfOk result (λ v. Keeps v (changed (changes_by (meaning_of K.Registry) ns pos (entry_in cell.now)))) }
+    ensures done { (ns : List PartVersion) → Keeps versions (changed ns) → OnOk result (dones.new ≡ dones.old ++ dones_by (meaning_of K.Registry) ns pos (entry_in cell.now)) }
 {
     match entry_of(alloc, cell)? {
         None => Ok(versions),
@@ -78,8 +78,8 @@ fn entry_turn<K: Registry>(
     pos: Pos,
     entry: &Entry,
 ) -> Result<Versions, NoMemory>
-    ensures kept { (ns : List Noted) → Keeps versions (changed ns) → IfOk result (λ v. Keeps v (changed (changes_after (meaning_of K.Registry) ns pos entry.now))) }
-    ensures done { (ns : List Noted) → Keeps versions (changed ns) → OnOk result (dones.new ≡ dones.old ++ dones_of (meaning_of K.Registry) ns pos entry.now) }
+    ensures kept { (ns : List PartVersion) → Keeps versions (changed ns) → IfOk result (λ v. Keeps v (changed (changes_after (meaning_of K.Registry) ns pos entry.now))) }
+    ensures done { (ns : List PartVersion) → Keeps versions (changed ns) → OnOk result (dones.new ≡ dones.old ++ dones_of (meaning_of K.Registry) ns pos entry.now) }
 {
     match &entry.body {
         Body::Commit { reads, writes } => commit::<K>(
@@ -106,8 +106,8 @@ fn commit<K: Registry>(
     reads: &[ReadMark],
     writes: &[WriteOp],
 ) -> Result<Versions, NoMemory>
-    ensures kept { (ns : List Noted) → Keeps versions (changed ns) → IfOk result (λ v. Keeps v (changed (if list_all (is_current (meaning_of K.Registry) ns) reads.now then with_changes (meaning_of K.Registry) pos writes.now ns else ns))) }
-    ensures done { (ns : List Noted) → Keeps versions (changed ns) → OnOk result (dones.new ≡ dones.old ++ (if list_all (is_current (meaning_of K.Registry) ns) reads.now then record { stamp = pos; client = head.now.client; number = head.now.number; writes = ops_of (meaning_of K.Registry) writes.now } ∷ [] else [])) }
+    ensures kept { (ns : List PartVersion) → Keeps versions (changed ns) → IfOk result (λ v. Keeps v (changed (if list_all (is_current (meaning_of K.Registry) ns) reads.now then with_changes (meaning_of K.Registry) pos writes.now ns else ns))) }
+    ensures done { (ns : List PartVersion) → Keeps versions (changed ns) → OnOk result (dones.new ≡ dones.old ++ (if list_all (is_current (meaning_of K.Registry) ns) reads.now then record { stamp = pos; client = head.now.client; number = head.now.number; writes = ops_of (meaning_of K.Registry) writes.now } ∷ [] else [])) }
 {
     if !are_current::<K>(&versions, reads) {
         return Ok(versions);
@@ -119,7 +119,7 @@ fn commit<K: Registry>(
 
 // Whether each read has the version that its part has.
 fn are_current<K: Registry>(versions: &Versions, reads: &[ReadMark]) -> bool
-    ensures { (ns : List Noted) → Keeps versions.now (changed ns) → result ≡ list_all (is_current (meaning_of K.Registry) ns) reads.now }
+    ensures { (ns : List PartVersion) → Keeps versions.now (changed ns) → result ≡ list_all (is_current (meaning_of K.Registry) ns) reads.now }
 {
     match versions.same(reads) {
         None => true,
@@ -185,7 +185,7 @@ fn note_all<K: Registry>(
     pos: Pos,
     writes: &[WriteOp],
 ) -> Result<Versions, NoMemory>
-    ensures { (ns : List Noted) → Keeps versions (changed ns) → IfOk result (λ v. Keeps v (changed (with_changes (meaning_of K.Registry) pos writes.now ns))) }
+    ensures { (ns : List PartVersion) → Keeps versions (changed ns) → IfOk result (λ v. Keeps v (changed (with_changes (meaning_of K.Registry) pos writes.now ns))) }
 {
     match writes {
         [] => Ok(versions),
@@ -204,7 +204,7 @@ fn note<K: Registry>(
     pos: Pos,
     write: &WriteOp,
 ) -> Result<Versions, NoMemory>
-    ensures { (ns : List Noted) → Keeps versions (changed ns) → IfOk result (λ v. Keeps v (changed (change_of (meaning_of K.Registry) pos write.now ∷ ns))) }
+    ensures { (ns : List PartVersion) → Keeps versions (changed ns) → IfOk result (λ v. Keeps v (changed (change_of (meaning_of K.Registry) pos write.now ∷ ns))) }
 {
     if pos >= FAR {
         return Err(NoMemory);
