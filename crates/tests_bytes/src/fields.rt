@@ -1,10 +1,10 @@
-ghost use Rattle.tg_wire_format.specs.Short.{IsShortVote};
+ghost use Rattle.tg_wire.specs.Short.{IsShortVote};
 
 use std::alloc::Global;
 use std::test::Fail;
 use tg_base::{Ballot, Cell, List, NoMemory, Oid, Projection};
 use tg_codec::ReadFault;
-use tg_wire_fields::*;
+use tg_wire::*;
 
 // The layout of epoch 2: the units 2 and 5 are gone, the positions below 3 are held by the units 0 and 1, and
 // those from 3 on by unit 3 and unit 0 in turn.

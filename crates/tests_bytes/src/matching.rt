@@ -1,7 +1,7 @@
 use std::alloc::Global;
 use std::test::Fail;
 use tg_base::{NodeId, Role};
-use tg_live_match::Book;
+use tg_live::Book;
 
 fn unit(num: u16) -> NodeId {
     NodeId {

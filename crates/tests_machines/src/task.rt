@@ -1,7 +1,7 @@
 use std::alloc::Global;
 use std::test::Fail;
 use tg_base::{Msg, Role};
-use tg_client_work::*;
+use tg_client_state::*;
 
 // The servers that are asked, with the numbers of their requests.
 fn asked(alloc: Global, waits: &[(u16, u64)]) -> Result<Vec<(u16, u64)>, Fail> {

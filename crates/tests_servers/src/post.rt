@@ -1,7 +1,7 @@
 use std::alloc::Global;
 use std::test::Fail;
 use tg_base::{Blob, List, Msg, NoMemory, NodeId, Out, Packet, Role};
-use tg_world_packets::*;
+use tg_world_servers::*;
 
 const UNIT: NodeId = NodeId {
     role: Role::Unit,

@@ -7,13 +7,13 @@ use tg_base::{
 };
 use tg_ckpt::fresh_base;
 use tg_client_answers::walked;
-use tg_client_answers_past::{on_ask_at, on_rescue};
-use tg_client_answers_tx::{answer_of, on_ask, on_decide, on_end, on_fate};
-use tg_client_answers_upkeep::{on_checkpoint, on_forget, on_trim};
+use tg_client_answers::{on_ask_at, on_rescue};
+use tg_client_answers::{answer_of, on_ask, on_decide, on_end, on_fate};
+use tg_client_answers::{on_checkpoint, on_forget, on_trim};
 use tg_client_cells::{Known, StreamPositions};
-use tg_client_moves::learns;
+use tg_client_state::learns;
 use tg_client_state::{HeaderObjects, Moved, State};
-use tg_client_work::{Job, Paused, Purpose};
+use tg_client_state::{Job, Paused, Purpose};
 use tg_dir::{Directory, DirectoryAns, DirectoryAsk};
 use tg_entry::{Body, Entries, Entry, Head, WriteOp};
 use tg_kind::Kind;

@@ -6,7 +6,7 @@ use std::test::Fail;
 use tg_base::{Chain, Cluster, List, Oid, Projection, Range, Rids};
 use tg_client_cells::{Known, StreamPositions};
 use tg_client_state::{HeaderObjects, Moved, State};
-use tg_client_work::Job;
+use tg_client_state::Job;
 use tg_dir::Directory;
 use tg_kind::Kind;
 use tg_model::{Command, Refusal, What};

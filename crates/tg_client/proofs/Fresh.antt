@@ -11,7 +11,7 @@ use Rattle.tg_protocol.specs.Layouts.{first_layout}
 use Rattle.tg_protocol.specs.Words.{directory}
 use Rattle.tg_protocol.specs.Clients.{Work, new_client}
 use Rattle.tg_protocol.specs.ClientSteps.{client_asks}
-use Rattle.tg_client_work.specs.Tasks.{WorkOf, KeepsMaybe}
+use Rattle.tg_client_state.specs.Tasks.{WorkOf, KeepsMaybe}
 use Rattle.tg_client_state.specs.States.{StateOf, client_of}
 use Rattle.tg_client.specs.Kept.{KeepsClient}
 

@@ -18,9 +18,9 @@ use Rattle.tg_protocol.specs.Words.{first_some}
 use Rattle.tg_protocol.specs.Clients.{Client, Work, busy, refusal, tests}
 use Rattle.tg_protocol.specs.Answers.{Moved, moved, note}
 use Rattle.tg_protocol.specs.ClientSteps.{ClientTurn, client_asks, called, given, feed, refused_or, client_command, client_deliver, client_tick}
-use Rattle.tg_client_work.specs.Tasks.{WorkOf, KeepsMaybe}
+use Rattle.tg_client_state.specs.Tasks.{WorkOf, KeepsMaybe}
 use Rattle.tg_client_state.specs.States.{StateOf, MovedOf, KeepsClient, KeepsMoved}
-use Rattle.tg_client_commands.specs.Idle.{idle}
+use Rattle.tg_client.specs.Idle.{idle}
 use Rattle.tg_client.specs.Kept.{KeepsStep}
 
 module _ (m : Meaning) where

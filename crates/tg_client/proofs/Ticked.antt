@@ -11,16 +11,16 @@ use Rattle.tg_protocol.specs.Clients.{Client, Work, Task, Syncing, Walking, Appe
 use Rattle.tg_protocol.specs.ClientSteps.{asks_latest, hand_again_asks, task_awaited, tick_by, ClientTurn, client_asks, client_tick}
 use Rattle.tg_protocol.specs.Answers.{moved}
 use Rattle.tg_protocol.specs.Views.{View}
-use Rattle.tg_client_numbers.proofs.Steps.{more_drawn}
+use Rattle.tg_client_state.proofs.Steps.{more_drawn}
 use Rattle.tg_client_cells.specs.Known.{Knowledge}
-use Rattle.tg_client_work.specs.Tasks.{TaskOf, HandOf, WorkOf, told_task, KeepsHand, KeepsMaybe, IsFit, IsGivenFit}
-use Rattle.tg_client_work.specs.declared.task.Task.TheVariants as task
-use Rattle.tg_client_work.specs.declared.hand.Hand.TheVariants as hand
+use Rattle.tg_client_state.specs.Tasks.{TaskOf, HandOf, WorkOf, told_task, KeepsHand, KeepsMaybe, IsFit, IsGivenFit}
+use Rattle.tg_client_state.specs.declared.task.Task.TheVariants as task
+use Rattle.tg_client_state.specs.declared.hand.Hand.TheVariants as hand
 use Rattle.tg_client_state.specs.States.{StateOf, MovedOf, Rest, client_of, rest_of, are_drawn, AreDrawn, IsTaskFit, IsClientFit, IsFitIf, KeepsClient, KeepsMoved}
-use Rattle.tg_client_moves.specs.Moves.{IsKept}
-use Rattle.tg_client_commands.specs.Idle.{idle}
+use Rattle.tg_client_state.specs.Moves.{IsKept}
+use Rattle.tg_client.specs.Idle.{idle}
 use Rattle.tg_client.specs.Kept.{Draws, KeepsStep}
-use Rattle.tg_client_commands.proofs.Said.{is_idle}
+use Rattle.tg_client.proofs.Said.{is_idle}
 
 module _ (m : Meaning) where
   -- What a machine in hand keeps.

@@ -7,10 +7,10 @@ use Rattle.tg_protocol.specs.Requests.{waits_for}
 use Rattle.tg_protocol.specs.Words.{numbers}
 use Rattle.tg_protocol.specs.Clients as told
 use Rattle.tg_protocol.specs.ClientSteps.{ClientTurn, asks_latest, hand_again_asks}
-use Rattle.tg_client_work.specs.Tasks.{WorkOf, KeepsHand}
+use Rattle.tg_client_state.specs.Tasks.{WorkOf, KeepsHand}
 use Rattle.tg_client_state.specs.States.{MovedOf}
 use Rattle.tg_client_state.specs.States as states
-use Rattle.tg_client_moves.specs.Moves.{IsKept}
+use Rattle.tg_client_state.specs.Moves.{IsKept}
 use Rattle.tg_client.specs.declared.client.Client.{Client}
 
 module _ (m : Meaning) where

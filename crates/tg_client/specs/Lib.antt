@@ -1,1 +1,5 @@
 pub mod Kept
+pub mod Shown
+pub mod Idle
+pub mod Tests
+pub mod Feeding

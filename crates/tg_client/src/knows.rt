@@ -4,11 +4,11 @@ ghost use Rattle.std.specs.Prelude.{◌≡◌, Option, option_copied};
 ghost use Rattle.tg_kind.specs.Of.{meaning_of};
 ghost use Rattle.tg_protocol.specs.Clients as told;
 ghost use Rattle.tg_protocol.specs.Words.{cell_at};
-ghost use Rattle.tg_client_work.specs.Tasks.{told_task, GoesOn, KeepsHand, KeepsMaybe};
+ghost use Rattle.tg_client_state.specs.Tasks.{told_task, GoesOn, KeepsHand, KeepsMaybe};
 
 use tg_base::{Cell, Pos};
 use tg_client_cells::Known;
-use tg_client_work::{Hand, Paused, Task, Work};
+use tg_client_state::{Hand, Paused, Task, Work};
 use tg_kind::Registry;
 
 /// The cell at a position that is known while this command waits, if one does. It takes no memory.

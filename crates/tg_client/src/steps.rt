@@ -7,17 +7,17 @@ ghost use Rattle.tg_protocol.specs.Clients as told;
 ghost use Rattle.tg_protocol.specs.ClientSteps.{refused_or, client_command, client_deliver};
 ghost use Rattle.tg_protocol.specs.Views.{View};
 ghost use Rattle.tg_client_state.specs.States.{KeepsViewIf, KeepsClient, KeepsMoved};
-ghost use Rattle.tg_client_moves.specs.Moves.{IsKept};
-ghost use Rattle.tg_client_commands.specs.Idle.{idle};
+ghost use Rattle.tg_client_state.specs.Moves.{IsKept};
+ghost use Rattle.tg_client.specs.Idle.{idle};
 ghost use Rattle.tg_client.specs.Kept.{KeepsStep};
 
 use crate::counting::given;
 use std::alloc::Global;
 use tg_base::{List, Msg, NoMemory, NodeId};
-use tg_client_commands::{accepts, refusal, refuses, says};
-use tg_client_messages::deliver;
+use crate::{accepts, refusal, refuses, says};
+use crate::deliver;
 use tg_client_state::{Moved, State, one_note};
-use tg_client_work::Work;
+use tg_client_state::Work;
 use tg_kind::Registry;
 use tg_model::{CommandOf, Refusal, What};
 

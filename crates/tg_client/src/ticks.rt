@@ -6,17 +6,17 @@ ghost use Rattle.tg_protocol.specs.Clients as told;
 ghost use Rattle.tg_protocol.specs.ClientSteps.{asks_latest, hand_again_asks, client_tick};
 ghost use Rattle.tg_protocol.specs.Requests.{waits_for};
 ghost use Rattle.tg_protocol.specs.Words.{numbers};
-ghost use Rattle.tg_client_work.specs.Tasks.{KeepsHand, IsGivenFit};
+ghost use Rattle.tg_client_state.specs.Tasks.{KeepsHand, IsGivenFit};
 ghost use Rattle.tg_client_state.specs.States.{KeepsClient};
-ghost use Rattle.tg_client_moves.specs.Moves.{IsKept};
+ghost use Rattle.tg_client_state.specs.Moves.{IsKept};
 ghost use Rattle.tg_client.specs.Kept.{Draws, KeepsStep};
 
 use std::alloc::Global;
 use tg_asking::{ask_alike, ask_servers};
 use tg_base::{List, Msg, NoMemory, Out, Rids, Role};
-use tg_client_commands::{next_count, says};
+use crate::{next_count, says};
 use tg_client_state::{Moved, State};
-use tg_client_work::{Hand, Work};
+use tg_client_state::{Hand, Work};
 use tg_kind::Registry;
 
 /// Request numbers from here on aren't drawn.

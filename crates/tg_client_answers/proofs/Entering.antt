@@ -8,7 +8,7 @@ use Rattle.tg_protocol.specs.Answers.{plays_own}
 use Rattle.tg_client_cells.specs.Known.{all_entries, new_entries, CommitsBelow}
 use Rattle.tg_client_cells.proofs.Ruled.{as_ruled}
 use Rattle.tg_client_cells.proofs.Played.{new_played}
-use Rattle.tg_client_work.specs.Tasks.{JobOf, KeepsJob, work_of}
+use Rattle.tg_client_state.specs.Tasks.{JobOf, KeepsJob, work_of}
 use Rattle.tg_client_state.specs.States.{StateOf, Rest, client_of}
 use Rattle.tg_client_answers.specs.Playing.{goes_by_new, plays_from, Suffice}
 use Rattle.tg_client_answers.proofs.Sufficing.{plays_same}

@@ -1,3 +1,8 @@
 pub mod Sufficing
 pub mod Entering
 pub mod Telling
+pub mod TellingTx
+pub mod Trimming
+pub mod Marked
+pub mod Moving
+pub mod TellingPast

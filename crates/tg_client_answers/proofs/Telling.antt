@@ -10,9 +10,9 @@ use Rattle.tg_model.specs.declared.play.PlayEnd.{PlayEnd}
 use Rattle.tg_protocol.specs.Views.{Entries, Play}
 use Rattle.tg_protocol.specs.Clients.{Client, Work, all_entries}
 use Rattle.tg_protocol.specs.Answers.{Moved, replies, answer_by, play_target, played_on, plays_own, walked_for, walked}
-use Rattle.tg_client_work.specs.Tasks.{JobOf, KeepsJob}
+use Rattle.tg_client_state.specs.Tasks.{JobOf, KeepsJob}
 use Rattle.tg_client_state.specs.States.{StateOf, MovedOf, Rest, client_of, KeepsMoved}
-use Rattle.tg_client_answers_tx.specs.Fates.{Moves}
+use Rattle.tg_client_answers.specs.Fates.{Moves}
 use Rattle.tg_client_answers.specs.Playing.{Suffice, own_play, HasPlayed}
 
 module _ (m : Meaning) where

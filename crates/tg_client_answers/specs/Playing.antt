@@ -8,7 +8,7 @@ use Rattle.tg_model.specs.declared.play.PlayEnd.{PlayEnd}
 use Rattle.tg_protocol.specs.Views.{Entries, View, Play, play}
 use Rattle.tg_protocol.specs.Clients.{Client, Work, all_entries}
 use Rattle.tg_protocol.specs.Answers.{Moved, own_view, plays_own}
-use Rattle.tg_client_work.specs.Tasks.{JobOf, KeepsJob}
+use Rattle.tg_client_state.specs.Tasks.{JobOf, KeepsJob}
 use Rattle.tg_client_state.specs.States.{StateOf, MovedOf, Rest, client_of, KeepsViewIf, KeepsMoved}
 
 module _ (m : Meaning) where

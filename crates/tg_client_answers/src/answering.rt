@@ -3,14 +3,14 @@
 ghost use Rattle.tg_kind.specs.Of.{meaning_of};
 ghost use Rattle.tg_protocol.specs.Answers as told;
 ghost use Rattle.tg_protocol.specs.Views as views;
-ghost use Rattle.tg_client_answers_tx.specs.Fates.{Moves};
+ghost use Rattle.tg_client_answers.specs.Fates.{Moves};
 
 use std::alloc::Global;
 use tg_base::{List, NoMemory};
-use tg_client_answers_tx::{on_ask, on_decide, on_end, on_fate};
-use tg_client_answers_upkeep::{on_checkpoint, on_forget, on_trim};
+use crate::{on_ask, on_decide, on_end, on_fate};
+use crate::{on_checkpoint, on_forget, on_trim};
 use tg_client_state::{Moved, State};
-use tg_client_work::Job;
+use tg_client_state::Job;
 use tg_entry::Entries;
 use tg_kind::Registry;
 use tg_model::{Command, PlayEnd};

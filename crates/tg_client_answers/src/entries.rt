@@ -6,13 +6,13 @@ ghost use Rattle.tg_protocol.specs.Clients as clients;
 ghost use Rattle.tg_protocol.specs.Views as views;
 ghost use Rattle.tg_ckpt.specs.Saving.{AreSpelled};
 ghost use Rattle.tg_client_state.specs.States.{Rest, client_of, KeepsViewIf};
-ghost use Rattle.tg_client_work.specs.Tasks.{KeepsJob};
+ghost use Rattle.tg_client_state.specs.Tasks.{KeepsJob};
 ghost use Rattle.tg_client_answers.specs.Playing.{goes_by_new, plays_from, Suffice};
 
 use std::alloc::Global;
 use tg_base::{NoMemory, Pos};
 use tg_client_state::State;
-use tg_client_work::Job;
+use tg_client_state::Job;
 use tg_entry::Entries;
 use tg_kind::Registry;
 use tg_model::{Command, CommandOf};

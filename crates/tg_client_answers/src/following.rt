@@ -5,7 +5,7 @@ ghost use Rattle.tg_kind.specs.Of.{meaning_of};
 ghost use Rattle.tg_protocol.specs.Answers as told;
 ghost use Rattle.tg_protocol.specs.Clients as clients;
 ghost use Rattle.tg_client_state.specs.States.{Rest, client_of, KeepsViewIf, KeepsMoved};
-ghost use Rattle.tg_client_work.specs.Tasks.{KeepsJob};
+ghost use Rattle.tg_client_state.specs.Tasks.{KeepsJob};
 ghost use Rattle.tg_client_answers.specs.Playing.{Follows};
 
 use crate::answering::answered;
@@ -13,9 +13,9 @@ use crate::entries::entries_of;
 use crate::playing::played;
 use std::alloc::Global;
 use tg_base::{NoMemory, Pos};
-use tg_client_answers_past::{on_ask_at, on_rescue};
+use crate::{on_ask_at, on_rescue};
 use tg_client_state::{Moved, State};
-use tg_client_work::Job;
+use tg_client_state::Job;
 use tg_kind::{Kind, Registry};
 use tg_model::{Command, CommandOf};
 

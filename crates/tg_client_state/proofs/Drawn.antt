@@ -16,7 +16,7 @@ use Rattle.tg_protocol.specs.Trimming.{trim_asks, trim_start}
 use Rattle.tg_append.specs.Appends.{asking}
 use Rattle.tg_append.specs.Syncs.{checking}
 use Rattle.tg_append.proofs.Outs.{token_drawn, check_drawn}
-use Rattle.tg_client_numbers.proofs.Trims.{trim_numbers}
+use Rattle.tg_client_state.proofs.Trims.{trim_numbers}
 
 -- one, where one was
 pub one_drawn : (to : NodeId) (n : ℕ) (m : Msg) → drawn_from n (out to n m ∷ []) ≡ out to n m ∷ []

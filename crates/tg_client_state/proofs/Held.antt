@@ -10,9 +10,9 @@ use Rattle.tg_protocol.specs.Requests.{drawn_from}
 use Rattle.tg_protocol.specs.Clients as told
 use Rattle.tg_protocol.specs.ClientSteps.{client_asks, task_asks}
 use Rattle.tg_protocol.specs.Answers.{holds}
-use Rattle.tg_client_numbers.specs.Numbers.{all_from}
-use Rattle.tg_client_work.specs.Tasks.{TaskOf, JobOf, told_task, work_of, KeepsJob}
-use Rattle.tg_client_work.specs.declared.hand.Hand.TheVariants.{Doing}
+use Rattle.tg_client_state.specs.Numbers.{all_from}
+use Rattle.tg_client_state.specs.Tasks.{TaskOf, JobOf, told_task, work_of, KeepsJob}
+use Rattle.tg_client_state.specs.declared.hand.Hand.TheVariants.{Doing}
 use Rattle.tg_client_state.specs.declared.begin.Begun.{Begun}
 use Rattle.tg_client_state.specs.States.{StateOf, Rest, client_of, KeepsViewIf, KeepsMoved, IsBegun}
 use Rattle.tg_client_state.proofs.Headers.{first_true, rest_true}

@@ -6,3 +6,16 @@ pub mod Held
 pub mod Replied
 pub mod Starting
 pub mod Taken
+pub mod Waiting
+pub mod Turning
+pub mod Steps
+pub mod Cells
+pub mod Appends
+pub mod Syncs
+pub mod Walks
+pub mod Copies
+pub mod Trims
+pub mod Reconfs
+pub mod Grows
+pub mod Nears
+pub mod Stays

@@ -17,15 +17,15 @@ use Rattle.tg_protocol.specs.ClientSteps.{task_asks}
 use Rattle.tg_protocol.specs.Answers.{Moved, holds, append_begun, appends, sync_begun, syncs, trim_begun, trims_if}
 use Rattle.tg_append.specs.SyncLaws.{answer_in}
 use Rattle.tg_client_cells.specs.Known.{Knowledge}
-use Rattle.tg_client_numbers.specs.Numbers.{BeginsNumbers}
-use Rattle.tg_client_numbers.specs.Near.{AppendThenNear, SyncThenNear, NearAnswer, NearToken}
-use Rattle.tg_client_numbers.proofs.Appends.{append_numbers}
-use Rattle.tg_client_numbers.proofs.Syncs.{sync_numbers}
-use Rattle.tg_client_numbers.proofs.Trims.{trim_numbers}
-use Rattle.tg_client_numbers.proofs.Nears.{append_stays_near, sync_stays_near}
-use Rattle.tg_client_work.specs.Tasks as tasks
-use Rattle.tg_client_work.specs.Tasks.{PurposeOf, JobOf, KeepsJob}
-use Rattle.tg_client_work.specs.declared.task.Task.TheVariants as task
+use Rattle.tg_client_state.specs.Numbers.{BeginsNumbers}
+use Rattle.tg_client_state.specs.Near.{AppendThenNear, SyncThenNear, NearAnswer, NearToken}
+use Rattle.tg_client_state.proofs.Appends.{append_numbers}
+use Rattle.tg_client_state.proofs.Syncs.{sync_numbers}
+use Rattle.tg_client_state.proofs.Trims.{trim_numbers}
+use Rattle.tg_client_state.proofs.Nears.{append_stays_near, sync_stays_near}
+use Rattle.tg_client_state.specs.Tasks as tasks
+use Rattle.tg_client_state.specs.Tasks.{PurposeOf, JobOf, KeepsJob}
+use Rattle.tg_client_state.specs.declared.task.Task.TheVariants as task
 use Rattle.tg_client_state.specs.States.{IsBegun}
 
 module _ (m : Meaning) where

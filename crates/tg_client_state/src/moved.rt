@@ -2,7 +2,7 @@
 
 use crate::state::State;
 use tg_base::{List, Out};
-use tg_client_work::Work;
+use crate::Work;
 use tg_kind::Registry;
 use tg_model::NoteOf;
 

@@ -4,7 +4,7 @@ ghost use Rattle.std.specs.Prelude.{◌≡◌, ◌≤◌, ◌==◌, ℕ, false, 
 ghost use Rattle.tg_kind.specs.Of.{meaning_of};
 ghost use Rattle.tg_protocol.specs.Answers as told;
 ghost use Rattle.tg_protocol.specs.Clients as rules;
-ghost use Rattle.tg_client_work.specs.Tasks.{told_purpose, told_task, KeepsJob};
+ghost use Rattle.tg_client_state.specs.Tasks.{told_purpose, told_task, KeepsJob};
 ghost use Rattle.tg_client_state.specs.States.{Rest, client_of, KeepsViewIf, KeepsMoved, IsBegun};
 
 use crate::begin::Begun;
@@ -13,7 +13,7 @@ use crate::state::State;
 use std::alloc::Global;
 use tg_base::{List, NoMemory, Oid, Pos};
 use tg_client_cells::StreamPositions;
-use tg_client_work::{Hand, Job, Purpose, Task, Work};
+use crate::{Hand, Job, Purpose, Task, Work};
 use tg_entry::{Draft, Entry};
 use tg_kind::Registry;
 use tg_model::{NoteOf, What};

@@ -16,14 +16,14 @@ use Rattle.tg_append.specs.declared.ends.Confirmed.{Confirmed as GivenEnd}
 use Rattle.tg_append.specs.Turns.{given_to}
 use Rattle.tg_append.specs.SyncLaws.{answer_in}
 use Rattle.tg_append.specs.Syncs.{oids_of, confirmed_of}
-use Rattle.tg_client_numbers.specs.Numbers.{ThenDrawn}
-use Rattle.tg_client_numbers.specs.Near.{SyncThenNear}
-use Rattle.tg_client_work.specs.Tasks.{JobOf}
-use Rattle.tg_client_work.specs.declared.paused.Paused.TheVariants as left
+use Rattle.tg_client_state.specs.Numbers.{ThenDrawn}
+use Rattle.tg_client_state.specs.Near.{SyncThenNear}
+use Rattle.tg_client_state.specs.Tasks.{JobOf}
+use Rattle.tg_client_state.specs.declared.paused.Paused.TheVariants as left
 use Rattle.tg_client_state.specs.States.{StateOf, Rest, client_of}
-use Rattle.tg_client_moves.specs.Moves.{Holds, Carries, Leaves}
-use Rattle.tg_client_moves.proofs.Turning.{ThenSent, then_sent, on_case, paused_case, over_case}
-use Rattle.tg_client_moves.proofs.Waiting.{met_holds, near_answer}
+use Rattle.tg_client_state.specs.Moves.{Holds, Carries, Leaves}
+use Rattle.tg_client_state.proofs.Turning.{ThenSent, then_sent, on_case, paused_case, over_case}
+use Rattle.tg_client_state.proofs.Waiting.{met_holds, near_answer}
 use Rattle.tg_client_sync.specs.Syncs.{SyncShown}
 
 module _ (m : Meaning) where

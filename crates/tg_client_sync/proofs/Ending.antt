@@ -16,9 +16,9 @@ use Rattle.tg_stream.specs.Walks.{members_of}
 use Rattle.tg_client_cells.specs.Words.{ByStream, entries_at}
 use Rattle.tg_client_cells.specs.Known.{returned}
 use Rattle.tg_client_cells.proofs.Ruled.{as_ruled}
-use Rattle.tg_client_work.specs.Tasks.{JobOf, KeepsJob}
+use Rattle.tg_client_state.specs.Tasks.{JobOf, KeepsJob}
 use Rattle.tg_client_state.specs.States.{StateOf, Rest, client_of, KeepsViewIf}
-use Rattle.tg_client_moves.specs.Moves.{Holds}
+use Rattle.tg_client_state.specs.Moves.{Holds}
 use Rattle.tg_client_sync.specs.Syncs.{knowing}
 use Rattle.tg_client_sync.specs.Finding.{found_in}
 use Rattle.tg_client_sync.proofs.Founds.{found_job}

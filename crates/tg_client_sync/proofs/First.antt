@@ -25,13 +25,13 @@ use Rattle.tg_client_cells.specs.Walks.{ThenSettled, ThenInOrder}
 use Rattle.tg_client_cells.proofs.Keeping.{keeps_settled}
 use Rattle.tg_client_cells.proofs.Ordered.{finds_in_order}
 use Rattle.tg_append.specs.Turns.{after as after-outs}
-use Rattle.tg_client_numbers.specs.Numbers.{ThenDrawn, ThenNew}
-use Rattle.tg_client_numbers.proofs.Walks.{walk_numbers}
-use Rattle.tg_client_work.specs.Tasks.{JobOf, KeepsJob}
+use Rattle.tg_client_state.specs.Numbers.{ThenDrawn, ThenNew}
+use Rattle.tg_client_state.proofs.Walks.{walk_numbers}
+use Rattle.tg_client_state.specs.Tasks.{JobOf, KeepsJob}
 use Rattle.tg_client_state.specs.States.{StateOf, Rest, client_of, KeepsViewIf}
-use Rattle.tg_client_moves.specs.Moves.{Holds, Carries}
-use Rattle.tg_client_moves.specs.Steps.{Fits}
-use Rattle.tg_client_moves.proofs.Turning.{ThenSent, fits_later}
+use Rattle.tg_client_state.specs.Moves.{Holds, Carries}
+use Rattle.tg_client_state.specs.Steps.{Fits}
+use Rattle.tg_client_state.proofs.Turning.{ThenSent, fits_later}
 use Rattle.tg_client_sync.specs.Finding.{found_in, first_and_others}
 use Rattle.tg_client_sync.proofs.Strides.{on_case, paused_case, over_case, new_sent}
 use Rattle.tg_client_sync.proofs.Founds.{starts_not, starts_alone, found_job, first_goes, first_ends}

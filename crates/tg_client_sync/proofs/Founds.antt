@@ -13,7 +13,7 @@ use Rattle.tg_protocol.specs.Clients as told
 use Rattle.tg_protocol.specs.ClientSteps.{takes_back, trims_with, found_by, lends, after_turn, goes_on, start_walk, walks}
 use Rattle.tg_stream.proofs.Visits.{on-none, on-known, on-unknown, on-zero}
 use Rattle.tg_client_cells.proofs.Ruled.{as_ruled}
-use Rattle.tg_client_work.specs.Tasks.{JobOf, work_of, KeepsJob}
+use Rattle.tg_client_state.specs.Tasks.{JobOf, work_of, KeepsJob}
 use Rattle.tg_client_sync.specs.Finding.{trims_after, found_in}
 
 -- A walk that begins over known cells has no newer layout to learn.

@@ -17,14 +17,14 @@ use Rattle.tg_stream.specs.Turns.{On, Paused as Waits, Over, given_to, ruled_to,
 use Rattle.tg_stream.specs.Walks.{Course, course_of, members_of}
 use Rattle.tg_client_cells.specs.Walks.{ThenSettled, ThenInOrder}
 use Rattle.tg_append.specs.Turns.{after as after-outs}
-use Rattle.tg_client_numbers.specs.Numbers.{ThenDrawn, ThenNew}
-use Rattle.tg_client_work.specs.Tasks.{JobOf}
-use Rattle.tg_client_work.specs.declared.paused.Paused.TheVariants as left
+use Rattle.tg_client_state.specs.Numbers.{ThenDrawn, ThenNew}
+use Rattle.tg_client_state.specs.Tasks.{JobOf}
+use Rattle.tg_client_state.specs.declared.paused.Paused.TheVariants as left
 use Rattle.tg_client_state.specs.States.{StateOf, Rest, client_of}
-use Rattle.tg_client_moves.specs.Moves.{Holds, Carries, Leaves}
-use Rattle.tg_client_moves.specs.Steps.{ThenAlike}
-use Rattle.tg_client_moves.proofs.Turning.{ThenSent}
-use Rattle.tg_client_moves.proofs.Waiting.{met_holds}
+use Rattle.tg_client_state.specs.Moves.{Holds, Carries, Leaves}
+use Rattle.tg_client_state.specs.Steps.{ThenAlike}
+use Rattle.tg_client_state.proofs.Turning.{ThenSent}
+use Rattle.tg_client_state.proofs.Waiting.{met_holds}
 use Rattle.tg_client_sync.specs.Walks.{WalkShown}
 
 -- By what a call shows of it.

@@ -3,7 +3,7 @@ use Rattle.std.specs.Prelude.{ℕ, List, [], ◌∷◌, ◌++◌, Option, Some, 
 use Rattle.tg_base.specs.declared.ids.Oid.{Oid}
 use Rattle.tg_kind.specs.Meaning.{Meaning}
 use Rattle.tg_client_cells.specs.Words.{with_positions}
-use Rattle.tg_client_work.specs.Tasks.{JobOf}
+use Rattle.tg_client_state.specs.Tasks.{JobOf}
 
 abbrev pub trims_after : List (Oid × ℕ) → Oid → Option ℕ → List (Oid × ℕ)
 trims_after ts o None = ts

@@ -9,8 +9,8 @@ use Rattle.tg_append.specs.declared.ends.Confirmed.{Confirmed as Given}
 use Rattle.tg_append.specs.Turns.{shown}
 use Rattle.tg_append.specs.Syncs.{confirmed_of, by_sync}
 use Rattle.tg_client_cells.specs.Known.{Knowledge, learnt}
-use Rattle.tg_client_numbers.specs.Near.{SyncThenNear}
-use Rattle.tg_client_moves.specs.Steps.{Fits}
+use Rattle.tg_client_state.specs.Near.{SyncThenNear}
+use Rattle.tg_client_state.specs.Steps.{Fits}
 
 abbrev pub knowing : Knowledge → Option (ℕ × Cell) → Knowledge
 knowing k None = k

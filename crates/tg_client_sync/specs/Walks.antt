@@ -9,7 +9,7 @@ use Rattle.tg_stream.specs.Turns.{shown, by_walk}
 use Rattle.tg_stream.specs.Walks.{Course}
 use Rattle.tg_client_cells.specs.Known.{Knowledge, IsSettled}
 use Rattle.tg_client_cells.specs.Walks.{InOrder, ThenSettled, ThenInOrder}
-use Rattle.tg_client_moves.specs.Steps.{Fits}
+use Rattle.tg_client_state.specs.Steps.{Fits}
 
 -- a walk that has ended gives settled cells back, and members that rise
 abbrev pub IsStepFit : Knowledge → Given Walk Course Found → Type 0

@@ -10,7 +10,7 @@ use std::mem;
 use tg_base::{List, NoMemory, Oid, Pos};
 use tg_client_cells::StreamPositions;
 use tg_client_state::State;
-use tg_client_work::Job;
+use tg_client_state::Job;
 use tg_kind::Registry;
 use tg_stream::Cells;
 

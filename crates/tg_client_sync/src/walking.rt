@@ -13,7 +13,7 @@ ghost use Rattle.tg_stream.specs.Walks.{members_of};
 ghost use Rattle.tg_client_cells.specs.Known.{IsSettled, returned};
 ghost use Rattle.tg_client_cells.specs.Walks.{InOrder};
 ghost use Rattle.tg_client_state.specs.States.{Rest, client_of, KeepsMoved};
-ghost use Rattle.tg_client_moves.specs.Moves.{Holds};
+ghost use Rattle.tg_client_state.specs.Moves.{Holds};
 ghost use Rattle.tg_client_sync.specs.Walks.{WalkShown, IsStepFit};
 
 use crate::copies::copied;
@@ -24,9 +24,9 @@ use std::alloc::Global;
 use tg_base::{List, NoMemory, Oid, Pos, Rids};
 use tg_client_answers::walked;
 use tg_client_cells::StreamPositions;
-use tg_client_moves::{drawing, goes_on, learns, meets};
+use tg_client_state::{drawing, goes_on, learns, meets};
 use tg_client_state::{Moved, State};
-use tg_client_work::{Job, Paused, Task};
+use tg_client_state::{Job, Paused, Task};
 use tg_kind::Registry;
 use tg_stream::{Cells, Members, Next, Walk, WalkStep};
 

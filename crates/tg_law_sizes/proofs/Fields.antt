@@ -14,8 +14,8 @@ use Rattle.tg_codec.specs.Codec.{spell_many}
 use Rattle.tg_codec.specs.Streams.{from_one, position, then_before, backs, link, after_link, links}
 use Rattle.tg_codec.proofs.Laws.{and-left, and-right}
 use Rattle.tg_codec.proofs.Many.{same_len}
-use Rattle.tg_wire_format.specs.Fields.{page, cell, object, after_object, objects, gone_unit, after_gone, gone, chain_unit, after_unit, chain, stripe, after_stripe, stripes, range, after_range, ranges, projection_of, Proposal, vote}
-use Rattle.tg_wire_format.specs.Rules.{is_link, are_links}
+use Rattle.tg_wire.specs.Fields.{page, cell, object, after_object, objects, gone_unit, after_gone, gone, chain_unit, after_unit, chain, stripe, after_stripe, stripes, range, after_range, ranges, projection_of, Proposal, vote}
+use Rattle.tg_wire.specs.Rules.{is_link, are_links}
 use Rattle.tg_protocol.specs.Entries.{sum_of}
 use Rattle.tg_protocol.specs.Sizes.{page_size, cell_size, chain_size, range_size, layout_size, accepted_size}
 

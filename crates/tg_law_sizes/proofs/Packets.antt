@@ -5,9 +5,9 @@ use Rattle.tg_base.specs.declared.msg.Msg.TheVariants as msg
 use Rattle.tg_base.specs.declared.packet.Packet.{Packet}
 use Rattle.tg_codec.specs.Codec.{from_table}
 use Rattle.tg_codec.specs.Streams.{from_one}
-use Rattle.tg_wire_format.specs.Messages.{tag_of, messages, message, read, write, fill, copy, has, seal, trim, held, taken, unwritten, gone, fenced, sealed, missing, whole, prepare, accept, decided, ask_latest, promise, nack, accepted, latest, learn, token, check, issued, tail, scanning, old_epoch, full}
-use Rattle.tg_wire_format.specs.Packets.{packet}
-use Rattle.tg_wire_format.specs.Rules.{is_message, fits}
+use Rattle.tg_wire.specs.Messages.{tag_of, messages, message, read, write, fill, copy, has, seal, trim, held, taken, unwritten, gone, fenced, sealed, missing, whole, prepare, accept, decided, ask_latest, promise, nack, accepted, latest, learn, token, check, issued, tail, scanning, old_epoch, full}
+use Rattle.tg_wire.specs.Packets.{packet}
+use Rattle.tg_wire.specs.Rules.{is_message, fits}
 use Rattle.tg_protocol.specs.Sizes.{fields_size, packet_size}
 use Rattle.tg_law_sizes.proofs.Fields.{page_len, cell_len, layout_len, vote_len, objects_len, links_len}
 

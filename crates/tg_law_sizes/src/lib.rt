@@ -2,8 +2,8 @@
 #![tactic(auto)]
 
 ghost use Rattle.std.specs.Prelude.{◌≡◌, length, true};
-ghost use Rattle.tg_wire_format.specs.Packets.{packet as spelled};
-ghost use Rattle.tg_wire_format.specs.Rules.{fits};
+ghost use Rattle.tg_wire.specs.Packets.{packet as spelled};
+ghost use Rattle.tg_wire.specs.Rules.{fits};
 ghost use Rattle.tg_protocol.specs.Sizes.{packet_size};
 
 use tg_base::Packet;

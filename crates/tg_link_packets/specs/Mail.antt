@@ -4,7 +4,7 @@ use Rattle.tg_base.specs.declared.ids.NodeId.{NodeId}
 use Rattle.tg_base.specs.declared.packet.Out.{Out}
 use Rattle.tg_base.specs.declared.packet.Packet.{Packet}
 use Rattle.tg_codec.specs.Whole.{whole}
-use Rattle.tg_wire_format.specs.Packets.{packet}
+use Rattle.tg_wire.specs.Packets.{packet}
 use Rattle.tg_base.specs.Orders.{node_eq}
 use Rattle.tg_io.specs.Acts.{Act, Goes, Comes}
 use Rattle.tg_io.specs.Bytes.{Grows}

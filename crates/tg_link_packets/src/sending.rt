@@ -2,7 +2,7 @@
 
 ghost use Rattle.std.specs.Prelude.{◌≡◌, ◌<◌, [], ◌∷◌, Some, length, remove, slice_get, IfOk, OnOk, OnErr};
 ghost use Rattle.tg_base.specs.declared.packet.Out.{Out};
-ghost use Rattle.tg_wire_format.specs.Packets.{packet};
+ghost use Rattle.tg_wire.specs.Packets.{packet};
 ghost use Rattle.tg_io.specs.Acts.{Goes};
 ghost use Rattle.tg_io.specs.Bytes.{Grows};
 ghost use Rattle.tg_io.specs.Faults.{HasCause, StaysSure};

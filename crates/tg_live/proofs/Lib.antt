@@ -12,3 +12,6 @@ pub mod Promises
 pub mod Exact
 pub mod Options
 pub mod Printing
+pub mod Lookups
+pub mod Numbers
+pub mod StepsMatch

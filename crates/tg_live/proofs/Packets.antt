@@ -11,9 +11,9 @@ use Rattle.tg_io.specs.Bytes.{Grows}
 use Rattle.tg_io.specs.Links.{Adds}
 use Rattle.tg_io.specs.declared.link.Sent.{Sent}
 use Rattle.tg_io.proofs.Bytes.{grows_none}
-use Rattle.tg_live_match.specs.Books.{GoesTo, IsBook}
-use Rattle.tg_live_match.specs.declared.book.Book.{Book}
-use Rattle.tg_wire_format.specs.Packets.{packet}
+use Rattle.tg_live.specs.Books.{GoesTo, IsBook}
+use Rattle.tg_live.specs.declared.book.Book.{Book}
+use Rattle.tg_wire.specs.Packets.{packet}
 use Rattle.tg_wire.specs.Answers.{IsPrefixFree}
 use Rattle.tg_live.specs.Sends.{sending, spellings, AreFit, AreSent, IsMadeOver}
 use Rattle.tg_live.proofs.Growing.{Begins}

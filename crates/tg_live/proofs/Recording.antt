@@ -4,7 +4,7 @@ use Rattle.tg_base.specs.Clusters.{Header}
 use Rattle.tg_base.specs.declared.fault.Which.{Which}
 use Rattle.tg_base.specs.declared.ids.NodeId.{NodeId}
 use Rattle.tg_io.specs.declared.link.Arrival.{Arrival}
-use Rattle.tg_live_match.specs.Matching.{matched}
+use Rattle.tg_live.specs.Matching.{matched}
 use Rattle.tg_model.specs.declared.command.Event.TheVariants as event
 use Rattle.tg_protocol.specs.Worlds.{ran, start, limit_of, runs, nodes}
 use Rattle.tg_replay.specs.Any.{all_kinds}

@@ -6,3 +6,5 @@ pub mod Outcomes
 pub mod Stages
 pub mod Causes
 pub mod Headline
+pub mod Matching
+pub mod Books

@@ -3,10 +3,10 @@ use Rattle.std.specs.Prelude.{◌≡◌, ℕ, true, List, [], ◌∷◌, ◌++�
 use Rattle.tg_base.specs.declared.packet.Packet.{Packet}
 use Rattle.tg_io.specs.Bytes.{Grows}
 use Rattle.tg_io.specs.declared.link.Sent.{Sent}
-use Rattle.tg_live_match.specs.Matching.{Sent as Datagrams}
-use Rattle.tg_live_match.specs.Books.{IsBook}
-use Rattle.tg_live_match.specs.declared.book.Book.{Book}
-use Rattle.tg_wire_format.specs.Packets.{packet}
+use Rattle.tg_live.specs.Matching.{Sent as Datagrams}
+use Rattle.tg_live.specs.Books.{IsBook}
+use Rattle.tg_live.specs.declared.book.Book.{Book}
+use Rattle.tg_wire.specs.Packets.{packet}
 
 -- a packet's datagram is its spelling
 abbrev pub sending : Packet → Sent

@@ -9,3 +9,6 @@ mod sending;
 mod stages;
 
 pub use report::run;
+mod book;
+mod copies;
+pub use book::Book;

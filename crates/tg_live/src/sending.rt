@@ -4,14 +4,14 @@ ghost use Rattle.std.specs.Prelude.{◌≡◌, ◌≤◌, ◌++◌, ◌∷◌, [
 ghost use Rattle.tg_base.specs.declared.packet.Packet.{Packet};
 ghost use Rattle.tg_io.specs.Faults.{HasCause, StaysSure};
 ghost use Rattle.tg_io.specs.Links.{Adds};
-ghost use Rattle.tg_live_match.specs.Books.{IsBook};
-ghost use Rattle.tg_wire_format.specs.Packets.{packet};
+ghost use Rattle.tg_live.specs.Books.{IsBook};
+ghost use Rattle.tg_wire.specs.Packets.{packet};
 ghost use Rattle.tg_live.specs.Sends.{sending, spellings, AreFit};
 
 use std::alloc::Global;
 use tg_base::{List, NoMemory, Packet};
 use tg_io::{Datagram, IoErr, Link};
-use tg_live_match::Book;
+use crate::Book;
 use tg_wire::{encode, fits, no_spelling_begins_another};
 
 /// The datagram of a packet. An `Err` is want of memory, or a packet that no datagram holds, which no node sends.

@@ -15,9 +15,9 @@ use Rattle.tg_lines.specs.Lines.{lines}
 use Rattle.tg_script.specs.Headers.{header_lines}
 use Rattle.tg_script.proofs.Clusters.{same_header}
 use Rattle.tg_link_packets.specs.Mail.{all_sent}
-use Rattle.tg_node_lines.specs.Lines.{IsAsked}
-use Rattle.tg_node_lines.specs.Replies.{replies_text}
-use Rattle.tg_node_lines.specs.declared.asked.Asked.{Asked}
+use Rattle.tg_node.specs.Lines.{IsAsked}
+use Rattle.tg_node.specs.Replies.{replies_text}
+use Rattle.tg_node.specs.declared.asked.Asked.{Asked}
 use Rattle.tg_node_state.specs.Kept.{KeepsNode}
 use Rattle.tg_node.specs.Any.{all_kinds}
 use Rattle.tg_node.specs.Sessions.{AnyInput, Deed, Session, IsWhole, inputs_by, inputs_of, datagrams_in, answers_of, steps_of, datagrams_of, plays, plays_lines, session, opening}

@@ -11,10 +11,10 @@ use Rattle.tg_io.specs.declared.link.Arrival.{Arrival}
 use Rattle.tg_io.specs.declared.status.Status.{Status}
 use Rattle.tg_io.specs.declared.status.Status.TheVariants as status
 use Rattle.tg_script.proofs.EventLines.{line_only}
-use Rattle.tg_node_lines.specs.Lines.{IsAsked, own_read, asked_of}
-use Rattle.tg_node_lines.specs.declared.asked.Asked.{Asked}
-use Rattle.tg_node_lines.specs.declared.asked.Asked.TheVariants.{Tick, Wait, Given, Update}
-use Rattle.tg_node_lines.proofs.Reading.{own_only, line_again}
+use Rattle.tg_node.specs.Lines.{IsAsked, own_read, asked_of}
+use Rattle.tg_node.specs.declared.asked.Asked.{Asked}
+use Rattle.tg_node.specs.declared.asked.Asked.TheVariants.{Tick, Wait, Given, Update}
+use Rattle.tg_node.proofs.Reading.{own_only, line_again}
 use Rattle.tg_node.specs.Sessions.{Deed, IsWhole, inputs_by, inputs_of, answers_of, steps_of, datagrams_of, datagrams_in, packets_in}
 use Rattle.tg_node.specs.Texts.{Seen, AreDone, Point, answers_at, IsPart, IsPast, IsOver, Midst, answers_in, PassesLimit, Refused, Outcome, Told}
 use Rattle.tg_node.proofs.Openings.{le_or_lt}

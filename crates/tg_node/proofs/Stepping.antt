@@ -4,7 +4,7 @@ use Rattle.std.specs.Prelude.{nat_le, is_some, ◌&&◌, Result, Ok, Err, IfOk}
 use Rattle.tg_io.specs.declared.fault.IoErr.{IoErr}
 use Rattle.tg_base.specs.Orders.{node_eq}
 use Rattle.tg_codec.specs.Whole.{whole}
-use Rattle.tg_wire_format.specs.Packets.{packet}
+use Rattle.tg_wire.specs.Packets.{packet}
 use Rattle.std.specs.List.{flat_map}
 use Rattle.std.proofs.lemmas.Bool.Decides.{nat_tests}
 use Rattle.std.proofs.lemmas.List.{append_assoc, append-nil, map-append}
@@ -21,9 +21,9 @@ use Rattle.tg_io.proofs.Bytes.{grows_none, grows_more}
 use Rattle.tg_link_packets.specs.Mail.{all_sent, packets_from, came_to, taken_by, taken_if}
 use Rattle.tg_link_packets.specs.declared.receiving.Came.{Came}
 use Rattle.tg_link_packets.specs.declared.receiving.Came.TheVariants as came
-use Rattle.tg_node_lines.specs.Replies.{replies_in, replies_text}
-use Rattle.tg_node_lines.specs.declared.asked.Asked.{Asked}
-use Rattle.tg_node_lines.specs.declared.asked.Asked.TheVariants.{Tick, Wait, Given, Update}
+use Rattle.tg_node.specs.Replies.{replies_in, replies_text}
+use Rattle.tg_node.specs.declared.asked.Asked.{Asked}
+use Rattle.tg_node.specs.declared.asked.Asked.TheVariants.{Tick, Wait, Given, Update}
 use Rattle.tg_node_state.specs.Nodes.{Node as RuleNode, node_step}
 use Rattle.tg_node_state.specs.Kept.{SteppedOf, KeepsTurn, KeepsNode, IsNode}
 use Rattle.tg_node_state.specs.declared.input.Input.TheVariants as input

@@ -4,3 +4,5 @@ pub mod Texts
 pub mod Openings
 pub mod Steps
 pub mod Stages
+pub mod Lines
+pub mod Replies

@@ -9,9 +9,9 @@ use Rattle.tg_model.specs.declared.command.Command.TheVariants as cmd
 use Rattle.tg_link_packets.specs.Mail.{came_to, packets_from}
 use Rattle.tg_link_packets.specs.declared.receiving.Came.{Came}
 use Rattle.tg_link_packets.specs.declared.receiving.Came.TheVariants as came
-use Rattle.tg_node_lines.specs.Replies.{replies_in}
-use Rattle.tg_node_lines.specs.declared.asked.Asked.{Asked}
-use Rattle.tg_node_lines.specs.declared.asked.Asked.TheVariants.{Tick, Wait, Given, Update}
+use Rattle.tg_node.specs.Replies.{replies_in}
+use Rattle.tg_node.specs.declared.asked.Asked.{Asked}
+use Rattle.tg_node.specs.declared.asked.Asked.TheVariants.{Tick, Wait, Given, Update}
 use Rattle.tg_node_state.specs.Nodes.{Node, NodeTurn, InputOf, node_start, node_step}
 use Rattle.tg_node_state.specs.declared.input.Input.TheVariants as input
 use Rattle.tg_trace.specs.Transcripts.{Reply}

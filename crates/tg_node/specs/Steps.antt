@@ -7,9 +7,9 @@ use Rattle.tg_io.specs.Bytes.{Grows}
 use Rattle.tg_io.specs.declared.link.Arrival.{Arrival}
 use Rattle.tg_io.specs.declared.link.Sent.{Sent}
 use Rattle.tg_link_packets.specs.Mail.{all_sent}
-use Rattle.tg_node_lines.specs.Replies.{replies_text}
-use Rattle.tg_node_lines.specs.declared.asked.Asked.{Asked}
-use Rattle.tg_node_lines.specs.declared.asked.Asked.TheVariants.{Tick, Wait, Given, Update}
+use Rattle.tg_node.specs.Replies.{replies_text}
+use Rattle.tg_node.specs.declared.asked.Asked.{Asked}
+use Rattle.tg_node.specs.declared.asked.Asked.TheVariants.{Tick, Wait, Given, Update}
 use Rattle.tg_node_state.specs.Kept.{KeepsNode, IsNode}
 use Rattle.tg_node.specs.Any.{all_kinds}
 use Rattle.tg_node.specs.Sessions.{AnyInput, Deed, Session, IsWhole, inputs_by, packets_in, datagrams_in, plays}

@@ -13,10 +13,10 @@ use Rattle.tg_script.specs.Headers.{header_lines}
 use Rattle.tg_script.specs.Nodes.{is_declared}
 use Rattle.tg_lines.specs.Lines.{lines}
 use Rattle.tg_link_packets.specs.Mail.{all_sent}
-use Rattle.tg_node_lines.specs.Lines.{IsAsked}
-use Rattle.tg_node_lines.specs.Replies.{replies_text}
-use Rattle.tg_node_lines.specs.declared.asked.Asked.{Asked}
-use Rattle.tg_node_lines.specs.declared.asked.Asked.TheVariants.{Tick, Wait, Given, Update}
+use Rattle.tg_node.specs.Lines.{IsAsked}
+use Rattle.tg_node.specs.Replies.{replies_text}
+use Rattle.tg_node.specs.declared.asked.Asked.{Asked}
+use Rattle.tg_node.specs.declared.asked.Asked.TheVariants.{Tick, Wait, Given, Update}
 use Rattle.tg_node.specs.Sessions.{Deed, Session, IsWhole, inputs_of, datagrams_in, answers_of, steps_of, datagrams_of, plays, session, opening}
 
 -- What a link and a sink tell: what was sent, the answers of `recv`, and what was written.

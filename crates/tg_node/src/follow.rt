@@ -3,7 +3,7 @@
 ghost use Rattle.std.specs.Prelude.{◌≡◌, ◌≤◌, ◌∷◌, ◌+◌, ℕ, List, IfSome, MatchOption};
 ghost use Rattle.tg_io.specs.Faults.{Rose, StaysSure};
 ghost use Rattle.tg_io.specs.declared.status.Status.TheVariants.{WriteFault, Limit};
-ghost use Rattle.tg_node_lines.specs.Lines.{IsAsked};
+ghost use Rattle.tg_node.specs.Lines.{IsAsked};
 ghost use Rattle.tg_node.specs.Texts.{Seen};
 ghost use Rattle.tg_node.specs.Steps.{IsSound};
 ghost use Rattle.tg_node.specs.Stages.{Follows, Follow, IsWritten, IsOfLine, IsRefused, LineCauses, GoesSound, seen};
@@ -14,7 +14,7 @@ use crate::stages::{Next, Run};
 use std::alloc::Global;
 use tg_base::{Cluster, List, NodeId, Which};
 use tg_io::{IoErr, Link, Sink, Status, write_all};
-use tg_node_lines::{Asked, parse_asked};
+use crate::{Asked, parse_asked};
 
 /// Follows the next line of a text.
 pub fn follow_line<K: Sink, L: Link>(

@@ -10,3 +10,7 @@ mod stages;
 mod waits;
 
 pub use session::node;
+mod asked;
+mod replies;
+pub use asked::{Asked, parse_asked};
+pub use replies::write_replies;

@@ -4,7 +4,7 @@ ghost use Rattle.std.specs.Prelude.{◌≡◌, ◌+◌, ◌<◌, Option, IfOk};
 ghost use Rattle.tg_io.specs.Faults.{HasCause, StaysSure};
 ghost use Rattle.tg_io.specs.Links.{Adds};
 ghost use Rattle.tg_io.specs.declared.link.Arrival.{Arrival};
-ghost use Rattle.tg_node_lines.specs.declared.asked.Asked.TheVariants.{Wait};
+ghost use Rattle.tg_node.specs.declared.asked.Asked.TheVariants.{Wait};
 ghost use Rattle.tg_node.specs.Steps.{IsSound, TakesOne, TookLine};
 
 use crate::nodes::{MOST_DATAGRAMS, Moved, Node, Place};

@@ -5,10 +5,10 @@ use Rattle.tg_base.specs.declared.packet.Packet.{Packet}
 use Rattle.tg_codec.specs.Whole.{whole, IsSpelling, IsLongestLawful}
 use Rattle.tg_codec.proofs.Laws.{IsBytes}
 use Rattle.tg_codec.proofs.Wholes.{whole_law}
-use Rattle.tg_wire_format.specs.Packets.{packet}
-use Rattle.tg_wire_format.specs.Rules.{fits}
-use Rattle.tg_wire_format.proofs.Packets.{packet_law}
-use Rattle.tg_wire_format.proofs.Fitting.{keeps_rules}
+use Rattle.tg_wire.specs.Packets.{packet}
+use Rattle.tg_wire.specs.Rules.{fits}
+use Rattle.tg_wire.proofs.Packets.{packet_law}
+use Rattle.tg_wire.proofs.Fitting.{keeps_rules}
 use Rattle.tg_wire.specs.declared.fault.WireFault.{WireFault}
 use Rattle.tg_wire.specs.declared.fault.WireFault.TheVariants as faults
 use Rattle.tg_wire.specs.Answers.{Decodes, OnBadPacket}

@@ -1,1 +1,11 @@
 pub mod Decoding
+pub mod Parts
+pub mod Messages
+pub mod Packets
+pub mod Building
+pub mod Keeping
+pub mod Streams
+pub mod Ruled
+pub mod Fitting
+pub mod Counts
+pub mod Splitting

@@ -5,10 +5,10 @@ ghost use Rattle.tg_base.specs.declared.packet.Packet.{Packet};
 ghost use Rattle.tg_codec.specs.Reading.{Gives};
 ghost use Rattle.tg_codec.specs.Whole.{whole, IsSpelling, IsLongestLawful};
 ghost use Rattle.tg_wire.specs.Answers.{Decodes, OnBadPacket, IsPrefixFree};
-ghost use Rattle.tg_wire_format.specs.Packets.{role, role_of, node, packet};
+ghost use Rattle.tg_wire.specs.Packets.{role, role_of, node, packet};
 ghost use Rattle.tg_base.specs.Orders.{role_number};
-ghost use Rattle.tg_wire_format.specs.Rules.{fits};
-ghost use Rattle.tg_wire_format.specs.Short.{IsShort};
+ghost use Rattle.tg_wire.specs.Rules.{fits};
+ghost use Rattle.tg_wire.specs.Short.{IsShort};
 
 use crate::fault::WireFault;
 use crate::reads::message_in;
@@ -61,7 +61,7 @@ fn put_node(value: NodeId, out: &mut List<u8>) -> Result<(), NoMemory>
     put_u16(value.num, out)
 }
 
-#[tactic(auto, unfolding(tg_wire_format::specs::Packets::packet))]
+#[tactic(auto, unfolding(crate::specs::Packets::packet))]
 fn packet_in(alloc: Global, bytes: &[u8]) -> Result<(Packet, &[u8]), ReadFault>
     ensures { Gives (λ x. (x.0, x.1.now)) result (packet.read bytes.now) }
 {
@@ -73,7 +73,7 @@ fn packet_in(alloc: Global, bytes: &[u8]) -> Result<(Packet, &[u8]), ReadFault>
     Ok((Packet { from, to, rid, msg }, rest))
 }
 
-#[tactic(auto, unfolding(tg_wire_format::specs::Packets::packet))]
+#[tactic(auto, unfolding(crate::specs::Packets::packet))]
 fn put_packet(value: &Packet, out: &mut List<u8>) -> Result<(), NoMemory>
     requires { IsShort value.now.msg }
     ensures { OnOk result (out.new ≡ out.old ++ packet.spell value.now) }
@@ -85,7 +85,7 @@ fn put_packet(value: &Packet, out: &mut List<u8>) -> Result<(), NoMemory>
     put_message(&value.msg, out)
 }
 
-#[tactic(auto, unfolding(tg_wire_format::specs::Packets::packet))]
+#[tactic(auto, unfolding(crate::specs::Packets::packet))]
 fn length_of(value: &Packet) -> usize
     requires { IsShort value.now.msg }
     ensures { result ≡ length (packet.spell value.now) }

@@ -3,14 +3,14 @@
 ghost use Rattle.std.specs.Prelude.{◌≡◌, ◌∷◌, [], true};
 ghost use Rattle.tg_codec.specs.Reading.{Gives, meets};
 ghost use Rattle.tg_codec.specs.Codec.{from_table};
-ghost use Rattle.tg_wire_format.specs.Messages.{messages, prepare, accept, decided, ask_latest, promise, nack, accepted, latest};
+ghost use Rattle.tg_wire.specs.Messages.{messages, prepare, accept, decided, ask_latest, promise, nack, accepted, latest};
 
 use std::alloc::Global;
 use tg_base::Msg;
 use tg_codec::{ReadFault, u64_in};
-use tg_wire_fields::{ANY_EPOCH, ballot_in, projection_in, vote_in};
+use crate::{ANY_EPOCH, ballot_in, projection_in, vote_in};
 
-#[tactic(auto, unfolding(tg_wire_format::specs::Messages::prepare))]
+#[tactic(auto, unfolding(crate::specs::Messages::prepare))]
 fn prepare_in(bytes: &[u8]) -> Result<(Msg, &[u8]), ReadFault>
     ensures { Gives (λ x. (x.0, x.1.now)) result (prepare.read bytes.now) }
 {
@@ -19,7 +19,7 @@ fn prepare_in(bytes: &[u8]) -> Result<(Msg, &[u8]), ReadFault>
     Ok((Msg::Prepare { epoch, ballot }, rest))
 }
 
-#[tactic(auto, unfolding(tg_wire_format::specs::Messages::accept))]
+#[tactic(auto, unfolding(crate::specs::Messages::accept))]
 fn accept_in(alloc: Global, bytes: &[u8]) -> Result<(Msg, &[u8]), ReadFault>
     ensures { Gives (λ x. (x.0, x.1.now)) result (accept.read bytes.now) }
 {
@@ -36,7 +36,7 @@ fn accept_in(alloc: Global, bytes: &[u8]) -> Result<(Msg, &[u8]), ReadFault>
     ))
 }
 
-#[tactic(auto, unfolding(tg_wire_format::specs::Messages::decided))]
+#[tactic(auto, unfolding(crate::specs::Messages::decided))]
 fn decided_in(alloc: Global, bytes: &[u8]) -> Result<(Msg, &[u8]), ReadFault>
     ensures { Gives (λ x. (x.0, x.1.now)) result (decided.read bytes.now) }
 {
@@ -44,7 +44,7 @@ fn decided_in(alloc: Global, bytes: &[u8]) -> Result<(Msg, &[u8]), ReadFault>
     Ok((Msg::Decided { proj }, rest))
 }
 
-#[tactic(auto, unfolding(tg_wire_format::specs::Messages::promise))]
+#[tactic(auto, unfolding(crate::specs::Messages::promise))]
 fn promise_in(alloc: Global, bytes: &[u8]) -> Result<(Msg, &[u8]), ReadFault>
     ensures { Gives (λ x. (x.0, x.1.now)) result (promise.read bytes.now) }
 {
@@ -61,7 +61,7 @@ fn promise_in(alloc: Global, bytes: &[u8]) -> Result<(Msg, &[u8]), ReadFault>
     ))
 }
 
-#[tactic(auto, unfolding(tg_wire_format::specs::Messages::nack))]
+#[tactic(auto, unfolding(crate::specs::Messages::nack))]
 fn nack_in(bytes: &[u8]) -> Result<(Msg, &[u8]), ReadFault>
     ensures { Gives (λ x. (x.0, x.1.now)) result (nack.read bytes.now) }
 {
@@ -70,7 +70,7 @@ fn nack_in(bytes: &[u8]) -> Result<(Msg, &[u8]), ReadFault>
     Ok((Msg::Nack { epoch, ballot }, rest))
 }
 
-#[tactic(auto, unfolding(tg_wire_format::specs::Messages::accepted))]
+#[tactic(auto, unfolding(crate::specs::Messages::accepted))]
 fn accepted_in(bytes: &[u8]) -> Result<(Msg, &[u8]), ReadFault>
     ensures { Gives (λ x. (x.0, x.1.now)) result (accepted.read bytes.now) }
 {
@@ -79,7 +79,7 @@ fn accepted_in(bytes: &[u8]) -> Result<(Msg, &[u8]), ReadFault>
     Ok((Msg::Accepted { epoch, ballot }, rest))
 }
 
-#[tactic(auto, unfolding(tg_wire_format::specs::Messages::latest))]
+#[tactic(auto, unfolding(crate::specs::Messages::latest))]
 fn latest_in(alloc: Global, bytes: &[u8]) -> Result<(Msg, &[u8]), ReadFault>
     ensures { Gives (λ x. (x.0, x.1.now)) result (latest.read bytes.now) }
 {
@@ -88,7 +88,7 @@ fn latest_in(alloc: Global, bytes: &[u8]) -> Result<(Msg, &[u8]), ReadFault>
 }
 
 /// A message to or from a layout server, with this tag.
-#[tactic(auto, unfolding(tg_wire_format::specs::Messages::ask_latest))]
+#[tactic(auto, unfolding(crate::specs::Messages::ask_latest))]
 pub fn of_layout<'a>(alloc: Global, tag: u8, bytes: &'a [u8]) -> Result<(Msg, &'a [u8]), ReadFault>
     requires { meets ((33, 36) ∷ (41, 44) ∷ []) tag tag ≡ true }
     ensures { Gives (λ x. (x.0, x.1.now)) result ((from_table messages tag).read bytes.now) }

@@ -3,7 +3,7 @@
 ghost use Rattle.std.specs.Prelude.{◌≡◌, true};
 ghost use Rattle.tg_codec.specs.Reading.{Gives, meets};
 ghost use Rattle.tg_codec.specs.Codec.{from_table};
-ghost use Rattle.tg_wire_format.specs.Messages.{tags, messages, message};
+ghost use Rattle.tg_wire.specs.Messages.{tags, messages, message};
 
 use crate::layout_messages::of_layout;
 use crate::seqr_messages::of_seqr;
@@ -29,7 +29,7 @@ fn fields_in<'a>(alloc: Global, tag: u8, bytes: &'a [u8]) -> Result<(Msg, &'a [u
 }
 
 /// A message behind its tag.
-#[tactic(auto, unfolding(tg_wire_format::specs::Messages::message))]
+#[tactic(auto, unfolding(crate::specs::Messages::message))]
 pub fn message_in(alloc: Global, bytes: &[u8]) -> Result<(Msg, &[u8]), ReadFault>
     ensures { Gives (λ x. (x.0, x.1.now)) result (message.read bytes.now) }
 {

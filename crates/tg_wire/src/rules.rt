@@ -5,7 +5,7 @@ ghost use Rattle.std.specs.List.{list_all};
 ghost use Rattle.tg_base.specs.Layouts.{is_layout};
 ghost use Rattle.tg_base.specs.Units.{is_rising, is_within};
 ghost use Rattle.tg_codec.specs.Streams.{oid_number};
-ghost use Rattle.tg_wire_format.specs.Rules.{fits, is_message, is_object, are_objects, is_falling, is_link, link_number, are_links, is_cell, is_vote, is_asked, is_page};
+ghost use Rattle.tg_wire.specs.Rules.{fits, is_message, is_object, are_objects, is_falling, is_link, link_number, are_links, is_cell, is_vote, is_asked, is_page};
 
 use tg_base::{Ballot, Blob, Cell, Epoch, Msg, Oid, Packet, Projection, StreamLink};
 

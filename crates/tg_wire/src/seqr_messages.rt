@@ -3,14 +3,14 @@
 ghost use Rattle.std.specs.Prelude.{◌≡◌, ◌∷◌, [], true};
 ghost use Rattle.tg_codec.specs.Reading.{Gives, meets};
 ghost use Rattle.tg_codec.specs.Codec.{from_table};
-ghost use Rattle.tg_wire_format.specs.Messages.{messages, learn, token, check, issued, tail, scanning, old_epoch, full};
+ghost use Rattle.tg_wire.specs.Messages.{messages, learn, token, check, issued, tail, scanning, old_epoch, full};
 
 use std::alloc::Global;
 use tg_base::Msg;
 use tg_codec::{ReadFault, links_in, u64_in};
-use tg_wire_fields::{ANY_EPOCH, objects_in, projection_in};
+use crate::{ANY_EPOCH, objects_in, projection_in};
 
-#[tactic(auto, unfolding(tg_wire_format::specs::Messages::learn))]
+#[tactic(auto, unfolding(crate::specs::Messages::learn))]
 fn learn_in(alloc: Global, bytes: &[u8]) -> Result<(Msg, &[u8]), ReadFault>
     ensures { Gives (λ x. (x.0, x.1.now)) result (learn.read bytes.now) }
 {
@@ -18,7 +18,7 @@ fn learn_in(alloc: Global, bytes: &[u8]) -> Result<(Msg, &[u8]), ReadFault>
     Ok((Msg::Learn { proj }, rest))
 }
 
-#[tactic(auto, unfolding(tg_wire_format::specs::Messages::token))]
+#[tactic(auto, unfolding(crate::specs::Messages::token))]
 fn token_in(alloc: Global, bytes: &[u8]) -> Result<(Msg, &[u8]), ReadFault>
     ensures { Gives (λ x. (x.0, x.1.now)) result (token.read bytes.now) }
 {
@@ -27,7 +27,7 @@ fn token_in(alloc: Global, bytes: &[u8]) -> Result<(Msg, &[u8]), ReadFault>
     Ok((Msg::Token { epoch, oids }, rest))
 }
 
-#[tactic(auto, unfolding(tg_wire_format::specs::Messages::check))]
+#[tactic(auto, unfolding(crate::specs::Messages::check))]
 fn check_in(alloc: Global, bytes: &[u8]) -> Result<(Msg, &[u8]), ReadFault>
     ensures { Gives (λ x. (x.0, x.1.now)) result (check.read bytes.now) }
 {
@@ -36,7 +36,7 @@ fn check_in(alloc: Global, bytes: &[u8]) -> Result<(Msg, &[u8]), ReadFault>
     Ok((Msg::Check { epoch, oids }, rest))
 }
 
-#[tactic(auto, unfolding(tg_wire_format::specs::Messages::issued))]
+#[tactic(auto, unfolding(crate::specs::Messages::issued))]
 fn issued_in(alloc: Global, bytes: &[u8]) -> Result<(Msg, &[u8]), ReadFault>
     ensures { Gives (λ x. (x.0, x.1.now)) result (issued.read bytes.now) }
 {
@@ -45,7 +45,7 @@ fn issued_in(alloc: Global, bytes: &[u8]) -> Result<(Msg, &[u8]), ReadFault>
     Ok((Msg::Issued { pos, links }, rest))
 }
 
-#[tactic(auto, unfolding(tg_wire_format::specs::Messages::tail))]
+#[tactic(auto, unfolding(crate::specs::Messages::tail))]
 fn tail_in(alloc: Global, bytes: &[u8]) -> Result<(Msg, &[u8]), ReadFault>
     ensures { Gives (λ x. (x.0, x.1.now)) result (tail.read bytes.now) }
 {
@@ -54,7 +54,7 @@ fn tail_in(alloc: Global, bytes: &[u8]) -> Result<(Msg, &[u8]), ReadFault>
     Ok((Msg::Tail { tail, links }, rest))
 }
 
-#[tactic(auto, unfolding(tg_wire_format::specs::Messages::scanning))]
+#[tactic(auto, unfolding(crate::specs::Messages::scanning))]
 fn scanning_in(bytes: &[u8]) -> Result<(Msg, &[u8]), ReadFault>
     ensures { Gives (λ x. (x.0, x.1.now)) result (scanning.read bytes.now) }
 {
@@ -63,7 +63,7 @@ fn scanning_in(bytes: &[u8]) -> Result<(Msg, &[u8]), ReadFault>
     Ok((Msg::Scanning { next, start }, rest))
 }
 
-#[tactic(auto, unfolding(tg_wire_format::specs::Messages::old_epoch))]
+#[tactic(auto, unfolding(crate::specs::Messages::old_epoch))]
 fn old_epoch_in(bytes: &[u8]) -> Result<(Msg, &[u8]), ReadFault>
     ensures { Gives (λ x. (x.0, x.1.now)) result (old_epoch.read bytes.now) }
 {
@@ -71,7 +71,7 @@ fn old_epoch_in(bytes: &[u8]) -> Result<(Msg, &[u8]), ReadFault>
     Ok((Msg::OldEpoch { epoch }, rest))
 }
 
-#[tactic(auto, unfolding(tg_wire_format::specs::Messages::full))]
+#[tactic(auto, unfolding(crate::specs::Messages::full))]
 fn full_in(bytes: &[u8]) -> Result<(Msg, &[u8]), ReadFault>
     ensures { Gives (λ x. (x.0, x.1.now)) result (full.read bytes.now) }
 {

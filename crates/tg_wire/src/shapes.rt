@@ -3,12 +3,12 @@
 ghost use Rattle.std.specs.Prelude.{◌≡◌, ◌≤◌, ◌++◌, length, OnOk};
 ghost use Rattle.std.specs.Int.{w16, w64, to_be_bytes};
 ghost use Rattle.tg_codec.specs.Streams.{any, links};
-ghost use Rattle.tg_wire_format.specs.Fields.{cell, ballot, objects, proposal, vote};
-ghost use Rattle.tg_wire_format.specs.Short.{IsShortLayout, IsShortVote};
+ghost use Rattle.tg_wire.specs.Fields.{cell, ballot, objects, proposal, vote};
+ghost use Rattle.tg_wire.specs.Short.{IsShortLayout, IsShortVote};
 
 use tg_base::{Ballot, Cell, List, NoMemory, Oid, Projection, StreamLink};
 use tg_codec::{put_links, put_text, put_u64};
-use tg_wire_fields::{put_ballot, put_cell, put_objects, put_projection, put_vote};
+use crate::{put_ballot, put_cell, put_objects, put_projection, put_vote};
 
 /// Puts two numbers last.
 pub fn put_two(first: u64, second: u64, out: &mut List<u8>) -> Result<(), NoMemory>

@@ -2,14 +2,14 @@
 
 ghost use Rattle.std.specs.Prelude.{◌≡◌, ◌≤◌, length};
 ghost use Rattle.tg_codec.specs.Codec.{from_table};
-ghost use Rattle.tg_wire_format.specs.Messages.{tag_of, messages, message};
-ghost use Rattle.tg_wire_format.specs.Short.{IsShort};
+ghost use Rattle.tg_wire.specs.Messages.{tag_of, messages, message};
+ghost use Rattle.tg_wire.specs.Short.{IsShort};
 
 use tg_base::Msg;
 use tg_codec::size_links;
-use tg_wire_fields::{size_cell, size_objects, size_projection, size_proposal, size_vote};
+use crate::{size_cell, size_objects, size_projection, size_proposal, size_vote};
 
-#[tactic(auto, unfolding(tg_wire_format::specs::Messages::read, tg_wire_format::specs::Messages::write, tg_wire_format::specs::Messages::fill, tg_wire_format::specs::Messages::copy, tg_wire_format::specs::Messages::has, tg_wire_format::specs::Messages::seal, tg_wire_format::specs::Messages::trim, tg_wire_format::specs::Messages::held, tg_wire_format::specs::Messages::taken, tg_wire_format::specs::Messages::unwritten, tg_wire_format::specs::Messages::gone, tg_wire_format::specs::Messages::fenced, tg_wire_format::specs::Messages::sealed, tg_wire_format::specs::Messages::missing, tg_wire_format::specs::Messages::whole, tg_wire_format::specs::Messages::prepare, tg_wire_format::specs::Messages::accept, tg_wire_format::specs::Messages::decided, tg_wire_format::specs::Messages::ask_latest, tg_wire_format::specs::Messages::promise, tg_wire_format::specs::Messages::nack, tg_wire_format::specs::Messages::accepted, tg_wire_format::specs::Messages::latest, tg_wire_format::specs::Messages::learn, tg_wire_format::specs::Messages::token, tg_wire_format::specs::Messages::check, tg_wire_format::specs::Messages::issued, tg_wire_format::specs::Messages::tail, tg_wire_format::specs::Messages::scanning, tg_wire_format::specs::Messages::old_epoch, tg_wire_format::specs::Messages::full))]
+#[tactic(auto, unfolding(crate::specs::Messages::read, crate::specs::Messages::write, crate::specs::Messages::fill, crate::specs::Messages::copy, crate::specs::Messages::has, crate::specs::Messages::seal, crate::specs::Messages::trim, crate::specs::Messages::held, crate::specs::Messages::taken, crate::specs::Messages::unwritten, crate::specs::Messages::gone, crate::specs::Messages::fenced, crate::specs::Messages::sealed, crate::specs::Messages::missing, crate::specs::Messages::whole, crate::specs::Messages::prepare, crate::specs::Messages::accept, crate::specs::Messages::decided, crate::specs::Messages::ask_latest, crate::specs::Messages::promise, crate::specs::Messages::nack, crate::specs::Messages::accepted, crate::specs::Messages::latest, crate::specs::Messages::learn, crate::specs::Messages::token, crate::specs::Messages::check, crate::specs::Messages::issued, crate::specs::Messages::tail, crate::specs::Messages::scanning, crate::specs::Messages::old_epoch, crate::specs::Messages::full))]
 fn size_fields(value: &Msg) -> usize
     requires { IsShort value.now }
     ensures len { result ≡ length ((from_table messages (tag_of value.now)).spell value.now) }
@@ -55,7 +55,7 @@ fn size_fields(value: &Msg) -> usize
 }
 
 /// The length of the spelling of a message behind its tag. It takes no memory.
-#[tactic(auto, unfolding(tg_wire_format::specs::Messages::message))]
+#[tactic(auto, unfolding(crate::specs::Messages::message))]
 pub fn size_message(value: &Msg) -> usize
     requires { IsShort value.now }
     ensures len { result ≡ length (message.spell value.now) }

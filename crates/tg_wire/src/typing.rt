@@ -1,7 +1,7 @@
 //! Numbers of their fields' types, which every packet has.
 
 ghost use Rattle.tg_base.specs.Layouts.{IsWithinTypes};
-ghost use Rattle.tg_wire_format.specs.Types.{IsLong, IsTypedBallot, AreLong, AreTypedLinks, IsTypedVote, IsTypedMessage, IsTyped};
+ghost use Rattle.tg_wire.specs.Types.{IsLong, IsTypedBallot, AreLong, AreTypedLinks, IsTypedVote, IsTypedMessage, IsTyped};
 
 use tg_base::{Ballot, Msg, Packet, Projection, StreamLink};
 

@@ -3,14 +3,14 @@
 ghost use Rattle.std.specs.Prelude.{◌≡◌, ◌∷◌, [], true};
 ghost use Rattle.tg_codec.specs.Reading.{Gives, meets};
 ghost use Rattle.tg_codec.specs.Codec.{from_table};
-ghost use Rattle.tg_wire_format.specs.Messages.{messages, held, taken, unwritten, gone, fenced, sealed, missing, whole};
+ghost use Rattle.tg_wire.specs.Messages.{messages, held, taken, unwritten, gone, fenced, sealed, missing, whole};
 
 use std::alloc::Global;
 use tg_base::Msg;
 use tg_codec::{ReadFault, u64_in};
-use tg_wire_fields::cell_in;
+use crate::cell_in;
 
-#[tactic(auto, unfolding(tg_wire_format::specs::Messages::taken))]
+#[tactic(auto, unfolding(crate::specs::Messages::taken))]
 fn taken_in(alloc: Global, bytes: &[u8]) -> Result<(Msg, &[u8]), ReadFault>
     ensures { Gives (λ x. (x.0, x.1.now)) result (taken.read bytes.now) }
 {
@@ -18,7 +18,7 @@ fn taken_in(alloc: Global, bytes: &[u8]) -> Result<(Msg, &[u8]), ReadFault>
     Ok((Msg::Taken { cell }, rest))
 }
 
-#[tactic(auto, unfolding(tg_wire_format::specs::Messages::gone))]
+#[tactic(auto, unfolding(crate::specs::Messages::gone))]
 fn gone_in(bytes: &[u8]) -> Result<(Msg, &[u8]), ReadFault>
     ensures { Gives (λ x. (x.0, x.1.now)) result (gone.read bytes.now) }
 {
@@ -26,7 +26,7 @@ fn gone_in(bytes: &[u8]) -> Result<(Msg, &[u8]), ReadFault>
     Ok((Msg::Gone { below }, rest))
 }
 
-#[tactic(auto, unfolding(tg_wire_format::specs::Messages::fenced))]
+#[tactic(auto, unfolding(crate::specs::Messages::fenced))]
 fn fenced_in(bytes: &[u8]) -> Result<(Msg, &[u8]), ReadFault>
     ensures { Gives (λ x. (x.0, x.1.now)) result (fenced.read bytes.now) }
 {
@@ -34,7 +34,7 @@ fn fenced_in(bytes: &[u8]) -> Result<(Msg, &[u8]), ReadFault>
     Ok((Msg::Fenced { epoch }, rest))
 }
 
-#[tactic(auto, unfolding(tg_wire_format::specs::Messages::sealed))]
+#[tactic(auto, unfolding(crate::specs::Messages::sealed))]
 fn sealed_in(bytes: &[u8]) -> Result<(Msg, &[u8]), ReadFault>
     ensures { Gives (λ x. (x.0, x.1.now)) result (sealed.read bytes.now) }
 {
@@ -43,7 +43,7 @@ fn sealed_in(bytes: &[u8]) -> Result<(Msg, &[u8]), ReadFault>
     Ok((Msg::Sealed { epoch, high }, rest))
 }
 
-#[tactic(auto, unfolding(tg_wire_format::specs::Messages::missing))]
+#[tactic(auto, unfolding(crate::specs::Messages::missing))]
 fn missing_in(bytes: &[u8]) -> Result<(Msg, &[u8]), ReadFault>
     ensures { Gives (λ x. (x.0, x.1.now)) result (missing.read bytes.now) }
 {
@@ -52,7 +52,7 @@ fn missing_in(bytes: &[u8]) -> Result<(Msg, &[u8]), ReadFault>
 }
 
 /// An answer of a unit, with this tag.
-#[tactic(auto, unfolding(tg_wire_format::specs::Messages::held, tg_wire_format::specs::Messages::unwritten, tg_wire_format::specs::Messages::whole))]
+#[tactic(auto, unfolding(crate::specs::Messages::held, crate::specs::Messages::unwritten, crate::specs::Messages::whole))]
 pub fn answered_by_unit<'a>(
     alloc: Global,
     tag: u8,

@@ -3,14 +3,14 @@
 ghost use Rattle.std.specs.Prelude.{◌≡◌, ◌∷◌, [], true};
 ghost use Rattle.tg_codec.specs.Reading.{Gives, meets};
 ghost use Rattle.tg_codec.specs.Codec.{from_table};
-ghost use Rattle.tg_wire_format.specs.Messages.{messages, read, write, fill, copy, has, seal, trim};
+ghost use Rattle.tg_wire.specs.Messages.{messages, read, write, fill, copy, has, seal, trim};
 
 use std::alloc::Global;
 use tg_base::Msg;
 use tg_codec::{ReadFault, blob, u64_in};
-use tg_wire_fields::cell_in;
+use crate::cell_in;
 
-#[tactic(auto, unfolding(tg_wire_format::specs::Messages::read))]
+#[tactic(auto, unfolding(crate::specs::Messages::read))]
 fn read_in(bytes: &[u8]) -> Result<(Msg, &[u8]), ReadFault>
     ensures { Gives (λ x. (x.0, x.1.now)) result (read.read bytes.now) }
 {
@@ -19,7 +19,7 @@ fn read_in(bytes: &[u8]) -> Result<(Msg, &[u8]), ReadFault>
     Ok((Msg::Read { epoch, pos }, rest))
 }
 
-#[tactic(auto, unfolding(tg_wire_format::specs::Messages::write))]
+#[tactic(auto, unfolding(crate::specs::Messages::write))]
 fn write_in(alloc: Global, bytes: &[u8]) -> Result<(Msg, &[u8]), ReadFault>
     ensures { Gives (λ x. (x.0, x.1.now)) result (write.read bytes.now) }
 {
@@ -29,7 +29,7 @@ fn write_in(alloc: Global, bytes: &[u8]) -> Result<(Msg, &[u8]), ReadFault>
     Ok((Msg::Write { epoch, pos, page }, rest))
 }
 
-#[tactic(auto, unfolding(tg_wire_format::specs::Messages::fill))]
+#[tactic(auto, unfolding(crate::specs::Messages::fill))]
 fn fill_in(bytes: &[u8]) -> Result<(Msg, &[u8]), ReadFault>
     ensures { Gives (λ x. (x.0, x.1.now)) result (fill.read bytes.now) }
 {
@@ -38,7 +38,7 @@ fn fill_in(bytes: &[u8]) -> Result<(Msg, &[u8]), ReadFault>
     Ok((Msg::Fill { epoch, pos }, rest))
 }
 
-#[tactic(auto, unfolding(tg_wire_format::specs::Messages::copy))]
+#[tactic(auto, unfolding(crate::specs::Messages::copy))]
 fn copy_in(alloc: Global, bytes: &[u8]) -> Result<(Msg, &[u8]), ReadFault>
     ensures { Gives (λ x. (x.0, x.1.now)) result (copy.read bytes.now) }
 {
@@ -48,7 +48,7 @@ fn copy_in(alloc: Global, bytes: &[u8]) -> Result<(Msg, &[u8]), ReadFault>
     Ok((Msg::Copy { epoch, pos, cell }, rest))
 }
 
-#[tactic(auto, unfolding(tg_wire_format::specs::Messages::has))]
+#[tactic(auto, unfolding(crate::specs::Messages::has))]
 fn has_in(bytes: &[u8]) -> Result<(Msg, &[u8]), ReadFault>
     ensures { Gives (λ x. (x.0, x.1.now)) result (has.read bytes.now) }
 {
@@ -67,7 +67,7 @@ fn has_in(bytes: &[u8]) -> Result<(Msg, &[u8]), ReadFault>
     ))
 }
 
-#[tactic(auto, unfolding(tg_wire_format::specs::Messages::seal))]
+#[tactic(auto, unfolding(crate::specs::Messages::seal))]
 fn seal_in(bytes: &[u8]) -> Result<(Msg, &[u8]), ReadFault>
     ensures { Gives (λ x. (x.0, x.1.now)) result (seal.read bytes.now) }
 {
@@ -75,7 +75,7 @@ fn seal_in(bytes: &[u8]) -> Result<(Msg, &[u8]), ReadFault>
     Ok((Msg::Seal { epoch }, rest))
 }
 
-#[tactic(auto, unfolding(tg_wire_format::specs::Messages::trim))]
+#[tactic(auto, unfolding(crate::specs::Messages::trim))]
 fn trim_in(bytes: &[u8]) -> Result<(Msg, &[u8]), ReadFault>
     ensures { Gives (λ x. (x.0, x.1.now)) result (trim.read bytes.now) }
 {

@@ -16,7 +16,7 @@ use Rattle.tg_protocol.specs.Logs.{Log}
 use Rattle.tg_protocol.specs.Worlds as world
 use Rattle.tg_protocol.specs.Worlds.{World, latest, log, unit_moves, layout_moves, seqr_moves}
 use Rattle.tg_world_log.specs.Archives.{archived}
-use Rattle.tg_world_packets.specs.Posts.{answer_from}
+use Rattle.tg_world_servers.specs.Posts.{answer_from}
 use Rattle.tg_world_servers.specs.Servers as servers
 use Rattle.tg_world_servers.specs.Servers.{unit_takes, layout_takes, seqr_takes, seqr_ticks}
 use Rattle.tg_world.specs.Clients.{KeepsClients}

@@ -5,7 +5,7 @@ use Rattle.tg_base.specs.Clusters.{Header}
 use Rattle.tg_base.specs.declared.ids.NodeId.{NodeId}
 use Rattle.tg_kind.specs.Meaning.{Meaning}
 use Rattle.tg_model.specs.Kinds.{MarkOf}
-use Rattle.tg_world_packets.specs.Posts.{first_of}
+use Rattle.tg_world_servers.specs.Posts.{first_of}
 use Rattle.tg_protocol.specs.Words.{numbers, unit_id, layout_id, seqr_id, client_id}
 use Rattle.tg_protocol.specs.Clients.{new_client}
 use Rattle.tg_protocol.specs.Logs.{Log, history_of}

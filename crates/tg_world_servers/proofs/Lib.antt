@@ -1,3 +1,5 @@
 mod Moving
 mod Starting
 mod Taking
+mod Waiting
+mod Counting

@@ -15,7 +15,7 @@ use Rattle.tg_protocol.specs.Units.{UnitState, new_unit, unit_step}
 use Rattle.tg_protocol.specs.LayoutServers.{LayoutState, new_layout, layout_step}
 use Rattle.tg_protocol.specs.Sequencers.{SeqrState, new_seqr, seqr_step, seqr_tick}
 use Rattle.tg_protocol.specs.Logs.{Log}
-use Rattle.tg_world_packets.specs.Posts.{PostState, new_post, posted, packet_from, answer_from}
+use Rattle.tg_world_servers.specs.Posts.{PostState, new_post, posted, packet_from, answer_from}
 use Rattle.tg_world_servers.specs.Servers.{ServersState, servers_start, unit_at, layout_at, seqr_at, latest, archive_by, runs, receiver_of, counted, takes, taken, unit_takes, layout_takes, seqr_takes, seqr_ticks}
 
 module _ (s : ServersState) (p : Packet) where

@@ -1,3 +1,4 @@
 pub mod Servers
 pub mod Rows
 pub mod Kept
+pub mod Posts

@@ -17,7 +17,7 @@ use Rattle.tg_protocol.specs.Units.{UnitState, UnitTurn, new_unit, unit_step}
 use Rattle.tg_protocol.specs.LayoutServers.{LayoutState, LayoutTurn, new_layout, layout_step}
 use Rattle.tg_protocol.specs.Sequencers.{SeqrState, SeqrTurn, new_seqr, seqr_step, seqr_tick}
 use Rattle.tg_protocol.specs.Logs.{Log, newest, log_of}
-use Rattle.tg_world_packets.specs.Posts.{PostState, new_post, posted, packet_from, answer_from, handed, lost}
+use Rattle.tg_world_servers.specs.Posts.{PostState, new_post, posted, packet_from, answer_from, handed, lost}
 use Rattle.tg_world_log.specs.Archives.{archived}
 
 pub record ServersState : Type 0 where

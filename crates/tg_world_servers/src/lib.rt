@@ -9,3 +9,7 @@ mod starts;
 
 pub use first::first_of;
 pub use servers::Servers;
+mod post;
+mod sizes;
+pub use post::Post;
+pub use sizes::size;

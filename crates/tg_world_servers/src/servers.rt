@@ -20,7 +20,7 @@ use tg_layout::Layout;
 use tg_seqr::Seqr;
 use tg_unit::Unit;
 use tg_world_log::{archive_trim, log_of, newest};
-use tg_world_packets::Post;
+use crate::Post;
 
 /// How many steps a run may take.
 const MOST_STEPS: u32 = 200_000;

@@ -1,6 +1,6 @@
 use Rattle.std.proofs.Common.{arith}
-use Rattle.tg_wire_format.proofs.Counts.{vote_short}
-use Rattle.tg_wire_format.proofs.Parts.{vote_law}
+use Rattle.tg_wire.proofs.Counts.{vote_short}
+use Rattle.tg_wire.proofs.Parts.{vote_law}
 use Rattle.tests_bytes.proofs.fields.vote_again.Goals as goal
 
 pub vote_written-requires : goal.vote_written-requires

@@ -1,11 +1,11 @@
 use Rattle.std.proofs.Common.{Option, Some, None, [], refl, subst}
-use Rattle.tg_client_work.specs.Tasks.{WorkOf}
+use Rattle.tg_client_state.specs.Tasks.{WorkOf}
 use Rattle.tg_client_state.specs.States.{KeepsClient}
 use Rattle.tg_play.proofs.Means.{means}
 use Rattle.tg_protocol.specs.Clients.{refusal}
 use Rattle.tg_protocol.specs.ClientSteps.{refused_or}
-use Rattle.tg_client_commands.specs.Idle.{idle}
-use Rattle.tg_client_commands.proofs.Said.{is_idle}
+use Rattle.tg_client.specs.Idle.{idle}
+use Rattle.tg_client.proofs.Said.{is_idle}
 use Rattle.tg_client.proofs.Stepping.{step_as, command_told}
 use Rattle.tg_client.proofs.steps.commanded.Goals as goal
 

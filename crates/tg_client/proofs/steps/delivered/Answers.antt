@@ -1,13 +1,13 @@
 use Rattle.std.proofs.Common.{Option, Some, None, [], refl, subst}
-use Rattle.tg_client_work.specs.Tasks.{WorkOf}
+use Rattle.tg_client_state.specs.Tasks.{WorkOf}
 use Rattle.tg_client_state.specs.States.{KeepsClient}
 use Rattle.tg_play.proofs.Means.{means}
 use Rattle.tg_protocol.specs.Answers.{moved}
 use Rattle.tg_protocol.specs.ClientSteps.{feed}
 use Rattle.tg_protocol.specs.Replies.{reply}
-use Rattle.tg_client_moves.specs.Moves.{IsKept}
-use Rattle.tg_client_commands.specs.Idle.{idle}
-use Rattle.tg_client_commands.proofs.Said.{is_idle, next_is}
+use Rattle.tg_client_state.specs.Moves.{IsKept}
+use Rattle.tg_client.specs.Idle.{idle}
+use Rattle.tg_client.proofs.Said.{is_idle, next_is}
 use Rattle.tg_client.proofs.Stepping.{step_as, says_as, delivery_told, fed_told}
 use Rattle.tg_client.proofs.steps.delivered.Goals as goal
 

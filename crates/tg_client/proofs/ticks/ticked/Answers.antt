@@ -1,8 +1,8 @@
 use Rattle.std.proofs.Common.{Option, subst}
-use Rattle.tg_client_work.specs.Tasks.{WorkOf}
+use Rattle.tg_client_state.specs.Tasks.{WorkOf}
 use Rattle.tg_client_state.specs.States.{KeepsClient}
 use Rattle.tg_play.proofs.Means.{means}
-use Rattle.tg_client_moves.specs.Moves.{IsKept}
+use Rattle.tg_client_state.specs.Moves.{IsKept}
 use Rattle.tg_client.proofs.ticks.ticked.Goals as goal
 
 pub returns-in-None : goal.returns-in-None

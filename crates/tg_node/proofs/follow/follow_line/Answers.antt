@@ -1,6 +1,6 @@
 use Rattle.std.proofs.Common.{◌≡◌, List, ◌∷◌, Option, Some, None, IfSome, subst, arith}
-use Rattle.tg_node_lines.specs.Lines.{IsAsked}
-use Rattle.tg_node_lines.specs.declared.asked.Asked.{Asked}
+use Rattle.tg_node.specs.Lines.{IsAsked}
+use Rattle.tg_node.specs.declared.asked.Asked.{Asked}
 use Rattle.tg_node.specs.Stages.{seen}
 use Rattle.tg_node.proofs.Following.{line_refused, cut_here}
 use Rattle.tg_node.proofs.Ending.{line_none, line_refuses, refused_sound}

@@ -1,6 +1,6 @@
 use Rattle.std.proofs.Common.{◌≡◌, ◌∷◌, [], ℕ, List, take, sym, ap, ◌∙◌}
 use Rattle.std.proofs.lemmas.Result.{IfOk-weaker}
-use Rattle.tg_wire_format.proofs.Splitting.{split_first}
+use Rattle.tg_wire.proofs.Splitting.{split_first}
 use Rattle.tg_node.proofs.Openings.{first_alone}
 use Rattle.tg_node.proofs.header.first_declares.Goals as goal
 

@@ -1,6 +1,6 @@
-use Rattle.tg_wire_format.proofs.Counts.{is_short}
+use Rattle.tg_wire.proofs.Counts.{is_short}
 use Rattle.tg_wire.proofs.Decoding.{is_spelled}
-use Rattle.tg_wire_format.proofs.Ruled.{packet_fits}
+use Rattle.tg_wire.proofs.Ruled.{packet_fits}
 use Rattle.tg_wire.proofs.coding.encode.Goals as goal
 
 pub spelled-requires : goal.spelled-requires

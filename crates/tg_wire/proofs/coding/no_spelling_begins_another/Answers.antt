@@ -1,6 +1,6 @@
 use Rattle.tg_codec.proofs.Laws.{no_front}
-use Rattle.tg_wire_format.specs.Packets.{packet}
-use Rattle.tg_wire_format.proofs.Packets.{packet_law}
+use Rattle.tg_wire.specs.Packets.{packet}
+use Rattle.tg_wire.proofs.Packets.{packet_law}
 use Rattle.tg_wire.proofs.coding.no_spelling_begins_another.Goals as goal
 
 pub returns : goal.returns

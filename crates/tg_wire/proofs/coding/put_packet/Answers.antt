@@ -1,9 +1,9 @@
 use Rattle.std.proofs.Common.{◌++◌, ◌∷◌, []}
 use Rattle.std.specs.Int.{w64, to_be_bytes}
 use Rattle.tg_codec.proofs.Many.{glue}
-use Rattle.tg_wire_format.specs.Messages.{message}
-use Rattle.tg_wire_format.specs.Packets.{node, packet}
-use Rattle.tg_wire_format.proofs.Splitting.{on_ok}
+use Rattle.tg_wire.specs.Messages.{message}
+use Rattle.tg_wire.specs.Packets.{node, packet}
+use Rattle.tg_wire.proofs.Splitting.{on_ok}
 use Rattle.tg_wire.proofs.coding.put_packet.Goals as goal
 
 pub returns : goal.returns

@@ -1,5 +1,5 @@
-use Rattle.tg_wire_format.proofs.Counts.{is_short}
-use Rattle.tg_wire_format.proofs.Ruled.{packet_fits}
+use Rattle.tg_wire.proofs.Counts.{is_short}
+use Rattle.tg_wire.proofs.Ruled.{packet_fits}
 use Rattle.tg_wire.proofs.coding.size.Goals as goal
 
 pub length_of-requires : goal.length_of-requires

@@ -1,7 +1,7 @@
 use Rattle.std.proofs.Common.{◌++◌, length}
 use Rattle.std.specs.Int.{w16, w64, to_be_bytes}
 use Rattle.tg_codec.proofs.Many.{glue}
-use Rattle.tg_wire_format.proofs.Splitting.{on_ok}
+use Rattle.tg_wire.proofs.Splitting.{on_ok}
 use Rattle.tg_wire.proofs.shapes.put_page.Goals as goal
 
 pub returns : goal.returns

@@ -1,9 +1,9 @@
 use Rattle.std.proofs.Common.{◌++◌, ◌∷◌, [], ◌∙◌, List, ℕ, ap}
 use Rattle.std.specs.Int.{w64, to_be_bytes}
 use Rattle.tg_codec.proofs.Many.{glue}
-use Rattle.tg_wire_format.specs.Fields.{ballot, projection}
-use Rattle.tg_wire_format.proofs.Parts.{spelled_alike}
-use Rattle.tg_wire_format.proofs.Splitting.{on_ok}
+use Rattle.tg_wire.specs.Fields.{ballot, projection}
+use Rattle.tg_wire.proofs.Parts.{spelled_alike}
+use Rattle.tg_wire.proofs.Splitting.{on_ok}
 use Rattle.tg_wire.proofs.shapes.put_proposal.Goals as goal
 
 pub returns : goal.returns

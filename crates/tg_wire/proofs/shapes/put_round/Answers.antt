@@ -1,7 +1,7 @@
 use Rattle.std.specs.Int.{w64, to_be_bytes}
 use Rattle.tg_codec.proofs.Many.{glue}
-use Rattle.tg_wire_format.specs.Fields.{ballot}
-use Rattle.tg_wire_format.proofs.Splitting.{on_ok}
+use Rattle.tg_wire.specs.Fields.{ballot}
+use Rattle.tg_wire.proofs.Splitting.{on_ok}
 use Rattle.tg_wire.proofs.shapes.put_round.Goals as goal
 
 pub returns : goal.returns

@@ -1,6 +1,6 @@
 use Rattle.std.specs.Int.{w64, to_be_bytes}
 use Rattle.tg_codec.proofs.Many.{glue}
-use Rattle.tg_wire_format.proofs.Splitting.{on_ok}
+use Rattle.tg_wire.proofs.Splitting.{on_ok}
 use Rattle.tg_wire.proofs.shapes.put_two.Goals as goal
 
 pub returns : goal.returns

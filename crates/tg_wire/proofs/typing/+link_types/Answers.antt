@@ -1,6 +1,6 @@
 use Rattle.std.proofs.Common.{subst, sym}
-use Rattle.tg_wire_format.specs.Types.{AreLong, AreTypedLinks}
-use Rattle.tg_wire_format.proofs.Splitting.{split_first}
+use Rattle.tg_wire.specs.Types.{AreLong, AreTypedLinks}
+use Rattle.tg_wire.proofs.Splitting.{split_first}
 use Rattle.tg_wire.proofs.typing.+link_types.Goals as goal
 
 pub returns-in-len1-up : goal.returns-in-len1-up

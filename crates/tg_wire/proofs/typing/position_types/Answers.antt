@@ -1,5 +1,5 @@
 use Rattle.std.proofs.Common.{arith}
-use Rattle.tg_wire_format.proofs.Splitting.{all_long}
+use Rattle.tg_wire.proofs.Splitting.{all_long}
 use Rattle.tg_wire.proofs.typing.position_types.Goals as goal
 
 pub returns : goal.returns

@@ -1,7 +1,7 @@
 use Rattle.std.proofs.Common.{sym, subst}
 use Rattle.tg_play.proofs.Means.{means}
 use Rattle.tg_protocol.specs.Answers.{Moved}
-use Rattle.tg_client_work.specs.Tasks.{told_purpose}
+use Rattle.tg_client_state.specs.Tasks.{told_purpose}
 use Rattle.tg_client_state.specs.States.{client_of, KeepsMoved}
 use Rattle.tg_client_state.proofs.Starting.{append_begins, appends_by}
 use Rattle.tg_client_state.proofs.state.State.appends.Goals as goal

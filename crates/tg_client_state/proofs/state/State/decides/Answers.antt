@@ -4,7 +4,7 @@ use Rattle.tg_play.proofs.Means.{means}
 use Rattle.tg_entry.specs.declared.entry.Entry.{Entry}
 use Rattle.tg_model.specs.Kinds.{NoteOf}
 use Rattle.tg_protocol.specs.Answers.{appends, with_decision}
-use Rattle.tg_client_work.specs.Tasks.{told_purpose}
+use Rattle.tg_client_state.specs.Tasks.{told_purpose}
 use Rattle.tg_client_state.specs.States.{client_of, KeepsMoved}
 use Rattle.tg_client_state.proofs.state.State.decides.Goals as goal
 

@@ -1,6 +1,6 @@
 use Rattle.std.proofs.Common.{◌≡◌, ◌∙◌, ℕ, ◌∷◌, Some, None, Option, IfOk, refl, sym, ap, subst}
-use Rattle.tg_live_match.specs.Books.{IsBook}
-use Rattle.tg_live_match.specs.Matching.{with_delivered}
+use Rattle.tg_live.specs.Books.{IsBook}
+use Rattle.tg_live.specs.Matching.{with_delivered}
 use Rattle.tg_live.specs.Sends.{spellings}
 use Rattle.tg_live.specs.Lives.{LiveRan, came_by}
 use Rattle.tg_live.specs.Kept.{KeepsRan}

@@ -1,6 +1,6 @@
 use Rattle.std.proofs.Common.{IfOk, sym, refl, subst}
-use Rattle.tg_node_lines.specs.declared.asked.Asked.{Asked}
-use Rattle.tg_node_lines.specs.declared.asked.Asked.TheVariants.{Tick, Given, Update}
+use Rattle.tg_node.specs.declared.asked.Asked.{Asked}
+use Rattle.tg_node.specs.declared.asked.Asked.TheVariants.{Tick, Given, Update}
 use Rattle.tg_node.specs.Steps.{TookLine}
 use Rattle.tg_node.proofs.Stepping.{took_result}
 use Rattle.tg_node.proofs.nodes.Node.follow.Goals as goal

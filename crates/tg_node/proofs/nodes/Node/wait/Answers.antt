@@ -1,6 +1,6 @@
 use Rattle.std.proofs.Common.{rules, ℕ, ◌≡◌, ◌+◌, ◌<◌, ◌≤◌, ◌∙◌, refl, sym, subst, arith}
 use Rattle.tg_io.proofs.Faults.{sure_since}
-use Rattle.tg_node_lines.specs.declared.asked.Asked.TheVariants.{Wait}
+use Rattle.tg_node.specs.declared.asked.Asked.TheVariants.{Wait}
 use Rattle.tg_node.specs.Steps.{TookLine, Waits}
 use Rattle.tg_node.specs.declared.nodes.Moved.{Moved}
 use Rattle.tg_node.proofs.Stepping.{waits_none, waits_more, waits_stop, waits_full, waits_end, takes_on}

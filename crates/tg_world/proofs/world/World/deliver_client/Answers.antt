@@ -3,7 +3,7 @@ use Rattle.tg_base.specs.declared.packet.Out.{Out}
 use Rattle.tg_base.specs.declared.packet.Packet.{Packet}
 use Rattle.tg_base.specs.declared.ids.NodeId.{NodeId}
 use Rattle.tg_play.proofs.Means.{means}
-use Rattle.tg_world_packets.specs.Posts.{PostState}
+use Rattle.tg_world_servers.specs.Posts.{PostState}
 use Rattle.tg_protocol.specs.Words.{client_id}
 use Rattle.tg_protocol.specs.Clients.{new_client}
 use Rattle.tg_protocol.specs.Worlds as world

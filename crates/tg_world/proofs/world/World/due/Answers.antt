@@ -2,7 +2,7 @@ use Rattle.std.proofs.Common.{◌∙◌, ◌<◌, sym, ap, subst}
 use Rattle.std.specs.Prelude.{Option}
 use Rattle.tg_base.specs.declared.fault.Which.{Which}
 use Rattle.tg_play.proofs.Means.{means}
-use Rattle.tg_world_packets.specs.Posts.{PostState, first_of}
+use Rattle.tg_world_servers.specs.Posts.{PostState, first_of}
 use Rattle.tg_world.specs.Kept.{KeptOf, KeepsWorld}
 use Rattle.tg_world.specs.Runs.{due_by}
 use Rattle.tg_world.proofs.Telling.{due_told}

@@ -1,6 +1,6 @@
 use Rattle.std.proofs.Common.{◌≡◌, ◌<◌, List, map, sym, ap, subst, ◌∙◌}
 use Rattle.tg_base.specs.declared.packet.Out.{Out}
-use Rattle.tg_world_packets.specs.Posts.{posted, packet_from}
+use Rattle.tg_world_servers.specs.Posts.{posted, packet_from}
 use Rattle.tg_world_servers.specs.Rows.{states_of}
 use Rattle.tg_world_servers.specs.Servers.{ServersState, counted, seqr_takes}
 use Rattle.tg_world_servers.proofs.Moving.{whole_turned, has_room}

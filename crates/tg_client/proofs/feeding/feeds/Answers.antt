@@ -1,0 +1,36 @@
+use Rattle.tg_play.proofs.Means.{means}
+use Rattle.tg_client.proofs.Awaited.{sync_fed_as, walk_fed_as, append_fed_as, trims_fed_as, copy_fed_as, reconf_fed_as, walk_kept, copy_kept, reconf_kept}
+use Rattle.tg_client.proofs.feeding.feeds.Goals as goal
+
+pub feeds_walk-requires : goal.feeds_walk-requires
+feeds_walk-requires g c = walk_kept (means g.K.Kind g.K.Registry) c.args.state c.args.task c.in-Walk.walk c.in-Walk.rest c.in-Walk.is c.requires
+
+pub feeds_copy-requires : goal.feeds_copy-requires
+feeds_copy-requires g c = copy_kept (means g.K.Kind g.K.Registry) c.args.state c.args.task c.in-Copy.copy c.in-Copy.is c.requires
+
+pub feeds_reconf-requires : goal.feeds_reconf-requires
+feeds_reconf-requires g c = reconf_kept (means g.K.Kind g.K.Registry) c.args.state c.args.task c.in-Reconf.reconf c.in-Reconf.is c.requires
+
+pub returns-in-Sync : goal.returns-in-Sync
+returns-in-Sync g c = λ r w h i.
+    sync_fed_as (means g.K.Kind g.K.Registry) c.feeds_sync.result c.args.state r w c.args.from c.args.rid c.args.msg.now c.args.task c.in-Sync.sync c.in-Sync.is (c.feeds_sync.ensures r w h) c.requires i
+
+pub returns-in-Walk : goal.returns-in-Walk
+returns-in-Walk g c = λ r w h i.
+    walk_fed_as (means g.K.Kind g.K.Registry) c.feeds_walk.result c.args.state r w c.args.from c.args.rid c.args.msg.now c.args.task c.in-Walk.walk c.in-Walk.rest c.in-Walk.is (c.feeds_walk.ensures r w h) c.requires i
+
+pub returns-in-Append : goal.returns-in-Append
+returns-in-Append g c = λ r w h i.
+    append_fed_as (means g.K.Kind g.K.Registry) c.feeds_append.result c.args.state r w c.args.from c.args.rid c.args.msg.now c.args.task c.in-Append.append c.in-Append.purpose c.in-Append.is (c.feeds_append.ensures r w h) c.requires i
+
+pub returns-in-Trim : goal.returns-in-Trim
+returns-in-Trim g c = λ r w h i.
+    trims_fed_as (means g.K.Kind g.K.Registry) c.feeds_trims.result c.args.state r w c.args.from c.args.rid c.args.msg.now c.args.task c.in-Trim.trims c.in-Trim.is (c.feeds_trims.ensures r w h) c.requires i
+
+pub returns-in-Copy : goal.returns-in-Copy
+returns-in-Copy g c = λ r w h i.
+    copy_fed_as (means g.K.Kind g.K.Registry) c.feeds_copy.result c.args.state r w c.args.from c.args.rid c.args.msg.now c.args.task c.in-Copy.copy c.in-Copy.is (c.feeds_copy.ensures r w h) c.requires i
+
+pub returns-in-Reconf : goal.returns-in-Reconf
+returns-in-Reconf g c = λ r w h i.
+    reconf_fed_as (means g.K.Kind g.K.Registry) c.feeds_reconf.result c.args.state r w c.args.from c.args.rid c.args.msg.now c.args.task c.in-Reconf.reconf c.in-Reconf.is (c.feeds_reconf.ensures r w h) c.requires i

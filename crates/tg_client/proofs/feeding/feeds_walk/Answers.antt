@@ -1,0 +1,20 @@
+use Rattle.std.proofs.Common.{◌≡◌, subst}
+use Rattle.std.specs.Prelude.{IfOk}
+use Rattle.tg_base.specs.declared.packet.Rids.{Rids}
+use Rattle.tg_play.proofs.Means.{means}
+use Rattle.tg_stream.specs.Turns.{shown, by_walk}
+use Rattle.tg_stream.specs.Walks.{walk_fed}
+use Rattle.tg_client_state.specs.States.{client_of, KeepsMoved}
+use Rattle.tg_client.proofs.Fed.{walk_fed_shown, walk_fed_fit, from_oid}
+use Rattle.tg_client.proofs.feeding.feeds_walk.Goals as goal
+
+pub on_walk-requires : goal.on_walk-requires
+on_walk-requires g c =
+    walk_fed_fit (means g.K.Kind g.K.Registry) c.args.state.stand c.args.state.known c.args.walk c.args.from c.args.rid c.args.msg.now c.in_ok-rids.rids.next c.feed.new.rids.next c.in_ok-step.step c.in_ok-step.ensures.turn c.requires
+
+pub returns : goal.returns
+returns g c = λ r w h d.
+    from_oid (means g.K.Kind g.K.Registry) (λ z. IfOk c.on_walk.result (λ x. KeepsMoved (means g.K.Kind g.K.Registry) c.args.state.rids.next x z)) (client_of (means g.K.Kind g.K.Registry) c.args.state r) w c.oid-oid.result c.args.walk.oid c.args.rest
+    (walk_fed c.args.state.stand c.args.walk c.args.from c.args.rid c.args.msg.now c.args.state.rids.next) c.oid-oid.ensures
+    (c.on_walk.ensures r w c.args.state.rids.next (walk_fed c.args.state.stand c.args.walk c.args.from c.args.rid c.args.msg.now c.args.state.rids.next) h
+    (walk_fed_shown (means g.K.Kind g.K.Registry) c.args.state.stand c.args.state.known c.args.walk c.args.from c.args.rid c.args.msg.now c.args.state.rids.next c.feed.new.rids.next c.in_ok-step.step (subst (λ (i : Rids). shown c.in_ok-step.step c.feed.new.rids.next ≡ by_walk i.next (walk_fed c.args.state.stand c.args.walk c.args.from c.args.rid c.args.msg.now i.next)) c.in_ok-rids.ensures.same c.in_ok-step.ensures.turn) d c.requires))

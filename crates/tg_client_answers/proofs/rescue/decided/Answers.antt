@@ -1,0 +1,13 @@
+use Rattle.std.proofs.Common.{sym, ap}
+use Rattle.tg_play.proofs.Means.{means}
+use Rattle.tg_protocol.specs.Answers.{rescue_decision}
+use Rattle.tg_protocol.specs.Clients.{all_entries}
+use Rattle.tg_client_state.specs.States.{client_of}
+use Rattle.tg_client_answers.proofs.TellingPast.{moves_same}
+use Rattle.tg_client_answers.proofs.rescue.decided.Goals as goal
+
+pub returns : goal.returns
+returns g c = λ r w old le hv hj.
+    let m = means g.K.Kind g.K.Registry in
+    let es = all_entries m (client_of m c.args.state r) w w.oids in
+    moves_same m c.decides.result old _ _ (ap (rescue_decision m (client_of m c.args.state r) w es c.args.at c.args.yes) (sym (c.in_ok-found.ensures r w hj))) (c.decides.ensures es r w old le hv hj)

@@ -1,0 +1,145 @@
+//! An object's state is saved in the log.
+
+ghost use Rattle.std.specs.Prelude.{◌≡◌, ◌≤◌, ◌<◌, ◌+◌, ◌-◌, ◌^◌, min, ℕ, [], Some, Err, IfOk};
+ghost use Rattle.tg_base.specs.declared.ids.Oid.{Oid};
+ghost use Rattle.tg_entry.specs.declared.entry.Entry.{Entry};
+ghost use Rattle.tg_kind.specs.Of.{meaning_of};
+ghost use Rattle.tg_model.specs.declared.refusal.Refusal.TheVariants as cause;
+ghost use Rattle.tg_protocol.specs.Answers as told;
+ghost use Rattle.tg_protocol.specs.Checkpoints as ckpts;
+ghost use Rattle.tg_protocol.specs.Clients as rules;
+ghost use Rattle.tg_protocol.specs.Views as views;
+ghost use Rattle.tg_play.specs.Relations.{KeepsView};
+ghost use Rattle.tg_ckpt.specs.Saving.{Saves};
+ghost use Rattle.tg_client_state.specs.Tasks.{KeepsJob};
+ghost use Rattle.tg_client_state.specs.States.{Rest, client_of, KeepsViewIf, KeepsMoved};
+
+use std::alloc::Global;
+use tg_base::{List, NoMemory, Oid, Pos};
+use tg_ckpt::{CkptFault, checkpoint};
+use tg_client_state::{Moved, State, is_object};
+use tg_client_state::{Job, Purpose};
+use tg_entry::Draft;
+use tg_kind::Registry;
+use tg_model::{PlayEnd, Refusal};
+use tg_play::View;
+
+/// The checkpoint of an object as a view has it, by a client that made so many before. `NoMemory` is want of memory, or
+/// of numbers; so is an object that entries can't name.
+fn saved_by<K: Registry>(
+    alloc: Global,
+    view: &View<K>,
+    oid: Oid,
+    upto: Pos,
+    client: u16,
+    made: u32,
+) -> Result<Draft, CkptFault>
+    ensures saves { (v : views.View (meaning_of K.Registry)) → KeepsView (meaning_of K.Registry) view.now v → Saves result (ckpts.checkpoint (meaning_of K.Registry) v oid upto client (made + 1)) }
+    ensures numbers { IfOk result (λ _. made + 1 < 2 ^ 32) }
+{
+    if !is_object(oid) {
+        return Err(CkptFault::NoMemory);
+    }
+    match made.checked_add(1) {
+        None => Err(CkptFault::NoMemory),
+        Some(number) => checkpoint(alloc, view, oid, upto, client, number),
+    }
+}
+
+/// Likewise as the kept view has it.
+fn saved<K: Registry>(
+    state: &State<K>,
+    alloc: Global,
+    oid: Oid,
+    upto: Pos,
+) -> Result<Draft, CkptFault>
+    ensures saves { (v : views.View (meaning_of K.Registry)) → KeepsViewIf (meaning_of K.Registry) state.now.view (Some v) → Saves result (ckpts.checkpoint (meaning_of K.Registry) v oid upto state.now.num (state.now.checkpoints + 1)) }
+    ensures numbers { IfOk result (λ _. state.now.checkpoints + 1 < 2 ^ 32) }
+{
+    match &state.view {
+        None => Err(CkptFault::NoMemory),
+        Some(view) => saved_by(alloc, view, oid, upto, state.num, state.checkpoints),
+    }
+}
+
+/// The checkpoint is appended. An `Err` is want of memory, or of numbers.
+fn puts<K: Registry>(
+    state: State<K>,
+    alloc: Global,
+    job: Job<K>,
+    oid: Oid,
+    draft: Draft,
+) -> Result<Moved<K>, NoMemory>
+    requires { state.checkpoints + 1 < 2 ^ 32 }
+    ensures { (r : Rest (meaning_of K.Registry)) (w : rules.Work (meaning_of K.Registry)) (old : ℕ) → old ≤ state.rids.next → KeepsViewIf (meaning_of K.Registry) state.view r.view → KeepsJob (meaning_of K.Registry) job w → IfOk result (λ x. KeepsMoved (meaning_of K.Registry) old x (told.appends (meaning_of K.Registry) (record (client_of (meaning_of K.Registry) state r) { checkpoints = state.checkpoints + 1 }) w draft (rules.Saves oid job.tail) [])) }
+{
+    let checkpoints = state.checkpoints + 1;
+    let purpose = Purpose::Saves {
+        oid,
+        upto: job.tail,
+    };
+    let mut state = state;
+    state.checkpoints = checkpoints;
+    state.appends(alloc, job, draft, purpose, List::new(alloc))
+}
+
+/// The checkpoint would have too many bytes. An `Err` is want of memory; and a number of bytes that has no type.
+fn too_large<K: Registry>(
+    state: State<K>,
+    alloc: Global,
+    bytes: usize,
+) -> Result<Moved<K>, NoMemory>
+    ensures { (size : ℕ) (r : Rest (meaning_of K.Registry)) (old : ℕ) → bytes ≡ min size (2 ^ 64 - 1) → KeepsViewIf (meaning_of K.Registry) state.view r.view → IfOk result (λ x. KeepsMoved (meaning_of K.Registry) old x (told.refuses (meaning_of K.Registry) (client_of (meaning_of K.Registry) state r) 0 (cause.TooLarge size))) }
+{
+    if bytes == usize::MAX {
+        return Err(NoMemory);
+    }
+    state.refuses(alloc, 0, Refusal::TooLarge { bytes })
+}
+
+/// The object isn't saved. An `Err` is want of memory, or of numbers.
+fn unsaved<K: Registry>(
+    state: State<K>,
+    alloc: Global,
+    fault: CkptFault,
+) -> Result<Moved<K>, NoMemory>
+    ensures { (w : rules.Work (meaning_of K.Registry)) (o : Oid) (e : Entry) (r : Rest (meaning_of K.Registry)) (old : ℕ) → Saves (Err fault) e → KeepsViewIf (meaning_of K.Registry) state.view r.view → IfOk result (λ x. KeepsMoved (meaning_of K.Registry) old x (told.saves (meaning_of K.Registry) (client_of (meaning_of K.Registry) state r) w o e)) }
+{
+    match fault {
+        CkptFault::TooLarge { bytes } => too_large(state, alloc, bytes),
+        _ => Err(NoMemory),
+    }
+}
+
+/// The object is saved as the kept view has it, unless that takes more than a page.
+fn saves<K: Registry>(
+    state: State<K>,
+    alloc: Global,
+    job: Job<K>,
+    oid: Oid,
+) -> Result<Moved<K>, NoMemory>
+    ensures { (r : Rest (meaning_of K.Registry)) (w : rules.Work (meaning_of K.Registry)) (v : views.View (meaning_of K.Registry)) (old : ℕ) → r.view ≡ Some v → old ≤ state.rids.next → KeepsViewIf (meaning_of K.Registry) state.view r.view → KeepsJob (meaning_of K.Registry) job w → IfOk result (λ x. KeepsMoved (meaning_of K.Registry) old x (told.saves (meaning_of K.Registry) (client_of (meaning_of K.Registry) state r) w oid (ckpts.checkpoint (meaning_of K.Registry) v oid w.tail state.num (state.checkpoints + 1)))) }
+{
+    match saved(&state, alloc, oid, job.tail) {
+        Ok(draft) => puts(state, alloc, job, oid, draft),
+        Err(fault) => unsaved(state, alloc, fault),
+    }
+}
+
+/// What `checkpoint` comes to: the object is saved as the view has it. An `Err` is want of memory, or of numbers.
+pub fn on_checkpoint<K: Registry>(
+    state: State<K>,
+    alloc: Global,
+    job: Job<K>,
+    oid: Oid,
+    came: PlayEnd,
+) -> Result<Moved<K>, NoMemory>
+    ensures { (r : Rest (meaning_of K.Registry)) (w : rules.Work (meaning_of K.Registry)) (v : views.View (meaning_of K.Registry)) (old : ℕ) → r.view ≡ Some v → old ≤ state.rids.next → KeepsViewIf (meaning_of K.Registry) state.view r.view → KeepsJob (meaning_of K.Registry) job w → IfOk result (λ x. KeepsMoved (meaning_of K.Registry) old x (told.on_checkpoint (meaning_of K.Registry) (client_of (meaning_of K.Registry) state r) w v oid came)) }
+{
+    match came {
+        PlayEnd::Played { .. } => saves(state, alloc, job, oid),
+        PlayEnd::Blocked { pos, missing } => {
+            state.refuses(alloc, 0, Refusal::Undecided { pos, missing })
+        }
+    }
+}

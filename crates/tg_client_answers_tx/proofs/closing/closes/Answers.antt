@@ -1,6 +1,0 @@
-use Rattle.tg_play.proofs.Means.{means}
-use Rattle.tg_client_answers_tx.proofs.Telling.{closed_told}
-use Rattle.tg_client_answers_tx.proofs.closing.closes.Goals as goal
-
-pub returns : goal.returns
-returns g c = λ r old h. closed_told (means g.K.Kind g.K.Registry) c.args.state c.closed.result r old c.tx_number-number.result c.args.what c.answers.result c.closed.ensures c.tx_number-number.ensures h (c.answers.ensures r old)

@@ -1,4 +1,0 @@
-mod Accepted
-mod Early
-mod Putting
-pub mod Said

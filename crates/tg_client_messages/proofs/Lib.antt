@@ -1,4 +1,0 @@
-pub mod Fed
-pub mod Awaited
-pub mod Resumed
-pub mod Delivered

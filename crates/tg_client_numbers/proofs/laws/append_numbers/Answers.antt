@@ -1,5 +1,0 @@
-use Rattle.tg_client_numbers.proofs.Appends.{append_numbers}
-use Rattle.tg_client_numbers.proofs.laws.append_numbers.Goals as goal
-
-pub returns : goal.returns
-returns c = append_numbers

@@ -1,5 +1,0 @@
-use Rattle.tg_client_numbers.proofs.Nears.{append_stays_near}
-use Rattle.tg_client_numbers.proofs.laws.append_stays_near.Goals as goal
-
-pub returns : goal.returns
-returns c = append_stays_near

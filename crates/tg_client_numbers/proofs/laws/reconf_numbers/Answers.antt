@@ -1,5 +1,0 @@
-use Rattle.tg_client_numbers.proofs.Reconfs.{reconf_numbers}
-use Rattle.tg_client_numbers.proofs.laws.reconf_numbers.Goals as goal
-
-pub returns : goal.returns
-returns c = reconf_numbers

@@ -1,5 +1,0 @@
-use Rattle.tg_client_numbers.proofs.Syncs.{sync_numbers}
-use Rattle.tg_client_numbers.proofs.laws.sync_numbers.Goals as goal
-
-pub returns : goal.returns
-returns c = sync_numbers

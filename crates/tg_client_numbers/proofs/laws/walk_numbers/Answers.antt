@@ -1,5 +1,0 @@
-use Rattle.tg_client_numbers.proofs.Walks.{walk_numbers}
-use Rattle.tg_client_numbers.proofs.laws.walk_numbers.Goals as goal
-
-pub returns : goal.returns
-returns c = walk_numbers

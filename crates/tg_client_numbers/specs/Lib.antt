@@ -1,3 +1,0 @@
-pub mod Numbers
-pub mod Near
-pub mod Laws

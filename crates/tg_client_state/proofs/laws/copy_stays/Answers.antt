@@ -1,0 +1,5 @@
+use Rattle.tg_client_state.proofs.Stays.{copy_stays}
+use Rattle.tg_client_state.proofs.laws.copy_stays.Goals as goal
+
+pub returns : goal.returns
+returns c = copy_stays

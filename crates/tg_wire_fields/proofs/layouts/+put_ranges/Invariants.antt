@@ -1,5 +1,0 @@
-use Rattle.std.proofs.Common.{length}
-use Rattle.tg_wire_fields.proofs.layouts.+put_ranges.Given as goal
-
-abbrev pub decreases-put_ranges : goal.decreases-put_ranges
-decreases-put_ranges l = length l.values.now
