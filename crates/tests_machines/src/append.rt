@@ -2,9 +2,8 @@ ghost use Rattle.std.specs.Prelude.{◌≡◌, ◌≤◌, ◌<◌, ◌^◌, [], 
 
 use std::alloc::Global;
 use std::test::Fail;
-use tg_append::{
-    Append, AppendEnd, AppendStep, Confirmed, Next, PausedAppend, Sync, SyncStep, has_room,
-};
+use tg_append::{Append, AppendEnd, AppendStep, Confirmed, PausedAppend, Sync, SyncStep, has_room};
+use tg_chain::Next;
 use tg_base::{
     Backs, Cell, Chain, List, Msg, NoMemory, NodeId, Oid, Out, Projection, Range, Rids, Role,
     StreamLink,

@@ -6,14 +6,11 @@ use tg_base::{
     StreamLink,
 };
 use tg_ckpt::fresh_base;
-use tg_client_answers::walked;
-use tg_client_answers::{on_ask_at, on_rescue};
-use tg_client_answers::{answer_of, on_ask, on_decide, on_end, on_fate};
-use tg_client_answers::{on_checkpoint, on_forget, on_trim};
+use tg_client_answers::{
+    answer_of, on_ask, on_ask_at, on_checkpoint, on_decide, on_end, on_fate, on_forget, on_rescue, on_trim, walked,
+};
 use tg_client_cells::{Known, StreamPositions};
-use tg_client_state::learns;
-use tg_client_state::{HeaderObjects, Moved, State};
-use tg_client_state::{Job, Paused, Purpose};
+use tg_client_state::{HeaderObjects, Job, Moved, Paused, Purpose, State, learns};
 use tg_dir::{Directory, DirectoryAns, DirectoryAsk};
 use tg_entry::{Body, Entries, Entry, Head, WriteOp};
 use tg_kind::Kind;

@@ -1,5 +1,4 @@
 pub mod Cells
-pub mod Chains
 pub mod Frees
 pub mod Pages
 pub mod Outs

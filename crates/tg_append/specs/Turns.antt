@@ -3,9 +3,9 @@ use Rattle.std.specs.Prelude.{ℕ, ◌+◌, List, [], ◌∷◌, ◌++◌}
 use Rattle.tg_base.specs.declared.packet.Out.{Out}
 use Rattle.tg_chain.specs.Turns.{drawn_between}
 use Rattle.tg_protocol.specs.Requests.{Next, Goes, Learns, Ends, Turn}
-use Rattle.tg_append.specs.declared.step.Step.{Step}
-use Rattle.tg_append.specs.declared.step.Next.{Next as Given}
-use Rattle.tg_append.specs.declared.step.Next.TheVariants as given
+use Rattle.tg_chain.specs.declared.step.Step.{Step}
+use Rattle.tg_chain.specs.declared.step.Next.{Next as Given}
+use Rattle.tg_chain.specs.declared.step.Next.TheVariants as given
 
 -- what becomes of a machine: of one that has to learn a newer layout, what goes on there
 pub data Then (M P E : Type 0) : Type 0 where

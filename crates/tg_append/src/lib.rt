@@ -5,15 +5,13 @@
 
 mod append;
 mod append_state;
-mod asking;
 mod ends;
 mod laws;
 mod links;
 mod page;
-mod place;
-mod step;
 mod sync;
 mod sync_state;
+mod telling;
 mod token;
 
 pub use append::{Append, AppendStep, PausedAppend};
@@ -25,5 +23,4 @@ pub use laws::{
     syncs_keep,
 };
 pub use page::has_room;
-pub use step::{Next, Step};
 pub use sync::{Sync, SyncStep};

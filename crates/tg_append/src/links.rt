@@ -6,7 +6,7 @@ ghost use Rattle.tg_protocol.specs.Appending.{names_all, is_link, is_falling};
 ghost use Rattle.tg_protocol.specs.Words.{too_far};
 ghost use Rattle.std.specs.List.{list_all};
 
-use crate::asking::FAR;
+use tg_chain::FAR;
 use tg_base::{Oid, StreamLink};
 
 /// Whether each position is below the one before it.

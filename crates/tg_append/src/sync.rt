@@ -15,12 +15,13 @@ ghost use Rattle.tg_append.specs.Needs.{sync_needs, checking_needs, settling_nee
 ghost use Rattle.tg_append.specs.Turns.{shown};
 ghost use Rattle.tg_append.specs.Syncs.{oids_of, sync_at, checking, settling, probing, confirmed_of, sync_fed, by_sync};
 
-use crate::asking::{FAR, answers, one, sequencer, tell};
+use crate::telling::tell;
+use tg_chain::{
+    FAR, FillCell, FillCellEnd, Next, Probe, ProbeEnd, Step, answers, one, sequencer, units_at,
+};
 use crate::ends::Confirmed;
 use crate::links::name_all;
 use crate::page::copied;
-use crate::place::units_at;
-use crate::step::{Next, Step};
 use crate::sync_state::SyncState;
 use crate::token::Answer;
 use std::alloc::Global;
@@ -28,7 +29,6 @@ use std::marker::Model;
 use tg_base::{
     Cell, Epoch, List, Msg, NoMemory, NodeId, Oid, Out, Pos, Projection, Rids, StreamLink, Turn,
 };
-use tg_chain::{FillCell, FillCellEnd, Probe, ProbeEnd};
 
 /// A step of a sync. In a newer layout it starts over with the same objects.
 pub type SyncStep = Step<Sync, List<Oid>, Confirmed>;

@@ -32,6 +32,6 @@ from_one to from rid number = ap (λ b. b && (rid == number)) (node_same to from
 pub answers_one : (to from : NodeId) (rid number : ℕ) → (node_eq to from && (rid == number)) ≡ is_answer to rid from number
 answers_one to from rid number = sym (or_false (node_eq to from && (rid == number)))
 
-pub awaits_each : (m : Msg) (ws : Waits) (from : NodeId) (rid : ℕ) → waits_on ws from rid ≡ awaits (asked_of unit_id m ws) from rid
+pub awaits_each : (m : Msg) (ws : Waits) (from : NodeId) (rid : ℕ) → waits_on role.Unit ws from rid ≡ awaits (asked_of unit_id m ws) from rid
 awaits_each m [] from rid = refl
 awaits_each m (w ∷ ws) from rid = ap (λ b. (node_eq (unit_id w.0) from && (w.1 == rid)) || b) (awaits_each m ws from rid)

@@ -3,14 +3,34 @@
 ghost use Rattle.std.specs.Prelude.{◌≡◌, ◌&&◌, ◌==◌, [], ◌∷◌, IfOk};
 ghost use Rattle.tg_base.specs.declared.cell.Cell.TheVariants.{Data};
 ghost use Rattle.tg_protocol.specs.Requests.{out};
-ghost use Rattle.tg_protocol.specs.Words.{cell_eq, node_eq};
+ghost use Rattle.tg_protocol.specs.Words.{cell_eq, node_eq, seqr_id, unit_id};
 ghost use Rattle.tg_chain.specs.Waits.{is_answer};
 
 use std::alloc::Global;
-use tg_base::{Blob, Cell, List, Msg, NoMemory, NodeId, Out};
+use tg_base::{Blob, Cell, List, Msg, NoMemory, NodeId, Out, Role};
 
 /// Answers that name a position from here on are passed by.
 pub const FAR: u64 = 1 << 62;
+
+/// The name of a unit.
+pub fn unit(num: u16) -> NodeId
+    ensures { result ≡ unit_id num }
+{
+    NodeId {
+        role: Role::Unit,
+        num,
+    }
+}
+
+/// The name of a sequencer.
+pub fn sequencer(num: u16) -> NodeId
+    ensures { result ≡ seqr_id num }
+{
+    NodeId {
+        role: Role::Seqr,
+        num,
+    }
+}
 
 /// A single request.
 pub fn one(alloc: Global, to: NodeId, rid: u64, msg: Msg) -> Result<List<Out>, NoMemory>

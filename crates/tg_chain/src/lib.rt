@@ -12,10 +12,13 @@ mod get;
 mod get_state;
 mod laws;
 mod learn;
+mod place;
 mod probe;
 mod put;
+mod step;
 mod waits;
 
+pub use asking::{FAR, answers, is_from, is_page, is_same_cell, one, sequencer, unit};
 pub use ends::{FillCellEnd, GetCellEnd, LearnEnd, ProbeEnd, PutCellEnd};
 pub use fill::FillCell;
 pub use get::GetCell;
@@ -24,5 +27,8 @@ pub use laws::{
     waits_for_answers,
 };
 pub use learn::Learn;
+pub use place::units_at;
 pub use probe::Probe;
 pub use put::PutCell;
+pub use step::{Next, Step};
+pub use waits::{ask_alike, ask_servers, ask_units, has_rid, is_awaited, without};

@@ -126,7 +126,7 @@ impl Probe {
     fn is_answered(&self, from: NodeId, rid: u64) -> bool
         ensures { result ≡ awaits (cell_asks self.now) from rid }
     {
-        is_awaited(self.waits.as_slice(), from, rid)
+        is_awaited(Role::Unit, self.waits.as_slice(), from, rid)
     }
 
     /// A message is passed by.

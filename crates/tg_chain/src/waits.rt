@@ -1,19 +1,17 @@
 //! Several nodes that are asked alike, each under a number of its own.
 
-ghost use Rattle.std.specs.Prelude.{ℕ, ◌≡◌, ◌<◌, ◌≤◌, ◌+◌, ◌^◌, ◌++◌, length, OnOk, OnErr};
+ghost use Rattle.std.specs.Prelude.{ℕ, ◌≡◌, ◌<◌, ◌+◌, ◌^◌, ◌++◌, length, IfOk, OnOk};
 ghost use Rattle.tg_protocol.specs.Requests.{waits_for, asked_of, without_wait};
-ghost use Rattle.tg_chain.specs.Waits.{waits_on};
+ghost use Rattle.tg_protocol.specs.Reconfiguring.{has_rid as has_answer};
 ghost use Rattle.tg_protocol.specs.Words.{numbers};
+ghost use Rattle.tg_chain.specs.Waits.{waits_on};
 
 use crate::asking::is_from;
+use std::alloc::Global;
 use tg_base::{List, Msg, NoMemory, NodeId, Out, Rids, Role};
 
 /// Each of these nodes draws the next number.
-pub fn ask_each(
-    nodes: &[u16],
-    rids: &mut Rids,
-    waits: &mut List<(u16, u64)>,
-) -> Result<(), NoMemory>
+pub fn ask_each(nodes: &[u16], rids: &mut Rids, waits: &mut List<(u16, u64)>) -> Result<(), NoMemory>
     requires { rids.old.next + length nodes.now < 2 ^ 63 }
     ensures waits { OnOk result (waits.new ≡ waits.old ++ waits_for nodes.now rids.old.next) }
     ensures next { OnOk result (rids.new.next ≡ rids.old.next + length nodes.now) }
@@ -26,6 +24,21 @@ pub fn ask_each(
             ask_each(others, rids, waits)
         }
     }
+}
+
+/// Each of these units draws the next number.
+pub fn ask_units(
+    alloc: Global,
+    units: &[u16],
+    rids: &mut Rids,
+) -> Result<List<(u16, u64)>, NoMemory>
+    requires { rids.old.next + length units.now < 2 ^ 63 }
+    ensures waits { IfOk result (λ waits. waits ≡ waits_for units.now rids.old.next) }
+    ensures next { OnOk result (rids.new.next ≡ rids.old.next + length units.now) }
+{
+    let mut waits = List::new(alloc);
+    ask_each(units, rids, &mut waits)?;
+    Ok(waits)
 }
 
 /// So many nodes from a first one on each draw the next number.
@@ -46,6 +59,21 @@ pub fn ask_from(
     let rid = rids.draw();
     waits.push((first, rid))?;
     ask_from(first + 1, count - 1, rids, waits)
+}
+
+/// Each layout server draws the next number.
+pub fn ask_servers(
+    alloc: Global,
+    layouts: u16,
+    rids: &mut Rids,
+) -> Result<List<(u16, u64)>, NoMemory>
+    requires { rids.old.next < 2 ^ 62 }
+    ensures waits { IfOk result (λ waits. waits ≡ waits_for (numbers layouts 0) rids.old.next) }
+    ensures next { OnOk result (rids.new.next ≡ rids.old.next + layouts) }
+{
+    let mut waits = List::new(alloc);
+    ask_from(0, layouts, rids, &mut waits)?;
+    Ok(waits)
 }
 
 /// The requests to these nodes.
@@ -73,31 +101,39 @@ pub fn ask_alike(
     }
 }
 
-/// Whether a message from a node under a number answers one of the requests to these units.
-pub fn is_awaited(waits: &[(u16, u64)], from: NodeId, number: u64) -> bool
-    ensures { result ≡ waits_on waits.now from number }
+/// Whether a message from a node under a number answers one of the requests to these nodes, whatever they ask.
+pub fn is_awaited(role: Role, waits: &[(u16, u64)], from: NodeId, number: u64) -> bool
+    ensures { result ≡ waits_on role waits.now from number }
 {
     match waits {
         [] => false,
         [(num, rid), others @ ..] => {
-            let to = NodeId {
-                role: Role::Unit,
-                num: *num,
-            };
+            let to = NodeId { role, num: *num };
             if is_from(to, *rid, from, number) {
                 return true;
             }
-            is_awaited(others, from, number)
+            is_awaited(role, others, from, number)
+        }
+    }
+}
+
+/// Whether a request to this node has this number.
+pub fn has_rid(node: u16, number: u64, waits: &[(u16, u64)]) -> bool
+    ensures { result ≡ has_answer node number waits.now }
+{
+    match waits {
+        [] => false,
+        [(num, rid), others @ ..] => {
+            if *num == node && *rid == number {
+                return true;
+            }
+            has_rid(node, number, others)
         }
     }
 }
 
 /// Those that wait for other nodes than this one.
-pub fn keep_others(
-    node: u16,
-    waits: &[(u16, u64)],
-    kept: &mut List<(u16, u64)>,
-) -> Result<(), NoMemory>
+pub fn keep_others(node: u16, waits: &[(u16, u64)], kept: &mut List<(u16, u64)>) -> Result<(), NoMemory>
     ensures { OnOk result (kept.new ≡ kept.old ++ without_wait node waits.now) }
 {
     match waits {
@@ -110,4 +146,17 @@ pub fn keep_others(
             keep_others(node, others, kept)
         }
     }
+}
+
+/// What is still awaited where this node has answered.
+pub fn without(
+    alloc: Global,
+    node: u16,
+    waits: &List<(u16, u64)>,
+) -> Result<List<(u16, u64)>, NoMemory>
+    ensures { IfOk result (λ kept. kept ≡ without_wait node waits.now) }
+{
+    let mut kept = List::new(alloc);
+    keep_others(node, waits.as_slice(), &mut kept)?;
+    Ok(kept)
 }

@@ -9,8 +9,8 @@ use Rattle.tg_protocol.specs.Appending.{Append, AppendEnd, AppendTurn, append_as
 use Rattle.tg_protocol.specs.Answers.{Moved}
 use Rattle.tg_protocol.specs.Clients as told
 use Rattle.tg_protocol.specs.ClientSteps.{task_asks, goes_on, learns_for, append_ended, append_to, on_append}
-use Rattle.tg_append.specs.declared.step.Step.{Step}
-use Rattle.tg_append.specs.declared.step.Next.TheVariants as given
+use Rattle.tg_chain.specs.declared.step.Step.{Step}
+use Rattle.tg_chain.specs.declared.step.Next.TheVariants as given
 use Rattle.tg_append.specs.declared.ends.AppendEnd.{AppendEnd as GivenEnd}
 use Rattle.tg_append.specs.Turns.{given_to}
 use Rattle.tg_append.specs.Appends.{Paused, paused, append_end}

@@ -12,8 +12,8 @@ use Rattle.tg_protocol.specs.Trimming.{Copying, CopyEnd, CopyTurn, copy_asks}
 use Rattle.tg_protocol.specs.Answers.{Moved, note, replies}
 use Rattle.tg_protocol.specs.Clients as told
 use Rattle.tg_protocol.specs.ClientSteps.{task_asks, goes_on, learns_for, copy_to, on_copy}
-use Rattle.tg_copy.specs.declared.step.Step.{Step}
-use Rattle.tg_copy.specs.declared.step.Next.TheVariants as given
+use Rattle.tg_chain.specs.declared.step.Step.{Step}
+use Rattle.tg_chain.specs.declared.step.Next.TheVariants as given
 use Rattle.tg_copy.specs.declared.ends.CopyEnd.{CopyEnd as GivenEnd}
 use Rattle.tg_copy.specs.Turns.{On, Paused as Waits, Over, given_to, ruled_to, new_asks, spare_of, copy_end}
 use Rattle.tg_client_state.specs.Laws.{ThenHasStripe}

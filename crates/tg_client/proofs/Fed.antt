@@ -16,7 +16,7 @@ use Rattle.tg_protocol.specs.Syncing.{Sync, sync_asks}
 use Rattle.tg_protocol.specs.Walking.{Walk, Members, WalkTurn, walk_asks}
 use Rattle.tg_protocol.specs.Trimming.{Trims, trim_asks, Copying, copy_asks}
 use Rattle.tg_protocol.specs.Reconfiguring.{Reconf, reconf_awaited, reconf_latest}
-use Rattle.tg_append.specs.declared.step.Step.{Step}
+use Rattle.tg_chain.specs.declared.step.Step.{Step}
 use Rattle.tg_append.specs.declared.ends.AppendEnd.{AppendEnd}
 use Rattle.tg_append.specs.declared.ends.Confirmed.{Confirmed}
 use Rattle.tg_append.specs.Turns.{shown}
@@ -24,15 +24,15 @@ use Rattle.tg_append.specs.Appends.{Paused, append_end, append_fed, by_append}
 use Rattle.tg_append.specs.SyncLaws.{answer_in}
 use Rattle.tg_append.specs.Syncs.{confirmed_of, sync_fed, by_sync}
 use Rattle.tg_stream.specs.declared.members.Members.{Members as Found}
-use Rattle.tg_stream.specs.declared.step.Step.{Step as WalkStep}
-use Rattle.tg_stream.specs.declared.step.Next.{Next as Given}
-use Rattle.tg_stream.specs.declared.step.Next.TheVariants as given
+use Rattle.tg_chain.specs.declared.step.Step.{Step as WalkStep}
+use Rattle.tg_chain.specs.declared.step.Next.{Next as Given}
+use Rattle.tg_chain.specs.declared.step.Next.TheVariants as given
 use Rattle.tg_stream.specs.Turns.{Over, given_to, ruled_to, shown as walk_shown, by_walk}
 use Rattle.tg_stream.specs.Walks.{Course, members_of, walk_fed, walk_fed_if}
 use Rattle.tg_trim.specs.declared.step.Step.{Step as TrimStep}
 use Rattle.tg_trim.specs.declared.ends.TrimEnd.{TrimEnd}
 use Rattle.tg_trim.specs.Turns.{shown as trim_shown, by_trim, trim_fed}
-use Rattle.tg_copy.specs.declared.step.Step.{Step as CopyStep}
+use Rattle.tg_chain.specs.declared.step.Step.{Step as CopyStep}
 use Rattle.tg_copy.specs.declared.ends.CopyEnd.{CopyEnd}
 use Rattle.tg_copy.specs.Stripes.{HasStripe}
 use Rattle.tg_copy.specs.Turns.{shown as copy_shown, spare_of, by_copy}

@@ -19,14 +19,14 @@ use Rattle.tg_protocol.specs.Answers.{Moved}
 use Rattle.tg_protocol.specs.Clients as told
 use Rattle.tg_protocol.specs.ClientSteps.{task_awaited, task_again, stands, on_sync, on_walk, on_append, on_trims, copies_again, on_reconf, on_newer}
 use Rattle.tg_protocol.specs.Clients.{copy_fault}
-use Rattle.tg_append.specs.declared.step.Step.{Step}
+use Rattle.tg_chain.specs.declared.step.Step.{Step}
 use Rattle.tg_append.specs.declared.ends.AppendEnd.{AppendEnd}
 use Rattle.tg_append.specs.declared.ends.Confirmed.{Confirmed}
 use Rattle.tg_append.specs.Turns.{shown}
 use Rattle.tg_append.specs.Appends.{Paused, append_at, append_end, by_append}
 use Rattle.tg_append.specs.Syncs.{confirmed_of, by_sync}
 use Rattle.tg_stream.specs.declared.members.Members.{Members as Found}
-use Rattle.tg_stream.specs.declared.step.Step.{Step as WalkStep}
+use Rattle.tg_chain.specs.declared.step.Step.{Step as WalkStep}
 use Rattle.tg_stream.specs.Turns.{shown as walk_shown, by_walk}
 use Rattle.tg_stream.specs.Walks.{Course, course_of, walk_of}
 use Rattle.tg_stream.proofs.Visits.{on-zero, on-none, on-known, on-unknown}

@@ -18,7 +18,7 @@ use Rattle.tg_model.specs.declared.refusal.Refusal.{Refusal}
 use Rattle.tg_protocol.specs.Clients.{by_layout, copy_fault}
 use Rattle.tg_protocol.specs.Clients as told
 use Rattle.tg_protocol.specs.ClientSteps.{task_asks, goes_on, stands, copies_again}
-use Rattle.tg_copy.specs.declared.step.Step.{Step as CopyStep}
+use Rattle.tg_chain.specs.declared.step.Step.{Step as CopyStep}
 use Rattle.tg_copy.specs.declared.ends.CopyEnd.{CopyEnd as GivenEnd}
 use Rattle.tg_copy.specs.Stripes.{HasStripe}
 use Rattle.tg_copy.specs.Turns.{spare_of, shown as copy_shown, by_copy}

@@ -7,14 +7,14 @@ use Rattle.tg_protocol.specs.Trimming.{Trims, TrimTurn, trim_asks, Copying, Copy
 use Rattle.tg_base.specs.declared.packet.Out.{Out}
 use Rattle.tg_protocol.specs.Requests.{drawn_from}
 use Rattle.tg_protocol.specs.Reconfiguring.{Reconf, ReconfTurn, reconf_asks, reconf_awaited}
-use Rattle.tg_append.specs.declared.step.Step.{Step as AppendStep}
+use Rattle.tg_chain.specs.declared.step.Step.{Step as AppendStep}
 use Rattle.tg_append.specs.declared.ends.AppendEnd.{AppendEnd}
 use Rattle.tg_append.specs.Turns.{shown as append_shown}
 use Rattle.tg_append.specs.Appends.{Paused, append_end, by_append}
 use Rattle.tg_trim.specs.declared.step.Step.{Step as TrimStep}
 use Rattle.tg_trim.specs.declared.ends.TrimEnd.{TrimEnd}
 use Rattle.tg_trim.specs.Turns.{shown as trim_shown, by_trim}
-use Rattle.tg_copy.specs.declared.step.Step.{Step as CopyStep}
+use Rattle.tg_chain.specs.declared.step.Step.{Step as CopyStep}
 use Rattle.tg_copy.specs.declared.ends.CopyEnd.{CopyEnd}
 use Rattle.tg_copy.specs.Turns.{shown as copy_shown, by_copy}
 use Rattle.tg_reconf.specs.declared.step.Step.{Step as ReconfStep}

@@ -15,11 +15,10 @@ ghost use Rattle.tg_client.specs.Shown.{AppendShown};
 
 use crate::records::{knows_page, owns, tx_number};
 use std::alloc::Global;
-use tg_append::{AppendEnd, AppendStep, Next};
+use tg_append::{AppendEnd, AppendStep};
+use tg_chain::Next;
 use tg_base::{Blob, List, NoMemory, Oid, Pos, Rids};
-use tg_client_state::{goes_on, learns, meets};
-use tg_client_state::{Moved, State, one_note};
-use tg_client_state::{Job, Paused, Purpose, Task};
+use tg_client_state::{Job, Moved, Paused, Purpose, State, Task, goes_on, learns, meets, one_note};
 use tg_kind::Registry;
 use tg_model::{Command, CommandOf, Note, NoteOf, Refusal, What, WhatOf};
 

@@ -14,9 +14,7 @@ ghost use Rattle.tg_client.specs.Shown.{ReconfShown, Changes};
 
 use std::alloc::Global;
 use tg_base::{Change, List, NoMemory, Out, Projection, Rids, Stand};
-use tg_client_state::{drawing, goes_on, learns};
-use tg_client_state::{Moved, State, one_note};
-use tg_client_state::{Job, Paused, Task};
+use tg_client_state::{Job, Moved, Paused, State, Task, drawing, goes_on, learns, one_note};
 use tg_kind::Registry;
 use tg_model::{Refusal, What};
 use tg_reconf::{Next, Reconf, ReconfEnd, Step};

@@ -15,8 +15,7 @@ use crate::ticks::ticked;
 use std::alloc::Global;
 use tg_base::{Cell, Cluster, Epoch, List, Msg, NoMemory, NodeId, Oid, Out, Pos, Rids};
 use tg_client_cells::Known;
-use tg_client_state::{HeaderObjects, Moved, State};
-use tg_client_state::Work;
+use tg_client_state::{HeaderObjects, Moved, State, Work};
 use tg_kind::Registry;
 use tg_model::{CommandOf, NoteOf};
 

@@ -9,7 +9,7 @@ ghost use Rattle.tg_client_state.specs.States.{KeepsMoved};
 ghost use Rattle.tg_client.specs.Kept.{KeepsStep};
 
 use tg_base::NoMemory;
-use crate::next_count;
+use crate::small::next_count;
 use tg_client_state::Moved;
 use tg_kind::Registry;
 

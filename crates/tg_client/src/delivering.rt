@@ -15,9 +15,7 @@ use crate::again::goes_on_in;
 use crate::feeding::feeds;
 use std::alloc::Global;
 use tg_base::{Msg, NoMemory, NodeId, Projection, Role};
-use tg_client_state::stays;
-use tg_client_state::{Moved, State};
-use tg_client_state::{Hand, Paused, Work};
+use tg_client_state::{Hand, Moved, Paused, State, Work, stays};
 use tg_kind::Registry;
 
 /// The layout that a message tells, if it tells one of an epoch that has a number.

@@ -16,8 +16,7 @@ ghost use Rattle.tg_client.specs.Idle.{idle};
 use std::alloc::Global;
 use tg_base::{Blob, List, NoMemory, Oid, Part};
 use tg_client_cells::StreamPositions;
-use tg_client_state::{Moved, State};
-use tg_client_state::Job;
+use tg_client_state::{Job, Moved, State};
 use tg_kind::{Key, Registry, Scope};
 use tg_model::{CommandOf, NoteOf};
 

@@ -14,10 +14,12 @@ ghost use Rattle.tg_client.specs.Kept.{KeepsStep};
 use crate::counting::given;
 use std::alloc::Global;
 use tg_base::{List, Msg, NoMemory, NodeId};
-use crate::{accepts, refusal, refuses, says};
-use crate::deliver;
-use tg_client_state::{Moved, State, one_note};
-use tg_client_state::Work;
+use crate::accepting::accepts;
+use crate::puts::refuses;
+use crate::refusals::refusal;
+use crate::small::says;
+use crate::delivering::deliver;
+use tg_client_state::{Moved, State, Work, one_note};
 use tg_kind::Registry;
 use tg_model::{CommandOf, Refusal, What};
 

@@ -12,11 +12,10 @@ ghost use Rattle.tg_client_state.specs.Moves.{IsKept};
 ghost use Rattle.tg_client.specs.Kept.{Draws, KeepsStep};
 
 use std::alloc::Global;
-use tg_asking::{ask_alike, ask_servers};
+use tg_chain::{ask_alike, ask_servers};
 use tg_base::{List, Msg, NoMemory, Out, Rids, Role};
-use crate::{next_count, says};
-use tg_client_state::{Moved, State};
-use tg_client_state::{Hand, Work};
+use crate::small::{next_count, says};
+use tg_client_state::{Hand, Moved, State, Work};
 use tg_kind::Registry;
 
 /// Request numbers from here on aren't drawn.

@@ -11,9 +11,7 @@ ghost use Rattle.tg_client.specs.Shown.{TrimShown};
 
 use std::alloc::Global;
 use tg_base::{NoMemory, Pos, Rids};
-use tg_client_state::{goes_on, learns, meets};
-use tg_client_state::{Moved, State};
-use tg_client_state::{Job, Paused, Task};
+use tg_client_state::{Job, Moved, Paused, State, Task, goes_on, learns, meets};
 use tg_kind::Registry;
 use tg_model::What;
 use tg_trim::{Next, TrimStep};

@@ -11,8 +11,7 @@ ghost use Rattle.tg_client_answers.specs.Playing.{goes_by_new, plays_from, Suffi
 
 use std::alloc::Global;
 use tg_base::{NoMemory, Pos};
-use tg_client_state::State;
-use tg_client_state::Job;
+use tg_client_state::{Job, State};
 use tg_entry::Entries;
 use tg_kind::Registry;
 use tg_model::{Command, CommandOf};

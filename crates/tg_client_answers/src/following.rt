@@ -14,8 +14,7 @@ use crate::playing::played;
 use std::alloc::Global;
 use tg_base::{NoMemory, Pos};
 use crate::{on_ask_at, on_rescue};
-use tg_client_state::{Moved, State};
-use tg_client_state::Job;
+use tg_client_state::{Job, Moved, State};
 use tg_kind::{Kind, Registry};
 use tg_model::{Command, CommandOf};
 

@@ -2,32 +2,32 @@
 #![tactic(auto)]
 
 mod answering;
-mod entries;
-mod following;
-mod playing;
-
-pub use following::walked;
 mod ask;
 mod asked;
 mod closing;
 mod decide;
 mod end;
 mod ended;
+mod entries;
 mod fate;
+mod following;
+mod marking;
+mod past;
+mod playing;
 mod records;
+mod rescue;
+mod saving;
+mod trimming;
+mod trims;
+
 pub use ask::on_ask;
-pub use asked::{Answer, answer_of, noted};
+pub use asked::{Answer, answer_of};
 pub use decide::on_decide;
 pub use end::on_end;
 pub use fate::on_fate;
-mod marking;
-mod saving;
-mod trimming;
+pub use following::walked;
 pub use marking::on_forget;
-pub use saving::on_checkpoint;
-pub use trimming::on_trim;
-mod past;
-mod rescue;
-mod trims;
 pub use past::on_ask_at;
 pub use rescue::on_rescue;
+pub use saving::on_checkpoint;
+pub use trimming::on_trim;

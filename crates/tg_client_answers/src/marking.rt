@@ -16,8 +16,7 @@ ghost use Rattle.tg_client_state.specs.States.{Rest, client_of, KeepsViewIf, Kee
 use std::alloc::Global;
 use tg_base::{Backs, Blob, List, NoMemory, Oid, Pos, StreamLink};
 use tg_ckpt::{CkptFault, may_forget};
-use tg_client_state::{Moved, State, one_note};
-use tg_client_state::{Job, Purpose};
+use tg_client_state::{Job, Moved, Purpose, State, one_note};
 use tg_entry::{Body, Draft, Entries, Entry, Head, WriteOp};
 use tg_kind::Registry;
 use tg_model::{Note, NoteOf, PlayEnd, Refusal, What};

@@ -17,8 +17,7 @@ ghost use Rattle.tg_client_state.specs.States.{Rest, client_of, KeepsViewIf, Kee
 use crate::trims::trim_above;
 use std::alloc::Global;
 use tg_base::{List, Many, NoMemory, Oid, Pos};
-use tg_client_state::{Moved, State, one_note};
-use tg_client_state::{Job, Purpose};
+use tg_client_state::{Job, Moved, Purpose, State, one_note};
 use tg_entry::{Entries, Entry};
 use tg_kind::Registry;
 use tg_model::{Refusal, What};

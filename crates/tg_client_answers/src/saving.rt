@@ -17,8 +17,7 @@ ghost use Rattle.tg_client_state.specs.States.{Rest, client_of, KeepsViewIf, Kee
 use std::alloc::Global;
 use tg_base::{List, NoMemory, Oid, Pos};
 use tg_ckpt::{CkptFault, checkpoint};
-use tg_client_state::{Moved, State, is_object};
-use tg_client_state::{Job, Purpose};
+use tg_client_state::{Job, Moved, Purpose, State, is_object};
 use tg_entry::Draft;
 use tg_kind::Registry;
 use tg_model::{PlayEnd, Refusal};

@@ -11,8 +11,7 @@ ghost use Rattle.tg_client_state.specs.States.{Rest, client_of, KeepsViewIf, Kee
 
 use std::alloc::Global;
 use tg_base::{NoMemory, Oid, Pos};
-use tg_client_state::{Moved, State};
-use tg_client_state::Job;
+use tg_client_state::{Job, Moved, State};
 use tg_kind::Registry;
 use tg_model::{PlayEnd, Refusal};
 

@@ -9,7 +9,8 @@ ghost use Rattle.tg_protocol.specs.Trimming.{trim_asks, trim_start};
 
 use crate::state::State;
 use std::alloc::Global;
-use tg_append::{Append, Next, Sync, has_room};
+use tg_append::{Append, Sync, has_room};
+use tg_chain::Next;
 use tg_base::{List, NoMemory, Oid, Out, Pos, Rids};
 use tg_entry::Draft;
 use tg_kind::Registry;

@@ -12,7 +12,7 @@ ghost use Rattle.tg_client_state.specs.Tasks.{KeepsHand, IsGivenFit};
 use crate::paused::Paused;
 use crate::task::Task;
 use std::alloc::Global;
-use tg_asking::ask_alike;
+use tg_chain::ask_alike;
 use tg_base::{List, Msg, NoMemory, Out, Projection, Rids, Role};
 use tg_kind::Registry;
 

@@ -16,10 +16,11 @@ ghost use Rattle.tg_client_state.specs.Moves.{Holds, Carries, Leaves};
 
 use crate::numbers::drawing;
 use std::alloc::Global;
-use tg_asking::ask_servers;
+use tg_chain::ask_servers;
 use tg_base::{List, NoMemory, Out, Pos, Rids};
 use crate::{Moved, State};
-use crate::{Hand, Job, Paused, Task, Work, latest_requests};
+use crate::{Hand, Job, Paused, Task, Work};
+use crate::hand::latest_requests;
 use tg_kind::Registry;
 
 /// The machine goes on, and the command waits with it. It takes no memory.

@@ -10,8 +10,8 @@ use Rattle.tg_protocol.specs.Syncing.{Sync, Confirmed, SyncTurn, sync_asks}
 use Rattle.tg_protocol.specs.Answers.{Moved}
 use Rattle.tg_protocol.specs.Clients as told
 use Rattle.tg_protocol.specs.ClientSteps.{task_asks, goes_on, learns_for, synced, sync_to, on_sync}
-use Rattle.tg_append.specs.declared.step.Step.{Step}
-use Rattle.tg_append.specs.declared.step.Next.TheVariants as given
+use Rattle.tg_chain.specs.declared.step.Step.{Step}
+use Rattle.tg_chain.specs.declared.step.Next.TheVariants as given
 use Rattle.tg_append.specs.declared.ends.Confirmed.{Confirmed as GivenEnd}
 use Rattle.tg_append.specs.Turns.{given_to}
 use Rattle.tg_append.specs.SyncLaws.{answer_in}

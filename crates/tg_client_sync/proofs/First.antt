@@ -15,8 +15,8 @@ use Rattle.tg_protocol.specs.Walking.{Walk, Members, WalkTurn, walk_asks, walk_s
 use Rattle.tg_protocol.specs.Answers.{Moved}
 use Rattle.tg_protocol.specs.Clients as told
 use Rattle.tg_protocol.specs.ClientSteps.{task_asks, goes_on, start_walk, found_by, walks}
-use Rattle.tg_stream.specs.declared.step.Step.{Step}
-use Rattle.tg_stream.specs.declared.step.Next.TheVariants as given
+use Rattle.tg_chain.specs.declared.step.Step.{Step}
+use Rattle.tg_chain.specs.declared.step.Next.TheVariants as given
 use Rattle.tg_stream.specs.declared.members.Members.{Members as GivenEnd}
 use Rattle.tg_stream.specs.Turns.{shown, by_walk, given_to, new_asks}
 use Rattle.tg_stream.specs.Walks.{Course, members_of}

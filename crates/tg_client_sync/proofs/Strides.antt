@@ -10,8 +10,8 @@ use Rattle.tg_protocol.specs.Walking.{Walk, Members, WalkTurn, walk_asks}
 use Rattle.tg_protocol.specs.Answers.{Moved}
 use Rattle.tg_protocol.specs.Clients as told
 use Rattle.tg_protocol.specs.ClientSteps.{task_asks, goes_on, learns_for, walk_ended, walk_to, on_walk}
-use Rattle.tg_stream.specs.declared.step.Step.{Step}
-use Rattle.tg_stream.specs.declared.step.Next.TheVariants as given
+use Rattle.tg_chain.specs.declared.step.Step.{Step}
+use Rattle.tg_chain.specs.declared.step.Next.TheVariants as given
 use Rattle.tg_stream.specs.declared.members.Members.{Members as GivenEnd}
 use Rattle.tg_stream.specs.Turns.{On, Paused as Waits, Over, given_to, ruled_to, new_asks}
 use Rattle.tg_stream.specs.Walks.{Course, course_of, members_of}

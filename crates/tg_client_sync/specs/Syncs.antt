@@ -4,7 +4,7 @@ use Rattle.tg_base.specs.Layouts.{Layout}
 use Rattle.tg_base.specs.declared.cell.Cell.{Cell}
 use Rattle.tg_base.specs.declared.ids.Oid.{Oid}
 use Rattle.tg_protocol.specs.Syncing.{Sync, SyncTurn, sync_asks}
-use Rattle.tg_append.specs.declared.step.Step.{Step}
+use Rattle.tg_chain.specs.declared.step.Step.{Step}
 use Rattle.tg_append.specs.declared.ends.Confirmed.{Confirmed as Given}
 use Rattle.tg_append.specs.Turns.{shown}
 use Rattle.tg_append.specs.Syncs.{confirmed_of, by_sync}

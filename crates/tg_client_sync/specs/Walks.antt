@@ -2,9 +2,9 @@
 use Rattle.std.specs.Prelude.{◌≡◌, ⊤, ℕ, []}
 use Rattle.tg_protocol.specs.Walking.{Walk, WalkTurn, walk_asks}
 use Rattle.tg_stream.specs.declared.members.Members.{Members as Found}
-use Rattle.tg_stream.specs.declared.step.Step.{Step}
-use Rattle.tg_stream.specs.declared.step.Next.{Next as Given}
-use Rattle.tg_stream.specs.declared.step.Next.TheVariants as given
+use Rattle.tg_chain.specs.declared.step.Step.{Step}
+use Rattle.tg_chain.specs.declared.step.Next.{Next as Given}
+use Rattle.tg_chain.specs.declared.step.Next.TheVariants as given
 use Rattle.tg_stream.specs.Turns.{shown, by_walk}
 use Rattle.tg_stream.specs.Walks.{Course}
 use Rattle.tg_client_cells.specs.Known.{Knowledge, IsSettled}

@@ -9,8 +9,7 @@ use std::alloc::Global;
 use std::mem;
 use tg_base::{List, NoMemory, Oid, Pos};
 use tg_client_cells::StreamPositions;
-use tg_client_state::State;
-use tg_client_state::Job;
+use tg_client_state::{Job, State};
 use tg_kind::Registry;
 use tg_stream::Cells;
 

@@ -1,4 +1,3 @@
-pub mod Chains
 pub mod Counts
 pub mod Cells
 pub mod Jobs

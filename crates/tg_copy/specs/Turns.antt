@@ -8,9 +8,9 @@ use Rattle.tg_protocol.specs.Requests.{Next, Goes, Learns, Ends}
 use Rattle.tg_protocol.specs.Trimming.{Copying, CopyEnd, CopyTurn, Whole, copy_asks}
 use Rattle.tg_copy.specs.declared.ends.CopyEnd.{CopyEnd as Given}
 use Rattle.tg_copy.specs.declared.ends.CopyEnd.TheVariants as given
-use Rattle.tg_copy.specs.declared.step.Step.{Step}
-use Rattle.tg_copy.specs.declared.step.Next.{Next as GivenNext}
-use Rattle.tg_copy.specs.declared.step.Next.TheVariants as given_next
+use Rattle.tg_chain.specs.declared.step.Step.{Step}
+use Rattle.tg_chain.specs.declared.step.Next.{Next as GivenNext}
+use Rattle.tg_chain.specs.declared.step.Next.TheVariants as given_next
 
 -- what becomes of a copy: of one that has to learn a newer layout, what starts over there
 pub data Then : Type 0 where

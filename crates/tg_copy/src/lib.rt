@@ -3,14 +3,11 @@
 //! left the epoch, the machine says so, and starts over once its caller has learnt a newer layout.
 #![tactic(auto)]
 
-mod asking;
 mod copy_range;
 mod copy_state;
 mod ends;
 mod laws;
-mod place;
 mod reading;
-mod step;
 mod stripe;
 
 pub use copy_range::{CopyRange, CopyStep};
@@ -19,4 +16,3 @@ pub use laws::{
     copies_are_few, copies_keep, copy_ends_by_answers, copy_pauses_by_answers,
     copy_waits_for_answers,
 };
-pub use step::{Next, Step};

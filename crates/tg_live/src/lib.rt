@@ -1,6 +1,8 @@
 //! Runs over a link: all nodes of a script at once, whose packets a link carries.
 #![tactic(auto)]
 
+mod book;
+mod copies;
 mod live;
 mod report;
 mod rounds;
@@ -8,7 +10,5 @@ mod running;
 mod sending;
 mod stages;
 
-pub use report::run;
-mod book;
-mod copies;
 pub use book::Book;
+pub use report::run;

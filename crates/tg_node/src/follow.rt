@@ -14,7 +14,7 @@ use crate::stages::{Next, Run};
 use std::alloc::Global;
 use tg_base::{Cluster, List, NodeId, Which};
 use tg_io::{IoErr, Link, Sink, Status, write_all};
-use crate::{Asked, parse_asked};
+use crate::asked::{Asked, parse_asked};
 
 /// Follows the next line of a text.
 pub fn follow_line<K: Sink, L: Link>(

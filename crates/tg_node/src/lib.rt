@@ -1,16 +1,14 @@
 //! One node over a link: it follows the lines of a text.
 #![tactic(auto)]
 
+mod asked;
 mod follow;
 mod header;
 mod lines;
 mod nodes;
+mod replies;
 mod session;
 mod stages;
 mod waits;
 
 pub use session::node;
-mod asked;
-mod replies;
-pub use asked::{Asked, parse_asked};
-pub use replies::write_replies;

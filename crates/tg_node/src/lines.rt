@@ -12,7 +12,7 @@ use tg_any::{AnyKind, AnyOp};
 use tg_base::{Oid, Which};
 use tg_io::{IoErr, Link};
 use tg_model::Command;
-use crate::Asked;
+use crate::asked::Asked;
 use tg_node_state::{Input, InputOf};
 
 impl Node {

@@ -14,7 +14,7 @@ use tg_any::AnyKind;
 use tg_base::{Cluster, List, NoMemory, NodeId, Which};
 use tg_io::{IoErr, Link};
 use tg_link_packets::send_all;
-use crate::write_replies;
+use crate::replies::write_replies;
 use tg_node_state::{InputOf, Own, Stepped};
 
 /// How many steps a node takes at most.

@@ -18,7 +18,7 @@ use Rattle.tg_reconf.specs.declared.vote.NextRound.{NextRound}
 use Rattle.tg_reconf.specs.declared.vote.VoteStage.{VoteStage}
 use Rattle.tg_reconf.specs.declared.vote.VoteStage.TheVariants as stage
 use Rattle.tg_reconf.specs.States.{working, work_of, stage_of, stage_waits, later_of, later_waits, set_waits}
-use Rattle.tg_asking.specs.Waits.{waits_on}
+use Rattle.tg_chain.specs.Waits.{waits_on}
 use Rattle.tg_reconf.specs.Waits.{joined_on, asked_on}
 
 -- of one list of requests or of another

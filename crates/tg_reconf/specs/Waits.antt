@@ -4,7 +4,7 @@ use Rattle.tg_base.specs.declared.change.Join.{Join}
 use Rattle.tg_base.specs.declared.ids.NodeId.{NodeId}
 use Rattle.tg_base.specs.declared.ids.Role.TheVariants as role
 use Rattle.tg_protocol.specs.Words.{unit_id, seqr_id}
-use Rattle.tg_asking.specs.Waits.{waits_on}
+use Rattle.tg_chain.specs.Waits.{waits_on}
 use Rattle.tg_chain.specs.Waits.{is_answer}
 use Rattle.tg_reconf.specs.declared.plan.Plan.{Plan}
 use Rattle.tg_reconf.specs.declared.job.Work.{Work}

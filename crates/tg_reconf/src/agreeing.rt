@@ -17,7 +17,7 @@ use crate::step::{Next, Step};
 use crate::turns::{send, stay};
 use crate::vote::{Accepted, NextRound, Round, Vote, VoteStage};
 use std::alloc::Global;
-use tg_asking::{ask_servers, has_rid, without};
+use tg_chain::{ask_servers, has_rid, without};
 use tg_base::{Ballot, Epoch, List, Msg, NoMemory, Pos, Projection, Rids};
 
 /// All units are sealed: the client proposes its layout, which begins where the acks say.

@@ -8,14 +8,14 @@ ghost use Rattle.tg_protocol.specs.Words.{unit_id, layout_id};
 ghost use Rattle.tg_protocol.specs.Trimming.{has_stripe};
 ghost use Rattle.tg_protocol.specs.Reconfiguring.{reconf_asks, reconf_again_asks, reconf_awaited, ReconfWork, later_asks, stage_asks, set_asks, join_asks};
 ghost use Rattle.tg_reconf.specs.States.{IsOpen, IsReady, working, work_of, stage_of, later_of, stage_waits, later_waits, set_waits};
-ghost use Rattle.tg_asking.specs.Waits.{waits_on};
+ghost use Rattle.tg_chain.specs.Waits.{waits_on};
 ghost use Rattle.tg_reconf.specs.Waits.{joined_on, asked_on};
 
 use crate::job::Work;
 use crate::plan::Plan;
 use crate::vote::{NextRound, VoteStage};
 use std::alloc::Global;
-use tg_asking::{answers, ask_alike, is_awaited, one, sequencer, unit};
+use tg_chain::{answers, ask_alike, is_awaited, one, sequencer, unit};
 use tg_base::{Epoch, List, Msg, NoMemory, NodeId, Out, Projection, Role};
 
 /// What a tick sends: the round that a refusal has set, or else the outstanding requests.

@@ -15,7 +15,7 @@ use crate::step::{ReconfEnd, Step};
 use crate::turns::{ask, end, learn, send, stay};
 use crate::units::units_after;
 use std::alloc::Global;
-use tg_asking::{FAR, ask_units, without};
+use tg_chain::{FAR, ask_units, without};
 use tg_base::{Epoch, List, Msg, NoMemory, Pos, Rids};
 
 /// The spare is sealed first, where a unit joins.

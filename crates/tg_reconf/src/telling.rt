@@ -15,7 +15,7 @@ use crate::plan::Plan;
 use crate::step::{ReconfEnd, Step};
 use crate::turns::{ask, end, learn, stay};
 use std::alloc::Global;
-use tg_asking::{FAR, has_rid, without};
+use tg_chain::{FAR, has_rid, without};
 use tg_base::{Epoch, List, Msg, NoMemory, Projection, Rids, Stand, StreamLink};
 
 /// A newer layout comes before a majority of layout servers has heard what is decided.

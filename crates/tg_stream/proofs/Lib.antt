@@ -1,4 +1,3 @@
-pub mod Chains
 pub mod Trims
 pub mod Visits
 pub mod CellSteps

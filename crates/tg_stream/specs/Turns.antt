@@ -6,9 +6,9 @@ use Rattle.tg_protocol.specs.Requests.{Next, Goes, Learns, Ends}
 use Rattle.tg_protocol.specs.Walking.{Walk, Members, WalkTurn, walk_asks}
 use Rattle.tg_stream.specs.Walks.{Course, course_of, members_of}
 use Rattle.tg_stream.specs.declared.members.Members.{Members as Found}
-use Rattle.tg_stream.specs.declared.step.Step.{Step}
-use Rattle.tg_stream.specs.declared.step.Next.{Next as Given}
-use Rattle.tg_stream.specs.declared.step.Next.TheVariants as given
+use Rattle.tg_chain.specs.declared.step.Step.{Step}
+use Rattle.tg_chain.specs.declared.step.Next.{Next as Given}
+use Rattle.tg_chain.specs.declared.step.Next.TheVariants as given
 
 -- what becomes of a walk: of one that has to learn a newer layout, what goes on there
 pub data Then : Type 0 where

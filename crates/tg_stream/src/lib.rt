@@ -9,8 +9,6 @@ mod known;
 mod laws;
 mod members;
 mod paused;
-mod place;
-mod step;
 mod trail;
 mod walk;
 
@@ -21,5 +19,4 @@ pub use laws::{
 };
 pub use members::Members;
 pub use paused::PausedWalk;
-pub use step::{Next, Step};
 pub use walk::{Walk, WalkStep};

@@ -5,7 +5,7 @@ use Rattle.tg_base.specs.declared.ids.Role.TheVariants as role
 use Rattle.tg_base.specs.declared.msg.Msg.{Msg}
 use Rattle.tg_protocol.specs.Words.{node_eq, unit_id}
 use Rattle.tg_protocol.specs.Requests.{Waits, asked_of, awaits}
-use Rattle.tg_asking.specs.Waits.{waits_on}
+use Rattle.tg_chain.specs.Waits.{waits_on}
 
 pub units_await : (m : Msg) (ws : Waits) (from : NodeId) (rid : ℕ) → waits_on role.Unit ws from rid ≡ awaits (asked_of unit_id m ws) from rid
 units_await m [] from rid = refl

@@ -8,7 +8,8 @@ ghost use Rattle.tg_wire.specs.Messages.{messages, learn, token, check, issued, 
 use std::alloc::Global;
 use tg_base::Msg;
 use tg_codec::{ReadFault, links_in, u64_in};
-use crate::{ANY_EPOCH, objects_in, projection_in};
+use crate::fields::objects_in;
+use crate::layouts::{ANY_EPOCH, projection_in};
 
 #[tactic(auto, unfolding(crate::specs::Messages::learn))]
 fn learn_in(alloc: Global, bytes: &[u8]) -> Result<(Msg, &[u8]), ReadFault>

@@ -8,7 +8,7 @@ ghost use Rattle.tg_wire.specs.Messages.{messages, held, taken, unwritten, gone,
 use std::alloc::Global;
 use tg_base::Msg;
 use tg_codec::{ReadFault, u64_in};
-use crate::cell_in;
+use crate::fields::cell_in;
 
 #[tactic(auto, unfolding(crate::specs::Messages::taken))]
 fn taken_in(alloc: Global, bytes: &[u8]) -> Result<(Msg, &[u8]), ReadFault>

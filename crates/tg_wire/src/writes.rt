@@ -11,7 +11,8 @@ use crate::shapes::{
 };
 use tg_base::{List, Msg, NoMemory};
 use tg_codec::put_u64;
-use crate::{put_cell, put_projection};
+use crate::fields::put_cell;
+use crate::layouts::put_projection;
 
 // The number that stands for a message.
 fn tag_of(value: &Msg) -> u8

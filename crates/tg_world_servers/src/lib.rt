@@ -3,13 +3,13 @@
 #![tactic(auto)]
 
 mod first;
+mod post;
 mod rows;
 mod servers;
+mod sizes;
 mod starts;
 
 pub use first::first_of;
-pub use servers::Servers;
-mod post;
-mod sizes;
 pub use post::Post;
+pub use servers::Servers;
 pub use sizes::size;

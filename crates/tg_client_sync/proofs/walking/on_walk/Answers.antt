@@ -5,7 +5,7 @@ use Rattle.tg_client_state.specs.States.{KeepsMoved}
 use Rattle.tg_protocol.specs.Walking.{Walk}
 use Rattle.tg_stream.specs.Walks.{Course}
 use Rattle.tg_stream.specs.declared.members.Members.{Members as GivenEnd}
-use Rattle.tg_stream.specs.declared.step.Next.{Next}
+use Rattle.tg_chain.specs.declared.step.Next.{Next}
 use Rattle.tg_client_sync.specs.Walks.{IsStepFit}
 use Rattle.tg_client_sync.proofs.Strides.{walk_goes, walk_learns, walk_ends}
 use Rattle.tg_client_sync.proofs.walking.on_walk.Goals as goal

@@ -1,5 +1,0 @@
-use Rattle.std.proofs.Common.{length}
-use Rattle.tg_asking.proofs.waits.+ask_each.Given as goal
-
-abbrev pub decreases-ask_each : goal.decreases-ask_each
-decreases-ask_each l = length l.nodes.now

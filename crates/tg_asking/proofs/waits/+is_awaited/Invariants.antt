@@ -1,5 +1,0 @@
-use Rattle.std.proofs.Common.{length}
-use Rattle.tg_asking.proofs.waits.+is_awaited.Given as goal
-
-abbrev pub decreases-is_awaited : goal.decreases-is_awaited
-decreases-is_awaited l = length l.waits.now
