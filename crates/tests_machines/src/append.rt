@@ -3,11 +3,11 @@ ghost use Rattle.std.specs.Prelude.{◌≡◌, ◌≤◌, ◌<◌, ◌^◌, [], 
 use std::alloc::Global;
 use std::test::Fail;
 use tg_append::{Append, AppendEnd, AppendStep, Confirmed, PausedAppend, Sync, SyncStep, has_room};
-use tg_chain::Next;
 use tg_base::{
     Backs, Cell, Chain, List, Msg, NoMemory, NodeId, Oid, Out, Projection, Range, Rids, Role,
     StreamLink,
 };
+use tg_chain::Next;
 use tg_entry::{Body, Draft, Entry, Head};
 
 /// A layout of one unit, number 3, and of the sequencer 2.

@@ -5,8 +5,8 @@ use std::test::Fail;
 use tg_base::{
     Backs, Blob, Cell, Chain, List, Msg, NoMemory, NodeId, Oid, Pos, Projection, Range, Rids, Role,
 };
-use tg_stream::{Cells, Members, PausedWalk, Walk, WalkStep};
 use tg_chain::{Next, Step};
+use tg_stream::{Cells, Members, PausedWalk, Walk, WalkStep};
 
 // The commit record of client 0, number 1, that adds 5 to the counter 0, the first in its stream.
 const FIRST: [u8; 64] = [

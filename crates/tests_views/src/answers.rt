@@ -7,7 +7,8 @@ use tg_base::{
 };
 use tg_ckpt::fresh_base;
 use tg_client_answers::{
-    answer_of, on_ask, on_ask_at, on_checkpoint, on_decide, on_end, on_fate, on_forget, on_rescue, on_trim, walked,
+    answer_of, on_ask, on_ask_at, on_checkpoint, on_decide, on_end, on_fate, on_forget, on_rescue,
+    on_trim, walked,
 };
 use tg_client_cells::{Known, StreamPositions};
 use tg_client_state::{HeaderObjects, Job, Moved, Paused, Purpose, State, learns};

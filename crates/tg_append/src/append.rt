@@ -17,19 +17,20 @@ ghost use Rattle.tg_append.specs.Turns.{shown};
 ghost use Rattle.tg_append.specs.Appends.{HasRoom, paused, append_at, asking, putting, judging, append_end, append_fed, by_append};
 
 use crate::append_state::AppendState;
-use crate::telling::tell;
-use tg_chain::{
-    FAR, FillCell, FillCellEnd, Next, PutCell, PutCellEnd, Step, answers, is_page, one, sequencer, units_at,
-};
 use crate::ends::AppendEnd;
 use crate::links::name_streams;
 use crate::page::linked_page;
+use crate::telling::tell;
 use crate::token::Token;
 use std::alloc::Global;
 use std::marker::Model;
 use tg_base::{
     Blob, Cell, Epoch, List, Msg, NoMemory, NodeId, Oid, Out, Pos, Projection, Rids, StreamLink,
     Turn,
+};
+use tg_chain::{
+    FAR, FillCell, FillCellEnd, Next, PutCell, PutCellEnd, Step, answers, is_page, one, sequencer,
+    units_at,
 };
 use tg_entry::Draft;
 

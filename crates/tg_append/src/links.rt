@@ -6,8 +6,8 @@ ghost use Rattle.tg_protocol.specs.Appending.{names_all, is_link, is_falling};
 ghost use Rattle.tg_protocol.specs.Words.{too_far};
 ghost use Rattle.std.specs.List.{list_all};
 
-use tg_chain::FAR;
 use tg_base::{Oid, StreamLink};
+use tg_chain::FAR;
 
 /// Whether each position is below the one before it.
 pub fn is_falling(positions: &[u64]) -> bool

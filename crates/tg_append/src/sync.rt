@@ -15,19 +15,19 @@ ghost use Rattle.tg_append.specs.Needs.{sync_needs, checking_needs, settling_nee
 ghost use Rattle.tg_append.specs.Turns.{shown};
 ghost use Rattle.tg_append.specs.Syncs.{oids_of, sync_at, checking, settling, probing, confirmed_of, sync_fed, by_sync};
 
-use crate::telling::tell;
-use tg_chain::{
-    FAR, FillCell, FillCellEnd, Next, Probe, ProbeEnd, Step, answers, one, sequencer, units_at,
-};
 use crate::ends::Confirmed;
 use crate::links::name_all;
 use crate::page::copied;
 use crate::sync_state::SyncState;
+use crate::telling::tell;
 use crate::token::Answer;
 use std::alloc::Global;
 use std::marker::Model;
 use tg_base::{
     Cell, Epoch, List, Msg, NoMemory, NodeId, Oid, Out, Pos, Projection, Rids, StreamLink, Turn,
+};
+use tg_chain::{
+    FAR, FillCell, FillCellEnd, Next, Probe, ProbeEnd, Step, answers, one, sequencer, units_at,
 };
 
 /// A step of a sync. In a newer layout it starts over with the same objects.

@@ -11,7 +11,11 @@ use std::alloc::Global;
 use tg_base::{List, Msg, NoMemory, NodeId, Out, Rids, Role};
 
 /// Each of these nodes draws the next number.
-pub fn ask_each(nodes: &[u16], rids: &mut Rids, waits: &mut List<(u16, u64)>) -> Result<(), NoMemory>
+pub fn ask_each(
+    nodes: &[u16],
+    rids: &mut Rids,
+    waits: &mut List<(u16, u64)>,
+) -> Result<(), NoMemory>
     requires { rids.old.next + length nodes.now < 2 ^ 63 }
     ensures waits { OnOk result (waits.new ≡ waits.old ++ waits_for nodes.now rids.old.next) }
     ensures next { OnOk result (rids.new.next ≡ rids.old.next + length nodes.now) }
@@ -133,7 +137,11 @@ pub fn has_rid(node: u16, number: u64, waits: &[(u16, u64)]) -> bool
 }
 
 /// Those that wait for other nodes than this one.
-pub fn keep_others(node: u16, waits: &[(u16, u64)], kept: &mut List<(u16, u64)>) -> Result<(), NoMemory>
+pub fn keep_others(
+    node: u16,
+    waits: &[(u16, u64)],
+    kept: &mut List<(u16, u64)>,
+) -> Result<(), NoMemory>
     ensures { OnOk result (kept.new ≡ kept.old ++ without_wait node waits.now) }
 {
     match waits {

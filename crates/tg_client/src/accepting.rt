@@ -12,14 +12,14 @@ ghost use Rattle.tg_client.specs.Idle.{idle};
 ghost use Rattle.tg_client.specs.Tests.{taken, IsFine};
 
 use crate::asks::asks;
+use crate::changing::reconfigures;
+use crate::copying::copies;
 use crate::ends::ends;
 use crate::puts::puts;
 use crate::refusals::tx_number;
 use crate::small::{has, new_job, next_count, says, works_on};
 use std::alloc::Global;
 use tg_base::{Change, Join, List, NoMemory, Oid};
-use crate::changing::reconfigures;
-use crate::copying::copies;
 use tg_client_state::{Moved, State, one_note};
 use tg_kind::Registry;
 use tg_model::{Command, CommandOf, What};

@@ -16,9 +16,9 @@ ghost use Rattle.tg_client.specs.Shown.{CopyShown};
 
 use std::alloc::Global;
 use tg_base::{Join, List, NoMemory, Projection, Rids};
+use tg_chain::Next;
 use tg_client_state::{Job, Moved, Paused, State, Task, drawing, goes_on, learns, meets, one_note};
 use tg_copy::{CopyRange, CopyStep};
-use tg_chain::Next;
 use tg_kind::Registry;
 use tg_model::{Refusal, What};
 use tg_proj::{ProjFault, spare_fault};

@@ -8,8 +8,8 @@ ghost use Rattle.tg_protocol.specs.ClientSteps as steps;
 ghost use Rattle.tg_client_state.specs.States.{KeepsMoved};
 ghost use Rattle.tg_client.specs.Kept.{KeepsStep};
 
-use tg_base::NoMemory;
 use crate::small::next_count;
+use tg_base::NoMemory;
 use tg_client_state::Moved;
 use tg_kind::Registry;
 

@@ -11,14 +11,14 @@ ghost use Rattle.tg_client_state.specs.Moves.{IsKept};
 ghost use Rattle.tg_client.specs.Idle.{idle};
 ghost use Rattle.tg_client.specs.Kept.{KeepsStep};
 
-use crate::counting::given;
-use std::alloc::Global;
-use tg_base::{List, Msg, NoMemory, NodeId};
 use crate::accepting::accepts;
+use crate::counting::given;
+use crate::delivering::deliver;
 use crate::puts::refuses;
 use crate::refusals::refusal;
 use crate::small::says;
-use crate::delivering::deliver;
+use std::alloc::Global;
+use tg_base::{List, Msg, NoMemory, NodeId};
 use tg_client_state::{Moved, State, Work, one_note};
 use tg_kind::Registry;
 use tg_model::{CommandOf, Refusal, What};

@@ -11,10 +11,10 @@ ghost use Rattle.tg_client_state.specs.States.{KeepsClient};
 ghost use Rattle.tg_client_state.specs.Moves.{IsKept};
 ghost use Rattle.tg_client.specs.Kept.{Draws, KeepsStep};
 
-use std::alloc::Global;
-use tg_chain::{ask_alike, ask_servers};
-use tg_base::{List, Msg, NoMemory, Out, Rids, Role};
 use crate::small::{next_count, says};
+use std::alloc::Global;
+use tg_base::{List, Msg, NoMemory, Out, Rids, Role};
+use tg_chain::{ask_alike, ask_servers};
 use tg_client_state::{Hand, Moved, State, Work};
 use tg_kind::Registry;
 

@@ -5,10 +5,9 @@ ghost use Rattle.tg_protocol.specs.Answers as told;
 ghost use Rattle.tg_protocol.specs.Views as views;
 ghost use Rattle.tg_client_answers.specs.Fates.{Moves};
 
+use crate::{on_ask, on_checkpoint, on_decide, on_end, on_fate, on_forget, on_trim};
 use std::alloc::Global;
 use tg_base::{List, NoMemory};
-use crate::{on_ask, on_decide, on_end, on_fate};
-use crate::{on_checkpoint, on_forget, on_trim};
 use tg_client_state::{Job, Moved, State};
 use tg_entry::Entries;
 use tg_kind::Registry;

@@ -12,8 +12,8 @@ ghost use Rattle.tg_client_state.specs.Tasks.{KeepsHand, IsGivenFit};
 use crate::paused::Paused;
 use crate::task::Task;
 use std::alloc::Global;
-use tg_chain::ask_alike;
 use tg_base::{List, Msg, NoMemory, Out, Projection, Rids, Role};
+use tg_chain::ask_alike;
 use tg_kind::Registry;
 
 /// What a client has in hand: a machine, or requests for a newer layout, after which it goes on.

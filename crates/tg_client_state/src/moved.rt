@@ -1,8 +1,8 @@
 //! What a step makes of a client.
 
+use crate::Work;
 use crate::state::State;
 use tg_base::{List, Out};
-use crate::Work;
 use tg_kind::Registry;
 use tg_model::NoteOf;
 

@@ -14,13 +14,12 @@ ghost use Rattle.tg_client_state.specs.Tasks.{told_task};
 ghost use Rattle.tg_client_state.specs.States.{Rest, client_of, KeepsClient, KeepsMoved};
 ghost use Rattle.tg_client_state.specs.Moves.{Holds, Carries, Leaves};
 
-use crate::numbers::drawing;
-use std::alloc::Global;
-use tg_chain::ask_servers;
-use tg_base::{List, NoMemory, Out, Pos, Rids};
-use crate::{Moved, State};
-use crate::{Hand, Job, Paused, Task, Work};
 use crate::hand::latest_requests;
+use crate::numbers::drawing;
+use crate::{Hand, Job, Moved, Paused, State, Task, Work};
+use std::alloc::Global;
+use tg_base::{List, NoMemory, Out, Pos, Rids};
+use tg_chain::ask_servers;
 use tg_kind::Registry;
 
 /// The machine goes on, and the command waits with it. It takes no memory.

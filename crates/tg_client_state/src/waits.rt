@@ -10,10 +10,10 @@ ghost use Rattle.tg_client_state.specs.States.{Rest, client_of, KeepsViewIf, Kee
 use crate::begin::Begun;
 use crate::moved::Moved;
 use crate::state::State;
+use crate::{Hand, Job, Purpose, Task, Work};
 use std::alloc::Global;
 use tg_base::{List, NoMemory, Oid, Pos};
 use tg_client_cells::StreamPositions;
-use crate::{Hand, Job, Purpose, Task, Work};
 use tg_entry::{Draft, Entry};
 use tg_kind::Registry;
 use tg_model::{NoteOf, What};

@@ -22,12 +22,12 @@ use crate::lasts::lasts_of;
 use crate::trims::{gives_view_up, is_stale};
 use std::alloc::Global;
 use tg_base::{List, NoMemory, Oid, Pos, Rids};
+use tg_chain::Next;
 use tg_client_answers::walked;
 use tg_client_cells::StreamPositions;
 use tg_client_state::{Job, Moved, Paused, State, Task, drawing, goes_on, learns, meets};
 use tg_kind::Registry;
 use tg_stream::{Cells, Members, Walk, WalkStep};
-use tg_chain::Next;
 
 /// A walk of a stream begins over the known cells, with the next request number.
 fn begins_walk<K: Registry>(

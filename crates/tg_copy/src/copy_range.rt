@@ -12,7 +12,6 @@ ghost use Rattle.tg_copy.specs.Needs.{copy_needs, asked_needs, reading_needs, as
 ghost use Rattle.tg_copy.specs.Turns.{shown, given_to, spare_of, by_copy, IsOfSpare};
 ghost use Rattle.tg_copy.specs.Copies.{copying, asked, asking, getting, copy_fed};
 
-use tg_chain::{FAR, GetCell, GetCellEnd, Next, Step, answers, is_same_cell, one, unit, units_at};
 use crate::copy_state::{Ask, CopyState};
 use crate::ends::CopyEnd;
 use crate::reading::Reading;
@@ -20,6 +19,7 @@ use crate::stripe::stripe_of;
 use std::alloc::Global;
 use std::marker::Model;
 use tg_base::{Cell, Epoch, Join, List, Msg, NoMemory, NodeId, Out, Pos, Projection, Rids, Turn};
+use tg_chain::{FAR, GetCell, GetCellEnd, Next, Step, answers, is_same_cell, one, unit, units_at};
 
 /// A step of a copy. In a newer layout it starts over with the same spare and stripe.
 pub type CopyStep = Step<CopyRange, Join, CopyEnd>;

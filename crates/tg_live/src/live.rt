@@ -15,12 +15,12 @@ ghost use Rattle.tg_live.specs.Sends.{AreFit, AreSent, IsMadeOver, spellings, se
 ghost use Rattle.tg_live.specs.Lives.{Live as live, is_steps, recorded, after_line, opened, came};
 ghost use Rattle.tg_live.specs.Kept.{Keeps, KeepsRan};
 
+use crate::Book;
 use crate::sending::send;
 use std::alloc::Global;
 use tg_any::AnyKind;
 use tg_base::{Cluster, List, NoMemory, NodeId, Which};
 use tg_io::{IoErr, Link};
-use crate::Book;
 use tg_model::Event;
 use tg_script::{Line, print_line};
 use tg_world::{Ran, World, drain, happens, settle, updates};

@@ -8,10 +8,10 @@ ghost use Rattle.tg_live.specs.Books.{IsBook};
 ghost use Rattle.tg_wire.specs.Packets.{packet};
 ghost use Rattle.tg_live.specs.Sends.{sending, spellings, AreFit};
 
+use crate::Book;
 use std::alloc::Global;
 use tg_base::{List, NoMemory, Packet};
 use tg_io::{Datagram, IoErr, Link};
-use crate::Book;
 use tg_wire::{encode, fits, no_spelling_begins_another};
 
 /// The datagram of a packet. An `Err` is want of memory, or a packet that no datagram holds, which no node sends.

@@ -9,12 +9,12 @@ ghost use Rattle.tg_node.specs.Steps.{IsSound};
 ghost use Rattle.tg_node.specs.Stages.{Follows, Follow, IsWritten, IsOfLine, IsRefused, LineCauses, GoesSound, seen};
 ghost use Rattle.tg_node.specs.declared.stages.Next.TheVariants as nexts;
 
+use crate::asked::{Asked, parse_asked};
 use crate::nodes::{Moved, Node, Place};
 use crate::stages::{Next, Run};
 use std::alloc::Global;
 use tg_base::{Cluster, List, NodeId, Which};
 use tg_io::{IoErr, Link, Sink, Status, write_all};
-use crate::asked::{Asked, parse_asked};
 
 /// Follows the next line of a text.
 pub fn follow_line<K: Sink, L: Link>(

@@ -6,13 +6,13 @@ ghost use Rattle.tg_model.specs.declared.command.Command.TheVariants as cmd;
 ghost use Rattle.tg_node_state.specs.declared.input.Input.TheVariants as comes;
 ghost use Rattle.tg_node.specs.Steps.{IsSound, Makes, TookLine};
 
+use crate::asked::Asked;
 use crate::nodes::{Moved, Node, Place};
 use std::alloc::Global;
 use tg_any::{AnyKind, AnyOp};
 use tg_base::{Oid, Which};
 use tg_io::{IoErr, Link};
 use tg_model::Command;
-use crate::asked::Asked;
 use tg_node_state::{Input, InputOf};
 
 impl Node {

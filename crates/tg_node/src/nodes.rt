@@ -9,12 +9,12 @@ ghost use Rattle.tg_node.specs.Any.{all_kinds};
 ghost use Rattle.tg_node.specs.Sessions.{Session, turned};
 ghost use Rattle.tg_node.specs.Steps.{Stands, Goes, IsSound};
 
+use crate::replies::write_replies;
 use std::alloc::Global;
 use tg_any::AnyKind;
 use tg_base::{Cluster, List, NoMemory, NodeId, Which};
 use tg_io::{IoErr, Link};
 use tg_link_packets::send_all;
-use crate::replies::write_replies;
 use tg_node_state::{InputOf, Own, Stepped};
 
 /// How many steps a node takes at most.

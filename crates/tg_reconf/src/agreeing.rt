@@ -17,8 +17,8 @@ use crate::step::{Next, Step};
 use crate::turns::{send, stay};
 use crate::vote::{Accepted, NextRound, Round, Vote, VoteStage};
 use std::alloc::Global;
-use tg_chain::{ask_servers, has_rid, without};
 use tg_base::{Ballot, Epoch, List, Msg, NoMemory, Pos, Projection, Rids};
+use tg_chain::{ask_servers, has_rid, without};
 
 /// All units are sealed: the client proposes its layout, which begins where the acks say.
 #[tactic(auto, using(tg_proj::proofs::Allowed::later_start))]

@@ -15,8 +15,8 @@ use crate::job::Work;
 use crate::plan::Plan;
 use crate::vote::{NextRound, VoteStage};
 use std::alloc::Global;
-use tg_chain::{answers, ask_alike, is_awaited, one, sequencer, unit};
 use tg_base::{Epoch, List, Msg, NoMemory, NodeId, Out, Projection, Role};
+use tg_chain::{answers, ask_alike, is_awaited, one, sequencer, unit};
 
 /// What a tick sends: the round that a refusal has set, or else the outstanding requests.
 pub fn again(alloc: Global, plan: &Plan, work: &Work) -> Result<List<Out>, NoMemory>

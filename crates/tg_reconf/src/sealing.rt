@@ -15,8 +15,8 @@ use crate::step::{ReconfEnd, Step};
 use crate::turns::{ask, end, learn, send, stay};
 use crate::units::units_after;
 use std::alloc::Global;
-use tg_chain::{FAR, ask_units, without};
 use tg_base::{Epoch, List, Msg, NoMemory, Pos, Rids};
+use tg_chain::{FAR, ask_units, without};
 
 /// The spare is sealed first, where a unit joins.
 pub fn begin(alloc: Global, plan: Plan, rids: &mut Rids) -> Result<Step, NoMemory>

@@ -15,8 +15,8 @@ use crate::plan::Plan;
 use crate::step::{ReconfEnd, Step};
 use crate::turns::{ask, end, learn, stay};
 use std::alloc::Global;
-use tg_chain::{FAR, has_rid, without};
 use tg_base::{Epoch, List, Msg, NoMemory, Projection, Rids, Stand, StreamLink};
+use tg_chain::{FAR, has_rid, without};
 
 /// A newer layout comes before a majority of layout servers has heard what is decided.
 #[tactic(auto, using(crate::proofs::Told::told_stays, crate::proofs::Told::others_tell))]

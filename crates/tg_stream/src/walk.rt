@@ -15,10 +15,10 @@ use crate::cells::Cells;
 use crate::known::over_known;
 use crate::members::Members;
 use crate::paused::PausedWalk;
-use tg_chain::{GetCell, GetCellEnd, Next, Step, units_at};
 use std::alloc::Global;
 use std::marker::Model;
 use tg_base::{Backs, Cell, List, Msg, NoMemory, NodeId, Oid, Out, Pos, Projection, Rids, Turn};
+use tg_chain::{GetCell, GetCellEnd, Next, Step, units_at};
 
 /// A step of a walk.
 pub type WalkStep = Step<Walk, PausedWalk, Members>;

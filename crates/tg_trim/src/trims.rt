@@ -15,8 +15,8 @@ use crate::step::{Next, Step};
 use crate::units::units_of;
 use std::alloc::Global;
 use std::marker::Model;
-use tg_chain::{FAR, ask_alike, ask_units, is_awaited, without};
 use tg_base::{Epoch, List, Msg, NoMemory, NodeId, Out, Pos, Projection, Rids, Role};
+use tg_chain::{FAR, ask_alike, ask_units, is_awaited, without};
 
 /// A step of a trim. In a newer layout it starts over below the same position.
 pub type TrimStep = Step<Trims, Pos, TrimEnd>;

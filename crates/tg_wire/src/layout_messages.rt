@@ -5,11 +5,11 @@ ghost use Rattle.tg_codec.specs.Reading.{Gives, meets};
 ghost use Rattle.tg_codec.specs.Codec.{from_table};
 ghost use Rattle.tg_wire.specs.Messages.{messages, prepare, accept, decided, ask_latest, promise, nack, accepted, latest};
 
+use crate::fields::ballot_in;
+use crate::layouts::{ANY_EPOCH, projection_in, vote_in};
 use std::alloc::Global;
 use tg_base::Msg;
 use tg_codec::{ReadFault, u64_in};
-use crate::fields::ballot_in;
-use crate::layouts::{ANY_EPOCH, projection_in, vote_in};
 
 #[tactic(auto, unfolding(crate::specs::Messages::prepare))]
 fn prepare_in(bytes: &[u8]) -> Result<(Msg, &[u8]), ReadFault>

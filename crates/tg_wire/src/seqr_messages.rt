@@ -5,11 +5,11 @@ ghost use Rattle.tg_codec.specs.Reading.{Gives, meets};
 ghost use Rattle.tg_codec.specs.Codec.{from_table};
 ghost use Rattle.tg_wire.specs.Messages.{messages, learn, token, check, issued, tail, scanning, old_epoch, full};
 
+use crate::fields::objects_in;
+use crate::layouts::{ANY_EPOCH, projection_in};
 use std::alloc::Global;
 use tg_base::Msg;
 use tg_codec::{ReadFault, links_in, u64_in};
-use crate::fields::objects_in;
-use crate::layouts::{ANY_EPOCH, projection_in};
 
 #[tactic(auto, unfolding(crate::specs::Messages::learn))]
 fn learn_in(alloc: Global, bytes: &[u8]) -> Result<(Msg, &[u8]), ReadFault>

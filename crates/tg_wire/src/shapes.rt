@@ -6,10 +6,10 @@ ghost use Rattle.tg_codec.specs.Streams.{any, links};
 ghost use Rattle.tg_wire.specs.Fields.{cell, ballot, objects, proposal, vote};
 ghost use Rattle.tg_wire.specs.Short.{IsShortLayout, IsShortVote};
 
-use tg_base::{Ballot, Cell, List, NoMemory, Oid, Projection, StreamLink};
-use tg_codec::{put_links, put_text, put_u64};
 use crate::fields::{put_ballot, put_cell, put_objects};
 use crate::layouts::{put_projection, put_vote};
+use tg_base::{Ballot, Cell, List, NoMemory, Oid, Projection, StreamLink};
+use tg_codec::{put_links, put_text, put_u64};
 
 /// Puts two numbers last.
 pub fn put_two(first: u64, second: u64, out: &mut List<u8>) -> Result<(), NoMemory>

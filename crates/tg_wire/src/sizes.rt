@@ -5,10 +5,10 @@ ghost use Rattle.tg_codec.specs.Codec.{from_table};
 ghost use Rattle.tg_wire.specs.Messages.{tag_of, messages, message};
 ghost use Rattle.tg_wire.specs.Short.{IsShort};
 
-use tg_base::Msg;
-use tg_codec::size_links;
 use crate::fields::{size_cell, size_objects};
 use crate::layouts::{size_projection, size_proposal, size_vote};
+use tg_base::Msg;
+use tg_codec::size_links;
 
 #[tactic(auto, unfolding(crate::specs::Messages::read, crate::specs::Messages::write, crate::specs::Messages::fill, crate::specs::Messages::copy, crate::specs::Messages::has, crate::specs::Messages::seal, crate::specs::Messages::trim, crate::specs::Messages::held, crate::specs::Messages::taken, crate::specs::Messages::unwritten, crate::specs::Messages::gone, crate::specs::Messages::fenced, crate::specs::Messages::sealed, crate::specs::Messages::missing, crate::specs::Messages::whole, crate::specs::Messages::prepare, crate::specs::Messages::accept, crate::specs::Messages::decided, crate::specs::Messages::ask_latest, crate::specs::Messages::promise, crate::specs::Messages::nack, crate::specs::Messages::accepted, crate::specs::Messages::latest, crate::specs::Messages::learn, crate::specs::Messages::token, crate::specs::Messages::check, crate::specs::Messages::issued, crate::specs::Messages::tail, crate::specs::Messages::scanning, crate::specs::Messages::old_epoch, crate::specs::Messages::full))]
 fn size_fields(value: &Msg) -> usize

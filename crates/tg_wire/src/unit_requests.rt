@@ -5,10 +5,10 @@ ghost use Rattle.tg_codec.specs.Reading.{Gives, meets};
 ghost use Rattle.tg_codec.specs.Codec.{from_table};
 ghost use Rattle.tg_wire.specs.Messages.{messages, read, write, fill, copy, has, seal, trim};
 
+use crate::fields::cell_in;
 use std::alloc::Global;
 use tg_base::Msg;
 use tg_codec::{ReadFault, blob, u64_in};
-use crate::fields::cell_in;
 
 #[tactic(auto, unfolding(crate::specs::Messages::read))]
 fn read_in(bytes: &[u8]) -> Result<(Msg, &[u8]), ReadFault>

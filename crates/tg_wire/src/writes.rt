@@ -5,14 +5,14 @@ ghost use Rattle.tg_codec.specs.Codec.{from_table};
 ghost use Rattle.tg_wire.specs.Messages.{tag_of, messages, message};
 ghost use Rattle.tg_wire.specs.Short.{IsShort};
 
+use crate::fields::put_cell;
+use crate::layouts::put_projection;
 use crate::shapes::{
     put_four, put_page, put_proposal, put_round, put_round_vote, put_stream_links, put_streams,
     put_two, put_two_cell,
 };
 use tg_base::{List, Msg, NoMemory};
 use tg_codec::put_u64;
-use crate::fields::put_cell;
-use crate::layouts::put_projection;
 
 // The number that stands for a message.
 fn tag_of(value: &Msg) -> u8

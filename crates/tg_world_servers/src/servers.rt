@@ -7,6 +7,7 @@ ghost use Rattle.tg_protocol.specs.Units.{UnitState, unit_step};
 ghost use Rattle.tg_protocol.specs.Words.{node_eq, numbers, seqr_id};
 ghost use Rattle.tg_world_servers.specs.Servers.{servers_start, count_of, has_stopped, runs, nodes, node_of, log, counted, taken, takes, ticked, receiver_of, archive_by, unit_takes, layout_takes, seqr_takes, seqr_ticks, stops, sends, hands, loses, servers_limit};
 
+use crate::Post;
 use crate::first::first_of;
 use crate::rows::{layout_takes, seqr_takes, seqr_ticks, unit_takes};
 use crate::starts::{new_layouts, new_seqrs, new_units};
@@ -20,7 +21,6 @@ use tg_layout::Layout;
 use tg_seqr::Seqr;
 use tg_unit::Unit;
 use tg_world_log::{archive_trim, log_of, newest};
-use crate::Post;
 
 /// How many steps a run may take.
 const MOST_STEPS: u32 = 200_000;
