@@ -1,6 +1,6 @@
 //! The packets of a world.
 
-ghost use Rattle.std.specs.Prelude.{◌≡◌, ◌<◌, ◌∷◌, [], length, map, slice_get, option_copied, IfOk, OnOk};
+ghost use Rattle.std.specs.Prelude.{◌≡◌, ◌<◌, ◌∷◌, [], length, map, slice_get, option_copied, IfOk, OnOk, OnErr};
 ghost use Rattle.tg_world_servers.specs.Posts.{new_post, packet_from, answer_from, posted, handed, lost, first_of, capped};
 
 use crate::sizes::size;
@@ -129,7 +129,8 @@ impl Post {
 
     /// A packet is delivered, for the first time or again. An `Err` is want of memory, and changes nothing.
     pub fn hand(&mut self, number: u64) -> Result<(), NoMemory>
-        ensures { OnOk result (self.new ≡ handed self.old number) }
+        ensures ok { OnOk result (self.new ≡ handed self.old number) }
+        ensures kept { OnErr result (self.new ≡ self.old) }
     {
         self.delivered.push(number)?;
         self.waiting.remove(&number);

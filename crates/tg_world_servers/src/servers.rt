@@ -1,6 +1,6 @@
 //! All servers of a world.
 
-ghost use Rattle.std.specs.Prelude.{◌≡◌, ◌<◌, ◌+◌, ◌++◌, nat_lt, Some, length, map, slice_get, slice_index_or, IfOk, OnOk};
+ghost use Rattle.std.specs.Prelude.{◌≡◌, ◌<◌, ◌+◌, ◌++◌, nat_lt, Some, length, map, slice_get, slice_index_or, IfOk, OnOk, OnErr};
 ghost use Rattle.tg_base.specs.declared.packet.Packet.{Packet};
 ghost use Rattle.tg_protocol.specs.Logs.{newest};
 ghost use Rattle.tg_protocol.specs.Units.{UnitState, unit_step};
@@ -184,7 +184,8 @@ impl Servers {
 
     /// A packet is delivered, for the first time or again. An `Err` is want of memory, and changes nothing.
     pub fn hand(&mut self, number: u64) -> Result<(), NoMemory>
-        ensures { OnOk result (self.new ≡ hands self.old number) }
+        ensures ok { OnOk result (self.new ≡ hands self.old number) }
+        ensures kept { OnErr result (self.new ≡ self.old) }
     {
         self.post.hand(number)
     }
@@ -205,7 +206,8 @@ impl Servers {
 
     /// A node stops for good. An `Err` is want of memory, and changes nothing.
     pub fn stop(&mut self, node: NodeId) -> Result<(), NoMemory>
-        ensures { OnOk result (self.new ≡ stops self.old node) }
+        ensures ok { OnOk result (self.new ≡ stops self.old node) }
+        ensures kept { OnErr result (self.new ≡ self.old) }
     {
         self.stopped.insert(0, node)
     }
