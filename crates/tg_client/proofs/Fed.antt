@@ -51,7 +51,7 @@ use Rattle.tg_client_state.proofs.Trims as trims
 use Rattle.tg_client_state.proofs.Copies as copies
 use Rattle.tg_client_state.proofs.Reconfs.{reconf_numbers, fed_send, latest_send}
 use Rattle.tg_client_state.proofs.Nears.{append_stays_near, sync_stays_near}
-use Rattle.tg_client_state.proofs.Stays.{copy_stays}
+use Rattle.tg_client_state.proofs.NearNumbers.{copy_stays}
 use Rattle.tg_client_state.specs.States.{WalksOn}
 use Rattle.tg_client_state.proofs.Turning.{fits_now}
 use Rattle.tg_client.specs.Shown.{AppendShown, TrimShown, CopyShown, ReconfShown}

@@ -18,4 +18,4 @@ pub mod Trims
 pub mod Reconfs
 pub mod Grows
 pub mod Nears
-pub mod Stays
+pub mod NearNumbers

@@ -2,7 +2,7 @@ use Rattle.std.proofs.Common.{◌+◌, drop}
 use Rattle.std.proofs.lemmas.Bool.{lt-ltb, le-ltb}
 use Rattle.tg_play.proofs.Means.{means}
 use Rattle.tg_play.proofs.Splitting.{drop_all}
-use Rattle.tg_client_answers.proofs.Trimming.{drop_at, found_trim, passed_trim, no_trim}
+use Rattle.tg_client_answers.proofs.TrimsAbove.{drop_at, found_trim, passed_trim, no_trim}
 use Rattle.tg_client_answers.proofs.records.trim_above.Goals as goal
 
 pub returns-then-pos-trim : goal.returns-then-pos-trim

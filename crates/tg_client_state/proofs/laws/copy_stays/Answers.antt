@@ -1,4 +1,4 @@
-use Rattle.tg_client_state.proofs.Stays.{copy_stays}
+use Rattle.tg_client_state.proofs.NearNumbers.{copy_stays}
 use Rattle.tg_client_state.proofs.laws.copy_stays.Goals as goal
 
 pub returns : goal.returns
