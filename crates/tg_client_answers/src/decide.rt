@@ -77,7 +77,7 @@ fn judged<K: Registry>(
     at: Pos,
     entry: &Entry,
 ) -> Result<Moved<K>, NoMemory>
-    ensures { Moves (meaning_of K.Registry) state job result (λ c w v. told.decide_verdict (meaning_of K.Registry) c w entries.now at entry.now (views.outcome (meaning_of K.Registry) v entries.now at entry.now)) }
+    ensures { Moves (meaning_of K.Registry) state job result (λ c w v. told.decide_verdict (meaning_of K.Registry) c w entries.now at entry.now (views.view_outcome (meaning_of K.Registry) v entries.now at entry.now)) }
 {
     match &state.view {
         None => Err(NoMemory),
