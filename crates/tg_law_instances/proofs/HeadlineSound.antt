@@ -1,11 +1,10 @@
 -- Tests of a world that passed prove the headline of it: `Holds`; and a fault that is found refutes `Legal`.
-use Rattle.std.proofs.Common.{◌≡◌, ◌⊎◌, ℕ, zero, suc, ◌<◌, ◌≤◌, List, [], ◌∷◌, ◌++◌, Bool, true, false, Option, Some, None, refl, sym, ap, ◌∙◌, subst, inl, inr, arith}
-use Rattle.std.specs.Prelude.{◌+◌, ◌&&◌, ◌||◌, ◌==◌, not, nat_lt, nat_le, map, is_some, Contains, if◌then◌else◌, ◌≢◌}
+use Rattle.std.proofs.Common.{◌≡◌, ◌⊎◌, ℕ, ◌≤◌, List, [], ◌∷◌, ◌++◌, Bool, true, false, Option, Some, None, refl, sym, ap, ◌∙◌, subst, inl, inr, arith}
+use Rattle.std.specs.Prelude.{◌+◌, ◌&&◌, ◌==◌, not, nat_lt, nat_le, is_some, Contains, if◌then◌else◌, ◌≢◌}
 use Rattle.std.specs.List.{list_any, list_all}
 use Rattle.tg_base.specs.Layouts.{Layout}
 use Rattle.tg_base.specs.declared.ids.Oid.{Oid}
 use Rattle.tg_base.specs.declared.marks.Part.{Part}
-use Rattle.tg_base.specs.declared.marks.ReadMark.{ReadMark}
 use Rattle.tg_base.specs.declared.msg.Msg.{Msg}
 use Rattle.tg_base.specs.declared.msg.Msg.TheVariants as msg
 use Rattle.tg_base.specs.declared.packet.Packet.{Packet}
@@ -22,13 +21,13 @@ use Rattle.tg_model.specs.Verdicts.{Fault, fault}
 use Rattle.tg_protocol.specs.Words.{client_id, unit_id, seqr_id, directory, node_eq, oid_eq, where_true}
 use Rattle.tg_protocol.specs.Layouts.{units_of}
 use Rattle.tg_protocol.specs.Trimming.{has_stripe}
-use Rattle.tg_protocol.specs.Entries.{is_commit, needs_decision}
-use Rattle.tg_protocol.specs.Views.{View, Entries, fate_of}
+use Rattle.tg_protocol.specs.Entries.{needs_decision}
+use Rattle.tg_protocol.specs.Views.{View, fate_of}
 use Rattle.tg_protocol.specs.Logs.{outcome}
 use Rattle.tg_protocol.specs.Clients.{Client, new_client}
 use Rattle.tg_protocol.specs.Worlds.{Told, unit, client, log, history, trace}
 use Rattle.tg_protocol.specs.Chosen.{IsDecided}
-use Rattle.tg_protocol.specs.Alike.{SentNow, HasEntry, HasRecord, HasCommit, Outcome, HasDecision, SavedAt, UnitsTrimmed, TrimmedTo, DecidedBy, CopiedBy, LogAgrees, OfTx, MarkedBy, HeardTail, HeardLater, InstalledBy, OvertakenBy, MetEnd, MetTrim, Recorded, MetEndNow, MetTrimNow, RecordedNow, Alike, PastTrue, RescueTrue}
+use Rattle.tg_protocol.specs.Alike.{HasEntry, HasRecord, Outcome, SavedAt, UnitsTrimmed, TrimmedTo, CopiedBy, LogAgrees, OfTx, MarkedBy, HeardTail, HeardLater, InstalledBy, OvertakenBy, MetEnd, MetTrim, Recorded, MetEndNow, MetTrimNow, RecordedNow, Alike, PastTrue, RescueTrue}
 use Rattle.tg_protocol.specs.Headline.{Holds}
 use Rattle.tg_law_verdicts.proofs.Legality.{verdicts_are_true}
 use Rattle.tg_law_verdicts.proofs.Members.{Has, has_contained, contained_has, joined, and_both, both_and, not_true, found, all_pass}
@@ -37,8 +36,8 @@ use Rattle.tg_law_examples.proofs.SevenKinds.{kinds}
 use Rattle.tg_law_examples.proofs.Sameness.{same}
 use Rattle.tg_law_instances.proofs.Same.{sameness_exact, nodes_same}
 use Rattle.tg_law_instances.proofs.Sound.{rises_sound}
-use Rattle.tg_law_instances.proofs.Readings.{then_so, either_so, has_mapped, index_or, EntryAt, entry_found, entry_is_here, es_of, in_log, of_log, record_found, record_is_there, commit_found, outcome_found, decision_found, fate_kept, Heard, heard_found, HeardIt, sent_found, sent_to, sent_now, issued_is, some_issued, tail_is, full_is, gone_is, later_is, layouts_decided}
-use Rattle.tg_law_instances.proofs.Tests.{Claim, W, implies, heard, heard_now, is_any_gone, is_full_log, is_tail, is_issued, is_any_issued, is_later, entry_here, rises, once, linked, records_own, has_record, has_commit, has_decision, marks_rest, trims_spare, floors_stay, directories, directory_at, checkpoints, outcome_is, decision_true, fates_of, decisions, layouts, one_layout, latest_decided, follow, is_trimmed, is_look, is_whole, answered, is_copied, is_saved, needs_one, sent_from, issued_at, then_full, then_gone, then_issued_and_gone, met_end, met_end_now, recorded, recorded_now, rescued_so, is_least, heard_new, agrees, does_mark, commits_mark, marked_by, of_client, this_or, last_of, mark_follows, marks_follow, all_agree, in_order, fails, failed, world_tests, world_fails}
+use Rattle.tg_law_instances.proofs.Readings.{then_so, either_so, has_mapped, index_or, entry_found, entry_is_here, es_of, in_log, of_log, record_found, record_is_there, commit_found, outcome_found, decision_found, fate_kept, Heard, heard_found, sent_found, sent_to, sent_now, issued_is, some_issued, tail_is, full_is, gone_is, later_is, layouts_decided}
+use Rattle.tg_law_instances.proofs.Tests.{Claim, W, implies, heard, heard_now, is_any_gone, is_full_log, is_tail, is_issued, is_any_issued, is_later, entry_here, rises, once, linked, records_own, has_record, has_commit, has_decision, marks_rest, trims_spare, floors_stay, directories, checkpoints, outcome_is, decision_true, fates_of, decisions, layouts, one_layout, latest_decided, follow, is_trimmed, is_look, is_whole, answered, is_saved, needs_one, sent_from, issued_at, then_full, then_gone, then_issued_and_gone, met_end, met_end_now, recorded, recorded_now, rescued_so, is_least, heard_new, agrees, does_mark, commits_mark, marked_by, of_client, this_or, last_of, mark_follows, marks_follow, all_agree, in_order, fails, failed, world_tests, world_fails}
 
 -- A world that passes all tests.
 

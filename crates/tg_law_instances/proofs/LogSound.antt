@@ -1,8 +1,8 @@
 -- Tests of a world that passed prove what is claimed of its one log, of what was forgotten, and of its aborts.
-use Rattle.std.proofs.Common.{◌≡◌, ◌⊎◌, ℕ, zero, suc, ◌<◌, ◌≤◌, List, [], ◌∷◌, ◌++◌, Bool, true, false, Option, Some, None, refl, sym, ap, ◌∙◌, subst, inl, inr, arith}
-use Rattle.std.specs.Prelude.{◌+◌, ◌&&◌, ◌||◌, ◌==◌, not, nat_lt, nat_le, map, max, is_some, Contains, if◌then◌else◌, ◌≢◌}
+use Rattle.std.proofs.Common.{◌≡◌, ℕ, zero, suc, ◌<◌, ◌≤◌, List, [], ◌∷◌, ◌++◌, Bool, true, false, Option, Some, None, refl, sym, ap, ◌∙◌, subst, inl, inr, arith}
+use Rattle.std.specs.Prelude.{◌+◌, ◌&&◌, ◌==◌, nat_lt, nat_le, map, max, is_some, Contains, if◌then◌else◌, ◌≢◌}
 use Rattle.std.specs.List.{list_any, list_all}
-use Rattle.std.specs.Cmp.Lexicographic.{pointwise, pointwise_decides}
+use Rattle.std.specs.Cmp.Lexicographic.{pointwise}
 use Rattle.std.proofs.lemmas.Bool.Decides.{nat_tests}
 use Rattle.tg_base.specs.Layouts.{Layout}
 use Rattle.tg_base.specs.declared.cell.Cell.{Cell}
@@ -14,11 +14,10 @@ use Rattle.tg_base.specs.declared.marks.StreamLink.{StreamLink}
 use Rattle.tg_base.specs.declared.msg.Msg.{Msg}
 use Rattle.tg_base.specs.declared.msg.Msg.TheVariants as msg
 use Rattle.tg_base.specs.declared.packet.Packet.{Packet}
-use Rattle.tg_entry.specs.declared.entry.Body.TheVariants.{Checkpoint}
 use Rattle.tg_entry.specs.declared.entry.Entry.{Entry}
 use Rattle.tg_model.specs.declared.trace.What.TheVariants as told
 use Rattle.tg_model.specs.Kinds.{MarkOf, WhatOf, DoneOf}
-use Rattle.tg_model.specs.Stores.{state_at, state_in, store_after, after_writes}
+use Rattle.tg_model.specs.Stores.{state_in, store_after, after_writes}
 use Rattle.tg_model.specs.Traces.{Trace, puts_of, has_items, point_of}
 use Rattle.tg_model.specs.Verdicts.{is_of, is_begin, begins, or_zero, bound_in, bound}
 use Rattle.tg_model.specs.Legal.{Legal}
@@ -27,26 +26,26 @@ use Rattle.tg_protocol.specs.Entries.{is_commit, needs_decision, lists, reads_of
 use Rattle.tg_protocol.specs.Transactions.{read_before}
 use Rattle.tg_protocol.specs.Checkpoints.{base_at}
 use Rattle.tg_protocol.specs.Units.{UnitState, new_unit}
-use Rattle.tg_protocol.specs.Views.{Base, Entries}
+use Rattle.tg_protocol.specs.Views.{Base}
 use Rattle.tg_protocol.specs.Logs.{Log, version, path}
 use Rattle.tg_protocol.specs.Clients.{Client, new_client, write_of}
 use Rattle.tg_protocol.specs.Worlds.{Told, unit, client, latest, log, history, trace}
 use Rattle.tg_protocol.specs.Runs.{Moves}
 use Rattle.tg_protocol.specs.Chosen.{IsDecided, OneLayout, LatestDecided}
-use Rattle.tg_protocol.specs.Alike.{HasEntry, HasRecord, SavedAt, LogAgrees}
-use Rattle.tg_protocol.specs.Holding.{HasCell, EntriesOnce, EntriesLinked, IssuedTo, RecordsOwn, IsRecord, AskedOf, ReadsOf, HasItsRecord, HasCheckpoint, RepliesHaveRecords, RecordsInOrder, SerialFirst, FloorsStay, HasBasePast, TrimsSpare, MarksRest}
+use Rattle.tg_protocol.specs.Alike.{HasEntry}
+use Rattle.tg_protocol.specs.Holding.{HasCell, EntriesOnce, EntriesLinked, RecordsOwn, IsRecord, AskedOf, ReadsOf, HasItsRecord, RepliesHaveRecords, RecordsInOrder, SerialFirst, FloorsStay, HasBasePast, TrimsSpare, MarksRest}
 use Rattle.tg_protocol.specs.Playing.{ReadsOnPath, OnPath}
 use Rattle.tg_protocol.specs.Causes.{DirectoryTrue, AbortsLeast}
 use Rattle.tg_law_verdicts.proofs.Members.{Has, has_right, has_contained, contained_has, and_both, both_and, found, passes_somewhere, all_pass}
-use Rattle.tg_law_verdicts.proofs.Tests.{same_number, number_same, same_oid, oid_same, le_of, lt_of, of_lt}
+use Rattle.tg_law_verdicts.proofs.Tests.{same_number, number_same, same_oid, le_of, lt_of, of_lt}
 use Rattle.tg_law_verdicts.proofs.Asks.{mark_is}
 use Rattle.tg_law_examples.proofs.SevenKinds.{kinds, State, Named, Dir}
 use Rattle.tg_law_examples.proofs.Sameness.{same}
 use Rattle.tg_law_instances.proofs.Same.{layouts_same, links_exact, writes_exact, bytes_same, parts_same, nodes_same, node_itself}
 use Rattle.tg_law_instances.proofs.Sound.{cell_has, once_sound}
-use Rattle.tg_law_instances.proofs.Readings.{then_so, so_then, has_mapped, index_or, entry_found, es_of, in_log, of_log, record_found, decision_found, heard_found, issued_is, sent_to, layouts_decided, decided_listed}
+use Rattle.tg_law_instances.proofs.Readings.{then_so, has_mapped, index_or, es_of, in_log, of_log, record_found, decision_found, heard_found, issued_is, sent_to, layouts_decided, decided_listed}
 use Rattle.tg_law_instances.proofs.HeadlineSound.{passed_all, agrees_at, legal_sound, commits_by, saved_of, aborted_by}
-use Rattle.tg_law_instances.proofs.Tests.{Claim, ReadsOnPath as Off, fails, world_fails, path_fails, W, implies, links_eq, writes_eq, named_eq, states_eq, heard, is_issued, linked, told_of, is_end, asked_part, has_read_of, is_record, records_own, has_record, has_commit, has_cell, base_reaches, has_decision, has_base_past, trims_spare, floors_stay, directories, directory_at, marks_rest_of, marks_rest, layouts, ranges_eq, one_layout, latest_decided, agrees, is_least, outcome_is, recorded, read_pos, on_links, tail_links, on_path, is_client, reads_on_path, in_order, all_agree}
+use Rattle.tg_law_instances.proofs.Tests.{Claim, ReadsOnPath as Off, fails, world_fails, path_fails, W, implies, links_eq, writes_eq, named_eq, states_eq, heard, is_issued, linked, told_of, is_end, asked_part, has_read_of, is_record, records_own, has_record, has_commit, has_cell, base_reaches, has_decision, has_base_past, trims_spare, floors_stay, directories, directory_at, marks_rest_of, marks_rest, layouts, ranges_eq, one_layout, latest_decided, agrees, is_least, read_pos, on_links, tail_links, on_path, is_client, reads_on_path, in_order, all_agree}
 
 -- Layouts.
 

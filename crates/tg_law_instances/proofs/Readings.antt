@@ -1,10 +1,8 @@
 -- What a test that passed has found: an entry, a message, a decided layout.
-use Rattle.std.proofs.Common.{◌≡◌, ◌⊎◌, ℕ, zero, suc, ◌<◌, ◌≤◌, List, [], ◌∷◌, ◌++◌, Bool, true, false, Option, Some, None, refl, sym, ap, ◌∙◌, subst, inl, inr, arith}
-use Rattle.std.specs.Prelude.{◌+◌, ◌&&◌, ◌||◌, ◌==◌, not, nat_lt, nat_le, map, filter, is_some, Contains, if◌then◌else◌, slice_index_or, ◌≢◌}
-use Rattle.std.specs.List.{list_any, list_all}
+use Rattle.std.proofs.Common.{◌≡◌, ◌⊎◌, ℕ, zero, suc, ◌<◌, ◌≤◌, List, [], ◌∷◌, ◌++◌, Bool, true, false, Some, refl, sym, ap, ◌∙◌, subst, inl, inr}
+use Rattle.std.specs.Prelude.{◌&&◌, ◌||◌, ◌==◌, not, nat_lt, nat_le, map, filter, is_some, if◌then◌else◌, slice_index_or}
 use Rattle.tg_base.specs.Layouts.{Layout}
 use Rattle.tg_base.specs.declared.ids.Ballot.{Ballot}
-use Rattle.tg_base.specs.declared.ids.Oid.{Oid}
 use Rattle.tg_base.specs.declared.marks.StreamLink.{StreamLink}
 use Rattle.tg_base.specs.declared.msg.Msg.{Msg}
 use Rattle.tg_base.specs.declared.msg.Msg.TheVariants as msg
@@ -12,19 +10,19 @@ use Rattle.tg_base.specs.declared.packet.Packet.{Packet}
 use Rattle.tg_entry.specs.declared.entry.Body.{Body}
 use Rattle.tg_entry.specs.declared.entry.Body.TheVariants.{Commit, Decision, Checkpoint}
 use Rattle.tg_entry.specs.declared.entry.Entry.{Entry}
-use Rattle.tg_protocol.specs.Words.{client_id, unit_id, node_eq, where_true, or_else}
+use Rattle.tg_protocol.specs.Words.{client_id, node_eq, where_true, or_else}
 use Rattle.tg_protocol.specs.Layouts.{first_layout}
-use Rattle.tg_protocol.specs.Entries.{is_commit, decides, needs_decision}
+use Rattle.tg_protocol.specs.Entries.{is_commit, decides}
 use Rattle.tg_protocol.specs.Views.{Entries, decision_in, fate_in}
 use Rattle.tg_protocol.specs.Logs.{entries_of, by_majority, outcome}
-use Rattle.tg_protocol.specs.Worlds.{Told, log, latest}
+use Rattle.tg_protocol.specs.Worlds.{Told, log}
 use Rattle.tg_protocol.specs.Chosen.{Sent, IsChosen, IsDecided}
 use Rattle.tg_protocol.specs.Alike.{SentTo, SentNow, HasEntry, HasRecord, HasCommit, Outcome, HasDecision}
-use Rattle.tg_law_verdicts.proofs.Members.{Has, has_left, has_right, has_contained, contained_has, and_both, both_and, not_true, found, passes_somewhere, all_pass}
-use Rattle.tg_law_verdicts.proofs.Tests.{same_number, number_same, lt_of, le_of, of_lt, of_le}
+use Rattle.tg_law_verdicts.proofs.Members.{Has, has_left, has_right, has_contained, contained_has, and_both, both_and, found, passes_somewhere}
+use Rattle.tg_law_verdicts.proofs.Tests.{same_number, number_same, lt_of, le_of, of_lt}
 use Rattle.tg_law_examples.proofs.SevenKinds.{kinds}
-use Rattle.tg_law_instances.proofs.Same.{nodes_same, node_itself}
-use Rattle.tg_law_instances.proofs.Tests.{W, implies, bool_eq, heard, is_gone, is_gone_above, is_any_gone, is_full_log, is_tail, is_issued, is_any_issued, is_later, entry_here, has_record, has_commit, has_decision, outcome_is, layout_in, layouts_in, layouts, sent_from}
+use Rattle.tg_law_instances.proofs.Same.{nodes_same}
+use Rattle.tg_law_instances.proofs.Tests.{W, implies, bool_eq, heard, is_any_gone, is_full_log, is_tail, is_issued, is_any_issued, is_later, entry_here, has_record, has_commit, has_decision, outcome_is, layout_in, layouts_in, layouts, sent_from}
 
 -- Bools.
 

@@ -1,15 +1,13 @@
 -- Tests that failed refute the claims that they test: of changed worlds.
-use Rattle.std.proofs.Common.{◌≡◌, ◌⊎◌, ℕ, zero, suc, ◌<◌, ◌≤◌, List, [], ◌∷◌, ◌++◌, length, Bool, true, false, Option, Some, None, refl, sym, ap, ◌∙◌, subst, inl, inr, arith}
-use Rattle.std.specs.Prelude.{◌&&◌, ◌||◌, ◌==◌, not, nat_lt, nat_le, map, is_some, Contains, slice_index_or}
+use Rattle.std.proofs.Common.{◌≡◌, ℕ, zero, suc, ◌<◌, ◌≤◌, List, [], ◌∷◌, ◌++◌, length, Bool, true, false, Option, Some, None, refl, sym, ap, ◌∙◌, subst, inl, inr, arith}
+use Rattle.std.specs.Prelude.{◌&&◌, ◌||◌, ◌==◌, not, nat_lt, nat_le, is_some, Contains, slice_index_or}
 use Rattle.std.specs.List.{list_any, list_all}
-use Rattle.std.specs.Cmp.Lexicographic.{pointwise, pointwise_decides}
+use Rattle.std.specs.Cmp.Lexicographic.{pointwise}
 use Rattle.tg_base.specs.Layouts.{Layout}
 use Rattle.tg_base.specs.declared.cell.Cell.{Cell}
 use Rattle.tg_base.specs.declared.cell.Cell.TheVariants.{Junk, Data}
 use Rattle.tg_base.specs.declared.ids.Oid.{Oid}
-use Rattle.tg_base.specs.declared.marks.Part.{Part}
 use Rattle.tg_base.specs.declared.marks.ReadMark.{ReadMark}
-use Rattle.tg_base.specs.declared.marks.StreamLink.{StreamLink}
 use Rattle.tg_base.specs.declared.msg.Msg.{Msg}
 use Rattle.tg_base.specs.declared.msg.Msg.TheVariants as msg
 use Rattle.tg_base.specs.declared.packet.Packet.{Packet}
@@ -17,7 +15,7 @@ use Rattle.tg_entry.specs.declared.entry.Body.{Body}
 use Rattle.tg_entry.specs.declared.entry.Body.TheVariants.{Commit, Decision, Checkpoint}
 use Rattle.tg_entry.specs.declared.entry.Entry.{Entry}
 use Rattle.tg_model.specs.declared.trace.What.TheVariants as told
-use Rattle.tg_model.specs.Kinds.{WhatOf, DoneOf}
+use Rattle.tg_model.specs.Kinds.{WhatOf}
 use Rattle.tg_model.specs.Stores.{state_at, answer_at, is_stamp}
 use Rattle.tg_model.specs.Legal.{Legal}
 use Rattle.tg_model.specs.Verdicts.{Fault, fault}
@@ -25,7 +23,7 @@ use Rattle.tg_protocol.specs.Words.{client_id, directory, node_eq, oid_eq, bytes
 use Rattle.tg_protocol.specs.Entries.{needs_decision, reads_of, decides}
 use Rattle.tg_protocol.specs.Transactions.{read_before}
 use Rattle.tg_protocol.specs.Views.{Entries, decision_in}
-use Rattle.tg_protocol.specs.Logs.{Log, version, outcome}
+use Rattle.tg_protocol.specs.Logs.{version}
 use Rattle.tg_protocol.specs.Clients.{Client, new_client}
 use Rattle.tg_protocol.specs.Units.{UnitState, new_unit}
 use Rattle.tg_protocol.specs.Worlds.{Told, unit, client, log, history, trace}
@@ -34,14 +32,14 @@ use Rattle.tg_protocol.specs.Headline.{Holds}
 use Rattle.tg_protocol.specs.Chosen.{IsDecided, OneLayout}
 use Rattle.tg_protocol.specs.Holding.{EntriesLinked, HasCell, FloorsStay, TrimsSpare, LogStays}
 use Rattle.tg_protocol.specs.Causes.{DirectoryTrue, AbortsLeast}
-use Rattle.tg_law_verdicts.proofs.Members.{Has, has_contained, contained_has, and_both, both_and, not_true, found, passes_somewhere, all_pass, each_passes, cut_at}
+use Rattle.tg_law_verdicts.proofs.Members.{Has, has_contained, contained_has, and_both, both_and, not_true, found, passes_somewhere, each_passes, cut_at}
 use Rattle.tg_law_verdicts.proofs.Tests.{same_number, number_same, oid_same, of_le, lt_of}
 use Rattle.tg_law_examples.proofs.SevenKinds.{kinds, State, Named, Dir}
 use Rattle.tg_law_examples.proofs.Sameness.{same}
 use Rattle.tg_law_instances.proofs.Same.{sameness_exact, links_exact, node_itself, layout_itself, bytes_itself}
-use Rattle.tg_law_instances.proofs.Readings.{then_so, so_then, es_of, in_log, of_log, record_found, outcome_is_so, entry_found, layouts_decided}
+use Rattle.tg_law_instances.proofs.Readings.{so_then, es_of, in_log, of_log, record_found, outcome_is_so, entry_found, layouts_decided}
 use Rattle.tg_law_instances.proofs.HeadlineSound.{illegal_sound}
-use Rattle.tg_law_instances.proofs.Tests.{Claim, StampsRise, IsLegal, W, fails, failed, world_tests, world_fails, implies, heard, heard_now, is_issued, is_tail, is_full_log, is_any_gone, links_eq, linked, rises, layouts, ranges_eq, one_layout, has_record, has_decision, has_cell, needs_one, outcome_is, is_least, does_mark, named_eq, states_eq, directories, directory_at, floors_stay}
+use Rattle.tg_law_instances.proofs.Tests.{Claim, StampsRise, IsLegal, W, fails, failed, world_tests, world_fails, implies, heard, heard_now, is_issued, is_tail, is_full_log, is_any_gone, links_eq, linked, rises, layouts, ranges_eq, one_layout, has_record, has_decision, needs_one, outcome_is, is_least, does_mark, named_eq, states_eq, directory_at}
 
 -- Bools.
 

@@ -1,5 +1,5 @@
 -- Worked runs, at each step and line of which the claims hold.
-use Rattle.std.proofs.Common.{◌≡◌, List, [], ◌∷◌, refl}
+use Rattle.std.proofs.Common.{◌≡◌, [], ◌∷◌, refl}
 use Rattle.std.specs.Prelude.{true, false}
 use Rattle.tg_model.specs.Stores.{store_after, changed}
 use Rattle.tg_model.specs.Traces.{puts_of}

@@ -1,5 +1,5 @@
 -- Tests of equality are exact.
-use Rattle.std.proofs.Common.{◌≡◌, ℕ, List, [], ◌∷◌, Bool, true, false, Option, Some, None, refl, sym, ap, ◌∙◌, subst}
+use Rattle.std.proofs.Common.{◌≡◌, ℕ, List, [], ◌∷◌, Bool, true, false, Option, Some, None, refl, ap, ◌∙◌, subst}
 use Rattle.std.specs.Prelude.{◌&&◌, ◌==◌, ℤ, pos, negsuc}
 use Rattle.std.specs.Cmp.Lexicographic.{pointwise, pointwise_decides}
 use Rattle.tg_base.specs.Layouts.{Layout}
@@ -19,7 +19,7 @@ use Rattle.tg_law_verdicts.proofs.Tests.{same_number, number_same, same_oid, oid
 use Rattle.tg_law_examples.proofs.SevenKinds.{kinds, Op, Answer}
 use Rattle.tg_law_examples.proofs.SevenKinds as kind
 use Rattle.tg_law_examples.proofs.Sameness.{int_eq, option_eq, flag_eq, op_eq, answer_eq, same}
-use Rattle.tg_law_instances.proofs.Tests.{nums_eq, links_eq, oids_eq, writes_eq, ranges_eq}
+use Rattle.tg_law_instances.proofs.Tests.{nums_eq, links_eq, writes_eq, ranges_eq}
 
 -- a test that says of two values whether they are the same
 abbrev pub Exact : {X : Type 0} → (X → X → Bool) → Type 0

@@ -12,13 +12,13 @@ use Rattle.tg_entry.specs.declared.entry.Entry.{Entry}
 use Rattle.tg_entry.specs.Format.{tag_of}
 use Rattle.tg_model.specs.Kinds.{DoneOf}
 use Rattle.tg_model.specs.Stores.{AllAbove, Rises}
-use Rattle.tg_protocol.specs.Words.{bytes_eq, cell_eq, cell_at}
+use Rattle.tg_protocol.specs.Words.{cell_eq, cell_at}
 use Rattle.tg_protocol.specs.Views.{Entries}
 use Rattle.tg_protocol.specs.Logs.{Log, entries_of}
 use Rattle.tg_protocol.specs.Worlds.{log}
 use Rattle.tg_protocol.specs.Holding.{EntriesOnce, LogStays}
 use Rattle.tg_law_verdicts.proofs.Members.{Has, has_contained, contained_has, and_both, both_and, not_true, no_pass, all_pass}
-use Rattle.tg_law_verdicts.proofs.Tests.{same_number, number_same}
+use Rattle.tg_law_verdicts.proofs.Tests.{number_same}
 use Rattle.tg_law_examples.proofs.SevenKinds.{kinds}
 use Rattle.tg_law_instances.proofs.Same.{bytes_same}
 use Rattle.tg_law_instances.proofs.Tests.{W, rises, same_head, once}
