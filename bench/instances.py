@@ -53,6 +53,19 @@ WORLDS = [
     ('another_layout', 'two_layouts', 'unit_joins', 'OneLayout'),
     ('higher_seals', 'higher', 'carried_by_scan', 'LayoutsFollow'),
 ]
+# what each of these changed worlds refutes: the claim, its test that failed, and the lemma that proves so
+REFUTED = {
+    'reply_of_trim': ('Alike kinds', 'some_alike_off', 'alike_refuted'),
+    'record_undecided': ('Alike kinds', 'some_alike_off', 'alike_refuted'),
+    'mark_of_another': ('Alike kinds', 'some_alike_off', 'alike_refuted'),
+    'reply_of_past': ('PastTrue kinds', 'some_past_off', 'past_refuted'),
+    'reply_of_rescue': ('RescueTrue kinds', 'some_rescue_off', 'rescue_refuted'),
+    'abort_of_the_last': ('AbortsLeast kinds', 'some_aborts_off', 'aborts_refuted'),
+    'played_more': ('DirectoryTrue kinds', 'some_directory_off', 'directories_refuted'),
+    'replaced_page': ('CheckpointsTrue kinds', 'some_checkpoint_off', 'checkpoints_refuted'),
+    'unarchived_trim': ('FloorsStay kinds', 'some_floor_off', 'floors_refuted'),
+    'trimmed_more': ('TrimsSpare kinds', 'some_trim_off', 'trims_refuted'),
+}
 # changed steps of a run, and the claims that fail of each
 STEPS = [
     ('viewless_asks', 'replied', '(with_client viewless 1)', 'hole_filled', 'Stands;Falls'),
@@ -101,6 +114,12 @@ def lemma(name, statement, opened):
     print('%s = refl' % name)
 
 
+def claim(name, statement, proof):
+    print()
+    print('%s : %s' % (name, statement))
+    print('%s = %s' % (name, proof))
+
+
 def script(run):
     return '%s_header %s_script' % (run, run)
 
@@ -116,16 +135,24 @@ def running():
     print('use Rattle.tg_law_instances.proofs.Tests.{world_fails, path_fails}')
     print('use Rattle.tg_law_instances.proofs.StepTests.{drain_ev, tick_ev, round_ev, step_fails, run_fails, failures, exact_at_end, own_at_end, settlings_of, log_stays}')
     print('use Rattle.std.specs.Prelude.{take}')
-    print('use Rattle.tg_model.specs.Stores.{Rises}')
-    print('use Rattle.tg_protocol.specs.Holding.{EntriesOnce, LogStays}')
-    print('use Rattle.tg_law_instances.proofs.Tests.{W, rises, once}')
-    print('use Rattle.tg_law_instances.proofs.Sound.{rises_sound, once_sound, stays_sound}')
+    print('use Rattle.tg_protocol.specs.Runs.{Moves}')
+    print('use Rattle.tg_protocol.specs.Holding.{LogStays}')
+    print('use Rattle.tg_protocol.specs.Headline.{Holds}')
+    print('use Rattle.tg_protocol.specs.Playing.{ReadsOnPath}')
+    print('use Rattle.tg_law_instances.proofs.Tests.{W}')
+    print('use Rattle.tg_law_instances.proofs.Sound.{stays_sound}')
+    print('use Rattle.tg_law_instances.proofs.HeadlineSound.{holds_sound}')
+    print('use Rattle.tg_law_instances.proofs.LogSound.{LogHolds, log_sound, reads_sound}')
     for run in HOLD:
         lemma('holds_of_' + run, 'failures %s ≡ []' % script(run), opened)
+        lemma('end_of_' + run, 'world_fails %s ≡ []' % world(run), opened)
+        claim(run + '_holds', 'Holds kinds %s' % world(run), 'holds_sound %s end_of_%s' % (world(run), run))
+        claim(run + '_log', 'LogHolds %s' % world(run), 'log_sound %s end_of_%s' % (world(run), run))
     for run in WALKS:
         lemma('walks_of_' + run, 'exact_at_end %s ≡ (%d, true)' % (script(run), WALKS[run]), opened)
     for run in PATHS:
         lemma('paths_of_' + run, 'path_fails %s ≡ []' % world(run), opened)
+        claim(run + '_reads', '(ms : Moves kinds) → ReadsOnPath kinds ms %s' % world(run), 'reads_sound %s paths_of_%s' % (world(run), run))
     for run in OWN:
         lemma('own_of_' + run, 'own_at_end %s ≡ true' % script(run), opened)
     for run in SETTLINGS:
@@ -133,21 +160,15 @@ def running():
 
 
     print()
-    print('-- And claims as they stand, by tests that prove them: of a run with a trim, before which and after which cells stay.')
+    print('-- Cells stay: of a run with a trim, before it and after it.')
     print()
     print('abbrev whole : W')
     print('whole = replay kinds %s' % script(PROVED))
     print()
     print('abbrev front : W')
     print('front = replay kinds %s_header (take 14 %s_script)' % (PROVED, PROVED))
-    for name, test, claim, by in (
-            ('rising', 'rises (history kinds whole)', 'Rises kinds (history kinds whole)', 'rises_sound (history kinds whole)'),
-            ('alone', 'once (entries_of (log kinds whole))', 'EntriesOnce kinds whole', 'once_sound whole'),
-            ('staying', 'log_stays front whole', 'LogStays kinds front whole', 'stays_sound front whole')):
-        lemma(name + '_test', test + ' ≡ true', opened)
-        print()
-        print('%s : %s' % (name, claim))
-        print('%s = %s %s_test' % (name, by, name))
+    lemma('staying_test', 'log_stays front whole ≡ true', opened)
+    claim('staying', 'LogStays kinds front whole', 'stays_sound front whole staying_test')
 
 
 def listed(words):
@@ -188,11 +209,37 @@ def changed():
     print('use Rattle.tg_protocol.specs.Worlds.{Line, Happens, Update, Settle}')
     print('use Rattle.tg_law_examples.proofs.SevenKinds as kind')
     print('use Rattle.tg_law_examples.proofs.Shown.{obj}')
+    print('use Rattle.tg_protocol.specs.Headline.{Holds}')
+    print('use Rattle.tg_protocol.specs.Alike.{Alike, PastTrue, RescueTrue, CheckpointsTrue}')
+    print('use Rattle.tg_protocol.specs.Chosen.{OneLayout}')
+    print('use Rattle.tg_protocol.specs.Holding.{EntriesLinked, FloorsStay, TrimsSpare, LogStays}')
+    print('use Rattle.tg_protocol.specs.Causes.{DirectoryTrue, AbortsLeast}')
+    print('use Rattle.tg_law_instances.proofs.Readings.{es_of}')
+    print('use Rattle.tg_law_instances.proofs.Tests.{linked, layouts, one_layout}')
+    print('use Rattle.tg_law_instances.proofs.Refuted.{headline_refuted, linked_refuted, one_layout_refuted, some_cell_lost, stays_refuted, %s}'
+          % ', '.join(sorted({x for r in REFUTED.values() for x in r[1:]})))
     print(FURTHER)
     again = {'trimmed_more': 'trims_more', 'played_more': 'plays_more', 'none_there': 'says_none'}
     for name, change, run, fail in WORLDS:
         words = ' '.join(again.get(w, w) for w in change.split())
-        lemma(name, 'world_fails (%s %s) ≡ %s' % (words, world(run), listed(fail and ' '.join('claim.' + f for f in fail.split()))), opened)
+        names = listed(fail and ' '.join('claim.' + f for f in fail.split()))
+        changed_world = '(%s %s)' % (words, world(run))
+        lemma(name, 'world_fails %s ≡ %s' % (changed_world, names), opened)
+        if 'IsLegal' in fail:
+            claim(name + '_refutes', 'Holds kinds %s → ⊥' % changed_world, 'headline_refuted %s (%s) %s refl refl' % (changed_world, names, name))
+        if name in REFUTED:
+            what, test, by = REFUTED[name]
+            lemma(name + '_off', '%s %s ≡ true' % (test, changed_world), opened)
+            claim(name + '_isnt', '%s %s → ⊥' % (what, changed_world), '%s %s %s_off' % (by, changed_world, name))
+    joined = '(unheard %s)' % world('unit_joins')
+    lemma('unheard_join_off', 'linked %s (es_of %s) ≡ false' % (joined, joined), opened)
+    claim('unheard_join_isnt', 'EntriesLinked kinds %s → ⊥' % joined, 'linked_refuted %s unheard_join_off' % joined)
+    twice = '(two_layouts %s)' % world('unit_joins')
+    lemma('another_layout_off', 'one_layout (layouts %s) ≡ false' % twice, opened)
+    claim('another_layout_isnt', 'OneLayout kinds %s → ⊥' % twice, 'one_layout_refuted %s another_layout_off' % twice)
+    lost = '%s (emptied %s)' % (world('crossed_reads'), world('crossed_reads'))
+    lemma('cells_lost_off', 'some_cell_lost %s ≡ true' % lost, opened)
+    claim('cells_lost_isnt', 'LogStays kinds %s → ⊥' % lost, 'stays_refuted %s cells_lost_off' % lost)
     lemma('read_off_path', 'path_fails (reads_at 1 40 %s) ≡ claim.ReadsOnPath ∷ []' % world('crossed_reads'), opened)
     lemma('none_begun', 'are_own [] %s ≡ false' % world('crossed_reads'), opened)
     lemma('cells_lost', 'log_stays %s (emptied %s) ≡ false' % (world('crossed_reads'), world('crossed_reads')), opened)

@@ -12,14 +12,15 @@ use Rattle.tg_entry.specs.declared.entry.Entry.{Entry}
 use Rattle.tg_entry.specs.Format.{tag_of}
 use Rattle.tg_model.specs.Kinds.{DoneOf}
 use Rattle.tg_model.specs.Stores.{AllAbove, Rises}
-use Rattle.tg_protocol.specs.Words.{bytes_eq, cell_eq, cell_at}
+use Rattle.tg_protocol.specs.Words.{cell_eq, cell_at}
 use Rattle.tg_protocol.specs.Views.{Entries}
 use Rattle.tg_protocol.specs.Logs.{Log, entries_of}
 use Rattle.tg_protocol.specs.Worlds.{log}
 use Rattle.tg_protocol.specs.Holding.{EntriesOnce, LogStays}
 use Rattle.tg_law_verdicts.proofs.Members.{Has, has_contained, contained_has, and_both, both_and, not_true, no_pass, all_pass}
-use Rattle.tg_law_verdicts.proofs.Tests.{same_number, number_same}
+use Rattle.tg_law_verdicts.proofs.Tests.{number_same}
 use Rattle.tg_law_examples.proofs.SevenKinds.{kinds}
+use Rattle.tg_law_instances.proofs.Same.{bytes_same}
 use Rattle.tg_law_instances.proofs.Tests.{W, rises, same_head, once}
 use Rattle.tg_law_instances.proofs.StepTests.{same_cell, log_stays}
 
@@ -63,13 +64,6 @@ once_sound w o p q e f he hf c t n =
 
 -- Cells stay.
 
-bytes_same : (a b : List ℕ) → bytes_eq a b ≡ true → a ≡ b
-unfolding bytes_eq
-bytes_same [] [] e = refl
-bytes_same (x ∷ xs) [] e = absurd cc
-bytes_same [] (y ∷ ys) e = absurd cc
-bytes_same (x ∷ xs) (y ∷ ys) e = let b = and_both (x == y) (bytes_eq xs ys) e in ap (λ z. z ∷ xs) (same_number x y b.0) ∙ ap (λ zs. y ∷ zs) (bytes_same xs ys b.1)
-
 cells_same : (c d : Cell) → cell_eq c d ≡ true → c ≡ d
 unfolding cell_eq
 cells_same Junk Junk e = refl
@@ -97,7 +91,7 @@ of_some c d e = cc
 pair : (x : ℕ × Cell) (p : ℕ) (c : Cell) → p ≡ x.0 → c ≡ x.1 → (p, c) ≡ x
 pair x p c e f = ap (λ (q : ℕ). (q, c)) e ∙ ap (λ (d : Cell). (x.0, d)) f
 
-cell_has : (l : Log) (p : ℕ) (c : Cell) → cell_at l p ≡ Some c → Has {X = ℕ × Cell} l (p, c)
+pub cell_has : (l : Log) (p : ℕ) (c : Cell) → cell_at l p ≡ Some c → Has {X = ℕ × Cell} l (p, c)
 cell_has [] p c e = absurd cc
 cell_has (x ∷ xs) p c e =
     elim (cases_eq p x.0) [

@@ -1,5 +1,5 @@
 -- The claims on worlds as tests that compute, of the worked runs' kinds.
-use Rattle.std.specs.Prelude.{ℕ, ◌+◌, ◌&&◌, ◌||◌, ◌==◌, not, nat_lt, nat_le, Bool, true, false, List, [], ◌∷◌, ◌++◌, map, length, Option, Some, None, is_some, if◌then◌else◌, find}
+use Rattle.std.specs.Prelude.{ℕ, ◌+◌, ◌&&◌, ◌||◌, ◌==◌, not, nat_lt, nat_le, Bool, true, false, List, [], ◌∷◌, ◌++◌, map, filter, Option, Some, None, is_some, if◌then◌else◌}
 use Rattle.std.specs.Cmp.Lexicographic.{pointwise}
 use Rattle.std.specs.List.{list_any, list_all}
 use Rattle.tg_base.specs.Layouts.{Layout}
@@ -21,19 +21,20 @@ use Rattle.tg_model.specs.declared.refusal.Refusal.TheVariants as cause
 use Rattle.tg_model.specs.declared.trace.What.TheVariants as told
 use Rattle.tg_model.specs.Kinds.{EventOf, MarkOf, WhatOf, DoneOf}
 use Rattle.tg_model.specs.Stores.{state_at, answer_at, is_stamp}
-use Rattle.tg_model.specs.Traces.{puts_of}
+use Rattle.tg_model.specs.Traces.{puts_of, has_items}
 use Rattle.tg_model.specs.Verdicts.{fault, bound}
-use Rattle.tg_protocol.specs.Words.{oid_eq, part_eq, bytes_eq, cell_at, node_eq, has_num, directory, client_id, unit_id, numbers, seqr_id}
+use Rattle.tg_protocol.specs.Words.{oid_eq, part_eq, bytes_eq, cell_at, node_eq, has_num, directory, client_id, unit_id, numbers, seqr_id, where_true}
 use Rattle.tg_protocol.specs.Layouts.{units_of, first_layout}
 use Rattle.tg_protocol.specs.Entries.{is_commit, lists, needs_decision, reads_of, writes_of, streams_of}
 use Rattle.tg_protocol.specs.Views.{Base, View, Entries, decision_in}
 use Rattle.tg_protocol.specs.Transactions.{read_before}
 use Rattle.tg_protocol.specs.Checkpoints.{base_at}
 use Rattle.tg_protocol.specs.Logs.{Log, entries_of, version, outcome, path, by_majority}
-use Rattle.tg_protocol.specs.Clients.{write_of}
+use Rattle.tg_protocol.specs.Units.{UnitState}
+use Rattle.tg_protocol.specs.Clients.{Client, write_of}
 use Rattle.tg_protocol.specs.Trimming.{has_stripe}
-use Rattle.tg_protocol.specs.Worlds.{World, Told, unit, client, latest, log, history, trace}
-use Rattle.tg_law_examples.proofs.SevenKinds.{kinds, State}
+use Rattle.tg_protocol.specs.Worlds.{World, Told, unit, latest, log, history, trace}
+use Rattle.tg_law_examples.proofs.SevenKinds.{kinds, State, Named, Dir}
 use Rattle.tg_law_examples.proofs.Sameness.{same}
 
 -- What was tested, by the name of the claim.
@@ -91,8 +92,13 @@ abbrev pub bool_eq : Bool → Bool → Bool
 bool_eq true b = b
 bool_eq false b = not b
 
+abbrev pub named_eq : Named → Named → Bool
+named_eq a b = bytes_eq a.name b.name && oid_eq a.oid b.oid && (a.mark == b.mark)
+
+-- two states of the directory
 abbrev pub states_eq : State → State → Bool
-states_eq s t = bytes_eq (kinds.save s) (kinds.save t)
+states_eq (Dir ns f) (Dir ms g) = pointwise named_eq ns ms && (f == g)
+states_eq s t = false
 
 -- messages of a command
 
@@ -161,7 +167,7 @@ writes_eq xs ys = pointwise (λ (x y : WriteOp). oid_eq x.oid y.oid && bytes_eq 
 
 abbrev pub is_record : W → Entry → Bool
 is_record w e =
-    told_of w e.head.client e.head.number is_end && nat_lt 0 e.head.number
+    nat_lt 0 e.head.number && told_of w e.head.client e.head.number is_end
     && writes_eq (writes_of e) (map (λ x. write_of kinds x.0 x.1) (puts_of kinds (trace kinds w) e.head.client e.head.number))
     && list_all (λ (r : ReadMark). told_of w e.head.client e.head.number (asked_part r.oid r.part)) (reads_of e)
     && list_all (λ (t : MarkOf kinds). implies ((t.client == e.head.client) && (t.tx == e.head.number)) (has_read_of e t.what)) (trace kinds w)
@@ -197,15 +203,17 @@ abbrev pub has_base_past : Entries → Oid → ℕ → Bool
 has_base_past es o n = list_any (λ (x : ℕ × Entry). nat_le n x.0 && base_reaches n (base_at kinds o x.1)) es
 
 abbrev pub trims_spare : W → Log → Entries → Bool
-trims_spare w l es = list_all (λ u. list_all (has_cell l) (numbers (unit kinds w u).low 0)
-    && list_all (λ (x : ℕ × Entry). implies (nat_lt x.0 (unit kinds w u).low) (list_all (λ o. has_base_past es o (unit kinds w u).low) (streams_of x.1))) es) (numbers w.cluster.units 0)
+trims_spare w l es = list_all (λ (u : UnitState). list_all (has_cell l) (numbers u.low 0)
+    && list_all (λ (x : ℕ × Entry). implies (nat_lt x.0 u.low) (list_all (λ o. has_base_past es o u.low) (streams_of x.1))) es) w.units
+
+abbrev pub directory_at : W → ℕ → State
+directory_at w p = state_at kinds w.cluster.objects (history kinds w) p directory
 
 abbrev pub floors_stay : W → Log → Bool
-floors_stay w l = list_all (λ k. list_all (has_cell l)
-    (numbers (kinds.floor (state_at kinds w.cluster.objects (history kinds w) (client kinds w k).played directory)) 0)) (numbers w.cluster.clients 0)
+floors_stay w l = list_all (λ (c : Client kinds). list_all (has_cell l) (numbers (kinds.floor (directory_at w c.played)) 0)) w.clients
 
 abbrev pub directories : W → Bool
-directories w = list_all (λ k. states_eq (client kinds w k).dir (state_at kinds w.cluster.objects (history kinds w) (client kinds w k).played directory)) (numbers w.cluster.clients 0)
+directories w = list_all (λ (c : Client kinds). states_eq c.dir (directory_at w c.played)) w.clients
 
 abbrev pub checkpoint_true : W → Entry → Body → Bool
 checkpoint_true w e (Checkpoint o u v whole keys state) = implies (e.head.format == 2) (
@@ -229,12 +237,12 @@ fates_of (Some v) = v.fates
 
 abbrev pub decisions : W → Entries → Bool
 decisions w es = list_all (λ (x : ℕ × Entry). decision_true w es x.1.body) es
-    && list_all (λ k. list_all (λ (x : ℕ × Bool). outcome_is w es x.0 x.1) (fates_of (client kinds w k).view)) (numbers w.cluster.clients 0)
+    && list_all (λ (c : Client kinds). list_all (λ (x : ℕ × Bool). outcome_is w es x.0 x.1) (fates_of c.view)) w.clients
 
 -- decided layouts: proposals that a majority accepted
 
 abbrev pub layout_in : W → Msg → List (ℕ × Layout)
-layout_in w (msg.Accept e b q) = if by_majority w.packets w.cluster.layouts e b then (e, q) ∷ [] else []
+layout_in w (msg.Accept e b q) = if nat_lt 1 e && by_majority w.packets w.cluster.layouts e b then (e, q) ∷ [] else []
 layout_in w x = []
 
 abbrev pub layouts_in : W → List Packet → List (ℕ × Layout)
@@ -305,14 +313,59 @@ is_full_log x = false
 abbrev pub needs_one : Entries → ℕ → Bool
 needs_one es p = entry_here es p needs_decision
 
+abbrev pub is_any_issued : Msg → Bool
+is_any_issued (msg.Issued p ls) = true
+is_any_issued x = false
+
+abbrev pub is_any_gone : Msg → Bool
+is_any_gone (msg.Gone b) = true
+is_any_gone x = false
+
+-- what a client was sent from a number on
+abbrev pub sent_from : W → ℕ → ℕ → (Msg → Bool) → List Packet
+sent_from w k next f = filter (λ (p : Packet). node_eq p.to (client_id k) && nat_le next p.rid && f p.msg) w.packets
+
+-- after an answer, the log's end
+abbrev pub then_full : W → ℕ → Packet → Bool
+then_full w k x = heard w k (x.rid + 1) is_full_log
+
+-- after an answer, a trim
+abbrev pub then_gone : W → ℕ → Packet → Bool
+then_gone w k x = heard w k (x.rid + 1) is_any_gone
+
+abbrev pub then_issued_and_gone : W → ℕ → Packet → Bool
+then_issued_and_gone w k x = list_any (then_gone w k) (sent_from w k (x.rid + 1) is_any_issued)
+
+abbrev pub issued_at : W → ℕ → ℕ → List Packet
+issued_at w k p = sent_from w k 0 (is_issued p (λ ls. true))
+
 abbrev pub met_end : W → ℕ → ℕ → Bool
-met_end w k next = heard w k next is_full_log || heard w k next (is_gone_above 0)
+met_end w k p = list_any (then_full w k) (issued_at w k p) || list_any (then_issued_and_gone w k) (issued_at w k p)
+
+abbrev pub met_end_now : W → ℕ → ℕ → Bool
+met_end_now w k next = heard w k next is_full_log || list_any (then_gone w k) (sent_from w k next is_any_issued)
 
 abbrev pub recorded : W → Entries → Told kinds → ℕ → Bool
-recorded w es t p = implies (has_record es p t.mark.client t.mark.tx && needs_one es p) (has_decision es p || met_end w t.mark.client 0)
+recorded w es t p = elim (has_record es p t.mark.client t.mark.tx && needs_one es p) as (λ _. Bool) [
+  | false ↦ true
+  | true ↦ elim (has_decision es p) as (λ _. Bool) [ true ↦ true | false ↦ met_end w t.mark.client p ]
+]
 
 abbrev pub recorded_now : W → Entries → Told kinds → ℕ → Bool
-recorded_now w es t p = implies (needs_one es p) (has_decision es p || met_end w t.mark.client t.noted.next)
+recorded_now w es t p = elim (needs_one es p) as (λ _. Bool) [
+  | false ↦ true
+  | true ↦ elim (has_decision es p) as (λ _. Bool) [ true ↦ true | false ↦ met_end_now w t.mark.client t.noted.next ]
+]
+
+-- `rescued`: the history has the transaction, or it has a commit record alone
+abbrev pub rescued_so : W → Entries → ℕ → Bool → Bool
+rescued_so w es p true = is_stamp kinds (history kinds w) p
+rescued_so w es p false = has_commit es p && not (is_stamp kinds (history kinds w) p)
+
+-- the reads before the one that an abort names have their versions
+abbrev pub is_least : W → Oid → Part → ℕ → ℕ → ℕ × Entry → Bool
+is_least w o k seen p x = implies (x.0 == p) (list_all (λ (r : ReadMark).
+    implies (read_before r (record { oid = o; part = k; version = seen })) (version kinds (log kinds w) r.oid r.part p == r.version)) (reads_of x.1))
 
 -- the new sequencer's tail, or a later layout, was heard
 
@@ -325,12 +378,11 @@ heard_new w t e q = heard w t.mark.client 0 (is_later e)
     || list_any (λ (p : Packet). node_eq p.from (seqr_id q.seq) && node_eq p.to (client_id t.mark.client) && nat_le t.noted.next p.rid && is_tail (λ x. true) p.msg) w.packets
 
 abbrev pub agrees : W → Entries → List (ℕ × Layout) → Told kinds → WhatOf kinds → Bool
-agrees w es qs t (told.Fate p (Some b)) = outcome_is w es p b && bool_eq b (is_stamp kinds (history kinds w) p)
+agrees w es qs t (told.Fate p (Some b)) = outcome_is w es p b
 agrees w es qs t (told.Decided p (Some b)) = outcome_is w es p b && recorded_now w es t p
-agrees w es qs t (told.Rescued p (Some b)) = outcome_is w es p b && implies (needs_one es p) (has_decision es p)
-agrees w es qs t (told.Committed p) = implies (not (length (puts_of kinds (trace kinds w) t.mark.client t.mark.tx) == 0)) (has_record es p t.mark.client t.mark.tx && outcome_is w es p true && recorded w es t p)
-agrees w es qs t (told.Aborted p o k seen now) = has_record es p t.mark.client t.mark.tx && outcome_is w es p false && recorded w es t p
-    && list_all (λ (x : ℕ × Entry). implies (x.0 == p) (list_all (λ r. implies (read_before r (record { oid = o; part = k; version = seen })) (version kinds (log kinds w) r.oid r.part p == r.version)) (reads_of x.1))) es
+agrees w es qs t (told.Rescued p (Some b)) = rescued_so w es p b && implies (needs_one es p) (has_decision es p)
+agrees w es qs t (told.Committed p) = implies (has_items kinds (puts_of kinds (trace kinds w) t.mark.client t.mark.tx)) (has_record es p t.mark.client t.mark.tx && outcome_is w es p true) && recorded w es t p
+agrees w es qs t (told.Aborted p o k seen now) = has_record es p t.mark.client t.mark.tx && outcome_is w es p false && recorded w es t p && list_all (is_least w o k seen p) es
 agrees w es qs t (told.Unsure p q) = has_record es p t.mark.client t.mark.tx && has_commit es q
 agrees w es qs t (told.Saved o p u) = entry_here es p (λ e. (e.head.client == t.mark.client) && is_saved w es t o u e.body) && heard_now w t (is_issued p (λ ls. true)) && heard_now w t (is_tail (λ x. x == u))
 agrees w es qs t (told.Trimmed n) = heard_now w t (is_tail (λ x. kinds.floor (state_at kinds w.cluster.objects (history kinds w) x directory) == n)) && is_trimmed w qs t.noted.epoch n
@@ -343,7 +395,7 @@ agrees w es qs t what = true
 -- a mark comes after the commit of the transaction that marks
 
 abbrev pub does_mark : Oid → ℕ → DoneOf kinds → Bool
-does_mark o n d = list_any (λ x. oid_eq x.0 directory && bytes_eq (kinds.spell x.1) (kinds.spell (kinds.mark_op o n))) d.writes
+does_mark o n d = list_any (λ x. oid_eq x.0 directory && same.ops x.1 (kinds.mark_op o n)) d.writes
 
 abbrev pub commits_mark : W → Oid → ℕ → Told kinds → WhatOf kinds → Bool
 commits_mark w o n t (told.Committed p) = list_any (λ (d : DoneOf kinds). (d.stamp == p) && (d.client == t.mark.client) && (d.number == t.mark.tx) && does_mark o n d) (history kinds w)
@@ -356,14 +408,23 @@ marked_by w o n (Some t) = commits_mark w o n t t.mark.what
 abbrev pub of_client : ℕ → Told kinds → Bool
 of_client k t = t.mark.client == k
 
--- of the replies before, the last one first
+abbrev pub this_or : ℕ → Told kinds → Option (Told kinds) → Option (Told kinds)
+this_or k t (Some u) = Some u
+this_or k t None = where_true (of_client k t) t
+
+-- a client's last reply
+abbrev pub last_of : ℕ → List (Told kinds) → Option (Told kinds)
+last_of k [] = None
+last_of k (t ∷ ts) = this_or k t (last_of k ts)
+
 abbrev pub mark_follows : W → List (Told kinds) → ℕ → WhatOf kinds → Bool
-mark_follows w before k (told.Marked o n) = marked_by w o n (find (of_client k) before)
+mark_follows w before k (told.Marked o n) = marked_by w o n (last_of k before)
 mark_follows w before k what = true
 
+-- of the replies after those before them
 abbrev pub marks_follow : W → List (Told kinds) → List (Told kinds) → Bool
 marks_follow w before [] = true
-marks_follow w before (t ∷ ts) = mark_follows w before t.mark.client t.mark.what && marks_follow w (t ∷ before) ts
+marks_follow w before (t ∷ ts) = mark_follows w before t.mark.client t.mark.what && marks_follow w (before ++ t ∷ []) ts
 
 abbrev pub all_agree : W → Entries → List (ℕ × Layout) → Bool
 all_agree w es qs = list_all (λ (t : Told kinds). agrees w es qs t t.mark.what) w.told && marks_follow w [] w.told
@@ -385,11 +446,11 @@ abbrev pub on_path : W → Log → NodeId → Option ℕ → Bool
 on_path w l n None = true
 on_path w l n (Some p) = list_any (λ (x : Packet). node_eq x.to n && on_links l p (tail_links x.msg)) w.packets
 
-abbrev pub is_client : W → NodeId → Bool
-is_client w n = list_any (λ k. node_eq n (client_id k)) (numbers w.cluster.clients 0)
+abbrev pub is_client : NodeId → Bool
+is_client n = node_eq n (client_id n.num)
 
 abbrev pub reads_on_path : W → Log → Bool
-reads_on_path w l = list_all (λ (x : Packet). implies (is_client w x.from) (on_path w l x.from (read_pos x.msg))) w.packets
+reads_on_path w l = list_all (λ (x : Packet). implies (is_client x.from) (on_path w l x.from (read_pos x.msg))) w.packets
 
 -- no commit record precedes a reply that came before its transaction's `begin`
 abbrev pub in_order : W → Entries → Bool
@@ -400,14 +461,20 @@ abbrev pub fails : Claim → Bool → List Claim
 fails n true = []
 fails n false = n ∷ []
 
-abbrev pub world_by : W → Log → Entries → List (ℕ × Layout) → List Claim
-world_by w l es qs =
-    fails StampsRise (rises (history kinds w)) ++ fails IsLegal (not (is_some (fault kinds same w.cluster.objects (history kinds w) (trace kinds w))))
-    ++ fails Once (once es) ++ fails Linked (linked w es) ++ fails RecordsOwn (records_own w es) ++ fails TrimsSpare (trims_spare w l es) ++ fails FloorsStay (floors_stay w l)
-    ++ fails DirectoryTrue (directories w) ++ fails CheckpointsTrue (checkpoints w es) ++ fails FatesTrue (decisions w es) ++ fails OneLayout (one_layout qs && latest_decided w qs) ++ fails LayoutsFollow (follow w qs) ++ fails LogAgrees (all_agree w es qs) ++ fails MarksRest (marks_rest w es) ++ fails InOrder (in_order w es)
+-- the claims whose tests fail
+abbrev pub failed : List (Claim × Bool) → List Claim
+failed [] = []
+failed (x ∷ xs) = fails x.0 x.1 ++ failed xs
+
+abbrev pub world_tests : W → Log → Entries → List (ℕ × Layout) → List (Claim × Bool)
+world_tests w l es qs =
+    (StampsRise, rises (history kinds w)) ∷ (IsLegal, not (is_some (fault kinds same w.cluster.objects (history kinds w) (trace kinds w))))
+    ∷ (Once, once es) ∷ (Linked, linked w es) ∷ (RecordsOwn, records_own w es) ∷ (TrimsSpare, trims_spare w l es) ∷ (FloorsStay, floors_stay w l)
+    ∷ (DirectoryTrue, directories w) ∷ (CheckpointsTrue, checkpoints w es) ∷ (FatesTrue, decisions w es) ∷ (OneLayout, one_layout qs && latest_decided w qs)
+    ∷ (LayoutsFollow, follow w qs) ∷ (LogAgrees, all_agree w es qs) ∷ (MarksRest, marks_rest w es) ∷ (InOrder, in_order w es) ∷ []
 
 unfoldable pub world_fails : W → List Claim
-world_fails w = world_by w (log kinds w) (entries_of (log kinds w)) (layouts w)
+world_fails w = failed (world_tests w (log kinds w) (entries_of (log kinds w)) (layouts w))
 
 unfoldable pub path_fails : W → List Claim
 path_fails w = fails ReadsOnPath (reads_on_path w (log kinds w))
