@@ -2,6 +2,7 @@
 
 ghost use Rattle.tg_kind.specs.Of.{meaning_of};
 ghost use Rattle.tg_law_sessions.specs.Sessions.{SessionsMakeARun};
+ghost use Rattle.tg_law_sessions.specs.Whole.{SessionIsNode};
 
 use tg_kind::Registry;
 
@@ -12,4 +13,10 @@ use tg_kind::Registry;
 /// the packets and the replies of that node, is what its session gives by itself.
 pub fn sessions_make_a_run<K: Registry>()
     ensures { SessionsMakeARun (meaning_of K.Registry) }
+{}
+
+/// What one node does over a text is a session of its own: its state, the packets that it sends and its replies are
+/// those that the session of all its inputs gives by itself, line after line, and a reply's event says nothing more.
+pub fn sessions_are_nodes()
+    ensures { SessionIsNode }
 {}

@@ -1,7 +1,7 @@
-//! What nodes do by themselves is what they do in a world: a law over the definitions of `tg_protocol`,
-//! the contract of an empty function.
+//! What nodes do by themselves is what they do in a world, and what a node does over a text is a session of its own:
+//! laws over definitions, the contracts of empty functions.
 #![tactic(auto)]
 
 mod laws;
 
-pub use laws::sessions_make_a_run;
+pub use laws::{sessions_are_nodes, sessions_make_a_run};
