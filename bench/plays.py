@@ -4,7 +4,7 @@
 A play is to take the time of the entries that it is given, so the larger may take at most 14 times the smaller; and a
 view that has played more is to take ten more in about the same time, at most twice that of the smaller.
 
-The program is crates/bench_plays/out/bench_plays, once `rt run` has built it."""
+The program is crates/bench_costs/out/bench_costs, once `rt run` has built it."""
 import sys
 
 import times
@@ -15,7 +15,7 @@ MOST_AT_ONCE, MOST_FURTHER = 14, 2
 
 def spent(program, count, more):
     """The processor time of playing so many entries at once, and then ten more so many times."""
-    return times.seconds(program, (count, more), f"{count + 10 * more}\n".encode())
+    return times.seconds(program, ("plays", count, more), f"{count + 10 * more}\n".encode())
 
 
 def compare(what, small, large, most):

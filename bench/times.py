@@ -25,13 +25,13 @@ def seconds(program, words, answer, text=b""):
     return best
 
 
-def compare(program, rounds_of, counts, most, answer, what):
+def compare(program, task, rounds_of, counts, most, answer, what):
     """Prints the times and their ratio for each name in rounds_of; whether a ratio is above the most that is wanted.
 
-    answer tells from a name, a count and the rounds what the program is to print."""
+    The words are the task, the name, the count and the rounds. answer tells from a name, a count and the rounds what the program is to print."""
     over = False
     for name, rounds in rounds_of.items():
-        small, large = (seconds(program, (name, count, rounds), f"{answer(name, count, rounds)}\n".encode()) for count in counts)
+        small, large = (seconds(program, (task, name, count, rounds), f"{answer(name, count, rounds)}\n".encode()) for count in counts)
         over = over or large > most * small
         print(f"{name}, {rounds} rounds: {counts[0]} {what} {small:.3f} s; {counts[1]} {what} {large:.3f} s; ratio {large / small:.1f}, at most {most}", flush=True)
     return over

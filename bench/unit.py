@@ -7,7 +7,7 @@ caches hold. A run doesn't free its units, and takes up to 0.6 GB.
 
 Stores with one cell in each segment, as no log has them, are timed too, and nothing is wanted of their ratio.
 
-The program is crates/bench_unit/out/bench_unit, once `rt run` has built it."""
+The program is crates/bench_costs/out/bench_costs, once `rt run` has built it."""
 import sys
 
 import times
@@ -19,7 +19,7 @@ UNITS = {"rising": 5, "scattered": 5, "sparse": 2}
 
 def spent(program, order, count, units):
     """The processor time of so many stores on one of so many units."""
-    return times.seconds(program, (order, count, units), f"{count * units}\n".encode()) / units
+    return times.seconds(program, ("unit", order, count, units), f"{count * units}\n".encode()) / units
 
 
 over = False

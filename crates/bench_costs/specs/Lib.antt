@@ -1,0 +1,5 @@
+pub mod Plays
+pub mod Printed
+pub mod Rows
+pub mod Stores
+pub mod Workloads

@@ -1,9 +1,0 @@
-use Rattle.std.proofs.Common.{◌≡◌, ◌≤◌}
-use Rattle.bench_kinds.specs.Workloads.{got}
-use Rattle.bench_kinds.proofs.keyed.got.Given as goal
-
-abbrev pub invariant-loop-place : goal.invariant-loop-place
-invariant-loop-place l = record {
-  so_far : l.sum ≡ got l.tree l.count l.place;
-  most : l.sum ≤ l.place;
-}

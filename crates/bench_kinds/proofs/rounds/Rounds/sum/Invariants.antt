@@ -1,6 +1,0 @@
-use Rattle.std.proofs.Common.{◌≡◌, ◌*◌, ◌%◌, ◌^◌}
-use Rattle.bench_kinds.specs.Workloads.{told}
-use Rattle.bench_kinds.proofs.rounds.Rounds.sum.Given as goal
-
-abbrev pub invariant-loop : goal.invariant-loop
-invariant-loop l = l.sum ≡ l.counter * told l.fn.self.workload l.fn.self.count % 2 ^ 64
