@@ -2,6 +2,8 @@
 
 ghost use Rattle.tg_kind.specs.Of.{meaning_of};
 ghost use Rattle.tg_law_entries.specs.Archive.{AlwaysBySafeTrims, EachLaterBySafeTrims, LogIsOne, LogIsSettled, TrimmedInLog};
+ghost use Rattle.tg_law_entries.specs.Refuted.{CellsWantSafeTrims, LinksWantObjects};
+ghost use Rattle.tg_law_entries.specs.Worked.{WorkedTrim};
 ghost use Rattle.tg_protocol.specs.Holding.{LogStays};
 
 use tg_kind::Registry;
@@ -24,4 +26,23 @@ pub fn log_is_settled<K: Registry>()
 /// What a unit has trimmed is in the log, where trims were safe.
 pub fn trimmed_is_in_log<K: Registry>()
     ensures { AlwaysBySafeTrims (meaning_of K.Registry) (TrimmedInLog (meaning_of K.Registry)) }
+{}
+
+/// A run in which a client commits, another sequencer takes over from the first, a unit is dropped and what was
+/// committed is trimmed is one for which these laws ask no more than it has; and the log has the same cell before and
+/// after.
+pub fn trim_is_safe()
+    ensures { WorkedTrim }
+{}
+
+/// Over kinds whose floor is past what is settled, the log doesn't keep its cells: so the premise is wanted, or one on
+/// kinds that gives it.
+pub fn cells_want_safe_trims()
+    ensures { CellsWantSafeTrims }
+{}
+
+/// Over kinds that let an object be written whose number has no spelling, an entry of the log isn't linked as it was
+/// issued.
+pub fn links_want_objects()
+    ensures { LinksWantObjects }
 {}
