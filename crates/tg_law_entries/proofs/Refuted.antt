@@ -1,5 +1,5 @@
 -- Runs over kinds that break what this store's kinds keep, for which claims on the log don't hold: computed.
-use Rattle.std.proofs.Common.{◌≡◌, ◌⊎◌, ℕ, zero, suc, ◌<◌, ◌≤◌, List, [], ◌∷◌, ◌++◌, Bool, true, false, refl, sym, ap, ◌∙◌, subst, inl, inr, arith, Option, Some, None}
+use Rattle.std.proofs.Common.{◌≡◌, ℕ, zero, suc, ◌<◌, ◌≤◌, List, [], ◌∷◌, ◌++◌, Bool, true, false, refl, sym, ap, ◌∙◌, subst, inl, inr, arith, Option, Some, None}
 use Rattle.std.specs.Prelude.{Contains, ◌==◌, map}
 use Rattle.std.specs.List.{list_any}
 use Rattle.tg_codec.specs.Reading.{u8_at, u16_at, u32_at, u64_at, raw_at, fixed_at}
@@ -8,7 +8,7 @@ use Rattle.tg_entry.specs.Reads.{marks, reads}
 use Rattle.tg_entry.specs.Writes.{writes}
 use Rattle.tg_entry.specs.Checkpoints.{keys, new_fields, old_fields}
 use Rattle.tg_entry.specs.Format.{body, entry}
-use Rattle.tg_protocol.specs.Words.{cell_at, client_id, directory, role_code, node_eq, bytes_eq, bytes_lt, part_eq, part_lt, cell_eq}
+use Rattle.tg_protocol.specs.Words.{client_id, role_code, node_eq, bytes_eq, bytes_lt, part_eq, part_lt, cell_eq}
 use Rattle.tg_protocol.specs.Layouts.{chain_of, units_of, next_of, change_fault}
 use Rattle.tg_protocol.specs.Units.{new_unit, unit_ask, first_missing, on_ask, unit_step}
 use Rattle.tg_protocol.specs.LayoutServers.{new_layout, layout_ask, on_layout_ask, layout_step}
@@ -36,24 +36,21 @@ use Rattle.tg_base.specs.Clusters.{Header}
 use Rattle.tg_base.specs.declared.cell.Cell.{Cell}
 use Rattle.tg_base.specs.declared.cell.Cell.TheVariants.{Data}
 use Rattle.tg_base.specs.declared.ids.Oid.{Oid}
-use Rattle.tg_base.specs.declared.marks.StreamLink.{StreamLink}
 use Rattle.tg_entry.specs.declared.entry.Body.TheVariants.{Commit}
 use Rattle.tg_entry.specs.declared.entry.Entry.{Entry}
 use Rattle.tg_base.specs.declared.msg.Msg.{Msg}
 use Rattle.tg_base.specs.declared.msg.Msg.TheVariants as msg
 use Rattle.tg_base.specs.declared.packet.Packet.{Packet}
-use Rattle.tg_kind.specs.Meaning.{Meaning}
 use Rattle.tg_model.specs.declared.command.Command.TheVariants as cmd
 use Rattle.tg_model.specs.declared.command.Event.TheVariants.{Command as Commands, Deliver, Lose, Tick}
-use Rattle.tg_model.specs.Kinds.{EventOf}
 use Rattle.tg_protocol.specs.Worlds.{World, start, latest, log, history, unit_moves, layout_moves, seqr_moves, client_turned, happens, limit_of, drain_on, drain, tick_all, rounds, settle, line, lines, lowest, next_event}
 use Rattle.tg_protocol.specs.Runs.{Move, Moves, Takes, LawfulMove, Reaches, Later, run}
-use Rattle.tg_protocol.specs.Holding.{LogStays, EntriesLinked, IssuedTo}
+use Rattle.tg_protocol.specs.Holding.{IssuedTo}
 use Rattle.tg_law_layouts.proofs.Layouts.{has_header}
 use Rattle.tg_law_moves.proofs.Lists.{contained}
 use Rattle.tg_law_moves.proofs.Members.{Has, has_contained, passes_somewhere}
-use Rattle.tg_law_entries.specs.Worked.{tallies, two_units, drained, and_drains}
-use Rattle.tg_law_entries.specs.Refuted.{far_object, put_far, LinksWantObjects, floor_two, half_written, until_trimmed, and_loses, half_trimmed, then_drains, rest, CellsWantSafeTrims}
+use Rattle.tg_law_entries.specs.Worked.{tallies, two_units, drained}
+use Rattle.tg_law_entries.specs.Refuted.{far_object, put_far, LinksWantObjects, floor_two, half_written, until_trimmed, half_trimmed, then_drains, rest, CellsWantSafeTrims}
 use Rattle.tg_law_entries.proofs.Worked.{LawfulAll, lawful_both, is_lawful, lawful_none, all_drained, and_lawful}
 
 -- Lawful moves.

@@ -1,6 +1,6 @@
 -- The premises of the laws on the archive hold of a run that trims: computed.
 use Rattle.std.proofs.Common.{◌≡◌, ◌⊎◌, ℕ, zero, suc, ◌<◌, ◌≤◌, List, [], ◌∷◌, ◌++◌, Bool, true, false, ◌&&◌, refl, sym, ap, ◌∙◌, subst, inl, inr, arith, Option, Some, None}
-use Rattle.std.specs.Prelude.{Contains, is_some}
+use Rattle.std.specs.Prelude.{is_some}
 use Rattle.std.specs.List.{list_all}
 use Rattle.tg_codec.specs.Reading.{u8_at, u16_at, u32_at, u64_at, raw_at, fixed_at}
 use Rattle.tg_codec.specs.Codec.{read_many, spell_many, fit_many}
@@ -42,11 +42,11 @@ use Rattle.tg_model.specs.declared.command.Command.TheVariants as cmd
 use Rattle.tg_model.specs.declared.command.Event.TheVariants.{Command as Commands, Deliver, Tick}
 use Rattle.tg_model.specs.Kinds.{EventOf}
 use Rattle.tg_protocol.specs.Worlds.{World, start, latest, log, history, unit_moves, layout_moves, seqr_moves, client_turned, happens, limit_of, drain_on, drain, tick_all, rounds, settle, line, lines, lowest, next_event}
-use Rattle.tg_protocol.specs.Runs.{Move, Moves, Next, Takes, LawfulMove, Reaches, run}
+use Rattle.tg_protocol.specs.Runs.{Move, Moves, Next, Takes, LawfulMove, run}
 use Rattle.tg_protocol.specs.Holding.{HasCell}
 use Rattle.tg_law_moves.proofs.Lists.{contained}
 use Rattle.tg_law_moves.proofs.Members.{Has, has_contained, has_either}
-use Rattle.tg_law_entries.specs.Archive.{TrimsSafe, GoesOn, TrimsWereSafe}
+use Rattle.tg_law_entries.specs.Archive.{TrimsSafe, TrimsWereSafe}
 use Rattle.tg_law_entries.specs.Worked.{tallies, two_units, drained, and_drains, committed, reconfigured, asked_again, trimmed, WorkedTrim}
 use Rattle.tg_law_entries.proofs.Lists.{read_has}
 

@@ -1,6 +1,6 @@
 -- Runs over kinds that break what the kinds of this store keep: for each a claim on the log doesn't hold. So these
 -- claims want a premise.
-use Rattle.std.specs.Prelude.{ℕ, zero, suc, ◌^◌, ◌++◌, nat_lt, true, false, List, [], ◌∷◌, map, Some, None}
+use Rattle.std.specs.Prelude.{ℕ, zero, suc, ◌^◌, ◌++◌, nat_lt, true, false, [], ◌∷◌, map, Some, None}
 use Rattle.tg_base.specs.declared.ids.Oid.{Oid}
 use Rattle.tg_model.specs.declared.command.Command.TheVariants as cmd
 use Rattle.tg_model.specs.declared.command.Event.TheVariants.{Command as Commands, Deliver, Lose, Tick}
