@@ -1,0 +1,51 @@
+-- The log keeps what it has, where units are asked to trim only what the log has.
+use Rattle.std.specs.Prelude.{◌≡◌, ℕ, ◌<◌, ◌++◌, ◌∷◌, Contains}
+use Rattle.tg_base.specs.Clusters.{Header}
+use Rattle.tg_base.specs.declared.cell.Cell.{Cell}
+use Rattle.tg_base.specs.declared.msg.Msg.TheVariants as msg
+use Rattle.tg_base.specs.declared.packet.Packet.{Packet}
+use Rattle.tg_kind.specs.Meaning.{Meaning}
+use Rattle.tg_model.specs.Kinds.{EventOf}
+use Rattle.tg_protocol.specs.Worlds.{World, start, unit, log}
+use Rattle.tg_protocol.specs.Runs.{Moves, Takes, Reaches, Later, run}
+use Rattle.tg_protocol.specs.Chosen.{Sent}
+use Rattle.tg_protocol.specs.Holding.{HasCell}
+use Rattle.tg_law_cells.specs.Settled.{IsSettled}
+
+module _ (m : Meaning) where
+  -- Safe trims: whatever a unit was ever asked to trim is in the log.
+  abbrev pub TrimsSafe : World m → Type 0
+  TrimsSafe w = (x : Packet) (epoch below p : ℕ) → Sent m w x → x.msg ≡ msg.Trim epoch below → p < below → HasCell m w p
+
+  -- a world from which a run went on by a further event
+  pub record GoesOn (h : Header) (ms : Moves m) (u : World m) : Type 0 where
+    pub before : Moves m
+    pub event : EventOf m
+    pub later : Moves m
+    pub split : ms ≡ before ++ Takes event ∷ later
+    pub is : u ≡ run m before (start m h)
+
+  -- so it was in each world from which the run went on
+  abbrev pub TrimsWereSafe : Header → Moves m → Type 0
+  TrimsWereSafe h ms = (u : World m) → GoesOn h ms u → TrimsSafe u
+
+  -- What holds of every world of every run in which trims were safe, and of each such world and each later one.
+
+  abbrev pub AlwaysBySafeTrims : (World m → Type 0) → Type 0
+  AlwaysBySafeTrims P = (h : Header) (ms : Moves m) (w : World m) → Reaches m h ms w → TrimsWereSafe h ms → P w
+
+  abbrev pub EachLaterBySafeTrims : (World m → World m → Type 0) → Type 0
+  EachLaterBySafeTrims P = (h : Header) (ms : Moves m) (w v : World m) → Reaches m h ms w → (l : Later m w v) → TrimsWereSafe h (ms ++ l.0) → P w v
+
+  -- The log has exactly the settled cells.
+  pub record LogIsSettled (w : World m) : Type 0 where
+    pub settled : (p : ℕ) (c : Cell) → Contains (log m w) (p, c) → IsSettled m w p c
+    pub has : (p : ℕ) (c : Cell) → IsSettled m w p c → Contains (log m w) (p, c)
+
+  -- A position has one cell in the log of a world and of each later one.
+  abbrev pub LogIsOne : World m → World m → Type 0
+  LogIsOne w v = (p : ℕ) (c d : Cell) → Contains (log m w) (p, c) → Contains (log m v) (p, d) → c ≡ d
+
+  -- What a unit has trimmed is in the log.
+  abbrev pub TrimmedInLog : World m → Type 0
+  TrimmedInLog w = (u p : ℕ) → p < (unit m w u).low → HasCell m w p
