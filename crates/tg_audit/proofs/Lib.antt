@@ -1,5 +1,6 @@
 mod Bounds
 mod Changing
+mod Kept
 mod Links
 mod Lists
 mod Means
@@ -7,4 +8,6 @@ mod Openings
 mod Pairs
 mod Plays
 mod Ruled
+mod Sweeping
+mod Windows
 mod Writing

@@ -70,3 +70,15 @@ fault_none f xs n y h is = rest_none (first_fault f n (take n xs)) xs n y h is
 
 pub all_next : {X : Type 0} (p : X → Bool) (xs : List X) (n : ℕ) (x : X) (y : Bool) → n < length xs → x ≡ get_or xs n x → p x ≡ true → list_all p (drop n xs) ≡ y → list_all p (drop (n + 1) xs) ≡ y
 all_next p xs n x y h e pass so_far = ap (λ b. b && list_all p (drop (n + 1) xs)) (sym pass) ∙ rest_next (list_all p) xs n x y h e so_far
+
+pub all_here : {X : Type 0} (p : X → Bool) (xs : List X) (n : ℕ) (x : X) (y : Bool) → n < length xs → x ≡ get_or xs n x → p x ≡ false → list_all p (drop n xs) ≡ y → false ≡ y
+all_here p xs n x y h e fail so_far = ap (λ b. b && list_all p (drop (n + 1) xs)) (sym fail) ∙ rest_next (list_all p) xs n x y h e so_far
+
+pub any_next : {X : Type 0} (p : X → Bool) (xs : List X) (n : ℕ) (x : X) (y : Bool) → n < length xs → x ≡ get_or xs n x → p x ≡ false → list_any p (drop n xs) ≡ y → list_any p (drop (n + 1) xs) ≡ y
+any_next p xs n x y h e fail so_far = ap (λ b. b || list_any p (drop (n + 1) xs)) (sym fail) ∙ rest_next (list_any p) xs n x y h e so_far
+
+pub any_here : {X : Type 0} (p : X → Bool) (xs : List X) (n : ℕ) (x : X) (y : Bool) → n < length xs → x ≡ get_or xs n x → p x ≡ true → list_any p (drop n xs) ≡ y → true ≡ y
+any_here p xs n x y h e pass so_far = ap (λ b. b || list_any p (drop (n + 1) xs)) (sym pass) ∙ rest_next (list_any p) xs n x y h e so_far
+
+pub any_none : {X : Type 0} (p : X → Bool) (xs : List X) (n : ℕ) (y : Bool) → length xs ≤ n → list_any p (drop n xs) ≡ y → false ≡ y
+any_none p xs n y h so_far = rest_none (list_any p) xs n y h so_far

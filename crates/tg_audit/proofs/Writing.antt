@@ -1,6 +1,6 @@
 -- What a transaction wrote, reply by reply.
-use Rattle.std.proofs.Common.{◌≡◌, ℕ, suc, ◌+◌, ◌<◌, ◌≤◌, List, [], ◌∷◌, Bool, true, false, refl, sym, ap, ◌∙◌, length, get_or, drop, arith}
-use Rattle.std.specs.Prelude.{◌&&◌, ◌||◌, ◌==◌, Option, Some, None, if◌then◌else◌}
+use Rattle.std.proofs.Common.{◌≡◌, ℕ, suc, ◌+◌, ◌<◌, ◌≤◌, cond, List, [], ◌∷◌, Bool, true, false, refl, sym, ap, ◌∙◌, length, get_or, drop, arith}
+use Rattle.std.specs.Prelude.{◌&&◌, ◌||◌, ◌==◌, filter, Option, Some, None, if◌then◌else◌}
 use Rattle.std.specs.Borrow.{Bor}
 use Rattle.std.specs.List.{list_any}
 use Rattle.std.proofs.lemmas.Bool.Decides.{nat_tests}
@@ -63,6 +63,18 @@ module _ (m : Meaning) where
   puts_own k x t ts e =
       put_is k x t.client t.tx t.what (puts_of m ts k x)
       ∙ ap (λ b. put_if b t.what (puts_of m ts k x)) (of_order k x t ∙ e)
+
+  puts_step : (k x : ℕ) (t : MarkOf m) (ts us : Trace m) (b : Bool) → is_of m k x t ≡ b → puts_of m ts k x ≡ puts_of m us k x → puts_of m (t ∷ ts) k x ≡ puts_of m (cond b (t ∷ us) us) k x
+  puts_step k x t ts us true e rest = puts_own k x t ts e ∙ ap (put_if true t.what) rest ∙ sym (puts_own k x t us e)
+  puts_step k x t ts us false e rest = puts_other k x t ts e ∙ rest
+
+  puts_kept : (k x : ℕ) (ts : Trace m) → puts_of m ts k x ≡ puts_of m (filter (is_of m k x) ts) k x
+  puts_kept k x [] = refl
+  puts_kept k x (t ∷ ts) = puts_step k x t ts (filter (is_of m k x) ts) (is_of m k x t) refl (puts_kept k x ts)
+
+  -- the writes of a transaction are those that its own replies tell
+  pub puts_alike : (k x : ℕ) (ts us : Trace m) → filter (is_of m k x) ts ≡ filter (is_of m k x) us → puts_of m ts k x ≡ puts_of m us k x
+  puts_alike k x ts us same = puts_kept k x ts ∙ ap (λ (vs : Trace m). puts_of m vs k x) same ∙ sym (puts_kept k x us)
 
   abbrev same_from : (m.op → m.op → Bool) → Option (List (Oid × m.op)) → List (Oid × m.op) → Bool
   same_from ops None ws = false

@@ -7,7 +7,6 @@ use Rattle.tg_base.specs.Orders.{oid_eq}
 use Rattle.tg_base.specs.declared.ids.Oid.{Oid}
 use Rattle.tg_base.specs.declared.marks.Part.{Part}
 use Rattle.tg_base.specs.declared.fault.Clause.{Clause}
-use Rattle.tg_kind.specs.Headers.{is_header}
 use Rattle.tg_kind.specs.Meaning.{Meaning}
 use Rattle.tg_model.specs.declared.trace.What.TheVariants as told
 use Rattle.tg_model.specs.Kinds.{WhatOf, MarkOf, DoneOf}
@@ -161,11 +160,6 @@ module _ (m : Meaning) where
   unfoldable pub bound_by : (MarkOf m → ℕ) → ℕ → ℕ → ℕ → ℕ → Trace m → ℕ
   bound_by f k x r b [] = b
   bound_by f k x r b (t ∷ ts) = bound_by f k x (max r (f t)) (after_begin k x r b t) ts
-
-  -- a header's objects, and a point for each reply
-  pub record IsRun (objects : List Oid) (trace : Trace m) (ps : List ℕ) : Type 0 where
-    pub header : is_header objects ≡ true
-    pub points : ps ≡ reaches trace
 
 -- the clause, where its test fails
 abbrev pub failed : Clause → Bool → Option Clause

@@ -65,10 +65,3 @@ pub fn has_ended<K: Registry>(trace: &[MarkOf<K>], client: u16, tx: u32) -> bool
 {
     trace.iter().any(|mark| is_end::<K>(mark, client, tx))
 }
-
-/// Whether a reply is the transaction's begin.
-pub fn is_begin<K: Registry>(mark: &MarkOf<K>, client: u16, tx: u32) -> bool
-    ensures { result ≡ of.begins_by (meaning_of K.Registry) client tx mark.now }
-{
-    is_of::<K>(mark, client, tx) && matches!(&mark.what, What::Begin)
-}

@@ -1,23 +1,23 @@
 //! The judge's tests, and the verdict.
 
-ghost use Rattle.std.specs.Prelude.{◌≡◌, ◌+◌, nat_le, true, IfOk};
+ghost use Rattle.std.specs.Prelude.{◌≡◌, ◌+◌, ◌<◌, ◌≤◌, nat_le, true, length, get_or, take, IfOk};
 ghost use Rattle.std.specs.List.{list_any};
 ghost use Rattle.tg_kind.specs.Of.{meaning_of};
 ghost use Rattle.tg_kind.specs.Headers.{is_header};
 ghost use Rattle.tg_audit.specs.Judging as of;
+ghost use Rattle.tg_audit.specs.Runs as runs;
 ghost use Rattle.tg_audit.specs.Ruling as rule;
 ghost use Rattle.tg_audit.specs.Told.{verdict_of};
 ghost use Rattle.tg_base.specs.declared.fault.Clause.TheVariants as clause;
 ghost use Rattle.tg_audit.specs.declared.verdict.Verdict.TheVariants.{Illegal};
 
-use crate::asks::{all_at, has_asked, has_ended, is_of};
-use crate::entries::{has_cause, has_commit, has_entry, has_stamp, only_at};
+use crate::asks::is_of;
+use crate::index::key;
 use crate::judged::Judged;
-use crate::points::{bound, points};
-use crate::puts::{are_puts, has_put};
 use crate::run::Run;
+use crate::tables::tables_of;
 use crate::verdict::Verdict;
-use crate::versions::{changed, looks_at};
+use crate::versions::looks_at;
 use std::alloc::Global;
 use tg_base::{Clause, NoMemory, Oid, Part, Pos};
 use tg_model::{DoneOf, MarkOf, Refusal, What};
@@ -33,15 +33,18 @@ impl<'a, K: Judged> Run<'a, K> {
     // The greatest point of a reply before the transaction's last begin.
     #[tactic(auto, unfolding(crate::specs::Ruling::bound))]
     fn bound(&self, client: u16, tx: u32) -> u128
-        requires { of.IsRun (meaning_of K.Registry) self.now.objects.now self.now.trace.now self.now.points.now }
+        requires { runs.IsRun (meaning_of K.Registry) K.same_answers self.now.objects.now self.now.history.now self.now.trace.now self.now.tables.now }
         ensures { result ≡ rule.bound (meaning_of K.Registry) K.same_ops K.same_answers self.now.objects.now self.now.history.now self.now.trace.now client tx }
     {
-        bound::<K>(self.trace, self.points, client, tx)
+        match self.tables.bounds.get(&key(client, tx)) {
+            Some(bound) => *bound,
+            None => 0,
+        }
     }
 
     // Whether a place isn't below the transaction's bound.
     fn is_bounded(&self, client: u16, tx: u32, at: Pos) -> bool
-        requires { of.IsRun (meaning_of K.Registry) self.now.objects.now self.now.trace.now self.now.points.now }
+        requires { runs.IsRun (meaning_of K.Registry) K.same_answers self.now.objects.now self.now.history.now self.now.trace.now self.now.tables.now }
         ensures { result ≡ nat_le (rule.bound (meaning_of K.Registry) K.same_ops K.same_answers self.now.objects.now self.now.history.now self.now.trace.now client tx) at }
     {
         self.bound(client, tx) <= u128::from(at)
@@ -51,7 +54,7 @@ impl<'a, K: Judged> Run<'a, K> {
     fn is_right_answer(
         &self,
         alloc: Global,
-        earlier: &[MarkOf<K>],
+        place: usize,
         client: u16,
         tx: u32,
         oid: Oid,
@@ -59,21 +62,22 @@ impl<'a, K: Judged> Run<'a, K> {
         at: Pos,
         ans: &K::Ans,
     ) -> Result<bool, NoMemory>
-        requires { of.IsRun (meaning_of K.Registry) self.now.objects.now self.now.trace.now self.now.points.now }
-        ensures { IfOk result (λ b. b ≡ rule.right_answer (meaning_of K.Registry) K.same_ops K.same_answers self.now.objects.now self.now.history.now self.now.trace.now earlier.now client tx oid ask.now at ans.now) }
+        requires run { runs.IsRun (meaning_of K.Registry) K.same_answers self.now.objects.now self.now.history.now self.now.trace.now self.now.tables.now }
+        requires here { runs.IsAskedAt (meaning_of K.Registry) self.now.trace.now place oid ask.now ans.now }
+        ensures { IfOk result (λ b. b ≡ rule.right_answer (meaning_of K.Registry) K.same_ops K.same_answers self.now.objects.now self.now.history.now self.now.trace.now (take place self.now.trace.now) client tx oid ask.now at ans.now) }
     {
-        if !all_at::<K>(earlier, client, tx, at) {
+        if !self.asked_before(place, client, tx, at) {
             return Ok(false);
         }
-        self.holds(alloc, at, oid, ask, ans)
+        self.holds_here(alloc, place, at, oid, ask, ans)
     }
 
     // Whether a committed transaction that wrote is in the history with its writes, and its answers hold there.
     fn is_right_write(&self, alloc: Global, client: u16, tx: u32, at: Pos) -> Result<bool, NoMemory>
-        requires { of.IsRun (meaning_of K.Registry) self.now.objects.now self.now.trace.now self.now.points.now }
+        requires { runs.IsRun (meaning_of K.Registry) K.same_answers self.now.objects.now self.now.history.now self.now.trace.now self.now.tables.now }
         ensures { IfOk result (λ b. b ≡ rule.right_write (meaning_of K.Registry) K.same_ops K.same_answers self.now.objects.now self.now.history.now self.now.trace.now client tx at) }
     {
-        if !has_commit::<K>(self.history, self.trace, client, tx, at) {
+        if !self.committed(client, tx, at) {
             return Ok(false);
         }
         self.all_hold(alloc, client, tx, at)
@@ -81,10 +85,10 @@ impl<'a, K: Judged> Run<'a, K> {
 
     // Whether a committed transaction that wrote nothing is at its snapshot, or at 0 where it asked nothing.
     fn is_right_read(&self, client: u16, tx: u32, at: Pos) -> bool
+        requires { runs.IsRun (meaning_of K.Registry) K.same_answers self.now.objects.now self.now.history.now self.now.trace.now self.now.tables.now }
         ensures { result ≡ rule.right_read (meaning_of K.Registry) K.same_ops K.same_answers self.now.objects.now self.now.history.now self.now.trace.now client tx at }
     {
-        let trace = self.trace;
-        all_at::<K>(trace, client, tx, at) && (has_asked::<K>(trace, client, tx) || at == 0)
+        self.asked_at(client, tx, at) && (self.asked(client, tx) || at == 0)
     }
 
     #[tactic(auto, unfolding(crate::specs::Ruling::right_commit))]
@@ -95,10 +99,10 @@ impl<'a, K: Judged> Run<'a, K> {
         tx: u32,
         at: Pos,
     ) -> Result<bool, NoMemory>
-        requires { of.IsRun (meaning_of K.Registry) self.now.objects.now self.now.trace.now self.now.points.now }
+        requires { runs.IsRun (meaning_of K.Registry) K.same_answers self.now.objects.now self.now.history.now self.now.trace.now self.now.tables.now }
         ensures { IfOk result (λ b. b ≡ rule.right_commit (meaning_of K.Registry) K.same_ops K.same_answers self.now.objects.now self.now.history.now self.now.trace.now client tx at) }
     {
-        if has_put::<K>(self.trace, client, tx) {
+        if self.wrote(client, tx) {
             self.is_right_write(alloc, client, tx, at)
         } else {
             Ok(self.is_right_read(client, tx, at))
@@ -116,13 +120,13 @@ impl<'a, K: Judged> Run<'a, K> {
         seen: u64,
         now: u64,
     ) -> bool
+        requires { runs.IsRun (meaning_of K.Registry) K.same_answers self.now.objects.now self.now.history.now self.now.trace.now self.now.tables.now }
         ensures { result ≡ rule.explains_part (meaning_of K.Registry) K.same_ops K.same_answers self.now.objects.now self.now.history.now self.now.trace.now at oid part.now seen now ask.now snapshot }
     {
-        let history = self.history;
         looks_at::<K>(ask, part)
-            && has_cause::<K>(history, oid, part, now, snapshot, at)
-            && u128::from(seen) == changed::<K>(history, oid, part, snapshot)
-            && u128::from(now) == changed::<K>(history, oid, part, at)
+            && self.caused(oid, part, now, snapshot, at)
+            && u128::from(seen) == self.changed(oid, part, snapshot)
+            && u128::from(now) == self.changed(oid, part, at)
     }
 
     // The same of a reply, if it answers an ask of the transaction about the object.
@@ -137,6 +141,7 @@ impl<'a, K: Judged> Run<'a, K> {
         seen: u64,
         now: u64,
     ) -> bool
+        requires { runs.IsRun (meaning_of K.Registry) K.same_answers self.now.objects.now self.now.history.now self.now.trace.now self.now.tables.now }
         ensures { result ≡ of.meets (meaning_of K.Registry) client tx (rule.explains (meaning_of K.Registry) K.same_ops K.same_answers self.now.objects.now self.now.history.now self.now.trace.now place object part.now seen now) mark.now }
     {
         if !is_of::<K>(mark, client, tx) {
@@ -161,10 +166,16 @@ impl<'a, K: Judged> Run<'a, K> {
         seen: u64,
         now: u64,
     ) -> bool
+        requires { runs.IsRun (meaning_of K.Registry) K.same_answers self.now.objects.now self.now.history.now self.now.trace.now self.now.tables.now }
         ensures { result ≡ list_any (of.meets (meaning_of K.Registry) client tx (rule.explains (meaning_of K.Registry) K.same_ops K.same_answers self.now.objects.now self.now.history.now self.now.trace.now at oid part.now seen now)) self.now.trace.now }
     {
-        let trace = self.trace;
-        trace.iter().any(|mark| self.is_explained(mark, client, tx, at, oid, part, seen, now))
+        let marks = self.marks(client, tx, self.trace.len());
+        for mark in marks {
+            if self.is_explained(mark, client, tx, at, oid, part, seen, now) {
+                return true;
+            }
+        }
+        false
     }
 
     // Whether an aborted transaction isn't in the history, and one of its asks looked at what was changed.
@@ -179,21 +190,23 @@ impl<'a, K: Judged> Run<'a, K> {
         seen: u64,
         now: u64,
     ) -> bool
+        requires { runs.IsRun (meaning_of K.Registry) K.same_answers self.now.objects.now self.now.history.now self.now.trace.now self.now.tables.now }
         ensures { result ≡ rule.right_abort (meaning_of K.Registry) K.same_ops K.same_answers self.now.objects.now self.now.history.now self.now.trace.now client tx at oid part.now seen now }
     {
-        if has_entry::<K>(self.history, client, tx) {
+        if self.entered(client, tx) {
             return false;
         }
         self.has_reason(client, tx, at, oid, part, seen, now)
     }
 
     fn is_right_fate(&self, at: Pos, fate: Option<bool>) -> bool
+        requires { runs.IsRun (meaning_of K.Registry) K.same_answers self.now.objects.now self.now.history.now self.now.trace.now self.now.tables.now }
         ensures { result ≡ rule.right_fate (meaning_of K.Registry) K.same_ops K.same_answers self.now.objects.now self.now.history.now self.now.trace.now at fate }
     {
         match fate {
             None => true,
-            Some(true) => has_stamp::<K>(self.history, at),
-            Some(false) => !has_stamp::<K>(self.history, at),
+            Some(true) => self.stamps(at),
+            Some(false) => !self.stamps(at),
         }
     }
 
@@ -202,7 +215,7 @@ impl<'a, K: Judged> Run<'a, K> {
     fn asked_fault(
         &self,
         alloc: Global,
-        earlier: &[MarkOf<K>],
+        place: usize,
         client: u16,
         tx: u32,
         oid: Oid,
@@ -210,10 +223,11 @@ impl<'a, K: Judged> Run<'a, K> {
         at: Pos,
         ans: &K::Ans,
     ) -> Result<Option<Clause>, NoMemory>
-        requires { of.IsRun (meaning_of K.Registry) self.now.objects.now self.now.trace.now self.now.points.now }
-        ensures { IfOk result (λ f. f ≡ rule.answer_fault (meaning_of K.Registry) K.same_ops K.same_answers self.now.objects.now self.now.history.now self.now.trace.now earlier.now client tx oid ask.now at ans.now) }
+        requires run { runs.IsRun (meaning_of K.Registry) K.same_answers self.now.objects.now self.now.history.now self.now.trace.now self.now.tables.now }
+        requires here { runs.IsAskedAt (meaning_of K.Registry) self.now.trace.now place oid ask.now ans.now }
+        ensures { IfOk result (λ f. f ≡ rule.answer_fault (meaning_of K.Registry) K.same_ops K.same_answers self.now.objects.now self.now.history.now self.now.trace.now (take place self.now.trace.now) client tx oid ask.now at ans.now) }
     {
-        if !self.is_right_answer(alloc, earlier, client, tx, oid, ask, at, ans)? {
+        if !self.is_right_answer(alloc, place, client, tx, oid, ask, at, ans)? {
             return Ok(Some(Clause::A));
         }
         Ok(failed(Clause::E, self.is_bounded(client, tx, at)))
@@ -226,7 +240,7 @@ impl<'a, K: Judged> Run<'a, K> {
         tx: u32,
         at: Pos,
     ) -> Result<Option<Clause>, NoMemory>
-        requires { of.IsRun (meaning_of K.Registry) self.now.objects.now self.now.trace.now self.now.points.now }
+        requires { runs.IsRun (meaning_of K.Registry) K.same_answers self.now.objects.now self.now.history.now self.now.trace.now self.now.tables.now }
         ensures { IfOk result (λ f. f ≡ of.failed clause.B (rule.right_commit (meaning_of K.Registry) K.same_ops K.same_answers self.now.objects.now self.now.history.now self.now.trace.now client tx at)) }
     {
         let right = self.is_right_commit(alloc, client, tx, at)?;
@@ -235,12 +249,11 @@ impl<'a, K: Judged> Run<'a, K> {
 
     // The clause that fails where a command was refused.
     fn refused_fault(&self, client: u16, tx: u32, why: Refusal) -> Option<Clause>
+        requires { runs.IsRun (meaning_of K.Registry) K.same_answers self.now.objects.now self.now.history.now self.now.trace.now self.now.tables.now }
         ensures { result ≡ rule.refused_fault (meaning_of K.Registry) K.same_ops K.same_answers self.now.objects.now self.now.history.now self.now.trace.now client tx why }
     {
         match why {
-            Refusal::Forgotten { at, .. } => {
-                failed(Clause::D, only_at::<K>(self.history, client, tx, at))
-            }
+            Refusal::Forgotten { at, .. } => { failed(Clause::D, self.entered_at(client, tx, at)) }
             _ => None,
         }
     }
@@ -250,17 +263,19 @@ impl<'a, K: Judged> Run<'a, K> {
     fn transaction_fault(
         &self,
         alloc: Global,
-        earlier: &[MarkOf<K>],
+        place: usize,
         mark: &MarkOf<K>,
     ) -> Result<Option<Clause>, NoMemory>
-        requires { of.IsRun (meaning_of K.Registry) self.now.objects.now self.now.trace.now self.now.points.now }
-        ensures { IfOk result (λ f. f ≡ rule.transaction_fault (meaning_of K.Registry) K.same_ops K.same_answers self.now.objects.now self.now.history.now self.now.trace.now earlier.now mark.now.client mark.now.tx mark.now.what) }
+        requires run { runs.IsRun (meaning_of K.Registry) K.same_answers self.now.objects.now self.now.history.now self.now.trace.now self.now.tables.now }
+        requires place { place < length self.now.trace.now }
+        requires here { mark.now ≡ get_or self.now.trace.now place mark.now }
+        ensures { IfOk result (λ f. f ≡ rule.transaction_fault (meaning_of K.Registry) K.same_ops K.same_answers self.now.objects.now self.now.history.now self.now.trace.now (take place self.now.trace.now) mark.now.client mark.now.tx mark.now.what) }
     {
         let client = mark.client;
         let tx = mark.tx;
         match &mark.what {
             What::Asked { oid, ask, at, ans } => {
-                self.asked_fault(alloc, earlier, client, tx, *oid, ask, *at, ans)
+                self.asked_fault(alloc, place, client, tx, *oid, ask, *at, ans)
             }
             What::Committed { at } => self.commit_fault(alloc, client, tx, *at),
             What::Aborted {
@@ -274,12 +289,12 @@ impl<'a, K: Judged> Run<'a, K> {
                 Ok(failed(Clause::C, right))
             }
             What::Unsure { at, .. } => {
-                let right = only_at::<K>(self.history, client, tx, *at);
+                let right = self.entered_at(client, tx, *at);
                 Ok(failed(Clause::D, right))
             }
             What::Refused { why } => Ok(self.refused_fault(client, tx, *why)),
             What::Dropped => {
-                let right = !has_entry::<K>(self.history, client, tx);
+                let right = !self.entered(client, tx);
                 Ok(failed(Clause::D, right))
             }
             _ => Ok(None),
@@ -291,11 +306,13 @@ impl<'a, K: Judged> Run<'a, K> {
     fn mark_fault(
         &self,
         alloc: Global,
-        earlier: &[MarkOf<K>],
+        place: usize,
         mark: &MarkOf<K>,
     ) -> Result<Option<Clause>, NoMemory>
-        requires { of.IsRun (meaning_of K.Registry) self.now.objects.now self.now.trace.now self.now.points.now }
-        ensures { IfOk result (λ f. f ≡ rule.mark_fault (meaning_of K.Registry) K.same_ops K.same_answers self.now.objects.now self.now.history.now self.now.trace.now earlier.now mark.now) }
+        requires run { runs.IsRun (meaning_of K.Registry) K.same_answers self.now.objects.now self.now.history.now self.now.trace.now self.now.tables.now }
+        requires place { place < length self.now.trace.now }
+        requires here { mark.now ≡ get_or self.now.trace.now place mark.now }
+        ensures { IfOk result (λ f. f ≡ rule.mark_fault (meaning_of K.Registry) K.same_ops K.same_answers self.now.objects.now self.now.history.now self.now.trace.now (take place self.now.trace.now) mark.now) }
     {
         match &mark.what {
             What::Fate { at, yes } => Ok(failed(Clause::D, self.is_right_fate(*at, *yes))),
@@ -304,7 +321,7 @@ impl<'a, K: Judged> Run<'a, K> {
                 if mark.tx == 0 {
                     return Ok(None);
                 }
-                self.transaction_fault(alloc, earlier, mark)
+                self.transaction_fault(alloc, place, mark)
             }
         }
     }
@@ -313,21 +330,22 @@ impl<'a, K: Judged> Run<'a, K> {
     fn is_right_entry(
         &self,
         alloc: Global,
-        earlier: &[DoneOf<K>],
+        place: usize,
         done: &DoneOf<K>,
     ) -> Result<bool, NoMemory>
-        requires { of.IsRun (meaning_of K.Registry) self.now.objects.now self.now.trace.now self.now.points.now }
-        ensures { IfOk result (λ b. b ≡ rule.right_entry (meaning_of K.Registry) K.same_ops K.same_answers self.now.objects.now self.now.history.now self.now.trace.now earlier.now done.now) }
+        requires run { runs.IsRun (meaning_of K.Registry) K.same_answers self.now.objects.now self.now.history.now self.now.trace.now self.now.tables.now }
+        requires place { place < length self.now.history.now }
+        ensures { IfOk result (λ b. b ≡ rule.right_entry (meaning_of K.Registry) K.same_ops K.same_answers self.now.objects.now self.now.history.now self.now.trace.now (take place self.now.history.now) done.now) }
     {
         let client = done.client;
         let tx = done.number;
-        if tx == 0 || !has_ended::<K>(self.trace, client, tx) {
+        if tx == 0 || !self.ended(client, tx) {
             return Ok(false);
         }
-        if !are_puts::<K>(done.writes.as_slice(), self.trace, client, tx) {
+        if !self.put(done.writes.as_slice(), client, tx) {
             return Ok(false);
         }
-        if has_entry::<K>(earlier, client, tx) {
+        if self.entered_before(place, client, tx) {
             return Ok(false);
         }
         self.all_hold(alloc, client, tx, done.stamp)
@@ -338,13 +356,14 @@ impl<'a, K: Judged> Run<'a, K> {
     fn done_fault(
         &self,
         alloc: Global,
-        earlier: &[DoneOf<K>],
+        place: usize,
         done: &DoneOf<K>,
     ) -> Result<Option<Clause>, NoMemory>
-        requires { of.IsRun (meaning_of K.Registry) self.now.objects.now self.now.trace.now self.now.points.now }
-        ensures { IfOk result (λ f. f ≡ rule.done_fault (meaning_of K.Registry) K.same_ops K.same_answers self.now.objects.now self.now.history.now self.now.trace.now earlier.now done.now) }
+        requires run { runs.IsRun (meaning_of K.Registry) K.same_answers self.now.objects.now self.now.history.now self.now.trace.now self.now.tables.now }
+        requires place { place < length self.now.history.now }
+        ensures { IfOk result (λ f. f ≡ rule.done_fault (meaning_of K.Registry) K.same_ops K.same_answers self.now.objects.now self.now.history.now self.now.trace.now (take place self.now.history.now) done.now) }
     {
-        if !self.is_right_entry(alloc, earlier, done)? {
+        if !self.is_right_entry(alloc, place, done)? {
             return Ok(Some(Clause::D));
         }
         Ok(failed(
@@ -355,12 +374,12 @@ impl<'a, K: Judged> Run<'a, K> {
 
     // The first reply at which a clause fails.
     fn in_trace(&self, alloc: Global) -> Result<Option<(usize, Clause)>, NoMemory>
-        requires { of.IsRun (meaning_of K.Registry) self.now.objects.now self.now.trace.now self.now.points.now }
+        requires { runs.IsRun (meaning_of K.Registry) K.same_answers self.now.objects.now self.now.history.now self.now.trace.now self.now.tables.now }
         ensures { IfOk result (λ f. f ≡ rule.in_trace (meaning_of K.Registry) K.same_ops K.same_answers self.now.objects.now self.now.history.now self.now.trace.now) }
     {
         let trace = self.trace;
         for place in 0..trace.len() {
-            if let Some(clause) = self.mark_fault(alloc, &trace[..place], &trace[place])? {
+            if let Some(clause) = self.mark_fault(alloc, place, &trace[place])? {
                 return Ok(Some((place, clause)));
             }
         }
@@ -369,12 +388,12 @@ impl<'a, K: Judged> Run<'a, K> {
 
     // The first entry at which a clause fails.
     fn in_history(&self, alloc: Global) -> Result<Option<(usize, Clause)>, NoMemory>
-        requires { of.IsRun (meaning_of K.Registry) self.now.objects.now self.now.trace.now self.now.points.now }
+        requires { runs.IsRun (meaning_of K.Registry) K.same_answers self.now.objects.now self.now.history.now self.now.trace.now self.now.tables.now }
         ensures { IfOk result (λ f. f ≡ rule.in_history (meaning_of K.Registry) K.same_ops K.same_answers self.now.objects.now self.now.history.now self.now.trace.now) }
     {
         let history = self.history;
         for place in 0..history.len() {
-            if let Some(clause) = self.done_fault(alloc, &history[..place], &history[place])? {
+            if let Some(clause) = self.done_fault(alloc, place, &history[place])? {
                 return Ok(Some((place, clause)));
             }
         }
@@ -396,7 +415,7 @@ fn illegal(first: u64, place: usize, clause: Clause) -> Result<Verdict, NoMemory
 impl<'a, K: Judged> Run<'a, K> {
     // The verdict where no clause fails at a reply.
     fn past_trace(&self, alloc: Global) -> Result<Verdict, NoMemory>
-        requires { of.IsRun (meaning_of K.Registry) self.now.objects.now self.now.trace.now self.now.points.now }
+        requires { runs.IsRun (meaning_of K.Registry) K.same_answers self.now.objects.now self.now.history.now self.now.trace.now self.now.tables.now }
         ensures { IfOk result (λ v. v ≡ rule.past_trace (meaning_of K.Registry) K.same_ops K.same_answers self.now.objects.now self.now.history.now self.now.trace.now) }
     {
         let Some((place, clause)) = self.in_history(alloc)? else {
@@ -409,7 +428,7 @@ impl<'a, K: Judged> Run<'a, K> {
     }
 
     fn verdict(&self, alloc: Global) -> Result<Verdict, NoMemory>
-        requires { of.IsRun (meaning_of K.Registry) self.now.objects.now self.now.trace.now self.now.points.now }
+        requires { runs.IsRun (meaning_of K.Registry) K.same_answers self.now.objects.now self.now.history.now self.now.trace.now self.now.tables.now }
         ensures { IfOk result (λ v. v ≡ rule.verdict (meaning_of K.Registry) K.same_ops K.same_answers self.now.objects.now self.now.history.now self.now.trace.now) }
     {
         match self.in_trace(alloc)? {
@@ -429,12 +448,12 @@ fn ruled<K: Judged>(
     requires { is_header objects.now ≡ true }
     ensures { IfOk result (λ v. v ≡ rule.verdict (meaning_of K.Registry) K.same_ops K.same_answers objects.now history.now trace.now) }
 {
-    let points = points::<K>(alloc, trace)?;
+    let tables = tables_of::<K>(alloc, objects, history, trace)?;
     let run: Run<'_, K> = Run {
         objects,
         history,
         trace,
-        points: points.as_slice(),
+        tables: &tables,
     };
     run.verdict(alloc)
 }
@@ -443,7 +462,8 @@ fn ruled<K: Judged>(
 /// line of its transcript at which a clause of a legal run fails, and the first such clause there. An `Err` is want of
 /// memory.
 ///
-/// It goes over the replies once for each answer, outcome and entry, and plays the object of each answer anew.
+/// It goes over the replies and the history once and makes tables of where each transaction stands. Where stamps rise it
+/// plays the history once for each object that is asked; else it plays the object of each answer anew.
 pub fn verdict_on<K: Judged>(
     alloc: Global,
     objects: &[Oid],

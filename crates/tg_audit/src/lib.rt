@@ -4,13 +4,18 @@
 mod asks;
 mod auditing;
 mod entries;
+mod index;
 mod judged;
 mod judging;
+mod own;
+mod parts;
 mod points;
 mod puts;
 mod run;
 mod same;
 mod states;
+mod sweep;
+mod tables;
 mod verdict;
 mod versions;
 

@@ -1,18 +1,32 @@
 //! Points of replies: what begins after a reply has no place below its point.
 
-ghost use Rattle.std.specs.Prelude.{◌≡◌, ◌<◌, length, get_or, max, IfOk};
+ghost use Rattle.std.specs.Prelude.{◌≡◌, ◌<◌, ℕ, length, get_or, max, IfOk, OnOk};
 ghost use Rattle.tg_kind.specs.Of.{meaning_of};
+ghost use Rattle.tg_model.specs.Traces.{puts_of, has_items};
 ghost use Rattle.tg_audit.specs.Judging as of;
+ghost use Rattle.tg_audit.specs.Runs as runs;
 
-use crate::asks::is_begin;
+use crate::index::{Index, key};
+use crate::parts::marks_of;
 use crate::puts::has_put;
 use std::alloc::Global;
+use std::collections::BTreeMap;
 use tg_base::{List, NoMemory};
 use tg_kind::Registry;
 use tg_model::{MarkOf, What};
 
+// Whether a transaction wrote.
+fn wrote<K: Registry>(trace: &[MarkOf<K>], marks: &Index, client: u16, tx: u32) -> bool
+    requires { runs.HasMarks (meaning_of K.Registry) trace.now marks.now }
+    ensures { result ≡ has_items (meaning_of K.Registry) (puts_of (meaning_of K.Registry) trace.now client tx) }
+{
+    let own = marks_of::<K>(trace, marks, client, tx, trace.len());
+    has_put::<K>(own, client, tx)
+}
+
 // The point of a reply, or 0. A position and one more may have 65 bits.
-fn point<K: Registry>(trace: &[MarkOf<K>], mark: &MarkOf<K>) -> u128
+fn point<K: Registry>(trace: &[MarkOf<K>], marks: &Index, mark: &MarkOf<K>) -> u128
+    requires { runs.HasMarks (meaning_of K.Registry) trace.now marks.now }
     ensures { result ≡ of.reach (meaning_of K.Registry) trace.now mark.now }
 {
     if mark.tx == 0 {
@@ -23,7 +37,7 @@ fn point<K: Registry>(trace: &[MarkOf<K>], mark: &MarkOf<K>) -> u128
         What::Unsure { at, .. } => u128::from(*at) + 1,
         What::Aborted { at, .. } => u128::from(*at) + 1,
         What::Committed { at } => {
-            if has_put::<K>(trace, mark.client, mark.tx) {
+            if wrote::<K>(trace, marks, mark.client, mark.tx) {
                 u128::from(*at) + 1
             } else {
                 0
@@ -34,31 +48,33 @@ fn point<K: Registry>(trace: &[MarkOf<K>], mark: &MarkOf<K>) -> u128
 }
 
 /// The point of each reply. An `Err` is want of memory.
-pub fn points<K: Registry>(alloc: Global, trace: &[MarkOf<K>]) -> Result<List<u128>, NoMemory>
+pub fn points<K: Registry>(
+    alloc: Global,
+    trace: &[MarkOf<K>],
+    marks: &Index,
+) -> Result<List<u128>, NoMemory>
+    requires { runs.HasMarks (meaning_of K.Registry) trace.now marks.now }
     ensures { IfOk result (λ ps. ps ≡ of.reaches (meaning_of K.Registry) trace.now) }
 {
     let mut points = List::new(alloc);
     for mark in trace {
-        points.push(point::<K>(trace, mark))?;
+        points.push(point::<K>(trace, marks, mark))?;
     }
     Ok(points)
 }
 
-// The bound after a reply: the greatest point so far where that is the transaction's begin.
-fn after_begin<K: Registry>(
-    reach: u128,
-    bound: u128,
+// Notes the greatest point so far where a reply is a begin.
+fn note_begin<K: Registry>(
+    bounds: &mut BTreeMap<u64, u128>,
     mark: &MarkOf<K>,
-    client: u16,
-    tx: u32,
-) -> u128
-    ensures { result ≡ of.after_begin (meaning_of K.Registry) client tx reach bound mark.now }
+    reach: u128,
+) -> Result<(), NoMemory>
+    ensures { OnOk result ((k x : ℕ) → x < 4294967296 → runs.bound_at (meaning_of K.Registry) bounds.new k x ≡ of.after_begin (meaning_of K.Registry) k x reach (runs.bound_at (meaning_of K.Registry) bounds.old k x) mark.now) }
 {
-    if is_begin::<K>(mark, client, tx) {
-        reach
-    } else {
-        bound
+    if matches!(&mark.what, What::Begin) {
+        bounds.insert(key(mark.client, mark.tx), reach)?;
     }
+    Ok(())
 }
 
 // The greatest point so far, after that of a reply.
@@ -69,16 +85,20 @@ fn reached(reach: u128, points: &[u128], place: usize) -> u128
     reach.max(points[place])
 }
 
-/// The greatest point of the replies that stand before the last begin of a transaction.
-pub fn bound<K: Registry>(trace: &[MarkOf<K>], points: &[u128], client: u16, tx: u32) -> u128
+/// The greatest point of the replies that stand before the last begin of each transaction. An `Err` is want of memory.
+pub fn bounds<K: Registry>(
+    alloc: Global,
+    trace: &[MarkOf<K>],
+    points: &[u128],
+) -> Result<BTreeMap<u64, u128>, NoMemory>
     requires { points.now ≡ of.reaches (meaning_of K.Registry) trace.now }
-    ensures { result ≡ of.bound_by (meaning_of K.Registry) (of.reach (meaning_of K.Registry) trace.now) client tx 0 0 trace.now }
+    ensures { IfOk result (λ bs. runs.AreBounds (meaning_of K.Registry) trace.now bs) }
 {
+    let mut bounds = BTreeMap::new(alloc);
     let mut reach = 0;
-    let mut bound = 0;
     for place in 0..trace.len() {
-        bound = after_begin::<K>(reach, bound, &trace[place], client, tx);
+        note_begin::<K>(&mut bounds, &trace[place], reach)?;
         reach = reached(reach, points, place);
     }
-    bound
+    Ok(bounds)
 }

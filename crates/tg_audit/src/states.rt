@@ -23,8 +23,8 @@ fn write<K: Registry>(state: K, write: &(Oid, K::Op), oid: Oid) -> Result<K, NoM
     }
 }
 
-// The state of an object after those of the writes that are its own.
-fn written<K: Registry>(state: K, writes: &[(Oid, K::Op)], oid: Oid) -> Result<K, NoMemory>
+/// The state of an object after those of the writes that are its own. An `Err` is want of memory.
+pub fn written<K: Registry>(state: K, writes: &[(Oid, K::Op)], oid: Oid) -> Result<K, NoMemory>
     ensures { IfOk result (λ s. s ≡ of.written (meaning_of K.Registry) oid state writes.now) }
 {
     let mut state = state;

@@ -1,12 +1,14 @@
 //! Versions of parts in the history.
 
-ghost use Rattle.std.specs.Prelude.{◌≡◌, ◌+◌, ◌==◌};
+ghost use Rattle.std.specs.Prelude.{◌≡◌, ◌+◌, ◌==◌, map};
 ghost use Rattle.std.specs.Cmp.Lexicographic.{pointwise};
 ghost use Rattle.tg_kind.specs.Of.{meaning_of};
 ghost use Rattle.tg_kind.specs.Parts.{part_of, overlap};
 ghost use Rattle.tg_model.specs.Stores.{writes_part, changes, changed};
 ghost use Rattle.tg_model.specs.Verdicts.{part_eq};
 ghost use Rattle.tg_audit.specs.Judging as of;
+ghost use Rattle.tg_audit.specs.Places.{IsRising, Splits};
+ghost use Rattle.tg_audit.specs.Runs as runs;
 
 use tg_base::{Oid, Part, Pos};
 use tg_kind::{Key, Registry, Scope};
@@ -95,6 +97,27 @@ pub fn changed<K: Registry>(history: &[DoneOf<K>], oid: Oid, part: &Part, before
     ensures { result ≡ changed (meaning_of K.Registry) history.now oid part.now before }
 {
     latest::<K>(0, history, oid, part, before)
+}
+
+/// The version of a part of an object before a position, where the transactions below it are so many and stamps rise.
+pub fn changed_below<K: Registry>(
+    history: &[DoneOf<K>],
+    oid: Oid,
+    part: &Part,
+    most: usize,
+    before: Pos,
+) -> u128
+    requires rising { IsRising (map (runs.stamp_of (meaning_of K.Registry)) history.now) }
+    requires split { Splits (map (runs.stamp_of (meaning_of K.Registry)) history.now) most before }
+    ensures { result ≡ changed (meaning_of K.Registry) history.now oid part.now before }
+{
+    for back in 0..most {
+        let done = &history[most - 1 - back];
+        if changes::<K>(done, oid, part) {
+            return u128::from(done.stamp) + 1;
+        }
+    }
+    0
 }
 
 /// Whether what an ask looks at is this part.
