@@ -7,3 +7,6 @@ pub mod Worlds
 pub mod Sealed
 pub mod Booked
 pub mod Known
+pub mod Told
+pub mod Landed
+pub mod Whose

@@ -166,7 +166,7 @@ module _ (m : Meaning) where
     on_only : (k n : ℕ) (Q : Entry → Type 0) (xs ys : Moves m) → Only m n Q (client m (at xs) k) → Only m n Q (client m (at (xs ++ ys)) k)
     on_only k n Q xs ys o = subst (λ (v : World m). Only m n Q (client m v k)) (sym (further xs ys)) (run_only m k n Q ys (at xs) (books xs) o)
 
-    on_tells : (xs ys : Moves m) (k x : ℕ) (what : WhatOf m) → Tells m (trace m (at xs)) k x what → Tells m (trace m (at (xs ++ ys))) k x what
+    pub on_tells : (xs ys : Moves m) (k x : ℕ) (what : WhatOf m) → Tells m (trace m (at xs)) k x what → Tells m (trace m (at (xs ++ ys))) k x what
     on_tells xs ys k x what t =
         let g = run_grows m ys (at xs) (books xs) in
         subst (λ (v : World m). Tells m (trace m v) k x what) (sym (further xs ys)) (subst (λ (tr : Trace m). Tells m tr k x what) (sym g.1) (tells_on m (trace m (at xs)) g.0 k x what t))
@@ -192,9 +192,15 @@ module _ (m : Meaning) where
         (subst (λ (v : World m). Tells m (trace m v) e.head.client x.number (told.Asked a.oid a.ask s a.answer)) (at_end pre post split) (on_tells pre post e.head.client x.number (told.Asked a.oid a.ask s a.answer) a.tells))
         (record { entry = e; here = i; commit = commit; client = refl; number = number })
 
-    pub before_sealed : (x : Tx) (p : ℕ) (e : Entry) (pre post mid : Moves m) → ms ≡ pre ++ post → (client m (at pre) e.head.client).tx ≡ Some x → Contains es (p, e) → is_commit e ≡ true → (b : Begun e) → e.head.number ≡ x.number
-        → pre ≡ b.was.before ++ mid → Seal e x p pre
-    before_sealed x p e pre post mid split is i commit b number mid_is = by (begun_as e b)
+    -- so is one whose end waits
+    pub record OpenAt (e : Entry) (x : Tx) (pre : Moves m) : Type 0 where
+      pub ended : Tells m (trace m (at pre)) e.head.client x.number told.End
+      pub body : e.body ≡ Commit x.reads x.writes
+      pub held : Held m x (client m (at pre) e.head.client)
+
+    pub before_open : (x : Tx) (p : ℕ) (e : Entry) (pre post mid : Moves m) → ms ≡ pre ++ post → (client m (at pre) e.head.client).tx ≡ Some x → Contains es (p, e) → is_commit e ≡ true → (b : Begun e) → e.head.number ≡ x.number
+        → pre ≡ b.was.before ++ mid → OpenAt e x pre
+    before_open x p e pre post mid split is i commit b number mid_is = by (begun_as e b)
       where
         c : ℕ
         c = e.head.client
@@ -205,7 +211,7 @@ module _ (m : Meaning) where
         now : at pre ≡ run m mid (at b.was.before)
         now = ap at mid_is ∙ further b.was.before mid
 
-        by_only : Only m e.head.number Any (client m (at b.was.before) e.head.client) → Seal e x p pre
+        by_only : Only m e.head.number Any (client m (at b.was.before) e.head.client) → OpenAt e x pre
         by_only o = absurd ((subst (λ (xs : Moves m). Only m e.head.number Any (client m (at xs) e.head.client)) (sym mid_is) (on_only e.head.client e.head.number Any b.was.before mid o)).1 x is (sym number))
 
         grown : (ys : Trace m) × (trace m (run m mid (at b.was.before)) ≡ trace m (at b.was.before) ++ ys)
@@ -221,18 +227,25 @@ module _ (m : Meaning) where
             since = cancel (trace m (at b.was.before)) b.was.since (grown.0 ++ later.0)
                 (sym b.was.traced ∙ (ap (λ (v : World m). trace m v) (sym (at_end pre post split) ∙ further pre post) ∙ (later.1 ∙ (ap (λ (v : World m). trace m v ++ later.0) now ∙ (ap (λ (tr : Trace m). tr ++ later.0) grown.1 ∙ regroup (trace m (at b.was.before)) grown.0 later.0)))))
 
-        held_now : (t : AsTx e.head.client e (at b.was.before)) → HeldOr m e.head.client t.of (at pre) → Seal e x p pre
+        held_now : (t : AsTx e.head.client e (at b.was.before)) → HeldOr m e.head.client t.of (at pre) → OpenAt e x pre
         held_now t (inl held) =
-            let same = same_some t.of x (sym held.0 ∙ is) in (
-              subst (λ (y : Tx). Tells m (trace m (at pre)) e.head.client y.number told.End) same (subst (λ (xs : Moves m). Tells m (trace m (at xs)) e.head.client t.of.number told.End) (sym mid_is) (on_tells b.was.before mid e.head.client t.of.number told.End t.ended)),
-              t.body ∙ ap (λ (y : Tx). Commit y.reads y.writes) same,
-              snapshot_before x p e pre post split is i commit number,
-            )
+            let same = same_some t.of x (sym held.0 ∙ is) in
+            record {
+              ended = subst (λ (y : Tx). Tells m (trace m (at pre)) e.head.client y.number told.End) same (subst (λ (xs : Moves m). Tells m (trace m (at xs)) e.head.client t.of.number told.End) (sym mid_is) (on_tells b.was.before mid e.head.client t.of.number told.End t.ended));
+              body = t.body ∙ ap (λ (y : Tx). Commit y.reads y.writes) same;
+              held = subst (λ (y : Tx). Held m y (client m (at pre) e.head.client)) same held;
+            }
         held_now t (inr o) = absurd (o.1 x is (sym number ∙ t.number))
 
-        by : AsTx e.head.client e (at b.was.before) ⊎ AsMark e.head.client e (at b.was.before) → Seal e x p pre
+        by : AsTx e.head.client e (at b.was.before) ⊎ AsMark e.head.client e (at b.was.before) → OpenAt e x pre
         by (inl t) = held_now t (subst (HeldOr m e.head.client t.of) (sym now) (run_held m e.head.client t.of mid (at b.was.before) grown.0 (books b.was.before) grown.1 (never t) (inl t.held)))
         by (inr k) = by_only ((let n = k.number in omega (arith, n)), (λ t j same. let less = k.later t j in omega (arith, less, same)), (λ w j. any_drafts e.head.number (task_in m w.hand)))
+
+    pub before_sealed : (x : Tx) (p : ℕ) (e : Entry) (pre post mid : Moves m) → ms ≡ pre ++ post → (client m (at pre) e.head.client).tx ≡ Some x → Contains es (p, e) → is_commit e ≡ true → (b : Begun e) → e.head.number ≡ x.number
+        → pre ≡ b.was.before ++ mid → Seal e x p pre
+    before_sealed x p e pre post mid split is i commit b number mid_is =
+        let o = before_open x p e pre post mid split is i commit b number mid_is in
+        (o.ended, o.body, snapshot_before x p e pre post split is i commit number)
 
     -- A step of the run.
 
@@ -247,7 +260,7 @@ module _ (m : Meaning) where
       after_is mid = further pre (Takes ev ∷ mid) ∙ run_next m ev mid w
 
       -- where a number is of no open transaction after the step, an append that has it began later is such a one
-      after_only : (e : Entry) (n : ℕ) (Q : Entry → Type 0) (b : Begun e) (mid : Moves m) → b.was.before ≡ pre ++ Takes ev ∷ mid → e.head.number ≡ n → Only m n Q (client m v e.head.client) → Q b.was.append.draft
+      pub after_only : (e : Entry) (n : ℕ) (Q : Entry → Type 0) (b : Begun e) (mid : Moves m) → b.was.before ≡ pre ++ Takes ev ∷ mid → e.head.number ≡ n → Only m n Q (client m v e.head.client) → Q b.was.append.draft
       after_only e n Q b mid is number o = subst (DraftsAre m n Q) b.hand.task (now.2 b.hand.work b.hand.works) b.commit (sym b.number ∙ number)
         where
           now : Only m n Q (client m (at b.was.before) e.head.client)

@@ -108,12 +108,12 @@ module _ (m : Meaning) where
 
   -- What a note with the number of a transaction tells.
 
-  module _ (c : Client m) (end : Option AppendEnd) where
+  module _ (c : Client m) (end : Option AppendEnd) (r : Moved m) where
     pub data Tale (n : NoteOf m) : Type 0 where
       Tells0 : n.tx ≡ 0 → Tale n
       TellsNothing : Harmless n.what → Tale n
       TellsDone : (of : Tx) → c.tx ≡ Some of → (length of.writes == 0) ≡ true → n ≡ note m of.number (told.Committed (snapshot_or m of.snapshot)) → Tale n
-      TellsDropped : c.work ≡ None → n ≡ note m (tx_number m c.tx) told.Dropped → Tale n
+      TellsDropped : c.work ≡ None → r.now.tx ≡ None → n ≡ note m (tx_number m c.tx) told.Dropped → Tale n
       TellsLost : (w : Work m) (a : Append) (y : Purpose m) (p b : ℕ) → c.work ≡ Some w → task_in m w.hand ≡ Appending a y → IsRecord m y → end ≡ Some (Forgotten p b) → n ≡ note m (tx_number m c.tx) (told.Refused (cause.Forgotten p b)) → Tale n
       TellsWritten : (w : Work m) (a : Append) (p : ℕ) (page : List ℕ) → c.work ≡ Some w → task_in m w.hand ≡ Appending a Writes → end ≡ Some (At p page) → n ≡ note m (tx_number m c.tx) (told.Committed p) → Tale n
       TellsDecided : (w : Work m) (a : Append) (what : WhatOf m) → c.work ≡ Some w → IsEnd m w.command → task_in m w.hand ≡ Appending a (Decides what) → n ≡ note m (tx_number m c.tx) what → Tale n
@@ -165,34 +165,34 @@ module _ (m : Meaning) where
     marks_tale x o j n (inr (inr (inl e))) = harmless n x told.End e tt
     marks_tale x o j n (inr (inr (inr i))) = absurd i
 
-    effect_tale : (w : Work m) (r : Moved m) (n : NoteOf m) → c.work ≡ Some w → Effect m c w end r → Has r.notes n → Tale n
-    effect_tale w r n has (On s notes v is same on) i = none r.notes n notes i
-    effect_tale w r n has (Quits s idle q) i = quit_tale w r.notes n has q i
-    effect_tale w r n has (Closes s idle e what notes z) i = close_tale w what n has e (one n _ r.notes notes i) z
-    effect_tale w r n has (Asks a) i = harmless n _ _ (one n _ r.notes a.notes i) tt
-    effect_tale w r n has (Marks' x) i = marks_tale (c.begun + 1) x.oid x.mark n (subst (λ (xs : List (NoteOf m)). Has xs n) x.notes i)
+    effect_tale : (w : Work m) (n : NoteOf m) → c.work ≡ Some w → Effect m c w end r → Has r.notes n → Tale n
+    effect_tale w n has (On s notes v is same on) i = none r.notes n notes i
+    effect_tale w n has (Quits s idle q) i = quit_tale w r.notes n has q i
+    effect_tale w n has (Closes s idle e what notes z) i = close_tale w what n has e (one n _ r.notes notes i) z
+    effect_tale w n has (Asks a) i = harmless n _ _ (one n _ r.notes a.notes i) tt
+    effect_tale w n has (Marks' x) i = marks_tale (c.begun + 1) x.oid x.mark n (subst (λ (xs : List (NoteOf m)). Has xs n) x.notes i)
 
-    taking_tale : (x : CommandOf m) (r : Moved m) (n : NoteOf m) → c.work ≡ None → Taking m c x r → Has r.notes n → Tale n
-    taking_tale x r n idle (Nothing s e z) i = zeros r.notes n z i
-    taking_tale x r n idle (Opening p) i = harmless n _ told.Begin (one n _ r.notes p.notes i) tt
-    taking_tale x r n idle (Putting p) i = harmless n _ _ (one n _ r.notes p.notes i) tt
-    taking_tale x r n idle (Answering a) i = harmless n _ _ (one n _ r.notes a.notes i) tt
-    taking_tale x r n idle (Ending e) i = by (subst (λ (xs : List (NoteOf m)). Has xs n) e.notes i)
+    taking_tale : (x : CommandOf m) (n : NoteOf m) → c.work ≡ None → Taking m c x r → Has r.notes n → Tale n
+    taking_tale x n idle (Nothing s e z) i = zeros r.notes n z i
+    taking_tale x n idle (Opening p) i = harmless n _ told.Begin (one n _ r.notes p.notes i) tt
+    taking_tale x n idle (Putting p) i = harmless n _ _ (one n _ r.notes p.notes i) tt
+    taking_tale x n idle (Answering a) i = harmless n _ _ (one n _ r.notes a.notes i) tt
+    taking_tale x n idle (Ending e) i = by (subst (λ (xs : List (NoteOf m)). Has xs n) e.notes i)
       where
         by : Has (note m e.of.number told.End ∷ note m e.of.number (told.Committed (snapshot_or m e.of.snapshot)) ∷ []) n → Tale n
         by (inl z) = harmless n e.of.number told.End z tt
         by (inr (inl z)) = TellsDone e.of e.from e.none z
         by (inr (inr z)) = absurd z
-    taking_tale x r n idle (EndingLater e) i = harmless n _ told.End (one n _ r.notes e.notes i) tt
-    taking_tale x r n idle (Dropping d) i = TellsDropped idle (one n _ r.notes d.notes i)
-    taking_tale x r n idle (Beginning b) i = none r.notes n b.notes i
+    taking_tale x n idle (EndingLater e) i = harmless n _ told.End (one n _ r.notes e.notes i) tt
+    taking_tale x n idle (Dropping d) i = TellsDropped idle d.tx (one n _ r.notes d.notes i)
+    taking_tale x n idle (Beginning b) i = none r.notes n b.notes i
 
-  pub tale : (c : Client m) (r : Moved m) (t : Turned m c r) (n : NoteOf m) → Has r.notes n → Tale c (ended_by m c r t) n
-  tale c r (Idles s same notes) n i = none c None r.notes n notes i
-  tale c r (Works w end has e) n i = effect_tale c end w r n has e i
+  pub tale : (c : Client m) (r : Moved m) (t : Turned m c r) (n : NoteOf m) → Has r.notes n → Tale c (ended_by m c r t) r n
+  tale c r (Idles s same notes) n i = none c None r r.notes n notes i
+  tale c r (Works w end has e) n i = effect_tale c end r w n has e i
   tale c r (Takes x (Refuses why is e)) n i = by (subst (λ (y : Moved m). Has y.notes n) e i)
     where
-      by : Has (note m (number_on m c why) (told.Refused why) ∷ []) n → Tale c None n
-      by (inl z) = harmless c None n (number_on m c why) (told.Refused why) z (harmless_refusal why (subst Fine is (fine_refusal c x)))
+      by : Has (note m (number_on m c why) (told.Refused why) ∷ []) n → Tale c None r n
+      by (inl z) = harmless c None r n (number_on m c why) (told.Refused why) z (harmless_refusal why (subst Fine is (fine_refusal c x)))
       by (inr z) = absurd z
-  tale c r (Takes x (Takes' idle fine t)) n i = taking_tale c None x r n idle t i
+  tale c r (Takes x (Takes' idle fine t)) n i = taking_tale c None r x n idle t i

@@ -1,6 +1,6 @@
 -- The books of all clients through the steps of a world, and along a run.
 use Rattle.std.proofs.Common.{◌≡◌, ◌⊎◌, ℕ, zero, suc, ◌+◌, ◌<◌, ◌≤◌, List, [], ◌∷◌, ◌++◌, map, length, Bool, true, false, refl, sym, ap, ◌∙◌, subst, inl, inr, arith, Option, Some, None, is_some, Contains}
-use Rattle.std.specs.Prelude.{not, ◌==◌, nat_lt, slice_set, slice_index_or, slice_get}
+use Rattle.std.specs.Prelude.{not, ◌==◌, ◌&&◌, nat_lt, slice_set, slice_index_or, slice_get}
 use Rattle.tg_base.specs.Clusters.{Header}
 use Rattle.tg_base.specs.declared.ids.NodeId.{NodeId}
 use Rattle.tg_base.specs.declared.ids.Oid.{Oid}
@@ -15,7 +15,8 @@ use Rattle.tg_model.specs.declared.refusal.Refusal.TheVariants as cause
 use Rattle.tg_model.specs.declared.trace.What.TheVariants as told
 use Rattle.tg_model.specs.Kinds.{CommandOf, EventOf, MarkOf, NoteOf}
 use Rattle.tg_model.specs.Traces.{Trace}
-use Rattle.tg_protocol.specs.Words.{client_id, numbers}
+use Rattle.tg_protocol.specs.Words.{client_id, numbers, node_eq, role_code}
+use Rattle.tg_protocol.specs.Appending.{AppendEnd}
 use Rattle.tg_protocol.specs.Replies.{reply}
 use Rattle.tg_protocol.specs.Transactions.{Tx}
 use Rattle.tg_protocol.specs.Clients.{Task, Appending, Work, Client, new_client, refusal}
@@ -23,11 +24,11 @@ use Rattle.tg_protocol.specs.Answers.{Moved, moved, note}
 use Rattle.tg_protocol.specs.ClientSteps.{task_in, feed, refused_or, ClientTurn, called, given, client_command, client_deliver, tick_by, client_tick}
 use Rattle.tg_protocol.specs.Worlds.{World, Told, start, client, unit_moves, layout_moves, seqr_moves, client_turned, moves, comes, handed, delivers, noted_if, commands, ticks, ticks_if, stops_if, mark_of, counted, happens, next_event, runs, count_of, has_stopped, trace}
 use Rattle.tg_protocol.specs.Runs.{Move, Moves, Next, Takes, run}
-use Rattle.tg_law_history.proofs.Members.{Has, and_both, lt_of, same_number, number_same, contrary, has_image, has_either, has_left, has_right, has_contained, contained_has}
+use Rattle.tg_law_history.proofs.Members.{Has, and_both, both_and, lt_of, same_number, number_same, contrary, has_image, has_either, has_left, has_right, has_contained, contained_has}
 use Rattle.tg_law_replies.proofs.Books.{mark}
-use Rattle.tg_law_books.specs.Ended.{work_ends}
+use Rattle.tg_law_books.specs.Ended.{work_ends, handed_ends, packet_ends, ended_in}
 use Rattle.tg_law_books.proofs.Effects.{IsEnd, Suits}
-use Rattle.tg_law_books.proofs.Commands.{Turned, Idles, Takes as Taken, taken_by, Delivered, delivered, commanding}
+use Rattle.tg_law_books.proofs.Commands.{Turned, Idles, Takes as Taken, taken_by, ended_by, Delivered, delivered, commanding}
 use Rattle.tg_law_books.proofs.Turns.{no_some, same_some, BookOf, AskedAt, tells_on, DraftOf, draft_more, with_notes, turned}
 use Rattle.tg_law_books.proofs.Closing.{Only, Held, None', NotFull, only_turned, held_turned, begun_turned, came, Came, Waited, Given, Ends'}
 
@@ -96,10 +97,14 @@ module _ (m : Meaning) where
   abbrev pub Alone : ℕ → Trace m → Type 0
   Alone k ys = (u : MarkOf m) → Has ys u → u.client ≡ k → ⊥
 
+  -- an append ends in a turn as it does in the step
+  abbrev pub EndsIn : ℕ → EventOf m → World m → Option AppendEnd → Type 0
+  EndsIn k e w x = (x ≡ None) ⊎ (x ≡ ended_in m w e k)
+
   -- what a step makes of a client
   pub data Stepped (k : ℕ) (e : EventOf m) (w v : World m) : Type 0 where
     Rests : client m v k ≡ client m w k → (ys : Trace m) → trace m v ≡ trace m w ++ ys → Alone k ys → Stepped k e w v
-    Turns : (r : Moved m) → (t : Turned m (client m w k) r) → ((x : CommandOf m) → taken_by m (client m w k) r t ≡ Some x → e ≡ Commands k x)
+    Turns : (r : Moved m) → (t : Turned m (client m w k) r) → ((x : CommandOf m) → taken_by m (client m w k) r t ≡ Some x → e ≡ Commands k x) → EndsIn k e w (ended_by m (client m w k) r t)
         → client m v k ≡ called m r.now → trace m v ≡ trace m w ++ map (mark m w.event k) r.notes → Stepped k e w v
 
   abbrev pub WorldBook : World m → Type 0
@@ -111,13 +116,13 @@ module _ (m : Meaning) where
   others_alone : (k event n : ℕ) (ns : List (NoteOf m)) → (n ≡ k → ⊥) → Alone k (map (mark m event n) ns)
   others_alone k event n ns other u i c = let r = has_image (mark m event n) ns u i in other (sym (ap (λ (y : MarkOf m). y.client) r.2) ∙ c)
 
-  turned_step : (e : EventOf m) (w : World m) (n : ℕ) (t : ClientTurn m) (r : Moved m) (x : Turned m (client m w n) r) → From n e (client m w n) r x → t.now ≡ called m r.now → t.notes ≡ r.notes → n < length w.clients
+  turned_step : (e : EventOf m) (w : World m) (n : ℕ) (t : ClientTurn m) (r : Moved m) (x : Turned m (client m w n) r) → From n e (client m w n) r x → EndsIn n e w (ended_by m (client m w n) r x) → t.now ≡ called m r.now → t.notes ≡ r.notes → n < length w.clients
       → (k : ℕ) → Stepped k e w (client_turned m w n t)
   unfolding client_turned
-  turned_step e w n t r x from now notes less k = by (n == k) refl
+  turned_step e w n t r x from ends now notes less k = by (n == k) refl
     where
       by : (b : Bool) → (n == k) ≡ b → Stepped k e w (client_turned m w n t)
-      by true is = subst (λ (j : ℕ). Stepped j e w (client_turned m w n t)) (same_number n k is) (Turns r x from (set_same w.clients n t.now (new_client m w.cluster n) less ∙ now) (trace_after w n t.notes ∙ ap (λ (ns : List (NoteOf m)). trace m w ++ map (mark m w.event n) ns) notes))
+      by true is = subst (λ (j : ℕ). Stepped j e w (client_turned m w n t)) (same_number n k is) (Turns r x from ends (set_same w.clients n t.now (new_client m w.cluster n) less ∙ now) (trace_after w n t.notes ∙ ap (λ (ns : List (NoteOf m)). trace m w ++ map (mark m w.event n) ns) notes))
       by false is = Rests (set_other w.clients n k t.now (new_client m w.cluster k) (λ s. contrary (n == k) is (number_same n k s))) (map (mark m w.event n) t.notes) (trace_after w n t.notes) (others_alone k w.event n t.notes (λ s. contrary (n == k) is (number_same n k s)))
 
   still : (k : ℕ) (e : EventOf m) (w v : World m) → client m v k ≡ client m w k → trace m v ≡ trace m w → Stepped k e w v
@@ -148,12 +153,13 @@ module _ (m : Meaning) where
     pub makes : Moved m
     pub turned : Turned m c makes
     pub takes : taken_by m c makes turned ≡ None
+    pub ends : ended_by m c makes turned ≡ None
     pub now : t.now ≡ called m makes.now
     pub notes : t.notes ≡ makes.notes
 
   tick_by_of : (c : Client m) (w : Option (Work m)) → TickOf c (tick_by m c w)
-  tick_by_of c None = record { makes = moved m c []; turned = Idles (refl, refl, refl) refl refl; takes = refl; now = refl; notes = refl }
-  tick_by_of c (Some w) = record { makes = moved m (record c { next = c.next + c.layouts }) []; turned = Idles (refl, refl, refl) refl refl; takes = refl; now = refl; notes = refl }
+  tick_by_of c None = record { makes = moved m c []; turned = Idles (refl, refl, refl) refl refl; takes = refl; ends = refl; now = refl; notes = refl }
+  tick_by_of c (Some w) = record { makes = moved m (record c { next = c.next + c.layouts }) []; turned = Idles (refl, refl, refl) refl refl; takes = refl; ends = refl; now = refl; notes = refl }
 
   pub tick_of : (c : Client m) → TickOf c (client_tick m c)
   unfolding client_tick
@@ -164,10 +170,10 @@ module _ (m : Meaning) where
   from_none : (e : EventOf m) (n : ℕ) (c : Client m) (r : Moved m) (t : Turned m c r) → taken_by m c r t ≡ None → From n e c r t
   from_none e n c r t none x z = absurd (no_some x (sym none ∙ z))
 
-  as_noted : (b : Bool) (k : ℕ) (e : EventOf m) (w v : World m) (n : ℕ) → Stepped k e (noted_if m b w n (client m w n)) v → Stepped k e w v
-  as_noted true k e w v n s = s
-  as_noted false k e w v n (Rests c ys t a) = Rests c ys t a
-  as_noted false k e w v n (Turns r t f c x) = Turns r t f c x
+  as_noted : (b : Bool) (k n : ℕ) (y : CommandOf m) (w v : World m) → Stepped k (Commands n y) (noted_if m b w n (client m w n)) v → Stepped k (Commands n y) w v
+  as_noted true k n y w v s = s
+  as_noted false k n y w v (Rests c ys t a) = Rests c ys t a
+  as_noted false k n y w v (Turns r t f g c x) = Turns r t f g c x
 
   commanded_step : (w : World m) (k : ℕ) (x : CommandOf m) (b : Bool) → runs m w (client_id k) ≡ b → (j : ℕ) → Stepped j (Commands k x) w (commands m b w k x)
   commanded_step w k x false on j = still j (Commands k x) w w refl refl
@@ -177,43 +183,54 @@ module _ (m : Meaning) where
       from y z = ap (λ (u : CommandOf m). Commands k u) (same_some x y z)
 
       by : (b : Bool) → Stepped j (Commands k x) w (client_turned m (noted_if m b w k (client m w k)) k (client_command m (client m w k) x))
-      by true = turned_step (Commands k x) w k (client_command m (client m w k) x) (refused_or m (client m w k) x (refusal m (client m w k) x)) (Taken x (commanding m (client m w k) x)) from (commanded_as (client m w k) x) (commanded_notes (client m w k) x) (declared w (client_id k) refl on) j
-      by false = as_noted false j (Commands k x) w (client_turned m (noted_if m false w k (client m w k)) k (client_command m (client m w k) x)) k
-          (turned_step (Commands k x) (noted_if m false w k (client m w k)) k (client_command m (client m w k) x) (refused_or m (client m w k) x (refusal m (client m w k) x)) (Taken x (commanding m (client m w k) x)) from (commanded_as (client m w k) x) (commanded_notes (client m w k) x) (declared w (client_id k) refl on) j)
+      by true = turned_step (Commands k x) w k (client_command m (client m w k) x) (refused_or m (client m w k) x (refusal m (client m w k) x)) (Taken x (commanding m (client m w k) x)) from (inl refl) (commanded_as (client m w k) x) (commanded_notes (client m w k) x) (declared w (client_id k) refl on) j
+      by false = as_noted false j k x w (client_turned m (noted_if m false w k (client m w k)) k (client_command m (client m w k) x))
+          (turned_step (Commands k x) (noted_if m false w k (client m w k)) k (client_command m (client m w k) x) (refused_or m (client m w k) x (refusal m (client m w k) x)) (Taken x (commanding m (client m w k) x)) from (inl refl) (commanded_as (client m w k) x) (commanded_notes (client m w k) x) (declared w (client_id k) refl on) j)
+
+  same_node : (n : NodeId) → n.role ≡ role.Client → node_eq n (client_id n.num) ≡ true
+  unfolding node_eq role_code
+  same_node n c = both_and (role_code n.role == 3) (n.num == n.num) (ap (λ (r : Role). role_code r == 3) c) (number_same n.num n.num refl)
+
+  ended_here : (w : World m) (i : ℕ) (p : Packet) → slice_get w.packets i ≡ Some p → p.to.role ≡ role.Client → runs m w p.to ≡ true
+      → ended_in m w (Deliver i) p.to.num ≡ work_ends m (client m w p.to.num) (client m w p.to.num).work p.from p.rid (reply p.msg)
+  ended_here w i p is c on =
+      ap (λ (o : Option Packet). packet_ends m w p.to.num o) is
+      ∙ ap (λ (b : Bool). handed_ends m b (client m w p.to.num) p) (both_and (node_eq p.to (client_id p.to.num)) (runs m w p.to) (same_node p.to c) on)
 
   suits_in : (w : World m) → WorldBook w → (k : ℕ) (v : Work m) → (client m w k).work ≡ Some v → Suits m v.command (task_in m v.hand)
   suits_in w h k v is = (h k).suits v is
 
-  moved_step : (w : World m) (p : Packet) (i : ℕ) (r : Role) → WorldBook w → (r ≡ role.Client → p.to.num < length w.clients) → (j : ℕ) → Stepped j (Deliver i) w (moves m (handed m w i) p r)
+  moved_step : (w : World m) (p : Packet) (i : ℕ) (r : Role) → WorldBook w → (r ≡ role.Client → p.to.num < length w.clients)
+      → (r ≡ role.Client → ended_in m w (Deliver i) p.to.num ≡ work_ends m (client m w p.to.num) (client m w p.to.num).work p.from p.rid (reply p.msg)) → (j : ℕ) → Stepped j (Deliver i) w (moves m (handed m w i) p r)
   unfolding unit_moves layout_moves seqr_moves
-  moved_step w p i role.Unit h less j = still j (Deliver i) w _ refl refl
-  moved_step w p i role.Layout h less j = still j (Deliver i) w _ refl refl
-  moved_step w p i role.Seqr h less j = still j (Deliver i) w _ refl refl
-  moved_step w p i role.Client h less j = rebase (turned_step (Deliver i) (handed m w i) p.to.num (client_deliver m (client m w p.to.num) p.from p.rid p.msg) (feed m (client m w p.to.num) (client m w p.to.num).work p.from p.rid (reply p.msg)) d.turned (from_none (Deliver i) p.to.num (client m w p.to.num) _ d.turned d.takes) (delivered_as (client m w p.to.num) p) (delivered_notes (client m w p.to.num) p) (less refl) j)
+  moved_step w p i role.Unit h less ends j = still j (Deliver i) w _ refl refl
+  moved_step w p i role.Layout h less ends j = still j (Deliver i) w _ refl refl
+  moved_step w p i role.Seqr h less ends j = still j (Deliver i) w _ refl refl
+  moved_step w p i role.Client h less ends j = rebase (turned_step (Deliver i) (handed m w i) p.to.num (client_deliver m (client m w p.to.num) p.from p.rid p.msg) (feed m (client m w p.to.num) (client m w p.to.num).work p.from p.rid (reply p.msg)) d.turned (from_none (Deliver i) p.to.num (client m w p.to.num) _ d.turned d.takes) (inr (d.ends ∙ sym (ends refl))) (delivered_as (client m w p.to.num) p) (delivered_notes (client m w p.to.num) p) (less refl) j)
     where
       d : Delivered m (client m w p.to.num) (feed m (client m w p.to.num) (client m w p.to.num).work p.from p.rid (reply p.msg)) (work_ends m (client m w p.to.num) (client m w p.to.num).work p.from p.rid (reply p.msg))
       d = delivered m (client m w p.to.num) p.from p.rid p.msg (suits_in w h p.to.num)
 
       rebase : {v : World m} → Stepped j (Deliver i) (handed m w i) v → Stepped j (Deliver i) w v
       rebase (Rests c ys t a) = Rests c ys t a
-      rebase (Turns r t f c x) = Turns r t f c x
+      rebase (Turns r t f g c x) = Turns r t f g c x
 
   counted_step : (k : ℕ) (e : EventOf m) (w v : World m) → Stepped k e w v → Stepped k e w (counted m v)
   counted_step k e w v (Rests c ys t a) = Rests c ys t a
-  counted_step k e w v (Turns r t f c x) = Turns r t f c x
+  counted_step k e w v (Turns r t f g c x) = Turns r t f g c x
 
   pub step : (w : World m) (e : EventOf m) → WorldBook w → (k : ℕ) → Stepped k e w (happens m w e)
   unfolding happens
   step w (Commands k x) h j = counted_step j (Commands k x) w (commands m (runs m w (client_id k)) w k x) (commanded_step w k x (runs m w (client_id k)) refl j)
-  step w (Deliver i) h j = counted_step j (Deliver i) w (delivers m w i (slice_get w.packets i)) (by (slice_get w.packets i))
+  step w (Deliver i) h j = counted_step j (Deliver i) w (delivers m w i (slice_get w.packets i)) (by (slice_get w.packets i) refl)
     where
-      comes_step : (p : Packet) (b : Bool) → runs m w p.to ≡ b → Stepped j (Deliver i) w (comes m b (handed m w i) p)
-      comes_step p true on = moved_step w p i p.to.role h (λ c. declared w p.to c on) j
-      comes_step p false on = still j (Deliver i) w (handed m w i) refl refl
+      comes_step : (p : Packet) → slice_get w.packets i ≡ Some p → (b : Bool) → runs m w p.to ≡ b → Stepped j (Deliver i) w (comes m b (handed m w i) p)
+      comes_step p is true on = moved_step w p i p.to.role h (λ c. declared w p.to c on) (λ c. ended_here w i p is c on) j
+      comes_step p is false on = still j (Deliver i) w (handed m w i) refl refl
 
-      by : (p : Option Packet) → Stepped j (Deliver i) w (delivers m w i p)
-      by None = still j (Deliver i) w w refl refl
-      by (Some p) = comes_step p (runs m w p.to) refl
+      by : (p : Option Packet) → slice_get w.packets i ≡ p → Stepped j (Deliver i) w (delivers m w i p)
+      by None is = still j (Deliver i) w w refl refl
+      by (Some p) is = comes_step p is (runs m w p.to) refl
   step w (Lose i) h j = still j (Lose i) w _ refl refl
   step w (Tick n) h j = counted_step j (Tick n) w (ticks_if m (runs m w n) w n) (by (runs m w n) refl)
     where
@@ -223,7 +240,7 @@ module _ (m : Meaning) where
       ticks_step role.Seqr is on = still j (Tick n) w _ refl refl
       ticks_step role.Client is on =
           let t = tick_of (client m w n.num) in
-          turned_step (Tick n) w n.num (client_tick m (client m w n.num)) t.makes t.turned (from_none (Tick n) n.num (client m w n.num) t.makes t.turned t.takes) t.now t.notes (declared w n is on) j
+          turned_step (Tick n) w n.num (client_tick m (client m w n.num)) t.makes t.turned (from_none (Tick n) n.num (client m w n.num) t.makes t.turned t.takes) (inl t.ends) t.now t.notes (declared w n is on) j
 
       by : (b : Bool) → runs m w n ≡ b → Stepped j (Tick n) w (ticks_if m b w n)
       by true on = ticks_step n.role refl on
@@ -257,7 +274,7 @@ module _ (m : Meaning) where
 
   pub stepped_book : (k : ℕ) (e : EventOf m) (w v : World m) → BookOf m k (trace m w) (client m w k) → Stepped k e w v → BookOf m k (trace m v) (client m v k)
   stepped_book k e w v h (Rests c ys t a) = subst (λ (d : Client m). BookOf m k (trace m v) d) (sym c) (subst (λ (tr : Trace m). BookOf m k tr (client m w k)) (sym t) (book_beside k (trace m w) ys (client m w k) a h))
-  stepped_book k e w v h (Turns r t f c x) = subst (λ (d : Client m). BookOf m k (trace m v) d) (sym c) (subst (λ (tr : Trace m). BookOf m k tr (called m r.now)) (sym x) (turned m k w.event (trace m w) (client m w k) h r t))
+  stepped_book k e w v h (Turns r t f g c x) = subst (λ (d : Client m). BookOf m k (trace m v) d) (sym c) (subst (λ (tr : Trace m). BookOf m k tr (called m r.now)) (sym x) (turned m k w.event (trace m w) (client m w k) h r t))
 
   pub step_book : (w : World m) (e : EventOf m) → WorldBook w → WorldBook (happens m w e)
   step_book w e h k = stepped_book k e w (happens m w e) (h k) (step w e h k)
@@ -308,7 +325,7 @@ module _ (m : Meaning) where
 
   stepped_grows : (k : ℕ) (e : EventOf m) (w v : World m) → Stepped k e w v → Grown w v
   stepped_grows k e w v (Rests c ys t a) = (ys, t)
-  stepped_grows k e w v (Turns r t f c x) = (map (mark m w.event k) r.notes, x)
+  stepped_grows k e w v (Turns r t f g c x) = (map (mark m w.event k) r.notes, x)
 
   grown_on : (u v w : World m) → Grown u v → Grown v w → Grown u w
   grown_on u v w a b = (a.0 ++ b.0, b.1 ∙ (ap (λ (tr : Trace m). tr ++ b.0) a.1 ∙ regroup (trace m u) a.0 b.0))
@@ -322,7 +339,7 @@ module _ (m : Meaning) where
   -- transactions are counted upwards
   stepped_begun : (k : ℕ) (e : EventOf m) (w v : World m) → Stepped k e w v → (client m w k).begun ≤ (client m v k).begun
   stepped_begun k e w v (Rests c ys t a) = let b = ap (λ (d : Client m). d.begun) c in omega (arith, b)
-  stepped_begun k e w v (Turns r t f c x) = let b = ap (λ (d : Client m). d.begun) c in let le = begun_turned m (client m w k) r t in omega (arith, b, le)
+  stepped_begun k e w v (Turns r t f g c x) = let b = ap (λ (d : Client m). d.begun) c in let le = begun_turned m (client m w k) r t in omega (arith, b, le)
 
   pub run_begun : (k : ℕ) (ms : Moves m) (w : World m) → WorldBook w → (client m w k).begun ≤ (client m (run m ms w) k).begun
   unfolding run
@@ -333,7 +350,7 @@ module _ (m : Meaning) where
   -- a number that is of no open transaction
   stepped_only : (k : ℕ) (e : EventOf m) (w v : World m) (n : ℕ) (Q : Entry → Type 0) → BookOf m k (trace m w) (client m w k) → Only m n Q (client m w k) → Stepped k e w v → Only m n Q (client m v k)
   stepped_only k e w v n Q h o (Rests c ys t a) = subst (λ (d : Client m). Only m n Q d) (sym c) o
-  stepped_only k e w v n Q h o (Turns r t f c x) = subst (λ (d : Client m). Only m n Q d) (sym c) (only_turned m k (trace m w) (client m w k) h n Q o r t)
+  stepped_only k e w v n Q h o (Turns r t f g c x) = subst (λ (d : Client m). Only m n Q d) (sym c) (only_turned m k (trace m w) (client m w k) h n Q o r t)
 
   pub run_only : (k n : ℕ) (Q : Entry → Type 0) (ms : Moves m) (w : World m) → WorldBook w → Only m n Q (client m w k) → Only m n Q (client m (run m ms w) k)
   unfolding run
@@ -356,7 +373,7 @@ module _ (m : Meaning) where
   stepped_held : (k : ℕ) (e : EventOf m) (w v : World m) (t : Tx) (ys : Trace m) → WorldBook w → trace m v ≡ trace m w ++ ys → NeverFull k t.number ys → Stepped k e w v → HeldOr k t w → HeldOr k t v
   stepped_held k e w v t ys h grown full s (inr o) = inr (stepped_only k e w v t.number (None' m) (h k) o s)
   stepped_held k e w v t ys h grown full (Rests c zs x a) (inl held) = inl (subst (λ (d : Client m). Held m t d) (sym c) held)
-  stepped_held k e w v t ys h grown full (Turns r y f c x) (inl held) = by (held_turned m k (trace m w) (client m w k) (h k) t held r never y)
+  stepped_held k e w v t ys h grown full (Turns r y f g c x) (inl held) = by (held_turned m k (trace m w) (client m w k) (h k) t held r never y)
     where
       same : ys ≡ map (mark m w.event k) r.notes
       same = cancel (trace m w) ys (map (mark m w.event k) r.notes) (sym grown ∙ x)
@@ -407,7 +424,7 @@ module _ (m : Meaning) where
 
       by : Stepped k e w v → Has (done ++ Takes e ∷ []) (Takes (Commands k (cmd.Forget o n)))
       by (Rests c ys t a) = old (h k n o x (ap (λ (d : Client m). d.work) (sym c) ∙ is) forget)
-      by (Turns r t f c y) = from (came m (client m w k) r t x (ap (λ (d : Client m). d.work) (sym c) ∙ is))
+      by (Turns r t f g c y) = from (came m (client m w k) r t x (ap (λ (d : Client m). d.work) (sym c) ∙ is))
         where
           from : Came m (client m w k) r t x → Has (done ++ Takes e ∷ []) (Takes (Commands k (cmd.Forget o n)))
           from (Waited u has same) = old (h k n o u has (sym same ∙ forget))

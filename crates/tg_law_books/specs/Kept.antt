@@ -45,6 +45,16 @@ module _ (m : Meaning) where
   abbrev pub AsksPrecede : World m → Type 0
   AsksPrecede w = (k x p s : ℕ) (o : Oid) (q : m.ask) (a : m.answer) → Tells m (trace m w) k x (told.Asked o q s a) → HasRecordOf (entries_in m w) p k x → s ≤ p
 
+  -- An append that has ended stands where it says, with the links that were issued to it; a record that it forgot stands nowhere else.
+  abbrev pub EndsSo : Entries → Entry → AppendEnd → Type 0
+  EndsSo es d (At p page) = (links : List StreamLink) × Contains es (p, linked d links)
+  EndsSo es d (Forgotten p below) = (q : ℕ) (e : Entry) → Contains es (q, e) → is_commit d ≡ true → is_commit e ≡ true → e.head.client ≡ d.head.client → e.head.number ≡ d.head.number → q ≡ p
+  EndsSo es d (Full limit) = Unit {0}
+
+  -- so does each append that ends in a step of the run
+  abbrev pub AppendsEnd : Header → Moves m → World m → Type 0
+  AppendsEnd h ms w = InEachStep m h ms (λ before v e. (k : ℕ) (a : Append) (x : AppendEnd) → append_by m (client m v k).work ≡ Some a → ended_in m v e k ≡ Some x → EndsSo (entries_in m w) a.draft x)
+
   -- the op of each mark that was asked for is read as it was spelled
   abbrev pub MarksSpelled : Moves m → Type 0
   MarksSpelled ms = (k n : ℕ) (o : Oid) → Contains ms (Takes (Commands k (cmd.Forget o n))) → m.read directory (m.spell (m.mark_op o n)) ≡ Some (m.mark_op o n)

@@ -1,7 +1,7 @@
 //! What holds of the transactions of every run.
 
 ghost use Rattle.tg_kind.specs.Of.{meaning_of};
-ghost use Rattle.tg_law_books.specs.Laws.{BooksAreKept, RecordsAreKnown};
+ghost use Rattle.tg_law_books.specs.Laws.{BooksAreKept, RecordsAreKnown, RepliesAreKnown};
 
 use tg_kind::Registry;
 
@@ -18,4 +18,12 @@ pub fn books_are_kept<K: Registry>()
 /// hasn't begun. From the first two of these premises, and that no two entries of a kind have one client and number.
 pub fn records_are_known<K: Registry>()
     ensures { RecordsAreKnown (meaning_of K.Registry) }
+{}
+
+/// A transaction that was aborted, or whose outcome is unsure, has its record where the reply says; one that was
+/// forgotten has none elsewhere, and one that was dropped has none. One that committed has its record where the reply
+/// says, or an ask of it was answered there, or the reply says 0. From those two premises, and that an append which
+/// ends stands where it says, or, forgotten, nowhere else.
+pub fn replies_are_known<K: Registry>()
+    ensures { RepliesAreKnown (meaning_of K.Registry) }
 {}

@@ -4,4 +4,4 @@
 
 mod laws;
 
-pub use laws::{books_are_kept, records_are_known};
+pub use laws::{books_are_kept, records_are_known, replies_are_known};
