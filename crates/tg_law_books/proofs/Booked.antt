@@ -1,5 +1,5 @@
 -- Each step of a run keeps the books of transactions.
-use Rattle.std.proofs.Common.{◌≡◌, ℕ, ◌<◌, List, ◌∷◌, ◌++◌, length, Bool, true, false, refl, sym, ap, ◌∙◌, subst, Option, Some, None}
+use Rattle.std.proofs.Common.{◌≡◌, ℕ, ◌∷◌, ◌++◌, Bool, true, false, refl, sym, subst, Option, Some}
 use Rattle.std.specs.Prelude.{slice_get, is_some}
 use Rattle.tg_base.specs.Clusters.{Header}
 use Rattle.tg_base.specs.declared.ids.NodeId.{NodeId}
@@ -11,17 +11,17 @@ use Rattle.tg_model.specs.declared.command.Event.TheVariants.{Command as Command
 use Rattle.tg_model.specs.Kinds.{CommandOf, EventOf}
 use Rattle.tg_protocol.specs.Words.{client_id}
 use Rattle.tg_protocol.specs.Replies.{reply}
-use Rattle.tg_protocol.specs.Clients.{Work, Client, new_client, refusal}
+use Rattle.tg_protocol.specs.Clients.{new_client, refusal}
 use Rattle.tg_protocol.specs.ClientSteps.{feed, refused_or, client_command, client_deliver, client_tick}
 use Rattle.tg_protocol.specs.Worlds.{World, start, client, client_turned, moves, comes, handed, delivers, noted_if, commands, ticks, ticks_if, counted, happens, runs}
-use Rattle.tg_protocol.specs.Runs.{Moves, Takes, Reaches, run}
+use Rattle.tg_protocol.specs.Runs.{Moves, Takes, run}
 use Rattle.tg_law_history.specs.Worlds.{entries_in}
 use Rattle.tg_law_replies.specs.Booked.{EachBooked}
 use Rattle.tg_law_replies.specs.Laws.{ClientsBook}
 use Rattle.tg_law_books.specs.Kept.{RecordsLeft, AsksPrecede, MarksSpelled}
 use Rattle.tg_law_books.specs.Laws.{BooksAreKept}
 use Rattle.tg_law_books.proofs.Commands.{Takes as Taken, delivered, commanding}
-use Rattle.tg_law_books.proofs.Worlds.{set_same, WorldBook, run_book, start_book, commanded_as, commanded_notes, delivered_as, delivered_notes, tick_of, declared}
+use Rattle.tg_law_books.proofs.Worlds.{set_same, run_book, start_book, commanded_as, commanded_notes, delivered_as, delivered_notes, tick_of, declared}
 use Rattle.tg_law_books.proofs.Sealed.{booked}
 
 module _ (m : Meaning) where

@@ -6,7 +6,6 @@ use Rattle.tg_entry.specs.declared.entry.Body.TheVariants.{Commit}
 use Rattle.tg_entry.specs.declared.entry.Entry.{Entry}
 use Rattle.tg_kind.specs.Meaning.{Meaning}
 use Rattle.tg_model.specs.declared.command.Command.TheVariants as cmd
-use Rattle.tg_model.specs.declared.refusal.Refusal.{Refusal}
 use Rattle.tg_model.specs.declared.refusal.Refusal.TheVariants as cause
 use Rattle.tg_model.specs.declared.trace.What.TheVariants as told
 use Rattle.tg_model.specs.Kinds.{CommandOf, WhatOf, NoteOf}
@@ -14,14 +13,14 @@ use Rattle.tg_model.specs.Traces.{Trace}
 use Rattle.tg_protocol.specs.Words.{directory}
 use Rattle.tg_protocol.specs.Entries.{is_commit}
 use Rattle.tg_protocol.specs.Appending.{Append, AppendEnd}
-use Rattle.tg_protocol.specs.Transactions.{Tx, open_tx, commit_record}
-use Rattle.tg_protocol.specs.Clients.{Purpose, Writes, Judged, Decides, Rescues, Saves, Marks, Task, Syncing, Walking, Appending, Trimming, Copying', Reconfiguring, Work, Client, tx_number, number_on, write_of}
-use Rattle.tg_protocol.specs.Answers.{Moved, moved, note, mark_notes}
-use Rattle.tg_protocol.specs.ClientSteps.{task_in, purpose_of}
+use Rattle.tg_protocol.specs.Transactions.{Tx, commit_record}
+use Rattle.tg_protocol.specs.Clients.{Writes, Judged, Marks, Task, Appending, Work, Client, tx_number, write_of}
+use Rattle.tg_protocol.specs.Answers.{Moved, note, mark_notes}
+use Rattle.tg_protocol.specs.ClientSteps.{task_in}
 use Rattle.tg_law_history.proofs.Members.{Has}
-use Rattle.tg_law_books.proofs.Effects.{IsEnd, IsAsk, Idle, Suits, SuitsPurpose, IsOther, AllZero, Onward, Same', Walks, Lands, Begins, Quit, Zeros, AskFails, Filled, Marked, MarkFilled, MarkLost, Effect, On, Quits, Closes, Asks, Marks'}
-use Rattle.tg_law_books.proofs.Commands.{Commanding, Refuses, Takes', Taking, Nothing, Opening, Putting, Answering, Ending, EndingLater, Dropping, Beginning, Turned, Idles, Works, Takes, taken_by}
-use Rattle.tg_law_books.proofs.Turns.{no_some, same_some, IsMarkDraft, BookOf, IsOfTx}
+use Rattle.tg_law_books.proofs.Effects.{IsEnd, IsAsk, Idle, Suits, AllZero, Onward, Same', Walks, Lands, Begins, Quit, Zeros, AskFails, Filled, Marked, MarkFilled, MarkLost, Effect, On, Quits, Closes, Asks, Marks'}
+use Rattle.tg_law_books.proofs.Commands.{Refuses, Takes', Taking, Nothing, Opening, Putting, Answering, Ending, EndingLater, Dropping, Beginning, Turned, Idles, Works, Takes, taken_by}
+use Rattle.tg_law_books.proofs.Turns.{no_some, same_some, BookOf}
 
 module _ (m : Meaning) where
   -- each commit record with this number that is under way is such a one

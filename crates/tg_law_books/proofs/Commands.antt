@@ -1,17 +1,15 @@
 -- What a command, a tick and a delivery make of a client: its transaction, what it appends, and what it tells.
-use Rattle.std.proofs.Common.{◌≡◌, ◌⊎◌, ℕ, ◌+◌, List, [], ◌∷◌, Bool, true, false, refl, sym, ap, ◌∙◌, subst, inl, inr, arith, Option, Some, None, is_some, length}
-use Rattle.std.specs.Prelude.{not, ◌==◌, if◌then◌else◌}
+use Rattle.std.proofs.Common.{◌≡◌, ℕ, ◌+◌, List, [], ◌∷◌, Bool, true, false, refl, sym, ap, ◌∙◌, subst, arith, Option, Some, None, is_some, length}
+use Rattle.std.specs.Prelude.{◌==◌}
 use Rattle.tg_base.specs.declared.ids.NodeId.{NodeId}
 use Rattle.tg_base.specs.declared.ids.Oid.{Oid}
 use Rattle.tg_base.specs.declared.msg.Msg.{Msg}
-use Rattle.tg_base.specs.declared.packet.Packet.{Packet}
-use Rattle.tg_entry.specs.declared.entry.WriteOp.{WriteOp}
 use Rattle.tg_kind.specs.Meaning.{Meaning}
 use Rattle.tg_model.specs.declared.command.Command.TheVariants as cmd
 use Rattle.tg_model.specs.declared.refusal.Refusal.{Refusal}
 use Rattle.tg_model.specs.declared.refusal.Refusal.TheVariants as cause
 use Rattle.tg_model.specs.declared.trace.What.TheVariants as told
-use Rattle.tg_model.specs.Kinds.{CommandOf, WhatOf, NoteOf}
+use Rattle.tg_model.specs.Kinds.{CommandOf}
 use Rattle.tg_model.specs.Words.{word_of}
 use Rattle.tg_protocol.specs.Words.{first_some, where_true}
 use Rattle.tg_protocol.specs.Requests.{Next, Goes, Learns, Ends, Turn}
@@ -23,9 +21,9 @@ use Rattle.tg_protocol.specs.Trimming as copying
 use Rattle.tg_protocol.specs.Reconfiguring.{Reconf, ReconfEnd, Installed, Overtaken, NotWhole, reconf_start}
 use Rattle.tg_protocol.specs.Views.{View, state_of, view_version}
 use Rattle.tg_protocol.specs.Transactions.{Tx, tx_read, tx_put, open_tx, commit_record}
-use Rattle.tg_protocol.specs.Clients.{Purpose, Writes, Judged, Task, Syncing, Appending, Copying', Reconfiguring, Work, Client, hosts_oid, tests, busy, no_tx, tx_open, tx_number, number_on, write_of, refusal}
-use Rattle.tg_protocol.specs.Answers.{Moved, moved, note, refuses, closed, appends, syncs}
-use Rattle.tg_protocol.specs.ClientSteps.{task_in, new_work, hosts_more, puts, asked_of_state, asks_view, asks_by, asks, snapshot_or, purpose_of, end_by, ends, tx_of, works_on, accepts, refused_or, after_turn, met, copy_to, on_copy, stands, reconf_ended, reconf_to, on_reconf, copies_again, feed, ClientTurn, called, given, client_command, client_deliver, tick_by, client_tick}
+use Rattle.tg_protocol.specs.Clients.{Appending, Work, Client, hosts_oid, tests, busy, tx_number, number_on, write_of, refusal}
+use Rattle.tg_protocol.specs.Answers.{Moved, moved, note, appends, syncs}
+use Rattle.tg_protocol.specs.ClientSteps.{task_in, new_work, hosts_more, puts, asked_of_state, asks_view, asks_by, asks, snapshot_or, purpose_of, end_by, ends, accepts, refused_or, after_turn, met, copy_to, on_copy, reconf_ended, reconf_to, on_reconf, feed}
 use Rattle.tg_law_books.specs.Ended.{reply_ends, work_ends}
 use Rattle.tg_law_books.proofs.Effects.{IsEnd, IsAsk, Idle, Suits, AllZero, Effect, feed_effect}
 

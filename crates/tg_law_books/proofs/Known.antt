@@ -1,5 +1,5 @@
 -- Whose each record of a run's log is.
-use Rattle.std.proofs.Common.{◌≡◌, ℕ, ◌<◌, ◌≤◌, [], ◌++◌, Bool, true, false, refl, sym, ap, ◌∙◌, subst, inl, inr, arith, Some, Contains}
+use Rattle.std.proofs.Common.{◌≡◌, ℕ, ◌<◌, ◌≤◌, [], true, refl, sym, ◌∙◌, subst, arith, Some, Contains}
 use Rattle.tg_base.specs.Clusters.{Header}
 use Rattle.tg_entry.specs.declared.entry.Body.{Body}
 use Rattle.tg_entry.specs.declared.entry.Body.TheVariants.{Commit, Decision, Checkpoint}
@@ -7,18 +7,16 @@ use Rattle.tg_entry.specs.declared.entry.Entry.{Entry}
 use Rattle.tg_entry.specs.Format.{tag_of}
 use Rattle.tg_kind.specs.Meaning.{Meaning}
 use Rattle.tg_model.specs.declared.trace.What.TheVariants as told
-use Rattle.tg_model.specs.Kinds.{MarkOf}
-use Rattle.tg_model.specs.Traces.{Trace, Tells}
+use Rattle.tg_model.specs.Traces.{Tells}
 use Rattle.tg_protocol.specs.Entries.{body_commits, is_commit}
 use Rattle.tg_protocol.specs.Transactions.{Tx}
 use Rattle.tg_protocol.specs.Worlds.{World, start, client, trace}
-use Rattle.tg_protocol.specs.Runs.{Moves, Reaches, run}
+use Rattle.tg_protocol.specs.Runs.{Moves, run}
 use Rattle.tg_protocol.specs.Holding.{EntriesOnce}
 use Rattle.tg_law_history.specs.Worlds.{entries_in}
 use Rattle.tg_law_history.proofs.Members.{has_contained}
-use Rattle.tg_law_replies.specs.Told.{HasRecordOf}
 use Rattle.tg_law_replies.specs.Booked.{IsSealed}
-use Rattle.tg_law_books.specs.Kept.{RecordsLeft, AsksPrecede, MarksSpelled}
+use Rattle.tg_law_books.specs.Kept.{RecordsLeft, AsksPrecede}
 use Rattle.tg_law_books.specs.Laws.{RecordsKnown, RecordsAreKnown}
 use Rattle.tg_law_books.proofs.Worlds.{nil_right, run_book, start_book}
 use Rattle.tg_law_books.proofs.Sealed.{Begun, begun_of, begun_number, on_begun, before_sealed}

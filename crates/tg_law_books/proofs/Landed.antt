@@ -1,5 +1,5 @@
 -- The record of a transaction that was ended stands where its client says, while the end waits and once it is told.
-use Rattle.std.proofs.Common.{◌≡◌, ◌⊎◌, ℕ, zero, suc, ◌+◌, List, map, [], ◌∷◌, ◌++◌, length, Bool, true, false, refl, sym, ap, ◌∙◌, subst, inl, inr, Option, Some, None, Contains}
+use Rattle.std.proofs.Common.{◌≡◌, ℕ, zero, suc, ◌+◌, List, map, [], ◌∷◌, ◌++◌, length, Bool, true, false, refl, sym, ap, ◌∙◌, subst, inl, inr, Option, Some, None}
 use Rattle.std.specs.Prelude.{if◌then◌else◌, ◌==◌, slice_index_or}
 use Rattle.tg_base.specs.Clusters.{Header}
 use Rattle.tg_entry.specs.declared.entry.Entry.{Entry}
@@ -9,24 +9,23 @@ use Rattle.tg_model.specs.Kinds.{CommandOf, EventOf, WhatOf}
 use Rattle.tg_model.specs.Traces.{Trace}
 use Rattle.tg_protocol.specs.Words.{numbers}
 use Rattle.tg_protocol.specs.Entries.{is_commit, linked}
-use Rattle.tg_protocol.specs.Appending.{Append, AppendEnd, At, Full, Forgotten}
+use Rattle.tg_protocol.specs.Appending.{Append, AppendEnd, At}
 use Rattle.tg_protocol.specs.Views.{Entries}
 use Rattle.tg_protocol.specs.Transactions.{Tx, commit_record}
-use Rattle.tg_protocol.specs.Clients.{Purpose, Writes, Judged, Decides, Rescues, Saves, Marks, Task, Syncing, Walking, Appending, Trimming, Copying', Reconfiguring, Work, Client, new_client}
+use Rattle.tg_protocol.specs.Clients.{Purpose, Writes, Judged, Decides, Task, Syncing, Walking, Appending, Trimming, Copying', Reconfiguring, Work, Client, new_client}
 use Rattle.tg_protocol.specs.Answers.{Moved}
-use Rattle.tg_protocol.specs.ClientSteps.{task_in, purpose_of, called}
+use Rattle.tg_protocol.specs.ClientSteps.{task_in}
 use Rattle.tg_protocol.specs.Worlds.{World, start, client, happens, trace}
-use Rattle.tg_protocol.specs.Runs.{Move, Moves, Next, Takes, run}
+use Rattle.tg_protocol.specs.Runs.{Moves, Next, Takes, run}
 use Rattle.tg_protocol.specs.Holding.{append_by, append_of}
 use Rattle.tg_law_history.specs.Worlds.{entries_in}
 use Rattle.tg_law_replies.specs.Told.{HasRecordOf}
-use Rattle.tg_law_books.specs.Ended.{ended_in}
 use Rattle.tg_law_books.specs.Kept.{EndsSo, AppendsEnd}
-use Rattle.tg_law_books.proofs.Effects.{IsEnd, IsAsk, Idle, OfRecord, DecidesOf, IsOther, Onward, Same', Walks, Lands, Begins, Effect, On, Quits, Closes, Asks, Marks'}
+use Rattle.tg_law_books.proofs.Effects.{IsEnd, Idle, OfRecord, DecidesOf, Onward, Same', Walks, Lands, Begins, On, Quits, Closes, Asks, Marks'}
 use Rattle.tg_law_books.proofs.Commands.{Commanding, Refuses, Takes', Taking, Nothing, Opening, Putting, Answering, Ending, EndingLater, Dropping, Beginning, Turned, Idles, Works, ended_by}
 use Rattle.tg_law_books.proofs.Commands as turn
 use Rattle.tg_law_books.proofs.Turns.{no_some, same_some, BookOf, IsOfTx, DraftOf}
-use Rattle.tg_law_books.proofs.Worlds.{nil_right, regroup, WorldBook, EndsIn, Stepped, Rests, Turns, step, run_book, start_book, run_both}
+use Rattle.tg_law_books.proofs.Worlds.{nil_right, regroup, EndsIn, Stepped, Rests, Turns, step, run_book, start_book, run_both}
 
 module _ (m : Meaning) (es : Entries) (k : ℕ) where
   -- the record of the open transaction stands there

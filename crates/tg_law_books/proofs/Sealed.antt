@@ -1,44 +1,35 @@
 -- The books of transactions, by what the log that the run comes to has of their records.
-use Rattle.std.proofs.Common.{◌≡◌, ◌⊎◌, ℕ, ◌+◌, ◌<◌, ◌≤◌, List, [], ◌∷◌, ◌++◌, map, Bool, true, false, refl, sym, ap, ◌∙◌, subst, inl, inr, arith, Option, Some, None, Contains}
-use Rattle.std.specs.Prelude.{slice_get}
+use Rattle.std.proofs.Common.{◌≡◌, ◌⊎◌, ℕ, ◌+◌, ◌<◌, ◌≤◌, [], ◌∷◌, ◌++◌, true, false, refl, sym, ap, ◌∙◌, subst, inl, inr, arith, Option, Some, None, Contains}
 use Rattle.tg_base.specs.Clusters.{Header}
 use Rattle.tg_base.specs.declared.ids.Oid.{Oid}
-use Rattle.tg_base.specs.declared.ids.Role.{Role}
-use Rattle.tg_base.specs.declared.ids.Role.TheVariants as role
-use Rattle.tg_base.specs.declared.packet.Packet.{Packet}
 use Rattle.tg_entry.specs.declared.entry.Body.TheVariants.{Commit}
 use Rattle.tg_entry.specs.declared.entry.Entry.{Entry}
 use Rattle.tg_kind.specs.Meaning.{Meaning}
 use Rattle.tg_model.specs.declared.command.Command.TheVariants as cmd
-use Rattle.tg_model.specs.declared.command.Event.TheVariants.{Command as Commands, Deliver, Lose, Tick, Stop}
-use Rattle.tg_model.specs.declared.refusal.Refusal.TheVariants as cause
+use Rattle.tg_model.specs.declared.command.Event.TheVariants.{Command as Commands}
 use Rattle.tg_model.specs.declared.trace.What.TheVariants as told
-use Rattle.tg_model.specs.Kinds.{CommandOf, EventOf, MarkOf, WhatOf}
+use Rattle.tg_model.specs.Kinds.{EventOf, WhatOf}
 use Rattle.tg_model.specs.Traces.{Trace, Tells}
-use Rattle.tg_protocol.specs.Words.{client_id, directory}
-use Rattle.tg_protocol.specs.Replies.{reply}
-use Rattle.tg_protocol.specs.Entries.{is_commit, linked}
+use Rattle.tg_protocol.specs.Words.{directory}
+use Rattle.tg_protocol.specs.Entries.{is_commit}
 use Rattle.tg_protocol.specs.Appending.{Append}
 use Rattle.tg_protocol.specs.Views.{Entries}
 use Rattle.tg_protocol.specs.Transactions.{Tx, commit_record}
-use Rattle.tg_protocol.specs.Clients.{Purpose, Writes, Judged, Decides, Rescues, Saves, Marks, Task, Appending, Work, Client, write_of, refusal}
+use Rattle.tg_protocol.specs.Clients.{Purpose, Writes, Judged, Decides, Rescues, Saves, Marks, Task, Appending, Work, Client, write_of}
 use Rattle.tg_protocol.specs.Answers.{Moved, mark_notes}
-use Rattle.tg_protocol.specs.ClientSteps.{task_in, feed, refused_or, ClientTurn, called, client_command, client_deliver, client_tick}
-use Rattle.tg_protocol.specs.Worlds.{World, start, client, happens, runs, trace}
-use Rattle.tg_protocol.specs.Runs.{Moves, Takes, Reaches, run}
+use Rattle.tg_protocol.specs.ClientSteps.{task_in, ClientTurn, called}
+use Rattle.tg_protocol.specs.Worlds.{World, start, client, happens, trace}
+use Rattle.tg_protocol.specs.Runs.{Moves, Takes, run}
 use Rattle.tg_protocol.specs.Holding.{append_of, append_by}
 use Rattle.tg_law_history.specs.Worlds.{entries_in}
 use Rattle.tg_law_history.proofs.Members.{Has, has_contained, contained_has, has_left}
-use Rattle.tg_law_replies.specs.Told.{HasRecordOf}
-use Rattle.tg_law_replies.specs.Booked.{IsFresh, IsSealed, IsSealedMark, IsBookedTurn, EachBooked}
-use Rattle.tg_law_replies.specs.Laws.{ClientsBook}
+use Rattle.tg_law_replies.specs.Booked.{IsFresh, IsSealed, IsSealedMark, IsBookedTurn}
 use Rattle.tg_law_books.specs.Kept.{WasLeft, RecordsLeft, AsksPrecede, MarksSpelled}
-use Rattle.tg_law_books.specs.Laws.{BooksAreKept}
 use Rattle.tg_law_books.proofs.Effects.{IsEnd, Suits, SuitsPurpose}
-use Rattle.tg_law_books.proofs.Commands.{Turned, Takes as Taken, taken_by, delivered, commanding}
+use Rattle.tg_law_books.proofs.Commands.{Turned}
 use Rattle.tg_law_books.proofs.Turns.{no_some, same_some, BookOf, IsOfTx, IsOfMark, DraftFor, DraftOf, tells_on}
 use Rattle.tg_law_books.proofs.Closing.{Only, Held, None', DraftsAre, MarkBody, MarkBegun, shut_turned, mark_turned}
-use Rattle.tg_law_books.proofs.Worlds.{compare, regroup, cancel, WorldBook, Stepped, Rests, Turns, step, step_book, run_book, start_book, run_both, run_next, run_grows, run_begun, run_only, run_held, NeverFull, HeldOr, asked_in, commanded_as, commanded_notes, delivered_as, delivered_notes, tick_of, declared}
+use Rattle.tg_law_books.proofs.Worlds.{compare, regroup, cancel, WorldBook, step_book, run_book, start_book, run_both, run_next, run_grows, run_begun, run_only, run_held, NeverFull, HeldOr, asked_in}
 
 module _ (m : Meaning) where
   -- the append that a client has in hand

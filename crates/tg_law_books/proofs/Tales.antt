@@ -1,6 +1,6 @@
 -- What a turn of a client tells of a transaction.
-use Rattle.std.proofs.Common.{◌≡◌, ◌⊎◌, ℕ, ◌+◌, ◌<◌, ◌≤◌, List, [], ◌∷◌, length, Bool, true, false, refl, sym, ap, ◌∙◌, subst, inl, inr, arith, Option, Some, None, is_some}
-use Rattle.std.specs.Prelude.{not, ◌==◌}
+use Rattle.std.proofs.Common.{◌≡◌, ℕ, ◌+◌, List, [], ◌∷◌, length, Bool, true, false, sym, ap, ◌∙◌, subst, inl, inr, Option, Some, None}
+use Rattle.std.specs.Prelude.{◌==◌}
 use Rattle.tg_base.specs.declared.ids.Oid.{Oid}
 use Rattle.tg_proj.specs.declared.fault.ProjFault.{ProjFault}
 use Rattle.tg_proj.specs.declared.fault.ProjFault.TheVariants as layout
@@ -10,19 +10,18 @@ use Rattle.tg_model.specs.declared.refusal.Refusal.{Refusal}
 use Rattle.tg_model.specs.declared.refusal.Refusal.TheVariants as cause
 use Rattle.tg_model.specs.declared.trace.What.TheVariants as told
 use Rattle.tg_model.specs.Kinds.{CommandOf, WhatOf, NoteOf}
-use Rattle.tg_model.specs.Traces.{Trace}
 use Rattle.tg_protocol.specs.Words.{first_some, where_true}
-use Rattle.tg_protocol.specs.Appending.{Append, AppendEnd, At, Full, Forgotten}
+use Rattle.tg_protocol.specs.Appending.{Append, AppendEnd, At, Forgotten}
 use Rattle.tg_base.specs.declared.marks.Part.{Part}
 use Rattle.tg_entry.specs.declared.entry.WriteOp.{WriteOp}
 use Rattle.tg_protocol.specs.Transactions.{Tx, TxFault, read_fault, write_fault}
 use Rattle.tg_protocol.specs.Transactions as tx
-use Rattle.tg_protocol.specs.Clients.{Purpose, Writes, Judged, Decides, Rescues, Saves, Marks, Task, Appending, Work, Client, tx_number, number_on, by_layout, by_tx, busy, put_fault, ask_fault, copy_fault, tests, refusal, write_of}
-use Rattle.tg_protocol.specs.Answers.{Moved, moved, note, mark_notes}
+use Rattle.tg_protocol.specs.Clients.{Purpose, Writes, Decides, Marks, Appending, Work, Client, tx_number, number_on, by_layout, by_tx, busy, put_fault, ask_fault, copy_fault, tests, refusal, write_of}
+use Rattle.tg_protocol.specs.Answers.{Moved, note, mark_notes}
 use Rattle.tg_protocol.specs.ClientSteps.{task_in, snapshot_or}
 use Rattle.tg_law_history.proofs.Members.{Has}
-use Rattle.tg_law_books.proofs.Effects.{IsEnd, IsAsk, Idle, IsRecord, OfRecord, NotForgotten, AllZero, Quit, Zeros, AskFails, Filled, Marked, MarkFilled, MarkLost, Close, Lost, Written, Decided, Told, Effect, On, Quits, Closes, Asks, Marks'}
-use Rattle.tg_law_books.proofs.Commands.{Commanding, Refuses, Takes', Taking, Nothing, Opening, Putting, Answering, Ending, EndingLater, Dropping, Beginning, Turned, Idles, Works, Takes, ended_by}
+use Rattle.tg_law_books.proofs.Effects.{IsEnd, Idle, IsRecord, OfRecord, NotForgotten, AllZero, Quit, Zeros, AskFails, Filled, Marked, MarkFilled, MarkLost, Close, Lost, Written, Decided, Told, Effect, On, Quits, Closes, Asks, Marks'}
+use Rattle.tg_law_books.proofs.Commands.{Refuses, Takes', Taking, Nothing, Opening, Putting, Answering, Ending, EndingLater, Dropping, Beginning, Turned, Idles, Works, Takes, ended_by}
 
 module _ (m : Meaning) where
   -- none of a record, nor that a transaction was dropped

@@ -1,5 +1,5 @@
 -- Where each reply of a run was given.
-use Rattle.std.proofs.Common.{◌≡◌, ◌⊎◌, ℕ, List, [], ◌∷◌, ◌++◌, map, refl, sym, ap, ◌∙◌, subst, inl, inr}
+use Rattle.std.proofs.Common.{◌≡◌, ◌⊎◌, ℕ, [], ◌∷◌, ◌++◌, map, refl, sym, ap, ◌∙◌, subst, inl, inr}
 use Rattle.tg_base.specs.Clusters.{Header}
 use Rattle.tg_kind.specs.Meaning.{Meaning}
 use Rattle.tg_model.specs.Kinds.{EventOf, MarkOf, NoteOf, WhatOf}
@@ -7,11 +7,11 @@ use Rattle.tg_model.specs.Traces.{Trace}
 use Rattle.tg_protocol.specs.Answers.{Moved}
 use Rattle.tg_protocol.specs.ClientSteps.{called}
 use Rattle.tg_protocol.specs.Worlds.{World, start, client, happens, trace}
-use Rattle.tg_protocol.specs.Runs.{Move, Moves, Next, Takes, run}
+use Rattle.tg_protocol.specs.Runs.{Moves, Next, Takes, run}
 use Rattle.tg_law_history.proofs.Members.{Has, has_image, has_either}
 use Rattle.tg_law_replies.proofs.Books.{mark}
 use Rattle.tg_law_books.proofs.Commands.{Turned, ended_by}
-use Rattle.tg_law_books.proofs.Worlds.{nil_right, regroup, WorldBook, EndsIn, Stepped, Rests, Turns, step, run_book, start_book, run_both}
+use Rattle.tg_law_books.proofs.Worlds.{nil_right, regroup, EndsIn, Stepped, Rests, Turns, step, run_book, start_book, run_both}
 
 module _ (m : Meaning) (h : Header) where
   abbrev at : Moves m → World m

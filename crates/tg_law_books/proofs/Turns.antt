@@ -2,7 +2,6 @@
 use Rattle.std.proofs.Common.{◌≡◌, ◌⊎◌, ℕ, ◌+◌, ◌<◌, ◌≤◌, List, [], ◌∷◌, ◌++◌, map, length, Bool, true, false, refl, sym, ap, ◌∙◌, subst, inl, inr, arith, Option, Some, None}
 use Rattle.std.specs.Prelude.{if◌then◌else◌, ◌==◌}
 use Rattle.tg_base.specs.declared.ids.Oid.{Oid}
-use Rattle.tg_entry.specs.declared.entry.Body.{Body}
 use Rattle.tg_entry.specs.declared.entry.Body.TheVariants.{Commit}
 use Rattle.tg_entry.specs.declared.entry.Entry.{Entry}
 use Rattle.tg_kind.specs.Meaning.{Meaning}
@@ -16,10 +15,10 @@ use Rattle.tg_protocol.specs.Words.{directory}
 use Rattle.tg_protocol.specs.Entries.{is_commit}
 use Rattle.tg_protocol.specs.Appending.{Append, AppendEnd}
 use Rattle.tg_protocol.specs.Transactions.{Tx, commit_record}
-use Rattle.tg_protocol.specs.Clients.{Purpose, Writes, Judged, Decides, Rescues, Saves, Marks, Task, Syncing, Walking, Appending, Trimming, Copying', Reconfiguring, Work, Client, tx_number, number_on, write_of, refusal}
-use Rattle.tg_protocol.specs.Answers.{Moved, moved, note, mark_notes, mark_record}
+use Rattle.tg_protocol.specs.Clients.{Purpose, Writes, Judged, Decides, Rescues, Saves, Marks, Task, Appending, Work, Client, tx_number, number_on, write_of}
+use Rattle.tg_protocol.specs.Answers.{Moved, note}
 use Rattle.tg_protocol.specs.ClientSteps.{task_in, purpose_of}
-use Rattle.tg_law_history.proofs.Members.{Has, has_contained, contained_has, has_left, has_right, has_image, has_either}
+use Rattle.tg_law_history.proofs.Members.{Has, has_contained, contained_has, has_left, has_right, has_either}
 use Rattle.tg_law_replies.proofs.Books.{mark}
 use Rattle.tg_law_books.proofs.Effects.{IsEnd, IsAsk, Idle, Suits, SuitsPurpose, IsOther, AllZero, Onward, Same', Walks, Lands, Begins, Quit, Zeros, AskFails, Filled, Marked, MarkFilled, MarkLost, Effect, On, Quits, Closes, Asks, Marks'}
 use Rattle.tg_law_books.proofs.Commands.{Commanding, Refuses, Takes', Taking, Nothing, Opening, Putting, Answering, Ending, EndingLater, Dropping, Beginning, Turned, Idles, Works, Takes}

@@ -1,38 +1,35 @@
 -- Whose record each reply speaks of.
-use Rattle.std.proofs.Common.{◌≡◌, ◌⊎◌, ℕ, ◌<◌, List, [], ◌∷◌, ◌++◌, Bool, true, false, refl, sym, ap, ◌∙◌, subst, inl, inr, arith, Option, Some, None, Contains}
+use Rattle.std.proofs.Common.{◌≡◌, ◌⊎◌, ℕ, ◌<◌, List, ◌∷◌, ◌++◌, true, refl, sym, ap, ◌∙◌, subst, inl, inr, arith, Option, Some, None}
 use Rattle.tg_base.specs.Clusters.{Header}
-use Rattle.tg_base.specs.declared.ids.Oid.{Oid}
-use Rattle.tg_base.specs.declared.marks.Part.{Part}
 use Rattle.tg_entry.specs.declared.entry.Entry.{Entry}
 use Rattle.tg_kind.specs.Meaning.{Meaning}
-use Rattle.tg_model.specs.declared.refusal.Refusal.{Refusal}
 use Rattle.tg_model.specs.declared.refusal.Refusal.TheVariants as cause
 use Rattle.tg_model.specs.declared.trace.What.TheVariants as told
-use Rattle.tg_model.specs.Kinds.{MarkOf, NoteOf, WhatOf}
-use Rattle.tg_model.specs.Traces.{Trace, Tells}
+use Rattle.tg_model.specs.Kinds.{NoteOf, WhatOf}
+use Rattle.tg_model.specs.Traces.{Tells}
 use Rattle.tg_protocol.specs.Entries.{body_commits, is_commit, linked}
-use Rattle.tg_protocol.specs.Appending.{Append, AppendEnd, At, Forgotten}
+use Rattle.tg_protocol.specs.Appending.{Append, At, Forgotten}
 use Rattle.tg_protocol.specs.Views.{Entries}
 use Rattle.tg_protocol.specs.Transactions.{Tx, commit_record}
-use Rattle.tg_protocol.specs.Clients.{Purpose, Writes, Judged, Decides, Marks, Task, Appending, Work, Client, tx_number}
-use Rattle.tg_protocol.specs.Answers.{Moved, note}
+use Rattle.tg_protocol.specs.Clients.{Purpose, Writes, Judged, Marks, Client, tx_number}
+use Rattle.tg_protocol.specs.Answers.{note}
 use Rattle.tg_protocol.specs.ClientSteps.{task_in, snapshot_or}
 use Rattle.tg_protocol.specs.Worlds.{World, start, client, happens, trace}
-use Rattle.tg_protocol.specs.Runs.{Moves, Takes, Reaches, run}
+use Rattle.tg_protocol.specs.Runs.{Moves, Takes, run}
 use Rattle.tg_law_history.specs.Worlds.{entries_in}
 use Rattle.tg_law_history.proofs.Members.{has_contained}
 use Rattle.tg_law_replies.specs.Told.{HasRecordOf}
 use Rattle.tg_law_books.specs.Kept.{RecordsLeft, AsksPrecede, AppendsEnd, EndsSo}
 use Rattle.tg_law_books.specs.Laws.{IsAskedAt, RepliesKnown, RepliesAreKnown}
-use Rattle.tg_law_books.proofs.Effects.{IsEnd, Idle, IsRecord, OfRecord}
-use Rattle.tg_law_books.proofs.Commands.{Turned, ended_by}
+use Rattle.tg_law_books.proofs.Effects.{IsRecord, OfRecord}
+use Rattle.tg_law_books.proofs.Commands.{ended_by}
 use Rattle.tg_law_books.proofs.Tales.{Harmless, Tale, Tells0, TellsNothing, TellsDone, TellsDropped, TellsLost, TellsWritten, TellsDecided, TellsJudged, TellsMarked, TellsMarkLost, tale}
-use Rattle.tg_law_books.proofs.Turns.{no_some, same_some, BookOf, IsOfTx, IsOfMark, DraftOf, DraftFor}
-use Rattle.tg_law_books.proofs.Worlds.{compare, WorldBook, run_book, start_book}
+use Rattle.tg_law_books.proofs.Turns.{no_some, same_some, BookOf, IsOfTx, DraftOf, DraftFor}
+use Rattle.tg_law_books.proofs.Worlds.{compare, run_book, start_book}
 use Rattle.tg_law_books.proofs.Closing.{Only, None', shut_turned}
 use Rattle.tg_law_books.proofs.Sealed.{Begun, begun_of, on_tells, before_open, after_only}
 use Rattle.tg_law_books.proofs.Told.{ToldIn, all_told}
-use Rattle.tg_law_books.proofs.Landed.{HasRec, LandedTask, LandedFor, Landed, EndsTruly, append_in, idle_rec, ends_truly, landed_at}
+use Rattle.tg_law_books.proofs.Landed.{HasRec, LandedTask, Landed, EndsTruly, append_in, idle_rec, ends_truly, landed_at}
 
 module _ (m : Meaning) where
   -- what is told of the record at a position
@@ -202,8 +199,13 @@ module _ (m : Meaning) where
           later : (s : ℕ) (u : Tx) → c.tx ≡ Some u → u.number ≡ x → u.snapshot ≡ Some s → AskedThere k x s
           later s u has number snap =
               let j = book.snap u s has snap in
-              record { oid = j.oid; ask = j.ask; answer = j.answer; tells = subst (λ (i : ℕ). Tells m (trace m end) k i (told.Asked j.oid j.ask s j.answer)) number
-              (subst (λ (xs : Moves m). Tells m (trace m (at xs)) k u.number (told.Asked j.oid j.ask s j.answer)) (sym t.split) (on_tells m h ms left asks t.before (Takes t.event ∷ t.after) k u.number (told.Asked j.oid j.ask s j.answer) j.tells)) }
+              record {
+                oid = j.oid;
+                ask = j.ask;
+                answer = j.answer;
+                tells = subst (λ (i : ℕ). Tells m (trace m end) k i (told.Asked j.oid j.ask s j.answer)) number
+                    (subst (λ (xs : Moves m). Tells m (trace m (at xs)) k u.number (told.Asked j.oid j.ask s j.answer)) (sym t.split) (on_tells m h ms left asks t.before (Takes t.event ∷ t.after) k u.number (told.Asked j.oid j.ask s j.answer) j.tells));
+              }
 
           done : (u : Tx) → c.tx ≡ Some u → t.note ≡ note m u.number (told.Committed (snapshot_or m u.snapshot)) → AskedThere k x p ⊎ (p ≡ 0)
           done u has e = by_snapshot u.snapshot refl (at_is u.number (snapshot_or m u.snapshot) e)

@@ -1,6 +1,6 @@
 -- The books of all clients through the steps of a world, and along a run.
-use Rattle.std.proofs.Common.{◌≡◌, ◌⊎◌, ℕ, zero, suc, ◌+◌, ◌<◌, ◌≤◌, List, [], ◌∷◌, ◌++◌, map, length, Bool, true, false, refl, sym, ap, ◌∙◌, subst, inl, inr, arith, Option, Some, None, is_some, Contains}
-use Rattle.std.specs.Prelude.{not, ◌==◌, ◌&&◌, nat_lt, slice_set, slice_index_or, slice_get}
+use Rattle.std.proofs.Common.{◌≡◌, ◌⊎◌, ℕ, zero, suc, ◌+◌, ◌<◌, ◌≤◌, List, [], ◌∷◌, ◌++◌, map, length, Bool, true, false, refl, sym, ap, ◌∙◌, subst, inl, inr, arith, Option, Some, None, is_some}
+use Rattle.std.specs.Prelude.{not, ◌==◌, nat_lt, slice_set, slice_index_or, slice_get}
 use Rattle.tg_base.specs.Clusters.{Header}
 use Rattle.tg_base.specs.declared.ids.NodeId.{NodeId}
 use Rattle.tg_base.specs.declared.ids.Oid.{Oid}
@@ -21,15 +21,15 @@ use Rattle.tg_protocol.specs.Replies.{reply}
 use Rattle.tg_protocol.specs.Transactions.{Tx}
 use Rattle.tg_protocol.specs.Clients.{Task, Appending, Work, Client, new_client, refusal}
 use Rattle.tg_protocol.specs.Answers.{Moved, moved, note}
-use Rattle.tg_protocol.specs.ClientSteps.{task_in, feed, refused_or, ClientTurn, called, given, client_command, client_deliver, tick_by, client_tick}
+use Rattle.tg_protocol.specs.ClientSteps.{task_in, feed, refused_or, ClientTurn, called, client_command, client_deliver, tick_by, client_tick}
 use Rattle.tg_protocol.specs.Worlds.{World, Told, start, client, unit_moves, layout_moves, seqr_moves, client_turned, moves, comes, handed, delivers, noted_if, commands, ticks, ticks_if, stops_if, mark_of, counted, happens, next_event, runs, count_of, has_stopped, trace}
-use Rattle.tg_protocol.specs.Runs.{Move, Moves, Next, Takes, run}
-use Rattle.tg_law_history.proofs.Members.{Has, and_both, both_and, lt_of, same_number, number_same, contrary, has_image, has_either, has_left, has_right, has_contained, contained_has}
+use Rattle.tg_protocol.specs.Runs.{Moves, Next, Takes, run}
+use Rattle.tg_law_history.proofs.Members.{Has, and_both, both_and, lt_of, same_number, number_same, contrary, has_image, has_either, has_left, has_right}
 use Rattle.tg_law_replies.proofs.Books.{mark}
 use Rattle.tg_law_books.specs.Ended.{work_ends, handed_ends, packet_ends, ended_in}
-use Rattle.tg_law_books.proofs.Effects.{IsEnd, Suits}
+use Rattle.tg_law_books.proofs.Effects.{Suits}
 use Rattle.tg_law_books.proofs.Commands.{Turned, Idles, Takes as Taken, taken_by, ended_by, Delivered, delivered, commanding}
-use Rattle.tg_law_books.proofs.Turns.{no_some, same_some, BookOf, AskedAt, tells_on, DraftOf, draft_more, with_notes, turned}
+use Rattle.tg_law_books.proofs.Turns.{no_some, same_some, BookOf, tells_on, DraftOf, draft_more, turned}
 use Rattle.tg_law_books.proofs.Closing.{Only, Held, None', NotFull, only_turned, held_turned, begun_turned, came, Came, Waited, Given, Ends'}
 
 -- Lists.

@@ -8,7 +8,7 @@ use Rattle.tg_model.specs.Kinds.{EventOf}
 use Rattle.tg_protocol.specs.Words.{node_eq, layout_id, client_id}
 use Rattle.tg_protocol.specs.Requests.{awaits, Next, Goes, Learns, Ends}
 use Rattle.tg_protocol.specs.Replies.{Reply, IsLatest, reply}
-use Rattle.tg_protocol.specs.Appending.{Append, AppendEnd, append_feed, append_again}
+use Rattle.tg_protocol.specs.Appending.{AppendEnd, append_feed, append_again}
 use Rattle.tg_protocol.specs.Clients.{Task, Appending, Hand, Doing, Learning, Work, Client}
 use Rattle.tg_protocol.specs.ClientSteps.{task_awaited, task_in, stands}
 use Rattle.tg_protocol.specs.Worlds.{World, client, runs}

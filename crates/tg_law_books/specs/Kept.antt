@@ -1,5 +1,5 @@
 -- What the log that a run comes to has of its clients' records.
-use Rattle.std.specs.Prelude.{◌≡◌, ℕ, ◌≤◌, true, List, ◌∷◌, ◌++◌, Some, Contains}
+use Rattle.std.specs.Prelude.{◌≡◌, ℕ, ◌≤◌, true, List, ◌++◌, Some, Contains}
 use Rattle.tg_base.specs.Clusters.{Header}
 use Rattle.tg_base.specs.declared.ids.Oid.{Oid}
 use Rattle.tg_base.specs.declared.marks.StreamLink.{StreamLink}
@@ -9,13 +9,12 @@ use Rattle.tg_model.specs.declared.command.Command.TheVariants as cmd
 use Rattle.tg_model.specs.declared.command.Event.TheVariants.{Command as Commands}
 use Rattle.tg_model.specs.declared.refusal.Refusal.TheVariants as cause
 use Rattle.tg_model.specs.declared.trace.What.TheVariants as told
-use Rattle.tg_model.specs.Kinds.{EventOf, MarkOf}
+use Rattle.tg_model.specs.Kinds.{MarkOf}
 use Rattle.tg_model.specs.Traces.{Trace, Tells}
 use Rattle.tg_protocol.specs.Words.{directory}
 use Rattle.tg_protocol.specs.Entries.{is_commit, linked}
 use Rattle.tg_protocol.specs.Appending.{Append, AppendEnd, At, Full, Forgotten}
 use Rattle.tg_protocol.specs.Views.{Entries}
-use Rattle.tg_protocol.specs.Clients.{Task, Appending}
 use Rattle.tg_protocol.specs.Worlds.{World, start, client, trace}
 use Rattle.tg_protocol.specs.Runs.{Moves, Takes, run}
 use Rattle.tg_protocol.specs.Holding.{append_by}
