@@ -1,0 +1,12 @@
+pub mod Effects
+pub mod Commands
+pub mod Tales
+pub mod Turns
+pub mod Closing
+pub mod Worlds
+pub mod Sealed
+pub mod Booked
+pub mod Known
+pub mod Told
+pub mod Landed
+pub mod Whose

@@ -1,0 +1,59 @@
+-- What the log that a run comes to has of its clients' records.
+use Rattle.std.specs.Prelude.{◌≡◌, ℕ, ◌≤◌, true, List, ◌++◌, Some, Contains}
+use Rattle.tg_base.specs.Clusters.{Header}
+use Rattle.tg_base.specs.declared.ids.Oid.{Oid}
+use Rattle.tg_base.specs.declared.marks.StreamLink.{StreamLink}
+use Rattle.tg_entry.specs.declared.entry.Entry.{Entry}
+use Rattle.tg_kind.specs.Meaning.{Meaning}
+use Rattle.tg_model.specs.declared.command.Command.TheVariants as cmd
+use Rattle.tg_model.specs.declared.command.Event.TheVariants.{Command as Commands}
+use Rattle.tg_model.specs.declared.refusal.Refusal.TheVariants as cause
+use Rattle.tg_model.specs.declared.trace.What.TheVariants as told
+use Rattle.tg_model.specs.Kinds.{MarkOf}
+use Rattle.tg_model.specs.Traces.{Trace, Tells}
+use Rattle.tg_protocol.specs.Words.{directory}
+use Rattle.tg_protocol.specs.Entries.{is_commit, linked}
+use Rattle.tg_protocol.specs.Appending.{Append, AppendEnd, At, Full, Forgotten}
+use Rattle.tg_protocol.specs.Views.{Entries}
+use Rattle.tg_protocol.specs.Worlds.{World, start, client, trace}
+use Rattle.tg_protocol.specs.Runs.{Moves, Takes, run}
+use Rattle.tg_protocol.specs.Holding.{append_by}
+use Rattle.tg_law_history.specs.Worlds.{entries_in}
+use Rattle.tg_law_replies.specs.Told.{HasRecordOf}
+use Rattle.tg_law_replies.specs.Runs.{InEachStep}
+use Rattle.tg_law_books.specs.Ended.{ended_in}
+
+module _ (m : Meaning) where
+  -- An entry is what its client had in hand in a world of the run, for an append that wasn't refused afterwards for want of room.
+  pub record WasLeft (h : Header) (ms : Moves m) (w : World m) (e : Entry) : Type 0 where
+    pub before : Moves m
+    pub after : Moves m
+    pub split : ms ≡ before ++ after
+    pub append : Append
+    pub begun : append_by m (client m (run m before (start m h)) e.head.client).work ≡ Some append
+    pub draft : e ≡ linked append.draft e.head.streams
+    pub since : Trace m
+    pub traced : trace m w ≡ trace m (run m before (start m h)) ++ since
+    pub stays : (u : MarkOf m) (limit : ℕ) → Contains since u → u.client ≡ e.head.client → u.tx ≡ e.head.number → u.what ≡ told.Refused (cause.LogFull limit) → ⊥
+
+  -- each commit record of the log is so
+  abbrev pub RecordsLeft : Header → Moves m → World m → Type 0
+  RecordsLeft h ms w = (p : ℕ) (e : Entry) → Contains (entries_in m w) (p, e) → is_commit e ≡ true → WasLeft h ms w e
+
+  -- a transaction's record stands at or past where it asked
+  abbrev pub AsksPrecede : World m → Type 0
+  AsksPrecede w = (k x p s : ℕ) (o : Oid) (q : m.ask) (a : m.answer) → Tells m (trace m w) k x (told.Asked o q s a) → HasRecordOf (entries_in m w) p k x → s ≤ p
+
+  -- An append that has ended stands where it says, with the links that were issued to it; a record that it forgot stands nowhere else.
+  abbrev pub EndsSo : Entries → Entry → AppendEnd → Type 0
+  EndsSo es d (At p page) = (links : List StreamLink) × Contains es (p, linked d links)
+  EndsSo es d (Forgotten p below) = (q : ℕ) (e : Entry) → Contains es (q, e) → is_commit d ≡ true → is_commit e ≡ true → e.head.client ≡ d.head.client → e.head.number ≡ d.head.number → q ≡ p
+  EndsSo es d (Full limit) = Unit {0}
+
+  -- so does each append that ends in a step of the run
+  abbrev pub AppendsEnd : Header → Moves m → World m → Type 0
+  AppendsEnd h ms w = InEachStep m h ms (λ before v e. (k : ℕ) (a : Append) (x : AppendEnd) → append_by m (client m v k).work ≡ Some a → ended_in m v e k ≡ Some x → EndsSo (entries_in m w) a.draft x)
+
+  -- the op of each mark that was asked for is read as it was spelled
+  abbrev pub MarksSpelled : Moves m → Type 0
+  MarksSpelled ms = (k n : ℕ) (o : Oid) → Contains ms (Takes (Commands k (cmd.Forget o n))) → m.read directory (m.spell (m.mark_op o n)) ≡ Some (m.mark_op o n)

@@ -1,0 +1,29 @@
+//! What holds of the transactions of every run.
+
+ghost use Rattle.tg_kind.specs.Of.{meaning_of};
+ghost use Rattle.tg_law_books.specs.Laws.{BooksAreKept, RecordsAreKnown, RepliesAreKnown};
+
+use tg_kind::Registry;
+
+/// Each step of a run keeps the books of transactions: what a client closes is the log's record of it, if there is one,
+/// and what it begins is new. From three premises on the log: each of its commit records was begun by its client, in an
+/// append that wasn't refused afterwards for want of room; it stands at or past where its transaction asked; and the
+/// marks that were asked for are spelled.
+pub fn books_are_kept<K: Registry>()
+    ensures { BooksAreKept (meaning_of K.Registry) }
+{}
+
+/// The log has one record at most of each transaction, with a number that its client has begun; that of a transaction
+/// that is still open is the record of it as it stands, and was ended. No reply speaks of a transaction that its client
+/// hasn't begun. From the first two of these premises, and that no two entries of a kind have one client and number.
+pub fn records_are_known<K: Registry>()
+    ensures { RecordsAreKnown (meaning_of K.Registry) }
+{}
+
+/// A transaction that was aborted, or whose outcome is unsure, has its record where the reply says; one that was
+/// forgotten has none elsewhere, and one that was dropped has none. One that committed has its record where the reply
+/// says, or an ask of it was answered there, or the reply says 0. From those two premises, and that an append which
+/// ends stands where it says, or, forgotten, nowhere else.
+pub fn replies_are_known<K: Registry>()
+    ensures { RepliesAreKnown (meaning_of K.Registry) }
+{}

@@ -1,0 +1,7 @@
+//! Books of transactions: what each step of a client makes of its transaction, and whose each record of the log is. Laws
+//! over the definitions of `tg_protocol`, for the kinds of any implementation.
+#![tactic(auto)]
+
+mod laws;
+
+pub use laws::{books_are_kept, records_are_known, replies_are_known};
