@@ -51,6 +51,6 @@ pub record RepliesKnown (m : Meaning) (w : World m) : Type 0 where
   pub dropped : (k x q : ℕ) → Tells m (trace m w) k x told.Dropped → HasRecordOf (entries_in m w) q k x → ⊥
 
 -- A transaction that was aborted, or whose outcome is unsure, has its record where the reply says; one that was forgotten has none elsewhere; one that was dropped has none.
--- One that committed has its record there, or wrote nothing: then it stands at its snapshot, or at 0.
+-- One that committed has its record there, or an ask of it was answered there, or the reply says 0.
 abbrev pub RepliesAreKnown : Meaning → Type 0
 RepliesAreKnown m = (h : Header) (ms : Moves m) (w : World m) → Reaches m h ms w → RecordsLeft m h ms w → AsksPrecede m w → AppendsEnd m h ms w → RepliesKnown m w
