@@ -71,28 +71,28 @@ w1 = happens tallies w0 (Commands 0 cmd.Begin)
 abbrev w2 : World tallies
 w2 = happens tallies w1 (Commands 0 (cmd.Put tally 5))
 
-abbrev w3 : World tallies
+abbrev pub w3 : World tallies
 w3 = happens tallies w2 (Commands 0 cmd.End)
 
-abbrev w4 : World tallies
+abbrev pub w4 : World tallies
 w4 = happens tallies w3 (Deliver 0)
 
-abbrev w5 : World tallies
+abbrev pub w5 : World tallies
 w5 = happens tallies w4 (Deliver 1)
 
-abbrev w6 : World tallies
+abbrev pub w6 : World tallies
 w6 = happens tallies w5 (Deliver 2)
 
-abbrev ended : World tallies
+abbrev pub ended : World tallies
 ended = run tallies adds (start tallies with_tally)
 
-abbrev es : Entries
+abbrev pub es : Entries
 es = entries_in tallies ended
 
-abbrev write : WriteOp
+abbrev pub write : WriteOp
 write = record { oid = tally; op = 5 ∷ [] }
 
-abbrev entry_made : Entry
+abbrev pub entry_made : Entry
 entry_made = record { head = record { format = 2; client = 0; number = 1; streams = record { oid = tally; backs = [] } ∷ [] }; body = Commit [] (write ∷ []) }
 
 abbrev entries_made : Entries
@@ -102,26 +102,26 @@ only_entry : entries_in tallies ended ≡ entries_made
 unfolding run u8_at u16_at u32_at u64_at raw_at fixed_at read_many spell_many fit_many marks reads writes keys new_fields old_fields body entry role_code node_eq bytes_eq bytes_lt part_eq part_lt cell_eq chain_of units_of next_of change_fault new_unit unit_ask first_missing on_ask unit_step new_layout layout_ask on_layout_ask layout_step reply work_asks put_cell get_cell fill_cell probe work_feed cell_feed entry_size needs_decision page_of entry_of new_seqr seqr_step seqr_tick append_work_asks append_start append_feed append_again sync_work_asks sync_start sync_feed walk_on walk_start walk_feed no_versions based version_of with_change parts_of decision_in view_start view_version view_parts unknown_in changed_in verdict view_outcome step_at play_on play read_fault write_fault commit_record open_decision checkpoint bases_in load_from view_base view_bases may_forget commit_at past_at rescue_turn trim_start trim_feed copy_work_asks copy_start copy_feed reconf_work_asks reconf_start reconf_feed reconf_latest new_client entries_at copy_fault tests refusal appends syncs walked task_asks client_asks walks task_feed task_again accepts client_command client_deliver client_tick fields_size decided newest log_of entries_of members path_on path changes_below version outcome history_of start latest log history unit_moves layout_moves seqr_moves client_turned happens limit_of drain_on drain tick_all rounds settle line lines
 only_entry = refl
 
-abbrev mark_of_tx : ℕ → WhatOf tallies → MarkOf tallies
+abbrev pub mark_of_tx : ℕ → WhatOf tallies → MarkOf tallies
 mark_of_tx n what = record { event = n; client = 0; tx = 1; what = what }
 
-abbrev marks_made : List (MarkOf tallies)
+abbrev pub marks_made : List (MarkOf tallies)
 marks_made = mark_of_tx 0 told.Begin ∷ mark_of_tx 0 (told.Put tally 5) ∷ mark_of_tx 0 told.End ∷ mark_of_tx 0 (told.Committed 0) ∷ []
 
-only_marks : trace tallies ended ≡ marks_made
+pub only_marks : trace tallies ended ≡ marks_made
 unfolding run u8_at u16_at u32_at u64_at raw_at fixed_at read_many spell_many fit_many marks reads writes keys new_fields old_fields body entry role_code node_eq bytes_eq bytes_lt part_eq part_lt cell_eq chain_of units_of next_of change_fault new_unit unit_ask first_missing on_ask unit_step new_layout layout_ask on_layout_ask layout_step reply work_asks put_cell get_cell fill_cell probe work_feed cell_feed entry_size needs_decision page_of entry_of new_seqr seqr_step seqr_tick append_work_asks append_start append_feed append_again sync_work_asks sync_start sync_feed walk_on walk_start walk_feed no_versions based version_of with_change parts_of decision_in view_start view_version view_parts unknown_in changed_in verdict view_outcome step_at play_on play read_fault write_fault commit_record open_decision checkpoint bases_in load_from view_base view_bases may_forget commit_at past_at rescue_turn trim_start trim_feed copy_work_asks copy_start copy_feed reconf_work_asks reconf_start reconf_feed reconf_latest new_client entries_at copy_fault tests refusal appends syncs walked task_asks client_asks walks task_feed task_again accepts client_command client_deliver client_tick fields_size decided newest log_of entries_of members path_on path changes_below version outcome history_of start latest log history unit_moves layout_moves seqr_moves client_turned happens limit_of drain_on drain tick_all rounds settle line lines
 only_marks = refl
 
 -- The entry.
 
-is_entry : (p : ℕ) (e : Entry) → Contains es (p, e) → (p ≡ 0) × (e ≡ entry_made)
+pub is_entry : (p : ℕ) (e : Entry) → Contains es (p, e) → (p ≡ 0) × (e ≡ entry_made)
 is_entry p e i = by (has_contained entries_made (p, e) (subst (λ (xs : Entries). Contains xs (p, e)) only_entry i))
   where
     by : Has entries_made (p, e) → (p ≡ 0) × (e ≡ entry_made)
     by (inl k) = (ap (λ (x : ℕ × Entry). x.0) k, ap (λ (x : ℕ × Entry). x.1) k)
     by (inr k) = absurd k
 
-here : Contains es (0, entry_made)
+pub here : Contains es (0, entry_made)
 here = subst (λ (xs : Entries). Contains xs (0, entry_made)) (sym only_entry) (contained_has entries_made (0, entry_made) (inl refl))
 
 is_write : (w : WriteOp) → Contains (writes_of entry_made) w → w ≡ write
@@ -256,7 +256,7 @@ marks_before = mark_of_tx 0 told.Begin ∷ mark_of_tx 0 (told.Put tally 5) ∷ m
 no_snapshot : (s : ℕ) → None ≡ Some s → ⊥
 no_snapshot s e = cc
 
-abbrev tx_made : Tx
+abbrev pub tx_made : Tx
 tx_made = record { number = 1; snapshot = None; reads = []; writes = write ∷ [] }
 
 sealed_now : IsSealed tallies es marks_before 0 tx_made
@@ -302,14 +302,14 @@ tx_none zero = refl
 tx_none (suc k) = refl
 
 -- which replies were made
-abbrev Made : WhatOf tallies → Type 0
+abbrev pub Made : WhatOf tallies → Type 0
 Made told.Begin = Unit {0}
 Made (told.Put o op) = Unit {0}
 Made told.End = Unit {0}
 Made (told.Committed p) = p ≡ 0
 Made what = ⊥
 
-is_made : (k x : ℕ) (what : WhatOf tallies) → Tells tallies (trace tallies ended) k x what → Made what × (k ≡ 0) × (x ≡ 1)
+pub is_made : (k x : ℕ) (what : WhatOf tallies) → Tells tallies (trace tallies ended) k x what → Made what × (k ≡ 0) × (x ≡ 1)
 is_made k x what h =
     each_mark (λ (u : MarkOf tallies). Made u.what × (u.client ≡ 0) × (u.tx ≡ 1)) ((tt, refl, refl), (tt, refl, refl), (tt, refl, refl), (refl, refl, refl)) (record { event = h.event; client = k; tx = x; what = what }) h.here
 
@@ -392,7 +392,7 @@ of_run = record {
     low : 1 ≤ (client tallies ended 0).begun
     low = let e = begun_is in omega (arith, e)
 
-reached : Reaches tallies with_tally adds ended
+pub reached : Reaches tallies with_tally adds ended
 unfolding run u8_at u16_at u32_at u64_at raw_at fixed_at read_many spell_many fit_many marks reads writes keys new_fields old_fields body entry role_code node_eq bytes_eq bytes_lt part_eq part_lt cell_eq chain_of units_of next_of change_fault new_unit unit_ask first_missing on_ask unit_step new_layout layout_ask on_layout_ask layout_step reply work_asks put_cell get_cell fill_cell probe work_feed cell_feed entry_size needs_decision page_of entry_of new_seqr seqr_step seqr_tick append_work_asks append_start append_feed append_again sync_work_asks sync_start sync_feed walk_on walk_start walk_feed no_versions based version_of with_change parts_of decision_in view_start view_version view_parts unknown_in changed_in verdict view_outcome step_at play_on play read_fault write_fault commit_record open_decision checkpoint bases_in load_from view_base view_bases may_forget commit_at past_at rescue_turn trim_start trim_feed copy_work_asks copy_start copy_feed reconf_work_asks reconf_start reconf_feed reconf_latest new_client entries_at copy_fault tests refusal appends syncs walked task_asks client_asks walks task_feed task_again accepts client_command client_deliver client_tick fields_size decided newest log_of entries_of members path_on path changes_below version outcome history_of start latest log history unit_moves layout_moves seqr_moves client_turned happens limit_of drain_on drain tick_all rounds settle line lines
 reached = record {
   header = refl;

@@ -1,4 +1,5 @@
 pub mod Steps
 pub mod Past
 pub mod Commit
+pub mod Books
 pub mod Settling

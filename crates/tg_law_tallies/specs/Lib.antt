@@ -1,2 +1,3 @@
 pub mod Tallies
 pub mod Settled
+pub mod Books

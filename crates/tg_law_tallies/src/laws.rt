@@ -1,6 +1,7 @@
 //! Worked runs.
 
 ghost use Rattle.tg_law_tallies.specs.Settled.{AppendIsAnswered, AskIsAnswered};
+ghost use Rattle.tg_law_tallies.specs.Books.{CommitIsBooked};
 ghost use Rattle.tg_law_tallies.specs.Tallies.{PastIsTold, CommitIsTold};
 
 /// A run in which a client is told of the past is one for which `runs_tell_truth` asks no more than it has.
@@ -11,6 +12,11 @@ pub fn past_is_told()
 /// A run in which a transaction commits is one for which `runs_are_legal` asks no more than it has.
 pub fn commit_is_told()
     ensures { CommitIsTold }
+{}
+
+/// It is also one for which `books_are_kept`, `records_are_known` and `replies_are_known` ask no more than it has.
+pub fn commit_is_booked()
+    ensures { CommitIsBooked }
 {}
 
 /// A run in which a client's request for a token is lost is one for which `appends_are_answered` asks no more than it

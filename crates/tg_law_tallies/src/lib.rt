@@ -3,4 +3,6 @@
 
 mod laws;
 
-pub use laws::{append_is_answered, ask_is_answered, commit_is_told, past_is_told};
+pub use laws::{
+    append_is_answered, ask_is_answered, commit_is_booked, commit_is_told, past_is_told,
+};
