@@ -28,7 +28,7 @@ ghost use Rattle.tg_audit.specs.declared.verdict.Verdict.TheVariants as verdict;
 ghost use Rattle.tg_audit_run.specs.Verdicts.{judged, status_of};
 ghost use Rattle.tg_audit_run.specs.Outcomes as verdicts;
 ghost use Rattle.tg_audit_run.specs.Outcomes.{IsToldOf, IsRefused, IsSilent, IsOfJudge};
-ghost use Rattle.tango.specs.Forms.{is_over_link};
+ghost use Rattle.tango.specs.Forms.{is_over_link, is_reading};
 ghost use Rattle.tango.specs.Lawful.{IsLegalText, IsIllegalText};
 
 use std::alloc::Global;
@@ -141,6 +141,8 @@ pub fn tango<S: Source, K: Sink, L: Link>(
     ensures link { StaysSure (L.sure link.old) (L.sure link.new) (L.faults link.old) (L.faults link.new) }
     // The other forms leave the link alone, and so do words that are none.
     ensures alone { is_over_link (form_of (map string_bytes words.now)) ≡ false → link.new ≡ link.old }
+    // A load is made and reads nothing, and so do words that are no form.
+    ensures unread { is_reading (form_of (map string_bytes words.now)) ≡ false → source.new ≡ source.old }
 {
     match read_form(alloc, words) {
         Ok(Some(Form::Replay)) => replay(alloc, source, sink),
