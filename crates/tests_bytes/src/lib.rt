@@ -8,11 +8,7 @@ mod codec;
 #[cfg(test)]
 mod entry;
 #[cfg(test)]
-mod fields;
-#[cfg(test)]
 mod mail;
-#[cfg(test)]
-mod matching;
 #[cfg(test)]
 mod outside;
 #[cfg(test)]

@@ -197,11 +197,14 @@ rest_log = (_, _, refl, refl)
 
 later_rest : Later tallies (run tallies half_trimmed (start tallies two_units)) (run tallies rest (run tallies half_trimmed (start tallies two_units)))
 unfolding LawfulAll
-later_rest = (rest, record {
-  lawful = λ z i. subst (λ (h : Header). LawfulMove tallies h z) (sym (has_header tallies two_units half_trimmed)) (rest_lawful z (has_contained rest z i));
-  is = refl;
-  few = (let n = rest_few in omega (arith, n));
-})
+later_rest = (
+  rest,
+  record {
+    lawful = λ z i. subst (λ (h : Header). LawfulMove tallies h z) (sym (has_header tallies two_units half_trimmed)) (rest_lawful z (has_contained rest z i));
+    is = refl;
+    few = (let n = rest_few in omega (arith, n));
+  },
+)
 
 pub cells_want_safe_trims : CellsWantSafeTrims
 unfolding start
