@@ -1,5 +1,5 @@
 -- What the forms use: the link, and the source.
-use Rattle.std.specs.Prelude.{Bool, true, false, Option, Some}
+use Rattle.std.specs.Prelude.{Bool, true, false, Option, Some, None}
 use Rattle.tango_words.specs.declared.forms.Form.{Form}
 use Rattle.tango_words.specs.declared.forms.Form.TheVariants.{Live, Node, Bench}
 
