@@ -1,16 +1,19 @@
 -- Runs of a cluster: the worlds that lawful events make.
-use Rattle.std.specs.Prelude.{◌≡◌, ℕ, ◌*◌, ◌<◌, ◌≤◌, ◌++◌, true, List, [], ◌∷◌, Some, Contains}
+use Rattle.std.specs.Prelude.{◌≡◌, ℕ, ◌*◌, ◌<◌, ◌≤◌, ◌++◌, true, List, [], ◌∷◌, length, Some, Contains}
 use Rattle.tg_base.specs.Changes.{IsChange}
 use Rattle.tg_base.specs.Clusters.{Header, IsHeader}
 use Rattle.tg_base.specs.declared.ids.NodeId.{NodeId}
 use Rattle.tg_base.specs.declared.ids.Role.{Role}
 use Rattle.tg_base.specs.declared.ids.Role.TheVariants as role
+use Rattle.tg_base.specs.declared.ids.Oid.{Oid}
+use Rattle.tg_base.specs.Units.{is_within}
+use Rattle.tg_entry.specs.Records.{is_object}
 use Rattle.tg_kind.specs.Meaning.{Meaning}
 use Rattle.tg_kind.specs.Parts.{is_part}
 use Rattle.tg_model.specs.declared.command.Command.TheVariants as cmd
 use Rattle.tg_model.specs.declared.command.Event.TheVariants.{Command as Commands, Deliver, Lose, Tick, Stop}
 use Rattle.tg_model.specs.Kinds.{CommandOf, EventOf}
-use Rattle.tg_protocol.specs.Words.{client_id}
+use Rattle.tg_protocol.specs.Words.{client_id, directory}
 use Rattle.tg_protocol.specs.Worlds.{World, start, happens, next_event}
 
 -- how many nodes of a role a header declares
@@ -28,13 +31,23 @@ abbrev pub most_steps : ℕ
 most_steps = 119 * 200000
 
 module _ (m : Meaning) where
-  -- Lawful events: their nodes are declared. An op that its object allows has a spelling, what an ask looks at has
-  -- one too, and a change keeps the rules of layouts.
+  -- Lawful events: their nodes are declared, and they name objects by numbers that a page has room for. An op that its
+  -- object allows has a spelling, and so has the directory's op that marks an object; what an ask looks at has one too,
+  -- and a change keeps the rules of layouts.
+
+  -- an op's bytes, 1 to 4,096 of them, are read back as the op
+  pub record IsSpelled (o : Oid) (op : m.op) : Type 0 where
+    pub read : m.read o (m.spell op) ≡ Some op
+    pub fits : is_within 1 4096 (length (m.spell op)) ≡ true
 
   abbrev pub LawfulCommand : CommandOf m → Type 0
-  LawfulCommand (cmd.Put o op) = m.allows o op ≡ true → m.read o (m.spell op) ≡ Some op
-  LawfulCommand (cmd.Ask o q) = is_part (m.look q) ≡ true
+  LawfulCommand (cmd.Host o) = is_object o ≡ true
+  LawfulCommand (cmd.Put o op) = (is_object o ≡ true) × (m.allows o op ≡ true → IsSpelled o op)
+  LawfulCommand (cmd.Ask o q) = (is_object o ≡ true) × (is_part (m.look q) ≡ true)
+  LawfulCommand (cmd.Checkpoint o) = is_object o ≡ true
+  LawfulCommand (cmd.Forget o mark) = (is_object o ≡ true) × IsSpelled directory (m.mark_op o mark)
   LawfulCommand (cmd.Reconf c) = IsChange c
+  LawfulCommand (cmd.AskAt at o q) = is_object o ≡ true
   LawfulCommand x = Unit {0}
 
   abbrev pub LawfulEvent : Header → EventOf m → Type 0
