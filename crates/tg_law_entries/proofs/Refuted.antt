@@ -38,29 +38,26 @@ use Rattle.tg_base.specs.declared.cell.Cell.TheVariants.{Data}
 use Rattle.tg_base.specs.declared.ids.Oid.{Oid}
 use Rattle.tg_entry.specs.declared.entry.Body.TheVariants.{Commit}
 use Rattle.tg_entry.specs.declared.entry.Entry.{Entry}
-use Rattle.tg_base.specs.declared.msg.Msg.{Msg}
-use Rattle.tg_base.specs.declared.msg.Msg.TheVariants as msg
 use Rattle.tg_base.specs.declared.packet.Packet.{Packet}
 use Rattle.tg_model.specs.declared.command.Command.TheVariants as cmd
 use Rattle.tg_model.specs.declared.command.Event.TheVariants.{Command as Commands, Deliver, Lose, Tick}
 use Rattle.tg_protocol.specs.Worlds.{World, start, latest, log, history, unit_moves, layout_moves, seqr_moves, client_turned, happens, limit_of, drain_on, drain, tick_all, rounds, settle, line, lines, lowest, next_event}
 use Rattle.tg_protocol.specs.Runs.{Move, Moves, Takes, LawfulMove, Reaches, Later, run}
-use Rattle.tg_protocol.specs.Holding.{IssuedTo}
 use Rattle.tg_law_layouts.proofs.Layouts.{has_header}
 use Rattle.tg_law_moves.proofs.Lists.{contained}
 use Rattle.tg_law_moves.proofs.Members.{Has, has_contained, passes_somewhere}
 use Rattle.tg_law_entries.specs.Worked.{tallies, two_units, drained}
-use Rattle.tg_law_entries.specs.Refuted.{far_object, put_far, LinksWantObjects, floor_two, half_written, until_trimmed, half_trimmed, then_drains, rest, CellsWantSafeTrims}
+use Rattle.tg_law_entries.specs.Refuted.{floor_two, half_written, until_trimmed, half_trimmed, then_drains, rest, CellsWantSafeTrims}
 use Rattle.tg_law_entries.proofs.Worked.{LawfulAll, lawful_both, is_lawful, lawful_none, all_drained, and_lawful}
 
 -- Lawful moves.
 
-lawful_put : (k : ℕ) (o : Oid) (n : ℕ) → k < 3 → LawfulAll (Takes (Commands k cmd.Begin) ∷ Takes (Commands k (cmd.Put o n)) ∷ Takes (Commands k cmd.End) ∷ [])
+lawful_put : (k n : ℕ) → k < 3 → LawfulAll (Takes (Commands k cmd.Begin) ∷ Takes (Commands k (cmd.Put directory n)) ∷ Takes (Commands k cmd.End) ∷ [])
 unfolding LawfulAll
-lawful_put k o n l x (inl e) = is_lawful x _ e (l, tt)
-lawful_put k o n l x (inr (inl e)) = is_lawful x _ e (l, λ allowed. refl)
-lawful_put k o n l x (inr (inr (inl e))) = is_lawful x _ e (l, tt)
-lawful_put k o n l x (inr (inr (inr i))) = absurd i
+lawful_put k n l x (inl e) = is_lawful x _ e (l, tt)
+lawful_put k n l x (inr (inl e)) = is_lawful x _ e (l, (refl, λ allowed. record { read = refl; fits = refl }))
+lawful_put k n l x (inr (inr (inl e))) = is_lawful x _ e (l, tt)
+lawful_put k n l x (inr (inr (inr i))) = absurd i
 
 lawful_reconf : LawfulAll (Takes (Commands 2 (cmd.Reconf (record { seq = 1; drop = 0 ∷ []; opened = []; join = None }))) ∷ [])
 unfolding LawfulAll
@@ -112,52 +109,18 @@ reaches : (ms : Moves tallies) → LawfulAll ms → (run tallies ms (start talli
 unfolding LawfulAll start
 reaches ms f few = record { header = refl; goes = record { lawful = λ x i. f x (has_contained ms x i); is = refl; few = omega (arith, few) } }
 
--- An entry of an object whose number has no spelling.
-
-far_lawful : LawfulAll put_far
-far_lawful = and_lawful [] _ lawful_none (lawful_put 0 far_object 1 (omega arith))
-
-read_entry : Entry
-read_entry = record { head = record { format = 2; client = 0; number = 1; streams = record { oid = record { 0 = 0 }; backs = [] } ∷ [] }; body = Commit [] (record { oid = record { 0 = 0 }; op = 1 ∷ [] } ∷ []) }
-
--- the links of the directory alone, without positions, were issued
-issues_directory : Msg → Bool
-issues_directory (msg.Issued p (l ∷ [])) = l.oid.0 == 0
-issues_directory x = false
-
-far_few : (run tallies put_far (start tallies two_units)).steps ≤ 1000
-unfolding run drained until_trimmed u8_at u16_at u32_at u64_at raw_at fixed_at read_many spell_many fit_many marks reads writes keys new_fields old_fields body entry role_code node_eq bytes_eq bytes_lt part_eq part_lt cell_eq chain_of units_of next_of change_fault new_unit unit_ask first_missing on_ask unit_step new_layout layout_ask on_layout_ask layout_step reply work_asks put_cell get_cell fill_cell probe work_feed cell_feed entry_size needs_decision page_of entry_of new_seqr seqr_step seqr_tick append_work_asks append_start append_feed append_again sync_work_asks sync_start sync_feed walk_on walk_start walk_feed no_versions based version_of with_change parts_of decision_in view_start view_version view_parts unknown_in changed_in verdict view_outcome step_at play_on play read_fault write_fault commit_record open_decision checkpoint bases_in load_from view_base view_bases may_forget commit_at past_at rescue_turn trim_start trim_feed copy_work_asks copy_start copy_feed reconf_work_asks reconf_start reconf_feed reconf_latest new_client entries_at copy_fault tests refusal appends syncs walked task_asks client_asks walks task_feed task_again accepts client_command client_deliver client_tick fields_size decided newest log_of entries_of members path_on path changes_below version outcome history_of start latest log history unit_moves layout_moves seqr_moves client_turned happens limit_of drain_on drain tick_all rounds settle line lines
-far_few = omega arith
-
-far_entry : entries_of (log tallies (run tallies put_far (start tallies two_units))) ≡ (0, read_entry) ∷ []
-unfolding run drained until_trimmed u8_at u16_at u32_at u64_at raw_at fixed_at read_many spell_many fit_many marks reads writes keys new_fields old_fields body entry role_code node_eq bytes_eq bytes_lt part_eq part_lt cell_eq chain_of units_of next_of change_fault new_unit unit_ask first_missing on_ask unit_step new_layout layout_ask on_layout_ask layout_step reply work_asks put_cell get_cell fill_cell probe work_feed cell_feed entry_size needs_decision page_of entry_of new_seqr seqr_step seqr_tick append_work_asks append_start append_feed append_again sync_work_asks sync_start sync_feed walk_on walk_start walk_feed no_versions based version_of with_change parts_of decision_in view_start view_version view_parts unknown_in changed_in verdict view_outcome step_at play_on play read_fault write_fault commit_record open_decision checkpoint bases_in load_from view_base view_bases may_forget commit_at past_at rescue_turn trim_start trim_feed copy_work_asks copy_start copy_feed reconf_work_asks reconf_start reconf_feed reconf_latest new_client entries_at copy_fault tests refusal appends syncs walked task_asks client_asks walks task_feed task_again accepts client_command client_deliver client_tick fields_size decided newest log_of entries_of members path_on path changes_below version outcome history_of start latest log history unit_moves layout_moves seqr_moves client_turned happens limit_of drain_on drain tick_all rounds settle line lines read_entry
-far_entry = refl
-
-far_issued : list_any (λ (p : Packet). issues_directory p.msg) (run tallies put_far (start tallies two_units)).packets ≡ false
-unfolding run drained until_trimmed u8_at u16_at u32_at u64_at raw_at fixed_at read_many spell_many fit_many marks reads writes keys new_fields old_fields body entry role_code node_eq bytes_eq bytes_lt part_eq part_lt cell_eq chain_of units_of next_of change_fault new_unit unit_ask first_missing on_ask unit_step new_layout layout_ask on_layout_ask layout_step reply work_asks put_cell get_cell fill_cell probe work_feed cell_feed entry_size needs_decision page_of entry_of new_seqr seqr_step seqr_tick append_work_asks append_start append_feed append_again sync_work_asks sync_start sync_feed walk_on walk_start walk_feed no_versions based version_of with_change parts_of decision_in view_start view_version view_parts unknown_in changed_in verdict view_outcome step_at play_on play read_fault write_fault commit_record open_decision checkpoint bases_in load_from view_base view_bases may_forget commit_at past_at rescue_turn trim_start trim_feed copy_work_asks copy_start copy_feed reconf_work_asks reconf_start reconf_feed reconf_latest new_client entries_at copy_fault tests refusal appends syncs walked task_asks client_asks walks task_feed task_again accepts client_command client_deliver client_tick fields_size decided newest log_of entries_of members path_on path changes_below version outcome history_of start latest log history unit_moves layout_moves seqr_moves client_turned happens limit_of drain_on drain tick_all rounds settle line lines issues_directory
-far_issued = refl
+-- A cell that only a dropped unit had.
 
 not_both : (b : Bool) → b ≡ true → b ≡ false → ⊥
 not_both b e f = cc
-
-pub links_want_objects : LinksWantObjects
-unfolding read_entry issues_directory
-links_want_objects f =
-    let w = run tallies put_far (start tallies two_units) in
-    let i : IssuedTo tallies (run tallies put_far (start tallies two_units)) 0 0 (record { oid = record { 0 = 0 }; backs = [] } ∷ []) =
-    f two_units put_far (run tallies put_far (start tallies two_units)) (reaches put_far far_lawful far_few) 0 read_entry
-    (subst (λ (es : List (ℕ × Entry)). Contains es (0, read_entry)) (sym far_entry) (contained ((0, read_entry) ∷ []) (0, read_entry) (inl refl))) in
-    not_both _ (passes_somewhere (λ (p : Packet). issues_directory p.msg) w.packets i.sent.packet (has_contained w.packets i.sent.packet i.sent.sent) (ap issues_directory i.sent.says)) far_issued
-
--- A cell that only a dropped unit had.
 
 half_lawful : LawfulAll half_trimmed
 half_lawful =
     lawful_both (half_written ++ until_trimmed 100 (run tallies half_written (start tallies two_units))) _
     (lawful_both half_written _
-    (lawful_both floor_two _ (and_lawful [] _ lawful_none (lawful_put 0 _ 2 (omega arith)))
+    (lawful_both floor_two _ (and_lawful [] _ lawful_none (lawful_put 0 2 (omega arith)))
     (lawful_both (Takes (Commands 0 cmd.Trim) ∷ Takes (Deliver 6) ∷ []) _ lawful_trim
-    (lawful_both (Takes (Commands 1 cmd.Begin) ∷ Takes (Commands 1 (cmd.Put _ 1)) ∷ Takes (Commands 1 cmd.End) ∷ []) _ (lawful_put 1 _ 1 (omega arith)) lawful_hands)))
+    (lawful_both (Takes (Commands 1 cmd.Begin) ∷ Takes (Commands 1 (cmd.Put _ 1)) ∷ Takes (Commands 1 cmd.End) ∷ []) _ (lawful_put 1 1 (omega arith)) lawful_hands)))
     (lawful_until 100 _)) (lawful_lost _)
 
 then_lawful : (ms more : Moves tallies) → LawfulAll more → LawfulAll (then_drains ms more)
@@ -165,7 +128,7 @@ then_lawful ms more f = lawful_both more _ f (all_drained 100 _)
 
 rest_lawful : LawfulAll rest
 rest_lawful =
-    lawful_both _ _ (lawful_both _ _ (then_lawful half_trimmed _ lawful_reconf) (then_lawful _ _ lawful_tick)) (then_lawful _ _ (lawful_put 2 _ 1 (omega arith)))
+    lawful_both _ _ (lawful_both _ _ (then_lawful half_trimmed _ lawful_reconf) (then_lawful _ _ lawful_tick)) (then_lawful _ _ (lawful_put 2 1 (omega arith)))
 
 half_few : (run tallies half_trimmed (start tallies two_units)).steps ≤ 1000
 unfolding run drained until_trimmed u8_at u16_at u32_at u64_at raw_at fixed_at read_many spell_many fit_many marks reads writes keys new_fields old_fields body entry role_code node_eq bytes_eq bytes_lt part_eq part_lt cell_eq chain_of units_of next_of change_fault new_unit unit_ask first_missing on_ask unit_step new_layout layout_ask on_layout_ask layout_step reply work_asks put_cell get_cell fill_cell probe work_feed cell_feed entry_size needs_decision page_of entry_of new_seqr seqr_step seqr_tick append_work_asks append_start append_feed append_again sync_work_asks sync_start sync_feed walk_on walk_start walk_feed no_versions based version_of with_change parts_of decision_in view_start view_version view_parts unknown_in changed_in verdict view_outcome step_at play_on play read_fault write_fault commit_record open_decision checkpoint bases_in load_from view_base view_bases may_forget commit_at past_at rescue_turn trim_start trim_feed copy_work_asks copy_start copy_feed reconf_work_asks reconf_start reconf_feed reconf_latest new_client entries_at copy_fault tests refusal appends syncs walked task_asks client_asks walks task_feed task_again accepts client_command client_deliver client_tick fields_size decided newest log_of entries_of members path_on path changes_below version outcome history_of start latest log history unit_moves layout_moves seqr_moves client_turned happens limit_of drain_on drain tick_all rounds settle line lines

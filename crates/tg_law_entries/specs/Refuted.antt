@@ -1,5 +1,5 @@
--- Runs over kinds that break what the kinds of this store keep: for each a claim on the log doesn't hold. So these
--- claims want a premise.
+-- A run over kinds that break what the kinds of this store keep, in which the log doesn't keep its cells: so that claim
+-- wants a premise.
 use Rattle.std.specs.Prelude.{ℕ, zero, suc, ◌^◌, ◌++◌, nat_lt, true, false, [], ◌∷◌, map, Some, None}
 use Rattle.tg_base.specs.declared.ids.Oid.{Oid}
 use Rattle.tg_model.specs.declared.command.Command.TheVariants as cmd
@@ -7,20 +7,8 @@ use Rattle.tg_model.specs.declared.command.Event.TheVariants.{Command as Command
 use Rattle.tg_protocol.specs.Words.{directory, client_id}
 use Rattle.tg_protocol.specs.Worlds.{World, start, unit, happens, lowest}
 use Rattle.tg_protocol.specs.Runs.{Moves, Takes, Always, EachLater, run}
-use Rattle.tg_protocol.specs.Holding.{LogStays, EntriesLinked}
+use Rattle.tg_protocol.specs.Holding.{LogStays}
 use Rattle.tg_law_entries.specs.Worked.{tallies, two_units, drained, and_drains}
-
--- An object whose number has no spelling.
-
-abbrev pub far_object : Oid
-far_object = record { 0 = 2 ^ 32 }
-
--- its entry is read as one of the directory
-abbrev pub put_far : Moves tallies
-put_far = and_drains [] (Takes (Commands 0 cmd.Begin) ∷ Takes (Commands 0 (cmd.Put far_object 1)) ∷ Takes (Commands 0 cmd.End) ∷ [])
-
-abbrev pub LinksWantObjects : Type 0
-LinksWantObjects = Always tallies (EntriesLinked tallies) → ⊥
 
 -- A floor past what is settled.
 

@@ -2,7 +2,7 @@
 
 ghost use Rattle.tg_kind.specs.Of.{meaning_of};
 ghost use Rattle.tg_law_entries.specs.Archive.{AlwaysBySafeTrims, EachLaterBySafeTrims, LogIsOne, LogIsSettled, TrimmedInLog};
-ghost use Rattle.tg_law_entries.specs.Refuted.{CellsWantSafeTrims, LinksWantObjects};
+ghost use Rattle.tg_law_entries.specs.Refuted.{CellsWantSafeTrims};
 ghost use Rattle.tg_law_entries.specs.Worked.{WorkedTrim};
 ghost use Rattle.tg_protocol.specs.Holding.{LogStays};
 
@@ -39,10 +39,4 @@ pub fn trim_is_safe()
 /// kinds that gives it.
 pub fn cells_want_safe_trims()
     ensures { CellsWantSafeTrims }
-{}
-
-/// Over kinds that let an object be written whose number has no spelling, an entry of the log isn't linked as it was
-/// issued.
-pub fn links_want_objects()
-    ensures { LinksWantObjects }
 {}

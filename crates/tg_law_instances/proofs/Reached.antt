@@ -103,7 +103,7 @@ are_lawful = (
   (
     (omega arith, tt),
     (
-      (omega arith, λ a. refl),
+      (omega arith, (refl, λ a. record { read = refl; fits = refl })),
       (
         (omega arith, tt),
         (
@@ -111,7 +111,7 @@ are_lawful = (
           (
             (omega arith, tt),
             (
-              (omega arith, λ a. refl),
+              (omega arith, (refl, λ a. record { read = refl; fits = refl })),
               (
                 (omega arith, tt),
                 (tt, (tt, (tt, (tt, (tt, (tt, (tt, (tt, (tt, (tt, (tt, (tt, (tt, (tt, (tt, (tt, tt)))))))))))))))),

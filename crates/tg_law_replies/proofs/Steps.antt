@@ -85,7 +85,7 @@ module _ (m : Meaning) where
 
   spelled_unless : (c : Client m) (x : CommandOf m) → LawfulCommand m x → refusal m c x ≡ None → IsSpelled x
   unfolding refusal tests
-  spelled_unless c (cmd.Put o op) lawful fine = lawful (no_cause (m.allows o op) (cause.WrongKind o) _ (past_first (no_tx m c) _ (past_first (busy m c.work) _ fine)))
+  spelled_unless c (cmd.Put o op) lawful fine = (lawful.1 (no_cause (m.allows o op) (cause.WrongKind o) _ (past_first (no_tx m c) _ (past_first (busy m c.work) _ fine)))).read
   spelled_unless c x lawful fine = tt
 
 module _ (m : Meaning) (objects : List Oid) (es : Entries) (rising : IsRising es) (listed : AreListed es) where

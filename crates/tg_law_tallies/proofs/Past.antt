@@ -191,7 +191,7 @@ reached = record {
 }
   where
     lawful : (x : Move tallies) → Has asks_past x → LawfulMove tallies one_of_each x
-    lawful x (inl e) = subst (λ (y : Move tallies). LawfulMove tallies one_of_each y) (sym e) (omega arith, tt)
+    lawful x (inl e) = subst (λ (y : Move tallies). LawfulMove tallies one_of_each y) (sym e) (omega arith, refl)
     lawful x (inr (inl e)) = subst (λ (y : Move tallies). LawfulMove tallies one_of_each y) (sym e) tt
     lawful x (inr (inr (inl e))) = subst (λ (y : Move tallies). LawfulMove tallies one_of_each y) (sym e) tt
     lawful x (inr (inr (inr (inl e)))) = subst (λ (y : Move tallies). LawfulMove tallies one_of_each y) (sym e) tt
