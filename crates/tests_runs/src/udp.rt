@@ -31,3 +31,26 @@ fn datagrams_come(rt: HostRuntime) -> Result<(), Fail> {
     assert!(rt; one.send(client, unit, b"datagram").is_err());
     Ok(())
 }
+
+#[test]
+fn a_link_of_all_nodes_hands_what_it_sent(rt: HostRuntime) -> Result<(), Fail> {
+    let alloc = rt.alloc();
+    let unit = NodeId {
+        role: Role::Unit,
+        num: 62,
+    };
+    let client = NodeId {
+        role: Role::Client,
+        num: 30,
+    };
+    let mut link = UdpLink::of_all(alloc, &rt);
+    let mut buf = [0; 8192];
+    assert_eq!(rt; link.recv(&mut buf), Ok(None));
+    assert_eq!(rt; link.send(unit, client, b"datagram"), Ok(()));
+    assert_eq!(rt; link.send(client, unit, b"answer"), Ok(()));
+    // the ports take turns, in the order in which they were bound
+    assert_eq!(rt; link.recv(&mut buf), Ok(Some((unit, 6))));
+    assert_eq!(rt; link.recv(&mut buf), Ok(Some((client, 8))));
+    assert_eq!(rt; link.recv(&mut buf), Ok(None));
+    Ok(())
+}
