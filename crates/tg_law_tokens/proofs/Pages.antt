@@ -41,7 +41,7 @@ use Rattle.tg_law_requests.proofs.Told.{Tells}
 use Rattle.tg_law_requests.proofs.Starts.{All}
 use Rattle.tg_law_cells.proofs.Justified.{heard, scan_told}
 use Rattle.tg_law_cells.proofs.Owned as stores
-use Rattle.tg_law_tokens.proofs.Owning.{NextOk, Pair, OwnCell}
+use Rattle.tg_law_tokens.proofs.Owning.{Nothing, NextOk, Pair, OwnCell}
 use Rattle.tg_law_tokens.proofs.Issues.{Issuing, token_asks}
 use Rattle.tg_law_tokens.proofs.Jobs.{JobOk, job_of, cell_ok, MaybeOk}
 use Rattle.tg_law_tokens.proofs.Hands as hands
@@ -148,9 +148,9 @@ module _ (m : Meaning) where
     ended_ok s (Fenced u e) k = tt
     ended_ok s e k = k
 
-    next_ok : (s : SeqrState) (j : CellJob) (to : Next CellJob CellEnd) → JobOk ps me s.proj j → MaybeOk ps me s.proj s.scan → NextOk ps me j.place to → MaybeOk ps me (scan_next s to).proj (scan_next s to).scan
-    next_ok s j (Goes x) o k h = job_of ps me s.proj j x o h
-    next_ok s j (Learns x) o k h = job_of ps me s.proj j x o h
+    next_ok : (s : SeqrState) (j : CellJob) (to : Next CellJob CellEnd) → JobOk ps Nothing s.proj j → MaybeOk ps me s.proj s.scan → NextOk ps Nothing j.place to → MaybeOk ps me (scan_next s to).proj (scan_next s to).scan
+    next_ok s j (Goes x) o k h = job_of ps Nothing s.proj j x o h
+    next_ok s j (Learns x) o k h = job_of ps Nothing s.proj j x o h
     next_ok s j (Ends e) o k h = ended_ok s e k
 
     scan_just : (s : SeqrState) → MaybeOk ps me s.proj s.scan → AllJust ps me (seqr_asks s)
@@ -167,9 +167,9 @@ module _ (m : Meaning) where
     scan_fed_fine : (s : SeqrState) (j : Option CellJob) (x : Packet) → s.scan ≡ j → MaybeOk ps me s.proj s.scan → HeardUnit ps me x.from x.rid x.msg (seqr_asks s) → ScanFine (scan_fed s j x.from x.rid x.msg)
     scan_fed_fine s None x e k g = record { ok = k; sends = none_just ps me }
     scan_fed_fine s (Some j) x e k g = fed_fine _ s (scan_turn s (cell_feed j x.from.num (reply x.msg) s.rids)) k (λ a.
-        let o : JobOk ps me s.proj j = subst (λ (i : Option CellJob). MaybeOk ps me s.proj i) e k in
+        let o : JobOk ps Nothing s.proj j = subst (λ (i : Option CellJob). MaybeOk ps me s.proj i) e k in
         next_ok (record s { rids = (cell_feed j x.from.num (reply x.msg) s.rids).next }) j (cell_feed j x.from.num (reply x.msg) s.rids).to o k
-        (cell_ok ps me s.proj j x.msg o (maybe_claims ps me x.from x.rid x.msg s.proj (Some j) a (subst (λ (i : Option CellJob). HeardUnit ps me x.from x.rid x.msg (scan_asks i)) e g)) x.from.num s.rids))
+        (cell_ok ps Nothing s.proj j x.msg o (maybe_claims ps me x.from x.rid x.msg s.proj (Some j) a (subst (λ (i : Option CellJob). HeardUnit ps me x.from x.rid x.msg (scan_asks i)) e g)) x.from.num s.rids))
 
     -- an answer changes nothing of the scan
     answer_fine : (s t : SeqrState) (to : NodeId) (rid : ℕ) (x : Msg) → t.proj ≡ s.proj → t.scan ≡ s.scan → Justified ps me to x → MaybeOk ps me s.proj s.scan → ScanFine (record { now = t; sends = record { to = to; rid = rid; msg = x } ∷ [] })
@@ -266,7 +266,7 @@ module _ (m : Meaning) where
   still : (c : Config m) (new : List Packet) → Pages c → ((x : Packet) → Has new x → Justified c.packets x.from x.to x.msg) → (d : Config m) → d.packets ≡ c.packets ++ new → d.clients ≡ c.clients → d.seqrs ≡ c.seqrs → d.cluster ≡ c.cluster → Pages d
   still c new h fresh d e f g i = subst Pages (λ j. record { cluster = sym i j; units = d.units; layouts = d.layouts; seqrs = sym g j; clients = sym f j; packets = sym e j }) (record {
     hands = λ k. work_grows c.packets _ more _ _ _ (h.hands k);
-    scans = λ s. maybe_grows c.packets _ more _ _ _ (h.scans s);
+    scans = λ s. maybe_grows c.packets _ more (seqr_id s) _ _ (h.scans s);
     sent = more_sent c.packets new h.sent fresh;
   })
     where
@@ -278,21 +278,21 @@ module _ (m : Meaning) where
     ps = c.packets
 
     -- a cell that is stored for a request is an own page's
-    pub own_stored : (x : Packet) (y : Msg) (k : Claim) → x.msg ≡ y → Justified ps x.from x.to y → claimed (unit_ask y) msg.Held ≡ Some k → OwnCell ps k.pos k.cell
+    pub own_stored : (x : Packet) (y : Msg) (k : Claim) → x.msg ≡ y → Has ps x → Justified ps x.from x.to y → claimed (unit_ask y) msg.Held ≡ Some k → OwnCell ps k.pos k.cell
     unfolding claimed unit_ask
-    own_stored x (msg.Write e p d) k i j s = subst (λ (l : Claim). OwnCell ps l.pos l.cell) (some_claim _ k s) (x.from, e, j)
-    own_stored x (msg.Copy e p c) k i j s = subst (λ (l : Claim). OwnCell ps l.pos l.cell) (some_claim _ k s) j
-    own_stored x (msg.Fill e p) k i j s = subst (λ (l : Claim). OwnCell ps l.pos l.cell) (some_claim _ k s) tt
-    own_stored x y k i j s = absurd (cc)
+    own_stored x (msg.Write e p d) k i g j s = subst (λ (l : Claim). OwnCell ps l.pos l.cell) (some_claim _ k s) (record { packet = x; sent = g; epoch = e; is = i })
+    own_stored x (msg.Copy e p c) k i g j s = subst (λ (l : Claim). OwnCell ps l.pos l.cell) (some_claim _ k s) j
+    own_stored x (msg.Fill e p) k i g j s = subst (λ (l : Claim). OwnCell ps l.pos l.cell) (some_claim _ k s) tt
+    own_stored x y k i g j s = absurd (cc)
 
     own_told : (u : ℕ) (k : Claim) → Tells ps u k → OwnCell ps k.pos k.cell
     own_told u k t =
         let s = low.stores.tells u k t in
         let same = low.all.1.once u s.claim k s.told t s.at in
-        subst (λ (c : Cell). OwnCell ps k.pos c) same (subst (λ (p : ℕ). OwnCell ps p s.claim.cell) s.at (own_stored s.ask s.ask.msg s.claim refl (h.sent s.ask s.asked) s.stores))
+        subst (λ (c : Cell). OwnCell ps k.pos c) same (subst (λ (p : ℕ). OwnCell ps p s.claim.cell) s.at (own_stored s.ask s.ask.msg s.claim refl s.asked (h.sent s.ask s.asked) s.stores))
 
     -- what a client hears of a sequencer and of units
-    issued_to : (k : ℕ) (x : Packet) → Comes m c x (client_id k) → (o : Out) → Has (reserved m (client_in m c k)) o → o.to ≡ x.from → o.rid ≡ x.rid → (s : ℕ) → x.from ≡ seqr_id s → (pos : ℕ) (ls : List StreamLink) → x.msg ≡ msg.Issued pos ls → Pair ps (client_id k) s o.msg pos ls
+    pub issued_to : (k : ℕ) (x : Packet) → Comes m c x (client_id k) → (o : Out) → Has (reserved m (client_in m c k)) o → o.to ≡ x.from → o.rid ≡ x.rid → (s : ℕ) → x.from ≡ seqr_id s → (pos : ℕ) (ls : List StreamLink) → x.msg ≡ msg.Issued pos ls → Pair ps (client_id k) s o.msg pos ls
     issued_to k x comes o g to number s from pos ls is =
         let a = (low.issuing.ours s x pos ls comes.sent from is).asked in
         record {
@@ -331,7 +331,7 @@ module _ (m : Meaning) where
         let new = map (packet_of m (client_id k)) t.sends in
         record {
           hands = at_set c.clients k t.now (new_client m c.cluster) (λ j x. hands.WorkOk m (ps ++ new) (client_id j) x.stand x.work) less (work_grows ps _ (λ x y. has_left ps new x y) _ _ _ f.ok) (λ j other. work_grows ps _ (λ x y. has_left ps new x y) _ _ _ (h.hands j));
-          scans = λ s. maybe_grows ps _ (λ x y. has_left ps new x y) _ _ _ (h.scans s);
+          scans = λ s. maybe_grows ps _ (λ x y. has_left ps new x y) (seqr_id s) _ _ (h.scans s);
           sent = more_sent ps new h.sent (outs_just ps (client_id k) t.sends f.sends);
         }
 
@@ -341,7 +341,7 @@ module _ (m : Meaning) where
         let new = map (packet_of m (seqr_id s)) t.sends in
         record {
           hands = λ k. work_grows ps _ (λ x y. has_left ps new x y) _ _ _ (h.hands k);
-          scans = at_set c.seqrs s t.now (λ j. new_seqr j c.cluster.limit (first_layout c.cluster)) (λ j x. MaybeOk (ps ++ new) (seqr_id j) x.proj x.scan) less (maybe_grows ps _ (λ x y. has_left ps new x y) _ _ _ f.ok) (λ j other. maybe_grows ps _ (λ x y. has_left ps new x y) _ _ _ (h.scans j));
+          scans = at_set c.seqrs s t.now (λ j. new_seqr j c.cluster.limit (first_layout c.cluster)) (λ j x. MaybeOk (ps ++ new) (seqr_id j) x.proj x.scan) less (maybe_grows ps _ (λ x y. has_left ps new x y) (seqr_id s) _ _ f.ok) (λ j other. maybe_grows ps _ (λ x y. has_left ps new x y) (seqr_id j) _ _ (h.scans j));
           sent = more_sent ps new h.sent (outs_just ps (seqr_id s) t.sends f.sends);
         }
 
