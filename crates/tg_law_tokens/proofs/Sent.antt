@@ -112,7 +112,7 @@ module _ (ps : List Packet) (me : NodeId) where
   set_just r None = none_just
   set_just r (Some l) = asked_just layout_id (msg.Prepare (re.next_epoch r) (re.ballot_of r l.round)) l.waits (λ to. tt)
 
-  reconf_just : (r : Reconf) (w : ReconfWork) → AllJust (reconf_work_asks r w ++ later_asks r w)
+  pub reconf_just : (r : Reconf) (w : ReconfWork) → AllJust (reconf_work_asks r w ++ later_asks r w)
   unfolding reconf_work_asks
   reconf_just r (SealingSpare n) = both_just _ [] (join_plain AllJust r.change.join _ none_just (λ j. one_just (unit_id j.unit) n (msg.Seal r.stand.epoch) tt)) none_just
   reconf_just r (LookingSpare n) = both_just _ [] (join_plain AllJust r.change.join _ none_just (λ j. one_just (unit_id j.unit) n (has_stripe r.stand.epoch r.stand j.range j.stripe) tt)) none_just
