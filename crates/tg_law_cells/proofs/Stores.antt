@@ -75,7 +75,7 @@ module _ (m : Meaning) (w : World m) (K : Layout → Type 0) (decided : (q : Lay
   pub justified : (to : NodeId) (x : Msg) → Justified w.packets K to x → IsJustified m w to x
   justified to (msg.Write e p d) j = down to e p (Data d) j
   justified to (msg.Fill e p) j = down to e p Junk j
-  justified to (msg.Copy e p c) (inl j) = inl (down to e p c j)
+  justified to (msg.Copy e p c) (inl j) = inl (down to e p c j.0)
   justified to (msg.Copy e p c) (inr j) = inr (aside e p c j)
   justified to x j = j
 
