@@ -154,7 +154,7 @@ no_probe : (a : Place) (ws : _) (u : ℕ) (x : Reply) (next b : ℕ) → x ≡ r
 unfolding work_feed
 no_probe a ws u x next b e i = no_end (works a (Probes ws)) b (sym (ap (λ (y : Reply). (work_feed (works a (Probes ws)) (Probes ws) u y next).to) e) ∙ i)
 
-at_trim : (j : CellJob) (u : ℕ) (x : Reply) (next b : ℕ) → (cell_feed j u x next).to ≡ Ends (Gone b) → AtTrim j x b
+pub at_trim : (j : CellJob) (u : ℕ) (x : Reply) (next b : ℕ) → (cell_feed j u x next).to ≡ Ends (Gone b) → AtTrim j x b
 unfolding cell_feed
 at_trim j u x next b i = record {
   says = (work_gone j.place j.work u x next b i).0;
@@ -166,7 +166,7 @@ at_trim j u x next b i = record {
     by (Probes ws) e f p = no_probe j.place ws u x next b e f
     by w e f p = absurd p
 
-is_gone : (y : Msg) (b : ℕ) → reply y ≡ replied.IsGone b → y ≡ msg.Gone b
+pub is_gone : (y : Msg) (b : ℕ) → reply y ≡ replied.IsGone b → y ≡ msg.Gone b
 unfolding reply
 is_gone y b h = grind arith
 
@@ -186,7 +186,7 @@ module _ (m : Meaning) (h : Header) (zs : Moves m) (r : Reaches m h zs (after m 
   give : AllGive m (LawfulCommand m) (xs ++ Takes e ∷ ys)
   give = subst (λ (ms : Moves m). AllGive m (LawfulCommand m) ms) split (lawful_give m (start m h).cluster zs r.goes.lawful)
 
-  settled_on : (p : ℕ) (c : Cell) → IsSettled m (after m h xs) p c → IsSettled m (after m h zs) p c
+  pub settled_on : (p : ℕ) (c : Cell) → IsSettled m (after m h xs) p c → IsSettled m (after m h zs) p c
   settled_on p c s = subst (λ (ms : Moves m). IsSettled m (after m h ms) p c) (sym split) (settled_later m h xs (Takes e ∷ ys) r.header give p c s)
 
   module _ (s : ℕ) (p : Packet) (sent : Has (after m h xs).packets p) (to : p.to ≡ seqr_id s) (j : CellJob) (scans : (seqr_in m (config m (after m h xs)) s).scan ≡ Some j)
@@ -316,7 +316,7 @@ module _ (m : Meaning) (h : Header) (zs : Moves m) (r : Reaches m h zs (after m 
     gone b g o q less st = by (told_gone b g)
       where
         saved : (t : TrimAsked m (after m h xs) z.proj.epoch b) → IsSaved m (after m h xs) o t.of b
-        saved t = trims.spare (after m h xs) (record { before = xs; event = e; later = ys; split = split; is = refl }) t.packet t.of b q o t.sent t.is less (stood o q b t.of t.packet t.sent t.is less st)
+        saved t = (trims.spare (after m h xs) (record { before = xs; event = e; later = ys; split = split; is = refl })).saved t.packet t.of b q o t.sent t.is less (stood o q b t.of t.packet t.sent t.is less st)
 
         by : (u : ℕ) × ToldGone m (after m h xs) u z.proj.epoch b → (n : ℕ) × (b ≤ n) × (n < z.proj.start) × (stands_in (log m (after m h zs)) o n ≡ true)
         by t = held (gone_is_asked m h xs (after m h xs) rw t.0 z.proj.epoch b t.1 (let a = g.past in omega (arith, a)))

@@ -292,17 +292,25 @@ module _ (m : Meaning) (h : Header) (zs : Moves m) (r : Reaches m h zs (after m 
   shifts : (xs : Moves m) (x : Move m) (ys : Moves m) → zs ≡ xs ++ x ∷ ys → zs ≡ (xs ++ x ∷ []) ++ ys
   shifts xs x ys e = e ∙ sym (joined xs (x ∷ []) ys)
 
-  all_on : (xs ms : Moves m) → zs ≡ xs ++ ms → All (config m (after m h xs)) → All (config m (after m h zs))
-  all_on xs [] e a = subst (λ (us : Moves m). All (config m (after m h us))) (sym (e ∙ append-nil xs)) a
-  all_on xs (Next ∷ ms) e a = all_on (xs ++ Next ∷ []) ms (shifts xs Next ms e) (subst (λ (u : World m). All (config m u)) (sym (then_next xs)) (record { each = a.each }))
-  all_on xs (Takes x ∷ ms) e a = all_on (xs ++ Takes x ∷ []) ms (shifts xs (Takes x) ms e) (subst (λ (u : World m). All (config m u)) (sym (then_takes xs x)) (stepped xs x ms e a))
+  -- up to any world through which it comes
+  all_on : (xs ms ys : Moves m) → zs ≡ xs ++ (ms ++ ys) → All (config m (after m h xs)) → All (config m (after m h (xs ++ ms)))
+  all_on xs [] ys e a = subst (λ (us : Moves m). All (config m (after m h us))) (sym (append-nil xs)) a
+  all_on xs (Next ∷ ms) ys e a =
+      subst (λ (us : Moves m). All (config m (after m h us))) (joined xs (Next ∷ []) ms)
+      (all_on (xs ++ Next ∷ []) ms ys (shifts xs Next (ms ++ ys) e) (subst (λ (u : World m). All (config m u)) (sym (then_next xs)) (record { each = a.each })))
+  all_on xs (Takes x ∷ ms) ys e a =
+      subst (λ (us : Moves m). All (config m (after m h us))) (joined xs (Takes x ∷ []) ms)
+      (all_on (xs ++ Takes x ∷ []) ms ys (shifts xs (Takes x) (ms ++ ys) e) (subst (λ (u : World m). All (config m u)) (sym (then_takes xs x)) (stepped xs x (ms ++ ys) e a)))
 
   start_all : All (config m (after m h []))
   unfolding run start
   start_all = record { each = λ s a pos ls has. absurd has }
 
+  pub all_at : (xs ys : Moves m) → zs ≡ xs ++ ys → All (config m (after m h xs))
+  all_at xs ys e = all_on [] xs ys e start_all
+
   all : All (config m (after m h zs))
-  all = all_on [] zs refl start_all
+  all = all_at zs [] (sym (append-nil zs))
 
   asked_request : (y : Msg) (epoch : ℕ) (os : List Oid) → asks_links y ≡ Some (epoch, os) → is_request y ≡ true
   unfolding asks_links is_request

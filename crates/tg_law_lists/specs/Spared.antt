@@ -1,6 +1,7 @@
 -- What trims leave of each stream.
 use Rattle.std.specs.Prelude.{◌≡◌, ℕ, ◌<◌, ◌≤◌, true, List, Some}
 use Rattle.tg_base.specs.Clusters.{Header}
+use Rattle.tg_base.specs.declared.cell.Cell.{Cell}
 use Rattle.tg_base.specs.declared.cell.Cell.TheVariants.{Data}
 use Rattle.tg_base.specs.declared.ids.Oid.{Oid}
 use Rattle.tg_base.specs.declared.msg.Msg.TheVariants as msg
@@ -31,12 +32,19 @@ module _ (m : Meaning) where
     pub stands : lists entry o ≡ true
     pub saves : IsSaving m o below entry
 
-  -- Whatever a unit was ever asked to trim: each stream that stands below it is saved, in the epoch of the trim or before.
-  abbrev pub TrimsSpare : World m → Type 0
-  TrimsSpare w = (x : Packet) (epoch below q : ℕ) (o : Oid) → Sent m w x → x.msg ≡ msg.Trim epoch below → q < below → stands_in (log m w) o q ≡ true → IsSaved w o epoch below
+  -- a cell of the position was settled in an epoch up to this one
+  pub record WasSettled (w : World m) (epoch pos : ℕ) : Type 0 where
+    pub cell : Cell
+    pub settled : IsSettled m w pos cell
+    pub in_time : settled.layout.epoch ≤ epoch
 
-  -- Whatever a unit was asked to trim was in the log, and its streams are saved past it, in each world from which the run
-  -- went on.
+  -- Whatever a unit was ever asked to trim was settled in the epoch of the trim or before, and each stream that stands
+  -- below it is saved so.
+  pub record TrimsSpare (w : World m) : Type 0 where
+    pub whole : (x : Packet) (epoch below q : ℕ) → Sent m w x → x.msg ≡ msg.Trim epoch below → q < below → WasSettled w epoch q
+    pub saved : (x : Packet) (epoch below q : ℕ) (o : Oid) → Sent m w x → x.msg ≡ msg.Trim epoch below → q < below → stands_in (log m w) o q ≡ true → IsSaved w o epoch below
+
+  -- So it was in each world from which the run went on, and all that was to be trimmed was in the log.
   pub record TrimsWereSpare (h : Header) (ms : Moves m) : Type 0 where
     pub safe : TrimsWereSafe m h ms
     pub spare : (u : World m) → GoesOn m h ms u → TrimsSpare u
