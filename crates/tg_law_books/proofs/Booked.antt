@@ -16,13 +16,12 @@ use Rattle.tg_protocol.specs.ClientSteps.{feed, refused_or, client_command, clie
 use Rattle.tg_protocol.specs.Worlds.{World, start, client, client_turned, moves, comes, handed, delivers, noted_if, commands, ticks, ticks_if, counted, happens, runs}
 use Rattle.tg_protocol.specs.Runs.{Moves, Takes, run}
 use Rattle.tg_law_history.specs.Worlds.{entries_in}
-use Rattle.tg_law_replies.specs.Booked.{EachBooked}
-use Rattle.tg_law_replies.specs.Laws.{ClientsBook}
-use Rattle.tg_law_books.specs.Kept.{RecordsLeft, AsksPrecede, MarksSpelled}
+use Rattle.tg_law_books.specs.Booked.{EachBooked, ClientsBook}
+use Rattle.tg_law_books.specs.Kept.{RecordsLeft, AsksPrecede}
 use Rattle.tg_law_books.specs.Laws.{BooksAreKept}
 use Rattle.tg_law_books.proofs.Commands.{Takes as Taken, delivered, commanding}
 use Rattle.tg_law_books.proofs.Worlds.{set_same, run_book, start_book, commanded_as, commanded_notes, delivered_as, delivered_notes, tick_of, declared}
-use Rattle.tg_law_books.proofs.Sealed.{booked}
+use Rattle.tg_law_books.proofs.Records.{MarksSpelled, marks_spelled, booked}
 
 module _ (m : Meaning) where
   no : false ≡ true → ⊥
@@ -89,5 +88,5 @@ module _ (m : Meaning) where
     each_booked pre post (Stop n) split = tt
 
 pub books_are_kept : (m : Meaning) → BooksAreKept m
-books_are_kept m h ms w r left asks marks =
-    subst (λ (u : World m). RecordsLeft m h ms u → AsksPrecede m u → ClientsBook m h ms u) (sym r.goes.is) (λ l a before after e split. each_booked m h ms l a marks before after e split) left asks
+books_are_kept m h ms w r left asks =
+    subst (λ (u : World m). RecordsLeft m h ms u → AsksPrecede m u → ClientsBook m h ms u) (sym r.goes.is) (λ l a before after e split. each_booked m h ms l a (marks_spelled m h ms w r) before after e split) left asks

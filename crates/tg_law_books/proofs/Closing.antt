@@ -162,7 +162,7 @@ module _ (m : Meaning) where
       both x e i = absurd e
 
       marks_end : (w : Work m) (a : Append) (n : ℕ) (o : Oid) (j : ℕ) → c.work ≡ Some w → task_in m w.hand ≡ Appending a (Marks n o j) → ⊥
-      marks_end w a n o j has is = subst (Suits m w.command) is (h.suits w has) (end_of w has)
+      marks_end w a n o j has is = subst (IsEnd m) (subst (Suits m w.command) is (h.suits w has)) (end_of w has)
 
       quit : (w : Work m) (end : Option AppendEnd) (ns : List (NoteOf m)) → c.work ≡ Some w → NotFull t.number ns → Quit m c w end ns → ⊥
       quit w end ns has full (Zeros other z) = other (end_of w has)

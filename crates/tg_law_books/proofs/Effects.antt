@@ -53,6 +53,7 @@ module _ (m : Meaning) where
   SuitsPurpose x Writes = IsEnd x
   SuitsPurpose x Judged = IsEnd x
   SuitsPurpose x (Decides what) = Unit {0}
+  SuitsPurpose x (Marks n o mark) = x ≡ cmd.Forget o mark
   SuitsPurpose x y = IsEnd x → ⊥
 
   abbrev pub Suits : CommandOf m → Task m → Type 0

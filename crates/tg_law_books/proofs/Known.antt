@@ -15,14 +15,14 @@ use Rattle.tg_protocol.specs.Runs.{Moves, run}
 use Rattle.tg_protocol.specs.Holding.{EntriesOnce}
 use Rattle.tg_law_history.specs.Worlds.{entries_in}
 use Rattle.tg_law_history.proofs.Members.{has_contained}
-use Rattle.tg_law_replies.specs.Booked.{IsSealed}
+use Rattle.tg_law_books.specs.Booked.{IsClosed}
 use Rattle.tg_law_books.specs.Kept.{RecordsLeft, AsksPrecede}
 use Rattle.tg_law_books.specs.Laws.{RecordsKnown, RecordsAreKnown}
 use Rattle.tg_law_books.proofs.Worlds.{nil_right, run_book, start_book}
-use Rattle.tg_law_books.proofs.Sealed.{Begun, begun_of, begun_number, on_begun, before_sealed}
+use Rattle.tg_law_books.proofs.Records.{Begun, begun_of, begun_number, on_begun, before_closed}
 
 -- records of transactions have one kind of body
-one_tag : (a b : Body) → body_commits a ≡ true → body_commits b ≡ true → tag_of a ≡ tag_of b
+pub one_tag : (a b : Body) → body_commits a ≡ true → body_commits b ≡ true → tag_of a ≡ tag_of b
 one_tag (Commit rs ws) (Commit ss us) x y = refl
 one_tag (Commit rs ws) (Decision p q) x y = absurd cc
 one_tag (Commit rs ws) (Checkpoint o u v whole keys state) x y = absurd cc
@@ -33,10 +33,10 @@ module _ (m : Meaning) (h : Header) (ms : Moves m) (left : RecordsLeft m h ms (r
   abbrev end : World m
   end = run m ms (start m h)
 
-  sealed : (k : ℕ) (t : Tx) → (client m end k).tx ≡ Some t → IsSealed m (entries_in m end) (trace m end) k t
-  sealed k t is p e i commit client_is number =
+  closed : (k : ℕ) (t : Tx) → (client m end k).tx ≡ Some t → IsClosed m (entries_in m end) (trace m end) k t
+  closed k t is p e i commit client_is number =
       subst (λ (j : ℕ). Tells m (trace m end) j t.number told.End × (e.body ≡ Commit t.reads t.writes) × ((s : ℕ) → t.snapshot ≡ Some s → s ≤ p)) client_is
-      (before_sealed m h ms left asks t p e ms [] b.was.after (sym (nil_right ms)) (subst (λ (j : ℕ). (client m end j).tx ≡ Some t) (sym client_is) is) i commit b number b.was.split)
+      (before_closed m h ms left asks t p e ms [] b.was.after (sym (nil_right ms)) (subst (λ (j : ℕ). (client m end j).tx ≡ Some t) (sym client_is) is) i commit b number b.was.split)
     where
       b : Begun m h ms left asks e
       b = begun_of m h ms left asks p e i commit
@@ -55,7 +55,7 @@ module _ (m : Meaning) (h : Header) (ms : Moves m) (left : RecordsLeft m h ms (r
   all_known once = record {
     numbers = λ u i. (run_book m ms (start m h) (start_book m h) u.client).below u (has_contained (trace m end) u i) refl;
     known = known;
-    sealed = sealed;
+    closed = closed;
     once = λ p q k x r s. once p q r.entry s.entry r.here s.here (r.client ∙ sym s.client) (one_tag r.entry.body s.entry.body r.commit s.commit) (r.number ∙ sym s.number);
   }
 

@@ -22,7 +22,7 @@ use Rattle.tg_law_history.specs.Worlds.{entries_in}
 use Rattle.tg_law_replies.specs.Told.{HasRecordOf}
 use Rattle.tg_law_books.specs.Kept.{EndsSo, AppendsEnd}
 use Rattle.tg_law_books.proofs.Effects.{IsEnd, Idle, OfRecord, DecidesOf, Onward, Same', Walks, Lands, Begins, On, Quits, Closes, Asks, Marks'}
-use Rattle.tg_law_books.proofs.Commands.{Commanding, Refuses, Takes', Taking, Nothing, Opening, Putting, Answering, Ending, EndingLater, Dropping, Beginning, Turned, Idles, Works, ended_by}
+use Rattle.tg_law_books.proofs.Commands.{Refuses, Takes', Taking, Nothing, Opening, Putting, Answering, Ending, EndingLater, Dropping, Beginning, Turned, Idles, Works, ended_by}
 use Rattle.tg_law_books.proofs.Commands as turn
 use Rattle.tg_law_books.proofs.Turns.{no_some, same_some, BookOf, IsOfTx, DraftOf}
 use Rattle.tg_law_books.proofs.Worlds.{nil_right, regroup, EndsIn, Stepped, Rests, Turns, step, run_book, start_book, run_both}

@@ -4,9 +4,11 @@ pub mod Tales
 pub mod Turns
 pub mod Closing
 pub mod Worlds
-pub mod Sealed
+pub mod Records
 pub mod Booked
 pub mod Known
 pub mod Told
 pub mod Landed
 pub mod Whose
+pub mod Plain
+pub mod Lawful

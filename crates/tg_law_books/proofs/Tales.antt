@@ -111,7 +111,7 @@ module _ (m : Meaning) where
     pub data Tale (n : NoteOf m) : Type 0 where
       Tells0 : n.tx ≡ 0 → Tale n
       TellsNothing : Harmless n.what → Tale n
-      TellsDone : (of : Tx) → c.tx ≡ Some of → (length of.writes == 0) ≡ true → n ≡ note m of.number (told.Committed (snapshot_or m of.snapshot)) → Tale n
+      TellsDone : (of : Tx) → c.tx ≡ Some of → (length of.writes == 0) ≡ true → r.now.tx ≡ None → r.notes ≡ note m of.number told.End ∷ note m of.number (told.Committed (snapshot_or m of.snapshot)) ∷ [] → n ≡ note m of.number (told.Committed (snapshot_or m of.snapshot)) → Tale n
       TellsDropped : c.work ≡ None → r.now.tx ≡ None → n ≡ note m (tx_number m c.tx) told.Dropped → Tale n
       TellsLost : (w : Work m) (a : Append) (y : Purpose m) (p b : ℕ) → c.work ≡ Some w → task_in m w.hand ≡ Appending a y → IsRecord m y → end ≡ Some (Forgotten p b) → n ≡ note m (tx_number m c.tx) (told.Refused (cause.Forgotten p b)) → Tale n
       TellsWritten : (w : Work m) (a : Append) (p : ℕ) (page : List ℕ) → c.work ≡ Some w → task_in m w.hand ≡ Appending a Writes → end ≡ Some (At p page) → n ≡ note m (tx_number m c.tx) (told.Committed p) → Tale n
@@ -180,7 +180,7 @@ module _ (m : Meaning) where
       where
         by : Has (note m e.of.number told.End ∷ note m e.of.number (told.Committed (snapshot_or m e.of.snapshot)) ∷ []) n → Tale n
         by (inl z) = harmless n e.of.number told.End z tt
-        by (inr (inl z)) = TellsDone e.of e.from e.none z
+        by (inr (inl z)) = TellsDone e.of e.from e.none e.tx e.notes z
         by (inr (inr z)) = absurd z
     taking_tale x n idle (EndingLater e) i = harmless n _ told.End (one n _ r.notes e.notes i) tt
     taking_tale x n idle (Dropping d) i = TellsDropped idle d.tx (one n _ r.notes d.notes i)

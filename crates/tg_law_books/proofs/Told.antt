@@ -1,8 +1,9 @@
 -- Where each reply of a run was given.
-use Rattle.std.proofs.Common.{◌≡◌, ◌⊎◌, ℕ, [], ◌∷◌, ◌++◌, map, refl, sym, ap, ◌∙◌, subst, inl, inr}
+use Rattle.std.proofs.Common.{◌≡◌, ◌⊎◌, ℕ, [], ◌∷◌, ◌++◌, map, refl, sym, ap, ◌∙◌, subst, inl, inr, Some}
 use Rattle.tg_base.specs.Clusters.{Header}
 use Rattle.tg_kind.specs.Meaning.{Meaning}
-use Rattle.tg_model.specs.Kinds.{EventOf, MarkOf, NoteOf, WhatOf}
+use Rattle.tg_model.specs.declared.command.Event.TheVariants.{Command as Commands}
+use Rattle.tg_model.specs.Kinds.{CommandOf, EventOf, MarkOf, NoteOf, WhatOf}
 use Rattle.tg_model.specs.Traces.{Trace}
 use Rattle.tg_protocol.specs.Answers.{Moved}
 use Rattle.tg_protocol.specs.ClientSteps.{called}
@@ -10,7 +11,7 @@ use Rattle.tg_protocol.specs.Worlds.{World, start, client, happens, trace}
 use Rattle.tg_protocol.specs.Runs.{Moves, Next, Takes, run}
 use Rattle.tg_law_history.proofs.Members.{Has, has_image, has_either}
 use Rattle.tg_law_replies.proofs.Books.{mark}
-use Rattle.tg_law_books.proofs.Commands.{Turned, ended_by}
+use Rattle.tg_law_books.proofs.Commands.{Turned, taken_by, ended_by}
 use Rattle.tg_law_books.proofs.Worlds.{nil_right, regroup, EndsIn, Stepped, Rests, Turns, step, run_book, start_book, run_both}
 
 module _ (m : Meaning) (h : Header) where
@@ -25,8 +26,10 @@ module _ (m : Meaning) (h : Header) where
     pub split : xs ≡ before ++ Takes event ∷ after
     pub moved : Moved m
     pub turn : Turned m (client m (at before) k) moved
+    pub from : (x : CommandOf m) → taken_by m (client m (at before) k) moved turn ≡ Some x → event ≡ Commands k x
     pub ends : EndsIn m k event (at before) (ended_by m (client m (at before) k) moved turn)
     pub now : client m (happens m (at before) event) k ≡ called m moved.now
+    pub traced : trace m (happens m (at before) event) ≡ trace m (at before) ++ map (mark m (at before).event k) moved.notes
     pub note : NoteOf m
     pub here : Has moved.notes note
     pub number : note.tx ≡ x
@@ -43,8 +46,10 @@ module _ (m : Meaning) (h : Header) where
     split = ap (λ (zs : Moves m). zs ++ ys) t.split ∙ regroup t.before (Takes t.event ∷ t.after) ys;
     moved = t.moved;
     turn = t.turn;
+    from = t.from;
     ends = t.ends;
     now = t.now;
+    traced = t.traced;
     note = t.note;
     here = t.here;
     number = t.number;
@@ -84,8 +89,10 @@ module _ (m : Meaning) (h : Header) where
                 split = refl;
                 moved = r;
                 turn = t;
+                from = from;
                 ends = ends;
                 now = c;
+                traced = x;
                 note = k.0;
                 here = k.1;
                 number = sym (ap (λ (y : MarkOf m). y.tx) k.2);

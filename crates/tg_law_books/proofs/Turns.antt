@@ -49,16 +49,17 @@ module _ (m : Meaning) where
       pub draft : d ≡ commit_record of k
       pub ended : Tells m tr k of.number told.End
 
-    pub record IsOfMark (tx : Option Tx) (begun n : ℕ) (o : Oid) (j : ℕ) (d : Entry) : Type 0 where
+    pub record IsOfMark (tr : Trace m) (tx : Option Tx) (begun n : ℕ) (o : Oid) (j : ℕ) (d : Entry) : Type 0 where
       pub number : n ≡ begun
       pub positive : 0 < n
       pub draft : IsMarkDraft k n o j d
       pub later : (t : Tx) → tx ≡ Some t → t.number < n
+      pub put : Tells m tr k n (told.Put directory (m.mark_op o j))
 
     abbrev pub DraftFor : Trace m → Option Tx → ℕ → Entry → Purpose m → Type 0
     DraftFor tr tx begun d Writes = IsOfTx tr tx d
     DraftFor tr tx begun d Judged = IsOfTx tr tx d
-    DraftFor tr tx begun d (Marks n o j) = IsOfMark tx begun n o j d
+    DraftFor tr tx begun d (Marks n o j) = IsOfMark tr tx begun n o j d
     DraftFor tr tx begun d y = is_commit d ≡ false
 
     abbrev pub DraftOf : Trace m → Option Tx → ℕ → Task m → Type 0
@@ -78,6 +79,7 @@ module _ (m : Meaning) where
       pub number : (t : Tx) → tx ≡ Some t → (0 < t.number) × (t.number ≤ begun)
       pub snap : (t : Tx) (s : ℕ) → tx ≡ Some t → t.snapshot ≡ Some s → AskedAt tr t.number s
       pub first : (w : Work m) (t : Tx) → work ≡ Some w → IsAsk m w.command → tx ≡ Some t → t.snapshot ≡ None
+      pub ending : (w : Work m) (t : Tx) → work ≡ Some w → IsEnd m w.command → tx ≡ Some t → (length t.writes == 0) ≡ false
       pub suits : (w : Work m) → work ≡ Some w → Suits m w.command (task_in m w.hand)
       pub drafts : (w : Work m) → work ≡ Some w → DraftOf tr tx begun (task_in m w.hand)
 
@@ -116,6 +118,7 @@ module _ (m : Meaning) where
         positive = h.positive;
         draft = subst (IsMarkDraft k n o j) (sym e) h.draft;
         later = λ x is. h.later x (sym t ∙ is);
+        put = tells_on tr ys k n (told.Put directory (m.mark_op o j)) h.put;
       }
       draft_more (Decides what) tr ys tx tx' begun begun' d d' t b e h = ap (λ (x : Entry). is_commit x) e ∙ h
       draft_more (Rescues what) tr ys tx tx' begun begun' d d' t b e h = ap (λ (x : Entry). is_commit x) e ∙ h
@@ -150,20 +153,22 @@ module _ (m : Meaning) where
         -- the client's transaction is the one that it was, and it waits for this or for nothing
         stays : (ns : List (NoteOf m)) (d : Client m) → (d.tx ≡ c.tx) × (d.begun ≡ c.begun) × (d.num ≡ c.num) → NotesBelow c.begun ns
             → ((w : Work m) (t : Tx) → d.work ≡ Some w → IsAsk m w.command → d.tx ≡ Some t → t.snapshot ≡ None)
+            → ((w : Work m) (t : Tx) → d.work ≡ Some w → IsEnd m w.command → d.tx ≡ Some t → (length t.writes == 0) ≡ false)
             → ((w : Work m) → d.work ≡ Some w → Suits m w.command (task_in m w.hand))
             → ((w : Work m) → d.work ≡ Some w → DraftOf (with_notes tr ns) d.tx d.begun (task_in m w.hand)) → BookOf (with_notes tr ns) d
-        stays ns d s notes first suits drafts = record {
+        stays ns d s notes first ending suits drafts = record {
           num_is = s.2 ∙ h.num_is;
           below = λ u i at. let x = below_more tr ns c.begun c.begun h.below (omega arith) notes u i at in let b = s.1 in omega (arith, x, b);
           number = λ t is. let x = h.number t (sym s.0 ∙ is) in let le = x.1 in let b = s.1 in (x.0, omega (arith, le, b));
           snap = λ t a is at. asked_more tr (map (mark m event k) ns) t.number a (h.snap t a (sym s.0 ∙ is) at);
           first = first;
+          ending = ending;
           suits = suits;
           drafts = drafts;
         }
 
         free : (ns : List (NoteOf m)) (d : Client m) → (d.tx ≡ c.tx) × (d.begun ≡ c.begun) × (d.num ≡ c.num) → NotesBelow c.begun ns → d.work ≡ None → BookOf (with_notes tr ns) d
-        free ns d s notes none = stays ns d s notes (λ w t is. absurd (no_some w (sym none ∙ is))) (λ w is. absurd (no_some w (sym none ∙ is))) (λ w is. absurd (no_some w (sym none ∙ is)))
+        free ns d s notes none = stays ns d s notes (λ w t is. absurd (no_some w (sym none ∙ is))) (λ w t is. absurd (no_some w (sym none ∙ is))) (λ w is. absurd (no_some w (sym none ∙ is))) (λ w is. absurd (no_some w (sym none ∙ is)))
 
         shuts : (ns : List (NoteOf m)) (d : Client m) → (d.tx ≡ None) × (d.begun ≡ c.begun) × (d.num ≡ c.num) → NotesBelow c.begun ns → d.work ≡ None → BookOf (with_notes tr ns) d
         shuts ns d s notes none = record {
@@ -172,6 +177,7 @@ module _ (m : Meaning) where
           number = λ t is. absurd (no_some t (sym s.0 ∙ is));
           snap = λ t a is at. absurd (no_some t (sym s.0 ∙ is));
           first = λ w t is. absurd (no_some w (sym none ∙ is));
+          ending = λ w t is. absurd (no_some w (sym none ∙ is));
           suits = λ w is. absurd (no_some w (sym none ∙ is));
           drafts = λ w is. absurd (no_some w (sym none ∙ is));
         }
@@ -185,6 +191,7 @@ module _ (m : Meaning) where
           number = λ t is. let e = number_of t is in let x = h.number of from in let p = x.0 in let le = x.1 in (omega (arith, e, p), omega (arith, e, le, begun));
           snap = λ t b is at. subst (λ (i : ℕ). AskedAt (with_notes tr ns) i b) (sym (number_of t is)) (subst (λ (i : ℕ). AskedAt (with_notes tr ns) of.number i) (same_some s b (sym snap ∙ ap (λ (z : Tx). z.snapshot) (same_some of' t (sym tx ∙ is)) ∙ at)) now);
           first = λ w t is. absurd (no_some w (sym none ∙ is));
+          ending = λ w t is. absurd (no_some w (sym none ∙ is));
           suits = λ w is. absurd (no_some w (sym none ∙ is));
           drafts = λ w is. absurd (no_some w (sym none ∙ is));
         }
@@ -216,6 +223,7 @@ module _ (m : Meaning) where
           onward : (d : Client m) (v : Work m) (end : Option AppendEnd) → (d.tx ≡ c.tx) × (d.begun ≡ c.begun) × (d.num ≡ c.num) → d.work ≡ Some v → v.command ≡ w0.command → Onward m c w0 end v → BookOf (with_notes tr []) d
           onward d v end s is same on = stays [] d s tt
               (λ w t has' ask tx. h.first w0 t has (subst (IsAsk m) same (subst (λ (z : Work m). IsAsk m z.command) (sym (same_some v w (sym is ∙ has'))) ask)) (sym s.0 ∙ tx))
+              (λ w t has' ends tx. h.ending w0 t has (subst (IsEnd m) same (subst (λ (z : Work m). IsEnd m z.command) (sym (same_some v w (sym is ∙ has'))) ends)) (sym s.0 ∙ tx))
               (λ w has'. subst (λ (z : Work m). Suits m z.command (task_in m z.hand)) (same_some v w (sym is ∙ has')) (subst (λ (x : CommandOf m). Suits m x (task_in m v.hand)) (sym same) (suits on)))
               (λ w has'. subst (λ (z : Work m). DraftOf (with_notes tr []) d.tx d.begun (task_in m z.hand)) (same_some v w (sym is ∙ has')) (draft on))
             where
@@ -250,16 +258,23 @@ module _ (m : Meaning) where
             number = λ t is. let y = h.number t (sym x.tx ∙ is) in let le = y.1 in let b = x.begun in (y.0, omega (arith, le, b));
             snap = λ t a is at. asked_more tr (map (mark m event k) r.notes) t.number a (h.snap t a (sym x.tx ∙ is) at);
             first = λ w t is ask. absurd (subst (IsAsk m) (ap (λ (z : Work m). z.command) (sym (same_some x.work w (sym x.works ∙ is))) ∙ x.same ∙ x.command) ask);
-            suits = λ w is. subst (λ (z : Work m). Suits m z.command (task_in m z.hand)) (same_some x.work w (sym x.works ∙ is)) (subst (Suits m x.work.command) (sym x.appends) (λ e. subst (IsEnd m) (x.same ∙ x.command) e));
+            ending = λ w t is ends. absurd (subst (IsEnd m) (ap (λ (z : Work m). z.command) (sym (same_some x.work w (sym x.works ∙ is))) ∙ x.same ∙ x.command) ends);
+            suits = λ w is. subst (λ (z : Work m). Suits m z.command (task_in m z.hand)) (same_some x.work w (sym x.works ∙ is)) (subst (Suits m x.work.command) (sym x.appends) (x.same ∙ x.command));
             drafts = λ w is. subst (λ (z : Work m). DraftOf (with_notes tr r.notes) r.now.tx r.now.begun (task_in m z.hand)) (same_some x.work w (sym x.works ∙ is)) (subst (DraftOf (with_notes tr r.notes) r.now.tx r.now.begun) (sym x.appends) made);
           }
             where
-              made : IsOfMark r.now.tx r.now.begun (c.begun + 1) x.oid x.mark x.append.draft
+              made : IsOfMark (with_notes tr r.notes) r.now.tx r.now.begun (c.begun + 1) x.oid x.mark x.append.draft
               made = record {
                 number = sym x.begun;
                 positive = omega arith;
                 draft = subst (IsMarkDraft k (c.begun + 1) x.oid x.mark) (sym x.draft) (h.num_is, refl, refl);
                 later = λ t is. let y = (h.number t (sym x.tx ∙ is)).1 in omega (arith, y);
+                put = record {
+                  number = omega arith;
+                  event = event;
+                  here = contained_has (with_notes tr r.notes) (record { event = event; client = k; tx = c.begun + 1; what = told.Put directory (m.mark_op x.oid x.mark) })
+                      (has_right tr (map (mark m event k) r.notes) _ (subst (λ (xs : List (NoteOf m)). Has (map (mark m event k) xs) (record { event = event; client = k; tx = c.begun + 1; what = told.Put directory (m.mark_op x.oid x.mark) })) (sym x.notes) (inr (inl refl))));
+                };
               }
 
         -- A command.
@@ -280,6 +295,7 @@ module _ (m : Meaning) where
           number = λ t is. let e = ap (λ (z : Tx). z.number) (same_some _ t (sym o.tx ∙ is)) in let b = o.begun in (omega (arith, e), omega (arith, e, b));
           snap = λ t a is at. absurd (no_some a (ap (λ (z : Tx). z.snapshot) (same_some _ t (sym o.tx ∙ is)) ∙ at));
           first = λ w t is. absurd (no_some w (sym o.work ∙ is));
+          ending = λ w t is. absurd (no_some w (sym o.work ∙ is));
           suits = λ w is. absurd (no_some w (sym o.work ∙ is));
           drafts = λ w is. absurd (no_some w (sym o.work ∙ is));
         }
@@ -290,6 +306,7 @@ module _ (m : Meaning) where
           snap = λ t a is at. subst (λ (i : ℕ). AskedAt (with_notes tr r.notes) i a) (ap (λ (z : Tx). z.number) (same_some _ t (sym p.tx ∙ is)))
               (asked_more tr (map (mark m event k) r.notes) p.of.number a (h.snap p.of a p.from (ap (λ (z : Tx). z.snapshot) (same_some _ t (sym p.tx ∙ is)) ∙ at)));
           first = λ w t is. absurd (no_some w (sym p.work ∙ is));
+          ending = λ w t is. absurd (no_some w (sym p.work ∙ is));
           suits = λ w is. absurd (no_some w (sym p.work ∙ is));
           drafts = λ w is. absurd (no_some w (sym p.work ∙ is));
         }
@@ -297,6 +314,7 @@ module _ (m : Meaning) where
         taken x r idle (Ending e) = shuts r.notes r.now (e.tx, e.begun, e.num) (let y = (h.number e.of e.from).1 in subst (NotesBelow c.begun) (sym e.notes) (y, (y, tt))) e.work
         taken x r idle (EndingLater e) = stays r.notes r.now e.same (subst (NotesBelow c.begun) (sym e.notes) ((h.number e.of e.from).1, tt))
             (λ w t is ask. absurd (subst (IsAsk m) (ap (λ (z : Work m). z.command) (sym (same_some e.work w (sym e.works ∙ is))) ∙ e.command) ask))
+            (λ w t is ends tx. subst (λ (z : Tx). (length z.writes == 0) ≡ false) (same_some e.of t (sym e.from ∙ (sym e.same.0 ∙ tx))) e.some)
             (λ w is. subst (λ (z : Work m). Suits m z.command (task_in m z.hand)) (same_some e.work w (sym e.works ∙ is)) (subst (Suits m e.work.command) (sym e.appends) (subst (λ (y : CommandOf m). SuitsPurpose m y (purpose_of m e.of)) (sym e.command) (purpose_suits (length e.of.reads == 0)))))
             (λ w is. subst (λ (z : Work m). DraftOf (with_notes tr r.notes) r.now.tx r.now.begun (task_in m z.hand)) (same_some e.work w (sym e.works ∙ is)) (subst (DraftOf (with_notes tr r.notes) r.now.tx r.now.begun) (sym e.appends) (purpose_draft e.of (length e.of.reads == 0) (with_notes tr r.notes) r.now.tx r.now.begun e.append.draft made)))
           where
@@ -315,12 +333,14 @@ module _ (m : Meaning) where
         taken x r idle (Dropping d) = shuts r.notes r.now (d.tx, d.begun, d.num) (subst (NotesBelow c.begun) (sym d.notes) (numbers_below, tt)) d.work
         taken x r idle (Beginning b) = stays r.notes r.now b.same (subst (NotesBelow c.begun) (sym b.notes) tt)
             (λ w t is ask tx. b.first (subst (IsAsk m) (ap (λ (z : Work m). z.command) (sym (same_some b.work w (sym b.works ∙ is))) ∙ b.command) ask) t (sym b.same.0 ∙ tx))
+            (λ w t is ends tx. absurd (b.not_end (subst (IsEnd m) (ap (λ (z : Work m). z.command) (sym (same_some b.work w (sym b.works ∙ is))) ∙ b.command) ends)))
             (λ w is. subst (λ (z : Work m). Suits m z.command (task_in m z.hand)) (same_some b.work w (sym b.works ∙ is)) (subst (λ (y : CommandOf m). Suits m y (task_in m b.work.hand)) (sym b.command) b.suits))
             (λ w is. subst (λ (z : Work m). DraftOf (with_notes tr r.notes) r.now.tx r.now.begun (task_in m z.hand)) (same_some b.work w (sym b.works ∙ is)) (idle_draft (task_in m b.work.hand) (with_notes tr r.notes) r.now.tx r.now.begun b.idle))
 
         same_book : (ns : List (NoteOf m)) (d : Client m) → (d.tx ≡ c.tx) × (d.begun ≡ c.begun) × (d.num ≡ c.num) → d.work ≡ c.work → NotesBelow c.begun ns → BookOf (with_notes tr ns) d
         same_book ns d s same notes = stays ns d s notes
             (λ w t is ask tx. h.first w t (sym same ∙ is) ask (sym s.0 ∙ tx))
+            (λ w t is ends tx. h.ending w t (sym same ∙ is) ends (sym s.0 ∙ tx))
             (λ w is. h.suits w (sym same ∙ is))
             (λ w is. draft_on (task_in m w.hand) (h.drafts w (sym same ∙ is)))
           where

@@ -16,6 +16,7 @@ use Rattle.tg_protocol.specs.Answers.{note}
 use Rattle.tg_protocol.specs.ClientSteps.{task_in, snapshot_or}
 use Rattle.tg_protocol.specs.Worlds.{World, start, client, happens, trace}
 use Rattle.tg_protocol.specs.Runs.{Moves, Takes, run}
+use Rattle.tg_protocol.specs.Alike.{HasRecord}
 use Rattle.tg_law_history.specs.Worlds.{entries_in}
 use Rattle.tg_law_history.proofs.Members.{has_contained}
 use Rattle.tg_law_replies.specs.Told.{HasRecordOf}
@@ -27,7 +28,7 @@ use Rattle.tg_law_books.proofs.Tales.{Harmless, Tale, Tells0, TellsNothing, Tell
 use Rattle.tg_law_books.proofs.Turns.{no_some, same_some, BookOf, IsOfTx, DraftOf, DraftFor}
 use Rattle.tg_law_books.proofs.Worlds.{compare, run_book, start_book}
 use Rattle.tg_law_books.proofs.Closing.{Only, None', shut_turned}
-use Rattle.tg_law_books.proofs.Sealed.{Begun, begun_of, on_tells, before_open, after_only}
+use Rattle.tg_law_books.proofs.Records.{Begun, begun_of, on_tells, before_open, after_only}
 use Rattle.tg_law_books.proofs.Told.{ToldIn, all_told}
 use Rattle.tg_law_books.proofs.Landed.{HasRec, LandedTask, Landed, EndsTruly, append_in, idle_rec, ends_truly, landed_at}
 
@@ -139,7 +140,7 @@ module _ (m : Meaning) where
           by : Tale m c (ended_by m c t.moved t.turn) t.moved t.note → HasRecordOf es p k x
           by (Tells0 z) = let n = t.number in absurd (omega (arith, z, n, positive))
           by (TellsNothing z) = absurd (harm_of p what is (subst (Harmless m) t.says z))
-          by (TellsDone u has none e) = absurd (subst (IsOf p) (sym (says _ _ e)) is)
+          by (TellsDone u has none gone notes e) = absurd (subst (IsOf p) (sym (says _ _ e)) is)
           by (TellsDropped idle gone e) = absurd (subst (IsOf p) (sym (says _ _ e)) is)
           by (TellsLost w a y q b has z rec f e) = absurd (subst (IsOf p) (sym (says _ _ e)) is)
           by (TellsWritten w a q page has z f e) = absurd (subst (IsOf p) (sym (says _ _ e)) is)
@@ -170,7 +171,7 @@ module _ (m : Meaning) where
           by : Tale m c (ended_by m c t.moved t.turn) t.moved t.note → q ≡ p
           by (Tells0 z) = let n = t.number in absurd (omega (arith, z, n, positive))
           by (TellsNothing z) = absurd (harm_forgotten p what is (subst (Harmless m) t.says z))
-          by (TellsDone u has none e) = absurd (subst (IsForgotten p) (sym (says _ _ e)) is)
+          by (TellsDone u has none gone notes e) = absurd (subst (IsForgotten p) (sym (says _ _ e)) is)
           by (TellsDropped idle gone e) = absurd (subst (IsForgotten p) (sym (says _ _ e)) is)
           by (TellsLost w a y s b has z rec f e) =
               let d = of_tx y a rec (subst (DraftOf m k (trace m (at t.before)) c.tx c.begun) z (book.drafts w has)) in
@@ -204,7 +205,7 @@ module _ (m : Meaning) where
                 ask = j.ask;
                 answer = j.answer;
                 tells = subst (λ (i : ℕ). Tells m (trace m end) k i (told.Asked j.oid j.ask s j.answer)) number
-                    (subst (λ (xs : Moves m). Tells m (trace m (at xs)) k u.number (told.Asked j.oid j.ask s j.answer)) (sym t.split) (on_tells m h ms left asks t.before (Takes t.event ∷ t.after) k u.number (told.Asked j.oid j.ask s j.answer) j.tells));
+                    (subst (λ (xs : Moves m). Tells m (trace m (at xs)) k u.number (told.Asked j.oid j.ask s j.answer)) (sym t.split) (on_tells m h t.before (Takes t.event ∷ t.after) k u.number (told.Asked j.oid j.ask s j.answer) j.tells));
               }
 
           done : (u : Tx) → c.tx ≡ Some u → t.note ≡ note m u.number (told.Committed (snapshot_or m u.snapshot)) → AskedThere k x p ⊎ (p ≡ 0)
@@ -217,7 +218,7 @@ module _ (m : Meaning) where
           by : Tale m c (ended_by m c t.moved t.turn) t.moved t.note → HasRecordOf es p k x ⊎ (AskedThere k x p ⊎ (p ≡ 0))
           by (Tells0 z) = let n = t.number in absurd (omega (arith, z, n, positive))
           by (TellsNothing z) = absurd (subst (Harmless m) (t.says ∙ is) z)
-          by (TellsDone u has none e) = inr (done u has e)
+          by (TellsDone u has none gone notes e) = inr (done u has e)
           by (TellsDropped idle gone e) = absurd (subst (λ (i : WhatOf m). IsDropped i) (says _ _ e ∙ is) tt)
           by (TellsLost w a y q b has z rec f e) = absurd (subst (IsForgotten q) (says _ _ e ∙ is) refl)
           by (TellsWritten w a q page has z f e) =
@@ -262,7 +263,7 @@ module _ (m : Meaning) where
           by : Tale m c (ended_by m c t.moved t.turn) t.moved t.note → ⊥
           by (Tells0 z) = let n = t.number in absurd (omega (arith, z, n, positive))
           by (TellsNothing z) = harm_dropped what is (subst (Harmless m) t.says z)
-          by (TellsDone u has none e) = subst IsDropped (sym (says _ _ e)) is
+          by (TellsDone u has none gone notes e) = subst IsDropped (sym (says _ _ e)) is
           by (TellsDropped idle gone e) = absent idle gone e
           by (TellsLost w a y s b has z rec f e) = subst IsDropped (sym (says _ _ e)) is
           by (TellsWritten w a s page has z f e) = subst IsDropped (sym (says _ _ e)) is
@@ -271,13 +272,18 @@ module _ (m : Meaning) where
           by (TellsMarked w a n o j s page has z f e) = subst IsDropped (sym (says _ _ e)) is
           by (TellsMarkLost w a n o j s b has z f e) = subst IsDropped (sym (says _ _ e)) is
 
+    record_in : (p k x : ℕ) → HasRecord m end p k x → HasRecordOf es p k x
+    record_in p k x r = record { entry = r.record_at; here = r.here; commit = r.commit; client = r.of_client; number = r.of_number }
+
     replies_known : RepliesKnown m end
     replies_known = record {
       aborted = λ k x p o part seen now t. of_outcome k x (told.Aborted p o part seen now) t.number (given k x (told.Aborted p o part seen now) t) p refl;
       unsure = λ k x p q t. of_outcome k x (told.Unsure p q) t.number (given k x (told.Unsure p q) t) p refl;
-      forgotten = λ k x p n q t r. of_forgotten k x (told.Refused (cause.Forgotten p n)) t.number (given k x (told.Refused (cause.Forgotten p n)) t) p q refl r;
       committed = λ k x p t. of_committed k x (told.Committed p) t.number (given k x (told.Committed p) t) p refl;
-      dropped = λ k x q t r. of_dropped k x told.Dropped t.number (given k x told.Dropped t) q tt r;
+      refused = record {
+        forgotten = λ k x p n q t r. of_forgotten k x (told.Refused (cause.Forgotten p n)) t.number (given k x (told.Refused (cause.Forgotten p n)) t) p q refl (record_in q k x r);
+        dropped = λ k x q t r. of_dropped k x told.Dropped t.number (given k x told.Dropped t) q tt (record_in q k x r);
+      };
     }
 
 pub replies_are_known : (m : Meaning) → RepliesAreKnown m

@@ -260,6 +260,7 @@ module _ (m : Meaning) where
     number = h.number;
     snap = λ t s is at. let x = h.snap t s is at in record { oid = x.oid; ask = x.ask; answer = x.answer; tells = tells_on m tr ys k t.number (told.Asked x.oid x.ask s x.answer) x.tells };
     first = h.first;
+    ending = h.ending;
     suits = h.suits;
     drafts = λ w is. draft_on (task_in m w.hand) (h.drafts w is);
   }
@@ -293,6 +294,7 @@ module _ (m : Meaning) where
     number = λ t is. absurd (no_some t is);
     snap = λ t s is. absurd (no_some t is);
     first = λ w t is. absurd (no_some w is);
+    ending = λ w t is. absurd (no_some w is);
     suits = λ w is. absurd (no_some w is);
     drafts = λ w is. absurd (no_some w is);
   }
@@ -323,9 +325,9 @@ module _ (m : Meaning) where
   abbrev pub Grown : World m → World m → Type 0
   Grown w v = (ys : Trace m) × (trace m v ≡ trace m w ++ ys)
 
-  stepped_grows : (k : ℕ) (e : EventOf m) (w v : World m) → Stepped k e w v → Grown w v
-  stepped_grows k e w v (Rests c ys t a) = (ys, t)
-  stepped_grows k e w v (Turns r t f g c x) = (map (mark m w.event k) r.notes, x)
+  pub grown_by : (k : ℕ) (e : EventOf m) (w v : World m) → Stepped k e w v → Grown w v
+  grown_by k e w v (Rests c ys t a) = (ys, t)
+  grown_by k e w v (Turns r t f g c x) = (map (mark m w.event k) r.notes, x)
 
   grown_on : (u v w : World m) → Grown u v → Grown v w → Grown u w
   grown_on u v w a b = (a.0 ++ b.0, b.1 ∙ (ap (λ (tr : Trace m). tr ++ b.0) a.1 ∙ regroup (trace m u) a.0 b.0))
@@ -334,7 +336,7 @@ module _ (m : Meaning) where
   unfolding run
   run_grows [] w h = ([], sym (nil_right (trace m w)))
   run_grows (Next ∷ ms) w h = run_grows ms (next_event m w) h
-  run_grows (Takes e ∷ ms) w h = grown_on w (happens m w e) (run m ms (happens m w e)) (stepped_grows 0 e w (happens m w e) (step w e h 0)) (run_grows ms (happens m w e) (step_book w e h))
+  run_grows (Takes e ∷ ms) w h = grown_on w (happens m w e) (run m ms (happens m w e)) (grown_by 0 e w (happens m w e) (step w e h 0)) (run_grows ms (happens m w e) (step_book w e h))
 
   -- transactions are counted upwards
   stepped_begun : (k : ℕ) (e : EventOf m) (w v : World m) → Stepped k e w v → (client m w k).begun ≤ (client m v k).begun
@@ -348,15 +350,15 @@ module _ (m : Meaning) where
   run_begun k (Takes e ∷ ms) w h = let a = stepped_begun k e w (happens m w e) (step w e h k) in let b = run_begun k ms (happens m w e) (step_book w e h) in omega (arith, a, b)
 
   -- a number that is of no open transaction
-  stepped_only : (k : ℕ) (e : EventOf m) (w v : World m) (n : ℕ) (Q : Entry → Type 0) → BookOf m k (trace m w) (client m w k) → Only m n Q (client m w k) → Stepped k e w v → Only m n Q (client m v k)
-  stepped_only k e w v n Q h o (Rests c ys t a) = subst (λ (d : Client m). Only m n Q d) (sym c) o
-  stepped_only k e w v n Q h o (Turns r t f g c x) = subst (λ (d : Client m). Only m n Q d) (sym c) (only_turned m k (trace m w) (client m w k) h n Q o r t)
+  pub only_stepped : (k : ℕ) (e : EventOf m) (w v : World m) (n : ℕ) (Q : Entry → Type 0) → BookOf m k (trace m w) (client m w k) → Only m n Q (client m w k) → Stepped k e w v → Only m n Q (client m v k)
+  only_stepped k e w v n Q h o (Rests c ys t a) = subst (λ (d : Client m). Only m n Q d) (sym c) o
+  only_stepped k e w v n Q h o (Turns r t f g c x) = subst (λ (d : Client m). Only m n Q d) (sym c) (only_turned m k (trace m w) (client m w k) h n Q o r t)
 
   pub run_only : (k n : ℕ) (Q : Entry → Type 0) (ms : Moves m) (w : World m) → WorldBook w → Only m n Q (client m w k) → Only m n Q (client m (run m ms w) k)
   unfolding run
   run_only k n Q [] w h o = o
   run_only k n Q (Next ∷ ms) w h o = run_only k n Q ms (next_event m w) h o
-  run_only k n Q (Takes e ∷ ms) w h o = run_only k n Q ms (happens m w e) (step_book w e h) (stepped_only k e w (happens m w e) n Q (h k) o (step w e h k))
+  run_only k n Q (Takes e ∷ ms) w h o = run_only k n Q ms (happens m w e) (step_book w e h) (only_stepped k e w (happens m w e) n Q (h k) o (step w e h k))
 
   -- a transaction whose end waits, where it isn't refused for want of room
   abbrev pub NeverFull : ℕ → ℕ → Trace m → Type 0
@@ -371,7 +373,7 @@ module _ (m : Meaning) where
   has_marked event k (x ∷ ns) n (inr i) = inr (has_marked event k ns n i)
 
   stepped_held : (k : ℕ) (e : EventOf m) (w v : World m) (t : Tx) (ys : Trace m) → WorldBook w → trace m v ≡ trace m w ++ ys → NeverFull k t.number ys → Stepped k e w v → HeldOr k t w → HeldOr k t v
-  stepped_held k e w v t ys h grown full s (inr o) = inr (stepped_only k e w v t.number (None' m) (h k) o s)
+  stepped_held k e w v t ys h grown full s (inr o) = inr (only_stepped k e w v t.number (None' m) (h k) o s)
   stepped_held k e w v t ys h grown full (Rests c zs x a) (inl held) = inl (subst (λ (d : Client m). Held m t d) (sym c) held)
   stepped_held k e w v t ys h grown full (Turns r y f g c x) (inl held) = by (held_turned m k (trace m w) (client m w k) (h k) t held r never y)
     where
@@ -386,13 +388,13 @@ module _ (m : Meaning) where
       by (inr z) = inr (subst (λ (d : Client m). Only m t.number (None' m) d) (sym c) z)
 
   pub run_held : (k : ℕ) (t : Tx) (ms : Moves m) (w : World m) (ys : Trace m) → WorldBook w → trace m (run m ms w) ≡ trace m w ++ ys → NeverFull k t.number ys → HeldOr k t w → HeldOr k t (run m ms w)
-  unfolding run stepped_grows grown_on
+  unfolding run grown_by grown_on
   run_held k t [] w ys h grown full o = o
   run_held k t (Next ∷ ms) w ys h grown full o = run_held k t ms (next_event m w) ys h grown full o
   run_held k t (Takes e ∷ ms) w ys h grown full o = run_held k t ms (happens m w e) rest.0 (step_book w e h) rest.1 later now
     where
       one : Grown w (happens m w e)
-      one = stepped_grows 0 e w (happens m w e) (step w e h 0)
+      one = grown_by 0 e w (happens m w e) (step w e h 0)
 
       rest : Grown (happens m w e) (run m ms (happens m w e))
       rest = run_grows ms (happens m w e) (step_book w e h)

@@ -5,21 +5,18 @@ use Rattle.tg_base.specs.declared.ids.Oid.{Oid}
 use Rattle.tg_base.specs.declared.marks.StreamLink.{StreamLink}
 use Rattle.tg_entry.specs.declared.entry.Entry.{Entry}
 use Rattle.tg_kind.specs.Meaning.{Meaning}
-use Rattle.tg_model.specs.declared.command.Command.TheVariants as cmd
-use Rattle.tg_model.specs.declared.command.Event.TheVariants.{Command as Commands}
 use Rattle.tg_model.specs.declared.refusal.Refusal.TheVariants as cause
 use Rattle.tg_model.specs.declared.trace.What.TheVariants as told
 use Rattle.tg_model.specs.Kinds.{MarkOf}
 use Rattle.tg_model.specs.Traces.{Trace, Tells}
-use Rattle.tg_protocol.specs.Words.{directory}
 use Rattle.tg_protocol.specs.Entries.{is_commit, linked}
 use Rattle.tg_protocol.specs.Appending.{Append, AppendEnd, At, Full, Forgotten}
 use Rattle.tg_protocol.specs.Views.{Entries}
 use Rattle.tg_protocol.specs.Worlds.{World, start, client, trace}
-use Rattle.tg_protocol.specs.Runs.{Moves, Takes, run}
+use Rattle.tg_protocol.specs.Runs.{Moves, run}
+use Rattle.tg_protocol.specs.Alike.{HasRecord}
 use Rattle.tg_protocol.specs.Holding.{append_by}
 use Rattle.tg_law_history.specs.Worlds.{entries_in}
-use Rattle.tg_law_replies.specs.Told.{HasRecordOf}
 use Rattle.tg_law_replies.specs.Runs.{InEachStep}
 use Rattle.tg_law_books.specs.Ended.{ended_in}
 
@@ -42,7 +39,12 @@ module _ (m : Meaning) where
 
   -- a transaction's record stands at or past where it asked
   abbrev pub AsksPrecede : World m → Type 0
-  AsksPrecede w = (k x p s : ℕ) (o : Oid) (q : m.ask) (a : m.answer) → Tells m (trace m w) k x (told.Asked o q s a) → HasRecordOf (entries_in m w) p k x → s ≤ p
+  AsksPrecede w = (k x p s : ℕ) (o : Oid) (q : m.ask) (a : m.answer) → Tells m (trace m w) k x (told.Asked o q s a) → HasRecord m w p k x → s ≤ p
+
+  -- What was refused has left no record: one that was forgotten none but where the reply says, one that was dropped none.
+  pub record RefusedLeaveNone (w : World m) : Type 0 where
+    pub forgotten : (k x p n q : ℕ) → Tells m (trace m w) k x (told.Refused (cause.Forgotten p n)) → HasRecord m w q k x → q ≡ p
+    pub dropped : (k x q : ℕ) → Tells m (trace m w) k x told.Dropped → HasRecord m w q k x → ⊥
 
   -- An append that has ended stands where it says, with the links that were issued to it; a record that it forgot stands nowhere else.
   abbrev pub EndsSo : Entries → Entry → AppendEnd → Type 0
@@ -53,7 +55,3 @@ module _ (m : Meaning) where
   -- so does each append that ends in a step of the run
   abbrev pub AppendsEnd : Header → Moves m → World m → Type 0
   AppendsEnd h ms w = InEachStep m h ms (λ before v e. (k : ℕ) (a : Append) (x : AppendEnd) → append_by m (client m v k).work ≡ Some a → ended_in m v e k ≡ Some x → EndsSo (entries_in m w) a.draft x)
-
-  -- the op of each mark that was asked for is read as it was spelled
-  abbrev pub MarksSpelled : Moves m → Type 0
-  MarksSpelled ms = (k n : ℕ) (o : Oid) → Contains ms (Takes (Commands k (cmd.Forget o n))) → m.read directory (m.spell (m.mark_op o n)) ≡ Some (m.mark_op o n)

@@ -1,3 +1,4 @@
 pub mod Ended
+pub mod Booked
 pub mod Kept
 pub mod Laws

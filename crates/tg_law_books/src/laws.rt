@@ -1,21 +1,20 @@
 //! What holds of the transactions of every run.
 
 ghost use Rattle.tg_kind.specs.Of.{meaning_of};
-ghost use Rattle.tg_law_books.specs.Laws.{BooksAreKept, RecordsAreKnown, RepliesAreKnown};
+ghost use Rattle.tg_law_books.specs.Laws.{BooksAreKept, RecordsAreKnown, RepliesAreKnown, RunsAreLegal};
 
 use tg_kind::Registry;
 
 /// Each step of a run keeps the books of transactions: what a client closes is the log's record of it, if there is one,
-/// and what it begins is new. From three premises on the log: each of its commit records was begun by its client, in an
-/// append that wasn't refused afterwards for want of room; it stands at or past where its transaction asked; and the
-/// marks that were asked for are spelled.
+/// and what it begins is new. From two premises on the log: each of its commit records was begun by its client, in an
+/// append that wasn't refused afterwards for want of room; and it stands at or past where its transaction asked.
 pub fn books_are_kept<K: Registry>()
     ensures { BooksAreKept (meaning_of K.Registry) }
 {}
 
 /// The log has one record at most of each transaction, with a number that its client has begun; that of a transaction
 /// that is still open is the record of it as it stands, and was ended. No reply speaks of a transaction that its client
-/// hasn't begun. From the first two of these premises, and that no two entries of a kind have one client and number.
+/// hasn't begun. From these premises, and that no two entries of a kind have one client and number.
 pub fn records_are_known<K: Registry>()
     ensures { RecordsAreKnown (meaning_of K.Registry) }
 {}
@@ -26,4 +25,14 @@ pub fn records_are_known<K: Registry>()
 /// ends stands where it says, or, forgotten, nowhere else.
 pub fn replies_are_known<K: Registry>()
     ensures { RepliesAreKnown (meaning_of K.Registry) }
+{}
+
+/// A run is legal: its answers are those of the plain machine over one history, and its outcomes are the history's. From
+/// what its clients find of the log that it ends with, and seven premises on that log: each entry was begun by its
+/// client; no two of a kind have one client and number; a commit record is that of a transaction that was ended, which
+/// writes what was put and reads what was asked; what is told of a record stands there; a record stands at or past where
+/// its transaction asked; one that was forgotten stands nowhere else than its reply says, and of one that was dropped
+/// there is none; and no place of a transaction precedes a reply that came before its beginning.
+pub fn runs_are_legal<K: Registry>()
+    ensures { RunsAreLegal (meaning_of K.Registry) }
 {}

@@ -15,7 +15,7 @@ use Rattle.tg_protocol.specs.Views.{Entries}
 use Rattle.tg_protocol.specs.Logs.{op_if, ops_of}
 use Rattle.tg_protocol.specs.Transactions.{Tx, same_part, read_before, with_read, tx_read, tx_put}
 use Rattle.tg_protocol.specs.Clients.{write_of}
-use Rattle.tg_law_history.specs.Logs.{version_below}
+use Rattle.tg_law_history.specs.Logs.{version_below, AreOps}
 use Rattle.tg_law_history.proofs.Members.{Has, has_contained, contained_has, same_number, same_oid, and_both}
 use Rattle.tg_law_history.proofs.Members.{has_left, has_right, has_image, has_either}
 
@@ -124,6 +124,13 @@ module _ (m : Meaning) where
       by (told.Put o op) p rest = absurd p
       by w p rest = rest
 
+  -- something was answered at a snapshot
+  pub record AskedAt (trace : Trace m) (k x s : ℕ) : Type 0 where
+    pub oid : Oid
+    pub ask : m.ask
+    pub answer : m.answer
+    pub tells : Tells m trace k x (told.Asked oid ask s answer)
+
   module _ (objects : List Oid) (es : Entries) (k : ℕ) where
     -- an open transaction: its writes are the ops that it put, and its reads are what it asked, at one snapshot
     pub record IsOpen (trace : Trace m) (t : Tx) : Type 0 where
@@ -133,6 +140,8 @@ module _ (m : Meaning) where
           → Has t.reads (record { oid = o; part = m.look q; version = version_below m objects es s o (m.look q) })
       pub reads : (r : ReadMark) → Has t.reads r
           → (s : ℕ) × (q : m.ask) × (a : m.answer) × (t.snapshot ≡ Some s) × Tells m trace k t.number (told.Asked r.oid q s a) × (m.look q ≡ r.part) × (r.version ≡ version_below m objects es s r.oid r.part)
+      pub ops : AreOps m t.writes
+      pub asked : (s : ℕ) → t.snapshot ≡ Some s → AskedAt trace k t.number s
 
   module _ (objects : List Oid) (es : Entries) (k event : ℕ) where
     tells_more : (xs ys : Trace m) (x : ℕ) (w : WhatOf m) → Tells m xs k x w → Tells m (xs ++ ys) k x w
@@ -149,6 +158,9 @@ module _ (m : Meaning) where
             let r = has_image (mark event k) ns (record { event = h.event; client = k; tx = x; what = w }) i in
             inr (r.0, r.1, sym (ap (λ (y : MarkOf m). y.what) r.2), sym (ap (λ (y : MarkOf m). y.tx) r.2))
 
+    asked_more : (xs ys : Trace m) (x s : ℕ) → AskedAt xs k x s → AskedAt (xs ++ ys) k x s
+    asked_more xs ys x s h = record { oid = h.oid; ask = h.ask; answer = h.answer; tells = tells_more xs ys x (told.Asked h.oid h.ask s h.answer) h.tells }
+
     nil_right : (us : List (Oid × m.op)) → us ++ [] ≡ us
     nil_right [] = refl
     nil_right (u ∷ us) = ap (λ (vs : List (Oid × m.op)). u ∷ vs) (nil_right us)
@@ -161,6 +173,8 @@ module _ (m : Meaning) where
       snap = λ o q s a i. h.snap o q s a (old o q s a (tells_either trace ns t.number (told.Asked o q s a) i));
       asks = λ o q s a i. h.asks o q s a (old o q s a (tells_either trace ns t.number (told.Asked o q s a) i));
       reads = λ r i. let x = h.reads r i in (x.0, x.1, x.2, x.3, tells_more trace (map (mark event k) ns) t.number (told.Asked r.oid x.1 x.0 x.2) x.4, x.5, x.6);
+      ops = h.ops;
+      asked = λ s is. asked_more trace (map (mark event k) ns) t.number s (h.asked s is);
     }
       where
         old : (o : Oid) (q : m.ask) (s : ℕ) (a : m.answer) → Tells m trace k t.number (told.Asked o q s a) ⊎ ((n : NoteOf m) × Has ns n × (n.what ≡ told.Asked o q s a) × (n.tx ≡ t.number))
@@ -182,8 +196,15 @@ module _ (m : Meaning) where
       asks = λ p q s a i. h.asks p q s a (old p q s a (tells_either trace (record { tx = t.number; what = told.Put o op } ∷ []) t.number (told.Asked p q s a) i));
       reads = λ r i. let x = h.reads r i in
           (x.0, x.1, x.2, x.3, tells_more trace (map (mark event k) (record { tx = t.number; what = told.Put o op } ∷ [])) t.number (told.Asked r.oid x.1 x.0 x.2) x.4, x.5, x.6);
+      ops = λ w i. one_of w (has_either t.writes (write_of m o op ∷ []) w (has_contained (t.writes ++ write_of m o op ∷ []) w i));
+      asked = λ s is. asked_more trace (map (mark event k) (record { tx = t.number; what = told.Put o op } ∷ [])) t.number s (h.asked s is);
     }
       where
+        one_of : (w : WriteOp) → Has t.writes w ⊎ Has (write_of m o op ∷ []) w → (x : m.op) × (m.read w.oid w.op ≡ Some x)
+        one_of w (inl i) = h.ops w (contained_has t.writes w i)
+        one_of w (inr (inl e)) = subst (λ (v : WriteOp). (x : m.op) × (m.read v.oid v.op ≡ Some x)) (sym e) (op, spelled)
+        one_of w (inr (inr i)) = absurd i
+
         itself : ((k == k) && (t.number == t.number)) ≡ true
         itself = grind arith
 
@@ -219,6 +240,8 @@ module _ (m : Meaning) where
       snap = λ p u x b i. snap_by p u x b (tells_either trace (record { tx = t.number; what = told.Asked o q s a } ∷ []) t.number (told.Asked p u x b) i);
       asks = λ p u x b i. asks_by p u x b (tells_either trace (record { tx = t.number; what = told.Asked o q s a } ∷ []) t.number (told.Asked p u x b) i);
       reads = λ x i. reads_by x (with_only (record { oid = o; part = m.look q; version = version_below m objects es s o (m.look q) }) t.reads x i);
+      ops = h.ops;
+      asked = λ x is. record { oid = o; ask = q; answer = a; tells = subst (λ (n : ℕ). Tells m (trace ++ record { event = event; client = k; tx = t.number; what = told.Asked o q s a } ∷ []) k t.number (told.Asked o q n a)) (one s x is) tells_new };
     }
       where
         one : (x y : ℕ) → Some x ≡ Some y → x ≡ y

@@ -1,21 +1,14 @@
--- A transaction's record, and what further replies leave as it is.
-use Rattle.std.proofs.Common.{◌≡◌, ◌⊎◌, ℕ, ◌≤◌, List, [], ◌∷◌, ◌++◌, Bool, true, false, refl, sym, ap, ◌∙◌, subst, inl, inr, Some, Contains}
+-- What further replies leave as it is.
+use Rattle.std.proofs.Common.{◌≡◌, ◌⊎◌, ℕ, List, [], ◌∷◌, ◌++◌, Bool, true, false, refl, sym, ap, ◌∙◌, inl, inr}
 use Rattle.std.specs.Prelude.{if◌then◌else◌, ◌&&◌, ◌==◌}
 use Rattle.tg_base.specs.declared.ids.Oid.{Oid}
-use Rattle.tg_entry.specs.declared.entry.Body.{Body}
-use Rattle.tg_entry.specs.declared.entry.Body.TheVariants.{Commit}
-use Rattle.tg_entry.specs.declared.entry.Entry.{Entry}
 use Rattle.tg_kind.specs.Meaning.{Meaning}
 use Rattle.tg_model.specs.declared.trace.What.TheVariants as told
 use Rattle.tg_model.specs.Kinds.{WhatOf, MarkOf}
 use Rattle.tg_model.specs.Traces.{Trace, Tells, put_of, puts_of}
-use Rattle.tg_protocol.specs.Entries.{reads_in, writes_in}
 use Rattle.tg_protocol.specs.Views.{Entries}
-use Rattle.tg_protocol.specs.Logs.{ops_of}
 use Rattle.tg_protocol.specs.Transactions.{Tx}
-use Rattle.tg_law_history.specs.Logs.{version_below}
 use Rattle.tg_law_history.proofs.Members.{Has, has_contained, contained_has, same_number, and_both, has_either, has_left}
-use Rattle.tg_law_replies.specs.Told.{IsRecord}
 use Rattle.tg_law_replies.proofs.Books.{puts_more, IsPlain, IsOpen}
 
 module _ (m : Meaning) (objects : List Oid) (es : Entries) where
@@ -66,33 +59,6 @@ module _ (m : Meaning) (objects : List Oid) (es : Entries) where
     snap = λ o q s a i. h.snap o q s a (told_before k t.number trace ys o q s a alone i);
     asks = λ o q s a i. h.asks o q s a (told_before k t.number trace ys o q s a alone i);
     reads = λ r i. let x = h.reads r i in (x.0, x.1, x.2, x.3, told_still k t.number trace ys (told.Asked r.oid x.1 x.0 x.2) x.4, x.5, x.6);
+    ops = h.ops;
+    asked = λ s is. let x = h.asked s is in record { oid = x.oid; ask = x.ask; answer = x.answer; tells = told_still k t.number trace ys (told.Asked x.oid x.ask s x.answer) x.tells };
   }
-
-  -- so does what a record says
-  pub record_stays : (trace ys : Trace m) (p : ℕ) (e : Entry) → LeavesAlone e.head.client e.head.number ys → IsRecord m objects es trace p e → IsRecord m objects es (trace ++ ys) p e
-  record_stays trace ys p e alone h = record {
-    ended = told_still e.head.client e.head.number trace ys told.End h.ended;
-    writes = h.writes ∙ sym (puts_stay e.head.client e.head.number trace ys alone);
-    asks = λ o q t a i. h.asks o q t a (told_before e.head.client e.head.number trace ys o q t a alone i);
-    reads = λ r i. let x = h.reads r i in
-        record { ask = x.ask; snapshot = x.snapshot; answer = x.answer; asked = told_still e.head.client e.head.number trace ys (told.Asked r.oid x.ask x.snapshot x.answer) x.asked; looks = x.looks; before = x.before; seen = x.seen };
-  }
-
-  -- The record of an open transaction that was ended.
-
-  pub record_made : (k : ℕ) (trace : Trace m) (t : Tx) (p : ℕ) (e : Entry) → IsOpen m objects es k trace t → Tells m trace k t.number told.End → e.head.client ≡ k → e.head.number ≡ t.number
-      → e.body ≡ Commit t.reads t.writes → ((s : ℕ) → t.snapshot ≡ Some s → s ≤ p) → IsRecord m objects es trace p e
-  record_made k trace t p e h ended client number body after = record {
-    ended = told_as told.End ended;
-    writes = ap (λ (b : Body). ops_of m (writes_in b)) body ∙ (h.puts ∙ (ap (λ (i : ℕ). puts_of m trace i t.number) (sym client) ∙ ap (λ (i : ℕ). puts_of m trace e.head.client i) (sym number)));
-    asks = λ o q s a i. let j = told_of (told.Asked o q s a) i in
-        (after s (h.snap o q s a j), subst (λ (b : Body). Contains (reads_in b) (record { oid = o; part = m.look q; version = version_below m objects es s o (m.look q) })) (sym body) (contained_has t.reads _ (h.asks o q s a j)));
-    reads = λ r i. let x = h.reads r (has_contained t.reads r (subst (λ (b : Body). Contains (reads_in b) r) body i)) in
-        record { ask = x.1; snapshot = x.0; answer = x.2; asked = told_as (told.Asked r.oid x.1 x.0 x.2) x.4; looks = x.5; before = after x.0 x.3; seen = x.6 };
-  }
-    where
-      told_as : (w : WhatOf m) → Tells m trace k t.number w → Tells m trace e.head.client e.head.number w
-      told_as w i = subst (λ (j : ℕ). Tells m trace j e.head.number w) (sym client) (subst (λ (j : ℕ). Tells m trace k j w) (sym number) i)
-
-      told_of : (w : WhatOf m) → Tells m trace e.head.client e.head.number w → Tells m trace k t.number w
-      told_of w i = subst (λ (j : ℕ). Tells m trace k j w) number (subst (λ (j : ℕ). Tells m trace j e.head.number w) client i)

@@ -125,7 +125,7 @@ module _ (m : Meaning) (objects : List Oid) (es : Entries) (P Q : Client m → W
 no_append : (a : Append) → None ≡ Some a → ⊥
 no_append a e = cc
 
-module _ (m : Meaning) (h : Header) (es : Entries) (rising : IsRising es) (listed : AreListed es) where
+module _ (m : Meaning) (h : Header) (es : Entries) (rising : IsRising es) (listed : AreListed es) (writing : AreWriting es) where
   abbrev True : Entry → Type 0
   True e = TrueDraft m h.objects es rising listed e
 
@@ -219,10 +219,10 @@ module _ (m : Meaning) (h : Header) (es : Entries) (rising : IsRising es) (liste
         by None is = λ p e i commit needs less. absurd (omega (arith, less))
         by (Some k) is = none k is
 
-    looks : (p : ℕ) → upto ≡ v.tail → AreWriting own × ((k : View m) → c.view ≡ Some k → LeavesNone m k own) → IsTrueView m h.objects es (view_of m h.objects es c v) → (e : Entry) → commit_at own p ≡ Some e
+    looks : (p : ℕ) → upto ≡ v.tail → ((k : View m) → c.view ≡ Some k → LeavesNone m k own) → IsTrueView m h.objects es (view_of m h.objects es c v) → (e : Entry) → commit_at own p ≡ Some e
         → fate_of m (played m h.objects es c v).view p ≡ None → GoesPast m h.objects es (played m h.objects es c v) p → CanJudge m (played m h.objects es c v).view own p e
     looks p at fit so e here none past =
-        judges_all m h.objects es own (view_of m h.objects es c v) upto p e so begins.entries.rising begins.entries.only fit.0 (leaves fit.1) here
+        judges_all m h.objects es own (view_of m h.objects es c v) upto p e so begins.entries.rising begins.entries.only (λ q d i. writing q d (begins.entries.only q d i)) (leaves fit) here
         (goes_beyond m own (view_of m h.objects es c v) upto p begins.low (let less = mine_below m c v c.hosted p e (commit_there m own p e here).0 in omega (arith, less, at)) past) none
 
     suits_by : (x : CommandOf m) → v.command ≡ x → Fits m h es before c v x → Suits m h.objects es own v (view_of m h.objects es c v) (played m h.objects es c v) x

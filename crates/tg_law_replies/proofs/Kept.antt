@@ -1,26 +1,25 @@
--- The records of a client's transactions, through its turns.
-use Rattle.std.proofs.Common.{◌≡◌, ◌⊎◌, ℕ, ◌+◌, ◌<◌, ◌≤◌, List, [], ◌∷◌, ◌++◌, map, Bool, true, false, refl, sym, ap, ◌∙◌, subst, inl, inr, arith, Option, Some, None, Contains}
+-- What replies tell of a client's transactions, through its turns.
+use Rattle.std.proofs.Common.{◌≡◌, ◌⊎◌, ℕ, ◌+◌, ◌<◌, ◌≤◌, List, [], ◌∷◌, ◌++◌, map, Bool, true, false, refl, sym, ap, ◌∙◌, subst, inl, inr, arith, Option, Some, None}
 use Rattle.std.specs.Prelude.{◌==◌}
 use Rattle.tg_base.specs.declared.ids.Oid.{Oid}
-use Rattle.tg_entry.specs.declared.entry.Entry.{Entry}
+use Rattle.tg_entry.specs.declared.entry.WriteOp.{WriteOp}
 use Rattle.tg_kind.specs.Meaning.{Meaning}
 use Rattle.tg_model.specs.declared.trace.What.TheVariants as told
 use Rattle.tg_model.specs.Kinds.{WhatOf, MarkOf, NoteOf}
-use Rattle.tg_model.specs.Traces.{Trace, Tells}
-use Rattle.tg_protocol.specs.Words.{directory}
-use Rattle.tg_protocol.specs.Entries.{is_commit}
+use Rattle.tg_model.specs.Traces.{Trace, Tells, puts_of}
+use Rattle.tg_model.specs.Legal.{HasNoAsk}
 use Rattle.tg_protocol.specs.Views.{Entries}
-use Rattle.tg_protocol.specs.Transactions.{Tx, open_tx, tx_put}
-use Rattle.tg_protocol.specs.Clients.{Client, write_of}
+use Rattle.tg_protocol.specs.Logs.{ops_of}
+use Rattle.tg_protocol.specs.Transactions.{Tx, open_tx}
+use Rattle.tg_protocol.specs.Clients.{Client}
 use Rattle.tg_protocol.specs.Answers.{note, mark_notes}
-use Rattle.tg_protocol.specs.ClientSteps.{ClientTurn}
+use Rattle.tg_protocol.specs.ClientSteps.{ClientTurn, snapshot_or}
 use Rattle.tg_law_plays.specs.Sound.{IsRising}
-use Rattle.tg_law_history.specs.Logs.{AreListed}
-use Rattle.tg_law_history.proofs.Members.{contained_has, same_number, number_same, contrary, has_right, has_image}
-use Rattle.tg_law_replies.specs.Told.{IsRecord}
-use Rattle.tg_law_replies.specs.Booked.{IsFresh, IsSealed, IsSealedMark, IsBookedTurn}
+use Rattle.tg_law_history.specs.Logs.{AreListed, HasOutcome}
+use Rattle.tg_law_history.proofs.Members.{Has, contained_has, has_contained, same_number, number_same, contrary, has_image, has_either}
 use Rattle.tg_law_replies.proofs.Books.{mark, IsPlain, ArePlain, IsOpen, plain_open, put_open, ask_open}
-use Rattle.tg_law_replies.proofs.Closed.{LeavesAlone, none_put, told_before, open_stays, record_stays, record_made}
+use Rattle.tg_law_replies.proofs.Closed.{LeavesAlone, none_put, puts_stay, told_still, told_before, open_stays}
+use Rattle.tg_law_replies.proofs.Moves.{TrueWhat, TrueNotes}
 use Rattle.tg_law_replies.proofs.Steps.{IsEffect, as_moved}
 
 module _ (m : Meaning) (objects : List Oid) (es : Entries) (rising : IsRising es) (listed : AreListed es) (k : ℕ) where
@@ -28,17 +27,27 @@ module _ (m : Meaning) (objects : List Oid) (es : Entries) (rising : IsRising es
   Open replies t = IsOpen m objects es k replies t × (0 < t.number)
 
   -- a transaction that was begun, and isn't open
-  abbrev pub IsClosed : Client m → ℕ → Type 0
-  IsClosed c x = (0 < x) × (x ≤ c.begun) × ((t : Tx) → c.tx ≡ Some t → t.number ≡ x → ⊥)
+  abbrev pub IsOver : Client m → ℕ → Type 0
+  IsOver c x = (0 < x) × (x ≤ c.begun) × ((t : Tx) → c.tx ≡ Some t → t.number ≡ x → ⊥)
 
   abbrev OneSnapshot : Trace m → ℕ → Type 0
   OneSnapshot replies x = (o r : Oid) (q s : m.ask) (t u : ℕ) (a b : m.answer) → Tells m replies k x (told.Asked o q t a) → Tells m replies k x (told.Asked r s u b) → t ≡ u
 
+  -- a transaction put nothing, and commits where it asked, or at 0
+  pub record OnlyReads (replies : Trace m) (x p : ℕ) : Type 0 where
+    pub puts : puts_of m replies k x ≡ []
+    pub asks : (o : Oid) (q : m.ask) (s : ℕ) (a : m.answer) → Tells m replies k x (told.Asked o q s a) → p ≡ s
+    pub idle : HasNoAsk m replies k x → p ≡ 0
+
+  abbrev Committed : Trace m → Client m → ℕ → ℕ → Type 0
+  Committed replies c x p = HasOutcome m objects es p true ⊎ (IsOver c x × OnlyReads replies x p)
+
   -- what holds of a client and of its replies
   pub record IsKept (replies : Trace m) (c : Client m) : Type 0 where
     pub «open» : (t : Tx) → c.tx ≡ Some t → Open replies t × (t.number ≤ c.begun)
-    pub records : (p : ℕ) (e : Entry) → Contains es (p, e) → is_commit e ≡ true → e.head.client ≡ k → IsClosed c e.head.number → IsRecord m objects es replies p e
-    pub snapshots : (x : ℕ) → IsClosed c x → OneSnapshot replies x
+    pub later : (x : ℕ) → c.begun < x → LeavesAlone m objects es k x replies
+    pub snapshots : (x : ℕ) → IsOver c x → OneSnapshot replies x
+    pub committed : (x p : ℕ) → Tells m replies k x (told.Committed p) → Committed replies c x p
 
   -- Replies of others, and of other transactions.
 
@@ -58,186 +67,227 @@ module _ (m : Meaning) (objects : List Oid) (es : Entries) (rising : IsRising es
   marks_alone event x y o p other t (inr (inr (inl e))) c d = absurd (other (sym (ap (λ (z : MarkOf m). z.tx) e) ∙ d))
   marks_alone event x y o p other t (inr (inr (inr i))) c d = absurd i
 
+  both_alone : (x : ℕ) (xs ys : Trace m) → LeavesAlone m objects es k x xs → LeavesAlone m objects es k x ys → LeavesAlone m objects es k x (xs ++ ys)
+  both_alone x xs ys a b t i c d = by (has_either xs ys t i)
+    where
+      by : Has xs t ⊎ Has ys t → IsPlain m t.what
+      by (inl j) = a t j c d
+      by (inr j) = b t j c d
+
   snap_before : (x : ℕ) (replies ys : Trace m) → LeavesAlone m objects es k x ys → OneSnapshot replies x → OneSnapshot (replies ++ ys) x
   snap_before x replies ys alone h o r q s t u a b i j =
       h o r q s t u a b (told_before m objects es k x replies ys o q t a alone i) (told_before m objects es k x replies ys r s u b alone j)
+
+  -- what isn't asked has one snapshot
+  no_snapshot : (x : ℕ) (replies : Trace m) → LeavesAlone m objects es k x replies → OneSnapshot replies x
+  no_snapshot x replies alone o r q s t u a b i j = absurd (alone (record { event = i.event; client = k; tx = x; what = told.Asked o q t a }) (has_contained replies (record { event = i.event; client = k; tx = x; what = told.Asked o q t a }) i.here) refl refl)
+
+  pub reads_stay : (x p : ℕ) (replies ys : Trace m) → LeavesAlone m objects es k x ys → OnlyReads replies x p → OnlyReads (replies ++ ys) x p
+  reads_stay x p replies ys alone h = record {
+    puts = puts_stay m objects es k x replies ys alone ∙ h.puts;
+    asks = λ o q s a i. h.asks o q s a (told_before m objects es k x replies ys o q s a alone i);
+    idle = λ none. h.idle (λ o q s a i. none o q s a (told_still m objects es k x replies ys (told.Asked o q s a) i));
+  }
+
+  -- what an open transaction without writes comes to
+  pub reads_only : (replies : Trace m) (t : Tx) → IsOpen m objects es k replies t → t.writes ≡ [] → OnlyReads replies t.number (snapshot_or m t.snapshot)
+  reads_only replies t h none = record {
+    puts = sym h.puts ∙ ap (λ (ws : List WriteOp). ops_of m ws) none;
+    asks = λ o q s a i. ap (λ (y : Option ℕ). snapshot_or m y) (h.snap o q s a i);
+    idle = λ no_ask. by t.snapshot refl no_ask;
+  }
+    where
+      by : (s : Option ℕ) → t.snapshot ≡ s → HasNoAsk m replies k t.number → snapshot_or m s ≡ 0
+      by None is no_ask = refl
+      by (Some s) is no_ask = let x = h.asked s is in absurd (no_ask x.oid x.ask s x.answer x.tells)
 
   -- another client's replies
   pub others_kept : (replies : Trace m) (c : Client m) (event n : ℕ) (ns : List (NoteOf m)) → (n ≡ k → ⊥) → IsKept replies c → IsKept (replies ++ map (mark m event n) ns) c
   others_kept replies c event n ns other h = record {
     «open» = λ t is. let x = h.«open» t is in ((open_stays m objects es k replies (map (mark m event n) ns) t (others_alone event n t.number ns other) x.0.0, x.0.1), x.1);
-    records = λ p e i l is closed.
-        record_stays m objects es replies (map (mark m event n) ns) p e
-        (subst (λ (j : ℕ). LeavesAlone m objects es j e.head.number (map (mark m event n) ns)) (sym is) (others_alone event n e.head.number ns other)) (h.records p e i l is closed);
-    snapshots = λ x closed. snap_before x replies (map (mark m event n) ns) (others_alone event n x ns other) (h.snapshots x closed);
+    later = λ x less. both_alone x replies (map (mark m event n) ns) (h.later x less) (others_alone event n x ns other);
+    snapshots = λ x over. snap_before x replies (map (mark m event n) ns) (others_alone event n x ns other) (h.snapshots x over);
+    committed = λ x p tells. by x p tells (has_either replies (map (mark m event n) ns) (record { event = tells.event; client = k; tx = x; what = told.Committed p }) (has_contained (replies ++ map (mark m event n) ns) (record { event = tells.event; client = k; tx = x; what = told.Committed p }) tells.here));
   }
+    where
+      still : (x p : ℕ) → Committed replies c x p → Committed (replies ++ map (mark m event n) ns) c x p
+      still x p (inl out) = inl out
+      still x p (inr o) = inr (o.0, reads_stay x p replies (map (mark m event n) ns) (others_alone event n x ns other) o.1)
 
-  -- What a transaction that was begun before has come to.
+      by : (x p : ℕ) (tells : Tells m (replies ++ map (mark m event n) ns) k x (told.Committed p))
+          → Has replies (record { event = tells.event; client = k; tx = x; what = told.Committed p }) ⊎ Has (map (mark m event n) ns) (record { event = tells.event; client = k; tx = x; what = told.Committed p })
+          → Committed (replies ++ map (mark m event n) ns) c x p
+      by x p tells (inl i) = still x p (h.committed x p (record { number = tells.number; event = tells.event; here = contained_has replies (record { event = tells.event; client = k; tx = x; what = told.Committed p }) i }))
+      by x p tells (inr i) = let r = has_image (mark m event n) ns (record { event = tells.event; client = k; tx = x; what = told.Committed p }) i in absurd (other (sym (ap (λ (y : MarkOf m). y.client) r.2)))
 
-  abbrev Records : Trace m → ℕ → Type 0
-  Records replies x = (p : ℕ) (e : Entry) → Contains es (p, e) → is_commit e ≡ true → e.head.client ≡ k → e.head.number ≡ x → IsRecord m objects es replies p e
-
-  abbrev Known : Trace m → ℕ → Type 0
-  Known replies x = OneSnapshot replies x × Records replies x
-
-  known_still : (x : ℕ) (replies ys : Trace m) → LeavesAlone m objects es k x ys → Known replies x → Known (replies ++ ys) x
-  known_still x replies ys alone h = (
-    snap_before x replies ys alone h.0,
-    λ p e i l is at.
-        record_stays m objects es replies ys p e
-        (subst (λ (j : ℕ). LeavesAlone m objects es j e.head.number ys) (sym is) (subst (λ (y : ℕ). LeavesAlone m objects es k y ys) (sym at) alone)) (h.1 p e i l is at),
-  )
-
-  kept_known : (replies : Trace m) (c : Client m) (x : ℕ) → IsKept replies c → IsClosed c x → Known replies x
-  kept_known replies c x h closed =
-      (h.snapshots x closed, λ p e i l is at. h.records p e i l is (subst (λ (y : ℕ). IsClosed c y) (sym at) closed))
+  -- A client's turn keeps what holds, where it says so of the transaction that it begins, and of what it tells.
 
   one_number : (a b : ℕ) → Some a ≡ Some b → a ≡ b
   one_number a b e = cc
 
-  -- one that is closed now, and whose record is sealed
-  sealed_known : (replies : Trace m) (t : Tx) → Open replies t → IsSealed m es replies k t → Known replies t.number
-  sealed_known replies t h seal = (
-    λ o r q s u v a b i j. one_number u v (sym (h.0.snap o q u a i) ∙ h.0.snap r s v b j),
-    λ p e i l is at. let x = seal p e i l is at in record_made m objects es k replies t p e h.0 x.0 is at x.1 x.2,
-  )
-
-  before_known : (replies : Trace m) (c d : Client m) → IsKept replies c
-      → ((t : Tx) → c.tx ≡ Some t → ((y : Tx) → d.tx ≡ Some y → y.number ≡ t.number → ⊥) → IsSealed m es replies k t) → (x : ℕ) → IsClosed d x → x ≤ c.begun → Known replies x
-  before_known replies c d h seal x closed le = by c.tx refl
-    where
-      none : (t : Tx) → None ≡ Some t → ⊥
-      none t e = cc
-
-      one : (s t : Tx) → Some s ≡ Some t → s ≡ t
-      one s t e = cc
-
-      same : (t : Tx) → c.tx ≡ Some t → (b : Bool) → (t.number == x) ≡ b → Known replies x
-      same t is true e =
-          let at = same_number t.number x e in
-          subst (λ (y : ℕ). Known replies y) at (sealed_known replies t (h.«open» t is).0 (seal t is (λ y has number. closed.2 y has (number ∙ at))))
-      same t is false e =
-          kept_known replies c x h
-          (closed.0, le, λ y has number. contrary (t.number == x) e (number_same t.number x (ap (λ (z : Tx). z.number) (one t y (sym is ∙ has)) ∙ number)))
-
-      by : (t : Option Tx) → c.tx ≡ t → Known replies x
-      by None is = kept_known replies c x h (closed.0, le, λ y has number. absurd (none y (sym is ∙ has)))
-      by (Some t) is = same t is (t.number == x) refl
-
-  -- so a client's turn keeps what holds, where it says so of the transaction that it begins
-  build : (replies ys : Trace m) (c d : Client m) → IsKept replies c
-      → ((t : Tx) → c.tx ≡ Some t → ((y : Tx) → d.tx ≡ Some y → y.number ≡ t.number → ⊥) → IsSealed m es replies k t)
-      → (d.begun ≤ c.begun + 1) → ((x : ℕ) → IsClosed d x → x ≤ c.begun → LeavesAlone m objects es k x ys)
-      → ((t : Tx) → d.tx ≡ Some t → Open (replies ++ ys) t × (t.number ≤ d.begun))
-      → ((x : ℕ) → x ≡ c.begun + 1 → IsClosed d x → Known (replies ++ ys) x) → IsKept (replies ++ ys) d
-  build replies ys c d h seal begun alone opens new = record {
-    «open» = opens;
-    records = λ p e i l is closed. (all e.head.number closed).1 p e i l is refl;
-    snapshots = λ x closed. (all x closed).0;
-  }
-    where
-      split : (x n : ℕ) → x ≤ n + 1 → (x ≤ n) ⊎ (x ≡ n + 1)
-      split x n le = grind arith
-
-      by : (x : ℕ) → IsClosed d x → (x ≤ c.begun) ⊎ (x ≡ c.begun + 1) → Known (replies ++ ys) x
-      by x closed (inl le) = known_still x replies ys (alone x closed le) (before_known replies c d h seal x closed le)
-      by x closed (inr at) = new x at closed
-
-      all : (x : ℕ) → IsClosed d x → Known (replies ++ ys) x
-      all x closed = by x closed (split x c.begun (let le = closed.1 in omega (arith, le, begun)))
-
-  -- The transaction of a mark, by itself.
-
-  fresh_open : (replies : Trace m) (x : ℕ) → 0 < x → IsFresh m es replies k x → Open replies (open_tx x)
-  fresh_open replies x positive fresh = (
-    record {
-      puts = sym (none_put m objects es k x replies (λ t i c d. absurd (fresh t (contained_has replies t i) c d)));
-      snap = λ o q s a i. absurd (fresh _ i.here refl refl);
-      asks = λ o q s a i. absurd (fresh _ i.here refl refl);
-      reads = λ r i. absurd i;
-    },
-    positive,
-  )
-
-  plain_one : (event : ℕ) (replies : Trace m) (t : Tx) (x : ℕ) (w : WhatOf m) → IsPlain m w → Open replies t → Open (replies ++ map (mark m event k) (note m x w ∷ [])) t
-  plain_one event replies t x w p h = (plain_open m objects es k event replies (note m x w ∷ []) t plain h.0, h.1)
-    where
-      plain : ArePlain m (note m x w ∷ [])
-      plain n (inl e) = subst (λ (y : NoteOf m). IsPlain m y.what) (sym e) p
-      plain n (inr i) = absurd i
-
-  joined : (xs : Trace m) (y : MarkOf m) (ys : Trace m) → (xs ++ y ∷ []) ++ ys ≡ xs ++ y ∷ ys
-  joined [] y ys = refl
-  joined (x ∷ xs) y ys = ap (λ (zs : Trace m). x ∷ zs) (joined xs y ys)
-
-  mark_open : (event : ℕ) (replies : Trace m) (x : ℕ) (o : Oid) (n : ℕ) → 0 < x → IsFresh m es replies k x → m.read directory (m.spell (m.mark_op o n)) ≡ Some (m.mark_op o n)
-      → Open (replies ++ map (mark m event k) (mark_notes m x o n)) (tx_put (open_tx x) (write_of m directory (m.mark_op o n)))
-  mark_open event replies x o n positive fresh spelled =
-      let begun = plain_one event replies (open_tx x) x told.Begin tt (fresh_open replies x positive fresh) in
-      let put = put_open m objects es k event (replies ++ map (mark m event k) (note m x told.Begin ∷ [])) (open_tx x) directory (m.mark_op o n) spelled begun.0 in
-      let ended = plain_one event ((replies ++ map (mark m event k) (note m x told.Begin ∷ [])) ++ map (mark m event k) (note m x (told.Put directory (m.mark_op o n)) ∷ []))
-      (tx_put (open_tx x) (write_of m directory (m.mark_op o n))) x told.End tt (put, positive) in
-      subst (λ (rs : Trace m). Open rs (tx_put (open_tx x) (write_of m directory (m.mark_op o n))))
-      (joined (replies ++ map (mark m event k) (note m x told.Begin ∷ [])) (mark m event k (note m x (told.Put directory (m.mark_op o n)))) (map (mark m event k) (note m x told.End ∷ []))
-      ∙ joined replies (mark m event k (note m x told.Begin)) (map (mark m event k) (note m x (told.Put directory (m.mark_op o n)) ∷ note m x told.End ∷ []))) ended
-
-  mark_known : (event : ℕ) (replies : Trace m) (x : ℕ) (o : Oid) (n : ℕ) → 0 < x → IsFresh m es replies k x → IsSealedMark m es k x o n → Known (replies ++ map (mark m event k) (mark_notes m x o n)) x
-  mark_known event replies x o n positive fresh seal =
-      sealed_known (replies ++ map (mark m event k) (mark_notes m x o n)) (tx_put (open_tx x) (write_of m directory (m.mark_op o n))) (mark_open event replies x o n positive fresh seal.0)
-      (λ p e i l is at. (ended, seal.1 p e i l is at, λ s none. absurd (no s none)))
-    where
-      no : (s : ℕ) → None ≡ Some s → ⊥
-      no s e = cc
-
-      ended : Tells m (replies ++ map (mark m event k) (mark_notes m x o n)) k x told.End
-      ended = record {
-        number = positive;
-        event = event;
-        here = contained_has (replies ++ map (mark m event k) (mark_notes m x o n)) (mark m event k (note m x told.End))
-            (has_right replies (map (mark m event k) (mark_notes m x o n)) (mark m event k (note m x told.End)) (inr (inr (inl refl))));
-      }
-
-  -- A client's turn.
-
   some_tx : (s t : Tx) → Some s ≡ Some t → s ≡ t
   some_tx s t e = cc
 
-  pub turn_kept : (replies : Trace m) (event : ℕ) (c : Client m) (t : ClientTurn m) → IsKept replies c → IsEffect m objects es rising listed c (as_moved m objects es rising listed t) → IsBookedTurn m es replies k c t
-      → IsKept (replies ++ map (mark m event k) t.notes) t.now
-  turn_kept replies event c t h (inl (inl e)) book =
-      build replies (map (mark m event k) t.notes) c t.now h book.closes (let b = e.begun in omega (arith, b)) (λ x closed le. plain_alone event x t.notes e.plain) (opens e.tx)
-      (λ x at closed. let b = e.begun in let le = closed.1 in absurd (omega (arith, at, b, le)))
-    where
-      none : (y : Tx) → None ≡ Some y → ⊥
-      none y z = cc
+  no_tx : (t : Tx) → None ≡ Some t → ⊥
+  no_tx t e = cc
 
+  build : (replies ys : Trace m) (c d : Client m) → IsKept replies c → c.begun ≤ d.begun
+      → ((x : ℕ) → (x ≤ c.begun) × IsOver d x ⊎ (d.begun < x) → LeavesAlone m objects es k x ys) → ((x : ℕ) → IsOver c x → IsOver d x)
+      → ((t : Tx) → d.tx ≡ Some t → Open (replies ++ ys) t × (t.number ≤ d.begun))
+      → ((x : ℕ) → c.begun < x → IsOver d x → OneSnapshot (replies ++ ys) x)
+      → ((x p : ℕ) → Tells m ys k x (told.Committed p) → Committed (replies ++ ys) d x p) → IsKept (replies ++ ys) d
+  build replies ys c d h begun alone over opens new told_now = record {
+    «open» = opens;
+    later = λ x less. both_alone x replies ys (h.later x (omega (arith, less, begun))) (alone x (inr less));
+    snapshots = λ x o. snap x o (split x c.begun);
+    committed = λ x p tells. by x p tells (has_either replies ys (record { event = tells.event; client = k; tx = x; what = told.Committed p }) (has_contained (replies ++ ys) (record { event = tells.event; client = k; tx = x; what = told.Committed p }) tells.here));
+  }
+    where
+      split : (x n : ℕ) → (x ≤ n) ⊎ (n < x)
+      split x n = grind arith
+
+      -- a transaction that is over now was over, or was open
+      early : (x : ℕ) → IsOver d x → x ≤ c.begun → (t : Option Tx) → c.tx ≡ t → OneSnapshot replies x
+      early x o le None is = h.snapshots x (o.0, le, λ t has at. no_tx t (sym is ∙ has))
+      early x o le (Some t) is = same (t.number == x) refl
+        where
+          same : (b : Bool) → (t.number == x) ≡ b → OneSnapshot replies x
+          same true e = subst (λ (y : ℕ). OneSnapshot replies y) (same_number t.number x e) (let w = (h.«open» t is).0.0 in λ o r q s u v a b i j. one_number u v (sym (w.snap o q u a i) ∙ w.snap r s v b j))
+          same false e = h.snapshots x (o.0, le, λ y has at. contrary (t.number == x) e (number_same t.number x (ap (λ (z : Tx). z.number) (some_tx t y (sym is ∙ has)) ∙ at)))
+
+      snap : (x : ℕ) → IsOver d x → (x ≤ c.begun) ⊎ (c.begun < x) → OneSnapshot (replies ++ ys) x
+      snap x o (inl le) = snap_before x replies ys (alone x (inl (le, o))) (early x o le c.tx refl)
+      snap x o (inr less) = new x less o
+
+      still : (x p : ℕ) → Committed replies c x p → Committed (replies ++ ys) d x p
+      still x p (inl out) = inl out
+      still x p (inr o) = let now = over x o.0 in inr (now, reads_stay x p replies ys (alone x (inl (o.0.1, now))) o.1)
+
+      by : (x p : ℕ) (tells : Tells m (replies ++ ys) k x (told.Committed p))
+          → Has replies (record { event = tells.event; client = k; tx = x; what = told.Committed p }) ⊎ Has ys (record { event = tells.event; client = k; tx = x; what = told.Committed p }) → Committed (replies ++ ys) d x p
+      by x p tells (inl i) = still x p (h.committed x p (record { number = tells.number; event = tells.event; here = contained_has replies (record { event = tells.event; client = k; tx = x; what = told.Committed p }) i }))
+      by x p tells (inr i) = told_now x p (record { number = tells.number; event = tells.event; here = contained_has ys (record { event = tells.event; client = k; tx = x; what = told.Committed p }) i })
+
+  fresh_open : (replies : Trace m) (x : ℕ) → 0 < x → LeavesAlone m objects es k x replies → Open replies (open_tx x)
+  fresh_open replies x positive alone = (
+    record {
+      puts = sym (none_put m objects es k x replies alone);
+      snap = λ o q s a i. absurd (never o q s a i);
+      asks = λ o q s a i. absurd (never o q s a i);
+      reads = λ r i. absurd i;
+      ops = λ w i. absurd (has_contained [] w i);
+      asked = λ s none. absurd (no s none);
+    },
+    positive,
+  )
+    where
+      never : (o : Oid) (q : m.ask) (s : ℕ) (a : m.answer) → Tells m replies k x (told.Asked o q s a) → ⊥
+      never o q s a i = alone (record { event = i.event; client = k; tx = x; what = told.Asked o q s a }) (has_contained replies (record { event = i.event; client = k; tx = x; what = told.Asked o q s a }) i.here) refl refl
+
+      no : (s : ℕ) → None ≡ Some s → ⊥
+      no s e = cc
+
+  -- what is told of an outcome in true notes is so
+  so_told : (replies : Trace m) (d : Client m) (event : ℕ) (ns : List (NoteOf m)) → TrueNotes m objects es rising listed ns → (x p : ℕ) → Tells m (map (mark m event k) ns) k x (told.Committed p) → Committed (replies ++ map (mark m event k) ns) d x p
+  so_told replies d event ns so x p tells =
+      let r = has_image (mark m event k) ns (record { event = tells.event; client = k; tx = x; what = told.Committed p }) (has_contained (map (mark m event k) ns) (record { event = tells.event; client = k; tx = x; what = told.Committed p }) tells.here) in
+      inl (subst (λ (w : WhatOf m). TrueWhat m objects es rising listed w) (sym (ap (λ (y : MarkOf m). y.what) r.2)) (so r.0 r.1))
+
+  -- the transaction that it was, or none
+  same_over : (c d : Client m) → c.begun ≤ d.begun → (d.tx ≡ c.tx) ⊎ (d.tx ≡ None) → (x : ℕ) → IsOver c x → IsOver d x
+  same_over c d begun (inl same) x o = let le = o.1 in (o.0, omega (arith, le, begun), λ t is at. o.2 t (sym same ∙ is) at)
+  same_over c d begun (inr gone) x o = let le = o.1 in (o.0, omega (arith, le, begun), λ t is at. no_tx t (sym gone ∙ is))
+
+  -- the same one, with more in it
+  more_over : (c d : Client m) (of of' : Tx) → c.begun ≤ d.begun → c.tx ≡ Some of → d.tx ≡ Some of' → of'.number ≡ of.number → (x : ℕ) → IsOver c x → IsOver d x
+  more_over c d of of' begun from tx number x o =
+      let le = o.1 in (o.0, omega (arith, le, begun), λ t is at. o.2 of from (sym number ∙ (ap (λ (z : Tx). z.number) (some_tx of' t (sym tx ∙ is)) ∙ at)))
+
+  -- notes of the open transaction leave others alone
+  its_alone : (event : ℕ) (c d : Client m) (of of' : Tx) (w : WhatOf m) → of.number ≤ c.begun → c.begun ≤ d.begun → d.tx ≡ Some of' → of'.number ≡ of.number → (x : ℕ) → (x ≤ c.begun) × IsOver d x ⊎ (d.begun < x)
+      → LeavesAlone m objects es k x (map (mark m event k) (note m of.number w ∷ []))
+  its_alone event c d of of' w le begun tx number x (inl o) = one_alone event x (note m of.number w) (λ at. o.1.2 of' tx (number ∙ at))
+  its_alone event c d of of' w le begun tx number x (inr less) = one_alone event x (note m of.number w) (λ at. omega (arith, at, less, le, begun))
+
+  -- nothing above what was begun
+  none_new : (c d : Client m) (tr : Trace m) → d.begun ≡ c.begun → (x : ℕ) → c.begun < x → IsOver d x → OneSnapshot tr x
+  none_new c d tr begun x less o = let le = o.1 in absurd (omega (arith, less, le, begun))
+
+  abbrev end_notes : ℕ → ℕ → List (NoteOf m)
+  end_notes x p = note m x told.End ∷ note m x (told.Committed p) ∷ []
+
+  ends_plain : (x p : ℕ) → ArePlain m (end_notes x p)
+  ends_plain x p n (inl i) = subst (λ (y : NoteOf m). IsPlain m y.what) (sym i) tt
+  ends_plain x p n (inr (inl i)) = subst (λ (y : NoteOf m). IsPlain m y.what) (sym i) tt
+  ends_plain x p n (inr (inr i)) = absurd i
+
+  not_end : (p : ℕ) → ◌≡◌ {A = WhatOf m} (told.Committed p) told.End → ⊥
+  not_end p e = cc
+
+  abbrev commit_place : WhatOf m → ℕ
+  commit_place (told.Committed p) = p
+  commit_place what = 0
+
+  same_commit : (p q : ℕ) → ◌≡◌ {A = WhatOf m} (told.Committed p) (told.Committed q) → p ≡ q
+  same_commit p q e = ap commit_place e
+
+  abbrev NotAsk : WhatOf m → Type 0
+  NotAsk (told.Asked o q s a) = ⊥
+  NotAsk what = Unit {0}
+
+  no_ask : (what : WhatOf m) (o : Oid) (q : m.ask) (s : ℕ) (a : m.answer) → NotAsk what → what ≡ told.Asked o q s a → ⊥
+  no_ask what o q s a n is = subst NotAsk is n
+
+  pub turn_kept : (replies : Trace m) (event : ℕ) (c : Client m) (t : ClientTurn m) → IsKept replies c → IsEffect m objects es rising listed c (as_moved m objects es rising listed t) → IsKept (replies ++ map (mark m event k) t.notes) t.now
+  turn_kept replies event c t h (inl (so, inl (inl e))) =
+      build replies (map (mark m event k) t.notes) c t.now h (let b = e.begun in omega (arith, b)) (λ x o. plain_alone event x t.notes e.plain) (same_over c t.now (let b = e.begun in omega (arith, b)) e.tx) (opens e.tx)
+      (none_new c t.now (replies ++ map (mark m event k) t.notes) e.begun) (so_told replies t.now event t.notes so)
+    where
       opens : (t.now.tx ≡ c.tx) ⊎ (t.now.tx ≡ None) → (y : Tx) → t.now.tx ≡ Some y → Open (replies ++ map (mark m event k) t.notes) y × (y.number ≤ t.now.begun)
       opens (inl same) y is =
           let o = h.«open» y (sym same ∙ is) in
           let le = o.1 in let b = e.begun in
           ((plain_open m objects es k event replies t.notes y e.plain o.0.0, o.0.1), omega (arith, le, b))
-      opens (inr gone) y is = absurd (none y (sym gone ∙ is))
-  turn_kept replies event c t h (inl (inr (inl e))) book =
+      opens (inr gone) y is = absurd (no_tx y (sym gone ∙ is))
+  turn_kept replies event c t h (inl (so, inl (inr (inl e)))) =
       subst (λ (ns : List (NoteOf m)). IsKept (replies ++ map (mark m event k) ns) t.now) (sym e.notes)
-      (build replies (map (mark m event k) (note m e.of.number (told.Asked e.oid e.ask e.snapshot e.answer) ∷ [])) c t.now h book.closes (let b = e.begun in omega (arith, b))
-      (λ x closed le. one_alone event x (note m e.of.number (told.Asked e.oid e.ask e.snapshot e.answer)) (λ at. closed.2 _ e.tx at)) opens
-      (λ x at closed. let b = e.begun in let le = closed.1 in absurd (omega (arith, at, b, le))))
+      (build replies (map (mark m event k) (note m e.of.number (told.Asked e.oid e.ask e.snapshot e.answer) ∷ [])) c t.now h begun (its_alone event c t.now e.of _ (told.Asked e.oid e.ask e.snapshot e.answer) (h.«open» e.of e.from).1 begun e.tx refl)
+      (more_over c t.now e.of _ begun e.from e.tx refl) opens (none_new c t.now _ e.begun)
+      (so_told replies t.now event (note m e.of.number (told.Asked e.oid e.ask e.snapshot e.answer) ∷ []) (subst (λ (ns : List (NoteOf m)). TrueNotes m objects es rising listed ns) e.notes so)))
     where
+      begun : c.begun ≤ t.now.begun
+      begun = let b = e.begun in omega (arith, b)
+
       opens : (y : Tx) → t.now.tx ≡ Some y → Open (replies ++ map (mark m event k) (note m e.of.number (told.Asked e.oid e.ask e.snapshot e.answer) ∷ [])) y × (y.number ≤ t.now.begun)
       opens y is =
           let o = h.«open» e.of e.from in
           let le = o.1 in let b = e.begun in
           subst (λ (z : Tx). Open (replies ++ map (mark m event k) (note m e.of.number (told.Asked e.oid e.ask e.snapshot e.answer) ∷ [])) z × (z.number ≤ t.now.begun)) (some_tx _ y (sym e.tx ∙ is))
           ((ask_open m objects es k event replies e.of e.oid e.ask e.snapshot e.answer o.0.1 e.first o.0.0, o.0.1), omega (arith, le, b))
-  turn_kept replies event c t h (inl (inr (inr e))) book =
+  turn_kept replies event c t h (inl (so, inl (inr (inr e)))) =
       subst (λ (ns : List (NoteOf m)). IsKept (replies ++ map (mark m event k) ns) t.now) (sym e.notes)
-      (build replies (map (mark m event k) (mark_notes m (c.begun + 1) e.oid e.mark)) c t.now h book.closes (let b = e.begun in omega (arith, b))
-      (λ x closed le. marks_alone event x (c.begun + 1) e.oid e.mark (λ at. omega (arith, at, le))) (opens e.tx)
-      (λ x at closed. subst (λ (y : ℕ). Known (replies ++ map (mark m event k) (mark_notes m (c.begun + 1) e.oid e.mark)) y) (sym at)
-      (mark_known event replies (c.begun + 1) e.oid e.mark (omega arith) (book.begins e.begun) (book.marks e.oid e.mark e.notes))))
+      (build replies (map (mark m event k) (mark_notes m (c.begun + 1) e.oid e.mark)) c t.now h begun alone (same_over c t.now begun e.tx) (opens e.tx) new
+      (so_told replies t.now event (mark_notes m (c.begun + 1) e.oid e.mark) (subst (λ (ns : List (NoteOf m)). TrueNotes m objects es rising listed ns) e.notes so)))
     where
-      none : (y : Tx) → None ≡ Some y → ⊥
-      none y z = cc
+      begun : c.begun ≤ t.now.begun
+      begun = let b = e.begun in omega (arith, b)
+
+      alone : (x : ℕ) → (x ≤ c.begun) × IsOver t.now x ⊎ (t.now.begun < x) → LeavesAlone m objects es k x (map (mark m event k) (mark_notes m (c.begun + 1) e.oid e.mark))
+      alone x (inl o) = marks_alone event x (c.begun + 1) e.oid e.mark (λ at. let le = o.0 in omega (arith, at, le))
+      alone x (inr less) = marks_alone event x (c.begun + 1) e.oid e.mark (λ at. let b = e.begun in omega (arith, at, less, b))
+
+      asks_none : (u : MarkOf m) → Has (map (mark m event k) (mark_notes m (c.begun + 1) e.oid e.mark)) u → (o : Oid) (q : m.ask) (s : ℕ) (a : m.answer) → u.what ≡ told.Asked o q s a → ⊥
+      asks_none u (inl i) o q s a is = no_ask told.Begin o q s a tt (sym (ap (λ (y : MarkOf m). y.what) i) ∙ is)
+      asks_none u (inr (inl i)) o q s a is = no_ask (told.Put _ _) o q s a tt (sym (ap (λ (y : MarkOf m). y.what) i) ∙ is)
+      asks_none u (inr (inr (inl i))) o q s a is = no_ask told.End o q s a tt (sym (ap (λ (y : MarkOf m). y.what) i) ∙ is)
+      asks_none u (inr (inr (inr i))) o q s a is = absurd i
+
+      new : (x : ℕ) → c.begun < x → IsOver t.now x → OneSnapshot (replies ++ map (mark m event k) (mark_notes m (c.begun + 1) e.oid e.mark)) x
+      new x less over o r q s i u a b tells again = absurd (by (has_either replies (map (mark m event k) (mark_notes m (c.begun + 1) e.oid e.mark)) (record { event = tells.event; client = k; tx = x; what = told.Asked o q i a }) (has_contained _ (record { event = tells.event; client = k; tx = x; what = told.Asked o q i a }) tells.here)))
+        where
+          by : Has replies (record { event = tells.event; client = k; tx = x; what = told.Asked o q i a }) ⊎ Has (map (mark m event k) (mark_notes m (c.begun + 1) e.oid e.mark)) (record { event = tells.event; client = k; tx = x; what = told.Asked o q i a }) → ⊥
+          by (inl j) = h.later x less (record { event = tells.event; client = k; tx = x; what = told.Asked o q i a }) j refl refl
+          by (inr j) = asks_none (record { event = tells.event; client = k; tx = x; what = told.Asked o q i a }) j o q i a refl
 
       opens : (t.now.tx ≡ c.tx) ⊎ (t.now.tx ≡ None) → (y : Tx) → t.now.tx ≡ Some y → Open (replies ++ map (mark m event k) (mark_notes m (c.begun + 1) e.oid e.mark)) y × (y.number ≤ t.now.begun)
       opens (inl same) y is =
@@ -246,27 +296,61 @@ module _ (m : Meaning) (objects : List Oid) (es : Entries) (rising : IsRising es
             (open_stays m objects es k replies (map (mark m event k) (mark_notes m (c.begun + 1) e.oid e.mark)) y (marks_alone event y.number (c.begun + 1) e.oid e.mark (λ at. omega (arith, at, le))) o.0.0, o.0.1),
             omega (arith, le, b),
           )
-      opens (inr gone) y is = absurd (none y (sym gone ∙ is))
-  turn_kept replies event c t h (inr (inl e)) book =
+      opens (inr gone) y is = absurd (no_tx y (sym gone ∙ is))
+  turn_kept replies event c t h (inl (so, inr (inl e))) =
       subst (λ (ns : List (NoteOf m)). IsKept (replies ++ map (mark m event k) ns) t.now) (sym e.notes)
-      (build replies (map (mark m event k) (note m (c.begun + 1) told.Begin ∷ [])) c t.now h book.closes (let b = e.begun in omega (arith, b))
-      (λ x closed le. one_alone event x (note m (c.begun + 1) told.Begin) (λ at. omega (arith, at, le))) opens
-      (λ x at closed. absurd (closed.2 (open_tx (c.begun + 1)) e.tx (sym at))))
+      (build replies (map (mark m event k) (note m (c.begun + 1) told.Begin ∷ [])) c t.now h (let b = e.begun in omega (arith, b)) (λ x o. plain_alone event x (note m (c.begun + 1) told.Begin ∷ []) plain)
+      (λ x o. let le = o.1 in let b = e.begun in (o.0, omega (arith, le, b), λ y is at. let n = ap (λ (z : Tx). z.number) (some_tx (open_tx (c.begun + 1)) y (sym e.tx ∙ is)) in omega (arith, n, at, le))) opens
+      (λ x less o. let le = o.1 in let b = e.begun in absurd (o.2 (open_tx (c.begun + 1)) e.tx (omega (arith, less, le, b))))
+      (so_told replies t.now event (note m (c.begun + 1) told.Begin ∷ []) (subst (λ (ns : List (NoteOf m)). TrueNotes m objects es rising listed ns) e.notes so)))
     where
+      plain : ArePlain m (note m (c.begun + 1) told.Begin ∷ [])
+      plain n (inl i) = subst (λ (y : NoteOf m). IsPlain m y.what) (sym i) tt
+      plain n (inr i) = absurd i
+
       opens : (y : Tx) → t.now.tx ≡ Some y → Open (replies ++ map (mark m event k) (note m (c.begun + 1) told.Begin ∷ [])) y × (y.number ≤ t.now.begun)
       opens y is =
           let b = e.begun in
+          let fresh = fresh_open replies (c.begun + 1) (omega arith) (h.later (c.begun + 1) (omega arith)) in
           subst (λ (z : Tx). Open (replies ++ map (mark m event k) (note m (c.begun + 1) told.Begin ∷ [])) z × (z.number ≤ t.now.begun)) (some_tx (open_tx (c.begun + 1)) y (sym e.tx ∙ is))
-          (plain_one event replies (open_tx (c.begun + 1)) (c.begun + 1) told.Begin tt (fresh_open replies (c.begun + 1) (omega arith) (book.begins e.begun)), omega (arith, b))
-  turn_kept replies event c t h (inr (inr e)) book =
+          ((plain_open m objects es k event replies (note m (c.begun + 1) told.Begin ∷ []) (open_tx (c.begun + 1)) plain fresh.0, fresh.1), omega (arith, b))
+  turn_kept replies event c t h (inl (so, inr (inr e))) =
       subst (λ (ns : List (NoteOf m)). IsKept (replies ++ map (mark m event k) ns) t.now) (sym e.notes)
-      (build replies (map (mark m event k) (note m e.of.number (told.Put e.oid e.op) ∷ [])) c t.now h book.closes (let b = e.begun in omega (arith, b))
-      (λ x closed le. one_alone event x (note m e.of.number (told.Put e.oid e.op)) (λ at. closed.2 _ e.tx at)) opens
-      (λ x at closed. let b = e.begun in let le = closed.1 in absurd (omega (arith, at, b, le))))
+      (build replies (map (mark m event k) (note m e.of.number (told.Put e.oid e.op) ∷ [])) c t.now h begun (its_alone event c t.now e.of _ (told.Put e.oid e.op) (h.«open» e.of e.from).1 begun e.tx refl)
+      (more_over c t.now e.of _ begun e.from e.tx refl) opens (none_new c t.now _ e.begun)
+      (so_told replies t.now event (note m e.of.number (told.Put e.oid e.op) ∷ []) (subst (λ (ns : List (NoteOf m)). TrueNotes m objects es rising listed ns) e.notes so)))
     where
+      begun : c.begun ≤ t.now.begun
+      begun = let b = e.begun in omega (arith, b)
+
       opens : (y : Tx) → t.now.tx ≡ Some y → Open (replies ++ map (mark m event k) (note m e.of.number (told.Put e.oid e.op) ∷ [])) y × (y.number ≤ t.now.begun)
       opens y is =
           let o = h.«open» e.of e.from in
           let le = o.1 in let b = e.begun in
           subst (λ (z : Tx). Open (replies ++ map (mark m event k) (note m e.of.number (told.Put e.oid e.op) ∷ [])) z × (z.number ≤ t.now.begun)) (some_tx _ y (sym e.tx ∙ is))
           ((put_open m objects es k event replies e.of e.oid e.op e.spelled o.0.0, o.0.1), omega (arith, le, b))
+  turn_kept replies event c t h (inr e) =
+      subst (λ (ns : List (NoteOf m)). IsKept (replies ++ map (mark m event k) ns) t.now) (sym e.notes)
+      (build replies (map (mark m event k) (end_notes e.of.number (snapshot_or m e.of.snapshot))) c t.now h (let b = e.begun in omega (arith, b)) (λ x o. plain_alone event x (end_notes e.of.number (snapshot_or m e.of.snapshot)) (ends_plain e.of.number (snapshot_or m e.of.snapshot)))
+      (same_over c t.now (let b = e.begun in omega (arith, b)) (inr e.tx)) (λ y is. absurd (no_tx y (sym e.tx ∙ is))) (none_new c t.now _ e.begun)
+      (λ x p tells. committed x p tells.event (has_contained (map (mark m event k) (end_notes e.of.number (snapshot_or m e.of.snapshot))) (record { event = tells.event; client = k; tx = x; what = told.Committed p }) tells.here)))
+    where
+      over : IsOver t.now e.of.number
+      over = let o = h.«open» e.of e.from in let le = o.1 in let b = e.begun in (o.0.1, omega (arith, le, b), λ y is at. no_tx y (sym e.tx ∙ is))
+
+      reads : OnlyReads (replies ++ map (mark m event k) (end_notes e.of.number (snapshot_or m e.of.snapshot))) e.of.number (snapshot_or m e.of.snapshot)
+      reads = reads_stay e.of.number (snapshot_or m e.of.snapshot) replies (map (mark m event k) (end_notes e.of.number (snapshot_or m e.of.snapshot)))
+          (plain_alone event e.of.number (end_notes e.of.number (snapshot_or m e.of.snapshot)) (ends_plain e.of.number (snapshot_or m e.of.snapshot))) (reads_only replies e.of (h.«open» e.of e.from).0.0 e.none)
+
+      committed : (x p at : ℕ) → Has (map (mark m event k) (end_notes e.of.number (snapshot_or m e.of.snapshot))) (record { event = at; client = k; tx = x; what = told.Committed p })
+          → Committed (replies ++ map (mark m event k) (end_notes e.of.number (snapshot_or m e.of.snapshot))) t.now x p
+      committed x p at (inl i) = absurd (not_end p (ap (λ (y : MarkOf m). y.what) i))
+      committed x p at (inr (inl i)) =
+          let n = ap (λ (y : MarkOf m). y.tx) i in
+          let q = same_commit p (snapshot_or m e.of.snapshot) (ap (λ (y : MarkOf m). y.what) i) in
+          inr (
+            subst (IsOver t.now) (sym n) over,
+            subst (λ (y : ℕ). OnlyReads (replies ++ map (mark m event k) (end_notes e.of.number (snapshot_or m e.of.snapshot))) y p) (sym n)
+                (subst (λ (y : ℕ). OnlyReads (replies ++ map (mark m event k) (end_notes e.of.number (snapshot_or m e.of.snapshot))) e.of.number y) (sym q) reads),
+          )
+      committed x p at (inr (inr i)) = absurd i

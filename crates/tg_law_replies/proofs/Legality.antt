@@ -5,6 +5,8 @@ use Rattle.tg_base.specs.declared.ids.Oid.{Oid}
 use Rattle.tg_base.specs.declared.marks.Part.{Part}
 use Rattle.tg_base.specs.declared.marks.ReadMark.{ReadMark}
 use Rattle.tg_entry.specs.declared.entry.WriteOp.{WriteOp}
+use Rattle.tg_entry.specs.declared.entry.Body.{Body}
+use Rattle.tg_entry.specs.declared.entry.Body.TheVariants.{Commit, Decision, Checkpoint}
 use Rattle.tg_entry.specs.declared.entry.Entry.{Entry}
 use Rattle.tg_kind.specs.Meaning.{Meaning}
 use Rattle.tg_model.specs.declared.trace.What.TheVariants as told
@@ -12,11 +14,11 @@ use Rattle.tg_model.specs.Kinds.{DoneOf}
 use Rattle.tg_model.specs.Stores.{History, changes, has_stamp, is_stamp}
 use Rattle.tg_model.specs.Traces.{Trace, Tells, puts_of, IsOf, HasNone}
 use Rattle.tg_model.specs.Legal.{Legal, AsksHoldAt, IsCommitted, IsAborted, EntriesRight}
-use Rattle.tg_protocol.specs.Entries.{is_commit, reads_of, writes_of}
+use Rattle.tg_protocol.specs.Entries.{body_commits, is_commit, reads_of, writes_in, writes_of}
 use Rattle.tg_protocol.specs.Views.{Entries}
 use Rattle.tg_protocol.specs.Logs.{is_current, changes_below, done_at, history_after}
 use Rattle.tg_law_plays.specs.Sound.{IsRising}
-use Rattle.tg_law_history.specs.Logs.{writes_to, AreSpelled, version_below, commits, HasChange, HasOutcome}
+use Rattle.tg_law_history.specs.Logs.{writes_to, AreOps, AreSpelled, version_below, commits, HasChange, HasOutcome}
 use Rattle.tg_law_history.proofs.Members.{has_contained, contained_has, same_number, number_same, and_both, contrary, passes_somewhere, all_pass, none_passes}
 use Rattle.tg_law_history.proofs.Ledger.{one_entry}
 use Rattle.tg_law_history.proofs.Versions.{commits_at, versions_change}
@@ -24,7 +26,16 @@ use Rattle.tg_law_history.proofs.States.{Apart, log_answers_stay}
 use Rattle.tg_law_history.proofs.History.{has_made, made_has, changes_are, versions_are_changes}
 use Rattle.tg_law_replies.specs.Told.{IsOfAsk, HasRecordOf, HasFailed, TellsTrue, TellingIsLegal}
 
-module _ (m : Meaning) (apart : Apart m) (objects : List Oid) (es : Entries) (trace : Trace m) (rising : IsRising es) (spelled : AreSpelled m es) (so : TellsTrue m objects es trace) where
+module _ (m : Meaning) (apart : Apart m) (objects : List Oid) (es : Entries) (trace : Trace m) (rising : IsRising es) (so : TellsTrue m objects es trace) where
+  -- only a commit record writes
+  spelled : AreSpelled m es
+  spelled p e i = by e.body (λ commit. (so.records p e i commit).ops)
+    where
+      by : (b : Body) → (body_commits b ≡ true → AreOps m (writes_in b)) → AreOps m (writes_in b)
+      by (Commit rs ws) h = h refl
+      by (Decision at so) h = λ w j. absurd (has_contained [] w j)
+      by (Checkpoint o u v whole keys state) h = λ w j. absurd (has_contained [] w j)
+
   abbrev history : History m
   history = history_after m [] es
 
@@ -189,4 +200,4 @@ module _ (m : Meaning) (apart : Apart m) (objects : List Oid) (es : Entries) (tr
   }
 
 pub telling_is_legal : (m : Meaning) → Apart m → TellingIsLegal m
-telling_is_legal m apart objects es trace rising spelled so = legal m apart objects es trace rising spelled so
+telling_is_legal m apart objects es trace rising so = legal m apart objects es trace rising so

@@ -1,5 +1,6 @@
 pub mod Along
 pub mod Ready
+pub mod Stuck
 pub mod Legality
 pub mod Books
 pub mod Closed
@@ -11,5 +12,5 @@ pub mod Steps
 pub mod Runs
 pub mod Kept
 pub mod Found
-pub mod Legals
+pub mod Telling
 pub mod Rescues

@@ -13,14 +13,14 @@ use Rattle.tg_model.specs.declared.refusal.Refusal.TheVariants as cause
 use Rattle.tg_model.specs.declared.trace.What.TheVariants as told
 use Rattle.tg_model.specs.Kinds.{WhatOf, NoteOf}
 use Rattle.tg_protocol.specs.Words.{directory}
-use Rattle.tg_protocol.specs.Entries.{reads_of}
+use Rattle.tg_protocol.specs.Entries.{is_commit, reads_of}
 use Rattle.tg_protocol.specs.Versions.{Changed}
 use Rattle.tg_protocol.specs.Views.{Entries, Verdict, Commits, Aborts, Unknown, Base, View, base_of, state_of, view_version, fate_of, changed_in, unknown_in, verdict, view_outcome, fate_or_verdict}
 use Rattle.tg_protocol.specs.Checkpoints.{base_at}
 use Rattle.tg_protocol.specs.Past.{commit_at}
 use Rattle.tg_protocol.specs.Transactions.{Tx, tx_read, commit_record}
 use Rattle.tg_protocol.specs.Appending.{append_start}
-use Rattle.tg_protocol.specs.Clients.{Purpose, Decides, Rescues, Task, Appending, Hand, Doing, Learning, Work, Client, tx_number}
+use Rattle.tg_protocol.specs.Clients.{Purpose, Writes, Marks, Decides, Rescues, Task, Appending, Hand, Doing, Learning, Work, Client, tx_number}
 use Rattle.tg_protocol.specs.Answers.{Moved, note, mark_notes, replies, refuses, dir_or, base_upto, took_over, answers, closed, appends, decision, with_decision, lacks_decision, decides_if, trim_above, ask_answer, ask_in, on_ask, unsure, aborted, end_decided, end_aborted, end_no, end_by, end_record, on_end, forgotten_or, fate_verdict, fate_record, fate_known, blocks, fate_blocked, on_fate, decide_verdict, decide_record, decide_blocked, decide_played, on_decide}
 use Rattle.tg_law_plays.specs.Sound.{IsRising, IsBase, IsSound}
 use Rattle.tg_law_history.specs.Logs.{state_below, version_below, AreListed, HasOutcome}
@@ -41,6 +41,12 @@ module _ (m : Meaning) (objects : List Oid) (es : Entries) (rising : IsRising es
     pub is : now ≡ version_below m objects es p o k
     pub differs : now ≡ seen → ⊥
 
+  -- a commit record stands at a position
+  pub record IsCommitAt (p : ℕ) : Type 0 where
+    pub entry : Entry
+    pub here : Contains es (p, entry)
+    pub commit : is_commit entry ≡ true
+
   abbrev pub TrueWhat : WhatOf m → Type 0
   TrueWhat (told.Asked o q t a) = a ≡ m.answers (state_below m objects es t o) q
   TrueWhat (told.Past o q p a) = a ≡ m.answers (state_below m objects es p o) q
@@ -48,6 +54,7 @@ module _ (m : Meaning) (objects : List Oid) (es : Entries) (rising : IsRising es
   TrueWhat (told.Decided p (Some b)) = HasOutcome m objects es p b
   TrueWhat (told.Rescued p (Some b)) = HasOutcome m objects es p b × IsRecorded es p
   TrueWhat (told.Committed p) = HasOutcome m objects es p true
+  TrueWhat (told.Unsure p q) = (q ≡ p) ⊎ IsCommitAt q
   TrueWhat (told.Aborted p o k seen now) = IsFailed p o k seen now
   TrueWhat _ = Unit {0}
 
@@ -73,7 +80,13 @@ module _ (m : Meaning) (objects : List Oid) (es : Entries) (rising : IsRising es
   RescuesBy d (told.Rescued p (Some b)) = HasOutcome m objects es p b × (d.body ≡ Decision p b)
   RescuesBy d what = TrueWhat what
 
+  -- a commit record without reads
+  abbrev pub IsBlind : Entry → Type 0
+  IsBlind d = (is_commit d ≡ true) × (reads_of d ≡ [])
+
   abbrev pub TruePurpose : Entry → Purpose m → Type 0
+  TruePurpose d Writes = IsBlind d
+  TruePurpose d (Marks n o mark) = IsBlind d
   TruePurpose d (Decides what) = TrueWhat what × IsPlain m what
   TruePurpose d (Rescues what) = RescuesBy d what × IsPlain m what
   TruePurpose d _ = Unit {0}
@@ -327,8 +340,8 @@ module _ (m : Meaning) (objects : List Oid) (es : Entries) (rising : IsRising es
   pub close_right : (c : Client m) → InStep c → InStep (closed m c)
   close_right c h = record { right = record { view = h.right.view; dir = h.right.dir; work = h.right.work }; tx = inr refl; begun = h.begun }
 
-  pub unsure_right : (c : Client m) (p q : ℕ) → InStep c → IsRightMove (unsure m c p q)
-  unsure_right c p q h = answers_right (closed m c) (tx_number m c.tx) (told.Unsure p q) (close_right c h) tt tt
+  pub unsure_right : (c : Client m) (p q : ℕ) → InStep c → True (told.Unsure p q) → IsRightMove (unsure m c p q)
+  unsure_right c p q h so = answers_right (closed m c) (tx_number m c.tx) (told.Unsure p q) (close_right c h) so tt
 
   end_decided_right : (b : Bool) (c : Client m) (w : Work m) (e : Entry) (p : ℕ) (said_so : Bool) (what : WhatOf m) → InStep c → HasOutcome m objects es p said_so → True what → IsPlain m what
       → IsRightMove (end_decided m b c w e p said_so what)
@@ -338,14 +351,14 @@ module _ (m : Meaning) (objects : List Oid) (es : Entries) (rising : IsRising es
 
   end_no_right : (c : Client m) (w : Work m) (own : Entries) (v : View m) (e : Entry) (p : ℕ) → InStep c → IsJudge m objects es v own p e → StandsAt m v p (reads_of e) → HasOutcome m objects es p false → (o : Option Oid)
       → unknown_in m v (reads_of e) p ≡ o → IsRightMove (end_no m c w own v e p o)
-  end_no_right c w own v e p h j stands out (Some o) is = unsure_right c p p h
+  end_no_right c w own v e p h j stands out (Some o) is = unsure_right c p p h (inl refl)
   end_no_right c w own v e p h j stands out None is = by (changed_in m v (reads_of e) p) refl
     where
       same : e ≡ out.entry
       same = one_entry 0 es p e out.entry rising (has_contained es (p, e) j.here) (has_contained es (p, out.entry) out.here)
 
       by : (x : Option Changed) → changed_in m v (reads_of e) p ≡ x → IsRightMove (end_aborted m c w own e p x)
-      by None k = unsure_right c p p h
+      by None k = unsure_right c p p h (inl refl)
       by (Some x) k =
           let f = changes_true m objects es v p (reads_of e) x rising j.so stands is k in
           end_decided_right (lacks_decision m own p e) c w e p false (aborted m p x) h out
@@ -356,15 +369,15 @@ module _ (m : Meaning) (objects : List Oid) (es : Entries) (rising : IsRising es
   end_by_right c w own v e p h j stands Commits is =
       let out = (judged m objects es rising listed v own p e j Commits is).0 refl in end_decided_right (lacks_decision m own p e) c w e p true (told.Committed p) h out out tt
   end_by_right c w own v e p h j stands Aborts is = end_no_right c w own v e p h j stands ((judged m objects es rising listed v own p e j Aborts is).1 refl) (unknown_in m v (reads_of e) p) refl
-  end_by_right c w own v e p h j stands (Unknown o) is = unsure_right c p p h
+  end_by_right c w own v e p h j stands (Unknown o) is = unsure_right c p p h (inl refl)
 
   pub end_right : (c : Client m) (w : Work m) (own : Entries) (v : View m) (came : PlayEnd) → InStep c → ((t : ℕ) (e : Entry) → came ≡ Played t → commit_at own w.at ≡ Some e → IsJudge m objects es v own w.at e × StandsAt m v w.at (reads_of e))
-      → IsRightMove (on_end m c w own v came)
-  end_right c w own v (Blocked q x) h judge = unsure_right c w.at q h
-  end_right c w own v (Played t) h judge = by (commit_at own w.at) refl
+      → ((q : ℕ) (x : Oid) → came ≡ Blocked q x → IsCommitAt m objects es rising listed q) → IsRightMove (on_end m c w own v came)
+  end_right c w own v (Blocked q x) h judge stuck = unsure_right c w.at q h (inr (stuck q x refl))
+  end_right c w own v (Played t) h judge stuck = by (commit_at own w.at) refl
     where
       by : (e : Option Entry) → commit_at own w.at ≡ e → IsRightMove (end_record m c w own v w.at e)
-      by None is = unsure_right c w.at w.at h
+      by None is = unsure_right c w.at w.at h (inl refl)
       by (Some e) is = let j = judge t e refl is in end_by_right c w own v e w.at h j.0 j.1 (verdict m v own w.at e) refl
 
   -- `fate` and `decide`.

@@ -20,6 +20,7 @@ use Rattle.tg_law_views.specs.Views.{IsTrueView}
 use Rattle.tg_law_views.proofs.Plays.{plays_true, bases_stay, played_stands, starts_true}
 use Rattle.tg_law_views.proofs.Records.{commit_there}
 use Rattle.tg_law_replies.specs.Found.{mine, target}
+use Rattle.tg_law_replies.proofs.Stuck.{blocked_record}
 use Rattle.tg_law_replies.proofs.Ready.{Suits, view_of, played, IsReadyToPlay, IsReady}
 use Rattle.tg_law_replies.proofs.Moves.{InStep, IsRightView, IsRightMove, replies_right, ask_right, end_right, fate_right, decide_right}
 use Rattle.tg_law_replies.proofs.Upkeep.{checkpoint_right, forget_right, trim_right, ask_at_right, rescue_right}
@@ -92,6 +93,7 @@ module _ (m : Meaning) (objects : List Oid) (es : Entries) (rising : IsRising es
         record { so = plays_so c w h r; decisions = r.decisions; here = here (mine m c w) w.at e r.entries.only k; commit = (commit_there m (mine m c w) w.at e k).1; can = λ none known i j b l le. at },
         λ i j b l le. at,
       ))
+      (λ q x came. let b = blocked_record m (mine m c w) (view_of m objects es c w) (target m w) q x came in record { entry = b.entry; here = r.entries.only q b.entry (contained_has (mine m c w) (q, b.entry) b.here); commit = b.commit })
   answers_by c w h r (cmd.Fate p) is s =
       fate_right m objects es rising listed tx0 n0 (with_view m c (played m objects es c w).view) w (mine m c w) (played m objects es c w).view p (played m objects es c w).came (keeps_right c w h r) (plays_so c w h r)
       (λ e k none past. record { so = plays_so c w h r; decisions = r.decisions; here = here (mine m c w) p e r.entries.only k; commit = (commit_there m (mine m c w) p e k).1; can = s (begins c w h r) e k none past })

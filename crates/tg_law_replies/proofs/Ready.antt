@@ -17,7 +17,6 @@ use Rattle.tg_law_plays.specs.Sound.{AreBases, base_among}
 use Rattle.tg_law_history.specs.Logs.{state_below}
 use Rattle.tg_law_views.specs.Views.{IsTrueBase, IsTrueView, AreTrueDecisions, AreEntriesFor, CanJudge}
 use Rattle.tg_law_replies.specs.Found.{mine, target}
-use Rattle.tg_law_replies.specs.Found.{mine, target}
 use Rattle.tg_law_views.specs.Looking.{IsTrueAt, IsRescuer}
 
 module _ (m : Meaning) (objects : List Oid) (es : Entries) where

@@ -20,23 +20,24 @@ use Rattle.tg_law_history.proofs.History.{Made, has_made, made_has}
 use Rattle.tg_law_history.proofs.Cells.{logs_rise, outcomes_are}
 use Rattle.tg_law_replies.specs.Laws.{RunsTellTruth}
 use Rattle.tg_law_replies.proofs.Steps.{IsRightWorld}
-use Rattle.tg_law_replies.proofs.Legals.{true_reply}
-use Rattle.std.proofs.Common.{refl, List}
+use Rattle.tg_law_replies.proofs.Telling.{true_reply}
+use Rattle.std.proofs.Common.{List}
 use Rattle.tg_base.specs.declared.ids.Oid.{Oid}
 use Rattle.tg_entry.specs.declared.entry.Body.{Body}
 use Rattle.tg_protocol.specs.Logs.{version}
-use Rattle.tg_protocol.specs.Views.{Entries}
 use Rattle.tg_protocol.specs.Worlds.{start}
 use Rattle.tg_protocol.specs.Runs.{Moves, Reaches}
 use Rattle.tg_protocol.specs.Holding.{EntriesOwn}
 use Rattle.tg_protocol.specs.Alike.{PastTrue}
 use Rattle.tg_law_history.specs.Logs.{state_below}
-use Rattle.tg_law_replies.specs.Laws.{ClientsFind, TellsSo, WritesTruth, RunsTellTruth, RunsWriteTruth}
+use Rattle.tg_law_replies.specs.Laws.{ClientsFind, TellsSo, WritesTruth, RunsWriteTruth}
 use Rattle.tg_law_replies.proofs.Moves.{TrueBody, TrueDraft}
 use Rattle.tg_law_replies.proofs.Along.{Along, at_end}
-use Rattle.tg_law_replies.proofs.Runs.{Right, lawful_in}
-use Rattle.tg_law_replies.proofs.Found.{all_ready, was_begun}
-use Rattle.tg_law_replies.proofs.Legals.{tells_outcomes}
+use Rattle.tg_law_replies.proofs.Runs.{Right}
+use Rattle.tg_law_views.specs.Exact.{AreWriting}
+use Rattle.tg_law_pages.proofs.Read.{logs_keep_grammar}
+use Rattle.tg_law_replies.proofs.Found.{was_begun}
+use Rattle.tg_law_replies.proofs.Telling.{IsKeptWorld, RightAndKept, of_right, found_kept, tells_outcomes}
 
 -- A committed record stands in the history, and no other does.
 
@@ -56,40 +57,47 @@ module _ (m : Meaning) (es : Entries) (rising : IsRising es) where
           contrary (commits m [] es p e) c
           (subst (λ (x : Entry). commits m [] es p x ≡ true) same (subst (λ (n : ℕ). commits m [] es n k.entry ≡ true) at (sym (commits_at m [] es rising k.at k.entry) ∙ k.commit)))
 
-module _ (m : Meaning) (h : Header) (w : World m) (listed : AreListed (entries_in m w)) (right : IsRightWorld m h.objects (entries_in m w) (logs_rise m w) listed w) where
+module _ (m : Meaning) (h : Header) (w : World m) (listed : AreListed (entries_in m w)) (right : IsRightWorld m h.objects (entries_in m w) (logs_rise m w) listed w)
+    (kept : IsKeptWorld m h.objects (entries_in m w) (logs_rise m w) listed w) where
   rescues_true : RescueTrue m w
   unfolding history history_of
   rescues_true = record {
-    yes_told = λ t p i is. let r = (true_reply m h w listed right t (told.Rescued p (Some true)) i is refl).0 in stamped m (entries_in m w) (logs_rise m w) p r.entry r.here r.outcome;
-    no_told = λ t p i is. let r = (true_reply m h w listed right t (told.Rescued p (Some false)) i is refl).0 in
+    yes_told = λ t p i is. let r = (true_reply m h w listed right kept t (told.Rescued p (Some true)) i is refl).0 in stamped m (entries_in m w) (logs_rise m w) p r.entry r.here r.outcome;
+    no_told = λ t p i is. let r = (true_reply m h w listed right kept t (told.Rescued p (Some false)) i is refl).0 in
         ((outcomes_are m w h.objects p false r).0, unstamped m (entries_in m w) (logs_rise m w) p r.entry r.here r.outcome);
-    recorded = λ t p b e i is j needs. let r = (true_reply m h w listed right t (told.Rescued p (Some b)) i is refl).1 e j needs in
+    recorded = λ t p b e i is j needs. let r = (true_reply m h w listed right kept t (told.Rescued p (Some b)) i is refl).1 e j needs in
         record { at = r.at; entry = r.entry; is_yes = r.is_yes; here = r.here; decides = r.is };
   }
 
 -- What a run tells.
 
-module _ (m : Meaning) (h : Header) (ms : Moves m) (w : World m) (r : Reaches m h ms w) (listed : AreListed (entries_in m w)) (finds : ClientsFind m h ms w) where
+module _ (m : Meaning) (h : Header) (ms : Moves m) (w : World m) (r : Reaches m h ms w) (listed : AreListed (entries_in m w)) (writing : AreWriting (entries_in m w)) (finds : ClientsFind m h ms w) where
   abbrev es : Entries
   es = entries_in m w
 
   rising : IsRising es
   rising = logs_rise m w
 
+  both : Along m (RightAndKept m h (entries_in m w) (logs_rise m w) listed) ms (start m h)
+  both = found_kept m h ms w listed writing r finds
+
   all : Along m (Right m h (entries_in m w) (logs_rise m w) listed) ms (start m h)
-  all = all_ready m h es (logs_rise m w) listed ms (lawful_in m h ms w es (logs_rise m w) listed r) finds
+  all = of_right m h es (logs_rise m w) listed ms (start m h) both
 
   right : IsRightWorld m h.objects (entries_in m w) (logs_rise m w) listed w
   right = subst (λ (u : World m). Right m h es (logs_rise m w) listed u) (sym r.goes.is) (at_end m (Right m h es (logs_rise m w) listed) ms (start m h) all)
 
+  kept : IsKeptWorld m h.objects (entries_in m w) (logs_rise m w) listed w
+  kept = subst (λ (u : World m). IsKeptWorld m h.objects es (logs_rise m w) listed u) (sym r.goes.is) (at_end m (RightAndKept m h es (logs_rise m w) listed) ms (start m h) both).1
+
   past_true : PastTrue m w
   unfolding history history_of
   past_true t o q p a i is =
-      true_reply m h w listed right t (told.Past o q p a) i is refl
+      true_reply m h w listed right kept t (told.Past o q p a) i is refl
       ∙ ap (λ (os : List Oid). m.answers (state_below m os (entries_in m w) p o) q) (sym right.objects_are)
 
   tells_so : TellsSo m w
-  tells_so = record { past = past_true; rescues = rescues_true m h w listed right; outcomes = tells_outcomes m h w listed right }
+  tells_so = record { past = past_true; rescues = rescues_true m h w listed right kept; outcomes = tells_outcomes m h w listed right kept }
 
   -- The log's decision records and checkpoints.
 
@@ -107,10 +115,10 @@ module _ (m : Meaning) (h : Header) (ms : Moves m) (w : World m) (r : Reaches m 
   }
     where
       entry_true : (p : ℕ) (e : Entry) → Contains (entries_in m w) (p, e) → TrueDraft m h.objects (entries_in m w) (logs_rise m w) listed e
-      entry_true p e i = was_begun m h (entries_in m w) (logs_rise m w) listed ms all e (own p e i)
+      entry_true p e i = was_begun m h (entries_in m w) (logs_rise m w) listed writing ms all e (own p e i)
 
 pub runs_tell_truth : (m : Meaning) → RunsTellTruth m
-runs_tell_truth m h ms w r listed finds = tells_so m h ms w r listed finds
+runs_tell_truth m h ms w r finds = let g = logs_keep_grammar m w in tells_so m h ms w r g.0 g.1 finds
 
 pub runs_write_truth : (m : Meaning) → RunsWriteTruth m
-runs_write_truth m h ms w r listed finds own = writes_truth m h ms w r listed finds own
+runs_write_truth m h ms w r finds own = let g = logs_keep_grammar m w in writes_truth m h ms w r g.0 g.1 finds own

@@ -1,5 +1,5 @@
 -- A step of a world keeps its clients right, and what is told in it is true of the log.
-use Rattle.std.proofs.Common.{◌≡◌, ◌⊎◌, ℕ, zero, suc, ◌+◌, List, [], ◌∷◌, ◌++◌, map, Bool, true, false, refl, sym, ap, subst, inl, inr, Option, Some, None, is_some, length}
+use Rattle.std.proofs.Common.{◌≡◌, ◌⊎◌, ℕ, zero, suc, ◌+◌, List, [], ◌∷◌, ◌++◌, map, Bool, true, false, refl, sym, ap, subst, inl, inr, arith, Option, Some, None, is_some, length}
 use Rattle.std.specs.Prelude.{not, slice_set, slice_index_or, slice_get, if◌then◌else◌, ◌==◌}
 use Rattle.tg_base.specs.declared.ids.NodeId.{NodeId}
 use Rattle.tg_base.specs.declared.ids.Oid.{Oid}
@@ -26,12 +26,12 @@ use Rattle.tg_protocol.specs.ClientSteps.{feed, new_work, hosts_more, puts, aske
 use Rattle.tg_protocol.specs.Worlds.{World, Told, client, unit_moves, layout_moves, seqr_moves, client_turned, moves, comes, handed, delivers, noted_if, commands, ticks, ticks_if, stops_if, mark_of, counted, happens, runs, sends}
 use Rattle.tg_law_plays.specs.Sound.{IsRising}
 use Rattle.tg_law_history.specs.Logs.{AreListed}
-use Rattle.tg_law_history.proofs.Members.{Has}
+use Rattle.tg_law_history.proofs.Members.{Has, same_number}
 use Rattle.tg_law_views.specs.Looking.{IsTrueAt}
 use Rattle.tg_law_replies.specs.Steps.{EachDelivery, EachAccepted, EachCommand, EachEvent}
 use Rattle.tg_law_replies.proofs.Ready.{Ready}
-use Rattle.tg_law_replies.proofs.Books.{IsPlain, ArePlain}
-use Rattle.tg_law_replies.proofs.Moves.{IsRight, InStep, IsBooked, IsRightMove, TrueWhat, one_note, one_plain, commit_draft, answer_there, version_there, appends_right}
+use Rattle.tg_law_replies.proofs.Books.{IsPlain}
+use Rattle.tg_law_replies.proofs.Moves.{IsRight, InStep, IsBooked, IsRightMove, TrueWhat, TrueNotes, IsBlind, one_note, one_plain, commit_draft, answer_there, version_there, appends_right}
 use Rattle.tg_law_replies.proofs.Upkeep.{syncs_right}
 use Rattle.tg_law_replies.proofs.Turns.{feed_right, reconf_right, copies_right, still}
 use Rattle.tg_protocol.specs.Runs.{LawfulCommand}
@@ -109,8 +109,20 @@ module _ (m : Meaning) (objects : List Oid) (es : Entries) (rising : IsRising es
     pub begun : x.now.begun ≡ c.begun
     pub notes : x.notes ≡ note m of.number (told.Put oid op) ∷ []
 
+  -- a transaction that wrote nothing is ended
+  pub record IsEnding (c : Client m) (x : Moved m) : Type 0 where
+    pub of : Tx
+    pub from : c.tx ≡ Some of
+    pub none : of.writes ≡ []
+    pub tx : x.now.tx ≡ None
+    pub begun : x.now.begun ≡ c.begun
+    pub notes : x.notes ≡ note m of.number told.End ∷ note m of.number (told.Committed (snapshot_or m of.snapshot)) ∷ []
+
+  abbrev pub IsTrueEffect : Client m → Moved m → Type 0
+  IsTrueEffect c x = TrueNotes m objects es rising listed x.notes × (IsBooked m objects es rising listed c.tx c.begun x ⊎ (IsBeginning c x ⊎ IsPutting c x))
+
   abbrev pub IsEffect : Client m → Moved m → Type 0
-  IsEffect c x = IsBooked m objects es rising listed c.tx c.begun x ⊎ (IsBeginning c x ⊎ IsPutting c x)
+  IsEffect c x = IsTrueEffect c x ⊎ IsEnding c x
 
   abbrev True : WhatOf m → Type 0
   True w = TrueWhat m objects es rising listed w
@@ -122,18 +134,27 @@ module _ (m : Meaning) (objects : List Oid) (es : Entries) (rising : IsRising es
   abbrev pub SoNotes : List (NoteOf m) → Type 0
   SoNotes ns = (n : NoteOf m) → Has ns n → SoTold n.what
 
+  so_ending : (n : NoteOf m) (of : Tx) → Has (note m of.number told.End ∷ note m of.number (told.Committed (snapshot_or m of.snapshot)) ∷ []) n → SoTold n.what
+  so_ending n of (inl e) = subst (λ (y : NoteOf m). SoTold y.what) (sym e) (inl tt)
+  so_ending n of (inr (inl e)) = subst (λ (y : NoteOf m). SoTold y.what) (sym e) (inr (snapshot_or m of.snapshot, refl))
+  so_ending n of (inr (inr i)) = absurd i
+
+  pub so_notes : (c : Client m) (x : Moved m) → IsEffect c x → SoNotes x.notes
+  so_notes c x (inl e) n i = inl (e.0 n i)
+  so_notes c x (inr e) n i = so_ending n e.of (subst (λ (ns : List (NoteOf m)). Has ns n) e.notes i)
+
   abbrev pub IsRightTurn : Client m → Moved m → Type 0
-  IsRightTurn c r = Right r.now × SoNotes r.notes × IsEffect c r
+  IsRightTurn c r = Right r.now × IsEffect c r
 
   of_move : (c : Client m) (r : Moved m) → IsRightMove m objects es rising listed c.tx c.begun r → IsRightTurn c r
-  of_move c r h = (h.0, λ n i. inl (h.1 n i), inl h.2)
+  of_move c r h = (h.0, inl (h.1, inl h.2))
 
   held : (c : Client m) → Right c → InStep m objects es rising listed c.tx c.begun c
   held c h = record { right = h; tx = inl refl; begun = refl }
 
   plainly : (c d : Client m) (n : ℕ) (what : WhatOf m) → Right d → (d.tx ≡ c.tx) ⊎ (d.tx ≡ None) → d.begun ≡ c.begun → True what → IsPlain m what → IsRightTurn c (moved m d (note m n what ∷ []))
   plainly c d n what h tx begun t p =
-      (h, λ k i. inl (one_note m objects es rising listed n what t k i), inl (inl (record { tx = tx; begun = begun; plain = one_plain m objects es rising listed c.tx c.begun n what p })))
+      (h, inl (one_note m objects es rising listed n what t, inl (inl (record { tx = tx; begun = begun; plain = one_plain m objects es rising listed c.tx c.begun n what p }))))
 
   host_right : (c : Client m) (o : Oid) (b : Bool) → Right c → IsRightTurn c (hosts_more m c o b)
   host_right c o true h = plainly c c 0 (told.Hosted o) h (inl refl) refl tt tt
@@ -146,11 +167,13 @@ module _ (m : Meaning) (objects : List Oid) (es : Entries) (rising : IsRising es
   put_right c o op None is h spelled = of_move c (moved m c []) (still m objects es rising listed c.tx c.begun c (held c h))
   put_right c o op (Some t) is h spelled = (
     record { view = h.view; dir = h.dir; work = h.work },
-    λ n i. inl (one_note m objects es rising listed t.number (told.Put o op) tt n i),
-    inr (inr (record { of = t; from = is; oid = o; op = op; spelled = spelled; tx = refl; begun = refl; notes = refl })),
+    inl (
+      one_note m objects es rising listed t.number (told.Put o op) tt,
+      inr (inr (record { of = t; from = is; oid = o; op = op; spelled = spelled; tx = refl; begun = refl; notes = refl })),
+    ),
   )
 
-  ask_right : (c : Client m) (o : Oid) (q : m.ask) (t : Option Tx) → c.tx ≡ t → Right c → EachAccepted m objects es c (cmd.Ask o q) → IsRightTurn c (asks m c (cmd.Ask o q) o q t)
+  ask_right : (c : Client m) (o : Oid) (q : m.ask) (t : Option Tx) → c.tx ≡ t → Right c → EachAccepted m c (cmd.Ask o q) → IsRightTurn c (asks m c (cmd.Ask o q) o q t)
   ask_right c o q None is h r = of_move c (moved m c []) (still m objects es rising listed c.tx c.begun c (held c h))
   ask_right c o q (Some t) is h r = by t.snapshot refl
     where
@@ -158,60 +181,60 @@ module _ (m : Meaning) (objects : List Oid) (es : Entries) (rising : IsRising es
       answers a v snap k None e = of_move c (moved m c []) (still m objects es rising listed c.tx c.begun c (held c h))
       answers a v snap k (Some s) e = (
         record { view = h.view; dir = h.dir; work = h.work },
-        λ n i. inl (one_note m objects es rising listed t.number (told.Asked o q a (m.answers s q)) (answer_there m objects es rising listed v a o q s k e) n i),
-        inl (inr (inl (record {
-          of = t;
-          from = is;
-          oid = o;
-          ask = q;
-          snapshot = a;
-          answer = m.answers s q;
-          first = inr snap;
-          tx = ap (λ (n : ℕ). Some (tx_read t (record { oid = o; part = m.look q; version = n }) a)) (version_there m objects es rising listed v a o s (m.look q) k e);
-          begun = refl;
-          notes = refl;
-        }))),
+        inl (
+          one_note m objects es rising listed t.number (told.Asked o q a (m.answers s q)) (answer_there m objects es rising listed v a o q s k e),
+          inl (inr (inl (record {
+            of = t;
+            from = is;
+            oid = o;
+            ask = q;
+            snapshot = a;
+            answer = m.answers s q;
+            first = inr snap;
+            tx = ap (λ (n : ℕ). Some (tx_read t (record { oid = o; part = m.look q; version = n }) a)) (version_there m objects es rising listed v a o s (m.look q) k e);
+            begun = refl;
+            notes = refl;
+          }))),
+        ),
       )
 
       views : (a : ℕ) → t.snapshot ≡ Some a → (v : Option (View m)) → c.view ≡ v → IsRightTurn c (asks_view m c t a o q v)
       views a snap None e = of_move c (moved m c []) (still m objects es rising listed c.tx c.begun c (held c h))
-      views a snap (Some v) e = answers a v snap (r t a v is snap e) (state_of m v o) refl
+      views a snap (Some v) e = let with = r t a v is snap e in answers a v snap (record { so = (h.view v e).so; stands = with.stands; based = with.based }) (state_of m v o) refl
 
       by : (s : Option ℕ) → t.snapshot ≡ s → IsRightTurn c (asks_by m c (cmd.Ask o q) o q t s)
       by None snap = of_move c (syncs m c (new_work m (cmd.Ask o q)) c.hosted) (syncs_right m objects es rising listed c.tx c.begun c (new_work m (cmd.Ask o q)) c.hosted (held c h))
       by (Some a) snap = views a snap c.view refl
 
+  no_items : {X : Type 0} → (xs : List X) → (length xs == 0) ≡ true → xs ≡ []
+  no_items [] e = refl
+  no_items (x ∷ xs) e = let n : suc (length xs) ≡ 0 = same_number (suc (length xs)) 0 e in absurd (omega (arith, n))
+
+  blind : (t : Tx) (k : ℕ) → (length t.reads == 0) ≡ true → IsBlind m objects es rising listed (commit_record t k)
+  unfolding commit_record
+  blind t k e = (refl, no_items t.reads e)
+
   end_right : (c : Client m) (t : Option Tx) → c.tx ≡ t → Right c → IsRightTurn c (ends m c cmd.End t)
   end_right c None is h = of_move c (moved m c []) (still m objects es rising listed c.tx c.begun c (held c h))
   end_right c (Some t) is h = by (length t.writes == 0) refl
     where
-      appended : (b : Bool) → IsRightMove m objects es rising listed c.tx c.begun (appends m c (new_work m cmd.End) (commit_record t c.num) (if b then Writes else Judged) (note m t.number told.End ∷ []))
-      appended true =
-          appends_right m objects es rising listed c.tx c.begun c (new_work m cmd.End) (commit_record t c.num) Writes (note m t.number told.End ∷ []) (held c h) (commit_draft m objects es rising listed t c.num) tt
+      appended : (b : Bool) → (length t.reads == 0) ≡ b → IsRightMove m objects es rising listed c.tx c.begun (appends m c (new_work m cmd.End) (commit_record t c.num) (if b then Writes else Judged) (note m t.number told.End ∷ []))
+      appended true e =
+          appends_right m objects es rising listed c.tx c.begun c (new_work m cmd.End) (commit_record t c.num) Writes (note m t.number told.End ∷ []) (held c h) (commit_draft m objects es rising listed t c.num) (blind t c.num e)
           (one_note m objects es rising listed t.number told.End tt) (one_plain m objects es rising listed c.tx c.begun t.number told.End tt)
-      appended false =
+      appended false e =
           appends_right m objects es rising listed c.tx c.begun c (new_work m cmd.End) (commit_record t c.num) Judged (note m t.number told.End ∷ []) (held c h) (commit_draft m objects es rising listed t c.num) tt
           (one_note m objects es rising listed t.number told.End tt) (one_plain m objects es rising listed c.tx c.begun t.number told.End tt)
 
-      both : SoNotes (note m t.number told.End ∷ note m t.number (told.Committed (snapshot_or m t.snapshot)) ∷ [])
-      both n (inl e) = subst (λ (y : NoteOf m). SoTold y.what) (sym e) (inl tt)
-      both n (inr (inl e)) = subst (λ (y : NoteOf m). SoTold y.what) (sym e) (inr (snapshot_or m t.snapshot, refl))
-      both n (inr (inr i)) = absurd i
-
-      plain : ArePlain m (note m t.number told.End ∷ note m t.number (told.Committed (snapshot_or m t.snapshot)) ∷ [])
-      plain n (inl e) = subst (λ (y : NoteOf m). IsPlain m y.what) (sym e) tt
-      plain n (inr (inl e)) = subst (λ (y : NoteOf m). IsPlain m y.what) (sym e) tt
-      plain n (inr (inr i)) = absurd i
-
       by : (b : Bool) → (length t.writes == 0) ≡ b → IsRightTurn c (end_by m c cmd.End t b)
-      by true e = (record { view = h.view; dir = h.dir; work = h.work }, both, inl (inl (record { tx = inr refl; begun = refl; plain = plain })))
-      by false e = of_move c (end_by m c cmd.End t false) (appended (length t.reads == 0))
+      by true e = (record { view = h.view; dir = h.dir; work = h.work }, inr (record { of = t; from = is; none = no_items t.writes e; tx = refl; begun = refl; notes = refl }))
+      by false e = of_move c (end_by m c cmd.End t false) (appended (length t.reads == 0) refl)
 
-  accepts_right : (c : Client m) (x : CommandOf m) → Right c → EachAccepted m objects es c x → IsSpelled m x → IsRightTurn c (accepts m c x)
+  accepts_right : (c : Client m) (x : CommandOf m) → Right c → EachAccepted m c x → IsSpelled m x → IsRightTurn c (accepts m c x)
   unfolding accepts
   accepts_right c (cmd.Host o) h r spelled = host_right c o (hosts_oid m c o) h
   accepts_right c cmd.Begin h r spelled =
-      (record { view = h.view; dir = h.dir; work = h.work }, λ n i. inl (one_note m objects es rising listed (c.begun + 1) told.Begin tt n i), inr (inl (record { tx = refl; begun = refl; notes = refl })))
+      (record { view = h.view; dir = h.dir; work = h.work }, inl (one_note m objects es rising listed (c.begun + 1) told.Begin tt, inr (inl (record { tx = refl; begun = refl; notes = refl }))))
   accepts_right c (cmd.Put o op) h r spelled = put_right c o op c.tx refl h spelled
   accepts_right c (cmd.Ask o q) h r spelled = ask_right c o q c.tx refl h r
   accepts_right c cmd.End h r spelled = end_right c c.tx refl h
@@ -224,7 +247,7 @@ module _ (m : Meaning) (objects : List Oid) (es : Entries) (rising : IsRising es
       (copies_right m objects es rising listed c.tx c.begun c (new_work m (cmd.Copy u i s)) (record { unit = u; range = i; stripe = s; work = copying.Sealing 0 }) None (held c h))
   accepts_right c x h r spelled = of_move c (works_on m c x) (syncs_right m objects es rising listed c.tx c.begun c (new_work m x) c.hosted (held c h))
 
-  refused_right : (c : Client m) (x : CommandOf m) (o : Option Refusal) → Right c → (o ≡ None → EachAccepted m objects es c x) → (o ≡ None → IsSpelled m x) → IsRightTurn c (refused_or m c x o)
+  refused_right : (c : Client m) (x : CommandOf m) (o : Option Refusal) → Right c → (o ≡ None → EachAccepted m c x) → (o ≡ None → IsSpelled m x) → IsRightTurn c (refused_or m c x o)
   refused_right c x None h r spelled = accepts_right c x h (r refl) (spelled refl)
   refused_right c x (Some why) h r spelled = plainly c c (number_on m c why) (told.Refused why) h (inl refl) refl tt tt
 
@@ -236,20 +259,21 @@ module _ (m : Meaning) (objects : List Oid) (es : Entries) (rising : IsRising es
   as_moved t = record { now = t.now; besides = []; notes = t.notes }
 
   called_effect : (c : Client m) (r : Moved m) (sends : List Out) → IsEffect c r → IsEffect c (as_moved (record { now = called m r.now; sends = sends; notes = r.notes }))
-  called_effect c r sends (inl (inl e)) = inl (inl (record { tx = e.tx; begun = e.begun; plain = e.plain }))
-  called_effect c r sends (inl (inr (inl e))) =
-      inl (inr (inl (record { of = e.of; from = e.from; oid = e.oid; ask = e.ask; snapshot = e.snapshot; answer = e.answer; first = e.first; tx = e.tx; begun = e.begun; notes = e.notes })))
-  called_effect c r sends (inl (inr (inr e))) = inl (inr (inr (record { tx = e.tx; begun = e.begun; oid = e.oid; mark = e.mark; notes = e.notes })))
-  called_effect c r sends (inr (inl e)) = inr (inl (record { tx = e.tx; begun = e.begun; notes = e.notes }))
-  called_effect c r sends (inr (inr e)) = inr (inr (record { of = e.of; from = e.from; oid = e.oid; op = e.op; spelled = e.spelled; tx = e.tx; begun = e.begun; notes = e.notes }))
+  called_effect c r sends (inl (so, inl (inl e))) = inl (so, inl (inl (record { tx = e.tx; begun = e.begun; plain = e.plain })))
+  called_effect c r sends (inl (so, inl (inr (inl e)))) =
+      inl (so, inl (inr (inl (record { of = e.of; from = e.from; oid = e.oid; ask = e.ask; snapshot = e.snapshot; answer = e.answer; first = e.first; tx = e.tx; begun = e.begun; notes = e.notes }))))
+  called_effect c r sends (inl (so, inl (inr (inr e)))) = inl (so, inl (inr (inr (record { tx = e.tx; begun = e.begun; oid = e.oid; mark = e.mark; notes = e.notes }))))
+  called_effect c r sends (inl (so, inr (inl e))) = inl (so, inr (inl (record { tx = e.tx; begun = e.begun; notes = e.notes })))
+  called_effect c r sends (inl (so, inr (inr e))) = inl (so, inr (inr (record { of = e.of; from = e.from; oid = e.oid; op = e.op; spelled = e.spelled; tx = e.tx; begun = e.begun; notes = e.notes })))
+  called_effect c r sends (inr e) = inr (record { of = e.of; from = e.from; none = e.none; tx = e.tx; begun = e.begun; notes = e.notes })
 
   abbrev pub IsClientTurn : Client m → ClientTurn m → Type 0
-  IsClientTurn c t = Right t.now × SoNotes t.notes × IsEffect c (as_moved t)
+  IsClientTurn c t = Right t.now × IsEffect c (as_moved t)
 
   given_right : (c : Client m) (r : Moved m) → IsRightTurn c r → IsClientTurn c (given m c r)
-  given_right c r k = (called_right r.now k.0, k.1, called_effect c r (given m c r).sends k.2)
+  given_right c r k = (called_right r.now k.0, called_effect c r (given m c r).sends k.1)
 
-  pub command_right : (c : Client m) (x : CommandOf m) → Right c → EachCommand m objects es c x → LawfulCommand m x → IsClientTurn c (client_command m c x)
+  pub command_right : (c : Client m) (x : CommandOf m) → Right c → EachCommand m c x → LawfulCommand m x → IsClientTurn c (client_command m c x)
   unfolding client_command
   command_right c x h r lawful = given_right c (refused_or m c x (refusal m c x)) (refused_right c x (refusal m c x) h r (λ fine. spelled_unless m c x lawful fine))
 
@@ -258,8 +282,8 @@ module _ (m : Meaning) (objects : List Oid) (es : Entries) (rising : IsRising es
   tick_right c h = by c.work
     where
       by : (w : Option (Work m)) → IsClientTurn c (tick_by m c w)
-      by None = (called_right c h, λ n i. absurd i, inl (inl (record { tx = inl refl; begun = refl; plain = λ n i. absurd i })))
-      by (Some w) = (record { view = h.view; dir = h.dir; work = h.work }, λ n i. absurd i, inl (inl (record { tx = inl refl; begun = refl; plain = λ n i. absurd i })))
+      by None = (called_right c h, inl (λ n i. absurd i, inl (inl (record { tx = inl refl; begun = refl; plain = λ n i. absurd i }))))
+      by (Some w) = (record { view = h.view; dir = h.dir; work = h.work }, inl (λ n i. absurd i, inl (inl (record { tx = inl refl; begun = refl; plain = λ n i. absurd i }))))
 
   -- Worlds.
 
@@ -268,9 +292,9 @@ module _ (m : Meaning) (objects : List Oid) (es : Entries) (rising : IsRising es
     pub replies : (t : Told m) → Has w.told t → SoTold t.mark.what
     pub objects_are : w.cluster.objects ≡ objects
 
-  turned_right : (w : World m) (n : ℕ) (t : ClientTurn m) → IsRightWorld w → Right t.now → SoNotes t.notes → IsRightWorld (client_turned m w n t)
+  turned_right : (w : World m) (n : ℕ) (c : Client m) (t : ClientTurn m) → IsRightWorld w → IsClientTurn c t → IsRightWorld (client_turned m w n t)
   unfolding client_turned
-  turned_right w n t h r so = record {
+  turned_right w n c t h turn = record {
     clients = λ k. by k (set_at w.clients n t.now k (new_client m w.cluster k));
     replies = λ x i. said x (has_either w.told (map (mark_of m w n) t.notes) x i);
     objects_are = h.objects_are;
@@ -278,12 +302,12 @@ module _ (m : Meaning) (objects : List Oid) (es : Entries) (rising : IsRising es
     where
       by : (k : ℕ) → (slice_index_or (slice_set w.clients n t.now) k (new_client m w.cluster k) ≡ t.now)
           ⊎ (slice_index_or (slice_set w.clients n t.now) k (new_client m w.cluster k) ≡ slice_index_or w.clients k (new_client m w.cluster k)) → Right (slice_index_or (slice_set w.clients n t.now) k (new_client m w.cluster k))
-      by k (inl e) = subst Right (sym e) r
+      by k (inl e) = subst Right (sym e) turn.0
       by k (inr e) = subst Right (sym e) (h.clients k)
 
       said : (x : Told m) → Has w.told x ⊎ Has (map (mark_of m w n) t.notes) x → SoTold x.mark.what
       said x (inl i) = h.replies x i
-      said x (inr i) = let k = has_image (mark_of m w n) t.notes x i in subst (λ (y : Told m). SoTold y.mark.what) (sym k.2) (so k.0 k.1)
+      said x (inr i) = let k = has_image (mark_of m w n) t.notes x i in subst (λ (y : Told m). SoTold y.mark.what) (sym k.2) (so_notes c (as_moved t) turn.1 k.0 k.1)
 
   pub deliver_right : (c : Client m) (from : NodeId) (rid : ℕ) (p : Packet) → Right c → EachDelivery m objects es (Ready m objects es) c c.work from rid (reply p.msg) → IsClientTurn c (client_deliver m c from rid p.msg)
   unfolding client_deliver
@@ -296,7 +320,7 @@ module _ (m : Meaning) (objects : List Oid) (es : Entries) (rising : IsRising es
   moves_right w p role.Layout h e = record { clients = h.clients; replies = h.replies; objects_are = h.objects_are }
   moves_right w p role.Seqr h e = record { clients = h.clients; replies = h.replies; objects_are = h.objects_are }
   moves_right w p role.Client h e =
-      turned_right w p.to.num (client_deliver m (client m w p.to.num) p.from p.rid p.msg) h (deliver_right (client m w p.to.num) p.from p.rid p (h.clients p.to.num) (e refl)).0 (deliver_right (client m w p.to.num) p.from p.rid p (h.clients p.to.num) (e refl)).1
+      turned_right w p.to.num (client m w p.to.num) (client_deliver m (client m w p.to.num) p.from p.rid p.msg) h (deliver_right (client m w p.to.num) p.from p.rid p (h.clients p.to.num) (e refl))
 
   pub happens_right : (w : World m) (e : EventOf m) → IsRightWorld w → LawfulIn m e → EachEvent m objects es (Ready m objects es) w e → IsRightWorld (happens m w e)
   unfolding happens
@@ -310,7 +334,7 @@ module _ (m : Meaning) (objects : List Oid) (es : Entries) (rising : IsRising es
       noted false = record { clients = h.clients; replies = h.replies; objects_are = h.objects_are }
 
       by : (b : Bool) → IsRightWorld (commands m b w k x)
-      by true = turned_right (noted_if m (is_some (client m w k).work) w k (client m w k)) k (client_command m (client m w k) x) (noted (is_some (client m w k).work)) (command_right (client m w k) x (h.clients k) r lawful).0 (command_right (client m w k) x (h.clients k) r lawful).1
+      by true = turned_right (noted_if m (is_some (client m w k).work) w k (client m w k)) k (client m w k) (client_command m (client m w k) x) (noted (is_some (client m w k).work)) (command_right (client m w k) x (h.clients k) r lawful)
       by false = h
   happens_right w (Deliver i) h lawful r = let x = by (slice_get w.packets i) refl in record { clients = x.clients; replies = x.replies; objects_are = x.objects_are }
     where
@@ -328,7 +352,7 @@ module _ (m : Meaning) (objects : List Oid) (es : Entries) (rising : IsRising es
       ticks_right role.Unit = h
       ticks_right role.Layout = h
       ticks_right role.Seqr = record { clients = h.clients; replies = h.replies; objects_are = h.objects_are }
-      ticks_right role.Client = turned_right w n.num (client_tick m (client m w n.num)) h (tick_right (client m w n.num) (h.clients n.num)).0 (tick_right (client m w n.num) (h.clients n.num)).1
+      ticks_right role.Client = turned_right w n.num (client m w n.num) (client_tick m (client m w n.num)) h (tick_right (client m w n.num) (h.clients n.num))
 
       by : (b : Bool) → IsRightWorld (ticks_if m b w n)
       by true = ticks_right n.role

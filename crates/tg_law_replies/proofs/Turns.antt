@@ -1,10 +1,12 @@
 -- A client's steps keep it right, and what they tell is true of the log.
-use Rattle.std.proofs.Common.{◌≡◌, ℕ, List, [], ◌∷◌, Bool, true, false, refl, sym, subst, inl, inr, Option, Some, None, Contains}
+use Rattle.std.proofs.Common.{◌≡◌, ℕ, List, [], ◌∷◌, Bool, true, false, refl, sym, ap, subst, inl, inr, Option, Some, None, Contains}
 use Rattle.std.specs.Prelude.{not, nat_lt, nat_le, ◌&&◌, ◌==◌}
 use Rattle.tg_base.specs.Layouts.{Layout}
 use Rattle.tg_base.specs.declared.cell.Cell.{Cell}
 use Rattle.tg_base.specs.declared.ids.NodeId.{NodeId}
 use Rattle.tg_base.specs.declared.ids.Oid.{Oid}
+use Rattle.std.specs.List.{list_all}
+use Rattle.tg_base.specs.declared.marks.ReadMark.{ReadMark}
 use Rattle.tg_base.specs.declared.marks.StreamLink.{StreamLink}
 use Rattle.tg_base.specs.declared.packet.Out.{Out}
 use Rattle.tg_entry.specs.declared.entry.Entry.{Entry}
@@ -15,7 +17,8 @@ use Rattle.tg_model.specs.declared.refusal.Refusal.TheVariants as cause
 use Rattle.tg_model.specs.declared.trace.What.TheVariants as told
 use Rattle.tg_model.specs.Kinds.{CommandOf, WhatOf, NoteOf}
 use Rattle.tg_protocol.specs.Words.{node_eq, layout_id}
-use Rattle.tg_protocol.specs.Entries.{streams_of, linked}
+use Rattle.tg_protocol.specs.Entries.{is_commit, reads_of, streams_of, linked}
+use Rattle.tg_protocol.specs.Logs.{is_current, changes_below}
 use Rattle.tg_protocol.specs.Views.{Entries, View}
 use Rattle.tg_protocol.specs.Requests.{awaits, Next, Goes, Learns, Ends, Turn}
 use Rattle.tg_protocol.specs.Replies.{Reply, IsLatest, IsIssued, IsOldEpoch, IsFull}
@@ -31,11 +34,12 @@ use Rattle.tg_protocol.specs.Clients.{Purpose, Writes, Judged, Decides, Rescues,
 use Rattle.tg_protocol.specs.Answers.{Moved, moved, note, closed, took_over}
 use Rattle.tg_protocol.specs.ClientSteps.{task_awaited, task_in, after_turn, met, goes_on, learns_for, takes_back, found_by, start_walk, walks, knows, sync_to, on_sync, stale, starts_over, gives_up, given_up_if, at_trim, walk_ended_by, walk_to, on_walk, knows_page, owns, tx_of, record_lost, lost, page_known, decided_for, append_ended, append_to, on_append, trim_to, on_trims, copy_to, on_copy, stands, reconf_ended, reconf_to, on_reconf, task_feed, copies_again, task_again, on_newer, fed_if, hand_feed, latest_if, reply_feed, feed}
 use Rattle.tg_law_plays.specs.Sound.{IsRising}
-use Rattle.tg_law_history.specs.Logs.{AreListed}
+use Rattle.tg_law_history.specs.Logs.{AreListed, HasOutcome}
+use Rattle.tg_law_history.proofs.Members.{both_and}
 use Rattle.tg_law_replies.specs.Steps.{EachWalk, EachSync, EachOver, EachTrim, EachEnd, EachWalked, Lands, EachFeed, EachAgain, EachNewer, EachAwaited, EachHand, EachLatest, EachReply, EachDelivery}
 use Rattle.tg_law_replies.proofs.Ready.{Ready}
 use Rattle.tg_law_replies.proofs.Books.{IsPlain, ArePlain}
-use Rattle.tg_law_replies.proofs.Moves.{InStep, IsRightMove, TrueWhat, TrueNotes, TrueDraft, RescuesBy, TruePurpose, TrueTask, TrueHand, one_note, one_plain, one_work, replies_right, refuses_right, answers_right, close_right, took_right}
+use Rattle.tg_law_replies.proofs.Moves.{InStep, IsRightMove, TrueWhat, TrueNotes, TrueDraft, RescuesBy, IsBlind, TruePurpose, TrueTask, TrueHand, one_note, one_plain, one_work, replies_right, refuses_right, answers_right, close_right, took_right}
 use Rattle.tg_law_replies.proofs.Upkeep.{syncs_right}
 use Rattle.tg_law_replies.proofs.Played.{walked_right}
 
@@ -238,10 +242,19 @@ module _ (m : Meaning) (objects : List Oid) (es : Entries) (rising : IsRising es
   rescue_said d q (told.Rescued p (Some b)) k l = (k.0, λ e i needs. record { at = q; entry = linked d l.0; is_yes = b; here = l.1; is = k.1 })
   rescue_said d q what k l = k
 
-  ended_right : (c : Client m) (w : Work m) (x : Purpose m) (f : Entry) (e : AppendEnd) → Held c → TruePurpose m objects es rising listed f x → Lands m objects es f x (Ends e) → RightMove (append_ended m c w x e)
+  -- a record without reads commits where it stands
+  landed : (d : Entry) (p : ℕ) → IsBlind m objects es rising listed d → ((links : List StreamLink) × Contains es (p, linked d links)) → HasOutcome m objects es p true
+  landed d p blind l = record {
+    entry = linked d l.0;
+    here = l.1;
+    commit = blind.0;
+    outcome = both_and (is_commit d) (list_all (is_current m (changes_below m [] es p)) (reads_of d)) blind.0 (ap (λ (rs : List ReadMark). list_all (is_current m (changes_below m [] es p)) rs) blind.1);
+  }
+
+  ended_right : (c : Client m) (w : Work m) (x : Purpose m) (f : Entry) (e : AppendEnd) → Held c → TruePurpose m objects es rising listed f x → Lands es f (Ends e) → RightMove (append_ended m c w x e)
   ended_right c w Writes f (At p d) h t out =
       replies_right m objects es rising listed tx0 n0 (closed m (owns m c p d)) (note m (tx_of m c) (told.Committed p) ∷ []) (close_right m objects es rising listed tx0 n0 (owns m c p d) (owns_right c p d h))
-      (one_note m objects es rising listed (tx_of m c) (told.Committed p) out) (one_plain m objects es rising listed tx0 n0 (tx_of m c) (told.Committed p) tt)
+      (one_note m objects es rising listed (tx_of m c) (told.Committed p) (landed f p t out)) (one_plain m objects es rising listed tx0 n0 (tx_of m c) (told.Committed p) tt)
   ended_right c w Writes f (Full l) h t out = record_lost_right c (Full l) h
   ended_right c w Writes f (Forgotten p b) h t out = record_lost_right c (Forgotten p b) h
   ended_right c w Judged f (At p d) h t out = syncs_right m objects es rising listed tx0 n0 (owns m c p d) (record w { at = p }) c.hosted (owns_right c p d h)
@@ -260,7 +273,7 @@ module _ (m : Meaning) (objects : List Oid) (es : Entries) (rising : IsRising es
       (took_right m objects es rising listed tx0 n0 (owns m c p d) c.view (owns_right c p d h) refl) said plain
     where
       said : TrueNotes m objects es rising listed (note m n (told.Committed p) ∷ note m 0 (told.Marked o k) ∷ [])
-      said x (inl e) = subst (λ (y : NoteOf m). TrueWhat m objects es rising listed y.what) (sym e) out
+      said x (inl e) = subst (λ (y : NoteOf m). TrueWhat m objects es rising listed y.what) (sym e) (landed f p t out)
       said x (inr (inl e)) = subst (λ (y : NoteOf m). TrueWhat m objects es rising listed y.what) (sym e) tt
       said x (inr (inr i)) = absurd i
 
@@ -272,10 +285,10 @@ module _ (m : Meaning) (objects : List Oid) (es : Entries) (rising : IsRising es
   ended_right c w (Marks n o k) f (Forgotten p b) h t out = lost_right c n (Forgotten p b) h
 
   append_right : (c : Client m) (w : Work m) (y : Purpose m) (d : Entry) (t : Turn Append AppendEnd) → Held c → TrueDraft m objects es rising listed d → TruePurpose m objects es rising listed d y
-      → Keeps d t.to → Lands m objects es d y t.to → RightMove (on_append m c w y t)
+      → Keeps d t.to → Lands es d t.to → RightMove (on_append m c w y t)
   append_right c w y d t h draft purpose keeps lands = by t.to keeps lands
     where
-      by : (x : Next Append AppendEnd) → Keeps d x → Lands m objects es d y x → RightMove (append_to m (after_turn m c t) (met m w t) y t.besides x)
+      by : (x : Next Append AppendEnd) → Keeps d x → Lands es d x → RightMove (append_to m (after_turn m c t) (met m w t) y t.besides x)
       by (Goes a) k l = goes_right (after_turn m c t) (met m w t) (Appending a y) t.besides (turned c t h) (subst (λ (e : Entry). TrueDraft m objects es rising listed e × TruePurpose m objects es rising listed e y) (sym k) (draft, purpose))
       by (Learns a) k l = learns_right (after_turn m c t) (met m w t) (Appending a y) (turned c t h) (subst (λ (e : Entry). TrueDraft m objects es rising listed e × TruePurpose m objects es rising listed e y) (sym k) (draft, purpose))
       by (Ends e) k l = ended_right (after_turn m c t) (met m w t) y d e (turned c t h) purpose l

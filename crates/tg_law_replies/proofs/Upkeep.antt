@@ -24,7 +24,7 @@ use Rattle.tg_protocol.specs.Trimming.{trim_start}
 use Rattle.tg_protocol.specs.Transactions.{Tx}
 use Rattle.tg_protocol.specs.Appending.{append_start}
 use Rattle.tg_protocol.specs.Clients.{Rescues, Saves, Marks, Work, Client, member_entries}
-use Rattle.tg_protocol.specs.Answers.{Moved, note, answers, appends, syncs, with_decision, decision, save_if, on_checkpoint, mark_record, mark_notes, forget_by, on_forget, trims_if, trims, floor_of, on_trim, past_answer, past_played, past_turn, ahead_or, on_ask_at, rescue_decision, rescue_known, absent, on_rescue, trim_above}
+use Rattle.tg_protocol.specs.Answers.{Moved, note, appends, syncs, with_decision, decision, save_if, on_checkpoint, mark_record, mark_notes, forget_by, on_forget, trims_if, trims, floor_of, on_trim, past_answer, past_played, past_turn, ahead_or, on_ask_at, rescue_decision, rescue_known, absent, on_rescue, trim_above}
 use Rattle.tg_protocol.specs.Answers as answer
 use Rattle.tg_law_plays.specs.Sound.{IsRising, IsBase}
 use Rattle.tg_law_history.specs.Logs.{state_below, version_below, AreListed, HasOutcome}
@@ -148,7 +148,7 @@ module _ (m : Meaning) (objects : List Oid) (es : Entries) (rising : IsRising es
     record {
       view = h.right.view;
       dir = h.right.dir;
-      work = λ x is. subst (λ (y : Work m). TrueHand m objects es rising listed y.hand) (one_work m objects es rising listed _ x is) ((tt, λ p b k. absurd (no_base m objects es rising listed b k)), tt);
+      work = λ x is. subst (λ (y : Work m). TrueHand m objects es rising listed y.hand) (one_work m objects es rising listed _ x is) ((tt, λ p b k. absurd (no_base m objects es rising listed b k)), (refl, refl));
     },
     marks_said (c.begun + 1) o n,
     inr (inr (record { tx = h.tx; begun = ap (λ (i : ℕ). i + 1) h.begun; oid = o; mark = n; notes = ap (λ (i : ℕ). mark_notes m (i + 1) o n) h.begun })),

@@ -16,7 +16,7 @@ use Rattle.tg_protocol.specs.Runs.{Moves}
 use Rattle.tg_protocol.specs.Holding.{WasBegun}
 use Rattle.tg_law_history.specs.Logs.{state_below}
 use Rattle.tg_law_views.specs.Views.{AreEntriesFor}
-use Rattle.tg_law_views.specs.Exact.{AreExact, LeavesNone, AreWriting}
+use Rattle.tg_law_views.specs.Exact.{AreExact, LeavesNone}
 
 module _ (m : Meaning) where
   -- the entries of the streams that it hosts, and its own records
@@ -38,8 +38,8 @@ module _ (m : Meaning) where
 
     -- by the command: what a kept view has gone past, and what is saved
     abbrev pub Fits : Client m → Work m → CommandOf m → Type 0
-    Fits c v (cmd.Fate p) = AreWriting (mine c v) × ((k : View m) → c.view ≡ Some k → LeavesNone m k (mine c v))
-    Fits c v (cmd.Decide p) = AreWriting (mine c v) × ((k : View m) → c.view ≡ Some k → LeavesNone m k (mine c v))
+    Fits c v (cmd.Fate p) = (k : View m) → c.view ≡ Some k → LeavesNone m k (mine c v)
+    Fits c v (cmd.Decide p) = (k : View m) → c.view ≡ Some k → LeavesNone m k (mine c v)
     Fits c v (cmd.Checkpoint o) = Contains c.hosted o × (m.load o (m.save (state_below m h.objects es v.tail o)) ≡ Some (state_below m h.objects es v.tail o))
     Fits c v x = Unit {0}
 

@@ -1,6 +1,6 @@
 pub mod Told
 pub mod Runs
 pub mod Steps
-pub mod Booked
+pub mod Outcomes
 pub mod Found
 pub mod Laws

@@ -14,7 +14,7 @@ use Rattle.tg_protocol.specs.Views.{Entries}
 use Rattle.tg_protocol.specs.Logs.{ops_of, history_after}
 use Rattle.tg_model.specs.Legal.{Legal}
 use Rattle.tg_law_plays.specs.Sound.{IsRising}
-use Rattle.tg_law_history.specs.Logs.{AreSpelled, state_below, version_below, commits, HasOutcome}
+use Rattle.tg_law_history.specs.Logs.{AreOps, state_below, version_below, commits, HasOutcome}
 
 -- the log has a commit record of a client's transaction at a position
 pub record HasRecordOf (es : Entries) (p k x : ℕ) : Type 0 where
@@ -35,9 +35,10 @@ module _ (m : Meaning) (objects : List Oid) (es : Entries) (trace : Trace m) whe
     pub before : snapshot ≤ p
     pub seen : r.version ≡ version_below m objects es snapshot r.oid r.part
 
-  -- a commit record is that of a transaction which was ended: it writes what was put, and reads what was asked
+  -- a commit record is that of a transaction which was ended: it writes ops, those that were put, and reads what was asked
   pub record IsRecord (p : ℕ) (e : Entry) : Type 0 where
     pub ended : Tells m trace e.head.client e.head.number told.End
+    pub ops : AreOps m (writes_of e)
     pub writes : ops_of m (writes_of e) ≡ puts_of m trace e.head.client e.head.number
     pub asks : (o : Oid) (q : m.ask) (t : ℕ) (a : m.answer) → Tells m trace e.head.client e.head.number (told.Asked o q t a) →
         (t ≤ p) × Contains (reads_of e) (record { oid = o; part = m.look q; version = version_below m objects es t o (m.look q) })
@@ -69,4 +70,4 @@ module _ (m : Meaning) (objects : List Oid) (es : Entries) (trace : Trace m) whe
 
 -- a run is legal where what it tells is so
 abbrev pub TellingIsLegal : Meaning → Type 0
-TellingIsLegal m = (objects : List Oid) (es : Entries) (trace : Trace m) → IsRising es → AreSpelled m es → TellsTrue m objects es trace → Legal m objects (history_after m [] es) trace
+TellingIsLegal m = (objects : List Oid) (es : Entries) (trace : Trace m) → IsRising es → TellsTrue m objects es trace → Legal m objects (history_after m [] es) trace

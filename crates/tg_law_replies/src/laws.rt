@@ -2,19 +2,13 @@
 
 ghost use Rattle.tg_kind.specs.Of.{meaning_of};
 ghost use Rattle.tg_law_replies.specs.Told.{TellingIsLegal};
-ghost use Rattle.tg_law_replies.specs.Laws.{RunsAreLegal, RunsWriteTruth, RunsTellTruth};
+ghost use Rattle.tg_law_replies.specs.Laws.{RunsWriteTruth, RunsTellTruth};
 
 use tg_kind::Registry;
 
 /// Where the entries of a log bear out all that replies tell of it, history and replies are legal.
 pub fn telling_is_legal<K: Registry>()
     ensures { TellingIsLegal (meaning_of K.Registry) }
-{}
-
-/// A run is legal: its answers are those of the plain machine over one history, and its outcomes are the history's.
-/// From what its clients find of the log that it ends with, and what that log says of their transactions' records.
-pub fn runs_are_legal<K: Registry>()
-    ensures { RunsAreLegal (meaning_of K.Registry) }
 {}
 
 /// The decision records and the checkpoints of a run's log are true of it, where each of its entries was begun by its

@@ -1,6 +1,5 @@
 -- The books of a run in which a transaction commits.
-use Rattle.std.proofs.Common.{◌≡◌, ℕ, List, [], ◌∷◌, refl, Some, None}
-use Rattle.std.specs.Prelude.{true, false}
+use Rattle.std.proofs.Common.{◌≡◌, ℕ, [], ◌∷◌, refl, Some, None}
 use Rattle.tg_model.specs.declared.command.Command.TheVariants as cmd
 use Rattle.tg_model.specs.declared.command.Event.TheVariants.{Command as Commands, Deliver}
 use Rattle.tg_model.specs.declared.trace.What.TheVariants as told
@@ -10,7 +9,7 @@ use Rattle.tg_entry.specs.Reads.{marks, reads}
 use Rattle.tg_entry.specs.Writes.{writes}
 use Rattle.tg_entry.specs.Checkpoints.{keys, new_fields, old_fields}
 use Rattle.tg_entry.specs.Format.{body, entry}
-use Rattle.tg_protocol.specs.Words.{role_code, node_eq, bytes_eq, bytes_lt, part_eq, part_lt, cell_eq, client_id}
+use Rattle.tg_protocol.specs.Words.{role_code, node_eq, bytes_eq, bytes_lt, part_eq, part_lt, cell_eq}
 use Rattle.tg_protocol.specs.Layouts.{chain_of, units_of, next_of, change_fault}
 use Rattle.tg_protocol.specs.Units.{new_unit, unit_ask, first_missing, on_ask, unit_step}
 use Rattle.tg_protocol.specs.LayoutServers.{new_layout, layout_ask, on_layout_ask, layout_step}
@@ -35,32 +34,18 @@ use Rattle.tg_protocol.specs.ClientSteps.{task_asks, client_asks, walks, task_fe
 use Rattle.tg_protocol.specs.Sizes.{fields_size}
 use Rattle.tg_protocol.specs.Logs.{decided, newest, log_of, entries_of, members, path_on, path, changes_below, version, outcome, history_of}
 use Rattle.tg_protocol.specs.Worlds.{World, trace, client, start, latest, log, history, unit_moves, layout_moves, seqr_moves, client_turned, happens, limit_of, drain_on, drain, tick_all, rounds, settle, line, lines}
-use Rattle.std.proofs.Common.{ap, sym, ◌∙◌, subst, inl, inr, arith, Bool, Option, ◌++◌, Contains, zero, suc, length, ◌<◌, ◌≤◌}
-use Rattle.std.specs.Prelude.{slice_get}
-use Rattle.tg_base.specs.declared.ids.Oid.{Oid}
-use Rattle.tg_base.specs.declared.ids.Role.{Role}
-use Rattle.tg_base.specs.declared.ids.Role.TheVariants as role
-use Rattle.tg_base.specs.declared.packet.Packet.{Packet}
-use Rattle.tg_base.specs.declared.msg.Msg.TheVariants as msg
-use Rattle.tg_entry.specs.declared.entry.Body.TheVariants.{Commit}
+use Rattle.std.proofs.Common.{ap, sym, ◌∙◌, subst, inl, inr, Option, ◌++◌, Contains, zero, suc}
 use Rattle.tg_entry.specs.declared.entry.Entry.{Entry}
-use Rattle.tg_entry.specs.declared.entry.WriteOp.{WriteOp}
-use Rattle.tg_model.specs.Kinds.{EventOf, WhatOf, MarkOf, NoteOf}
-use Rattle.tg_model.specs.Traces.{Tells, puts_of}
+use Rattle.tg_model.specs.Kinds.{EventOf, WhatOf, MarkOf}
 use Rattle.tg_model.specs.declared.refusal.Refusal.TheVariants as cause
-use Rattle.tg_protocol.specs.Views.{Entries}
-use Rattle.tg_protocol.specs.Entries.{writes_of, lists}
-use Rattle.tg_protocol.specs.Transactions.{Tx}
-use Rattle.tg_protocol.specs.Runs.{Move, Moves, Takes, LawfulMove, Reaches, run}
-use Rattle.tg_law_history.specs.Logs.{HasOutcome, AreListed, AreSpelled, commits}
-use Rattle.tg_law_history.specs.Worlds.{entries_in}
-use Rattle.tg_law_history.proofs.Members.{Has, has_contained, contained_has}
-use Rattle.tg_protocol.specs.Entries.{is_commit, linked}
+use Rattle.tg_protocol.specs.Runs.{Moves, Takes, run}
+use Rattle.tg_law_history.specs.Logs.{commits}
+use Rattle.tg_law_history.proofs.Members.{Has, has_contained}
+use Rattle.tg_protocol.specs.Entries.{linked}
 use Rattle.tg_protocol.specs.Appending.{Append, AppendEnd, At, Full, Forgotten, Asking}
 use Rattle.tg_protocol.specs.Holding.{append_by, EntriesOnce}
 use Rattle.tg_model.specs.Traces.{Trace}
-use Rattle.tg_law_replies.specs.Told.{HasRecordOf}
-use Rattle.tg_law_books.specs.Kept.{WasLeft, RecordsLeft, AsksPrecede, EndsSo, AppendsEnd, MarksSpelled}
+use Rattle.tg_law_books.specs.Kept.{WasLeft, RecordsLeft, AsksPrecede, EndsSo, AppendsEnd}
 use Rattle.tg_law_books.proofs.Booked.{books_are_kept}
 use Rattle.tg_law_books.specs.Ended.{ended_in}
 use Rattle.tg_law_books.proofs.Known.{records_are_known}
@@ -70,14 +55,14 @@ use Rattle.tg_law_tallies.proofs.Commit.{w3, w4, w5, w6, here, ended, es, entry_
 use Rattle.tg_law_tallies.specs.Tallies.{tallies, tally, with_tally, adds}
 use Rattle.tg_law_tallies.specs.Books.{CommitIsBooked}
 
-abbrev first_three : Moves tallies
+abbrev pub first_three : Moves tallies
 first_three = Takes (Commands 0 cmd.Begin) ∷ Takes (Commands 0 (cmd.Put tally 5)) ∷ Takes (Commands 0 cmd.End) ∷ []
 
-abbrev append_made : Append
+abbrev pub append_made : Append
 append_made = record { draft = commit_record tx_made 0; token = None; work = Asking 1 }
 
 -- the append that the client has in hand once it has ended the transaction
-in_hand : append_by tallies (client tallies (run tallies first_three (start tallies with_tally)) 0).work ≡ Some append_made
+pub in_hand : append_by tallies (client tallies (run tallies first_three (start tallies with_tally)) 0).work ≡ Some append_made
 unfolding run u8_at u16_at u32_at u64_at raw_at fixed_at read_many spell_many fit_many marks reads writes keys new_fields old_fields body entry role_code node_eq bytes_eq bytes_lt part_eq part_lt cell_eq chain_of units_of next_of change_fault new_unit unit_ask first_missing on_ask unit_step new_layout layout_ask on_layout_ask layout_step reply work_asks put_cell get_cell fill_cell probe work_feed cell_feed entry_size needs_decision page_of entry_of new_seqr seqr_step seqr_tick append_work_asks append_start append_feed append_again sync_work_asks sync_start sync_feed walk_on walk_start walk_feed no_versions based version_of with_change parts_of decision_in view_start view_version view_parts unknown_in changed_in verdict view_outcome step_at play_on play read_fault write_fault commit_record open_decision checkpoint bases_in load_from view_base view_bases may_forget commit_at past_at rescue_turn trim_start trim_feed copy_work_asks copy_start copy_feed reconf_work_asks reconf_start reconf_feed reconf_latest new_client entries_at copy_fault tests refusal appends syncs walked task_asks client_asks walks task_feed task_again accepts client_command client_deliver client_tick fields_size decided newest log_of entries_of members path_on path changes_below version outcome history_of start latest log history unit_moves layout_moves seqr_moves client_turned happens limit_of drain_on drain tick_all rounds settle line lines
 in_hand = refl
 
@@ -85,11 +70,11 @@ in_hand = refl
 abbrev told_since : Trace tallies
 told_since = mark_of_tx 0 (told.Committed 0) ∷ []
 
-traced : trace tallies ended ≡ trace tallies (run tallies first_three (start tallies with_tally)) ++ told_since
+pub traced : trace tallies ended ≡ trace tallies (run tallies first_three (start tallies with_tally)) ++ told_since
 unfolding run u8_at u16_at u32_at u64_at raw_at fixed_at read_many spell_many fit_many marks reads writes keys new_fields old_fields body entry role_code node_eq bytes_eq bytes_lt part_eq part_lt cell_eq chain_of units_of next_of change_fault new_unit unit_ask first_missing on_ask unit_step new_layout layout_ask on_layout_ask layout_step reply work_asks put_cell get_cell fill_cell probe work_feed cell_feed entry_size needs_decision page_of entry_of new_seqr seqr_step seqr_tick append_work_asks append_start append_feed append_again sync_work_asks sync_start sync_feed walk_on walk_start walk_feed no_versions based version_of with_change parts_of decision_in view_start view_version view_parts unknown_in changed_in verdict view_outcome step_at play_on play read_fault write_fault commit_record open_decision checkpoint bases_in load_from view_base view_bases may_forget commit_at past_at rescue_turn trim_start trim_feed copy_work_asks copy_start copy_feed reconf_work_asks reconf_start reconf_feed reconf_latest new_client entries_at copy_fault tests refusal appends syncs walked task_asks client_asks walks task_feed task_again accepts client_command client_deliver client_tick fields_size decided newest log_of entries_of members path_on path changes_below version outcome history_of start latest log history unit_moves layout_moves seqr_moves client_turned happens limit_of drain_on drain tick_all rounds settle line lines
 traced = refl
 
-drafted : entry_made ≡ linked (commit_record tx_made 0) entry_made.head.streams
+pub drafted : entry_made ≡ linked (commit_record tx_made 0) entry_made.head.streams
 unfolding commit_record
 drafted = refl
 
@@ -113,16 +98,13 @@ entry_left = record {
     by u l (inl e) what = committed_is l (sym (ap (λ (y : MarkOf tallies). y.what) e) ∙ what)
     by u l (inr i) what = i
 
-left : RecordsLeft tallies with_tally adds ended
+pub left : RecordsLeft tallies with_tally adds ended
 left p e i commit = subst (WasLeft tallies with_tally adds ended) (sym (is_entry p e i).1) entry_left
 
-asks : AsksPrecede tallies ended
+pub asks : AsksPrecede tallies ended
 asks k x p s o q a h r = absurd (is_made k x (told.Asked o q s a) h).0
 
-all_spelled : MarksSpelled tallies adds
-all_spelled k n o i = refl
-
-once : EntriesOnce tallies ended
+pub once : EntriesOnce tallies ended
 once p q e f i j client kind number = (is_entry p e i).0 ∙ sym (is_entry q f j).0
 
 -- How its append ends: where the packet comes to another node, or the client has none, it doesn't.
@@ -223,10 +205,9 @@ commit_is_booked = record {
   reached = reached;
   left = left;
   asks = asks;
-  marks = all_spelled;
   once = once;
   ends = ends;
-  books = books_are_kept tallies with_tally adds ended reached left asks all_spelled;
+  books = books_are_kept tallies with_tally adds ended reached left asks;
   known = records_are_known tallies with_tally adds ended reached left asks once;
   replies = replies_are_known tallies with_tally adds ended reached left asks ends;
 }

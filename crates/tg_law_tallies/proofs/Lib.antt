@@ -2,4 +2,5 @@ pub mod Steps
 pub mod Past
 pub mod Commit
 pub mod Books
+pub mod Legal
 pub mod Settling

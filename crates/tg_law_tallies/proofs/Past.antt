@@ -202,7 +202,6 @@ pub past_is_told : PastIsTold
 past_is_told = (
   record {
     reached = reached;
-    listed = λ p e w i j. absurd (no_entry p e i);
     finds = by_steps tallies one_of_each (λ before v e. EachEvent tallies [] es (Finds tallies one_of_each es before) v e) asks_past (
       more [] w0 (Commands 0 (cmd.AskAt 0 directory 0)) first,
       (

@@ -33,7 +33,6 @@ use Rattle.tg_protocol.specs.ClientSteps.{task_asks, client_asks, walks, task_fe
 use Rattle.tg_protocol.specs.Sizes.{fields_size}
 use Rattle.tg_protocol.specs.Logs.{decided, newest, log_of, entries_of, members, path_on, path, changes_below, version, outcome, history_of}
 use Rattle.tg_base.specs.declared.ids.Oid.{Oid}
-use Rattle.tg_base.specs.declared.ids.Oid.{Oid}
 use Rattle.tg_base.specs.declared.marks.StreamLink.{StreamLink}
 use Rattle.tg_protocol.specs.Words.{cell_at, too_far, unit_id, seqr_id}
 use Rattle.tg_protocol.specs.Entries.{link_of, backs_of}

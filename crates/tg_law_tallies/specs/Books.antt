@@ -3,8 +3,8 @@ use Rattle.tg_base.specs.Clusters.{Header}
 use Rattle.tg_protocol.specs.Worlds.{World, start}
 use Rattle.tg_protocol.specs.Runs.{Moves, Reaches, run}
 use Rattle.tg_protocol.specs.Holding.{EntriesOnce}
-use Rattle.tg_law_replies.specs.Laws.{ClientsBook}
-use Rattle.tg_law_books.specs.Kept.{RecordsLeft, AsksPrecede, AppendsEnd, MarksSpelled}
+use Rattle.tg_law_books.specs.Booked.{ClientsBook}
+use Rattle.tg_law_books.specs.Kept.{RecordsLeft, AsksPrecede, AppendsEnd}
 use Rattle.tg_law_books.specs.Laws.{RecordsKnown, RepliesKnown}
 use Rattle.tg_law_tallies.specs.Tallies.{tallies, with_tally, adds}
 
@@ -13,7 +13,6 @@ pub record AreKept (h : Header) (ms : Moves tallies) (w : World tallies) : Type 
   pub reached : Reaches tallies h ms w
   pub left : RecordsLeft tallies h ms w
   pub asks : AsksPrecede tallies w
-  pub marks : MarksSpelled tallies ms
   pub once : EntriesOnce tallies w
   pub ends : AppendsEnd tallies h ms w
   pub books : ClientsBook tallies h ms w

@@ -8,12 +8,12 @@ use Rattle.tg_model.specs.declared.command.Command.TheVariants as cmd
 use Rattle.tg_model.specs.declared.command.Event.TheVariants.{Command as Commands, Deliver}
 use Rattle.tg_model.specs.declared.trace.What.TheVariants as told
 use Rattle.tg_protocol.specs.Words.{directory}
-use Rattle.tg_protocol.specs.Worlds.{World, start, trace}
+use Rattle.tg_model.specs.Legal.{InOrder}
+use Rattle.tg_protocol.specs.Worlds.{World, start, trace, history}
 use Rattle.tg_protocol.specs.Runs.{Moves, Takes, Reaches, run}
-use Rattle.tg_law_history.specs.Logs.{AreListed, AreSpelled}
-use Rattle.tg_law_history.specs.Worlds.{entries_in}
-use Rattle.tg_law_replies.specs.Laws.{ClientsFind, ClientsBook}
-use Rattle.tg_law_replies.specs.Booked.{IsOfRun}
+use Rattle.tg_protocol.specs.Holding.{EntriesOnce, EntriesOwn, RecordsOwn, RepliesHaveRecords}
+use Rattle.tg_law_replies.specs.Laws.{ClientsFind}
+use Rattle.tg_law_books.specs.Kept.{AsksPrecede, RefusedLeaveNone}
 
 -- an op adds to a tally, which an ask tells
 abbrev pub one_number : List ℕ → Option ℕ
@@ -52,7 +52,6 @@ asks_past = Takes (Commands 0 (cmd.AskAt 0 directory 0)) ∷ Takes (Deliver 0) �
 -- the premises of what a run tells
 pub record AreFound (h : Header) (ms : Moves tallies) (w : World tallies) : Type 0 where
   pub reached : Reaches tallies h ms w
-  pub listed : AreListed (entries_in tallies w)
   pub finds : ClientsFind tallies h ms w
 
 pub record TellsPast (w : World tallies) : Type 0 where
@@ -74,16 +73,20 @@ abbrev pub adds : Moves tallies
 adds = Takes (Commands 0 cmd.Begin) ∷ Takes (Commands 0 (cmd.Put tally 5)) ∷ Takes (Commands 0 cmd.End)
     ∷ Takes (Deliver 0) ∷ Takes (Deliver 1) ∷ Takes (Deliver 2) ∷ Takes (Deliver 3) ∷ []
 
--- the premises of a legal run
-pub record AreBooked (h : Header) (ms : Moves tallies) (w : World tallies) : Type 0 where
+-- what `runs_are_legal` asks of a run
+pub record AreBorneOut (h : Header) (ms : Moves tallies) (w : World tallies) : Type 0 where
   pub found : AreFound h ms w
-  pub spelled : AreSpelled tallies (entries_in tallies w)
-  pub books : ClientsBook tallies h ms w
-  pub of_run : IsOfRun tallies w
+  pub own : EntriesOwn tallies h ms w
+  pub once : EntriesOnce tallies w
+  pub records : RecordsOwn tallies w
+  pub replies : RepliesHaveRecords tallies w
+  pub asks : AsksPrecede tallies w
+  pub refused : RefusedLeaveNone tallies w
+  pub order : InOrder tallies (history tallies w) (trace tallies w)
 
 pub record TellsCommitted (w : World tallies) : Type 0 where
   pub event : ℕ
   pub here : Contains (trace tallies w) (record { event = event; client = 0; tx = 1; what = told.Committed 0 })
 
 abbrev pub CommitIsTold : Type 0
-CommitIsTold = AreBooked with_tally adds (run tallies adds (start tallies with_tally)) × TellsCommitted (run tallies adds (start tallies with_tally))
+CommitIsTold = AreBorneOut with_tally adds (run tallies adds (start tallies with_tally)) × TellsCommitted (run tallies adds (start tallies with_tally))

@@ -1,4 +1,4 @@
-use Rattle.tg_law_tallies.proofs.Commit.{commit_is_told}
+use Rattle.tg_law_tallies.proofs.Legal.{commit_is_told}
 use Rattle.tg_law_tallies.proofs.laws.commit_is_told.Goals as goal
 
 pub returns : goal.returns

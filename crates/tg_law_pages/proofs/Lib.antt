@@ -1,0 +1,2 @@
+mod Formats
+pub mod Read
