@@ -4,7 +4,7 @@
 Reading and printing a line is to cost about the same however long its script is, so the larger may take at most
 12 times the smaller.
 
-The program is crates/bench_texts/out/bench_texts, once `rt run` has built it."""
+The program is crates/tests_texts/out/tests_texts, once `rt run` has built it."""
 import sys
 
 import times

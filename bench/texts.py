@@ -5,7 +5,7 @@ A script whose last line has no line feed is printed with one. Of a transcript t
 once more, one by one. Where a FOLDER/NAME.status isn't 0, the script may be outside the grammar, and the transcript
 may be empty: such a text may be refused, but isn't printed another way.
 
-The program is crates/bench_texts/out/bench_texts, once `rt run` has built it."""
+The program is crates/tests_texts/out/tests_texts, once `rt run` has built it."""
 import glob
 import os
 import subprocess

@@ -1,11 +1,14 @@
-//! Tests of made loads, live runs, which packet a datagram delivers, and nodes, apart from their crates, since a check of tests proves its crate once more.
+//! Tests of links, live runs, which packet a datagram delivers, and nodes, apart from their crates, since a check of tests
+//! proves its crate once more.
 #![tactic(auto)]
 
 #[cfg(test)]
 mod live;
 #[cfg(test)]
-mod load;
-#[cfg(test)]
 mod matching;
 #[cfg(test)]
 mod node;
+#[cfg(test)]
+mod outside;
+#[cfg(test)]
+mod udp;

@@ -109,7 +109,7 @@ module _ (ps : List Packet) where
 
   abbrev pub WorkOk : Place → CellWork → Type 0
   WorkOk a (Puts r d i) = Upto a (Data d) i
-  WorkOk a (Copies r c i) = Upto a c i
+  WorkOk a (Copies r c i) = (0 < i) × Upto a c i
   WorkOk a w = Unit {0}
 
   -- what its end tells: all units have told the cell, or the last one has
@@ -143,9 +143,9 @@ module _ (ps : List Packet) where
   put_ok a d i next true e u = (refl, u)
   put_ok a d i next false e u = inl (upto_less a (Data d) i (length a.chain) (not_less i (length a.chain) e) u)
 
-  copy_ok : (a : Place) (c : Cell) (i next : ℕ) (b : Bool) → nat_lt i (length a.chain) ≡ b → Upto a c i → NextOk a (copy_on a c i next b).to
-  copy_ok a c i next true e u = (refl, u)
-  copy_ok a c i next false e u = inl (upto_less a c i (length a.chain) (not_less i (length a.chain) e) u)
+  copy_ok : (a : Place) (c : Cell) (i next : ℕ) (b : Bool) → nat_lt i (length a.chain) ≡ b → 0 < i → Upto a c i → NextOk a (copy_on a c i next b).to
+  copy_ok a c i next true e past u = (refl, (past, u))
+  copy_ok a c i next false e past u = inl (upto_less a c i (length a.chain) (not_less i (length a.chain) e) u)
 
   -- an end that claims nothing of cells, or no change
   end_ok : (b : Bool) (a : Place) (w : CellWork) (next : ℕ) (e : CellEnd) → WorkOk a w → EndOk a e → NextOk a (end_if b (works a w) next e).to
@@ -196,7 +196,7 @@ module _ (ps : List Packet) where
 
   same_ok : (a : Place) (r : ℕ) (c : Cell) (i : ℕ) (x : Cell) (next : ℕ) (b : Bool) → cell_eq x c ≡ b → WorkOk a (Copies r c i) → ToldBy (unit_at a i) a.epoch a.pos x
       → NextOk a (copy_if_same (works a (Copies r c i)) c i next b).to
-  same_ok a r c i x next true e ok t = copy_ok a c (i + 1) next _ refl (upto_more a c i ok (subst (λ (z : Cell). ToldBy (unit_at a i) a.epoch a.pos z) (equal_cells x c e) t))
+  same_ok a r c i x next true e ok t = copy_ok a c (i + 1) next _ refl (omega arith) (upto_more a c i ok.1 (subst (λ (z : Cell). ToldBy (unit_at a i) a.epoch a.pos z) (equal_cells x c e) t))
   same_ok a r c i x next false e ok t = (refl, ok)
 
   pub work_ok : (a : Place) (w : CellWork) (u : ℕ) (y : Msg) (x : Reply) (next : ℕ) → reply y ≡ x → WorkOk a w → Claims a w y → NextOk a (work_feed (works a w) w u x next).to
@@ -212,12 +212,12 @@ module _ (ps : List Packet) where
   work_ok a (Gets r) u y replied.IsUnwritten next is ok h = (refl, ok)
   work_ok a (Gets r) u y (replied.IsGone b) next is ok h = end_ok _ a (Gets r) next (Gone b) ok tt
   work_ok a (Fills r) u y replied.IsHeld next is ok h =
-      copy_ok a Junk 1 next _ refl (upto_more a Junk 0 (λ k less. absurd (omega (arith, less))) (told (unit_at a 0) a.epoch a.pos Junk (msg.Fill a.epoch a.pos) y h (ap (λ (z : Msg). claimed (unit_ask (msg.Fill a.epoch a.pos)) z) (is_held y is))))
+      copy_ok a Junk 1 next _ refl (omega arith) (upto_more a Junk 0 (λ k less. absurd (omega (arith, less))) (told (unit_at a 0) a.epoch a.pos Junk (msg.Fill a.epoch a.pos) y h (ap (λ (z : Msg). claimed (unit_ask (msg.Fill a.epoch a.pos)) z) (is_held y is))))
   work_ok a (Fills r) u y (replied.IsTaken c) next is ok h =
-      copy_ok a c 1 next _ refl (upto_more a c 0 (λ k less. absurd (omega (arith, less))) (told (unit_at a 0) a.epoch a.pos c (msg.Fill a.epoch a.pos) y h (ap (λ (z : Msg). claimed (unit_ask (msg.Fill a.epoch a.pos)) z) (is_taken y c is))))
+      copy_ok a c 1 next _ refl (omega arith) (upto_more a c 0 (λ k less. absurd (omega (arith, less))) (told (unit_at a 0) a.epoch a.pos c (msg.Fill a.epoch a.pos) y h (ap (λ (z : Msg). claimed (unit_ask (msg.Fill a.epoch a.pos)) z) (is_taken y c is))))
   work_ok a (Fills r) u y (replied.IsGone b) next is ok h = end_ok _ a (Fills r) next (Gone b) ok tt
   work_ok a (Copies r c i) u y replied.IsHeld next is ok h =
-      copy_ok a c (i + 1) next _ refl (upto_more a c i ok (told (unit_at a i) a.epoch a.pos c (msg.Copy a.epoch a.pos c) y h (ap (λ (z : Msg). claimed (unit_ask (msg.Copy a.epoch a.pos c)) z) (is_held y is))))
+      copy_ok a c (i + 1) next _ refl (omega arith) (upto_more a c i ok.1 (told (unit_at a i) a.epoch a.pos c (msg.Copy a.epoch a.pos c) y h (ap (λ (z : Msg). claimed (unit_ask (msg.Copy a.epoch a.pos c)) z) (is_held y is))))
   work_ok a (Copies r c i) u y (replied.IsTaken x) next is ok h =
       same_ok a r c i x next _ refl ok (told (unit_at a i) a.epoch a.pos x (msg.Copy a.epoch a.pos c) y h (ap (λ (z : Msg). claimed (unit_ask (msg.Copy a.epoch a.pos c)) z) (is_taken y x is)))
   work_ok a (Copies r c i) u y (replied.IsGone b) next is ok h = end_ok _ a (Copies r c i) next (Gone b) ok tt

@@ -28,7 +28,7 @@ use Rattle.tg_law_requests.proofs.Starts.{base_of}
 use Rattle.tg_law_cells.proofs.Justified.{ToldBy, Upto}
 use Rattle.tg_law_cells.proofs.Jobs.{CellOk}
 use Rattle.tg_law_layouts.proofs.Standing.{IsKnown, known_grows}
-use Rattle.tg_law_cells.proofs.Sent.{Justified, GoesDown, GoesAside, told_grows}
+use Rattle.tg_law_cells.proofs.Sent.{Justified, GoesDown, GoesOn, GoesAside, told_grows}
 use Rattle.tg_law_cells.proofs.Chains.{K, Cells}
 use Rattle.tg_law_cells.proofs.Stores.{Below, start_below}
 use Rattle.tg_law_cells.proofs.Stores.{keeps as low_keeps}
@@ -53,8 +53,8 @@ stored_just ps L to (msg.Copy e p c) k is j = by j
     same : (x y : Claim) → Some x ≡ Some y → x ≡ y
     same x y e = cc
 
-    by : GoesDown ps L to e p c ⊎ GoesAside ps L e p c → GoesDown ps L to k.epoch k.pos k.cell ⊎ GoesAside ps L k.epoch k.pos k.cell
-    by (inl g) = inl (subst (λ (x : Claim). GoesDown ps L to x.epoch x.pos x.cell) (same _ k is) g)
+    by : GoesOn ps L to e p c ⊎ GoesAside ps L e p c → GoesDown ps L to k.epoch k.pos k.cell ⊎ GoesAside ps L k.epoch k.pos k.cell
+    by (inl g) = inl (subst (λ (x : Claim). GoesDown ps L to x.epoch x.pos x.cell) (same _ k is) g.down)
     by (inr g) = inr (subst (λ (x : Claim). GoesAside ps L x.epoch x.pos x.cell) (same _ k is) g)
 stored_just ps L to y k is j = absurd (cc)
 

@@ -1,5 +1,5 @@
 -- What is sent to units is justified: a page or a cell goes down a chain, one unit after the other.
-use Rattle.std.proofs.Common.{◌≡◌, ◌⊎◌, ℕ, List, [], ◌∷◌, ◌++◌, true, refl, sym, ap, ◌∙◌, subst, inl, inr, arith, Some, None, Option}
+use Rattle.std.proofs.Common.{◌≡◌, ◌⊎◌, ℕ, ◌<◌, List, [], ◌∷◌, ◌++◌, true, refl, sym, ap, ◌∙◌, subst, inl, inr, arith, Some, None, Option}
 use Rattle.tg_base.specs.Layouts.{Layout}
 use Rattle.tg_base.specs.declared.cell.Cell.{Cell}
 use Rattle.tg_base.specs.declared.cell.Cell.TheVariants.{Junk, Data}
@@ -45,6 +45,11 @@ module _ (ps : List Packet) (K : Layout → Type 0) where
     pub unit : to ≡ unit_id (unit_at place index)
     pub told : Upto ps place c index
 
+  -- one after the first
+  pub record GoesOn (to : NodeId) (e p : ℕ) (c : Cell) : Type 0 where
+    pub down : GoesDown to e p c
+    pub past : 0 < down.index
+
   -- a spare unit gets what the chain's last unit has told
   pub record GoesAside (e p : ℕ) (c : Cell) : Type 0 where
     pub layout : Layout
@@ -55,7 +60,7 @@ module _ (ps : List Packet) (K : Layout → Type 0) where
   abbrev pub Justified : NodeId → Msg → Type 0
   Justified to (msg.Write e p d) = GoesDown to e p (Data d)
   Justified to (msg.Fill e p) = GoesDown to e p Junk
-  Justified to (msg.Copy e p c) = GoesDown to e p c ⊎ GoesAside e p c
+  Justified to (msg.Copy e p c) = GoesOn to e p c ⊎ GoesAside e p c
   Justified to m = Unit {0}
 
   abbrev pub AllJust : List Out → Type 0
@@ -83,7 +88,7 @@ module _ (ps : List Packet) (K : Layout → Type 0) where
   cell_just p n a (Puts r d i) at k = one_just _ r _ (record { layout = p; known = n; place = a; at = at; epoch = refl; pos = refl; index = i; unit = refl; told = k })
   cell_just p n a (Gets r) at k = one_just _ r (msg.Read a.epoch a.pos) tt
   cell_just p n a (Fills r) at k = one_just _ r _ (record { layout = p; known = n; place = a; at = at; epoch = refl; pos = refl; index = 0; unit = refl; told = λ i less. absurd (omega (arith, less)) })
-  cell_just p n a (Copies r c i) at k = one_just _ r _ (inl (record { layout = p; known = n; place = a; at = at; epoch = refl; pos = refl; index = i; unit = refl; told = k }))
+  cell_just p n a (Copies r c i) at k = one_just _ r _ (inl (record { down = record { layout = p; known = n; place = a; at = at; epoch = refl; pos = refl; index = i; unit = refl; told = k.1 }; past = k.0 }))
   cell_just p n a (Probes ws) at k = asked_just unit_id (msg.Has a.epoch a.pos a.pos 1) ws (λ to. tt)
 
   job_just : (p : Layout) → K p → (j : CellJob) → JobOk ps p j → AllJust (cell_asks j)
@@ -139,7 +144,7 @@ module _ (ps qs : List Packet) (more : (x : Packet) → Has ps x → Has qs x) w
 
   work_grows : (a : Place) (w : CellWork) → WorkOk ps a w → WorkOk qs a w
   work_grows a (Puts r d i) k = λ n less. told_grows _ _ _ _ (k n less)
-  work_grows a (Copies r c i) k = λ n less. told_grows _ _ _ _ (k n less)
+  work_grows a (Copies r c i) k = (k.0, λ n less. told_grows _ _ _ _ (k.1 n less))
   work_grows a (Gets r) k = tt
   work_grows a (Fills r) k = tt
   work_grows a (Probes ws) k = tt
@@ -177,9 +182,10 @@ module _ (ps qs : List Packet) (more : (x : Packet) → Has ps x → Has qs x) w
     down_grows to e p c g = record { layout = g.layout; known = up g.layout g.known; place = g.place; at = g.at; epoch = g.epoch; pos = g.pos; index = g.index; unit = g.unit; told = λ n less. told_grows _ _ _ _ (g.told n less) }
 
     pub just_grows : (to : NodeId) (x : Msg) → Justified ps K to x → Justified qs L to x
+    unfolding down_grows
     just_grows to (msg.Write e p d) j = down_grows to e p (Data d) j
     just_grows to (msg.Fill e p) j = down_grows to e p Junk j
-    just_grows to (msg.Copy e p c) (inl j) = inl (down_grows to e p c j)
+    just_grows to (msg.Copy e p c) (inl j) = inl (record { down = down_grows to e p c j.down; past = j.past })
     just_grows to (msg.Copy e p c) (inr j) = inr (record { layout = j.layout; known = up j.layout j.known; epoch = j.epoch; told = cell_grows j.layout p c j.told })
     just_grows to x j = j
 

@@ -85,7 +85,7 @@ module _ (s : Words) where
     told_later u e f p c le t = record { claim = t.claim; tells = t.tells; epoch = (let a = t.epoch in omega (arith, a, le)); pos = t.pos; cell = t.cell }
 
     module _ (l : Line) where
-      told_sealed : (q : Layout) (u e pos : ℕ) (c : Cell) → D q → 1 ≤ e → s.Stands q u → ToldBy ps u e pos c → e < q.epoch → pos < q.start
+      pub told_sealed : (q : Layout) (u e pos : ℕ) (c : Cell) → D q → 1 ≤ e → s.Stands q u → ToldBy ps u e pos c → e < q.epoch → pos < q.start
       told_sealed q u e pos c d some st t less = let a = l.sealed q u t.claim d (omega (arith, some, less)) st t.tells (let b = t.epoch in omega (arith, b, less)) in let e = t.pos in omega (arith, a, e)
 
       told_one : (u e f pos : ℕ) (c x : Cell) → ToldBy ps u e pos c → ToldBy ps u f pos x → c ≡ x
@@ -101,7 +101,7 @@ module _ (s : Words) where
 
       -- A unit that stands in a position's chain and has told its cell stays in the chain, or is gone.
 
-      along : (n : ℕ) (q r : Layout) (u pos : ℕ) (c : Cell) → D q → D r → r.epoch ≡ q.epoch + n → Has (chain_of q pos) u → ToldBy ps u q.epoch pos c → Has (chain_of r pos) u ⊎ s.Gone r u
+      pub along : (n : ℕ) (q r : Layout) (u pos : ℕ) (c : Cell) → D q → D r → r.epoch ≡ q.epoch + n → Has (chain_of q pos) u → ToldBy ps u q.epoch pos c → Has (chain_of r pos) u ⊎ s.Gone r u
       along zero q r u pos c dq dr e h t = inl (subst (λ (p : Layout). Has (chain_of p pos) u) (l.once q r dq dr (omega (arith, e))) h)
       along (suc n) q r u pos c dq dr e h t = by (along n q p u pos c dq a.decided (let f = a.next.epoch in omega (arith, e, f)) h t)
         where
@@ -119,14 +119,14 @@ module _ (s : Words) where
           by (inl g) = stood g (a.next.stays u (l.stands p pos u a.decided g))
           by (inr g) = inr (a.next.gone u g)
 
-      gone_stays : (n : ℕ) (q r : Layout) (u : ℕ) → D q → D r → r.epoch ≡ q.epoch + n → s.Gone q u → s.Gone r u
+      pub gone_stays : (n : ℕ) (q r : Layout) (u : ℕ) → D q → D r → r.epoch ≡ q.epoch + n → s.Gone q u → s.Gone r u
       gone_stays zero q r u dq dr e g = subst (λ (p : Layout). s.Gone p u) (l.once q r dq dr (omega (arith, e))) g
       gone_stays (suc n) q r u dq dr e g = a.next.gone u (gone_stays n q a.old u dq a.decided (let f = a.next.epoch in omega (arith, e, f)) g)
         where
           a : After D r
           a = before r dr (let f = l.first q dq in omega (arith, e, f))
 
-      apart : (e f : ℕ) → e ≤ f → f ≡ e + (f - e)
+      pub apart : (e f : ℕ) → e ≤ f → f ≡ e + (f - e)
       apart e f le = grind arith
 
       -- Before such a unit stand only those that stood before it.
@@ -200,7 +200,7 @@ module _ (s : Words) where
 
       -- A settled position lies below the start of each later layout.
 
-      settled_below : (n : ℕ) (q r : Layout) (pos : ℕ) (c : Cell) → D q → D r → r.epoch ≡ q.epoch + suc n → Upto ps (place_in q pos) c (length (chain_of q pos)) → pos < r.start
+      pub settled_below : (n : ℕ) (q r : Layout) (pos : ℕ) (c : Cell) → D q → D r → r.epoch ≡ q.epoch + suc n → Upto ps (place_in q pos) c (length (chain_of q pos)) → pos < r.start
       settled_below zero q r pos c dq dr e f =
           let a = before r dr (let f = l.first q dq in omega (arith, e, f)) in
           let same = l.once q a.old dq a.decided (let f = a.next.epoch in omega (arith, e, f)) in

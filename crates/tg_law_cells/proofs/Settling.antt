@@ -148,7 +148,7 @@ unfolding bytes_eq
 bytes_self [] = refl
 bytes_self (x ∷ xs) = bytes_more x xs (bytes_self xs)
 
-cell_self : (c : Cell) → cell_eq c c ≡ true
+pub cell_self : (c : Cell) → cell_eq c c ≡ true
 unfolding cell_eq
 cell_self Junk = refl
 cell_self (Data d) = bytes_self d

@@ -73,9 +73,10 @@ module _ (m : Meaning) (w : World m) (K : Layout → Type 0) (decided : (q : Lay
       by (inr t) = inr (up_to w.packets _ _ _ c t)
 
   pub justified : (to : NodeId) (x : Msg) → Justified w.packets K to x → IsJustified m w to x
+  unfolding down
   justified to (msg.Write e p d) j = down to e p (Data d) j
   justified to (msg.Fill e p) j = down to e p Junk j
-  justified to (msg.Copy e p c) (inl j) = inl (down to e p c j)
+  justified to (msg.Copy e p c) (inl j) = inl (record { down = down to e p c j.down; past = j.past })
   justified to (msg.Copy e p c) (inr j) = inr (aside e p c j)
   justified to x j = j
 

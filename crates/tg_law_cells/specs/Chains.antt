@@ -40,6 +40,11 @@ module _ (m : Meaning) where
     pub unit : to ≡ unit_id (unit_at place index)
     pub told : FirstTold w.packets place c index
 
+  -- to one after the first
+  pub record GoesOn (w : World m) (to : NodeId) (epoch pos : ℕ) (c : Cell) : Type 0 where
+    pub down : GoesDown w to epoch pos c
+    pub past : 0 < down.index
+
   -- to any unit: the last unit of a decided layout's chain has told the cell, or all of them have
   pub record GoesAside (w : World m) (epoch pos : ℕ) (c : Cell) : Type 0 where
     pub layout : Layout
@@ -50,7 +55,7 @@ module _ (m : Meaning) where
   abbrev pub IsJustified : World m → NodeId → Msg → Type 0
   IsJustified w to (msg.Write e p d) = GoesDown w to e p (Data d)
   IsJustified w to (msg.Fill e p) = GoesDown w to e p Junk
-  IsJustified w to (msg.Copy e p c) = GoesDown w to e p c ⊎ GoesAside w e p c
+  IsJustified w to (msg.Copy e p c) = GoesOn w to e p c ⊎ GoesAside w e p c
   IsJustified w to x = Unit {0}
 
   -- whatever is sent to a unit to be stored is so justified, then and later

@@ -8,8 +8,8 @@ ghost use Rattle.tg_protocol.specs.Runs.{Always, EachLater};
 
 use tg_kind::Registry;
 
-/// A page, a cell or junk goes to a unit only where the units before it in a decided layout's chain have told it, or,
-/// to a spare unit, where the chain's last unit has.
+/// A page, a cell or junk goes to a unit only where the units before it in a decided layout's chain have told it, a
+/// copied cell only to one after the first; or, to a spare unit, where the chain's last unit has told it.
 pub fn stores_are_justified<K: Registry>()
     ensures { Always (meaning_of K.Registry) (StoresJustified (meaning_of K.Registry)) }
 {}

@@ -8,7 +8,7 @@ use Rattle.tg_entry.specs.Reads.{marks, reads}
 use Rattle.tg_entry.specs.Writes.{writes}
 use Rattle.tg_entry.specs.Checkpoints.{keys, new_fields, old_fields}
 use Rattle.tg_entry.specs.Format.{body, entry}
-use Rattle.tg_protocol.specs.Words.{client_id, role_code, node_eq, bytes_eq, bytes_lt, part_eq, part_lt, cell_eq}
+use Rattle.tg_protocol.specs.Words.{directory, client_id, role_code, node_eq, bytes_eq, bytes_lt, part_eq, part_lt, cell_eq}
 use Rattle.tg_protocol.specs.Layouts.{chain_of, units_of, next_of, change_fault}
 use Rattle.tg_protocol.specs.Units.{new_unit, unit_ask, first_missing, on_ask, unit_step}
 use Rattle.tg_protocol.specs.LayoutServers.{new_layout, layout_ask, on_layout_ask, layout_step}

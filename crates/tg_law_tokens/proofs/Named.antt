@@ -1,5 +1,5 @@
 -- Over all worlds, a sequencer issues in an epoch only where a layout of that epoch names it.
-use Rattle.std.proofs.Common.{◌≡◌, ◌⊎◌, ℕ, zero, suc, ◌+◌, ◌<◌, List, [], length, map, Bool, true, false, refl, sym, ap, ◌∙◌, subst, inl, inr, arith}
+use Rattle.std.proofs.Common.{◌≡◌, ◌⊎◌, ℕ, zero, suc, ◌+◌, ◌<◌, ◌≤◌, List, [], length, map, Bool, true, false, refl, sym, ap, ◌∙◌, subst, inl, inr, arith}
 use Rattle.std.specs.Prelude.{slice_index_or, ◌==◌}
 use Rattle.tg_base.specs.Clusters.{Header}
 use Rattle.tg_base.specs.Layouts.{Layout}
@@ -28,7 +28,7 @@ use Rattle.tg_law_requests.proofs.Told.{NumbersOnce}
 use Rattle.tg_law_requests.proofs.Numbers.{numbers_once}
 use Rattle.tg_law_layouts.proofs.Deciding.{layouts_are_known, one_layout}
 use Rattle.tg_law_tokens.specs.Issuing.{IssuerNamed, OneIssuer}
-use Rattle.tg_law_tokens.proofs.Issues.{Asked, same_asked, token_epoch, Issuing, Turned, turned, old_asked, New, more, old_or_new, new_asked, Low, low_keeps, start_low, asked_of}
+use Rattle.tg_law_tokens.proofs.Issues.{Asked, same_asked, token_epoch, Issuing, Turned, turned, old_asked, New, more, old_or_new, new_is, new_asked, Low, low_keeps, start_low, asked_of}
 use Rattle.tg_law_tokens.proofs.Naming.{Keeps', AsBefore, Learnt, step_keeps}
 
 -- a layout was sent to a sequencer
@@ -45,11 +45,12 @@ pub record Seq (ps : List Packet) (first : Layout) (s : ℕ) (x : SeqrState) : T
   pub known : Known ps first x.proj
   pub own : 0 < x.epoch → (x.proj.epoch ≡ x.epoch) × (x.proj.seq ≡ s)
 
-pub record Under (ps : List Packet) (first : Layout) (s e : ℕ) : Type 0 where
+pub record Under (ps : List Packet) (first : Layout) (s e p : ℕ) : Type 0 where
   pub layout : Layout
   pub known : Known ps first layout
   pub epoch : layout.epoch ≡ e
   pub seq : layout.seq ≡ s
+  pub past : layout.start ≤ p
 
 same_seqr : (s j : ℕ) → seqr_id s ≡ seqr_id j → s ≡ j
 same_seqr s j e = ap (λ (n : NodeId). n.num) e
@@ -62,8 +63,8 @@ module _ (ps qs : List Packet) (more' : (x : Packet) → Has ps x → Has qs x) 
   seq_grows : (s : ℕ) (x : SeqrState) → Seq ps first s x → Seq qs first s x
   seq_grows s x k = record { num = k.num; known = known_grows x.proj k.known; own = k.own }
 
-  under_grows : (s e : ℕ) → Under ps first s e → Under qs first s e
-  under_grows s e k = record { layout = k.layout; known = known_grows k.layout k.known; epoch = k.epoch; seq = k.seq }
+  under_grows : (s e p : ℕ) → Under ps first s e p → Under qs first s e p
+  under_grows s e p k = record { layout = k.layout; known = known_grows k.layout k.known; epoch = k.epoch; seq = k.seq; past = k.past }
 
   seq_on : (s : ℕ) (x t : SeqrState) (y : Packet) → Has ps y → Seq ps first s x → Keeps' x y.msg t → Seq qs first s t
   seq_on s x t y has k (AsBefore a b c) = record {
@@ -76,12 +77,12 @@ module _ (ps qs : List Packet) (more' : (x : Packet) → Has ps x → Has qs x) 
 module _ (m : Meaning) where
   pub record Naming (c : Config m) : Type 0 where
     pub seqs : (s : ℕ) → Seq c.packets (first_layout c.cluster) s (seqr_in m c s)
-    pub under : (s : ℕ) (a : Packet) (p e : ℕ) (ls : List StreamLink) (os : List Oid) → Has c.packets a → a.from ≡ seqr_id s → a.msg ≡ msg.Issued p ls → Asked c.packets a e os → 0 < e → Under c.packets (first_layout c.cluster) s e
+    pub under : (s : ℕ) (a : Packet) (p e : ℕ) (ls : List StreamLink) (os : List Oid) → Has c.packets a → a.from ≡ seqr_id s → a.msg ≡ msg.Issued p ls → Asked c.packets a e os → 0 < e → Under c.packets (first_layout c.cluster) s e p
 
   calm : (c : Config m) → Issuing m c → Naming c → IsCalm m role.Seqr c (λ d. NumbersOnce d.packets → Naming d)
   calm c h k d q n = record {
     seqs = λ s. subst (λ (x : SeqrState). Seq d.packets (first_layout d.cluster) s x) (sym (same s)) (subst (λ (x : Header). Seq d.packets (first_layout x) s (seqr_in m c s)) (sym q.cluster) (seq_grows c.packets d.packets q.grows.sent _ s _ (k.seqs s)));
-    under = λ s a p e ls os has from is asked pos. subst (λ (x : Header). Under d.packets (first_layout x) s e) (sym q.cluster) (under_grows c.packets d.packets q.grows.sent _ s e
+    under = λ s a p e ls os has from is asked pos. subst (λ (x : Header). Under d.packets (first_layout x) s e p) (sym q.cluster) (under_grows c.packets d.packets q.grows.sent _ s e p
         (k.under s a p e ls os (old s a has from) from is (old_asked m c d.packets s a p e ls os h n q.grows.sent (old s a has from) from is asked) pos));
   }
     where
@@ -101,13 +102,15 @@ module _ (m : Meaning) where
     grown : (x : Packet) → Has c.packets x → Has rs x
     grown x y = more m c h s t g less n x y
 
-    under_on : (j : ℕ) (a : Packet) (p e : ℕ) (ls : List StreamLink) (os : List Oid) → a.from ≡ seqr_id j → a.msg ≡ msg.Issued p ls → Asked rs a e os → 0 < e → Has c.packets a ⊎ New m c h s t g less n a → Under rs first j e
-    under_on j a p e ls os from is x pos (inl old) = under_grows c.packets rs grown first j e (k.under j a p e ls os old from is (old_asked m c rs j a p e ls os h n grown old from is x) pos)
+    under_on : (j : ℕ) (a : Packet) (p e : ℕ) (ls : List StreamLink) (os : List Oid) → a.from ≡ seqr_id j → a.msg ≡ msg.Issued p ls → Asked rs a e os → 0 < e → Has c.packets a ⊎ New m c h s t g less n a → Under rs first j e p
+    under_on j a p e ls os from is x pos (inl old) = under_grows c.packets rs grown first j e p (k.under j a p e ls os old from is (old_asked m c rs j a p e ls os h n grown old from is x) pos)
     under_on j a p e ls os from is x pos (inr w) =
         let i = token_epoch e _ os _ (same_asked rs n a e _ os _ x (new_asked m c h s t g less n a w)) in
         let z = (k.seqs s).own (subst (λ y. 0 < y) i pos) in
         let there = same_seqr j s (sym from ∙ ap (λ (y : Packet). y.from) w.is) in
-        record { layout = (seqr_in m c s).proj; known = known_grows c.packets rs grown first _ (k.seqs s).known; epoch = z.0 ∙ sym i; seq = z.1 ∙ sym there }
+        let ready = w.issue.ready in
+        let at = new_is m c h s t g less n a p ls is w in
+        record { layout = (seqr_in m c s).proj; known = known_grows c.packets rs grown first _ (k.seqs s).known; epoch = z.0 ∙ sym i; seq = z.1 ∙ sym there; past = omega (arith, ready, at) }
 
     seq_now : (u : SeqrTurn) → SeqrInput m c s u → ((x : Packet) → Has c.packets x → Has rs x) → Seq rs first s u.now
     unfolding seqr_tick
@@ -163,7 +166,7 @@ module _ (m : Meaning) where
     named_here : IssuerNamed m w
     named_here s e p os ls i pos =
         let u = naming.under s i.answer p e ls os (has_contained _ i.answer i.answered) i.from_seqr i.issues (asked_of m w s e p os ls i) pos in
-        record { layout = u.layout; decided = subst (λ (n : ℕ). IsDecided m w n u.layout) u.epoch (decided_of u.layout u.known); names = u.seq }
+        record { layout = u.layout; decided = subst (λ (n : ℕ). IsDecided m w n u.layout) u.epoch (decided_of u.layout u.known); names = u.seq; past = u.past }
 
     one_issuer_here : OneIssuer m w
     one_issuer_here s z e p at os oz ls ks a b pos =

@@ -1,5 +1,5 @@
 -- Tokens: positions that sequencers issue, and the pages that their owners send.
-use Rattle.std.specs.Prelude.{◌≡◌, ℕ, ◌<◌, Bool, true, false, List, Some, Contains}
+use Rattle.std.specs.Prelude.{◌≡◌, ℕ, ◌<◌, ◌≤◌, Bool, true, false, List, Some, Contains}
 use Rattle.tg_base.specs.Layouts.{Layout}
 use Rattle.tg_base.specs.declared.cell.Cell.TheVariants.{Data}
 use Rattle.tg_base.specs.declared.ids.NodeId.{NodeId}
@@ -41,15 +41,16 @@ module _ (m : Meaning) where
   IssuedOnce w = (s epoch pos : ℕ) (os oz : List Oid) (ls ks : List StreamLink) →
       (a : Issued w s epoch pos os ls) (b : Issued w s epoch pos oz ks) → a.answer ≡ b.answer
 
-  -- a decided layout of an epoch names a sequencer
-  pub record IsNamed (w : World m) (s epoch : ℕ) : Type 0 where
+  -- a decided layout of an epoch names a sequencer, and starts at a position or below it
+  pub record IsNamed (w : World m) (s epoch pos : ℕ) : Type 0 where
     pub layout : Layout
     pub decided : IsDecided m w epoch layout
     pub names : layout.seq ≡ s
+    pub past : layout.start ≤ pos
 
-  -- in an epoch past 0 only a sequencer that the epoch's decided layout names issues
+  -- in an epoch past 0 only a sequencer that the epoch's decided layout names issues, and nothing below the layout's start
   abbrev pub IssuerNamed : World m → Type 0
-  IssuerNamed w = (s epoch pos : ℕ) (os : List Oid) (ls : List StreamLink) → Issued w s epoch pos os ls → 0 < epoch → IsNamed w s epoch
+  IssuerNamed w = (s epoch pos : ℕ) (os : List Oid) (ls : List StreamLink) → Issued w s epoch pos os ls → 0 < epoch → IsNamed w s epoch pos
 
   -- so in an epoch one sequencer issues
   abbrev pub OneIssuer : World m → Type 0

@@ -13,7 +13,8 @@ pub fn issued_once<K: Registry>()
     ensures { Always (meaning_of K.Registry) (IssuedOnce (meaning_of K.Registry)) }
 {}
 
-/// In an epoch past 0 only the sequencer issues that the epoch's decided layout names.
+/// In an epoch past 0 only the sequencer issues that the epoch's decided layout names, and no position below the
+/// layout's start.
 pub fn issuer_is_named<K: Registry>()
     ensures { Always (meaning_of K.Registry) (IssuerNamed (meaning_of K.Registry)) }
 {}

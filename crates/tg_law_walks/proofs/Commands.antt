@@ -63,7 +63,7 @@ module _ (m : Meaning) (l : Log) (byp : IsByPosition l) (linked : AreLinked l) w
   started : (o : Oid) (os : List Oid) (c : Client m) (w : Work m) (to : Next Walk Members) → ((d : Client m) (v : Work m) → IsRound m l (round m d v d.cells) os → Comes m l (walks m os d v)) →
       IsRound m l (round m c w c.cells) (o ∷ os) → Begins l o w.lo w.tail c.cells to → Comes m l (at_start os c w o to)
   unfolding at_start
-  started o os c w (Goes x) rest h b = On _ (record { round = at_walk (round m c w c.cells) o os x h b.2 b.3.known b.0; walk = b.3; low = b.1 })
+  started o os c w (Goes x) rest h b = On _ tt (record { round = at_walk (round m c w c.cells) o os x h b.2 b.3.known b.0; walk = b.3; low = b.1 })
   started o os c w (Learns x) rest h b = absurd b
   started o os c w (Ends x) rest h b = rest (takes_back m c x) (found_by m w o x) (next_alone c w c.cells o os x h b.0 b.1 b.2)
 
@@ -79,7 +79,7 @@ module _ (m : Meaning) (l : Log) (byp : IsByPosition l) (linked : AreLinked l) w
   pub syncs_come : (c : Client m) (w : Work m) (os : List Oid) → AreKnown l c.cells → ((o : Oid) → Contains c.hosted o → Contains os o) →
       ((v : View m) (o : Oid) (b : Base m) → c.view ≡ Some v → base_of m v o ≡ Some b → Contains c.hosted o) → Comes m l (syncs m c w os)
   unfolding syncs sync_start
-  syncs_come c w os known hosts bases = On _ (record { known = known; found = refl; trims = refl; hosts = hosts; bases = bases })
+  syncs_come c w os known hosts bases = On _ tt (record { known = known; found = refl; trims = refl; hosts = hosts; bases = bases })
 
   -- A walk that has ended.
 
@@ -133,8 +133,8 @@ module _ (m : Meaning) (l : Log) (byp : IsByPosition l) (linked : AreLinked l) w
 
   walk_to_comes : (c : Client m) (w : Work m) (cells : List (ℕ × Cell)) (o : Oid) (os : List Oid) (to : Next Walk Members) → IsRound m l (round m c w cells) (o ∷ os) → Walks l o w.lo w.tail cells to →
       Comes m l (walk_to m c w o os to)
-  walk_to_comes c w cells o os (Goes x) h b = On _ (record { round = at_walk (round m c w cells) o os x h b.2 b.3.known b.0; walk = b.3; low = b.1 })
-  walk_to_comes c w cells o os (Learns x) h b = On _ (record { round = at_walk (round m c w cells) o os x h b.2 b.3.known b.0; walk = b.3; low = b.1 })
+  walk_to_comes c w cells o os (Goes x) h b = On _ tt (record { round = at_walk (round m c w cells) o os x h b.2 b.3.known b.0; walk = b.3; low = b.1 })
+  walk_to_comes c w cells o os (Learns x) h b = On _ tt (record { round = at_walk (round m c w cells) o os x h b.2 b.3.known b.0; walk = b.3; low = b.1 })
   walk_to_comes c w cells o os (Ends x) h b = ended_come c w cells o os x h b.0 b.1
 
   pub begins_walks : (o : Oid) (lo tail : ℕ) (cells : List (ℕ × Cell)) (x : Next Walk Members) → Begins l o lo tail cells x → Walks l o lo tail cells x
@@ -196,8 +196,8 @@ module _ (m : Meaning) (l : Log) (byp : IsByPosition l) (linked : AreLinked l) w
           (confirmed_round c w x cells (more_known l c.cells s.0 s.1 h.known (k.settled s.0 s.1 e)) h k)
 
   sync_to_comes : (c : Client m) (w : Work m) (besides : List Out) (to : Next Sync Confirmed) → IsSyncing m l (round m c w c.cells) → SyncEndsAs m l (round m c w c.cells) to → Comes m l (sync_to m c w besides to)
-  sync_to_comes c w besides (Goes s) h k = On _ h
-  sync_to_comes c w besides (Learns s) h k = On _ h
+  sync_to_comes c w besides (Goes s) h k = On _ tt h
+  sync_to_comes c w besides (Learns s) h k = On _ tt h
   sync_to_comes c w besides (Ends x) h k = synced_comes c w x h k
 
   -- Answers.
@@ -294,7 +294,7 @@ walks_come_on m l c w k os n rid x byp linked h e = walk_fed m l byp linked c w 
 
 pub syncs_come_again : (m : Meaning) → SyncsComeAgain m
 unfolding task_again sync_start
-syncs_come_again m l c w s h = On _ (record { known = h.known; found = h.found; trims = h.trims; hosts = h.hosts; bases = h.bases })
+syncs_come_again m l c w s h = On _ tt (record { known = h.known; found = h.found; trims = h.trims; hosts = h.hosts; bases = h.bases })
 
 pub walks_come_again : (m : Meaning) → WalksComeAgain m
 unfolding task_again

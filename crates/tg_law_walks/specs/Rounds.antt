@@ -158,9 +158,19 @@ module _ (m : Meaning) where
       pub own : r.command ≡ cmd.End → upto_in m r.view ≤ r.at
       pub behind : IsBehind x.tail r.before
 
+    -- a sync or a walk is under way
+    abbrev pub IsUnderWay : Task m → Type 0
+    IsUnderWay (Syncing s) = Unit {0}
+    IsUnderWay (Walking k os) = Unit {0}
+    IsUnderWay t = ⊥
+
+    abbrev pub GoesOn : Option (Work m) → Type 0
+    GoesOn None = ⊥
+    GoesOn (Some w) = IsUnderWay (task_in m w.hand)
+
     -- A step of a command's walks: they go on, start over with a sync, or are over with all streams walked.
     pub data Comes : Moved m → Type 0 where
-      On : (x : Moved m) → IsAtWork x.now x.now.work → Comes x
+      On : (x : Moved m) → GoesOn x.now.work → IsAtWork x.now x.now.work → Comes x
       Over : (c : Client m) (w : Work m) (x : Moved m) → x ≡ walked m c w → IsRound (round c w c.cells) [] → Comes x
 
     -- what a client plays from is of the log, and none of its objects' entries lacks; it plays no view back

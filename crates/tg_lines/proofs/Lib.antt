@@ -1,3 +1,4 @@
+pub mod Feeding
 pub mod Pieces
 pub mod Openings
 pub mod Reading

@@ -1,10 +1,12 @@
 -- The first lines of a text, and what they are.
-use Rattle.std.proofs.Common.{◌≡◌, ℕ, zero, suc, ◌+◌, ◌<◌, ◌≤◌, ◌⊎◌, inl, inr, List, [], ◌∷◌, ◌++◌, length, take, Option, Some, None, refl, sym, ap, ◌∙◌, subst, append_assoc, length-append, arith, ⊎_elim, IfNone}
-use Rattle.std.proofs.lemmas.List.{append-nil, take-append-le, length-take-le}
+use Rattle.std.proofs.Common.{◌≡◌, ℕ, zero, suc, ◌+◌, ◌-◌, ◌<◌, ◌≤◌, ◌⊎◌, inl, inr, List, [], ◌∷◌, ◌++◌, length, take, Option, Some, None, refl, sym, ap, ◌∙◌, subst, append_assoc, length-append, arith, ⊎_elim, IfNone, IfSome}
+use Rattle.std.proofs.lemmas.List.{append-nil, take-append-le, take-take, length-take-le}
 use Rattle.tg_base.specs.Clusters.{Header, IsHeader}
 use Rattle.tg_script.specs.Headers.{header_lines, IsFront, IsFirstOutside}
 use Rattle.tg_lines.specs.Lines.{lines, TakesLine}
-use Rattle.tg_lines.specs.Openings.{Opened, Took, IsOpening, Reached}
+use Rattle.tg_lines.specs.Feeds.{feeds, NoneOutside, TakesFeeds}
+use Rattle.tg_lines.specs.Openings.{Opened, Took, IsNoLine, IsOpening, Reached}
+use Rattle.tg_lines.proofs.Feeding.{takes_more}
 use Rattle.tg_lines.specs.declared.header.Opening.{Opening}
 use Rattle.tg_lines.specs.declared.header.Opening.TheVariants.{Opens, Outside}
 
@@ -158,3 +160,45 @@ took_end (Some text) (Some rest) (Some more) ls (Outside n) h t clean few is =
 pub unrefused : (r : Option ℕ) (ls : List (List ℕ)) → ((n : ℕ) → r ≡ Some n → ⊥) → IfNone r ((n : ℕ) → n ≤ length ls → IsFirstOutside ls n → ⊥) → (n : ℕ) → n ≤ length ls → IsFirstOutside ls n → ⊥
 unrefused None ls not h = h
 unrefused (Some n) ls not h = absurd (not n refl)
+
+-- the source failed after these lines, none of which is outside
+pub header_first : (text rest left : Option (List ℕ)) (ls : List (List ℕ)) → Reached text rest ls → length ls ≤ 3 → ((n : ℕ) → n ≤ length ls → IsFirstOutside ls n → ⊥) → TakesFeeds (length ls) text rest → TakesFeeds 0 rest left
+    → IfSome text (λ t. NoneOutside t left (IsNoLine (lines t)))
+header_first None rest left ls h three none f g = tt
+header_first (Some text) None left ls h three none f g = absurd h
+header_first (Some text) (Some rest) None ls h three none f g = g
+header_first (Some text) (Some rest) (Some left) ls h three none f g =
+    let k : length ls + 0 ≤ length ls = omega arith in
+    let all = takes_more (Some text) (Some rest) (Some left) (length ls) 0 (length ls) k f g in
+    let few : feeds all.0 ≤ length ls = all.2 in (
+      all.0,
+      all.1,
+      λ n le is. ⊎_elim (λ (past : 3 < n). absurd (omega (arith, past, le, few, three))) (λ (out : IsFirstOutside (lines text) n).
+          let here : n ≤ length ls = omega (arith, le, few) in
+          none n here (outside_less ls (lines rest) n here (subst (λ (xs : List (List ℕ)). IsFirstOutside xs n) h out))) is,
+    )
+
+header_within : (h : Header) (xs : List (List ℕ)) (n : ℕ) → n ≤ 3 → take n (header_lines h ++ xs) ≡ take n (header_lines h)
+header_within h xs n le = take_more (header_lines h) xs n le
+
+less_front : (xs ys : List (List ℕ)) (m n : ℕ) → m ≤ n → take n xs ≡ take n ys → take m xs ≡ take m ys
+less_front xs ys m n le e = sym (take-take m n xs le) ∙ ap (λ (ls : List (List ℕ)). take m ls) e ∙ take-take m n ys le
+
+-- lines that begin as a text with this header, up to one that no header has there
+pub no_line : (ls more : List (List ℕ)) (h : Header) (n : ℕ) → IsHeader h → 1 ≤ n → take (n - 1) ls ≡ take (n - 1) (header_lines h ++ more) → (IsFront ls n → ⊥) → IsNoLine ls n
+no_line ls more h n lawful some begins out = ⊎_elim
+    (λ (le : n ≤ 3). inr (record {
+      before = λ m lt. record {
+        header = h;
+        lawful = lawful;
+        same = less_front ls (header_lines h ++ more) m (n - 1) (omega (arith, lt)) begins ∙ header_within h more m (omega (arith, lt, le));
+      };
+      outside = out;
+    }))
+    (λ (lt : 3 < n). inl lt)
+    (le_or_lt n 3)
+
+-- where what is outside in one sense is outside in another too
+pub none_outside : (text : List ℕ) (left : Option (List ℕ)) (P Q : ℕ → Type 0) → ((n : ℕ) → Q n → P n) → NoneOutside text left P → NoneOutside text left Q
+none_outside text None P Q f h = h
+none_outside text (Some left) P Q f (came, cut, none) = (came, cut, λ n le q. none n le (f n q))

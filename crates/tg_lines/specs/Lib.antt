@@ -1,3 +1,4 @@
+pub mod Feeds
 pub mod Lines
 pub mod Openings
 pub mod Reads

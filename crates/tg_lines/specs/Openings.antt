@@ -1,5 +1,5 @@
 -- What the first lines of a text are.
-use Rattle.std.specs.Prelude.{◌≡◌, ◌⊎◌, ℕ, ◌+◌, ◌≤◌, ◌++◌, List, [], length, Option, Some, None}
+use Rattle.std.specs.Prelude.{◌≡◌, ◌⊎◌, ℕ, ◌+◌, ◌<◌, ◌≤◌, ◌++◌, List, [], length, Option, Some, None}
 use Rattle.tg_script.specs.Headers.{header_lines, IsFirstOutside}
 use Rattle.tg_lines.specs.Lines.{lines}
 use Rattle.tg_lines.specs.declared.header.Opening.{Opening}
@@ -37,3 +37,7 @@ Reached None rest ls = Unit {0}
 abbrev pub IsOpening : List (List ℕ) → Opening → Type 0
 IsOpening ls (Opens h) = ls ≡ header_lines h
 IsOpening ls (Outside n) = IsFirstOutside ls n
+
+-- no header has this line after those before it: it is the first outside, or past the third
+abbrev pub IsNoLine : List (List ℕ) → ℕ → Type 0
+IsNoLine ls n = (3 < n) ⊎ IsFirstOutside ls n

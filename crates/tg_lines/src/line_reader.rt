@@ -1,8 +1,10 @@
 //! The lines of a text that comes in pieces.
 
-ghost use Rattle.std.specs.Prelude.{◌≡◌, ◌≤◌, ◌<◌, ◌+◌, ◌==◌, ◌∷◌, List, [], length, position, true, false, IfOk, IfSome};
+ghost use Rattle.std.specs.Prelude.{◌≡◌, ◌≤◌, ◌<◌, ◌+◌, ◌==◌, ◌∷◌, List, [], length, position, true, false, IfOk, IfSome, IsErrOf, OnErr};
 ghost use Rattle.tg_io.specs.Bytes.{Gives, Grows};
 ghost use Rattle.tg_io.specs.Faults.{HasCause, StaysSure};
+ghost use Rattle.tg_io.specs.declared.fault.IoErr.TheVariants.{Failed};
+ghost use Rattle.tg_lines.specs.Feeds.{TakesFeeds};
 ghost use Rattle.tg_lines.specs.Lines.{IsTaken, IsUnbroken, TakesLine, ahead, last_of};
 ghost use Rattle.tg_lines.specs.Reads.{ReadsLine};
 
@@ -62,6 +64,9 @@ impl LineReader {
         ensures at_hand { (IsUnbroken self.old → ⊥) → source.new ≡ source.old }
         ensures reads { IfOk result (ReadsLine self.old self.new (S.pieces source.old) (S.pieces source.new)) }
         ensures still { IfOk result (λ _. S.faults source.new ≡ S.faults source.old) }
+        // What is taken has one line feed at most, and none where the source fails.
+        ensures feeds { IfOk result (λ line. TakesFeeds 1 (ahead self.old (S.left source.old)) (ahead self.new (S.left source.new))) }
+        ensures first { IsErrOf result Failed → TakesFeeds 0 (ahead self.old (S.left source.old)) (S.left source.new) }
     {
         let mut line = List::new(alloc);
         loop {
@@ -104,6 +109,7 @@ impl LineReader {
         ensures sure { StaysSure (S.sure source.old) (S.sure source.new) (S.faults source.old) (S.faults source.new) }
         ensures piece { IfOk result (λ some. Grows (S.pieces source.old) (self.new ∷ []) (S.pieces source.new)) }
         ensures still { IfOk result (λ some. S.faults source.new ≡ S.faults source.old) }
+        ensures kept { OnErr result (S.left source.new ≡ S.left source.old) }
     {
         let count = source.read(&mut self.piece)?;
         self.from = 0;

@@ -1,36 +1,40 @@
 //! A link over UDP sockets. Nothing is told of what is sent and handed.
 
-ghost use Rattle.std.specs.Prelude.{◌≡◌, ◌≤◌, ◌↔◌, None, false, length, IsTrue, IfOk, IfSome, OnOk, option_copied};
+ghost use Rattle.std.specs.Prelude.{◌≡◌, ◌≤◌, ◌↔◌, None, false, length, map, IsTrue, IfOk, IfSome, OnOk, option_copied};
 ghost use Rattle.tg_io.specs.Faults.{HasCause, Rose};
 ghost use Rattle.tg_link_udp.specs.Addresses.{IsHere, IsOfNode};
-ghost use Rattle.tg_link_udp.specs.Sockets.{IsPortAt, socket_of};
+ghost use Rattle.tg_link_udp.specs.Sockets.{IsPortAt, socket_of, sent_to, come_to};
 
-use crate::ports::{is_port, most, port};
+use crate::ports::{is_port, port};
 use std::alloc::Global;
 use std::io;
 use std::io::ErrorKind;
 use std::net::{IpAddr, Ipv4Addr, Net, SocketAddr, UdpSocket};
-use tg_base::{List, NodeId, Role};
+use tg_base::{NoMemory, NodeId};
 use tg_io::{IoErr, Link};
 
-/// A node's socket.
+/// A node's socket, and how many datagrams this link sent to the node that haven't come.
 #[derive(Drop)]
 struct Port {
     node: NodeId,
     socket: UdpSocket,
+    due: u64,
 }
 
-/// Carries datagrams over UDP sockets on 127.0.0.1. The sockets of its nodes are bound at its first call; a port that
-/// can't be bound is an error of that call, and the next call tries again. Where nothing is at hand it doesn't wait.
-/// Datagrams that come from no node's port are passed by.
+/// Carries datagrams over UDP sockets on 127.0.0.1. The socket of one of its nodes is bound when the node first sends or
+/// is sent to; a port that can't be bound is an error of that call, and the next call tries again. Where nothing is at
+/// hand it doesn't wait. Datagrams that come from no node's port are passed by.
+///
+/// A link of all nodes looks only at sockets to which a datagram of its own is on its way, since no others send to them:
+/// so a datagram takes two calls of the system, however many nodes there are.
 #[derive(Drop)]
 pub struct UdpLink<'a, N> {
     alloc: Global,
     net: &'a N,
     // the one node, or None for all that a cluster may have
     node: Option<NodeId>,
-    // none before they are bound
-    ports: List<Port>,
+    // those that are bound
+    ports: Vec<Port>,
     // the place of the port that is looked at first
     next: usize,
     faults: u64,
@@ -43,7 +47,7 @@ impl<'a, N: Net> UdpLink<'a, N> {
             alloc,
             net,
             node: Some(node),
-            ports: List::new(alloc),
+            ports: Vec::new(alloc),
             next: 0,
             faults: 0,
         }
@@ -55,7 +59,7 @@ impl<'a, N: Net> UdpLink<'a, N> {
             alloc,
             net,
             node: None,
-            ports: List::new(alloc),
+            ports: Vec::new(alloc),
             next: 0,
             faults: 0,
         }
@@ -85,36 +89,59 @@ fn bound<N: Net>(net: &N, node: NodeId) -> Option<UdpSocket> {
     Some(socket)
 }
 
-// Binds a node's port.
-fn bind<N: Net>(net: &N, node: NodeId, ports: &mut List<Port>) -> Result<(), IoErr> {
+// Binds a node's port, unless it is bound.
+fn bind<N: Net>(net: &N, node: NodeId, ports: &mut Vec<Port>) -> Result<(), IoErr> {
+    if socket_of(ports.as_slice(), node).is_some() {
+        return Ok(());
+    }
     let Some(socket) = bound(net, node) else {
         return Err(IoErr::Failed);
     };
-    ports.push(Port { node, socket })?;
-    Ok(())
+    let port = Port {
+        node,
+        socket,
+        due: 0,
+    };
+    match ports.push(port) {
+        Ok(()) => Ok(()),
+        Err(e) => Err(NoMemory::from(e).into()),
+    }
 }
 
-// Binds the ports of all nodes of a role.
-fn bind_role<N: Net>(net: &N, role: Role, ports: &mut List<Port>) -> Result<(), IoErr> {
-    for num in 0..most(role) {
-        bind(net, NodeId { role, num }, ports)?;
+// One datagram more is on its way to the node, if the port is its.
+fn expect(port: &mut Port, node: NodeId)
+    ensures { port.new ≡ sent_to node port.old }
+{
+    if port.node.is_same(node) {
+        port.due = port.due.saturating_add(1);
     }
-    Ok(())
 }
 
-// The ports of one node, or of all.
-fn bind_all<N: Net>(alloc: Global, net: &N, node: Option<NodeId>) -> Result<List<Port>, IoErr> {
-    let mut ports = List::new(alloc);
-    match node {
-        Some(node) => bind(net, node, &mut ports)?,
-        None => {
-            bind_role(net, Role::Unit, &mut ports)?;
-            bind_role(net, Role::Layout, &mut ports)?;
-            bind_role(net, Role::Seqr, &mut ports)?;
-            bind_role(net, Role::Client, &mut ports)?;
-        }
+// One datagram less is on its way to the node, if the port is its.
+fn settle(port: &mut Port, node: NodeId)
+    ensures { port.new ≡ come_to node port.old }
+{
+    if port.node.is_same(node) {
+        port.due = port.due.saturating_sub(1);
     }
-    Ok(ports)
+}
+
+// One datagram more is on its way to the node.
+fn expect_at(ports: &mut [Port], node: NodeId)
+    ensures { ports.new ≡ map (sent_to node) ports.old }
+{
+    for port in ports.iter_mut() {
+        expect(port, node);
+    }
+}
+
+// One datagram less is on its way to the node.
+fn settle_at(ports: &mut [Port], node: NodeId)
+    ensures { ports.new ≡ map (come_to node) ports.old }
+{
+    for port in ports.iter_mut() {
+        settle(port, node);
+    }
 }
 
 // The socket of a node, if it is bound.
@@ -175,8 +202,10 @@ fn come(socket: &UdpSocket, buf: &mut [u8]) -> io::Result<Option<usize>>
 }
 
 // What the ports from a place to another have at hand: the place after that of the port, its node, and how many bytes it put into the buffer.
+// Those to which nothing is on its way are looked at only if others send to them.
 fn come_from(
     ports: &[Port],
+    others: bool,
     first: usize,
     end: usize,
     buf: &mut [u8],
@@ -187,8 +216,10 @@ fn come_from(
 {
     for place in first..end {
         let port = &ports[place];
-        if let Some(count) = come(&port.socket, buf)? {
-            return Ok(Some((place + 1, port.node, count)));
+        if others || port.due > 0 {
+            if let Some(count) = come(&port.socket, buf)? {
+                return Ok(Some((place + 1, port.node, count)));
+            }
         }
     }
     Ok(None)
@@ -197,6 +228,7 @@ fn come_from(
 // The same of all ports, from a place on and then from the first on.
 fn come_in_turn(
     ports: &[Port],
+    others: bool,
     first: usize,
     buf: &mut [u8],
 ) -> io::Result<Option<(usize, NodeId, usize)>>
@@ -204,26 +236,25 @@ fn come_in_turn(
     ensures node { IfOk result (λ r. IfSome r (λ came. IsPortAt ports.now came.0 came.1)) }
 {
     let first = first.min(ports.len());
-    match come_from(ports, first, ports.len(), buf)? {
+    match come_from(ports, others, first, ports.len(), buf)? {
         Some(came) => Ok(Some(came)),
-        None => come_from(ports, 0, first, buf),
+        None => come_from(ports, others, 0, first, buf),
     }
 }
 
 impl<'a, N: Net> UdpLink<'a, N> {
-    // Binds the ports, if that wasn't done.
-    fn open(&mut self) -> Result<(), IoErr>
+    // Binds the port of a node, if it is one of the link's and wasn't bound.
+    fn open(&mut self, node: NodeId) -> Result<(), IoErr>
         ensures cause { HasCause self.old.faults self.new.faults result }
         ensures still { OnOk result (self.new.faults ≡ self.old.faults) }
     {
-        if !self.ports.is_empty() {
-            return Ok(());
-        }
-        match bind_all(self.alloc, self.net, self.node) {
-            Ok(ports) => {
-                self.ports = ports;
-                Ok(())
+        if let Some(own) = self.node {
+            if !own.is_same(node) {
+                return Ok(());
             }
+        }
+        match bind(self.net, node, &mut self.ports) {
+            Ok(()) => Ok(()),
             Err(IoErr::NoMemory) => Err(IoErr::NoMemory),
             Err(IoErr::Failed) => {
                 self.faults = raised(self.faults);
@@ -247,9 +278,13 @@ impl<'a, N: Net> Link for UdpLink<'a, N> {
     /// Fails where a port can't be bound, where `from` is none of the link's nodes or `to` is none of a cluster's, and
     /// at an error of the system.
     fn send(&mut self, from: NodeId, to: NodeId, datagram: &[u8]) -> Result<(), IoErr> {
-        self.open()?;
+        self.open(from)?;
+        self.open(to)?;
         match sent(self.ports.as_slice(), from, to, datagram) {
-            Some(()) => Ok(()),
+            Some(()) => {
+                expect_at(self.ports.as_mut_slice(), to);
+                Ok(())
+            }
             None => {
                 self.faults = raised(self.faults);
                 Err(IoErr::Failed)
@@ -259,11 +294,15 @@ impl<'a, N: Net> Link for UdpLink<'a, N> {
 
     /// Fails where a port can't be bound, and at an error of the system. The ports take turns.
     fn recv(&mut self, buf: &mut [u8]) -> Result<Option<(NodeId, usize)>, IoErr> {
-        self.open()?;
-        match come_in_turn(self.ports.as_slice(), self.next, buf) {
+        if let Some(node) = self.node {
+            self.open(node)?;
+        }
+        let others = self.node.is_some();
+        match come_in_turn(self.ports.as_slice(), others, self.next, buf) {
             Ok(None) => Ok(None),
             Ok(Some((next, node, count))) => {
                 self.next = next;
+                settle_at(self.ports.as_mut_slice(), node);
                 Ok(Some((node, count)))
             }
             Err(_) => {

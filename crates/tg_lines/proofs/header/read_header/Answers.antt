@@ -1,9 +1,12 @@
-use Rattle.std.proofs.Common.{◌≡◌, ◌<◌, ◌≤◌, ◌+◌, ◌∷◌, ◌++◌, [], ◌∙◌, ℕ, List, length, Option, Some, IfSome, IfNone, ap, sym, subst, length-append, arith}
+use Rattle.std.proofs.Common.{◌≡◌, ◌<◌, ◌≤◌, ◌+◌, ◌∷◌, ◌++◌, [], ◌∙◌, ℕ, List, length, Option, Some, IfSome, IfNone, ap, sym, subst, length-append, arith, Err}
 use Rattle.tg_script.specs.Headers.{IsFirstOutside}
 use Rattle.tg_lines.specs.Lines.{ahead, TakesLine}
 use Rattle.tg_lines.specs.Openings.{IsOpening, Reached}
-use Rattle.tg_lines.proofs.Openings.{AreClean, opened_outside, opened_end, opened_whole, reached_more, clean_more, took_end, took_whole, unrefused}
+use Rattle.tg_lines.proofs.Feeding.{handed_on, takes_more, wider_feeds}
+use Rattle.tg_lines.proofs.Openings.{AreClean, header_first, opened_outside, opened_end, opened_whole, reached_more, clean_more, took_end, took_whole, unrefused}
 use Rattle.tg_io.proofs.Faults.{sure_since}
+use Rattle.std.proofs.lemmas.Result.{err_from_is_err_and}
+use Rattle.tg_io.specs.declared.fault.IoErr.TheVariants.{Failed}
 use Rattle.tg_lines.proofs.header.read_header.Goals as goal
 
 pub returns-in-Some-clause-opened : goal.returns-in-Some-clause-opened
@@ -50,6 +53,7 @@ loop-alloc-preserved g c =
       few = omega arith;
       still = c.in_ok-line-2.ensures.still ∙ i.still;
       sure = sure_since _ _ _ _ _ _ i.sure c.in_ok-line-2.ensures.sure;
+      feeds = takes_more (ahead c.args.reader.now (g.S.Source.left c.args.source.now)) before after (length c.loop-alloc.lines) 1 (length c.push.new.self) (omega (arith, many)) i.feeds c.in_ok-line-2.ensures.feeds;
       clean = subst AreClean (sym pushed) (clean_more c.loop-alloc.lines line (unrefused c.in_ok-line.field-0 c.loop-alloc.lines c.in_default.not-Some none));
     }
 
@@ -76,3 +80,33 @@ returns-clause-took g c =
     let three : length c.loop-alloc.lines ≡ 3 = omega arith in
     let is = subst (λ (ls : List (List ℕ)). IsOpening ls c.in_ok-whole_header.field-0) c.as_slice-2.ensures c.in_ok-whole_header.ensures in
     took_whole (ahead c.args.reader.now (g.S.Source.left c.args.source.now)) (ahead c.loop-alloc.reader (g.S.Source.left c.loop-alloc.source)) c.loop-alloc.lines c.in_ok-whole_header.field-0 i.reached i.clean three is
+
+pub returns-in-Some-clause-feeds : goal.returns-in-Some-clause-feeds
+returns-in-Some-clause-feeds g c =
+    let i = c.loop-alloc.invariant in
+    wider_feeds (ahead c.args.reader.now (g.S.Source.left c.args.source.now)) (ahead c.loop-alloc.reader (g.S.Source.left c.loop-alloc.source)) (length c.loop-alloc.lines) 3 i.few i.feeds
+
+pub returns-in-None-clause-feeds : goal.returns-in-None-clause-feeds
+returns-in-None-clause-feeds g c =
+    let i = c.loop-alloc.invariant in
+    let before = ahead c.loop-alloc.reader (g.S.Source.left c.loop-alloc.source) in
+    let after = ahead c.next.new.self (g.S.Source.left c.next.new.source) in
+    let count : c.len.result ≡ length c.loop-alloc.lines = c.len.ensures in
+    let below = c.loop-alloc-test.true in
+    let few : length c.loop-alloc.lines + 1 ≤ 3 = omega arith in
+    takes_more (ahead c.args.reader.now (g.S.Source.left c.args.source.now)) before after (length c.loop-alloc.lines) 1 3 few i.feeds c.in_ok-line-2.ensures.feeds
+
+pub returns-clause-feeds : goal.returns-clause-feeds
+returns-clause-feeds g c =
+    let i = c.loop-alloc.invariant in
+    wider_feeds (ahead c.args.reader.now (g.S.Source.left c.args.source.now)) (ahead c.loop-alloc.reader (g.S.Source.left c.loop-alloc.source)) (length c.loop-alloc.lines) 3 i.few i.feeds
+
+pub returns-in_err-line-2-clause-first : goal.returns-in_err-line-2-clause-first
+returns-in_err-line-2-clause-first g c =
+    let i = c.loop-alloc.invariant in
+    let none = subst (λ (ls : List (List ℕ)). IfNone c.in_ok-line.field-0 ((n : ℕ) → n ≤ length ls → IsFirstOutside ls n → ⊥)) c.as_slice.ensures c.in_ok-line.ensures.none in
+    λ failed.
+    let p = err_from_is_err_and c.from_residual-in_err-line-2.result c.from_residual-in_err-line-2.ensures.1 in
+    let end : c.from_residual-in_err-line-2.result ≡ Err c.in_err-line-2.field-0.0 = p.1 ∙ ap Err p.2 in
+    header_first (ahead c.args.reader.now (g.S.Source.left c.args.source.now)) (ahead c.loop-alloc.reader (g.S.Source.left c.loop-alloc.source)) (g.S.Source.left c.next.new.source) c.loop-alloc.lines i.reached i.few
+    (unrefused c.in_ok-line.field-0 c.loop-alloc.lines c.in_default.not-Some none) i.feeds (c.in_err-line-2.ensures.first (handed_on c.from_residual-in_err-line-2.result c.in_err-line-2.field-0.0 Failed end failed))

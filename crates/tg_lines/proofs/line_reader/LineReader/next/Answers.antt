@@ -3,6 +3,7 @@ use Rattle.tg_io.proofs.Faults.{sure_since}
 use Rattle.tg_lines.specs.Lines.{IsTaken, TakesLine, ahead}
 use Rattle.tg_lines.proofs.Pieces.{begun_none, begun_more, begun_ends, begun_fed, begun_last, gives_end, taken_counts}
 use Rattle.tg_lines.specs.Reads.{ReadsLine}
+use Rattle.tg_lines.proofs.Feeding.{begun_feeds, ended_feeds, failed_feeds, wider_feeds}
 use Rattle.tg_lines.proofs.Reading.{reading_none, reading_next, reading_feed, reading_end, found_first}
 use Rattle.tg_lines.proofs.line_reader.LineReader.next.Goals as goal
 
@@ -68,3 +69,27 @@ returns-then-not-branch-clause-reads g c =
     let none : c.fill.new.self ≡ [] = c.in_ok-fill.ensures.none c.if-not-branch.true in
     let ends = reading_end c.args.self.now c.loop-line.self c.take.new.self c.loop-line.line c.take.new.line c.fill.new.self _ _ _ c.loop-line.invariant.reading t c.in_ok-fill.ensures.piece none in
     subst (λ (last : Option (List ℕ)). ReadsLine c.args.self.now c.fill.new.self (g.S.Source.pieces c.args.source.now) (g.S.Source.pieces c.fill.new.source) last) (sym c.ended.ensures) ends
+
+pub returns-then-branch-clause-feeds : goal.returns-then-branch-clause-feeds
+returns-then-branch-clause-feeds g c =
+    let t = subst (λ (b : Bool). IsTaken c.loop-line.self c.take.new.self c.loop-line.line c.take.new.line b) c.if-branch.true c.in_ok-take.ensures in
+    ended_feeds (ahead c.args.self.now (g.S.Source.left c.args.source.now)) (g.S.Source.left c.loop-line.source) c.loop-line.self c.take.new.self c.loop-line.line c.take.new.line c.loop-line.invariant.begun t
+
+pub returns-in_err-fill-clause-first : goal.returns-in_err-fill-clause-first
+returns-in_err-fill-clause-first g c =
+    let text = ahead c.args.self.now (g.S.Source.left c.args.source.now) in
+    let was = g.S.Source.left c.loop-line.source in
+    let t = subst (λ (b : Bool). IsTaken c.loop-line.self c.take.new.self c.loop-line.line c.take.new.line b) c.if-branch.false c.in_ok-take.ensures in
+    let more = begun_more text was c.loop-line.self c.take.new.self c.loop-line.line c.take.new.line c.loop-line.invariant.begun t in
+    λ failed. failed_feeds text was (g.S.Source.left c.fill.new.source) c.take.new.self c.take.new.line more (t.all refl) c.in_err-fill.ensures.kept
+
+pub returns-then-not-branch-clause-feeds : goal.returns-then-not-branch-clause-feeds
+returns-then-not-branch-clause-feeds g c =
+    let text = ahead c.args.self.now (g.S.Source.left c.args.source.now) in
+    let was = g.S.Source.left c.loop-line.source in
+    let is = g.S.Source.left c.fill.new.source in
+    let t = subst (λ (b : Bool). IsTaken c.loop-line.self c.take.new.self c.loop-line.line c.take.new.line b) c.if-branch.false c.in_ok-take.ensures in
+    let more = begun_more text was c.loop-line.self c.take.new.self c.loop-line.line c.take.new.line c.loop-line.invariant.begun t in
+    let on = begun_fed text was is c.take.new.self c.fill.new.self c.take.new.line more (t.all refl) c.in_ok-fill.ensures.given in
+    let least : 0 ≤ 1 = omega arith in
+    wider_feeds text (ahead c.fill.new.self is) 0 1 least (begun_feeds text (ahead c.fill.new.self is) c.take.new.line on)

@@ -1,0 +1,7 @@
+pub mod Grammar
+pub mod Reached
+pub mod Ends
+pub mod Scanning
+pub mod Issuing
+pub mod Runs
+pub mod Telling

@@ -1,0 +1,4 @@
+pub mod Spared
+pub mod Drafted
+pub mod Lists
+pub mod Telling
