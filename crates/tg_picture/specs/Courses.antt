@@ -30,10 +30,20 @@ abbrev pub delivery : Bool → Ending
 delivery true = Again
 delivery false = First
 
--- the course of packet i that ends in step k
+abbrev pub sent_by : Option Step → ℕ
+sent_by None = 0
+sent_by (Some s) = s.sent
+
+-- how many packets had been sent before step k
+abbrev pub sent_before : List Step → ℕ → ℕ
+sent_before ss zero = 0
+sent_before ss (suc k) = sent_by (slice_get ss k)
+
+-- the course of packet i that ends in step k, where the packet had been sent before
 abbrev pub course_of : List Step → ℕ → ℕ → Ending → Option Packet → Option Course
 course_of ss k i e None = None
-course_of ss k i e (Some p) = Some (record { packet = i; from = p.from; to = p.to; sent_in = sent_in ss i; ends_in = k; ending = e })
+course_of ss k i e (Some p) =
+    if nat_lt i (sent_before ss k) then Some (record { packet = i; from = p.from; to = p.to; sent_in = sent_in ss i; ends_in = k; ending = e }) else None
 
 abbrev pub course_by : List Packet → List Step → ℕ → Happening → Option Course
 course_by ps ss k (happening.Came i) = course_of ss k i (delivery (came_before ss k i)) (slice_get ps i)

@@ -1,2 +1,5 @@
+pub mod Bands
 pub mod Courses
+pub mod Elements
 pub mod Replies
+pub mod Standings

@@ -1,6 +1,6 @@
 //! The steps of a run.
 
-use tg_base::{Epoch, NodeId, Role};
+use tg_base::{NodeId, Role};
 
 /// What happened in a step.
 #[derive(Clone, Copy, Debug, PartialEq, Eq)]
@@ -27,8 +27,6 @@ pub struct Step {
     pub sent: u64,
     /// How many replies had been told.
     pub told: u64,
-    /// The epoch of the layout that was decided last.
-    pub epoch: Epoch,
 }
 
 /// The node that was given a command, or at which time passed.

@@ -94,7 +94,7 @@ fn course_by(packets: &[Packet], steps: &[Step], at: usize, happening: Happening
     }
 }
 
-// The course of a packet that ends in a step.
+// The course of a packet that ends in a step, where the packet had been sent before.
 fn course_of(
     steps: &[Step],
     at: usize,
@@ -106,14 +106,20 @@ fn course_of(
 {
     match packet {
         None => None,
-        Some(packet) => Some(Course {
-            packet: number,
-            from: packet.from,
-            to: packet.to,
-            sent_in: sent_in(steps, number),
-            ends_in: at as u64,
-            ending,
-        }),
+        Some(packet) => {
+            if number < sent_before(steps, at) {
+                Some(Course {
+                    packet: number,
+                    from: packet.from,
+                    to: packet.to,
+                    sent_in: sent_in(steps, number),
+                    ends_in: at as u64,
+                    ending,
+                })
+            } else {
+                None
+            }
+        }
     }
 }
 
@@ -143,8 +149,8 @@ fn is_delivery(number: u64, happening: Happening) -> bool
     }
 }
 
-// The step by which a packet had been sent.
-fn sent_in(steps: &[Step], packet: u64) -> u64
+/// The step by which a packet had been sent.
+pub fn sent_in(steps: &[Step], packet: u64) -> u64
     ensures { result ≡ seen.sent_in steps.now packet }
 {
     match first_past(steps, packet) {
@@ -158,4 +164,24 @@ fn first_past(steps: &[Step], packet: u64) -> Option<usize>
     ensures { result ≡ position (λ (s : Step). nat_lt packet s.sent) steps.now }
 {
     steps.iter().position(|step| packet < step.sent)
+}
+
+/// How many packets had been sent before a step.
+pub fn sent_before(steps: &[Step], at: usize) -> u64
+    ensures { result ≡ seen.sent_before steps.now at }
+{
+    if at == 0 {
+        return 0;
+    }
+    sent_by(steps.get(at - 1))
+}
+
+/// How many packets had been sent after a step.
+pub fn sent_by(step: Option<&Step>) -> u64
+    ensures { result ≡ seen.sent_by (option_copied step.entry) }
+{
+    match step {
+        None => 0,
+        Some(step) => step.sent,
+    }
 }

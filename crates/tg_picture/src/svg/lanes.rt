@@ -1,10 +1,11 @@
 //! Lanes, with what happens at one node alone, and bands.
 
-use crate::places::{LABEL, Places, TOP};
-use crate::tags::{Spot, open_rect, put_cross, put_label, put_line, put_number};
+use crate::svg::places::{LABEL, Places, TOP};
+use crate::svg::tags::{open_rect, put_cross, put_label, put_line, put_numbered};
+use crate::{Band, Moment, put_name};
 use std::alloc::Global;
+use tg_any::put_number;
 use tg_base::{List, NoMemory, NodeId, Role};
-use tg_picture::{Band, Moment, put_decimal, put_name};
 
 // How far a band reaches over the outermost lane.
 const REACH: u64 = 24;
@@ -26,8 +27,8 @@ pub fn put_lanes(
             put_cross((x, end), out)?;
         }
         out.extend(b"<text class=\"name\"")?;
-        put_number(b"x", x, out)?;
-        put_number(b"y", TOP - 10, out)?;
+        put_numbered(b"x", x, out)?;
+        put_numbered(b"y", TOP - 10, out)?;
         out.push(b'>')?;
         put_name(*node, out)?;
         out.extend(b"</text>\n")?;
@@ -43,8 +44,8 @@ pub fn put_dots(places: &Places, moments: &[Moment], out: &mut List<u8>) -> Resu
             && let Some(node) = moment.node
         {
             out.extend(b"<circle class=\"dot\"")?;
-            put_number(b"cx", places.lane(node), out)?;
-            put_number(b"cy", places.row(step), out)?;
+            put_numbered(b"cx", places.lane(node), out)?;
+            put_numbered(b"cy", places.row(step), out)?;
             out.extend(b" r=\"3\"/>\n")?;
         }
         step = step.saturating_add(1);
@@ -68,7 +69,7 @@ pub fn put_bands(
                 out.extend(b"<title>")?;
                 put_name(*unit, out)?;
                 out.extend(b" is sealed for epoch ")?;
-                put_decimal(*epoch, out)?;
+                put_number(*epoch, out)?;
                 out.extend(b"</title></rect>\n")?;
             }
             Band::Decided { step, epoch } => {
@@ -76,17 +77,19 @@ pub fn put_bands(
                 let (left, right) = servers_of(places);
                 put_band(b"decided", (left, right), y, out)?;
                 out.extend(b"<title>the layout of epoch ")?;
-                put_decimal(*epoch, out)?;
+                put_number(*epoch, out)?;
                 out.extend(b" is decided</title></rect>\n")?;
                 let mut label = List::new(alloc);
                 label.extend(b"epoch ")?;
-                put_decimal(*epoch, &mut label)?;
-                let spot = Spot {
-                    x: left.saturating_add(8),
-                    y: y.saturating_add(4),
-                    class: b"banded",
-                };
-                put_label(spot, label.as_slice(), LABEL, b"", out)?;
+                put_number(*epoch, &mut label)?;
+                put_label(
+                    b"banded",
+                    (left.saturating_add(8), y.saturating_add(4)),
+                    label.as_slice(),
+                    LABEL,
+                    b"",
+                    out,
+                )?;
             }
         }
     }

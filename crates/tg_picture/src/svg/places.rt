@@ -1,10 +1,13 @@
 //! Where the parts of a picture stand.
 
-use crate::replies::{REPLY, words_of};
-use crate::tags::{LETTER, width_of};
+ghost use Rattle.std.specs.Prelude.{◌≡◌};
+ghost use Rattle.tg_picture.specs.Elements.{lane, row};
+
+use crate::svg::replies::{REPLY, words_of};
+use crate::svg::tags::{LETTER, width_of};
+use crate::{Moment, Picture, Reply};
 use std::alloc::Global;
 use tg_base::{List, NoMemory, NodeId, Role};
-use tg_picture::{Moment, Picture, Reply};
 
 /// How many letters of an event line fit.
 pub const EVENT: usize = 40;
@@ -113,17 +116,26 @@ fn height_of(moment: &Moment) -> u64 {
 
 impl Places {
     /// Where a node's lane stands.
-    pub fn lane(&self, node: NodeId) -> u64 {
-        for (other, x) in self.lanes.as_slice() {
-            if node.is_same(*other) {
-                return *x;
-            }
+    #[tactic(auto, unfolding(crate::specs::Elements::lane))]
+    pub fn lane(&self, node: NodeId) -> u64
+        ensures { result ≡ lane self.now node }
+    {
+        match self
+            .lanes
+            .as_slice()
+            .iter()
+            .find(|lane| node.is_same(lane.0))
+        {
+            Some(lane) => lane.1,
+            None => 0,
         }
-        0
     }
 
     /// Where a step stands: one before those that are drawn stands at the top, and one after them at the bottom.
-    pub fn row(&self, step: u64) -> u64 {
+    #[tactic(auto, unfolding(crate::specs::Elements::row))]
+    pub fn row(&self, step: u64) -> u64
+        ensures { result ≡ row self.now step }
+    {
         if step < self.first {
             return TOP;
         }

@@ -1,5 +1,4 @@
-//! A space-time picture as the text of an SVG.
-#![tactic(auto)]
+//! A picture as the text of an SVG.
 
 mod arrows;
 mod boxes;
