@@ -1,5 +1,5 @@
-use Rattle.tg_law_layouts.proofs.Deciding.{decided_is_read_alike}
-use Rattle.tg_law_layouts.proofs.laws.decided_is_read_alike.Goals as goal
+use Rattle.tg_law_layouts.proofs.Deciding.{decided_reading_stays}
+use Rattle.tg_law_layouts.proofs.laws.decided_reading_stays.Goals as goal
 
 pub returns : goal.returns
-returns g c = decided_is_read_alike _
+returns g c = decided_reading_stays _
