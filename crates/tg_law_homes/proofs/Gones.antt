@@ -19,11 +19,11 @@ use Rattle.tg_law_moves.proofs.Always.{always}
 use Rattle.tg_law_moves.proofs.Growth.{IsCalm, by_unit}
 use Rattle.tg_law_moves.proofs.Lists.{contained, at_set, at_replicate}
 use Rattle.tg_law_moves.proofs.Members.{Has, has_contained, has_left}
-use Rattle.tg_law_moves.proofs.Moves.{Cases, Comes, Keeps, unit_turn, run_keeps}
+use Rattle.tg_law_moves.proofs.Moves.{Comes, Keeps, unit_turn, run_keeps}
 use Rattle.tg_law_moves.proofs.Units.{answers_request, unit_grows}
 use Rattle.tg_law_requests.proofs.Answered.{turn_on, Said, old_or_said}
 use Rattle.tg_law_requests.proofs.Starts.{known}
-use Rattle.tg_law_homes.specs.Homes.{epoch_asked, TrimAsked, ToldGone, GonesAsked}
+use Rattle.tg_law_homes.specs.Homes.{epoch_asked, TrimAsked, GonesAsked}
 
 -- a trim up to a position was asked, in an epoch up to this one
 pub record Asked (ps : List Packet) (epoch below : ℕ) : Type 0 where

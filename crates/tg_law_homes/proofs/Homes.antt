@@ -1,10 +1,9 @@
 -- The laws on homes.
-use Rattle.std.proofs.Common.{◌≡◌, ◌⊎◌, ℕ, zero, suc, ◌+◌, ◌-◌, ◌<◌, ◌≤◌, List, sym, ap, subst, inl, inr, arith}
+use Rattle.std.proofs.Common.{◌≡◌, ◌⊎◌, ℕ, zero, suc, ◌+◌, ◌-◌, ◌<◌, ◌≤◌, List, ap, subst, inl, inr, arith}
 use Rattle.tg_base.specs.Layouts.{Layout}
 use Rattle.tg_base.specs.Clusters.{Header, IsHeader}
 use Rattle.tg_base.specs.declared.cell.Cell.{Cell}
 use Rattle.tg_base.specs.declared.cell.Cell.TheVariants.{Data}
-use Rattle.tg_base.specs.declared.packet.Packet.{Packet}
 use Rattle.tg_kind.specs.Meaning.{Meaning}
 use Rattle.tg_protocol.specs.Chosen.{IsDecided}
 use Rattle.tg_protocol.specs.Runs.{Moves, LawfulCommand, Always}
@@ -20,7 +19,7 @@ use Rattle.tg_law_cells.proofs.Settles.{Settled, After, settled_below, apart}
 use Rattle.tg_law_cells.proofs.Settles.{Line as Facts}
 use Rattle.tg_law_cells.proofs.Settling.{facts, roots, told_here, told_by}
 use Rattle.tg_law_cells.proofs.Successors.{words}
-use Rattle.tg_law_homes.specs.Homes.{Home, SettledHome, SettledBelow, StartsRise, EpochsDecided}
+use Rattle.tg_law_homes.specs.Homes.{SettledHome, SettledBelow, StartsRise, EpochsDecided}
 use Rattle.tg_law_homes.proofs.Homing.{HomeAt, Homes, settled_home, homes_hold}
 
 apart_more : (a b : ℕ) → a < b → b ≡ a + suc (b - a - 1)

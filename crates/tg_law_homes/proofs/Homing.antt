@@ -34,7 +34,7 @@ use Rattle.tg_law_cells.proofs.Befores.{has_at}
 use Rattle.tg_law_cells.proofs.Chains.{K, Cells}
 use Rattle.tg_law_cells.proofs.Jobs.{CellOk}
 use Rattle.tg_law_cells.proofs.Justified.{ToldBy}
-use Rattle.tg_law_cells.proofs.Sent.{Justified, GoesDown, GoesOn, GoesAside}
+use Rattle.tg_law_cells.proofs.Sent.{Justified, GoesOn, GoesAside}
 use Rattle.tg_law_cells.proofs.Settles.{Words, Settled, Rooted, Got, told_sealed, along, gone_stays, apart, settled_below}
 use Rattle.tg_law_cells.proofs.Settles.{Line as Facts}
 use Rattle.tg_law_cells.proofs.Stores.{Below, start_below}

@@ -1,5 +1,5 @@
 -- What the log of a run's last world has, and with whose tokens.
-use Rattle.std.proofs.Common.{◌≡◌, ◌⊎◌, ℕ, ◌<◌, ◌≤◌, List, [], ◌∷◌, Bool, true, false, refl, sym, ap, ◌∙◌, subst, inl, inr, arith, Some, None, Option}
+use Rattle.std.proofs.Common.{◌≡◌, ◌⊎◌, ℕ, ◌<◌, ◌≤◌, List, [], ◌∷◌, Bool, true, false, map, refl, sym, ap, ◌∙◌, subst, inl, inr, arith, Some, None, Option}
 use Rattle.std.specs.Prelude.{Contains}
 use Rattle.tg_base.specs.Clusters.{Header}
 use Rattle.tg_base.specs.declared.cell.Cell.{Cell}
@@ -12,8 +12,9 @@ use Rattle.tg_base.specs.declared.msg.Msg.TheVariants as msg
 use Rattle.tg_base.specs.declared.packet.Packet.{Packet}
 use Rattle.tg_entry.specs.declared.entry.Entry.{Entry}
 use Rattle.tg_kind.specs.Meaning.{Meaning}
-use Rattle.tg_protocol.specs.Words.{cell_at}
-use Rattle.tg_protocol.specs.Entries.{lists, linked, streams_of}
+use Rattle.std.specs.List.{list_any}
+use Rattle.tg_protocol.specs.Words.{oid_eq, cell_at}
+use Rattle.tg_protocol.specs.Entries.{lists, oid_of_link, streams_of}
 use Rattle.tg_protocol.specs.Pages.{entry_of}
 use Rattle.tg_protocol.specs.Logs.{Log, cell_entry}
 use Rattle.tg_protocol.specs.Sequencers.{cell_streams, entry_streams}
@@ -36,7 +37,7 @@ use Rattle.tg_law_entries.proofs.Lists.{read_has, has_read}
 use Rattle.tg_law_walks.specs.Streams.{entry_lists, stands_in}
 use Rattle.tg_law_walks.specs.Lists.{AreOnce}
 use Rattle.tg_law_lists.specs.Drafted.{IsFitPage, DraftsFit}
-use Rattle.tg_law_lists.proofs.Grammar.{streams_once, read_back, names_streams, listed_has}
+use Rattle.tg_law_lists.proofs.Grammar.{names_streams, listed_has}
 
 -- where a position stands in a stream, there is the page of an entry that lists it
 pub record PageAt (l : Log) (o : Oid) (q : ℕ) : Type 0 where
@@ -60,9 +61,6 @@ page_at l o q h = by (cell_at l q) refl h
 
 pub stands_there : (l : Log) (o : Oid) (q : ℕ) (d : List ℕ) (n : Entry) → cell_at l q ≡ Some (Data d) → entry_of d ≡ Some n → lists n o ≡ true → stands_in l o q ≡ true
 stands_there l o q d n e i t = ap (λ c. entry_lists o (cell_entry c)) e ∙ (ap (entry_lists o) i ∙ t)
-
-same_entry : (a b : Entry) → Some a ≡ Some b → a ≡ b
-same_entry a b e = cc
 
 module _ (m : Meaning) (h : Header) (zs : Moves m) (r : Reaches m h zs (after m h zs)) where
   -- Two tokens of one position in one epoch are one.
@@ -101,17 +99,24 @@ module _ (m : Meaning) (h : Header) (zs : Moves m) (r : Reaches m h zs (after m 
     pub fit_page : IsFitPage m (after m h zs) home.write.from home.epoch p d
     fit_page = fit.pages home.write home.epoch p d home.sent home.is
 
-    pub read_entry : entry_of d ≡ Some (linked fit_page.own.draft fit_page.own.links)
-    read_entry = read_back (linked fit_page.own.draft fit_page.own.links) d fit_page.fits fit_page.own.is
+    -- an entry that is read of it has these links
+    pub links_there : (n : Entry) → entry_of d ≡ Some n → n.head.streams ≡ fit_page.own.links
+    links_there n e = fit_page.reads n e
 
     pub streams_there : (n : Entry) (o : Oid) → entry_of d ≡ Some n → lists n o ≡ true → Has (streams_of fit_page.own.draft) o
     streams_there n o e t =
-        let same = same_entry n (linked fit_page.own.draft fit_page.own.links) (sym e ∙ read_entry) in
         subst (λ (os : List Oid). Has os o) (names_streams (streams_of fit_page.own.draft) fit_page.own.links fit_page.own.names)
-        (listed_has fit_page.own.links o (subst (λ (x : Entry). lists x o ≡ true) same t))
+        (listed_has fit_page.own.links o (subst (λ (ls : List StreamLink). list_any (λ (k : StreamLink). oid_eq k.oid o) ls ≡ true) (links_there n e) t))
 
-    pub page_once : AreOnce (cell_streams (Data d))
-    page_once = subst (λ (x : Option Entry). AreOnce (entry_streams x)) (sym read_entry) (streams_once (linked fit_page.own.draft fit_page.own.links) fit_page.fits)
+    asked_once : AreOnce (streams_of fit_page.own.draft)
+    asked_once = fit.tokens fit_page.own.issued.ask home.epoch (streams_of fit_page.own.draft) fit_page.own.issued.asked fit_page.own.issued.asks
+
+    page_once : AreOnce (cell_streams (Data d))
+    page_once = by (entry_of d) refl
+      where
+        by : (x : Option Entry) → entry_of d ≡ x → AreOnce (entry_streams x)
+        by None e = tt
+        by (Some n) e = subst AreOnce (sym (ap (λ (ls : List StreamLink). map oid_of_link ls) (links_there n e) ∙ names_streams (streams_of fit_page.own.draft) fit_page.own.links fit_page.own.names)) asked_once
 
   pub once_there : (fit : DraftsFit m (after m h zs)) (p : ℕ) (c : Cell) → IsSettled m (after m h zs) p c → AreOnce (cell_streams c)
   once_there fit p Junk s = tt

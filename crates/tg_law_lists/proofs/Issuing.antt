@@ -38,6 +38,7 @@ use Rattle.tg_law_lists.specs.Lists.{Counts, AreBounds}
 use Rattle.tg_law_lists.specs.Spared.{TrimsWereSpare}
 use Rattle.tg_law_lists.proofs.Ends.{PageAt, page_at, same_streams, settled_of, home, fit_page, streams_there}
 use Rattle.tg_law_lists.proofs.Reached.{before_reached, goes_later}
+use Rattle.tg_law_lists.proofs.Safe.{safe_of}
 
 is_same : (a b : ℕ) → a ≡ b → (a == b) ≡ true
 is_same a b e = grind (arith, nat_tests)
@@ -137,7 +138,7 @@ module _ (m : Meaning) (h : Header) (zs : Moves m) (r : Reaches m h zs (after m 
       fits_there o g = by (which home'.epoch epoch)
         where
           set : IsSettled m (after m h zs) z.next (Data g.page)
-          set = settled_of m h zs r trims.safe z.next (Data g.page) g.here
+          set = settled_of m h zs r (safe_of m h zs r trims) z.next (Data g.page) g.here
 
           home' : Home m (after m h zs) z.next g.page set.layout.epoch
           home' = home m h zs r fit z.next g.page set

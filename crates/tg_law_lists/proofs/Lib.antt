@@ -1,5 +1,6 @@
 pub mod Grammar
 pub mod Reached
+pub mod Safe
 pub mod Ends
 pub mod Scanning
 pub mod Issuing

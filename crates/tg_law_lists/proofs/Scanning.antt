@@ -59,6 +59,7 @@ use Rattle.tg_law_lists.specs.Drafted.{DraftsFit}
 use Rattle.tg_law_lists.specs.Spared.{IsSaved, TrimsWereSpare}
 use Rattle.tg_law_lists.proofs.Ends.{settled_of, cell_of, once_there, stands_there}
 use Rattle.tg_law_lists.proofs.Reached.{before_reached, goes_later}
+use Rattle.tg_law_lists.proofs.Safe.{safe_of}
 
 -- Where a cell's reading ends at a trim.
 
@@ -203,7 +204,7 @@ module _ (m : Meaning) (h : Header) (zs : Moves m) (r : Reaches m h zs (after m 
     done : (c : Cell) → (cell_feed j p.from.num (reply p.msg) z.rids).to ≡ Ends (Done c) → ScanEndsAs (log m (after m h zs)) z (Ends (Done c))
     done c f =
         let k = settled_on j.place.pos c (scans_read_settled m h xs (after m h xs) rw s p j c (record { scans = scans; sent = contained _ p sent; to = to; awaited = awaited }) f) in
-        (subst (λ (n : ℕ). cell_at (log m (after m h zs)) n ≡ Some c) at (cell_of m h zs r trims.safe j.place.pos c k), once_there m h zs r fit j.place.pos c k)
+        (subst (λ (n : ℕ). cell_at (log m (after m h zs)) n ≡ Some c) at (cell_of m h zs r (safe_of m h zs r trims) j.place.pos c k), once_there m h zs r fit j.place.pos c k)
 
     -- A trim.
 
@@ -299,24 +300,24 @@ module _ (m : Meaning) (h : Header) (zs : Moves m) (r : Reaches m h zs (after m 
 
     -- a position below the trim stands in the log of this world as it does at the end
     stood : (o : Oid) (q b epoch : ℕ) (x : Packet) → Contains (after m h xs).packets x → x.msg ≡ msg.Trim epoch b → q < b → stands_in (log m (after m h zs)) o q ≡ true → stands_in (log m (after m h xs)) o q ≡ true
-    stood o q b epoch x has is less st = by (trims.safe (after m h xs) (record { before = xs; event = e; later = ys; split = split; is = refl }) x epoch b q has is less)
+    stood o q b epoch x has is less st = by (safe_of m h zs r trims (after m h xs) (record { before = xs; event = e; later = ys; split = split; is = refl }) x epoch b q has is less)
       where
         safe' : TrimsWereSafe m h xs
-        safe' u g = trims.safe u (record { before = g.before; event = g.event; later = g.later ++ Takes e ∷ ys; split = split ∙ (ap (λ (ms : Moves m). ms ++ Takes e ∷ ys) g.split ∙ joined g.before (Takes g.event ∷ g.later) (Takes e ∷ ys)); is = g.is })
+        safe' u g = safe_of m h zs r trims u (record { before = g.before; event = g.event; later = g.later ++ Takes e ∷ ys; split = split ∙ (ap (λ (ms : Moves m). ms ++ Takes e ∷ ys) g.split ∙ joined g.before (Takes g.event ∷ g.later) (Takes e ∷ ys)); is = g.is })
 
         by : (c : Cell) × Contains (log m (after m h xs)) (q, c) → stands_in (log m (after m h xs)) o q ≡ true
         by c = of_cell (has_read (log m (after m h xs)) q c.0 (has_contained (log m (after m h xs)) (q, c.0) c.1))
           where
             of_cell : (d : Cell) × (cell_at (log m (after m h xs)) q ≡ Some d) → stands_in (log m (after m h xs)) o q ≡ true
             of_cell d =
-                let late = cell_of m h zs r trims.safe q d.0 (settled_on q d.0 (settled_of m h xs rw safe' q d.0 d.1)) in
+                let late = cell_of m h zs r (safe_of m h zs r trims) q d.0 (settled_on q d.0 (settled_of m h xs rw safe' q d.0 d.1)) in
                 ap (λ (y : Option Cell). entry_lists o (cell_entry y)) (d.1 ∙ sym late) ∙ st
 
     gone : (b : ℕ) → AtTrim j (reply p.msg) b → IsHeldPast (log m (after m h zs)) b z.proj.start
     gone b g o q less st = by (told_gone b g)
       where
         saved : (t : TrimAsked m (after m h xs) z.proj.epoch b) → IsSaved m (after m h xs) o t.of b
-        saved t = (trims.spare (after m h xs) (record { before = xs; event = e; later = ys; split = split; is = refl })).saved t.packet t.of b q o t.sent t.is less (stood o q b t.of t.packet t.sent t.is less st)
+        saved t = (trims (after m h xs) (record { before = xs; event = e; later = ys; split = split; is = refl })).saved t.packet t.of b q o t.sent t.is less (stood o q b t.of t.packet t.sent t.is less st)
 
         by : (u : ℕ) × ToldGone m (after m h xs) u z.proj.epoch b → (n : ℕ) × (b ≤ n) × (n < z.proj.start) × (stands_in (log m (after m h zs)) o n ≡ true)
         by t = held (gone_is_asked m h xs (after m h xs) rw t.0 z.proj.epoch b t.1 (let a = g.past in omega (arith, a)))
@@ -329,7 +330,7 @@ module _ (m : Meaning) (h : Header) (zs : Moves m) (r : Reaches m h zs (after m 
                   k.at,
                   k.after,
                   below_start k.at k.page k.settled (omega (arith, a, c)),
-                  stands_there (log m (after m h zs)) o k.at k.page k.entry (cell_of m h zs r trims.safe k.at (Data k.page) (settled_on k.at (Data k.page) k.settled)) k.reads k.stands,
+                  stands_there (log m (after m h zs)) o k.at k.page k.entry (cell_of m h zs r (safe_of m h zs r trims) k.at (Data k.page) (settled_on k.at (Data k.page) k.settled)) k.reads k.stands,
                 )
 
     ends_as : (to' : Next CellJob CellEnd) → (cell_feed j p.from.num (reply p.msg) z.rids).to ≡ to' → ScanEndsAs (log m (after m h zs)) z to'

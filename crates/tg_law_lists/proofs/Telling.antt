@@ -18,7 +18,7 @@ use Rattle.tg_base.proofs.Rules.{layout_rules}
 use Rattle.tg_kind.specs.Meaning.{Meaning}
 use Rattle.tg_model.specs.Kinds.{EventOf}
 use Rattle.tg_protocol.specs.Words.{seqr_id, unit_id}
-use Rattle.tg_protocol.specs.Entries.{lists, linked, link_of, backs_of, backs_in, streams_of}
+use Rattle.tg_protocol.specs.Entries.{lists, link_of, backs_of, backs_in, streams_of}
 use Rattle.tg_protocol.specs.Pages.{entry_of}
 use Rattle.tg_protocol.specs.Replies.{reply}
 use Rattle.tg_protocol.specs.Requests.{awaits, out, drawn_from}
@@ -55,8 +55,9 @@ use Rattle.tg_law_lists.specs.Drafted.{IsFitPage, DraftsFit}
 use Rattle.tg_law_lists.specs.Lists.{Counts}
 use Rattle.tg_law_lists.specs.Spared.{TrimsWereSpare}
 use Rattle.tg_law_lists.specs.Telling.{asks_links, tells_links, ToldLinks, LinksTrue, EntriesGood, AlwaysBySpareTrims}
-use Rattle.tg_law_lists.proofs.Ends.{PageAt, page_at, settled_of, home, fit_page, read_entry, streams_there}
+use Rattle.tg_law_lists.proofs.Ends.{PageAt, page_at, settled_of, home, fit_page, links_there, streams_there}
 use Rattle.tg_law_lists.proofs.Runs.{bound_of, bounds_of, fine_at}
+use Rattle.tg_law_lists.proofs.Safe.{safe_of}
 
 -- What a sequencer's step tells.
 
@@ -342,10 +343,10 @@ module _ (m : Meaning) (h : Header) (zs : Moves m) (r : Reaches m h zs (after m 
   good_entry o q n is t = by (page_at (log m (after m h zs)) o q (ap (entry_lists o) is ∙ t))
     where
       by : PageAt (log m (after m h zs)) o q → IsGood (log m (after m h zs)) o q (backs_in n o)
-      by g = subst (λ (x : Entry). IsGood (log m (after m h zs)) o q (backs_in x o)) (sym same) (links_here page.own.seqr home'.epoch q (streams_of page.own.draft) page.own.links o told counts streams)
+      by g = subst (λ (ks : List StreamLink). IsGood (log m (after m h zs)) o q (backs o ks)) (sym same) (links_here page.own.seqr home'.epoch q (streams_of page.own.draft) page.own.links o told counts streams)
         where
           set : IsSettled m (after m h zs) q (Data g.page)
-          set = settled_of m h zs r trims.safe q (Data g.page) g.here
+          set = settled_of m h zs r (safe_of m h zs r trims) q (Data g.page) g.here
 
           home' : Home m (after m h zs) q g.page set.layout.epoch
           home' = home m h zs r fit q g.page set
@@ -356,8 +357,8 @@ module _ (m : Meaning) (h : Header) (zs : Moves m) (r : Reaches m h zs (after m 
           here : n ≡ g.entry
           here = same_entry n g.entry (sym is ∙ (ap cell_entry g.here ∙ g.reads))
 
-          same : n ≡ linked page.own.draft page.own.links
-          same = here ∙ same_entry g.entry (linked page.own.draft page.own.links) (sym g.reads ∙ read_entry m h zs r fit q g.page set)
+          same : n.head.streams ≡ page.own.links
+          same = ap (λ (x : Entry). x.head.streams) here ∙ links_there m h zs r fit q g.page set g.entry g.reads
 
           told : ToldLinks m (after m h zs) page.own.seqr home'.epoch (streams_of page.own.draft) q page.own.links
           told = told_of m (after m h zs) page.own.seqr home'.epoch q (streams_of page.own.draft) page.own.links page.own.issued

@@ -11,7 +11,7 @@ use Rattle.tg_kind.specs.Meaning.{Meaning}
 use Rattle.tg_protocol.specs.Entries.{lists}
 use Rattle.tg_protocol.specs.Pages.{entry_of}
 use Rattle.tg_protocol.specs.Worlds.{World, log}
-use Rattle.tg_protocol.specs.Runs.{Moves}
+use Rattle.tg_protocol.specs.Runs.{Moves, Reaches}
 use Rattle.tg_protocol.specs.Chosen.{Sent}
 use Rattle.tg_law_cells.specs.Settled.{IsSettled}
 use Rattle.tg_law_entries.specs.Archive.{GoesOn, TrimsWereSafe}
@@ -44,7 +44,10 @@ module _ (m : Meaning) where
     pub whole : (x : Packet) (epoch below q : ℕ) → Sent m w x → x.msg ≡ msg.Trim epoch below → q < below → WasSettled w epoch q
     pub saved : (x : Packet) (epoch below q : ℕ) (o : Oid) → Sent m w x → x.msg ≡ msg.Trim epoch below → q < below → stands_in (log m w) o q ≡ true → IsSaved w o epoch below
 
-  -- So it was in each world from which the run went on, and all that was to be trimmed was in the log.
-  pub record TrimsWereSpare (h : Header) (ms : Moves m) : Type 0 where
-    pub safe : TrimsWereSafe m h ms
-    pub spare : (u : World m) → GoesOn m h ms u → TrimsSpare u
+  -- So it was in each world from which the run went on.
+  abbrev pub TrimsWereSpare : Header → Moves m → Type 0
+  TrimsWereSpare h ms = (u : World m) → GoesOn m h ms u → TrimsSpare u
+
+  -- Then all that was to be trimmed was in the log.
+  abbrev pub SpareTrimsSafe : Type 0
+  SpareTrimsSafe = (h : Header) (ms : Moves m) (w : World m) → Reaches m h ms w → TrimsWereSpare h ms → TrimsWereSafe m h ms

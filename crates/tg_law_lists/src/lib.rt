@@ -1,12 +1,14 @@
 //! The lists of sequencers, in every run of every cluster in which trims leave what is needed. Each sequencer knows of
 //! each stream the last four positions that the log's entries have, from its scan of the log on, however it took over.
 //!
-//! Two premises are named in the laws. Whatever a unit was asked to trim was in the log, and each stream below it has
-//! an entry past it that saves its object (`TrimsWereSpare`): a scan that meets a trim jumps over what lies below. And
+//! Two premises are named in the laws. Whatever a unit was asked to trim was settled, and each stream below it has an
+//! entry past it that saves its object (`TrimsWereSpare`): a scan that meets a trim jumps over what lies below. And
 //! drafts fit the format of entries (`DraftsFit`): else an entry might be read back in other streams than its position
 //! was issued for.
 #![tactic(auto)]
 
 mod laws;
 
-pub use laws::{entries_are_good, links_are_true, lists_are_known, seqrs_are_true};
+pub use laws::{
+    entries_are_good, links_are_true, lists_are_known, seqrs_are_true, spare_trims_are_safe,
+};

@@ -175,7 +175,7 @@ module _ (m : Meaning) (h : Header) (zs : Moves m) (r : Reaches m h zs (after m 
         by w = of_unit (trim.asks w.ask (settling_asks m p s a j is w.ask w.has))
           where
             trimmed : TrimAsked m (after m h xs) p.epoch b → Counts m (after m h zs) p.epoch a.tail
-            trimmed t = was ((trims.spare (after m h xs) (record { before = xs; event = e; later = ys; split = split; is = refl })).whole t.packet t.of b (a.tail - 1) t.sent t.is (let l = trim.past in omega (arith, l, at)))
+            trimmed t = was ((trims (after m h xs) (record { before = xs; event = e; later = ys; split = split; is = refl })).whole t.packet t.of b (a.tail - 1) t.sent t.is (let l = trim.past in omega (arith, l, at)))
               where
                 was : WasSettled m (after m h xs) t.of (a.tail - 1) → Counts m (after m h zs) p.epoch a.tail
                 was g = record {

@@ -52,7 +52,8 @@ use Rattle.tg_law_lists.specs.Drafted.{DraftsFit}
 use Rattle.tg_law_lists.specs.Lists.{Counts, EachLaterBySpareTrims}
 use Rattle.tg_law_lists.specs.Spared.{WasSettled, TrimsWereSpare}
 use Rattle.tg_law_lists.proofs.Ends.{cell_of}
-use Rattle.tg_law_lists.proofs.Reached.{before_reached, goes_later}
+use Rattle.tg_law_lists.proofs.Reached.{before_reached}
+use Rattle.tg_law_lists.proofs.Safe.{safe_of}
 use Rattle.tg_law_syncs.specs.Syncs.{IsTail, AwaitsSync, SyncsConfirm, WalksRead}
 use Rattle.tg_law_syncs.proofs.Clients.{held_at, last_below}
 use Rattle.tg_law_syncs.proofs.Later.{late}
@@ -157,7 +158,7 @@ module _ (m : Meaning) (h : Header) (xs ys : Moves m) (r : Reaches m h (xs ++ ys
   give_early = lawful_give m (start m h).cluster xs rw.goes.lawful
 
   read_later : (p : ℕ) (c : Cell) → IsSettled m (after m h xs) p c → cell_at (log m (after m h (xs ++ ys))) p ≡ Some c
-  read_later p c s = cell_of m h (xs ++ ys) r trims.safe p c (settled_later m h xs ys r.header give p c s)
+  read_later p c s = cell_of m h (xs ++ ys) r (safe_of m h (xs ++ ys) r trims) p c (settled_later m h xs ys r.header give p c s)
 
   -- Walks.
 

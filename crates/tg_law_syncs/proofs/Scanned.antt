@@ -4,6 +4,8 @@ use Rattle.std.specs.Prelude.{Contains, nat_lt, ◌==◌, slice_index_or}
 use Rattle.std.specs.List.{list_all}
 use Rattle.tg_codec.specs.Reading.{u8_at, u16_at, u32_at, u64_at, raw_at, fixed_at}
 use Rattle.tg_codec.specs.Codec.{read_many, spell_many, fit_many}
+use Rattle.tg_codec.proofs.Wholes.{whole_only}
+use Rattle.tg_entry.proofs.Laws.{entry_law}
 use Rattle.tg_entry.specs.Reads.{marks, reads}
 use Rattle.tg_entry.specs.Writes.{writes}
 use Rattle.tg_entry.specs.Checkpoints.{keys, new_fields, old_fields}
@@ -15,7 +17,7 @@ use Rattle.tg_protocol.specs.LayoutServers.{new_layout, layout_ask, on_layout_as
 use Rattle.tg_protocol.specs.Replies.{reply}
 use Rattle.tg_protocol.specs.Cells.{work_asks, put_cell, get_cell, fill_cell, probe, work_feed, cell_feed}
 use Rattle.tg_protocol.specs.Entries.{entry_size, needs_decision, linked, streams_of}
-use Rattle.tg_protocol.specs.Pages.{page_of, entry_of}
+use Rattle.tg_protocol.specs.Pages.{page_of, entry_of, if_read}
 use Rattle.tg_protocol.specs.Sequencers.{SeqrState, scanning, new_seqr, seqr_step, seqr_tick}
 use Rattle.tg_protocol.specs.Appending.{names_all, append_work_asks, append_start, append_feed, append_again}
 use Rattle.tg_protocol.specs.Syncing.{sync_work_asks, sync_start, sync_feed}
@@ -55,7 +57,7 @@ use Rattle.tg_law_moves.proofs.Units.{cell_same}
 use Rattle.tg_law_layouts.proofs.Deciding.{latest_decided}
 use Rattle.tg_law_layouts.proofs.Layouts.{more}
 use Rattle.tg_law_tokens.specs.Issuing.{Issued}
-use Rattle.tg_law_entries.specs.Archive.{GoesOn, TrimsWereSafe}
+use Rattle.tg_law_entries.specs.Archive.{GoesOn}
 use Rattle.tg_law_entries.specs.Worked.{tallies, two_units, drained, asked_again, trimmed}
 use Rattle.tg_law_entries.proofs.Lists.{joined}
 use Rattle.tg_law_entries.proofs.Worked.{worked_trim}
@@ -80,16 +82,6 @@ rest_of = joined asked_again to_trim (drained 100 (run tallies (asked_again ++ t
 
 reached : Reaches tallies two_units asked_again (after tallies two_units asked_again)
 reached = before_reached tallies two_units trimmed worked_trim.reached asked_again rest rest_of
-
-was_safe : TrimsWereSafe tallies two_units asked_again
-was_safe u g =
-    worked_trim.safe u (record {
-      before = g.before;
-      event = g.event;
-      later = g.later ++ rest;
-      split = rest_of ∙ (ap (λ (ms : Moves tallies). ms ++ rest) g.split ∙ joined g.before (Takes g.event ∷ g.later) rest);
-      is = g.is;
-    })
 
 -- What was sent, by computing.
 
@@ -180,6 +172,14 @@ same_node a b h = grind arith
 same_number : (a b : ℕ) → (a == b) ≡ true → a ≡ b
 same_number a b e = grind arith
 
+same_entry : (a b : Entry) → Some a ≡ Some b → a ≡ b
+same_entry a b e = cc
+
+-- what is spelled is read back
+read_back : (x : Entry) (d : List ℕ) → entry.fits x ≡ true → d ≡ page_of x → entry_of d ≡ Some x
+unfolding entry_of page_of
+read_back x d fits e = ap if_read (whole_only entry_law.exact d x (fits, e))
+
 same_page : (a b : List ℕ) → cell_eq (Data a) (Data b) ≡ true → a ≡ b
 same_page a b e = by (cell_same (Data a) (Data b))
   where
@@ -226,7 +226,7 @@ module _ (w : World tallies) (c : Computed w.packets) where
   page_fits : IsFitPage tallies w (client_id 0) 1 0 (the_page w.packets)
   page_fits = record {
     own = record { seqr = 0; draft = draft_of (entry_of (the_page w.packets)); links = the_links w.packets; issued = issued; own = c.from; names = c.names; is = c.page };
-    fits = c.fits;
+    reads = λ e i. ap (λ (x : Entry). x.head.streams) (same_entry e (linked (draft_of (entry_of (the_page w.packets))) (the_links w.packets)) (sym i ∙ read_back (linked (draft_of (entry_of (the_page w.packets))) (the_links w.packets)) (the_page w.packets) c.fits c.page));
   }
 
   written : (x : Packet) (e p : ℕ) (d : List ℕ) → (node_eq x.from (client_id 0) && (e == 1) && (p == 0) && cell_eq (Data d) (Data (the_page w.packets))) ≡ true → IsFitPage tallies w x.from e p d
@@ -271,12 +271,9 @@ sent_later u g x i = by (has_contained u.packets x i)
     by k = contained _ x (subst (λ (ms : Moves tallies). Has (after tallies two_units ms).packets x) (sym g.split) (more tallies two_units g.before _ x (subst (λ (w : World tallies). Has w.packets x) g.is k)))
 
 spare : TrimsWereSpare tallies two_units asked_again
-spare = record {
-  safe = was_safe;
-  spare = λ u g. record {
-    whole = λ x e b q i is less. absurd (untrimmed (run tallies asked_again (start tallies two_units)) computed x e b (sent_later u g x i) is);
-    saved = λ x e b q o i is less st. absurd (untrimmed (run tallies asked_again (start tallies two_units)) computed x e b (sent_later u g x i) is);
-  };
+spare u g = record {
+  whole = λ x e b q i is less. absurd (untrimmed (run tallies asked_again (start tallies two_units)) computed x e b (sent_later u g x i) is);
+  saved = λ x e b q o i is less st. absurd (untrimmed (run tallies asked_again (start tallies two_units)) computed x e b (sent_later u g x i) is);
 }
 
 -- The sequencer.
