@@ -1,10 +1,9 @@
 -- Where the append comes from that a client has in hand after a turn.
-use Rattle.std.proofs.Common.{◌≡◌, ◌⊎◌, ℕ, ◌+◌, ◌<◌, Bool, true, false, List, [], ◌∷◌, Option, Some, None, refl, sym, ap, ◌∙◌, subst, inl, inr, arith}
+use Rattle.std.proofs.Common.{◌≡◌, ◌⊎◌, ℕ, ◌+◌, ◌<◌, Bool, true, false, List, Option, Some, None, refl, sym, ap, ◌∙◌, subst, inl, inr, arith}
 use Rattle.std.specs.Prelude.{◌&&◌, nat_lt}
 use Rattle.tg_base.specs.Layouts.{Layout}
 use Rattle.tg_base.specs.declared.ids.NodeId.{NodeId}
 use Rattle.tg_base.specs.declared.ids.Oid.{Oid}
-use Rattle.tg_base.specs.declared.msg.Msg.{Msg}
 use Rattle.tg_base.specs.declared.packet.Packet.{Packet}
 use Rattle.tg_kind.specs.Meaning.{Meaning}
 use Rattle.tg_model.specs.declared.command.Command.TheVariants as cmd
@@ -16,7 +15,7 @@ use Rattle.tg_protocol.specs.Replies.{Reply, IsLatest, reply}
 use Rattle.tg_protocol.specs.Appending.{Append, AppendEnd, At, Full, Forgotten, append_asks, append_feed, append_again}
 use Rattle.tg_protocol.specs.Syncing.{Sync, sync_start}
 use Rattle.tg_protocol.specs.Clients.{Purpose, Writes, Judged, Decides, Rescues, Saves, Marks, Task, Syncing, Walking, Appending, Trimming, Copying', Reconfiguring, Hand, Doing, Learning, Work, Client, refusal}
-use Rattle.tg_protocol.specs.Answers.{Moved, moved, syncs}
+use Rattle.tg_protocol.specs.Answers.{syncs}
 use Rattle.tg_protocol.specs.ClientSteps.{task_asks, task_awaited, task_in, after_turn, met, owns, page_known, decided_for, append_ended, append_to, on_append, stands, task_feed, task_again, on_newer, fed_if, hand_feed, latest_if, reply_feed, feed, refused_or, ClientTurn, client_command, client_deliver, client_tick, tick_by}
 use Rattle.tg_law_moves.specs.Configs.{Config, client_in}
 use Rattle.tg_law_moves.proofs.Moves.{Comes, ClientInput, Commanded, Hears', Ticks', Given}

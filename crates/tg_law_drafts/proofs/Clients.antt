@@ -1,7 +1,7 @@
 -- What each client of a run keeps.
-use Rattle.std.proofs.Common.{◌≡◌, ◌≢◌, ◌⊎◌, ℕ, zero, suc, ◌+◌, ◌<◌, ◌≤◌, ◌^◌, Bool, true, false, List, [], ◌∷◌, ◌++◌, length, map, Option, Some, None, refl, sym, ap, ◌∙◌, subst, inl, inr, arith}
-use Rattle.std.specs.Prelude.{slice_get, slice_set, is_some}
-use Rattle.tg_base.specs.Clusters.{Header, IsHeader, is_header}
+use Rattle.std.proofs.Common.{◌≡◌, ℕ, zero, suc, ◌+◌, ◌<◌, ◌≤◌, ◌^◌, Bool, true, false, [], ◌∷◌, length, map, Option, Some, None, refl, sym, ap, ◌∙◌, subst, arith}
+use Rattle.std.specs.Prelude.{slice_get, is_some}
+use Rattle.tg_base.specs.Clusters.{Header, IsHeader}
 use Rattle.tg_base.specs.declared.ids.NodeId.{NodeId}
 use Rattle.tg_base.specs.declared.ids.Role.{Role}
 use Rattle.tg_base.specs.declared.ids.Role.TheVariants as role
@@ -12,7 +12,6 @@ use Rattle.tg_model.specs.declared.command.Event.TheVariants.{Command as Command
 use Rattle.tg_model.specs.Kinds.{CommandOf, EventOf}
 use Rattle.tg_protocol.specs.Words.{client_id, numbers}
 use Rattle.tg_protocol.specs.Replies.{reply}
-use Rattle.tg_protocol.specs.Appending.{Append}
 use Rattle.tg_protocol.specs.Clients.{Task, Syncing, Walking, Appending, Trimming, Copying', Reconfiguring, Work, Client, new_client, refusal}
 use Rattle.tg_protocol.specs.ClientSteps.{task_in, feed, refused_or, ClientTurn, client_command, client_deliver, client_tick, tick_by}
 use Rattle.tg_protocol.specs.Worlds.{World, start, client, runs, handed, noted_if, client_turned, unit_moves, layout_moves, seqr_moves, moves, comes, delivers, commands, ticks, ticks_if, stops_if, happens, next_event}
@@ -21,9 +20,9 @@ use Rattle.tg_law_moves.specs.After.{after}
 use Rattle.tg_law_moves.specs.Configs.{Config, config, client_in}
 use Rattle.tg_law_moves.proofs.Members.{set_long}
 use Rattle.tg_law_moves.proofs.Lists.{at_set, at_map}
-use Rattle.tg_law_moves.proofs.Moves.{Comes, ClientInput, Commanded, Hears', Ticks', Given, Gives, AllGive, CasesOf, client_turn, step_cases_of}
+use Rattle.tg_law_moves.proofs.Moves.{ClientInput, Commanded, Hears', Ticks', Given, AllGive, CasesOf, client_turn, step_cases_of}
 use Rattle.tg_law_books.proofs.Worlds.{WorldBook, start_book, step_book}
-use Rattle.tg_law_drafts.proofs.Sound.{MaybeView, HandOk, Few, Sound, Kind, OfRecord, OfDecision, OfCheckpoint, Comes', Stays, Begins, TaskComes, HandComes, Good, same_comes, same_good, deliver_good}
+use Rattle.tg_law_drafts.proofs.Sound.{Few, Sound, Kind, OfRecord, OfDecision, OfCheckpoint, Stays, Begins, TaskComes, HandComes, Good, same_comes, same_good, deliver_good}
 use Rattle.tg_law_drafts.proofs.Commands.{command_good}
 
 module _ (m : Meaning) where
@@ -142,12 +141,14 @@ module _ (m : Meaning) where
     own k t i lawful less =
         let u = turned c k t i lawful (few_here k less) (s.sound k) in
         let b = calls k in
-        let z = u.good.calls in
-        (record {
-          sound = at_set c.clients k t.now (new_client m c.cluster) (λ j x. Sound m x) less (subst (Sound m) (sym u.now) (made_sound (client_in m c k) u.made (u.made.calls + 1) u.good)) (λ j other. s.sound j);
-          counted = at_set c.clients k t.now (new_client m c.cluster) (λ j x. Counted x) less (subst Counted (sym u.now) (made_counted (client_in m c k) u.made u.good (s.counted k))) (λ j other. s.counted j);
-          long = set_long c.clients k t.now ∙ s.long;
-        }, at_set c.clients k t.now (new_client m c.cluster) (λ j x. x.calls ≤ n + 1) less (subst (λ (x : Client m). x.calls ≤ n + 1) (sym u.now) (omega (arith, b, z))) (λ j other. let b = calls j in omega (arith, b)))
+        let z = u.good.calls in (
+          record {
+            sound = at_set c.clients k t.now (new_client m c.cluster) (λ j x. Sound m x) less (subst (Sound m) (sym u.now) (made_sound (client_in m c k) u.made (u.made.calls + 1) u.good)) (λ j other. s.sound j);
+            counted = at_set c.clients k t.now (new_client m c.cluster) (λ j x. Counted x) less (subst Counted (sym u.now) (made_counted (client_in m c k) u.made u.good (s.counted k))) (λ j other. s.counted j);
+            long = set_long c.clients k t.now ∙ s.long;
+          },
+          at_set c.clients k t.now (new_client m c.cluster) (λ j x. x.calls ≤ n + 1) less (subst (λ (x : Client m). x.calls ≤ n + 1) (sym u.now) (omega (arith, b, z))) (λ j other. let b = calls j in omega (arith, b)),
+        )
 
     cases : CasesOf m (LawfulCommand m) c After
     cases = record { idle = here; unit = λ u p a less. (record { sound = s.sound; counted = s.counted; long = s.long }, here.1); layout = λ l p a less. (record { sound = s.sound; counted = s.counted; long = s.long }, here.1); seqr = λ r t i less. (record { sound = s.sound; counted = s.counted; long = s.long }, here.1); client = own }
@@ -226,7 +227,7 @@ module _ (m : Meaning) where
       let a = more_steps ms (happens m w e) in
       let b = happens_steps w e in
       let r = step_cases_of m (LawfulCommand m) w (λ d. After h header w.steps (omega (arith, a, b, short)) (config m w) s.cluster (λ j. (s.book j).num_is) s.clients s.calls d × (d.cluster ≡ h))
-          (with_cluster h header w.steps (omega (arith, a, b, short)) (config m w) s.cluster (λ j. (s.book j).num_is) s.clients s.calls) e give.0 in
+      (with_cluster h header w.steps (omega (arith, a, b, short)) (config m w) s.cluster (λ j. (s.book j).num_is) s.clients s.calls) e give.0 in
       run_state h header ms (happens m w e) give.1 short (record { cluster = r.1; book = step_book m w e s.book; clients = r.0.0; calls = λ k. let x = r.0.1 k in omega (arith, x, b) })
     where
       with_cluster : (h : Header) (header : IsHeader h) (n : ℕ) (short : n + 1 < 2 ^ 32) (c : Config m) (cluster : c.cluster ≡ h) (num : (k : ℕ) → (client_in m c k).num ≡ k) (s : Clients c) (calls : (k : ℕ) → (client_in m c k).calls ≤ n)

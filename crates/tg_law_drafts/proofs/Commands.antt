@@ -1,23 +1,20 @@
 -- What a command makes of what a client keeps.
-use Rattle.std.proofs.Common.{◌≡◌, ◌⊎◌, ℕ, ◌+◌, ◌<◌, ◌≤◌, ◌^◌, Bool, true, false, cond, List, [], ◌∷◌, length, Option, Some, None, refl, sym, ap, ◌∙◌, subst, inl, inr, arith}
-use Rattle.std.specs.Prelude.{not, ◌&&◌, ◌==◌, nat_le, is_some}
+use Rattle.std.proofs.Common.{◌≡◌, ℕ, ◌+◌, ◌≤◌, Bool, true, false, List, ◌∷◌, length, Option, Some, None, refl, sym, ◌∙◌, subst, arith}
+use Rattle.std.specs.Prelude.{not, ◌&&◌, ◌==◌}
 use Rattle.tg_base.specs.declared.ids.Oid.{Oid}
-use Rattle.tg_base.specs.declared.msg.Msg.{Msg}
-use Rattle.tg_entry.specs.Records.{is_object, is_read, is_write}
+use Rattle.tg_entry.specs.Records.{is_object}
 use Rattle.tg_entry.specs.Records as records
 use Rattle.tg_kind.specs.Meaning.{Meaning}
 use Rattle.tg_model.specs.declared.command.Command.TheVariants as cmd
 use Rattle.tg_model.specs.declared.refusal.Refusal.{Refusal}
 use Rattle.tg_model.specs.Kinds.{CommandOf}
-use Rattle.tg_protocol.specs.Words.{directory, first_some, where_true}
+use Rattle.tg_protocol.specs.Words.{first_some, where_true}
 use Rattle.tg_protocol.specs.Views.{View, state_of, view_version}
-use Rattle.tg_protocol.specs.Trimming.{copy_start}
 use Rattle.tg_protocol.specs.Trimming as copying
 use Rattle.tg_protocol.specs.Reconfiguring.{reconf_start}
-use Rattle.tg_protocol.specs.Transactions.{Tx, TxFault, tx_read, open_tx, read_fault, write_fault, commit_record}
+use Rattle.tg_protocol.specs.Transactions.{Tx, TxFault, read_fault, write_fault, commit_record}
 use Rattle.tg_protocol.specs.Clients.{Work, Client, busy, no_tx, wrong_kind, not_registered, not_hosted, put_fault, ask_fault, by_tx, tests, refusal, write_of, hosts_oid}
-use Rattle.tg_protocol.specs.Answers.{moved, closed}
-use Rattle.tg_protocol.specs.ClientSteps.{new_work, hosts_more, begins, puts, asks, asks_by, asks_view, asked_of_state, purpose_of, end_by, ends, works_on, accepts, refused_or}
+use Rattle.tg_protocol.specs.ClientSteps.{new_work, hosts_more, puts, asks, asks_by, asks_view, asked_of_state, purpose_of, end_by, ends, works_on, accepts, refused_or}
 use Rattle.tg_protocol.specs.Runs.{IsSpelled, LawfulCommand}
 use Rattle.tg_law_drafts.proofs.Views.{ViewOk, version_small}
 use Rattle.tg_law_drafts.proofs.Drafting.{Whole, TxOk, open_ok, read_ok, put_ok, record_fits}

@@ -1,8 +1,7 @@
 -- What a client drafts has a spelling.
-use Rattle.std.proofs.Common.{◌≡◌, ◌⊎◌, ℕ, suc, ◌+◌, ◌<◌, ◌≤◌, ◌^◌, Bool, true, false, cond, List, [], ◌∷◌, ◌++◌, length, map, Option, Some, None, refl, sym, ap, ◌∙◌, subst, inl, inr, arith}
-use Rattle.std.specs.Prelude.{◌&&◌, ◌||◌, ◌==◌, nat_le, nat_lt}
+use Rattle.std.proofs.Common.{◌≡◌, ℕ, suc, ◌+◌, ◌<◌, ◌≤◌, ◌^◌, Bool, true, false, cond, List, [], ◌∷◌, ◌++◌, length, map, Option, None, refl, sym, ap, ◌∙◌, subst, arith}
+use Rattle.std.specs.Prelude.{◌&&◌, nat_le, nat_lt}
 use Rattle.std.specs.List.{list_all}
-use Rattle.std.specs.BTreeSet.{insert_key}
 use Rattle.tg_base.specs.Units.{is_rising, is_within}
 use Rattle.tg_base.specs.declared.ids.Oid.{Oid}
 use Rattle.tg_base.specs.declared.marks.Part.{Part}
@@ -11,16 +10,15 @@ use Rattle.tg_base.specs.declared.marks.StreamLink.{StreamLink}
 use Rattle.tg_entry.specs.declared.entry.Body.{Body}
 use Rattle.tg_entry.specs.declared.entry.Body.TheVariants.{Commit, Decision, Checkpoint}
 use Rattle.tg_entry.specs.declared.entry.Entry.{Entry}
-use Rattle.tg_entry.specs.declared.entry.Head.{Head}
 use Rattle.tg_entry.specs.declared.entry.WriteOp.{WriteOp}
 use Rattle.tg_entry.specs.Format.{tag_of, entry}
-use Rattle.tg_entry.specs.Records.{is_object, is_stream, is_read, is_write, IsHead, IsCheckpoint}
+use Rattle.tg_entry.specs.Records.{is_object, is_stream, is_read, is_write, IsHead}
 use Rattle.tg_entry.specs.Writes.{stream_numbers}
 use Rattle.tg_entry.proofs.Fits.{records_fit}
 use Rattle.tg_protocol.specs.Words.{directory, first_some, where_true}
-use Rattle.tg_protocol.specs.Entries.{draft, unlinked, oid_of_link, streams_of, write_size}
-use Rattle.tg_protocol.specs.Transactions.{Tx, open_tx, TxFault, TooMany, has_read, with_read, tx_streams, record_size, too_large, read_fault, write_fault, tx_read, tx_put, commit_record}
-use Rattle.tg_tx.specs.Pendings.{read_cmp, has_key, IsPending}
+use Rattle.tg_protocol.specs.Entries.{draft, unlinked, oid_of_link, streams_of}
+use Rattle.tg_protocol.specs.Transactions.{Tx, open_tx, TooMany, has_read, with_read, tx_streams, record_size, too_large, read_fault, write_fault, tx_read, tx_put, commit_record}
+use Rattle.tg_tx.specs.Pendings.{IsPending}
 use Rattle.tg_tx.proofs.Orders.{with_read_is, has_read_is}
 use Rattle.tg_tx.proofs.Drafting.{draft_kept, read_kept, write_kept}
 use Rattle.tg_law_drafts.proofs.Heads.{HasTwin}

@@ -1,29 +1,26 @@
 -- An entry of the log is a draft that its client had in hand, with the links that were issued to it.
-use Rattle.std.proofs.Common.{◌≡◌, ◌⊎◌, ℕ, ◌≤◌, List, [], ◌∷◌, ◌++◌, map, Bool, true, false, refl, sym, ap, ◌∙◌, subst, inl, inr, Option, Some, None, arith}
-use Rattle.std.specs.Prelude.{Contains, ◌&&◌}
+use Rattle.std.proofs.Common.{◌≡◌, ◌⊎◌, ℕ, ◌≤◌, List, [], ◌∷◌, map, Bool, true, refl, sym, ap, ◌∙◌, subst, inl, inr, Option, Some, arith}
+use Rattle.std.specs.Prelude.{◌&&◌}
 use Rattle.tg_base.specs.Clusters.{Header, IsHeader}
 use Rattle.tg_base.specs.declared.cell.Cell.TheVariants.{Data}
 use Rattle.tg_base.specs.declared.ids.Oid.{Oid}
 use Rattle.tg_base.specs.declared.marks.StreamLink.{StreamLink}
-use Rattle.tg_base.specs.declared.msg.Msg.{Msg}
 use Rattle.tg_base.specs.declared.msg.Msg.TheVariants as msg
 use Rattle.tg_base.specs.declared.packet.Packet.{Packet}
-use Rattle.tg_entry.specs.declared.entry.Body.{Body}
 use Rattle.tg_entry.specs.declared.entry.Entry.{Entry}
 use Rattle.tg_entry.specs.declared.entry.Head.{Head}
-use Rattle.tg_entry.specs.Format.{tag_of, entry}
+use Rattle.tg_entry.specs.Format.{tag_of}
 use Rattle.tg_append.proofs.Pages.{linked_fits}
 use Rattle.tg_kind.specs.Meaning.{Meaning}
 use Rattle.tg_protocol.specs.Words.{oid_eq, client_id}
 use Rattle.tg_protocol.specs.Entries.{oid_of_link, streams_of, linked}
-use Rattle.tg_protocol.specs.Pages.{page_of, entry_of}
+use Rattle.tg_protocol.specs.Pages.{entry_of}
 use Rattle.tg_protocol.specs.Appending.{is_link, names_all, Append}
-use Rattle.tg_protocol.specs.Clients.{Task, Appending, Work, Client}
-use Rattle.tg_protocol.specs.ClientSteps.{task_in}
+use Rattle.tg_protocol.specs.Clients.{Task, Work, Client}
 use Rattle.tg_protocol.specs.Worlds.{World, start, client, log}
-use Rattle.tg_protocol.specs.Runs.{Moves, run, most_steps, LawfulCommand, Always, AlwaysBy, Reaches}
+use Rattle.tg_protocol.specs.Runs.{Moves, most_steps, LawfulCommand, Always, AlwaysBy}
 use Rattle.tg_protocol.specs.Alike.{HasEntry}
-use Rattle.tg_protocol.specs.Holding.{IssuedTo, EntriesLinked, append_of, append_by, WasBegun}
+use Rattle.tg_protocol.specs.Holding.{EntriesLinked, append_of, append_by, WasBegun}
 use Rattle.tg_law_moves.specs.After.{after}
 use Rattle.tg_law_moves.specs.Configs.{config, client_in}
 use Rattle.tg_law_moves.proofs.Always.{lawful_give}
@@ -32,7 +29,7 @@ use Rattle.tg_law_moves.proofs.Lists.{contained}
 use Rattle.tg_law_moves.proofs.Moves.{AllGive}
 use Rattle.tg_law_tokens.proofs.Owning.{Wrote}
 use Rattle.tg_law_tokens.proofs.Archive.{log_sent}
-use Rattle.tg_law_tokens.proofs.Linked.{some_entry, PageOf, page_in, read_back}
+use Rattle.tg_law_tokens.proofs.Linked.{some_entry, page_in, read_back}
 use Rattle.tg_law_drafts.specs.Drafts.{HeadWasBegun, EntriesBegun, RecordsBegun}
 use Rattle.tg_law_drafts.proofs.Heads.{SameHead, HasTwin, head_read}
 use Rattle.tg_law_drafts.proofs.Drafting.{Fitting, Whole, Saving}

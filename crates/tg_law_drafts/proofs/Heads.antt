@@ -1,10 +1,10 @@
 -- The entry that is read of a page has the head that was spelled, and a body of the same kind.
-use Rattle.std.proofs.Common.{◌≡◌, ℕ, ◌-◌, Result, Bool, true, false, cond, eqb, List, [], ◌∷◌, ◌++◌, length, Ok, Err, Some, None, refl, sym, ap, ◌∙◌, subst}
+use Rattle.std.proofs.Common.{◌≡◌, ℕ, ◌-◌, Result, Bool, true, false, cond, eqb, List, [], ◌∷◌, ◌++◌, length, Ok, Err, Some, refl, sym, ap, ◌∙◌, subst}
 use Rattle.std.proofs.lemmas.List.{nil_from_length}
 use Rattle.std.proofs.lemmas.Bool.{eqb-true}
 use Rattle.tg_base.specs.declared.marks.StreamLink.{StreamLink}
 use Rattle.tg_codec.specs.Reading.{Read, ◌>>=◌}
-use Rattle.tg_codec.specs.Codec.{Codec, u8, u16, u32, fixed, dep, from_table}
+use Rattle.tg_codec.specs.Codec.{Codec, u8, u16, u32, fixed, dep}
 use Rattle.tg_codec.specs.Whole.{ended, whole}
 use Rattle.tg_codec.specs.Streams.{any, from_one, links}
 use Rattle.tg_codec.proofs.Laws.{IsExact, fixed_law}
@@ -14,8 +14,7 @@ use Rattle.tg_codec.proofs.Objects.{links_law}
 use Rattle.tg_entry.specs.declared.entry.Body.{Body}
 use Rattle.tg_entry.specs.declared.entry.Body.TheVariants.{Commit, Decision, Checkpoint}
 use Rattle.tg_entry.specs.declared.entry.Entry.{Entry}
-use Rattle.tg_entry.specs.declared.entry.Head.{Head}
-use Rattle.tg_entry.specs.Format.{tag_of, bodies, body, stream_counts, in_streams, by_number, by_client, of_tag, of_format, Row, to_entry, from_entry, entry}
+use Rattle.tg_entry.specs.Format.{tag_of, body, stream_counts, in_streams, by_number, by_client, of_tag, of_format, Row, to_entry, from_entry, entry}
 use Rattle.tg_protocol.specs.Pages.{page_of, entry_of, if_read}
 
 some_entry : (a b : Entry) → Some a ≡ Some b → a ≡ b

@@ -12,3 +12,4 @@ pub mod Written
 pub mod Senders
 pub mod Drafts
 pub mod Worked
+pub mod Refuted

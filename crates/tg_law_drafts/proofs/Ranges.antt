@@ -1,25 +1,22 @@
 -- What is read of a page keeps its ranges, whatever its bytes are: the streams of an entry, and the versions of a
 -- checkpoint.
-use Rattle.std.proofs.Common.{◌≡◌, ◌⊎◌, ℕ, zero, suc, ◌+◌, ◌*◌, ◌-◌, ◌<◌, ◌≤◌, ◌^◌, Bool, true, false, cond, eqb, List, [], ◌∷◌, length, map, Result, Ok, Err, Option, Some, None, refl, sym, ap, ◌∙◌, subst, inl, inr, arith}
-use Rattle.std.specs.Prelude.{◌/◌, ◌&&◌, ◌==◌, nat_le, nat_lt}
-use Rattle.std.specs.List.{list_all}
-use Rattle.tg_base.specs.Units.{is_rising}
+use Rattle.std.proofs.Common.{◌≡◌, ℕ, zero, suc, ◌+◌, ◌*◌, ◌-◌, ◌<◌, ◌≤◌, ◌^◌, Bool, true, false, cond, eqb, List, [], ◌∷◌, length, Ok, Err, Some, refl, sym, ap, ◌∙◌, subst, arith}
+use Rattle.std.specs.Prelude.{◌/◌, nat_lt}
 use Rattle.tg_base.specs.declared.ids.Oid.{Oid}
 use Rattle.tg_base.specs.declared.marks.Part.{Part}
 use Rattle.tg_base.specs.declared.marks.StreamLink.{StreamLink}
 use Rattle.tg_codec.specs.Reading.{Read, ◌>>=◌, meets, number_at, u8_at, u32_at, u64_at}
-use Rattle.tg_codec.specs.Codec.{Codec, u8, u16, u32, u64, text, fixed, dep, many, read_many, from_table}
+use Rattle.tg_codec.specs.Codec.{Codec, u8, u16, u32, u64, text, fixed, dep, many, read_many}
 use Rattle.tg_codec.specs.Streams.{any, from_one, oids_from, oid, backs, link, after_link, links}
 use Rattle.tg_codec.proofs.Shapes.{met_within}
 use Rattle.tg_entry.specs.declared.entry.Body.{Body}
-use Rattle.tg_entry.specs.declared.entry.Body.TheVariants.{Commit, Decision, Checkpoint}
+use Rattle.tg_entry.specs.declared.entry.Body.TheVariants.{Checkpoint}
 use Rattle.tg_entry.specs.declared.entry.Entry.{Entry}
 use Rattle.tg_entry.specs.declared.checkpoints.KeyBound.{KeyBound}
-use Rattle.tg_entry.specs.Checkpoints.{key, after_key, first_key, keys, Fields, new_fields, fields, by_version, by_versions, new_rest, make_checkpoint}
-use Rattle.tg_entry.specs.Format.{bodies, body, stream_counts, in_streams, by_number, by_client, of_tag, of_format, Row, to_entry, entry}
+use Rattle.tg_entry.specs.Checkpoints.{key, after_key, first_key, keys, Fields, new_fields, by_version, by_versions, new_rest, make_checkpoint}
+use Rattle.tg_entry.specs.Format.{body, stream_counts, in_streams, by_number, by_client, of_tag, of_format, entry}
 use Rattle.tg_entry.specs.Parts.{over, part_above}
 use Rattle.tg_entry.specs.Records.{is_object}
-use Rattle.tg_entry.specs.Writes.{stream_numbers}
 use Rattle.tg_protocol.specs.Pages.{entry_of}
 use Rattle.tg_law_drafts.proofs.Heads.{ok_is, ended_ok, pair_with, pair_on, shape, read_row, read_whole}
 

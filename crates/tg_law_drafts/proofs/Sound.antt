@@ -1,20 +1,17 @@
 -- What a client keeps, so that each of its drafts has a spelling, and where a draft comes from.
-use Rattle.std.proofs.Common.{◌≡◌, ◌⊎◌, ℕ, ◌+◌, ◌<◌, ◌≤◌, ◌^◌, Bool, true, false, cond, List, [], ◌∷◌, ◌++◌, length, map, Option, Some, None, refl, sym, ap, ◌∙◌, subst, inl, inr, arith}
-use Rattle.std.specs.Prelude.{not, ◌&&◌, ◌||◌, ◌==◌, nat_le, nat_lt, filter}
-use Rattle.std.specs.List.{list_all}
+use Rattle.std.proofs.Common.{◌≡◌, ℕ, ◌+◌, ◌<◌, ◌≤◌, ◌^◌, Bool, true, false, cond, List, [], ◌∷◌, Option, Some, None, refl, sym, ap, ◌∙◌, subst, arith}
+use Rattle.std.specs.Prelude.{not, ◌&&◌, ◌==◌, nat_lt}
 use Rattle.tg_base.specs.Layouts.{Layout}
 use Rattle.tg_base.specs.declared.cell.Cell.{Cell}
 use Rattle.tg_base.specs.declared.ids.NodeId.{NodeId}
 use Rattle.tg_base.specs.declared.ids.Oid.{Oid}
 use Rattle.tg_base.specs.declared.marks.Part.{Part}
 use Rattle.tg_base.specs.declared.marks.Part.TheVariants.{All, Text, Num}
-use Rattle.tg_base.specs.declared.marks.StreamLink.{StreamLink}
 use Rattle.tg_base.specs.declared.msg.Msg.{Msg}
-use Rattle.tg_base.specs.declared.packet.Out.{Out}
-use Rattle.tg_entry.specs.declared.entry.Body.TheVariants.{Commit, Decision, Checkpoint}
+use Rattle.tg_entry.specs.declared.entry.Body.TheVariants.{Checkpoint}
 use Rattle.tg_entry.specs.declared.entry.Entry.{Entry}
-use Rattle.tg_entry.specs.Format.{tag_of, entry}
-use Rattle.tg_entry.specs.Records.{is_object, is_read, is_write}
+use Rattle.tg_entry.specs.Format.{tag_of}
+use Rattle.tg_entry.specs.Records.{is_object, is_read}
 use Rattle.tg_entry.specs.Records as records
 use Rattle.tg_kind.specs.Meaning.{Meaning}
 use Rattle.tg_kind.specs.Parts.{is_part}
@@ -22,11 +19,10 @@ use Rattle.tg_model.specs.declared.command.Command.TheVariants as cmd
 use Rattle.tg_model.specs.declared.play.PlayEnd.{PlayEnd}
 use Rattle.tg_model.specs.declared.play.PlayEnd.TheVariants.{Played, Blocked}
 use Rattle.tg_model.specs.declared.refusal.Refusal.{Refusal}
-use Rattle.tg_model.specs.declared.refusal.Refusal.TheVariants as cause
 use Rattle.tg_model.specs.declared.trace.What.TheVariants as told
 use Rattle.tg_model.specs.Kinds.{CommandOf, WhatOf, NoteOf}
 use Rattle.tg_protocol.specs.Words.{directory, with_oid, with_nums}
-use Rattle.tg_protocol.specs.Entries.{draft, streams_of, reads_of, entry_size}
+use Rattle.tg_protocol.specs.Entries.{draft, reads_of, entry_size}
 use Rattle.tg_protocol.specs.Versions.{Changed}
 use Rattle.tg_protocol.specs.Requests.{Next, Goes, Learns, Ends, Turn}
 use Rattle.tg_protocol.specs.Replies.{Reply, IsLatest, reply}
@@ -34,20 +30,19 @@ use Rattle.tg_protocol.specs.Appending.{AppendWork, Asking, Append, AppendEnd, A
 use Rattle.tg_protocol.specs.Syncing.{Sync, Confirmed, sync_start, sync_feed, sync_again}
 use Rattle.tg_protocol.specs.Walking.{Walk, Members, walk_feed, walk_again}
 use Rattle.tg_protocol.specs.Trimming.{Trims, Trimmed, trim_start, trim_feed, Copying, CopyEnd, copy_start, copy_feed}
-use Rattle.tg_protocol.specs.Trimming as copying
-use Rattle.tg_protocol.specs.Reconfiguring.{Reconf, ReconfEnd, Installed, Overtaken, NotWhole, reconf_start, reconf_feed, reconf_latest}
-use Rattle.tg_protocol.specs.Views.{Entries, View, Play, Verdict, Commits, Aborts, Unknown, state_of, view_version, changed_in, unknown_in, verdict, view_outcome, fate_of, view_start, play}
-use Rattle.tg_protocol.specs.Checkpoints.{ForgetFault, NoCheckpoint, OpenDecision, checkpoint, may_forget, view_bases}
+use Rattle.tg_protocol.specs.Reconfiguring.{Reconf, ReconfEnd, Installed, Overtaken, NotWhole, reconf_feed, reconf_latest}
+use Rattle.tg_protocol.specs.Views.{Entries, View, Play, Verdict, Commits, Aborts, Unknown, state_of, view_version, changed_in, unknown_in, verdict, view_outcome, fate_of, play}
+use Rattle.tg_protocol.specs.Checkpoints.{ForgetFault, NoCheckpoint, OpenDecision, checkpoint, may_forget}
 use Rattle.tg_protocol.specs.Past.{commit_at, PastTurn, PastView, PastGone, RescueTurn, Wider, Wide, Absent, StuckAt, Known}
-use Rattle.tg_protocol.specs.Transactions.{Tx, tx_read, tx_put, open_tx, read_fault, write_fault, commit_record}
-use Rattle.tg_protocol.specs.Clients.{Purpose, Writes, Judged, Decides, Rescues, Saves, Marks, Task, Syncing, Walking, Appending, Trimming, Copying', Reconfiguring, Hand, Doing, Learning, Work, Client, tx_number, write_of, all_entries, member_positions}
-use Rattle.tg_protocol.specs.Answers.{holds, Moved, moved, note, mark_notes, mark_record, pruned, replies, refuses, took_over, answers, closed, appends, syncs, walked, walked_for, plays_own, own_view, view_or_new, answer_by, play_target, with_view, on_ask, ask_in, ask_answer, unsure, aborted, end_decided, end_aborted, end_no, end_by, end_record, on_end, lacks_decision, decision, with_decision, forgotten_or, fate_verdict, fate_record, fate_known, fate_blocked, blocks, on_fate, trim_above, decides_if, decide_verdict, decide_record, decide_blocked, on_decide, save_if, on_checkpoint, forget_by, on_forget, trims_if, on_trim, past_answer, past_played, past_turn, ahead_or, on_ask_at, rescue_decision, rescue_known, absent, rescue_by}
+use Rattle.tg_protocol.specs.Transactions.{Tx, tx_read, read_fault}
+use Rattle.tg_protocol.specs.Clients.{Purpose, Writes, Judged, Decides, Rescues, Saves, Marks, Task, Syncing, Walking, Appending, Trimming, Copying', Reconfiguring, Hand, Doing, Learning, Work, Client, all_entries, member_positions}
+use Rattle.tg_protocol.specs.Answers.{Moved, moved, mark_record, pruned, took_over, closed, appends, syncs, walked, walked_for, plays_own, own_view, view_or_new, answer_by, play_target, with_view, on_ask, ask_in, ask_answer, unsure, aborted, end_decided, end_aborted, end_no, end_by, end_record, on_end, lacks_decision, decision, with_decision, forgotten_or, fate_verdict, fate_record, fate_known, fate_blocked, blocks, on_fate, trim_above, decides_if, decide_verdict, decide_record, decide_blocked, on_decide, save_if, on_checkpoint, forget_by, on_forget, trims_if, on_trim, past_answer, past_played, past_turn, ahead_or, on_ask_at, rescue_decision, rescue_known, absent, rescue_by}
 use Rattle.tg_protocol.specs.ClientSteps.{task_in, after_turn, met, goes_on, takes_back, found_by, start_walk, walks, lo_for, knows, sync_to, on_sync, stale, starts_over, gives_up, given_up_if, at_trim, walk_ended_by, walk_to, on_walk, knows_page, owns, record_lost, lost, page_known, decided_for, append_ended, append_to, on_append, trim_to, on_trims, copy_to, on_copy, stands, reconf_ended, reconf_to, on_reconf, task_feed, copies_again, task_again, on_newer, fed_if, hand_feed, latest_if, reply_feed}
 use Rattle.tg_protocol.specs.Runs.{IsSpelled}
 use Rattle.tg_law_replies.proofs.Turns.{Keeps, feed_keeps, again_keeps}
 use Rattle.tg_law_drafts.proofs.Ranges.{AreStreams, entry_streams}
 use Rattle.tg_law_drafts.proofs.Views.{AreRead, below_read, ViewOk, version_small, play_ok, start_ok}
-use Rattle.tg_law_drafts.proofs.Drafting.{Fitting, Whole, Saving, TxOk, read_ok, decision_fits, mark_fits, saving}
+use Rattle.tg_law_drafts.proofs.Drafting.{Fitting, Whole, TxOk, read_ok, decision_fits, mark_fits, saving}
 use Rattle.tg_law_drafts.proofs.Tails.{TailOk, TailNext, tail_feed_ok, tail_start_ok}
 
 pub part_is : (k : Part) → is_part k ≡ true → records.is_part k ≡ true

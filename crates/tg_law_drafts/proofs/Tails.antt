@@ -7,7 +7,7 @@ use Rattle.tg_base.specs.declared.msg.Msg.{Msg}
 use Rattle.tg_protocol.specs.Requests.{Next, Goes, Learns, Ends}
 use Rattle.tg_protocol.specs.Replies.{Reply, reply}
 use Rattle.tg_protocol.specs.Replies as replied
-use Rattle.tg_protocol.specs.Cells.{CellJob, CellEnd, Done, Seen, Lost, Fenced, Gone, probe, fill_cell, cell_feed, place_in}
+use Rattle.tg_protocol.specs.Cells.{CellJob, CellEnd, Done, Seen, Lost, Fenced, Gone}
 use Rattle.tg_protocol.specs.Appending.{on_older, on_newer}
 use Rattle.tg_protocol.specs.Syncing.{Answer, SyncWork, Checking, Settling, Probing, Sync, Confirmed, sync_start, probe_end, probe_next, probes, settle_end, settle_next, confirm_by, on_tail, checking_feed, sync_feed}
 

@@ -1,6 +1,6 @@
 -- Of a client's view: its versions are numbers of eight bytes.
-use Rattle.std.proofs.Common.{◌≡◌, ◌⊎◌, ℕ, ◌+◌, ◌-◌, ◌<◌, ◌≤◌, ◌^◌, Bool, true, false, cond, List, [], ◌∷◌, ◌++◌, map, Option, Some, None, refl, sym, ap, ◌∙◌, subst, inl, inr, arith}
-use Rattle.std.specs.Prelude.{filter, find, not, ◌&&◌, ◌||◌, ◌==◌, nat_lt, nat_le, is_some}
+use Rattle.std.proofs.Common.{◌≡◌, ℕ, ◌+◌, ◌-◌, ◌<◌, ◌≤◌, ◌^◌, Bool, true, false, cond, List, [], ◌∷◌, ◌++◌, Option, Some, None, refl, sym, subst, inl, inr, arith}
+use Rattle.std.specs.Prelude.{filter, find, not, ◌&&◌, ◌==◌, nat_lt, nat_le, is_some}
 use Rattle.tg_base.specs.declared.cell.Cell.{Cell}
 use Rattle.tg_base.specs.declared.cell.Cell.TheVariants.{Junk, Data}
 use Rattle.tg_base.specs.declared.ids.Oid.{Oid}
@@ -15,10 +15,10 @@ use Rattle.tg_protocol.specs.Words.{oid_eq, part_eq, overlap, cell_at}
 use Rattle.tg_protocol.specs.Pages.{entry_of}
 use Rattle.tg_protocol.specs.Entries.{is_commit, writes_of, needs_decision}
 use Rattle.tg_protocol.specs.Versions.{Based, PartVersion, Versions, no_versions, based, key_version, version_in, base_version, noted_or, version_of}
-use Rattle.tg_protocol.specs.Views.{Entries, decision_in, Verdict, Commits, Aborts, Unknown, Base, View, view_start, fresh_base, base_of, played_version, view_version, touched, applied, state_of, set_state, note, write_by, plays, write, write_all, with_fate, with_verdict, with_open, Play, stands_at, Step, On, Stuck, decided_step, record_step, entry_step, step_at, passed_over, verdict, between, play_on, play_from, play}
+use Rattle.tg_protocol.specs.Views.{Entries, decision_in, Verdict, Commits, Aborts, Unknown, Base, View, view_start, base_of, played_version, view_version, applied, state_of, set_state, write_by, plays, write, write_all, with_fate, with_verdict, with_open, Play, stands_at, Step, On, Stuck, decided_step, record_step, entry_step, step_at, passed_over, verdict, between, play_on, play_from, play}
 use Rattle.tg_protocol.specs.Checkpoints.{TrimPoints, trim_of, loaded, base_in, base_at, option_list, bases_in, lower, least_base, from_upto, load_from, base_or, base_by, view_base, view_bases}
 use Rattle.tg_protocol.specs.Clients.{entry_if, cell_entry, entries_at}
-use Rattle.tg_law_moves.proofs.Members.{Has, has_filter}
+use Rattle.tg_law_moves.proofs.Members.{Has}
 use Rattle.tg_law_drafts.proofs.Ranges.{KeysBelow, checkpoint_versions}
 
 -- Versions.

@@ -1,14 +1,12 @@
 -- A run in which another sequencer links a second entry to the first: computed.
-use Rattle.std.proofs.Common.{◌≡◌, ◌⊎◌, ℕ, zero, suc, ◌<◌, ◌≤◌, List, [], ◌∷◌, ◌++◌, Bool, true, false, ◌&&◌, refl, sym, ap, ◌∙◌, subst, inl, inr, arith, Option, Some, None}
-use Rattle.std.specs.Prelude.{is_some}
-use Rattle.std.specs.List.{list_all}
+use Rattle.std.proofs.Common.{◌≤◌, [], ◌∷◌, refl, inl, inr, arith}
 use Rattle.tg_codec.specs.Reading.{u8_at, u16_at, u32_at, u64_at, raw_at, fixed_at}
 use Rattle.tg_codec.specs.Codec.{read_many, spell_many, fit_many}
 use Rattle.tg_entry.specs.Reads.{marks, reads}
 use Rattle.tg_entry.specs.Writes.{writes}
 use Rattle.tg_entry.specs.Checkpoints.{keys, new_fields, old_fields}
 use Rattle.tg_entry.specs.Format.{body, entry}
-use Rattle.tg_protocol.specs.Words.{cell_at, client_id, directory, role_code, node_eq, bytes_eq, bytes_lt, part_eq, part_lt, cell_eq}
+use Rattle.tg_protocol.specs.Words.{directory, role_code, node_eq, bytes_eq, bytes_lt, part_eq, part_lt, cell_eq}
 use Rattle.tg_protocol.specs.Layouts.{chain_of, units_of, next_of, change_fault}
 use Rattle.tg_protocol.specs.Units.{new_unit, unit_ask, first_missing, on_ask, unit_step}
 use Rattle.tg_protocol.specs.LayoutServers.{new_layout, layout_ask, on_layout_ask, layout_step}
@@ -32,20 +30,11 @@ use Rattle.tg_protocol.specs.Answers.{appends, syncs, walked}
 use Rattle.tg_protocol.specs.ClientSteps.{task_asks, client_asks, walks, task_feed, task_again, accepts, client_command, client_deliver, client_tick}
 use Rattle.tg_protocol.specs.Sizes.{fields_size}
 use Rattle.tg_protocol.specs.Logs.{decided, newest, log_of, entries_of, members, path_on, path, changes_below, version, outcome, history_of}
-use Rattle.tg_base.specs.Clusters.{Header}
-use Rattle.tg_base.specs.declared.cell.Cell.{Cell}
-use Rattle.tg_base.specs.declared.msg.Msg.{Msg}
-use Rattle.tg_base.specs.declared.msg.Msg.TheVariants as msg
-use Rattle.tg_base.specs.declared.packet.Packet.{Packet}
-use Rattle.tg_kind.specs.Meaning.{Meaning}
 use Rattle.tg_model.specs.declared.command.Command.TheVariants as cmd
-use Rattle.tg_model.specs.declared.command.Event.TheVariants.{Command as Commands, Deliver, Tick}
-use Rattle.tg_model.specs.Kinds.{EventOf}
-use Rattle.tg_protocol.specs.Worlds.{World, start, latest, log, history, unit_moves, layout_moves, seqr_moves, client_turned, happens, limit_of, drain_on, drain, tick_all, rounds, settle, line, lines, lowest, next_event}
-use Rattle.tg_protocol.specs.Runs.{Move, Moves, Next, Takes, LawfulMove, run}
-use Rattle.tg_protocol.specs.Holding.{HasCell}
-use Rattle.tg_law_moves.proofs.Lists.{contained}
-use Rattle.tg_law_moves.proofs.Members.{Has, has_contained, has_either}
+use Rattle.tg_model.specs.declared.command.Event.TheVariants.{Command as Commands}
+use Rattle.tg_protocol.specs.Worlds.{start, latest, log, history, unit_moves, layout_moves, seqr_moves, client_turned, happens, limit_of, drain_on, drain, tick_all, rounds, settle, line, lines}
+use Rattle.tg_protocol.specs.Runs.{Takes, run}
+use Rattle.tg_law_moves.proofs.Members.{has_contained}
 use Rattle.tg_law_entries.specs.Worked.{tallies, two_units, drained, asked_again}
 use Rattle.tg_law_entries.proofs.Worked.{LawfulAll, is_lawful, and_lawful, lawful_asked}
 use Rattle.tg_law_drafts.specs.Worked.{committed_again, WorkedLinks}

@@ -1,5 +1,5 @@
 -- Each page that a client sends is that of a draft which it had in hand, with the links that were issued to it.
-use Rattle.std.proofs.Common.{◌≡◌, ◌≢◌, ◌⊎◌, ℕ, ◌<◌, ◌≤◌, List, [], ◌∷◌, ◌++◌, length, map, Bool, true, false, refl, sym, ap, ◌∙◌, subst, inl, inr, Option, Some, None, arith, append-nil}
+use Rattle.std.proofs.Common.{◌≡◌, ◌⊎◌, ℕ, ◌<◌, ◌≤◌, List, [], ◌∷◌, ◌++◌, length, map, Bool, true, false, refl, sym, ap, ◌∙◌, subst, inl, inr, Option, Some, None, arith, append-nil}
 use Rattle.std.specs.Prelude.{slice_index_or}
 use Rattle.tg_base.specs.Layouts.{Layout}
 use Rattle.tg_base.specs.Clusters.{Header, IsHeader}
@@ -19,28 +19,26 @@ use Rattle.tg_protocol.specs.Pages.{page_of}
 use Rattle.tg_protocol.specs.Requests.{Next, Goes, Learns, Ends}
 use Rattle.tg_protocol.specs.Replies.{Reply, reply}
 use Rattle.tg_protocol.specs.Replies as replied
-use Rattle.tg_protocol.specs.Cells.{Place, place_in, Puts, CellJob, CellEnd, Done, Seen, Lost, Fenced, Gone, put_cell, fill_cell, cell_feed}
+use Rattle.tg_protocol.specs.Cells.{Place, Puts, CellJob, CellEnd, Done, Seen, Lost, Fenced, Gone, put_cell, fill_cell}
 use Rattle.tg_protocol.specs.Appending.{names_all, on_older, on_newer, AppendWork, Asking, Putting, Judging, Token, Append, AppendEnd, put_end, put_next, own_or_not, judge_end, judge_next, on_issued, asking_feed, append_feed, dead_or_judged, again_with, append_again}
-use Rattle.tg_protocol.specs.Clients.{Doing, Client, new_client}
+use Rattle.tg_protocol.specs.Clients.{Client, new_client}
 use Rattle.tg_protocol.specs.ClientSteps.{task_in, ClientTurn}
 use Rattle.tg_protocol.specs.Worlds.{World, start, client, packet_of, happens, next_event}
 use Rattle.tg_protocol.specs.Runs.{Move, Moves, Next as Counts, Takes, run, most_steps, LawfulCommand}
 use Rattle.tg_law_moves.specs.After.{after}
 use Rattle.tg_law_moves.specs.Configs.{Config, config, client_in}
-use Rattle.tg_law_moves.proofs.Members.{Has, has_left, has_either, has_map}
+use Rattle.tg_law_moves.proofs.Members.{Has, has_either, has_map}
 use Rattle.tg_law_moves.proofs.Lists.{at_set, at_map}
-use Rattle.tg_law_moves.proofs.Moves.{AllGive, Gives, Comes, ClientInput, Given, CasesOf, Cases, client_turn, step_cases_of, cases_of}
-use Rattle.tg_law_moves.proofs.Growth.{Grows, Quiet, IsCalm, by_client, unit_quiet, layout_quiet, seqr_quiet}
+use Rattle.tg_law_moves.proofs.Moves.{AllGive, Comes, ClientInput, Given, CasesOf, client_turn, step_cases_of}
+use Rattle.tg_law_moves.proofs.Growth.{IsCalm, unit_quiet, layout_quiet, seqr_quiet}
 use Rattle.tg_law_moves.proofs.Scripts.{run_both}
 use Rattle.tg_law_layouts.proofs.Layouts.{stays_sent}
-use Rattle.tg_law_tokens.proofs.Owning.{Pair}
-use Rattle.tg_law_tokens.proofs.Puts.{HandPuts}
 use Rattle.tg_law_tokens.proofs.Pages.{Low, input_fine}
 use Rattle.tg_law_tokens.proofs.Own.{low_of, both_hold}
 use Rattle.tg_law_replies.proofs.Turns.{Keeps, feed_keeps, again_keeps}
 use Rattle.tg_law_drafts.proofs.Sound.{DraftOk, TaskOk, HandOk, IsAsking}
 use Rattle.tg_law_drafts.proofs.Became.{Holds, NextIs, Became, Fresh, Same, Fed, Again, became}
-use Rattle.tg_law_drafts.proofs.Clients.{State, few_in, state_hold, more_steps, happens_steps}
+use Rattle.tg_law_drafts.proofs.Clients.{State, few_in, state_hold, more_steps}
 use Rattle.tg_law_drafts.proofs.Cells.{PutBefore, NextPuts, cell_puts}
 
 -- Along moves.
@@ -248,21 +246,24 @@ module _ (m : Meaning) (h : Header) (zs : Moves m) (header : IsHeader h) (give :
 
     -- the links of an answer that it hears
     makes : (k : ℕ) (a : Append) → Holds m (client_in m (config m (after m h xs)) k) a → (x : Packet) → Comes m (config m (after m h xs)) x (client_id k) → Makes k a.draft (client_in m (config m (after m h xs)) k).stand a.draft x.msg
-    makes k a o x comes pos ls is names = (record {
-      before = xs;
-      later = ys;
-      split = split;
-      append = a;
-      holds = o;
-      ok = draft_in k a o;
-      links = ls;
-      names = names;
-      page = refl;
-      answer = x;
-      sent = sent_at xs ys split x comes.sent;
-      to = comes.to_node;
-      issues = is;
-    }, refl)
+    makes k a o x comes pos ls is names = (
+      record {
+        before = xs;
+        later = ys;
+        split = split;
+        append = a;
+        holds = o;
+        ok = draft_in k a o;
+        links = ls;
+        names = names;
+        page = refl;
+        answer = x;
+        sent = sent_at xs ys split x comes.sent;
+        to = comes.to_node;
+        issues = is;
+      },
+      refl,
+    )
 
     module _ (t : Written (config m (after m h xs))) where
       calm : IsCalm m role.Client (config m (after m h xs)) Written

@@ -2,6 +2,7 @@
 
 ghost use Rattle.tg_kind.specs.Of.{meaning_of};
 ghost use Rattle.tg_law_drafts.specs.Drafts.{EntriesBegun, RecordsBegun};
+ghost use Rattle.tg_law_drafts.specs.Refuted.{CheckpointsWantParts};
 ghost use Rattle.tg_law_drafts.specs.Worked.{WorkedLinks};
 ghost use Rattle.tg_protocol.specs.Holding.{EntriesLinked};
 ghost use Rattle.tg_protocol.specs.Runs.{Always, AlwaysBy};
@@ -28,4 +29,10 @@ pub fn records_were_begun<K: Registry>()
 /// first one.
 pub fn links_go_on()
     ensures { WorkedLinks }
+{}
+
+/// Over kinds whose ops touch a number that a page can't spell, a checkpoint isn't the draft that its client had begun to
+/// append: so the claim wants a premise on kinds.
+pub fn checkpoints_want_parts()
+    ensures { CheckpointsWantParts }
 {}

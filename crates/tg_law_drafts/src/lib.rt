@@ -7,4 +7,6 @@
 
 mod laws;
 
-pub use laws::{entries_are_linked, entries_were_begun, links_go_on, records_were_begun};
+pub use laws::{
+    checkpoints_want_parts, entries_are_linked, entries_were_begun, links_go_on, records_were_begun,
+};
