@@ -148,7 +148,7 @@ unfolding bytes_eq
 bytes_self [] = refl
 bytes_self (x ∷ xs) = bytes_more x xs (bytes_self xs)
 
-cell_self : (c : Cell) → cell_eq c c ≡ true
+pub cell_self : (c : Cell) → cell_eq c c ≡ true
 unfolding cell_eq
 cell_self Junk = refl
 cell_self (Data d) = bytes_self d
@@ -284,11 +284,11 @@ module _ (m : Meaning) where
   pub one_is_settled : EachLater m (SettledOnce m)
   one_is_settled = later_lawful m (SettledOnce m) (λ h xs ys a b c. once_law m h xs ys a c (told_here m h (xs ++ ys) a c))
 
-  pub units_keep_settled : EachLater m (SettledKept m)
-  units_keep_settled = later_lawful m (SettledKept m) (λ h xs ys a b c. kept_law m h xs ys a c (told_here m h (xs ++ ys) a c))
+  pub units_have_no_other : EachLater m (SettledKept m)
+  units_have_no_other = later_lawful m (SettledKept m) (λ h xs ys a b c. kept_law m h xs ys a c (told_here m h (xs ++ ys) a c))
 
-  pub chains_keep_settled : EachLater m (ChainKept m)
-  chains_keep_settled = later_lawful m (ChainKept m) (λ h xs ys a b c. chain_law m h xs ys a c (told_here m h (xs ++ ys) a c))
+  pub chains_have_no_other : EachLater m (ChainKept m)
+  chains_have_no_other = later_lawful m (ChainKept m) (λ h xs ys a b c. chain_law m h xs ys a c (told_here m h (xs ++ ys) a c))
 
   pub settled_is_held : EachLater m (SettledHeld m)
   settled_is_held = later_lawful m (SettledHeld m) (λ h xs ys a b c. held_law m h xs ys a c (told_here m h (xs ++ ys) a c) (whole_here m h (xs ++ ys) a c))

@@ -40,12 +40,12 @@ pub fn one_is_settled<K: Registry>()
 {}
 
 /// No unit of a later layout's chain has another cell than a settled one.
-pub fn units_keep_settled<K: Registry>()
+pub fn units_have_no_other<K: Registry>()
     ensures { EachLater (meaning_of K.Registry) (SettledKept (meaning_of K.Registry)) }
 {}
 
 /// Nor has a later layout's whole chain.
-pub fn chains_keep_settled<K: Registry>()
+pub fn chains_have_no_other<K: Registry>()
     ensures { EachLater (meaning_of K.Registry) (ChainKept (meaning_of K.Registry)) }
 {}
 

@@ -10,7 +10,7 @@
 mod laws;
 
 pub use laws::{
-    chains_keep_settled, heads_have_cells, joins_are_whole, joins_tell_old_cells,
+    chains_have_no_other, heads_have_cells, joins_are_whole, joins_tell_old_cells,
     last_unit_settles, one_is_settled, settled_is_held, settled_is_in_log, stores_are_justified,
-    units_keep_settled, units_tell_settled,
+    units_have_no_other, units_tell_settled,
 };

@@ -4,6 +4,7 @@ use Rattle.std.specs.Prelude.{nat_lt}
 use Rattle.tg_base.specs.Clusters.{Header, IsHeader}
 use Rattle.tg_base.specs.Layouts.{Layout}
 use Rattle.tg_base.specs.declared.cell.Cell.{Cell}
+use Rattle.tg_base.specs.declared.msg.Msg.TheVariants as msg
 use Rattle.tg_base.specs.declared.packet.Packet.{Packet}
 use Rattle.tg_kind.specs.Meaning.{Meaning}
 use Rattle.tg_model.specs.Kinds.{EventOf}
@@ -14,7 +15,8 @@ use Rattle.tg_protocol.specs.Cells.{place_in, last_unit}
 use Rattle.tg_protocol.specs.Logs.{Log, unit_cells, chain_cell, log_cell, newest}
 use Rattle.tg_protocol.specs.Worlds.{World, start, unit, latest, log, archived, happens, next_event}
 use Rattle.tg_protocol.specs.Runs.{Move, Moves, Next, Takes, run, LawfulCommand}
-use Rattle.tg_protocol.specs.Holding.{LogStays}
+use Rattle.tg_protocol.specs.Chosen.{Sent}
+use Rattle.tg_protocol.specs.Holding.{LogStays, HasCell}
 use Rattle.tg_law_moves.specs.After.{after}
 use Rattle.tg_law_moves.specs.Configs.{config, unit_in}
 use Rattle.tg_law_moves.proofs.Always.{lawful_give}
@@ -37,10 +39,14 @@ use Rattle.tg_law_cells.proofs.Settles.{Settled, Rooted, Got, Next as NextLayout
 use Rattle.tg_law_cells.proofs.Successors.{words}
 use Rattle.tg_law_cells.proofs.Successors as successors
 use Rattle.tg_law_cells.proofs.Settling.{told_by, joins_of, before_of, facts, roots, told_here, whole_here}
-use Rattle.tg_law_entries.specs.Archive.{TrimsSafe, GoesOn, TrimsWereSafe, AlwaysBySafeTrims, EachLaterBySafeTrims, LogIsSettled, LogIsOne, TrimmedInLog}
+use Rattle.tg_law_entries.specs.Archive.{TrimsWereSafe, AlwaysBySafeTrims, EachLaterBySafeTrims, LogIsSettled, LogIsOne, TrimmedInLog}
 use Rattle.tg_law_entries.proofs.Lists.{joined, some_same, none_cell, read_has, has_read}
 use Rattle.tg_law_entries.proofs.Logged.{chain_has, whole_chain, log_has, log_is}
 use Rattle.tg_law_entries.proofs.Steps.{WasAsked, Does, Still, Trims, does, low_in, below_at, past_at}
+
+-- Whatever a unit was ever asked to trim is in the log.
+abbrev pub TrimsSafe : (m : Meaning) → World m → Type 0
+TrimsSafe m w = (x : Packet) (epoch below p : ℕ) → Sent m w x → x.msg ≡ msg.Trim epoch below → p < below → HasCell m w p
 
 module _ (m : Meaning) (h : Header) (xs : Moves m) (header : IsHeader h) (give : AllGive m (LawfulCommand m) xs) where
   abbrev w : World m
@@ -290,15 +296,38 @@ module _ (m : Meaning) where
     shifts : (xs : Moves m) (x : Move m) (ys : Moves m) → zs ≡ xs ++ x ∷ ys → zs ≡ (xs ++ x ∷ []) ++ ys
     shifts xs x ys e = e ∙ sym (joined xs (x ∷ []) ys)
 
-    whole_on : (xs ms : Moves m) → zs ≡ xs ++ ms → Whole m (after m h xs) → Whole m (after m h zs)
-    whole_on xs [] e k = subst (λ (ys : Moves m). Whole m (after m h ys)) (sym (e ∙ append-nil xs)) k
-    whole_on xs (Next ∷ ms) e k =
-        whole_on (xs ++ Next ∷ []) ms (shifts xs Next ms e) (subst (λ (v : World m). Whole m v) (sym (then_next h xs)) (on_next h xs header (left (xs ++ Next ∷ []) ms (shifts xs Next ms e)) k))
-    whole_on xs (Takes x ∷ ms) e k =
-        whole_on (xs ++ Takes x ∷ []) ms (shifts xs (Takes x) ms e)
-        (subst (λ (v : World m). Whole m v) (sym (then_takes h xs x))
-        (on_event h xs x header (left xs (Takes x ∷ ms) e) (left (xs ++ Takes x ∷ []) ms (shifts xs (Takes x) ms e)) k
-        (safe (after m h xs) (record { before = xs; event = x; later = ms; split = e; is = refl }))))
+    -- what the log has it has after a further move
+    kept : (xs : Moves m) (x : Move m) → AllGive m (LawfulCommand m) xs → AllGive m (LawfulCommand m) (xs ++ x ∷ []) → Whole m (after m h xs) → Whole m (after m h (xs ++ x ∷ []))
+        → (p : ℕ) → HasCell m (after m h xs) p → HasCell m (after m h (xs ++ x ∷ [])) p
+    kept xs x before now k l p c =
+        (c.0, (log_settled m h (xs ++ x ∷ []) header now l).has p c.0 (settled_later m h xs (x ∷ []) header now p c.0 ((log_settled m h xs header before k).settled p c.0 c.1)))
+
+    next_safe : (xs : Moves m) → AllGive m (LawfulCommand m) xs → AllGive m (LawfulCommand m) (xs ++ Next ∷ []) → Whole m (after m h xs) → Whole m (after m h (xs ++ Next ∷ []))
+        → TrimsSafe m (after m h xs) → TrimsSafe m (after m h (xs ++ Next ∷ []))
+    next_safe xs before now k l old x epoch below p sent is less =
+        kept xs Next before now k l p (old x epoch below p (subst (λ (v : World m). Sent m v x) (then_next h xs) sent) is less)
+
+    event_safe : (xs : Moves m) (e : EventOf m) (ms : Moves m) → zs ≡ xs ++ Takes e ∷ ms → AllGive m (LawfulCommand m) xs → AllGive m (LawfulCommand m) (xs ++ Takes e ∷ [])
+        → Whole m (after m h xs) → Whole m (after m h (xs ++ Takes e ∷ [])) → TrimsSafe m (after m h xs) → TrimsSafe m (after m h (xs ++ Takes e ∷ []))
+    event_safe xs e ms split before now k l old x epoch below p sent is less =
+        kept xs (Takes e) before now k l p (by (safe xs e ms split x epoch below (subst (λ (v : World m). Sent m v x) (then_takes h xs e) sent) is))
+      where
+        by : Sent m (after m h xs) x ⊎ ((q : ℕ) → q < below → HasCell m (after m h xs) q) → HasCell m (after m h xs) p
+        by (inl s) = old x epoch below p s is less
+        by (inr f) = f p less
+
+    whole_on : (xs ms : Moves m) → zs ≡ xs ++ ms → Whole m (after m h xs) → TrimsSafe m (after m h xs) → Whole m (after m h zs)
+    whole_on xs [] e k old = subst (λ (ys : Moves m). Whole m (after m h ys)) (sym (e ∙ append-nil xs)) k
+    whole_on xs (Next ∷ ms) e k old =
+        let before = left xs (Next ∷ ms) e in
+        let now = left (xs ++ Next ∷ []) ms (shifts xs Next ms e) in
+        let l = subst (λ (v : World m). Whole m v) (sym (then_next h xs)) (on_next h xs header now k) in
+        whole_on (xs ++ Next ∷ []) ms (shifts xs Next ms e) l (next_safe xs before now k l old)
+    whole_on xs (Takes x ∷ ms) e k old =
+        let before = left xs (Takes x ∷ ms) e in
+        let now = left (xs ++ Takes x ∷ []) ms (shifts xs (Takes x) ms e) in
+        let l = subst (λ (v : World m). Whole m v) (sym (then_takes h xs x)) (on_event h xs x header before now k old) in
+        whole_on (xs ++ Takes x ∷ []) ms (shifts xs (Takes x) ms e) l (event_safe xs x ms e before now k l old)
 
     start_whole : Whole m (after m h [])
     unfolding run start new_unit
@@ -307,19 +336,17 @@ module _ (m : Meaning) where
       trimmed = λ u. at_replicate h.units new_unit u new_unit (λ (t : UnitState). (p : ℕ) → p < t.low → (c : Cell) × (cell_at [] p ≡ Some c)) (λ p l. absurd (omega (arith, l))) (λ p l. absurd (omega (arith, l)));
     }
 
+    start_safe : TrimsSafe m (after m h [])
+    unfolding run start
+    start_safe x epoch below p sent is less = absurd (has_contained [] x sent)
+
     pub whole_run : Whole m (after m h zs)
-    whole_run = whole_on [] zs refl start_whole
+    whole_run = whole_on [] zs refl start_whole start_safe
 
   -- The laws.
 
-  goes_more : (h : Header) (xs ys : Moves m) (u : World m) → GoesOn m h xs u → GoesOn m h (xs ++ ys) u
-  goes_more h xs ys u g = record {
-    before = g.before;
-    event = g.event;
-    later = g.later ++ ys;
-    split = ap (λ (ms : Moves m). ms ++ ys) g.split ∙ joined g.before (Takes g.event ∷ g.later) ys;
-    is = g.is;
-  }
+  safe_left : (h : Header) (xs ys : Moves m) → TrimsWereSafe m h (xs ++ ys) → TrimsWereSafe m h xs
+  safe_left h xs ys safe before e later split = safe before e (later ++ ys) (ap (λ (ms : Moves m). ms ++ ys) split ∙ joined before (Takes e ∷ later) ys)
 
   pub always_safe : (P : World m → Type 0) → ((h : Header) (ms : Moves m) → IsHeader h → AllGive m (LawfulCommand m) ms → TrimsWereSafe m h ms → P (after m h ms)) → AlwaysBySafeTrims m P
   always_safe P f h ms w r safe = subst P (sym r.goes.is) (f h ms r.header (lawful_give m (start m h).cluster ms r.goes.lawful) safe)
@@ -344,7 +371,7 @@ module _ (m : Meaning) where
 
   module _ (h : Header) (xs ys : Moves m) (header : IsHeader h) (a : AllGive m (LawfulCommand m) xs) (b : AllGive m (LawfulCommand m) (xs ++ ys)) (safe : TrimsWereSafe m h (xs ++ ys)) where
     early : LogIsSettled m (after m h xs)
-    early = settled_run h xs header a (λ u g. safe u (goes_more h xs ys u g))
+    early = settled_run h xs header a (safe_left h xs ys safe)
 
     late : LogIsSettled m (after m h (xs ++ ys))
     late = settled_run h (xs ++ ys) header b safe

@@ -46,7 +46,7 @@ use Rattle.tg_protocol.specs.Runs.{Move, Moves, Next, Takes, LawfulMove, run}
 use Rattle.tg_protocol.specs.Holding.{HasCell}
 use Rattle.tg_law_moves.proofs.Lists.{contained}
 use Rattle.tg_law_moves.proofs.Members.{Has, has_contained, has_either}
-use Rattle.tg_law_entries.specs.Archive.{TrimsSafe, TrimsWereSafe}
+use Rattle.tg_law_entries.specs.Archive.{TrimsSafely, TrimsWereSafe}
 use Rattle.tg_law_entries.specs.Worked.{tallies, two_units, drained, and_drains, committed, reconfigured, asked_again, trimmed, WorkedTrim}
 use Rattle.tg_law_entries.proofs.Lists.{read_has}
 
@@ -61,14 +61,18 @@ module _ (m : Meaning) where
   trims_in_log w (msg.Trim e b) = has_below w b
   trims_in_log w x = true
 
-  is_safe : World m → Bool
+  is_safe : World m → World m → Bool
   unfolding trims_in_log
-  is_safe w = list_all (λ (p : Packet). trims_in_log w p.msg) w.packets
+  is_safe w v = list_all (λ (p : Packet). trims_in_log w p.msg) v.packets
+
+  safe_then : World m → World m → (World m → Bool) → Bool
+  safe_then w v rest = is_safe w v && rest v
 
   pub safe_on : Moves m → World m → Bool
+  unfolding safe_then
   safe_on [] w = true
   safe_on (Next ∷ ms) w = safe_on ms (next_event m w)
-  safe_on (Takes e ∷ ms) w = is_safe w && safe_on ms (happens m w e)
+  safe_on (Takes e ∷ ms) w = safe_then w (happens m w e) (λ (v : World m). safe_on ms v)
 
   both : (a b : Bool) → (a && b) ≡ true → (a ≡ true) × (b ≡ true)
   both true b e = (refl, e)
@@ -95,21 +99,20 @@ module _ (m : Meaning) where
       by (inl i) rest = subst (λ (q : ℕ). HasCell m w q) (sym i) (cell_there w n (cell_at (log m w) n) refl (both (is_some (cell_at (log m w) n)) (has_below w n) e).0)
       by (inr k) rest = rest k
 
-  safe_there : (w : World m) → is_safe w ≡ true → TrimsSafe m w
+  safe_there : (w v : World m) → is_safe w v ≡ true → TrimsSafely m w v
   unfolding is_safe trims_in_log
-  safe_there w e x epoch below p sent is l =
-      below_there w below p (sym (ap (trims_in_log w) is) ∙ each (λ (y : Packet). trims_in_log w y.msg) w.packets x e (has_contained w.packets x sent)) l
+  safe_there w v e x epoch below sent is =
+      inr (λ p l. below_there w below p (sym (ap (trims_in_log w) is) ∙ each (λ (y : Packet). trims_in_log w y.msg) v.packets x e (has_contained v.packets x sent)) l)
 
-  safe_at : (before : Moves m) (e : EventOf m) (later : Moves m) (w : World m) → safe_on (before ++ Takes e ∷ later) w ≡ true → is_safe (run m before w) ≡ true
-  unfolding run safe_on
-  safe_at [] e later w h = (both (is_safe w) _ h).0
+  safe_at : (before : Moves m) (e : EventOf m) (later : Moves m) (w : World m) → safe_on (before ++ Takes e ∷ later) w ≡ true → is_safe (run m before w) (happens m (run m before w) e) ≡ true
+  unfolding run safe_on safe_then
+  safe_at [] e later w h = (both (is_safe w (happens m w e)) _ h).0
   safe_at (Next ∷ before) e later w h = safe_at before e later (next_event m w) h
-  safe_at (Takes x ∷ before) e later w h = safe_at before e later (happens m w x) (both (is_safe w) _ h).1
+  safe_at (Takes x ∷ before) e later w h = safe_at before e later (happens m w x) (both (is_safe w (happens m w x)) _ h).1
 
   pub were_safe : (h : Header) (ms : Moves m) → safe_on ms (start m h) ≡ true → TrimsWereSafe m h ms
-  were_safe h ms e u g =
-      subst (λ (w : World m). TrimsSafe m w) (sym g.is)
-      (safe_there (run m g.before (start m h)) (safe_at g.before g.event g.later (start m h) (subst (λ (xs : Moves m). safe_on xs (start m h) ≡ true) g.split e)))
+  were_safe h ms e before event later split =
+      safe_there (run m before (start m h)) (happens m (run m before (start m h)) event) (safe_at before event later (start m h) (subst (λ (xs : Moves m). safe_on xs (start m h) ≡ true) split e))
 
 -- The run.
 
@@ -171,15 +174,18 @@ all_drained n w x g = lawful_drain n w x g
 pub and_lawful : (ms more : Moves tallies) → LawfulAll ms → LawfulAll more → LawfulAll (and_drains ms more)
 and_lawful ms more f g = lawful_both (ms ++ more) (drained 100 (run tallies (ms ++ more) (start tallies two_units))) (lawful_both ms more f g) (all_drained 100 (run tallies (ms ++ more) (start tallies two_units)))
 
+pub lawful_asked : LawfulAll asked_again
+lawful_asked = and_lawful reconfigured _ (and_lawful committed _ (and_lawful [] _ lawful_none lawful_commit) lawful_reconf) lawful_tick
+
 lawful_run : LawfulAll trimmed
-lawful_run = and_lawful asked_again _ (and_lawful reconfigured _ (and_lawful committed _ (and_lawful [] _ lawful_none lawful_commit) lawful_reconf) lawful_tick) lawful_trim
+lawful_run = and_lawful asked_again _ lawful_asked lawful_trim
 
 few_steps : (run tallies trimmed (start tallies two_units)).steps ≤ 1000
 unfolding run drained u8_at u16_at u32_at u64_at raw_at fixed_at read_many spell_many fit_many marks reads writes keys new_fields old_fields body entry role_code node_eq bytes_eq bytes_lt part_eq part_lt cell_eq chain_of units_of next_of change_fault new_unit unit_ask first_missing on_ask unit_step new_layout layout_ask on_layout_ask layout_step reply work_asks put_cell get_cell fill_cell probe work_feed cell_feed entry_size needs_decision page_of entry_of new_seqr seqr_step seqr_tick append_work_asks append_start append_feed append_again sync_work_asks sync_start sync_feed walk_on walk_start walk_feed no_versions based version_of with_change parts_of decision_in view_start view_version view_parts unknown_in changed_in verdict view_outcome step_at play_on play read_fault write_fault commit_record open_decision checkpoint bases_in load_from view_base view_bases may_forget commit_at past_at rescue_turn trim_start trim_feed copy_work_asks copy_start copy_feed reconf_work_asks reconf_start reconf_feed reconf_latest new_client entries_at copy_fault tests refusal appends syncs walked task_asks client_asks walks task_feed task_again accepts client_command client_deliver client_tick fields_size decided newest log_of entries_of members path_on path changes_below version outcome history_of start latest log history unit_moves layout_moves seqr_moves client_turned happens limit_of drain_on drain tick_all rounds settle line lines
 few_steps = omega arith
 
 safe_run : safe_on tallies trimmed (start tallies two_units) ≡ true
-unfolding safe_on is_safe trims_in_log has_below run drained u8_at u16_at u32_at u64_at raw_at fixed_at read_many spell_many fit_many marks reads writes keys new_fields old_fields body entry role_code node_eq bytes_eq bytes_lt part_eq part_lt cell_eq chain_of units_of next_of change_fault new_unit unit_ask first_missing on_ask unit_step new_layout layout_ask on_layout_ask layout_step reply work_asks put_cell get_cell fill_cell probe work_feed cell_feed entry_size needs_decision page_of entry_of new_seqr seqr_step seqr_tick append_work_asks append_start append_feed append_again sync_work_asks sync_start sync_feed walk_on walk_start walk_feed no_versions based version_of with_change parts_of decision_in view_start view_version view_parts unknown_in changed_in verdict view_outcome step_at play_on play read_fault write_fault commit_record open_decision checkpoint bases_in load_from view_base view_bases may_forget commit_at past_at rescue_turn trim_start trim_feed copy_work_asks copy_start copy_feed reconf_work_asks reconf_start reconf_feed reconf_latest new_client entries_at copy_fault tests refusal appends syncs walked task_asks client_asks walks task_feed task_again accepts client_command client_deliver client_tick fields_size decided newest log_of entries_of members path_on path changes_below version outcome history_of start latest log history unit_moves layout_moves seqr_moves client_turned happens limit_of drain_on drain tick_all rounds settle line lines
+unfolding safe_on safe_then is_safe trims_in_log has_below run drained u8_at u16_at u32_at u64_at raw_at fixed_at read_many spell_many fit_many marks reads writes keys new_fields old_fields body entry role_code node_eq bytes_eq bytes_lt part_eq part_lt cell_eq chain_of units_of next_of change_fault new_unit unit_ask first_missing on_ask unit_step new_layout layout_ask on_layout_ask layout_step reply work_asks put_cell get_cell fill_cell probe work_feed cell_feed entry_size needs_decision page_of entry_of new_seqr seqr_step seqr_tick append_work_asks append_start append_feed append_again sync_work_asks sync_start sync_feed walk_on walk_start walk_feed no_versions based version_of with_change parts_of decision_in view_start view_version view_parts unknown_in changed_in verdict view_outcome step_at play_on play read_fault write_fault commit_record open_decision checkpoint bases_in load_from view_base view_bases may_forget commit_at past_at rescue_turn trim_start trim_feed copy_work_asks copy_start copy_feed reconf_work_asks reconf_start reconf_feed reconf_latest new_client entries_at copy_fault tests refusal appends syncs walked task_asks client_asks walks task_feed task_again accepts client_command client_deliver client_tick fields_size decided newest log_of entries_of members path_on path changes_below version outcome history_of start latest log history unit_moves layout_moves seqr_moves client_turned happens limit_of drain_on drain tick_all rounds settle line lines
 safe_run = refl
 
 pub worked_trim : WorkedTrim

@@ -1,33 +1,26 @@
 -- The log keeps what it has, where units are asked to trim only what the log has.
-use Rattle.std.specs.Prelude.{◌≡◌, ℕ, ◌<◌, ◌++◌, ◌∷◌, Contains}
+use Rattle.std.specs.Prelude.{◌≡◌, ◌⊎◌, ℕ, ◌<◌, ◌++◌, ◌∷◌, Contains}
 use Rattle.tg_base.specs.Clusters.{Header}
 use Rattle.tg_base.specs.declared.cell.Cell.{Cell}
 use Rattle.tg_base.specs.declared.msg.Msg.TheVariants as msg
 use Rattle.tg_base.specs.declared.packet.Packet.{Packet}
 use Rattle.tg_kind.specs.Meaning.{Meaning}
 use Rattle.tg_model.specs.Kinds.{EventOf}
-use Rattle.tg_protocol.specs.Worlds.{World, start, unit, log}
+use Rattle.tg_protocol.specs.Worlds.{World, start, unit, log, happens}
 use Rattle.tg_protocol.specs.Runs.{Moves, Takes, Reaches, Later, run}
 use Rattle.tg_protocol.specs.Chosen.{Sent}
 use Rattle.tg_protocol.specs.Holding.{HasCell}
 use Rattle.tg_law_cells.specs.Settled.{IsSettled}
 
 module _ (m : Meaning) where
-  -- Safe trims: whatever a unit was ever asked to trim is in the log.
-  abbrev pub TrimsSafe : World m → Type 0
-  TrimsSafe w = (x : Packet) (epoch below p : ℕ) → Sent m w x → x.msg ≡ msg.Trim epoch below → p < below → HasCell m w p
+  -- A step that trims safely: of what units were asked to trim by then, they were asked before, or the log had it then.
+  abbrev pub TrimsSafely : World m → World m → Type 0
+  TrimsSafely u v = (x : Packet) (epoch below : ℕ) → Sent m v x → x.msg ≡ msg.Trim epoch below → Sent m u x ⊎ ((p : ℕ) → p < below → HasCell m u p)
 
-  -- a world from which a run went on by a further event
-  pub record GoesOn (h : Header) (ms : Moves m) (u : World m) : Type 0 where
-    pub before : Moves m
-    pub event : EventOf m
-    pub later : Moves m
-    pub split : ms ≡ before ++ Takes event ∷ later
-    pub is : u ≡ run m before (start m h)
-
-  -- so it was in each world from which the run went on
+  -- so did each event of a run
   abbrev pub TrimsWereSafe : Header → Moves m → Type 0
-  TrimsWereSafe h ms = (u : World m) → GoesOn h ms u → TrimsSafe u
+  TrimsWereSafe h ms = (before : Moves m) (event : EventOf m) (later : Moves m) → ms ≡ before ++ Takes event ∷ later
+      → TrimsSafely (run m before (start m h)) (happens m (run m before (start m h)) event)
 
   -- What holds of every world of every run in which trims were safe, and of each such world and each later one.
 

@@ -291,8 +291,8 @@ module _ (m : Meaning) where
   pub decided_stays : EachLater m (DecidedStays m)
   decided_stays = later_lawful m (DecidedStays m) stays_here
 
-  pub decided_is_read_alike : EachLater m (ReadStays m)
-  decided_is_read_alike = each_later m (ReadStays m) (read_stays m)
+  pub decided_reading_stays : EachLater m (ReadStays m)
+  decided_reading_stays = each_later m (ReadStays m) (read_stays m)
 
   pub latest_decided : Always m (LatestDecided m)
   latest_decided = always_lawful m (LatestDecided m) (λ h ms a b. latest_here m h ms a b)

@@ -19,7 +19,7 @@ pub fn decided_stays<K: Registry>()
 {}
 
 /// So does what is read off from the packets as decided.
-pub fn decided_is_read_alike<K: Registry>()
+pub fn decided_reading_stays<K: Registry>()
     ensures { EachLater (meaning_of K.Registry) (ReadStays (meaning_of K.Registry)) }
 {}
 

@@ -9,6 +9,6 @@
 mod laws;
 
 pub use laws::{
-    decided_is_read_alike, decided_stays, latest_decided, layouts_are_known, layouts_are_sound,
+    decided_reading_stays, decided_stays, latest_decided, layouts_are_known, layouts_are_sound,
     layouts_follow, one_layout,
 };

@@ -248,9 +248,12 @@ module _ (m : Meaning) where
   pub kept_hold : (h : Header) (ms : Moves m) → Kept (after m h ms)
   kept_hold h ms = subst Kept (from_start h ms) (kept_run h [] ms (start_kept h))
 
+  -- each cell of the log is junk or a page that was sent
+  pub log_sent : (h : Header) (ms : Moves m) (p : ℕ) (c : Cell) → Has (log m (after m h ms)) (p, c) → OwnCell (after m h ms).packets p c
+  log_sent h ms p c i = stands_own (after m h ms) (held_hold m h ms) (kept_hold h ms) p c (log_stands (after m h ms) p c i)
+
   pub log_own : (h : Header) (ms : Moves m) → LogPagesOwn m (after m h ms)
-  log_own h ms p d i =
-      of_token m (after m h ms) p d (stands_own (after m h ms) (held_hold m h ms) (kept_hold h ms) p (Data d) (log_stands (after m h ms) p (Data d) (has_contained (log m (after m h ms)) (p, Data d) i)))
+  log_own h ms p d i = of_token m h ms p d (log_sent h ms p (Data d) (has_contained (log m (after m h ms)) (p, Data d) i))
 
   pub log_has_own_pages : Always m (LogPagesOwn m)
   log_has_own_pages = always m (LogPagesOwn m) log_own

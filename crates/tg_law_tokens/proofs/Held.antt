@@ -5,6 +5,7 @@ use Rattle.tg_base.specs.Clusters.{Header}
 use Rattle.tg_base.specs.declared.cell.Cell.{Cell}
 use Rattle.tg_base.specs.declared.cell.Cell.TheVariants.{Data}
 use Rattle.tg_base.specs.declared.ids.Role.TheVariants as role
+use Rattle.tg_base.specs.declared.msg.Msg.{Msg}
 use Rattle.tg_base.specs.declared.msg.Msg.TheVariants as msg
 use Rattle.tg_base.specs.declared.packet.Packet.{Packet}
 use Rattle.tg_kind.specs.Meaning.{Meaning}
@@ -25,9 +26,9 @@ use Rattle.tg_law_requests.proofs.Answered.{turn_on}
 use Rattle.tg_law_tokens.specs.Issuing.{IsOfToken, UnitPagesOwn}
 use Rattle.tg_law_tokens.proofs.Owning.{OwnCell}
 use Rattle.tg_law_tokens.proofs.Issues.{start_low}
-use Rattle.tg_law_tokens.proofs.Sent.{own_grows}
+use Rattle.tg_law_tokens.proofs.Sent.{Justified, own_grows}
 use Rattle.tg_law_tokens.proofs.Pages.{Pages, own_stored}
-use Rattle.tg_law_tokens.proofs.Own.{Base, low_of, keeps, start_pages, own_page}
+use Rattle.tg_law_tokens.proofs.Own.{Base, low_of, keeps, start_pages, pages_hold, own_page}
 use Rattle.tg_law_cells.proofs.Owned.{start_owned}
 
 module _ (m : Meaning) where
@@ -49,7 +50,7 @@ module _ (m : Meaning) where
       where
         by : (cell_at (unit_in m c u).cells q ≡ Some x) ⊎ (((turn_on m c u p).says ≡ Some msg.Held) × (claimed (unit_ask p.msg) msg.Held ≡ Some (record { epoch = (turn_on m c u p).now.epoch; pos = q; cell = x }))) → OwnCell (unit_turn m c u p (turn_on m c u p)).packets q x
         by (inl e) = grown q x (h.cells u q x e)
-        by (inr e) = grown q x (own_stored m c (low_of m c low.0) low.1 p p.msg (record { epoch = (turn_on m c u p).now.epoch; pos = q; cell = x }) refl (low.1.sent p comes.sent) e.1)
+        by (inr e) = grown q x (own_stored m c (low_of m c low.0) low.1 p p.msg (record { epoch = (turn_on m c u p).now.epoch; pos = q; cell = x }) refl comes.sent (low.1.sent p comes.sent) e.1)
 
     held : Held (unit_turn m c u p (turn_on m c u p))
     held = record {
@@ -69,11 +70,16 @@ module _ (m : Meaning) where
   pub held_hold : (h : Header) (xs : Moves m) → Held (config m (after m h xs))
   held_hold h xs = (run_keeps m (λ c. (Base m c × Pages m c) × Held c) all_keep xs (start m h) (((start_low m h, start_owned m h), start_pages m h), start_held h)).1
 
-  pub of_token : (w : World m) (p : ℕ) (d : List ℕ) → OwnCell w.packets p (Data d) → IsOfToken m w p d
-  of_token w p d k = record { node = k.0; epoch = k.1; own = own_page m w k.0 k.1 p d k.2 }
+  -- a page that was sent is its sender's own
+  pub of_token : (h : Header) (xs : Moves m) (p : ℕ) (d : List ℕ) → OwnCell (after m h xs).packets p (Data d) → IsOfToken m (after m h xs) p d
+  of_token h xs p d k = record {
+    node = k.packet.from;
+    epoch = k.epoch;
+    own = own_page m (after m h xs) k.packet.from k.epoch p d (subst (λ (y : Msg). Justified (after m h xs).packets k.packet.from k.packet.to y) k.is ((pages_hold m h xs).sent k.packet k.sent));
+  }
 
   units_own : (h : Header) (xs : Moves m) → UnitPagesOwn m (after m h xs)
-  units_own h xs u p d i = of_token (after m h xs) p d ((held_hold h xs).cells u p (Data d) i)
+  units_own h xs u p d i = of_token h xs p d ((held_hold h xs).cells u p (Data d) i)
 
   pub units_hold_own_pages : Always m (UnitPagesOwn m)
   units_hold_own_pages = always m (UnitPagesOwn m) units_own

@@ -4,6 +4,7 @@ pub mod Owning
 pub mod Jobs
 pub mod Hands
 pub mod Sent
+pub mod Puts
 pub mod Pages
 pub mod Own
 pub mod Held

@@ -20,19 +20,19 @@ use Rattle.tg_law_moves.proofs.Lists.{contained}
 use Rattle.tg_law_tokens.specs.Entries.{LogEntriesLinked}
 use Rattle.tg_law_tokens.proofs.Archive.{log_own}
 
-some_entry : (a b : Entry) → Some a ≡ Some b → a ≡ b
+pub some_entry : (a b : Entry) → Some a ≡ Some b → a ≡ b
 some_entry a b e = cc
 
 -- the page of an entry that a log has
-record PageOf (l : Log) (p : ℕ) (e : Entry) : Type 0 where
-  page : List ℕ
-  here : Has l (p, Data page)
-  reads : entry_of page ≡ Some e
+pub record PageOf (l : Log) (p : ℕ) (e : Entry) : Type 0 where
+  pub page : List ℕ
+  pub here : Has l (p, Data page)
+  pub reads : entry_of page ≡ Some e
 
 page_later : (x : ℕ × Cell) (l : Log) (p : ℕ) (e : Entry) → PageOf l p e → PageOf (x ∷ l) p e
 page_later x l p e k = record { page = k.page; here = inr k.here; reads = k.reads }
 
-page_in : (l : Log) (p : ℕ) (e : Entry) → Has (entries_of l) (p, e) → PageOf l p e
+pub page_in : (l : Log) (p : ℕ) (e : Entry) → Has (entries_of l) (p, e) → PageOf l p e
 unfolding entries_of
 page_in [] p e i = absurd i
 page_in (x ∷ l) p e i = by x.1 refl i (λ j. page_in l p e j)
@@ -53,7 +53,7 @@ page_in (x ∷ l) p e i = by x.1 refl i (λ j. page_in l p e j)
     by (Data d) s j rest = data_in d s (entry_of d) refl (subst (λ (c : Cell). Has (entry_if x.0 (entry_in c) (entries_of l)) (p, e)) s j) rest
 
 -- what is spelled is read back
-read_back : (x : Entry) (d : List ℕ) → entry.fits x ≡ true → d ≡ page_of x → entry_of d ≡ Some x
+pub read_back : (x : Entry) (d : List ℕ) → entry.fits x ≡ true → d ≡ page_of x → entry_of d ≡ Some x
 unfolding entry_of page_of
 read_back x d fits e = ap if_read (whole_only entry_law.exact d x (fits, e))
 

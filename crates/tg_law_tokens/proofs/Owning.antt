@@ -41,17 +41,27 @@ pub record Owned (ps : List Packet) (me : NodeId) (e pos : ℕ) (d : List ℕ) :
   pub names : names_all (streams_of draft) links ≡ true
   pub page : d ≡ page_of (linked draft links)
 
--- junk, or a page of some node's own token
+-- a page that was sent to be stored at a position
+pub record Wrote (ps : List Packet) (pos : ℕ) (d : List ℕ) : Type 0 where
+  pub packet : Packet
+  pub sent : Has ps packet
+  pub epoch : ℕ
+  pub is : packet.msg ≡ msg.Write epoch pos d
+
+-- junk, or a page that was sent so
 abbrev pub OwnCell : List Packet → ℕ → Cell → Type 0
-OwnCell ps pos (Data d) = (n : NodeId) × (e : ℕ) × Owned ps n e pos d
+OwnCell ps pos (Data d) = Wrote ps pos d
 OwnCell ps pos Junk = Unit {0}
 
-module _ (ps : List Packet) (me : NodeId) where
-  abbrev pub WorkOk : Place → CellWork → Type 0
-  WorkOk a (Puts r d i) = Owned ps me a.epoch a.pos d
-  WorkOk a (Copies r c i) = OwnCell ps a.pos c
-  WorkOk a w = Unit {0}
+-- what a machine may put: a page, in an epoch and at a position
+abbrev pub MayPut : Type 1
+MayPut = ℕ → ℕ → List ℕ → Type 0
 
+-- nothing at all
+abbrev pub Nothing : MayPut
+Nothing e p d = ⊥
+
+module _ (ps : List Packet) where
   abbrev pub EndOk : Place → CellEnd → Type 0
   EndOk a (Done c) = OwnCell ps a.pos c
   EndOk a e = Unit {0}
@@ -59,22 +69,29 @@ module _ (ps : List Packet) (me : NodeId) where
   -- what an answer tells of a cell
   abbrev pub Claims : Place → CellWork → Msg → Type 0
   Claims a (Probes ws) y = Unit {0}
+  Claims a (Puts r d i) y = y ≡ msg.Held → Wrote ps a.pos d
   Claims a w y = (c : Cell) → y ≡ msg.Taken c → OwnCell ps a.pos c
+
+module _ (ps : List Packet) (P : MayPut) where
+  abbrev pub WorkOk : Place → CellWork → Type 0
+  WorkOk a (Puts r d i) = P a.epoch a.pos d
+  WorkOk a (Copies r c i) = OwnCell ps a.pos c
+  WorkOk a w = Unit {0}
 
   abbrev pub NextOk : Place → Next CellJob CellEnd → Type 0
   NextOk a (Goes j) = (j.place ≡ a) × WorkOk a j.work
   NextOk a (Learns j) = (j.place ≡ a) × WorkOk a j.work
-  NextOk a (Ends e) = EndOk a e
+  NextOk a (Ends e) = EndOk ps a e
 
-  put_ok : (a : Place) (d : List ℕ) (i next : ℕ) (b : Bool) → Owned ps me a.epoch a.pos d → NextOk a (put_on a d i next b).to
-  put_ok a d i next true k = (refl, k)
-  put_ok a d i next false k = (me, a.epoch, k)
+  put_ok : (a : Place) (d : List ℕ) (i next : ℕ) (b : Bool) → P a.epoch a.pos d → Wrote ps a.pos d → NextOk a (put_on a d i next b).to
+  put_ok a d i next true k w = (refl, k)
+  put_ok a d i next false k w = w
 
   copied_ok : (a : Place) (c : Cell) (i next : ℕ) (b : Bool) → OwnCell ps a.pos c → NextOk a (copy_on a c i next b).to
   copied_ok a c i next true k = (refl, k)
   copied_ok a c i next false k = k
 
-  end_ok : (b : Bool) (a : Place) (w : CellWork) (next : ℕ) (e : CellEnd) → WorkOk a w → EndOk a e → NextOk a (end_if b (works a w) next e).to
+  end_ok : (b : Bool) (a : Place) (w : CellWork) (next : ℕ) (e : CellEnd) → WorkOk a w → EndOk ps a e → NextOk a (end_if b (works a w) next e).to
   end_ok true a w next e ok f = f
   end_ok false a w next e ok f = (refl, ok)
 
@@ -90,10 +107,14 @@ module _ (ps : List Packet) (me : NodeId) where
   unfolding reply
   is_taken y c h = grind arith
 
-  pub work_ok : (a : Place) (w : CellWork) (u : ℕ) (y : Msg) (x : Reply) (next : ℕ) → reply y ≡ x → WorkOk a w → Claims a w y → NextOk a (work_feed (works a w) w u x next).to
+  is_held : (y : Msg) → reply y ≡ replied.IsHeld → y ≡ msg.Held
+  unfolding reply
+  is_held y h = grind arith
+
+  pub work_ok : (a : Place) (w : CellWork) (u : ℕ) (y : Msg) (x : Reply) (next : ℕ) → reply y ≡ x → WorkOk a w → Claims ps a w y → NextOk a (work_feed (works a w) w u x next).to
   unfolding work_feed fill_cell
   work_ok a w u y (replied.IsFenced e) next is ok h = end_ok _ a w next (Fenced u e) ok tt
-  work_ok a (Puts r d i) u y replied.IsHeld next is ok h = put_ok a d (i + 1) next _ ok
+  work_ok a (Puts r d i) u y replied.IsHeld next is ok h = put_ok a d (i + 1) next _ ok (h (is_held y is))
   work_ok a (Puts r d i) u y (replied.IsTaken c) next is ok h = end_ok _ a (Puts r d i) next (Lost c) ok tt
   work_ok a (Puts r d i) u y (replied.IsGone b) next is ok h = end_ok _ a (Puts r d i) next (Gone b) ok tt
   work_ok a (Gets r) u y (replied.IsTaken c) next is ok h = h c (is_taken y c is)

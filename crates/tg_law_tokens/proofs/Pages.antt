@@ -1,5 +1,5 @@
 -- Over all worlds, a page that is sent goes to the position of its own token.
-use Rattle.std.proofs.Common.{◌≡◌, ◌⊎◌, ℕ, ◌+◌, ◌<◌, List, [], ◌∷◌, ◌++◌, ◌∙◌, length, map, Bool, true, false, refl, sym, subst, inl, inr, Some, None, Option}
+use Rattle.std.proofs.Common.{◌≡◌, ◌⊎◌, ℕ, ◌+◌, ◌<◌, List, [], ◌∷◌, ◌++◌, ◌∙◌, length, map, Bool, true, false, refl, sym, subst, inl, inr, Some, None, Option, ap}
 use Rattle.std.specs.Prelude.{min}
 use Rattle.tg_base.specs.Layouts.{Layout}
 use Rattle.tg_base.specs.declared.ids.NodeId.{NodeId}
@@ -11,9 +11,9 @@ use Rattle.tg_base.specs.declared.packet.Out.{Out}
 use Rattle.tg_base.specs.declared.packet.Packet.{Packet}
 use Rattle.tg_kind.specs.Meaning.{Meaning}
 use Rattle.tg_model.specs.Kinds.{CommandOf}
-use Rattle.tg_protocol.specs.Words.{layout_id, seqr_id, client_id, numbers}
+use Rattle.tg_protocol.specs.Words.{unit_id, layout_id, seqr_id, client_id, numbers}
 use Rattle.tg_protocol.specs.Layouts.{first_layout}
-use Rattle.tg_protocol.specs.Requests.{awaits, waits_for, Next, Goes, Learns, Ends}
+use Rattle.tg_protocol.specs.Requests.{awaits, waits_for, drawn_from, Next, Goes, Learns, Ends}
 use Rattle.tg_protocol.specs.Replies.{Reply, reply}
 use Rattle.tg_protocol.specs.Replies as replied
 use Rattle.tg_protocol.specs.Cells.{CellJob, CellEnd, Done, Fenced, Gone, get_cell, cell_feed}
@@ -41,9 +41,10 @@ use Rattle.tg_law_requests.proofs.Told.{Tells}
 use Rattle.tg_law_requests.proofs.Starts.{All}
 use Rattle.tg_law_cells.proofs.Justified.{heard, scan_told}
 use Rattle.tg_law_cells.proofs.Owned as stores
-use Rattle.tg_law_tokens.proofs.Owning.{NextOk, Pair, OwnCell}
+use Rattle.tg_law_tokens.proofs.Owning.{Nothing, NextOk, Pair, OwnCell}
 use Rattle.tg_law_tokens.proofs.Issues.{Issuing, token_asks}
 use Rattle.tg_law_tokens.proofs.Jobs.{JobOk, job_of, cell_ok, MaybeOk}
+use Rattle.tg_law_tokens.proofs.Puts.{HandPuts, task_puts, learn_none}
 use Rattle.tg_law_tokens.proofs.Hands as hands
 use Rattle.tg_law_tokens.proofs.Hands.{TaskOk, HandOk, Fine, newer_fine, task_fine, refused_fine}
 use Rattle.tg_law_moves.proofs.Besides.{none_learns}
@@ -57,6 +58,7 @@ module _ (m : Meaning) where
     pub record TurnFine (t : ClientTurn m) : Type 0 where
       pub ok : hands.WorkOk m ps me t.now.stand t.now.work
       pub sends : AllJust ps me t.sends
+      pub puts : (o : Out) → Has t.sends o → (e pos : ℕ) (d : List ℕ) → o.msg ≡ msg.Write e pos d → HandPuts m t.now e pos d
 
     latest_just : (c : Client m) (next : ℕ) → AllJust ps me (asks_latest m (waits_for (numbers c.layouts 0) next))
     latest_just c next = asked_just ps me layout_id msg.AskLatest (waits_for (numbers c.layouts 0) next) (λ to. tt)
@@ -73,9 +75,33 @@ module _ (m : Meaning) where
     unfolding client_asks
     asks_just c k = work_just c.stand c.work k
 
-    given_fine : (c : Client m) (x : Moved m) → Fine m ps me x → TurnFine (given m c x)
-    given_fine c x f = record { ok = f.ok; sends = both_just ps me x.besides _ besides (λ o h. asks_just x.now f.ok o (has_filter _ (client_asks m x.now) o h)) }
+    -- a page among what a hand asks is that of its append
+    asks_put : (c : Client m) (w : Option (Work m)) → c.work ≡ w → hands.WorkOk m ps me c.stand w → (o : Out) → Has (step.work_asks m c.stand w) o → (e pos : ℕ) (d : List ℕ) → o.msg ≡ msg.Write e pos d → HandPuts m c e pos d
+    asks_put c None has k o h e pos d is = absurd h
+    asks_put c (Some w) has k o h e pos d is = by w.hand refl k h
       where
+        by : (x : Hand m) → w.hand ≡ x → HandOk m ps me c.stand x → Has (hand_asks m c.stand x) o → HandPuts m c e pos d
+        by (Doing t) at k h = task_puts m ps me c.stand e pos d o is c w has t at k (asked_awaited m c.stand t o h)
+        by (Learning ws t) at k h = learn_none m ps me c.stand e pos d o is ws h
+
+    given_fine : (c : Client m) (x : Moved m) → Fine m ps me x → TurnFine (given m c x)
+    unfolding client_asks
+    given_fine c x f = record {
+      ok = f.ok;
+      sends = both_just ps me x.besides _ besides (λ o h. asks_just x.now f.ok o (has_filter _ (client_asks m x.now) o h));
+      puts = λ o h e pos d is. by o e pos d is (has_either x.besides _ o h);
+    }
+      where
+        again : (e pos : ℕ) (d : List ℕ) → HandPuts m x.now e pos d → HandPuts m (given m c x).now e pos d
+        again e pos d k = record { work = k.work; has = k.has; append = k.append; purpose = k.purpose; doing = k.doing; job = k.job; putting = k.putting; puts = k.puts }
+
+        by : (o : Out) (e pos : ℕ) (d : List ℕ) → o.msg ≡ msg.Write e pos d → Has x.besides o ⊎ Has (drawn_from c.next (client_asks m x.now)) o → HandPuts m (given m c x).now e pos d
+        by o e pos d is (inl h) = absurd (no (sym (f.besides o h) ∙ is))
+          where
+            no : msg.Learn x.now.stand ≡ msg.Write e pos d → ⊥
+            no i = cc
+        by o e pos d is (inr h) = again e pos d (asks_put x.now x.now.work refl f.ok o (has_filter _ (client_asks m x.now) o h) e pos d is)
+
         besides : AllJust ps me x.besides
         besides o h = subst (λ (y : Msg). Justified ps me o.to y) (sym (f.besides o h)) tt
 
@@ -88,8 +114,26 @@ module _ (m : Meaning) where
     again_just p (Learning ws t) k o h = asked_just ps me layout_id msg.AskLatest ws (λ to. tt) o h
 
     tick_by_fine : (c : Client m) (w : Option (Work m)) → c.work ≡ w → hands.WorkOk m ps me c.stand c.work → TurnFine (step.tick_by m c w)
-    tick_by_fine c None e k = record { ok = k; sends = none_just ps me }
-    tick_by_fine c (Some w) e k = record { ok = k; sends = both_just ps me (hand_again_asks m c.stand w.hand) _ (again_just c.stand w.hand (subst (λ (o : Option (Work m)). hands.WorkOk m ps me c.stand o) e k)) (latest_just c c.next) }
+    tick_by_fine c None e k = record { ok = k; sends = none_just ps me; puts = λ o h e pos d is. absurd h }
+    tick_by_fine c (Some w) e k = record {
+      ok = k;
+      sends = both_just ps me (hand_again_asks m c.stand w.hand) _ (again_just c.stand w.hand (subst (λ (o : Option (Work m)). hands.WorkOk m ps me c.stand o) e k)) (latest_just c c.next);
+      puts = λ o h f pos d is. again f pos d (by o f pos d is (has_either (hand_again_asks m c.stand w.hand) _ o h));
+    }
+      where
+        again : (f pos : ℕ) (d : List ℕ) → HandPuts m c f pos d → HandPuts m (step.tick_by m c (Some w)).now f pos d
+        again f pos d j = record { work = j.work; has = j.has; append = j.append; purpose = j.purpose; doing = j.doing; job = j.job; putting = j.putting; puts = j.puts }
+
+        latest_none : {X : Type 0} (o : Out) (f pos : ℕ) (d : List ℕ) → o.msg ≡ msg.Write f pos d → Has (asks_latest m (waits_for (numbers c.layouts 0) c.next)) o → X
+        latest_none o f pos d is h = learn_none m ps me c.stand f pos d o is (waits_for (numbers c.layouts 0) c.next) h
+
+        hand : (o : Out) (f pos : ℕ) (d : List ℕ) → o.msg ≡ msg.Write f pos d → (x : Hand m) → w.hand ≡ x → HandOk m ps me c.stand x → Has (hand_again_asks m c.stand x) o → HandPuts m c f pos d
+        hand o f pos d is (Doing t) at k h = task_puts m ps me c.stand f pos d o is c w e t at k (task_again_reserved m c.stand t o h)
+        hand o f pos d is (Learning ws t) at k h = learn_none m ps me c.stand f pos d o is ws h
+
+        by : (o : Out) (f pos : ℕ) (d : List ℕ) → o.msg ≡ msg.Write f pos d → Has (hand_again_asks m c.stand w.hand) o ⊎ Has (asks_latest m (waits_for (numbers c.layouts 0) c.next)) o → HandPuts m c f pos d
+        by o f pos d is (inl h) = hand o f pos d is w.hand refl (subst (λ (v : Option (Work m)). hands.WorkOk m ps me c.stand v) e k) h
+        by o f pos d is (inr h) = latest_none o f pos d is h
 
     pub tick_fine : (c : Client m) → hands.WorkOk m ps me c.stand c.work → TurnFine (client_tick m c)
     unfolding client_tick
@@ -148,9 +192,9 @@ module _ (m : Meaning) where
     ended_ok s (Fenced u e) k = tt
     ended_ok s e k = k
 
-    next_ok : (s : SeqrState) (j : CellJob) (to : Next CellJob CellEnd) → JobOk ps me s.proj j → MaybeOk ps me s.proj s.scan → NextOk ps me j.place to → MaybeOk ps me (scan_next s to).proj (scan_next s to).scan
-    next_ok s j (Goes x) o k h = job_of ps me s.proj j x o h
-    next_ok s j (Learns x) o k h = job_of ps me s.proj j x o h
+    next_ok : (s : SeqrState) (j : CellJob) (to : Next CellJob CellEnd) → JobOk ps Nothing s.proj j → MaybeOk ps me s.proj s.scan → NextOk ps Nothing j.place to → MaybeOk ps me (scan_next s to).proj (scan_next s to).scan
+    next_ok s j (Goes x) o k h = job_of ps Nothing s.proj j x o h
+    next_ok s j (Learns x) o k h = job_of ps Nothing s.proj j x o h
     next_ok s j (Ends e) o k h = ended_ok s e k
 
     scan_just : (s : SeqrState) → MaybeOk ps me s.proj s.scan → AllJust ps me (seqr_asks s)
@@ -167,9 +211,9 @@ module _ (m : Meaning) where
     scan_fed_fine : (s : SeqrState) (j : Option CellJob) (x : Packet) → s.scan ≡ j → MaybeOk ps me s.proj s.scan → HeardUnit ps me x.from x.rid x.msg (seqr_asks s) → ScanFine (scan_fed s j x.from x.rid x.msg)
     scan_fed_fine s None x e k g = record { ok = k; sends = none_just ps me }
     scan_fed_fine s (Some j) x e k g = fed_fine _ s (scan_turn s (cell_feed j x.from.num (reply x.msg) s.rids)) k (λ a.
-        let o : JobOk ps me s.proj j = subst (λ (i : Option CellJob). MaybeOk ps me s.proj i) e k in
+        let o : JobOk ps Nothing s.proj j = subst (λ (i : Option CellJob). MaybeOk ps me s.proj i) e k in
         next_ok (record s { rids = (cell_feed j x.from.num (reply x.msg) s.rids).next }) j (cell_feed j x.from.num (reply x.msg) s.rids).to o k
-        (cell_ok ps me s.proj j x.msg o (maybe_claims ps me x.from x.rid x.msg s.proj (Some j) a (subst (λ (i : Option CellJob). HeardUnit ps me x.from x.rid x.msg (scan_asks i)) e g)) x.from.num s.rids))
+        (cell_ok ps Nothing s.proj j x.msg o (maybe_claims ps me x.from x.rid x.msg s.proj (Some j) a (subst (λ (i : Option CellJob). HeardUnit ps me x.from x.rid x.msg (scan_asks i)) e g)) x.from.num s.rids))
 
     -- an answer changes nothing of the scan
     answer_fine : (s t : SeqrState) (to : NodeId) (rid : ℕ) (x : Msg) → t.proj ≡ s.proj → t.scan ≡ s.scan → Justified ps me to x → MaybeOk ps me s.proj s.scan → ScanFine (record { now = t; sends = record { to = to; rid = rid; msg = x } ∷ [] })
@@ -266,7 +310,7 @@ module _ (m : Meaning) where
   still : (c : Config m) (new : List Packet) → Pages c → ((x : Packet) → Has new x → Justified c.packets x.from x.to x.msg) → (d : Config m) → d.packets ≡ c.packets ++ new → d.clients ≡ c.clients → d.seqrs ≡ c.seqrs → d.cluster ≡ c.cluster → Pages d
   still c new h fresh d e f g i = subst Pages (λ j. record { cluster = sym i j; units = d.units; layouts = d.layouts; seqrs = sym g j; clients = sym f j; packets = sym e j }) (record {
     hands = λ k. work_grows c.packets _ more _ _ _ (h.hands k);
-    scans = λ s. maybe_grows c.packets _ more _ _ _ (h.scans s);
+    scans = λ s. maybe_grows c.packets _ more (seqr_id s) _ _ (h.scans s);
     sent = more_sent c.packets new h.sent fresh;
   })
     where
@@ -278,21 +322,21 @@ module _ (m : Meaning) where
     ps = c.packets
 
     -- a cell that is stored for a request is an own page's
-    pub own_stored : (x : Packet) (y : Msg) (k : Claim) → x.msg ≡ y → Justified ps x.from x.to y → claimed (unit_ask y) msg.Held ≡ Some k → OwnCell ps k.pos k.cell
+    pub own_stored : (x : Packet) (y : Msg) (k : Claim) → x.msg ≡ y → Has ps x → Justified ps x.from x.to y → claimed (unit_ask y) msg.Held ≡ Some k → OwnCell ps k.pos k.cell
     unfolding claimed unit_ask
-    own_stored x (msg.Write e p d) k i j s = subst (λ (l : Claim). OwnCell ps l.pos l.cell) (some_claim _ k s) (x.from, e, j)
-    own_stored x (msg.Copy e p c) k i j s = subst (λ (l : Claim). OwnCell ps l.pos l.cell) (some_claim _ k s) j
-    own_stored x (msg.Fill e p) k i j s = subst (λ (l : Claim). OwnCell ps l.pos l.cell) (some_claim _ k s) tt
-    own_stored x y k i j s = absurd (cc)
+    own_stored x (msg.Write e p d) k i g j s = subst (λ (l : Claim). OwnCell ps l.pos l.cell) (some_claim _ k s) (record { packet = x; sent = g; epoch = e; is = i })
+    own_stored x (msg.Copy e p c) k i g j s = subst (λ (l : Claim). OwnCell ps l.pos l.cell) (some_claim _ k s) j
+    own_stored x (msg.Fill e p) k i g j s = subst (λ (l : Claim). OwnCell ps l.pos l.cell) (some_claim _ k s) tt
+    own_stored x y k i g j s = absurd (cc)
 
     own_told : (u : ℕ) (k : Claim) → Tells ps u k → OwnCell ps k.pos k.cell
     own_told u k t =
         let s = low.stores.tells u k t in
         let same = low.all.1.once u s.claim k s.told t s.at in
-        subst (λ (c : Cell). OwnCell ps k.pos c) same (subst (λ (p : ℕ). OwnCell ps p s.claim.cell) s.at (own_stored s.ask s.ask.msg s.claim refl (h.sent s.ask s.asked) s.stores))
+        subst (λ (c : Cell). OwnCell ps k.pos c) same (subst (λ (p : ℕ). OwnCell ps p s.claim.cell) s.at (own_stored s.ask s.ask.msg s.claim refl s.asked (h.sent s.ask s.asked) s.stores))
 
     -- what a client hears of a sequencer and of units
-    issued_to : (k : ℕ) (x : Packet) → Comes m c x (client_id k) → (o : Out) → Has (reserved m (client_in m c k)) o → o.to ≡ x.from → o.rid ≡ x.rid → (s : ℕ) → x.from ≡ seqr_id s → (pos : ℕ) (ls : List StreamLink) → x.msg ≡ msg.Issued pos ls → Pair ps (client_id k) s o.msg pos ls
+    pub issued_to : (k : ℕ) (x : Packet) → Comes m c x (client_id k) → (o : Out) → Has (reserved m (client_in m c k)) o → o.to ≡ x.from → o.rid ≡ x.rid → (s : ℕ) → x.from ≡ seqr_id s → (pos : ℕ) (ls : List StreamLink) → x.msg ≡ msg.Issued pos ls → Pair ps (client_id k) s o.msg pos ls
     issued_to k x comes o g to number s from pos ls is =
         let a = (low.issuing.ours s x pos ls comes.sent from is).asked in
         record {
@@ -315,7 +359,7 @@ module _ (m : Meaning) where
     scan_heard : (s : ℕ) (x : Packet) → Comes m c x (seqr_id s) → HeardUnit ps (seqr_id s) x.from x.rid x.msg (seqr_asks (seqr_in m c s))
     scan_heard s x comes o g to number u from l is = own_told u l (scan_told m c low.all.0.0 low.all.0.1 s u o x g comes.sent comes.to_node from to number l is)
 
-    input_fine : (k : ℕ) (t : ClientTurn m) → ClientInput m c k t → TurnFine ps (client_id k) t
+    pub input_fine : (k : ℕ) (t : ClientTurn m) → ClientInput m c k t → TurnFine ps (client_id k) t
     input_fine k t (Commanded x) = command_fine ps (client_id k) (client_in m c k) x (h.hands k)
     input_fine k t (Hears' x comes) = deliver_fine ps (client_id k) (client_in m c k) x (h.hands k) (heard_of k x comes)
     input_fine k t Ticks' = tick_fine ps (client_id k) (client_in m c k) (h.hands k)
@@ -325,13 +369,34 @@ module _ (m : Meaning) where
     scan_fine s t (Hears x comes) = step_fine ps (seqr_id s) (seqr_in m c s) x x.msg refl (h.scans s) (scan_heard s x comes)
     scan_fine s t Ticks = record { ok = h.scans s; sends = scan_just ps (seqr_id s) (seqr_in m c s) (h.scans s) }
 
+    -- a sequencer sends no page: it knows nothing of itself that a unit wouldn't, and units ask for nothing
+    for_unit : (p : Layout) (n : NodeId) (o : Option CellJob) → MaybeOk ps n p o → MaybeOk ps (unit_id 0) p o
+    for_unit p n None k = tt
+    for_unit p n (Some j) k = k
+
+    scan_for_unit : (s : ℕ) (t : SeqrTurn) → SeqrInput m c s t → ScanFine ps (unit_id 0) t
+    unfolding seqr_tick
+    scan_for_unit s t (Hears x comes) = step_fine ps (unit_id 0) (seqr_in m c s) x x.msg refl (for_unit (seqr_in m c s).proj (seqr_id s) (seqr_in m c s).scan (h.scans s)) (scan_heard s x comes)
+    scan_for_unit s t Ticks =
+        let k = for_unit (seqr_in m c s).proj (seqr_id s) (seqr_in m c s).scan (h.scans s) in
+        record { ok = k; sends = scan_just ps (unit_id 0) (seqr_in m c s) k }
+
+    pub seqr_puts : (s : ℕ) (t : SeqrTurn) → SeqrInput m c s t → (o : Out) → Has t.sends o → (e pos : ℕ) (d : List ℕ) → o.msg ≡ msg.Write e pos d → ⊥
+    unfolding is_request
+    seqr_puts s t i o g e pos d is =
+        let k = subst (λ (y : Msg). Justified ps (unit_id 0) o.to y) is ((scan_for_unit s t i).sends o g) in
+        no (sym (ap is_request k.pair.asks) ∙ low.all.0.0.units k.pair.ask k.pair.asked (ap (λ (n : NodeId). n.role) k.pair.by))
+      where
+        no : true ≡ false → ⊥
+        no f = cc
+
     by_client' : (k : ℕ) (t : ClientTurn m) → ClientInput m c k t → k < length c.clients → Pages (client_turn m c k t)
     by_client' k t i less =
         let f = input_fine k t i in
         let new = map (packet_of m (client_id k)) t.sends in
         record {
           hands = at_set c.clients k t.now (new_client m c.cluster) (λ j x. hands.WorkOk m (ps ++ new) (client_id j) x.stand x.work) less (work_grows ps _ (λ x y. has_left ps new x y) _ _ _ f.ok) (λ j other. work_grows ps _ (λ x y. has_left ps new x y) _ _ _ (h.hands j));
-          scans = λ s. maybe_grows ps _ (λ x y. has_left ps new x y) _ _ _ (h.scans s);
+          scans = λ s. maybe_grows ps _ (λ x y. has_left ps new x y) (seqr_id s) _ _ (h.scans s);
           sent = more_sent ps new h.sent (outs_just ps (client_id k) t.sends f.sends);
         }
 
@@ -341,7 +406,7 @@ module _ (m : Meaning) where
         let new = map (packet_of m (seqr_id s)) t.sends in
         record {
           hands = λ k. work_grows ps _ (λ x y. has_left ps new x y) _ _ _ (h.hands k);
-          scans = at_set c.seqrs s t.now (λ j. new_seqr j c.cluster.limit (first_layout c.cluster)) (λ j x. MaybeOk (ps ++ new) (seqr_id j) x.proj x.scan) less (maybe_grows ps _ (λ x y. has_left ps new x y) _ _ _ f.ok) (λ j other. maybe_grows ps _ (λ x y. has_left ps new x y) _ _ _ (h.scans j));
+          scans = at_set c.seqrs s t.now (λ j. new_seqr j c.cluster.limit (first_layout c.cluster)) (λ j x. MaybeOk (ps ++ new) (seqr_id j) x.proj x.scan) less (maybe_grows ps _ (λ x y. has_left ps new x y) (seqr_id s) _ _ f.ok) (λ j other. maybe_grows ps _ (λ x y. has_left ps new x y) (seqr_id j) _ _ (h.scans j));
           sent = more_sent ps new h.sent (outs_just ps (seqr_id s) t.sends f.sends);
         }
 

@@ -27,8 +27,8 @@ use Rattle.tg_law_moves.proofs.Members.{Has, has_either, has_map}
 use Rattle.tg_law_moves.proofs.Reconfs.{join_plain}
 use Rattle.tg_law_cells.proofs.Justified.{awaited_ask}
 use Rattle.tg_base.specs.declared.marks.StreamLink.{StreamLink}
-use Rattle.tg_law_tokens.proofs.Owning.{Pair, Owned, OwnCell, WorkOk, Claims}
-use Rattle.tg_law_tokens.proofs.Jobs.{JobOk, AppendOk, AppendClaims, SyncOk, SyncClaims, MaybeOk, MaybeClaims, CopyOk, CopyClaims}
+use Rattle.tg_law_tokens.proofs.Owning.{MayPut, Nothing, Pair, Owned, Wrote, OwnCell, WorkOk, Claims}
+use Rattle.tg_law_tokens.proofs.Jobs.{JobOk, Mine, AppendOk, AppendClaims, SyncOk, SyncClaims, MaybeOk, MaybeClaims, CopyOk, CopyClaims}
 use Rattle.tg_law_tokens.proofs.Hands.{TaskOk, TaskClaims}
 
 -- Justified.
@@ -59,16 +59,26 @@ module _ (ps : List Packet) (me : NodeId) where
   pub none_just : AllJust []
   none_just o h = absurd h
 
-  cell_just : (a : Place) (w : CellWork) → WorkOk ps me a w → AllJust (work_asks a w)
-  unfolding work_asks
-  cell_just a (Puts r d i) k = one_just _ r _ k
-  cell_just a (Gets r) k = one_just _ r (msg.Read a.epoch a.pos) tt
-  cell_just a (Fills r) k = one_just _ r (msg.Fill a.epoch a.pos) tt
-  cell_just a (Copies r c i) k = one_just _ r (msg.Copy a.epoch a.pos c) k
-  cell_just a (Probes ws) k = asked_just unit_id (msg.Has a.epoch a.pos a.pos 1) ws (λ to. tt)
+  -- what a machine may put is justified
+  abbrev JustPut : MayPut → Type 0
+  JustPut P = (e pos : ℕ) (d : List ℕ) → P e pos d → Owned ps me e pos d
 
-  job_just : (p : Layout) (j : CellJob) → JobOk ps me p j → AllJust (cell_asks j)
-  job_just p j k = cell_just j.place j.work k.work
+  none_put : JustPut Nothing
+  none_put e pos d k = absurd k
+
+  cell_just : (P : MayPut) → JustPut P → (a : Place) (w : CellWork) → WorkOk ps P a w → AllJust (work_asks a w)
+  unfolding work_asks
+  cell_just P f a (Puts r d i) k = one_just _ r _ (f a.epoch a.pos d k)
+  cell_just P f a (Gets r) k = one_just _ r (msg.Read a.epoch a.pos) tt
+  cell_just P f a (Fills r) k = one_just _ r (msg.Fill a.epoch a.pos) tt
+  cell_just P f a (Copies r c i) k = one_just _ r (msg.Copy a.epoch a.pos c) k
+  cell_just P f a (Probes ws) k = asked_just unit_id (msg.Has a.epoch a.pos a.pos 1) ws (λ to. tt)
+
+  job_just : (p : Layout) (j : CellJob) → JobOk ps Nothing p j → AllJust (cell_asks j)
+  job_just p j k = cell_just Nothing none_put j.place j.work k.work
+
+  put_just : (p : Layout) (j : CellJob) → JobOk ps (Mine ps me p) p j → AllJust (cell_asks j)
+  put_just p j k = cell_just (Mine ps me p) (λ e pos d o. o) j.place j.work k.work
 
   pub maybe_just : (p : Layout) (o : Option CellJob) → MaybeOk ps me p o → AllJust (job_asks o)
   maybe_just p None k = none_just
@@ -77,7 +87,7 @@ module _ (ps : List Packet) (me : NodeId) where
   append_just : (p : Layout) (a : Append) (w : AppendWork) → AppendOk ps me p w → AllJust (append_work_asks p a w)
   unfolding append_work_asks
   append_just p a (Asking r) k = one_just (seqr_id p.seq) r (msg.Token p.epoch _) tt
-  append_just p a (Putting j) k = job_just p j k
+  append_just p a (Putting j) k = put_just p j k
   append_just p a (Judging j) k = job_just p j k
 
   sync_just : (p : Layout) (s : Sync) (w : SyncWork) → SyncOk ps me p w → AllJust (sync_work_asks p s w)
@@ -102,7 +112,7 @@ module _ (ps : List Packet) (me : NodeId) where
   set_just r None = none_just
   set_just r (Some l) = asked_just layout_id (msg.Prepare (re.next_epoch r) (re.ballot_of r l.round)) l.waits (λ to. tt)
 
-  reconf_just : (r : Reconf) (w : ReconfWork) → AllJust (reconf_work_asks r w ++ later_asks r w)
+  pub reconf_just : (r : Reconf) (w : ReconfWork) → AllJust (reconf_work_asks r w ++ later_asks r w)
   unfolding reconf_work_asks
   reconf_just r (SealingSpare n) = both_just _ [] (join_plain AllJust r.change.join _ none_just (λ j. one_just (unit_id j.unit) n (msg.Seal r.stand.epoch) tt)) none_just
   reconf_just r (LookingSpare n) = both_just _ [] (join_plain AllJust r.change.join _ none_just (λ j. one_just (unit_id j.unit) n (has_stripe r.stand.epoch r.stand j.range j.stripe) tt)) none_just
@@ -118,25 +128,25 @@ module _ (ps qs : List Packet) (more : (x : Packet) → Has ps x → Has qs x) (
   pair_grows : (s : ℕ) (x : Msg) (pos : ℕ) (ls : List StreamLink) → Pair ps me s x pos ls → Pair qs me s x pos ls
   pair_grows s x pos ls k = record { ask = k.ask; answer = k.answer; asked = more k.ask k.asked; answered = more k.answer k.answered; by = k.by; to_seqr = k.to_seqr; from_seqr = k.from_seqr; back = k.back; number = k.number; asks = k.asks; issues = k.issues }
 
-  pair_of : (n : NodeId) (s : ℕ) (x : Msg) (pos : ℕ) (ls : List StreamLink) → Pair ps n s x pos ls → Pair qs n s x pos ls
-  pair_of n s x pos ls k = record { ask = k.ask; answer = k.answer; asked = more k.ask k.asked; answered = more k.answer k.answered; by = k.by; to_seqr = k.to_seqr; from_seqr = k.from_seqr; back = k.back; number = k.number; asks = k.asks; issues = k.issues }
-
   owned_grows : (e pos : ℕ) (d : List ℕ) → Owned ps me e pos d → Owned qs me e pos d
   owned_grows e pos d k = record { seqr = k.seqr; draft = k.draft; links = k.links; pair = pair_grows _ _ _ _ k.pair; names = k.names; page = k.page }
 
   pub own_grows : (pos : ℕ) (c : Cell) → OwnCell ps pos c → OwnCell qs pos c
   own_grows pos Junk k = tt
-  own_grows pos (Data d) k = (k.0, k.1, record { seqr = k.2.seqr; draft = k.2.draft; links = k.2.links; pair = pair_of k.0 _ _ _ _ k.2.pair; names = k.2.names; page = k.2.page })
+  own_grows pos (Data d) k = record { packet = k.packet; sent = more k.packet k.sent; epoch = k.epoch; is = k.is }
 
-  work_grows : (a : Place) (w : CellWork) → WorkOk ps me a w → WorkOk qs me a w
-  work_grows a (Puts r d i) k = owned_grows _ _ _ k
-  work_grows a (Copies r c i) k = own_grows a.pos c k
-  work_grows a (Gets r) k = tt
-  work_grows a (Fills r) k = tt
-  work_grows a (Probes ws) k = tt
+  work_grows : (P Q : MayPut) → ((e pos : ℕ) (d : List ℕ) → P e pos d → Q e pos d) → (a : Place) (w : CellWork) → WorkOk ps P a w → WorkOk qs Q a w
+  work_grows P Q f a (Puts r d i) k = f a.epoch a.pos d k
+  work_grows P Q f a (Copies r c i) k = own_grows a.pos c k
+  work_grows P Q f a (Gets r) k = tt
+  work_grows P Q f a (Fills r) k = tt
+  work_grows P Q f a (Probes ws) k = tt
 
-  job_grows : (p : Layout) (j : CellJob) → JobOk ps me p j → JobOk qs me p j
-  job_grows p j k = record { place = k.place; work = work_grows j.place j.work k.work }
+  job_grows : (p : Layout) (j : CellJob) → JobOk ps Nothing p j → JobOk qs Nothing p j
+  job_grows p j k = record { place = k.place; work = work_grows Nothing Nothing (λ e pos d n. n) j.place j.work k.work }
+
+  put_grows : (p : Layout) (j : CellJob) → JobOk ps (Mine ps me p) p j → JobOk qs (Mine qs me p) p j
+  put_grows p j k = record { place = k.place; work = work_grows (Mine ps me p) (Mine qs me p) owned_grows j.place j.work k.work }
 
   pub maybe_grows : (p : Layout) (o : Option CellJob) → MaybeOk ps me p o → MaybeOk qs me p o
   maybe_grows p None k = tt
@@ -144,7 +154,7 @@ module _ (ps qs : List Packet) (more : (x : Packet) → Has ps x → Has qs x) (
 
   append_grows : (p : Layout) (w : AppendWork) → AppendOk ps me p w → AppendOk qs me p w
   append_grows p (Asking r) k = tt
-  append_grows p (Putting j) k = job_grows p j k
+  append_grows p (Putting j) k = put_grows p j k
   append_grows p (Judging j) k = job_grows p j k
 
   sync_grows : (p : Layout) (w : SyncWork) → SyncOk ps me p w → SyncOk qs me p w
@@ -205,9 +215,9 @@ module _ (ps : List Packet) (me : NodeId) (from : NodeId) (rid : ℕ) (y : Msg) 
   here : ℕ → ℕ → Cell → Claim
   here e p c = record { epoch = e; pos = p; cell = c }
 
-  cell_claims : (a : Place) (w : CellWork) → awaits (work_asks a w) from rid ≡ true → HeardUnit (work_asks a w) → Claims ps me a w y
+  cell_claims : (a : Place) (w : CellWork) → awaits (work_asks a w) from rid ≡ true → HeardUnit (work_asks a w) → Claims ps a w y
   unfolding work_asks claimed unit_ask here
-  cell_claims a (Puts r d i) h f = λ c is. unit_claims _ r (msg.Write a.epoch a.pos d) h f (here a.epoch a.pos c) (ap (λ (z : Msg). claimed (unit_ask (msg.Write a.epoch a.pos d)) z) is)
+  cell_claims a (Puts r d i) h f = λ is. unit_claims _ r (msg.Write a.epoch a.pos d) h f (here a.epoch a.pos (Data d)) (ap (λ (z : Msg). claimed (unit_ask (msg.Write a.epoch a.pos d)) z) is)
   cell_claims a (Gets r) h f = λ c is. unit_claims _ r (msg.Read a.epoch a.pos) h f (here a.epoch a.pos c) (ap (λ (z : Msg). claimed (unit_ask (msg.Read a.epoch a.pos)) z) is)
   cell_claims a (Fills r) h f = λ c is. unit_claims _ r (msg.Fill a.epoch a.pos) h f (here a.epoch a.pos c) (ap (λ (z : Msg). claimed (unit_ask (msg.Fill a.epoch a.pos)) z) is)
   cell_claims a (Copies r x i) h f = λ c is. unit_claims _ r (msg.Copy a.epoch a.pos x) h f (here a.epoch a.pos c) (ap (λ (z : Msg). claimed (unit_ask (msg.Copy a.epoch a.pos x)) z) is)

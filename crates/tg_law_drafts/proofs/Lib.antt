@@ -1,0 +1,14 @@
+pub mod Heads
+pub mod Ranges
+pub mod Views
+pub mod Drafting
+pub mod Tails
+pub mod Sound
+pub mod Commands
+pub mod Became
+pub mod Clients
+pub mod Cells
+pub mod Written
+pub mod Senders
+pub mod Drafts
+pub mod Worked
