@@ -54,7 +54,7 @@ stored_just ps L to (msg.Copy e p c) k is j = by j
     same x y e = cc
 
     by : GoesOn ps L to e p c ⊎ GoesAside ps L e p c → GoesDown ps L to k.epoch k.pos k.cell ⊎ GoesAside ps L k.epoch k.pos k.cell
-    by (inl g) = inl (subst (λ (x : Claim). GoesDown ps L to x.epoch x.pos x.cell) (same _ k is) g.down)
+    by (inl g) = inl (subst (λ (x : Claim). GoesDown ps L to x.epoch x.pos x.cell) (same _ k is) g.0)
     by (inr g) = inr (subst (λ (x : Claim). GoesAside ps L x.epoch x.pos x.cell) (same _ k is) g)
 stored_just ps L to y k is j = absurd (cc)
 

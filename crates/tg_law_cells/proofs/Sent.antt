@@ -45,10 +45,9 @@ module _ (ps : List Packet) (K : Layout → Type 0) where
     pub unit : to ≡ unit_id (unit_at place index)
     pub told : Upto ps place c index
 
-  -- one after the first
-  pub record GoesOn (to : NodeId) (e p : ℕ) (c : Cell) : Type 0 where
-    pub down : GoesDown to e p c
-    pub past : 0 < down.index
+  -- a unit that isn't the first
+  abbrev pub GoesOn : NodeId → ℕ → ℕ → Cell → Type 0
+  GoesOn to e p c = (g : GoesDown to e p c) × (0 < g.index)
 
   -- a spare unit gets what the chain's last unit has told
   pub record GoesAside (e p : ℕ) (c : Cell) : Type 0 where
@@ -88,7 +87,7 @@ module _ (ps : List Packet) (K : Layout → Type 0) where
   cell_just p n a (Puts r d i) at k = one_just _ r _ (record { layout = p; known = n; place = a; at = at; epoch = refl; pos = refl; index = i; unit = refl; told = k })
   cell_just p n a (Gets r) at k = one_just _ r (msg.Read a.epoch a.pos) tt
   cell_just p n a (Fills r) at k = one_just _ r _ (record { layout = p; known = n; place = a; at = at; epoch = refl; pos = refl; index = 0; unit = refl; told = λ i less. absurd (omega (arith, less)) })
-  cell_just p n a (Copies r c i) at k = one_just _ r _ (inl (record { down = record { layout = p; known = n; place = a; at = at; epoch = refl; pos = refl; index = i; unit = refl; told = k.1 }; past = k.0 }))
+  cell_just p n a (Copies r c i) at k = one_just _ r _ (inl (record { layout = p; known = n; place = a; at = at; epoch = refl; pos = refl; index = i; unit = refl; told = k.1 }, k.0))
   cell_just p n a (Probes ws) at k = asked_just unit_id (msg.Has a.epoch a.pos a.pos 1) ws (λ to. tt)
 
   job_just : (p : Layout) → K p → (j : CellJob) → JobOk ps p j → AllJust (cell_asks j)
@@ -185,7 +184,7 @@ module _ (ps qs : List Packet) (more : (x : Packet) → Has ps x → Has qs x) w
     unfolding down_grows
     just_grows to (msg.Write e p d) j = down_grows to e p (Data d) j
     just_grows to (msg.Fill e p) j = down_grows to e p Junk j
-    just_grows to (msg.Copy e p c) (inl j) = inl (record { down = down_grows to e p c j.down; past = j.past })
+    just_grows to (msg.Copy e p c) (inl j) = inl (down_grows to e p c j.0, j.1)
     just_grows to (msg.Copy e p c) (inr j) = inr (record { layout = j.layout; known = up j.layout j.known; epoch = j.epoch; told = cell_grows j.layout p c j.told })
     just_grows to x j = j
 

@@ -76,7 +76,7 @@ module _ (m : Meaning) (w : World m) (K : Layout → Type 0) (decided : (q : Lay
   unfolding down
   justified to (msg.Write e p d) j = down to e p (Data d) j
   justified to (msg.Fill e p) j = down to e p Junk j
-  justified to (msg.Copy e p c) (inl j) = inl (record { down = down to e p c j.down; past = j.past })
+  justified to (msg.Copy e p c) (inl j) = inl (record { down = down to e p c j.0; past = j.1 })
   justified to (msg.Copy e p c) (inr j) = inr (aside e p c j)
   justified to x j = j
 

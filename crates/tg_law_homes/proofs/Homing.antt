@@ -55,17 +55,17 @@ pub record Carried (ps : List Packet) (L : Layout → Type 0) (e p : ℕ) (c : C
 module _ (ps : List Packet) (L : Layout → Type 0) (some : (q : Layout) (p : ℕ) → L q → 0 < length (chain_of q p)) where
   on_carries : (to : NodeId) (e p : ℕ) (c : Cell) → GoesOn ps L to e p c → Carried ps L e p c
   on_carries to e p c g = record {
-    layout = g.down.layout;
-    known = g.down.known;
-    epoch = g.down.epoch ∙ ap (λ (a : Place). a.epoch) at;
-    unit = unit_at (place_in g.down.layout p) 0;
-    here = has_at (chain_of g.down.layout p) 0 (some g.down.layout p g.down.known);
-    told = subst (λ (n : ℕ). ToldBy ps (unit_at (place_in g.down.layout p) 0) n p c) (sym (g.down.epoch ∙ ap (λ (a : Place). a.epoch) at))
-        (subst (λ (a : Place). ToldBy ps (unit_at a 0) a.epoch a.pos c) at (g.down.told 0 g.past));
+    layout = g.0.layout;
+    known = g.0.known;
+    epoch = g.0.epoch ∙ ap (λ (a : Place). a.epoch) at;
+    unit = unit_at (place_in g.0.layout p) 0;
+    here = has_at (chain_of g.0.layout p) 0 (some g.0.layout p g.0.known);
+    told = subst (λ (n : ℕ). ToldBy ps (unit_at (place_in g.0.layout p) 0) n p c) (sym (g.0.epoch ∙ ap (λ (a : Place). a.epoch) at))
+        (subst (λ (a : Place). ToldBy ps (unit_at a 0) a.epoch a.pos c) at (g.0.told 0 g.1));
   }
     where
-      at : g.down.place ≡ place_in g.down.layout p
-      at = g.down.at ∙ ap (λ (n : ℕ). place_in g.down.layout n) (sym g.down.pos)
+      at : g.0.place ≡ place_in g.0.layout p
+      at = g.0.at ∙ ap (λ (n : ℕ). place_in g.0.layout n) (sym g.0.pos)
 
   aside_carries : (e p : ℕ) (c : Cell) → GoesAside ps L e p c → Carried ps L e p c
   aside_carries e p c g = by g.told

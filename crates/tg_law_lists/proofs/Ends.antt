@@ -1,14 +1,10 @@
 -- What the log of a run's last world has, and with whose tokens.
-use Rattle.std.proofs.Common.{◌≡◌, ◌⊎◌, ℕ, ◌<◌, ◌≤◌, List, [], ◌∷◌, Bool, true, false, map, refl, sym, ap, ◌∙◌, subst, inl, inr, arith, Some, None, Option}
-use Rattle.std.specs.Prelude.{Contains}
+use Rattle.std.proofs.Common.{◌≡◌, ℕ, ◌<◌, List, [], true, map, refl, sym, ap, ◌∙◌, subst, Some, None, Option}
 use Rattle.tg_base.specs.Clusters.{Header}
 use Rattle.tg_base.specs.declared.cell.Cell.{Cell}
 use Rattle.tg_base.specs.declared.cell.Cell.TheVariants.{Junk, Data}
-use Rattle.tg_base.specs.declared.ids.NodeId.{NodeId}
 use Rattle.tg_base.specs.declared.ids.Oid.{Oid}
 use Rattle.tg_base.specs.declared.marks.StreamLink.{StreamLink}
-use Rattle.tg_base.specs.declared.msg.Msg.{Msg}
-use Rattle.tg_base.specs.declared.msg.Msg.TheVariants as msg
 use Rattle.tg_base.specs.declared.packet.Packet.{Packet}
 use Rattle.tg_entry.specs.declared.entry.Entry.{Entry}
 use Rattle.tg_kind.specs.Meaning.{Meaning}
@@ -18,7 +14,7 @@ use Rattle.tg_protocol.specs.Entries.{lists, oid_of_link, streams_of}
 use Rattle.tg_protocol.specs.Pages.{entry_of}
 use Rattle.tg_protocol.specs.Logs.{Log, cell_entry}
 use Rattle.tg_protocol.specs.Sequencers.{cell_streams, entry_streams}
-use Rattle.tg_protocol.specs.Worlds.{World, log}
+use Rattle.tg_protocol.specs.Worlds.{log}
 use Rattle.tg_protocol.specs.Runs.{Moves, Reaches, Later, run}
 use Rattle.tg_law_moves.specs.After.{after}
 use Rattle.tg_law_moves.proofs.Lists.{contained}

@@ -1,5 +1,5 @@
 -- A token that is issued is for the streams of the entry that the log has there, or the position is for nothing.
-use Rattle.std.proofs.Common.{◌≡◌, ◌⊎◌, ℕ, ◌+◌, ◌<◌, ◌≤◌, List, [], ◌∷◌, ◌++◌, map, Bool, true, false, refl, sym, ap, ◌∙◌, subst, inl, inr, arith, Some, None, Option}
+use Rattle.std.proofs.Common.{◌≡◌, ◌⊎◌, ℕ, ◌+◌, ◌<◌, ◌≤◌, List, [], ◌∷◌, ◌++◌, map, Bool, true, false, refl, sym, ap, ◌∙◌, subst, inl, inr, arith, Option}
 use Rattle.std.specs.Prelude.{Contains, nat_le, nat_lt, ◌==◌}
 use Rattle.std.proofs.lemmas.Bool.Decides.{nat_tests}
 use Rattle.tg_base.specs.Clusters.{Header}
@@ -16,7 +16,7 @@ use Rattle.tg_protocol.specs.Words.{seqr_id}
 use Rattle.tg_protocol.specs.Entries.{streams_of}
 use Rattle.tg_protocol.specs.Requests.{out}
 use Rattle.tg_protocol.specs.Sequencers.{SeqrState, scanning, links_of, issue, on_token, unfenced, own_epoch, seqr_step}
-use Rattle.tg_protocol.specs.Worlds.{World, log, packet_of, seqr}
+use Rattle.tg_protocol.specs.Worlds.{World, log, packet_of}
 use Rattle.tg_protocol.specs.Chosen.{IsDecided}
 use Rattle.tg_protocol.specs.Runs.{Moves, Takes, Reaches, Later}
 use Rattle.tg_law_moves.specs.After.{after}
@@ -31,7 +31,6 @@ use Rattle.tg_law_tokens.specs.Issuing.{Issued, IsOwnPage}
 use Rattle.tg_law_tokens.proofs.Named.{issuer_is_named, naming_holds}
 use Rattle.tg_law_homes.specs.Homes.{Home}
 use Rattle.tg_law_homes.proofs.Homes.{starts_rise, epochs_are_decided}
-use Rattle.tg_law_walks.specs.Streams.{stands_in}
 use Rattle.tg_law_walks.specs.Seqrs.{IsIssued, IssuesAs}
 use Rattle.tg_law_lists.specs.Drafted.{IsFitPage, DraftsFit}
 use Rattle.tg_law_lists.specs.Lists.{Counts, AreBounds}

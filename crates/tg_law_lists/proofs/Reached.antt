@@ -1,7 +1,7 @@
 -- The worlds through which a run comes, and the world that it ends with.
-use Rattle.std.proofs.Common.{◌≡◌, ◌⊎◌, ℕ, ◌+◌, ◌≤◌, List, [], ◌∷◌, ◌++◌, Bool, true, false, refl, sym, ap, ◌∙◌, subst, inl, inr, arith, Some, None, Option, append-nil}
-use Rattle.std.specs.Prelude.{slice_get, is_some, Contains}
-use Rattle.tg_base.specs.Clusters.{Header, IsHeader}
+use Rattle.std.proofs.Common.{◌≡◌, ℕ, ◌+◌, ◌≤◌, [], ◌∷◌, ◌++◌, Bool, true, false, refl, sym, ap, ◌∙◌, subst, arith, Some, None, Option}
+use Rattle.std.specs.Prelude.{slice_get, is_some}
+use Rattle.tg_base.specs.Clusters.{Header}
 use Rattle.tg_base.specs.declared.ids.NodeId.{NodeId}
 use Rattle.tg_base.specs.declared.ids.Role.{Role}
 use Rattle.tg_base.specs.declared.ids.Role.TheVariants as role
@@ -12,7 +12,7 @@ use Rattle.tg_model.specs.Kinds.{CommandOf, EventOf}
 use Rattle.tg_protocol.specs.Words.{client_id}
 use Rattle.tg_protocol.specs.Clients.{Client}
 use Rattle.tg_protocol.specs.Worlds.{World, start, moves, comes, handed, delivers, runs, unit_moves, layout_moves, seqr_moves, client_turned, noted_if, commands, ticks, ticks_if, stops_if, effect, happens, next_event}
-use Rattle.tg_protocol.specs.Runs.{Move, Moves, Next, Takes, run, Reaches, Later, LawfulMove, most_steps}
+use Rattle.tg_protocol.specs.Runs.{Moves, Next, Takes, run, Reaches, Later, LawfulMove}
 use Rattle.tg_law_moves.specs.After.{after}
 use Rattle.tg_law_moves.specs.Configs.{config, client_in}
 use Rattle.tg_law_moves.proofs.Lists.{contained}

@@ -1,6 +1,6 @@
 -- Over a run, each sequencer's lists are true of the log that it ends with.
-use Rattle.std.proofs.Common.{◌≡◌, ◌⊎◌, ℕ, ◌+◌, ◌<◌, ◌≤◌, List, [], ◌∷◌, ◌++◌, length, map, Bool, true, false, refl, sym, ap, ◌∙◌, subst, inl, inr, arith, Some, None, Option, append-nil}
-use Rattle.std.specs.Prelude.{Contains, slice_index_or, ◌==◌, if◌then◌else◌}
+use Rattle.std.proofs.Common.{◌≡◌, ℕ, ◌+◌, ◌<◌, List, [], ◌∷◌, ◌++◌, length, Bool, true, false, refl, sym, ap, ◌∙◌, subst, arith, Some, None, Option, append-nil}
+use Rattle.std.specs.Prelude.{slice_index_or, ◌==◌, if◌then◌else◌}
 use Rattle.tg_base.specs.Clusters.{Header}
 use Rattle.tg_base.specs.Layouts.{Layout}
 use Rattle.tg_base.specs.declared.ids.Role.TheVariants as role
@@ -12,24 +12,22 @@ use Rattle.tg_kind.specs.Meaning.{Meaning}
 use Rattle.tg_model.specs.Kinds.{EventOf}
 use Rattle.tg_protocol.specs.Words.{seqr_id, numbers}
 use Rattle.tg_protocol.specs.Layouts.{first_layout}
-use Rattle.tg_protocol.specs.Requests.{awaits}
-use Rattle.tg_protocol.specs.Cells.{CellJob, cell_asks}
-use Rattle.tg_protocol.specs.Sequencers.{SeqrState, SeqrTurn, scanning, new_seqr, seqr_step, seqr_tick}
+use Rattle.tg_protocol.specs.Cells.{CellJob}
+use Rattle.tg_protocol.specs.Sequencers.{SeqrState, SeqrTurn, new_seqr, seqr_step, seqr_tick}
 use Rattle.tg_protocol.specs.Worlds.{World, start, seqr, log, happens, next_event}
-use Rattle.tg_protocol.specs.Runs.{Moves, Move, Next, Takes, run, Reaches, Later}
+use Rattle.tg_protocol.specs.Runs.{Moves, Move, Next, Takes, run, Reaches}
 use Rattle.tg_law_moves.specs.After.{after}
 use Rattle.tg_law_moves.specs.Configs.{Config, config, seqr_in}
 use Rattle.tg_law_moves.proofs.Growth.{IsCalm, by_seqr}
 use Rattle.tg_law_moves.proofs.Lists.{contained, at_map, at_set}
 use Rattle.tg_law_moves.proofs.Members.{Has, has_left}
-use Rattle.tg_law_moves.proofs.Moves.{Cases, Comes, seqr_turn, SeqrInput, Hears, Ticks, step_cases}
+use Rattle.tg_law_moves.proofs.Moves.{Comes, seqr_turn, SeqrInput, Hears, Ticks, step_cases}
 use Rattle.tg_law_moves.proofs.Scripts.{run_both}
 use Rattle.tg_law_layouts.specs.Decisions.{IsOfDecided, TellsDecided}
 use Rattle.tg_law_layouts.proofs.Deciding.{layouts_are_known, layouts_are_sound}
 use Rattle.tg_law_layouts.proofs.Layouts.{more}
 use Rattle.tg_law_tokens.proofs.Naming.{Keeps', AsBefore, Learnt, step_keeps}
-use Rattle.tg_law_walks.specs.Lists.{AreGoodLists}
-use Rattle.tg_law_walks.specs.Seqrs.{HasLists, IsSeqr, IsIssued, IssuesAs, ScanStepsAs, StepsAs}
+use Rattle.tg_law_walks.specs.Seqrs.{HasLists, IsSeqr, ScanStepsAs, StepsAs}
 use Rattle.tg_law_walks.proofs.Seqrs.{seqrs_begin, seqrs_stay}
 use Rattle.tg_law_walks.proofs.Reading.{reaches_later}
 use Rattle.tg_law_entries.proofs.Lists.{joined}

@@ -1,13 +1,12 @@
 -- What a scan's cell ends with is true of the log that the run ends with, and a trim that it meets leaves each stream
 -- something past it.
-use Rattle.std.proofs.Common.{◌≡◌, ◌⊎◌, ℕ, zero, suc, ◌+◌, ◌<◌, ◌≤◌, List, [], ◌∷◌, ◌++◌, Bool, true, false, refl, sym, ap, ◌∙◌, subst, inl, inr, arith, Some, None, Option}
-use Rattle.std.specs.Prelude.{Contains, nat_lt, not, ◌&&◌, ◌==◌}
+use Rattle.std.proofs.Common.{◌≡◌, ◌⊎◌, ℕ, zero, suc, ◌+◌, ◌<◌, ◌≤◌, List, [], ◌∷◌, ◌++◌, Bool, true, false, refl, sym, ap, ◌∙◌, subst, inl, inr, arith, Some, Option}
+use Rattle.std.specs.Prelude.{Contains, nat_lt}
 use Rattle.std.proofs.lemmas.Bool.Decides.{nat_tests}
 use Rattle.tg_base.specs.Clusters.{Header}
 use Rattle.tg_base.specs.Layouts.{Layout}
 use Rattle.tg_base.specs.declared.cell.Cell.{Cell}
 use Rattle.tg_base.specs.declared.cell.Cell.TheVariants.{Junk, Data}
-use Rattle.tg_base.specs.declared.ids.NodeId.{NodeId}
 use Rattle.tg_base.specs.declared.ids.Oid.{Oid}
 use Rattle.tg_base.specs.declared.msg.Msg.{Msg}
 use Rattle.tg_base.specs.declared.msg.Msg.TheVariants as msg
@@ -19,10 +18,10 @@ use Rattle.tg_protocol.specs.Words.{seqr_id, unit_id, cell_at}
 use Rattle.tg_protocol.specs.Entries.{streams_of}
 use Rattle.tg_protocol.specs.Logs.{cell_entry}
 use Rattle.tg_protocol.specs.Units.{unit_ask}
-use Rattle.tg_protocol.specs.Requests.{awaits, Next, Goes, Learns, Ends}
+use Rattle.tg_protocol.specs.Requests.{awaits, Next, Goes, Ends}
 use Rattle.tg_protocol.specs.Replies.{Reply, reply}
 use Rattle.tg_protocol.specs.Replies as replied
-use Rattle.tg_protocol.specs.Cells.{Place, CellWork, Puts, Gets, Fills, Copies, Probes, CellJob, CellEnd, Done, Seen, Lost, Fenced, Gone, cell_asks, cell_feed, work_feed, work_asks, works, end_if, put_on, copy_on, copy_if_same, probe_on, fill_cell}
+use Rattle.tg_protocol.specs.Cells.{Place, CellWork, Puts, Gets, Fills, Copies, Probes, CellJob, CellEnd, Done, Lost, Fenced, Gone, cell_asks, cell_feed, work_feed, work_asks, works, end_if, put_on, copy_on, copy_if_same, probe_on, fill_cell}
 use Rattle.tg_protocol.specs.Sequencers.{SeqrState, scanning, scan_asks}
 use Rattle.tg_protocol.specs.Worlds.{World, start, log}
 use Rattle.tg_protocol.specs.Chosen.{IsDecided}
@@ -36,30 +35,27 @@ use Rattle.tg_law_moves.proofs.Moves.{AllGive}
 use Rattle.tg_law_requests.proofs.Numbers.{numbers_once}
 use Rattle.tg_law_requests.proofs.Starts.{All, all_hold}
 use Rattle.tg_law_layouts.specs.Decisions.{IsOfDecided}
-use Rattle.tg_law_layouts.proofs.Deciding.{layouts_are_known, decided_stays, one_layout}
+use Rattle.tg_law_layouts.proofs.Deciding.{layouts_are_known, one_layout}
 use Rattle.tg_law_cells.specs.Settled.{IsSettled}
 use Rattle.tg_law_cells.proofs.Justified.{Awaited, awaited_ask}
 use Rattle.tg_law_cells.proofs.Jobs.{JobOk, MaybeOk}
 use Rattle.tg_law_cells.proofs.Stores.{cells_hold}
 use Rattle.tg_law_tokens.specs.Issuing.{Issued, IsOwnPage}
-use Rattle.tg_law_tokens.proofs.Issues.{Asked, Ours, asked_of, low_holds, same_asked, token_epoch}
+use Rattle.tg_law_tokens.proofs.Issues.{asked_of, low_holds, same_asked, token_epoch}
 use Rattle.tg_law_tokens.proofs.Named.{issuer_is_named, naming_holds}
 use Rattle.tg_law_tokens.proofs.Own.{pages_are_own}
 use Rattle.tg_law_homes.specs.Homes.{Home, TrimAsked, ToldGone, epoch_asked}
 use Rattle.tg_law_homes.proofs.Gones.{gone_is_asked}
 use Rattle.tg_law_homes.proofs.Homes.{settled_has_home, settled_is_below}
-use Rattle.tg_law_entries.specs.Archive.{TrimsWereSafe}
 use Rattle.tg_law_entries.proofs.Archive.{settled_later}
-use Rattle.tg_law_entries.proofs.Lists.{joined, has_read}
 use Rattle.tg_law_walks.specs.Streams.{entry_lists, stands_in}
-use Rattle.tg_law_walks.specs.Reading.{ScanAwaits}
-use Rattle.tg_law_walks.specs.Seqrs.{IsHeldPast, ScanEndsAs, ScanStepsAs}
+use Rattle.tg_law_walks.specs.Seqrs.{IsHeldPast, ScanEndsAs}
 use Rattle.tg_law_walks.proofs.Reading.{scans_read_settled}
 use Rattle.tg_law_lists.specs.Drafted.{DraftsFit}
-use Rattle.tg_law_lists.specs.Spared.{IsSaved, TrimsWereSpare}
-use Rattle.tg_law_lists.proofs.Ends.{settled_of, cell_of, once_there, stands_there}
+use Rattle.tg_law_lists.specs.Spared.{IsSaved, WasSettled, TrimsWereSpare}
+use Rattle.tg_law_lists.proofs.Ends.{cell_of, once_there, stands_there}
 use Rattle.tg_law_lists.proofs.Reached.{before_reached, goes_later}
-use Rattle.tg_law_lists.proofs.Safe.{safe_of}
+use Rattle.tg_law_lists.proofs.Safe.{safe_of, safe_before}
 
 -- Where a cell's reading ends at a trim.
 
@@ -300,24 +296,19 @@ module _ (m : Meaning) (h : Header) (zs : Moves m) (r : Reaches m h zs (after m 
 
     -- a position below the trim stands in the log of this world as it does at the end
     stood : (o : Oid) (q b epoch : ℕ) (x : Packet) → Contains (after m h xs).packets x → x.msg ≡ msg.Trim epoch b → q < b → stands_in (log m (after m h zs)) o q ≡ true → stands_in (log m (after m h xs)) o q ≡ true
-    stood o q b epoch x has is less st = by (safe_of m h zs r trims (after m h xs) (record { before = xs; event = e; later = ys; split = split; is = refl }) x epoch b q has is less)
+    stood o q b epoch x has is less st = by ((trims.spare (after m h xs) (record { before = xs; event = e; later = ys; split = split; is = refl })).whole x epoch b q has is less)
       where
-        safe' : TrimsWereSafe m h xs
-        safe' u g = safe_of m h zs r trims u (record { before = g.before; event = g.event; later = g.later ++ Takes e ∷ ys; split = split ∙ (ap (λ (ms : Moves m). ms ++ Takes e ∷ ys) g.split ∙ joined g.before (Takes g.event ∷ g.later) (Takes e ∷ ys)); is = g.is })
-
-        by : (c : Cell) × Contains (log m (after m h xs)) (q, c) → stands_in (log m (after m h xs)) o q ≡ true
-        by c = of_cell (has_read (log m (after m h xs)) q c.0 (has_contained (log m (after m h xs)) (q, c.0) c.1))
-          where
-            of_cell : (d : Cell) × (cell_at (log m (after m h xs)) q ≡ Some d) → stands_in (log m (after m h xs)) o q ≡ true
-            of_cell d =
-                let late = cell_of m h zs r (safe_of m h zs r trims) q d.0 (settled_on q d.0 (settled_of m h xs rw safe' q d.0 d.1)) in
-                ap (λ (y : Option Cell). entry_lists o (cell_entry y)) (d.1 ∙ sym late) ∙ st
+        by : WasSettled m (after m h xs) epoch q → stands_in (log m (after m h xs)) o q ≡ true
+        by g =
+            let early = cell_of m h xs rw (safe_before m h zs r trims xs (Takes e ∷ ys) split) q g.cell g.settled in
+            let late = cell_of m h zs r (safe_of m h zs r trims) q g.cell (settled_on q g.cell g.settled) in
+            ap (λ (y : Option Cell). entry_lists o (cell_entry y)) (early ∙ sym late) ∙ st
 
     gone : (b : ℕ) → AtTrim j (reply p.msg) b → IsHeldPast (log m (after m h zs)) b z.proj.start
     gone b g o q less st = by (told_gone b g)
       where
         saved : (t : TrimAsked m (after m h xs) z.proj.epoch b) → IsSaved m (after m h xs) o t.of b
-        saved t = (trims (after m h xs) (record { before = xs; event = e; later = ys; split = split; is = refl })).saved t.packet t.of b q o t.sent t.is less (stood o q b t.of t.packet t.sent t.is less st)
+        saved t = (trims.spare (after m h xs) (record { before = xs; event = e; later = ys; split = split; is = refl })).saved t.packet t.of b q o t.sent t.is less (stood o q b t.of t.packet t.sent t.is less st)
 
         by : (u : ℕ) × ToldGone m (after m h xs) u z.proj.epoch b → (n : ℕ) × (b ≤ n) × (n < z.proj.start) × (stands_in (log m (after m h zs)) o n ≡ true)
         by t = held (gone_is_asked m h xs (after m h xs) rw t.0 z.proj.epoch b t.1 (let a = g.past in omega (arith, a)))

@@ -1,7 +1,6 @@
 -- The links that a sequencer has told are true of the log that the run ends with, and so are those of its entries.
 use Rattle.std.proofs.Common.{◌≡◌, ◌⊎◌, ℕ, ◌+◌, ◌<◌, ◌≤◌, List, [], ◌∷◌, ◌++◌, length, map, Bool, true, false, refl, sym, ap, ◌∙◌, subst, inl, inr, arith, Some, None, Option, append-nil}
-use Rattle.std.specs.Prelude.{Contains, nat_le, nat_lt, ◌==◌}
-use Rattle.std.proofs.lemmas.Bool.Decides.{nat_tests}
+use Rattle.std.specs.Prelude.{Contains, ◌==◌}
 use Rattle.tg_base.specs.Clusters.{Header}
 use Rattle.tg_base.specs.Layouts.{Layout}
 use Rattle.tg_base.specs.declared.cell.Cell.TheVariants.{Data}
@@ -18,12 +17,11 @@ use Rattle.tg_base.proofs.Rules.{layout_rules}
 use Rattle.tg_kind.specs.Meaning.{Meaning}
 use Rattle.tg_model.specs.Kinds.{EventOf}
 use Rattle.tg_protocol.specs.Words.{seqr_id, unit_id}
-use Rattle.tg_protocol.specs.Entries.{lists, link_of, backs_of, backs_in, streams_of}
-use Rattle.tg_protocol.specs.Pages.{entry_of}
+use Rattle.tg_protocol.specs.Entries.{lists, backs_in, streams_of}
 use Rattle.tg_protocol.specs.Replies.{reply}
 use Rattle.tg_protocol.specs.Requests.{awaits, out, drawn_from}
 use Rattle.tg_protocol.specs.Cells.{Place, CellWork, Puts, Gets, Fills, Copies, Probes, CellJob, cell_asks, cell_feed, work_asks}
-use Rattle.tg_protocol.specs.Sequencers.{SeqrState, SeqrTurn, scanning, links_of, scan_asks, seqr_asks, stand_answer, answers, begun, learns, issue, on_token, unfenced, own_epoch, on_learn, learn_or_old, fed_if, scan_fed, scan_turn, seqr_step, seqr_tick}
+use Rattle.tg_protocol.specs.Sequencers.{SeqrState, SeqrTurn, scanning, links_of, scan_asks, seqr_asks, stand_answer, answers, begun, issue, on_token, unfenced, own_epoch, on_learn, learn_or_old, fed_if, scan_fed, scan_turn, seqr_step, seqr_tick}
 use Rattle.tg_protocol.specs.Logs.{cell_entry, entry_at}
 use Rattle.tg_protocol.specs.Chosen.{IsDecided}
 use Rattle.tg_protocol.specs.Worlds.{World, start, log, packet_of, happens, next_event}
@@ -37,8 +35,6 @@ use Rattle.tg_law_moves.proofs.Members.{Has, has_contained, has_left, has_either
 use Rattle.tg_law_moves.proofs.Moves.{Comes, seqr_turn, SeqrInput, Hears, Ticks, step_cases}
 use Rattle.tg_law_moves.proofs.Scripts.{run_both}
 use Rattle.tg_law_requests.proofs.Starts.{numbers_are_unique}
-use Rattle.tg_law_layouts.proofs.Layouts.{more}
-use Rattle.tg_law_layouts.specs.Decisions.{IsOfDecided}
 use Rattle.tg_law_layouts.proofs.Deciding.{layouts_are_sound}
 use Rattle.tg_law_cells.specs.Chains.{GoesDown, IsJustified}
 use Rattle.tg_law_cells.specs.Settled.{IsSettled}
@@ -48,7 +44,6 @@ use Rattle.tg_law_homes.specs.Homes.{Home}
 use Rattle.tg_law_entries.proofs.Lists.{joined}
 use Rattle.tg_law_walks.specs.Streams.{entry_lists, IsGood}
 use Rattle.tg_law_walks.specs.Lists.{backs}
-use Rattle.tg_law_walks.specs.Seqrs.{IsSeqr}
 use Rattle.tg_law_walks.proofs.Listing.{own_links_good}
 use Rattle.tg_law_walks.proofs.Seqrs.{seqrs_tell}
 use Rattle.tg_law_lists.specs.Drafted.{IsFitPage, DraftsFit}

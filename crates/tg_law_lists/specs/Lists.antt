@@ -3,7 +3,7 @@ use Rattle.std.specs.Prelude.{◌≡◌, ℕ, ◌+◌, ◌<◌, ◌≤◌, false
 use Rattle.tg_base.specs.Clusters.{Header}
 use Rattle.tg_base.specs.Layouts.{Layout}
 use Rattle.tg_kind.specs.Meaning.{Meaning}
-use Rattle.tg_protocol.specs.Sequencers.{SeqrState, scanning}
+use Rattle.tg_protocol.specs.Sequencers.{scanning}
 use Rattle.tg_protocol.specs.Worlds.{World, seqr, log}
 use Rattle.tg_protocol.specs.Runs.{Moves, Reaches, Later}
 use Rattle.tg_protocol.specs.Chosen.{IsDecided}

@@ -1,5 +1,5 @@
 -- What trims leave of each stream.
-use Rattle.std.specs.Prelude.{◌≡◌, ℕ, ◌<◌, ◌≤◌, true, List, Some}
+use Rattle.std.specs.Prelude.{◌≡◌, ℕ, ◌<◌, ◌≤◌, true, List, ◌∷◌, ◌++◌, Some}
 use Rattle.tg_base.specs.Clusters.{Header}
 use Rattle.tg_base.specs.declared.cell.Cell.{Cell}
 use Rattle.tg_base.specs.declared.cell.Cell.TheVariants.{Data}
@@ -8,13 +8,14 @@ use Rattle.tg_base.specs.declared.msg.Msg.TheVariants as msg
 use Rattle.tg_base.specs.declared.packet.Packet.{Packet}
 use Rattle.tg_entry.specs.declared.entry.Entry.{Entry}
 use Rattle.tg_kind.specs.Meaning.{Meaning}
+use Rattle.tg_model.specs.Kinds.{EventOf}
 use Rattle.tg_protocol.specs.Entries.{lists}
 use Rattle.tg_protocol.specs.Pages.{entry_of}
-use Rattle.tg_protocol.specs.Worlds.{World, log}
-use Rattle.tg_protocol.specs.Runs.{Moves, Reaches}
+use Rattle.tg_protocol.specs.Worlds.{World, start, log}
+use Rattle.tg_protocol.specs.Runs.{Moves, Takes, run}
 use Rattle.tg_protocol.specs.Chosen.{Sent}
 use Rattle.tg_law_cells.specs.Settled.{IsSettled}
-use Rattle.tg_law_entries.specs.Archive.{GoesOn, TrimsWereSafe}
+use Rattle.tg_law_entries.specs.Archive.{TrimsWereSafe}
 use Rattle.tg_law_walks.specs.Streams.{stands_in}
 use Rattle.tg_law_walks.specs.Rounds.{IsSaving}
 
@@ -44,10 +45,15 @@ module _ (m : Meaning) where
     pub whole : (x : Packet) (epoch below q : ℕ) → Sent m w x → x.msg ≡ msg.Trim epoch below → q < below → WasSettled w epoch q
     pub saved : (x : Packet) (epoch below q : ℕ) (o : Oid) → Sent m w x → x.msg ≡ msg.Trim epoch below → q < below → stands_in (log m w) o q ≡ true → IsSaved w o epoch below
 
-  -- So it was in each world from which the run went on.
-  abbrev pub TrimsWereSpare : Header → Moves m → Type 0
-  TrimsWereSpare h ms = (u : World m) → GoesOn m h ms u → TrimsSpare u
+  -- a world from which a run went on by a further event
+  pub record GoesOn (h : Header) (ms : Moves m) (u : World m) : Type 0 where
+    pub before : Moves m
+    pub event : EventOf m
+    pub later : Moves m
+    pub split : ms ≡ before ++ Takes event ∷ later
+    pub is : u ≡ run m before (start m h)
 
-  -- Then all that was to be trimmed was in the log.
-  abbrev pub SpareTrimsSafe : Type 0
-  SpareTrimsSafe = (h : Header) (ms : Moves m) (w : World m) → Reaches m h ms w → TrimsWereSpare h ms → TrimsWereSafe m h ms
+  -- So it was in each world from which the run went on; and units were asked to trim only what was in the log.
+  pub record TrimsWereSpare (h : Header) (ms : Moves m) : Type 0 where
+    pub safe : TrimsWereSafe m h ms
+    pub spare : (u : World m) → GoesOn h ms u → TrimsSpare u

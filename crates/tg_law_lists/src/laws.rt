@@ -1,7 +1,6 @@
 //! What holds of every world to which a run of lawful events comes, and of each later one.
 
 ghost use Rattle.tg_kind.specs.Of.{meaning_of};
-ghost use Rattle.tg_law_lists.specs.Spared.{SpareTrimsSafe};
 ghost use Rattle.tg_law_lists.specs.Lists.{EachLaterBySpareTrims, ListsKnown, SeqrsTrue};
 ghost use Rattle.tg_law_lists.specs.Telling.{AlwaysBySpareTrims, EntriesGood, LinksTrue};
 
@@ -27,9 +26,4 @@ pub fn links_are_true<K: Registry>()
 /// those that it tells of.
 pub fn entries_are_good<K: Registry>()
     ensures { AlwaysBySpareTrims (meaning_of K.Registry) (EntriesGood (meaning_of K.Registry)) }
-{}
-
-/// Where trims were spare, whatever a unit was asked to trim was in the log.
-pub fn spare_trims_are_safe<K: Registry>()
-    ensures { SpareTrimsSafe (meaning_of K.Registry) }
 {}

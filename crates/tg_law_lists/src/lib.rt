@@ -9,6 +9,4 @@
 
 mod laws;
 
-pub use laws::{
-    entries_are_good, links_are_true, lists_are_known, seqrs_are_true, spare_trims_are_safe,
-};
+pub use laws::{entries_are_good, links_are_true, lists_are_known, seqrs_are_true};

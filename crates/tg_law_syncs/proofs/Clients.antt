@@ -1,10 +1,8 @@
 -- Over a run, what clients that sync have of sequencers' answers is true of the log that the run ends with.
-use Rattle.std.proofs.Common.{◌≡◌, ◌⊎◌, ℕ, zero, suc, ◌+◌, ◌-◌, ◌<◌, ◌≤◌, List, [], ◌∷◌, ◌++◌, length, Bool, true, false, refl, sym, ap, ◌∙◌, subst, inl, inr, arith, Some, None, Option, append-nil}
-use Rattle.std.specs.Prelude.{Contains, slice_index_or}
+use Rattle.std.proofs.Common.{◌≡◌, ℕ, ◌+◌, ◌-◌, ◌<◌, ◌≤◌, List, [], ◌∷◌, ◌++◌, length, true, refl, sym, ap, ◌∙◌, subst, inl, inr, arith, Some, Option, append-nil}
+use Rattle.std.specs.Prelude.{slice_index_or}
 use Rattle.tg_base.specs.Clusters.{Header}
 use Rattle.tg_base.specs.Layouts.{Layout}
-use Rattle.tg_base.specs.declared.cell.Cell.{Cell}
-use Rattle.tg_base.specs.declared.ids.NodeId.{NodeId}
 use Rattle.tg_base.specs.declared.ids.Oid.{Oid}
 use Rattle.tg_base.specs.declared.ids.Role.TheVariants as role
 use Rattle.tg_base.specs.declared.marks.StreamLink.{StreamLink}
@@ -18,12 +16,12 @@ use Rattle.tg_model.specs.Kinds.{EventOf}
 use Rattle.tg_protocol.specs.Words.{client_id, seqr_id, unit_id, numbers}
 use Rattle.tg_protocol.specs.Units.{unit_ask}
 use Rattle.tg_protocol.specs.Requests.{awaits, Ends}
-use Rattle.tg_protocol.specs.Replies.{Reply, reply, IsTail}
-use Rattle.tg_protocol.specs.Cells.{Place, CellJob, CellEnd, Gone, cell_asks, cell_feed}
+use Rattle.tg_protocol.specs.Replies.{reply, IsTail}
+use Rattle.tg_protocol.specs.Cells.{Place, CellJob, Gone, cell_asks, cell_feed}
 use Rattle.tg_protocol.specs.Syncing.{Answer, SyncWork, Checking, Settling, Probing, Sync, sync_work_asks}
 use Rattle.tg_protocol.specs.Clients.{Task, Syncing, Hand, Doing, Work, Client, new_client}
 use Rattle.tg_protocol.specs.ClientSteps.{ClientTurn, task_asks, task_awaited}
-use Rattle.tg_protocol.specs.Worlds.{World, start, client, log, happens, next_event}
+use Rattle.tg_protocol.specs.Worlds.{World, start, log, happens, next_event}
 use Rattle.tg_protocol.specs.Chosen.{IsDecided}
 use Rattle.tg_protocol.specs.Runs.{Moves, Move, Next, Takes, run, Reaches, Later}
 use Rattle.tg_law_moves.specs.After.{after}
@@ -37,7 +35,6 @@ use Rattle.tg_law_moves.proofs.Scripts.{run_both}
 use Rattle.tg_law_requests.proofs.Starts.{All, all_hold}
 use Rattle.tg_law_layouts.specs.Decisions.{IsOfDecided}
 use Rattle.tg_law_layouts.proofs.Deciding.{layouts_are_known, layouts_are_sound, decided_stays}
-use Rattle.tg_law_cells.specs.Settled.{IsSettled}
 use Rattle.tg_law_cells.proofs.Justified.{Awaited, awaited_ask}
 use Rattle.tg_law_cells.proofs.Hands as cells
 use Rattle.tg_law_cells.proofs.Jobs.{JobOk, SyncOk}
@@ -52,7 +49,7 @@ use Rattle.tg_law_lists.specs.Spared.{WasSettled, TrimsWereSpare}
 use Rattle.tg_law_lists.specs.Telling.{asks_links, tells_links}
 use Rattle.tg_law_lists.proofs.Reached.{before_reached, goes_later}
 use Rattle.tg_law_lists.proofs.Scanning.{AtTrim, OfUnit, at_trim, is_gone}
-use Rattle.tg_law_lists.proofs.Telling.{Linked, all_at}
+use Rattle.tg_law_lists.proofs.Telling.{all_at}
 use Rattle.tg_law_syncs.proofs.Later.{late}
 use Rattle.tg_law_syncs.proofs.Hands.{IsTrueAnswer, Heard, ClientOk, command_fine, deliver_fine, tick_fine, TaskHeard}
 
@@ -175,7 +172,7 @@ module _ (m : Meaning) (h : Header) (zs : Moves m) (r : Reaches m h zs (after m 
         by w = of_unit (trim.asks w.ask (settling_asks m p s a j is w.ask w.has))
           where
             trimmed : TrimAsked m (after m h xs) p.epoch b → Counts m (after m h zs) p.epoch a.tail
-            trimmed t = was ((trims (after m h xs) (record { before = xs; event = e; later = ys; split = split; is = refl })).whole t.packet t.of b (a.tail - 1) t.sent t.is (let l = trim.past in omega (arith, l, at)))
+            trimmed t = was ((trims.spare (after m h xs) (record { before = xs; event = e; later = ys; split = split; is = refl })).whole t.packet t.of b (a.tail - 1) t.sent t.is (let l = trim.past in omega (arith, l, at)))
               where
                 was : WasSettled m (after m h xs) t.of (a.tail - 1) → Counts m (after m h zs) p.epoch a.tail
                 was g = record {

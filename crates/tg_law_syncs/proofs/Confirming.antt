@@ -1,34 +1,27 @@
 -- What syncs and walks end with is true of the log, then and later.
-use Rattle.std.proofs.Common.{◌≡◌, ◌⊎◌, ℕ, ◌+◌, ◌-◌, ◌<◌, ◌≤◌, List, [], ◌∷◌, ◌++◌, length, Bool, true, false, refl, sym, ap, ◌∙◌, subst, inl, inr, arith, Some, None, Option}
-use Rattle.std.specs.Prelude.{Contains, nat_lt}
+use Rattle.std.proofs.Common.{◌≡◌, ℕ, ◌+◌, ◌-◌, ◌≤◌, ◌++◌, Bool, true, false, refl, sym, ap, ◌∙◌, subst, arith, Some, None, Option}
 use Rattle.tg_base.specs.Clusters.{Header}
 use Rattle.tg_base.specs.Layouts.{Layout}
 use Rattle.tg_base.specs.declared.cell.Cell.{Cell}
-use Rattle.tg_base.specs.declared.ids.Oid.{Oid}
-use Rattle.tg_base.specs.declared.marks.StreamLink.{StreamLink}
-use Rattle.tg_base.specs.declared.msg.Msg.{Msg}
-use Rattle.tg_base.specs.declared.packet.Out.{Out}
 use Rattle.tg_base.specs.declared.packet.Packet.{Packet}
 use Rattle.tg_base.proofs.Rules.{layout_rules}
 use Rattle.tg_kind.specs.Meaning.{Meaning}
-use Rattle.tg_protocol.specs.Words.{cell_at, client_id}
-use Rattle.tg_protocol.specs.Entries.{link_of, backs_of}
+use Rattle.tg_protocol.specs.Words.{cell_at}
 use Rattle.tg_protocol.specs.Requests.{Next, Goes, Learns, Ends}
 use Rattle.tg_protocol.specs.Replies.{Reply, reply, IsTail as TellsTail, IsOldEpoch}
 use Rattle.tg_protocol.specs.Cells.{Place, place_in, last_unit, CellJob, CellEnd, Done, Seen, Lost, Fenced, Gone, cell_feed, fill_cell, probe}
 use Rattle.tg_protocol.specs.Appending.{on_older, on_newer}
 use Rattle.tg_protocol.specs.Syncing.{Answer, SyncWork, Checking, Settling, Probing, Sync, Confirmed, confirmed, confirm_by, on_tail, checking_feed, settle_end, settle_next, probe_end, probe_next, sync_feed}
-use Rattle.tg_protocol.specs.Walking.{Walk}
 use Rattle.tg_protocol.specs.Logs.{Log}
 use Rattle.tg_protocol.specs.Clients.{Syncing, Hand, Work}
 use Rattle.tg_protocol.specs.Worlds.{World, start, client, log}
 use Rattle.tg_protocol.specs.Chosen.{IsDecided}
-use Rattle.tg_protocol.specs.Runs.{Moves, Reaches, Later, LawfulCommand, run}
+use Rattle.tg_protocol.specs.Runs.{Moves, Reaches, LawfulCommand, run}
 use Rattle.tg_law_moves.specs.After.{after}
 use Rattle.tg_law_moves.specs.Configs.{config}
 use Rattle.tg_law_moves.proofs.Always.{lawful_give}
 use Rattle.tg_law_moves.proofs.Clients.{reserved, hand_reserved, work_reserved}
-use Rattle.tg_law_moves.proofs.Members.{Has, has_contained}
+use Rattle.tg_law_moves.proofs.Members.{has_contained}
 use Rattle.tg_law_moves.proofs.Moves.{AllGive}
 use Rattle.tg_law_moves.proofs.Scripts.{run_both}
 use Rattle.tg_law_requests.proofs.Starts.{All, all_hold}
@@ -37,7 +30,7 @@ use Rattle.tg_law_layouts.proofs.Deciding.{K, known, decided_for, layouts_are_kn
 use Rattle.tg_law_cells.specs.Settled.{IsSettled}
 use Rattle.tg_law_cells.proofs.Hands as cells
 use Rattle.tg_law_cells.proofs.Jobs.{JobOk, SyncOk, SyncClaims, cell_ok, CellOk}
-use Rattle.tg_law_cells.proofs.Justified.{ToldBy, EndOk, NextOk, Claims, heard}
+use Rattle.tg_law_cells.proofs.Justified.{ToldBy, EndOk, NextOk, heard}
 use Rattle.tg_law_cells.proofs.Sent.{Heard, task_claims}
 use Rattle.tg_law_cells.proofs.Settles.{Settled, Rooted, end_settles}
 use Rattle.tg_law_cells.proofs.Settling.{facts, roots, told_here}
@@ -45,7 +38,6 @@ use Rattle.tg_law_cells.proofs.Stores.{cells_hold, up_to}
 use Rattle.tg_law_cells.proofs.Successors.{words}
 use Rattle.tg_law_homes.proofs.Homes.{settled_is_below}
 use Rattle.tg_law_entries.proofs.Archive.{settled_later}
-use Rattle.tg_law_walks.specs.Reading.{Awaits}
 use Rattle.tg_law_walks.specs.Walks.{EndsAs, JobEndsAs}
 use Rattle.tg_law_walks.proofs.Reading.{reaches_later, walks_read_settled}
 use Rattle.tg_law_lists.specs.Drafted.{DraftsFit}
@@ -58,7 +50,7 @@ use Rattle.tg_law_syncs.specs.Syncs.{IsTail, AwaitsSync, SyncsConfirm, WalksRead
 use Rattle.tg_law_syncs.proofs.Clients.{held_at, last_below}
 use Rattle.tg_law_syncs.proofs.Later.{late}
 use Rattle.tg_law_syncs.proofs.Hands as hands
-use Rattle.tg_law_syncs.proofs.Hands.{IsTrueAnswer, SyncFine}
+use Rattle.tg_law_syncs.proofs.Hands.{SyncFine}
 
 -- How a sync ends.
 

@@ -1,9 +1,8 @@
 -- What a client that syncs has of the sequencer's answer, through each of the client's turns.
-use Rattle.std.proofs.Common.{◌≡◌, ℕ, ◌-◌, ◌<◌, ◌≤◌, List, [], ◌∷◌, Bool, true, false, refl, sym, ap, ◌∙◌, subst, arith, Some, None, Option}
-use Rattle.std.specs.Prelude.{Contains, nat_lt, ◌&&◌}
+use Rattle.std.proofs.Common.{◌≡◌, ℕ, ◌-◌, ◌≤◌, List, [], ◌∷◌, Bool, true, false, refl, sym, ◌∙◌, subst, arith, Some, None, Option}
+use Rattle.std.specs.Prelude.{Contains, nat_lt}
 use Rattle.std.proofs.lemmas.Bool.Decides.{nat_tests}
 use Rattle.tg_base.specs.Layouts.{Layout}
-use Rattle.tg_base.specs.declared.cell.Cell.{Cell}
 use Rattle.tg_base.specs.declared.ids.NodeId.{NodeId}
 use Rattle.tg_base.specs.declared.ids.Oid.{Oid}
 use Rattle.tg_base.specs.declared.marks.StreamLink.{StreamLink}
@@ -13,15 +12,14 @@ use Rattle.tg_kind.specs.Meaning.{Meaning}
 use Rattle.tg_model.specs.declared.command.Command.TheVariants as cmd
 use Rattle.tg_model.specs.Kinds.{CommandOf, WhatOf}
 use Rattle.tg_model.specs.declared.refusal.Refusal.{Refusal}
-use Rattle.tg_protocol.specs.Words.{node_eq, layout_id}
 use Rattle.tg_protocol.specs.Entries.{link_of, backs_of}
 use Rattle.tg_protocol.specs.Requests.{awaits, Next, Goes, Learns, Ends, Turn}
 use Rattle.tg_protocol.specs.Replies.{Reply, reply, IsTail, IsOldEpoch, IsLatest}
-use Rattle.tg_protocol.specs.Cells.{CellJob, CellEnd, Done, Seen, Lost, Fenced, Gone, cell_feed, fill_cell, probe, place_in}
-use Rattle.tg_protocol.specs.Appending.{Append, AppendEnd, At, append_start, append_feed, append_again, names_all}
+use Rattle.tg_protocol.specs.Cells.{CellJob, CellEnd, Done, Seen, Lost, Fenced, Gone, cell_feed, fill_cell, probe}
+use Rattle.tg_protocol.specs.Appending.{Append, AppendEnd, At, append_start, append_feed, append_again}
 use Rattle.tg_protocol.specs.Appending as append
 use Rattle.tg_protocol.specs.Syncing.{Answer, SyncWork, Checking, Settling, Probing, Sync, Confirmed, sync_start, sync_feed, sync_again, probe_end, probe_next, probes, settle_end, settle_next, confirm_by, on_tail, checking_feed}
-use Rattle.tg_protocol.specs.Walking.{Walk, Members, walk_start, walk_feed, walk_again}
+use Rattle.tg_protocol.specs.Walking.{Walk, Members, walk_feed, walk_again}
 use Rattle.tg_protocol.specs.Trimming.{Trims, Trimmed, trim_start, trim_feed, Copying, CopyEnd, copy_feed, copy_start}
 use Rattle.tg_protocol.specs.Trimming as copying
 use Rattle.tg_protocol.specs.Reconfiguring.{Reconf, ReconfEnd, Installed, Overtaken, NotWhole, reconf_feed, reconf_latest, reconf_start}
@@ -29,7 +27,7 @@ use Rattle.tg_protocol.specs.Transactions.{Tx}
 use Rattle.tg_protocol.specs.Clients.{Purpose, Writes, Judged, Decides, Rescues, Saves, Marks, Task, Syncing, Walking, Appending, Trimming, Copying', Reconfiguring, Hand, Doing, Learning, Work, Client, refusal}
 use Rattle.tg_protocol.specs.Answers.{Moved, moved, appends, syncs, walked}
 use Rattle.tg_protocol.specs.ClientSteps as step
-use Rattle.tg_protocol.specs.ClientSteps.{after_turn, met, goes_on, start_walk, walks, takes_back, found_by, lends, knows, lo_for, synced, sync_to, on_sync, gives_up, given_up_if, starts_over, at_trim, walk_ended_by, walk_to, on_walk, decided_for, append_ended, append_to, on_append, trim_to, on_trims, copy_to, on_copy, stands, task_in, task_awaited, reconf_to, on_reconf, task_feed, task_again, copies_again, on_newer, accepts, refused_or, new_work, ClientTurn, given, client_command, client_deliver, client_tick}
+use Rattle.tg_protocol.specs.ClientSteps.{after_turn, met, goes_on, start_walk, walks, takes_back, found_by, lends, synced, sync_to, on_sync, gives_up, given_up_if, starts_over, at_trim, walk_ended_by, walk_to, on_walk, decided_for, append_ended, append_to, on_append, trim_to, on_trims, copy_to, on_copy, stands, task_in, task_awaited, reconf_to, on_reconf, task_feed, task_again, copies_again, on_newer, accepts, refused_or, new_work, client_command, client_deliver, client_tick}
 use Rattle.tg_protocol.specs.Logs.{Log}
 use Rattle.tg_law_moves.proofs.Clients.{Ways, walked_case}
 use Rattle.tg_law_moves.proofs.Turns.{Begins, begins_walk, not_busy}

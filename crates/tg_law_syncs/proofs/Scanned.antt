@@ -1,5 +1,5 @@
 -- The premises of the laws on lists hold of a run in which a sequencer takes over: computed.
-use Rattle.std.proofs.Common.{◌≡◌, ◌⊎◌, ℕ, zero, suc, ◌+◌, ◌<◌, ◌≤◌, List, [], ◌∷◌, ◌++◌, length, Bool, true, false, ◌&&◌, refl, sym, ap, ◌∙◌, subst, inl, inr, arith, Option, Some, None, append-nil}
+use Rattle.std.proofs.Common.{◌≡◌, ◌⊎◌, ℕ, zero, suc, ◌+◌, ◌<◌, List, [], ◌∷◌, ◌++◌, length, Bool, true, false, ◌&&◌, refl, sym, ap, ◌∙◌, subst, inl, inr, arith, Option, Some, None, append-nil}
 use Rattle.std.specs.Prelude.{Contains, nat_lt, ◌==◌, slice_index_or}
 use Rattle.std.specs.List.{list_all}
 use Rattle.tg_codec.specs.Reading.{u8_at, u16_at, u32_at, u64_at, raw_at, fixed_at}
@@ -10,7 +10,7 @@ use Rattle.tg_entry.specs.Reads.{marks, reads}
 use Rattle.tg_entry.specs.Writes.{writes}
 use Rattle.tg_entry.specs.Checkpoints.{keys, new_fields, old_fields}
 use Rattle.tg_entry.specs.Format.{body, entry}
-use Rattle.tg_protocol.specs.Words.{cell_at, client_id, seqr_id, directory, role_code, node_eq, bytes_eq, bytes_lt, part_eq, part_lt, cell_eq}
+use Rattle.tg_protocol.specs.Words.{client_id, seqr_id, directory, role_code, node_eq, bytes_eq, bytes_lt, part_eq, part_lt, cell_eq}
 use Rattle.tg_protocol.specs.Layouts.{chain_of, units_of, next_of, change_fault}
 use Rattle.tg_protocol.specs.Units.{new_unit, unit_ask, first_missing, on_ask, unit_step}
 use Rattle.tg_protocol.specs.LayoutServers.{new_layout, layout_ask, on_layout_ask, layout_step}
@@ -36,19 +36,16 @@ use Rattle.tg_protocol.specs.Sizes.{fields_size}
 use Rattle.tg_protocol.specs.Logs.{decided, newest, log_of, entries_of, members, path_on, path, changes_below, version, outcome, history_of}
 use Rattle.tg_model.specs.declared.command.Command.TheVariants as cmd
 use Rattle.tg_model.specs.declared.command.Event.TheVariants.{Command as Commands}
-use Rattle.tg_base.specs.declared.cell.Cell.{Cell}
-use Rattle.tg_base.specs.declared.cell.Cell.TheVariants.{Junk, Data}
+use Rattle.tg_base.specs.declared.cell.Cell.TheVariants.{Data}
 use Rattle.tg_base.specs.declared.ids.NodeId.{NodeId}
 use Rattle.tg_base.specs.declared.ids.Oid.{Oid}
 use Rattle.tg_base.specs.declared.marks.StreamLink.{StreamLink}
 use Rattle.tg_base.specs.declared.msg.Msg.{Msg}
 use Rattle.tg_base.specs.declared.msg.Msg.TheVariants as msg
 use Rattle.tg_base.specs.declared.packet.Packet.{Packet}
-use Rattle.tg_base.specs.Layouts.{Layout}
 use Rattle.tg_entry.specs.declared.entry.Entry.{Entry}
 use Rattle.tg_entry.specs.declared.entry.Body.TheVariants.{Decision}
 use Rattle.tg_protocol.specs.Worlds.{World, start, seqr, latest, log, history, unit_moves, layout_moves, seqr_moves, client_turned, happens, limit_of, drain_on, drain, tick_all, rounds, settle, line, lines}
-use Rattle.tg_protocol.specs.Chosen.{IsDecided}
 use Rattle.tg_protocol.specs.Runs.{Moves, Takes, Reaches, Later, run}
 use Rattle.tg_law_moves.specs.After.{after}
 use Rattle.tg_law_moves.proofs.Lists.{contained}
@@ -57,15 +54,15 @@ use Rattle.tg_law_moves.proofs.Units.{cell_same}
 use Rattle.tg_law_layouts.proofs.Deciding.{latest_decided}
 use Rattle.tg_law_layouts.proofs.Layouts.{more}
 use Rattle.tg_law_tokens.specs.Issuing.{Issued}
-use Rattle.tg_law_entries.specs.Archive.{GoesOn}
+use Rattle.tg_law_entries.specs.Archive.{TrimsWereSafe}
 use Rattle.tg_law_entries.specs.Worked.{tallies, two_units, drained, asked_again, trimmed}
 use Rattle.tg_law_entries.proofs.Lists.{joined}
 use Rattle.tg_law_entries.proofs.Worked.{worked_trim}
 use Rattle.tg_law_walks.specs.Lists.{backs, AreOnce}
 use Rattle.tg_law_lists.specs.Drafted.{IsFitPage, DraftsFit}
 use Rattle.tg_law_lists.specs.Lists.{Counts}
-use Rattle.tg_law_lists.specs.Spared.{TrimsSpare, TrimsWereSpare}
-use Rattle.tg_law_syncs.specs.Scan.{ScanIsDone, WorkedScan}
+use Rattle.tg_law_lists.specs.Spared.{GoesOn, TrimsWereSpare}
+use Rattle.tg_law_syncs.specs.Scan.{WorkedScan}
 use Rattle.tg_law_lists.proofs.Reached.{before_reached}
 use Rattle.tg_law_lists.proofs.Runs.{lists_are_known}
 
@@ -82,6 +79,9 @@ rest_of = joined asked_again to_trim (drained 100 (run tallies (asked_again ++ t
 
 reached : Reaches tallies two_units asked_again (after tallies two_units asked_again)
 reached = before_reached tallies two_units trimmed worked_trim.reached asked_again rest rest_of
+
+was_safe : TrimsWereSafe tallies two_units asked_again
+was_safe before e later split = worked_trim.safe before e (later ++ rest) (rest_of ∙ (ap (λ (ms : Moves tallies). ms ++ rest) split ∙ joined before (Takes e ∷ later) rest))
 
 -- What was sent, by computing.
 
@@ -271,9 +271,12 @@ sent_later u g x i = by (has_contained u.packets x i)
     by k = contained _ x (subst (λ (ms : Moves tallies). Has (after tallies two_units ms).packets x) (sym g.split) (more tallies two_units g.before _ x (subst (λ (w : World tallies). Has w.packets x) g.is k)))
 
 spare : TrimsWereSpare tallies two_units asked_again
-spare u g = record {
-  whole = λ x e b q i is less. absurd (untrimmed (run tallies asked_again (start tallies two_units)) computed x e b (sent_later u g x i) is);
-  saved = λ x e b q o i is less st. absurd (untrimmed (run tallies asked_again (start tallies two_units)) computed x e b (sent_later u g x i) is);
+spare = record {
+  safe = was_safe;
+  spare = λ u g. record {
+    whole = λ x e b q i is less. absurd (untrimmed (run tallies asked_again (start tallies two_units)) computed x e b (sent_later u g x i) is);
+    saved = λ x e b q o i is less st. absurd (untrimmed (run tallies asked_again (start tallies two_units)) computed x e b (sent_later u g x i) is);
+  };
 }
 
 -- The sequencer.

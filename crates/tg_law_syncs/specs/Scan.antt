@@ -1,6 +1,6 @@
 -- A worked run: a client commits, another sequencer takes over from the first by a reconfiguration that drops a unit, and
 -- has scanned the log.
-use Rattle.std.specs.Prelude.{◌≡◌, false, List, [], ◌∷◌}
+use Rattle.std.specs.Prelude.{◌≡◌, false, [], ◌∷◌}
 use Rattle.tg_protocol.specs.Words.{directory}
 use Rattle.tg_protocol.specs.Sequencers.{SeqrState, scanning}
 use Rattle.tg_protocol.specs.Worlds.{World, start, seqr, log}
