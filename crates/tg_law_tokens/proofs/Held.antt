@@ -11,7 +11,7 @@ use Rattle.tg_base.specs.declared.packet.Packet.{Packet}
 use Rattle.tg_kind.specs.Meaning.{Meaning}
 use Rattle.tg_protocol.specs.Words.{unit_id, cell_at}
 use Rattle.tg_protocol.specs.Units.{UnitState, new_unit, unit_ask}
-use Rattle.tg_protocol.specs.Worlds.{World, start}
+use Rattle.tg_protocol.specs.Worlds.{start}
 use Rattle.tg_protocol.specs.Runs.{Moves, Always}
 use Rattle.tg_law_moves.specs.After.{after}
 use Rattle.tg_law_moves.specs.Configs.{Config, config, unit_in}

@@ -27,7 +27,7 @@ use Rattle.tg_law_moves.proofs.Members.{Has, has_either, has_map}
 use Rattle.tg_law_moves.proofs.Reconfs.{join_plain}
 use Rattle.tg_law_cells.proofs.Justified.{awaited_ask}
 use Rattle.tg_base.specs.declared.marks.StreamLink.{StreamLink}
-use Rattle.tg_law_tokens.proofs.Owning.{MayPut, Nothing, Pair, Owned, Wrote, OwnCell, WorkOk, Claims}
+use Rattle.tg_law_tokens.proofs.Owning.{MayPut, Nothing, Pair, Owned, OwnCell, WorkOk, Claims}
 use Rattle.tg_law_tokens.proofs.Jobs.{JobOk, Mine, AppendOk, AppendClaims, SyncOk, SyncClaims, MaybeOk, MaybeClaims, CopyOk, CopyClaims}
 use Rattle.tg_law_tokens.proofs.Hands.{TaskOk, TaskClaims}
 
