@@ -1,5 +1,5 @@
-//! Tests of links, live runs, which packet a datagram delivers, and nodes, apart from their crates, since a check of tests
-//! proves its crate once more.
+//! Tests of links, sockets, streams, live runs, which packet a datagram delivers, and nodes, apart from their crates, since
+//! a check of tests proves its crate once more.
 #![tactic(auto)]
 
 #[cfg(test)]
@@ -11,4 +11,6 @@ mod node;
 #[cfg(test)]
 mod outside;
 #[cfg(test)]
-mod udp;
+mod sockets;
+#[cfg(test)]
+mod streams;
