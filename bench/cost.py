@@ -18,7 +18,6 @@ import os
 import re
 import subprocess
 import sys
-import tempfile
 
 MOST_STEPS, MOST_RATIO = 200_000, 1.1
 
@@ -117,19 +116,11 @@ def instructions(program, text):
 
 
 def memory(program, text):
-    """The peak of memory of a run, in MiB."""
-    with tempfile.TemporaryFile() as file:
-        file.write(text.encode())
-        file.seek(0)
-        child = os.fork()
-        if child == 0:
-            os.dup2(file.fileno(), 0)
-            os.dup2(os.open(os.devnull, os.O_WRONLY), 1)
-            os.execv(program, [program, "replay"])
-        _, status, used = os.wait4(child, 0)
-        if status != 0:
-            sys.exit(f"status {status}")
-        return used.ru_maxrss / 1024
+    """The peak of memory of a run, in MiB, by time(1): a child of this process would count this one's memory too."""
+    status, said = replay(program, text, ("/usr/bin/time", "-f", "%M"))
+    if status != 0:
+        sys.exit(f"status {status}")
+    return int(said.split()[-1]) / 1024
 
 
 def main():
