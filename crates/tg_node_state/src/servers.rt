@@ -38,7 +38,8 @@ pub fn new_seqr<K: Registry>(alloc: Global, cluster: &Cluster, num: u16) -> Resu
     ensures { (steps : ℕ) → IfOk result (λ k. KeepsNode (meaning_of K.Registry) steps k (SeqrNode (seqrs.new_seqr num cluster.now.limit (first_layout cluster.now)))) }
 {
     let first = first_of(alloc, cluster)?;
-    Ok(Own::Seqr(Seqr::new(alloc, num, cluster.limit, first)))
+    let seqr = Seqr::new(alloc, num, cluster.limit, first)?;
+    Ok(Own::Seqr(seqr))
 }
 
 /// A unit takes a packet. An `Err` is want of memory.

@@ -36,15 +36,13 @@ impl Model for Seqr {
 
 impl Seqr {
     /// A sequencer of this number, which issues positions below a limit. The one that the first layout names
-    /// has learnt it, and every other one has learnt nothing. It takes no memory.
-    pub fn new(alloc: Global, num: u16, limit: u64, first: Projection) -> Seqr
-        ensures state { result.state ≡ new_seqr num limit first }
-        ensures calls { result.calls ≡ 0 }
+    /// has learnt it, and every other one has learnt nothing. An `Err` is want of memory.
+    pub fn new(alloc: Global, num: u16, limit: u64, first: Projection) -> Result<Seqr, NoMemory>
+        ensures state { IfOk result (λ s. s.state ≡ new_seqr num limit first) }
+        ensures calls { IfOk result (λ s. s.calls ≡ 0) }
     {
-        Seqr {
-            state: State::new(alloc, num, limit, first),
-            calls: 0,
-        }
+        let state = State::new(alloc, num, limit, first)?;
+        Ok(Seqr { state, calls: 0 })
     }
 
     /// How many steps it has taken. It takes no memory.

@@ -20,8 +20,9 @@ use tg_base::{
 use tg_chain::{GetCell, GetCellEnd};
 use tg_proj::chain_of;
 
-/// What a sequencer knows. While `next` is below the layout's start it scans the log, a position after the other.
-pub struct State {
+/// What a sequencer knows, on the heap.
+#[derive(Drop)]
+struct Parts {
     num: u16,
     limit: u64,
     rids: Rids,
@@ -33,20 +34,15 @@ pub struct State {
     scan: Option<GetCell>,
 }
 
+/// What a sequencer knows. While `next` is below the layout's start it scans the log, a position after the other.
+pub struct State {
+    parts: Box<Parts>,
+}
+
 // By hand, since a derived drop is proved anew wherever a value is dropped.
 impl Drop for State {
     fn drop(self) {
-        let State {
-            num: _,
-            limit: _,
-            rids: _,
-            epoch: _,
-            proj: _,
-            next: _,
-            streams: _,
-            fence: _,
-            scan: _,
-        } = self;
+        let State { parts: _ } = self;
     }
 }
 
@@ -57,21 +53,21 @@ impl Model for State {
 
     ghost Value = { SeqrState };
 
-    ghost view = { λ s. record { num = s.num; limit = s.limit; rids = s.rids.next; epoch = s.epoch; proj = s.proj; next = s.next; lists = s.streams; fence = s.fence; scan = s.scan } };
+    ghost view = { λ s. record { num = s.parts.value.num; limit = s.parts.value.limit; rids = s.parts.value.rids.next; epoch = s.parts.value.epoch; proj = s.parts.value.proj; next = s.parts.value.next; lists = s.parts.value.streams; fence = s.parts.value.fence; scan = s.parts.value.scan } };
 
-    ghost invariant = { λ s. IsTrue (is_scan s.rids.next s.next s.proj.start s.scan) };
+    ghost invariant = { λ s. IsTrue (is_scan s.parts.value.rids.next s.parts.value.next s.parts.value.proj.start s.parts.value.scan) };
 }
 
 impl State {
     /// A sequencer of this number, which issues positions below a limit. The one that the first layout names
-    /// has learnt it, and every other one has learnt nothing. It takes no memory.
+    /// has learnt it, and every other one has learnt nothing. An `Err` is want of memory.
     #[tactic(auto, unfolding(tg_protocol::specs::Sequencers::new_seqr))]
-    pub fn new(alloc: Global, num: u16, limit: u64, first: Projection) -> State
-        ensures value { result ≡ new_seqr num limit first }
-        ensures undrawn { result.rids ≡ 1 }
+    pub fn new(alloc: Global, num: u16, limit: u64, first: Projection) -> Result<State, NoMemory>
+        ensures value { IfOk result (λ s. s ≡ new_seqr num limit first) }
+        ensures undrawn { IfOk result (λ s. s.rids ≡ 1) }
     {
         let epoch = if num == first.seq { 1 } else { 0 };
-        State {
+        let parts = Parts {
             num,
             limit,
             rids: Rids::new(),
@@ -81,7 +77,9 @@ impl State {
             streams: Streams::new(alloc),
             fence: None,
             scan: None,
-        }
+        };
+        let parts = Box::new(alloc, parts)?;
+        Ok(State { parts })
     }
 
     /// The sequencer after a message from a node under a number, and what it sends: the answer to a request,
@@ -156,7 +154,7 @@ impl State {
     fn is_scanning(&self) -> bool
         ensures { result ≡ scanning self.now }
     {
-        self.next < self.proj.start
+        self.parts.next < self.parts.proj.start
     }
 
     /// How far it has come: the scan's next position, or else the tail with these links.
@@ -164,11 +162,11 @@ impl State {
         ensures { result ≡ stand_answer self.now links (scanning self.now) }
     {
         if self.is_scanning() {
-            let next = self.next;
-            let start = self.proj.start;
+            let next = self.parts.next;
+            let start = self.parts.proj.start;
             return Msg::Scanning { next, start };
         }
-        let tail = self.next;
+        let tail = self.parts.next;
         Msg::Tail { tail, links }
     }
 
@@ -176,10 +174,10 @@ impl State {
     fn refusal(&self, epoch: Epoch) -> Option<Epoch>
         ensures { result ≡ refusal self.now (epoch == self.now.epoch) }
     {
-        if epoch == self.epoch {
-            self.fence
+        if epoch == self.parts.epoch {
+            self.parts.fence
         } else {
-            Some(self.epoch)
+            Some(self.parts.epoch)
         }
     }
 
@@ -219,8 +217,8 @@ impl State {
             let msg = self.stand(List::new(alloc));
             return self.answer(alloc, from, rid, msg);
         }
-        let limit = self.limit;
-        if self.next >= limit {
+        let limit = self.parts.limit;
+        if self.parts.next >= limit {
             return self.answer(alloc, from, rid, Msg::Full { limit });
         }
         self.issue(alloc, from, rid, oids)
@@ -240,11 +238,13 @@ impl State {
         ensures sends { IfOk result (λ r. r.1 ≡ out from rid (msg.Issued self.next (links_of self.lists oids.now)) ∷ []) }
         ensures drawn { IfOk result (λ r. r.0.rids ≡ self.rids) }
     {
-        let pos = self.next;
-        let links = self.streams.links(alloc, oids)?;
+        let pos = self.parts.next;
+        // a number behind a box is known to be one once it is read
+        let _limit = self.parts.limit;
+        let links = self.parts.streams.links(alloc, oids)?;
         let outs = one(alloc, from, rid, Msg::Issued { pos, links })?;
-        self.streams.note_each(pos, oids)?;
-        self.next = pos + 1;
+        self.parts.streams.note_each(pos, oids)?;
+        self.parts.next = pos + 1;
         Ok((self, outs))
     }
 
@@ -265,7 +265,7 @@ impl State {
         match self.refusal(epoch) {
             Some(epoch) => self.answer(alloc, from, rid, Msg::OldEpoch { epoch }),
             None => {
-                let links = self.streams.links(alloc, oids)?;
+                let links = self.parts.streams.links(alloc, oids)?;
                 let msg = self.stand(links);
                 self.answer(alloc, from, rid, msg)
             }
@@ -276,7 +276,7 @@ impl State {
     fn passes_by(&self, proj: &Projection) -> bool
         ensures { result ≡ (not (proj.now.seq == self.now.num) || nat_lt proj.now.epoch self.now.epoch) }
     {
-        proj.seq != self.num || proj.epoch < self.epoch
+        proj.seq != self.parts.num || proj.epoch < self.parts.epoch
     }
 
     /// A layout is told.
@@ -293,7 +293,7 @@ impl State {
         ensures drawn { IfOk result (λ r. r.0.rids ≤ self.rids + 2) }
     {
         if self.passes_by(&proj) {
-            let epoch = self.epoch;
+            let epoch = self.parts.epoch;
             return self.answer(alloc, from, rid, Msg::OldEpoch { epoch });
         }
         self.take(alloc, from, rid, proj)
@@ -322,7 +322,7 @@ impl State {
     fn is_before(&self, proj: &Projection) -> bool
         ensures { result ≡ nat_lt self.now.epoch proj.now.epoch }
     {
-        self.epoch < proj.epoch
+        self.parts.epoch < proj.epoch
     }
 
     /// Its own layout is told once more.
@@ -331,7 +331,7 @@ impl State {
         ensures sends { IfOk result (λ r. r.1 ≡ (unfenced self.fence self from rid (answers self from rid (stand_answer self [] (scanning self)))).sends) }
         ensures drawn { IfOk result (λ r. r.0.rids ≡ self.rids) }
     {
-        match self.fence {
+        match self.parts.fence {
             Some(epoch) => self.answer(alloc, from, rid, Msg::OldEpoch { epoch }),
             None => {
                 let msg = self.stand(List::new(alloc));
@@ -353,12 +353,12 @@ impl State {
         ensures sends { IfOk result (λ r. r.1 ≡ (learns self (begun self proj) from rid).sends) }
         ensures drawn { IfOk result (λ r. r.0.rids ≤ self.rids + 2) }
     {
-        self.epoch = proj.epoch;
-        self.proj = proj;
-        self.next = 0;
-        self.streams = Streams::new(alloc);
-        self.fence = None;
-        self.scan = None;
+        self.parts.epoch = proj.epoch;
+        self.parts.proj = proj;
+        self.parts.next = 0;
+        self.parts.streams = Streams::new(alloc);
+        self.parts.fence = None;
+        self.parts.scan = None;
         let (state, mut outs) = self.go_on(alloc)?;
         let msg = state.stand(List::new(alloc));
         outs.insert(0, Out { to: from, rid, msg })?;
@@ -374,10 +374,10 @@ impl State {
         ensures asks { IfOk result (λ outs. outs ≡ seqr_asks self.now) }
         ensures free { self.now.scan ≡ None → IsOk result }
     {
-        match &self.scan {
+        match &self.parts.scan {
             None => Ok(List::new(alloc)),
             Some(scan) => {
-                let mut rids = self.rids;
+                let mut rids = self.parts.rids;
                 scan.again(alloc, &mut rids)
             }
         }
@@ -391,7 +391,7 @@ impl State {
         ensures drawn { IfOk result (λ r. r.0.rids ≤ self.rids + 1) }
     {
         if !self.is_scanning() {
-            self.scan = None;
+            self.parts.scan = None;
             return Ok((self, List::new(alloc)));
         }
         self.ask(alloc)
@@ -403,15 +403,15 @@ impl State {
         ensures place { record { chain = result.0; epoch = result.1; pos = result.2 } ≡ place_in self.now.proj self.now.next }
         ensures some { 0 < length result.0 }
     {
-        let pos = self.next;
-        (chain_of(&self.proj, pos), self.proj.epoch, pos)
+        let pos = self.parts.next;
+        (chain_of(&self.parts.proj, pos), self.parts.proj.epoch, pos)
     }
 
     /// The numbers of the requests to come.
     fn numbers(&self) -> Rids
         ensures { result.next ≡ self.now.rids }
     {
-        self.rids
+        self.parts.rids
     }
 
     /// The cell of the next position is asked for.
@@ -432,8 +432,8 @@ impl State {
         requires { is_scan rids.next self.next self.proj.start scan ≡ true }
         ensures { result ≡ record self { rids = rids.next; scan = scan } }
     {
-        self.rids = rids;
-        self.scan = scan;
+        self.parts.rids = rids;
+        self.parts.scan = scan;
         self
     }
 
@@ -457,7 +457,7 @@ impl State {
         ensures scan { result.1 ≡ self.scan }
         ensures room { is_scan self.rids self.next self.proj.start self.scan ≡ true }
     {
-        let scan = self.scan.take();
+        let scan = self.parts.scan.take();
         (self, scan)
     }
 
@@ -466,7 +466,7 @@ impl State {
         requires { self.scan ≡ None }
         ensures { result ≡ record self { rids = rids.next } }
     {
-        self.rids = rids;
+        self.parts.rids = rids;
         self
     }
 
@@ -513,7 +513,7 @@ impl State {
     {
         match turn {
             Turn::More { machine, outs } => {
-                self.scan = Some(machine);
+                self.parts.scan = Some(machine);
                 Ok((self, outs))
             }
             Turn::End { end, .. } => self.end(alloc, end),
@@ -533,11 +533,11 @@ impl State {
         match end {
             GetCellEnd::Done { cell } => self.pass(alloc, &cell),
             GetCellEnd::Gone { below } => {
-                self.next = below.min(self.proj.start);
+                self.parts.next = below.min(self.parts.proj.start);
                 self.go_on(alloc)
             }
             GetCellEnd::Fenced { epoch, .. } => {
-                self.fence = Some(epoch);
+                self.parts.fence = Some(epoch);
                 Ok((self, List::new(alloc)))
             }
         }
@@ -552,10 +552,12 @@ impl State {
         ensures sends { IfOk result (λ r. r.1 ≡ drawn_from self.rids (seqr_asks r.0)) }
         ensures drawn { IfOk result (λ r. r.0.rids ≤ self.rids + 1) }
     {
-        let pos = self.next;
+        let pos = self.parts.next;
+        // a number behind a box is known to be one once it is read
+        let _start = self.parts.proj.start;
         let oids = streams_of(alloc, cell)?;
-        self.streams.note_each(pos, oids.as_slice())?;
-        self.next += 1;
+        self.parts.streams.note_each(pos, oids.as_slice())?;
+        self.parts.next += 1;
         self.go_on(alloc)
     }
 }

@@ -28,12 +28,9 @@ use tg_world_servers::Servers;
 /// How many steps a run has at most.
 const MAX_STEPS: u32 = 200_000;
 
-/// A world: all nodes of a cluster, all packets that were ever sent, and the replies so far.
-///
-/// Each clause speaks of any world of the definitions that this one keeps: a step takes it to the definitions' step,
-/// and the answers are those of the definitions.
-pub struct World<K: Registry> {
-    servers: Servers,
+/// The clients of a world, and the replies so far, on the heap.
+#[derive(Drop)]
+struct Parts<K: Registry> {
     clients: Vec<Client<K>>,
     told: Vec<MarkOf<K>>,
     told_noted: Vec<CommandStart>,
@@ -41,16 +38,21 @@ pub struct World<K: Registry> {
     event: u64,
 }
 
+/// A world: all nodes of a cluster, all packets that were ever sent, and the replies so far.
+///
+/// Each clause speaks of any world of the definitions that this one keeps: a step takes it to the definitions' step,
+/// and the answers are those of the definitions.
+pub struct World<K: Registry> {
+    servers: Servers,
+    parts: Box<Parts<K>>,
+}
+
 // By hand, since a derived drop is proved anew wherever a value is dropped.
 impl<K: Registry> Drop for World<K> {
     fn drop(self) {
         let World {
             servers: _,
-            clients: _,
-            told: _,
-            told_noted: _,
-            noted: _,
-            event: _,
+            parts: _,
         } = self;
     }
 }
@@ -62,9 +64,9 @@ impl<K: Registry> Model for World<K> {
 
     ghost Value = { Kept (KeptClient K K.Op K.Ask K.Ans) (Mark K.Op K.Ask K.Ans) };
 
-    ghost view = { λ w. record { servers = w.servers; clients = w.clients.items; told = w.told.items; told_noted = w.told_noted.items; noted = w.noted.items; event = w.event } };
+    ghost view = { λ w. record { servers = w.servers; clients = w.parts.value.clients.items; told = w.parts.value.told.items; told_noted = w.parts.value.told_noted.items; noted = w.parts.value.noted.items; event = w.parts.value.event } };
 
-    ghost invariant = { λ w. IsSound w.servers w.clients.items w.told.items w.told_noted.items w.noted.items };
+    ghost invariant = { λ w. IsSound w.servers w.parts.value.clients.items w.parts.value.told.items w.parts.value.told_noted.items w.parts.value.noted.items };
 }
 
 impl<K: Registry> World<K> {
@@ -76,14 +78,15 @@ impl<K: Registry> World<K> {
         let servers = Servers::start(alloc, cluster)?;
         let clients = new_clients(alloc, cluster)?;
         let noted = new_noted(alloc, cluster.clients)?;
-        Ok(World {
-            servers,
+        let all = Parts {
             clients,
             told: Vec::new(alloc),
             told_noted: Vec::new(alloc),
             noted,
             event: 0,
-        })
+        };
+        let parts = Box::new(alloc, all)?;
+        Ok(World { servers, parts })
     }
 
     /// Every world keeps the rules.
@@ -91,7 +94,7 @@ impl<K: Registry> World<K> {
         ensures few { self.now.servers.steps ≤ 200000 }
         ensures whole { IsWhole self.now.servers self.now.clients self.now.told self.now.told_noted self.now.noted }
     {
-        let _event = self.event;
+        let _event = self.parts.event;
     }
 
     /// How many steps were taken. It takes no memory.
@@ -123,7 +126,7 @@ impl<K: Registry> World<K> {
     pub fn trace(&self) -> &[MarkOf<K>]
         ensures { (w : seen.World (meaning_of K.Registry)) → KeepsWorld (meaning_of K.Registry) self.now w → result.now ≡ seen.trace (meaning_of K.Registry) w }
     {
-        self.told.as_slice()
+        self.parts.told.as_slice()
     }
 
     /// What was noted of each reply's client. It takes no memory.
@@ -131,7 +134,7 @@ impl<K: Registry> World<K> {
     pub fn trace_noted(&self) -> &[CommandStart]
         ensures { (w : seen.World (meaning_of K.Registry)) → KeepsWorld (meaning_of K.Registry) self.now w → result.now ≡ map (λ t. t.noted) w.told }
     {
-        self.told_noted.as_slice()
+        self.parts.told_noted.as_slice()
     }
 
     /// The limit that was reached, if one was: the steps before the bytes. It takes no memory.
@@ -170,7 +173,7 @@ impl<K: Registry> World<K> {
     pub fn client(&self, num: u16) -> Option<&Client<K>>
         ensures { option_copied result ≡ slice_get self.now.clients num }
     {
-        self.clients.get(num as usize)
+        self.parts.clients.get(num as usize)
     }
 
     /// The lowest packet that waits, where no limit is reached. It takes no memory.
@@ -218,9 +221,9 @@ impl<K: Registry> World<K> {
     pub fn next_event(self) -> Result<World<K>, NoMemory>
         ensures { (w : seen.World (meaning_of K.Registry)) → KeepsWorld (meaning_of K.Registry) self w → IfOk result (λ r. KeepsWorld (meaning_of K.Registry) r (seen.next_event (meaning_of K.Registry) w)) }
     {
-        let event = self.event.checked_add(1).ok_or(NoMemory)?;
+        let event = self.parts.event.checked_add(1).ok_or(NoMemory)?;
         let mut world = self;
-        world.event = event;
+        world.parts.event = event;
         Ok(world)
     }
 
@@ -292,32 +295,26 @@ impl<K: Registry> World<K> {
     {
         let World {
             mut servers,
-            mut clients,
-            mut told,
-            mut told_noted,
-            mut noted,
-            event,
+            mut parts,
         } = self;
-        note_client(&mut noted, &clients[client as usize], client as usize);
-        let (outs, notes) = command(alloc, &mut clients, client as usize, cmd)?;
+        let inner = &mut *parts;
+        note_client(
+            &mut inner.noted,
+            &inner.clients[client as usize],
+            client as usize,
+        );
+        let (outs, notes) = command(alloc, &mut inner.clients, client as usize, cmd)?;
         tell::<K>(
-            &mut told,
-            &mut told_noted,
-            event,
+            &mut inner.told,
+            &mut inner.told_noted,
+            inner.event,
             client,
-            noted[client as usize],
+            inner.noted[client as usize],
             notes,
         )?;
         servers.send(client_node(client), outs.as_slice())?;
         servers.count_step();
-        Ok(World {
-            servers,
-            clients,
-            told,
-            told_noted,
-            noted,
-            event,
-        })
+        Ok(World { servers, parts })
     }
 
     // A packet is delivered.
@@ -355,24 +352,10 @@ impl<K: Registry> World<K> {
         ensures now { (p : Packet) → slice_get self.servers.post.packets number ≡ Some p → IfOk result (λ r. r ≡ record self { servers = counted (taken (runs self.servers p.to) (hands self.servers number) p) }) }
         ensures steps { IfOk result (λ r. r.servers.steps ≡ self.servers.steps + 1) }
     {
-        let World {
-            mut servers,
-            clients,
-            told,
-            told_noted,
-            noted,
-            event,
-        } = self;
+        let World { mut servers, parts } = self;
         servers.hand(number)?;
         let servers = servers.take(alloc, number)?;
-        Ok(World {
-            servers,
-            clients,
-            told,
-            told_noted,
-            noted,
-            event,
-        })
+        Ok(World { servers, parts })
     }
 
     // A packet is delivered to a client that runs.
@@ -386,40 +369,30 @@ impl<K: Registry> World<K> {
     {
         let World {
             mut servers,
-            mut clients,
-            mut told,
-            mut told_noted,
-            noted,
-            event,
+            mut parts,
         } = self;
+        let inner = &mut *parts;
         let packet = &servers.post().packets()[number as usize];
         let (outs, notes) = deliver(
             alloc,
-            &mut clients,
+            &mut inner.clients,
             num as usize,
             packet.from,
             packet.rid,
             &packet.msg,
         )?;
         tell::<K>(
-            &mut told,
-            &mut told_noted,
-            event,
+            &mut inner.told,
+            &mut inner.told_noted,
+            inner.event,
             num,
-            noted[num as usize],
+            inner.noted[num as usize],
             notes,
         )?;
         servers.hand(number)?;
         servers.send(client_node(num), outs.as_slice())?;
         servers.count_step();
-        Ok(World {
-            servers,
-            clients,
-            told,
-            told_noted,
-            noted,
-            event,
-        })
+        Ok(World { servers, parts })
     }
 
     // A packet is lost.
@@ -455,23 +428,9 @@ impl<K: Registry> World<K> {
         ensures now { IfOk result (λ r. r ≡ record self { servers = counted (ticked (runs self.servers node) self.servers node) }) }
         ensures steps { IfOk result (λ r. r.servers.steps ≡ self.servers.steps + 1) }
     {
-        let World {
-            servers,
-            clients,
-            told,
-            told_noted,
-            noted,
-            event,
-        } = self;
+        let World { servers, parts } = self;
         let servers = servers.tick(alloc, node)?;
-        Ok(World {
-            servers,
-            clients,
-            told,
-            told_noted,
-            noted,
-            event,
-        })
+        Ok(World { servers, parts })
     }
 
     // The tick of a client that runs.
@@ -484,31 +443,21 @@ impl<K: Registry> World<K> {
     {
         let World {
             mut servers,
-            mut clients,
-            mut told,
-            mut told_noted,
-            noted,
-            event,
+            mut parts,
         } = self;
-        let (outs, notes) = tick(alloc, &mut clients, num as usize)?;
+        let inner = &mut *parts;
+        let (outs, notes) = tick(alloc, &mut inner.clients, num as usize)?;
         tell::<K>(
-            &mut told,
-            &mut told_noted,
-            event,
+            &mut inner.told,
+            &mut inner.told_noted,
+            inner.event,
             num,
-            noted[num as usize],
+            inner.noted[num as usize],
             notes,
         )?;
         servers.send(client_node(num), outs.as_slice())?;
         servers.count_step();
-        Ok(World {
-            servers,
-            clients,
-            told,
-            told_noted,
-            noted,
-            event,
-        })
+        Ok(World { servers, parts })
     }
 
     // A node stops.
@@ -529,24 +478,10 @@ impl<K: Registry> World<K> {
         ensures now { IfOk result (λ r. r ≡ record self { servers = counted (stops self.servers node) }) }
         ensures steps { IfOk result (λ r. r.servers.steps ≡ self.servers.steps + 1) }
     {
-        let World {
-            mut servers,
-            clients,
-            told,
-            told_noted,
-            noted,
-            event,
-        } = self;
+        let World { mut servers, parts } = self;
         servers.stop(node)?;
         servers.count_step();
-        Ok(World {
-            servers,
-            clients,
-            told,
-            told_noted,
-            noted,
-            event,
-        })
+        Ok(World { servers, parts })
     }
 }
 

@@ -28,10 +28,9 @@ const MOST_STEPS: u32 = 200_000;
 /// How many bytes its packets may take.
 const MOST_BYTES: u64 = 268_435_456;
 
-/// All servers of a world, with all packets, the archive, and which nodes have stopped.
-///
-/// A method that moves a server gives the servers up where memory runs out.
-pub struct Servers {
+/// All servers of a world, on the heap.
+#[derive(Drop)]
+struct Parts {
     cluster: Cluster,
     first: Projection,
     units: Vec<Unit>,
@@ -43,20 +42,17 @@ pub struct Servers {
     steps: u32,
 }
 
+/// All servers of a world, with all packets, the archive, and which nodes have stopped.
+///
+/// A method that moves a server gives the servers up where memory runs out.
+pub struct Servers {
+    parts: Box<Parts>,
+}
+
 // By hand, since a derived drop is proved anew wherever a value is dropped.
 impl Drop for Servers {
     fn drop(self) {
-        let Servers {
-            cluster: _,
-            first: _,
-            units: _,
-            layouts: _,
-            seqrs: _,
-            stopped: _,
-            post: _,
-            archive: _,
-            steps: _,
-        } = self;
+        let Servers { parts: _ } = self;
     }
 }
 
@@ -67,9 +63,9 @@ impl Model for Servers {
 
     ghost Value = { ServersState };
 
-    ghost view = { λ s. record { cluster = s.cluster; units = s.units.items; layouts = s.layouts.items; seqrs = states_of s.seqrs.items; stopped = s.stopped; post = s.post; archive = s.archive.entries; steps = s.steps } };
+    ghost view = { λ s. record { cluster = s.parts.value.cluster; units = s.parts.value.units.items; layouts = s.parts.value.layouts.items; seqrs = states_of s.parts.value.seqrs.items; stopped = s.parts.value.stopped; post = s.parts.value.post; archive = s.parts.value.archive.entries; steps = s.parts.value.steps } };
 
-    ghost invariant = { λ s. IsWhole s.cluster s.first s.seqrs.items s.steps };
+    ghost invariant = { λ s. IsWhole s.parts.value.cluster s.parts.value.first s.parts.value.seqrs.items s.parts.value.steps };
 }
 
 impl Servers {
@@ -83,7 +79,7 @@ impl Servers {
         let layouts = new_layouts(alloc, cluster.layouts, &first)?;
         let seqrs = new_seqrs(alloc, cluster.seqs, cluster.limit, &first)?;
         let cluster = cluster.copy()?;
-        Ok(Servers {
+        let all = Parts {
             cluster,
             first,
             units,
@@ -93,21 +89,23 @@ impl Servers {
             post: Post::new(alloc),
             archive: BTreeMap::new(alloc),
             steps: 0,
-        })
+        };
+        let parts = Box::new(alloc, all)?;
+        Ok(Servers { parts })
     }
 
     /// How many steps were taken. It takes no memory.
     pub fn steps(&self) -> u32
         ensures { result ≡ self.now.steps }
     {
-        self.steps
+        self.parts.steps
     }
 
     /// The packets.
     pub fn post(&self) -> &Post
         ensures { result.now ≡ self.now.post }
     {
-        &self.post
+        &self.parts.post
     }
 
     /// Whether the header declares a node, and it hasn't stopped. It takes no memory.
@@ -122,17 +120,18 @@ impl Servers {
         ensures { result ≡ count_of self.now role }
     {
         match role {
-            Role::Unit => self.units.len(),
-            Role::Layout => self.layouts.len(),
-            Role::Seqr => self.seqrs.len(),
-            Role::Client => self.cluster.clients as usize,
+            Role::Unit => self.parts.units.len(),
+            Role::Layout => self.parts.layouts.len(),
+            Role::Seqr => self.parts.seqrs.len(),
+            Role::Client => self.parts.cluster.clients as usize,
         }
     }
 
     fn has_stopped(&self, node: NodeId) -> bool
         ensures { result ≡ has_stopped self.now node }
     {
-        self.stopped
+        self.parts
+            .stopped
             .as_slice()
             .iter()
             .any(|other| is_node(node, *other))
@@ -143,10 +142,10 @@ impl Servers {
     pub fn limit(&self) -> Option<Which>
         ensures { result ≡ servers_limit self.now }
     {
-        if self.steps >= MOST_STEPS {
+        if self.parts.steps >= MOST_STEPS {
             return Some(Which::Steps);
         }
-        if self.post.bytes() >= MOST_BYTES {
+        if self.parts.post.bytes() >= MOST_BYTES {
             return Some(Which::Bytes);
         }
         None
@@ -168,15 +167,24 @@ impl Servers {
     pub fn log(&self, alloc: Global) -> Result<List<(Pos, Cell)>, NoMemory>
         ensures { IfOk result (λ l. l ≡ log self.now) }
     {
-        let layout = newest(&self.first, self.post.packets(), self.cluster.layouts);
-        log_of(alloc, layout, self.units.as_slice(), &self.archive)
+        let layout = newest(
+            &self.parts.first,
+            self.parts.post.packets(),
+            self.parts.cluster.layouts,
+        );
+        log_of(
+            alloc,
+            layout,
+            self.parts.units.as_slice(),
+            &self.parts.archive,
+        )
     }
 
     /// The node that a packet goes to: None exactly where the packet isn't sent yet. It takes no memory.
     pub fn receiver(&self, number: u64) -> Option<NodeId>
         ensures { result ≡ receiver_of (slice_get self.now.post.packets number) }
     {
-        match self.post.packet(number) {
+        match self.parts.post.packet(number) {
             None => None,
             Some(packet) => Some(packet.to),
         }
@@ -187,21 +195,21 @@ impl Servers {
         ensures ok { OnOk result (self.new ≡ hands self.old number) }
         ensures kept { OnErr result (self.new ≡ self.old) }
     {
-        self.post.hand(number)
+        self.parts.post.hand(number)
     }
 
     /// A packet is lost. It takes no memory.
     pub fn lose(&mut self, number: u64)
         ensures { self.new ≡ loses self.old number }
     {
-        self.post.lose(number);
+        self.parts.post.lose(number);
     }
 
     /// What a node sends, in order. An `Err` is want of memory; some of the packets may be among those sent then.
     pub fn send(&mut self, from: NodeId, outs: &[Out]) -> Result<(), NoMemory>
         ensures { OnOk result (self.new ≡ sends self.old from outs.now) }
     {
-        self.post.send_all(from, outs)
+        self.parts.post.send_all(from, outs)
     }
 
     /// A node stops for good. An `Err` is want of memory, and changes nothing.
@@ -209,7 +217,7 @@ impl Servers {
         ensures ok { OnOk result (self.new ≡ stops self.old node) }
         ensures kept { OnErr result (self.new ≡ self.old) }
     {
-        self.stopped.insert(0, node)
+        self.parts.stopped.insert(0, node)
     }
 
     /// One step more is counted. It takes no memory.
@@ -217,7 +225,7 @@ impl Servers {
         requires { self.old.steps < 200000 }
         ensures { self.new ≡ counted self.old }
     {
-        self.steps += 1;
+        self.parts.steps += 1;
     }
 
     /// The server that a packet names takes it, if it runs, and the step is counted. A client takes nothing here.
@@ -291,42 +299,24 @@ impl Servers {
         ensures cluster { IfOk result (λ s. s.cluster ≡ self.cluster) }
         ensures steps { IfOk result (λ s. s.steps ≡ self.steps + 1) }
     {
-        let Servers {
-            cluster,
-            first,
-            mut units,
-            layouts,
-            seqrs,
-            stopped,
-            mut post,
-            mut archive,
-            steps,
-        } = self;
-        let packet = &post.packets()[number as usize];
+        let Servers { mut parts } = self;
+        let inner = &mut *parts;
+        let packet = &inner.post.packets()[number as usize];
         let (from, to, rid) = (packet.from, packet.to, packet.rid);
         archive_after(
             alloc,
-            &mut archive,
-            &first,
-            post.packets(),
-            cluster.layouts,
-            units.as_slice(),
+            &mut inner.archive,
+            &inner.first,
+            inner.post.packets(),
+            inner.cluster.layouts,
+            inner.units.as_slice(),
             num as usize,
             &packet.msg,
         )?;
-        let says = unit_takes(alloc, &mut units, num as usize, &packet.msg)?;
-        post.answer(to, from, rid, says)?;
-        Ok(Servers {
-            cluster,
-            first,
-            units,
-            layouts,
-            seqrs,
-            stopped,
-            post,
-            archive,
-            steps: steps + 1,
-        })
+        let says = unit_takes(alloc, &mut inner.units, num as usize, &packet.msg)?;
+        inner.post.answer(to, from, rid, says)?;
+        inner.steps += 1;
+        Ok(Servers { parts })
     }
 
     // A layout server takes a packet.
@@ -339,32 +329,14 @@ impl Servers {
         ensures cluster { IfOk result (λ s. s.cluster ≡ self.cluster) }
         ensures steps { IfOk result (λ s. s.steps ≡ self.steps + 1) }
     {
-        let Servers {
-            cluster,
-            first,
-            units,
-            mut layouts,
-            seqrs,
-            stopped,
-            mut post,
-            archive,
-            steps,
-        } = self;
-        let packet = &post.packets()[number as usize];
+        let Servers { mut parts } = self;
+        let inner = &mut *parts;
+        let packet = &inner.post.packets()[number as usize];
         let (from, to, rid) = (packet.from, packet.to, packet.rid);
-        let says = layout_takes(&mut layouts, num as usize, &packet.msg)?;
-        post.answer(to, from, rid, says)?;
-        Ok(Servers {
-            cluster,
-            first,
-            units,
-            layouts,
-            seqrs,
-            stopped,
-            post,
-            archive,
-            steps: steps + 1,
-        })
+        let says = layout_takes(&mut inner.layouts, num as usize, &packet.msg)?;
+        inner.post.answer(to, from, rid, says)?;
+        inner.steps += 1;
+        Ok(Servers { parts })
     }
 
     // A sequencer takes a packet.
@@ -377,38 +349,20 @@ impl Servers {
         ensures cluster { IfOk result (λ s. s.cluster ≡ self.cluster) }
         ensures steps { IfOk result (λ s. s.steps ≡ self.steps + 1) }
     {
-        let Servers {
-            cluster,
-            first,
-            units,
-            layouts,
-            mut seqrs,
-            stopped,
-            mut post,
-            archive,
-            steps,
-        } = self;
-        let packet = &post.packets()[number as usize];
+        let Servers { mut parts } = self;
+        let inner = &mut *parts;
+        let packet = &inner.post.packets()[number as usize];
         let outs = seqr_takes(
             alloc,
-            &mut seqrs,
+            &mut inner.seqrs,
             num as usize,
             packet.from,
             packet.rid,
             &packet.msg,
         )?;
-        post.send_all(seqr(num), outs.as_slice())?;
-        Ok(Servers {
-            cluster,
-            first,
-            units,
-            layouts,
-            seqrs,
-            stopped,
-            post,
-            archive,
-            steps: steps + 1,
-        })
+        inner.post.send_all(seqr(num), outs.as_slice())?;
+        inner.steps += 1;
+        Ok(Servers { parts })
     }
 
     // A sequencer's tick.
@@ -420,30 +374,12 @@ impl Servers {
         ensures cluster { IfOk result (λ s. s.cluster ≡ self.cluster) }
         ensures steps { IfOk result (λ s. s.steps ≡ self.steps + 1) }
     {
-        let Servers {
-            cluster,
-            first,
-            units,
-            layouts,
-            mut seqrs,
-            stopped,
-            mut post,
-            archive,
-            steps,
-        } = self;
-        let outs = seqr_ticks(alloc, &mut seqrs, num as usize)?;
-        post.send_all(seqr(num), outs.as_slice())?;
-        Ok(Servers {
-            cluster,
-            first,
-            units,
-            layouts,
-            seqrs,
-            stopped,
-            post,
-            archive,
-            steps: steps + 1,
-        })
+        let Servers { mut parts } = self;
+        let inner = &mut *parts;
+        let outs = seqr_ticks(alloc, &mut inner.seqrs, num as usize)?;
+        inner.post.send_all(seqr(num), outs.as_slice())?;
+        inner.steps += 1;
+        Ok(Servers { parts })
     }
 }
 

@@ -49,7 +49,8 @@ pub fn new_seqrs(
     let mut seqrs = Vec::new(alloc);
     for num in 0..count {
         let first = first.copy()?;
-        seqrs.push(Seqr::new(alloc, num, limit, first))?;
+        let seqr = Seqr::new(alloc, num, limit, first)?;
+        seqrs.push(seqr)?;
     }
     Ok(seqrs)
 }

@@ -21,12 +21,12 @@ pub returns-clause-keeps : goal.returns-clause-keeps
 returns-clause-keeps g c = λ w p h at to.
     let m = means g.K.Kind g.K.Registry in
     let s : ServersState = c.self.inside.servers in
-    let k : KeptOf m = record { servers = c.self.inside.servers; clients = c.self.inside.clients.items; told = c.self.inside.told.items; told_noted = c.self.inside.told_noted.items; noted = c.self.inside.noted.items; event = c.self.inside.event } in
-    let l : KeptOf m = record { servers = c.count_step.new.self; clients = c.deliver.new.clients.items; told = c.tell.new.told.items; told_noted = c.tell.new.told_noted.items; noted = c.self.inside.noted.items; event = c.self.inside.event } in
+    let k : KeptOf m = record { servers = c.self.inside.servers; clients = c.self.inside.parts.value.clients.items; told = c.self.inside.parts.value.told.items; told_noted = c.self.inside.parts.value.told_noted.items; noted = c.self.inside.parts.value.noted.items; event = c.self.inside.parts.value.event } in
+    let l : KeptOf m = record { servers = c.count_step.new.self; clients = c.deliver.new.clients.items; told = c.tell.new.told.items; told_noted = c.tell.new.told_noted.items; noted = c.self.inside.parts.value.noted.items; event = c.self.inside.parts.value.event } in
     let hk : KeepsWorld m k w = subst (λ (x : KeptOf m). KeepsWorld m x w) (sym c.self.view_is) h in
-    let within : c.args.num < length c.self.inside.clients.items = subst (λ (x : KeptOf m). c.args.num < length x.clients) (sym c.self.view_is) c.requires.within in
-    let within_noted : c.args.num < length c.self.inside.noted.items =
-    noted_within s c.self.inside.clients.items c.self.inside.told.items c.self.inside.told_noted.items c.self.inside.noted.items c.args.num c.self.invariant within in
+    let within : c.args.num < length c.self.inside.parts.value.clients.items = subst (λ (x : KeptOf m). c.args.num < length x.clients) (sym c.self.view_is) c.requires.within in
+    let within_noted : c.args.num < length c.self.inside.parts.value.noted.items =
+    noted_within s c.self.inside.parts.value.clients.items c.self.inside.parts.value.told.items c.self.inside.parts.value.told_noted.items c.self.inside.parts.value.noted.items c.args.num c.self.invariant within in
     let row : c.packets.result.now ≡ c.args.self.servers.post.packets =
     c.packets.ensures ∙ ap (λ (x : PostState). x.packets) c.post.ensures ∙ ap (λ (x : KeptOf m). x.servers.post.packets) c.self.view_is in
     let same : c.index-packets-number.result ≡ p = packet_there c.packets.result.now c.args.self.servers.post.packets c.args.number c.index-packets-number.result p row at c.index-packets-number.is in
@@ -42,7 +42,7 @@ returns-clause-keeps g c = λ w p h at to.
       sent = c.in_ok-outs.ensures.sends w.clients d hk.clients;
       replied = c.in_ok-outs.ensures.notes w.clients d hk.clients;
       servers = c.count_step.ensures ∙ ap (λ (x : ServersState). counted x) sent;
-      is_noted = was_there c.self.inside.noted.items c.args.num c.index.result.now (record { next = 1; epoch = 1; upto = 0 }) within_noted c.index.ensures;
+      is_noted = was_there c.self.inside.parts.value.noted.items c.args.num c.index.result.now (record { next = 1; epoch = 1; upto = 0 }) within_noted c.index.ensures;
       told = c.in_ok-tell.ensures.told;
       clients = c.in_ok-outs.ensures.keeps w.clients d hk.clients;
       event = refl;

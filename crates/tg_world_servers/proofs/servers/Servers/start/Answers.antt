@@ -2,13 +2,18 @@ use Rattle.std.proofs.Common.{sym, ap, ◌∙◌}
 use Rattle.tg_base.specs.Clusters.{Header}
 use Rattle.tg_protocol.specs.Layouts.{first_layout}
 use Rattle.tg_world_servers.specs.Rows.{states_of}
-use Rattle.tg_world_servers.specs.Servers.{servers_start}
+use Rattle.tg_world_servers.specs.Servers.{ServersState, servers_start}
+use Rattle.tg_world_servers.specs.declared.servers.Parts.{Parts}
 use Rattle.tg_world_servers.proofs.Taking.{started}
 use Rattle.tg_world_servers.proofs.servers.Servers.start.Goals as goal
+
+as_told : Parts → ServersState
+as_told p = record { cluster = p.cluster; units = p.units.items; layouts = p.layouts.items; seqrs = states_of p.seqrs.items; stopped = p.stopped; post = p.post; archive = p.archive.entries; steps = p.steps }
 
 pub returns : goal.returns
 returns c =
     let h : Header = record { units = c.cluster.inside.units; layouts = c.cluster.inside.layouts; seqs = c.cluster.inside.seqs; clients = c.cluster.inside.clients; limit = c.cluster.inside.limit; chains = c.cluster.inside.chains; objects = c.cluster.inside.objects } in
-    started h c.in_ok-cluster.cluster c.in_ok-units.units.items c.in_ok-layouts.layouts.items (states_of c.in_ok-seqrs.seqrs.items) c.in_ok-first.first c.new.result c.new-2.result c.new-3.result.entries (c.in_ok-cluster.ensures ∙ sym c.cluster.view_is)
+    ap as_told c.in_ok-parts.ensures.ok
+    ∙ started h c.in_ok-cluster.cluster c.in_ok-units.units.items c.in_ok-layouts.layouts.items (states_of c.in_ok-seqrs.seqrs.items) c.in_ok-first.first c.new.result c.new-2.result c.new-3.result.entries (c.in_ok-cluster.ensures ∙ sym c.cluster.view_is)
     (c.in_ok-first.ensures ∙ ap first_layout (sym c.cluster.view_is)) c.in_ok-units.ensures c.in_ok-layouts.ensures c.in_ok-seqrs.ensures.states c.new.ensures c.new-2.ensures c.new-3.ensures.empty
     ∙ ap servers_start c.cluster.view_is

@@ -9,18 +9,18 @@ use Rattle.tg_world_servers.proofs.servers.Servers.take_seqr.Goals as goal
 
 pub seqr_takes-requires-clause-room : goal.seqr_takes-requires-clause-room
 seqr_takes-requires-clause-room c =
-    has_room c.self.inside.cluster c.self.inside.first c.self.inside.seqrs.items c.self.inside.steps c.self.invariant
+    has_room c.self.inside.parts.value.cluster c.self.inside.parts.value.first c.self.inside.parts.value.seqrs.items c.self.inside.parts.value.steps c.self.invariant
     (subst (λ (s : ServersState). s.steps < 200000) (sym c.self.view_is) c.requires.room)
 
 pub invariant_of-result : goal.invariant_of-result
 invariant_of-result c =
-    whole_turned c.self.inside.cluster c.self.inside.first c.self.inside.seqrs.items c.seqr_takes.new.seqrs.items c.self.inside.steps c.self.invariant
-    (c.in_ok-outs.ensures.counted c.self.inside.steps c.self.invariant.counted)
+    whole_turned c.self.inside.parts.value.cluster c.self.inside.parts.value.first c.self.inside.parts.value.seqrs.items c.seqr_takes.new.seqrs.items c.self.inside.parts.value.steps c.self.invariant
+    (c.in_ok-outs.ensures.counted c.self.inside.parts.value.steps c.self.invariant.counted)
 
 pub returns-clause-now : goal.returns-clause-now
 returns-clause-now c = λ p at to.
-    let s : ServersState = (record { cluster = c.self.inside.cluster; units = c.self.inside.units.items; layouts = c.self.inside.layouts.items; seqrs = states_of c.self.inside.seqrs.items; stopped = c.self.inside.stopped; post = c.self.inside.post; archive = c.self.inside.archive.entries; steps = c.self.inside.steps }) in
+    let s : ServersState = (record { cluster = c.self.inside.parts.value.cluster; units = c.self.inside.parts.value.units.items; layouts = c.self.inside.parts.value.layouts.items; seqrs = states_of c.self.inside.parts.value.seqrs.items; stopped = c.self.inside.parts.value.stopped; post = c.self.inside.parts.value.post; archive = c.self.inside.parts.value.archive.entries; steps = c.self.inside.parts.value.steps }) in
     let found : c.index-packets-number.result ≡ p = packet_got c.packets.result.now c.args.self.post.packets c.args.number c.index-packets-number.result p (c.packets.ensures ∙ ap (λ (x : ServersState). x.post.packets) c.self.view_is) at c.index-packets-number.is in
     seqr_took s p c.index-packets-number.result c.args.num found to (states_of c.seqr_takes.new.seqrs.items) c.in_ok-outs.outs c.seqr.result c.send_all.new.self c.in_ok-outs.ensures.now c.in_ok-outs.ensures.sends c.seqr.ensures
-    (c.in_ok-send_all.ensures ∙ ap (λ (os : List Out). posted c.self.inside.post (map (packet_from c.seqr.result) os)) c.as_slice.ensures)
+    (c.in_ok-send_all.ensures ∙ ap (λ (os : List Out). posted c.self.inside.parts.value.post (map (packet_from c.seqr.result) os)) c.as_slice.ensures)
     ∙ ap (λ (x : ServersState). counted (seqr_takes x p)) c.self.view_is
