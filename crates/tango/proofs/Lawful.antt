@@ -15,7 +15,7 @@ use Rattle.tg_model.specs.Verdicts.{Fault, IsSameness, fault}
 use Rattle.tg_replay.specs.Outcomes.{Told}
 use Rattle.tg_trace.specs.Transcripts.{Entry, objects, reply, count, entry, stamps, is_transcript}
 use Rattle.tg_trace.specs.declared.transcript.Transcript.{Transcript}
-use Rattle.tg_audit_run.specs.Kinds.{all_kinds}
+use Rattle.tg_any.specs.AllKinds.{all_kinds}
 use Rattle.tg_audit_run.specs.Outcomes as verdicts
 use Rattle.tg_audit_run.specs.Outcomes.{IsToldOf}
 use Rattle.tg_audit_run.specs.Verdicts.{judged}

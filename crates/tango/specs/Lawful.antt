@@ -3,7 +3,7 @@ use Rattle.std.specs.Prelude.{◌≡◌, ℕ, true, List}
 use Rattle.tg_model.specs.Legal.{Legal}
 use Rattle.tg_trace.specs.Transcripts.{rendered, is_transcript}
 use Rattle.tg_trace.specs.declared.transcript.Transcript.{Transcript}
-use Rattle.tg_audit_run.specs.Kinds.{all_kinds}
+use Rattle.tg_any.specs.AllKinds.{all_kinds}
 
 -- its objects, its history and its replies make a legal run
 abbrev pub IsLegalRun : Transcript → Type 0

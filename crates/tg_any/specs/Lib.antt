@@ -3,6 +3,7 @@ pub mod Fronts
 pub mod Names
 pub mod Words
 pub mod Anys
+pub mod AllKinds
 pub mod AnyLaws
 pub mod DirectoryWords
 pub mod CounterWords

@@ -10,7 +10,7 @@ use Rattle.tg_audit.specs.Told.{verdict_of}
 use Rattle.tg_audit.specs.Same.{same_op, same_answer}
 use Rattle.tg_audit.specs.declared.verdict.Verdict.{Verdict}
 use Rattle.tg_audit.specs.declared.verdict.Verdict.TheVariants.{Legal, Illegal}
-use Rattle.tg_audit_run.specs.Kinds.{all_kinds}
+use Rattle.tg_any.specs.AllKinds.{all_kinds}
 
 -- what the rules of a legal run say of a transcript: that it is legal, or its first line that fails and the first clause there
 abbrev pub judged : Transcript → Verdict

@@ -3,7 +3,7 @@ use Rattle.std.proofs.Common.{◌≡◌, ℕ, zero, suc, List, [], ◌∷◌, le
 use Rattle.tg_base.specs.declared.fault.Which.{Which}
 use Rattle.tg_protocol.specs.Worlds.{ran}
 use Rattle.tg_script.specs.declared.line.Line.{Line}
-use Rattle.tg_replay.specs.Any.{all_kinds}
+use Rattle.tg_any.specs.AllKinds.{all_kinds}
 use Rattle.tg_replay.specs.Runs.{Worlds, Runs, line_on, lines_on}
 use Rattle.tg_replay.proofs.Making.{goes_on, stops, went_on}
 use Rattle.tg_bench.specs.Loads.{begun}

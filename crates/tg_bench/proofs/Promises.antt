@@ -6,7 +6,7 @@ use Rattle.tg_io.specs.declared.status.Status.{Status}
 use Rattle.tg_io.specs.declared.status.Status.TheVariants.{Done, Illegal, Words, Script as AtLine, ReadFault, WriteFault, LinkFault, Limit, NoMemory}
 use Rattle.tg_io.proofs.Bytes.{grows_none}
 use Rattle.tg_world.specs.Kept.{KeepsWorld}
-use Rattle.tg_replay.specs.Any.{all_kinds}
+use Rattle.tg_any.specs.AllKinds.{all_kinds}
 use Rattle.tg_replay.specs.declared.stages.End.{End}
 use Rattle.tg_replay.specs.declared.stages.End.TheVariants.{Whole, Outside, Limited}
 use Rattle.tg_replay.specs.declared.stages.Run.{Run}

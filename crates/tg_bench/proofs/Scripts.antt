@@ -8,7 +8,7 @@ use Rattle.tg_protocol.specs.Worlds.{start}
 use Rattle.tg_script.specs.declared.line.Line.{Line}
 use Rattle.tg_script.specs.declared.line.Line.TheVariants as line
 use Rattle.tg_gen.specs.Loads.{header, load_lines, load_text}
-use Rattle.tg_replay.specs.Any.{all_kinds}
+use Rattle.tg_any.specs.AllKinds.{all_kinds}
 use Rattle.tg_replay.specs.Runs.{Script, Worlds, Runs, IsScript, IsWithin, Tells, MayCome, run_of, world_of, front, PassesLimit}
 use Rattle.tg_replay.proofs.Exact.{limit_within}
 use Rattle.tg_bench.specs.Loads.{load, last_event}

@@ -7,7 +7,7 @@ use Rattle.tg_io.specs.declared.status.Status.TheVariants.{Done, Limit, WriteFau
 use Rattle.tg_protocol.specs.Worlds.{start, trace, history}
 use Rattle.tg_script.specs.declared.line.Line.{Line}
 use Rattle.tg_gen.specs.Loads.{header, load_lines}
-use Rattle.tg_replay.specs.Any.{all_kinds}
+use Rattle.tg_any.specs.AllKinds.{all_kinds}
 use Rattle.tg_replay.specs.Runs.{Script, Worlds, IsWithin, line_on, run_of, world_of}
 use Rattle.tg_replay.specs.declared.stages.End.{End}
 use Rattle.tg_replay.specs.declared.stages.End.TheVariants.{Whole, Outside, Limited}

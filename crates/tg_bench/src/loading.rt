@@ -9,7 +9,7 @@ ghost use Rattle.tg_io.specs.declared.status.Status.TheVariants.{Done, WriteFaul
 ghost use Rattle.tg_protocol.specs.Worlds as seen;
 ghost use Rattle.tg_world.specs.Kept.{KeepsWorld};
 ghost use Rattle.tg_gen.specs.Loads.{load_text};
-ghost use Rattle.tg_replay.specs.Any.{all_kinds};
+ghost use Rattle.tg_any.specs.AllKinds.{all_kinds};
 ghost use Rattle.tg_replay.specs.Runs.{Script, IsScript, IsWithin, Tells, run_of, world_of};
 ghost use Rattle.tg_replay.specs.Stages.{Finished, Ends, status_of};
 ghost use Rattle.tg_replay.specs.declared.stages.End.{End};

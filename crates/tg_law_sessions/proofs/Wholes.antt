@@ -7,7 +7,7 @@ use Rattle.tg_base.specs.declared.packet.Packet.{Packet}
 use Rattle.tg_model.specs.Kinds.{NoteOf}
 use Rattle.tg_trace.specs.Transcripts.{Reply}
 use Rattle.tg_node_state.specs.Nodes.{Node, NodeTurn, node_step}
-use Rattle.tg_node.specs.Any.{all_kinds}
+use Rattle.tg_any.specs.AllKinds.{all_kinds}
 use Rattle.tg_node.specs.Replies.{reply_in}
 use Rattle.tg_node.specs.Sessions.{AnyInput, Deed, Session, inputs_of, steps, plays, plays_lines, session, opening}
 use Rattle.tg_law_sessions.specs.Sessions.{Said, after, given, sends_of, says_of, said_by}

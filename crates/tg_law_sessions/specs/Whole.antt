@@ -5,7 +5,7 @@ use Rattle.tg_base.specs.Clusters.{Header}
 use Rattle.tg_base.specs.declared.ids.NodeId.{NodeId}
 use Rattle.tg_node_state.specs.Nodes.{node_start}
 use Rattle.tg_trace.specs.Transcripts.{Reply}
-use Rattle.tg_node.specs.Any.{all_kinds}
+use Rattle.tg_any.specs.AllKinds.{all_kinds}
 use Rattle.tg_node.specs.Sessions.{AnyInput, Deed, inputs_of, session}
 use Rattle.tg_law_sessions.specs.Sessions.{Said, after, given, sends_of, says_of}
 

@@ -11,7 +11,7 @@ use Rattle.tg_io.specs.declared.status.Status.{Status}
 use Rattle.tg_io.specs.declared.status.Status.TheVariants.{Done, Illegal, Words, Script as AtLine, ReadFault, WriteFault, LinkFault, Limit, NoMemory}
 use Rattle.tg_protocol.specs.Worlds.{nodes}
 use Rattle.tg_lines.specs.Lines.{lines}
-use Rattle.tg_replay.specs.Any.{all_kinds}
+use Rattle.tg_any.specs.AllKinds.{all_kinds}
 use Rattle.tg_replay.specs.Outcomes.{Told}
 use Rattle.tg_replay.specs.Runs.{Script, Tells, Begins, front, line_text, text_lines}
 use Rattle.tg_replay.proofs.Exact.{same_front, three_more, begins_less, tells_begins, le_or_lt, head_same, cons_same}

@@ -7,7 +7,7 @@ use Rattle.tg_io.specs.declared.link.Sent.{Sent}
 use Rattle.tg_io.proofs.Bytes.{grows_none}
 use Rattle.tg_live.specs.Books.{IsBook}
 use Rattle.tg_protocol.specs.Worlds.{limit_of, start}
-use Rattle.tg_replay.specs.Any.{all_kinds}
+use Rattle.tg_any.specs.AllKinds.{all_kinds}
 use Rattle.tg_replay.specs.Runs.{Worlds, Runs, line_on, line_text}
 use Rattle.tg_script.specs.Headers.{lines_text}
 use Rattle.tg_script.specs.declared.line.Line.{Line}

@@ -7,7 +7,7 @@ use Rattle.tg_io.specs.declared.link.Arrival.{Arrival}
 use Rattle.tg_live.specs.Matching.{matched}
 use Rattle.tg_model.specs.declared.command.Event.TheVariants as event
 use Rattle.tg_protocol.specs.Worlds.{ran, start, limit_of, runs, nodes}
-use Rattle.tg_replay.specs.Any.{all_kinds}
+use Rattle.tg_any.specs.AllKinds.{all_kinds}
 use Rattle.tg_replay.specs.Runs.{Worlds, Runs, line_on, lines_on}
 use Rattle.tg_replay.proofs.Making.{lines_longer}
 use Rattle.tg_script.specs.declared.line.Line.{Line}

@@ -10,7 +10,7 @@ use Rattle.tg_model.specs.declared.command.Command.TheVariants as cmd
 use Rattle.tg_model.specs.declared.command.Event.TheVariants as event
 use Rattle.tg_protocol.specs.Worlds.{next_event, limit_of, unless_stopped}
 use Rattle.tg_world.specs.Runs.{happens_by, happens_on, puts_on, updates_on}
-use Rattle.tg_replay.specs.Any.{all_kinds}
+use Rattle.tg_any.specs.AllKinds.{all_kinds}
 use Rattle.tg_replay.specs.Runs.{Worlds, Runs, line_on}
 use Rattle.tg_replay.proofs.Making.{goes_on, stops}
 use Rattle.tg_script.specs.declared.line.Line.{Line}

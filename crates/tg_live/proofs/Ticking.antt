@@ -6,7 +6,7 @@ use Rattle.tg_base.specs.declared.ids.NodeId.{NodeId}
 use Rattle.tg_io.specs.declared.link.Sent.{Sent}
 use Rattle.tg_model.specs.declared.command.Event.TheVariants as event
 use Rattle.tg_protocol.specs.Worlds.{runs, nodes}
-use Rattle.tg_replay.specs.Any.{all_kinds}
+use Rattle.tg_any.specs.AllKinds.{all_kinds}
 use Rattle.tg_script.specs.declared.line.Line.TheVariants as line
 use Rattle.tg_live.specs.declared.live.Went.{Went}
 use Rattle.tg_live.specs.Lives.{Answer, Live, LiveRan, goes, recorded, onward, ticked, Makes, Then, IsDrained, IsRounds}

@@ -4,7 +4,7 @@ use Rattle.tg_base.specs.Clusters.{Header}
 use Rattle.tg_io.specs.Bytes.{Grows}
 use Rattle.tg_io.specs.declared.link.Sent.{Sent}
 use Rattle.tg_live.specs.Books.{IsBook}
-use Rattle.tg_replay.specs.Any.{all_kinds}
+use Rattle.tg_any.specs.AllKinds.{all_kinds}
 use Rattle.tg_replay.specs.Runs.{line_text}
 use Rattle.tg_script.specs.Headers.{lines_text}
 use Rattle.tg_world.specs.Kept.{KeepsWorld}

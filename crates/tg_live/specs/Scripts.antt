@@ -8,7 +8,7 @@ use Rattle.tg_io.specs.declared.status.Status.{Status}
 use Rattle.tg_io.specs.declared.status.Status.TheVariants.{Done, Script as AtLine, Limit}
 use Rattle.tg_model.specs.declared.command.Event.TheVariants as event
 use Rattle.tg_lines.specs.Lines.{lines}
-use Rattle.tg_replay.specs.Any.{all_kinds}
+use Rattle.tg_any.specs.AllKinds.{all_kinds}
 use Rattle.tg_replay.specs.Runs.{Script, IsLine, IsWithin, Tells, Begins, front, line_text, text_lines, transcript, world_of}
 use Rattle.tg_script.specs.Headers.{lines_text}
 use Rattle.tg_script.specs.declared.line.Line.{Line}

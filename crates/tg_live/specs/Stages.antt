@@ -6,7 +6,7 @@ use Rattle.tg_io.specs.Bytes.{Grows}
 use Rattle.tg_io.specs.declared.link.Sent.{Sent}
 use Rattle.tg_io.specs.declared.status.Status.{Status}
 use Rattle.tg_lines.specs.Lines.{lines}
-use Rattle.tg_replay.specs.Any.{all_kinds}
+use Rattle.tg_any.specs.AllKinds.{all_kinds}
 use Rattle.tg_replay.specs.Runs.{Script, front, text_lines}
 use Rattle.tg_replay.specs.Stages.{status_of}
 use Rattle.tg_replay.specs.declared.stages.End.TheVariants.{Outside, Limited}

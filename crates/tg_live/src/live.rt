@@ -9,7 +9,7 @@ ghost use Rattle.tg_io.specs.declared.link.Sent.{Sent};
 ghost use Rattle.tg_live.specs.Books.{IsBook};
 ghost use Rattle.tg_protocol.specs.Worlds as seen;
 ghost use Rattle.tg_world.specs.Kept.{IsWorld, KeepsWorld};
-ghost use Rattle.tg_replay.specs.Any.{all_kinds};
+ghost use Rattle.tg_any.specs.AllKinds.{all_kinds};
 ghost use Rattle.tg_replay.specs.Runs.{line_in, line_on, line_text};
 ghost use Rattle.tg_live.specs.Sends.{AreFit, AreSent, IsMadeOver, spellings, sending};
 ghost use Rattle.tg_live.specs.Lives.{Live as live, is_steps, recorded, after_line, opened, came};

@@ -11,7 +11,7 @@ ghost use Rattle.tg_io.specs.declared.status.Status as status;
 ghost use Rattle.tg_io.specs.declared.status.Status.TheVariants.{Done, Script as AtLine, ReadFault, WriteFault, LinkFault, Limit, NoMemory as OutOfMemory};
 ghost use Rattle.tg_protocol.specs.Worlds as seen;
 ghost use Rattle.tg_world.specs.Kept.{KeepsWorld};
-ghost use Rattle.tg_replay.specs.Any.{all_kinds};
+ghost use Rattle.tg_any.specs.AllKinds.{all_kinds};
 ghost use Rattle.tg_replay.specs.Outcomes.{Told};
 ghost use Rattle.tg_replay.specs.Runs.{Script, Tells, transcript};
 ghost use Rattle.tg_live.specs.Kept.{Keeps};

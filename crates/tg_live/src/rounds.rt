@@ -5,7 +5,7 @@ ghost use Rattle.tg_base.specs.Clusters.{Header};
 ghost use Rattle.tg_io.specs.Faults.{HasCause, StaysSure};
 ghost use Rattle.tg_io.specs.declared.link.Sent.{Sent};
 ghost use Rattle.tg_world.specs.Kept.{IsWorld};
-ghost use Rattle.tg_replay.specs.Any.{all_kinds};
+ghost use Rattle.tg_any.specs.AllKinds.{all_kinds};
 ghost use Rattle.tg_live.specs.Lives.{Live as live, ticked, IsDrained, IsRounds, IsSettled};
 ghost use Rattle.tg_live.specs.Kept.{Keeps, KeepsRan, Made};
 

@@ -6,7 +6,7 @@ ghost use Rattle.tg_io.specs.Faults.{HasCause, StaysSure};
 ghost use Rattle.tg_io.specs.declared.link.Sent.{Sent};
 ghost use Rattle.tg_lines.specs.Lines.{ahead, TakesLine};
 ghost use Rattle.tg_lines.specs.Openings.{Opened};
-ghost use Rattle.tg_replay.specs.Any.{all_kinds};
+ghost use Rattle.tg_any.specs.AllKinds.{all_kinds};
 ghost use Rattle.tg_script.specs.Lines.{IsLine};
 ghost use Rattle.tg_script.specs.declared.line.Line.{Line as event_line};
 ghost use Rattle.tg_world.specs.Kept.{IsWorld};

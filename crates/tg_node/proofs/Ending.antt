@@ -17,7 +17,7 @@ use Rattle.tg_script.specs.Headers.{header_lines}
 use Rattle.tg_script.specs.Nodes.{is_declared}
 use Rattle.tg_node_state.specs.Nodes.{node_start}
 use Rattle.tg_node_state.specs.Kept.{KeepsNode, IsNode}
-use Rattle.tg_node.specs.Any.{all_kinds}
+use Rattle.tg_any.specs.AllKinds.{all_kinds}
 use Rattle.tg_node.specs.Sessions.{Session, opening}
 use Rattle.tg_node.specs.Texts.{Seen, IsSeen, IsText, FirstOutside, Refused, IsWithin, IsCutShort, Outcome, Told, IsOfNode}
 use Rattle.tg_node.specs.Openings.{Opened}

@@ -19,7 +19,7 @@ use Rattle.tg_node.specs.Lines.{IsAsked}
 use Rattle.tg_node.specs.Replies.{replies_text}
 use Rattle.tg_node.specs.declared.asked.Asked.{Asked}
 use Rattle.tg_node_state.specs.Kept.{KeepsNode}
-use Rattle.tg_node.specs.Any.{all_kinds}
+use Rattle.tg_any.specs.AllKinds.{all_kinds}
 use Rattle.tg_node.specs.Sessions.{AnyInput, Deed, Session, IsWhole, inputs_by, inputs_of, datagrams_in, answers_of, steps_of, datagrams_of, plays, plays_lines, session, opening}
 use Rattle.tg_node.specs.Texts.{Seen, IsSeen, AreAsked, NodeText, text_lines, IsText, Begins, FirstOutside, AreDone, Point, session_at, answers_at, Followed, IsPart, IsPast, IsAnother, IsOver, Midst, session_in, answers_in, Limited, IsFront, IsCutShort, Outcome}
 use Rattle.tg_node.specs.Steps.{Stands, IsSound, after, Goes, EndsLine, TakesLine, TookLine}

@@ -29,7 +29,7 @@ use Rattle.tg_node_state.specs.Kept.{SteppedOf, KeepsTurn, KeepsNode, IsNode}
 use Rattle.tg_node_state.specs.declared.input.Input.TheVariants as input
 use Rattle.tg_node_state.proofs.Roles.{is_later}
 use Rattle.tg_trace.specs.Transcripts.{Reply, reply_text}
-use Rattle.tg_node.specs.Any.{all_kinds}
+use Rattle.tg_any.specs.AllKinds.{all_kinds}
 use Rattle.tg_node.specs.Sessions.{AnyInput, Deed, Session, IsWhole, inputs_by, input_of, packets_in, datagrams_in, datagrams_by, plays, steps}
 use Rattle.tg_node.specs.Texts.{IsPart, IsPast, IsAnother}
 use Rattle.tg_node.specs.Steps.{Stands, IsSound, after, Goes, Counts, Makes, EndsLine, TakesLine, TakesOne, Waits, TookLine}

@@ -1,4 +1,3 @@
-pub mod Any
 pub mod Sessions
 pub mod Texts
 pub mod Openings

@@ -15,7 +15,7 @@ use Rattle.tg_node.specs.declared.asked.Asked.TheVariants.{Tick, Wait, Given, Up
 use Rattle.tg_node_state.specs.Nodes.{Node, NodeTurn, InputOf, node_start, node_step}
 use Rattle.tg_node_state.specs.declared.input.Input.TheVariants as input
 use Rattle.tg_trace.specs.Transcripts.{Reply}
-use Rattle.tg_node.specs.Any.{all_kinds}
+use Rattle.tg_any.specs.AllKinds.{all_kinds}
 
 abbrev pub AnyInput : Type 0
 AnyInput = InputOf all_kinds

@@ -11,7 +11,7 @@ use Rattle.tg_base.specs.Clusters.{Header}
 use Rattle.tg_node.specs.declared.nodes.Moved.{Moved}
 use Rattle.tg_lines.specs.Lines.{lines}
 use Rattle.tg_node_state.specs.Kept.{KeepsNode}
-use Rattle.tg_node.specs.Any.{all_kinds}
+use Rattle.tg_any.specs.AllKinds.{all_kinds}
 use Rattle.tg_node.specs.Sessions.{steps_of, datagrams_of}
 use Rattle.tg_node.specs.Texts.{Seen, IsSeen, Point, session_at, answers_at, Outcome, IsOfNode}
 use Rattle.tg_node.specs.Steps.{IsSound}

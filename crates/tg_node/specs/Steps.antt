@@ -11,7 +11,7 @@ use Rattle.tg_node.specs.Replies.{replies_text}
 use Rattle.tg_node.specs.declared.asked.Asked.{Asked}
 use Rattle.tg_node.specs.declared.asked.Asked.TheVariants.{Tick, Wait, Given, Update}
 use Rattle.tg_node_state.specs.Kept.{KeepsNode, IsNode}
-use Rattle.tg_node.specs.Any.{all_kinds}
+use Rattle.tg_any.specs.AllKinds.{all_kinds}
 use Rattle.tg_node.specs.Sessions.{AnyInput, Deed, Session, IsWhole, inputs_by, packets_in, datagrams_in, plays}
 use Rattle.tg_node.specs.Texts.{IsPart, IsPast, IsAnother}
 use Rattle.tg_node.specs.declared.nodes.Node.{Node}

@@ -5,7 +5,7 @@ ghost use Rattle.tg_io.specs.Faults.{HasCause, StaysSure};
 ghost use Rattle.tg_io.specs.declared.link.Sent.{Sent};
 ghost use Rattle.tg_node_state.specs.Kept.{KeepsNode, IsNode};
 ghost use Rattle.tg_node_state.specs.Nodes.{node_start};
-ghost use Rattle.tg_node.specs.Any.{all_kinds};
+ghost use Rattle.tg_any.specs.AllKinds.{all_kinds};
 ghost use Rattle.tg_node.specs.Sessions.{Session, turned};
 ghost use Rattle.tg_node.specs.Steps.{Stands, Goes, IsSound};
 

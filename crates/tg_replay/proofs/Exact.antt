@@ -12,7 +12,7 @@ use Rattle.tg_script.specs.declared.line.Line.{Line}
 use Rattle.tg_script.proofs.Clusters.{same_header}
 use Rattle.tg_script.proofs.EventLines.{line_only}
 use Rattle.tg_lines.specs.Lines.{lines}
-use Rattle.tg_replay.specs.Any.{all_kinds}
+use Rattle.tg_any.specs.AllKinds.{all_kinds}
 use Rattle.tg_replay.specs.Runs.{Script, IsScript, IsWithin, IsLine, line_text, text_lines, run_of, front, Begins, Tells, FirstOutside, PassesLimit}
 use Rattle.tg_replay.specs.Outcomes.{Written}
 use Rattle.tg_replay.proofs.Making.{front_goes_on}

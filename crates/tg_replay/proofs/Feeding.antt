@@ -11,7 +11,7 @@ use Rattle.tg_world.specs.Kept.{KeepsWorld}
 use Rattle.tg_lines.specs.Lines.{lines, ahead, TakesLine}
 use Rattle.tg_lines.specs.Openings.{Opened}
 use Rattle.tg_lines.specs.declared.header.Opening.TheVariants.{Opens, Outside as IsOutsideAt}
-use Rattle.tg_replay.specs.Any.{all_kinds}
+use Rattle.tg_any.specs.AllKinds.{all_kinds}
 use Rattle.tg_replay.specs.Runs.{Script, IsLine, MayCome, Runs, line_on, line_text, world_of}
 use Rattle.tg_replay.specs.declared.stages.Run.{Run}
 use Rattle.tg_replay.specs.declared.stages.End.{End}

@@ -3,7 +3,7 @@ use Rattle.std.proofs.Common.{◌≡◌, ℕ, zero, suc, List, [], ◌∷◌, �
 use Rattle.tg_base.specs.declared.fault.Which.{Which}
 use Rattle.tg_protocol.specs.Worlds.{ran, unless_stopped}
 use Rattle.tg_script.specs.declared.line.Line.{Line}
-use Rattle.tg_replay.specs.Any.{all_kinds}
+use Rattle.tg_any.specs.AllKinds.{all_kinds}
 use Rattle.tg_replay.specs.Runs.{Worlds, Runs, line_on, lines_on}
 
 -- no limit has stopped the first steps, and the others follow

@@ -9,7 +9,7 @@ use Rattle.tg_script.specs.Headers.{header_lines, IsFirstOutside}
 use Rattle.tg_script.specs.declared.line.Line.{Line}
 use Rattle.tg_script.proofs.Clusters.{same_header}
 use Rattle.tg_world.specs.Kept.{KeepsWorld}
-use Rattle.tg_replay.specs.Any.{all_kinds}
+use Rattle.tg_any.specs.AllKinds.{all_kinds}
 use Rattle.tg_replay.specs.declared.stages.Run.{Run}
 use Rattle.tg_replay.specs.Runs.{Script, IsScript, IsWithin, IsLine, MayCome, Runs, line_on, lines_on, line_text, text_lines, run_of, world_of, front, transcript, FirstOutside, PassesLimit, Replayed, Refused, Limited, printed_before}
 use Rattle.tg_lines.specs.Lines.{lines}

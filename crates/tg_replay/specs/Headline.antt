@@ -6,7 +6,7 @@ use Rattle.tg_protocol.specs.Runs.{Moves, Reaches}
 use Rattle.tg_protocol.specs.Headline.{Holds}
 use Rattle.tg_trace.specs.Transcripts.{is_transcript}
 use Rattle.tg_trace.specs.declared.transcript.Transcript.{Transcript}
-use Rattle.tg_replay.specs.Any.{all_kinds}
+use Rattle.tg_any.specs.AllKinds.{all_kinds}
 use Rattle.tg_replay.specs.Runs.{Script, Worlds, IsScript, IsWithin, Replayed, world_of}
 
 -- the run of a script reaches its world

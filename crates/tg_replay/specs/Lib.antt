@@ -1,4 +1,3 @@
-pub mod Any
 pub mod Runs
 pub mod Stages
 pub mod Outcomes

@@ -18,7 +18,7 @@ use Rattle.tg_script.specs.declared.line.Line.TheVariants as line
 use Rattle.tg_trace.specs.Transcripts.{rendered}
 use Rattle.tg_lines.specs.Lines.{lines}
 use Rattle.tg_world.specs.Runs.{happens_on, updates_on}
-use Rattle.tg_replay.specs.Any.{all_kinds}
+use Rattle.tg_any.specs.AllKinds.{all_kinds}
 
 abbrev pub Worlds : Type 0
 Worlds = World all_kinds

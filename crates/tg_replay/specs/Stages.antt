@@ -9,7 +9,7 @@ use Rattle.tg_protocol.specs.Worlds.{unless_stopped}
 use Rattle.tg_io.specs.declared.status.Status.{Status}
 use Rattle.tg_io.specs.declared.status.Status.TheVariants.{Done, Script as AtLine, Limit}
 use Rattle.tg_world.specs.Kept.{IsWorld, KeepsWorld}
-use Rattle.tg_replay.specs.Any.{all_kinds}
+use Rattle.tg_any.specs.AllKinds.{all_kinds}
 use Rattle.tg_replay.specs.declared.stages.End.{End}
 use Rattle.tg_replay.specs.declared.stages.End.TheVariants.{Whole, Outside, Limited}
 use Rattle.tg_replay.specs.declared.stages.Run.{Run}

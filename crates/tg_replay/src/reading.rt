@@ -4,7 +4,7 @@ ghost use Rattle.std.specs.Prelude.{ℕ, List, IfOk, IfSome};
 ghost use Rattle.tg_io.specs.Faults.{HasCause, StaysSure};
 ghost use Rattle.tg_lines.specs.Lines.{ahead};
 ghost use Rattle.tg_world.specs.Kept.{IsWorld};
-ghost use Rattle.tg_replay.specs.Any.{all_kinds};
+ghost use Rattle.tg_any.specs.AllKinds.{all_kinds};
 ghost use Rattle.tg_replay.specs.Stages.{Finished, Reads};
 
 use crate::stages::{End, Fed, Finish, Run};

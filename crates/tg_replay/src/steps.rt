@@ -5,7 +5,7 @@ ghost use Rattle.tg_base.specs.Clusters.{IsHeader};
 ghost use Rattle.tg_protocol.specs.Worlds as seen;
 ghost use Rattle.tg_world.specs.Kept.{IsWorld, KeepsWorld};
 ghost use Rattle.tg_lines.specs.Lines.{lines};
-ghost use Rattle.tg_replay.specs.Any.{all_kinds};
+ghost use Rattle.tg_any.specs.AllKinds.{all_kinds};
 ghost use Rattle.tg_replay.specs.Runs.{Script, MayCome, Runs, line_in, line_on};
 ghost use Rattle.tg_replay.specs.Stages.{Took, IsMade, IsOutside, IsRunOf, GoesOnKept};
 

@@ -8,7 +8,7 @@ ghost use Rattle.tg_io.specs.declared.status.Status as status;
 ghost use Rattle.tg_io.specs.declared.status.Status.TheVariants.{Done, Script as AtLine, ReadFault, WriteFault, Limit, NoMemory as OutOfMemory};
 ghost use Rattle.tg_protocol.specs.Worlds as seen;
 ghost use Rattle.tg_world.specs.Kept.{KeepsWorld};
-ghost use Rattle.tg_replay.specs.Any.{all_kinds};
+ghost use Rattle.tg_any.specs.AllKinds.{all_kinds};
 ghost use Rattle.tg_replay.specs.Runs.{Script, IsScript, IsWithin, Tells, FirstOutside, PassesLimit, Replayed, Refused, Limited, Outcome, transcript};
 ghost use Rattle.tg_replay.specs.Stages.{Finished, Ends};
 ghost use Rattle.tg_replay.specs.Outcomes.{Told, Written, IsCutShort, IsOfReplay};

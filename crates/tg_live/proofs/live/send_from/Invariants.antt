@@ -1,7 +1,7 @@
 use Rattle.std.proofs.Common.{◌≡◌, ◌≤◌, length, take}
 use Rattle.tg_io.specs.Faults.{StaysSure}
 use Rattle.tg_protocol.specs.Worlds.{World}
-use Rattle.tg_replay.specs.Any.{all_kinds}
+use Rattle.tg_any.specs.AllKinds.{all_kinds}
 use Rattle.tg_world.specs.Kept.{KeepsWorld}
 use Rattle.tg_live.specs.Sends.{AreFit, AreSent}
 use Rattle.tg_live.proofs.live.send_from.Given as goal

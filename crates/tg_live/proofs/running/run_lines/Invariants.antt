@@ -1,7 +1,7 @@
 use Rattle.std.proofs.Common.{◌≤◌, ◌+◌, length}
 use Rattle.tg_io.specs.Faults.{StaysSure}
 use Rattle.tg_lines.specs.Lines.{ahead}
-use Rattle.tg_replay.specs.Any.{all_kinds}
+use Rattle.tg_any.specs.AllKinds.{all_kinds}
 use Rattle.tg_world.specs.Kept.{IsWorld}
 use Rattle.tg_live.specs.Stages.{StillReads}
 use Rattle.tg_live.proofs.running.run_lines.Given as goal

@@ -2,7 +2,7 @@ use Rattle.std.proofs.Common.{◌≤◌, ◌+◌, length}
 use Rattle.tg_io.specs.Faults.{StaysSure}
 use Rattle.tg_lines.specs.Lines.{ahead}
 use Rattle.tg_world.specs.Kept.{IsWorld}
-use Rattle.tg_replay.specs.Any.{all_kinds}
+use Rattle.tg_any.specs.AllKinds.{all_kinds}
 use Rattle.tg_replay.specs.Stages.{StillReads}
 use Rattle.tg_replay.proofs.reading.read_events.Given as goal
 

@@ -1,5 +1,5 @@
 use Rattle.tg_protocol.specs.Worlds.{next_event}
-use Rattle.tg_replay.specs.Any.{all_kinds}
+use Rattle.tg_any.specs.AllKinds.{all_kinds}
 use Rattle.tg_replay.proofs.steps.make.Goals as goal
 
 pub play_line-requires : goal.play_line-requires

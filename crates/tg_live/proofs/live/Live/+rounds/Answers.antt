@@ -2,7 +2,7 @@ use Rattle.std.proofs.Common.{◌≡◌, ◌∙◌, ◌==◌, ◌-◌, ◌<◌, 
 use Rattle.std.proofs.lemmas.Result.{IfOk-weaker}
 use Rattle.tg_base.specs.declared.ids.NodeId.{NodeId}
 use Rattle.tg_protocol.specs.Worlds.{nodes}
-use Rattle.tg_replay.specs.Any.{all_kinds}
+use Rattle.tg_any.specs.AllKinds.{all_kinds}
 use Rattle.tg_live.specs.Lives.{ticked, IsRounds}
 use Rattle.tg_live.specs.Kept.{KeepsRan}
 use Rattle.tg_live.proofs.Options.{some_of, none_of, as_many, not_as_many}

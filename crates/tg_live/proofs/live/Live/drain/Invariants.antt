@@ -2,7 +2,7 @@ use Rattle.std.proofs.Common.{◌≡◌, ◌≤◌, ◌-◌, length, List, Optio
 use Rattle.tg_base.specs.Clusters.{Header}
 use Rattle.tg_io.specs.Faults.{StaysSure}
 use Rattle.tg_io.specs.declared.link.Sent.{Sent}
-use Rattle.tg_replay.specs.Any.{all_kinds}
+use Rattle.tg_any.specs.AllKinds.{all_kinds}
 use Rattle.tg_world.specs.Kept.{IsWorld}
 use Rattle.tg_live.specs.Lives.{Live}
 use Rattle.tg_live.specs.Kept.{Keeps}

@@ -1,6 +1,6 @@
 use Rattle.std.proofs.Common.{◌≡◌, ◌∙◌, Some, None, IfOk, refl, sym, subst}
 use Rattle.tg_protocol.specs.Worlds.{limit_of}
-use Rattle.tg_replay.specs.Any.{all_kinds}
+use Rattle.tg_any.specs.AllKinds.{all_kinds}
 use Rattle.tg_live.specs.Lives.{LiveRan}
 use Rattle.tg_live.specs.Kept.{KeepsRan}
 use Rattle.tg_live.proofs.Keeping.{recorded_stops, recorded_goes}
