@@ -5,3 +5,4 @@ pub mod Chains
 pub mod Steps
 pub mod Passing
 pub mod Learnt
+pub mod Rising

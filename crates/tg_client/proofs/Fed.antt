@@ -29,7 +29,7 @@ use Rattle.tg_chain.specs.declared.step.Next.{Next as Given}
 use Rattle.tg_chain.specs.declared.step.Next.TheVariants as given
 use Rattle.tg_stream.specs.Turns.{Over, given_to, ruled_to, shown as walk_shown, by_walk}
 use Rattle.tg_stream.specs.Walks.{Course, members_of, walk_fed, walk_fed_if}
-use Rattle.tg_trim.specs.declared.step.Step.{Step as TrimStep}
+use Rattle.tg_chain.specs.declared.step.Step.{Step as TrimStep}
 use Rattle.tg_trim.specs.declared.ends.TrimEnd.{TrimEnd}
 use Rattle.tg_trim.specs.Turns.{shown as trim_shown, by_trim, trim_fed}
 use Rattle.tg_chain.specs.declared.step.Step.{Step as CopyStep}

@@ -30,7 +30,7 @@ use Rattle.tg_chain.specs.declared.step.Step.{Step as WalkStep}
 use Rattle.tg_stream.specs.Turns.{shown as walk_shown, by_walk}
 use Rattle.tg_stream.specs.Walks.{Course, course_of, walk_of}
 use Rattle.tg_stream.proofs.Visits.{on-zero, on-none, on-known, on-unknown}
-use Rattle.tg_trim.specs.declared.step.Step.{Step as TrimStep}
+use Rattle.tg_chain.specs.declared.step.Step.{Step as TrimStep}
 use Rattle.tg_trim.specs.declared.ends.TrimEnd.{TrimEnd}
 use Rattle.tg_trim.specs.Turns.{shown as trim_shown, by_trim}
 use Rattle.tg_copy.specs.Turns.{spare_of}

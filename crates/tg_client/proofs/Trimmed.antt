@@ -11,8 +11,8 @@ use Rattle.tg_protocol.specs.Trimming.{Trims, Trimmed, TrimTurn, trim_asks}
 use Rattle.tg_protocol.specs.Answers.{Moved, answers}
 use Rattle.tg_protocol.specs.Clients as told
 use Rattle.tg_protocol.specs.ClientSteps.{task_asks, goes_on, learns_for, trim_to, on_trims}
-use Rattle.tg_trim.specs.declared.step.Step.{Step}
-use Rattle.tg_trim.specs.declared.step.Next.TheVariants as given
+use Rattle.tg_chain.specs.declared.step.Step.{Step}
+use Rattle.tg_chain.specs.declared.step.Next.TheVariants as given
 use Rattle.tg_trim.specs.declared.ends.TrimEnd.{TrimEnd}
 use Rattle.tg_trim.specs.Turns.{On, Paused as Waits, Over, given_to, ruled_to, new_asks, trim_end}
 use Rattle.tg_append.specs.Turns.{after as after-outs}

@@ -11,7 +11,7 @@ use Rattle.tg_chain.specs.declared.step.Step.{Step as AppendStep}
 use Rattle.tg_append.specs.declared.ends.AppendEnd.{AppendEnd}
 use Rattle.tg_append.specs.Turns.{shown as append_shown}
 use Rattle.tg_append.specs.Appends.{Paused, append_end, by_append}
-use Rattle.tg_trim.specs.declared.step.Step.{Step as TrimStep}
+use Rattle.tg_chain.specs.declared.step.Step.{Step as TrimStep}
 use Rattle.tg_trim.specs.declared.ends.TrimEnd.{TrimEnd}
 use Rattle.tg_trim.specs.Turns.{shown as trim_shown, by_trim}
 use Rattle.tg_chain.specs.declared.step.Step.{Step as CopyStep}

@@ -8,12 +8,12 @@ ghost use Rattle.tg_protocol.specs.ClientSteps.{client_command, client_deliver, 
 ghost use Rattle.tg_protocol.specs.Words.{directory};
 ghost use Rattle.tg_client.specs.Kept.{KeepsClient, IsClient};
 
-use crate::first::first_of;
 use crate::knows::known_cell;
 use crate::steps::{commanded, delivered};
 use crate::ticks::ticked;
 use std::alloc::Global;
 use tg_base::{Cell, Cluster, Epoch, List, Msg, NoMemory, NodeId, Oid, Out, Pos, Rids};
+use tg_chain::header_layout;
 use tg_client_cells::Known;
 use tg_client_state::{HeaderObjects, Moved, State, Work};
 use tg_kind::Registry;
@@ -60,7 +60,7 @@ impl<K: Registry> Client<K> {
     {
         let objects = HeaderObjects::of(cluster)?;
         let dir = K::fresh(alloc, Oid(0), objects.as_slice())?;
-        let stand = first_of(alloc, cluster)?;
+        let stand = header_layout(alloc, cluster)?;
         let hosted = directory_alone(alloc)?;
         let state = State {
             num,

@@ -12,7 +12,6 @@ mod counting;
 mod delivering;
 mod ends;
 mod feeding;
-mod first;
 mod knows;
 mod puts;
 mod records;

@@ -11,10 +11,11 @@ ghost use Rattle.tg_client.specs.Shown.{TrimShown};
 
 use std::alloc::Global;
 use tg_base::{NoMemory, Pos, Rids};
+use tg_chain::Next;
 use tg_client_state::{Job, Moved, Paused, State, Task, goes_on, learns, meets};
 use tg_kind::Registry;
 use tg_model::What;
-use tg_trim::{Next, TrimStep};
+use tg_trim::TrimStep;
 
 /// What the turn of trims makes of a client: they go on, a newer layout is learnt first, or all is trimmed. An `Err` is
 /// want of memory, or of numbers.

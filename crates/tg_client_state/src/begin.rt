@@ -14,7 +14,7 @@ use tg_base::{List, NoMemory, Oid, Out, Pos, Rids};
 use tg_chain::Next;
 use tg_entry::Draft;
 use tg_kind::Registry;
-use tg_trim::{Next as Then, Trims};
+use tg_trim::Trims;
 
 /// Request numbers from here on aren't drawn.
 const MOST: u64 = 1 << 62;
@@ -105,7 +105,7 @@ impl<K: Registry> State<K> {
         let step = Trims::start(alloc, &self.stand, below, &mut rids)?;
         let sends = step.outs;
         match step.next {
-            Then::Goes { machine } => Ok(Begun {
+            Next::Goes { machine } => Ok(Begun {
                 machine,
                 sends,
                 rids,

@@ -12,11 +12,11 @@ ghost use Rattle.tg_node_state.specs.Kept.{KeepsNode, KeepsTurn};
 use crate::own::{Own, Stepped};
 use std::alloc::Global;
 use tg_base::{Cluster, List, Msg, NoMemory, Out, Packet};
+use tg_chain::header_layout;
 use tg_kind::Registry;
 use tg_layout::Layout;
 use tg_seqr::Seqr;
 use tg_unit::Unit;
-use tg_world_servers::first_of;
 
 /// A unit before its first step. It takes no memory.
 pub fn new_unit<K: Registry>(alloc: Global, num: u16) -> Own<K>
@@ -29,7 +29,7 @@ pub fn new_unit<K: Registry>(alloc: Global, num: u16) -> Own<K>
 pub fn new_layout<K: Registry>(alloc: Global, cluster: &Cluster) -> Result<Own<K>, NoMemory>
     ensures { (steps : ℕ) → IfOk result (λ k. KeepsNode (meaning_of K.Registry) steps k (LayoutNode (layouts.new_layout (first_layout cluster.now)))) }
 {
-    let first = first_of(alloc, cluster)?;
+    let first = header_layout(alloc, cluster)?;
     Ok(Own::Layout(Layout::new(alloc, first)))
 }
 
@@ -37,7 +37,7 @@ pub fn new_layout<K: Registry>(alloc: Global, cluster: &Cluster) -> Result<Own<K
 pub fn new_seqr<K: Registry>(alloc: Global, cluster: &Cluster, num: u16) -> Result<Own<K>, NoMemory>
     ensures { (steps : ℕ) → IfOk result (λ k. KeepsNode (meaning_of K.Registry) steps k (SeqrNode (seqrs.new_seqr num cluster.now.limit (first_layout cluster.now)))) }
 {
-    let first = first_of(alloc, cluster)?;
+    let first = header_layout(alloc, cluster)?;
     let seqr = Seqr::new(alloc, num, cluster.limit, first)?;
     Ok(Own::Seqr(seqr))
 }

@@ -1,18 +1,16 @@
-//! The units of a layout, rising.
+//! The units of the next layout.
 
-ghost use Rattle.std.specs.Prelude.{◌≡◌, ◌≤◌, ◌++◌, length, IfOk, OnOk};
-ghost use Rattle.std.specs.List.{concat};
-ghost use Rattle.tg_proj.specs.Next.{rising_place};
-ghost use Rattle.tg_proj.specs.Refusals.{units_of as units_in};
-ghost use Rattle.tg_protocol.specs.Words.{with_num, with_nums};
+ghost use Rattle.std.specs.Prelude.{◌≡◌, ◌≤◌, length, IfOk};
 ghost use Rattle.tg_protocol.specs.Layouts.{next_units};
 ghost use Rattle.tg_reconf.specs.States.{IsOpen};
 
 use crate::plan::Plan;
 use std::alloc::Global;
-use tg_base::{Chain, List, NoMemory, Range};
+use tg_base::{List, NoMemory};
+use tg_chain::units_of;
 
 /// The units that stand in some chain of the next layout: at most 64.
+#[tactic(auto, using(crate::proofs::Rising::next_units_are))]
 pub fn units_after(alloc: Global, plan: &Plan) -> Result<List<u16>, NoMemory>
     requires { IsOpen plan.now }
     ensures units { IfOk result (λ us. us ≡ next_units plan.now.stand.proj plan.now.change) }
@@ -20,72 +18,5 @@ pub fn units_after(alloc: Global, plan: &Plan) -> Result<List<u16>, NoMemory>
 {
     let start = plan.stand.proj.start;
     let next = plan.next_layout(alloc, start)?;
-    next.rules();
-    let mut units = List::new(alloc);
-    put_ranges(next.ranges.as_slice(), &mut units)?;
-    Ok(units)
-}
-
-fn put_ranges(ranges: &[Range], units: &mut List<u16>) -> Result<(), NoMemory>
-    ensures { OnOk result (units.new ≡ with_nums (units_in ranges.now) units.old) }
-{
-    match ranges {
-        [] => Ok(()),
-        [range, others @ ..] => {
-            put_ranges(others, units)?;
-            put_chains(range.stripes.as_slice(), units)
-        }
-    }
-}
-
-fn put_chains(chains: &[Chain], units: &mut List<u16>) -> Result<(), NoMemory>
-    ensures { OnOk result (units.new ≡ with_nums (concat chains.now) units.old) }
-{
-    match chains {
-        [] => Ok(()),
-        [chain, others @ ..] => {
-            put_chains(others, units)?;
-            put_units(chain.as_slice(), units)
-        }
-    }
-}
-
-fn put_units(some: &[u16], units: &mut List<u16>) -> Result<(), NoMemory>
-    ensures { OnOk result (units.new ≡ with_nums some.now units.old) }
-{
-    match some {
-        [] => Ok(()),
-        [unit, others @ ..] => {
-            put_units(others, units)?;
-            put_unit(*unit, units)
-        }
-    }
-}
-
-/// Puts a unit into a rising list, unless it stands there.
-fn put_unit(unit: u16, units: &mut List<u16>) -> Result<(), NoMemory>
-    ensures { OnOk result (units.new ≡ with_num unit units.old) }
-{
-    let place = place_of(units.as_slice(), unit);
-    if place < units.len() && units.as_slice()[place] == unit {
-        return Ok(());
-    }
-    units.insert(place, unit)
-}
-
-/// How many units at the front are below a unit.
-fn place_of(units: &[u16], unit: u16) -> usize
-    ensures place { result ≡ rising_place units.now unit }
-    ensures bound { result ≤ length units.now }
-{
-    match units {
-        [] => 0,
-        [first, others @ ..] => {
-            if *first < unit {
-                1 + place_of(others, unit)
-            } else {
-                0
-            }
-        }
-    }
+    units_of(alloc, &next)
 }

@@ -19,7 +19,7 @@ use Rattle.tg_protocol.specs.Trimming.{Trims, Trimmed, trims_left, trim_asks, tr
 use Rattle.tg_trim.specs.Turns.{trim_fed, trim_fed_if}
 use Rattle.tg_protocol.specs.Requests.{awaits}
 use Rattle.tg_trim.specs.Laws.{TrimsWait, NextWaits, TrimsAreFew, fed_next, fed_all}
-use Rattle.tg_trim.proofs.Rising.{few_units}
+use Rattle.tg_chain.proofs.Rising.{few_units}
 use Rattle.tg_trim.proofs.Answers.{fed_waits}
 
 -- Some unit stands in a layout.

@@ -1,5 +1,4 @@
 pub mod Answers
 pub mod Awaiting
 pub mod Few
-pub mod Rising
 pub mod Started

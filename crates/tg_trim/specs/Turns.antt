@@ -10,9 +10,9 @@ use Rattle.tg_protocol.specs.Requests.{Next, Goes, Learns, Ends, passes, awaits}
 use Rattle.tg_protocol.specs.Trimming.{Trims, Trimmed, AllTrimmed, TrimTurn, trim_asks, trim_feed}
 use Rattle.tg_trim.specs.declared.ends.TrimEnd.{TrimEnd}
 use Rattle.tg_trim.specs.declared.ends.TrimEnd.TheVariants as ended
-use Rattle.tg_trim.specs.declared.step.Step.{Step}
-use Rattle.tg_trim.specs.declared.step.Next.{Next as Given}
-use Rattle.tg_trim.specs.declared.step.Next.TheVariants as given
+use Rattle.tg_chain.specs.declared.step.Step.{Step}
+use Rattle.tg_chain.specs.declared.step.Next.{Next as Given}
+use Rattle.tg_chain.specs.declared.step.Next.TheVariants as given
 
 -- what becomes of a trim: of one that has to learn a newer layout, the position below which it starts over there
 pub data Then : Type 0 where

@@ -5,13 +5,10 @@
 
 mod ends;
 mod laws;
-mod step;
 mod trims;
-mod units;
 
 pub use ends::TrimEnd;
 pub use laws::{
     trim_ends_by_answers, trim_pauses_by_answers, trim_waits_for_answers, trims_are_few, trims_wait,
 };
-pub use step::{Next, Step};
 pub use trims::{TrimStep, Trims};

@@ -11,12 +11,10 @@ ghost use Rattle.tg_trim.specs.Turns.{shown, by_trim, trim_fed};
 ghost use Rattle.tg_trim.specs.Laws.{tells_trim};
 
 use crate::ends::TrimEnd;
-use crate::step::{Next, Step};
-use crate::units::units_of;
 use std::alloc::Global;
 use std::marker::Model;
 use tg_base::{Epoch, List, Msg, NoMemory, NodeId, Out, Pos, Projection, Rids, Role};
-use tg_chain::{FAR, ask_alike, ask_units, is_awaited, without};
+use tg_chain::{FAR, Next, Step, ask_alike, ask_units, is_awaited, units_of, without};
 
 /// A step of a trim. In a newer layout it starts over below the same position.
 pub type TrimStep = Step<Trims, Pos, TrimEnd>;

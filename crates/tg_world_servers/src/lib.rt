@@ -2,14 +2,12 @@
 //! of trimmed cells, and which nodes have stopped.
 #![tactic(auto)]
 
-mod first;
 mod post;
 mod rows;
 mod servers;
 mod sizes;
 mod starts;
 
-pub use first::first_of;
 pub use post::Post;
 pub use servers::Servers;
 pub use sizes::size;

@@ -8,7 +8,6 @@ ghost use Rattle.tg_protocol.specs.Words.{node_eq, numbers, seqr_id};
 ghost use Rattle.tg_world_servers.specs.Servers.{servers_start, count_of, has_stopped, runs, nodes, node_of, log, counted, taken, takes, ticked, receiver_of, archive_by, unit_takes, layout_takes, seqr_takes, seqr_ticks, stops, sends, hands, loses, servers_limit};
 
 use crate::Post;
-use crate::first::first_of;
 use crate::rows::{layout_takes, seqr_takes, seqr_ticks, unit_takes};
 use crate::starts::{new_layouts, new_seqrs, new_units};
 use std::alloc::Global;
@@ -17,6 +16,7 @@ use std::marker::Model;
 use tg_base::{
     Cell, Cluster, List, Msg, NoMemory, NodeId, Out, Packet, Pos, Projection, Role, Which,
 };
+use tg_chain::header_layout;
 use tg_layout::Layout;
 use tg_seqr::Seqr;
 use tg_unit::Unit;
@@ -74,7 +74,7 @@ impl Servers {
     pub fn start(alloc: Global, cluster: &Cluster) -> Result<Servers, NoMemory>
         ensures { IfOk result (λ s. s ≡ servers_start cluster.now) }
     {
-        let first = first_of(alloc, cluster)?;
+        let first = header_layout(alloc, cluster)?;
         let units = new_units(alloc, cluster.units)?;
         let layouts = new_layouts(alloc, cluster.layouts, &first)?;
         let seqrs = new_seqrs(alloc, cluster.seqs, cluster.limit, &first)?;

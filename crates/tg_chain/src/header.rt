@@ -7,7 +7,7 @@ use std::alloc::Global;
 use tg_base::{Chain, Cluster, List, NoMemory, Projection, Range};
 
 /// The header's layout, of epoch 1. An `Err` is want of memory.
-pub fn first_of(alloc: Global, cluster: &Cluster) -> Result<Projection, NoMemory>
+pub fn header_layout(alloc: Global, cluster: &Cluster) -> Result<Projection, NoMemory>
     ensures { IfOk result (λ p. p ≡ first_layout cluster.now) }
 {
     cluster.rules();

@@ -1,5 +1,5 @@
 use Rattle.std.proofs.Common.{length}
-use Rattle.tg_trim.proofs.units.+place_of.Given as goal
+use Rattle.tg_chain.proofs.units.+place_of.Given as goal
 
 abbrev pub decreases-place_of : goal.decreases-place_of
 decreases-place_of l = length l.units.now

@@ -2,8 +2,8 @@ use Rattle.std.proofs.Common.{◌≡◌, sym, ap, subst, ◌∙◌}
 use Rattle.std.specs.Prelude.{OnOk}
 use Rattle.std.specs.List.{concat}
 use Rattle.tg_protocol.specs.Words.{with_nums}
-use Rattle.tg_trim.proofs.Rising.{ranges_step}
-use Rattle.tg_trim.proofs.units.+put_ranges.Goals as goal
+use Rattle.tg_chain.proofs.Rising.{ranges_step}
+use Rattle.tg_chain.proofs.units.+put_ranges.Goals as goal
 
 pub returns-in_ok-put_ranges-in-len1-up : goal.returns-in_ok-put_ranges-in-len1-up
 returns-in_ok-put_ranges-in-len1-up t c =

@@ -1,8 +1,8 @@
 use Rattle.std.proofs.Common.{◌≡◌, sym, ap, subst, ◌∙◌}
 use Rattle.std.specs.Prelude.{OnOk}
 use Rattle.tg_protocol.specs.Words.{with_nums}
-use Rattle.tg_reconf.proofs.Rising.{chains_step}
-use Rattle.tg_reconf.proofs.units.+put_chains.Goals as goal
+use Rattle.tg_chain.proofs.Rising.{chains_step}
+use Rattle.tg_chain.proofs.units.+put_chains.Goals as goal
 
 pub returns-in_ok-put_chains-in-len1-up : goal.returns-in_ok-put_chains-in-len1-up
 returns-in_ok-put_chains-in-len1-up t c =

@@ -1,9 +1,9 @@
 use Rattle.std.proofs.Common.{◌≡◌, ◌<◌, get_or, length, subst, ap, sym, ◌∙◌, arith}
 use Rattle.std.specs.Prelude.{insert, OnOk}
 use Rattle.tg_proj.specs.Next.{rising_place}
-use Rattle.tg_reconf.proofs.Rising.{num_there, num_new}
-use Rattle.tg_reconf.proofs.units.put_unit.Goals.{else-place-len-via-then-place-len+else-as_slice-place, else-place-len-via-else-place-len}
-use Rattle.tg_reconf.proofs.units.put_unit.Goals as goal
+use Rattle.tg_chain.proofs.Rising.{num_there, num_new}
+use Rattle.tg_chain.proofs.units.put_unit.Goals.{else-place-len-via-then-place-len+else-as_slice-place, else-place-len-via-else-place-len}
+use Rattle.tg_chain.proofs.units.put_unit.Goals as goal
 
 pub returns-then-as_slice-place : goal.returns-then-as_slice-place
 returns-then-as_slice-place c =

@@ -1,5 +1,5 @@
 use Rattle.std.proofs.Common.{length}
-use Rattle.tg_reconf.proofs.units.+put_ranges.Given as goal
+use Rattle.tg_chain.proofs.units.+put_ranges.Given as goal
 
 abbrev pub decreases-put_ranges : goal.decreases-put_ranges
 decreases-put_ranges l = length l.ranges.now

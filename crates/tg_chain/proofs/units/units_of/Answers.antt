@@ -2,8 +2,8 @@ use Rattle.std.proofs.Common.{◌≤◌, length, ap, sym, subst, ◌∙◌}
 use Rattle.tg_base.specs.Layouts.{Layout}
 use Rattle.tg_proj.specs.Refusals.{units_of as units_in}
 use Rattle.tg_protocol.specs.Words.{with_nums}
-use Rattle.tg_trim.proofs.Rising.{few_units}
-use Rattle.tg_trim.proofs.units.units_of.Goals as goal
+use Rattle.tg_chain.proofs.Rising.{few_units}
+use Rattle.tg_chain.proofs.units.units_of.Goals as goal
 
 pub returns-clause-few : goal.returns-clause-few
 returns-clause-few c =
