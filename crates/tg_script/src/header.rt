@@ -1,9 +1,8 @@
 //! The header of a script.
 
-ghost use Rattle.std.specs.Prelude.{◌≡◌, ◌≤◌, ℕ, List, length, map, Some, IfOk, MatchResult, option_map, true};
-ghost use Rattle.std.specs.List.{list_all};
-ghost use Rattle.tg_base.specs.Clusters.{Header, IsHeader, is_odd_to_seven, is_user_object, are_objects, number_of};
-ghost use Rattle.tg_base.specs.Units.{is_within, has, is_distinct};
+ghost use Rattle.std.specs.Prelude.{◌≡◌, ◌≤◌, ℕ, List, length, Some, IfOk, MatchResult, option_map, true};
+ghost use Rattle.tg_base.specs.Clusters.{Header, IsHeader, is_odd_to_seven};
+ghost use Rattle.tg_base.specs.Units.{is_within};
 ghost use Rattle.tg_base.specs.declared.fault.TextFault.TheVariants as fault;
 ghost use Rattle.tg_any.specs.Words.{texts, Phrase, object};
 ghost use Rattle.tg_script.specs.Parts.{words_of};
@@ -14,7 +13,7 @@ use crate::cut::{text_of, words};
 use crate::nodes::chains;
 use crate::reader::{Reader, each};
 use std::alloc::Global;
-use tg_any::{number, object};
+use tg_any::{are_objects, number, object};
 use tg_base::{Chain, Cluster, List, NoMemory, Oid, TextFault};
 
 /// How many nodes of each role there are, and how many positions the log may have.
@@ -242,47 +241,6 @@ impl Reader for ObjectWord {
     fn read(&self, _alloc: Global, spelling: &str) -> Result<Option<Oid>, NoMemory> {
         Ok(object(spelling.as_bytes()))
     }
-}
-
-// Whether an object stands in a list.
-fn has(objects: &[Oid], oid: Oid) -> bool
-    ensures { result ≡ has (map number_of objects.now) oid.0 }
-{
-    objects
-        .iter()
-        .map(|other| other.0)
-        .any(|number| number == oid.0)
-}
-
-// Whether no object stands twice.
-fn are_distinct(objects: &[Oid]) -> bool
-    ensures { result ≡ is_distinct (map number_of objects.now) }
-{
-    match objects {
-        [] => true,
-        [first, rest @ ..] => !has(rest, *first) && are_distinct(rest),
-    }
-}
-
-// Whether an object is one that a header may name.
-fn is_user_object(oid: Oid) -> bool
-    ensures { result ≡ is_user_object oid }
-{
-    0x100_0000 <= oid.0 && oid.0 < 0x700_0000
-}
-
-// Whether each object is one that a header may name.
-fn are_user_objects(objects: &[Oid]) -> bool
-    ensures { result ≡ list_all is_user_object objects.now }
-{
-    objects.iter().all(|oid| is_user_object(*oid))
-}
-
-// Whether a header may have these objects.
-fn are_objects(objects: &[Oid]) -> bool
-    ensures { result ≡ are_objects objects.now }
-{
-    objects.len() <= 256 && are_user_objects(objects) && are_distinct(objects)
 }
 
 // The objects that these words are.

@@ -1,9 +1,6 @@
 //! The lines of a transcript, as they are read.
 
 ghost use Rattle.std.specs.Prelude.{◌≡◌, map, codes, IfOk};
-ghost use Rattle.std.specs.List.{list_all};
-ghost use Rattle.tg_base.specs.Clusters.{number_of, is_user_object, are_objects};
-ghost use Rattle.tg_base.specs.Units.{has, is_distinct};
 ghost use Rattle.tg_any.specs.Words.{texts, object};
 ghost use Rattle.tg_trace.specs.Lines.{each};
 ghost use Rattle.tg_trace.specs.Transcripts.{objects, reply, write, writes, entry, count};
@@ -13,50 +10,9 @@ use crate::fields::{first, named, node, write};
 use crate::replies::what;
 use crate::transcript::{AnyDone, AnyMark};
 use std::alloc::Global;
-use tg_any::{AnyOp, object, one};
+use tg_any::{AnyOp, are_objects, object, one};
 use tg_base::{List, NoMemory, Oid};
 use tg_model::{Done, Mark};
-
-// Whether an object stands in a list.
-fn has(objects: &[Oid], oid: Oid) -> bool
-    ensures { result ≡ has (map number_of objects.now) oid.0 }
-{
-    objects
-        .iter()
-        .map(|other| other.0)
-        .any(|number| number == oid.0)
-}
-
-// Whether no object stands twice.
-fn are_distinct(objects: &[Oid]) -> bool
-    ensures { result ≡ is_distinct (map number_of objects.now) }
-{
-    match objects {
-        [] => true,
-        [first, rest @ ..] => !has(rest, *first) && are_distinct(rest),
-    }
-}
-
-// Whether an object is one that a header may name.
-fn is_user_object(oid: Oid) -> bool
-    ensures { result ≡ is_user_object oid }
-{
-    0x100_0000 <= oid.0 && oid.0 < 0x700_0000
-}
-
-// Whether each object is one that a header may name.
-fn are_user_objects(objects: &[Oid]) -> bool
-    ensures { result ≡ list_all is_user_object objects.now }
-{
-    objects.iter().all(|oid| is_user_object(*oid))
-}
-
-// Whether a header may have these objects.
-fn are_objects(objects: &[Oid]) -> bool
-    ensures { result ≡ are_objects objects.now }
-{
-    objects.len() <= 256 && are_user_objects(objects) && are_distinct(objects)
-}
 
 // The object of each word.
 fn each_object(alloc: Global, words: &[&str]) -> Result<Option<List<Oid>>, NoMemory>

@@ -1,5 +1,5 @@
 use Rattle.std.proofs.Common.{length}
-use Rattle.tg_script.proofs.header.+are_distinct.Given as goal
+use Rattle.tg_any.proofs.objects.+are_distinct.Given as goal
 
 abbrev pub decreases-are_distinct : goal.decreases-are_distinct
 decreases-are_distinct l = length l.objects.now
