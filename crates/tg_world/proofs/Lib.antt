@@ -12,3 +12,4 @@ mod Draining
 mod Ticking
 mod Rounds
 mod Parts
+mod Boxed

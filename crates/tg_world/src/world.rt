@@ -222,9 +222,9 @@ impl<K: Registry> World<K> {
         ensures { (w : seen.World (meaning_of K.Registry)) → KeepsWorld (meaning_of K.Registry) self w → IfOk result (λ r. KeepsWorld (meaning_of K.Registry) r (seen.next_event (meaning_of K.Registry) w)) }
     {
         let event = self.parts.event.checked_add(1).ok_or(NoMemory)?;
-        let mut world = self;
-        world.parts.event = event;
-        Ok(world)
+        let World { servers, mut parts } = self;
+        parts.event = event;
+        Ok(World { servers, parts })
     }
 
     /// One step: an event, which on a stopped node does nothing but count.

@@ -1,5 +1,5 @@
 -- Packets and their bytes after one more, and what becomes of them by a delivery and a loss.
-use Rattle.std.specs.Prelude.{◌≡◌, ℕ, ◌+◌, ◌-◌, ◌^◌, ◌≤◌, min, List, [], ◌∷◌, ◌++◌, length, map, reverse, refl}
+use Rattle.std.specs.Prelude.{◌≡◌, ℕ, ◌+◌, ◌-◌, ◌^◌, min, List, [], ◌∷◌, ◌++◌, length, reverse, refl}
 use Rattle.std.specs.BTreeMap.{is_at}
 use Rattle.std.specs.BTreeSet.{insert_key}
 use Rattle.std.specs.Ordering.{nat_cmp}
@@ -9,7 +9,6 @@ use Rattle.std.proofs.Math.Nat.{zero-add, add-zero}
 use Rattle.std.proofs.lemmas.List.{reverse-append}
 use Rattle.tg_base.specs.declared.packet.Packet.{Packet}
 use Rattle.tg_protocol.specs.Words.{numbers}
-use Rattle.tg_protocol.specs.Entries.{sum_of}
 use Rattle.tg_protocol.specs.Sizes.{packet_size}
 use Rattle.tg_world_servers.specs.Posts.{PostState, AreWithin, IsCounted, bytes_of, capped, posted, handed, lost, without}
 use Rattle.tg_world_servers.proofs.Waiting.{put_last, within_last, more, taken, within_taken}

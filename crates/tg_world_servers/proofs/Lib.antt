@@ -3,3 +3,4 @@ mod Starting
 mod Taking
 mod Waiting
 mod Counting
+mod Boxed

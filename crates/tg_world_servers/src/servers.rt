@@ -127,6 +127,13 @@ impl Servers {
         }
     }
 
+    // How many layout servers the header declares.
+    fn layouts(&self) -> u16
+        ensures { result ≡ self.now.cluster.layouts }
+    {
+        self.parts.cluster.layouts
+    }
+
     fn has_stopped(&self, node: NodeId) -> bool
         ensures { result ≡ has_stopped self.now node }
     {
@@ -299,6 +306,7 @@ impl Servers {
         ensures cluster { IfOk result (λ s. s.cluster ≡ self.cluster) }
         ensures steps { IfOk result (λ s. s.steps ≡ self.steps + 1) }
     {
+        let layouts = self.layouts();
         let Servers { mut parts } = self;
         let inner = &mut *parts;
         let packet = &inner.post.packets()[number as usize];
@@ -308,7 +316,7 @@ impl Servers {
             &mut inner.archive,
             &inner.first,
             inner.post.packets(),
-            inner.cluster.layouts,
+            layouts,
             inner.units.as_slice(),
             num as usize,
             &packet.msg,

@@ -9,26 +9,32 @@ use Rattle.tg_protocol.specs.Clients.{new_client}
 use Rattle.tg_protocol.specs.Worlds as world
 use Rattle.tg_world_servers.specs.Servers.{ServersState, counted, hands, sends}
 use Rattle.tg_world.specs.Kept.{KeptOf, KeepsWorld}
+use Rattle.tg_world.proofs.Boxed.{PartsOf, as_told, IsWholeIn, whole_in}
 use Rattle.tg_world.proofs.Moving.{was_there}
 use Rattle.tg_world.proofs.Whole.{are_of, noted_within}
 use Rattle.tg_world.proofs.Turned.{delivered_keeps, packet_there}
 use Rattle.tg_world.proofs.world.World.deliver_client.Goals as goal
 
 pub deliver-requires-clause-kept : goal.deliver-requires-clause-kept
-deliver-requires-clause-kept g c = are_of (means g.K.Kind g.K.Registry) _ c.args.self c.self.view_is c.requires.kept
+deliver-requires-clause-kept g c =
+    let m = means g.K.Kind g.K.Registry in
+    are_of m _ c.args.self (ap (as_told m c.self.inside.servers) c.deref_mut-inner.ensures.value ∙ c.self.view_is) c.requires.kept
 
 pub returns-clause-keeps : goal.returns-clause-keeps
 returns-clause-keeps g c = λ w p h at to.
     let m = means g.K.Kind g.K.Registry in
+    let q : PartsOf m = c.deref_mut-inner.result.now in
+    let view : as_told m c.self.inside.servers q ≡ c.args.self = ap (as_told m c.self.inside.servers) c.deref_mut-inner.ensures.value ∙ c.self.view_is in
+    let whole : IsWholeIn m c.self.inside.servers q = whole_in m c.self.inside.servers q _ c.deref_mut-inner.ensures.value c.self.invariant in
     let s : ServersState = c.self.inside.servers in
-    let k : KeptOf m = record { servers = c.self.inside.servers; clients = c.self.inside.parts.value.clients.items; told = c.self.inside.parts.value.told.items; told_noted = c.self.inside.parts.value.told_noted.items; noted = c.self.inside.parts.value.noted.items; event = c.self.inside.parts.value.event } in
-    let l : KeptOf m = record { servers = c.count_step.new.self; clients = c.deliver.new.clients.items; told = c.tell.new.told.items; told_noted = c.tell.new.told_noted.items; noted = c.self.inside.parts.value.noted.items; event = c.self.inside.parts.value.event } in
-    let hk : KeepsWorld m k w = subst (λ (x : KeptOf m). KeepsWorld m x w) (sym c.self.view_is) h in
-    let within : c.args.num < length c.self.inside.parts.value.clients.items = subst (λ (x : KeptOf m). c.args.num < length x.clients) (sym c.self.view_is) c.requires.within in
-    let within_noted : c.args.num < length c.self.inside.parts.value.noted.items =
-    noted_within s c.self.inside.parts.value.clients.items c.self.inside.parts.value.told.items c.self.inside.parts.value.told_noted.items c.self.inside.parts.value.noted.items c.args.num c.self.invariant within in
+    let k : KeptOf m = as_told m c.self.inside.servers q in
+    let l : KeptOf m = record { servers = c.count_step.new.self; clients = c.deliver.new.clients.items; told = c.tell.new.told.items; told_noted = c.tell.new.told_noted.items; noted = q.noted.items; event = q.event } in
+    let hk : KeepsWorld m k w = subst (λ (x : KeptOf m). KeepsWorld m x w) (sym view) h in
+    let within : c.args.num < length q.clients.items = subst (λ (x : KeptOf m). c.args.num < length x.clients) (sym view) c.requires.within in
+    let within_noted : c.args.num < length q.noted.items =
+    noted_within s q.clients.items q.told.items q.told_noted.items q.noted.items c.args.num whole within in
     let row : c.packets.result.now ≡ c.args.self.servers.post.packets =
-    c.packets.ensures ∙ ap (λ (x : PostState). x.packets) c.post.ensures ∙ ap (λ (x : KeptOf m). x.servers.post.packets) c.self.view_is in
+    c.packets.ensures ∙ ap (λ (x : PostState). x.packets) c.post.ensures ∙ ap (λ (x : KeptOf m). x.servers.post.packets) view in
     let same : c.index-packets-number.result ≡ p = packet_there c.packets.result.now c.args.self.servers.post.packets c.args.number c.index-packets-number.result p row at c.index-packets-number.is in
     let sent : c.send.new.self ≡ sends (hands s c.args.number) (client_id c.args.num) c.in_ok-outs.outs =
     c.in_ok-send.ensures ∙ ap (λ (x : ServersState). sends x c.client_node.result c.as_slice.result.now) c.in_ok-hand.ensures.ok
@@ -42,7 +48,7 @@ returns-clause-keeps g c = λ w p h at to.
       sent = c.in_ok-outs.ensures.sends w.clients d hk.clients;
       replied = c.in_ok-outs.ensures.notes w.clients d hk.clients;
       servers = c.count_step.ensures ∙ ap (λ (x : ServersState). counted x) sent;
-      is_noted = was_there c.self.inside.parts.value.noted.items c.args.num c.index.result.now (record { next = 1; epoch = 1; upto = 0 }) within_noted c.index.ensures;
+      is_noted = was_there q.noted.items c.args.num c.index.result.now (record { next = 1; epoch = 1; upto = 0 }) within_noted c.index.ensures;
       told = c.in_ok-tell.ensures.told;
       clients = c.in_ok-outs.ensures.keeps w.clients d hk.clients;
       event = refl;

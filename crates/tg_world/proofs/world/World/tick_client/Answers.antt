@@ -8,23 +8,29 @@ use Rattle.tg_protocol.specs.ClientSteps.{client_tick}
 use Rattle.tg_protocol.specs.Worlds.{client}
 use Rattle.tg_world_servers.specs.Servers.{ServersState, counted, sends}
 use Rattle.tg_world.specs.Kept.{KeptOf, KeepsWorld}
+use Rattle.tg_world.proofs.Boxed.{PartsOf, as_told, IsWholeIn, whole_in}
 use Rattle.tg_world.proofs.Moving.{was_there}
 use Rattle.tg_world.proofs.Whole.{are_of, noted_within}
 use Rattle.tg_world.proofs.Turned.{turned_alike}
 use Rattle.tg_world.proofs.world.World.tick_client.Goals as goal
 
 pub tick-requires-clause-kept : goal.tick-requires-clause-kept
-tick-requires-clause-kept g c = are_of (means g.K.Kind g.K.Registry) _ c.args.self c.self.view_is c.requires.kept
+tick-requires-clause-kept g c =
+    let m = means g.K.Kind g.K.Registry in
+    are_of m _ c.args.self (ap (as_told m c.self.inside.servers) c.deref_mut-inner.ensures.value ∙ c.self.view_is) c.requires.kept
 
 pub returns-clause-keeps : goal.returns-clause-keeps
 returns-clause-keeps g c = λ w h.
     let m = means g.K.Kind g.K.Registry in
+    let q : PartsOf m = c.deref_mut-inner.result.now in
+    let view : as_told m c.self.inside.servers q ≡ c.args.self = ap (as_told m c.self.inside.servers) c.deref_mut-inner.ensures.value ∙ c.self.view_is in
+    let whole : IsWholeIn m c.self.inside.servers q = whole_in m c.self.inside.servers q _ c.deref_mut-inner.ensures.value c.self.invariant in
     let s : ServersState = c.self.inside.servers in
-    let k : KeptOf m = record { servers = c.self.inside.servers; clients = c.self.inside.parts.value.clients.items; told = c.self.inside.parts.value.told.items; told_noted = c.self.inside.parts.value.told_noted.items; noted = c.self.inside.parts.value.noted.items; event = c.self.inside.parts.value.event } in
-    let hk : KeepsWorld m k w = subst (λ (x : KeptOf m). KeepsWorld m x w) (sym c.self.view_is) h in
-    let within : c.args.num < length c.self.inside.parts.value.clients.items = subst (λ (x : KeptOf m). c.args.num < length x.clients) (sym c.self.view_is) c.requires.within in
-    let within_noted : c.args.num < length c.self.inside.parts.value.noted.items =
-    noted_within s c.self.inside.parts.value.clients.items c.self.inside.parts.value.told.items c.self.inside.parts.value.told_noted.items c.self.inside.parts.value.noted.items c.args.num c.self.invariant within in
+    let k : KeptOf m = as_told m c.self.inside.servers q in
+    let hk : KeepsWorld m k w = subst (λ (x : KeptOf m). KeepsWorld m x w) (sym view) h in
+    let within : c.args.num < length q.clients.items = subst (λ (x : KeptOf m). c.args.num < length x.clients) (sym view) c.requires.within in
+    let within_noted : c.args.num < length q.noted.items =
+    noted_within s q.clients.items q.told.items q.told_noted.items q.noted.items c.args.num whole within in
     let sent : c.send.new.self ≡ sends s (client_id c.args.num) c.in_ok-outs.outs =
     c.in_ok-send.ensures ∙ ap (λ (x : NodeId). sends s x c.as_slice.result.now) c.client_node.ensures ∙ ap (λ (os : List Out). sends s (client_id c.args.num) os) c.as_slice.ensures in
     let d = new_client m w.cluster c.args.num in
@@ -35,7 +41,7 @@ returns-clause-keeps g c = λ w h.
       sent = c.in_ok-outs.ensures.sends w.clients d hk.clients;
       replied = c.in_ok-outs.ensures.notes w.clients d hk.clients;
       servers = c.count_step.ensures ∙ ap (λ (x : ServersState). counted x) sent;
-      is_noted = was_there c.self.inside.parts.value.noted.items c.args.num c.index.result.now (record { next = 1; epoch = 1; upto = 0 }) within_noted c.index.ensures;
+      is_noted = was_there q.noted.items c.args.num c.index.result.now (record { next = 1; epoch = 1; upto = 0 }) within_noted c.index.ensures;
       told = c.in_ok-tell.ensures.told;
       clients = c.in_ok-outs.ensures.keeps w.clients d hk.clients;
       event = refl;

@@ -2,13 +2,10 @@ use Rattle.std.proofs.Common.{sym, ap, ◌∙◌}
 use Rattle.tg_base.specs.Clusters.{Header}
 use Rattle.tg_protocol.specs.Layouts.{first_layout}
 use Rattle.tg_world_servers.specs.Rows.{states_of}
-use Rattle.tg_world_servers.specs.Servers.{ServersState, servers_start}
-use Rattle.tg_world_servers.specs.declared.servers.Parts.{Parts}
+use Rattle.tg_world_servers.specs.Servers.{servers_start}
+use Rattle.tg_world_servers.proofs.Boxed.{as_told}
 use Rattle.tg_world_servers.proofs.Taking.{started}
 use Rattle.tg_world_servers.proofs.servers.Servers.start.Goals as goal
-
-as_told : Parts → ServersState
-as_told p = record { cluster = p.cluster; units = p.units.items; layouts = p.layouts.items; seqrs = states_of p.seqrs.items; stopped = p.stopped; post = p.post; archive = p.archive.entries; steps = p.steps }
 
 pub returns : goal.returns
 returns c =
