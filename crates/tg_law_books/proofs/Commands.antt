@@ -24,7 +24,7 @@ use Rattle.tg_protocol.specs.Transactions.{Tx, tx_read, tx_put, open_tx, commit_
 use Rattle.tg_protocol.specs.Clients.{Appending, Work, Client, hosts_oid, tests, busy, tx_number, number_on, write_of, refusal}
 use Rattle.tg_protocol.specs.Answers.{Moved, moved, note, appends, syncs}
 use Rattle.tg_protocol.specs.ClientSteps.{task_in, new_work, hosts_more, puts, asked_of_state, asks_view, asks_by, asks, snapshot_or, purpose_of, end_by, ends, accepts, refused_or, after_turn, met, copy_to, on_copy, reconf_ended, reconf_to, on_reconf, feed}
-use Rattle.tg_law_books.specs.Ended.{reply_ends, work_ends}
+use Rattle.tg_law_replies.specs.Ended.{reply_ends, work_ends}
 use Rattle.tg_law_books.proofs.Effects.{IsEnd, IsAsk, Idle, Suits, AllZero, Effect, feed_effect}
 
 module _ (m : Meaning) (c0 : Client m) where

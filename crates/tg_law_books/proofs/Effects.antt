@@ -32,7 +32,7 @@ use Rattle.tg_protocol.specs.Clients.{Purpose, Writes, Judged, Decides, Rescues,
 use Rattle.tg_protocol.specs.Answers.{holds, Moved, moved, note, mark_notes, mark_record, replies, refuses, took_over, answers, closed, appends, syncs, walked, walked_for, plays_own, answer_by, with_view, on_ask, ask_in, ask_answer, unsure, aborted, end_decided, end_aborted, end_no, end_by, end_record, on_end, lacks_decision, decision, with_decision, forgotten_or, fate_verdict, fate_record, fate_known, fate_blocked, blocks, on_fate, trim_above, decides_if, decide_verdict, decide_record, decide_blocked, on_decide, save_if, on_checkpoint, forget_by, on_forget, trims_if, on_trim, past_answer, past_played, past_turn, ahead_or, on_ask_at, rescue_decision, rescue_known, absent, rescue_by}
 use Rattle.tg_protocol.specs.ClientSteps.{task_awaited, task_in, after_turn, met, goes_on, takes_back, found_by, start_walk, walks, lo_for, knows, sync_to, on_sync, stale, starts_over, gives_up, given_up_if, at_trim, walk_ended_by, walk_to, on_walk, knows_page, owns, record_lost, lost, page_known, decided_for, append_ended, append_to, on_append, trim_to, on_trims, copy_to, on_copy, stands, reconf_ended, reconf_to, on_reconf, task_feed, copies_again, task_again, on_newer, fed_if, hand_feed, latest_if, reply_feed}
 use Rattle.tg_law_replies.proofs.Turns.{Keeps, feed_keeps, again_keeps}
-use Rattle.tg_law_books.specs.Ended.{end_of, task_ends, again_ends, awaited_ends, hand_ends, latest_ends, reply_ends}
+use Rattle.tg_law_replies.specs.Ended.{end_of, task_ends, again_ends, awaited_ends, hand_ends, latest_ends, reply_ends}
 
 module _ (m : Meaning) where
   abbrev pub IsEnd : CommandOf m → Type 0

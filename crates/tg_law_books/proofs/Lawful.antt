@@ -39,6 +39,7 @@ use Rattle.tg_law_views.specs.Exact.{AreWriting}
 use Rattle.tg_law_pages.proofs.Read.{logs_keep_grammar}
 use Rattle.tg_law_replies.specs.Told.{IsRecord, HasRecordOf, HasFailed, TellsTrue}
 use Rattle.tg_law_replies.specs.Laws.{ClientsFind}
+use Rattle.tg_law_replies.specs.Ended.{AppendsEnd}
 use Rattle.tg_law_replies.proofs.Along.{Along, passed, at_end}
 use Rattle.tg_law_replies.proofs.Books.{mark, IsPlain, IsOpen, puts_more}
 use Rattle.tg_law_replies.proofs.Closed.{LeavesAlone}
@@ -59,6 +60,7 @@ use Rattle.tg_law_books.proofs.Records.{Drafted, drafted, drafted_as, AsTx, AsMa
 use Rattle.tg_law_books.proofs.Known.{one_tag}
 use Rattle.tg_law_books.proofs.Told.{ToldIn, all_told}
 use Rattle.tg_law_books.proofs.Plain.{run_plain}
+use Rattle.tg_law_books.proofs.Whose.{replies_are_known}
 
 -- Puts.
 
@@ -136,7 +138,7 @@ module _ (m : Meaning) where
   some_ops [] some are none = absurd cc
   some_ops (w ∷ ws) some are none = let n = ops_many (w ∷ ws) are in let z : length (ops_of m (w ∷ ws)) ≡ 0 = ap length none in let sum : suc (length ws) ≡ 0 = sym n ∙ z in omega (arith, sum)
 
-module _ (m : Meaning) (apart : Apart m) (h : Header) (ms : Moves m) (r : Reaches m h ms (run m ms (start m h))) (finds : ClientsFind m h ms (run m ms (start m h)))
+module _ (m : Meaning) (apart : Apart m) (h : Header) (ms : Moves m) (r : Reaches m h ms (run m ms (start m h))) (finds : ClientsFind m h ms (run m ms (start m h))) (ends : AppendsEnd m h ms (run m ms (start m h)))
     (own : EntriesOwn m h ms (run m ms (start m h))) (once : EntriesOnce m (run m ms (start m h))) (records : RecordsOwn m (run m ms (start m h))) (replies : RepliesHaveRecords m (run m ms (start m h)))
     (precede : AsksPrecede m (run m ms (start m h))) (refused : RefusedLeaveNone m (run m ms (start m h))) (order : InOrder m (history m (run m ms (start m h))) (trace m (run m ms (start m h)))) where
   abbrev end : World m
@@ -158,7 +160,7 @@ module _ (m : Meaning) (apart : Apart m) (h : Header) (ms : Moves m) (r : Reache
   writing = (logs_keep_grammar m end).1
 
   along : Along m (RightAndKept m h (entries_in m end) (logs_rise m end) listed) ms (start m h)
-  along = found_kept m h ms end listed writing r finds
+  along = found_kept m h ms end listed writing r finds ends
 
   abbrev KeptIn : World m → Type 0
   KeptIn w = IsKeptWorld m h.objects (entries_in m end) (logs_rise m end) listed w
@@ -514,6 +516,8 @@ module _ (m : Meaning) (apart : Apart m) (h : Header) (ms : Moves m) (r : Reache
   legal = subst (λ (os : List Oid). Legal m os (history_after m [] (entries_in m end)) (trace m end)) (sym right.objects_are) (telling_is_legal m apart h.objects (entries_in m end) (trace m end) (logs_rise m end) tells_true)
 
 pub runs_are_legal : (m : Meaning) → Apart m → RunsAreLegal m
-runs_are_legal m apart h ms w r =
-    subst (λ (u : World m). ClientsFind m h ms u → EntriesOwn m h ms u → EntriesOnce m u → RecordsOwn m u → RepliesHaveRecords m u → AsksPrecede m u → RefusedLeaveNone m u → InOrder m (history m u) (trace m u) → Legal m u.cluster.objects (history m u) (trace m u))
-    (sym r.goes.is) (λ finds own once records replies precede refused order. legal m apart h ms (subst (λ (u : World m). Reaches m h ms u) r.goes.is r) finds own once records replies precede refused order)
+runs_are_legal m apart h ms w r finds ends left own once records replies precede order =
+    subst (λ (u : World m). ClientsFind m h ms u → AppendsEnd m h ms u → EntriesOwn m h ms u → EntriesOnce m u → RecordsOwn m u → RepliesHaveRecords m u → AsksPrecede m u → RefusedLeaveNone m u → InOrder m (history m u) (trace m u)
+    → Legal m u.cluster.objects (history m u) (trace m u))
+    (sym r.goes.is) (λ finds ends own once records replies precede refused order. legal m apart h ms (subst (λ (u : World m). Reaches m h ms u) r.goes.is r) finds ends own once records replies precede refused order)
+    finds ends own once records replies precede (replies_are_known m h ms w r left precede ends).refused order

@@ -15,7 +15,7 @@ use Rattle.tg_model.specs.declared.refusal.Refusal.TheVariants as cause
 use Rattle.tg_model.specs.declared.trace.What.TheVariants as told
 use Rattle.tg_model.specs.Kinds.{CommandOf, EventOf, MarkOf, NoteOf}
 use Rattle.tg_model.specs.Traces.{Trace}
-use Rattle.tg_protocol.specs.Words.{client_id, numbers, node_eq, role_code}
+use Rattle.tg_protocol.specs.Words.{client_id, numbers}
 use Rattle.tg_protocol.specs.Appending.{AppendEnd}
 use Rattle.tg_protocol.specs.Replies.{reply}
 use Rattle.tg_protocol.specs.Transactions.{Tx}
@@ -24,9 +24,10 @@ use Rattle.tg_protocol.specs.Answers.{Moved, moved, note}
 use Rattle.tg_protocol.specs.ClientSteps.{task_in, feed, refused_or, ClientTurn, called, client_command, client_deliver, tick_by, client_tick}
 use Rattle.tg_protocol.specs.Worlds.{World, Told, start, client, unit_moves, layout_moves, seqr_moves, client_turned, moves, comes, handed, delivers, noted_if, commands, ticks, ticks_if, stops_if, mark_of, counted, happens, next_event, runs, count_of, has_stopped, trace}
 use Rattle.tg_protocol.specs.Runs.{Moves, Next, Takes, run}
-use Rattle.tg_law_history.proofs.Members.{Has, and_both, both_and, lt_of, same_number, number_same, contrary, has_image, has_either, has_left, has_right}
+use Rattle.tg_law_history.proofs.Members.{Has, and_both, lt_of, same_number, number_same, contrary, has_image, has_either, has_left, has_right}
 use Rattle.tg_law_replies.proofs.Books.{mark}
-use Rattle.tg_law_books.specs.Ended.{work_ends, handed_ends, packet_ends, ended_in}
+use Rattle.tg_law_replies.proofs.Steps.{ended_here}
+use Rattle.tg_law_replies.specs.Ended.{work_ends, ended_in}
 use Rattle.tg_law_books.proofs.Effects.{Suits}
 use Rattle.tg_law_books.proofs.Commands.{Turned, Idles, Takes as Taken, taken_by, ended_by, Delivered, delivered, commanding}
 use Rattle.tg_law_books.proofs.Turns.{no_some, same_some, BookOf, tells_on, DraftOf, draft_more, turned}
@@ -187,16 +188,6 @@ module _ (m : Meaning) where
       by false = as_noted false j k x w (client_turned m (noted_if m false w k (client m w k)) k (client_command m (client m w k) x))
           (turned_step (Commands k x) (noted_if m false w k (client m w k)) k (client_command m (client m w k) x) (refused_or m (client m w k) x (refusal m (client m w k) x)) (Taken x (commanding m (client m w k) x)) from (inl refl) (commanded_as (client m w k) x) (commanded_notes (client m w k) x) (declared w (client_id k) refl on) j)
 
-  same_node : (n : NodeId) → n.role ≡ role.Client → node_eq n (client_id n.num) ≡ true
-  unfolding node_eq role_code
-  same_node n c = both_and (role_code n.role == 3) (n.num == n.num) (ap (λ (r : Role). role_code r == 3) c) (number_same n.num n.num refl)
-
-  ended_here : (w : World m) (i : ℕ) (p : Packet) → slice_get w.packets i ≡ Some p → p.to.role ≡ role.Client → runs m w p.to ≡ true
-      → ended_in m w (Deliver i) p.to.num ≡ work_ends m (client m w p.to.num) (client m w p.to.num).work p.from p.rid (reply p.msg)
-  ended_here w i p is c on =
-      ap (λ (o : Option Packet). packet_ends m w p.to.num o) is
-      ∙ ap (λ (b : Bool). handed_ends m b (client m w p.to.num) p) (both_and (node_eq p.to (client_id p.to.num)) (runs m w p.to) (same_node p.to c) on)
-
   suits_in : (w : World m) → WorldBook w → (k : ℕ) (v : Work m) → (client m w k).work ≡ Some v → Suits m v.command (task_in m v.hand)
   suits_in w h k v is = (h k).suits v is
 
@@ -225,7 +216,7 @@ module _ (m : Meaning) where
   step w (Deliver i) h j = counted_step j (Deliver i) w (delivers m w i (slice_get w.packets i)) (by (slice_get w.packets i) refl)
     where
       comes_step : (p : Packet) → slice_get w.packets i ≡ Some p → (b : Bool) → runs m w p.to ≡ b → Stepped j (Deliver i) w (comes m b (handed m w i) p)
-      comes_step p is true on = moved_step w p i p.to.role h (λ c. declared w p.to c on) (λ c. ended_here w i p is c on) j
+      comes_step p is true on = moved_step w p i p.to.role h (λ c. declared w p.to c on) (λ c. ended_here m w i p is c on) j
       comes_step p is false on = still j (Deliver i) w (handed m w i) refl refl
 
       by : (p : Option Packet) → slice_get w.packets i ≡ p → Stepped j (Deliver i) w (delivers m w i p)

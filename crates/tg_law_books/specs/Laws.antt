@@ -54,9 +54,10 @@ pub record RepliesKnown (m : Meaning) (w : World m) : Type 0 where
 abbrev pub RepliesAreKnown : Meaning → Type 0
 RepliesAreKnown m = (h : Header) (ms : Moves m) (w : World m) → Reaches m h ms w → RecordsLeft m h ms w → AsksPrecede m w → AppendsEnd m h ms w → RepliesKnown m w
 
--- A run is legal, where its clients find what they need of the log that it comes to, and these hold of that log: each entry is what its client began, and once; a record is that of what was
--- put and asked, at or past where it was asked; what replies tell of it stands there, and what was refused has left none; and no place precedes a reply from before its transaction.
+-- A run is legal, where its clients find what they need of the log that it comes to, and these hold of that log: an append that ends stands where it says, and a record is what its client had
+-- in hand for an append that wasn't refused afterwards for want of room; each entry is what its client began, and once; a record is that of what was put and asked, at or past where it was asked;
+-- what replies tell of it stands there; and no place precedes a reply from before its transaction.
 abbrev pub RunsAreLegal : Meaning → Type 0
-RunsAreLegal m = (h : Header) (ms : Moves m) (w : World m) → Reaches m h ms w → ClientsFind m h ms w →
-    EntriesOwn m h ms w → EntriesOnce m w → RecordsOwn m w → RepliesHaveRecords m w → AsksPrecede m w → RefusedLeaveNone m w → InOrder m (history m w) (trace m w) →
+RunsAreLegal m = (h : Header) (ms : Moves m) (w : World m) → Reaches m h ms w → ClientsFind m h ms w → AppendsEnd m h ms w → RecordsLeft m h ms w →
+    EntriesOwn m h ms w → EntriesOnce m w → RecordsOwn m w → RepliesHaveRecords m w → AsksPrecede m w → InOrder m (history m w) (trace m w) →
     Legal m w.cluster.objects (history m w) (trace m w)

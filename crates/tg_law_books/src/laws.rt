@@ -28,11 +28,11 @@ pub fn replies_are_known<K: Registry>()
 {}
 
 /// A run is legal: its answers are those of the plain machine over one history, and its outcomes are the history's. From
-/// what its clients find of the log that it ends with, and seven premises on that log: each entry was begun by its
-/// client; no two of a kind have one client and number; a commit record is that of a transaction that was ended, which
-/// writes what was put and reads what was asked; what is told of a record stands there; a record stands at or past where
-/// its transaction asked; one that was forgotten stands nowhere else than its reply says, and of one that was dropped
-/// there is none; and no place of a transaction precedes a reply that came before its beginning.
+/// what its clients find of the log that it ends with, and from premises on that log: an append that ends stands where it
+/// says; a commit record was begun by its client, in an append that wasn't refused afterwards for want of room; each entry
+/// was begun by its client; no two of a kind have one client and number; a commit record is that of a transaction that was
+/// ended, which writes what was put and reads what was asked; what is told of a record stands there; a record stands at or
+/// past where its transaction asked; and no place of a transaction precedes a reply that came before its beginning.
 pub fn runs_are_legal<K: Registry>()
     ensures { RunsAreLegal (meaning_of K.Registry) }
 {}

@@ -4,6 +4,10 @@ pub mod Stuck
 pub mod Legality
 pub mod Books
 pub mod Closed
+pub mod Shape
+pub mod Answering
+pub mod Shaping
+pub mod Carried
 pub mod Moves
 pub mod Upkeep
 pub mod Played

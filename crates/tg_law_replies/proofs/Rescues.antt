@@ -30,6 +30,7 @@ use Rattle.tg_protocol.specs.Runs.{Moves, Reaches}
 use Rattle.tg_protocol.specs.Holding.{EntriesOwn}
 use Rattle.tg_protocol.specs.Alike.{PastTrue}
 use Rattle.tg_law_history.specs.Logs.{state_below}
+use Rattle.tg_law_replies.specs.Ended.{AppendsEnd}
 use Rattle.tg_law_replies.specs.Laws.{ClientsFind, TellsSo, WritesTruth, RunsWriteTruth}
 use Rattle.tg_law_replies.proofs.Moves.{TrueBody, TrueDraft}
 use Rattle.tg_law_replies.proofs.Along.{Along, at_end}
@@ -71,7 +72,7 @@ module _ (m : Meaning) (h : Header) (w : World m) (listed : AreListed (entries_i
 
 -- What a run tells.
 
-module _ (m : Meaning) (h : Header) (ms : Moves m) (w : World m) (r : Reaches m h ms w) (listed : AreListed (entries_in m w)) (writing : AreWriting (entries_in m w)) (finds : ClientsFind m h ms w) where
+module _ (m : Meaning) (h : Header) (ms : Moves m) (w : World m) (r : Reaches m h ms w) (listed : AreListed (entries_in m w)) (writing : AreWriting (entries_in m w)) (finds : ClientsFind m h ms w) (ends : AppendsEnd m h ms w) where
   abbrev es : Entries
   es = entries_in m w
 
@@ -79,7 +80,7 @@ module _ (m : Meaning) (h : Header) (ms : Moves m) (w : World m) (r : Reaches m 
   rising = logs_rise m w
 
   both : Along m (RightAndKept m h (entries_in m w) (logs_rise m w) listed) ms (start m h)
-  both = found_kept m h ms w listed writing r finds
+  both = found_kept m h ms w listed writing r finds ends
 
   all : Along m (Right m h (entries_in m w) (logs_rise m w) listed) ms (start m h)
   all = of_right m h es (logs_rise m w) listed ms (start m h) both
@@ -118,7 +119,7 @@ module _ (m : Meaning) (h : Header) (ms : Moves m) (w : World m) (r : Reaches m 
       entry_true p e i = was_begun m h (entries_in m w) (logs_rise m w) listed writing ms all e (own p e i)
 
 pub runs_tell_truth : (m : Meaning) → RunsTellTruth m
-runs_tell_truth m h ms w r finds = let g = logs_keep_grammar m w in tells_so m h ms w r g.0 g.1 finds
+runs_tell_truth m h ms w r finds ends = let g = logs_keep_grammar m w in tells_so m h ms w r g.0 g.1 finds ends
 
 pub runs_write_truth : (m : Meaning) → RunsWriteTruth m
-runs_write_truth m h ms w r finds own = let g = logs_keep_grammar m w in writes_truth m h ms w r g.0 g.1 finds own
+runs_write_truth m h ms w r finds ends own = let g = logs_keep_grammar m w in writes_truth m h ms w r g.0 g.1 finds ends own

@@ -11,17 +11,14 @@ use Rattle.tg_law_plays.specs.Sound.{IsRising}
 use Rattle.tg_law_history.specs.Logs.{AreListed}
 use Rattle.tg_law_views.proofs.Plays.{fresh_true}
 use Rattle.tg_law_replies.proofs.Moves.{IsRight}
-use Rattle.tg_law_replies.proofs.Steps.{IsRightWorld, happens_right}
+use Rattle.tg_law_replies.proofs.Steps.{IsRightWorld}
 use Rattle.std.specs.Prelude.{◌++◌}
 use Rattle.tg_model.specs.Kinds.{EventOf}
 use Rattle.tg_model.specs.declared.command.Event.TheVariants.{Command as Commands, Deliver, Lose, Tick, Stop}
 use Rattle.tg_protocol.specs.Worlds.{next_event}
-use Rattle.tg_protocol.specs.Runs.{Move, Moves, Next, Takes, run, LawfulEvent, Reaches}
+use Rattle.tg_protocol.specs.Runs.{Moves, Takes, LawfulEvent, Reaches}
 use Rattle.tg_law_history.proofs.Members.{Has, contained_has}
-use Rattle.tg_law_replies.specs.Steps.{EachEvent}
-use Rattle.tg_law_replies.proofs.Ready.{Ready}
 use Rattle.tg_law_replies.proofs.Steps.{LawfulIn}
-use Rattle.tg_law_replies.proofs.Along.{moved_by, Along, at_end, along}
 
 module _ (m : Meaning) (h : Header) (es : Entries) (rising : IsRising es) (listed : AreListed es) where
   new_right : (n : ℕ) → IsRight m h.objects es rising listed (new_client m h n)
@@ -56,17 +53,6 @@ module _ (m : Meaning) (h : Header) (es : Entries) (rising : IsRising es) (liste
 
   pub counted_right : (w : World m) → Right w → Right (next_event m w)
   counted_right w x = record { clients = x.clients; replies = x.replies; objects_are = x.objects_are }
-
-  -- so the clients are right in each world of a run, by the log that it comes to
-  pub all_right : (ms : Moves m) → AreLawful ms
-      → ((before after : Moves m) (e : EventOf m) → ms ≡ before ++ Takes e ∷ after → Along m Right before (start m h) → EachEvent m h.objects es (Ready m h.objects es) (run m before (start m h)) e)
-      → Along m Right ms (start m h)
-  all_right ms lawful finds = along m Right h ms start_right next
-    where
-      next : (before after : Moves m) (x : Move m) → ms ≡ before ++ x ∷ after → Along m Right before (start m h) → Right (moved_by m x (run m before (start m h)))
-      next before after Next split k = counted_right (run m before (start m h)) (at_end m Right before (start m h) k)
-      next before after (Takes e) split k =
-          happens_right m h.objects es rising listed (run m before (start m h)) e (at_end m Right before (start m h) k) (lawful before after e split) (finds before after e split k)
 
 -- the events of a run are lawful
 has_middle : {X : Type 0} → (xs : List X) (y : X) (ys : List X) → Has (xs ++ y ∷ ys) y

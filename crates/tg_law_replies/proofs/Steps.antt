@@ -1,5 +1,5 @@
 -- A step of a world keeps its clients right, and what is told in it is true of the log.
-use Rattle.std.proofs.Common.{◌≡◌, ◌⊎◌, ℕ, zero, suc, ◌+◌, List, [], ◌∷◌, ◌++◌, map, Bool, true, false, refl, sym, ap, subst, inl, inr, arith, Option, Some, None, is_some, length}
+use Rattle.std.proofs.Common.{◌≡◌, ◌⊎◌, ℕ, zero, suc, ◌+◌, List, [], ◌∷◌, ◌++◌, map, Bool, true, false, refl, sym, ap, ◌∙◌, subst, inl, inr, arith, Option, Some, None, is_some, length}
 use Rattle.std.specs.Prelude.{not, slice_set, slice_index_or, slice_get, if◌then◌else◌, ◌==◌}
 use Rattle.tg_base.specs.declared.ids.NodeId.{NodeId}
 use Rattle.tg_base.specs.declared.ids.Oid.{Oid}
@@ -14,7 +14,7 @@ use Rattle.tg_model.specs.declared.refusal.Refusal.{Refusal}
 use Rattle.tg_model.specs.declared.refusal.Refusal.TheVariants as cause
 use Rattle.tg_model.specs.declared.trace.What.TheVariants as told
 use Rattle.tg_model.specs.Kinds.{CommandOf, EventOf, WhatOf, NoteOf}
-use Rattle.tg_protocol.specs.Words.{first_some, where_true, client_id}
+use Rattle.tg_protocol.specs.Words.{first_some, where_true, client_id, node_eq, role_code}
 use Rattle.tg_protocol.specs.Replies.{reply}
 use Rattle.tg_protocol.specs.Reconfiguring.{reconf_start}
 use Rattle.tg_protocol.specs.Views.{Entries, View, state_of}
@@ -26,18 +26,22 @@ use Rattle.tg_protocol.specs.ClientSteps.{feed, new_work, hosts_more, puts, aske
 use Rattle.tg_protocol.specs.Worlds.{World, Told, client, unit_moves, layout_moves, seqr_moves, client_turned, moves, comes, handed, delivers, noted_if, commands, ticks, ticks_if, stops_if, mark_of, counted, happens, runs, sends}
 use Rattle.tg_law_plays.specs.Sound.{IsRising}
 use Rattle.tg_law_history.specs.Logs.{AreListed}
-use Rattle.tg_law_history.proofs.Members.{Has, same_number}
+use Rattle.tg_law_history.proofs.Members.{Has, both_and, same_number, number_same}
 use Rattle.tg_law_views.specs.Looking.{IsTrueAt}
-use Rattle.tg_law_replies.specs.Steps.{EachDelivery, EachAccepted, EachCommand, EachEvent}
+use Rattle.tg_law_replies.specs.Steps.{EachDelivery, EachEvent}
+use Rattle.tg_law_replies.specs.Ended.{work_ends, handed_ends, packet_ends, ended_in}
 use Rattle.tg_law_replies.proofs.Ready.{Ready}
+use Rattle.tg_law_replies.proofs.Shape.{StandsIn}
 use Rattle.tg_law_replies.proofs.Books.{IsPlain}
 use Rattle.tg_law_replies.proofs.Moves.{IsRight, InStep, IsBooked, IsRightMove, TrueWhat, TrueNotes, IsBlind, one_note, one_plain, commit_draft, answer_there, version_there, appends_right}
 use Rattle.tg_law_replies.proofs.Upkeep.{syncs_right}
-use Rattle.tg_law_replies.proofs.Turns.{feed_right, reconf_right, copies_right, still}
+use Rattle.tg_law_replies.proofs.Turns.{LandsBy, feed_right, reconf_right, copies_right, still}
 use Rattle.tg_protocol.specs.Runs.{LawfulCommand}
+use Rattle.tg_protocol.specs.Holding.{append_by}
+use Rattle.tg_law_moves.proofs.Turns.{not_busy}
 
 -- an element of a list where one was set
-set_at : {X : Type 0} → (xs : List X) (i : ℕ) (y : X) (k : ℕ) (d : X) → (slice_index_or (slice_set xs i y) k d ≡ y) ⊎ (slice_index_or (slice_set xs i y) k d ≡ slice_index_or xs k d)
+pub set_at : {X : Type 0} → (xs : List X) (i : ℕ) (y : X) (k : ℕ) (d : X) → (slice_index_or (slice_set xs i y) k d ≡ y) ⊎ (slice_index_or (slice_set xs i y) k d ≡ slice_index_or xs k d)
 set_at [] i y k d = inr refl
 set_at (x ∷ xs) zero y zero d = inl refl
 set_at (x ∷ xs) zero y (suc k) d = inr refl
@@ -87,6 +91,17 @@ module _ (m : Meaning) where
   unfolding refusal tests
   spelled_unless c (cmd.Put o op) lawful fine = (lawful.1 (no_cause (m.allows o op) (cause.WrongKind o) _ (past_first (no_tx m c) _ (past_first (busy m c.work) _ fine)))).read
   spelled_unless c x lawful fine = tt
+
+  -- how a delivery ends the append of the client that it comes to
+  same_node : (n : NodeId) → n.role ≡ role.Client → node_eq n (client_id n.num) ≡ true
+  unfolding node_eq role_code
+  same_node n c = both_and (role_code n.role == 3) (n.num == n.num) (ap (λ (r : Role). role_code r == 3) c) (number_same n.num n.num refl)
+
+  pub ended_here : (w : World m) (i : ℕ) (p : Packet) → slice_get w.packets i ≡ Some p → p.to.role ≡ role.Client → runs m w p.to ≡ true
+      → ended_in m w (Deliver i) p.to.num ≡ work_ends m (client m w p.to.num) (client m w p.to.num).work p.from p.rid (reply p.msg)
+  ended_here w i p is c on =
+      ap (λ (o : Option Packet). packet_ends m w p.to.num o) is
+      ∙ ap (λ (b : Bool). handed_ends m b (client m w p.to.num) p) (both_and (node_eq p.to (client_id p.to.num)) (runs m w p.to) (same_node p.to c) on)
 
 module _ (m : Meaning) (objects : List Oid) (es : Entries) (rising : IsRising es) (listed : AreListed es) where
   abbrev Right : Client m → Type 0
@@ -173,7 +188,7 @@ module _ (m : Meaning) (objects : List Oid) (es : Entries) (rising : IsRising es
     ),
   )
 
-  ask_right : (c : Client m) (o : Oid) (q : m.ask) (t : Option Tx) → c.tx ≡ t → Right c → EachAccepted m c (cmd.Ask o q) → IsRightTurn c (asks m c (cmd.Ask o q) o q t)
+  ask_right : (c : Client m) (o : Oid) (q : m.ask) (t : Option Tx) → c.tx ≡ t → Right c → StandsIn m c.tx c.view → IsRightTurn c (asks m c (cmd.Ask o q) o q t)
   ask_right c o q None is h r = of_move c (moved m c []) (still m objects es rising listed c.tx c.begun c (held c h))
   ask_right c o q (Some t) is h r = by t.snapshot refl
     where
@@ -200,7 +215,7 @@ module _ (m : Meaning) (objects : List Oid) (es : Entries) (rising : IsRising es
 
       views : (a : ℕ) → t.snapshot ≡ Some a → (v : Option (View m)) → c.view ≡ v → IsRightTurn c (asks_view m c t a o q v)
       views a snap None e = of_move c (moved m c []) (still m objects es rising listed c.tx c.begun c (held c h))
-      views a snap (Some v) e = let with = r t a v is snap e in answers a v snap (record { so = (h.view v e).so; stands = with.stands; based = with.based }) (state_of m v o) refl
+      views a snap (Some v) e = let with = r t a v o is snap e in answers a v snap (record { so = (h.view v e).so; stands = with.stands; based = with.based }) (state_of m v o) refl
 
       by : (s : Option ℕ) → t.snapshot ≡ s → IsRightTurn c (asks_by m c (cmd.Ask o q) o q t s)
       by None snap = of_move c (syncs m c (new_work m (cmd.Ask o q)) c.hosted) (syncs_right m objects es rising listed c.tx c.begun c (new_work m (cmd.Ask o q)) c.hosted (held c h))
@@ -230,7 +245,7 @@ module _ (m : Meaning) (objects : List Oid) (es : Entries) (rising : IsRising es
       by true e = (record { view = h.view; dir = h.dir; work = h.work }, inr (record { of = t; from = is; none = no_items t.writes e; tx = refl; begun = refl; notes = refl }))
       by false e = of_move c (end_by m c cmd.End t false) (appended (length t.reads == 0) refl)
 
-  accepts_right : (c : Client m) (x : CommandOf m) → Right c → EachAccepted m c x → IsSpelled m x → IsRightTurn c (accepts m c x)
+  accepts_right : (c : Client m) (x : CommandOf m) → Right c → StandsIn m c.tx c.view → IsSpelled m x → IsRightTurn c (accepts m c x)
   unfolding accepts
   accepts_right c (cmd.Host o) h r spelled = host_right c o (hosts_oid m c o) h
   accepts_right c cmd.Begin h r spelled =
@@ -247,7 +262,7 @@ module _ (m : Meaning) (objects : List Oid) (es : Entries) (rising : IsRising es
       (copies_right m objects es rising listed c.tx c.begun c (new_work m (cmd.Copy u i s)) (record { unit = u; range = i; stripe = s; work = copying.Sealing 0 }) None (held c h))
   accepts_right c x h r spelled = of_move c (works_on m c x) (syncs_right m objects es rising listed c.tx c.begun c (new_work m x) c.hosted (held c h))
 
-  refused_right : (c : Client m) (x : CommandOf m) (o : Option Refusal) → Right c → (o ≡ None → EachAccepted m c x) → (o ≡ None → IsSpelled m x) → IsRightTurn c (refused_or m c x o)
+  refused_right : (c : Client m) (x : CommandOf m) (o : Option Refusal) → Right c → (o ≡ None → StandsIn m c.tx c.view) → (o ≡ None → IsSpelled m x) → IsRightTurn c (refused_or m c x o)
   refused_right c x None h r spelled = accepts_right c x h (r refl) (spelled refl)
   refused_right c x (Some why) h r spelled = plainly c c (number_on m c why) (told.Refused why) h (inl refl) refl tt tt
 
@@ -273,9 +288,9 @@ module _ (m : Meaning) (objects : List Oid) (es : Entries) (rising : IsRising es
   given_right : (c : Client m) (r : Moved m) → IsRightTurn c r → IsClientTurn c (given m c r)
   given_right c r k = (called_right r.now k.0, called_effect c r (given m c r).sends k.1)
 
-  pub command_right : (c : Client m) (x : CommandOf m) → Right c → EachCommand m c x → LawfulCommand m x → IsClientTurn c (client_command m c x)
+  pub command_right : (c : Client m) (x : CommandOf m) → Right c → (c.work ≡ None → StandsIn m c.tx c.view) → LawfulCommand m x → IsClientTurn c (client_command m c x)
   unfolding client_command
-  command_right c x h r lawful = given_right c (refused_or m c x (refusal m c x)) (refused_right c x (refusal m c x) h r (λ fine. spelled_unless m c x lawful fine))
+  command_right c x h r lawful = given_right c (refused_or m c x (refusal m c x)) (refused_right c x (refusal m c x) h (λ fine. r (not_busy m c x fine)) (λ fine. spelled_unless m c x lawful fine))
 
   pub tick_right : (c : Client m) → Right c → IsClientTurn c (client_tick m c)
   unfolding client_tick
@@ -309,22 +324,37 @@ module _ (m : Meaning) (objects : List Oid) (es : Entries) (rising : IsRising es
       said x (inl i) = h.replies x i
       said x (inr i) = let k = has_image (mark_of m w n) t.notes x i in subst (λ (y : Told m). SoTold y.mark.what) (sym k.2) (so_notes c (as_moved t) turn.1 k.0 k.1)
 
-  pub deliver_right : (c : Client m) (from : NodeId) (rid : ℕ) (p : Packet) → Right c → EachDelivery m objects es (Ready m objects es) c c.work from rid (reply p.msg) → IsClientTurn c (client_deliver m c from rid p.msg)
+  pub deliver_right : (c : Client m) (from : NodeId) (rid : ℕ) (p : Packet) → Right c → LandsBy m es (append_by m c.work) (work_ends m c c.work from rid (reply p.msg)) → EachDelivery m objects es (Ready m objects es) c c.work from rid (reply p.msg) → IsClientTurn c (client_deliver m c from rid p.msg)
   unfolding client_deliver
-  deliver_right c from rid p h r =
-      given_right c (feed m c c.work from rid (reply p.msg)) (of_move c (feed m c c.work from rid (reply p.msg)) (feed_right m objects es rising listed c.tx c.begun c from rid (reply p.msg) (held c h) r))
+  deliver_right c from rid p h l r =
+      given_right c (feed m c c.work from rid (reply p.msg)) (of_move c (feed m c c.work from rid (reply p.msg)) (feed_right m objects es rising listed c.tx c.begun c from rid (reply p.msg) (held c h) l r))
 
-  moves_right : (w : World m) (p : Packet) (r : Role) → IsRightWorld w → (r ≡ role.Client → EachDelivery m objects es (Ready m objects es) (client m w p.to.num) (client m w p.to.num).work p.from p.rid (reply p.msg)) → IsRightWorld (moves m w p r)
+  -- while no command waits, a transaction's view stands at its snapshot
+  abbrev pub AllStand : World m → Type 0
+  AllStand w = (k : ℕ) → (client m w k).work ≡ None → StandsIn m (client m w k).tx (client m w k).view
+
+  -- an append that ends in a step does so by the log
+  abbrev pub AllLand : World m → EventOf m → Type 0
+  AllLand w e = (k : ℕ) → LandsBy m es (append_by m (client m w k).work) (ended_in m w e k)
+
+  abbrev pub LandsHere : World m → Packet → Type 0
+  LandsHere w p =
+      LandsBy m es (append_by m (client m w p.to.num).work) (work_ends m (client m w p.to.num) (client m w p.to.num).work p.from p.rid (reply p.msg))
+
+  pub lands_here : (w : World m) (i : ℕ) (p : Packet) → AllLand w (Deliver i) → slice_get w.packets i ≡ Some p → p.to.role ≡ role.Client → runs m w p.to ≡ true → LandsHere w p
+  lands_here w i p l is c on = λ a e has ends. l p.to.num a e has (ended_here m w i p is c on ∙ ends)
+
+  moves_right : (w : World m) (p : Packet) (r : Role) → IsRightWorld w → (r ≡ role.Client → LandsHere w p) → (r ≡ role.Client → EachDelivery m objects es (Ready m objects es) (client m w p.to.num) (client m w p.to.num).work p.from p.rid (reply p.msg)) → IsRightWorld (moves m w p r)
   unfolding unit_moves layout_moves seqr_moves
-  moves_right w p role.Unit h e = record { clients = h.clients; replies = h.replies; objects_are = h.objects_are }
-  moves_right w p role.Layout h e = record { clients = h.clients; replies = h.replies; objects_are = h.objects_are }
-  moves_right w p role.Seqr h e = record { clients = h.clients; replies = h.replies; objects_are = h.objects_are }
-  moves_right w p role.Client h e =
-      turned_right w p.to.num (client m w p.to.num) (client_deliver m (client m w p.to.num) p.from p.rid p.msg) h (deliver_right (client m w p.to.num) p.from p.rid p (h.clients p.to.num) (e refl))
+  moves_right w p role.Unit h l e = record { clients = h.clients; replies = h.replies; objects_are = h.objects_are }
+  moves_right w p role.Layout h l e = record { clients = h.clients; replies = h.replies; objects_are = h.objects_are }
+  moves_right w p role.Seqr h l e = record { clients = h.clients; replies = h.replies; objects_are = h.objects_are }
+  moves_right w p role.Client h l e =
+      turned_right w p.to.num (client m w p.to.num) (client_deliver m (client m w p.to.num) p.from p.rid p.msg) h (deliver_right (client m w p.to.num) p.from p.rid p (h.clients p.to.num) (l refl) (e refl))
 
-  pub happens_right : (w : World m) (e : EventOf m) → IsRightWorld w → LawfulIn m e → EachEvent m objects es (Ready m objects es) w e → IsRightWorld (happens m w e)
+  pub happens_right : (w : World m) (e : EventOf m) → IsRightWorld w → LawfulIn m e → AllStand w → AllLand w e → EachEvent m objects es (Ready m objects es) w e → IsRightWorld (happens m w e)
   unfolding happens
-  happens_right w (Commands k x) h lawful r = counts (by (runs m w (client_id k)))
+  happens_right w (Commands k x) h lawful stand land r = counts (by (runs m w (client_id k)))
     where
       counts : {v : World m} → IsRightWorld v → IsRightWorld (counted m v)
       counts {v} i = record { clients = i.clients; replies = i.replies; objects_are = i.objects_are }
@@ -334,19 +364,19 @@ module _ (m : Meaning) (objects : List Oid) (es : Entries) (rising : IsRising es
       noted false = record { clients = h.clients; replies = h.replies; objects_are = h.objects_are }
 
       by : (b : Bool) → IsRightWorld (commands m b w k x)
-      by true = turned_right (noted_if m (is_some (client m w k).work) w k (client m w k)) k (client m w k) (client_command m (client m w k) x) (noted (is_some (client m w k).work)) (command_right (client m w k) x (h.clients k) r lawful)
+      by true = turned_right (noted_if m (is_some (client m w k).work) w k (client m w k)) k (client m w k) (client_command m (client m w k) x) (noted (is_some (client m w k).work)) (command_right (client m w k) x (h.clients k) (stand k) lawful)
       by false = h
-  happens_right w (Deliver i) h lawful r = let x = by (slice_get w.packets i) refl in record { clients = x.clients; replies = x.replies; objects_are = x.objects_are }
+  happens_right w (Deliver i) h lawful stand land r = let x = by (slice_get w.packets i) refl in record { clients = x.clients; replies = x.replies; objects_are = x.objects_are }
     where
       comes_right : (p : Packet) → slice_get w.packets i ≡ Some p → (b : Bool) → runs m w p.to ≡ b → IsRightWorld (comes m b (handed m w i) p)
-      comes_right p is true on = moves_right (handed m w i) p p.to.role (record { clients = h.clients; replies = h.replies; objects_are = h.objects_are }) (λ c. r p is c on)
+      comes_right p is true on = moves_right (handed m w i) p p.to.role (record { clients = h.clients; replies = h.replies; objects_are = h.objects_are }) (λ c. lands_here w i p land is c on) (λ c. r p is c on)
       comes_right p is false on = record { clients = h.clients; replies = h.replies; objects_are = h.objects_are }
 
       by : (p : Option Packet) → slice_get w.packets i ≡ p → IsRightWorld (delivers m w i p)
       by None is = h
       by (Some p) is = comes_right p is (runs m (handed m w i) p.to) refl
-  happens_right w (Lose i) h lawful r = record { clients = h.clients; replies = h.replies; objects_are = h.objects_are }
-  happens_right w (Tick n) h lawful r = let x = by (runs m w n) in record { clients = x.clients; replies = x.replies; objects_are = x.objects_are }
+  happens_right w (Lose i) h lawful stand land r = record { clients = h.clients; replies = h.replies; objects_are = h.objects_are }
+  happens_right w (Tick n) h lawful stand land r = let x = by (runs m w n) in record { clients = x.clients; replies = x.replies; objects_are = x.objects_are }
     where
       ticks_right : (x : Role) → IsRightWorld (ticks m w n.num x)
       ticks_right role.Unit = h
@@ -357,7 +387,7 @@ module _ (m : Meaning) (objects : List Oid) (es : Entries) (rising : IsRising es
       by : (b : Bool) → IsRightWorld (ticks_if m b w n)
       by true = ticks_right n.role
       by false = h
-  happens_right w (Stop n) h lawful r = let x = by (runs m w n) in record { clients = x.clients; replies = x.replies; objects_are = x.objects_are }
+  happens_right w (Stop n) h lawful stand land r = let x = by (runs m w n) in record { clients = x.clients; replies = x.replies; objects_are = x.objects_are }
     where
       by : (b : Bool) → IsRightWorld (stops_if m b w n)
       by true = record { clients = h.clients; replies = h.replies; objects_are = h.objects_are }

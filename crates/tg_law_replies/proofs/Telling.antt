@@ -27,16 +27,19 @@ use Rattle.tg_law_history.proofs.Members.{has_contained, and_both, lt_of, same_n
 use Rattle.tg_law_history.proofs.Cells.{logs_rise, outcomes_are}
 use Rattle.tg_law_views.specs.Exact.{AreWriting}
 use Rattle.tg_law_replies.specs.Steps.{EachEvent}
+use Rattle.tg_law_replies.specs.Ended.{AppendsEnd}
 use Rattle.tg_law_replies.specs.Outcomes.{TellsOutcomes}
 use Rattle.tg_law_replies.specs.Laws.{ClientsFind}
 use Rattle.tg_law_replies.proofs.Ready.{Ready}
 use Rattle.tg_law_replies.proofs.Books.{mark}
 use Rattle.tg_law_replies.proofs.Moves.{TrueWhat, IsCommitAt}
-use Rattle.tg_law_replies.proofs.Steps.{LawfulIn, happens_right, SoTold, IsEffect, as_moved, IsRightWorld, command_right, deliver_right, tick_right}
+use Rattle.tg_law_replies.proofs.Steps.{LawfulIn, AllStand, AllLand, lands_here, happens_right, SoTold, IsEffect, as_moved, IsRightWorld, command_right, deliver_right, tick_right}
 use Rattle.tg_law_replies.proofs.Kept.{IsOver, OnlyReads, IsKept, others_kept, turn_kept}
 use Rattle.tg_law_replies.proofs.Along.{moved_by, Along, at_end, along}
 use Rattle.tg_law_replies.proofs.Runs.{Right, AreLawful, start_right, counted_right, lawful_in}
-use Rattle.tg_law_replies.proofs.Found.{each_ready}
+use Rattle.tg_law_replies.proofs.Shape.{idle_stands}
+use Rattle.tg_law_replies.proofs.Shaping.{AllShaped, start_shaped, happens_shaped}
+use Rattle.tg_law_replies.proofs.Found.{each_ready, each_asks}
 
 -- Lists.
 
@@ -96,32 +99,32 @@ module _ (m : Meaning) (objects : List Oid) (es : Entries) (rising : IsRising es
   moves_kept w p role.Seqr right h less effect = h
   moves_kept w p role.Client right h less effect = turned_kept w p.to.num (client_deliver m (client m w p.to.num) p.from p.rid p.msg) (less refl) h (effect refl)
 
-  pub happens_kept : (w : World m) (e : EventOf m) → IsRightWorld m objects es rising listed w → LawfulIn m e → EachEvent m objects es (Ready m objects es) w e → IsKeptWorld w → IsKeptWorld (happens m w e)
+  pub happens_kept : (w : World m) (e : EventOf m) → IsRightWorld m objects es rising listed w → LawfulIn m e → AllStand m objects es rising listed w → AllLand m objects es rising listed w e → EachEvent m objects es (Ready m objects es) w e → IsKeptWorld w → IsKeptWorld (happens m w e)
   unfolding happens
-  happens_kept w (Commands k x) right lawful each h = by (runs m w (client_id k)) refl
+  happens_kept w (Commands k x) right lawful stand land each h = by (runs m w (client_id k)) refl
     where
       turned : (b : Bool) → runs m w (client_id k) ≡ true → IsKeptWorld (client_turned m (noted_if m b w k (client m w k)) k (client_command m (client m w k) x))
       turned true on =
-          turned_kept w k (client_command m (client m w k) x) (declared w (client_id k) refl on) h (command_right m objects es rising listed (client m w k) x (right.clients k) each lawful).1
+          turned_kept w k (client_command m (client m w k) x) (declared w (client_id k) refl on) h (command_right m objects es rising listed (client m w k) x (right.clients k) (stand k) lawful).1
       turned false on =
-          turned_kept (noted_if m false w k (client m w k)) k (client_command m (client m w k) x) (declared w (client_id k) refl on) h (command_right m objects es rising listed (client m w k) x (right.clients k) each lawful).1
+          turned_kept (noted_if m false w k (client m w k)) k (client_command m (client m w k) x) (declared w (client_id k) refl on) h (command_right m objects es rising listed (client m w k) x (right.clients k) (stand k) lawful).1
 
       by : (b : Bool) → runs m w (client_id k) ≡ b → IsKeptWorld (commands m b w k x)
       by true on = turned (is_some (client m w k).work) on
       by false on = h
-  happens_kept w (Deliver i) right lawful each h = by (slice_get w.packets i) refl
+  happens_kept w (Deliver i) right lawful stand land each h = by (slice_get w.packets i) refl
     where
       comes_kept : (p : Packet) → slice_get w.packets i ≡ Some p → (b : Bool) → runs m w p.to ≡ b → IsKeptWorld (comes m b (handed m w i) p)
       comes_kept p is true on =
           moves_kept (handed m w i) p p.to.role (record { clients = right.clients; replies = right.replies; objects_are = right.objects_are }) h (λ c. declared w p.to c on)
-          (λ c. (deliver_right m objects es rising listed (client m w p.to.num) p.from p.rid p (right.clients p.to.num) (each p is c on)).1)
+          (λ c. (deliver_right m objects es rising listed (client m w p.to.num) p.from p.rid p (right.clients p.to.num) (lands_here m objects es rising listed w i p land is c on) (each p is c on)).1)
       comes_kept p is false on = h
 
       by : (p : Option Packet) → slice_get w.packets i ≡ p → IsKeptWorld (delivers m w i p)
       by None is = h
       by (Some p) is = comes_kept p is (runs m w p.to) refl
-  happens_kept w (Lose i) right lawful each h = h
-  happens_kept w (Tick n) right lawful each h = by (runs m w n) refl
+  happens_kept w (Lose i) right lawful stand land each h = h
+  happens_kept w (Tick n) right lawful stand land each h = by (runs m w n) refl
     where
       ticks_kept : (r : Role) → n.role ≡ r → runs m w n ≡ true → IsKeptWorld (ticks m w n.num r)
       ticks_kept role.Unit is on = h
@@ -133,7 +136,7 @@ module _ (m : Meaning) (objects : List Oid) (es : Entries) (rising : IsRising es
       by : (b : Bool) → runs m w n ≡ b → IsKeptWorld (ticks_if m b w n)
       by true on = ticks_kept n.role refl on
       by false on = h
-  happens_kept w (Stop n) right lawful each h = by (runs m w n)
+  happens_kept w (Stop n) right lawful stand land each h = by (runs m w n)
     where
       by : (b : Bool) → IsKeptWorld (stops_if m b w n)
       by true = h
@@ -161,33 +164,44 @@ module _ (m : Meaning) (h : Header) (es : Entries) (rising : IsRising es) (liste
   unfolding start
   start_kept k = each_kept k (numbers h.clients 0) k (new_client m h k) (new_kept k k)
 
+  -- clients are right, their replies are kept, and they keep their shape
   abbrev pub RightAndKept : World m → Type 0
-  RightAndKept w = Right m h es rising listed w × IsKeptWorld m h.objects es rising listed w
+  RightAndKept w = Right m h es rising listed w × IsKeptWorld m h.objects es rising listed w × AllShaped m h.objects es w
 
   pub of_right : (ms : Moves m) (w : World m) → Along m RightAndKept ms w → Along m (Right m h es rising listed) ms w
   of_right [] w k = k.0
   of_right (x ∷ ms) w k = (k.0.0, of_right ms (moved_by m x w) k.1)
 
+  all_stand : (w : World m) → AllShaped m h.objects es w → AllStand m h.objects es rising listed w
+  all_stand w shaped k none = idle_stands m h.objects (client m w k) (shaped k) none
+
   -- so it is in each world of a run
-  pub all_kept : (ms : Moves m) → AreLawful m h es rising listed ms
-      → ((before after : Moves m) (e : EventOf m) → ms ≡ before ++ Takes e ∷ after → Along m (Right m h es rising listed) before (start m h) → EachEvent m h.objects es (Ready m h.objects es) (run m before (start m h)) e)
+  all_kept : (ms : Moves m) → AreLawful m h es rising listed ms
+      → ((before after : Moves m) (e : EventOf m) → ms ≡ before ++ Takes e ∷ after → AllLand m h.objects es rising listed (run m before (start m h)) e)
+      → ((before after : Moves m) (e : EventOf m) → ms ≡ before ++ Takes e ∷ after → Along m (Right m h es rising listed) before (start m h) → AllShaped m h.objects es (run m before (start m h))
+      → EachEvent m h.objects es (Ready m h.objects es) (run m before (start m h)) e)
       → Along m RightAndKept ms (start m h)
-  all_kept ms lawful finds = along m RightAndKept h ms (start_right m h es rising listed, start_kept) next
+  all_kept ms lawful lands finds = along m RightAndKept h ms (start_right m h es rising listed, start_kept, start_shaped m h es) next
     where
       next : (before after : Moves m) (x : Move m) → ms ≡ before ++ x ∷ after → Along m RightAndKept before (start m h) → RightAndKept (moved_by m x (run m before (start m h)))
-      next before after Next split k = let now = at_end m RightAndKept before (start m h) k in (counted_right m h es rising listed (run m before (start m h)) now.0, now.1)
+      next before after Next split k = let now = at_end m RightAndKept before (start m h) k in (counted_right m h es rising listed (run m before (start m h)) now.0, now.1, now.2)
       next before after (Takes e) split k =
           let now = at_end m RightAndKept before (start m h) k in
-          let each = finds before after e split (of_right before (start m h) k) in
-          let fine = lawful before after e split in (
-            happens_right m h.objects es rising listed (run m before (start m h)) e now.0 fine each,
-            happens_kept m h.objects es rising listed (run m before (start m h)) e now.0 fine each now.1,
+          let each = finds before after e split (of_right before (start m h) k) now.2 in
+          let fine = lawful before after e split in
+          let stand = all_stand (run m before (start m h)) now.2 in
+          let land = lands before after e split in (
+            happens_right m h.objects es rising listed (run m before (start m h)) e now.0 fine stand land each,
+            happens_kept m h.objects es rising listed (run m before (start m h)) e now.0 fine stand land each now.1,
+            happens_shaped m h.objects es (run m before (start m h)) e now.2 (each_asks m h.objects es (run m before (start m h)) e each),
           )
 
--- so it is of a run whose clients find what they need
-pub found_kept : (m : Meaning) (h : Header) (ms : Moves m) (w : World m) (listed : AreListed (entries_in m w)) → AreWriting (entries_in m w) → Reaches m h ms w → ClientsFind m h ms w → Along m (RightAndKept m h (entries_in m w) (logs_rise m w) listed) ms (start m h)
-found_kept m h ms w listed writing r finds =
-    all_kept m h (entries_in m w) (logs_rise m w) listed ms (lawful_in m h ms w (entries_in m w) (logs_rise m w) listed r) (λ before after e split k. each_ready m h (entries_in m w) (logs_rise m w) listed writing ms finds before after e split k)
+-- so it is of a run whose clients find what they need, and whose appends stand where they ended
+pub found_kept : (m : Meaning) (h : Header) (ms : Moves m) (w : World m) (listed : AreListed (entries_in m w)) → AreWriting (entries_in m w) → Reaches m h ms w → ClientsFind m h ms w → AppendsEnd m h ms w
+    → Along m (RightAndKept m h (entries_in m w) (logs_rise m w) listed) ms (start m h)
+found_kept m h ms w listed writing r finds ends =
+    all_kept m h (entries_in m w) (logs_rise m w) listed ms (lawful_in m h ms w (entries_in m w) (logs_rise m w) listed r) (λ before after e split k a x has is. ends before after e split k a x has is)
+    (λ before after e split k shaped. each_ready m h (entries_in m w) (logs_rise m w) listed writing ms finds before after e split k shaped)
 
 -- What is told of outcomes.
 

@@ -33,10 +33,12 @@ use Rattle.tg_protocol.specs.Transactions.{Tx}
 use Rattle.tg_protocol.specs.Clients.{Purpose, Writes, Judged, Decides, Rescues, Saves, Marks, Task, Syncing, Walking, Appending, Trimming, Copying', Reconfiguring, Hand, Doing, Learning, Work, Client, copy_fault}
 use Rattle.tg_protocol.specs.Answers.{Moved, moved, note, closed, took_over}
 use Rattle.tg_protocol.specs.ClientSteps.{task_awaited, task_in, after_turn, met, goes_on, learns_for, takes_back, found_by, start_walk, walks, knows, sync_to, on_sync, stale, starts_over, gives_up, given_up_if, at_trim, walk_ended_by, walk_to, on_walk, knows_page, owns, tx_of, record_lost, lost, page_known, decided_for, append_ended, append_to, on_append, trim_to, on_trims, copy_to, on_copy, stands, reconf_ended, reconf_to, on_reconf, task_feed, copies_again, task_again, on_newer, fed_if, hand_feed, latest_if, reply_feed, feed}
+use Rattle.tg_protocol.specs.Holding.{append_of, append_by}
 use Rattle.tg_law_plays.specs.Sound.{IsRising}
 use Rattle.tg_law_history.specs.Logs.{AreListed, HasOutcome}
 use Rattle.tg_law_history.proofs.Members.{both_and}
-use Rattle.tg_law_replies.specs.Steps.{EachWalk, EachSync, EachOver, EachTrim, EachEnd, EachWalked, Lands, EachFeed, EachAgain, EachNewer, EachAwaited, EachHand, EachLatest, EachReply, EachDelivery}
+use Rattle.tg_law_replies.specs.Steps.{EachWalk, EachSync, EachOver, EachTrim, EachEnd, EachWalked, EachFeed, EachAgain, EachNewer, EachAwaited, EachHand, EachLatest, EachReply, EachDelivery}
+use Rattle.tg_law_replies.specs.Ended.{end_of, task_ends, again_ends, awaited_ends, hand_ends, latest_ends, reply_ends, work_ends, EndsSo}
 use Rattle.tg_law_replies.proofs.Ready.{Ready}
 use Rattle.tg_law_replies.proofs.Books.{IsPlain, ArePlain}
 use Rattle.tg_law_replies.proofs.Moves.{InStep, IsRightMove, TrueWhat, TrueNotes, TrueDraft, RescuesBy, IsBlind, TruePurpose, TrueTask, TrueHand, one_note, one_plain, one_work, replies_right, refuses_right, answers_right, close_right, took_right}
@@ -121,6 +123,10 @@ again_keeps p a next = by a.token
     by None = refl
     by (Some t) = dead_keeps p a t next (nat_le p.start t.pos)
 
+-- an append that ends does so by the log
+abbrev pub LandsBy : (m : Meaning) → Entries → Option Append → Option AppendEnd → Type 0
+LandsBy m es o end = (a : Append) (e : AppendEnd) → o ≡ Some a → end ≡ Some e → EndsSo m es a.draft e
+
 module _ (m : Meaning) (objects : List Oid) (es : Entries) (rising : IsRising es) (listed : AreListed es) (tx0 : Option Tx) (n0 : ℕ) where
   abbrev Held : Client m → Type 0
   Held c = InStep m objects es rising listed tx0 n0 c
@@ -130,6 +136,9 @@ module _ (m : Meaning) (objects : List Oid) (es : Entries) (rising : IsRising es
 
   abbrev True : Task m → Type 0
   True t = TrueTask m objects es rising listed t
+
+  abbrev LandsTask : Task m → Option AppendEnd → Type 0
+  LandsTask t end = LandsBy m es (append_of m t) end
 
   -- Machines that go on.
 
@@ -251,7 +260,7 @@ module _ (m : Meaning) (objects : List Oid) (es : Entries) (rising : IsRising es
     outcome = both_and (is_commit d) (list_all (is_current m (changes_below m [] es p)) (reads_of d)) blind.0 (ap (λ (rs : List ReadMark). list_all (is_current m (changes_below m [] es p)) rs) blind.1);
   }
 
-  ended_right : (c : Client m) (w : Work m) (x : Purpose m) (f : Entry) (e : AppendEnd) → Held c → TruePurpose m objects es rising listed f x → Lands es f (Ends e) → RightMove (append_ended m c w x e)
+  ended_right : (c : Client m) (w : Work m) (x : Purpose m) (f : Entry) (e : AppendEnd) → Held c → TruePurpose m objects es rising listed f x → EndsSo m es f e → RightMove (append_ended m c w x e)
   ended_right c w Writes f (At p d) h t out =
       replies_right m objects es rising listed tx0 n0 (closed m (owns m c p d)) (note m (tx_of m c) (told.Committed p) ∷ []) (close_right m objects es rising listed tx0 n0 (owns m c p d) (owns_right c p d h))
       (one_note m objects es rising listed (tx_of m c) (told.Committed p) (landed f p t out)) (one_plain m objects es rising listed tx0 n0 (tx_of m c) (told.Committed p) tt)
@@ -285,13 +294,13 @@ module _ (m : Meaning) (objects : List Oid) (es : Entries) (rising : IsRising es
   ended_right c w (Marks n o k) f (Forgotten p b) h t out = lost_right c n (Forgotten p b) h
 
   append_right : (c : Client m) (w : Work m) (y : Purpose m) (d : Entry) (t : Turn Append AppendEnd) → Held c → TrueDraft m objects es rising listed d → TruePurpose m objects es rising listed d y
-      → Keeps d t.to → Lands es d t.to → RightMove (on_append m c w y t)
+      → Keeps d t.to → ((e : AppendEnd) → end_of t.to ≡ Some e → EndsSo m es d e) → RightMove (on_append m c w y t)
   append_right c w y d t h draft purpose keeps lands = by t.to keeps lands
     where
-      by : (x : Next Append AppendEnd) → Keeps d x → Lands es d x → RightMove (append_to m (after_turn m c t) (met m w t) y t.besides x)
+      by : (x : Next Append AppendEnd) → Keeps d x → ((e : AppendEnd) → end_of x ≡ Some e → EndsSo m es d e) → RightMove (append_to m (after_turn m c t) (met m w t) y t.besides x)
       by (Goes a) k l = goes_right (after_turn m c t) (met m w t) (Appending a y) t.besides (turned c t h) (subst (λ (e : Entry). TrueDraft m objects es rising listed e × TruePurpose m objects es rising listed e y) (sym k) (draft, purpose))
       by (Learns a) k l = learns_right (after_turn m c t) (met m w t) (Appending a y) (turned c t h) (subst (λ (e : Entry). TrueDraft m objects es rising listed e × TruePurpose m objects es rising listed e y) (sym k) (draft, purpose))
-      by (Ends e) k l = ended_right (after_turn m c t) (met m w t) y d e (turned c t h) purpose l
+      by (Ends e) k l = ended_right (after_turn m c t) (met m w t) y d e (turned c t h) purpose (l e refl)
 
   -- Trims, copies, reconfigurations.
 
@@ -332,59 +341,63 @@ module _ (m : Meaning) (objects : List Oid) (es : Entries) (rising : IsRising es
 
   -- An awaited answer, and a newer layout.
 
-  fed_right : (c : Client m) (w : Work m) (t : Task m) (n rid : ℕ) (x : Reply) → Held c → True t → EachFeed m objects es (Ready m objects es) c w t n rid x → RightMove (task_feed m c w t n rid x)
+  fed_right : (c : Client m) (w : Work m) (t : Task m) (n rid : ℕ) (x : Reply) → Held c → True t → LandsTask t (task_ends m c t n x) → EachFeed m objects es (Ready m objects es) c w t n rid x → RightMove (task_feed m c w t n rid x)
   unfolding task_feed
-  fed_right c w (Syncing s) n rid x h k r = sync_right c w (sync_feed c.stand s s.work n x c.next) h r
-  fed_right c w (Walking j os) n rid x h k r = walk_right c w j.oid os (walk_feed c.stand j j.job n x c.next) h r
-  fed_right c w (Appending a y) n rid x h k r = append_right c w y a.draft (append_feed c.stand a a.work n x c.next) h k.0 k.1 (feed_keeps c.stand a a.work n x c.next) r
-  fed_right c w (Trimming t) n rid x h k r = trims_right c w t.below (trim_feed c.stand t n x c.next) h
-  fed_right c w (Copying' y) n rid x h k r = copy_right c w y (copy_feed c.stand y y.work n x c.next) h
-  fed_right c w (Reconfiguring y) n rid x h k r = reconf_right c w (reconf_feed y y.work n rid x c.next) h
+  fed_right c w (Syncing s) n rid x h k l r = sync_right c w (sync_feed c.stand s s.work n x c.next) h r
+  fed_right c w (Walking j os) n rid x h k l r = walk_right c w j.oid os (walk_feed c.stand j j.job n x c.next) h r
+  fed_right c w (Appending a y) n rid x h k l r = append_right c w y a.draft (append_feed c.stand a a.work n x c.next) h k.0 k.1 (feed_keeps c.stand a a.work n x c.next) (λ e is. l a e refl is)
+  fed_right c w (Trimming t) n rid x h k l r = trims_right c w t.below (trim_feed c.stand t n x c.next) h
+  fed_right c w (Copying' y) n rid x h k l r = copy_right c w y (copy_feed c.stand y y.work n x c.next) h
+  fed_right c w (Reconfiguring y) n rid x h k l r = reconf_right c w (reconf_feed y y.work n rid x c.next) h
 
   pub copies_right : (c : Client m) (w : Work m) (x : Copying) (o : Option Refusal) → Held c → RightMove (copies_again m c w x o)
   copies_right c w x None h = copy_right c w x (copy_start x.unit x.range x.stripe c.next) h
   copies_right c w x (Some why) h = refuses_right m objects es rising listed tx0 n0 c 0 why h
 
-  again_right : (c : Client m) (w : Work m) (t : Task m) → Held c → True t → EachAgain m objects es (Ready m objects es) c w t → RightMove (task_again m c w t)
+  again_right : (c : Client m) (w : Work m) (t : Task m) → Held c → True t → LandsTask t (again_ends m c t) → EachAgain m objects es (Ready m objects es) c w t → RightMove (task_again m c w t)
   unfolding task_again
-  again_right c w (Syncing s) h k r = sync_right c (record w { gone_before = w.gone }) (sync_again s c.next) h r
-  again_right c w (Walking j os) h k r = walk_right c w j.oid os (walk_again c.stand j c.next) h r
-  again_right c w (Appending a y) h k r = append_right c w y a.draft (append_again c.stand a c.next) h k.0 k.1 (again_keeps c.stand a c.next) r
-  again_right c w (Trimming t) h k r = trims_right c w t.below (trim_start c.stand t.below c.next) h
-  again_right c w (Copying' x) h k r = copies_right c w x (copy_fault m c.stand x.unit x.range x.stripe) h
-  again_right c w (Reconfiguring r) h k e = goes_right c w (Reconfiguring r) [] h tt
+  again_right c w (Syncing s) h k l r = sync_right c (record w { gone_before = w.gone }) (sync_again s c.next) h r
+  again_right c w (Walking j os) h k l r = walk_right c w j.oid os (walk_again c.stand j c.next) h r
+  again_right c w (Appending a y) h k l r = append_right c w y a.draft (append_again c.stand a c.next) h k.0 k.1 (again_keeps c.stand a c.next) (λ e is. l a e refl is)
+  again_right c w (Trimming t) h k l r = trims_right c w t.below (trim_start c.stand t.below c.next) h
+  again_right c w (Copying' x) h k l r = copies_right c w x (copy_fault m c.stand x.unit x.range x.stripe) h
+  again_right c w (Reconfiguring r) h k l e = goes_right c w (Reconfiguring r) [] h tt
 
-  newer_right : (c : Client m) (w : Work m) (t : Task m) (n rid : ℕ) (q : Layout) → Held c → True t → EachNewer m objects es (Ready m objects es) c w t q → RightMove (on_newer m c w t n rid q)
-  newer_right c w (Reconfiguring y) n rid q h k r = reconf_right c w (reconf_latest y y.work n rid q c.next) h
-  newer_right c w (Syncing s) n rid q h k r = again_right (stands m c q) w (Syncing s) (stands_right c q h) k r
-  newer_right c w (Walking j os) n rid q h k r = again_right (stands m c q) w (Walking j os) (stands_right c q h) k r
-  newer_right c w (Appending a y) n rid q h k r = again_right (stands m c q) w (Appending a y) (stands_right c q h) k r
-  newer_right c w (Trimming t) n rid q h k r = again_right (stands m c q) w (Trimming t) (stands_right c q h) k r
-  newer_right c w (Copying' x) n rid q h k r = again_right (stands m c q) w (Copying' x) (stands_right c q h) k r
+  newer_right : (c : Client m) (w : Work m) (t : Task m) (n rid : ℕ) (q : Layout) → Held c → True t → LandsTask t (again_ends m (stands m c q) t) → EachNewer m objects es (Ready m objects es) c w t q → RightMove (on_newer m c w t n rid q)
+  newer_right c w (Reconfiguring y) n rid q h k l r = reconf_right c w (reconf_latest y y.work n rid q c.next) h
+  newer_right c w (Syncing s) n rid q h k l r = again_right (stands m c q) w (Syncing s) (stands_right c q h) k l r
+  newer_right c w (Walking j os) n rid q h k l r = again_right (stands m c q) w (Walking j os) (stands_right c q h) k l r
+  newer_right c w (Appending a y) n rid q h k l r = again_right (stands m c q) w (Appending a y) (stands_right c q h) k l r
+  newer_right c w (Trimming t) n rid q h k l r = again_right (stands m c q) w (Trimming t) (stands_right c q h) k l r
+  newer_right c w (Copying' x) n rid q h k l r = again_right (stands m c q) w (Copying' x) (stands_right c q h) k l r
 
-  fed_if_right : (b : Bool) (c : Client m) (w : Work m) (t : Task m) (from : NodeId) (rid : ℕ) (x : Reply) → Held c → True t → EachAwaited m objects es (Ready m objects es) b c w t from rid x → RightMove (fed_if m b c w t from rid x)
-  fed_if_right true c w t from rid x h k r = fed_right c w t from.num rid x h k r
-  fed_if_right false c w t from rid x h k r = still c h
+  fed_if_right : (b : Bool) (c : Client m) (w : Work m) (t : Task m) (from : NodeId) (rid : ℕ) (x : Reply) → Held c → True t → LandsTask t (awaited_ends m b c t from x) → EachAwaited m objects es (Ready m objects es) b c w t from rid x
+      → RightMove (fed_if m b c w t from rid x)
+  fed_if_right true c w t from rid x h k l r = fed_right c w t from.num rid x h k l r
+  fed_if_right false c w t from rid x h k l r = still c h
 
-  hand_right : (c : Client m) (w : Work m) (d : Hand m) (from : NodeId) (rid : ℕ) (x : Reply) → Held c → TrueHand m objects es rising listed d → EachHand m objects es (Ready m objects es) c w d from rid x → RightMove (hand_feed m c w d from rid x)
-  hand_right c w (Doing t) from rid x h k r = fed_if_right (awaits (task_awaited m c.stand t) from rid) c w t from rid x h k r
-  hand_right c w (Learning waits t) from rid x h k r = still c h
+  hand_right : (c : Client m) (w : Work m) (d : Hand m) (from : NodeId) (rid : ℕ) (x : Reply) → Held c → TrueHand m objects es rising listed d → LandsTask (task_in m d) (hand_ends m c d from rid x) → EachHand m objects es (Ready m objects es) c w d from rid x
+      → RightMove (hand_feed m c w d from rid x)
+  hand_right c w (Doing t) from rid x h k l r = fed_if_right (awaits (task_awaited m c.stand t) from rid) c w t from rid x h k l r
+  hand_right c w (Learning waits t) from rid x h k l r = still c h
 
   task_true : (d : Hand m) → TrueHand m objects es rising listed d → True (task_in m d)
   task_true (Doing t) k = k
   task_true (Learning waits t) k = k
 
-  latest_right : (b : Bool) (c : Client m) (w : Work m) (from : NodeId) (rid : ℕ) (q : Layout) → Held c → TrueHand m objects es rising listed w.hand → EachLatest m objects es (Ready m objects es) b c w q → RightMove (latest_if m b c w from rid q)
-  latest_right true c w from rid q h k r = newer_right c w (task_in m w.hand) from.num rid q h (task_true w.hand k) r
-  latest_right false c w from rid q h k r = still c h
+  latest_right : (b : Bool) (c : Client m) (w : Work m) (from : NodeId) (rid : ℕ) (q : Layout) → Held c → TrueHand m objects es rising listed w.hand → LandsTask (task_in m w.hand) (latest_ends m b (stands m c q) (task_in m w.hand))
+      → EachLatest m objects es (Ready m objects es) b c w q → RightMove (latest_if m b c w from rid q)
+  latest_right true c w from rid q h k l r = newer_right c w (task_in m w.hand) from.num rid q h (task_true w.hand k) l r
+  latest_right false c w from rid q h k l r = still c h
 
-  reply_right : (c : Client m) (w : Work m) (from : NodeId) (rid : ℕ) (x : Reply) → Held c → TrueHand m objects es rising listed w.hand → EachReply m objects es (Ready m objects es) c w from rid x → RightMove (reply_feed m c w from rid x)
-  reply_right c w from rid (IsLatest q) h k r = latest_right (node_eq from (layout_id from.num) && nat_lt c.stand.epoch q.epoch) c w from rid q h k r
-  reply_right c w from rid x h k r = hand_right c w w.hand from rid x h k r
+  reply_right : (c : Client m) (w : Work m) (from : NodeId) (rid : ℕ) (x : Reply) → Held c → TrueHand m objects es rising listed w.hand → LandsTask (task_in m w.hand) (reply_ends m c w from rid x) → EachReply m objects es (Ready m objects es) c w from rid x
+      → RightMove (reply_feed m c w from rid x)
+  reply_right c w from rid (IsLatest q) h k l r = latest_right (node_eq from (layout_id from.num) && nat_lt c.stand.epoch q.epoch) c w from rid q h k l r
+  reply_right c w from rid x h k l r = hand_right c w w.hand from rid x h k l r
 
-  pub feed_right : (c : Client m) (from : NodeId) (rid : ℕ) (x : Reply) → Held c → EachDelivery m objects es (Ready m objects es) c c.work from rid x → RightMove (feed m c c.work from rid x)
-  feed_right c from rid x h r = by c.work refl r
+  pub feed_right : (c : Client m) (from : NodeId) (rid : ℕ) (x : Reply) → Held c → LandsBy m es (append_by m c.work) (work_ends m c c.work from rid x) → EachDelivery m objects es (Ready m objects es) c c.work from rid x → RightMove (feed m c c.work from rid x)
+  feed_right c from rid x h l r = by c.work refl l r
     where
-      by : (w : Option (Work m)) → c.work ≡ w → EachDelivery m objects es (Ready m objects es) c w from rid x → RightMove (feed m c w from rid x)
-      by None is r = still c h
-      by (Some w) is r = reply_right c w from rid x h (h.right.work w is) r
+      by : (w : Option (Work m)) → c.work ≡ w → LandsBy m es (append_by m w) (work_ends m c w from rid x) → EachDelivery m objects es (Ready m objects es) c w from rid x → RightMove (feed m c w from rid x)
+      by None is l r = still c h
+      by (Some w) is l r = reply_right c w from rid x h (h.right.work w is) l r

@@ -11,6 +11,7 @@ use Rattle.tg_protocol.specs.Alike.{HasEntry, Outcome, CheckpointsTrue, PastTrue
 use Rattle.tg_law_history.specs.Worlds.{entries_in}
 use Rattle.tg_law_replies.specs.Runs.{InEachStep}
 use Rattle.tg_law_replies.specs.Steps.{EachEvent}
+use Rattle.tg_law_replies.specs.Ended.{AppendsEnd}
 use Rattle.tg_law_replies.specs.Outcomes.{TellsOutcomes}
 use Rattle.tg_law_replies.specs.Found.{Finds}
 
@@ -23,9 +24,9 @@ pub record WritesTruth (m : Meaning) (w : World m) : Type 0 where
   pub decisions : (at p : ℕ) (e : Entry) (b : Bool) → HasEntry m w at e → e.body ≡ Decision p b → Outcome m w p b
   pub checkpoints : CheckpointsTrue m w
 
--- are so, where each entry of the log was begun by its client
+-- are so, where each entry of the log was begun by its client, and an append that ends stands where it says
 abbrev pub RunsWriteTruth : Meaning → Type 0
-RunsWriteTruth m = (h : Header) (ms : Moves m) (w : World m) → Reaches m h ms w → ClientsFind m h ms w → EntriesOwn m h ms w → WritesTruth m w
+RunsWriteTruth m = (h : Header) (ms : Moves m) (w : World m) → Reaches m h ms w → ClientsFind m h ms w → AppendsEnd m h ms w → EntriesOwn m h ms w → WritesTruth m w
 
 -- what a run tells of past positions, of rescues and of outcomes
 pub record TellsSo (m : Meaning) (w : World m) : Type 0 where
@@ -33,6 +34,6 @@ pub record TellsSo (m : Meaning) (w : World m) : Type 0 where
   pub rescues : RescueTrue m w
   pub outcomes : TellsOutcomes m w
 
--- is so
+-- is so, where an append that ends stands where it says
 abbrev pub RunsTellTruth : Meaning → Type 0
-RunsTellTruth m = (h : Header) (ms : Moves m) (w : World m) → Reaches m h ms w → ClientsFind m h ms w → TellsSo m w
+RunsTellTruth m = (h : Header) (ms : Moves m) (w : World m) → Reaches m h ms w → ClientsFind m h ms w → AppendsEnd m h ms w → TellsSo m w

@@ -1,48 +1,22 @@
--- A step of a run, wherever it comes to the end of a command's walks, and where its append has landed.
-use Rattle.std.specs.Prelude.{not, ◌≡◌, ℕ, ◌≤◌, Bool, true, false, ◌&&◌, ◌==◌, nat_lt, List, [], ◌∷◌, Option, Some, None, Contains, slice_get}
+-- A step of a run, wherever it comes to the end of a command's walks.
+use Rattle.std.specs.Prelude.{not, ◌≡◌, ℕ, Bool, true, false, ◌&&◌, ◌==◌, nat_lt, List, [], ◌∷◌, Option, Some, None, slice_get}
 use Rattle.tg_base.specs.Layouts.{Layout}
 use Rattle.tg_base.specs.declared.ids.NodeId.{NodeId}
 use Rattle.tg_base.specs.declared.ids.Oid.{Oid}
 use Rattle.tg_base.specs.declared.ids.Role.TheVariants as role
-use Rattle.tg_base.specs.declared.marks.StreamLink.{StreamLink}
 use Rattle.tg_base.specs.declared.packet.Packet.{Packet}
-use Rattle.tg_entry.specs.declared.entry.Entry.{Entry}
 use Rattle.tg_kind.specs.Meaning.{Meaning}
-use Rattle.tg_model.specs.Kinds.{CommandOf, EventOf}
-use Rattle.tg_model.specs.declared.command.Command.TheVariants as cmd
-use Rattle.tg_model.specs.declared.command.Event.TheVariants.{Command as Commands, Deliver}
+use Rattle.tg_model.specs.Kinds.{EventOf}
+use Rattle.tg_model.specs.declared.command.Event.TheVariants.{Deliver}
 use Rattle.tg_protocol.specs.Words.{node_eq, layout_id}
-use Rattle.tg_protocol.specs.Entries.{linked}
 use Rattle.tg_protocol.specs.Requests.{awaits, Next, Ends}
 use Rattle.tg_protocol.specs.Replies.{Reply, IsLatest, reply}
-use Rattle.tg_protocol.specs.Appending.{Append, AppendEnd, At, append_feed, append_again}
 use Rattle.tg_protocol.specs.Syncing.{Sync, Confirmed, sync_feed, sync_again}
 use Rattle.tg_protocol.specs.Walking.{Walk, Members, walk_feed, walk_again}
-use Rattle.tg_protocol.specs.Views.{Entries, Base, View, base_of, state_of}
-use Rattle.tg_protocol.specs.Transactions.{Tx}
-use Rattle.tg_protocol.specs.Clients.{Task, Syncing, Walking, Appending, Reconfiguring, Hand, Doing, Learning, Work, Client, refusal}
+use Rattle.tg_protocol.specs.Views.{Entries}
+use Rattle.tg_protocol.specs.Clients.{Task, Syncing, Walking, Reconfiguring, Hand, Doing, Learning, Work, Client}
 use Rattle.tg_protocol.specs.ClientSteps.{task_awaited, task_in, after_turn, met, takes_back, given_up_if, found_by, start_walk, knows, lo_for, stale, gives_up, stands}
 use Rattle.tg_protocol.specs.Worlds.{World, client, runs}
-
--- an append that has ended at a position stands there, with the links that were issued to it
-abbrev pub Lands : Entries → Entry → Next Append AppendEnd → Type 0
-Lands es d (Ends (At p page)) = (links : List StreamLink) × Contains es (p, linked d links)
-Lands es d x = Unit {0}
-
-module _ (m : Meaning) where
-  -- a view stands at a position, and has an object with a base no further
-  pub record StandsWith (v : View m) (at : ℕ) (o : Oid) : Type 0 where
-    pub stands : v.upto ≡ at
-    pub based : (s : m.state) → state_of m v o ≡ Some s → (b : Base m) × (base_of m v o ≡ Some b) × (b.upto ≤ at)
-
-  -- later asks of a transaction find the view where the first was answered
-  abbrev pub EachAccepted : Client m → CommandOf m → Type 0
-  EachAccepted c (cmd.Ask o q) = (t : Tx) (at : ℕ) (v : View m) → c.tx ≡ Some t → t.snapshot ≡ Some at → c.view ≡ Some v → StandsWith v at o
-  EachAccepted c x = Unit {0}
-
-  -- where the command isn't refused
-  abbrev pub EachCommand : Client m → CommandOf m → Type 0
-  EachCommand c x = refusal m c x ≡ None → EachAccepted c x
 
 -- A step, where the end of each of its walks has P.
 module _ (m : Meaning) (objects : List Oid) (es : Entries) (P : Client m → Work m → Type 0) where
@@ -74,13 +48,11 @@ module _ (m : Meaning) (objects : List Oid) (es : Entries) (P : Client m → Wor
   EachFeed c w (Syncing s) n rid x = EachSync (after_turn m c (sync_feed c.stand s s.work n x c.next)) (met m w (sync_feed c.stand s s.work n x c.next)) (sync_feed c.stand s s.work n x c.next).to
   EachFeed c w (Walking k os) n rid x =
       EachWalked (after_turn m c (walk_feed c.stand k k.job n x c.next)) (met m w (walk_feed c.stand k k.job n x c.next)) k.oid os (walk_feed c.stand k k.job n x c.next).to
-  EachFeed c w (Appending a y) n rid x = Lands es a.draft (append_feed c.stand a a.work n x c.next).to
   EachFeed c w t n rid x = Unit {0}
 
   abbrev pub EachAgain : Client m → Work m → Task m → Type 0
   EachAgain c w (Syncing s) = EachSync (after_turn m c (sync_again s c.next)) (met m (record w { gone_before = w.gone }) (sync_again s c.next)) (sync_again s c.next).to
   EachAgain c w (Walking k os) = EachWalked (after_turn m c (walk_again c.stand k c.next)) (met m w (walk_again c.stand k c.next)) k.oid os (walk_again c.stand k c.next).to
-  EachAgain c w (Appending a y) = Lands es a.draft (append_again c.stand a c.next).to
   EachAgain c w t = Unit {0}
 
   abbrev pub EachNewer : Client m → Work m → Task m → Layout → Type 0
@@ -112,6 +84,5 @@ module _ (m : Meaning) (objects : List Oid) (es : Entries) (P : Client m → Wor
   -- A step of a world.
 
   abbrev pub EachEvent : World m → EventOf m → Type 0
-  EachEvent w (Commands k x) = EachCommand m (client m w k) x
   EachEvent w (Deliver i) = (p : Packet) → slice_get w.packets i ≡ Some p → p.to.role ≡ role.Client → runs m w p.to ≡ true → EachDelivery (client m w p.to.num) (client m w p.to.num).work p.from p.rid (reply p.msg)
   EachEvent w e = Unit {0}

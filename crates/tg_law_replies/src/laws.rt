@@ -12,13 +12,13 @@ pub fn telling_is_legal<K: Registry>()
 {}
 
 /// The decision records and the checkpoints of a run's log are true of it, where each of its entries was begun by its
-/// client, and the clients find what they need.
+/// client, the clients find what they need, and an append that ends stands where it says.
 pub fn runs_write_truth<K: Registry>()
     ensures { RunsWriteTruth (meaning_of K.Registry) }
 {}
 
 /// What a run tells of past positions, of rescues and of outcomes is true of its log, where the clients find what they
-/// need.
+/// need, and an append that ends stands where it says.
 pub fn runs_tell_truth<K: Registry>()
     ensures { RunsTellTruth (meaning_of K.Registry) }
 {}

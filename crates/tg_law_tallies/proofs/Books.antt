@@ -47,7 +47,7 @@ use Rattle.tg_protocol.specs.Holding.{append_by, EntriesOnce}
 use Rattle.tg_model.specs.Traces.{Trace}
 use Rattle.tg_law_books.specs.Kept.{WasLeft, RecordsLeft, AsksPrecede, EndsSo, AppendsEnd}
 use Rattle.tg_law_books.proofs.Booked.{books_are_kept}
-use Rattle.tg_law_books.specs.Ended.{ended_in}
+use Rattle.tg_law_replies.specs.Ended.{ended_in}
 use Rattle.tg_law_books.proofs.Known.{records_are_known}
 use Rattle.tg_law_books.proofs.Whose.{replies_are_known}
 use Rattle.tg_law_tallies.proofs.Steps.{by_steps}
@@ -109,7 +109,7 @@ once p q e f i j client kind number = (is_entry p e i).0 ∙ sym (is_entry q f j
 
 -- How its append ends: where the packet comes to another node, or the client has none, it doesn't.
 
-abbrev Ends : Moves tallies → World tallies → EventOf tallies → Type 0
+abbrev pub Ends : Moves tallies → World tallies → EventOf tallies → Type 0
 Ends before w e = (k : ℕ) (a : Append) (x : AppendEnd) → append_by tallies (client tallies w k).work ≡ Some a → ended_in tallies w e k ≡ Some x → EndsSo tallies es a.draft x
 
 no_end : (x : AppendEnd) → None ≡ Some x → ⊥
@@ -126,7 +126,7 @@ abbrev draft_of : Option Append → Option Entry
 draft_of None = None
 draft_of (Some a) = Some a.draft
 
-third_none : (k : ℕ) → ended_in tallies w3 (Deliver 0) k ≡ None
+pub third_none : (k : ℕ) → ended_in tallies w3 (Deliver 0) k ≡ None
 unfolding run u8_at u16_at u32_at u64_at raw_at fixed_at read_many spell_many fit_many marks reads writes keys new_fields old_fields body entry role_code node_eq bytes_eq bytes_lt part_eq part_lt cell_eq chain_of units_of next_of change_fault new_unit unit_ask first_missing on_ask unit_step new_layout layout_ask on_layout_ask layout_step reply work_asks put_cell get_cell fill_cell probe work_feed cell_feed entry_size needs_decision page_of entry_of new_seqr seqr_step seqr_tick append_work_asks append_start append_feed append_again sync_work_asks sync_start sync_feed walk_on walk_start walk_feed no_versions based version_of with_change parts_of decision_in view_start view_version view_parts unknown_in changed_in verdict view_outcome step_at play_on play read_fault write_fault commit_record open_decision checkpoint bases_in load_from view_base view_bases may_forget commit_at past_at rescue_turn trim_start trim_feed copy_work_asks copy_start copy_feed reconf_work_asks reconf_start reconf_feed reconf_latest new_client entries_at copy_fault tests refusal appends syncs walked task_asks client_asks walks task_feed task_again accepts client_command client_deliver client_tick fields_size decided newest log_of entries_of members path_on path changes_below version outcome history_of start latest log history unit_moves layout_moves seqr_moves client_turned happens limit_of drain_on drain tick_all rounds settle line lines
 third_none k = refl
 
@@ -134,7 +134,7 @@ fourth_none : ended_in tallies w4 (Deliver 1) 0 ≡ None
 unfolding run u8_at u16_at u32_at u64_at raw_at fixed_at read_many spell_many fit_many marks reads writes keys new_fields old_fields body entry role_code node_eq bytes_eq bytes_lt part_eq part_lt cell_eq chain_of units_of next_of change_fault new_unit unit_ask first_missing on_ask unit_step new_layout layout_ask on_layout_ask layout_step reply work_asks put_cell get_cell fill_cell probe work_feed cell_feed entry_size needs_decision page_of entry_of new_seqr seqr_step seqr_tick append_work_asks append_start append_feed append_again sync_work_asks sync_start sync_feed walk_on walk_start walk_feed no_versions based version_of with_change parts_of decision_in view_start view_version view_parts unknown_in changed_in verdict view_outcome step_at play_on play read_fault write_fault commit_record open_decision checkpoint bases_in load_from view_base view_bases may_forget commit_at past_at rescue_turn trim_start trim_feed copy_work_asks copy_start copy_feed reconf_work_asks reconf_start reconf_feed reconf_latest new_client entries_at copy_fault tests refusal appends syncs walked task_asks client_asks walks task_feed task_again accepts client_command client_deliver client_tick fields_size decided newest log_of entries_of members path_on path changes_below version outcome history_of start latest log history unit_moves layout_moves seqr_moves client_turned happens limit_of drain_on drain tick_all rounds settle line lines
 fourth_none = refl
 
-fifth_none : (k : ℕ) → ended_in tallies w5 (Deliver 2) k ≡ None
+pub fifth_none : (k : ℕ) → ended_in tallies w5 (Deliver 2) k ≡ None
 unfolding run u8_at u16_at u32_at u64_at raw_at fixed_at read_many spell_many fit_many marks reads writes keys new_fields old_fields body entry role_code node_eq bytes_eq bytes_lt part_eq part_lt cell_eq chain_of units_of next_of change_fault new_unit unit_ask first_missing on_ask unit_step new_layout layout_ask on_layout_ask layout_step reply work_asks put_cell get_cell fill_cell probe work_feed cell_feed entry_size needs_decision page_of entry_of new_seqr seqr_step seqr_tick append_work_asks append_start append_feed append_again sync_work_asks sync_start sync_feed walk_on walk_start walk_feed no_versions based version_of with_change parts_of decision_in view_start view_version view_parts unknown_in changed_in verdict view_outcome step_at play_on play read_fault write_fault commit_record open_decision checkpoint bases_in load_from view_base view_bases may_forget commit_at past_at rescue_turn trim_start trim_feed copy_work_asks copy_start copy_feed reconf_work_asks reconf_start reconf_feed reconf_latest new_client entries_at copy_fault tests refusal appends syncs walked task_asks client_asks walks task_feed task_again accepts client_command client_deliver client_tick fields_size decided newest log_of entries_of members path_on path changes_below version outcome history_of start latest log history unit_moves layout_moves seqr_moves client_turned happens limit_of drain_on drain tick_all rounds settle line lines
 fifth_none k = refl
 
@@ -171,15 +171,15 @@ stands a (At p page) d e = (entry_made.head.streams, subst (λ (i : ℕ). Contai
 stands a (Full l) d e = absurd (nothing_is e)
 stands a (Forgotten p b) d e = absurd (nothing_is e)
 
-fourth_ends : Ends [] w4 (Deliver 1)
+pub fourth_ends : Ends [] w4 (Deliver 1)
 fourth_ends zero a x has is = absurd (no_end x (sym fourth_none ∙ is))
 fourth_ends (suc k) a x has is = absurd (no_append a (sym (fourth_other k) ∙ has))
 
-last_ends : Ends [] w6 (Deliver 3)
+pub last_ends : Ends [] w6 (Deliver 3)
 last_ends zero a x has is = stands a x (sym (ap draft_of has) ∙ last_draft) (sym (ap end_at is) ∙ last_at)
 last_ends (suc k) a x has is = absurd (no_append a (sym (last_other k) ∙ has))
 
-ends : AppendsEnd tallies with_tally adds ended
+pub ends : AppendsEnd tallies with_tally adds ended
 ends = by_steps tallies with_tally Ends adds (
   (λ k a x has is. absurd (no_end x is)),
   (

@@ -56,15 +56,16 @@ use Rattle.tg_protocol.specs.Alike.{HasRecord}
 use Rattle.tg_law_replies.specs.Steps.{EachDelivery, EachEvent}
 use Rattle.tg_law_replies.specs.Found.{Finds}
 use Rattle.tg_law_tallies.proofs.Steps.{by_steps}
-use Rattle.tg_law_tallies.specs.Tallies.{tallies, tally, with_tally, adds, AreFound}
+use Rattle.tg_law_replies.specs.Laws.{ClientsFind}
+use Rattle.tg_law_tallies.specs.Tallies.{tallies, tally, with_tally, adds}
 
-abbrev w0 : World tallies
+abbrev pub w0 : World tallies
 w0 = start tallies with_tally
 
-abbrev w1 : World tallies
+abbrev pub w1 : World tallies
 w1 = happens tallies w0 (Commands 0 cmd.Begin)
 
-abbrev w2 : World tallies
+abbrev pub w2 : World tallies
 w2 = happens tallies w1 (Commands 0 (cmd.Put tally 5))
 
 abbrev pub w3 : World tallies
@@ -91,10 +92,10 @@ write = record { oid = tally; op = 5 ∷ [] }
 abbrev pub entry_made : Entry
 entry_made = record { head = record { format = 2; client = 0; number = 1; streams = record { oid = tally; backs = [] } ∷ [] }; body = Commit [] (write ∷ []) }
 
-abbrev entries_made : Entries
+abbrev pub entries_made : Entries
 entries_made = (0, entry_made) ∷ []
 
-only_entry : entries_in tallies ended ≡ entries_made
+pub only_entry : entries_in tallies ended ≡ entries_made
 unfolding run u8_at u16_at u32_at u64_at raw_at fixed_at read_many spell_many fit_many marks reads writes keys new_fields old_fields body entry role_code node_eq bytes_eq bytes_lt part_eq part_lt cell_eq chain_of units_of next_of change_fault new_unit unit_ask first_missing on_ask unit_step new_layout layout_ask on_layout_ask layout_step reply work_asks put_cell get_cell fill_cell probe work_feed cell_feed entry_size needs_decision page_of entry_of new_seqr seqr_step seqr_tick append_work_asks append_start append_feed append_again sync_work_asks sync_start sync_feed walk_on walk_start walk_feed no_versions based version_of with_change parts_of decision_in view_start view_version view_parts unknown_in changed_in verdict view_outcome step_at play_on play read_fault write_fault commit_record open_decision checkpoint bases_in load_from view_base view_bases may_forget commit_at past_at rescue_turn trim_start trim_feed copy_work_asks copy_start copy_feed reconf_work_asks reconf_start reconf_feed reconf_latest new_client entries_at copy_fault tests refusal appends syncs walked task_asks client_asks walks task_feed task_again accepts client_command client_deliver client_tick fields_size decided newest log_of entries_of members path_on path changes_below version outcome history_of start latest log history unit_moves layout_moves seqr_moves client_turned happens limit_of drain_on drain tick_all rounds settle line lines
 only_entry = refl
 
@@ -166,7 +167,7 @@ fifth_other = refl
 
 landed : (before : Moves tallies) → Delivered before w6 (packet_of (slice_get w6.packets 3))
 unfolding run u8_at u16_at u32_at u64_at raw_at fixed_at read_many spell_many fit_many marks reads writes keys new_fields old_fields body entry role_code node_eq bytes_eq bytes_lt part_eq part_lt cell_eq chain_of units_of next_of change_fault new_unit unit_ask first_missing on_ask unit_step new_layout layout_ask on_layout_ask layout_step reply work_asks put_cell get_cell fill_cell probe work_feed cell_feed entry_size needs_decision page_of entry_of new_seqr seqr_step seqr_tick append_work_asks append_start append_feed append_again sync_work_asks sync_start sync_feed walk_on walk_start walk_feed no_versions based version_of with_change parts_of decision_in view_start view_version view_parts unknown_in changed_in verdict view_outcome step_at play_on play read_fault write_fault commit_record open_decision checkpoint bases_in load_from view_base view_bases may_forget commit_at past_at rescue_turn trim_start trim_feed copy_work_asks copy_start copy_feed reconf_work_asks reconf_start reconf_feed reconf_latest new_client entries_at copy_fault tests refusal appends syncs walked task_asks client_asks walks task_feed task_again accepts client_command client_deliver client_tick fields_size decided newest log_of entries_of members path_on path changes_below version outcome history_of start latest log history unit_moves layout_moves seqr_moves client_turned happens limit_of drain_on drain tick_all rounds settle line lines
-landed before = (entry_made.head.streams, here)
+landed before = tt
 
 abbrev pub tx_made : Tx
 tx_made = record { number = 1; snapshot = None; reads = []; writes = write ∷ [] }
@@ -271,26 +272,23 @@ reached = record {
     lawful x (inr (inr (inr (inr (inr (inr (inl e))))))) = subst (λ (y : Move tallies). LawfulMove tallies with_tally y) (sym e) tt
     lawful x (inr (inr (inr (inr (inr (inr (inr i))))))) = absurd i
 
-pub found : AreFound with_tally adds ended
-found = record {
-  reached = reached;
-  finds = by_steps tallies with_tally Each adds (
-    (λ fine. tt),
+pub finds : ClientsFind tallies with_tally adds ended
+finds = by_steps tallies with_tally Each adds (
+  tt,
+  (
+    tt,
     (
-      (λ fine. tt),
+      tt,
       (
-        (λ fine. tt),
+        (λ p is c on. absurd (other_node w3 0 p third_other is c)),
         (
-          (λ p is c on. absurd (other_node w3 0 p third_other is c)),
+          to_client _ w4 1 (issued _),
           (
-            to_client _ w4 1 (issued _),
-            (
-              (λ p is c on. absurd (other_node w5 2 p fifth_other is c)),
-              (to_client _ w6 3 (landed _), tt),
-            ),
+            (λ p is c on. absurd (other_node w5 2 p fifth_other is c)),
+            (to_client _ w6 3 (landed _), tt),
           ),
         ),
       ),
     ),
-  );
-}
+  ),
+)

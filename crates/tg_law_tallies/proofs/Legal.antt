@@ -35,7 +35,6 @@ use Rattle.tg_protocol.specs.Logs.{decided, newest, log_of, entries_of, members,
 use Rattle.tg_protocol.specs.Worlds.{trace, start, latest, log, history, unit_moves, layout_moves, seqr_moves, client_turned, happens, limit_of, drain_on, drain, tick_all, rounds, settle, line, lines}
 use Rattle.std.proofs.Common.{ap, sym, ◌∙◌, subst, inl, inr, arith, Contains, map}
 use Rattle.tg_base.specs.declared.ids.Oid.{Oid}
-use Rattle.tg_model.specs.declared.refusal.Refusal.TheVariants as cause
 use Rattle.tg_model.specs.Kinds.{MarkOf}
 use Rattle.tg_protocol.specs.Entries.{streams_of}
 use Rattle.tg_protocol.specs.Clients.{write_of}
@@ -43,13 +42,13 @@ use Rattle.tg_protocol.specs.Worlds.{Told}
 use Rattle.tg_protocol.specs.Runs.{Takes, run}
 use Rattle.tg_protocol.specs.Holding.{WasBegun, EntriesOwn, IsRecord, RecordsOwn, HasItsRecord, RepliesHaveRecords}
 use Rattle.tg_law_history.proofs.Members.{Has, has_contained, contained_has}
-use Rattle.tg_law_tallies.proofs.Commit.{ended, entry_made, mark_of_tx, marks_made, only_marks, is_entry, is_made, each_mark, has_puts, record_at, front, found}
-use Rattle.tg_law_tallies.proofs.Books.{first_three, append_made, in_hand, drafted, asks, once}
+use Rattle.tg_law_tallies.proofs.Commit.{ended, entry_made, mark_of_tx, marks_made, only_marks, is_entry, is_made, each_mark, has_puts, record_at, front, reached, finds}
+use Rattle.tg_law_tallies.proofs.Books.{first_three, append_made, in_hand, drafted, left, asks, once, ends}
 use Rattle.tg_law_tallies.specs.Tallies.{tallies, with_tally, adds, CommitIsTold}
 
 -- Its entry was begun.
 
-same_streams : streams_of entry_made ≡ streams_of append_made.draft
+pub same_streams : streams_of entry_made ≡ streams_of append_made.draft
 unfolding run u8_at u16_at u32_at u64_at raw_at fixed_at read_many spell_many fit_many marks reads writes keys new_fields old_fields body entry role_code node_eq bytes_eq bytes_lt part_eq part_lt cell_eq chain_of units_of next_of change_fault new_unit unit_ask first_missing on_ask unit_step new_layout layout_ask on_layout_ask layout_step reply work_asks put_cell get_cell fill_cell probe work_feed cell_feed entry_size needs_decision page_of entry_of new_seqr seqr_step seqr_tick append_work_asks append_start append_feed append_again sync_work_asks sync_start sync_feed walk_on walk_start walk_feed no_versions based version_of with_change parts_of decision_in view_start view_version view_parts unknown_in changed_in verdict view_outcome step_at play_on play read_fault write_fault commit_record open_decision checkpoint bases_in load_from view_base view_bases may_forget commit_at past_at rescue_turn trim_start trim_feed copy_work_asks copy_start copy_feed reconf_work_asks reconf_start reconf_feed reconf_latest new_client entries_at copy_fault tests refusal appends syncs walked task_asks client_asks walks task_feed task_again accepts client_command client_deliver client_tick fields_size decided newest log_of entries_of members path_on path changes_below version outcome history_of start latest log history unit_moves layout_moves seqr_moves client_turned happens limit_of drain_on drain tick_all rounds settle line lines
 same_streams = refl
 
@@ -94,16 +93,13 @@ replies t i =
 pub commit_is_told : CommitIsTold
 commit_is_told = (
   record {
-    found = found;
+    found = record { reached = reached; finds = finds; ends = ends };
+    left = left;
     own = own;
     once = once;
     records = records;
     replies = replies;
     asks = asks;
-    refused = record {
-      forgotten = λ k x p n q h r. absurd (is_made k x (told.Refused (cause.Forgotten p n)) h).0;
-      dropped = λ k x q h r. absurd (is_made k x told.Dropped h).0;
-    };
     order = λ before after b r p n split is positive i point place. absurd (front before after b r (sym only_marks ∙ split) is i);
   },
   record { event = 0; here = subst (λ (xs : List (MarkOf tallies)). Contains xs (mark_of_tx 0 (told.Committed 0))) (sym only_marks) (contained_has marks_made (mark_of_tx 0 (told.Committed 0)) (inr (inr (inr (inl refl))))) },

@@ -1,5 +1,5 @@
 -- A run that tells the past.
-use Rattle.std.proofs.Common.{◌≡◌, ℕ, List, [], ◌∷◌, refl, Some, None}
+use Rattle.std.proofs.Common.{◌≡◌, ℕ, zero, suc, List, [], ◌∷◌, refl, Some, None}
 use Rattle.std.specs.Prelude.{true, false}
 use Rattle.tg_model.specs.declared.command.Command.TheVariants as cmd
 use Rattle.tg_model.specs.declared.command.Event.TheVariants.{Command as Commands, Deliver}
@@ -48,9 +48,12 @@ use Rattle.tg_protocol.specs.Runs.{Move, Moves, LawfulMove, Reaches, run}
 use Rattle.tg_law_plays.specs.Sound.{IsRising}
 use Rattle.tg_law_history.specs.Worlds.{entries_in}
 use Rattle.tg_law_history.proofs.Members.{Has, has_contained, of_not_lt}
+use Rattle.tg_protocol.specs.Appending.{Append, AppendEnd}
+use Rattle.tg_protocol.specs.Holding.{append_by}
+use Rattle.tg_law_replies.specs.Ended.{ended_in, EndsSo, AppendsEnd}
 use Rattle.tg_law_replies.specs.Steps.{EachDelivery, EachEvent}
 use Rattle.tg_law_replies.specs.Found.{HasWalked, FindsFor, Finds}
-use Rattle.tg_law_replies.proofs.Found.{event_more}
+use Rattle.tg_law_replies.proofs.Carried.{event_more}
 use Rattle.tg_law_tallies.specs.Tallies.{PastIsTold}
 use Rattle.tg_law_tallies.proofs.Steps.{by_steps}
 use Rattle.tg_law_tallies.specs.Tallies.{tallies, one_of_each, asks_past, TellsPast}
@@ -104,10 +107,10 @@ own_none c w tail =
     ∙ ap (λ (ps : List ℕ). entries_at tallies c.cells ps) (below_none (member_positions tallies w w.oids))
 
 abbrev AtZero : Client tallies → Work tallies → Type 0
-AtZero c w = (w.tail ≡ 0) × (c.objects ≡ []) × (w.command ≡ cmd.AskAt 0 directory 0)
+AtZero c w = (w.tail ≡ 0) × (w.command ≡ cmd.AskAt 0 directory 0)
 
 at_zero : (before : Moves tallies) (c : Client tallies) (w : Work tallies) → AtZero c w → Finds tallies one_of_each es before c w
-at_zero before c w k = subst (λ (x : CommandOf tallies). FindsFor tallies one_of_each es before c w x) (sym k.2) walked
+at_zero before c w k = subst (λ (x : CommandOf tallies). FindsFor tallies one_of_each es before c w x) (sym k.1) walked
   where
     own : member_entries tallies c w w.oids ≡ []
     own = own_none c w k.0
@@ -115,10 +118,9 @@ at_zero before c w k = subst (λ (x : CommandOf tallies). FindsFor tallies one_o
     nothing : (p : ℕ) (e : Entry) → Contains (member_entries tallies c w w.oids) (p, e) → ⊥
     nothing p e i = has_contained [] (p, e) (subst (λ (xs : Entries). Contains xs (p, e)) own i)
 
-    walked : HasWalked tallies one_of_each es before (member_entries tallies c w w.oids) c w
+    walked : HasWalked tallies one_of_each es before (member_entries tallies c w w.oids) w
     walked = record {
       written = λ p e i. absurd (nothing p e i);
-      objects_are = k.1;
       exact = record {
         rising = subst (λ (xs : Entries). IsRising xs) (sym own) refl;
         only = λ p e i. absurd (nothing p e i);
@@ -162,7 +164,7 @@ to_client : (w : World tallies) (i : ℕ) → Delivered w (packet_of (slice_get 
 to_client w i k p is c on = subst (λ (q : Packet). Delivered w q) (ap packet_of is) k
 
 first : Each w0 (Commands 0 (cmd.AskAt 0 directory 0))
-first fine = tt
+first = tt
 
 second : is_client (role_of (slice_get w1.packets 0)) ≡ false
 unfolding run u8_at u16_at u32_at u64_at raw_at fixed_at read_many spell_many fit_many marks reads writes keys new_fields old_fields body entry role_code node_eq bytes_eq bytes_lt part_eq part_lt cell_eq chain_of units_of next_of change_fault new_unit unit_ask first_missing on_ask unit_step new_layout layout_ask on_layout_ask layout_step reply work_asks put_cell get_cell fill_cell probe work_feed cell_feed entry_size needs_decision page_of entry_of new_seqr seqr_step seqr_tick append_work_asks append_start append_feed append_again sync_work_asks sync_start sync_feed walk_on walk_start walk_feed no_versions based version_of with_change parts_of decision_in view_start view_version view_parts unknown_in changed_in verdict view_outcome step_at play_on play read_fault write_fault commit_record open_decision checkpoint bases_in load_from view_base view_bases may_forget commit_at past_at rescue_turn trim_start trim_feed copy_work_asks copy_start copy_feed reconf_work_asks reconf_start reconf_feed reconf_latest new_client entries_at copy_fault tests refusal appends syncs walked task_asks client_asks walks task_feed task_again accepts client_command client_deliver client_tick fields_size decided newest log_of entries_of members path_on path changes_below version outcome history_of start latest log history unit_moves layout_moves seqr_moves client_turned happens limit_of drain_on drain tick_all rounds settle line lines
@@ -178,7 +180,7 @@ fourth = refl
 
 fifth : Delivered w4 (packet_of (slice_get w4.packets 3))
 unfolding run u8_at u16_at u32_at u64_at raw_at fixed_at read_many spell_many fit_many marks reads writes keys new_fields old_fields body entry role_code node_eq bytes_eq bytes_lt part_eq part_lt cell_eq chain_of units_of next_of change_fault new_unit unit_ask first_missing on_ask unit_step new_layout layout_ask on_layout_ask layout_step reply work_asks put_cell get_cell fill_cell probe work_feed cell_feed entry_size needs_decision page_of entry_of new_seqr seqr_step seqr_tick append_work_asks append_start append_feed append_again sync_work_asks sync_start sync_feed walk_on walk_start walk_feed no_versions based version_of with_change parts_of decision_in view_start view_version view_parts unknown_in changed_in verdict view_outcome step_at play_on play read_fault write_fault commit_record open_decision checkpoint bases_in load_from view_base view_bases may_forget commit_at past_at rescue_turn trim_start trim_feed copy_work_asks copy_start copy_feed reconf_work_asks reconf_start reconf_feed reconf_latest new_client entries_at copy_fault tests refusal appends syncs walked task_asks client_asks walks task_feed task_again accepts client_command client_deliver client_tick fields_size decided newest log_of entries_of members path_on path changes_below version outcome history_of start latest log history unit_moves layout_moves seqr_moves client_turned happens limit_of drain_on drain tick_all rounds settle line lines
-fifth x is = (refl, refl, refl)
+fifth x is = (refl, refl)
 
 more : (before : Moves tallies) (w : World tallies) (e : EventOf tallies) → Each w e → EachEvent tallies [] es (Finds tallies one_of_each es before) w e
 more before w e k = event_more tallies [] es AtZero (Finds tallies one_of_each es before) (at_zero before) w e k
@@ -198,6 +200,47 @@ reached = record {
     lawful x (inr (inr (inr (inr (inl e))))) = subst (λ (y : Move tallies). LawfulMove tallies one_of_each y) (sym e) tt
     lawful x (inr (inr (inr (inr (inr i))))) = absurd i
 
+-- no append is under way
+
+waits_none : (a : Append) → None ≡ Some a → ⊥
+waits_none a e = cc
+
+abbrev Ends : Moves tallies → World tallies → EventOf tallies → Type 0
+Ends before w e = (k : ℕ) (a : Append) (x : AppendEnd) → append_by tallies (client tallies w k).work ≡ Some a → ended_in tallies w e k ≡ Some x → EndsSo tallies es a.draft x
+
+abbrev NoAppend : World tallies → Type 0
+NoAppend w = (append_by tallies (client tallies w 0).work ≡ None) × ((k : ℕ) → append_by tallies (client tallies w (suc k)).work ≡ None)
+
+none_ends : (before : Moves tallies) (w : World tallies) (e : EventOf tallies) → NoAppend w → Ends before w e
+none_ends before w e n zero a x has is = absurd (waits_none a (sym n.0 ∙ has))
+none_ends before w e n (suc k) a x has is = absurd (waits_none a (sym (n.1 k) ∙ has))
+
+none0 : NoAppend w0
+unfolding run u8_at u16_at u32_at u64_at raw_at fixed_at read_many spell_many fit_many marks reads writes keys new_fields old_fields body entry role_code node_eq bytes_eq bytes_lt part_eq part_lt cell_eq chain_of units_of next_of change_fault new_unit unit_ask first_missing on_ask unit_step new_layout layout_ask on_layout_ask layout_step reply work_asks put_cell get_cell fill_cell probe work_feed cell_feed entry_size needs_decision page_of entry_of new_seqr seqr_step seqr_tick append_work_asks append_start append_feed append_again sync_work_asks sync_start sync_feed walk_on walk_start walk_feed no_versions based version_of with_change parts_of decision_in view_start view_version view_parts unknown_in changed_in verdict view_outcome step_at play_on play read_fault write_fault commit_record open_decision checkpoint bases_in load_from view_base view_bases may_forget commit_at past_at rescue_turn trim_start trim_feed copy_work_asks copy_start copy_feed reconf_work_asks reconf_start reconf_feed reconf_latest new_client entries_at copy_fault tests refusal appends syncs walked task_asks client_asks walks task_feed task_again accepts client_command client_deliver client_tick fields_size decided newest log_of entries_of members path_on path changes_below version outcome history_of start latest log history unit_moves layout_moves seqr_moves client_turned happens limit_of drain_on drain tick_all rounds settle line lines
+none0 = (refl, λ k. refl)
+
+none1 : NoAppend w1
+unfolding run u8_at u16_at u32_at u64_at raw_at fixed_at read_many spell_many fit_many marks reads writes keys new_fields old_fields body entry role_code node_eq bytes_eq bytes_lt part_eq part_lt cell_eq chain_of units_of next_of change_fault new_unit unit_ask first_missing on_ask unit_step new_layout layout_ask on_layout_ask layout_step reply work_asks put_cell get_cell fill_cell probe work_feed cell_feed entry_size needs_decision page_of entry_of new_seqr seqr_step seqr_tick append_work_asks append_start append_feed append_again sync_work_asks sync_start sync_feed walk_on walk_start walk_feed no_versions based version_of with_change parts_of decision_in view_start view_version view_parts unknown_in changed_in verdict view_outcome step_at play_on play read_fault write_fault commit_record open_decision checkpoint bases_in load_from view_base view_bases may_forget commit_at past_at rescue_turn trim_start trim_feed copy_work_asks copy_start copy_feed reconf_work_asks reconf_start reconf_feed reconf_latest new_client entries_at copy_fault tests refusal appends syncs walked task_asks client_asks walks task_feed task_again accepts client_command client_deliver client_tick fields_size decided newest log_of entries_of members path_on path changes_below version outcome history_of start latest log history unit_moves layout_moves seqr_moves client_turned happens limit_of drain_on drain tick_all rounds settle line lines
+none1 = (refl, λ k. refl)
+
+none2 : NoAppend w2
+unfolding run u8_at u16_at u32_at u64_at raw_at fixed_at read_many spell_many fit_many marks reads writes keys new_fields old_fields body entry role_code node_eq bytes_eq bytes_lt part_eq part_lt cell_eq chain_of units_of next_of change_fault new_unit unit_ask first_missing on_ask unit_step new_layout layout_ask on_layout_ask layout_step reply work_asks put_cell get_cell fill_cell probe work_feed cell_feed entry_size needs_decision page_of entry_of new_seqr seqr_step seqr_tick append_work_asks append_start append_feed append_again sync_work_asks sync_start sync_feed walk_on walk_start walk_feed no_versions based version_of with_change parts_of decision_in view_start view_version view_parts unknown_in changed_in verdict view_outcome step_at play_on play read_fault write_fault commit_record open_decision checkpoint bases_in load_from view_base view_bases may_forget commit_at past_at rescue_turn trim_start trim_feed copy_work_asks copy_start copy_feed reconf_work_asks reconf_start reconf_feed reconf_latest new_client entries_at copy_fault tests refusal appends syncs walked task_asks client_asks walks task_feed task_again accepts client_command client_deliver client_tick fields_size decided newest log_of entries_of members path_on path changes_below version outcome history_of start latest log history unit_moves layout_moves seqr_moves client_turned happens limit_of drain_on drain tick_all rounds settle line lines
+none2 = (refl, λ k. refl)
+
+none3 : NoAppend w3
+unfolding run u8_at u16_at u32_at u64_at raw_at fixed_at read_many spell_many fit_many marks reads writes keys new_fields old_fields body entry role_code node_eq bytes_eq bytes_lt part_eq part_lt cell_eq chain_of units_of next_of change_fault new_unit unit_ask first_missing on_ask unit_step new_layout layout_ask on_layout_ask layout_step reply work_asks put_cell get_cell fill_cell probe work_feed cell_feed entry_size needs_decision page_of entry_of new_seqr seqr_step seqr_tick append_work_asks append_start append_feed append_again sync_work_asks sync_start sync_feed walk_on walk_start walk_feed no_versions based version_of with_change parts_of decision_in view_start view_version view_parts unknown_in changed_in verdict view_outcome step_at play_on play read_fault write_fault commit_record open_decision checkpoint bases_in load_from view_base view_bases may_forget commit_at past_at rescue_turn trim_start trim_feed copy_work_asks copy_start copy_feed reconf_work_asks reconf_start reconf_feed reconf_latest new_client entries_at copy_fault tests refusal appends syncs walked task_asks client_asks walks task_feed task_again accepts client_command client_deliver client_tick fields_size decided newest log_of entries_of members path_on path changes_below version outcome history_of start latest log history unit_moves layout_moves seqr_moves client_turned happens limit_of drain_on drain tick_all rounds settle line lines
+none3 = (refl, λ k. refl)
+
+none4 : NoAppend w4
+unfolding run u8_at u16_at u32_at u64_at raw_at fixed_at read_many spell_many fit_many marks reads writes keys new_fields old_fields body entry role_code node_eq bytes_eq bytes_lt part_eq part_lt cell_eq chain_of units_of next_of change_fault new_unit unit_ask first_missing on_ask unit_step new_layout layout_ask on_layout_ask layout_step reply work_asks put_cell get_cell fill_cell probe work_feed cell_feed entry_size needs_decision page_of entry_of new_seqr seqr_step seqr_tick append_work_asks append_start append_feed append_again sync_work_asks sync_start sync_feed walk_on walk_start walk_feed no_versions based version_of with_change parts_of decision_in view_start view_version view_parts unknown_in changed_in verdict view_outcome step_at play_on play read_fault write_fault commit_record open_decision checkpoint bases_in load_from view_base view_bases may_forget commit_at past_at rescue_turn trim_start trim_feed copy_work_asks copy_start copy_feed reconf_work_asks reconf_start reconf_feed reconf_latest new_client entries_at copy_fault tests refusal appends syncs walked task_asks client_asks walks task_feed task_again accepts client_command client_deliver client_tick fields_size decided newest log_of entries_of members path_on path changes_below version outcome history_of start latest log history unit_moves layout_moves seqr_moves client_turned happens limit_of drain_on drain tick_all rounds settle line lines
+none4 = (refl, λ k. refl)
+
+ends : AppendsEnd tallies one_of_each asks_past ended
+ends = by_steps tallies one_of_each Ends asks_past (
+  none_ends [] w0 (Commands 0 (cmd.AskAt 0 directory 0)) none0,
+  (none_ends [] w1 (Deliver 0) none1, (none_ends [] w2 (Deliver 1) none2, (none_ends [] w3 (Deliver 2) none3, (none_ends [] w4 (Deliver 3) none4, tt)))),
+)
+
 pub past_is_told : PastIsTold
 past_is_told = (
   record {
@@ -215,6 +258,7 @@ past_is_told = (
         ),
       ),
     );
+    ends = ends;
   },
   tells,
 )

@@ -12,8 +12,9 @@ use Rattle.tg_model.specs.Legal.{InOrder}
 use Rattle.tg_protocol.specs.Worlds.{World, start, trace, history}
 use Rattle.tg_protocol.specs.Runs.{Moves, Takes, Reaches, run}
 use Rattle.tg_protocol.specs.Holding.{EntriesOnce, EntriesOwn, RecordsOwn, RepliesHaveRecords}
+use Rattle.tg_law_replies.specs.Ended.{AppendsEnd}
 use Rattle.tg_law_replies.specs.Laws.{ClientsFind}
-use Rattle.tg_law_books.specs.Kept.{AsksPrecede, RefusedLeaveNone}
+use Rattle.tg_law_books.specs.Kept.{RecordsLeft, AsksPrecede}
 
 -- an op adds to a tally, which an ask tells
 abbrev pub one_number : List ℕ → Option ℕ
@@ -53,6 +54,7 @@ asks_past = Takes (Commands 0 (cmd.AskAt 0 directory 0)) ∷ Takes (Deliver 0) �
 pub record AreFound (h : Header) (ms : Moves tallies) (w : World tallies) : Type 0 where
   pub reached : Reaches tallies h ms w
   pub finds : ClientsFind tallies h ms w
+  pub ends : AppendsEnd tallies h ms w
 
 pub record TellsPast (w : World tallies) : Type 0 where
   pub event : ℕ
@@ -81,7 +83,7 @@ pub record AreBorneOut (h : Header) (ms : Moves tallies) (w : World tallies) : T
   pub records : RecordsOwn tallies w
   pub replies : RepliesHaveRecords tallies w
   pub asks : AsksPrecede tallies w
-  pub refused : RefusedLeaveNone tallies w
+  pub left : RecordsLeft tallies h ms w
   pub order : InOrder tallies (history tallies w) (trace tallies w)
 
 pub record TellsCommitted (w : World tallies) : Type 0 where

@@ -64,6 +64,16 @@ module _ (m : Meaning) where
           (inl (sym same), sym (one_is (f x) b k) ∙ ap f same)
       by false e k rest = let r = rest k in (inr r.0, r.1)
 
+  -- each of these objects has one
+  pub made_there : (f : Oid → Base m) (os : List Oid) (o : Oid) → ((x : Oid) → Has os x → (f x).oid ≡ x) → Has os o → (b : Base m) × (base_among m (map f os) o ≡ Some b)
+  made_there f [] o of i = absurd i
+  made_there f (x ∷ os) o of i = by (oid_eq (f x).oid o) refl i (made_there f os o (λ y j. of y (inr j)))
+    where
+      by : (t : Bool) → oid_eq (f x).oid o ≡ t → Has (x ∷ os) o → (Has os o → (b : Base m) × (base_among m (map f os) o ≡ Some b)) → (b : Base m) × (cond t (Some (f x)) (base_among m (map f os) o) ≡ Some b)
+      by true e j rest = (f x, refl)
+      by false e (inl same) rest = absurd (contrary (oid_eq (f x).oid o) e (ap (λ (y : Oid). oid_eq y o) (of x (inl refl) ∙ sym same) ∙ oid_itself o))
+      by false e (inr j) rest = rest j
+
   -- an object of which a new view has a state has a base
   pub state_based : (bs : List (Base m)) (o : Oid) (s : m.state) → state_in m (map (base_state m) bs) o ≡ Some s → (b : Base m) × (base_among m bs o ≡ Some b)
   state_based [] o s is = absurd (none is)
@@ -191,15 +201,6 @@ module _ (m : Meaning) (objects : List Oid) (es : Entries) (rising : IsRising es
 
   -- A new view to play.
 
-  made_there : (f : Oid → Base m) (os : List Oid) (o : Oid) → ((x : Oid) → Has os x → (f x).oid ≡ x) → Has os o → (b : Base m) × (base_among m (map f os) o ≡ Some b)
-  made_there f [] o of i = absurd i
-  made_there f (x ∷ os) o of i = by (oid_eq (f x).oid o) refl i (made_there f os o (λ y j. of y (inr j)))
-    where
-      by : (t : Bool) → oid_eq (f x).oid o ≡ t → Has (x ∷ os) o → (Has os o → (b : Base m) × (base_among m (map f os) o ≡ Some b)) → (b : Base m) × (cond t (Some (f x)) (base_among m (map f os) o) ≡ Some b)
-      by true e j rest = (f x, refl)
-      by false e (inl same) rest = absurd (contrary (oid_eq (f x).oid o) e (ap (λ (y : Oid). oid_eq y o) (of x (inl refl) ∙ sym same) ∙ oid_itself o))
-      by false e (inr j) rest = rest j
-
   pub record IsNewView (v : View m) : Type 0 where
     pub entries : (upto : ℕ) → upto ≤ tail → AreEntriesFor m objects es v own upto
     pub low : (upto : ℕ) → v.upto ≤ upto
@@ -227,7 +228,7 @@ module _ (m : Meaning) (objects : List Oid) (es : Entries) (rising : IsRising es
     entries = λ upto le. begins_with (view_base m own gone objects) new_firm upto le;
     low = λ upto. begins_low (view_base m own gone objects) new_firm upto;
     hosts = λ o i.
-        let b = made_there (view_base m own gone objects) oids o (λ x j. (new_firm x (contained_has oids x j)).of) (has_contained oids o i) in
+        let b = made_there m (view_base m own gone objects) oids o (λ x j. (new_firm x (contained_has oids x j)).of) (has_contained oids o i) in
         let r = based_by (view_base m own gone objects) new_firm o b.0 b.1 in
         (b.0, b.1, subst (λ (c : Base m). c.upto ≤ tail) (sym r.1) (base_low saved o));
     based = λ o t is.

@@ -36,7 +36,7 @@ with_itself x (y ∷ ys) = by (oid_lt x y) (oid_eq x y) refl (with_itself x ys)
     by false true e rest = inl (same_oid x y e)
     by false false e rest = inr rest
 
-with_others : (x o : Oid) (ys : List Oid) → Has ys o → Has (with_oid x ys) o
+pub with_others : (x o : Oid) (ys : List Oid) → Has ys o → Has (with_oid x ys) o
 with_others x o [] i = absurd i
 with_others x o (y ∷ ys) i = by (oid_lt x y) (oid_eq x y) i (with_others x o ys)
   where
@@ -187,8 +187,17 @@ module _ (m : Meaning) (objects : List Oid) (es : Entries) where
           hosted : base_of m v r.oid ≡ Some b
           hosted = ap (λ (bs : List (Base m)). base_among m bs r.oid) (sym k.bases) ∙ is
 
+          -- what it writes is based past it, since it would have a fate
+          past : (w : WriteOp) (c : Base m) → Contains (writes_of e) w → base_of m v w.oid ≡ Some c → (p < c.upto) ⊎ (c.upto ≤ p) → p < c.upto
+          past w c j has (inl less) = less
+          past w c j has (inr low) =
+              let f = so.settled p (record { entry = e; here = only p e (contained_has own (p, e) at.0); commit = at.1; write = w; writes = j; base = c; hosted = has; after = low; before = before }) in
+              absurd (no f.0 (sym without ∙ f.1))
+
           by_need : (n : Bool) → needs_decision e ≡ n → (play m v own upto).view.upto ≡ p
-          by_need true n = absurd (leaves p e (contained_has own (p, e) at.0) at.1 n before without undecided (unknown_same m v (play m v own upto).view (reads_of e) p (sym k.bases) ∙ known))
+          by_need true n =
+              absurd (leaves p e (contained_has own (p, e) at.0) at.1 n before (λ w c j has. past w c j has (before_or p c.upto)) (record { read = r; reads = i; base = b; hosted = hosted; after = le }) without undecided
+              (unknown_same m v (play m v own upto).view (reads_of e) p (sym k.bases) ∙ known))
           by_need false n =
               let w = writing p e (contained_has own (p, e) at.0) at.1 in
               let same = own_reads e r w.0 n (has_contained (reads_of e) r i) (has_contained (writes_of e) w.0 w.1) in
