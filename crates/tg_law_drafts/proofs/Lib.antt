@@ -9,7 +9,9 @@ pub mod Became
 pub mod Clients
 pub mod Cells
 pub mod Written
+pub mod Tokens
 pub mod Senders
+pub mod Asked
 pub mod Drafts
 pub mod Worked
 pub mod Refuted

@@ -13,33 +13,44 @@ use Rattle.tg_base.specs.declared.packet.Packet.{Packet}
 use Rattle.tg_entry.specs.declared.entry.Entry.{Entry}
 use Rattle.tg_kind.specs.Meaning.{Meaning}
 use Rattle.tg_model.specs.Kinds.{EventOf}
-use Rattle.tg_protocol.specs.Words.{client_id, numbers}
+use Rattle.tg_protocol.specs.Words.{client_id, seqr_id, numbers}
 use Rattle.tg_protocol.specs.Entries.{streams_of, linked}
 use Rattle.tg_protocol.specs.Pages.{page_of}
-use Rattle.tg_protocol.specs.Requests.{Next, Goes, Learns, Ends}
+use Rattle.tg_protocol.specs.Requests.{awaits, Next, Goes, Learns, Ends}
 use Rattle.tg_protocol.specs.Replies.{Reply, reply}
 use Rattle.tg_protocol.specs.Replies as replied
 use Rattle.tg_protocol.specs.Cells.{Place, Puts, CellJob, CellEnd, Done, Seen, Lost, Fenced, Gone, put_cell, fill_cell}
-use Rattle.tg_protocol.specs.Appending.{names_all, on_older, on_newer, AppendWork, Asking, Putting, Judging, Token, Append, AppendEnd, put_end, put_next, own_or_not, judge_end, judge_next, on_issued, asking_feed, append_feed, dead_or_judged, again_with, append_again}
-use Rattle.tg_protocol.specs.Clients.{Client, new_client}
-use Rattle.tg_protocol.specs.ClientSteps.{task_in, ClientTurn}
+use Rattle.tg_protocol.specs.Appending.{names_all, on_older, on_newer, AppendWork, Asking, Putting, Judging, Token, Append, AppendEnd, append_work_asks, append_asks, put_end, put_next, own_or_not, judge_end, judge_next, on_issued, asking_feed, append_feed, dead_or_judged, again_with, append_again}
+use Rattle.tg_protocol.specs.Clients.{Appending, Hand, Doing, Work, Client, new_client}
+use Rattle.tg_protocol.specs.ClientSteps.{task_asks, task_in, ClientTurn}
 use Rattle.tg_protocol.specs.Worlds.{World, start, client, packet_of, happens, next_event}
 use Rattle.tg_protocol.specs.Runs.{Move, Moves, Next as Counts, Takes, run, most_steps, LawfulCommand}
 use Rattle.tg_law_moves.specs.After.{after}
 use Rattle.tg_law_moves.specs.Configs.{Config, config, client_in}
+use Rattle.tg_law_moves.proofs.Clients.{reserved, work_reserved, hand_reserved}
 use Rattle.tg_law_moves.proofs.Members.{Has, has_either, has_map}
 use Rattle.tg_law_moves.proofs.Lists.{at_set, at_map}
 use Rattle.tg_law_moves.proofs.Moves.{AllGive, Comes, ClientInput, Given, CasesOf, client_turn, step_cases_of}
 use Rattle.tg_law_moves.proofs.Growth.{IsCalm, unit_quiet, layout_quiet, seqr_quiet}
 use Rattle.tg_law_moves.proofs.Scripts.{run_both}
 use Rattle.tg_law_layouts.proofs.Layouts.{stays_sent}
-use Rattle.tg_law_tokens.proofs.Pages.{Low, input_fine}
+use Rattle.tg_law_cells.proofs.Justified.{Awaited, awaited_ask}
+use Rattle.tg_law_tokens.proofs.Owning.{Pair}
+use Rattle.tg_law_tokens.proofs.Pages.{Low, input_fine, issued_to}
 use Rattle.tg_law_tokens.proofs.Own.{low_of, both_hold}
 use Rattle.tg_law_replies.proofs.Turns.{Keeps, feed_keeps, again_keeps}
 use Rattle.tg_law_drafts.proofs.Sound.{DraftOk, TaskOk, HandOk, IsAsking}
 use Rattle.tg_law_drafts.proofs.Became.{Holds, NextIs, Became, Fresh, Same, Fed, Again, became}
 use Rattle.tg_law_drafts.proofs.Clients.{State, few_in, state_hold, more_steps}
 use Rattle.tg_law_drafts.proofs.Cells.{PutBefore, NextPuts, cell_puts}
+
+-- what an append asks that asks for a token
+token_asked : (p : Layout) (a : Append) (w : AppendWork) (r : ℕ) → w ≡ Asking r → (o : Out) → Has (append_work_asks p a w) o → (o.to ≡ seqr_id p.seq) × (o.msg ≡ msg.Token p.epoch (streams_of a.draft))
+unfolding append_work_asks
+token_asked p a (Asking q) r e o (inl i) = (ap (λ (y : Out). y.to) i, ap (λ (y : Out). y.msg) i)
+token_asked p a (Asking q) r e o (inr i) = absurd i
+token_asked p a (Putting j) r e o i = absurd cc
+token_asked p a (Judging j) r e o i = absurd cc
 
 -- Along moves.
 
@@ -110,6 +121,8 @@ module _ (m : Meaning) (h : Header) (zs : Moves m) (header : IsHeader h) (give :
     pub sent : Has final answer
     pub to : answer.to ≡ client_id k
     pub issues : answer.msg ≡ msg.Issued pos links
+    pub seqr : ℕ
+    pub pair : Pair final (client_id k) seqr (msg.Token e (streams_of append.draft)) pos links
 
   -- of an append with this draft
   module _ (k : ℕ) (d0 : Entry) where
@@ -167,8 +180,9 @@ module _ (m : Meaning) (h : Header) (zs : Moves m) (header : IsHeader h) (give :
     judge_next_puts a t (Ends e) next h = judge_end_puts a t e next h
 
     -- what is made of links that are issued
-    abbrev pub Makes : Layout → Entry → Msg → Type 0
-    Makes p d y = (pos : ℕ) (ls : List StreamLink) → y ≡ msg.Issued pos ls → names_all (streams_of d) ls ≡ true → Ours p.epoch pos (page_of (linked d ls))
+    abbrev pub Makes : Layout → Entry → AppendWork → Msg → Type 0
+    Makes p d (Asking r) y = (pos : ℕ) (ls : List StreamLink) → y ≡ msg.Issued pos ls → names_all (streams_of d) ls ≡ true → Ours p.epoch pos (page_of (linked d ls))
+    Makes p d w y = Unit {0}
 
     same_page : (r s i j : ℕ) (d x : List ℕ) → Puts r d i ≡ Puts s x j → d ≡ x
     same_page r s i j d x e = cc
@@ -190,21 +204,21 @@ module _ (m : Meaning) (h : Header) (zs : Moves m) (header : IsHeader h) (give :
     unfolding reply
     is_issued y pos ls e = grind arith
 
-    asked_puts : (p : Layout) (a : Append) (y : Msg) (x : Reply) (next : ℕ) → reply y ≡ x → PutsOk a.work → Makes p a.draft y → AppendPuts (asking_feed p a x next).to
-    asked_puts p a y (replied.IsIssued pos ls) next is h f = issued_puts p a pos ls next _ refl h (λ e. f pos ls (is_issued y pos ls is) e)
-    asked_puts p a y (replied.IsFull l) next is h f = tt
-    asked_puts p a y (replied.IsOldEpoch e) next is h f = newer_puts p a e next _ h
-    asked_puts p a y x next is h f = h
+    asked_puts : (p : Layout) (a : Append) (r : ℕ) (y : Msg) (x : Reply) (next : ℕ) → reply y ≡ x → PutsOk a.work → Makes p a.draft (Asking r) y → AppendPuts (asking_feed p a x next).to
+    asked_puts p a r y (replied.IsIssued pos ls) next is h f = issued_puts p a pos ls next _ refl h (λ e. f pos ls (is_issued y pos ls is) e)
+    asked_puts p a r y (replied.IsFull l) next is h f = tt
+    asked_puts p a r y (replied.IsOldEpoch e) next is h f = newer_puts p a e next _ h
+    asked_puts p a r y x next is h f = h
 
-    feed_puts_at : (p : Layout) (d : Entry) (t : Option Token) (w : AppendWork) (n : ℕ) (y : Msg) (next : ℕ) → PutsOk w → Makes p d y → AppendPuts (append_feed p (record { draft = d; token = t; work = w }) w n (reply y) next).to
+    feed_puts_at : (p : Layout) (d : Entry) (t : Option Token) (w : AppendWork) (n : ℕ) (y : Msg) (next : ℕ) → PutsOk w → Makes p d w y → AppendPuts (append_feed p (record { draft = d; token = t; work = w }) w n (reply y) next).to
     unfolding append_feed
-    feed_puts_at p d t (Asking r) n y next h f = asked_puts p _ y (reply y) next refl h f
+    feed_puts_at p d t (Asking r) n y next h f = asked_puts p _ r y (reply y) next refl h f
     feed_puts_at p d None (Putting j) n y next h f = h
     feed_puts_at p d (Some t) (Putting j) n y next h f = put_next_puts _ t j _ _ h h (cell_puts j n (reply y) next)
     feed_puts_at p d None (Judging j) n y next h f = h
     feed_puts_at p d (Some t) (Judging j) n y next h f = judge_next_puts _ t _ _ h
 
-    feed_puts : (p : Layout) (a : Append) (n : ℕ) (y : Msg) (next : ℕ) → PutsOk a.work → Makes p a.draft y → AppendPuts (append_feed p a a.work n (reply y) next).to
+    feed_puts : (p : Layout) (a : Append) (n : ℕ) (y : Msg) (next : ℕ) → PutsOk a.work → Makes p a.draft a.work y → AppendPuts (append_feed p a a.work n (reply y) next).to
     feed_puts p a n y next h f = feed_puts_at p a.draft a.token a.work n y next h f
 
     judged_puts : (p : Layout) (a : Append) (t : Token) (next : ℕ) (b : Bool) → AppendPuts (dead_or_judged p a t next b).to
@@ -245,25 +259,66 @@ module _ (m : Meaning) (h : Header) (zs : Moves m) (header : IsHeader h) (give :
         subst (λ (n : ℕ). DraftOk m n a.draft) (state.book k).num_is (subst (TaskOk m (client_in m (config m (after m h xs)) k).num) o.holds (subst (HandOk m (client_in m (config m (after m h xs)) k).num (client_in m (config m (after m h xs)) k).tx) o.has s.hand).2)
 
     -- the links of an answer that it hears
-    makes : (k : ℕ) (a : Append) → Holds m (client_in m (config m (after m h xs)) k) a → (x : Packet) → Comes m (config m (after m h xs)) x (client_id k) → Makes k a.draft (client_in m (config m (after m h xs)) k).stand a.draft x.msg
-    makes k a o x comes pos ls is names = (
-      record {
-        before = xs;
-        later = ys;
-        split = split;
-        append = a;
-        holds = o;
-        ok = draft_in k a o;
-        links = ls;
-        names = names;
-        page = refl;
-        answer = x;
-        sent = sent_at xs ys split x comes.sent;
-        to = comes.to_node;
-        issues = is;
-      },
-      refl,
-    )
+    module _ (k : ℕ) (a : Append) (o : Holds m (client_in m (config m (after m h xs)) k) a) (x : Packet) (comes : Comes m (config m (after m h xs)) x (client_id k)) (doing : o.work.hand ≡ Doing (Appending a o.purpose))
+        (awaited : awaits (append_asks (client_in m (config m (after m h xs)) k).stand a) x.from x.rid ≡ true) where
+      abbrev p : Layout
+      p = (client_in m (config m (after m h xs)) k).stand
+
+      -- its request, as it may still be answered
+      asks_open : (q : Out) → Has (append_asks p a) q → Has (reserved m (client_in m (config m (after m h xs)) k)) q
+      unfolding task_asks
+      asks_open q g = subst (λ (w : Option (Work m)). Has (work_reserved m p w) q) (sym o.has) (subst (λ (d : Hand m). Has (hand_reserved m p d) q) (sym doing) g)
+
+      pair_of : (r pos : ℕ) (ls : List StreamLink) → a.work ≡ Asking r → x.msg ≡ msg.Issued pos ls → Pair (after m h xs).packets (client_id k) p.seq (msg.Token p.epoch (streams_of a.draft)) pos ls
+      pair_of r pos ls at is = by (awaited_ask (append_asks p a) x.from x.rid awaited)
+        where
+          by : Awaited (append_asks p a) x.from x.rid → Pair (after m h xs).packets (client_id k) p.seq (msg.Token p.epoch (streams_of a.draft)) pos ls
+          by g =
+              let t = token_asked p a a.work r at g.ask g.has in
+              subst (λ (y : Msg). Pair (after m h xs).packets (client_id k) p.seq y pos ls) t.1
+              (issued_to m (config m (after m h xs)) low (both_hold m h xs).1 k x comes g.ask (asks_open g.ask g.has) g.to g.number p.seq (sym g.to ∙ t.0) pos ls is)
+
+      late : (s : ℕ) (y : Msg) (pos : ℕ) (ls : List StreamLink) → Pair (after m h xs).packets (client_id k) s y pos ls → Pair final (client_id k) s y pos ls
+      late s y pos ls g = record {
+        ask = g.ask;
+        answer = g.answer;
+        asked = sent_at xs ys split g.ask g.asked;
+        answered = sent_at xs ys split g.answer g.answered;
+        by = g.by;
+        to_seqr = g.to_seqr;
+        from_seqr = g.from_seqr;
+        back = g.back;
+        number = g.number;
+        asks = g.asks;
+        issues = g.issues;
+      }
+
+      makes_by : (w : AppendWork) → a.work ≡ w → Makes k a.draft p a.draft w x.msg
+      makes_by (Asking r) at = λ pos ls is names. (
+        record {
+          before = xs;
+          later = ys;
+          split = split;
+          append = a;
+          holds = o;
+          ok = draft_in k a o;
+          links = ls;
+          names = names;
+          page = refl;
+          answer = x;
+          sent = sent_at xs ys split x comes.sent;
+          to = comes.to_node;
+          issues = is;
+          seqr = p.seq;
+          pair = late p.seq (msg.Token p.epoch (streams_of a.draft)) pos ls (pair_of r pos ls at is);
+        },
+        refl,
+      )
+      makes_by (Putting j) at = tt
+      makes_by (Judging j) at = tt
+
+      makes : Makes k a.draft p a.draft a.work x.msg
+      makes = makes_by a.work refl
 
     module _ (t : Written (config m (after m h xs))) where
       calm : IsCalm m role.Client (config m (after m h xs)) Written
@@ -282,7 +337,7 @@ module _ (m : Meaning) (h : Header) (zs : Moves m) (header : IsHeader h) (give :
           by (Fresh none asks kind new) = asking_puts k b.draft b.work asks
           by (Same old stand) = t.hands k b old
           by (Fed a old x comes doing awaited is stand) = kept a (append_feed (client_in m (config m (after m h xs)) k).stand a a.work x.from.num (reply x.msg) (client_in m (config m (after m h xs)) k).next).to is (feed_keeps (client_in m (config m (after m h xs)) k).stand a a.work x.from.num (reply x.msg) (client_in m (config m (after m h xs)) k).next)
-              (next_puts k a.draft b _ is (feed_puts k a.draft (client_in m (config m (after m h xs)) k).stand a x.from.num x.msg (client_in m (config m (after m h xs)) k).next (t.hands k a old) (makes k a old x comes)))
+              (next_puts k a.draft b _ is (feed_puts k a.draft (client_in m (config m (after m h xs)) k).stand a x.from.num x.msg (client_in m (config m (after m h xs)) k).next (t.hands k a old) (makes k a old x comes doing awaited)))
           by (Again a old x q comes is node less next stand) = kept a (append_again q a (client_in m (config m (after m h xs)) k).next).to next (again_keeps q a (client_in m (config m (after m h xs)) k).next) (next_puts k a.draft b _ next (again_puts k a.draft q a (client_in m (config m (after m h xs)) k).next))
 
       same_client : (j k : ℕ) → client_id j ≡ client_id k → j ≡ k

@@ -1,6 +1,7 @@
 pub mod Grammar
 pub mod Reached
 pub mod Safe
+pub mod Fits
 pub mod Ends
 pub mod Scanning
 pub mod Issuing

@@ -34,6 +34,7 @@ use Rattle.tg_law_entries.proofs.Lists.{joined}
 use Rattle.tg_law_lists.specs.Drafted.{DraftsFit}
 use Rattle.tg_law_lists.specs.Lists.{Counts, AreBounds, SeqrsTrue, ListsKnown, EachLaterBySpareTrims}
 use Rattle.tg_law_lists.specs.Spared.{TrimsWereSpare}
+use Rattle.tg_law_lists.proofs.Fits.{drafts_fit}
 use Rattle.tg_law_lists.proofs.Issuing.{issues_as}
 use Rattle.tg_law_lists.proofs.Reached.{before_reached}
 use Rattle.tg_law_lists.proofs.Scanning.{scan_ends}
@@ -147,11 +148,12 @@ module _ (m : Meaning) where
   true_here h xs ys r trims fit bound bounds s = (fine_at m h (xs ++ ys) r trims fit bound bounds xs ys refl s).so
 
   pub seqrs_are_true : EachLaterBySpareTrims m (SeqrsTrue m)
-  seqrs_are_true h xs w v r l trims fit =
+  seqrs_are_true h xs w v r l trims =
       let at = later_is h xs l.0 w v r.goes.is l.1.is in
+      let here = subst (λ u. Reaches m h (xs ++ l.0) u) at (reaches_later m h xs w v r l) in
       subst (λ u. SeqrsTrue m u v) (sym r.goes.is)
       (subst (λ u. SeqrsTrue m (after m h xs) u) (sym at)
-      (true_here h xs l.0 (subst (λ u. Reaches m h (xs ++ l.0) u) at (reaches_later m h xs w v r l)) trims (subst (λ u. DraftsFit m u) at fit)))
+      (true_here h xs l.0 here trims (drafts_fit m h (xs ++ l.0) (after m h (xs ++ l.0)) here)))
 
   -- a bound of one epoch
   abbrev pub bound_of : ℕ → ℕ → ℕ → ℕ
@@ -173,7 +175,7 @@ module _ (m : Meaning) where
       subst (λ (b : Bool). Counts m v n (if b then pos else 0)) (sym t) (subst (λ (k : ℕ). Counts m v k pos) (sym (is_same n epoch t)) c)
 
   pub lists_are_known : EachLaterBySpareTrims m (ListsKnown m)
-  lists_are_known h xs w v r l trims fit s ready c =
-      let k = seqrs_are_true h xs w v r l trims fit (bound_of (seqr m w s).epoch (seqr m w s).next) (bounds_of v (seqr m w s).epoch (seqr m w s).next c) s in
+  lists_are_known h xs w v r l trims s ready c =
+      let k = seqrs_are_true h xs w v r l trims (bound_of (seqr m w s).epoch (seqr m w s).next) (bounds_of v (seqr m w s).epoch (seqr m w s).next c) s in
       subst (HasLists (log m v) (bound_of (seqr m w s).epoch (seqr m w s).next) (seqr m w s)) ready k.lists
       (let i = ap (λ (b : Bool). if b then (seqr m w s).next else 0) (itself (seqr m w s).epoch) in omega (arith, i))

@@ -50,6 +50,7 @@ use Rattle.tg_law_lists.specs.Drafted.{IsFitPage, DraftsFit}
 use Rattle.tg_law_lists.specs.Lists.{Counts}
 use Rattle.tg_law_lists.specs.Spared.{TrimsWereSpare}
 use Rattle.tg_law_lists.specs.Telling.{asks_links, tells_links, ToldLinks, LinksTrue, EntriesGood, AlwaysBySpareTrims}
+use Rattle.tg_law_lists.proofs.Fits.{drafts_fit}
 use Rattle.tg_law_lists.proofs.Ends.{PageAt, page_at, settled_of, home, fit_page, links_there, streams_there}
 use Rattle.tg_law_lists.proofs.Runs.{bound_of, bounds_of, fine_at}
 use Rattle.tg_law_lists.proofs.Safe.{safe_of}
@@ -177,7 +178,7 @@ unfolding tells_links
 token_told s from rid epoch os true is own = one_silent s from rid (msg.Token epoch os) from rid _ (λ p ls i. cc)
 token_told s from rid epoch os false is own = issue_told s from rid epoch os _ is own
 
-step_told : (s : SeqrState) (from : NodeId) (rid : ℕ) (y : Msg) → Tells s from rid y (seqr_step s from rid y).sends
+pub step_told : (s : SeqrState) (from : NodeId) (rid : ℕ) (y : Msg) → Tells s from rid y (seqr_step s from rid y).sends
 unfolding seqr_step asks_links is_request
 step_told s from rid (msg.Learn q) = learn_or_told s from rid (msg.Learn q) q _ refl refl
 step_told s from rid (msg.Token epoch os) = own_told s from rid (msg.Token epoch os) (epoch == s.epoch) _ (λ e. token_told s from rid epoch os (scanning s) refl (is_same epoch s.epoch e))
@@ -187,6 +188,10 @@ step_told s from rid y = scan_told s from rid y s.scan y
 held_answers : is_request msg.Held ≡ true → ⊥
 unfolding is_request
 held_answers e = cc
+
+-- a tick tells nothing
+pub tick_silent : (s : SeqrState) (o : Out) (pos : ℕ) (ls : List StreamLink) → Has (seqr_asks s) o → tells_links o.msg ≡ Some (pos, ls) → ⊥
+tick_silent s o pos ls i t = held_answers (scan_silent s (seqr_id 0) 0 msg.Held s.scan o pos ls i t).request
 
 -- a token's answer tells its links
 told_of : (m : Meaning) (w : World m) (s epoch pos : ℕ) (os : List Oid) (ls : List StreamLink) → Issued m w s epoch pos os ls → ToldLinks m w s epoch os pos ls
@@ -375,8 +380,9 @@ module _ (m : Meaning) (h : Header) (zs : Moves m) (r : Reaches m h zs (after m 
 
 module _ (m : Meaning) where
   by_run : (P : World m → Type 0) → ((h : Header) (ms : Moves m) → Reaches m h ms (after m h ms) → TrimsWereSpare m h ms → DraftsFit m (after m h ms) → P (after m h ms)) → AlwaysBySpareTrims m P
-  by_run P f h ms w r trims fit =
-      subst P (sym r.goes.is) (f h ms (subst (λ (u : World m). Reaches m h ms u) r.goes.is r) trims (subst (λ (u : World m). DraftsFit m u) r.goes.is fit))
+  by_run P f h ms w r trims =
+      let here = subst (λ (u : World m). Reaches m h ms u) r.goes.is r in
+      subst P (sym r.goes.is) (f h ms here trims (drafts_fit m h ms (after m h ms) here))
 
   pub links_are_true : AlwaysBySpareTrims m (LinksTrue m)
   links_are_true = by_run (LinksTrue m) (λ h ms r trims fit. links_here m h ms r trims fit)

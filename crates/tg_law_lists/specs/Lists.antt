@@ -10,7 +10,6 @@ use Rattle.tg_protocol.specs.Chosen.{IsDecided}
 use Rattle.tg_law_walks.specs.Lists.{AreGoodLists}
 use Rattle.tg_law_walks.specs.Seqrs.{IsSeqr}
 use Rattle.tg_law_lists.specs.Spared.{TrimsWereSpare}
-use Rattle.tg_law_lists.specs.Drafted.{DraftsFit}
 
 module _ (m : Meaning) where
   -- A position counts in an epoch of a world where the next epoch's layout, if one is decided, doesn't start below it; and
@@ -32,6 +31,6 @@ module _ (m : Meaning) where
   abbrev pub ListsKnown : World m → World m → Type 0
   ListsKnown w v = (s : ℕ) → scanning (seqr m w s) ≡ false → Counts v (seqr m w s).epoch (seqr m w s).next → AreGoodLists (log m v) (seqr m w s).next (seqr m w s).lists
 
-  -- What holds of each world and each later one of every run in which trims were spare, and drafts fit.
+  -- What holds of each world and each later one of every run in which trims were spare.
   abbrev pub EachLaterBySpareTrims : (World m → World m → Type 0) → Type 0
-  EachLaterBySpareTrims P = (h : Header) (ms : Moves m) (w v : World m) → Reaches m h ms w → (l : Later m w v) → TrimsWereSpare m h (ms ++ l.0) → DraftsFit m v → P w v
+  EachLaterBySpareTrims P = (h : Header) (ms : Moves m) (w v : World m) → Reaches m h ms w → (l : Later m w v) → TrimsWereSpare m h (ms ++ l.0) → P w v

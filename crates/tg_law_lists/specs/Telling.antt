@@ -13,7 +13,6 @@ use Rattle.tg_protocol.specs.Runs.{Moves, Reaches}
 use Rattle.tg_protocol.specs.Chosen.{Sent}
 use Rattle.tg_law_walks.specs.Streams.{IsGood, AreLinked}
 use Rattle.tg_law_walks.specs.Lists.{backs}
-use Rattle.tg_law_lists.specs.Drafted.{DraftsFit}
 use Rattle.tg_law_lists.specs.Lists.{Counts}
 use Rattle.tg_law_lists.specs.Spared.{TrimsWereSpare}
 
@@ -51,6 +50,6 @@ module _ (m : Meaning) where
   abbrev pub EntriesGood : World m → Type 0
   EntriesGood w = AreLinked (log m w)
 
-  -- What holds of each world of every run in which trims were spare, and drafts fit.
+  -- What holds of each world of every run in which trims were spare.
   abbrev pub AlwaysBySpareTrims : (World m → Type 0) → Type 0
-  AlwaysBySpareTrims P = (h : Header) (ms : Moves m) (w : World m) → Reaches m h ms w → TrimsWereSpare m h ms → DraftsFit m w → P w
+  AlwaysBySpareTrims P = (h : Header) (ms : Moves m) (w : World m) → Reaches m h ms w → TrimsWereSpare m h ms → P w

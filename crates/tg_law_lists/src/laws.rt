@@ -1,10 +1,18 @@
 //! What holds of every world to which a run of lawful events comes, and of each later one.
 
 ghost use Rattle.tg_kind.specs.Of.{meaning_of};
+ghost use Rattle.tg_law_lists.specs.Drafted.{DraftsFit};
 ghost use Rattle.tg_law_lists.specs.Lists.{EachLaterBySpareTrims, ListsKnown, SeqrsTrue};
 ghost use Rattle.tg_law_lists.specs.Telling.{AlwaysBySpareTrims, EntriesGood, LinksTrue};
+ghost use Rattle.tg_protocol.specs.Runs.{Always};
 
 use tg_kind::Registry;
+
+/// Drafts fit the format: an entry that is read of a page which was sent has the links that were issued for it, and each
+/// token names its streams once.
+pub fn drafts_fit<K: Registry>()
+    ensures { Always (meaning_of K.Registry) (DraftsFit (meaning_of K.Registry)) }
+{}
 
 /// Each sequencer's lists are the log's, and so is what it has scanned, up to where the next epoch starts.
 pub fn seqrs_are_true<K: Registry>()

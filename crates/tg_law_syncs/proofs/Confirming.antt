@@ -44,6 +44,7 @@ use Rattle.tg_law_lists.specs.Drafted.{DraftsFit}
 use Rattle.tg_law_lists.specs.Lists.{Counts, EachLaterBySpareTrims}
 use Rattle.tg_law_lists.specs.Spared.{WasSettled, TrimsWereSpare}
 use Rattle.tg_law_lists.proofs.Ends.{cell_of}
+use Rattle.tg_law_lists.proofs.Fits.{drafts_fit}
 use Rattle.tg_law_lists.proofs.Reached.{before_reached}
 use Rattle.tg_law_lists.proofs.Safe.{safe_of}
 use Rattle.tg_law_syncs.specs.Syncs.{IsTail, AwaitsSync, SyncsConfirm, WalksRead}
@@ -149,7 +150,7 @@ module _ (m : Meaning) (h : Header) (xs ys : Moves m) (r : Reaches m h (xs ++ ys
   give_early : AllGive m (LawfulCommand m) xs
   give_early = lawful_give m (start m h).cluster xs rw.goes.lawful
 
-  read_later : (p : ℕ) (c : Cell) → IsSettled m (after m h xs) p c → cell_at (log m (after m h (xs ++ ys))) p ≡ Some c
+  pub read_later : (p : ℕ) (c : Cell) → IsSettled m (after m h xs) p c → cell_at (log m (after m h (xs ++ ys))) p ≡ Some c
   read_later p c s = cell_of m h (xs ++ ys) r (safe_of m h (xs ++ ys) r trims) p c (settled_later m h xs ys r.header give p c s)
 
   -- Walks.
@@ -164,6 +165,40 @@ module _ (m : Meaning) (h : Header) (xs ys : Moves m) (r : Reaches m h (xs ++ ys
       by : (o : Option CellJob) → walk.job ≡ o → JobEndsAs (log m (after m h (xs ++ ys))) o x.from.num (reply x.msg) (client m (after m h xs) k).next
       by None e = tt
       by (Some j) e = ends_as j e (cell_feed j x.from.num (reply x.msg) (client m (after m h xs) k).next).to refl
+
+  -- What a client's machine ends with.
+
+  module _ (k : ℕ) where
+    abbrev stand : Layout
+    stand = (client m (after m h xs) k).stand
+
+    stand_known : K m h xs stand
+    stand_known = (known m h xs stand.epoch stand ((layouts_are_known m h xs (after m h xs) rw).clients k)).0
+
+    -- the cell that a settling ends with was settled in this epoch or before
+    pub record InTime (pos : ℕ) (c : Cell) : Type 0 where
+      pub settled : IsSettled m (after m h xs) pos c
+      pub in_time : settled.layout.epoch ≤ stand.epoch
+
+    pub settled_by : (pos : ℕ) (c : Cell) → CellOk (after m h xs).packets stand pos c → InTime pos c
+    settled_by pos c f =
+        let line = facts m h xs r.header give_early (told_here m h xs r.header give_early) in
+        let root = roots m h xs r.header give_early (told_here m h xs r.header give_early) in
+        of_settled (end_settles words (K m h xs) (after m h xs).packets line stand pos c stand_known (λ t. rooted pos c t (root.tells _ t.claim t.tells)) f)
+      where
+        of_settled : Settled words (K m h xs) (after m h xs).packets stand.epoch pos c → InTime pos c
+        of_settled g = record {
+          settled = record { layout = g.layout; decided = decided_for m h xs r.header give_early g.layout g.decided; told = λ i less. up_to (after m h xs).packets _ _ _ c (g.told i less) };
+          in_time = g.up_to;
+        }
+
+        rooted : (q : ℕ) (d : Cell) → (t : ToldBy (after m h xs).packets (last_unit (place_in stand q)) stand.epoch q d) → Rooted words (K m h xs) (after m h xs).packets (last_unit (place_in stand q)) t.claim.epoch t.claim.pos t.claim.cell
+            → Rooted words (K m h xs) (after m h xs).packets (last_unit (place_in stand q)) stand.epoch q d
+        rooted q d t g =
+            let g' : Rooted words (K m h xs) (after m h xs).packets (last_unit (place_in stand q)) t.claim.epoch q d =
+            subst (λ (y : Cell). Rooted words (K m h xs) (after m h xs).packets (last_unit (place_in stand q)) t.claim.epoch q y) t.cell
+            (subst (λ (i : ℕ). Rooted words (K m h xs) (after m h xs).packets (last_unit (place_in stand q)) t.claim.epoch i t.claim.cell) t.pos g) in
+            record { layout = g'.layout; decided = g'.decided; up_to = (let b = g'.up_to in let e = t.epoch in omega (arith, b, e)); how = g'.how }
 
   -- Syncs.
 
@@ -188,34 +223,6 @@ module _ (m : Meaning) (h : Header) (xs ys : Moves m) (r : Reaches m h (xs ++ ys
     claims = task_claims (after m h xs).packets x.from x.rid x.msg m p (Syncing s) a.awaited
         (subst (λ (d : Hand m). Heard (after m h xs).packets x.from x.rid x.msg (hand_reserved m p d)) a.syncs
         (subst (λ (o : Option (Work m)). Heard (after m h xs).packets x.from x.rid x.msg (work_reserved m p o)) a.works hears))
-
-    stand_known : K m h xs p
-    stand_known = (known m h xs p.epoch p ((layouts_are_known m h xs (after m h xs) rw).clients k)).0
-
-    -- the cell that a settling ends with was settled in this epoch or before
-    record InTime (pos : ℕ) (c : Cell) : Type 0 where
-      settled : IsSettled m (after m h xs) pos c
-      in_time : settled.layout.epoch ≤ p.epoch
-
-    settled_by : (pos : ℕ) (c : Cell) → CellOk (after m h xs).packets p pos c → InTime pos c
-    settled_by pos c f =
-        let line = facts m h xs r.header give_early (told_here m h xs r.header give_early) in
-        let root = roots m h xs r.header give_early (told_here m h xs r.header give_early) in
-        of_settled (end_settles words (K m h xs) (after m h xs).packets line p pos c stand_known (λ t. rooted pos c t (root.tells _ t.claim t.tells)) f)
-      where
-        of_settled : Settled words (K m h xs) (after m h xs).packets p.epoch pos c → InTime pos c
-        of_settled g = record {
-          settled = record { layout = g.layout; decided = decided_for m h xs r.header give_early g.layout g.decided; told = λ i less. up_to (after m h xs).packets _ _ _ c (g.told i less) };
-          in_time = g.up_to;
-        }
-
-        rooted : (q : ℕ) (d : Cell) → (t : ToldBy (after m h xs).packets (last_unit (place_in p q)) p.epoch q d) → Rooted words (K m h xs) (after m h xs).packets (last_unit (place_in p q)) t.claim.epoch t.claim.pos t.claim.cell
-            → Rooted words (K m h xs) (after m h xs).packets (last_unit (place_in p q)) p.epoch q d
-        rooted q d t g =
-            let g' : Rooted words (K m h xs) (after m h xs).packets (last_unit (place_in p q)) t.claim.epoch q d =
-            subst (λ (y : Cell). Rooted words (K m h xs) (after m h xs).packets (last_unit (place_in p q)) t.claim.epoch q y) t.cell
-            (subst (λ (i : ℕ). Rooted words (K m h xs) (after m h xs).packets (last_unit (place_in p q)) t.claim.epoch i t.claim.cell) t.pos g) in
-            record { layout = g'.layout; decided = g'.decided; up_to = (let b = g'.up_to in let e = t.epoch in omega (arith, b, e)); how = g'.how }
 
     job_ok : (b : Answer) (j : CellJob) → s.work ≡ Settling b j → JobOk (after m h xs).packets p j
     job_ok b j e = subst (λ (y : SyncWork). SyncOk (after m h xs).packets p y) e works
@@ -251,7 +258,7 @@ module _ (m : Meaning) (h : Header) (xs ys : Moves m) (r : Reaches m h (xs ++ ys
     true_end : (c : Confirmed) → Confirms s (λ j. (cell_feed j x.from.num (reply x.msg) (client m (after m h xs) k).next).to) c → IsTail (log m (after m h (xs ++ ys))) s.oids c
     true_end c (BySettled b j cell e f is) =
         let g = subst (SyncFine (log m (after m h (xs ++ ys))) (Counts m (after m h (xs ++ ys))) p.epoch s.oids) e fine in
-        let was = settled_by j.place.pos cell (ended b j cell e f) in
+        let was = settled_by k j.place.pos cell (ended b j cell e f) in
         subst (IsTail (log m (after m h (xs ++ ys))) s.oids) is (record {
           settled = λ q d i. let t = some_pair (b.tail - 1) q cell d i in subst (λ (n : ℕ). cell_at (log m (after m h (xs ++ ys))) n ≡ Some d) (g.0 ∙ t.0) (subst (λ (y : Cell). cell_at (log m (after m h (xs ++ ys))) j.place.pos ≡ Some y) t.1 (read_later j.place.pos cell was.settled));
           lists = g.1 (counts_there b j.place.pos g.0 (record { cell = cell; settled = was.settled; in_time = was.in_time }));
@@ -271,12 +278,13 @@ module _ (m : Meaning) where
   later_is : (h : Header) (xs ys : Moves m) (w v : World m) → w ≡ after m h xs → v ≡ run m ys w → v ≡ after m h (xs ++ ys)
   later_is h xs ys w v a b = b ∙ (ap (λ u. run m ys u) a ∙ sym (run_both m xs ys (start m h)))
 
-  by_run : (P : World m → World m → Type 0) → ((h : Header) (xs ys : Moves m) → Reaches m h (xs ++ ys) (after m h (xs ++ ys)) → TrimsWereSpare m h (xs ++ ys) → DraftsFit m (after m h (xs ++ ys)) → P (after m h xs) (after m h (xs ++ ys))) → EachLaterBySpareTrims m P
-  by_run P f h xs w v r l trims fit =
+  pub by_run : (P : World m → World m → Type 0) → ((h : Header) (xs ys : Moves m) → Reaches m h (xs ++ ys) (after m h (xs ++ ys)) → TrimsWereSpare m h (xs ++ ys) → DraftsFit m (after m h (xs ++ ys)) → P (after m h xs) (after m h (xs ++ ys))) → EachLaterBySpareTrims m P
+  by_run P f h xs w v r l trims =
       let at = later_is h xs l.0 w v r.goes.is l.1.is in
+      let here = subst (λ u. Reaches m h (xs ++ l.0) u) at (reaches_later m h xs w v r l) in
       subst (λ u. P u v) (sym r.goes.is)
       (subst (λ u. P (after m h xs) u) (sym at)
-      (f h xs l.0 (subst (λ u. Reaches m h (xs ++ l.0) u) at (reaches_later m h xs w v r l)) trims (subst (λ u. DraftsFit m u) at fit)))
+      (f h xs l.0 here trims (drafts_fit m h (xs ++ l.0) (after m h (xs ++ l.0)) here)))
 
   pub syncs_confirm : EachLaterBySpareTrims m (SyncsConfirm m)
   syncs_confirm = by_run (SyncsConfirm m) (λ h xs ys r trims fit. syncs_here m h xs ys r trims fit)

@@ -7,16 +7,14 @@ use Rattle.tg_protocol.specs.Worlds.{World, start, seqr, log}
 use Rattle.tg_protocol.specs.Runs.{Reaches, run}
 use Rattle.tg_law_entries.specs.Worked.{tallies, two_units, asked_again}
 use Rattle.tg_law_walks.specs.Lists.{backs, AreGoodLists}
-use Rattle.tg_law_lists.specs.Drafted.{DraftsFit}
 use Rattle.tg_law_lists.specs.Lists.{Counts}
 use Rattle.tg_law_lists.specs.Spared.{TrimsWereSpare}
 
--- The premises of the laws on lists hold of the run. The second sequencer serves in the second epoch; it has scanned the
+-- The premise of the laws on lists holds of the run. The second sequencer serves in the second epoch; it has scanned the
 -- one position that is written, and knows of the directory's stream that this is the last of it.
 pub record ScanIsDone (v : World tallies) (s : SeqrState) : Type 0 where
   pub reached : Reaches tallies two_units asked_again v
   pub trims : TrimsWereSpare tallies two_units asked_again
-  pub fit : DraftsFit tallies v
   pub ready : scanning s ≡ false
   pub epoch : s.epoch ≡ 2
   pub next : s.next ≡ 1

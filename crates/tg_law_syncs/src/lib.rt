@@ -2,9 +2,9 @@
 //! refused confirms a tail with lists that lack none of the log's entries below it that they tell of, for each of its
 //! streams; and the cell with which a walk ends the reading of a position is the log's.
 //!
-//! The premises are those of `tg_law_lists`: `TrimsWereSpare` and `DraftsFit`. What is left to be shown of syncs and
-//! walks is of clients alone: that what they know stays the log's, that a tail lies past what a client has played and
-//! appended, and that a trim which was known before a sync left each stream a save below its tail.
+//! The premise is that of `tg_law_lists`: `TrimsWereSpare`. What is left to be shown of syncs and walks is of clients
+//! alone: that what they know stays the log's, that a tail lies past what a client has played and appended, and that a
+//! trim which was known before a sync left each stream a save below its tail.
 #![tactic(auto)]
 
 mod laws;

@@ -13,7 +13,7 @@ use Rattle.tg_kind.specs.Meaning.{Meaning}
 use Rattle.tg_model.specs.Kinds.{CommandOf}
 use Rattle.tg_protocol.specs.Words.{unit_id, layout_id, seqr_id, client_id, numbers}
 use Rattle.tg_protocol.specs.Layouts.{first_layout}
-use Rattle.tg_protocol.specs.Requests.{awaits, waits_for, drawn_from, Next, Goes, Learns, Ends}
+use Rattle.tg_protocol.specs.Requests.{awaits, out, Waits, waits_for, drawn_from, Next, Goes, Learns, Ends}
 use Rattle.tg_protocol.specs.Replies.{Reply, reply}
 use Rattle.tg_protocol.specs.Replies as replied
 use Rattle.tg_protocol.specs.Cells.{CellJob, CellEnd, Done, Fenced, Gone, get_cell, cell_feed}
@@ -54,10 +54,36 @@ some_claim : (a b : Claim) → Some a ≡ Some b → a ≡ b
 some_claim a b e = cc
 
 module _ (m : Meaning) where
+  -- Where a request comes from that a client's turn sends: a sequencer is told a layout, layout servers are asked for the
+  -- latest one, or the machine in hand asks.
+  pub data FromTurn (c : Client m) (o : Out) : Type 0 where
+    ToldLayout : (q : Layout) → o.msg ≡ msg.Learn q → FromTurn c o
+    AskedLatest : o.msg ≡ msg.AskLatest → FromTurn c o
+    AskedInHand : (w : Work m) (t : Task m) → c.work ≡ Some w → w.hand ≡ Doing t → Has (task_awaited m c.stand t) o → FromTurn c o
+
+  latest_in : (ws : Waits) (o : Out) → Has (asks_latest m ws) o → o.msg ≡ msg.AskLatest
+  latest_in ws o h = let i = has_map (λ (w : ℕ × ℕ). out (layout_id w.0) w.1 msg.AskLatest) ws o h in ap (λ (z : Out). z.msg) i.is
+
+  -- of what is asked by what is in hand
+  from_work : (c : Client m) (w : Option (Work m)) → c.work ≡ w → (o : Out) → Has (step.work_asks m c.stand w) o → FromTurn c o
+  from_work c None has o h = absurd h
+  from_work c (Some w) has o h = by w.hand refl h
+    where
+      by : (x : Hand m) → w.hand ≡ x → Has (hand_asks m c.stand x) o → FromTurn c o
+      by (Doing t) at h = AskedInHand w t has at (asked_awaited m c.stand t o h)
+      by (Learning ws t) at h = AskedLatest (latest_in ws o h)
+
+  -- the count of steps is nothing to it
+  from_given : (c d : Client m) (o : Out) → d.work ≡ c.work → d.stand ≡ c.stand → FromTurn c o → FromTurn d o
+  from_given c d o e f (ToldLayout q i) = ToldLayout q i
+  from_given c d o e f (AskedLatest i) = AskedLatest i
+  from_given c d o e f (AskedInHand w t has at h) = AskedInHand w t (e ∙ has) at (subst (λ (p : Layout). Has (task_awaited m p t) o) (sym f) h)
+
   module _ (ps : List Packet) (me : NodeId) where
     pub record TurnFine (t : ClientTurn m) : Type 0 where
       pub ok : hands.WorkOk m ps me t.now.stand t.now.work
       pub sends : AllJust ps me t.sends
+      pub from : (o : Out) → Has t.sends o → FromTurn t.now o
       pub puts : (o : Out) → Has t.sends o → (e pos : ℕ) (d : List ℕ) → o.msg ≡ msg.Write e pos d → HandPuts m t.now e pos d
 
     latest_just : (c : Client m) (next : ℕ) → AllJust ps me (asks_latest m (waits_for (numbers c.layouts 0) next))
@@ -89,9 +115,14 @@ module _ (m : Meaning) where
     given_fine c x f = record {
       ok = f.ok;
       sends = both_just ps me x.besides _ besides (λ o h. asks_just x.now f.ok o (has_filter _ (client_asks m x.now) o h));
+      from = λ o h. from o (has_either x.besides _ o h);
       puts = λ o h e pos d is. by o e pos d is (has_either x.besides _ o h);
     }
       where
+        from : (o : Out) → Has x.besides o ⊎ Has (drawn_from c.next (client_asks m x.now)) o → FromTurn (given m c x).now o
+        from o (inl h) = ToldLayout x.now.stand (f.besides o h)
+        from o (inr h) = from_given x.now (given m c x).now o refl refl (from_work x.now x.now.work refl o (has_filter _ (client_asks m x.now) o h))
+
         again : (e pos : ℕ) (d : List ℕ) → HandPuts m x.now e pos d → HandPuts m (given m c x).now e pos d
         again e pos d k = record { work = k.work; has = k.has; append = k.append; purpose = k.purpose; doing = k.doing; job = k.job; putting = k.putting; puts = k.puts }
 
@@ -114,13 +145,22 @@ module _ (m : Meaning) where
     again_just p (Learning ws t) k o h = asked_just ps me layout_id msg.AskLatest ws (λ to. tt) o h
 
     tick_by_fine : (c : Client m) (w : Option (Work m)) → c.work ≡ w → hands.WorkOk m ps me c.stand c.work → TurnFine (step.tick_by m c w)
-    tick_by_fine c None e k = record { ok = k; sends = none_just ps me; puts = λ o h e pos d is. absurd h }
+    tick_by_fine c None e k = record { ok = k; sends = none_just ps me; from = λ o h. absurd h; puts = λ o h e pos d is. absurd h }
     tick_by_fine c (Some w) e k = record {
       ok = k;
       sends = both_just ps me (hand_again_asks m c.stand w.hand) _ (again_just c.stand w.hand (subst (λ (o : Option (Work m)). hands.WorkOk m ps me c.stand o) e k)) (latest_just c c.next);
+      from = λ o h. from o (has_either (hand_again_asks m c.stand w.hand) _ o h);
       puts = λ o h f pos d is. again f pos d (by o f pos d is (has_either (hand_again_asks m c.stand w.hand) _ o h));
     }
       where
+        from_hand : (x : Hand m) → w.hand ≡ x → (o : Out) → Has (hand_again_asks m c.stand x) o → FromTurn c o
+        from_hand (Doing t) at o h = AskedInHand w t e at (task_again_reserved m c.stand t o h)
+        from_hand (Learning ws t) at o h = AskedLatest (latest_in ws o h)
+
+        from : (o : Out) → Has (hand_again_asks m c.stand w.hand) o ⊎ Has (asks_latest m (waits_for (numbers c.layouts 0) c.next)) o → FromTurn (step.tick_by m c (Some w)).now o
+        from o (inl h) = from_given c (step.tick_by m c (Some w)).now o refl refl (from_hand w.hand refl o h)
+        from o (inr h) = AskedLatest (latest_in (waits_for (numbers c.layouts 0) c.next) o h)
+
         again : (f pos : ℕ) (d : List ℕ) → HandPuts m c f pos d → HandPuts m (step.tick_by m c (Some w)).now f pos d
         again f pos d j = record { work = j.work; has = j.has; append = j.append; purpose = j.purpose; doing = j.doing; job = j.job; putting = j.putting; puts = j.puts }
 

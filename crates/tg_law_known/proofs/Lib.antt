@@ -1,0 +1,4 @@
+pub mod Ways
+pub mod Landing
+pub mod Knowing
+pub mod Held

@@ -1,0 +1,12 @@
+//! What holds of every world to which a run of lawful events comes, and of each later one.
+
+ghost use Rattle.tg_kind.specs.Of.{meaning_of};
+ghost use Rattle.tg_law_known.specs.Known.{KnownIsTheLogs};
+ghost use Rattle.tg_law_lists.specs.Lists.{EachLaterBySpareTrims};
+
+use tg_kind::Registry;
+
+/// What a client knows of the log is the log's, then and later.
+pub fn known_is_the_logs<K: Registry>()
+    ensures { EachLaterBySpareTrims (meaning_of K.Registry) (KnownIsTheLogs (meaning_of K.Registry)) }
+{}
