@@ -11,6 +11,8 @@ use Rattle.tg_base.specs.declared.cell.Cell.TheVariants.{Junk, Data}
 use Rattle.tg_protocol.specs.Words.{cell_at, client_id, unit_id}
 use Rattle.tg_protocol.specs.Units.{UnitState}
 use Rattle.tg_protocol.specs.Clients.{Client}
+use Rattle.tg_protocol.specs.ClientSteps.{new_work}
+use Rattle.tg_model.specs.declared.command.Command.TheVariants as cmd
 use Rattle.tg_entry.specs.declared.entry.Body.{Body}
 use Rattle.tg_entry.specs.declared.entry.Body.TheVariants.{Decision}
 use Rattle.tg_entry.specs.declared.entry.Entry.{Entry}
@@ -219,3 +221,28 @@ marked_less what = what
 abbrev pub commits_later : WhatOf kinds → WhatOf kinds
 commits_later (told.Committed p) = told.Committed (p + 40)
 commits_later what = what
+
+-- a mark says more than what was marked
+abbrev pub marked_more : WhatOf kinds → WhatOf kinds
+marked_more (told.Marked o n) = told.Marked o (n + 1000)
+marked_more what = what
+
+-- each proposed layout has another epoch than the one for which it was proposed
+abbrev pub misnamed : Msg → Msg
+misnamed (msg.Accept e b q) = msg.Accept e b (record q { epoch = q.epoch + 7 })
+misnamed x = x
+
+abbrev pub misnumbered : W → W
+misnumbered w = record w { packets = map (λ (p : Packet). record p { msg = misnamed p.msg }) w.packets }
+
+-- a client's directory lists an object that isn't registered, or no object
+
+abbrev pub knows_more : Client kinds → Client kinds
+knows_more c = record c { dir = kind.Dir (record { name = 120 ∷ []; oid = record { 0 = 16777300 }; mark = 0 } ∷ []) 0 }
+
+abbrev pub knows_nothing : Client kinds → Client kinds
+knows_nothing c = record c { dir = kind.Dir [] 0 }
+
+-- a client waits, and has asked nobody
+abbrev pub waits_forever : Client kinds → Client kinds
+waits_forever c = record c { work = Some (new_work kinds (cmd.Fate 0)) }

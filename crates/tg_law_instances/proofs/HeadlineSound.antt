@@ -37,7 +37,7 @@ use Rattle.tg_law_examples.proofs.Sameness.{same}
 use Rattle.tg_law_instances.proofs.Same.{sameness_exact, nodes_same}
 use Rattle.tg_law_instances.proofs.Sound.{rises_sound}
 use Rattle.tg_law_instances.proofs.Readings.{then_so, either_so, has_mapped, index_or, entry_found, entry_is_here, es_of, in_log, of_log, record_found, record_is_there, commit_found, outcome_found, decision_found, fate_kept, Heard, heard_found, sent_found, sent_to, sent_now, issued_is, some_issued, tail_is, full_is, gone_is, later_is, layouts_decided}
-use Rattle.tg_law_instances.proofs.Tests.{Claim, W, implies, heard, heard_now, is_any_gone, is_full_log, is_tail, is_issued, is_any_issued, is_later, entry_here, rises, once, linked, records_own, has_record, has_commit, has_decision, marks_rest, trims_spare, floors_stay, directories, checkpoints, outcome_is, decision_true, fates_of, decisions, layouts, one_layout, latest_decided, follow, is_trimmed, is_look, is_whole, answered, is_saved, needs_one, sent_from, issued_at, then_full, then_gone, then_issued_and_gone, met_end, met_end_now, recorded, recorded_now, rescued_so, is_least, heard_new, agrees, does_mark, commits_mark, marked_by, of_client, this_or, last_of, mark_follows, marks_follow, all_agree, in_order, fails, failed, world_tests, world_fails}
+use Rattle.tg_law_instances.proofs.Tests.{Claim, W, implies, heard, heard_now, is_any_gone, is_full_log, is_tail, is_issued, is_any_issued, is_later, entry_here, rises, once, linked, records_own, has_record, has_commit, has_decision, marks_rest, trims_spare, floors_stay, directories, checkpoints, outcome_is, decision_true, fates_of, decisions, layouts, one_layout, latest_decided, follow, is_trimmed, is_look, tells_whole, answered, is_saved, needs_one, sent_from, issued_at, then_full, then_gone, then_issued_and_gone, met_end, met_end_now, recorded, recorded_now, rescued_so, is_least, heard_new, overtakes, agrees, does_mark, commits_mark, marked_by, of_client, this_or, last_of, mark_follows, marks_follow, all_agree, in_order, fails, failed, world_tests, world_fails}
 
 -- A world that passes all tests.
 
@@ -58,15 +58,15 @@ pub record Passed (w : W) : Type 0 where
   pub marks : marks_rest w (es_of w) ≡ true
   pub ordered : in_order w (es_of w) ≡ true
 
-AllPass : List (Claim × Bool) → Type 0
+unfoldable pub AllPass : List (Claim × Bool) → Type 0
 AllPass [] = Unit {0}
 AllPass (x ∷ xs) = (x.1 ≡ true) × AllPass xs
 
-passed : (c : Claim) (b : Bool) (rest : List Claim) → fails c b ++ rest ≡ [] → (b ≡ true) × (rest ≡ [])
+pub passed : (c : Claim) (b : Bool) (rest : List Claim) → fails c b ++ rest ≡ [] → (b ≡ true) × (rest ≡ [])
 passed c true rest e = (refl, e)
 passed c false rest e = absurd cc
 
-none_fail : (xs : List (Claim × Bool)) → failed xs ≡ [] → AllPass xs
+pub none_fail : (xs : List (Claim × Bool)) → failed xs ≡ [] → AllPass xs
 unfolding AllPass
 none_fail [] e = tt
 none_fail (x ∷ xs) e = let p = passed x.0 x.1 (failed xs) e in (p.0, none_fail xs p.1)
@@ -212,7 +212,7 @@ trimmed_by w t n h =
 
 -- Copies.
 
-look_is : (x y : Msg) → is_look x y ≡ true → y ≡ x
+pub look_is : (x y : Msg) → is_look x y ≡ true → y ≡ x
 look_is (msg.Has e a b s) (msg.Has f c d u) h =
     let h1 = and_both ((e == f) && (a == c) && (b == d)) (s == u) h in
     let h2 = and_both ((e == f) && (a == c)) (b == d) h1.0 in
@@ -224,7 +224,7 @@ look_is (msg.Has e a b s) (msg.Has f c d u) h =
     λ i. msg.Has (e0 i) (e1 i) (e2 i) (e3 i)
 look_is x y h = absurd cc
 
-whole_is : (x : Msg) → is_whole x ≡ true → x ≡ msg.Whole
+pub whole_is : (x : Msg) → tells_whole x ≡ true → x ≡ msg.Whole
 whole_is msg.Whole h = refl
 whole_is x h = absurd cc
 
@@ -274,8 +274,8 @@ answered_found w t asks u says h =
 
 copied_by : (w : W) (t : Told kinds) (u r s : ℕ) → Agrees w t (told.Copied u r s) → CopiedBy kinds w t u r s
 copied_by w t u r s h =
-    let x = found (λ (y : ℕ × Layout). answered w t (is_look (has_stripe y.0 y.1 r s)) u is_whole) (layouts w) h in
-    let a = answered_found w t (is_look (has_stripe x.it.0 x.it.1 r s)) u is_whole x.passes in
+    let x = found (λ (y : ℕ × Layout). answered w t (is_look (has_stripe y.0 y.1 r s)) u tells_whole) (layouts w) h in
+    let a = answered_found w t (is_look (has_stripe x.it.0 x.it.1 r s)) u tells_whole x.passes in
     let look = look_is (has_stripe x.it.0 x.it.1 r s) a.request a.asked in
     let whole = whole_is a.answer a.said in
     record {
@@ -640,10 +640,7 @@ installed_by w t e h =
       heard = new_heard w t e x.it.1 b1.1;
     }
 
-abbrev overtakes : Told kinds → ℕ → ℕ × Layout → Bool
-overtakes t e x = (x.0 == e) && not (x.1.by == t.mark.client) && nat_lt t.noted.epoch e
-
-overtaken_by : (w : W) (t : Told kinds) (e : ℕ) → Agrees w t (told.Refused (cause.Overtaken e)) → OvertakenBy kinds w t e
+pub overtaken_by : (w : W) (t : Told kinds) (e : ℕ) → Agrees w t (told.Refused (cause.Overtaken e)) → OvertakenBy kinds w t e
 overtaken_by w t e h =
     let x = found (overtakes t e) (layouts w) h in
     let b2 = and_both ((x.it.0 == e) && not (x.it.1.by == t.mark.client)) (nat_lt t.noted.epoch e) x.passes in
