@@ -102,6 +102,7 @@ DOCTORED_STEPS = [
     ('none_noted_late', 'noted_late', 'refusals', 'NonesTrue', 'none_off', 'nones_refuted'),
     ('stuck_noted_late', 'noted_late', 'rescue_and_trim', 'StuckTrue', 'stuck_off', 'stuck_refuted'),
     ('walks_over_junk', 'emptied', 'two_keys', 'SyncsExact', 'exact_off', 'exact_refuted'),
+    ('refused_and_played', 'refused_instead', 'crossed_reads', 'RefusalsKeep', 'keeps_off', 'keeps_refuted'),
 ]
 VALUE_TESTS = 'store_after changed puts_of asks_in bound_in entries_fault replies_fault fault'
 WORLD_TESTS = VALUE_TESTS + ' world_fails path_fails'
@@ -251,7 +252,7 @@ def doctored():
     print('use Rattle.tg_protocol.specs.Following.{LayoutsFollow}')
     print('use Rattle.tg_protocol.specs.Holding.{EntriesOwn, RecordsOwn, RepliesHaveRecords, RecordsInOrder, SerialFirst, MarksRest}')
     print('use Rattle.tg_protocol.specs.Playing.{SyncsExact, ReadsOnPath, PlaysOn}')
-    print('use Rattle.tg_protocol.specs.Causes.{RefusalsTrue, CausesRefuse, UnsureTrue, NonesTrue}')
+    print('use Rattle.tg_protocol.specs.Causes.{RefusalsTrue, CausesRefuse, UnsureTrue, NonesTrue, RefusalsKeep}')
     print('use Rattle.tg_protocol.specs.Stuck.{StuckTrue}')
     print('use Rattle.std.specs.Prelude.{Some}')
     print('use Rattle.tg_protocol.specs.Worlds.{client}')
@@ -259,7 +260,7 @@ def doctored():
     print('use Rattle.tg_protocol.specs.ClientSteps.{new_work}')
     print('use Rattle.tg_law_examples.proofs.Shown.{obj}')
     print('use Rattle.tg_law_instances.proofs.StepTests.{%s}' % EVENTS.replace(' ', ', '))
-    print('use Rattle.tg_law_instances.proofs.Changes.{doctored, copied, untold, higher, misnumbered, reads as reads_at, with_client, knows_log, knows_more, knows_nothing, emptied, replied_so, commits_later, marked_more, waits_forever}')
+    print('use Rattle.tg_law_instances.proofs.Changes.{doctored, copied, untold, higher, misnumbered, reads as reads_at, with_client, knows_log, knows_more, knows_nothing, emptied, replied_so, commits_later, marked_more, waits_forever, refused_instead}')
     print('use Rattle.tg_law_instances.proofs.LogRefuted.{%s}' % ', '.join(sorted({w for d in DOCTORED for w in (d[4], d[5].split()[0])})))
     print('use Rattle.tg_law_instances.proofs.StepRefuted.{OfRun, some_of_run, of_run_found, noted_late, %s, keeps_some, plays_refuted, accepts_it, refuse_refuted, refuses_it, refusals_refuted}'
           % ', '.join(sorted({w for d in DOCTORED_STEPS for w in (d[4], d[5])})))

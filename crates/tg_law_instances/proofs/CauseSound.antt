@@ -121,7 +121,7 @@ cause_is w k x (cause.Returned u) h = layout_is w k x (cause.Returned u) h
 cause_is w k x (cause.NoReplica r s) h = layout_is w k x (cause.NoReplica r s) h
 cause_is w k x why h = absurd h
 
-refused_so : (what : WhatOf kinds) → is_refused what ≡ true → (why : Refusal) × (what ≡ told.Refused why)
+pub refused_so : (what : WhatOf kinds) → is_refused what ≡ true → (why : Refusal) × (what ≡ told.Refused why)
 refused_so (told.Refused why) h = (why, refl)
 refused_so what h = absurd cc
 

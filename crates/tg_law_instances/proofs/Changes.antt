@@ -10,7 +10,7 @@ use Rattle.tg_base.specs.declared.cell.Cell.{Cell}
 use Rattle.tg_base.specs.declared.cell.Cell.TheVariants.{Junk, Data}
 use Rattle.tg_protocol.specs.Words.{cell_at, client_id, unit_id}
 use Rattle.tg_protocol.specs.Units.{UnitState}
-use Rattle.tg_protocol.specs.Clients.{Client}
+use Rattle.tg_protocol.specs.Clients.{Purpose, Decides, Task, Appending, Hand, Doing, Learning, Work, Client}
 use Rattle.tg_protocol.specs.ClientSteps.{new_work}
 use Rattle.tg_model.specs.declared.command.Command.TheVariants as cmd
 use Rattle.tg_entry.specs.declared.entry.Body.{Body}
@@ -246,3 +246,24 @@ knows_nothing c = record c { dir = kind.Dir [] 0 }
 -- a client waits, and has asked nobody
 abbrev pub waits_forever : Client kinds → Client kinds
 waits_forever c = record c { work = Some (new_work kinds (cmd.Fate 0)) }
+
+-- the answer that waits for a decision record is a refusal
+
+abbrev pub refusal_for : Purpose kinds → Purpose kinds
+refusal_for (Decides x) = Decides (told.Refused cause.NoTx)
+refusal_for y = y
+
+abbrev pub task_refused : Task kinds → Task kinds
+task_refused (Appending a y) = Appending a (refusal_for y)
+task_refused t = t
+
+abbrev pub hand_refused : Hand kinds → Hand kinds
+hand_refused (Doing t) = Doing (task_refused t)
+hand_refused (Learning waits t) = Learning waits (task_refused t)
+
+abbrev pub work_refused : Option (Work kinds) → Option (Work kinds)
+work_refused None = None
+work_refused (Some x) = Some (record x { hand = hand_refused x.hand })
+
+abbrev pub refused_instead : W → W
+refused_instead w = record w { clients = map (λ (c : Client kinds). record c { work = work_refused c.work }) w.clients }

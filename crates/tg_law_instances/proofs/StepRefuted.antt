@@ -23,7 +23,7 @@ use Rattle.tg_protocol.specs.Walked.{Walked, walked_in, walked_from, positions_f
 use Rattle.tg_protocol.specs.Worlds.{CommandStart, Told, Line, client, runs, log, history, next_event, happens}
 use Rattle.tg_protocol.specs.Runs.{Move, Later, run, most_steps}
 use Rattle.tg_protocol.specs.Playing.{from_to, SyncsExact, IsOwn, PlaysOn}
-use Rattle.tg_protocol.specs.Causes.{layout_cause, RefusalsTrue, CausesRefuse, UnsureTrue, IsNone, SaysNone, NonesTrue}
+use Rattle.tg_protocol.specs.Causes.{layout_cause, RefusalsTrue, CausesRefuse, UnsureTrue, RefusalsKeep, IsNone, SaysNone, NonesTrue}
 use Rattle.tg_law_verdicts.proofs.Members.{has_contained, contained_has, and_both, both_and, not_true, found}
 use Rattle.tg_law_verdicts.proofs.Tests.{number_same, same_oid, lt_of, le_of}
 use Rattle.tg_law_examples.proofs.SevenKinds.{kinds}
@@ -33,7 +33,7 @@ use Rattle.tg_law_instances.proofs.Refuted.{clash, not_both, some_off, heard_now
 use Rattle.tg_law_instances.proofs.Tests.{W, E, nums_eq, heard_now, is_tail}
 use Rattle.tg_law_instances.proofs.StepTests.{replies, says, is_refused, own_entry, is_idle, at_once, stream_exact, line_ev, all_of}
 use Rattle.tg_law_instances.proofs.Steps.{has_reply, says_it, it_says}
-use Rattle.tg_law_instances.proofs.CauseSound.{at_once_of}
+use Rattle.tg_law_instances.proofs.CauseSound.{at_once_of, refused_so}
 
 -- Steps of a run: of some step from a world, changed, what is said holds.
 
@@ -292,3 +292,21 @@ refusals_refuted w k o h claim =
       | inl a ↦ clash (registered_at w o (client kinds w k)) b.1 (ap (λ (n : ℕ). registered_at w o (client kinds w n)) (sym s.client) ∙ a.1)
       | inr l ↦ no_cause why (ap (λ (y : CommandOf kinds). layout_cause kinds (client kinds v j).stand y) is ∙ l)
     ]
+
+-- A refusal after which the directory was played further.
+
+abbrev refused_on : W → E → Told kinds → Bool
+refused_on w e t = is_refused t.mark.what && not ((client kinds (happens kinds w e) t.mark.client).played == (client kinds w t.mark.client).played)
+
+abbrev pub keeps_off : W → E → Bool
+keeps_off w e = list_any (refused_on w e) (replies w (happens kinds w e))
+
+pub keeps_refuted : (w : W) (e : E) → keeps_off w e ≡ true → RefusalsKeep kinds w e → ⊥
+keeps_refuted w e h claim =
+    let v = happens kinds w e in
+    let x = found (refused_on w e) (replies w v) h in
+    let k = x.it.mark.client in
+    let b = and_both (is_refused x.it.mark.what) (not ((client kinds v k).played == (client kinds w k).played)) x.passes in
+    let why = refused_so x.it.mark.what b.0 in
+    let kept = (claim.later x.it why.0 (has_reply w e x.it x.has) why.1).0 in
+    not_both ((client kinds v k).played == (client kinds w k).played) b.1 (number_same (client kinds v k).played (client kinds w k).played kept.played)
