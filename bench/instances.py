@@ -256,15 +256,15 @@ def doctored():
     print('use Rattle.tg_protocol.specs.Stuck.{StuckTrue}')
     print('use Rattle.std.specs.Prelude.{Some}')
     print('use Rattle.tg_protocol.specs.Worlds.{client}')
-    print('use Rattle.tg_protocol.specs.Finishing.{CommandFinishes}')
+    print('use Rattle.tg_protocol.specs.Finishing.{CommandFinishes, ReconfFinishes}')
     print('use Rattle.tg_protocol.specs.ClientSteps.{new_work}')
     print('use Rattle.tg_law_examples.proofs.Shown.{obj}')
     print('use Rattle.tg_law_instances.proofs.StepTests.{%s}' % EVENTS.replace(' ', ', '))
-    print('use Rattle.tg_law_instances.proofs.Changes.{doctored, copied, untold, higher, misnumbered, reads as reads_at, with_client, knows_log, knows_more, knows_nothing, emptied, replied_so, commits_later, marked_more, waits_forever, refused_instead}')
+    print('use Rattle.tg_law_instances.proofs.Changes.{doctored, copied, untold, higher, misnumbered, reads as reads_at, with_client, knows_log, knows_more, knows_nothing, emptied, replied_so, commits_later, marked_more, waits_forever, same_again, refused_instead}')
     print('use Rattle.tg_law_instances.proofs.LogRefuted.{%s}' % ', '.join(sorted({w for d in DOCTORED for w in (d[4], d[5].split()[0])})))
     print('use Rattle.tg_law_instances.proofs.StepRefuted.{OfRun, some_of_run, of_run_found, noted_late, %s, keeps_some, plays_refuted, accepts_it, refuse_refuted, refuses_it, refusals_refuted}'
           % ', '.join(sorted({w for d in DOCTORED_STEPS for w in (d[4], d[5])})))
-    print('use Rattle.tg_law_instances.proofs.FinishRefuted.{hangs, commands_refuted}')
+    print('use Rattle.tg_law_instances.proofs.FinishRefuted.{hangs, commands_refuted, hangs_changing, reconfs_refuted}')
     tests = '%s %s some_of_run' % (VALUE_TESTS, EVENTS)
 
     def refuted(name, test, what, by):
@@ -283,10 +283,13 @@ def doctored():
     refuted('all_pages_kept', 'keeps_some (happens kinds %s (Lose 0)) 1' % kept, 'PlaysOn kinds %s (Lose 0)' % kept, 'plays_refuted %s (Lose 0) 1' % kept)
     more = '(with_client knows_more 0 (start kinds two_updates_header)) 0 (cmd.Host (obj 16777300)) (cause.NotRegistered (obj 16777300))'
     refuted('unlisted_hosted', 'accepts_it ' + more, 'CausesRefuse kinds (with_client knows_more 0 (start kinds two_updates_header)) (Commands 0 (cmd.Host (obj 16777300)))', 'refuse_refuted ' + more)
-    hung = '(with_client waits_forever 0 (start kinds two_updates_header))'
-    lemma('nobody_asked_waits', '(client kinds %s 0).work ≡ Some (new_work kinds (cmd.Fate 0))' % hung, opened, tests)
-    lemma('nobody_asked_off', 'hangs %s 0 ≡ true' % hung, opened, tests)
-    claim('nobody_asked_isnt', 'CommandFinishes kinds %s → ⊥' % hung, 'commands_refuted %s 0 0 (new_work kinds (cmd.Fate 0)) nobody_asked_waits refl nobody_asked_off' % hung)
+    for name, command, what, by, test in [
+            ('nobody_asked', '(cmd.Fate 0)', 'CommandFinishes', 'commands_refuted %s 0 0', 'hangs %s 0'),
+            ('nobody_sealed', '(cmd.Reconf same_again)', 'ReconfFinishes', 'reconfs_refuted %s 0 same_again', 'hangs_changing %s 0 same_again')]:
+        hung = '(with_client (waits_forever %s) 0 (start kinds two_updates_header))' % command
+        lemma(name + '_waits', '(client kinds %s 0).work ≡ Some (new_work kinds %s)' % (hung, command), opened, tests)
+        lemma(name + '_off', '%s ≡ true' % (test % hung), opened, tests)
+        claim(name + '_isnt', '%s kinds %s → ⊥' % (what, hung), '%s (new_work kinds %s) %s_waits refl %s_off' % (by % hung, command, name, name))
     none = '(with_client knows_nothing 0 (start kinds two_updates_header)) 0 (obj 16777216)'
     refuted('listed_refused', 'refuses_it ' + none, 'RefusalsTrue kinds (with_client knows_nothing 0 (start kinds two_updates_header)) (Commands 0 (cmd.Host (obj 16777216)))', 'refusals_refuted ' + none)
 

@@ -31,6 +31,7 @@ use Rattle.tg_protocol.specs.Walked.{Walked, walked_in, entries_had}
 use Rattle.tg_protocol.specs.Playing.{Replies}
 use Rattle.tg_protocol.specs.Alike.{SentNow}
 use Rattle.tg_protocol.specs.Causes.{most, is_at, is_of_tx, IsWrong, Names, AsksOf, would_be, layout_cause, CauseAtOnce, HasReadOf, IsOutOfReach, CantKnow, HasNoBase, IsOpen, Answered, NamedTrimmed, OwnTrimmed, IsLook, IsAhead, IsTooLarge, IsForget, IsRescue, CauseLater, command_at, HasCause, RefusalsTrue, CausesRefuse}
+use Rattle.tg_law_instances.proofs.Small.{clash, is_none}
 use Rattle.tg_law_verdicts.proofs.Members.{Has, has_contained, contained_has, and_both, both_and, not_true, found, passes_somewhere, all_pass}
 use Rattle.tg_law_verdicts.proofs.Tests.{same_number, same_oid, le_of, lt_of, of_le, of_lt}
 use Rattle.tg_law_examples.proofs.SevenKinds.{kinds}
@@ -157,10 +158,6 @@ busy_of : (x : Word) (o : Option (Work kinds)) → busy_with x o ≡ true → (v
 busy_of x None h = absurd cc
 busy_of x (Some v) h = (v, refl, words_same (word_of v.command) x (same_number (word_code (word_of v.command)) (word_code x) h))
 
-tx_none : (o : Option Tx) → not (is_some o) ≡ true → o ≡ None
-tx_none None h = refl
-tx_none (Some t) h = absurd cc
-
 oid_is : (o : Oid) (p : Option Oid) → is_oid o p ≡ true → p ≡ Some o
 oid_is o None h = absurd cc
 oid_is o (Some p) h = ap (λ (q : Oid). Some q) (sym (same_oid o p h))
@@ -204,7 +201,7 @@ cause_of why (Some other) h = ap (λ (x : Refusal). Some x) (causes_same other w
 
 pub at_once_of : (w : W) (k : ℕ) (x : CommandOf kinds) (why : Refusal) → at_once w k x why ≡ true → CauseAtOnce kinds w k x why
 at_once_of w k x (cause.Busy word) h = busy_of word (client kinds w k).work h
-at_once_of w k x cause.NoTx h = let b = and_both (is_of_tx kinds x) (not (is_some (client kinds w k).tx)) h in (b.0, tx_none (client kinds w k).tx b.1)
+at_once_of w k x cause.NoTx h = let b = and_both (is_of_tx kinds x) (not (is_some (client kinds w k).tx)) h in (b.0, is_none (client kinds w k).tx b.1)
 at_once_of w k x cause.TxOpen h = let b = and_both (not (is_of_tx kinds x)) (is_some (client kinds w k).tx) h in (not_true (is_of_tx kinds x) b.0, b.1)
 at_once_of w k x (cause.WrongKind o) h = wrong_of x o h
 at_once_of w k x (cause.NotRegistered o) h = let b = and_both (is_oid o (named x)) (unregistered w k o) h in (names_of x o b.0, not_true (kinds.registered (state_at kinds w.cluster.objects (history kinds w) (client kinds w k).played directory) o) b.1)
@@ -305,10 +302,6 @@ cant_know_of v t p o x h = unknown_of v t p o h
 forget_of : (f : Oid → ℕ → Bool) (P : Oid → ℕ → Type 0) (x : CommandOf kinds) → ((o : Oid) (n : ℕ) → f o n ≡ true → P o n) → forget_is f x ≡ true → IsForget kinds x P
 forget_of f P (cmd.Forget o n) is h = is o n h
 forget_of f P x is h = absurd cc
-
-clash : (b : Bool) → b ≡ true → b ≡ false → ⊥
-clash true x y = cc
-clash false x y = cc
 
 no_base_of : (v : W) (t : Told kinds) (o : Oid) (n : ℕ) → no_base v t o n ≡ true → HasNoBase kinds v t o n
 no_base_of v t o n h =

@@ -5,14 +5,14 @@ use Rattle.tg_base.specs.declared.msg.Msg.{Msg}
 use Rattle.tg_base.specs.declared.msg.Msg.TheVariants as msg
 use Rattle.tg_model.specs.declared.refusal.Refusal.TheVariants as cause
 use Rattle.tg_model.specs.declared.trace.What.TheVariants as told
-use Rattle.tg_model.specs.Kinds.{WhatOf}
+use Rattle.tg_base.specs.Changes.{Changed}
+use Rattle.tg_model.specs.Kinds.{CommandOf, WhatOf}
 use Rattle.tg_base.specs.declared.cell.Cell.{Cell}
 use Rattle.tg_base.specs.declared.cell.Cell.TheVariants.{Junk, Data}
 use Rattle.tg_protocol.specs.Words.{cell_at, client_id, unit_id}
 use Rattle.tg_protocol.specs.Units.{UnitState}
 use Rattle.tg_protocol.specs.Clients.{Purpose, Decides, Task, Appending, Hand, Doing, Learning, Work, Client}
 use Rattle.tg_protocol.specs.ClientSteps.{new_work}
-use Rattle.tg_model.specs.declared.command.Command.TheVariants as cmd
 use Rattle.tg_entry.specs.declared.entry.Body.{Body}
 use Rattle.tg_entry.specs.declared.entry.Body.TheVariants.{Decision}
 use Rattle.tg_entry.specs.declared.entry.Entry.{Entry}
@@ -244,8 +244,12 @@ abbrev pub knows_nothing : Client kinds → Client kinds
 knows_nothing c = record c { dir = kind.Dir [] 0 }
 
 -- a client waits, and has asked nobody
-abbrev pub waits_forever : Client kinds → Client kinds
-waits_forever c = record c { work = Some (new_work kinds (cmd.Fate 0)) }
+abbrev pub waits_forever : CommandOf kinds → Client kinds → Client kinds
+waits_forever x c = record c { work = Some (new_work kinds x) }
+
+-- a change that only names the sequencer
+abbrev pub same_again : Changed
+same_again = record { seq = 0; drop = []; opened = []; join = None }
 
 -- the answer that waits for a decision record is a refusal
 

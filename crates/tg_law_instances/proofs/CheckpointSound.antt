@@ -13,7 +13,7 @@ use Rattle.tg_protocol.specs.Versions.{Based, PartVersion, key_version, version_
 use Rattle.tg_protocol.specs.Logs.{version, changes_below}
 use Rattle.tg_protocol.specs.Worlds.{history}
 use Rattle.tg_protocol.specs.Alike.{CheckpointsTrue}
-use Rattle.tg_law_verdicts.proofs.Members.{and_both, found, all_pass}
+use Rattle.tg_law_verdicts.proofs.Members.{differ, and_both, found, all_pass}
 use Rattle.tg_law_verdicts.proofs.Tests.{same_number, number_same}
 use Rattle.tg_law_examples.proofs.SevenKinds.{kinds}
 use Rattle.tg_law_instances.proofs.Same.{bytes_same, parts_same}
@@ -62,9 +62,6 @@ part_is ns b k p w e t =
       | inl a ↦ absurd (differ (sym a ∙ w))
       | inr c ↦ same_number (noted_or None ns b.oid k) (version_in b k) c
     ]
-  where
-    differ : true ≡ false → ⊥
-    differ e = cc
 
 other_part : (ns : List PartVersion) (b : Based) (k : Part) → is_whole k ≡ false → parts_true ns b ≡ true → noted_or None ns b.oid k ≡ version_in b k
 other_part ns b k w t = by_change (list_any (names k) ns) refl

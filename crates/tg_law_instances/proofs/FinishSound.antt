@@ -17,6 +17,7 @@ use Rattle.tg_protocol.specs.Clients.{Work}
 use Rattle.tg_protocol.specs.Chosen.{IsDecided}
 use Rattle.tg_protocol.specs.Worlds.{Told, Line, Settle, Ran, client, seqr, noted_of, runs, has_stopped, next_event, happens, lowest, limit_of, ran, drain_on, drain, nodes, tick_all, unless_stopped, rounds, settle}
 use Rattle.tg_protocol.specs.Finishing.{longest_chain, deliveries, WaitsAlone, bound_in, NoReconf, HasReply, is_with_client, Finishes, CommandFinishes, IsEnd, is_scan, IsInstalled, ReconfFinishes}
+use Rattle.tg_law_instances.proofs.Small.{clash}
 use Rattle.tg_law_verdicts.proofs.Members.{Has, has_contained, contained_has, and_both, both_and, found, passes_somewhere, each_passes}
 use Rattle.tg_law_verdicts.proofs.Tests.{same_number, number_same, lt_of, le_of}
 use Rattle.tg_law_examples.proofs.SevenKinds.{kinds}
@@ -25,6 +26,7 @@ use Rattle.tg_law_instances.proofs.Tests.{W, implies, layouts}
 use Rattle.tg_law_instances.proofs.StepTests.{replies, is_idle, lost, line_ev, all_of}
 use Rattle.tg_law_instances.proofs.Steps.{Grows, none_added, step_adds, dropped, of_client_test}
 use Rattle.tg_law_instances.proofs.StepTests.{each_client}
+use Rattle.tg_law_instances.proofs.PlaySound.{idle_none}
 
 -- A settling adds replies to those before it.
 
@@ -157,14 +159,6 @@ finish_all w = finish_by w (settle kinds w).world
 none_length : {X : Type 0} → (xs : List X) → xs ≡ [] → (length xs == 0) ≡ true
 none_length xs e = ap (λ ys. length ys == 0) e
 
-pub is_idle_so : (o : Option (Work kinds)) → is_idle o ≡ true → o ≡ None
-is_idle_so None h = refl
-is_idle_so (Some x) h = absurd cc
-
-clash : (b : Bool) → b ≡ true → b ≡ false → ⊥
-clash true x y = cc
-clash false x y = cc
-
 alone_at : (w : W) (k : ℕ) (x : CommandOf kinds) → WaitsAlone kinds w k x → (j : ℕ) → ((j == k) || not (runs kinds w (client_id j)) || is_idle (client kinds w j).work) ≡ true
 alone_at w k x a j = by (j == k) refl (runs kinds w (client_id j)) refl
   where
@@ -211,7 +205,7 @@ finished_so w k most f P is h =
     let v = (settle kinds w).world in
     let b = and_both (is_idle (client kinds v k).work && list_any (replies_so k f) (replies w v)) (nat_le (deliveries kinds (is_with_client kinds k) w v) most) h in
     let a = and_both (is_idle (client kinds v k).work) (list_any (replies_so k f) (replies w v)) b.0 in
-    record { idle = is_idle_so (client kinds v k).work a.0; reply = has_reply_so w k f P is a.1; few = le_of (deliveries kinds (is_with_client kinds k) w v) most b.1 }
+    record { idle = idle_none (client kinds v k).work a.0; reply = has_reply_so w k f P is a.1; few = le_of (deliveries kinds (is_with_client kinds k) w v) most b.1 }
 
 command_finished : (w : W) (k : ℕ) (x : CommandOf kinds) → NoReconf kinds x → finishes_as w (settle kinds w).world k x ≡ true → Finishes kinds w (settle kinds w).world k (bound_in kinds w x) (λ what. Unit {0})
 command_finished w k (cmd.Reconf c) plain h = absurd plain

@@ -10,7 +10,6 @@ use Rattle.tg_base.specs.declared.msg.Msg.TheVariants as msg
 use Rattle.tg_base.specs.declared.packet.Packet.{Packet}
 use Rattle.tg_model.specs.declared.command.Command.TheVariants as cmd
 use Rattle.tg_model.specs.declared.command.Event.TheVariants.{Command as Commands}
-use Rattle.tg_proj.specs.declared.fault.ProjFault.{ProjFault}
 use Rattle.tg_proj.specs.Refusals.{new_start}
 use Rattle.tg_protocol.specs.Words.{unit_id, node_eq, or_else, where_true}
 use Rattle.tg_protocol.specs.Layouts.{units_of, change_fault, next_of}
@@ -18,6 +17,7 @@ use Rattle.tg_protocol.specs.Trimming.{has_stripe}
 use Rattle.tg_protocol.specs.Worlds.{Line, Happens}
 use Rattle.tg_protocol.specs.Chosen.{IsDecided}
 use Rattle.tg_protocol.specs.Following.{acks_of, SealedAt, HasStripe, Follows, LayoutsFollow}
+use Rattle.tg_law_instances.proofs.Small.{is_none, of_some}
 use Rattle.tg_law_verdicts.proofs.Members.{Has, has_contained, contained_has, and_both, found, all_pass}
 use Rattle.tg_law_verdicts.proofs.Tests.{same_number, of_lt}
 use Rattle.tg_law_examples.proofs.SevenKinds.{kinds}
@@ -85,9 +85,6 @@ all_follow w cs = list_all (λ (y : ℕ × Layout). implies (nat_lt 1 y.0) (list
 high_at : (e h : ℕ) (x : Msg) → high_in e x ≡ Some h → x ≡ msg.Sealed e h
 high_at e h (msg.Sealed d k) is = by (d == e) refl is
   where
-    of_some : (a b : ℕ) → Some a ≡ Some b → a ≡ b
-    of_some a b f = cc
-
     by : (b : Bool) → (d == e) ≡ b → where_true b k ≡ Some h → msg.Sealed d k ≡ msg.Sealed e h
     by true t f = let x = same_number d e t in let y = of_some k h f in λ i. msg.Sealed (x i) (y i)
     by false t f = absurd cc
@@ -132,10 +129,6 @@ stripe_had w e p j (Some k) is h =
       whole = whole_is a.it.msg d1.1;
     }
 
-no_fault : (o : Option ProjFault) → not (is_some o) ≡ true → o ≡ None
-no_fault None h = refl
-no_fault (Some f) h = absurd cc
-
 follows_of : (w : W) (cs : List Changed) (p q : Layout) → follows_so w cs p q ≡ true → Follows kinds w p q
 follows_of w cs p q h =
     let b = and_both (list_any (changes_so w p q) cs && list_all (was_sealed w q.epoch) (units_of q)) (q.start == new_start p.start (acks_of q (high_of w q.epoch))) h in
@@ -145,7 +138,7 @@ follows_of w cs p q h =
     let f = and_both (not (is_some (change_fault p c.it))) (ranges_eq q (next_of p c.it q.by q.start)) d.0 in
     record {
       change = c.it;
-      lawful = no_fault (change_fault p c.it) f.0;
+      lawful = is_none (change_fault p c.it) f.0;
       is = layouts_same q (next_of p c.it q.by q.start) f.1;
       high = high_of w q.epoch;
       were_sealed = λ u i. sealed_among w w.packets q.epoch u (λ x y. y) (all_pass (was_sealed w q.epoch) (units_of q) a.1 u (has_contained (units_of q) u i));

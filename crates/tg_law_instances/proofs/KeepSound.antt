@@ -18,6 +18,7 @@ use Rattle.tg_protocol.specs.ClientSteps.{refused_or, called, client_command}
 use Rattle.tg_protocol.specs.Worlds.{client, runs, has_stopped, noted_if, commands, happens, client_turned}
 use Rattle.tg_protocol.specs.Playing.{Answers}
 use Rattle.tg_protocol.specs.Causes.{IsRefused, KeepsHosts, IsForgotten, KeepsTx, IsSilent, RefusalsKeep}
+use Rattle.tg_law_instances.proofs.Small.{is_none}
 use Rattle.tg_law_verdicts.proofs.Members.{and_both, both_and, all_pass}
 use Rattle.tg_law_verdicts.proofs.Tests.{same_number, number_same, same_oid, oid_same, lt_of}
 use Rattle.tg_law_examples.proofs.SevenKinds.{kinds}
@@ -73,10 +74,6 @@ txs_same (Some t) (Some u) h = ap (λ (x : Tx). Some x) (tx_same t u h)
 txs_same None (Some u) h = absurd cc
 txs_same (Some t) None h = absurd cc
 
-no_tx : (a : Option Tx) → not (is_some a) ≡ true → a ≡ None
-no_tx None h = refl
-no_tx (Some t) h = absurd cc
-
 -- Hosts.
 
 hosts_kept : (c d : Client kinds) → keeps_hosts c d ≡ true → KeepsHosts kinds c d
@@ -93,7 +90,7 @@ tx_kept : (why : Refusal) (c d : Client kinds) → keeps_tx (told.Refused why) c
 tx_kept why c d h =
     elim (either_so (tx_eq d.tx c.tx) (is_forgotten (told.Refused why) && not (is_some d.tx)) h) [
       | inl a ↦ inl (txs_same d.tx c.tx a)
-      | inr b ↦ (let f = and_both (is_forgotten (told.Refused why)) (not (is_some d.tx)) b in inr (forgotten_is why f.0, no_tx d.tx f.1))
+      | inr b ↦ (let f = and_both (is_forgotten (told.Refused why)) (not (is_some d.tx)) b in inr (forgotten_is why f.0, is_none d.tx f.1))
     ]
 
 -- A command that is refused before any work.

@@ -1,3 +1,4 @@
+pub mod Small
 pub mod Tests
 pub mod StepTests
 pub mod Changes

@@ -22,7 +22,6 @@ use Rattle.tg_protocol.specs.Words.{client_id, unit_id, node_eq, has_num, number
 use Rattle.tg_protocol.specs.Layouts.{units_of}
 use Rattle.tg_protocol.specs.Entries.{is_commit}
 use Rattle.tg_protocol.specs.Logs.{path}
-use Rattle.tg_protocol.specs.Appending.{Append}
 use Rattle.tg_protocol.specs.Checkpoints.{base_at}
 use Rattle.tg_protocol.specs.Clients.{Client, Work, new_client}
 use Rattle.tg_protocol.specs.Worlds.{Told, start, client, latest, log, history, trace}
@@ -32,7 +31,8 @@ use Rattle.tg_protocol.specs.Following.{LayoutsFollow}
 use Rattle.tg_protocol.specs.Alike.{HasRecord}
 use Rattle.tg_protocol.specs.Holding.{append_by, EntriesOwn, RecordsOwn, HasItsRecord, RepliesHaveRecords, RecordsInOrder, SerialFirst, HasBasePast, MarksRest}
 use Rattle.tg_protocol.specs.Playing.{OnPath, ReadsOnPath}
-use Rattle.tg_law_verdicts.proofs.Members.{Has, joined, has_contained, contained_has, and_both, both_and, found, passes_somewhere, all_pass}
+use Rattle.tg_law_instances.proofs.Small.{never}
+use Rattle.tg_law_verdicts.proofs.Members.{differ, Has, joined, has_contained, contained_has, and_both, both_and, found, passes_somewhere, all_pass}
 use Rattle.tg_law_verdicts.proofs.Tests.{same_number, number_same, lt_of, of_le}
 use Rattle.tg_law_examples.proofs.SevenKinds.{kinds}
 use Rattle.tg_law_instances.proofs.Same.{nodes_same, node_itself, layout_itself}
@@ -125,9 +125,6 @@ front_none : {X : Type 0} → (xs ys : List X) → [] ≡ xs ++ ys → xs ≡ []
 front_none [] ys e = refl
 front_none (x ∷ xs) ys e = absurd cc
 
-no_append : (a : Append) → None ≡ Some a → ⊥
-no_append a e = cc
-
 abbrev pub has_entries : W → Bool
 has_entries w = list_any (λ (x : ℕ × Entry). true) (es_of w)
 
@@ -139,7 +136,7 @@ own_refuted h w t claim =
     let p = b.passed in
     let at_start = p.is ∙ ap (λ (ms : Moves kinds). run kinds ms (start kinds h)) (front_none p.before p.after p.split) in
     let idle = ap (λ (v : W). (client kinds v x.it.1.head.client).work) at_start ∙ start_idle h x.it.1.head.client in
-    no_append b.append (ap (λ (o : Option (Work kinds)). append_by kinds o) (sym idle) ∙ b.begun)
+    never b.append (ap (λ (o : Option (Work kinds)). append_by kinds o) (sym idle) ∙ b.begun)
 
 -- Commit records of transactions that nobody ended.
 
@@ -173,10 +170,7 @@ abbrev pub some_record_off : W → Bool
 some_record_off w = list_any (λ (t : Told kinds). record_off w t t.mark.what) w.told
 
 some_items : (xs : List (Oid × kinds.op)) → has_items kinds xs ≡ true → xs ≢ []
-some_items [] h e = absurd (differ h)
-  where
-    differ : false ≡ true → ⊥
-    differ f = cc
+some_items [] h e = absurd (differ (sym h))
 some_items (x ∷ xs) h e = cc
 
 record_by : (w : W) (t : Told kinds) (what : WhatOf kinds) → HasItsRecord kinds w t.mark.client t.mark.tx what → record_off w t what ≡ true → ⊥

@@ -1,6 +1,6 @@
 -- Tests of a step that passed prove what is claimed of it: from where clients play on, what their walks found, and of answers that tell of nothing.
 use Rattle.std.proofs.Common.{◌≡◌, ◌⊎◌, ℕ, ◌<◌, ◌≤◌, List, ◌∷◌, ◌++◌, length, Bool, true, false, Option, Some, None, refl, sym, ap, ◌∙◌, subst, inl, inr, arith}
-use Rattle.std.specs.Prelude.{drop, is_some, nat_lt, nat_le, not, ◌&&◌, ◌||◌, ◌==◌, slice_get, Contains, if◌then◌else◌}
+use Rattle.std.specs.Prelude.{drop, nat_lt, nat_le, not, ◌&&◌, ◌||◌, ◌==◌, slice_get, Contains, if◌then◌else◌}
 use Rattle.std.specs.List.{list_any, list_all}
 use Rattle.std.proofs.Math.Seq.{drop-append_seam}
 use Rattle.tg_base.specs.Clusters.{Header}
@@ -28,7 +28,8 @@ use Rattle.tg_protocol.specs.Worlds.{Told, client, runs, noted_of, log, happens}
 use Rattle.tg_protocol.specs.Walked.{Walked, work_end, packet_end, walked_in, walked_from, positions_found, entries_had}
 use Rattle.tg_protocol.specs.Playing.{Answers, from_to, IsExact, MetTrimAbove, IsHosted, IsOwn, ReadsForView, ReadsNow, PlaysOn}
 use Rattle.tg_protocol.specs.Causes.{IsBelowTail, IsFor, IsUnknown, LacksDecision, IsUnsure, UnsureTrue, IsNone, SaysNone, NonesTrue}
-use Rattle.tg_law_verdicts.proofs.Members.{Has, has_contained, contained_has, and_both, both_and, not_true, found, passes_somewhere, all_pass}
+use Rattle.tg_law_instances.proofs.Small.{clash, is_none, never}
+use Rattle.tg_law_verdicts.proofs.Members.{differ, Has, has_contained, contained_has, and_both, both_and, not_true, found, passes_somewhere, all_pass}
 use Rattle.tg_law_verdicts.proofs.Tests.{same_number, number_same, same_oid, le_of, lt_of, of_lt}
 use Rattle.tg_law_examples.proofs.SevenKinds.{kinds}
 use Rattle.tg_law_instances.proofs.Same.{node_itself, nums_exact}
@@ -37,6 +38,10 @@ use Rattle.tg_law_instances.proofs.Readings.{then_so, either_so, es_of, in_log, 
 use Rattle.tg_law_instances.proofs.Tests.{W, E, implies, is_gone_above, is_tail, entry_here}
 use Rattle.tg_law_instances.proofs.StepTests.{replies, says, each_client, is_hosted, met_trim_above, asked_at, some_is, stands_ok, falls_ok, own_entry, own_page, is_idle, gives_up_ok, for_view, read_ok, reads_on_ok, stream_exact, exact_by, exact_ok, tail_above, is_for, unknown_in_view, is_unknown, lacks_by, lacks, caused, causes_ok, none_at, none_ok_of, nones_ok}
 use Rattle.tg_law_instances.proofs.Steps.{reply_has, says_it, within, new_there, of_client_test}
+
+pub idle_none : (o : Option (Work kinds)) → is_idle o ≡ true → o ≡ None
+idle_none None h = refl
+idle_none (Some x) h = absurd cc
 
 -- Playing on.
 
@@ -104,9 +109,6 @@ own_of : (k : ℕ) (page : List ℕ) (o : Option Entry) → entry_of page ≡ o 
 own_of k page None e h = absurd cc
 own_of k page (Some x) e h = let b = and_both (is_commit x) (x.head.client == k) h in (x, e, b.0, same_number x.head.client k b.1)
 
-no_cell : (c : Cell) → None ≡ Some c → ⊥
-no_cell c e = cc
-
 gives_up_sound : (v : W) → each_client v (gives_up_ok v) ≡ true → (k p : ℕ) (page : List ℕ) → (client kinds v k).work ≡ None → p < upto kinds (client kinds v k)
     → known kinds (client kinds v k) p ≡ Some (Data page) → IsOwn kinds k page
 gives_up_sound v h k p page idle less there =
@@ -116,7 +118,7 @@ gives_up_sound v h k p page idle less there =
           let t = then_so (is_idle c.work) (list_all (λ (x : ℕ × Cell). implies (nat_lt x.0 (upto kinds c)) (own_page k x.1)) c.cells) (of_client_test v (gives_up_ok v) k h here) (ap is_idle idle) in
           let at = cell_has c.cells p (Data page) (subst (λ (x : Option (Work kinds)). cell_at (work_cells kinds x c.cells) p ≡ Some (Data page)) idle there) in
           own_of k page (entry_of page) refl (then_so (nat_lt p (upto kinds c)) (own_page k (Data page)) (all_pass (λ (x : ℕ × Cell). implies (nat_lt x.0 (upto kinds c)) (own_page k x.1)) c.cells t (p, Data page) at) (of_lt p (upto kinds c) less))
-      | inr past ↦ absurd (no_cell (Data page) (sym (ap (λ (d : Client kinds). known kinds d p) (new_there v k past) ∙ new_known v.cluster k p) ∙ there))
+      | inr past ↦ absurd (never (Data page) (sym (ap (λ (d : Client kinds). known kinds d p) (new_there v k past) ∙ new_known v.cluster k p) ∙ there))
     ]
 
 for_view_is : (x : CommandOf kinds) → ReadsForView kinds x → for_view (Some x) ≡ true
@@ -125,9 +127,6 @@ for_view_is cmd.End r = refl
 for_view_is (cmd.Checkpoint o) r = refl
 for_view_is cmd.Trim r = refl
 for_view_is x r = absurd r
-
-no_work : (x : Work kinds) → None ≡ Some x → ⊥
-no_work x e = cc
 
 abbrev reads_here : W → ℕ → Packet → Bool
 reads_here v k p = implies (node_eq p.from (client_id k)) (read_ok (noted_of kinds v k).upto p.msg)
@@ -142,7 +141,7 @@ reads_on_sound w e h k p r =
       | inl here ↦ by (either_so (met_trim_above v k) (list_all (reads_here v k) (drop (length w.packets) v.packets))
           (then_so (for_view (command_in kinds (client kinds v k).work)) (met_trim_above v k || list_all (reads_here v k) (drop (length w.packets) v.packets)) (of_client_test v (reads_on_ok w v) k h here)
           (ap (λ (x : Option (Work kinds)). for_view (command_in kinds x)) r.works ∙ for_view_is r.work.command r.for_view)))
-      | inr past ↦ absurd (no_work r.work (sym (ap (λ (c : Client kinds). c.work) (new_there v k past) ∙ new_work v.cluster k) ∙ r.works))
+      | inr past ↦ absurd (never r.work (sym (ap (λ (c : Client kinds). c.work) (new_there v k past) ∙ new_work v.cluster k) ∙ r.works))
     ]
   where
     v : W
@@ -182,9 +181,6 @@ none_walked w (Lose i) k idle = refl
 none_walked w (Tick n) k idle = refl
 none_walked w (Stop n) k idle = refl
 
-no_walk : (x : Walked kinds) → None ≡ Some x → ⊥
-no_walk x e = cc
-
 pub exact_sound : (w : W) (e : E) (later : W) → each_client w (exact_ok w e later) ≡ true → ExactIn w e later
 exact_sound w e later h k x o is there =
     elim (within k (length w.clients)) [
@@ -192,7 +188,7 @@ exact_sound w e later h k x o is there =
           let t = subst (λ (y : Option (Walked kinds)). exact_by later y ≡ true) is (of_client_test w (exact_ok w e later) k h here) in
           let s = all_pass (stream_exact later x) x.work.oids t o (has_contained x.work.oids o there) in
           (nums_exact (from_to kinds (walked_from kinds x o) x.work.tail (positions_found kinds x o)) (members (log kinds later) o (walked_from kinds x o) x.work.tail)).0 s
-      | inr past ↦ absurd (no_walk x (sym (none_walked w e k (ap (λ (c : Client kinds). c.work) (new_there w k past) ∙ new_work w.cluster k)) ∙ is))
+      | inr past ↦ absurd (never x (sym (none_walked w e k (ap (λ (c : Client kinds). c.work) (new_there w k past) ∙ new_work w.cluster k)) ∙ is))
     ]
 
 -- Entries that are for a client.
@@ -235,10 +231,6 @@ none_of v t p h =
           (both_and (nat_lt p i.tail) (entry_here (es_of v) p mine) (of_lt p i.tail below) (entry_is_here (es_of v) p mine d (of_log v p d here) (both_and (is_commit d) (is_for c p d) commit (for_is c p d ours))))
           (not_true (nat_lt p i.tail && entry_here (es_of v) p mine) i.passes);
     }
-  where
-    clash : (b : Bool) → b ≡ true → b ≡ false → ⊥
-    clash true x y = cc
-    clash false x y = cc
 
 says_none : (v : W) (t : Told kinds) (what : WhatOf kinds) → none_ok_of v t what ≡ true → SaysNone kinds what (λ p. IsNone kinds v t p)
 says_none v t (told.Fate p None) h = none_of v t p h
@@ -263,10 +255,7 @@ abbrev is_of_unknown : Client kinds → ℕ → Oid → Option (View kinds) → 
 is_of_unknown c p o u e = is_commit e && is_for c p e && unknown_in_view o p e u
 
 unknown_by_view : (v : W) (t : Told kinds) (p : ℕ) (o : Oid) → IsBelowTail kinds v t p → (u : Option (View kinds)) → (client kinds v t.mark.client).view ≡ u → EntryAt (es_of v) p (is_of_unknown (client kinds v t.mark.client) p o u) → IsUnknown kinds v t p o
-unknown_by_view v t p o below None is a = let c = client kinds v t.mark.client in absurd (differ ((and_both (is_commit a.entry && is_for c p a.entry) false a.passes).1))
-  where
-    differ : false ≡ true → ⊥
-    differ e = cc
+unknown_by_view v t p o below None is a = let c = client kinds v t.mark.client in absurd (differ (sym (and_both (is_commit a.entry && is_for c p a.entry) false a.passes).1))
 unknown_by_view v t p o below (Some u) is a =
     let c = client kinds v t.mark.client in
     let b = and_both (is_commit a.entry && is_for c p a.entry) (unknown_in_view o p a.entry (Some u)) a.passes in
@@ -287,16 +276,12 @@ unknown_of v t p o h =
     let b = and_both (tail_above v t p) (entry_here (es_of v) p (is_of_unknown (client kinds v t.mark.client) p o (client kinds v t.mark.client).view)) h in
     unknown_by_view v t p o (below_tail v t p b.0) (client kinds v t.mark.client).view refl (entry_found (es_of v) p (is_of_unknown (client kinds v t.mark.client) p o (client kinds v t.mark.client).view) b.1)
 
-none_in : (x : Option Bool) → not (is_some x) ≡ true → x ≡ None
-none_in None h = refl
-none_in (Some b) h = absurd cc
-
 pub lacks_of : (w : W) (e : E) (t : Told kinds) (p : ℕ) → lacks w e t p ≡ true → LacksDecision kinds w e t p
 lacks_of w e t p h = by (walked_in kinds w e t.mark.client) refl h
   where
     by : (x : Option (Walked kinds)) → walked_in kinds w e t.mark.client ≡ x → lacks_by p x ≡ true → LacksDecision kinds w e t p
     by None is l = absurd cc
-    by (Some had) is l = record { had = had; walked = is; none = none_in (decision_in (entries_had kinds had) p) l }
+    by (Some had) is l = record { had = had; walked = is; none = is_none (decision_in (entries_had kinds had) p) l }
 
 unsure_of : (w : W) (e : E) (t : Told kinds) (at p : ℕ) → caused w e (happens kinds w e) t (told.Unsure at p) ≡ true → IsUnsure kinds w e t at p
 unsure_of w e t at p h =

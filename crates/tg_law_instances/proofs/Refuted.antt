@@ -32,6 +32,7 @@ use Rattle.tg_protocol.specs.Headline.{Holds}
 use Rattle.tg_protocol.specs.Chosen.{IsDecided, OneLayout}
 use Rattle.tg_protocol.specs.Holding.{EntriesLinked, HasCell, FloorsStay, TrimsSpare, LogStays}
 use Rattle.tg_protocol.specs.Causes.{DirectoryTrue, AbortsLeast}
+use Rattle.tg_law_instances.proofs.Small.{clash}
 use Rattle.tg_law_verdicts.proofs.Members.{Has, has_contained, contained_has, and_both, both_and, not_true, found, passes_somewhere, each_passes, cut_at}
 use Rattle.tg_law_verdicts.proofs.Tests.{same_number, number_same, oid_same, of_le, lt_of}
 use Rattle.tg_law_examples.proofs.SevenKinds.{kinds, State, Named, Dir}
@@ -42,10 +43,6 @@ use Rattle.tg_law_instances.proofs.HeadlineSound.{illegal_sound}
 use Rattle.tg_law_instances.proofs.Tests.{Claim, StampsRise, IsLegal, W, fails, failed, world_tests, world_fails, implies, heard, heard_now, is_issued, is_tail, is_full_log, is_any_gone, links_eq, linked, rises, layouts, ranges_eq, one_layout, has_record, has_decision, needs_one, outcome_is, is_least, does_mark, named_eq, states_eq, directory_at}
 
 -- Bools.
-
-pub clash : (b : Bool) → b ≡ true → b ≡ false → ⊥
-clash true x y = cc
-clash false x y = cc
 
 pub not_both : (b : Bool) → not b ≡ true → b ≡ true → ⊥
 not_both b n y = clash b y (not_true b n)

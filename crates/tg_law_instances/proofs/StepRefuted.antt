@@ -24,16 +24,18 @@ use Rattle.tg_protocol.specs.Worlds.{CommandStart, Told, Line, client, runs, log
 use Rattle.tg_protocol.specs.Runs.{Move, Later, run, most_steps}
 use Rattle.tg_protocol.specs.Playing.{from_to, SyncsExact, IsOwn, PlaysOn}
 use Rattle.tg_protocol.specs.Causes.{layout_cause, RefusalsTrue, CausesRefuse, UnsureTrue, RefusalsKeep, IsNone, SaysNone, NonesTrue}
+use Rattle.tg_law_instances.proofs.Small.{clash, never, of_some}
 use Rattle.tg_law_verdicts.proofs.Members.{has_contained, contained_has, and_both, both_and, not_true, found}
 use Rattle.tg_law_verdicts.proofs.Tests.{number_same, same_oid, lt_of, le_of}
 use Rattle.tg_law_examples.proofs.SevenKinds.{kinds}
 use Rattle.tg_law_instances.proofs.Same.{nums_exact}
 use Rattle.tg_law_instances.proofs.Readings.{either_so}
-use Rattle.tg_law_instances.proofs.Refuted.{clash, not_both, some_off, heard_now_is}
+use Rattle.tg_law_instances.proofs.Refuted.{not_both, some_off, heard_now_is}
 use Rattle.tg_law_instances.proofs.Tests.{W, E, nums_eq, heard_now, is_tail}
 use Rattle.tg_law_instances.proofs.StepTests.{replies, says, is_refused, own_entry, is_idle, at_once, stream_exact, line_ev, all_of}
 use Rattle.tg_law_instances.proofs.Steps.{has_reply, says_it, it_says}
 use Rattle.tg_law_instances.proofs.CauseSound.{at_once_of, refused_so}
+use Rattle.tg_law_instances.proofs.PlaySound.{idle_none}
 
 -- Steps of a run: of some step from a world, changed, what is said holds.
 
@@ -212,10 +214,6 @@ is_others k c = false
 abbrev pub keeps_page : W → ℕ → ℕ → Bool
 keeps_page v k p = is_idle (client kinds v k).work && nat_lt p (upto kinds (client kinds v k)) && is_others k (cell_at (client kinds v k).cells p)
 
-idle_none : (o : Option (Work kinds)) → is_idle o ≡ true → o ≡ None
-idle_none None h = refl
-idle_none (Some x) h = absurd cc
-
 own_is : (k : ℕ) (page : List ℕ) → IsOwn kinds k page → own_entry k (entry_of page) ≡ true
 own_is k page o =
     let e = o.0 in
@@ -271,12 +269,6 @@ refuses_it w k o = says w (happens kinds w (Commands k (cmd.Host o))) k (is_unre
 given_here : (k j : ℕ) (x : CommandOf kinds) (rest : Option (CommandOf kinds)) → j ≡ k → or_else (if k == j then Some x else None) rest ≡ Some x
 given_here k j x rest e = ap (λ b. or_else (if b then Some x else None) rest) (number_same k j (sym e))
 
-same_command : (x y : CommandOf kinds) → Some x ≡ Some y → x ≡ y
-same_command x y e = cc
-
-no_cause : (why : Refusal) → None ≡ Some why → ⊥
-no_cause why e = cc
-
 pub refusals_refuted : (w : W) (k : ℕ) (o : Oid) → refuses_it w k o ≡ true → RefusalsTrue kinds w (Commands k (cmd.Host o)) → ⊥
 refusals_refuted w k o h claim =
     let x = cmd.Host o in
@@ -287,10 +279,10 @@ refusals_refuted w k o h claim =
     let s = says_it w e k (is_unregistered o) b.0 in
     let j = s.told.mark.client in
     let c = claim s.told why s.reply (unregistered_so o s.told.mark.what s.passes) in
-    let is = same_command x c.command (sym (given_here k j x (command_in kinds (client kinds w j).work) s.client) ∙ c.answered) in
+    let is = of_some x c.command (sym (given_here k j x (command_in kinds (client kinds w j).work) s.client) ∙ c.answered) in
     elim (c.because) [
       | inl a ↦ clash (registered_at w o (client kinds w k)) b.1 (ap (λ (n : ℕ). registered_at w o (client kinds w n)) (sym s.client) ∙ a.1)
-      | inr l ↦ no_cause why (ap (λ (y : CommandOf kinds). layout_cause kinds (client kinds v j).stand y) is ∙ l)
+      | inr l ↦ never why (ap (λ (y : CommandOf kinds). layout_cause kinds (client kinds v j).stand y) is ∙ l)
     ]
 
 -- A refusal after which the directory was played further.
