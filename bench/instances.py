@@ -142,7 +142,7 @@ def lemma(name, statement, opened, tests=WORLD_TESTS + ' ' + STEP_TESTS):
 def claim(name, statement, proof):
     print()
     print('%s : %s' % (name, statement))
-    print('%s = %s' % (name, proof))
+    print('%s = %s' % (name.split()[-1], proof))
 
 
 def script(run):
@@ -212,7 +212,7 @@ def stepping():
     print('use Rattle.tg_law_instances.proofs.RunSound.{LinesHold, run_sound}')
     print('use Rattle.tg_law_instances.proofs.Running.{%s}' % ', '.join('holds_of_' + run for run in HOLD))
     for run in HOLD:
-        claim(run + '_steps', 'LinesHold %s' % from_start(run), 'run_sound 1 %s holds_of_%s' % (from_start(run), run))
+        claim('pub %s_steps' % run, 'LinesHold %s' % from_start(run), 'run_sound 1 %s holds_of_%s' % (from_start(run), run))
 
 
 def begun():
@@ -224,7 +224,9 @@ def begun():
     print('use Rattle.tg_protocol.specs.Holding.{EntriesOwn}')
     print('use Rattle.tg_law_instances.proofs.StepTests.{%s}' % EVENTS.replace(' ', ', '))
     print('use Rattle.tg_law_instances.proofs.FollowSound.{changes_in, all_follow, follow_sound}')
-    print('use Rattle.tg_law_instances.proofs.Reaching.{script_moves, script_world, lawful_lines, reaches_sound, drafts_in, are_own, own_sound}')
+    print('use Rattle.tg_law_instances.proofs.Reaching.{script_moves, script_world, lawful_lines, reaches_sound, last_holds, drafts_in, are_own, own_sound}')
+    print('use Rattle.tg_law_instances.proofs.Stepping.{%s}' % ', '.join(run + '_steps' for run in OWN))
+    print('use Rattle.tg_protocol.specs.Headline.{Holds}')
     print('use Rattle.tg_law_instances.proofs.FinishSound.{settlings_finish, SettlingsHold, settlings_sound}')
     tests = '%s %s lawful_lines drafts_in settlings_finish' % (VALUE_TESTS, EVENTS)
     for run in OWN:
@@ -232,6 +234,7 @@ def begun():
         claim('header_of_' + run, 'IsHeader %s_header' % run, 'refl')
         came = '%s_header (script_moves %s) (script_world %s)' % (run, from_start(run), from_start(run))
         claim(run + '_reaches', 'Reaches kinds %s' % came, 'reaches_sound %s header_of_%s lawful_%s' % (script(run), run, run))
+        claim(run + '_ends', 'Holds kinds (script_world %s)' % from_start(run), 'last_holds %s refl %s_steps' % (from_start(run), run))
         lemma('own_of_' + run, 'are_own (drafts_in %s) (script_world %s) ≡ true' % (from_start(run), from_start(run)), opened, tests)
         claim(run + '_own', 'EntriesOwn kinds %s' % came, 'own_sound %s own_of_%s' % (script(run), run))
     for run in FOLLOW:

@@ -47,7 +47,9 @@ use Rattle.tg_protocol.specs.Following.{LayoutsFollow}
 use Rattle.tg_protocol.specs.Holding.{EntriesOwn}
 use Rattle.tg_law_instances.proofs.StepTests.{drain_ev, tick_ev, round_ev}
 use Rattle.tg_law_instances.proofs.FollowSound.{changes_in, all_follow, follow_sound}
-use Rattle.tg_law_instances.proofs.Reaching.{script_moves, script_world, lawful_lines, reaches_sound, drafts_in, are_own, own_sound}
+use Rattle.tg_law_instances.proofs.Reaching.{script_moves, script_world, lawful_lines, reaches_sound, last_holds, drafts_in, are_own, own_sound}
+use Rattle.tg_law_instances.proofs.Stepping.{crossed_reads_steps, checkpoints_and_trim_steps, carried_by_scan_steps}
+use Rattle.tg_protocol.specs.Headline.{Holds}
 use Rattle.tg_law_instances.proofs.FinishSound.{settlings_finish, SettlingsHold, settlings_sound}
 
 lawful_crossed_reads : lawful_lines crossed_reads_header crossed_reads_script (start kinds crossed_reads_header) ≡ true
@@ -59,6 +61,9 @@ header_of_crossed_reads = refl
 
 crossed_reads_reaches : Reaches kinds crossed_reads_header (script_moves crossed_reads_script (start kinds crossed_reads_header)) (script_world crossed_reads_script (start kinds crossed_reads_header))
 crossed_reads_reaches = reaches_sound crossed_reads_header crossed_reads_script header_of_crossed_reads lawful_crossed_reads
+
+crossed_reads_ends : Holds kinds (script_world crossed_reads_script (start kinds crossed_reads_header))
+crossed_reads_ends = last_holds crossed_reads_script (start kinds crossed_reads_header) refl crossed_reads_steps
 
 own_of_crossed_reads : are_own (drafts_in crossed_reads_script (start kinds crossed_reads_header)) (script_world crossed_reads_script (start kinds crossed_reads_header)) ≡ true
 unfolding u8_at u16_at u32_at u64_at raw_at fixed_at read_many spell_many fit_many marks reads writes keys new_fields old_fields body entry role_code node_eq bytes_eq bytes_lt part_eq part_lt cell_eq chain_of units_of next_of change_fault new_unit unit_ask first_missing on_ask unit_step new_layout layout_ask on_layout_ask layout_step reply work_asks put_cell get_cell fill_cell probe work_feed cell_feed entry_size needs_decision page_of entry_of new_seqr seqr_step seqr_tick append_work_asks append_start append_feed append_again sync_work_asks sync_start sync_feed walk_on walk_start walk_feed no_versions based version_of with_change parts_of decision_in view_start view_version view_parts unknown_in changed_in verdict view_outcome step_at play_on play read_fault write_fault commit_record open_decision checkpoint bases_in load_from view_base view_bases may_forget commit_at past_at rescue_turn trim_start trim_feed copy_work_asks copy_start copy_feed reconf_work_asks reconf_start reconf_feed reconf_latest new_client entries_at copy_fault tests refusal appends syncs walked task_asks client_asks walks task_feed task_again accepts client_command client_deliver client_tick fields_size decided newest log_of entries_of members path_on path changes_below version outcome history_of start latest log history unit_moves layout_moves seqr_moves client_turned happens limit_of drain_on drain tick_all rounds settle line lines run walks_end store_after changed puts_of asks_in bound_in entries_fault replies_fault fault drain_ev tick_ev round_ev lawful_lines drafts_in settlings_finish
@@ -77,6 +82,9 @@ header_of_checkpoints_and_trim = refl
 checkpoints_and_trim_reaches : Reaches kinds checkpoints_and_trim_header (script_moves checkpoints_and_trim_script (start kinds checkpoints_and_trim_header)) (script_world checkpoints_and_trim_script (start kinds checkpoints_and_trim_header))
 checkpoints_and_trim_reaches = reaches_sound checkpoints_and_trim_header checkpoints_and_trim_script header_of_checkpoints_and_trim lawful_checkpoints_and_trim
 
+checkpoints_and_trim_ends : Holds kinds (script_world checkpoints_and_trim_script (start kinds checkpoints_and_trim_header))
+checkpoints_and_trim_ends = last_holds checkpoints_and_trim_script (start kinds checkpoints_and_trim_header) refl checkpoints_and_trim_steps
+
 own_of_checkpoints_and_trim : are_own (drafts_in checkpoints_and_trim_script (start kinds checkpoints_and_trim_header)) (script_world checkpoints_and_trim_script (start kinds checkpoints_and_trim_header)) ≡ true
 unfolding u8_at u16_at u32_at u64_at raw_at fixed_at read_many spell_many fit_many marks reads writes keys new_fields old_fields body entry role_code node_eq bytes_eq bytes_lt part_eq part_lt cell_eq chain_of units_of next_of change_fault new_unit unit_ask first_missing on_ask unit_step new_layout layout_ask on_layout_ask layout_step reply work_asks put_cell get_cell fill_cell probe work_feed cell_feed entry_size needs_decision page_of entry_of new_seqr seqr_step seqr_tick append_work_asks append_start append_feed append_again sync_work_asks sync_start sync_feed walk_on walk_start walk_feed no_versions based version_of with_change parts_of decision_in view_start view_version view_parts unknown_in changed_in verdict view_outcome step_at play_on play read_fault write_fault commit_record open_decision checkpoint bases_in load_from view_base view_bases may_forget commit_at past_at rescue_turn trim_start trim_feed copy_work_asks copy_start copy_feed reconf_work_asks reconf_start reconf_feed reconf_latest new_client entries_at copy_fault tests refusal appends syncs walked task_asks client_asks walks task_feed task_again accepts client_command client_deliver client_tick fields_size decided newest log_of entries_of members path_on path changes_below version outcome history_of start latest log history unit_moves layout_moves seqr_moves client_turned happens limit_of drain_on drain tick_all rounds settle line lines run walks_end store_after changed puts_of asks_in bound_in entries_fault replies_fault fault drain_ev tick_ev round_ev lawful_lines drafts_in settlings_finish
 own_of_checkpoints_and_trim = refl
@@ -93,6 +101,9 @@ header_of_carried_by_scan = refl
 
 carried_by_scan_reaches : Reaches kinds carried_by_scan_header (script_moves carried_by_scan_script (start kinds carried_by_scan_header)) (script_world carried_by_scan_script (start kinds carried_by_scan_header))
 carried_by_scan_reaches = reaches_sound carried_by_scan_header carried_by_scan_script header_of_carried_by_scan lawful_carried_by_scan
+
+carried_by_scan_ends : Holds kinds (script_world carried_by_scan_script (start kinds carried_by_scan_header))
+carried_by_scan_ends = last_holds carried_by_scan_script (start kinds carried_by_scan_header) refl carried_by_scan_steps
 
 own_of_carried_by_scan : are_own (drafts_in carried_by_scan_script (start kinds carried_by_scan_header)) (script_world carried_by_scan_script (start kinds carried_by_scan_header)) ≡ true
 unfolding u8_at u16_at u32_at u64_at raw_at fixed_at read_many spell_many fit_many marks reads writes keys new_fields old_fields body entry role_code node_eq bytes_eq bytes_lt part_eq part_lt cell_eq chain_of units_of next_of change_fault new_unit unit_ask first_missing on_ask unit_step new_layout layout_ask on_layout_ask layout_step reply work_asks put_cell get_cell fill_cell probe work_feed cell_feed entry_size needs_decision page_of entry_of new_seqr seqr_step seqr_tick append_work_asks append_start append_feed append_again sync_work_asks sync_start sync_feed walk_on walk_start walk_feed no_versions based version_of with_change parts_of decision_in view_start view_version view_parts unknown_in changed_in verdict view_outcome step_at play_on play read_fault write_fault commit_record open_decision checkpoint bases_in load_from view_base view_bases may_forget commit_at past_at rescue_turn trim_start trim_feed copy_work_asks copy_start copy_feed reconf_work_asks reconf_start reconf_feed reconf_latest new_client entries_at copy_fault tests refusal appends syncs walked task_asks client_asks walks task_feed task_again accepts client_command client_deliver client_tick fields_size decided newest log_of entries_of members path_on path changes_below version outcome history_of start latest log history unit_moves layout_moves seqr_moves client_turned happens limit_of drain_on drain tick_all rounds settle line lines run walks_end store_after changed puts_of asks_in bound_in entries_fault replies_fault fault drain_ev tick_ev round_ev lawful_lines drafts_in settlings_finish

@@ -29,6 +29,8 @@ use Rattle.tg_law_examples.proofs.SevenKinds.{kinds}
 use Rattle.tg_law_examples.proofs.Sameness.{same}
 use Rattle.tg_law_instances.proofs.Same.{Exact, exact_by, oids_exact, bytes_same, parts_same, part_itself, writes_exact, sameness_exact}
 use Rattle.tg_law_instances.proofs.Readings.{then_so, bools_same, has_either, es_of, of_log}
+use Rattle.tg_protocol.specs.Headline.{Holds}
+use Rattle.tg_law_instances.proofs.RunSound.{LinesHold}
 use Rattle.tg_law_instances.proofs.KeepSound.{reads_exact}
 use Rattle.tg_law_instances.proofs.Tests.{W, E, implies, bool_eq, oids_eq, writes_eq}
 use Rattle.tg_law_instances.proofs.StepTests.{reads_eq, line_ev, all_of}
@@ -165,6 +167,18 @@ reaches_sound h xs is t = record {
     few = few_steps h xs (start kinds h) t;
   };
 }
+
+-- and of the world that it reaches the headline holds, where it does after each line
+
+abbrev has_lines : List (Line kinds) → Bool
+has_lines [] = false
+has_lines (x ∷ xs) = true
+
+pub last_holds : (xs : List (Line kinds)) (w : W) → has_lines xs ≡ true → LinesHold xs w → Holds kinds (script_world xs w)
+unfolding LinesHold
+last_holds [] w some h = absurd cc
+last_holds (x ∷ []) w some h = h.0.holds
+last_holds (x ∷ y ∷ xs) w some h = let v = next_event kinds w in last_holds (y ∷ xs) (all_of (line_ev v x) v) refl h.1
 
 -- Drafts that clients append along a run.
 
