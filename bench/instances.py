@@ -261,11 +261,12 @@ def doctored():
     print('use Rattle.tg_protocol.specs.Worlds.{client}')
     print('use Rattle.tg_protocol.specs.Finishing.{CommandFinishes, ReconfFinishes}')
     print('use Rattle.tg_protocol.specs.ClientSteps.{new_work}')
+    print('use Rattle.tg_law_examples.proofs.SevenKinds as kind')
     print('use Rattle.tg_law_examples.proofs.Shown.{obj}')
     print('use Rattle.tg_law_instances.proofs.StepTests.{%s}' % EVENTS.replace(' ', ', '))
-    print('use Rattle.tg_law_instances.proofs.Changes.{doctored, copied, untold, higher, misnumbered, reads as reads_at, with_client, knows_log, knows_more, knows_nothing, emptied, replied_so, commits_later, marked_more, waits_forever, same_again, refused_instead}')
+    print('use Rattle.tg_law_instances.proofs.Changes.{doctored, copied, untold, higher, misnumbered, reads as reads_at, with_client, knows_log, knows_more, knows_nothing, emptied, replied_so, commits_later, marked_more, waits_forever, same_again, refused_instead, asked_before}')
     print('use Rattle.tg_law_instances.proofs.LogRefuted.{%s}' % ', '.join(sorted({w for d in DOCTORED for w in (d[4], d[5].split()[0])})))
-    print('use Rattle.tg_law_instances.proofs.StepRefuted.{OfRun, some_of_run, of_run_found, noted_late, %s, keeps_some, plays_refuted, accepts_it, refuse_refuted, refuses_it, refusals_refuted}'
+    print('use Rattle.tg_law_instances.proofs.StepRefuted.{OfRun, some_of_run, of_run_found, noted_late, %s, keeps_some, plays_refuted, stands_off, stands_refuted, accepts_it, refuse_refuted, refuses_it, refusals_refuted}'
           % ', '.join(sorted({w for d in DOCTORED_STEPS for w in (d[4], d[5])})))
     print('use Rattle.tg_law_instances.proofs.FinishRefuted.{hangs, commands_refuted, hangs_changing, reconfs_refuted}')
     tests = '%s %s some_of_run' % (VALUE_TESTS, EVENTS)
@@ -284,6 +285,8 @@ def doctored():
         claim(name + '_isnt', 'OfRun %s %s' % (isnt, from_start(run)), 'of_run_found %s %s (λ w e h. %s (%s w) e h) %s %s_off' % (fails, isnt, by, change, from_start(run), name))
     kept = '(with_client (knows_log %s) 1 %s)' % (world('page_carried_down'), world('page_carried_down'))
     refuted('all_pages_kept', 'keeps_some (happens kinds %s (Lose 0)) 1' % kept, 'PlaysOn kinds %s (Lose 0)' % kept, 'plays_refuted %s (Lose 0) 1' % kept)
+    asked = '(with_client asked_before 0 (start kinds two_updates_header)) (Commands 0 (cmd.Ask (obj 16777216) kind.Value))'
+    refuted('view_left_behind', 'stands_off ' + asked, 'PlaysOn kinds ' + asked, 'stands_refuted ' + asked)
     more = '(with_client knows_more 0 (start kinds two_updates_header)) 0 (cmd.Host (obj 16777300)) (cause.NotRegistered (obj 16777300))'
     refuted('unlisted_hosted', 'accepts_it ' + more, 'CausesRefuse kinds (with_client knows_more 0 (start kinds two_updates_header)) (Commands 0 (cmd.Host (obj 16777300)))', 'refuse_refuted ' + more)
     for name, command, what, by, test in [

@@ -9,7 +9,8 @@ use Rattle.tg_base.specs.Changes.{Changed}
 use Rattle.tg_model.specs.Kinds.{CommandOf, WhatOf}
 use Rattle.tg_base.specs.declared.cell.Cell.{Cell}
 use Rattle.tg_base.specs.declared.cell.Cell.TheVariants.{Junk, Data}
-use Rattle.tg_protocol.specs.Words.{cell_at, client_id, unit_id}
+use Rattle.tg_protocol.specs.Views.{view_start, fresh_base}
+use Rattle.tg_protocol.specs.Words.{cell_at, client_id, unit_id, directory}
 use Rattle.tg_protocol.specs.Units.{UnitState}
 use Rattle.tg_protocol.specs.Clients.{Purpose, Decides, Task, Appending, Hand, Doing, Learning, Work, Client}
 use Rattle.tg_protocol.specs.ClientSteps.{new_work}
@@ -271,3 +272,11 @@ work_refused (Some x) = Some (record x { hand = hand_refused x.hand })
 
 abbrev pub refused_instead : W → W
 refused_instead w = record w { clients = map (λ (c : Client kinds). record c { work = work_refused c.work }) w.clients }
+
+-- a client is in the midst of a transaction that asked at position 3, and its view stands at 0
+abbrev pub asked_before : Client kinds → Client kinds
+asked_before c = record c {
+  hosted = directory ∷ record { 0 = 16777216 } ∷ [];
+  view = Some (view_start kinds (map (fresh_base kinds (record { 0 = 16777216 } ∷ [])) (directory ∷ record { 0 = 16777216 } ∷ [])));
+  tx = Some (record { number = 1; reads = []; writes = []; snapshot = Some 3 });
+}

@@ -54,11 +54,12 @@ use Rattle.std.specs.Prelude.{Some}
 use Rattle.tg_protocol.specs.Worlds.{client}
 use Rattle.tg_protocol.specs.Finishing.{CommandFinishes, ReconfFinishes}
 use Rattle.tg_protocol.specs.ClientSteps.{new_work}
+use Rattle.tg_law_examples.proofs.SevenKinds as kind
 use Rattle.tg_law_examples.proofs.Shown.{obj}
 use Rattle.tg_law_instances.proofs.StepTests.{drain_ev, tick_ev, round_ev}
-use Rattle.tg_law_instances.proofs.Changes.{doctored, copied, untold, higher, misnumbered, reads as reads_at, with_client, knows_log, knows_more, knows_nothing, emptied, replied_so, commits_later, marked_more, waits_forever, same_again, refused_instead}
+use Rattle.tg_law_instances.proofs.Changes.{doctored, copied, untold, higher, misnumbered, reads as reads_at, with_client, knows_log, knows_more, knows_nothing, emptied, replied_so, commits_later, marked_more, waits_forever, same_again, refused_instead, asked_before}
 use Rattle.tg_law_instances.proofs.LogRefuted.{follows_refuted, has_entries, latest_off, latest_refuted, marks_refuted, order_refuted, own_refuted, reads_refuted, records_refuted, replies_refuted, serial_off, serial_refuted, some_follows_off, some_mark_off, some_order_off, some_read_off, some_record_off, some_unended}
-use Rattle.tg_law_instances.proofs.StepRefuted.{OfRun, some_of_run, of_run_found, noted_late, exact_off, exact_refuted, keeps_off, keeps_refuted, none_off, nones_refuted, stuck_off, stuck_refuted, unsure_off, unsure_refuted, keeps_some, plays_refuted, accepts_it, refuse_refuted, refuses_it, refusals_refuted}
+use Rattle.tg_law_instances.proofs.StepRefuted.{OfRun, some_of_run, of_run_found, noted_late, exact_off, exact_refuted, keeps_off, keeps_refuted, none_off, nones_refuted, stuck_off, stuck_refuted, unsure_off, unsure_refuted, keeps_some, plays_refuted, stands_off, stands_refuted, accepts_it, refuse_refuted, refuses_it, refusals_refuted}
 use Rattle.tg_law_instances.proofs.FinishRefuted.{hangs, commands_refuted, hangs_changing, reconfs_refuted}
 
 none_begun_off : has_entries (replay kinds crossed_reads_header crossed_reads_script) ≡ true
@@ -165,6 +166,13 @@ all_pages_kept_off = refl
 
 all_pages_kept_isnt : PlaysOn kinds (with_client (knows_log (replay kinds page_carried_down_header page_carried_down_script)) 1 (replay kinds page_carried_down_header page_carried_down_script)) (Lose 0) → ⊥
 all_pages_kept_isnt = plays_refuted (with_client (knows_log (replay kinds page_carried_down_header page_carried_down_script)) 1 (replay kinds page_carried_down_header page_carried_down_script)) (Lose 0) 1 all_pages_kept_off
+
+view_left_behind_off : stands_off (with_client asked_before 0 (start kinds two_updates_header)) (Commands 0 (cmd.Ask (obj 16777216) kind.Value)) ≡ true
+unfolding u8_at u16_at u32_at u64_at raw_at fixed_at read_many spell_many fit_many marks reads writes keys new_fields old_fields body entry role_code node_eq bytes_eq bytes_lt part_eq part_lt cell_eq chain_of units_of next_of change_fault new_unit unit_ask first_missing on_ask unit_step new_layout layout_ask on_layout_ask layout_step reply work_asks put_cell get_cell fill_cell probe work_feed cell_feed entry_size needs_decision page_of entry_of new_seqr seqr_step seqr_tick append_work_asks append_start append_feed append_again sync_work_asks sync_start sync_feed walk_on walk_start walk_feed no_versions based version_of with_change parts_of decision_in view_start view_version view_parts unknown_in changed_in verdict view_outcome step_at play_on play read_fault write_fault commit_record open_decision checkpoint bases_in load_from view_base view_bases may_forget commit_at past_at rescue_turn trim_start trim_feed copy_work_asks copy_start copy_feed reconf_work_asks reconf_start reconf_feed reconf_latest new_client entries_at copy_fault tests refusal appends syncs walked task_asks client_asks walks task_feed task_again accepts client_command client_deliver client_tick fields_size decided newest log_of entries_of members path_on path changes_below version outcome history_of start latest log history unit_moves layout_moves seqr_moves client_turned happens limit_of drain_on drain tick_all rounds settle line lines run walks_end store_after changed puts_of asks_in bound_in entries_fault replies_fault fault drain_ev tick_ev round_ev some_of_run
+view_left_behind_off = refl
+
+view_left_behind_isnt : PlaysOn kinds (with_client asked_before 0 (start kinds two_updates_header)) (Commands 0 (cmd.Ask (obj 16777216) kind.Value)) → ⊥
+view_left_behind_isnt = stands_refuted (with_client asked_before 0 (start kinds two_updates_header)) (Commands 0 (cmd.Ask (obj 16777216) kind.Value)) view_left_behind_off
 
 unlisted_hosted_off : accepts_it (with_client knows_more 0 (start kinds two_updates_header)) 0 (cmd.Host (obj 16777300)) (cause.NotRegistered (obj 16777300)) ≡ true
 unfolding u8_at u16_at u32_at u64_at raw_at fixed_at read_many spell_many fit_many marks reads writes keys new_fields old_fields body entry role_code node_eq bytes_eq bytes_lt part_eq part_lt cell_eq chain_of units_of next_of change_fault new_unit unit_ask first_missing on_ask unit_step new_layout layout_ask on_layout_ask layout_step reply work_asks put_cell get_cell fill_cell probe work_feed cell_feed entry_size needs_decision page_of entry_of new_seqr seqr_step seqr_tick append_work_asks append_start append_feed append_again sync_work_asks sync_start sync_feed walk_on walk_start walk_feed no_versions based version_of with_change parts_of decision_in view_start view_version view_parts unknown_in changed_in verdict view_outcome step_at play_on play read_fault write_fault commit_record open_decision checkpoint bases_in load_from view_base view_bases may_forget commit_at past_at rescue_turn trim_start trim_feed copy_work_asks copy_start copy_feed reconf_work_asks reconf_start reconf_feed reconf_latest new_client entries_at copy_fault tests refusal appends syncs walked task_asks client_asks walks task_feed task_again accepts client_command client_deliver client_tick fields_size decided newest log_of entries_of members path_on path changes_below version outcome history_of start latest log history unit_moves layout_moves seqr_moves client_turned happens limit_of drain_on drain tick_all rounds settle line lines run walks_end store_after changed puts_of asks_in bound_in entries_fault replies_fault fault drain_ev tick_ev round_ev some_of_run

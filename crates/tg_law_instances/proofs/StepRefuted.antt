@@ -32,7 +32,7 @@ use Rattle.tg_law_instances.proofs.Same.{nums_exact}
 use Rattle.tg_law_instances.proofs.Readings.{either_so}
 use Rattle.tg_law_instances.proofs.Refuted.{not_both, some_off, heard_now_is}
 use Rattle.tg_law_instances.proofs.Tests.{W, E, nums_eq, heard_now, is_tail}
-use Rattle.tg_law_instances.proofs.StepTests.{replies, says, is_refused, own_entry, is_idle, at_once, stream_exact, line_ev, all_of}
+use Rattle.tg_law_instances.proofs.StepTests.{replies, says, is_refused, own_entry, is_idle, at_once, stream_exact, line_ev, all_of, asked_at, some_is}
 use Rattle.tg_law_instances.proofs.Steps.{has_reply, says_it, it_says}
 use Rattle.tg_law_instances.proofs.CauseSound.{at_once_of, refused_so}
 use Rattle.tg_law_instances.proofs.PlaySound.{idle_none}
@@ -302,3 +302,32 @@ keeps_refuted w e h claim =
     let why = refused_so x.it.mark.what b.0 in
     let kept = (claim.later x.it why.0 (has_reply w e x.it x.has) why.1).0 in
     not_both ((client kinds v k).played == (client kinds w k).played) b.1 (number_same (client kinds v k).played (client kinds w k).played kept.played)
+
+-- An answer after which the view doesn't stand at its tail.
+
+record AskedOff (what : WhatOf kinds) (n : ℕ) : Type 0 where
+  oid : Oid
+  ask : kinds.ask
+  at : ℕ
+  answer : kinds.answer
+  is : what ≡ told.Asked oid ask at answer
+  off : not (at == n) ≡ true
+
+asked_so : (what : WhatOf kinds) (n : ℕ) → not (some_is (asked_at what) n) ≡ true → AskedOff what n
+asked_so (told.Asked o q t a) n h = record { oid = o; ask = q; at = t; answer = a; is = refl; off = h }
+asked_so what n h = absurd cc
+
+abbrev stands_elsewhere : W → Told kinds → Bool
+stands_elsewhere v t = not (some_is (asked_at t.mark.what) (upto kinds (client kinds v t.mark.client)))
+
+abbrev pub stands_off : W → E → Bool
+stands_off w e = list_any (stands_elsewhere (happens kinds w e)) (replies w (happens kinds w e))
+
+pub stands_refuted : (w : W) (e : E) → stands_off w e ≡ true → PlaysOn kinds w e → ⊥
+stands_refuted w e h claim =
+    let v = happens kinds w e in
+    let x = found (stands_elsewhere v) (replies w v) h in
+    let k = x.it.mark.client in
+    let a = asked_so x.it.mark.what (upto kinds (client kinds v k)) x.passes in
+    let n = claim.stands k a.oid a.ask a.at a.answer (record { told = x.it; says = has_reply w e x.it x.has; client = refl; holds = a.is }) in
+    not_both (a.at == upto kinds (client kinds v k)) a.off (number_same a.at (upto kinds (client kinds v k)) (sym n))
