@@ -5,12 +5,15 @@ use Rattle.tg_base.specs.declared.msg.Msg.{Msg}
 use Rattle.tg_base.specs.declared.msg.Msg.TheVariants as msg
 use Rattle.tg_model.specs.declared.refusal.Refusal.TheVariants as cause
 use Rattle.tg_model.specs.declared.trace.What.TheVariants as told
-use Rattle.tg_model.specs.Kinds.{WhatOf}
+use Rattle.tg_base.specs.Changes.{Changed}
+use Rattle.tg_model.specs.Kinds.{CommandOf, WhatOf}
 use Rattle.tg_base.specs.declared.cell.Cell.{Cell}
 use Rattle.tg_base.specs.declared.cell.Cell.TheVariants.{Junk, Data}
-use Rattle.tg_protocol.specs.Words.{cell_at, client_id, unit_id}
+use Rattle.tg_protocol.specs.Views.{view_start, fresh_base}
+use Rattle.tg_protocol.specs.Words.{cell_at, client_id, unit_id, directory}
 use Rattle.tg_protocol.specs.Units.{UnitState}
-use Rattle.tg_protocol.specs.Clients.{Client}
+use Rattle.tg_protocol.specs.Clients.{Purpose, Decides, Task, Appending, Hand, Doing, Learning, Work, Client}
+use Rattle.tg_protocol.specs.ClientSteps.{new_work}
 use Rattle.tg_entry.specs.declared.entry.Body.{Body}
 use Rattle.tg_entry.specs.declared.entry.Body.TheVariants.{Decision}
 use Rattle.tg_entry.specs.declared.entry.Entry.{Entry}
@@ -219,3 +222,61 @@ marked_less what = what
 abbrev pub commits_later : WhatOf kinds → WhatOf kinds
 commits_later (told.Committed p) = told.Committed (p + 40)
 commits_later what = what
+
+-- a mark says more than what was marked
+abbrev pub marked_more : WhatOf kinds → WhatOf kinds
+marked_more (told.Marked o n) = told.Marked o (n + 1000)
+marked_more what = what
+
+-- each proposed layout has another epoch than the one for which it was proposed
+abbrev pub misnamed : Msg → Msg
+misnamed (msg.Accept e b q) = msg.Accept e b (record q { epoch = q.epoch + 7 })
+misnamed x = x
+
+abbrev pub misnumbered : W → W
+misnumbered w = record w { packets = map (λ (p : Packet). record p { msg = misnamed p.msg }) w.packets }
+
+-- a client's directory lists an object that isn't registered, or no object
+
+abbrev pub knows_more : Client kinds → Client kinds
+knows_more c = record c { dir = kind.Dir (record { name = 120 ∷ []; oid = record { 0 = 16777300 }; mark = 0 } ∷ []) 0 }
+
+abbrev pub knows_nothing : Client kinds → Client kinds
+knows_nothing c = record c { dir = kind.Dir [] 0 }
+
+-- a client waits, and has asked nobody
+abbrev pub waits_forever : CommandOf kinds → Client kinds → Client kinds
+waits_forever x c = record c { work = Some (new_work kinds x) }
+
+-- a change that only names the sequencer
+abbrev pub same_again : Changed
+same_again = record { seq = 0; drop = []; opened = []; join = None }
+
+-- the answer that waits for a decision record is a refusal
+
+abbrev pub refusal_for : Purpose kinds → Purpose kinds
+refusal_for (Decides x) = Decides (told.Refused cause.NoTx)
+refusal_for y = y
+
+abbrev pub task_refused : Task kinds → Task kinds
+task_refused (Appending a y) = Appending a (refusal_for y)
+task_refused t = t
+
+abbrev pub hand_refused : Hand kinds → Hand kinds
+hand_refused (Doing t) = Doing (task_refused t)
+hand_refused (Learning waits t) = Learning waits (task_refused t)
+
+abbrev pub work_refused : Option (Work kinds) → Option (Work kinds)
+work_refused None = None
+work_refused (Some x) = Some (record x { hand = hand_refused x.hand })
+
+abbrev pub refused_instead : W → W
+refused_instead w = record w { clients = map (λ (c : Client kinds). record c { work = work_refused c.work }) w.clients }
+
+-- a client is in the midst of a transaction that asked at position 3, and its view stands at 0
+abbrev pub asked_before : Client kinds → Client kinds
+asked_before c = record c {
+  hosted = directory ∷ record { 0 = 16777216 } ∷ [];
+  view = Some (view_start kinds (map (fresh_base kinds (record { 0 = 16777216 } ∷ [])) (directory ∷ record { 0 = 16777216 } ∷ [])));
+  tx = Some (record { number = 1; reads = []; writes = []; snapshot = Some 3 });
+}

@@ -30,6 +30,7 @@ use Rattle.tg_protocol.specs.Chosen.{IsDecided}
 use Rattle.tg_protocol.specs.Alike.{HasEntry, HasRecord, Outcome, SavedAt, UnitsTrimmed, TrimmedTo, CopiedBy, LogAgrees, OfTx, MarkedBy, HeardTail, HeardLater, InstalledBy, OvertakenBy, MetEnd, MetTrim, Recorded, MetEndNow, MetTrimNow, RecordedNow, Alike, PastTrue, RescueTrue}
 use Rattle.tg_protocol.specs.Headline.{Holds}
 use Rattle.tg_law_verdicts.proofs.Legality.{verdicts_are_true}
+use Rattle.tg_law_instances.proofs.Small.{clash, is_none, never, of_some}
 use Rattle.tg_law_verdicts.proofs.Members.{Has, has_contained, contained_has, joined, and_both, both_and, not_true, found, all_pass}
 use Rattle.tg_law_verdicts.proofs.Tests.{same_number, number_same, same_oid, le_of, lt_of}
 use Rattle.tg_law_examples.proofs.SevenKinds.{kinds}
@@ -37,7 +38,7 @@ use Rattle.tg_law_examples.proofs.Sameness.{same}
 use Rattle.tg_law_instances.proofs.Same.{sameness_exact, nodes_same}
 use Rattle.tg_law_instances.proofs.Sound.{rises_sound}
 use Rattle.tg_law_instances.proofs.Readings.{then_so, either_so, has_mapped, index_or, entry_found, entry_is_here, es_of, in_log, of_log, record_found, record_is_there, commit_found, outcome_found, decision_found, fate_kept, Heard, heard_found, sent_found, sent_to, sent_now, issued_is, some_issued, tail_is, full_is, gone_is, later_is, layouts_decided}
-use Rattle.tg_law_instances.proofs.Tests.{Claim, W, implies, heard, heard_now, is_any_gone, is_full_log, is_tail, is_issued, is_any_issued, is_later, entry_here, rises, once, linked, records_own, has_record, has_commit, has_decision, marks_rest, trims_spare, floors_stay, directories, checkpoints, outcome_is, decision_true, fates_of, decisions, layouts, one_layout, latest_decided, follow, is_trimmed, is_look, is_whole, answered, is_saved, needs_one, sent_from, issued_at, then_full, then_gone, then_issued_and_gone, met_end, met_end_now, recorded, recorded_now, rescued_so, is_least, heard_new, agrees, does_mark, commits_mark, marked_by, of_client, this_or, last_of, mark_follows, marks_follow, all_agree, in_order, fails, failed, world_tests, world_fails}
+use Rattle.tg_law_instances.proofs.Tests.{Claim, W, implies, heard, heard_now, is_any_gone, is_full_log, is_tail, is_issued, is_any_issued, is_later, entry_here, rises, once, linked, records_own, has_record, has_commit, has_decision, marks_rest, trims_spare, floors_stay, directories, checkpoints, outcome_is, decision_true, fates_of, decisions, layouts, one_layout, latest_decided, follow, is_trimmed, is_look, tells_whole, answered, is_saved, needs_one, sent_from, issued_at, then_full, then_gone, then_issued_and_gone, met_end, met_end_now, recorded, recorded_now, rescued_so, is_least, heard_new, overtakes, agrees, does_mark, commits_mark, marked_by, of_client, this_or, last_of, mark_follows, marks_follow, all_agree, in_order, fails, failed, world_tests, world_fails}
 
 -- A world that passes all tests.
 
@@ -58,15 +59,15 @@ pub record Passed (w : W) : Type 0 where
   pub marks : marks_rest w (es_of w) ≡ true
   pub ordered : in_order w (es_of w) ≡ true
 
-AllPass : List (Claim × Bool) → Type 0
+unfoldable pub AllPass : List (Claim × Bool) → Type 0
 AllPass [] = Unit {0}
 AllPass (x ∷ xs) = (x.1 ≡ true) × AllPass xs
 
-passed : (c : Claim) (b : Bool) (rest : List Claim) → fails c b ++ rest ≡ [] → (b ≡ true) × (rest ≡ [])
+pub passed : (c : Claim) (b : Bool) (rest : List Claim) → fails c b ++ rest ≡ [] → (b ≡ true) × (rest ≡ [])
 passed c true rest e = (refl, e)
 passed c false rest e = absurd cc
 
-none_fail : (xs : List (Claim × Bool)) → failed xs ≡ [] → AllPass xs
+pub none_fail : (xs : List (Claim × Bool)) → failed xs ≡ [] → AllPass xs
 unfolding AllPass
 none_fail [] e = tt
 none_fail (x ∷ xs) e = let p = passed x.0 x.1 (failed xs) e in (p.0, none_fail xs p.1)
@@ -97,13 +98,6 @@ passed_all w e =
 
 -- Legal runs, and runs with a fault.
 
-none_some : (o : Option Fault) → not (is_some o) ≡ true → o ≡ None
-none_some None e = refl
-none_some (Some f) e = absurd cc
-
-some_none : (f : Fault) → None ≡ Some f → ⊥
-some_none f e = cc
-
 pub rises_of : (w : W) → rises (history kinds w) ≡ true → Rises kinds (history kinds w)
 rises_of w e = rises_sound (history kinds w) e
 
@@ -111,13 +105,13 @@ pub legal_sound : (w : W) → rises (history kinds w) ≡ true → not (is_some 
     → Legal kinds w.cluster.objects (history kinds w) (trace kinds w)
 legal_sound w r e =
     (verdicts_are_true kinds same w.cluster.objects (history kinds w) (trace kinds w) sameness_exact (rises_of w r)).0
-    (none_some (fault kinds same w.cluster.objects (history kinds w) (trace kinds w)) e)
+    (is_none (fault kinds same w.cluster.objects (history kinds w) (trace kinds w)) e)
 
 pub illegal_sound : (w : W) (f : Fault) → rises (history kinds w) ≡ true → fault kinds same w.cluster.objects (history kinds w) (trace kinds w) ≡ Some f
     → Legal kinds w.cluster.objects (history kinds w) (trace kinds w) → ⊥
 illegal_sound w f r e legal =
     let none = (verdicts_are_true kinds same w.cluster.objects (history kinds w) (trace kinds w) sameness_exact (rises_of w r)).1 legal in
-    some_none f (sym none ∙ e)
+    never f (sym none ∙ e)
 
 -- What is said of a reply, by the tests of all of them.
 
@@ -212,7 +206,7 @@ trimmed_by w t n h =
 
 -- Copies.
 
-look_is : (x y : Msg) → is_look x y ≡ true → y ≡ x
+pub look_is : (x y : Msg) → is_look x y ≡ true → y ≡ x
 look_is (msg.Has e a b s) (msg.Has f c d u) h =
     let h1 = and_both ((e == f) && (a == c) && (b == d)) (s == u) h in
     let h2 = and_both ((e == f) && (a == c)) (b == d) h1.0 in
@@ -224,7 +218,7 @@ look_is (msg.Has e a b s) (msg.Has f c d u) h =
     λ i. msg.Has (e0 i) (e1 i) (e2 i) (e3 i)
 look_is x y h = absurd cc
 
-whole_is : (x : Msg) → is_whole x ≡ true → x ≡ msg.Whole
+pub whole_is : (x : Msg) → tells_whole x ≡ true → x ≡ msg.Whole
 whole_is msg.Whole h = refl
 whole_is x h = absurd cc
 
@@ -274,8 +268,8 @@ answered_found w t asks u says h =
 
 copied_by : (w : W) (t : Told kinds) (u r s : ℕ) → Agrees w t (told.Copied u r s) → CopiedBy kinds w t u r s
 copied_by w t u r s h =
-    let x = found (λ (y : ℕ × Layout). answered w t (is_look (has_stripe y.0 y.1 r s)) u is_whole) (layouts w) h in
-    let a = answered_found w t (is_look (has_stripe x.it.0 x.it.1 r s)) u is_whole x.passes in
+    let x = found (λ (y : ℕ × Layout). answered w t (is_look (has_stripe y.0 y.1 r s)) u tells_whole) (layouts w) h in
+    let a = answered_found w t (is_look (has_stripe x.it.0 x.it.1 r s)) u tells_whole x.passes in
     let look = look_is (has_stripe x.it.0 x.it.1 r s) a.request a.asked in
     let whole = whole_is a.answer a.said in
     record {
@@ -468,12 +462,6 @@ record LastOf (k : ℕ) (ts : List (Told kinds)) (u : Told kinds) : Type 0 where
 last_more : (k : ℕ) (t : Told kinds) (ts : List (Told kinds)) (u : Told kinds) → LastOf k ts u → LastOf k (t ∷ ts) u
 last_more k t ts u l = record { earlier = t ∷ l.earlier; between = l.between; split = ap (λ us. t ∷ us) l.split; of = l.of; others = l.others }
 
-told_same : (a b : Told kinds) → Some a ≡ Some b → a ≡ b
-told_same a b e = cc
-
-no_told : (a : Told kinds) → None ≡ Some a → ⊥
-no_told a e = cc
-
 or_not : (t : Told kinds) (k : ℕ) (o : Option (Told kinds)) → this_or k t o ≡ None → (o ≡ None) × (of_client k t ≡ false)
 or_not t k (Some u) e = absurd cc
 or_not t k None e = (refl, by (of_client k t) refl e)
@@ -489,10 +477,6 @@ nobody k (u ∷ ts) e t (inl s) is =
     let y = number_same t.mark.client k is in
     let z = ap (λ (v : Told kinds). of_client k v) s in
     absurd (clash (of_client k t) y (z ∙ b.1))
-  where
-    clash : (b : Bool) → b ≡ true → b ≡ false → ⊥
-    clash true x y = cc
-    clash false x y = cc
 nobody k (u ∷ ts) e t (inr i) is = nobody k ts (or_not u k (last_of k ts) e).0 t i is
 
 last_by : (k : ℕ) (t : Told kinds) (ts : List (Told kinds)) (u : Told kinds) (o : Option (Told kinds)) → last_of k ts ≡ o → ((v : Told kinds) → last_of k ts ≡ Some v → LastOf k ts v) → this_or k t o ≡ Some u → LastOf k (t ∷ ts) u
@@ -501,7 +485,7 @@ last_by k t ts u None is rest e = by (of_client k t) refl e
   where
     by : (b : Bool) → of_client k t ≡ b → where_true b t ≡ Some u → LastOf k (t ∷ ts) u
     by true s f =
-        let same_one = told_same t u f in
+        let same_one = of_some t u f in
         record {
           earlier = [];
           between = ts;
@@ -509,10 +493,10 @@ last_by k t ts u None is rest e = by (of_client k t) refl e
           of = ap (λ (v : Told kinds). v.mark.client) (sym same_one) ∙ same_number t.mark.client k s;
           others = nobody k ts is;
         }
-    by false s f = absurd (no_told u f)
+    by false s f = absurd (never u f)
 
 last_found : (k : ℕ) (ts : List (Told kinds)) (u : Told kinds) → last_of k ts ≡ Some u → LastOf k ts u
-last_found k [] u e = absurd (no_told u e)
+last_found k [] u e = absurd (never u e)
 last_found k (t ∷ ts) u e = last_by k t ts u (last_of k ts) refl (last_found k ts) e
 
 marks_writes : (o : Oid) (n : ℕ) (d : DoneOf kinds) → does_mark o n d ≡ true → Contains d.writes (directory, kinds.mark_op o n)
@@ -640,30 +624,20 @@ installed_by w t e h =
       heard = new_heard w t e x.it.1 b1.1;
     }
 
-abbrev overtakes : Told kinds → ℕ → ℕ × Layout → Bool
-overtakes t e x = (x.0 == e) && not (x.1.by == t.mark.client) && nat_lt t.noted.epoch e
-
-overtaken_by : (w : W) (t : Told kinds) (e : ℕ) → Agrees w t (told.Refused (cause.Overtaken e)) → OvertakenBy kinds w t e
+pub overtaken_by : (w : W) (t : Told kinds) (e : ℕ) → Agrees w t (told.Refused (cause.Overtaken e)) → OvertakenBy kinds w t e
 overtaken_by w t e h =
     let x = found (overtakes t e) (layouts w) h in
     let b2 = and_both ((x.it.0 == e) && not (x.it.1.by == t.mark.client)) (nat_lt t.noted.epoch e) x.passes in
     let b3 = and_both (x.it.0 == e) (not (x.it.1.by == t.mark.client)) b2.0 in
     record {
       decided_for = record { proj = x.it.1; is = subst (λ (n : ℕ). IsDecided kinds w n x.it.1) (same_number x.it.0 e b3.0) (layouts_decided w x.it x.has); later = lt_of t.noted.epoch e b2.1 };
-      other = λ s. differ (x.it.1.by == t.mark.client) (number_same x.it.1.by t.mark.client s) (not_true (x.it.1.by == t.mark.client) b3.1);
+      other = λ s. clash (x.it.1.by == t.mark.client) (number_same x.it.1.by t.mark.client s) (not_true (x.it.1.by == t.mark.client) b3.1);
     }
-  where
-    differ : (b : Bool) → b ≡ true → b ≡ false → ⊥
-    differ true x y = cc
-    differ false x y = cc
 
 -- Decision records, and the fates of kept views.
 
 decision_so : (w : W) (x : ℕ × Entry) (p : ℕ) (b : Bool) → x.1.body ≡ Decision p b → decision_true w (es_of w) x.1.body ≡ true → Outcome kinds w p b
 decision_so w x p b is h = outcome_found w p b (subst (λ (y : Body). decision_true w (es_of w) y ≡ true) is h)
-
-no_view : (v : View kinds) → None ≡ Some v → ⊥
-no_view v e = cc
 
 fate_so : (w : W) (p : ℕ) (v : View kinds) (b : Bool) (c : Client kinds) → list_all (λ (x : ℕ × Bool). outcome_is w (es_of w) x.0 x.1) (fates_of c.view) ≡ true → c.view ≡ Some v → fate_of kinds v p ≡ Some b → Outcome kinds w p b
 fate_so w p v b c h is f =
@@ -679,7 +653,7 @@ fates_so : (w : W) (k p : ℕ) (v : View kinds) (b : Bool) → list_all (λ (c :
 fates_so w k p v b h is f =
     elim (index_or w.clients k (new_client kinds w.cluster k)) [
       | inl i ↦ fate_so w p v b (client kinds w k) (all_pass (λ (c : Client kinds). list_all (λ (x : ℕ × Bool). outcome_is w (es_of w) x.0 x.1) (fates_of c.view)) w.clients h (client kinds w k) i) is f
-      | inr e ↦ absurd (no_view v (sym (ap (λ (c : Client kinds). c.view) e ∙ new_view w k) ∙ is))
+      | inr e ↦ absurd (never v (sym (ap (λ (c : Client kinds). c.view) e ∙ new_view w k) ∙ is))
     ]
 
 -- All of it.

@@ -32,7 +32,7 @@ use Rattle.tg_protocol.specs.Clients.{Client, new_client, write_of}
 use Rattle.tg_protocol.specs.Worlds.{Told, unit, client, latest, log, history, trace}
 use Rattle.tg_protocol.specs.Runs.{Moves}
 use Rattle.tg_protocol.specs.Chosen.{IsDecided, OneLayout, LatestDecided}
-use Rattle.tg_protocol.specs.Alike.{HasEntry}
+use Rattle.tg_protocol.specs.Alike.{HasEntry, CheckpointsTrue}
 use Rattle.tg_protocol.specs.Holding.{HasCell, EntriesOnce, EntriesLinked, RecordsOwn, IsRecord, AskedOf, ReadsOf, HasItsRecord, RepliesHaveRecords, RecordsInOrder, SerialFirst, FloorsStay, HasBasePast, TrimsSpare, MarksRest}
 use Rattle.tg_protocol.specs.Playing.{ReadsOnPath, OnPath}
 use Rattle.tg_protocol.specs.Causes.{DirectoryTrue, AbortsLeast}
@@ -44,6 +44,7 @@ use Rattle.tg_law_examples.proofs.Sameness.{same}
 use Rattle.tg_law_instances.proofs.Same.{layouts_same, links_exact, writes_exact, bytes_same, parts_same, nodes_same, node_itself}
 use Rattle.tg_law_instances.proofs.Sound.{cell_has, once_sound}
 use Rattle.tg_law_instances.proofs.Readings.{then_so, has_mapped, index_or, es_of, in_log, of_log, record_found, decision_found, heard_found, issued_is, sent_to, layouts_decided, decided_listed}
+use Rattle.tg_law_instances.proofs.CheckpointSound.{checkpoints_sound}
 use Rattle.tg_law_instances.proofs.HeadlineSound.{passed_all, agrees_at, legal_sound, commits_by, saved_of, aborted_by}
 use Rattle.tg_law_instances.proofs.Tests.{Claim, ReadsOnPath as Off, fails, world_fails, path_fails, W, implies, links_eq, writes_eq, named_eq, states_eq, heard, is_issued, linked, told_of, is_end, asked_part, has_read_of, is_record, records_own, has_record, has_commit, has_cell, base_reaches, has_decision, has_base_past, trims_spare, floors_stay, directories, directory_at, marks_rest_of, marks_rest, layouts, ranges_eq, one_layout, latest_decided, agrees, is_least, read_pos, on_links, tail_links, on_path, is_client, reads_on_path, in_order, all_agree}
 
@@ -290,7 +291,7 @@ first_or_later n first p false e le less rest = inr (rest (above p first e le) (
     above : (a b : ℕ) → (a == b) ≡ false → b ≤ a → b + 1 ≤ a
     above a b f l = grind (arith, nat_tests)
 
-in_numbers : (n first p : ℕ) → first ≤ p → p < n + first → Has (numbers n first) p
+pub in_numbers : (n first p : ℕ) → first ≤ p → p < n + first → Has (numbers n first) p
 in_numbers zero first p le less = absurd (omega (arith, le, less))
 in_numbers (suc n) first p le less = first_or_later n first p (p == first) refl le less (λ a b. in_numbers n (first + 1) p a b)
 
@@ -435,7 +436,7 @@ marks_sound w h = record {
 
 -- Reads on a path, where nothing is copied.
 
-tail_by : (ls : List StreamLink) (x : Msg) → tail_links x ≡ ls → (l : StreamLink) → Has ls l → (t : ℕ) × (x ≡ msg.Tail t ls)
+pub tail_by : (ls : List StreamLink) (x : Msg) → tail_links x ≡ ls → (l : StreamLink) → Has ls l → (t : ℕ) × (x ≡ msg.Tail t ls)
 tail_by ls (msg.Tail t ks) e l i = (t, ap (λ (k : List StreamLink). msg.Tail t k) e)
 tail_by ls x e l i = absurd (subst (λ (k : List StreamLink). Has k l) (sym e) i)
 
@@ -480,6 +481,7 @@ pub record LogHolds (w : W) : Type 0 where
   pub floors : FloorsStay kinds w
   pub trims : TrimsSpare kinds w
   pub marks : MarksRest kinds w
+  pub checkpoints : CheckpointsTrue kinds w
   pub directories : DirectoryTrue kinds w
   pub aborts : AbortsLeast kinds w
 
@@ -500,6 +502,7 @@ log_sound w e =
       floors = floors_sound w p.stay;
       trims = trims_sound w p.spare;
       marks = marks_sound w p.marks;
+      checkpoints = checkpoints_sound w p.saved;
       directories = directories_sound w p.played;
       aborts = aborts_sound w p.replies;
     }

@@ -1,6 +1,6 @@
 -- A worked run reaches its world; of it a claim is proved as it stands, and of a changed world it is refuted.
-use Rattle.std.proofs.Common.{◌≡◌, ◌⊎◌, ℕ, zero, suc, ◌<◌, ◌≤◌, List, [], ◌∷◌, length, refl, sym, ap, ◌∙◌, subst, inl, inr, arith}
-use Rattle.std.specs.Prelude.{Contains, slice_index_or, pos}
+use Rattle.std.proofs.Common.{◌≡◌, ℕ, ◌<◌, ◌≤◌, List, [], ◌∷◌, refl, sym, ap, ◌∙◌, subst, inl, inr, arith}
+use Rattle.std.specs.Prelude.{Contains, pos}
 use Rattle.tg_base.specs.declared.cell.Cell.TheVariants.{Data}
 use Rattle.tg_base.specs.declared.ids.Oid.{Oid}
 use Rattle.tg_base.specs.declared.marks.StreamLink.{StreamLink}
@@ -53,23 +53,9 @@ use Rattle.tg_model.specs.Stores.{store_after, changed}
 use Rattle.tg_model.specs.Traces.{puts_of}
 use Rattle.tg_model.specs.Verdicts.{asks_in, bound_in, entries_fault, replies_fault, fault}
 use Rattle.tg_protocol.specs.Headline.{Holds}
+use Rattle.tg_law_verdicts.proofs.Members.{Has, has_contained}
 use Rattle.tg_law_instances.proofs.HeadlineSound.{holds_sound}
 use Rattle.tg_law_instances.proofs.Tests.{world_fails}
-
--- Lists.
-
-Has : {X : Type 0} → List X → X → Type 0
-Has [] x = ⊥
-Has (y ∷ ys) x = (x ≡ y) ⊎ Has ys x
-
-has_index : {X : Type 0} → (xs : List X) (x : X) (k : ℕ) → k < length xs → slice_index_or xs k x ≡ x → Has xs x
-unfolding Has
-has_index [] x k less e = absurd (omega (arith, less))
-has_index (y ∷ xs) x zero less e = inl (sym e)
-has_index (y ∷ xs) x (suc k) less e = inr (has_index xs x k (omega (arith, less)) e)
-
-has_contained : {X : Type 0} → (xs : List X) (x : X) → Contains xs x → Has xs x
-has_contained xs x h = has_index xs x h.0 h.1 h.2
 
 -- A run.
 
@@ -91,7 +77,7 @@ AllLawful h [] = Unit {0}
 AllLawful h (x ∷ xs) = LawfulMove kinds h x × AllLawful h xs
 
 each_lawful : (h : Header) (ms : Moves kinds) → AllLawful h ms → (x : Move kinds) → Has ms x → LawfulMove kinds h x
-unfolding Has AllLawful
+unfolding AllLawful
 each_lawful h [] l x i = absurd i
 each_lawful h (y ∷ ys) l x (inl e) = subst (λ z. LawfulMove kinds h z) (sym e) l.0
 each_lawful h (y ∷ ys) l x (inr i) = each_lawful h ys l.1 x i
@@ -179,7 +165,6 @@ client_is : (x y : ℕ × Entry) → x ≡ y → x.1.head.client ≡ y.1.head.cl
 client_is x y e = ap (λ (z : ℕ × Entry). z.1.head.client) e
 
 once_by : (p q : ℕ) (e f : Entry) → Has {X = ℕ × Entry} two (p, e) → Has {X = ℕ × Entry} two (q, f) → e.head.client ≡ f.head.client → p ≡ q
-unfolding Has
 once_by p q e f (inl a) (inl b) c = position_is (p, e) (0, first) a ∙ sym (position_is (q, f) (0, first) b)
 once_by p q e f (inl a) (inr (inl b)) c = absurd (clash 0 1 (omega arith) (sym (client_is (p, e) (0, first) a) ∙ c ∙ client_is (q, f) (1, second) b))
 once_by p q e f (inr (inl a)) (inl b) c = absurd (clash 0 1 (omega arith) (sym (client_is (q, f) (0, first) b) ∙ sym c ∙ client_is (p, e) (1, second) a))
@@ -190,7 +175,6 @@ once_by p q e f (inr (inl a)) (inr (inr b)) c = absurd b
 
 -- no two entries of it are the same one's
 once : EntriesOnce kinds world
-unfolding Has
 once p q e f he hf c t n =
     let i = has_contained {X = ℕ × Entry} two (p, e) (subst (λ (es : Entries). Contains {X = ℕ × Entry} es (p, e)) entries_are he) in
     let j = has_contained {X = ℕ × Entry} two (q, f) (subst (λ (es : Entries). Contains {X = ℕ × Entry} es (q, f)) entries_are hf) in

@@ -18,6 +18,7 @@ use Rattle.tg_protocol.specs.Logs.{entries_of, by_majority, outcome}
 use Rattle.tg_protocol.specs.Worlds.{Told, log}
 use Rattle.tg_protocol.specs.Chosen.{Sent, IsChosen, IsDecided}
 use Rattle.tg_protocol.specs.Alike.{SentTo, SentNow, HasEntry, HasRecord, HasCommit, Outcome, HasDecision}
+use Rattle.tg_law_instances.proofs.Small.{of_some}
 use Rattle.tg_law_verdicts.proofs.Members.{Has, has_left, has_right, has_contained, contained_has, and_both, both_and, found, passes_somewhere}
 use Rattle.tg_law_verdicts.proofs.Tests.{same_number, number_same, lt_of, le_of, of_lt}
 use Rattle.tg_law_examples.proofs.SevenKinds.{kinds}
@@ -168,14 +169,11 @@ decision_found w p h = let d = decision_found_in (es_of w) p h in record { at = 
 
 -- a fate that is kept
 
-some_same : (a b : Bool) → Some a ≡ Some b → b ≡ a
-some_same a b e = cc
-
 kept_by : (x : ℕ × Bool) (xs : List (ℕ × Bool)) (p : ℕ) (b c : Bool) → (x.0 == p) ≡ c → (fate_in kinds xs p ≡ Some b → Has {X = ℕ × Bool} xs (p, b))
     → (if c then Some x.1 else fate_in kinds xs p) ≡ Some b → Has {X = ℕ × Bool} (x ∷ xs) (p, b)
 kept_by x xs p b true t rest f =
     let n = sym (same_number x.0 p t) in
-    let y = some_same x.1 b f in
+    let y = sym (of_some x.1 b f) in
     inl (λ i. (n i, y i))
 kept_by x xs p b false t rest f = inr (rest f)
 

@@ -32,6 +32,7 @@ use Rattle.tg_protocol.specs.Headline.{Holds}
 use Rattle.tg_protocol.specs.Chosen.{IsDecided, OneLayout}
 use Rattle.tg_protocol.specs.Holding.{EntriesLinked, HasCell, FloorsStay, TrimsSpare, LogStays}
 use Rattle.tg_protocol.specs.Causes.{DirectoryTrue, AbortsLeast}
+use Rattle.tg_law_instances.proofs.Small.{clash}
 use Rattle.tg_law_verdicts.proofs.Members.{Has, has_contained, contained_has, and_both, both_and, not_true, found, passes_somewhere, each_passes, cut_at}
 use Rattle.tg_law_verdicts.proofs.Tests.{same_number, number_same, oid_same, of_le, lt_of}
 use Rattle.tg_law_examples.proofs.SevenKinds.{kinds, State, Named, Dir}
@@ -43,18 +44,14 @@ use Rattle.tg_law_instances.proofs.Tests.{Claim, StampsRise, IsLegal, W, fails, 
 
 -- Bools.
 
-pub clash : (b : Bool) → b ≡ true → b ≡ false → ⊥
-clash true x y = cc
-clash false x y = cc
-
-not_both : (b : Bool) → not b ≡ true → b ≡ true → ⊥
+pub not_both : (b : Bool) → not b ≡ true → b ≡ true → ⊥
 not_both b n y = clash b y (not_true b n)
 
 -- a list of which not all pass has one that doesn't
-record Off {X : Type 0} (f : X → Bool) (xs : List X) : Type 0 where
-  it : X
-  has : Has xs it
-  off : f it ≡ false
+pub record Off {X : Type 0} (f : X → Bool) (xs : List X) : Type 0 where
+  pub it : X
+  pub has : Has xs it
+  pub off : f it ≡ false
 
 off_more : {X : Type 0} → (f : X → Bool) (y : X) (xs : List X) → Off f xs → Off f (y ∷ xs)
 off_more f y xs o = record { it = o.it; has = inr o.has; off = o.off }
@@ -63,11 +60,11 @@ off_by : {X : Type 0} → (f : X → Bool) (y : X) (xs : List X) (b : Bool) → 
 off_by f y xs true e rest h = off_more f y xs (rest h)
 off_by f y xs false e rest h = record { it = y; has = inl refl; off = e }
 
-some_off : {X : Type 0} → (f : X → Bool) (xs : List X) → list_all f xs ≡ false → Off f xs
+pub some_off : {X : Type 0} → (f : X → Bool) (xs : List X) → list_all f xs ≡ false → Off f xs
 some_off f [] h = absurd cc
 some_off f (y ∷ xs) h = off_by f y xs (f y) refl (some_off f xs) h
 
-off_parts : (a b : Bool) → implies a b ≡ false → (a ≡ true) × (b ≡ false)
+pub off_parts : (a b : Bool) → implies a b ≡ false → (a ≡ true) × (b ≡ false)
 off_parts true b h = (refl, h)
 off_parts false b h = absurd cc
 
@@ -135,14 +132,14 @@ headline_refuted w cs e named first h = legal_refuted w cs e named first h.legal
 
 -- Messages that were sent are heard.
 
-heard_is : (w : W) (k next rid : ℕ) (f : Msg → Bool) (x : Msg) → next ≤ rid → SentTo kinds w k rid x → f x ≡ true → heard w k next f ≡ true
+pub heard_is : (w : W) (k next rid : ℕ) (f : Msg → Bool) (x : Msg) → next ≤ rid → SentTo kinds w k rid x → f x ≡ true → heard w k next f ≡ true
 heard_is w k next rid f x le s h =
     let r = s.number in
     passes_somewhere (λ (p : Packet). node_eq p.to (client_id k) && nat_le next p.rid && f p.msg) w.packets s.packet (has_contained w.packets s.packet s.sent)
     (both_and (node_eq s.packet.to (client_id k) && nat_le next s.packet.rid) (f s.packet.msg)
     (both_and (node_eq s.packet.to (client_id k)) (nat_le next s.packet.rid) (node_itself s.packet.to (client_id k) s.to) (of_le next s.packet.rid (omega (arith, le, r)))) (ap f s.says ∙ h))
 
-heard_now_is : (w : W) (t : Told kinds) (f : Msg → Bool) (x : Msg) → SentNow kinds w t x → f x ≡ true → heard_now w t f ≡ true
+pub heard_now_is : (w : W) (t : Told kinds) (f : Msg → Bool) (x : Msg) → SentNow kinds w t x → f x ≡ true → heard_now w t f ≡ true
 heard_now_is w t f x s h = heard_is w t.mark.client t.noted.next s.rid f x s.now s.sent h
 
 pub linked_refuted : (w : W) → linked w (es_of w) ≡ false → EntriesLinked kinds w → ⊥

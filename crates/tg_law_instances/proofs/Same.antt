@@ -25,7 +25,7 @@ use Rattle.tg_law_instances.proofs.Tests.{nums_eq, links_eq, writes_eq, ranges_e
 abbrev pub Exact : {X : Type 0} → (X → X → Bool) → Type 0
 Exact {X = X} test = (a b : X) → (test a b ≡ true → a ≡ b) × (a ≡ b → test a b ≡ true)
 
-exact_by : {X : Type 0} → (test : X → X → Bool) → ((a b : X) → test a b ≡ true → a ≡ b) → ((a : X) → test a a ≡ true) → Exact test
+pub exact_by : {X : Type 0} → (test : X → X → Bool) → ((a b : X) → test a b ≡ true → a ≡ b) → ((a : X) → test a a ≡ true) → Exact test
 exact_by test is itself a b = (is a b, λ e. subst (λ x. test a x ≡ true) e (itself a))
 
 pub numbers_exact : Exact (λ (x y : ℕ). x == y)

@@ -17,6 +17,7 @@ use Rattle.tg_protocol.specs.Views.{Entries}
 use Rattle.tg_protocol.specs.Logs.{Log, entries_of}
 use Rattle.tg_protocol.specs.Worlds.{log}
 use Rattle.tg_protocol.specs.Holding.{EntriesOnce, LogStays}
+use Rattle.tg_law_instances.proofs.Small.{of_some}
 use Rattle.tg_law_verdicts.proofs.Members.{Has, has_contained, contained_has, and_both, both_and, not_true, no_pass, all_pass}
 use Rattle.tg_law_verdicts.proofs.Tests.{number_same}
 use Rattle.tg_law_examples.proofs.SevenKinds.{kinds}
@@ -84,9 +85,6 @@ looked_here x xs p e = ap (λ b. cond b (Some x.1) (cell_at xs p)) (at_same p x.
 
 looked_past : (x : ℕ × Cell) (xs : Log) (p : ℕ) → p ≢ x.0 → cell_at (x ∷ xs) p ≡ cell_at xs p
 looked_past x xs p e = ap (λ b. cond b (Some x.1) (cell_at xs p)) (at_other p x.0 e)
-
-of_some : (c d : Cell) → Some c ≡ Some d → c ≡ d
-of_some c d e = cc
 
 pair : (x : ℕ × Cell) (p : ℕ) (c : Cell) → p ≡ x.0 → c ≡ x.1 → (p, c) ≡ x
 pair x p c e f = ap (λ (q : ℕ). (q, c)) e ∙ ap (λ (d : Cell). (x.0, d)) f

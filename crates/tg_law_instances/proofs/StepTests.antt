@@ -13,6 +13,7 @@ use Rattle.tg_base.specs.declared.msg.Msg.TheVariants as msg
 use Rattle.tg_base.specs.declared.packet.Packet.{Packet}
 use Rattle.tg_entry.specs.declared.entry.Entry.{Entry}
 use Rattle.tg_base.specs.declared.marks.ReadMark.{ReadMark}
+use Rattle.tg_base.specs.declared.marks.StreamLink.{StreamLink}
 use Rattle.tg_model.specs.declared.command.Command.TheVariants as cmd
 use Rattle.tg_model.specs.declared.command.Event.TheVariants.{Command as Commands, Deliver, Tick}
 use Rattle.tg_model.specs.declared.refusal.Refusal.{Refusal}
@@ -20,25 +21,27 @@ use Rattle.tg_model.specs.declared.refusal.Refusal.TheVariants as cause
 use Rattle.tg_model.specs.declared.trace.What.TheVariants as told
 use Rattle.tg_model.specs.Kinds.{CommandOf, WhatOf}
 use Rattle.tg_model.specs.Stores.{state_at}
-use Rattle.tg_protocol.specs.Words.{oid_eq, bytes_eq, cell_eq, cell_at, node_eq, has_num, directory, client_id, unit_id, seqr_id, numbers}
+use Rattle.tg_model.specs.Words.{word_of}
+use Rattle.tg_model.specs.declared.command.Word.{Word}
+use Rattle.tg_model.specs.declared.command.Word.TheVariants as word
+use Rattle.std.specs.Cmp.Lexicographic.{pointwise}
+use Rattle.tg_protocol.specs.Words.{oid_eq, part_eq, cell_eq, cell_at, node_eq, has_num, directory, client_id, unit_id, seqr_id, numbers}
 use Rattle.tg_protocol.specs.Layouts.{units_of}
-use Rattle.tg_protocol.specs.Entries.{is_commit, linked, streams_of, lists, needs_decision, reads_of, entry_size}
-use Rattle.tg_protocol.specs.Pages.{entry_of, page_of}
+use Rattle.tg_protocol.specs.Entries.{is_commit, lists, needs_decision, reads_of, entry_size}
+use Rattle.tg_protocol.specs.Pages.{entry_of}
 use Rattle.tg_protocol.specs.Views.{Base, View, base_of, decision_in, unknown_by}
-use Rattle.tg_protocol.specs.Transactions.{record_size}
+use Rattle.tg_protocol.specs.Transactions.{Tx, record_size}
 use Rattle.tg_protocol.specs.Checkpoints.{base_at, checkpoint}
-use Rattle.tg_protocol.specs.Logs.{entries_of, members}
-use Rattle.tg_protocol.specs.Clients.{Client, Work, upto, hosts_oid}
-use Rattle.tg_protocol.specs.Stuck.{command_in}
+use Rattle.tg_protocol.specs.Logs.{entries_of, members, path}
+use Rattle.tg_protocol.specs.Clients.{Client, Work, upto, hosts_oid, refusal}
+use Rattle.tg_protocol.specs.Stuck.{asks_for, command_in}
 use Rattle.tg_protocol.specs.Playing.{from_to}
-use Rattle.tg_protocol.specs.Appending.{Append}
-use Rattle.tg_protocol.specs.Holding.{append_by}
 use Rattle.tg_protocol.specs.Walked.{Walked, walked_in, walked_from, positions_found, entries_had}
 use Rattle.tg_protocol.specs.Causes.{most, is_of_tx, would_be, reads_with, writes_with, layout_cause, command_at, is_at}
 use Rattle.tg_protocol.specs.Finishing.{deliveries, is_with_client, bound_in}
 use Rattle.tg_protocol.specs.Worlds.{Told, Line, Happens, Update, Drain, Settle, start, next_event, unit, seqr, client, noted_of, runs, latest, log, history, happens, lowest, nodes, line, settle}
 use Rattle.tg_law_examples.proofs.SevenKinds.{kinds}
-use Rattle.tg_law_instances.proofs.Tests.{Claim, Stands, Falls, GivesUp, ReadsOn, SyncsExact, CausesRefuse, CausesTrue, NonesTrue, RefusalsKeep, LogStays, Finishes, W, E, implies, nums_eq, read_pos, bool_eq, states_eq, oids_eq, heard, heard_now, is_gone, is_gone_above, is_full, is_tail, entry_here, answered, fails, world_fails}
+use Rattle.tg_law_instances.proofs.Tests.{Claim, Stands, Falls, GivesUp, ReadsOn, SyncsExact, CausesRefuse, CausesTrue, NonesTrue, RefusalsKeep, StuckTrue, LogStays, Finishes, W, E, implies, is_any_gone, tail_links, layouts, overtakes, writes_eq, failed, nums_eq, read_pos, bool_eq, states_eq, oids_eq, heard, heard_now, is_gone, is_gone_above, is_full, is_tail, entry_here, answered, fails, world_fails}
 
 -- The events of lines.
 
@@ -67,6 +70,9 @@ line_ev w (Happens e) = e ∷ []
 line_ev w (Update k o op) = Commands k cmd.Begin ∷ Commands k (cmd.Put o op) ∷ Commands k cmd.End ∷ []
 line_ev w Drain = drain_ev 5000 w
 line_ev w Settle = settle_ev w
+
+abbrev pub each_client : W → (ℕ → Bool) → Bool
+each_client w f = list_all f (numbers (length w.clients) 0)
 
 -- Replies of a step.
 
@@ -182,12 +188,68 @@ too_many w k x a = nat_lt (most a) (would_be kinds (client kinds w k) x a)
 abbrev pub size_with : W → ℕ → CommandOf kinds → ℕ
 size_with w k x = record_size (reads_with kinds (client kinds w k).tx x) (writes_with kinds (client kinds w k).tx x)
 
--- some cause stands at once
+-- for each cause that may stand at once, whether some such one does
+abbrev pub cause_tests : W → ℕ → CommandOf kinds → List Bool
+cause_tests w k x =
+    not (is_idle (client kinds w k).work) ∷ (is_of_tx kinds x && not (is_some (client kinds w k).tx)) ∷ (not (is_of_tx kinds x) && is_some (client kinds w k).tx)
+    ∷ is_some (wrong x) ∷ some_oid (unregistered w k) (named x) ∷ some_oid (λ o. not (hosts_oid kinds (client kinds w k) o)) (asked_of x)
+    ∷ too_many w k x many.Streams ∷ too_many w k x many.Reads ∷ too_many w k x many.Writes ∷ too_many w k x many.Hosted ∷ too_many w k x many.Ranges ∷ too_many w k x many.Units
+    ∷ nat_lt 4096 (size_with w k x) ∷ is_some (layout_cause kinds (client kinds w k).stand x) ∷ []
+
 abbrev pub has_cause : W → ℕ → CommandOf kinds → Bool
-has_cause w k x = not (is_idle (client kinds w k).work) || (is_of_tx kinds x && not (is_some (client kinds w k).tx)) || (not (is_of_tx kinds x) && is_some (client kinds w k).tx)
-    || is_some (wrong x) || some_oid (unregistered w k) (named x) || some_oid (λ o. not (hosts_oid kinds (client kinds w k) o)) (asked_of x)
-    || too_many w k x many.Streams || too_many w k x many.Reads || too_many w k x many.Writes || too_many w k x many.Hosted || too_many w k x many.Ranges || too_many w k x many.Units
-    || nat_lt 4096 (size_with w k x) || is_some (layout_cause kinds (client kinds w k).stand x)
+has_cause w k x = list_any (λ b. b) (cause_tests w k x)
+
+-- the words of commands, and the causes of layouts
+
+abbrev pub word_code : Word → ℕ
+word_code word.Host = 0
+word_code word.Begin = 1
+word_code word.Put = 2
+word_code word.Ask = 3
+word_code word.End = 4
+word_code word.Drop = 5
+word_code word.Fate = 6
+word_code word.Decide = 7
+word_code word.Checkpoint = 8
+word_code word.Forget = 9
+word_code word.Trim = 10
+word_code word.Reconf = 11
+word_code word.Copy = 12
+word_code word.AskAt = 13
+word_code word.Rescue = 14
+
+abbrev pub busy_with : Word → Option (Work kinds) → Bool
+busy_with x None = false
+busy_with x (Some v) = word_code (word_of v.command) == word_code x
+
+abbrev pub same_cause : Refusal → Refusal → Bool
+same_cause (cause.NotClosed r) (cause.NotClosed s) = r == s
+same_cause (cause.NoStripe r s) (cause.NoStripe t u) = (r == t) && (s == u)
+same_cause (cause.InChain u) (cause.InChain v) = u == v
+same_cause (cause.Returned u) (cause.Returned v) = u == v
+same_cause (cause.NoReplica r s) (cause.NoReplica t u) = (r == t) && (s == u)
+same_cause why other = false
+
+abbrev pub is_cause : Refusal → Option Refusal → Bool
+is_cause why None = false
+is_cause why (Some other) = same_cause other why
+
+-- this one stands at once
+abbrev pub at_once : W → ℕ → CommandOf kinds → Refusal → Bool
+at_once w k x (cause.Busy word) = busy_with word (client kinds w k).work
+at_once w k x cause.NoTx = is_of_tx kinds x && not (is_some (client kinds w k).tx)
+at_once w k x cause.TxOpen = not (is_of_tx kinds x) && is_some (client kinds w k).tx
+at_once w k x (cause.WrongKind o) = is_oid o (wrong x)
+at_once w k x (cause.NotRegistered o) = is_oid o (named x) && unregistered w k o
+at_once w k x (cause.NotHosted o) = is_oid o (asked_of x) && not (hosts_oid kinds (client kinds w k) o)
+at_once w k x (cause.TooMany what) = too_many w k x what
+at_once w k x (cause.TooLarge n) = nat_lt 4096 n && (n == size_with w k x)
+at_once w k x (cause.NotClosed r) = is_cause (cause.NotClosed r) (layout_cause kinds (client kinds w k).stand x)
+at_once w k x (cause.NoStripe r s) = is_cause (cause.NoStripe r s) (layout_cause kinds (client kinds w k).stand x)
+at_once w k x (cause.InChain u) = is_cause (cause.InChain u) (layout_cause kinds (client kinds w k).stand x)
+at_once w k x (cause.Returned u) = is_cause (cause.Returned u) (layout_cause kinds (client kinds w k).stand x)
+at_once w k x (cause.NoReplica r s) = is_cause (cause.NoReplica r s) (layout_cause kinds (client kinds w k).stand x)
+at_once w k x why = false
 
 abbrev pub refuse_ok : W → W → E → Bool
 refuse_ok w v (Commands k x) = implies (runs kinds w (client_id k)) (bool_eq (has_cause w k x) (says w v k is_refused))
@@ -225,9 +287,20 @@ least_by o p (Some x) = list_all (λ (y : ℕ × Entry). implies (nat_lt y.0 p &
 abbrev pub reads_at : W → ℕ → Oid → Bool
 reads_at v p o = entry_here (entries_of (log kinds v)) p (λ e. is_commit e && reads_oid o e)
 
+-- the walk of an object's stream met a trim: a unit answered so to a request for a position of its path
+
+abbrev pub asks_gone : W → Told kinds → ℕ → Bool
+asks_gone v t q = list_any (λ u. answered v t (asks_for q) u is_any_gone) (numbers v.cluster.units 0)
+
+abbrev pub path_is_gone : W → Told kinds → Oid → StreamLink → Bool
+path_is_gone v t o l = oid_eq l.oid o && list_any (asks_gone v t) (path (log kinds v) o l.backs)
+
+abbrev pub walk_met_trim : W → Told kinds → Oid → Bool
+walk_met_trim v t o = heard_now v t (λ x. list_any (path_is_gone v t o) (tail_links x))
+
 abbrev pub cant_know : W → Told kinds → ℕ → Oid → CommandOf kinds → Bool
-cant_know v t p o (cmd.AskAt at q x) = nat_lt p at && reads_at v p o && (not (hosts_oid kinds (client kinds v t.mark.client) o) || heard_now v t (is_gone_above 0))
-cant_know v t p o (cmd.Rescue at) = nat_le p at && reads_at v p o && heard_now v t (is_gone_above 0)
+cant_know v t p o (cmd.AskAt at q x) = nat_lt p at && reads_at v p o && (not (hosts_oid kinds (client kinds v t.mark.client) o) || walk_met_trim v t o)
+cant_know v t p o (cmd.Rescue at) = nat_le p at && reads_at v p o && walk_met_trim v t o
 cant_know v t p o x = is_unknown v t p o
 
 abbrev pub base_to : ℕ → Option (Base kinds) → Bool
@@ -271,6 +344,14 @@ abbrev pub checkpoint_size : W → ℕ → CommandOf kinds → ℕ
 checkpoint_size v k (cmd.Checkpoint o) = size_of v k o (client kinds v k).view
 checkpoint_size v k x = 0
 
+abbrev pub is_rescue : CommandOf kinds → Bool
+is_rescue (cmd.Rescue p) = true
+is_rescue x = false
+
+abbrev pub is_wide : Option (Work kinds) → Bool
+is_wide None = false
+is_wide (Some v) = nat_le 128 (length v.oids)
+
 abbrev pub later_cause : W → E → W → Told kinds → CommandOf kinds → Refusal → Bool
 later_cause w e v t x (cause.Undecided p o) = cant_know v t p o x && lacks w e t p
 later_cause w e v t x (cause.NoCheckpoint o) = forget_is (λ p n. oid_eq p o && no_base v t o n) x
@@ -279,19 +360,17 @@ later_cause w e v t x (cause.LogFull n) = heard_now v t (is_full n)
 later_cause w e v t x (cause.Forgotten at b) = named_trimmed v t at b x || own_trimmed v t at b
 later_cause w e v t x (cause.Ahead tail) = ahead v t tail x
 later_cause w e v t x (cause.NotWhole u p) = answered v t is_has u (is_missing p)
+later_cause w e v t x (cause.Overtaken n) = list_any (overtakes t n) (layouts v)
 later_cause w e v t x (cause.TooLarge n) = (checkpoint_size v t.mark.client x == n) && nat_lt 4096 n
-later_cause w e v t x why = true
+later_cause w e v t x (cause.TooMany many.Hosted) = is_rescue x && is_wide (client kinds w t.mark.client).work
+later_cause w e v t x why = is_cause why (layout_cause kinds (client kinds v t.mark.client).stand x)
 
 abbrev pub cause_by : W → E → W → Told kinds → Option (CommandOf kinds) → Refusal → Bool
 cause_by w e v t None why = false
-cause_by w e v t (Some x) why = later_cause w e v t x why
-
-abbrev pub is_given : E → Bool
-is_given (Commands k x) = true
-is_given e = false
+cause_by w e v t (Some x) why = at_once w t.mark.client x why || later_cause w e v t x why
 
 abbrev pub caused : W → E → W → Told kinds → WhatOf kinds → Bool
-caused w e v t (told.Refused why) = implies (not (is_given e)) (cause_by w e v t (command_at kinds w e t.mark.client) why)
+caused w e v t (told.Refused why) = cause_by w e v t (command_at kinds w e t.mark.client) why
 caused w e v t (told.Unsure at p) = nat_le p at && list_any (λ o. is_unknown v t p o) (directory ∷ v.cluster.objects) && implies (nat_lt p at) (lacks w e t p)
 caused w e v t what = true
 
@@ -310,25 +389,60 @@ none_ok_of v t what = true
 abbrev pub nones_ok : W → W → Bool
 nones_ok w v = list_all (λ (t : Told kinds). none_ok_of v t t.mark.what) (replies w v)
 
+-- Rescues that stay undecided.
+
+abbrev pub stuck_of : W → Told kinds → Option (CommandOf kinds) → WhatOf kinds → Bool
+stuck_of v t (Some (cmd.Rescue p)) (told.Refused (cause.Undecided q o)) = walk_met_trim v t o
+stuck_of v t x what = true
+
+abbrev pub stuck_ok : W → W → Bool
+stuck_ok w v = list_all (λ (t : Told kinds). stuck_of v t (command_in kinds (client kinds w t.mark.client).work) t.mark.what) (replies w v)
+
 -- What stays.
 
 abbrev pub keeps_hosts : Client kinds → Client kinds → Bool
-keeps_hosts c d = oids_eq c.hosted d.hosted && states_eq c.dir d.dir && (c.played == d.played)
+keeps_hosts c d = oids_eq d.hosted c.hosted && states_eq d.dir c.dir && (d.played == c.played)
 
-abbrev pub tx_no : Client kinds → ℕ
-tx_no c = elim (c.tx) as (λ _. ℕ) [ None ↦ 0 | Some t ↦ t.number ]
+abbrev pub option_is : Option ℕ → Option ℕ → Bool
+option_is None None = true
+option_is (Some x) (Some y) = x == y
+option_is x y = false
+
+abbrev pub reads_eq : List ReadMark → List ReadMark → Bool
+reads_eq xs ys = pointwise (λ (x y : ReadMark). oid_eq x.oid y.oid && part_eq x.part y.part && (x.version == y.version)) xs ys
+
+abbrev pub same_tx : Tx → Tx → Bool
+same_tx t u = (t.number == u.number) && reads_eq t.reads u.reads && writes_eq t.writes u.writes && option_is t.snapshot u.snapshot
+
+abbrev pub tx_eq : Option Tx → Option Tx → Bool
+tx_eq None None = true
+tx_eq (Some t) (Some u) = same_tx t u
+tx_eq t u = false
 
 abbrev pub is_forgotten : WhatOf kinds → Bool
 is_forgotten (told.Refused (cause.Forgotten at b)) = true
 is_forgotten what = false
 
-abbrev pub refused_keeps : W → W → Told kinds → Bool
-refused_keeps w v t = implies (is_refused t.mark.what) (keeps_hosts (client kinds w t.mark.client) (client kinds v t.mark.client)
-    && ((tx_no (client kinds w t.mark.client) == tx_no (client kinds v t.mark.client)) || (is_forgotten t.mark.what && (tx_no (client kinds v t.mark.client) == 0))))
+abbrev pub keeps_tx : WhatOf kinds → Client kinds → Client kinds → Bool
+keeps_tx what c d = tx_eq d.tx c.tx || (is_forgotten what && not (is_some d.tx))
 
-abbrev pub keeps_ok : W → W → Bool
-keeps_ok w v = list_all (refused_keeps w v) (replies w v)
-    && list_all (λ k. implies (not (says w v k (λ what. true))) (keeps_hosts (client kinds w k) (client kinds v k) && (tx_no (client kinds w k) == tx_no (client kinds v k)))) (numbers w.cluster.clients 0)
+abbrev pub refused_keeps : W → W → Told kinds → Bool
+refused_keeps w v t = implies (is_refused t.mark.what) (keeps_hosts (client kinds w t.mark.client) (client kinds v t.mark.client) && keeps_tx t.mark.what (client kinds w t.mark.client) (client kinds v t.mark.client))
+
+-- a command that is refused in the step that gives it is refused before any work
+abbrev pub refused_first : W → W → E → Bool
+refused_first w v (Commands k x) = implies (says w v k is_refused) (runs kinds w (client_id k) && is_some (refusal kinds (client kinds w k) x))
+refused_first w v e = true
+
+abbrev pub silent_keeps : W → W → ℕ → Bool
+silent_keeps w v k = says w v k (λ what. true) || (keeps_hosts (client kinds w k) (client kinds v k) && tx_eq (client kinds v k).tx (client kinds w k).tx)
+
+-- the clients and the objects of the cluster
+abbrev pub same_cluster : W → W → Bool
+same_cluster w v = (length w.clients == length v.clients) && oids_eq v.cluster.objects w.cluster.objects
+
+abbrev pub keeps_ok : W → E → W → Bool
+keeps_ok w e v = refused_first w v e && list_all (refused_keeps w v) (replies w v) && each_client w (silent_keeps w v) && same_cluster w v
 
 abbrev pub same_cell : Cell → Option Cell → Bool
 same_cell c None = false
@@ -338,13 +452,10 @@ same_cell c (Some d) = cell_eq c d
 abbrev pub log_stays : W → W → Bool
 log_stays w v = list_all (λ (x : ℕ × Cell). same_cell x.1 (cell_at (log kinds v) x.0)) (log kinds w)
 
-abbrev pub each_client : W → (ℕ → Bool) → Bool
-each_client w f = list_all f (numbers w.cluster.clients 0)
-
 unfoldable pub step_fails : W → E → W → List Claim
 step_fails w e v =
-    fails Stands (stands_ok w v) ++ fails Falls (each_client w (falls_ok w v)) ++ fails GivesUp (each_client w (gives_up_ok v)) ++ fails ReadsOn (each_client w (reads_on_ok w v))
-    ++ fails SyncsExact (each_client w (exact_ok w e v)) ++ fails CausesRefuse (refuse_ok w v e) ++ fails CausesTrue (causes_ok w e v) ++ fails NonesTrue (nones_ok w v) ++ fails RefusalsKeep (keeps_ok w v)
+    failed ((Stands, stands_ok w v) ∷ (Falls, each_client w (falls_ok w v)) ∷ (GivesUp, each_client v (gives_up_ok v)) ∷ (ReadsOn, each_client v (reads_on_ok w v))
+    ∷ (SyncsExact, each_client w (exact_ok w e v)) ∷ (CausesRefuse, refuse_ok w v e) ∷ (CausesTrue, causes_ok w e v) ∷ (NonesTrue, nones_ok w v) ∷ (RefusalsKeep, keeps_ok w e v) ∷ (StuckTrue, stuck_ok w v) ∷ [])
 
 -- Finishing.
 
@@ -422,41 +533,6 @@ exact_in x = (length x.walks, list_all (λ (y : Walked kinds). list_all (stream_
 
 abbrev pub exact_at_end : Header → List (Line kinds) → ℕ × Bool
 exact_at_end h xs = exact_in (ended_lines xs (record { walks = []; world = start kinds h }))
-
--- Entries are drafts that clients had begun to append: `EntriesOwn`.
-
-abbrev pub drafts_by : Option Append → List Entry
-drafts_by None = []
-drafts_by (Some a) = a.draft ∷ []
-
-abbrev pub drafts_of : W → List ℕ → List Entry
-drafts_of w [] = []
-drafts_of w (k ∷ ks) = drafts_by (append_by kinds (client kinds w k).work) ++ drafts_of w ks
-
--- the drafts of a run so far, and its world
-pub record Begun : Type 0 where
-  pub drafts : List Entry
-  pub world : W
-
-abbrev pub begun_steps : List E → Begun → Begun
-begun_steps [] x = x
-begun_steps (e ∷ es) x = let v = happens kinds x.world e in begun_steps es (record { drafts = drafts_of v (numbers v.cluster.clients 0) ++ x.drafts; world = v })
-
-abbrev pub begun_lines : List (Line kinds) → Begun → Begun
-begun_lines [] x = x
-begun_lines (l ∷ ls) x = let w = next_event kinds x.world in begun_lines ls (begun_steps (line_ev w l) (record { drafts = x.drafts; world = w }))
-
-abbrev pub is_draft_of : Entry → Entry → Bool
-is_draft_of e d = bytes_eq (page_of e) (page_of (linked d e.head.streams)) && oids_eq (streams_of e) (streams_of d)
-
-abbrev pub are_own : List Entry → W → Bool
-are_own ds w = list_all (λ (x : ℕ × Entry). list_any (is_draft_of x.1) ds) (entries_of (log kinds w))
-
-abbrev pub own_by : Begun → Bool
-own_by x = are_own x.drafts x.world
-
-abbrev pub own_at_end : Header → List (Line kinds) → Bool
-own_at_end h xs = own_by (begun_lines xs (record { drafts = []; world = start kinds h }))
 
 -- Settlings of a run, each begun with all packets lost: is the one waiting client answered, in so few deliveries; and is it
 -- without the settling.

@@ -23,13 +23,14 @@ use Rattle.tg_model.specs.Kinds.{EventOf, MarkOf, WhatOf, DoneOf}
 use Rattle.tg_model.specs.Stores.{state_at, answer_at, is_stamp}
 use Rattle.tg_model.specs.Traces.{puts_of, has_items}
 use Rattle.tg_model.specs.Verdicts.{fault, bound}
-use Rattle.tg_protocol.specs.Words.{oid_eq, part_eq, bytes_eq, cell_at, node_eq, has_num, directory, client_id, unit_id, numbers, seqr_id, where_true}
+use Rattle.tg_protocol.specs.Words.{is_whole, oid_eq, part_eq, bytes_eq, cell_at, node_eq, has_num, directory, client_id, unit_id, numbers, seqr_id, where_true}
 use Rattle.tg_protocol.specs.Layouts.{units_of, first_layout}
 use Rattle.tg_protocol.specs.Entries.{is_commit, lists, needs_decision, reads_of, writes_of, streams_of}
 use Rattle.tg_protocol.specs.Views.{Base, View, Entries, decision_in}
 use Rattle.tg_protocol.specs.Transactions.{read_before}
 use Rattle.tg_protocol.specs.Checkpoints.{base_at}
-use Rattle.tg_protocol.specs.Logs.{Log, entries_of, version, outcome, path, by_majority}
+use Rattle.tg_protocol.specs.Versions.{Based, PartVersion, version_in, noted_or, whole_noted}
+use Rattle.tg_protocol.specs.Logs.{Log, entries_of, version, changes_below, outcome, path, by_majority}
 use Rattle.tg_protocol.specs.Units.{UnitState}
 use Rattle.tg_protocol.specs.Clients.{Client, write_of}
 use Rattle.tg_protocol.specs.Trimming.{has_stripe}
@@ -50,7 +51,7 @@ pub data Claim : Type 0 where
   CheckpointsTrue : Claim
   FatesTrue : Claim  -- of `Alike`: decision records, and the fates of kept views
   OneLayout : Claim  -- and `LatestDecided`
-  LayoutsFollow : Claim  -- as far as seals and starts go
+  LayoutsFollow : Claim  -- as far as seals and starts go; whole in FollowSound
   LogAgrees : Claim  -- what replies tell: the rest of `Alike`, `RepliesHaveRecords`, `AbortsLeast`, `PastTrue`, `RescueTrue`
   MarksRest : Claim
   InOrder : Claim  -- `RecordsInOrder`, of commit records; of places by the judge
@@ -64,6 +65,7 @@ pub data Claim : Type 0 where
   CausesTrue : Claim  -- `RefusalsTrue` and `UnsureTrue`
   NonesTrue : Claim
   RefusalsKeep : Claim
+  StuckTrue : Claim
   LogStays : Claim  -- of a line
   Finishes : Claim  -- of a settling: `CommandFinishes`, `ReconfFinishes`
 
@@ -215,10 +217,20 @@ floors_stay w l = list_all (λ (c : Client kinds). list_all (has_cell l) (number
 abbrev pub directories : W → Bool
 directories w = list_all (λ (c : Client kinds). states_eq c.dir (directory_at w c.played)) w.clients
 
+-- Parts are endless: those that the committed changes and the checkpoint name are tested one by one, and any other has
+-- the version of the last change of the whole.
+
+abbrev pub part_true : List PartVersion → Based → Part → Bool
+part_true ns b k = is_whole k || (noted_or None ns b.oid k == version_in b k)
+
+abbrev pub parts_true : List PartVersion → Based → Bool
+parts_true ns b = list_all (λ (n : PartVersion). part_true ns b n.part) ns && list_all (λ (x : Part × ℕ). part_true ns b x.0) b.keys
+    && (whole_noted None ns b.oid == b.whole) && (noted_or None ns b.oid All == b.version)
+
 abbrev pub checkpoint_true : W → Entry → Body → Bool
 checkpoint_true w e (Checkpoint o u v whole keys state) = implies (e.head.format == 2) (
-    bytes_eq state (kinds.save (state_at kinds w.cluster.objects (history kinds w) u o)) && (v == version kinds (log kinds w) o All u)
-    && list_all (λ (x : Part × ℕ). version kinds (log kinds w) o x.0 u == x.1) keys)
+    bytes_eq state (kinds.save (state_at kinds w.cluster.objects (history kinds w) u o))
+    && parts_true (changes_below kinds [] (entries_of (log kinds w)) u) (record { oid = o; version = v; whole = whole; keys = keys }))
 checkpoint_true w e body = true
 
 abbrev pub checkpoints : W → Entries → Bool
@@ -289,16 +301,16 @@ abbrev pub is_look : Msg → Msg → Bool
 is_look (msg.Has e a b s) (msg.Has f c d t) = (e == f) && (a == c) && (b == d) && (s == t)
 is_look x y = false
 
-abbrev pub is_whole : Msg → Bool
-is_whole msg.Whole = true
-is_whole x = false
+abbrev pub tells_whole : Msg → Bool
+tells_whole msg.Whole = true
+tells_whole x = false
 
 abbrev pub answered : W → Told kinds → (Msg → Bool) → ℕ → (Msg → Bool) → Bool
 answered w t asks u says = list_any (λ (p : Packet). node_eq p.from (client_id t.mark.client) && node_eq p.to (unit_id u) && nat_le t.noted.next p.rid && asks p.msg
     && list_any (λ (q : Packet). node_eq q.from (unit_id u) && node_eq q.to (client_id t.mark.client) && (q.rid == p.rid) && says q.msg) w.packets) w.packets
 
 abbrev pub is_copied : W → List (ℕ × Layout) → Told kinds → ℕ → ℕ → ℕ → Bool
-is_copied w qs t u r s = list_any (λ (x : ℕ × Layout). answered w t (is_look (has_stripe x.0 x.1 r s)) u is_whole) qs
+is_copied w qs t u r s = list_any (λ (x : ℕ × Layout). answered w t (is_look (has_stripe x.0 x.1 r s)) u tells_whole) qs
 
 abbrev pub is_saved : W → Entries → Told kinds → Oid → ℕ → Body → Bool
 is_saved w es t o u (Checkpoint p v a b c d) = oid_eq o p && (u == v)
@@ -377,6 +389,9 @@ abbrev pub heard_new : W → Told kinds → ℕ → Layout → Bool
 heard_new w t e q = heard w t.mark.client 0 (is_later e)
     || list_any (λ (p : Packet). node_eq p.from (seqr_id q.seq) && node_eq p.to (client_id t.mark.client) && nat_le t.noted.next p.rid && is_tail (λ x. true) p.msg) w.packets
 
+abbrev pub overtakes : Told kinds → ℕ → ℕ × Layout → Bool
+overtakes t e x = (x.0 == e) && not (x.1.by == t.mark.client) && nat_lt t.noted.epoch e
+
 abbrev pub agrees : W → Entries → List (ℕ × Layout) → Told kinds → WhatOf kinds → Bool
 agrees w es qs t (told.Fate p (Some b)) = outcome_is w es p b
 agrees w es qs t (told.Decided p (Some b)) = outcome_is w es p b && recorded_now w es t p
@@ -388,7 +403,7 @@ agrees w es qs t (told.Saved o p u) = entry_here es p (λ e. (e.head.client == t
 agrees w es qs t (told.Trimmed n) = heard_now w t (is_tail (λ x. kinds.floor (state_at kinds w.cluster.objects (history kinds w) x directory) == n)) && is_trimmed w qs t.noted.epoch n
 agrees w es qs t (told.Copied u r s) = is_copied w qs t u r s
 agrees w es qs t (told.Installed e) = list_any (λ (x : ℕ × Layout). (x.0 == e) && (x.1.by == t.mark.client) && nat_lt t.noted.epoch e && heard_new w t e x.1) qs
-agrees w es qs t (told.Refused (cause.Overtaken e)) = list_any (λ (x : ℕ × Layout). (x.0 == e) && not (x.1.by == t.mark.client) && nat_lt t.noted.epoch e) qs
+agrees w es qs t (told.Refused (cause.Overtaken e)) = list_any (overtakes t e) qs
 agrees w es qs t (told.Past o q p a) = same.answers a (answer_at kinds w.cluster.objects (history kinds w) p o q)
 agrees w es qs t what = true
 
