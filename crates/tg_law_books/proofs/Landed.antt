@@ -90,15 +90,18 @@ module _ (m : Meaning) (es : Entries) (k : ℕ) where
     lands : (w : Work m) (a : Append) (p : ℕ) (page : List ℕ) → c.work ≡ Some w → task_in m w.hand ≡ Appending a Judged → EndsSo m es a.draft (At p page) → HasRec c.tx p
     unfolding commit_record
     lands w a p page has is e u at = record {
-      entry = linked a.draft e.0;
-      here = e.1;
-      commit = ap (λ (d : Entry). is_commit d) x.draft;
+      entry = linked a.draft (e commit).0;
+      here = (e commit).1;
+      commit = commit;
       client = ap (λ (d : Entry). d.head.client) x.draft;
       number = ap (λ (d : Entry). d.head.number) x.draft ∙ ap (λ (z : Tx). z.number) (same_some x.of u (sym x.is ∙ at));
     }
       where
         x : IsOfTx m k tr c.tx a.draft
         x = subst (DraftOf m k tr c.tx c.begun) is (h.drafts w has)
+
+        commit : is_commit a.draft ≡ true
+        commit = ap (λ (d : Entry). is_commit d) x.draft
 
     onward : (w0 : Work m) (end : Option AppendEnd) (d : Client m) (v : Work m) → c.work ≡ Some w0 → EndsTruly c end → d.tx ≡ c.tx → IsEnd m w0.command → Onward m c w0 end v → LandedTask d.tx v.at (task_in m v.hand)
     onward w0 end d v has so t e (Same' a b y x z draft at) =

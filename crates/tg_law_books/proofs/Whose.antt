@@ -195,7 +195,7 @@ module _ (m : Meaning) where
           at_is n q e = same_commit q p (says n (told.Committed q) e ∙ is)
 
           placed : (a : Append) (q : ℕ) (page : List ℕ) → EndsSo m es a.draft (At q page) → is_commit a.draft ≡ true → a.draft.head.client ≡ k → a.draft.head.number ≡ x → q ≡ p → HasRecordOf es p k x
-          placed a q page so commit cl n same = subst (λ (i : ℕ). HasRecordOf es i k x) same (record { entry = linked a.draft so.0; here = so.1; commit = commit; client = cl; number = n })
+          placed a q page so commit cl n same = subst (λ (i : ℕ). HasRecordOf es i k x) same (record { entry = linked a.draft (so commit).0; here = (so commit).1; commit = commit; client = cl; number = n })
 
           later : (s : ℕ) (u : Tx) → c.tx ≡ Some u → u.number ≡ x → u.snapshot ≡ Some s → AskedThere k x s
           later s u has number snap =

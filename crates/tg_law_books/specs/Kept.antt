@@ -46,12 +46,12 @@ module _ (m : Meaning) where
     pub forgotten : (k x p n q : ℕ) → Tells m (trace m w) k x (told.Refused (cause.Forgotten p n)) → HasRecord m w q k x → q ≡ p
     pub dropped : (k x q : ℕ) → Tells m (trace m w) k x told.Dropped → HasRecord m w q k x → ⊥
 
-  -- An append that has ended stands where it says, with the links that were issued to it; a record that it forgot stands nowhere else.
+  -- A record whose append has ended stands where it says, with the links that were issued to it; one that it forgot stands nowhere else.
   abbrev pub EndsSo : Entries → Entry → AppendEnd → Type 0
-  EndsSo es d (At p page) = (links : List StreamLink) × Contains es (p, linked d links)
+  EndsSo es d (At p page) = is_commit d ≡ true → (links : List StreamLink) × Contains es (p, linked d links)
   EndsSo es d (Forgotten p below) = (q : ℕ) (e : Entry) → Contains es (q, e) → is_commit d ≡ true → is_commit e ≡ true → e.head.client ≡ d.head.client → e.head.number ≡ d.head.number → q ≡ p
   EndsSo es d (Full limit) = Unit {0}
 
-  -- so does each append that ends in a step of the run
+  -- so does each that ends in a step of the run
   abbrev pub AppendsEnd : Header → Moves m → World m → Type 0
   AppendsEnd h ms w = InEachStep m h ms (λ before v e. (k : ℕ) (a : Append) (x : AppendEnd) → append_by m (client m v k).work ≡ Some a → ended_in m v e k ≡ Some x → EndsSo (entries_in m w) a.draft x)

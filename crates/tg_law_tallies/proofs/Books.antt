@@ -167,7 +167,7 @@ here_made : Contains es (0, linked (commit_record tx_made 0) entry_made.head.str
 here_made = subst (λ (e : Entry). Contains es (0, e)) drafted here
 
 stands : (a : Append) (x : AppendEnd) → draft_of (Some a) ≡ Some (commit_record tx_made 0) → end_at (Some x) ≡ Some 0 → EndsSo tallies es a.draft x
-stands a (At p page) d e = (entry_made.head.streams, subst (λ (i : ℕ). Contains es (i, linked a.draft entry_made.head.streams)) (sym (zero_is p e)) (subst (λ (i : Entry). Contains es (0, linked i entry_made.head.streams)) (sym (entry_is a.draft (commit_record tx_made 0) d)) here_made))
+stands a (At p page) d e = λ commit. (entry_made.head.streams, subst (λ (i : ℕ). Contains es (i, linked a.draft entry_made.head.streams)) (sym (zero_is p e)) (subst (λ (i : Entry). Contains es (0, linked i entry_made.head.streams)) (sym (entry_is a.draft (commit_record tx_made 0) d)) here_made))
 stands a (Full l) d e = absurd (nothing_is e)
 stands a (Forgotten p b) d e = absurd (nothing_is e)
 
