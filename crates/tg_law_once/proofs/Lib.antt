@@ -1,0 +1,13 @@
+pub mod Nowhere
+pub mod Feeding
+pub mod Filling
+pub mod Turning
+pub mod Reached
+pub mod Spending
+pub mod Along
+pub mod Once
+pub mod Refusing
+pub mod Leaving
+pub mod Ending
+pub mod Known
+pub mod Worked
