@@ -10,4 +10,7 @@ pub mod Refusing
 pub mod Leaving
 pub mod Ending
 pub mod Known
+pub mod Ledgers
+pub mod Quieting
+pub mod Owning
 pub mod Worked

@@ -1,19 +1,22 @@
 -- Of which transaction a record is that a client begins to append, and where an open transaction comes from.
-use Rattle.std.proofs.Common.{◌≡◌, ℕ, List, ◌+◌, ◌≤◌, true, false, refl, sym, ap, ◌∙◌, subst, arith, Option, Some, None, ◌<◌}
+use Rattle.std.proofs.Common.{◌≡◌, ℕ, List, ◌+◌, ◌≤◌, true, false, refl, sym, ap, ◌∙◌, subst, arith, Option, Some, None, ◌<◌, inl}
 use Rattle.tg_entry.specs.declared.entry.Body.{Body}
 use Rattle.tg_entry.specs.declared.entry.Body.TheVariants.{Commit, Decision, Checkpoint}
 use Rattle.tg_entry.specs.declared.entry.Entry.{Entry}
 use Rattle.tg_entry.specs.Format.{tag_of}
 use Rattle.tg_kind.specs.Meaning.{Meaning}
 use Rattle.tg_model.specs.declared.command.Command.TheVariants as cmd
+use Rattle.tg_model.specs.declared.refusal.Refusal.TheVariants as cause
+use Rattle.tg_model.specs.declared.trace.What.TheVariants as told
 use Rattle.tg_model.specs.Kinds.{CommandOf, NoteOf}
 use Rattle.tg_model.specs.Traces.{Trace}
 use Rattle.tg_protocol.specs.Entries.{is_commit}
 use Rattle.tg_protocol.specs.Appending.{Append, AppendEnd}
 use Rattle.tg_protocol.specs.Transactions.{Tx, commit_record}
-use Rattle.tg_protocol.specs.Clients.{Purpose, Writes, Judged, Decides, Rescues, Saves, Marks, Task, Syncing, Walking, Appending, Trimming, Copying', Reconfiguring, Work, Client}
-use Rattle.tg_protocol.specs.Answers.{Moved}
+use Rattle.tg_protocol.specs.Clients.{Purpose, Writes, Judged, Decides, Rescues, Saves, Marks, Task, Syncing, Walking, Appending, Trimming, Copying', Reconfiguring, Work, Client, tx_number}
+use Rattle.tg_protocol.specs.Answers.{Moved, note}
 use Rattle.tg_protocol.specs.ClientSteps.{task_in}
+use Rattle.tg_law_history.proofs.Members.{Has}
 use Rattle.tg_law_books.proofs.Effects.{IsEnd, IsAsk, Idle, Suits, SuitsPurpose, IsRecord, Onward, Same', Walks, Lands, Begins, Quit, Zeros, AskFails, Filled, Marked, MarkFilled, MarkLost, On, Quits, Closes, Asks, Marks'}
 use Rattle.tg_law_books.proofs.Commands.{Refuses, Takes', Taking, Nothing, Opening, Putting, Answering, Ending, EndingLater, Dropping, Beginning, Turned, Idles, Works, Takes}
 use Rattle.tg_law_books.proofs.Turns.{BookOf, DraftFor, DraftOf}
@@ -186,6 +189,8 @@ module _ (m : Meaning) where
       pub record' : IsRecord m hand.purpose
       pub idle : r.now.work ≡ None
       pub still : r.now.tx ≡ Some t
+      pub limit : ℕ
+      pub tells : Has r.notes (note m t.number (told.Refused (cause.LogFull limit)))
 
     pub data Opened (r : Moved m) (t : Tx) : Type 0 where
       Was : (s : Tx) → c.tx ≡ Some s → t.number ≡ s.number → NotEnding c → Opened r t
@@ -215,10 +220,10 @@ module _ (m : Meaning) where
       marks : (w : Work m) (a : Append) (y : Purpose m) → c.work ≡ Some w → task_in m w.hand ≡ Appending a y → SuitsPurpose m w.command y
       marks w a y has at = subst (Suits m w.command) at (suits0 w has)
 
-      quit : (w : Work m) (end : Option AppendEnd) (has : c.work ≡ Some w) → r.now.work ≡ None → r.now.tx ≡ c.tx → (ns : List (NoteOf m)) → Quit m c w end ns → Opened r t
-      quit w end has idle e ns (Zeros other z) = was_open e (not_end w has other)
-      quit w end has idle e ns (AskFails why i z) = was_open e (not_end w has (both w.command i))
-      quit w end has idle e ns (Filled a y l at rec f) = Ran (record {
+      quit : (w : Work m) (end : Option AppendEnd) (has : c.work ≡ Some w) → r.now.work ≡ None → r.now.tx ≡ c.tx → (ns : List (NoteOf m)) → r.notes ≡ ns → Quit m c w end ns → Opened r t
+      quit w end has idle e ns notes (Zeros other z) = was_open e (not_end w has other)
+      quit w end has idle e ns notes (AskFails why i z) = was_open e (not_end w has (both w.command i))
+      quit w end has idle e ns notes (Filled a y l at rec f) = Ran (record {
         was = t;
         open' = sym e ∙ is;
         number = refl;
@@ -227,10 +232,13 @@ module _ (m : Meaning) where
         record' = rec;
         idle = idle;
         still = is;
+        limit = l;
+        tells = subst (λ (xs : List (NoteOf m)). Has xs (note m t.number (told.Refused (cause.LogFull l)))) (sym notes)
+            (inl (ap (λ (i : ℕ). note m i (told.Refused (cause.LogFull l))) (ap (λ (o : Option Tx). tx_number m o) (sym is ∙ e))));
       })
-      quit w end has idle e ns (Marked a n o j p page at f) = was_open e (not_end w has (forgets w.command (marks w a (Marks n o j) has at)))
-      quit w end has idle e ns (MarkFilled a n o j l at f) = was_open e (not_end w has (forgets w.command (marks w a (Marks n o j) has at)))
-      quit w end has idle e ns (MarkLost a n o j p b at f) = was_open e (not_end w has (forgets w.command (marks w a (Marks n o j) has at)))
+      quit w end has idle e ns notes (Marked a n o j p page at f) = was_open e (not_end w has (forgets w.command (marks w a (Marks n o j) has at)))
+      quit w end has idle e ns notes (MarkFilled a n o j l at f) = was_open e (not_end w has (forgets w.command (marks w a (Marks n o j) has at)))
+      quit w end has idle e ns notes (MarkLost a n o j p b at f) = was_open e (not_end w has (forgets w.command (marks w a (Marks n o j) has at)))
 
       taken : {x : _} → Taking m c x r → c.work ≡ None → Opened r t
       taken (Nothing s e z) free = was_open s.0 (free_end free)
@@ -245,7 +253,7 @@ module _ (m : Meaning) where
       pub opened : (turn : Turned m c r) → Opened r t
       opened (Idles s same notes) = was_open s.0 (λ w has e. none w (same ∙ has) e)
       opened (Works w end has (On s notes v at same on)) = was_open s.0 (not_end w has (λ e. none v at (subst (IsEnd m) (sym same) e)))
-      opened (Works w end has (Quits s e q)) = quit w end has e s.0 r.notes q
+      opened (Works w end has (Quits s e q)) = quit w end has e s.0 r.notes refl q
       opened (Works w end has (Closes s e i what notes z)) = gone_tx s.0
       opened (Works w end has (Asks a)) = Was a.of a.from (ap (λ (z : Tx). z.number) (sym (same_some _ t (sym a.tx ∙ is)))) (not_end w has (both w.command a.is_ask))
       opened (Works w end has (Marks' x)) = was_open x.tx (not_end w has (forgets w.command x.command))

@@ -1,9 +1,12 @@
 -- What the log has of its clients' records, where trims were safe: so these are no premises of the laws on books any more.
 use Rattle.tg_base.specs.Clusters.{Header}
 use Rattle.tg_kind.specs.Meaning.{Meaning}
-use Rattle.tg_protocol.specs.Worlds.{World}
+use Rattle.tg_model.specs.Legal.{InOrder, Legal}
+use Rattle.tg_protocol.specs.Worlds.{World, trace, history}
 use Rattle.tg_protocol.specs.Runs.{Moves, Reaches}
+use Rattle.tg_protocol.specs.Holding.{EntriesOwn, RepliesHaveRecords}
 use Rattle.tg_law_entries.specs.Archive.{TrimsWereSafe}
+use Rattle.tg_law_replies.specs.Laws.{ClientsFind}
 use Rattle.tg_law_books.specs.Booked.{ClientsBook}
 use Rattle.tg_law_books.specs.Kept.{RecordsLeft, AppendsEnd, AsksPrecede}
 use Rattle.tg_law_books.specs.Laws.{RecordsKnown, RepliesKnown}
@@ -31,3 +34,8 @@ module _ (m : Meaning) where
 
   abbrev pub RepliesKnownBySafeTrims : Type 0
   RepliesKnownBySafeTrims = ByRunsOfSafeTrims (λ h ms w. AsksPrecede m w → RepliesKnown m w)
+
+  -- A run is legal, where its clients find what they need of the log that it comes to, each entry is what its client
+  -- began, what replies tell of records stands there, and no place precedes a reply from before its transaction.
+  abbrev pub RunsLegalBySafeTrims : Type 0
+  RunsLegalBySafeTrims = ByRunsOfSafeTrims (λ h ms w. ClientsFind m h ms w → EntriesOwn m h ms w → RepliesHaveRecords m w → AsksPrecede m w → InOrder m (history m w) (trace m w) → Legal m w.cluster.objects (history m w) (trace m w))

@@ -3,9 +3,9 @@
 ghost use Rattle.tg_kind.specs.Of.{meaning_of};
 ghost use Rattle.tg_law_entries.specs.Archive.{AlwaysBySafeTrims};
 ghost use Rattle.tg_law_once.specs.GivenUp.{LogKept, OnePosition, SettledKept};
-ghost use Rattle.tg_law_once.specs.Records.{AppendsStand, BooksKeptBySafeTrims, RecordsKnownBySafeTrims, RecordsWereLeft, RepliesKnownBySafeTrims};
+ghost use Rattle.tg_law_once.specs.Records.{AppendsStand, BooksKeptBySafeTrims, RecordsKnownBySafeTrims, RecordsWereLeft, RepliesKnownBySafeTrims, RunsLegalBySafeTrims};
 ghost use Rattle.tg_law_once.specs.Worked.{WorkedOnce};
-ghost use Rattle.tg_protocol.specs.Holding.{EntriesOnce};
+ghost use Rattle.tg_protocol.specs.Holding.{EntriesOnce, RecordsOwn};
 ghost use Rattle.tg_protocol.specs.Runs.{Always};
 
 use tg_kind::Registry;
@@ -41,6 +41,11 @@ pub fn appends_stand<K: Registry>()
     ensures { AppendsStand (meaning_of K.Registry) }
 {}
 
+/// Each commit record of the log has the puts and the asks of a transaction that was ended, where trims were safe.
+pub fn records_own<K: Registry>()
+    ensures { AlwaysBySafeTrims (meaning_of K.Registry) (RecordsOwn (meaning_of K.Registry)) }
+{}
+
 /// Each step of a run keeps the books of transactions, where trims were safe and a record stands at or past where its
 /// transaction asked.
 pub fn books_kept<K: Registry>()
@@ -55,6 +60,13 @@ pub fn records_known<K: Registry>()
 /// And what replies tell of a transaction's record is so, as far as whose it is.
 pub fn replies_known<K: Registry>()
     ensures { RepliesKnownBySafeTrims (meaning_of K.Registry) }
+{}
+
+/// So a run is legal where trims were safe, its clients find what they need of the log that it ends with, each entry was
+/// begun by its client, what is told of a record stands there, a record stands at or past where its transaction asked, and
+/// no place of a transaction precedes a reply that came before its beginning.
+pub fn runs_legal<K: Registry>()
+    ensures { RunsLegalBySafeTrims (meaning_of K.Registry) }
 {}
 
 /// A run in which a client gives a token up, since another sequencer takes over and a unit is dropped, puts its page with
