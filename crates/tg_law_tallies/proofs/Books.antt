@@ -39,7 +39,6 @@ use Rattle.tg_entry.specs.declared.entry.Entry.{Entry}
 use Rattle.tg_model.specs.Kinds.{EventOf, WhatOf, MarkOf}
 use Rattle.tg_model.specs.declared.refusal.Refusal.TheVariants as cause
 use Rattle.tg_protocol.specs.Runs.{Moves, Takes, run}
-use Rattle.tg_law_history.specs.Logs.{commits}
 use Rattle.tg_law_history.proofs.Members.{Has, has_contained}
 use Rattle.tg_protocol.specs.Entries.{linked}
 use Rattle.tg_protocol.specs.Appending.{Append, AppendEnd, At, Full, Forgotten, Asking}
