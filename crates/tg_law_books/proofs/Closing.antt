@@ -167,9 +167,9 @@ module _ (m : Meaning) where
       quit : (w : Work m) (end : Option AppendEnd) (ns : List (NoteOf m)) → c.work ≡ Some w → NotFull t.number ns → Quit m c w end ns → ⊥
       quit w end ns has full (Zeros other z) = other (end_of w has)
       quit w end ns has full (AskFails why i z) = both w.command (end_of w has) i
-      quit w end ns has full (Filled a y l is z) = full l (inl (ap (λ (i : ℕ). note m i (told.Refused (cause.LogFull l))) (sym number_is)))
+      quit w end ns has full (Filled a y l is z f) = full l (inl (ap (λ (i : ℕ). note m i (told.Refused (cause.LogFull l))) (sym number_is)))
       quit w end ns has full (Marked a n o j p page is e) = marks_end w a n o j has is
-      quit w end ns has full (MarkFilled a n o j l is) = marks_end w a n o j has is
+      quit w end ns has full (MarkFilled a n o j l is f) = marks_end w a n o j has is
       quit w end ns has full (MarkLost a n o j p b is e) = marks_end w a n o j has is
 
       pub held_turned : (r : Moved m) → NotFull t.number r.notes → Turned m c r → Held t r.now ⊎ Only t.number None' r.now
@@ -219,9 +219,9 @@ module _ (m : Meaning) where
     quit_not : (w : Work m) (end : Option AppendEnd) (ns : List (NoteOf m)) (x : ℕ) (o : Oid) (j : ℕ) → Quit m c w end ns → ns ≡ mark_notes m (x + 1) o j → ⊥
     quit_not w end ns x o j (Zeros other z) e = not_zero ns x o j z e
     quit_not w end ns x o j (AskFails why i z) e = few ns (x + 1) o j (omega arith) e
-    quit_not w end ns x o j (Filled a y l is z) e = few ns (x + 1) o j (omega arith) e
+    quit_not w end ns x o j (Filled a y l is z f) e = few ns (x + 1) o j (omega arith) e
     quit_not w end ns x o j (Marked a n p q b page is f) e = few ns (x + 1) o j (omega arith) e
-    quit_not w end ns x o j (MarkFilled a n p q l is) e = few ns (x + 1) o j (omega arith) e
+    quit_not w end ns x o j (MarkFilled a n p q l is f) e = few ns (x + 1) o j (omega arith) e
     quit_not w end ns x o j (MarkLost a n p q b l is f) e = few ns (x + 1) o j (omega arith) e
 
     pub mark_turned : (r : Moved m) (o : Oid) (j : ℕ) → r.notes ≡ mark_notes m (c.begun + 1) o j → Turned m c r → MarkBegun r o j

@@ -115,9 +115,9 @@ module _ (m : Meaning) (c0 : Client m) (w0 : Work m) (end0 : Option AppendEnd) w
   pub data Quit : List (NoteOf m) → Type 0 where
     Zeros : {ns : List (NoteOf m)} → (IsEnd m w0.command → ⊥) → AllZero m ns → Quit ns
     AskFails : (why : Refusal) → IsAsk m w0.command → NotForgotten m why → Quit (note m (tx_number m c0.tx) (told.Refused why) ∷ [])
-    Filled : (a : Append) (y : Purpose m) (l : ℕ) → task_in m w0.hand ≡ Appending a y → IsRecord m y → Quit (note m (tx_number m c0.tx) (told.Refused (cause.LogFull l)) ∷ [])
+    Filled : (a : Append) (y : Purpose m) (l : ℕ) → task_in m w0.hand ≡ Appending a y → IsRecord m y → end0 ≡ Some (Full l) → Quit (note m (tx_number m c0.tx) (told.Refused (cause.LogFull l)) ∷ [])
     Marked : (a : Append) (n : ℕ) (o : Oid) (k p : ℕ) (page : List ℕ) → task_in m w0.hand ≡ Appending a (Marks n o k) → end0 ≡ Some (At p page) → Quit (note m n (told.Committed p) ∷ note m 0 (told.Marked o k) ∷ [])
-    MarkFilled : (a : Append) (n : ℕ) (o : Oid) (k l : ℕ) → task_in m w0.hand ≡ Appending a (Marks n o k) → Quit (note m n (told.Refused (cause.LogFull l)) ∷ [])
+    MarkFilled : (a : Append) (n : ℕ) (o : Oid) (k l : ℕ) → task_in m w0.hand ≡ Appending a (Marks n o k) → end0 ≡ Some (Full l) → Quit (note m n (told.Refused (cause.LogFull l)) ∷ [])
     MarkLost : (a : Append) (n : ℕ) (o : Oid) (k p b : ℕ) → task_in m w0.hand ≡ Appending a (Marks n o k) → end0 ≡ Some (Forgotten p b) → Quit (note m n (told.Refused (cause.Forgotten p b)) ∷ [])
 
   -- what is told of the transaction that is closed
@@ -544,7 +544,7 @@ module _ (m : Meaning) (c0 : Client m) (w0 : Work m) (end0 : Option AppendEnd) w
     purpose_suits = subst (λ (t : Task m). Suits m w0.command t) is suits0
 
     lost_record : (c : Client m) (w : Work m) (e : AppendEnd) → In c w → IsRecord m y → IsEnd m w0.command → end0 ≡ Some e → Effect (record_lost m c e)
-    lost_record c w (Full l) h rec end k = Quits (same c w h) refl (subst (λ (i : ℕ). Quit (note m i (told.Refused (cause.LogFull l)) ∷ [])) (sym (number_is c w h)) (Filled a y l is rec))
+    lost_record c w (Full l) h rec end k = Quits (same c w h) refl (subst (λ (i : ℕ). Quit (note m i (told.Refused (cause.LogFull l)) ∷ [])) (sym (number_is c w h)) (Filled a y l is rec k))
     lost_record c w (Forgotten p b) h rec end k = Closes (refl, h.1, h.2) refl end (told.Refused (cause.Forgotten p b)) (ap (λ (i : ℕ). note m i (told.Refused (cause.Forgotten p b)) ∷ []) (number_is c w h)) (Lost a y p b is rec k)
     lost_record c w (At p d) h rec end k = still suits0 c w h
 
@@ -579,7 +579,7 @@ module _ (m : Meaning) (c0 : Client m) (w0 : Work m) (end0 : Option AppendEnd) w
     ended_effect (Saves o u) at c w (Full l) h k = lost_other c w (Full l) h (subst (SuitsPurpose m w0.command) at purpose_suits)
     ended_effect (Saves o u) at c w (Forgotten p b) h k = lost_other c w (Forgotten p b) h (subst (SuitsPurpose m w0.command) at purpose_suits)
     ended_effect (Marks n o j) at c w (At p d) h k = Quits (took_same (owns m c p d) c.view (same c w h)) refl (Marked a n o j p d (is ∙ ap (Appending a) at) k)
-    ended_effect (Marks n o j) at c w (Full l) h k = Quits (same c w h) refl (MarkFilled a n o j l (is ∙ ap (Appending a) at))
+    ended_effect (Marks n o j) at c w (Full l) h k = Quits (same c w h) refl (MarkFilled a n o j l (is ∙ ap (Appending a) at) k)
     ended_effect (Marks n o j) at c w (Forgotten p b) h k = Quits (same c w h) refl (MarkLost a n o j p b (is ∙ ap (Appending a) at) k)
 
     append_effect : (c : Client m) (w : Work m) (t : Turn Append AppendEnd) → In c w → Keeps a.draft t.to → end_of t.to ≡ end0 → Effect (on_append m c w y t)

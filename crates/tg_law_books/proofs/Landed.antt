@@ -20,7 +20,7 @@ use Rattle.tg_protocol.specs.Runs.{Moves, Next, Takes, run}
 use Rattle.tg_protocol.specs.Holding.{append_by, append_of}
 use Rattle.tg_law_history.specs.Worlds.{entries_in}
 use Rattle.tg_law_replies.specs.Told.{HasRecordOf}
-use Rattle.tg_law_books.specs.Kept.{EndsSo, AppendsEnd}
+use Rattle.tg_law_books.specs.Kept.{RecordEndsSo, RecordsEnd}
 use Rattle.tg_law_books.proofs.Effects.{IsEnd, Idle, OfRecord, DecidesOf, Onward, Same', Walks, Lands, Begins, On, Quits, Closes, Asks, Marks'}
 use Rattle.tg_law_books.proofs.Commands.{Refuses, Takes', Taking, Nothing, Opening, Putting, Answering, Ending, EndingLater, Dropping, Beginning, Turned, Idles, Works, ended_by}
 use Rattle.tg_law_books.proofs.Commands as turn
@@ -45,7 +45,7 @@ module _ (m : Meaning) (es : Entries) (k : ℕ) where
 
   -- what an append that ends is, by the log
   abbrev pub EndsTruly : Client m → Option AppendEnd → Type 0
-  EndsTruly c end = (a : Append) (x : AppendEnd) → append_by m c.work ≡ Some a → end ≡ Some x → EndsSo m es a.draft x
+  EndsTruly c end = (a : Append) (x : AppendEnd) → append_by m c.work ≡ Some a → end ≡ Some x → RecordEndsSo m es a.draft x
 
   pub idle_rec : (t : Task m) (tx : Option Tx) (p : ℕ) → Idle m t → LandedTask tx p t → HasRec tx p
   idle_rec (Appending a y) tx p h x = absurd h
@@ -87,18 +87,21 @@ module _ (m : Meaning) (es : Entries) (k : ℕ) where
 
   module _ (tr : Trace m) (c : Client m) (h : BookOf m k tr c) (l : Landed c) where
     -- the record has landed
-    lands : (w : Work m) (a : Append) (p : ℕ) (page : List ℕ) → c.work ≡ Some w → task_in m w.hand ≡ Appending a Judged → EndsSo m es a.draft (At p page) → HasRec c.tx p
+    lands : (w : Work m) (a : Append) (p : ℕ) (page : List ℕ) → c.work ≡ Some w → task_in m w.hand ≡ Appending a Judged → RecordEndsSo m es a.draft (At p page) → HasRec c.tx p
     unfolding commit_record
     lands w a p page has is e u at = record {
-      entry = linked a.draft e.0;
-      here = e.1;
-      commit = ap (λ (d : Entry). is_commit d) x.draft;
+      entry = linked a.draft (e commit).0;
+      here = (e commit).1;
+      commit = commit;
       client = ap (λ (d : Entry). d.head.client) x.draft;
       number = ap (λ (d : Entry). d.head.number) x.draft ∙ ap (λ (z : Tx). z.number) (same_some x.of u (sym x.is ∙ at));
     }
       where
         x : IsOfTx m k tr c.tx a.draft
         x = subst (DraftOf m k tr c.tx c.begun) is (h.drafts w has)
+
+        commit : is_commit a.draft ≡ true
+        commit = ap (λ (d : Entry). is_commit d) x.draft
 
     onward : (w0 : Work m) (end : Option AppendEnd) (d : Client m) (v : Work m) → c.work ≡ Some w0 → EndsTruly c end → d.tx ≡ c.tx → IsEnd m w0.command → Onward m c w0 end v → LandedTask d.tx v.at (task_in m v.hand)
     onward w0 end d v has so t e (Same' a b y x z draft at) =
@@ -134,7 +137,7 @@ module _ (m : Meaning) (es : Entries) (k : ℕ) where
     landed_turned r (turn.Takes x (Refuses why is e)) so = subst (λ (y : Moved m). Landed y.now) (sym e) l
     landed_turned r (turn.Takes x (Takes' idle fine t)) so = taken x r t
 
-module _ (m : Meaning) (h : Header) (ms : Moves m) (ends : AppendsEnd m h ms (run m ms (start m h))) where
+module _ (m : Meaning) (h : Header) (ms : Moves m) (ends : RecordsEnd m h ms (run m ms (start m h))) where
   abbrev es : Entries
   es = entries_in m (run m ms (start m h))
 

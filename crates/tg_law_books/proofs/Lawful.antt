@@ -25,6 +25,7 @@ use Rattle.tg_protocol.specs.Answers.{note}
 use Rattle.tg_protocol.specs.ClientSteps.{snapshot_or}
 use Rattle.tg_protocol.specs.Worlds.{World, Told, start, client, happens, trace, history}
 use Rattle.tg_protocol.specs.Runs.{Moves, Takes, Reaches, run}
+use Rattle.tg_protocol.specs.Appending.{AppendEnd, At, Full, Forgotten}
 use Rattle.tg_protocol.specs.Alike.{HasRecord}
 use Rattle.tg_protocol.specs.Holding.{ReadsOf, EntriesOnce, EntriesOwn, RecordsOwn, RepliesHaveRecords, HasItsRecord}
 use Rattle.tg_protocol.specs.Holding as holding
@@ -39,7 +40,7 @@ use Rattle.tg_law_views.specs.Exact.{AreWriting}
 use Rattle.tg_law_pages.proofs.Read.{logs_keep_grammar}
 use Rattle.tg_law_replies.specs.Told.{IsRecord, HasRecordOf, HasFailed, TellsTrue}
 use Rattle.tg_law_replies.specs.Laws.{ClientsFind}
-use Rattle.tg_law_replies.specs.Ended.{AppendsEnd}
+use Rattle.tg_law_replies.specs.Ended.{EndsSo, AppendsEnd}
 use Rattle.tg_law_replies.proofs.Along.{Along, passed, at_end}
 use Rattle.tg_law_replies.proofs.Books.{mark, IsPlain, IsOpen, puts_more}
 use Rattle.tg_law_replies.proofs.Closed.{LeavesAlone}
@@ -48,7 +49,7 @@ use Rattle.tg_law_replies.proofs.Moves.{IsFailed, TrueWhat}
 use Rattle.tg_law_replies.proofs.Steps.{IsRightWorld}
 use Rattle.tg_law_replies.proofs.Kept.{IsOver, OnlyReads, IsKept, reads_stay, reads_only}
 use Rattle.tg_law_replies.proofs.Telling.{IsKeptWorld, RightAndKept, found_kept, true_reply}
-use Rattle.tg_law_books.specs.Kept.{AsksPrecede, RefusedLeaveNone}
+use Rattle.tg_law_books.specs.Kept.{AsksPrecede, RefusedLeaveNone, RecordEndsSo, RecordsEnd}
 use Rattle.tg_law_books.specs.Laws.{RunsAreLegal}
 use Rattle.tg_law_books.proofs.Effects.{IsEnd, Suits}
 use Rattle.tg_law_books.proofs.Commands.{ended_by}
@@ -515,9 +516,18 @@ module _ (m : Meaning) (apart : Apart m) (h : Header) (ms : Moves m) (r : Reache
   unfolding history history_of
   legal = subst (λ (os : List Oid). Legal m os (history_after m [] (entries_in m end)) (trace m end)) (sym right.objects_are) (telling_is_legal m apart h.objects (entries_in m end) (trace m end) (logs_rise m end) tells_true)
 
+-- what each append does at its end, a record's does
+records_end : (m : Meaning) (h : Header) (ms : Moves m) (w : World m) → AppendsEnd m h ms w → RecordsEnd m h ms w
+records_end m h ms w ends before after e at k a x has is = so x (ends before after e at k a x has is)
+  where
+    so : (x : AppendEnd) → EndsSo m (entries_in m w) a.draft x → RecordEndsSo m (entries_in m w) a.draft x
+    so (At p page) z = λ commit. z
+    so (Forgotten p below) z = z
+    so (Full limit) z = z
+
 pub runs_are_legal : (m : Meaning) → Apart m → RunsAreLegal m
 runs_are_legal m apart h ms w r finds ends left own once records replies precede order =
     subst (λ (u : World m). ClientsFind m h ms u → AppendsEnd m h ms u → EntriesOwn m h ms u → EntriesOnce m u → RecordsOwn m u → RepliesHaveRecords m u → AsksPrecede m u → RefusedLeaveNone m u → InOrder m (history m u) (trace m u)
     → Legal m u.cluster.objects (history m u) (trace m u))
     (sym r.goes.is) (λ finds ends own once records replies precede refused order. legal m apart h ms (subst (λ (u : World m). Reaches m h ms u) r.goes.is r) finds ends own once records replies precede refused order)
-    finds ends own once records replies precede (replies_are_known m h ms w r left precede ends).refused order
+    finds ends own once records replies precede (replies_are_known m h ms w r left precede (records_end m h ms w ends)).refused order

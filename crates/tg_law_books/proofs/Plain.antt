@@ -63,9 +63,9 @@ module _ (m : Meaning) where
     quit_plain : {w : _} {end : _} (ns : List (NoteOf m)) → Quit m c w end ns → (x : NoteOf m) → Has ns x → PlainOf x
     quit_plain ns (Zeros other z) x i = zero_plain ns z x i
     quit_plain ns (AskFails why is z) x i = one_plain ns _ refl (λ at. tt) x i
-    quit_plain ns (Filled a y l is z) x i = one_plain ns _ refl (λ at. tt) x i
+    quit_plain ns (Filled a y l is z f) x i = one_plain ns _ refl (λ at. tt) x i
     quit_plain ns (Marked a k p j q page is e) x i = two_plain (note m k (told.Committed q)) (note m 0 (told.Marked p j)) (λ at. tt) (λ at. tt) x i
-    quit_plain ns (MarkFilled a k p j l is) x i = one_plain ns _ refl (λ at. tt) x i
+    quit_plain ns (MarkFilled a k p j l is f) x i = one_plain ns _ refl (λ at. tt) x i
     quit_plain ns (MarkLost a k p j q b is e) x i = one_plain ns _ refl (λ at. tt) x i
 
     turn_plain : (r : Moved m) → Turned m c r → (x : NoteOf m) → Has r.notes x → PlainOf x

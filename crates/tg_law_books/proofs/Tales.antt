@@ -35,7 +35,7 @@ module _ (m : Meaning) where
 
   -- Refusals before any work.
 
-  abbrev Fine : Option Refusal → Type 0
+  abbrev pub Fine : Option Refusal → Type 0
   Fine None = Unit {0}
   Fine (Some why) = NotForgotten m why
 
@@ -97,7 +97,7 @@ module _ (m : Meaning) where
   fine_busy None = tt
   fine_busy (Some w) = tt
 
-  fine_refusal : (c : Client m) (x : CommandOf m) → Fine (refusal m c x)
+  pub fine_refusal : (c : Client m) (x : CommandOf m) → Fine (refusal m c x)
   unfolding refusal
   fine_refusal c x = fine_first (busy m c.work ∷ tests m c x) (fine_busy c.work, fine_tests c x)
 
@@ -142,13 +142,13 @@ module _ (m : Meaning) where
     quit_tale w ns n has (Zeros other z) i = zeros ns n z i
     quit_tale w ns n has (AskFails why is z) (inl e) = harmless n _ (told.Refused why) e (harmless_refusal why z)
     quit_tale w ns n has (AskFails why is z) (inr i) = absurd i
-    quit_tale w ns n has (Filled a y l is z) (inl e) = harmless n _ (told.Refused (cause.LogFull l)) e tt
-    quit_tale w ns n has (Filled a y l is z) (inr i) = absurd i
+    quit_tale w ns n has (Filled a y l is z f) (inl e) = harmless n _ (told.Refused (cause.LogFull l)) e tt
+    quit_tale w ns n has (Filled a y l is z f) (inr i) = absurd i
     quit_tale w ns n has (Marked a x o j p page is e) (inl z) = TellsMarked w a x o j p page has is e z
     quit_tale w ns n has (Marked a x o j p page is e) (inr (inl z)) = Tells0 (ap (λ (y : NoteOf m). y.tx) z)
     quit_tale w ns n has (Marked a x o j p page is e) (inr (inr i)) = absurd i
-    quit_tale w ns n has (MarkFilled a x o j l is) (inl e) = harmless n x (told.Refused (cause.LogFull l)) e tt
-    quit_tale w ns n has (MarkFilled a x o j l is) (inr i) = absurd i
+    quit_tale w ns n has (MarkFilled a x o j l is f) (inl e) = harmless n x (told.Refused (cause.LogFull l)) e tt
+    quit_tale w ns n has (MarkFilled a x o j l is f) (inr i) = absurd i
     quit_tale w ns n has (MarkLost a x o j p b is e) (inl z) = TellsMarkLost w a x o j p b has is e z
     quit_tale w ns n has (MarkLost a x o j p b is e) (inr i) = absurd i
 

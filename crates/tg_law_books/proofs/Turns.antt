@@ -242,9 +242,9 @@ module _ (m : Meaning) where
           quit_below : (end : Option AppendEnd) (ns : List (NoteOf m)) → Quit m c w0 end ns → NotesBelow c.begun ns
           quit_below end ns (Zeros other z) = zero_below ns c.begun z
           quit_below end ns (AskFails why i z) = (numbers_below, tt)
-          quit_below end ns (Filled a y l is z) = (numbers_below, tt)
+          quit_below end ns (Filled a y l is z f) = (numbers_below, tt)
           quit_below end ns (Marked a n o j p page is e) = (let x = (in_hand a (Marks n o j) is).number in omega (arith, x), (omega arith, tt))
-          quit_below end ns (MarkFilled a n o j l is) = (let x = (in_hand a (Marks n o j) is).number in omega (arith, x), tt)
+          quit_below end ns (MarkFilled a n o j l is f) = (let x = (in_hand a (Marks n o j) is).number in omega (arith, x), tt)
           quit_below end ns (MarkLost a n o j p b is e) = (let x = (in_hand a (Marks n o j) is).number in omega (arith, x), tt)
 
           worked : (end : Option AppendEnd) (r : Moved m) → Effect m c w0 end r → BookOf (with_notes tr r.notes) r.now

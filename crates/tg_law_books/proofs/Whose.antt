@@ -20,7 +20,7 @@ use Rattle.tg_protocol.specs.Alike.{HasRecord}
 use Rattle.tg_law_history.specs.Worlds.{entries_in}
 use Rattle.tg_law_history.proofs.Members.{has_contained}
 use Rattle.tg_law_replies.specs.Told.{HasRecordOf}
-use Rattle.tg_law_books.specs.Kept.{RecordsLeft, AsksPrecede, AppendsEnd, EndsSo}
+use Rattle.tg_law_books.specs.Kept.{RecordsLeft, AsksPrecede, RecordsEnd, RecordEndsSo}
 use Rattle.tg_law_books.specs.Laws.{IsAskedAt, RepliesKnown, RepliesAreKnown}
 use Rattle.tg_law_books.proofs.Effects.{IsRecord, OfRecord}
 use Rattle.tg_law_books.proofs.Commands.{ended_by}
@@ -83,7 +83,7 @@ module _ (m : Meaning) where
   not_dropped q told.Dropped x y = y
   not_dropped q what x y = x
 
-  module _ (h : Header) (ms : Moves m) (left : RecordsLeft m h ms (run m ms (start m h))) (asks : AsksPrecede m (run m ms (start m h))) (ends : AppendsEnd m h ms (run m ms (start m h))) where
+  module _ (h : Header) (ms : Moves m) (left : RecordsLeft m h ms (run m ms (start m h))) (asks : AsksPrecede m (run m ms (start m h))) (ends : RecordsEnd m h ms (run m ms (start m h))) where
     abbrev end : World m
     end = run m ms (start m h)
 
@@ -157,7 +157,7 @@ module _ (m : Meaning) where
       unfolding commit_record
       of_forgotten p q is r = by story
         where
-          lost : (a : Append) (s b : ℕ) → EndsSo m es a.draft (Forgotten s b) → is_commit a.draft ≡ true → a.draft.head.client ≡ k → a.draft.head.number ≡ x → s ≡ p → q ≡ p
+          lost : (a : Append) (s b : ℕ) → RecordEndsSo m es a.draft (Forgotten s b) → is_commit a.draft ≡ true → a.draft.head.client ≡ k → a.draft.head.number ≡ x → s ≡ p → q ≡ p
           lost a s b so commit cl n same = so q r.entry r.here commit r.commit (r.client ∙ sym cl) (r.number ∙ sym n) ∙ same
 
           place : (n s b : ℕ) → t.note ≡ note m n (told.Refused (cause.Forgotten s b)) → s ≡ p
@@ -194,8 +194,8 @@ module _ (m : Meaning) where
           at_is : (n q : ℕ) → t.note ≡ note m n (told.Committed q) → q ≡ p
           at_is n q e = same_commit q p (says n (told.Committed q) e ∙ is)
 
-          placed : (a : Append) (q : ℕ) (page : List ℕ) → EndsSo m es a.draft (At q page) → is_commit a.draft ≡ true → a.draft.head.client ≡ k → a.draft.head.number ≡ x → q ≡ p → HasRecordOf es p k x
-          placed a q page so commit cl n same = subst (λ (i : ℕ). HasRecordOf es i k x) same (record { entry = linked a.draft so.0; here = so.1; commit = commit; client = cl; number = n })
+          placed : (a : Append) (q : ℕ) (page : List ℕ) → RecordEndsSo m es a.draft (At q page) → is_commit a.draft ≡ true → a.draft.head.client ≡ k → a.draft.head.number ≡ x → q ≡ p → HasRecordOf es p k x
+          placed a q page so commit cl n same = subst (λ (i : ℕ). HasRecordOf es i k x) same (record { entry = linked a.draft (so commit).0; here = (so commit).1; commit = commit; client = cl; number = n })
 
           later : (s : ℕ) (u : Tx) → c.tx ≡ Some u → u.number ≡ x → u.snapshot ≡ Some s → AskedThere k x s
           later s u has number snap =
@@ -287,4 +287,4 @@ module _ (m : Meaning) where
     }
 
 pub replies_are_known : (m : Meaning) → RepliesAreKnown m
-replies_are_known m h ms w r left asks ends = subst (λ (u : World m). RecordsLeft m h ms u → AsksPrecede m u → AppendsEnd m h ms u → RepliesKnown m u) (sym r.goes.is) (λ l a e. replies_known m h ms l a e) left asks ends
+replies_are_known m h ms w r left asks ends = subst (λ (u : World m). RecordsLeft m h ms u → AsksPrecede m u → RecordsEnd m h ms u → RepliesKnown m u) (sym r.goes.is) (λ l a e. replies_known m h ms l a e) left asks ends

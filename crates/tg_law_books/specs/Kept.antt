@@ -1,7 +1,8 @@
 -- What the log that a run comes to has of its clients' records.
-use Rattle.std.specs.Prelude.{◌≡◌, ℕ, ◌≤◌, true, ◌++◌, Some, Contains}
+use Rattle.std.specs.Prelude.{◌≡◌, ℕ, ◌≤◌, true, List, ◌++◌, Some, Contains}
 use Rattle.tg_base.specs.Clusters.{Header}
 use Rattle.tg_base.specs.declared.ids.Oid.{Oid}
+use Rattle.tg_base.specs.declared.marks.StreamLink.{StreamLink}
 use Rattle.tg_entry.specs.declared.entry.Entry.{Entry}
 use Rattle.tg_kind.specs.Meaning.{Meaning}
 use Rattle.tg_model.specs.declared.refusal.Refusal.TheVariants as cause
@@ -9,13 +10,15 @@ use Rattle.tg_model.specs.declared.trace.What.TheVariants as told
 use Rattle.tg_model.specs.Kinds.{MarkOf}
 use Rattle.tg_model.specs.Traces.{Trace, Tells}
 use Rattle.tg_protocol.specs.Entries.{is_commit, linked}
-use Rattle.tg_protocol.specs.Appending.{Append}
+use Rattle.tg_protocol.specs.Appending.{Append, AppendEnd, At, Full, Forgotten}
+use Rattle.tg_protocol.specs.Views.{Entries}
 use Rattle.tg_protocol.specs.Worlds.{World, start, client, trace}
 use Rattle.tg_protocol.specs.Runs.{Moves, run}
 use Rattle.tg_protocol.specs.Alike.{HasRecord}
 use Rattle.tg_protocol.specs.Holding.{append_by}
 use Rattle.tg_law_history.specs.Worlds.{entries_in}
-pub use Rattle.tg_law_replies.specs.Ended.{EndsSo, AppendsEnd}
+use Rattle.tg_law_replies.specs.Runs.{InEachStep}
+use Rattle.tg_law_replies.specs.Ended.{ended_in}
 
 module _ (m : Meaning) where
   -- An entry is what its client had in hand in a world of the run, for an append that wasn't refused afterwards for want of room.
@@ -42,3 +45,13 @@ module _ (m : Meaning) where
   pub record RefusedLeaveNone (w : World m) : Type 0 where
     pub forgotten : (k x p n q : ℕ) → Tells m (trace m w) k x (told.Refused (cause.Forgotten p n)) → HasRecord m w q k x → q ≡ p
     pub dropped : (k x q : ℕ) → Tells m (trace m w) k x told.Dropped → HasRecord m w q k x → ⊥
+
+  -- A record whose append has ended stands where it says, with the links that were issued to it; one that it forgot stands nowhere else.
+  abbrev pub RecordEndsSo : Entries → Entry → AppendEnd → Type 0
+  RecordEndsSo es d (At p page) = is_commit d ≡ true → (links : List StreamLink) × Contains es (p, linked d links)
+  RecordEndsSo es d (Forgotten p below) = (q : ℕ) (e : Entry) → Contains es (q, e) → is_commit d ≡ true → is_commit e ≡ true → e.head.client ≡ d.head.client → e.head.number ≡ d.head.number → q ≡ p
+  RecordEndsSo es d (Full limit) = Unit {0}
+
+  -- so does each that ends in a step of the run
+  abbrev pub RecordsEnd : Header → Moves m → World m → Type 0
+  RecordsEnd h ms w = InEachStep m h ms (λ before v e. (k : ℕ) (a : Append) (x : AppendEnd) → append_by m (client m v k).work ≡ Some a → ended_in m v e k ≡ Some x → RecordEndsSo (entries_in m w) a.draft x)

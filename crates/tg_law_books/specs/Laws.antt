@@ -17,8 +17,9 @@ use Rattle.tg_protocol.specs.Holding.{EntriesOnce, EntriesOwn, RecordsOwn, Repli
 use Rattle.tg_law_history.specs.Worlds.{entries_in}
 use Rattle.tg_law_replies.specs.Told.{HasRecordOf}
 use Rattle.tg_law_replies.specs.Laws.{ClientsFind}
+use Rattle.tg_law_replies.specs.Ended.{AppendsEnd}
 use Rattle.tg_law_books.specs.Booked.{IsClosed, ClientsBook}
-use Rattle.tg_law_books.specs.Kept.{RecordsLeft, AsksPrecede, AppendsEnd, RefusedLeaveNone}
+use Rattle.tg_law_books.specs.Kept.{RecordsLeft, AsksPrecede, RecordsEnd, RefusedLeaveNone}
 
 -- each step of a run keeps the books of transactions, by what the log has of their records
 abbrev pub BooksAreKept : Meaning → Type 0
@@ -52,7 +53,7 @@ pub record RepliesKnown (m : Meaning) (w : World m) : Type 0 where
 -- A transaction that was aborted, or whose outcome is unsure, has its record where the reply says; one that was refused has left none.
 -- One that committed has its record there, or an ask of it was answered there, or the reply says 0.
 abbrev pub RepliesAreKnown : Meaning → Type 0
-RepliesAreKnown m = (h : Header) (ms : Moves m) (w : World m) → Reaches m h ms w → RecordsLeft m h ms w → AsksPrecede m w → AppendsEnd m h ms w → RepliesKnown m w
+RepliesAreKnown m = (h : Header) (ms : Moves m) (w : World m) → Reaches m h ms w → RecordsLeft m h ms w → AsksPrecede m w → RecordsEnd m h ms w → RepliesKnown m w
 
 -- A run is legal, where its clients find what they need of the log that it comes to, and these hold of that log: an append that ends stands where it says, and a record is what its client had
 -- in hand for an append that wasn't refused afterwards for want of room; each entry is what its client began, and once; a record is that of what was put and asked, at or past where it was asked;

@@ -1,4 +1,3 @@
-pub mod Ended
 pub mod Booked
 pub mod Kept
 pub mod Laws

@@ -53,22 +53,22 @@ use Rattle.tg_law_entries.proofs.Lists.{read_has}
 -- Whether trims are safe, by computing.
 
 module _ (m : Meaning) where
-  has_below : World m → ℕ → Bool
+  unfoldable pub has_below : World m → ℕ → Bool
   has_below w zero = true
   has_below w (suc n) = is_some (cell_at (log m w) n) && has_below w n
 
-  trims_in_log : World m → Msg → Bool
+  unfoldable pub trims_in_log : World m → Msg → Bool
   trims_in_log w (msg.Trim e b) = has_below w b
   trims_in_log w x = true
 
-  is_safe : World m → World m → Bool
+  unfoldable pub is_safe : World m → World m → Bool
   unfolding trims_in_log
   is_safe w v = list_all (λ (p : Packet). trims_in_log w p.msg) v.packets
 
-  safe_then : World m → World m → (World m → Bool) → Bool
+  unfoldable pub safe_then : World m → World m → (World m → Bool) → Bool
   safe_then w v rest = is_safe w v && rest v
 
-  pub safe_on : Moves m → World m → Bool
+  unfoldable pub safe_on : Moves m → World m → Bool
   unfolding safe_then
   safe_on [] w = true
   safe_on (Next ∷ ms) w = safe_on ms (next_event m w)

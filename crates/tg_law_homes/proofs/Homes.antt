@@ -18,6 +18,7 @@ use Rattle.tg_law_cells.specs.Settled.{IsSettled}
 use Rattle.tg_law_cells.proofs.Settles.{Settled, After, settled_below, apart}
 use Rattle.tg_law_cells.proofs.Settles.{Line as Facts}
 use Rattle.tg_law_cells.proofs.Settling.{facts, roots, told_here, told_by}
+use Rattle.tg_law_cells.proofs.Stores.{up_to}
 use Rattle.tg_law_cells.proofs.Successors.{words}
 use Rattle.tg_law_homes.specs.Homes.{SettledHome, SettledBelow, StartsRise, EpochsDecided}
 use Rattle.tg_law_homes.proofs.Homing.{HomeAt, Homes, settled_home, homes_hold}
@@ -46,6 +47,10 @@ module _ (m : Meaning) (h : Header) (xs : Moves m) (header : IsHeader h) (give :
     write = a.write;
     sent = contained _ a.write a.sent;
     is = a.is;
+    layout = a.layout;
+    decided = decided_for m h xs header give a.layout a.decided;
+    of = a.of;
+    told = up_to (after m h xs).packets _ _ _ _ a.told;
     past = λ q dq more. by q ((known m h xs q.epoch q dq).0) more (le_or_more q.epoch s.layout.epoch);
   }
     where

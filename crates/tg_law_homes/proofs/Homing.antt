@@ -1,6 +1,6 @@
 -- Over a run, each page that a unit has told came from a page that was sent in some epoch, seen from the world that the
 -- run ends with.
-use Rattle.std.proofs.Common.{◌≡◌, ◌⊎◌, ℕ, suc, ◌+◌, ◌-◌, ◌<◌, ◌≤◌, List, length, refl, sym, ap, ◌∙◌, subst, inl, inr, arith, Some, Option}
+use Rattle.std.proofs.Common.{◌≡◌, ◌⊎◌, ℕ, zero, suc, ◌+◌, ◌-◌, ◌<◌, ◌≤◌, List, length, refl, sym, ap, ◌∙◌, subst, inl, inr, arith, Some, Option}
 use Rattle.std.specs.Prelude.{slice_index, slice_index_or}
 use Rattle.tg_base.specs.Layouts.{Layout}
 use Rattle.tg_base.specs.Clusters.{Header}
@@ -34,7 +34,7 @@ use Rattle.tg_law_cells.proofs.Befores.{has_at}
 use Rattle.tg_law_cells.proofs.Chains.{K, Cells}
 use Rattle.tg_law_cells.proofs.Jobs.{CellOk}
 use Rattle.tg_law_cells.proofs.Justified.{ToldBy}
-use Rattle.tg_law_cells.proofs.Sent.{Justified, GoesOn, GoesAside}
+use Rattle.tg_law_cells.proofs.Sent.{Justified, GoesDown, GoesOn, GoesAside, told_grows}
 use Rattle.tg_law_cells.proofs.Settles.{Words, Settled, Rooted, Got, told_sealed, along, gone_stays, apart, settled_below}
 use Rattle.tg_law_cells.proofs.Settles.{Line as Facts}
 use Rattle.tg_law_cells.proofs.Stores.{Below, start_below}
@@ -114,13 +114,17 @@ module _ (ps : List Packet) (L : Layout → Type 0) (some : (q : Layout) (p : �
   stored_page to y e p d is j = absurd (cc)
 
 module _ (s : Words) (D : Layout → Type 0) (ps : List Packet) where
-  -- a page was sent in an epoch; up to another one each later layout starts past it
+  -- a page was sent in an epoch, in whose chain the first unit has told it; up to another one each later layout starts past it
   pub record HomeAt (p : ℕ) (d : List ℕ) (last : ℕ) : Type 0 where
     pub epoch : ℕ
     pub up_to : epoch ≤ last
     pub write : Packet
     pub sent : Has ps write
     pub is : write.msg ≡ msg.Write epoch p d
+    pub layout : Layout
+    pub decided : D layout
+    pub of : layout.epoch ≡ epoch
+    pub told : ToldBy ps (unit_at (place_in layout p) 0) epoch p (Data d)
     pub past : (q : Layout) → D q → epoch < q.epoch → q.epoch ≤ last → p < q.start
 
   -- a unit stored the page in an epoch up to this one, up to which it has a home
@@ -169,6 +173,10 @@ module _ (s : Words) (D : Layout → Type 0) (ps : List Packet) where
       write = h.home.write;
       sent = h.home.sent;
       is = h.home.is;
+      layout = h.home.layout;
+      decided = h.home.decided;
+      of = h.home.of;
+      told = h.home.told;
       past = λ q dq more le. by q dq more le (le_or_more q.epoch h.at);
     }
       where
@@ -190,6 +198,10 @@ module _ (s : Words) (D : Layout → Type 0) (ps : List Packet) where
       write = h.home.write;
       sent = h.home.sent;
       is = h.home.is;
+      layout = h.home.layout;
+      decided = h.home.decided;
+      of = h.home.of;
+      told = h.home.told;
       past = λ q dq more up. by q dq more (le_or_more q.epoch h.at) (le_or_more q.epoch x.layout.epoch);
     }
       where
@@ -296,11 +308,30 @@ module _ (m : Meaning) (h : Header) (s : Words) (final : List Packet) where
             cell = refl;
           }
 
+          -- the unit stands in the chain after those that have told the page
+          goes : p.msg ≡ msg.Write (turn_on m c u p).now.epoch q d → GoesDown c.packets (K m c c.packets) p.to (turn_on m c u p).now.epoch q (Data d)
+          goes w = subst (λ (y : Msg). Justified c.packets (K m c c.packets) p.to y) w (b.1.sent p comes.sent)
+
+          placed : (g : GoesDown c.packets (K m c c.packets) p.to (turn_on m c u p).now.epoch q (Data d)) → g.place ≡ place_in g.layout q
+          placed g = g.at ∙ ap (λ (n : ℕ). place_in g.layout n) (sym g.pos)
+
+          of_goes : (g : GoesDown c.packets (K m c c.packets) p.to (turn_on m c u p).now.epoch q (Data d)) → g.layout.epoch ≡ (turn_on m c u p).now.epoch
+          of_goes g = sym (g.epoch ∙ ap (λ (a : Place). a.epoch) (placed g))
+
+          headed : (g : GoesDown c.packets (K m c c.packets) p.to (turn_on m c u p).now.epoch q (Data d)) → ToldBy final (unit_at (place_in g.layout q) 0) (turn_on m c u p).now.epoch q (Data d)
+          headed g = subst (λ (a : Place). ToldBy final (unit_at a 0) (turn_on m c u p).now.epoch q (Data d)) (placed g) (by g.index refl)
+            where
+              by : (i : ℕ) → g.index ≡ i → ToldBy final (unit_at g.place 0) (turn_on m c u p).now.epoch q (Data d)
+              by zero is = subst (λ (n : ℕ). ToldBy final n (turn_on m c u p).now.epoch q (Data d)) (ap (λ (n : NodeId). n.num) (sym comes.to_node ∙ g.unit) ∙ ap (λ (i : ℕ). unit_at g.place i) is) told
+              by (suc i) is = subst (λ (n : ℕ). ToldBy final (unit_at g.place 0) n q (Data d)) (sym g.epoch)
+                  (subst (λ (n : ℕ). ToldBy final (unit_at g.place 0) g.place.epoch n (Data d)) (sym g.pos)
+                  (told_grows c.packets final early.sent (unit_at g.place 0) g.place.epoch g.place.pos (Data d) (g.told 0 (omega (arith, is)))))
+
           home : HomeAt s D final q d (turn_on m c u p).now.epoch → Home' u (turn_on m c u p).now.epoch q d
           home g = record { at = (turn_on m c u p).now.epoch; up_to = omega arith; told = told; home = g }
 
           which : (p.msg ≡ msg.Write (turn_on m c u p).now.epoch q d) ⊎ Carried c.packets (K m c c.packets) (turn_on m c u p).now.epoch q (Data d) → Home' u (turn_on m c u p).now.epoch q d
-          which (inl w) = home (record { epoch = (turn_on m c u p).now.epoch; up_to = omega arith; write = p; sent = early.sent p comes.sent; is = w; past = λ y dy more le. absurd (omega (arith, more, le)) })
+          which (inl w) = home (record { epoch = (turn_on m c u p).now.epoch; up_to = omega arith; write = p; sent = early.sent p comes.sent; is = w; layout = (goes w).layout; decided = known_of c early (goes w).layout (goes w).known; of = of_goes (goes w); told = headed (goes w); past = λ y dy more le. absurd (omega (arith, more, le)) })
           which (inr g) =
               home (carries_home s D final l roots (turn_on m c u p).now.epoch q d g.layout (known_of c early g.layout g.known) g.epoch g.unit g.told.claim.epoch g.here g.told.epoch
               (subst (λ (n : ℕ). Home' g.unit g.told.claim.epoch n d) g.told.pos (r.tells g.unit g.told.claim d g.told.tells g.told.cell)))

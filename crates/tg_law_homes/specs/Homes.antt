@@ -12,7 +12,8 @@ use Rattle.tg_protocol.specs.Worlds.{World}
 use Rattle.tg_protocol.specs.Chosen.{Sent, IsDecided}
 use Rattle.tg_law_moves.specs.Telling.{is_request}
 use Rattle.tg_law_layouts.specs.Decisions.{IsOfDecided}
-use Rattle.tg_law_cells.specs.Settled.{IsSettled}
+use Rattle.tg_law_cells.specs.Chains.{ToldUpTo}
+use Rattle.tg_law_cells.specs.Settled.{IsSettled, head}
 
 -- the epoch of a request for a cell, or to trim
 unfoldable pub epoch_asked : UnitAsk → ℕ
@@ -23,13 +24,18 @@ epoch_asked (TrimsBelow e b) = e
 epoch_asked x = 0
 
 module _ (m : Meaning) where
-  -- A page's home: an epoch, up to this one, in which it was sent to be stored, where each later layout starts past it.
+  -- A page's home: an epoch, up to this one, in which it was sent to be stored, and the first unit of the chain has told
+  -- it, where each later layout starts past it.
   pub record Home (w : World m) (pos : ℕ) (page : List ℕ) (last : ℕ) : Type 0 where
     pub epoch : ℕ
     pub up_to : epoch ≤ last
     pub write : Packet
     pub sent : Sent m w write
     pub is : write.msg ≡ msg.Write epoch pos page
+    pub layout : Layout
+    pub decided : IsOfDecided m w layout
+    pub of : layout.epoch ≡ epoch
+    pub told : ToldUpTo w.packets (head layout pos) epoch pos (Data page)
     pub past : (q : Layout) → IsOfDecided m w q → epoch < q.epoch → pos < q.start
 
   -- a settled page has a home

@@ -39,13 +39,13 @@ use Rattle.tg_entry.specs.declared.entry.Entry.{Entry}
 use Rattle.tg_model.specs.Kinds.{EventOf, WhatOf, MarkOf}
 use Rattle.tg_model.specs.declared.refusal.Refusal.TheVariants as cause
 use Rattle.tg_protocol.specs.Runs.{Moves, Takes, run}
-use Rattle.tg_law_history.specs.Logs.{commits}
 use Rattle.tg_law_history.proofs.Members.{Has, has_contained}
 use Rattle.tg_protocol.specs.Entries.{linked}
 use Rattle.tg_protocol.specs.Appending.{Append, AppendEnd, At, Full, Forgotten, Asking}
 use Rattle.tg_protocol.specs.Holding.{append_by, EntriesOnce}
 use Rattle.tg_model.specs.Traces.{Trace}
-use Rattle.tg_law_books.specs.Kept.{WasLeft, RecordsLeft, AsksPrecede, EndsSo, AppendsEnd}
+use Rattle.tg_law_books.specs.Kept.{WasLeft, RecordsLeft, AsksPrecede}
+use Rattle.tg_law_replies.specs.Ended.{EndsSo, AppendsEnd}
 use Rattle.tg_law_books.proofs.Booked.{books_are_kept}
 use Rattle.tg_law_replies.specs.Ended.{ended_in}
 use Rattle.tg_law_books.proofs.Known.{records_are_known}

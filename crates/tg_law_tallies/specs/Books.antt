@@ -4,7 +4,8 @@ use Rattle.tg_protocol.specs.Worlds.{World, start}
 use Rattle.tg_protocol.specs.Runs.{Moves, Reaches, run}
 use Rattle.tg_protocol.specs.Holding.{EntriesOnce}
 use Rattle.tg_law_books.specs.Booked.{ClientsBook}
-use Rattle.tg_law_books.specs.Kept.{RecordsLeft, AsksPrecede, AppendsEnd}
+use Rattle.tg_law_books.specs.Kept.{RecordsLeft, AsksPrecede}
+use Rattle.tg_law_replies.specs.Ended.{AppendsEnd}
 use Rattle.tg_law_books.specs.Laws.{RecordsKnown, RepliesKnown}
 use Rattle.tg_law_tallies.specs.Tallies.{tallies, with_tally, adds}
 

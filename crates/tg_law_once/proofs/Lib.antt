@@ -1,0 +1,16 @@
+pub mod Nowhere
+pub mod Feeding
+pub mod Filling
+pub mod Turning
+pub mod Reached
+pub mod Spending
+pub mod Along
+pub mod Once
+pub mod Refusing
+pub mod Leaving
+pub mod Ending
+pub mod Known
+pub mod Ledgers
+pub mod Quieting
+pub mod Owning
+pub mod Worked
