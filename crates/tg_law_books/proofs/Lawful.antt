@@ -517,7 +517,7 @@ module _ (m : Meaning) (apart : Apart m) (h : Header) (ms : Moves m) (r : Reache
   legal = subst (λ (os : List Oid). Legal m os (history_after m [] (entries_in m end)) (trace m end)) (sym right.objects_are) (telling_is_legal m apart h.objects (entries_in m end) (trace m end) (logs_rise m end) tells_true)
 
 -- what each append does at its end, a record's does
-records_end : (m : Meaning) (h : Header) (ms : Moves m) (w : World m) → AppendsEnd m h ms w → RecordsEnd m h ms w
+pub records_end : (m : Meaning) (h : Header) (ms : Moves m) (w : World m) → AppendsEnd m h ms w → RecordsEnd m h ms w
 records_end m h ms w ends before after e at k a x has is = so x (ends before after e at k a x has is)
   where
     so : (x : AppendEnd) → EndsSo m (entries_in m w) a.draft x → RecordEndsSo m (entries_in m w) a.draft x

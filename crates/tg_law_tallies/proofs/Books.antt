@@ -49,6 +49,7 @@ use Rattle.tg_law_replies.specs.Ended.{EndsSo, AppendsEnd}
 use Rattle.tg_law_books.proofs.Booked.{books_are_kept}
 use Rattle.tg_law_replies.specs.Ended.{ended_in}
 use Rattle.tg_law_books.proofs.Known.{records_are_known}
+use Rattle.tg_law_books.proofs.Lawful.{records_end}
 use Rattle.tg_law_books.proofs.Whose.{replies_are_known}
 use Rattle.tg_law_tallies.proofs.Steps.{by_steps}
 use Rattle.tg_law_tallies.proofs.Commit.{w3, w4, w5, w6, here, ended, es, entry_made, tx_made, mark_of_tx, is_entry, is_made, reached}
@@ -209,5 +210,5 @@ commit_is_booked = record {
   ends = ends;
   books = books_are_kept tallies with_tally adds ended reached left asks;
   known = records_are_known tallies with_tally adds ended reached left asks once;
-  replies = replies_are_known tallies with_tally adds ended reached left asks ends;
+  replies = replies_are_known tallies with_tally adds ended reached left asks (records_end tallies with_tally adds ended ends);
 }
