@@ -36,7 +36,9 @@ use Rattle.tg_protocol.specs.ClientSteps.{after_turn, met, goes_on, start_walk, 
 use Rattle.tg_law_layouts.proofs.Phases.{end_stand}
 use Rattle.tg_law_moves.proofs.Turns.{Begins, begins_walk, not_busy}
 use Rattle.tg_law_walks.specs.Streams.{stands_in}
+use Rattle.tg_law_walks.specs.Laws.{KeepsStreams}
 use Rattle.tg_law_walks.specs.Rounds.{IsSavedBelow, IsBehind}
+use Rattle.tg_law_walks.proofs.Syncs.{syncs_keep_streams}
 use Rattle.tg_law_known.proofs.Far as far
 use Rattle.tg_law_known.proofs.Far.{SyncFar, TokenFar, AppendFar, SyncHeard, AppendHeard, sync_far, append_far, again_far}
 use Rattle.tg_law_known.proofs.Ways.{Keeps, Came, Rests, Appends, Syncs, Trims as Trims', WalkedWay, Plays, LeavesView, played_view, walked_way}
@@ -76,7 +78,7 @@ module _ (m : Meaning) (l : Log) (reached past : Layout → ℕ → Type 0) (tol
   EndBelow c w = w.command ≡ cmd.End → upto m c ≤ w.at
 
   abbrev pub TaskKept : Client m → Work m → Task m → Type 0
-  TaskKept c w (Syncing s) = Common c.stand c w × EndBelow c w
+  TaskKept c w (Syncing s) = Common c.stand c w × EndBelow c w × (s.oids ≡ w.oids)
   TaskKept c w (Walking k os) = Common c.stand c w × EndBelow c w × past c.stand w.tail
   TaskKept c w (Appending a y) = Common c.stand c w × TokenFar c.stand (reached c.stand) (past c.stand) (told c.stand) (upto m c) a.token
   TaskKept c w t = Unit {0}
@@ -157,7 +159,7 @@ module _ (m : Meaning) (l : Log) (reached past : Layout → ℕ → Type 0) (tol
 
   syncs_fine : (c : Client m) (w : Work m) (os : List Oid) → n0 ≤ c.next → past c.stand (upto m c) → Common m l reached past told c.stand c w → EndBelow m l reached past told c w → Fine (syncs m c w os)
   unfolding syncs sync_start
-  syncs_fine c w os le k f e = record { view = k; work = ((record { at = f.at; gone = f.gone }, e), (new c.stand c.next (IsPast m l c.view w.at w.gone) le, f.gone)) }
+  syncs_fine c w os le k f e = record { view = k; work = ((record { at = f.at; gone = f.gone }, e, refl), (new c.stand c.next (IsPast m l c.view w.at w.gone) le, f.gone)) }
 
   appends_fine : (c : Client m) (w : Work m) (e : Entry) (y : Purpose m) (ns : List (NoteOf m)) → n0 ≤ c.next → past c.stand (upto m c) → Common m l reached past told c.stand c w → Fine (appends m c w e y ns)
   unfolding appends append_start
@@ -247,10 +249,10 @@ module _ (m : Meaning) (l : Log) (reached past : Layout → ℕ → Type 0) (tol
       by None = walks_fine w.oids c _ le k (record { at = f.at; gone = f.gone }) e t
       by (Some s) = walks_fine w.oids (knows m c (Some s)) _ le k (record { at = f.at; gone = f.gone }) e t
 
-  sync_to_fine : (bs : List Out) (c : Client m) (w : Work m) (to : Next Sync Confirmed) → n0 ≤ c.next → past c.stand (upto m c) → Common m l reached past told c.stand c w → EndBelow m l reached past told c w → GoneOk m l reached past told c.stand w.gone_before → SyncNext c.stand c.view w.at w.gone_before to → Fine (sync_to m c w bs to)
-  sync_to_fine bs c w (Goes s) le k f e g n = record { view = k; work = ((record { at = f.at; gone = f.gone }, e), (n, g)) }
-  sync_to_fine bs c w (Learns s) le k f e g n = record { view = k; work = (record { at = f.at; gone = f.gone }, e) }
-  sync_to_fine bs c w (Ends x) le k f e g n = synced_fine c w x le k f e n.1
+  sync_to_fine : (s0 : Sync) (bs : List Out) (c : Client m) (w : Work m) (to : Next Sync Confirmed) → n0 ≤ c.next → past c.stand (upto m c) → Common m l reached past told c.stand c w → EndBelow m l reached past told c w → GoneOk m l reached past told c.stand w.gone_before → SyncNext c.stand c.view w.at w.gone_before to → s0.oids ≡ w.oids → KeepsStreams s0 to → Fine (sync_to m c w bs to)
+  sync_to_fine s0 bs c w (Goes s) le k f e g n i j = record { view = k; work = ((record { at = f.at; gone = f.gone }, e, j ∙ i), (n, g)) }
+  sync_to_fine s0 bs c w (Learns s) le k f e g n i j = record { view = k; work = (record { at = f.at; gone = f.gone }, e, j ∙ i) }
+  sync_to_fine s0 bs c w (Ends x) le k f e g n i j = synced_fine c w x le k f e n.1
 
   starts_fine : (c : Client m) (w : Work m) (os : List Oid) (over : Bool) → n0 ≤ c.next → past c.stand (upto m c) → Common m l reached past told c.stand c w → EndBelow m l reached past told c w → past c.stand w.tail → Fine (starts_over m c w os over)
   starts_fine c w os true le k f e t = walks_fine w.oids c _ le k (record { at = f.at; gone = f.gone }) e t
@@ -359,8 +361,8 @@ module _ (m : Meaning) (l : Log) (reached past : Layout → ℕ → Type 0) (tol
   reconf_to_fine c w (Ends (Overtaken e p)) k f = record { view = f (upto m c) k; work = tt }
   reconf_to_fine c w (Ends (NotWhole u q p)) k f = record { view = f (upto m c) k; work = tt }
 
-  on_sync_fine : (c : Client m) (w : Work m) (t : Turn Sync Confirmed) → TurnFar m l reached past told n0 c.stand t → past c.stand (upto m c) → Common m l reached past told c.stand c w → EndBelow m l reached past told c w → GoneOk m l reached past told c.stand w.gone_before → SyncNext c.stand c.view w.at w.gone_before t.to → Fine (on_sync m c w t)
-  on_sync_fine c w t u k f e g n = sync_to_fine t.besides (after_turn m c t) (met m w t) t.to u.up k (record { at = f.at; gone = gone_max c.stand w.gone t.gone f.gone u.gone }) e g n
+  on_sync_fine : (s0 : Sync) (c : Client m) (w : Work m) (t : Turn Sync Confirmed) → TurnFar m l reached past told n0 c.stand t → past c.stand (upto m c) → Common m l reached past told c.stand c w → EndBelow m l reached past told c w → GoneOk m l reached past told c.stand w.gone_before → SyncNext c.stand c.view w.at w.gone_before t.to → s0.oids ≡ w.oids → KeepsStreams s0 t.to → Fine (on_sync m c w t)
+  on_sync_fine s0 c w t u k f e g n i j = sync_to_fine s0 t.besides (after_turn m c t) (met m w t) t.to u.up k (record { at = f.at; gone = gone_max c.stand w.gone t.gone f.gone u.gone }) e g n i j
 
   on_walk_fine : (c : Client m) (w : Work m) (o : Oid) (os : List Oid) (t : Turn Walk Members) → TurnFar m l reached past told n0 c.stand t → past c.stand (upto m c) → Common m l reached past told c.stand c w → EndBelow m l reached past told c w → past c.stand w.tail → Fine (on_walk m c w o os t)
   on_walk_fine c w o os t u k f e n = walk_to_fine (after_turn m c t) (met m w t) o os t.to u.up k (record { at = f.at; gone = gone_max c.stand w.gone t.gone f.gone u.gone }) e n
@@ -388,7 +390,7 @@ module _ (m : Meaning) (l : Log) (reached past : Layout → ℕ → Type 0) (tol
   newer_fine c w (Reconfiguring r) n rid q le k f o d = on_reconf_fine c w (reconf_latest r r.work n rid q c.next) k (o d)
   newer_fine c w (Syncing s) n rid q le k f o d =
       let gone = gone_onto c.stand q w.gone o f.0.gone in
-      on_sync_fine (stands m c q) (record w { gone_before = w.gone }) (sync_again s c.next) (record { up = omega (arith, le); gone = none_gone q }) (o (upto m c) k) (record { at = o w.at f.0.at; gone = gone }) f.1 gone (new q c.next (IsPast m l c.view w.at w.gone) le)
+      on_sync_fine s (stands m c q) (record w { gone_before = w.gone }) (sync_again s c.next) (record { up = omega (arith, le); gone = none_gone q }) (o (upto m c) k) (record { at = o w.at f.0.at; gone = gone }) f.1 gone (new q c.next (IsPast m l c.view w.at w.gone) le) f.2 refl
   newer_fine c w (Walking v os) n rid q le k f o d = on_walk_fine (stands m c q) w v.oid os (walk_again q v c.next) o.1 (o.0 (upto m c) k) (record { at = o.0 w.at f.0.at; gone = gone_onto c.stand q w.gone o.0 f.0.gone }) f.1 (o.0 w.tail f.2)
   newer_fine c w (Appending a y) n rid q le k f o d = on_append_fine (stands m c q) w y (append_again q a c.next) o.1 (o.0 (upto m c) k) (record { at = o.0 w.at f.0.at; gone = gone_onto c.stand q w.gone o.0 f.0.gone })
       (again_far q (reached q) (past q) (told q) (low q) n0 (new q) (upto m c) a c.next le f.1)
@@ -399,8 +401,9 @@ module _ (m : Meaning) (l : Log) (reached past : Layout → ℕ → Type 0) (tol
 
   pub task_fine : (c : Client m) (w : Work m) (t : Task m) (n rid : ℕ) (x : Reply) → n0 ≤ c.next → past c.stand (upto m c) → TaskKept m l reached past told c w t → TaskFar m l reached past told c w t → TaskHeard m l reached past told D n0 c w t n rid x → D (task_feed m c w t n rid x).now.stand → Fine (task_feed m c w t n rid x)
   unfolding task_feed
-  task_fine c w (Syncing s) n rid x le k f g h d = on_sync_fine c w (sync_feed c.stand s s.work n x c.next) h.1 k f.0 f.1 g.1
+  task_fine c w (Syncing s) n rid x le k f g h d = on_sync_fine s c w (sync_feed c.stand s s.work n x c.next) h.1 k f.0 f.1 g.1
       (sync_far c.stand (reached c.stand) (past c.stand) (told c.stand) (low c.stand) n0 (new c.stand) (IsPast m l c.view w.at w.gone_before) s n x c.next h.0 g.0)
+      f.2 (syncs_keep_streams c.stand s n x c.next)
   task_fine c w (Walking v os) n rid x le k f g h d = on_walk_fine c w v.oid os (walk_feed c.stand v v.job n x c.next) h k f.0 f.1 f.2
   task_fine c w (Appending a y) n rid x le k f g h d = on_append_fine c w y (append_feed c.stand a a.work n x c.next) h.1 k f.0
       (append_far c.stand (reached c.stand) (past c.stand) (told c.stand) (low c.stand) n0 (new c.stand) (upto m c) a n x c.next le h.0 (f.1, g))
@@ -493,7 +496,7 @@ module _ (m : Meaning) (l : Log) (reached past : Layout → ℕ → Type 0) (tol
   called c n i k = record { view = k.view; work = by c.work k.work }
     where
       task : (w : Work m) (t : Task m) → TaskKept m l reached past told c w t → TaskKept m l reached past told (record c { calls = n; next = i }) w t
-      task w (Syncing s) f = (record { at = f.0.at; gone = f.0.gone }, f.1)
+      task w (Syncing s) f = (record { at = f.0.at; gone = f.0.gone }, f.1, f.2)
       task w (Walking v os) f = (record { at = f.0.at; gone = f.0.gone }, f.1, f.2)
       task w (Appending a y) f = (record { at = f.0.at; gone = f.0.gone }, f.1)
       task w (Trimming t) f = tt

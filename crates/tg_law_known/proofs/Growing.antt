@@ -58,7 +58,7 @@ module _ (m : Meaning) (h : Header) (zs : Moves m) (r : Reaches m h zs (after m 
 
     kept_more : (w : Work m) (t : Task m) → TaskKept m (log m (after m h zs)) (Reached m h zs r trims fit c) (Past m h zs r trims fit c) (Told m h zs r trims fit c k) x w t
         → TaskKept m (log m (after m h zs)) (Reached m h zs r trims fit d) (Past m h zs r trims fit d) (Told m h zs r trims fit d k) x w t
-    kept_more w (Syncing s) f = (common_more w f.0, f.1)
+    kept_more w (Syncing s) f = (common_more w f.0, f.1, f.2)
     kept_more w (Walking v os) f = (common_more w f.0, f.1, past_more x.stand w.tail f.2)
     kept_more w (Appending a y) f = (common_more w f.0, f.1)
     kept_more w (Trimming t) f = tt

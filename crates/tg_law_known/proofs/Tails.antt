@@ -1,15 +1,18 @@
 -- The tail with which a sync ends lies past what its client has played and appended, and what trims that were known before it
 -- have left of each stream.
 use Rattle.std.proofs.Common.{◌≡◌, ℕ, ◌≤◌, List, [], ◌∷◌, ◌++◌, refl, sym, ◌∙◌, subst}
+use Rattle.std.specs.Prelude.{Contains}
 use Rattle.tg_base.specs.Clusters.{Header}
 use Rattle.tg_base.specs.Layouts.{Layout}
+use Rattle.tg_base.specs.declared.ids.Oid.{Oid}
 use Rattle.tg_base.specs.declared.packet.Packet.{Packet}
 use Rattle.tg_kind.specs.Meaning.{Meaning}
+use Rattle.tg_model.specs.declared.command.Command.TheVariants as cmd
 use Rattle.tg_protocol.specs.Requests.{Next, Ends}
 use Rattle.tg_protocol.specs.Replies.{reply}
 use Rattle.tg_protocol.specs.Syncing.{SyncWork, Checking, Settling, Probing, Sync, Confirmed, sync_feed}
 use Rattle.tg_protocol.specs.Logs.{Log}
-use Rattle.tg_protocol.specs.Clients.{Syncing, Doing, Client}
+use Rattle.tg_protocol.specs.Clients.{Syncing, Doing, Work, Client, upto as played}
 use Rattle.tg_protocol.specs.ClientSteps.{task_asks, task_awaited}
 use Rattle.tg_protocol.specs.Worlds.{World, client, log}
 use Rattle.tg_protocol.specs.Runs.{Moves, Reaches}
@@ -17,12 +20,13 @@ use Rattle.tg_law_moves.specs.After.{after}
 use Rattle.tg_law_moves.specs.Configs.{Config, config, client_in}
 use Rattle.tg_law_moves.proofs.Members.{has_contained}
 use Rattle.tg_law_cells.proofs.Justified.{awaited_ask}
+use Rattle.tg_law_walks.specs.Rounds.{IsBehind}
 use Rattle.tg_law_lists.specs.Drafted.{DraftsFit}
 use Rattle.tg_law_lists.specs.Lists.{EachLaterBySpareTrims}
 use Rattle.tg_law_lists.specs.Spared.{TrimsWereSpare}
 use Rattle.tg_law_syncs.specs.Syncs.{AwaitsSync}
-use Rattle.tg_law_syncs.proofs.Confirming.{by_run}
-use Rattle.tg_law_known.specs.Tails.{IsFar, TailsAreFar}
+use Rattle.tg_law_syncs.proofs.Confirming.{by_run, syncs_confirm}
+use Rattle.tg_law_known.specs.Tails.{TailsAreConfirmed}
 use Rattle.tg_law_known.proofs.Far.{SyncFar, SyncNext, SyncHeard, sync_far}
 use Rattle.tg_law_known.proofs.FarTurns.{IsPast, SyncPast, HandFar}
 use Rattle.tg_law_known.proofs.Reaches.{Reached, Past, Told}
@@ -41,6 +45,19 @@ module _ (p : Layout) where
   tail_only reached past told G (Checking rid) f = tt
   tail_only reached past told G (Settling a j) f = (f.0, f.1, tt)
   tail_only reached past told G (Probing a j) f = (f.0, tt)
+
+module _ (m : Meaning) where
+  -- where a tail lies, and that its sync was of the command's streams
+  record IsFar (l : Log) (c : Client m) (w : Work m) (s : Sync) (tail : ℕ) : Type 0 where
+    pub upto : played m c ≤ tail
+    pub at : w.at ≤ tail
+    pub own : w.command ≡ cmd.End → played m c ≤ w.at
+    pub behind : IsBehind m l tail w.gone_before
+    pub streams : s.oids ≡ w.oids
+
+  abbrev TailsAreFar : World m → World m → Type 0
+  TailsAreFar w v = (k : ℕ) (x : Packet) (s : Sync) (c : Confirmed) → (a : AwaitsSync m w k x s) →
+      (sync_feed (client m w k).stand s s.work x.from.num (reply x.msg) (client m w k).next).to ≡ Ends c → IsFar (log m v) (client m w k) a.work s c.tail
 
 module _ (m : Meaning) (h : Header) (xs ys : Moves m) (r : Reaches m h (xs ++ ys) (after m h (xs ++ ys))) (trims : TrimsWereSpare m h (xs ++ ys)) (fit : DraftsFit m (after m h (xs ++ ys))) where
   abbrev c : Config m
@@ -90,8 +107,21 @@ module _ (m : Meaning) (h : Header) (xs ys : Moves m) (r : Reaches m h (xs ++ ys
   tails_here : TailsAreFar m (after m h xs) (after m h (xs ++ ys))
   tails_here k x s y a ends =
       let tail = (far k x s y a ends).0 in
-      record { upto = tail.upto; at = tail.own; own = (hand k x s y a).0.1; behind = tail.behind }
+      record { upto = tail.upto; at = tail.own; own = (hand k x s y a).0.1; behind = tail.behind; streams = (hand k x s y a).0.2 }
 
 module _ (m : Meaning) where
-  pub tails_are_far : EachLaterBySpareTrims m (TailsAreFar m)
+  tails_are_far : EachLaterBySpareTrims m (TailsAreFar m)
   tails_are_far = by_run m (TailsAreFar m) (λ h xs ys r trims fit. tails_here m h xs ys r trims fit)
+
+  pub tails_are_confirmed : EachLaterBySpareTrims m (TailsAreConfirmed m)
+  tails_are_confirmed h ms w v r l trims k x s c a ends =
+      let t = syncs_confirm m h ms w v r l trims k x s c a ends in
+      let f = tails_are_far h ms w v r l trims k x s c a ends in
+      record {
+        settled = t.settled;
+        lists = λ o i. t.lists o (subst (λ (os : List Oid). Contains os o) (sym f.streams) i);
+        upto = f.upto;
+        at = f.at;
+        own = f.own;
+        behind = f.behind;
+      }

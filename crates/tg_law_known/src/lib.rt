@@ -7,4 +7,4 @@
 
 mod laws;
 
-pub use laws::{known_is_the_logs, tails_are_far};
+pub use laws::{known_is_the_logs, tails_are_confirmed};
