@@ -2,3 +2,13 @@ pub mod Ways
 pub mod Landing
 pub mod Knowing
 pub mod Held
+pub mod Views
+pub mod Far
+pub mod FarTurns
+pub mod Turned
+pub mod Past
+pub mod Reaches
+pub mod Growing
+pub mod Telling
+pub mod FarHeld
+pub mod Tails
