@@ -177,7 +177,7 @@ unfolding tells_links
 token_told s from rid epoch os true is own = one_silent s from rid (msg.Token epoch os) from rid _ (λ p ls i. cc)
 token_told s from rid epoch os false is own = issue_told s from rid epoch os _ is own
 
-step_told : (s : SeqrState) (from : NodeId) (rid : ℕ) (y : Msg) → Tells s from rid y (seqr_step s from rid y).sends
+pub step_told : (s : SeqrState) (from : NodeId) (rid : ℕ) (y : Msg) → Tells s from rid y (seqr_step s from rid y).sends
 unfolding seqr_step asks_links is_request
 step_told s from rid (msg.Learn q) = learn_or_told s from rid (msg.Learn q) q _ refl refl
 step_told s from rid (msg.Token epoch os) = own_told s from rid (msg.Token epoch os) (epoch == s.epoch) _ (λ e. token_told s from rid epoch os (scanning s) refl (is_same epoch s.epoch e))
