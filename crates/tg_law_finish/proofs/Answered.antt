@@ -1,8 +1,8 @@
 -- The laws, from what is proved of a settling.
-use Rattle.std.proofs.Common.{◌≡◌, ◌≢◌, ℕ, zero, suc, ◌+◌, ◌-◌, ◌*◌, ◌<◌, ◌≤◌, List, [], ◌∷◌, ◌++◌, length, filter, take, cond, Bool, true, false, ◌||◌, eqb, refl, ap, ◌∙◌, sym, subst, inl, inr, arith, Some, None, Option, length-append}
+use Rattle.std.proofs.Common.{◌≡◌, ◌≢◌, ℕ, zero, suc, ◌+◌, ◌-◌, ◌*◌, ◌<◌, ◌≤◌, List, [], ◌∷◌, ◌++◌, length, filter, take, cond, Bool, true, false, ◌||◌, eqb, refl, ap, ◌∙◌, sym, subst, inl, arith, Some, None, Option, length-append}
 use Rattle.std.proofs.Math.Seq.{take-append_seam}
 use Rattle.std.proofs.lemmas.Nat.{mul-le}
-use Rattle.std.specs.Prelude.{slice_get, nat_lt, Contains}
+use Rattle.std.specs.Prelude.{slice_get, nat_lt}
 use Rattle.tg_base.specs.Clusters.{Header}
 use Rattle.tg_base.specs.Layouts.{Layout}
 use Rattle.tg_base.specs.declared.ids.NodeId.{NodeId}
@@ -13,32 +13,31 @@ use Rattle.tg_model.specs.Kinds.{CommandOf}
 use Rattle.tg_protocol.specs.Words.{node_eq, client_id, seqr_id}
 use Rattle.tg_protocol.specs.Requests.{out}
 use Rattle.tg_base.specs.declared.msg.Msg.TheVariants as msg
-use Rattle.tg_protocol.specs.Cells.{CellWork, CellJob, Puts, Gets, Fills, Copies, Probes, place_in, work_asks, Place}
+use Rattle.tg_protocol.specs.Cells.{CellWork, Puts, Gets, Fills, Copies, Probes, place_in, work_asks, Place}
 use Rattle.tg_protocol.specs.Appending.{Append, AppendWork, Asking, Putting, Judging, append_work_asks, append_asks}
-use Rattle.tg_protocol.specs.Syncing.{Sync, Checking, sync_asks, sync_work_asks, SyncWork}
-use Rattle.tg_protocol.specs.Clients.{Purpose, Appending, Syncing, Doing, Work, Client, Hand, Task}
+use Rattle.tg_protocol.specs.Syncing.{sync_work_asks, SyncWork}
+use Rattle.tg_protocol.specs.Clients.{Appending, Syncing, Doing, Work, Client, Hand, Task}
 use Rattle.tg_protocol.specs.ClientSteps.{task_asks}
 use Rattle.tg_protocol.specs.Worlds.{World, seqr, client, latest, settle}
 use Rattle.tg_protocol.specs.Runs.{Moves, Reaches, Always}
 use Rattle.tg_protocol.specs.Finishing.{longest_chain, is_with_client, passes, WaitsAlone, IsReadyFor, bound, bound_in, Finishes, HasReply}
 use Rattle.tg_law_moves.proofs.Clients.{reserved, work_reserved, hand_reserved}
-use Rattle.tg_law_moves.proofs.Lists.{contained}
 use Rattle.tg_law_moves.proofs.Members.{Has}
 use Rattle.tg_law_cells.proofs.Hands as hands
 use Rattle.tg_law_cells.proofs.Jobs.{AppendOk}
 use Rattle.tg_law_finish.specs.Granted.{Granted}
 use Rattle.tg_law_finish.specs.Appends as appends
 use Rattle.tg_law_finish.specs.Appends.{WaitsForAppend, AppendStands, PuttingStands, JudgingStands}
-use Rattle.tg_law_finish.specs.Asks.{IsUntrimmed, WaitsForSync}
+use Rattle.tg_law_finish.specs.Asks.{NothingTrimmed, HasIssued, WaitsForSync}
 use Rattle.tg_law_finish.specs.Laws.{IsAnswered, AppendAnswered, AppendInTime, AskAnswered, AskInTime, EndsAreTold}
-use Rattle.tg_law_finish.proofs.Asking.{Untrimmed, Asks, AllBelow}
+use Rattle.tg_law_finish.proofs.Asking.{Untrimmed, Asks}
 use Rattle.tg_law_finish.proofs.Counted.{is_of, one_if, cost, counted}
 use Rattle.tg_law_finish.proofs.Counted.{Finishes as Counted}
 use Rattle.tg_law_finish.proofs.Replying.{settle_replies}
 use Rattle.tg_law_finish.proofs.Telling.{CommandIs}
 use Rattle.tg_law_finish.specs.Commands.{is_ask, plays}
 use Rattle.tg_law_finish.proofs.Finishes.{writes_finish, asks_finish}
-use Rattle.tg_law_finish.proofs.Standing.{numbers_hold, cells_always, pax_always, working, lawful, cluster_is, header_limits}
+use Rattle.tg_law_finish.proofs.Standing.{numbers_hold, cells_always, pax_always, working, lawful, next_near, names_below, cluster_is, header_limits}
 use Rattle.tg_law_finish.proofs.Writing.{Writes, Stands, InHand, PutStands, JudgeStands}
 
 -- Counting.
@@ -161,15 +160,8 @@ module _ (m : Meaning) (h : Header) (ms : Moves m) (w : World m) (r : Reaches m 
 
   -- Asks.
 
-  all_below : (t : ℕ) (qs : List ℕ) → ((q : ℕ) → Contains qs q → q < t) → AllBelow m t qs
-  all_below t qs f = by qs (λ q g. f q (contained qs q g))
-    where
-      by : (xs : List ℕ) → ((q : ℕ) → Has xs q → q < t) → AllBelow m t xs
-      by [] f = tt
-      by (x ∷ xs) f = (f x (inl refl), by xs (λ q g. f q (inr g)))
-
-  untrimmed : IsUntrimmed m w → Untrimmed m w p
-  untrimmed u = record { lows = u.lows; past = is_less _ _ u.past; near = u.near; backs = λ o os. all_below _ _ (u.backs o os) }
+  untrimmed : NothingTrimmed m w → HasIssued m w → Untrimmed m w p
+  untrimmed u n = record { lows = u; past = is_less _ _ n; near = next_near m h ms w r; backs = λ o os. names_below m h ms w r o os }
     where
       is_less : (a b : ℕ) → a < b → nat_lt a b ≡ true
       is_less a b less = grind arith
@@ -215,13 +207,13 @@ module _ (m : Meaning) (h : Header) (ms : Moves m) (w : World m) (r : Reaches m 
   pub append_in_time : (x : CommandOf m) → WaitsAlone m w k x → IsReadyFor m w k → Granted m w → WaitsForAppend m w k → IsAnswered m w k (bound_in m w x)
   append_in_time x a b g f = within m k _ _ w _ (bounds m x _ _ _ _ (rooms _ _ _ (longest g x a b) few_layouts)) (append_answered x a b g f)
 
-  pub ask_answered : (x : CommandOf m) → WaitsAlone m w k x → IsReadyFor m w k → Granted m w → IsUntrimmed m w → WaitsForSync m w k → IsAnswered m w k (2 * ((longest_chain p + 1) * ((seqr m w p.seq).next + 1)) + 2 * w.cluster.layouts)
-  ask_answered x a b g u f =
-      let c = asks_finish m w k p (longest_chain p) (working m h ms w r k x a b) (lawful m h ms w r k x a b g) (untrimmed u) (asks f) a.within in
+  pub ask_answered : (x : CommandOf m) → WaitsAlone m w k x → IsReadyFor m w k → Granted m w → NothingTrimmed m w → HasIssued m w → WaitsForSync m w k → IsAnswered m w k (2 * ((longest_chain p + 1) * ((seqr m w p.seq).next + 1)) + 2 * w.cluster.layouts)
+  ask_answered x a b g u n f =
+      let c = asks_finish m w k p (longest_chain p) (working m h ms w r k x a b) (lawful m h ms w r k x a b g) (untrimmed u n) (asks f) a.within in
       answered_of m k _ w _ (subst (λ l. Counted m k (2 * ((longest_chain p + 1) * ((seqr m w p.seq).next + 1)) + 2 * l) w (settle m w).world) layouts_are c) (settle_replies m k f.work.command (asks_play f.work.command f.asks) w (in_work f.work f.waits) c.answered)
 
-  pub ask_in_time : (x : CommandOf m) → WaitsAlone m w k x → IsReadyFor m w k → Granted m w → IsUntrimmed m w → WaitsForSync m w k → IsAnswered m w k (bound_in m w x)
-  ask_in_time x a b g u f = within m k _ _ w _ (bounds m x _ _ _ _ (each_room _ _ _ (longest g x a b) few_layouts)) (ask_answered x a b g u f)
+  pub ask_in_time : (x : CommandOf m) → WaitsAlone m w k x → IsReadyFor m w k → Granted m w → NothingTrimmed m w → HasIssued m w → WaitsForSync m w k → IsAnswered m w k (bound_in m w x)
+  ask_in_time x a b g u n f = within m k _ _ w _ (bounds m x _ _ _ _ (each_room _ _ _ (longest g x a b) few_layouts)) (ask_answered x a b g u n f)
 
 pub appends_are_answered : (m : Meaning) → Always m (AppendAnswered m)
 appends_are_answered m h ms w r k x a b g f = append_answered m h ms w r k x a b g f
@@ -230,10 +222,10 @@ pub appends_in_time : (m : Meaning) → Always m (AppendInTime m)
 appends_in_time m h ms w r k x a b g f = append_in_time m h ms w r k x a b g f
 
 pub asks_are_answered : (m : Meaning) → Always m (AskAnswered m)
-asks_are_answered m h ms w r k x a b g u f = ask_answered m h ms w r k x a b g u f
+asks_are_answered m h ms w r k x a b g u n f = ask_answered m h ms w r k x a b g u n f
 
 pub asks_in_time : (m : Meaning) → Always m (AskInTime m)
-asks_in_time m h ms w r k x a b g u f = ask_in_time m h ms w r k x a b g u f
+asks_in_time m h ms w r k x a b g u n f = ask_in_time m h ms w r k x a b g u n f
 
 pub ends_are_told : (m : Meaning) → EndsAreTold m
 ends_are_told m w k work e g idle = settle_replies m k work.command g w (subst (λ (o : Option (Work m)). CommandIs m work.command o) (sym e) refl) idle

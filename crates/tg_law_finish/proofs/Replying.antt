@@ -11,7 +11,7 @@ use Rattle.tg_model.specs.declared.command.Event.TheVariants.{Deliver, Tick}
 use Rattle.tg_model.specs.Kinds.{CommandOf, NoteOf}
 use Rattle.tg_protocol.specs.Clients.{Client, Work, new_client}
 use Rattle.tg_protocol.specs.ClientSteps.{ClientTurn}
-use Rattle.tg_protocol.specs.Worlds.{World, Told, client, runs, packet_of, mark_of, moves, comes, handed, delivers, ticks, ticks_if, unit_moves, layout_moves, seqr_moves, client_turned, happens, nodes, limit_of, Ran, drain_on, drain, tick_all, unless_stopped, rounds, settle, lowest, count_of}
+use Rattle.tg_protocol.specs.Worlds.{World, Told, client, runs, mark_of, moves, comes, handed, delivers, ticks, ticks_if, unit_moves, layout_moves, seqr_moves, client_turned, happens, nodes, limit_of, Ran, drain_on, drain, tick_all, unless_stopped, rounds, settle, lowest, count_of}
 use Rattle.tg_protocol.specs.Finishing.{HasReply}
 use Rattle.tg_law_moves.proofs.Lists.{at_set, contained}
 use Rattle.tg_law_moves.proofs.Members.{Has, has_left, has_right}

@@ -1,6 +1,7 @@
 -- What holds of each sequencer of a run: a scan is of its own layout, and is over where it isn't scanning.
-use Rattle.std.proofs.Common.{◌≡◌, ◌⊎◌, ℕ, zero, suc, ◌+◌, List, [], map, Bool, true, false, not, ◌||◌, eqb, refl, ap, ◌∙◌, sym, subst, inl, inr, arith, Some, None, Option}
-use Rattle.std.specs.Prelude.{slice_index_or, min}
+use Rattle.std.proofs.Common.{◌≡◌, ◌⊎◌, ℕ, zero, suc, ◌+◌, ◌≤◌, List, [], map, Bool, true, false, not, ◌||◌, eqb, refl, ap, ◌∙◌, sym, subst, inl, inr, arith, Some, None, Option}
+use Rattle.std.specs.Prelude.{slice_index_or, min, max, nat_le}
+use Rattle.std.proofs.lemmas.Bool.Decides.{nat_tests}
 use Rattle.tg_base.specs.Clusters.{Header}
 use Rattle.tg_base.specs.Layouts.{Layout}
 use Rattle.tg_base.specs.declared.ids.NodeId.{NodeId}
@@ -27,23 +28,38 @@ module _ (n l : ℕ) where
     pub limit : s.limit ≡ l
     pub rests : scanning s ≡ false → s.scan ≡ None
     pub own : (s.scan ≡ None) ⊎ (s.proj.seq ≡ n)
+    pub room : s.next ≤ max l s.proj.start
 
-  on_fine : (s : SeqrState) (b : Bool) → scanning s ≡ b → s.num ≡ n → s.limit ≡ l → s.proj.seq ≡ n → Fine (scan_on s b)
-  on_fine s true e a b o = record { num = a; limit = b; rests = λ f. absurd (contrary e f); own = inr o }
+  -- Where it scans, a position further is one of the scan's, or the start.
+
+  one_further : (s : SeqrState) → scanning s ≡ true → s.next + 1 ≤ max l s.proj.start
+  one_further s e = grind (arith, nat_tests, e)
+
+  at_start : (b p : ℕ) → min b p ≤ max l p
+  at_start b p = grind arith
+
+  has_room : (a b : ℕ) → nat_le l a ≡ false → a + 1 ≤ max l b
+  has_room a b e = grind (arith, nat_tests, e)
+
+  from_zero : (b : ℕ) → 0 ≤ max l b
+  from_zero b = omega arith
+
+  on_fine : (s : SeqrState) (b : Bool) → scanning s ≡ b → s.num ≡ n → s.limit ≡ l → s.proj.seq ≡ n → s.next ≤ max l s.proj.start → Fine (scan_on s b)
+  on_fine s true e a b o r = record { num = a; limit = b; rests = λ f. absurd (contrary e f); own = inr o; room = r }
     where
       contrary : {x : Bool} → x ≡ true → x ≡ false → ⊥
       contrary e f = grind arith
-  on_fine s false e a b o = record { num = a; limit = b; rests = λ f. refl; own = inl refl }
+  on_fine s false e a b o r = record { num = a; limit = b; rests = λ f. refl; own = inl refl; room = r }
 
-  ended_fine : (s : SeqrState) (e : CellEnd) → Fine s → s.proj.seq ≡ n → Fine (scan_ended s e)
-  ended_fine s (Done c) f o = on_fine (record s { next = s.next + 1; lists = with_positions s.next (cell_streams c) s.lists }) _ refl f.num f.limit o
-  ended_fine s (Gone b) f o = on_fine (record s { next = min b s.proj.start }) _ refl f.num f.limit o
-  ended_fine s (Fenced u e) f o = record { num = f.num; limit = f.limit; rests = λ g. refl; own = inl refl }
-  ended_fine s Seen f o = f
-  ended_fine s (Lost c) f o = f
+  ended_fine : (s : SeqrState) (e : CellEnd) → Fine s → scanning s ≡ true → s.proj.seq ≡ n → Fine (scan_ended s e)
+  ended_fine s (Done c) f g o = on_fine (record s { next = s.next + 1; lists = with_positions s.next (cell_streams c) s.lists }) _ refl f.num f.limit o (one_further s g)
+  ended_fine s (Gone b) f g o = on_fine (record s { next = min b s.proj.start }) _ refl f.num f.limit o (at_start b s.proj.start)
+  ended_fine s (Fenced u e) f g o = record { num = f.num; limit = f.limit; rests = λ h. refl; own = inl refl; room = f.room }
+  ended_fine s Seen f g o = f
+  ended_fine s (Lost c) f g o = f
 
   goes_fine : (s : SeqrState) (j : CellJob) → Fine s → scanning s ≡ true → s.proj.seq ≡ n → Fine (record s { scan = Some j })
-  goes_fine s j f e o = record { num = f.num; limit = f.limit; rests = λ g. absurd (contrary e g); own = inr o }
+  goes_fine s j f e o = record { num = f.num; limit = f.limit; rests = λ g. absurd (contrary e g); own = inr o; room = f.room }
     where
       contrary : {x : Bool} → x ≡ true → x ≡ false → ⊥
       contrary e f = grind arith
@@ -51,7 +67,7 @@ module _ (n l : ℕ) where
   next_fine : (s : SeqrState) (t : Next CellJob CellEnd) → Fine s → scanning s ≡ true → s.proj.seq ≡ n → Fine (scan_next s t)
   next_fine s (Goes j) f e o = goes_fine s j f e o
   next_fine s (Learns j) f e o = goes_fine s j f e o
-  next_fine s (Ends x) f e o = ended_fine s x f o
+  next_fine s (Ends x) f e o = ended_fine s x f e o
 
   -- where it has a cell in hand it scans, and its layout is its own
   none_some : {X : Type 0} {x : X} {o : Option X} → o ≡ Some x → o ≡ None → ⊥
@@ -72,7 +88,7 @@ module _ (n l : ℕ) where
       by (inr g) = g
 
   turn_fine : (s : SeqrState) (rids : ℕ) (t : Next CellJob CellEnd) → Fine s → scanning s ≡ true → s.proj.seq ≡ n → Fine (scan_next (record s { rids = rids }) t)
-  turn_fine s rids t f e o = next_fine (record s { rids = rids }) t (record { num = f.num; limit = f.limit; rests = f.rests; own = f.own }) e o
+  turn_fine s rids t f e o = next_fine (record s { rids = rids }) t (record { num = f.num; limit = f.limit; rests = f.rests; own = f.own; room = f.room }) e o
 
   fed_fine : (b : Bool) (s t : SeqrState) → Fine s → Fine t → Fine (fed_if b s t).now
   fed_fine true s t f g = g
@@ -90,16 +106,16 @@ module _ (n l : ℕ) where
   own_fine true s from rid t f g = unfenced_fine s.fence s from rid t f g
   own_fine false s from rid t f g = f
 
-  issue_fine : (s : SeqrState) (os : List Oid) (from : NodeId) (rid : ℕ) (b : Bool) → scanning s ≡ false → Fine s → Fine (issue s os from rid b).now
-  issue_fine s os from rid true e f = f
-  issue_fine s os from rid false e f = record { num = f.num; limit = f.limit; rests = λ g. f.rests e; own = f.own }
+  issue_fine : (s : SeqrState) (os : List Oid) (from : NodeId) (rid : ℕ) (b : Bool) → nat_le s.limit s.next ≡ b → scanning s ≡ false → Fine s → Fine (issue s os from rid b).now
+  issue_fine s os from rid true i e f = f
+  issue_fine s os from rid false i e f = record { num = f.num; limit = f.limit; rests = λ g. f.rests e; own = f.own; room = has_room s.next s.proj.start (subst (λ x. nat_le x s.next ≡ false) f.limit i) }
 
   token_fine : (s : SeqrState) (os : List Oid) (from : NodeId) (rid : ℕ) (b : Bool) → scanning s ≡ b → Fine s → Fine (on_token s os from rid b).now
   token_fine s os from rid true e f = f
-  token_fine s os from rid false e f = issue_fine s os from rid _ e f
+  token_fine s os from rid false e f = issue_fine s os from rid _ refl e f
 
   begun_fine : (s : SeqrState) (q : Layout) → Fine s → q.seq ≡ n → Fine (begun s q)
-  begun_fine s q f e = on_fine (record s { epoch = q.epoch; proj = q; next = 0; lists = []; fence = None; scan = None }) _ refl f.num f.limit e
+  begun_fine s q f e = on_fine (record s { epoch = q.epoch; proj = q; next = 0; lists = []; fence = None; scan = None }) _ refl f.num f.limit e (from_zero q.start)
 
   learn_fine : (s : SeqrState) (q : Layout) (from : NodeId) (rid : ℕ) (b : Bool) → Fine s → q.seq ≡ n → Fine (on_learn s q from rid b).now
   learn_fine s q from rid true f e = begun_fine s q f e
@@ -147,7 +163,7 @@ module _ (m : Meaning) where
 
   new_fine : (n l : ℕ) (p : Layout) → Fine n l (new_seqr n l p)
   unfolding new_seqr
-  new_fine n l p = record { num = refl; limit = refl; rests = λ e. refl; own = inl refl }
+  new_fine n l p = record { num = refl; limit = refl; rests = λ e. refl; own = inl refl; room = from_zero n l p.start }
 
   start_seqrs : (h : Header) → Seqrs (config m (start m h))
   unfolding start

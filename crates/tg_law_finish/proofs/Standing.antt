@@ -11,10 +11,14 @@ use Rattle.tg_model.specs.Kinds.{CommandOf}
 use Rattle.tg_proj.specs.Places.{range_at, chain_at}
 use Rattle.tg_proj.specs.Refusals.{units_of as units_in}
 use Rattle.tg_base.specs.declared.cell.Cell.{Cell}
-use Rattle.tg_protocol.specs.Words.{cell_at, with_num, with_nums, unit_id}
+use Rattle.std.proofs.lemmas.Bool.Decides.{nat_tests}
+use Rattle.tg_base.specs.declared.ids.Oid.{Oid}
+use Rattle.tg_protocol.specs.Entries.{link_of, backs_of}
+use Rattle.tg_protocol.specs.Sequencers.{links_of}
+use Rattle.tg_protocol.specs.Words.{cell_at, with_num, with_nums, unit_id, too_far}
 use Rattle.tg_protocol.specs.Layouts.{chain_of, units_of}
 use Rattle.tg_protocol.specs.Cells.{CellJob, Place}
-use Rattle.tg_protocol.specs.Worlds.{World, start, unit, layout, seqr, client, latest, runs}
+use Rattle.tg_protocol.specs.Worlds.{World, start, unit, seqr, latest, runs}
 use Rattle.tg_protocol.specs.Runs.{Moves, Reaches, Always}
 use Rattle.tg_protocol.specs.Finishing.{stripes_of, longest_chain, WaitsAlone, IsReadyFor}
 use Rattle.tg_law_moves.specs.Configs.{config}
@@ -33,6 +37,9 @@ use Rattle.tg_law_cells.proofs.Heads.{heads_have_cells}
 use Rattle.tg_law_cells.proofs.Jobs.{MaybeOk}
 use Rattle.tg_law_cells.proofs.Stores.{cells_hold}
 use Rattle.tg_law_cells.proofs.Successors.{place_of, stands_there, some_there}
+use Rattle.tg_law_issues.proofs.Bounds.{AllBelow, lasts_below}
+use Rattle.tg_law_issues.proofs.Tails.{Tails, tails_hold, links_below}
+use Rattle.tg_law_issues.proofs.Unwritten.{next_is_unwritten}
 use Rattle.tg_law_finish.specs.Granted.{Granted}
 use Rattle.tg_law_finish.proofs.Scans.{Seqrs, seqrs_hold}
 use Rattle.tg_law_finish.proofs.Working.{Working, Lawful, JobOff}
@@ -113,10 +120,10 @@ ranges_have (r ∷ rs) (suc n) k a b = has_right r.stripes (flat_map stripes_of 
 few_layouts : (n : ℕ) → is_odd_to_seven n ≡ true → n ≤ 7
 few_layouts n e = grind arith
 
-near_limit : (n : ℕ) → is_within 1 1000000 n ≡ true → n ≤ 2 ^ 62
+near_limit : (n : ℕ) → is_within 1 1000000 n ≡ true → n < 2 ^ 62
 near_limit n e = grind arith
 
-pub header_limits : (h : Header) → IsHeader h → (h.layouts ≤ 7) × (h.limit ≤ 2 ^ 62)
+pub header_limits : (h : Header) → IsHeader h → (h.layouts ≤ 7) × (h.limit < 2 ^ 62)
 header_limits h i =
     let a : Bool = is_within 1 64 h.units && is_odd_to_seven h.layouts in
     let b : Bool = a && is_within 1 16 h.seqs in
@@ -145,6 +152,9 @@ module _ (m : Meaning) where
   seqrs_always : Always m (λ w. Seqrs m (config m w))
   seqrs_always = always m (λ w. Seqrs m (config m w)) (λ h ms. seqrs_hold m h ms)
 
+  tails_always : Always m (λ w. Tails m (config m w))
+  tails_always = always m (λ w. Tails m (config m w)) (λ h ms. tails_hold m h ms)
+
   module _ (h : Header) (ms : Moves m) (w : World m) (r : Reaches m h ms w) where
     abbrev p : Layout
     p = latest m w
@@ -155,6 +165,20 @@ module _ (m : Meaning) where
     in_units : (pos i : ℕ) → i < length (chain_of p pos) → Has (units_of p) (slice_index (chain_of p pos) i)
     unfolding units_of
     in_units pos i less = nums_have (units_in p.ranges) _ (stands_there p pos _ rules (has_at (chain_of p pos) i less))
+
+    limit_near : w.cluster.limit < 2 ^ 62
+    limit_near = subst (λ (y : Header). y.limit < 2 ^ 62) (sym (cluster_is h ms w r)) (header_limits h r.header).1
+
+    -- What the sequencer issues next, and what it names.
+
+    pub next_near : too_far (seqr m w p.seq).next ≡ false
+    next_near = far_not w.cluster.limit (seqr m w p.seq).proj.start (seqr m w p.seq).next ((seqrs_always h ms w r).fine p.seq).room limit_near (layouts_are_sound m h ms w r _ _ ((layouts_are_known m h ms w r).seqrs p.seq)).near
+      where
+        far_not : (a b n : ℕ) → n ≤ max a b → a < 2 ^ 62 → b < 2 ^ 62 → too_far n ≡ false
+        far_not a b n le l k = grind (arith, nat_tests, le, l, k)
+
+    pub names_below : (o : Oid) (os : List Oid) → AllBelow (seqr m w p.seq).next (backs_of (link_of o (links_of (seqr m w p.seq).lists os)))
+    names_below o os = lasts_below (seqr m w p.seq).next o _ (links_below (seqr m w p.seq).next (seqr m w p.seq).lists os (λ n. (tails_always h ms w r).below p.seq n))
 
     module _ (k : ℕ) (x : CommandOf m) (a : WaitsAlone m w k x) (b : IsReadyFor m w k) where
       ready_unit : (pos i : ℕ) → i < length (chain_of p pos) → (runs m w (unit_id (slice_index (chain_of p pos) i)) ≡ true) × ((unit m w (slice_index (chain_of p pos) i)).epoch ≡ p.epoch)
@@ -225,9 +249,9 @@ module _ (m : Meaning) where
         limit = subst (λ n. n ≤ 2 ^ 62) (sym (((seqrs_always h ms w r).fine p.seq).limit)) (cluster_limit);
         named = g.named;
         scans = λ s off. job_off s (seqr m w s).scan refl off ((cells_always h ms w r).scans s);
-        unwritten = g.unwritten;
+        unwritten = λ i less. next_is_unwritten m h ms w r g.trims _ b.serves (contained (chain_of p (seqr m w p.seq).next) _ (has_at (chain_of p (seqr m w p.seq).next) i less)) (ready_unit (seqr m w p.seq).next i less).1;
         heads = λ pos i c less has low. head_has pos i c less has low;
       }
         where
           cluster_limit : w.cluster.limit ≤ 2 ^ 62
-          cluster_limit = subst (λ (y : Header). y.limit ≤ 2 ^ 62) (sym (cluster_is h ms w r)) (header_limits h r.header).1
+          cluster_limit = let a = limit_near in omega (arith, a)

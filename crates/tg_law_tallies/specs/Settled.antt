@@ -8,7 +8,7 @@ use Rattle.tg_protocol.specs.Runs.{Moves, Takes, Reaches, run}
 use Rattle.tg_protocol.specs.Finishing.{deliveries, is_with_client, bound_in, WaitsAlone, IsReadyFor}
 use Rattle.tg_law_finish.specs.Granted.{Granted}
 use Rattle.tg_law_finish.specs.Appends.{WaitsForAppend}
-use Rattle.tg_law_finish.specs.Asks.{IsUntrimmed, WaitsForSync}
+use Rattle.tg_law_finish.specs.Asks.{NothingTrimmed, HasIssued, WaitsForSync}
 use Rattle.tg_law_finish.specs.Laws.{append_bound, ask_bound}
 use Rattle.tg_law_tallies.specs.Tallies.{tallies, tally, with_tally}
 
@@ -40,7 +40,8 @@ pub record AskSettles (w : World tallies) : Type 0 where
   pub alone : WaitsAlone tallies w 0 (cmd.Fate 0)
   pub ready : IsReadyFor tallies w 0
   pub granted : Granted tallies w
-  pub untrimmed : IsUntrimmed tallies w
+  pub untrimmed : NothingTrimmed tallies w
+  pub issued : HasIssued tallies w
   pub waits : WaitsForSync tallies w 0
   pub counts : Counted w 6 10 80 (ask_bound tallies) (cmd.Fate 0)
 

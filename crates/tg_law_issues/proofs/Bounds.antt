@@ -1,0 +1,256 @@
+-- Which positions the machines of a client name: those below what their layouts and the sequencer's answers give.
+use Rattle.std.proofs.Common.{◌≡◌, ℕ, zero, suc, ◌+◌, ◌<◌, ◌≤◌, List, [], ◌∷◌, Bool, true, false, refl, sym, subst, arith, Some, None, Option}
+use Rattle.std.specs.Prelude.{nat_lt, nat_le, filter}
+use Rattle.std.proofs.lemmas.Bool.Decides.{nat_tests}
+use Rattle.tg_base.specs.Layouts.{Layout}
+use Rattle.tg_base.specs.declared.cell.Cell.{Cell}
+use Rattle.tg_base.specs.declared.cell.Cell.TheVariants.{Junk, Data}
+use Rattle.tg_base.specs.declared.ids.Oid.{Oid}
+use Rattle.tg_base.specs.declared.marks.StreamLink.{StreamLink}
+use Rattle.tg_entry.specs.declared.entry.Entry.{Entry}
+use Rattle.tg_protocol.specs.Words.{cell_at, where_true, oid_eq}
+use Rattle.tg_protocol.specs.Entries.{link_of, backs_of, backs_in, lists}
+use Rattle.tg_protocol.specs.Pages.{entry_of}
+use Rattle.tg_protocol.specs.Requests.{Waits, without_wait, Next, Goes, Learns, Ends, Turn}
+use Rattle.tg_protocol.specs.Replies.{Reply, IsTail, IsOldEpoch, IsIssued, IsFull}
+use Rattle.tg_protocol.specs.Replies as replied
+use Rattle.tg_protocol.specs.Cells.{Place, place_in, CellWork, Puts, Gets, Fills, Copies, Probes, CellJob, CellEnd, Done, Seen, Lost, Fenced, Gone, works, put_on, copy_on, copy_if_same, end_if, probe_on, get_cell, fill_cell, work_feed, cell_feed}
+use Rattle.tg_protocol.specs.Walking.{Trail, go_down, next_on, next_of_trail, rest_of, listed, pointers_at, trail_after, Walk, Members, visited, with_job, at_least, next_visit, walk_on, walks, walk_start, walk_end, walk_next, walk_feed, walk_again, read_at}
+
+less_of : (a b : ℕ) → nat_lt a b ≡ true → a < b
+less_of a b e = grind (arith, nat_tests)
+
+not_less : (a b : ℕ) → nat_lt a b ≡ false → b ≤ a
+not_less a b e = grind (arith, nat_tests)
+
+not_past : (a b : ℕ) → nat_le a b ≡ false → b < a
+not_past a b e = grind (arith, nat_tests)
+
+from_zero : (t : ℕ) → 0 ≤ t
+from_zero t = omega arith
+
+-- Lists of positions below a bound.
+
+abbrev pub AllBelow : ℕ → List ℕ → Type 0
+AllBelow t [] = Unit {0}
+AllBelow t (x ∷ xs) = (x < t) × AllBelow t xs
+
+abbrev pub LinksBelow : ℕ → List StreamLink → Type 0
+LinksBelow t [] = Unit {0}
+LinksBelow t (l ∷ ls) = AllBelow t l.backs × LinksBelow t ls
+
+pub lasts_below : (t : ℕ) (o : Oid) (ls : List StreamLink) → LinksBelow t ls → AllBelow t (backs_of (link_of o ls))
+lasts_below t o [] k = tt
+lasts_below t o (l ∷ ls) k = by (oid_eq l.oid o) refl (lasts_below t o ls k.1)
+  where
+    by : (b : Bool) → oid_eq l.oid o ≡ b → AllBelow t (backs_of (link_of o ls)) → AllBelow t (backs_of (link_of o (l ∷ ls)))
+    by true e ih = subst (λ (x : Option StreamLink). AllBelow t (backs_of x)) (sym (found e)) k.0
+      where
+        found : oid_eq l.oid o ≡ true → link_of o (l ∷ ls) ≡ Some l
+        found e = grind (arith, e)
+    by false e ih = subst (λ (x : Option StreamLink). AllBelow t (backs_of x)) (sym (passed e)) ih
+      where
+        passed : oid_eq l.oid o ≡ false → link_of o (l ∷ ls) ≡ link_of o ls
+        passed e = grind (arith, e)
+
+kept_below : (q t : ℕ) (bs : List ℕ) → q ≤ t → AllBelow t (filter (λ b. nat_lt b q) bs)
+kept_below q t [] le = tt
+kept_below q t (b ∷ bs) le = by (nat_lt b q) refl (kept_below q t bs le)
+  where
+    by : (y : Bool) → nat_lt b q ≡ y → AllBelow t (filter (λ x. nat_lt x q) bs) → AllBelow t (filter (λ x. nat_lt x q) (b ∷ bs))
+    by true e ih = subst (AllBelow t) (sym (taken e)) (let l = less_of b q e in omega (arith, l, le), ih)
+      where
+        taken : nat_lt b q ≡ true → filter (λ x. nat_lt x q) (b ∷ bs) ≡ b ∷ filter (λ x. nat_lt x q) bs
+        taken e = grind (arith, e)
+    by false e ih = subst (AllBelow t) (sym (left e)) ih
+      where
+        left : nat_lt b q ≡ false → filter (λ x. nat_lt x q) (b ∷ bs) ≡ filter (λ x. nat_lt x q) bs
+        left e = grind (arith, e)
+
+-- The trail of a walk.
+
+pub record TrailOk (t : ℕ) (x : Trail) : Type 0 where
+  pub pointers : AllBelow t x.pointers
+  pub last : x.last ≤ t
+
+next_below : (t : ℕ) (x : Trail) (q : ℕ) → TrailOk t x → next_of_trail x ≡ Some q → q < t
+next_below t x q k e = by x.pointers refl k.pointers
+  where
+    down : (b : Bool) → go_down b x.last ≡ Some q → q < t
+    down true e = let l = k.last in grind (arith, nat_tests, e, l)
+    down false e = absurd (cc)
+
+    same : (a b : ℕ) → Some a ≡ Some b → a ≡ b
+    same a b i = cc
+
+    by : (ps : List ℕ) → x.pointers ≡ ps → AllBelow t ps → q < t
+    by [] i b = down x.were_four (subst (λ (ps : List ℕ). next_on x ps ≡ Some q) i e)
+    by (p ∷ ps) i b = subst (λ n. n < t) (same p q (subst (λ (ps : List ℕ). next_on x ps ≡ Some q) i e)) b.0
+
+rest_below : (t : ℕ) (ps : List ℕ) → AllBelow t ps → AllBelow t (rest_of ps)
+rest_below t [] k = tt
+rest_below t (p ∷ ps) k = k.1
+
+after_ok : (t : ℕ) (x : Trail) (q : ℕ) (ps : Option (List ℕ)) → TrailOk t x → q < t → ((bs : List ℕ) → ps ≡ Some bs → AllBelow t bs) → TrailOk t (trail_after x q ps)
+after_ok t x q None k less f = record { pointers = rest_below t x.pointers k.pointers; last = omega (arith, less) }
+after_ok t x q (Some ps) k less f = record { pointers = f ps refl; last = omega (arith, less) }
+
+pointed_below : (t : ℕ) (o : Oid) (q : ℕ) (c : Cell) (bs : List ℕ) → q < t → pointers_at o q c ≡ Some bs → AllBelow t bs
+pointed_below t o q Junk bs less e = absurd (cc)
+pointed_below t o q (Data d) bs less e = by (entry_of d) e
+  where
+    some : (b : Bool) (xs : List ℕ) → where_true b xs ≡ Some bs → AllBelow t xs → AllBelow t bs
+    some true xs i k = subst (AllBelow t) (same xs bs i) k
+      where
+        same : (a b : List ℕ) → Some a ≡ Some b → a ≡ b
+        same a b i = cc
+    some false xs i k = absurd (cc)
+
+    by : (x : Option Entry) → listed o q x ≡ Some bs → AllBelow t bs
+    by None i = absurd (cc)
+    by (Some x) i = some (lists x o) _ i (kept_below q t (backs_in x o) (omega (arith, less)))
+
+visited_ok : (t : ℕ) (w : Walk) (q : ℕ) (c : Cell) → TrailOk t w.trail → q < t → TrailOk t (visited w q c).trail
+visited_ok t w q c k less = after_ok t w.trail q (pointers_at w.oid q c) k less (λ bs e. pointed_below t w.oid q c bs less e)
+
+-- The machine of a cell.
+
+abbrev pub OnlyProbes : CellWork → Type 0
+OnlyProbes (Probes ws) = Unit {0}
+OnlyProbes w = ⊥
+
+-- it keeps its place, and goes on probing if it does
+abbrev pub Kept : Place → CellWork → Next CellJob CellEnd → Type 0
+Kept a w (Goes j) = (j.place ≡ a) × (OnlyProbes w → OnlyProbes j.work)
+Kept a w x = Unit {0}
+
+abbrev Stays : Place → CellWork → Type 0
+Stays a w = (works a w).place ≡ a
+
+put_kept : (a : Place) (v : CellWork) (d : List ℕ) (i next : ℕ) (b : Bool) → (OnlyProbes v → ⊥) → Kept a v (put_on a d i next b).to
+put_kept a v d i next true none = (refl, λ p. absurd (none p))
+put_kept a v d i next false none = tt
+
+copied_kept : (a : Place) (v : CellWork) (c : Cell) (i next : ℕ) (b : Bool) → (OnlyProbes v → ⊥) → Kept a v (copy_on a c i next b).to
+copied_kept a v c i next true none = (refl, λ p. absurd (none p))
+copied_kept a v c i next false none = tt
+
+end_kept : (b : Bool) (a : Place) (w : CellWork) (e : CellEnd) (next : ℕ) → Kept a w (end_if b (works a w) next e).to
+end_kept true a w e next = tt
+end_kept false a w e next = (refl, λ p. p)
+
+probe_kept : (a : Place) (vs ws : Waits) (next : ℕ) → Kept a (Probes vs) (probe_on a ws next).to
+probe_kept a vs [] next = tt
+probe_kept a vs (w ∷ ws) next = (refl, λ p. tt)
+
+same_kept : (a : Place) (r : ℕ) (c : Cell) (i next : ℕ) (b : Bool) → Kept a (Copies r c i) (copy_if_same (works a (Copies r c i)) c i next b).to
+same_kept a r c i next true = copied_kept a (Copies r c i) c (i + 1) next _ (λ p. p)
+same_kept a r c i next false = (refl, λ p. p)
+
+work_kept : (a : Place) (w : CellWork) (u : ℕ) (x : Reply) (next : ℕ) → Kept a w (work_feed (works a w) w u x next).to
+unfolding work_feed fill_cell
+work_kept a w u (replied.IsFenced e) next = end_kept _ a w _ next
+work_kept a (Puts r d i) u replied.IsHeld next = put_kept a (Puts r d i) d (i + 1) next _ (λ p. p)
+work_kept a (Puts r d i) u (replied.IsTaken c) next = end_kept _ a _ _ next
+work_kept a (Puts r d i) u (replied.IsGone b) next = end_kept _ a _ _ next
+work_kept a (Gets r) u (replied.IsTaken c) next = tt
+work_kept a (Gets r) u replied.IsUnwritten next = (refl, λ p. absurd p)
+work_kept a (Gets r) u (replied.IsGone b) next = end_kept _ a _ _ next
+work_kept a (Fills r) u replied.IsHeld next = copied_kept a (Fills r) Junk 1 next _ (λ p. p)
+work_kept a (Fills r) u (replied.IsTaken c) next = copied_kept a (Fills r) c 1 next _ (λ p. p)
+work_kept a (Fills r) u (replied.IsGone b) next = end_kept _ a _ _ next
+work_kept a (Copies r c i) u replied.IsHeld next = copied_kept a (Copies r c i) c (i + 1) next _ (λ p. p)
+work_kept a (Copies r c i) u (replied.IsTaken x) next = same_kept a r c i next _
+work_kept a (Copies r c i) u (replied.IsGone b) next = end_kept _ a _ _ next
+work_kept a (Probes ws) u replied.IsWhole next = probe_kept a ws _ next
+work_kept a (Probes ws) u (replied.IsMissing p) next = probe_kept a ws _ next
+work_kept a w u x next = (refl, λ p. p)
+
+pub cell_kept : (j : CellJob) (u : ℕ) (x : Reply) (next : ℕ) → Kept j.place j.work (cell_feed j u x next).to
+unfolding cell_feed
+cell_kept j u x next = work_kept j.place j.work u x next
+
+-- What may be named: B of an epoch and a position. And what later layouts start past: L of an epoch and a bound.
+module _ (B : ℕ → ℕ → Type 0) (L : ℕ → ℕ → Type 0) where
+  abbrev pub Fits : Place → Type 0
+  Fits a = B a.epoch a.pos
+
+  -- all below a bound may be
+  abbrev pub AllFit : ℕ → ℕ → Type 0
+  AllFit e t = (q : ℕ) → q < t → B e q
+
+  -- Walks.
+
+  abbrev pub JobFits : ℕ → Option CellJob → Type 0
+  JobFits t None = Unit {0}
+  JobFits t (Some j) = Fits j.place × (j.place.pos < t)
+
+  pub record WalkOk (t : ℕ) (w : Walk) : Type 0 where
+    pub trail : TrailOk t w.trail
+    pub job : JobFits t w.job
+
+  abbrev pub WalkNext : ℕ → Next Walk Members → Type 0
+  WalkNext t (Goes w) = WalkOk t w
+  WalkNext t (Learns w) = TrailOk t w.trail
+  WalkNext t (Ends x) = Unit {0}
+
+  module _ (p : Layout) (t : ℕ) (fit : AllFit p.epoch t) where
+    visit_below : (w : Walk) (q : ℕ) → TrailOk t w.trail → next_visit w ≡ Some q → q < t
+    visit_below w q k e = by (next_of_trail w.trail) refl e
+      where
+        some : (b : Bool) (x : ℕ) → next_of_trail w.trail ≡ Some x → where_true b x ≡ Some q → q < t
+        some true x i f = subst (λ n. n < t) (same x q f) (next_below t w.trail x k i)
+          where
+            same : (a b : ℕ) → Some a ≡ Some b → a ≡ b
+            same a b i = cc
+        some false x i f = absurd (cc)
+
+        by : (o : Option ℕ) → next_of_trail w.trail ≡ o → at_least w.lo o ≡ Some q → q < t
+        by None i f = absurd (cc)
+        by (Some x) i f = some (nat_le w.lo x) x i f
+
+    on_ok : (n next : ℕ) (w : Walk) → TrailOk t w.trail → WalkNext t (walk_on p next n w).to
+    unfolding walk_on get_cell
+    on_ok zero next w k = tt
+    on_ok (suc n) next w k = by (λ v l. on_ok n next v l) (next_visit w) refl
+      where
+        cell : ((v : Walk) → TrailOk t v.trail → WalkNext t (walk_on p next n v).to) → (q : ℕ) → q < t → (c : Option Cell) → WalkNext t (elim c as (λ _. Turn Walk Members) [
+          | Some c ↦ walk_on p next n (visited w q c)
+          | None ↦ Rattle.tg_protocol.specs.Walking.reads_turn w (get_cell (place_in p q) next)
+        ]).to
+        cell ih q less (Some c) = ih (visited w q c) (visited_ok t w q c k less)
+        cell ih q less None = record { trail = k; job = (fit q less, less) }
+
+        by : ((v : Walk) → TrailOk t v.trail → WalkNext t (walk_on p next n v).to) → (o : Option ℕ) → next_visit w ≡ o → WalkNext t (elim o as (λ _. Turn Walk Members) [
+          | None ↦ Rattle.tg_protocol.specs.Requests.ends next (Rattle.tg_protocol.specs.Walking.walked w None)
+          | Some q ↦ elim (cell_at w.cells q) as (λ _. Turn Walk Members) [
+            | Some c ↦ walk_on p next n (visited w q c)
+            | None ↦ Rattle.tg_protocol.specs.Walking.reads_turn w (get_cell (place_in p q) next)
+          ]
+        ]).to
+        by ih None e = tt
+        by ih (Some q) e = cell ih q (visit_below w q k e) (cell_at w.cells q)
+
+    pub walks_ok : (next : ℕ) (w : Walk) → TrailOk t w.trail → WalkNext t (walks p next w).to
+    walks_ok next w k = on_ok _ next w k
+
+    pub start_ok : (o : Oid) (lasts : List ℕ) (lo : ℕ) (cells : List (ℕ × Cell)) (next : ℕ) → AllBelow t lasts → WalkNext t (walk_start p o lasts lo cells next).to
+    unfolding walk_start
+    start_ok o lasts lo cells next k = walks_ok next _ (record { pointers = k; last = from_zero t })
+
+    end_ok : (w : Walk) (q : ℕ) (e : CellEnd) (next : ℕ) → WalkOk t w → q < t → WalkNext t (walk_end p w q e next).to
+    end_ok w q (Done c) next k less = walks_ok next (read_at w q c) (visited_ok t (record w { cells = (read_at w q c).cells }) q c k.trail less)
+    end_ok w q (Gone b) next k less = tt
+    end_ok w q (Fenced u e) next k less = k.trail
+    end_ok w q Seen next k less = k
+    end_ok w q (Lost c) next k less = k
+
+    next_ok : (w : Walk) (a : Place) (v : CellWork) (to : Next CellJob CellEnd) (next : ℕ) → WalkOk t w → Fits a × (a.pos < t) → Kept a v to → WalkNext t (walk_next p w a.pos to next).to
+    next_ok w a v (Goes j) next k f g = record { trail = k.trail; job = subst (λ (b : Place). Fits b × (b.pos < t)) (sym g.0) f }
+    next_ok w a v (Learns j) next k f g = k.trail
+    next_ok w a v (Ends e) next k f g = end_ok w a.pos e next k f.1
+
+    pub walk_ok : (w : Walk) (o : Option CellJob) (n : ℕ) (x : Reply) (next : ℕ) → WalkOk t w → JobFits t o → WalkNext t (walk_feed p w o n x next).to
+    unfolding walk_feed
+    walk_ok w None n x next k f = k
+    walk_ok w (Some j) n x next k f = next_ok w j.place j.work _ _ k f (cell_kept j n x next)

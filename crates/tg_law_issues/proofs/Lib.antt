@@ -1,0 +1,11 @@
+pub mod Bounds
+pub mod Machines
+pub mod Hands
+pub mod Sent
+pub mod Along
+pub mod Tails
+pub mod Clients
+pub mod Positions
+pub mod Stored
+pub mod Unwritten
+pub mod Untrimmed
