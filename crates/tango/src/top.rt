@@ -11,6 +11,7 @@ ghost use Rattle.tango_words.specs.Forms.{form_of};
 ghost use Rattle.tango_words.specs.declared.forms.Form.TheVariants.{Replay, Live, Node, Bench, Audit};
 ghost use Rattle.tg_replay.specs.Runs.{Script, IsScript, IsWithin, Tells, FirstOutside, PassesLimit, Replayed, Refused, Limited, run_of};
 ghost use Rattle.tg_replay.specs.Outcomes.{Told, IsCutShort, IsOfReplay};
+ghost use Rattle.tg_lines.specs.Feeds.{NoneOutside};
 ghost use Rattle.tg_lines.specs.Lines.{lines};
 ghost use Rattle.tg_live.specs.Outcomes as lives;
 ghost use Rattle.tg_live.specs.Outcomes.{IsOfLive};
@@ -93,17 +94,30 @@ pub fn tango<S: Source, K: Sink, L: Link>(
     ensures live_limits { form_of (map string_bytes words.now) ≡ Some Live → (Rose (S.faults source.old) (S.faults source.new) → ⊥) → (Rose (K.faults sink.old) (K.faults sink.new) → ⊥) → (Rose (L.faults link.old) (L.faults link.new) → ⊥) →
         IfSome (S.left source.old) (λ text. IfSome (L.handed link.old) (λ handed. (which : Which) → recordings.PassesLimit (over (L.handed link.old) (L.handed link.new) (L.sent link.old) (L.sent link.new)) text which → (result ≡ Limit which) ⊎ (result ≡ OutOfMemory))) }
     // A node: at `Done` the text was followed to its end: the packets of its session were sent, its waits took the answers
-    // that were handed, and its replies were written.
-    ensures node_done { (id : NodeId) → form_of (map string_bytes words.now) ≡ Some (Node id) → result ≡ Done → nodes.Told (S.left source.old) (λ text. nodes.Followed text id (seen (L.sent link.old) (L.handed link.old) (K.written sink.old)) (seen (L.sent link.new) (L.handed link.new) (K.written sink.new))) }
+    // that were handed, in the order of one list in which a packet goes out when its step is made, and its replies were
+    // written.
+    ensures node_done { (id : NodeId) → form_of (map string_bytes words.now) ≡ Some (Node id) → result ≡ Done → nodes.Told (S.left source.old) (λ text. nodes.Followed text id (seen (L.sent link.old) (L.handed link.old) (L.acts link.old) (K.written sink.old)) (seen (L.sent link.new) (L.handed link.new) (L.acts link.new) (K.written sink.new))) }
     // A line is refused that is the first outside, after the session of the lines before it.
-    ensures node_script { (id : NodeId) → form_of (map string_bytes words.now) ≡ Some (Node id) → (line : ℕ) → result ≡ AtLine line → nodes.Told (S.left source.old) (λ text. nodes.Refused text id line (seen (L.sent link.old) (L.handed link.old) (K.written sink.old)) (seen (L.sent link.new) (L.handed link.new) (K.written sink.new))) }
+    ensures node_script { (id : NodeId) → form_of (map string_bytes words.now) ≡ Some (Node id) → (line : ℕ) → result ≡ AtLine line → nodes.Told (S.left source.old) (λ text. nodes.Refused text id line (seen (L.sent link.old) (L.handed link.old) (L.acts link.old) (K.written sink.old)) (seen (L.sent link.new) (L.handed link.new) (L.acts link.new) (K.written sink.new))) }
     // A limit stops a session, after the steps before it.
-    ensures node_limit { (id : NodeId) → form_of (map string_bytes words.now) ≡ Some (Node id) → (which : Which) → result ≡ Limit which → nodes.Told (S.left source.old) (λ text. nodes.Limited text id which (seen (L.sent link.old) (L.handed link.old) (K.written sink.old)) (seen (L.sent link.new) (L.handed link.new) (K.written sink.new))) }
-    // What is written at a fault is a front of a session's replies, or nothing.
-    ensures node_cut_short { (id : NodeId) → form_of (map string_bytes words.now) ≡ Some (Node id) → (result ≡ ReadFault) ⊎ ((result ≡ WriteFault) ⊎ ((result ≡ LinkFault) ⊎ (result ≡ OutOfMemory))) → nodes.Told (S.left source.old) (λ text. nodes.IsCutShort text id (seen (L.sent link.old) (L.handed link.old) (K.written sink.old)) (seen (L.sent link.new) (L.handed link.new) (K.written sink.new))) }
+    ensures node_limit { (id : NodeId) → form_of (map string_bytes words.now) ≡ Some (Node id) → (which : Which) → result ≡ Limit which → nodes.Told (S.left source.old) (λ text. nodes.Limited text id which (seen (L.sent link.old) (L.handed link.old) (L.acts link.old) (K.written sink.old)) (seen (L.sent link.new) (L.handed link.new) (L.acts link.new) (K.written sink.new))) }
+    // A read fault is answered only where none of the lines that came whole before it is outside.
+    ensures node_first { (id : NodeId) → form_of (map string_bytes words.now) ≡ Some (Node id) → result ≡ ReadFault → nodes.Told (S.left source.old) (λ text. NoneOutside text (S.left source.new) (nodes.FirstOutside (lines text) id)) }
+    // At a read fault the lines before it were followed whole, and nothing else was done.
+    ensures node_read_cut { (id : NodeId) → form_of (map string_bytes words.now) ≡ Some (Node id) → result ≡ ReadFault → nodes.Told (S.left source.old) (λ text. nodes.IsCutBetween text id (seen (L.sent link.old) (L.handed link.old) (L.acts link.old) (K.written sink.old)) (seen (L.sent link.new) (L.handed link.new) (L.acts link.new) (K.written sink.new))) }
+    // At a write fault the last line was done, with the answers that were handed, and of its replies a front was written.
+    ensures node_write_cut { (id : NodeId) → form_of (map string_bytes words.now) ≡ Some (Node id) → result ≡ WriteFault → nodes.Told (S.left source.old) (λ text. nodes.IsCutInReplies text id (seen (L.sent link.old) (L.handed link.old) (L.acts link.old) (K.written sink.old)) (seen (L.sent link.new) (L.handed link.new) (L.acts link.new) (K.written sink.new))) }
+    // At a link fault a front of what the last line does with the link was done, and none of its replies was written.
+    ensures node_link_cut { (id : NodeId) → form_of (map string_bytes words.now) ≡ Some (Node id) → result ≡ LinkFault → nodes.Told (S.left source.old) (λ text. nodes.IsCutInLine text id (seen (L.sent link.old) (L.handed link.old) (L.acts link.old) (K.written sink.old)) (seen (L.sent link.new) (L.handed link.new) (L.acts link.new) (K.written sink.new))) }
+    // Want of memory is one of the three.
+    ensures node_memory_cut { (id : NodeId) → form_of (map string_bytes words.now) ≡ Some (Node id) → result ≡ OutOfMemory → nodes.Told (S.left source.old) (λ text. nodes.IsCutShort text id (seen (L.sent link.old) (L.handed link.old) (L.acts link.old) (K.written sink.old)) (seen (L.sent link.new) (L.handed link.new) (L.acts link.new) (K.written sink.new))) }
     ensures node_ways { (id : NodeId) → form_of (map string_bytes words.now) ≡ Some (Node id) → IsOfNode result }
-    // Without a fault each text has its status, unless memory runs out. Whether a limit is passed depends on the answers
-    // that the link hands.
+    // Without a fault a session ends by its text or by a limit, whatever the link tells, unless memory runs out.
+    ensures node_ends { (id : NodeId) → form_of (map string_bytes words.now) ≡ Some (Node id) → (Rose (S.faults source.old) (S.faults source.new) → ⊥) → (Rose (K.faults sink.old) (K.faults sink.new) → ⊥) → (Rose (L.faults link.old) (L.faults link.new) → ⊥) →
+        nodes.Told (S.left source.old) (λ text. IsText text id → nodes.IsOrStops result Done) }
+    ensures node_refuses_or_ends { (id : NodeId) → form_of (map string_bytes words.now) ≡ Some (Node id) → (Rose (S.faults source.old) (S.faults source.new) → ⊥) → (Rose (K.faults sink.old) (K.faults sink.new) → ⊥) → (Rose (L.faults link.old) (L.faults link.new) → ⊥) →
+        nodes.Told (S.left source.old) (λ text. (line : ℕ) → nodes.FirstOutside (lines text) id line → nodes.IsOrStops result (AtLine line)) }
+    // Of a link that tells what it handed: each text has its status, since the answers say whether a limit is passed.
     ensures node_complete { (id : NodeId) → form_of (map string_bytes words.now) ≡ Some (Node id) → (Rose (S.faults source.old) (S.faults source.new) → ⊥) → (Rose (K.faults sink.old) (K.faults sink.new) → ⊥) → (Rose (L.faults link.old) (L.faults link.new) → ⊥) →
         nodes.Told (S.left source.old) (λ text. IsText text id → nodes.IsWithin text id (L.handed link.old) (L.handed link.new) → (result ≡ Done) ⊎ (result ≡ OutOfMemory)) }
     ensures node_refuses { (id : NodeId) → form_of (map string_bytes words.now) ≡ Some (Node id) → (Rose (S.faults source.old) (S.faults source.new) → ⊥) → (Rose (K.faults sink.old) (K.faults sink.new) → ⊥) → (Rose (L.faults link.old) (L.faults link.new) → ⊥) →

@@ -6,31 +6,33 @@ use Rattle.tg_base.specs.Clusters.{Header, IsHeader}
 use Rattle.tg_base.specs.declared.fault.Which.{Which}
 use Rattle.tg_base.specs.declared.fault.Which.TheVariants as which
 use Rattle.tg_base.specs.declared.ids.NodeId.{NodeId}
+use Rattle.tg_io.specs.Acts.{Act}
 use Rattle.tg_io.specs.Bytes.{Grows, Takes, TakesFront}
 use Rattle.tg_io.specs.declared.link.Arrival.{Arrival}
 use Rattle.tg_io.specs.declared.link.Sent.{Sent}
 use Rattle.tg_io.specs.declared.status.Status.TheVariants as status
-use Rattle.tg_io.proofs.Bytes.{grows_none, grows_more, front_after}
+use Rattle.tg_io.proofs.Bytes.{grows_more}
 use Rattle.tg_lines.specs.Lines.{lines}
 use Rattle.tg_script.specs.Headers.{header_lines}
 use Rattle.tg_script.proofs.Clusters.{same_header}
-use Rattle.tg_link_packets.specs.Mail.{all_sent}
 use Rattle.tg_node.specs.Lines.{IsAsked}
 use Rattle.tg_node.specs.Replies.{replies_text}
 use Rattle.tg_node.specs.declared.asked.Asked.{Asked}
+use Rattle.tg_node.specs.declared.asked.Asked.TheVariants.{Tick, Wait, Given, Update}
 use Rattle.tg_node_state.specs.Kept.{KeepsNode}
+use Rattle.tg_node.specs.Acts.{line_acts}
 use Rattle.tg_any.specs.AllKinds.{all_kinds}
 use Rattle.tg_node.specs.Sessions.{AnyInput, Deed, Session, IsWhole, inputs_by, inputs_of, datagrams_in, answers_of, steps_of, datagrams_of, plays, plays_lines, session, opening}
-use Rattle.tg_node.specs.Texts.{Seen, IsSeen, AreAsked, NodeText, text_lines, IsText, Begins, FirstOutside, AreDone, Point, session_at, answers_at, Followed, IsPart, IsPast, IsAnother, IsOver, Midst, session_in, answers_in, Limited, IsFront, IsCutShort, Outcome}
-use Rattle.tg_node.specs.Steps.{Stands, IsSound, after, Goes, EndsLine, TakesLine, TookLine}
+use Rattle.tg_node.specs.Texts.{Seen, IsSeen, AreAsked, NodeText, text_lines, IsText, Begins, FirstOutside, AreDone, Point, session_at, answers_at, acts_at, line_session, acts_by, Followed, IsPart, IsPast, IsOver, Midst, Limited, IsEnded, IsCutBetween, IsCutInLine, IsCutInReplies}
+use Rattle.tg_node.specs.Steps.{Stands, after, BreaksLine, EndsLine, TookLine}
 use Rattle.tg_node.specs.Stages.{seen, Follows, Follow, IsWritten, IsRefused}
 use Rattle.tg_node.specs.declared.nodes.Node.{Node}
 use Rattle.tg_node.specs.declared.nodes.Moved.{Moved}
-use Rattle.tg_node.specs.declared.nodes.Place.{Place}
 use Rattle.tg_node.specs.declared.stages.Run.{Run}
 use Rattle.tg_node.specs.declared.stages.Next.{Next}
 use Rattle.tg_node.specs.declared.stages.Next.TheVariants.{Goes as GoesOn, Ends}
-use Rattle.tg_node.proofs.Stepping.{take_all, take_before, datagrams_both}
+use Rattle.tg_node.proofs.Doing.{take_all, lines_more as acts_more}
+use Rattle.tg_node.proofs.Stepping.{take_before, datagrams_both}
 
 -- One line more.
 
@@ -63,10 +65,6 @@ done_more h n (s ∷ ts) (x ∷ ds) t d a is whole = (a.0, a.1, done_more h n ts
 
 -- A line that a run has taken.
 
--- what a session comes to at the line after a point
-abbrev line_session : {text : List ℕ} {n : NodeId} (p : Point text n) (d : Deed) → Session
-line_session {text} {n} p d = plays n (1 + length p.deeds) (take (200000 - steps_of n p.deeds) (inputs_of n d)) (session_at p)
-
 -- the point after a whole line
 pub record NextPoint {text : List ℕ} {n : NodeId} (p : Point text n) (d : Deed) (more : List (List ℕ)) : Type 0 where
   pub point : Point text n
@@ -74,6 +72,7 @@ pub record NextPoint {text : List ℕ} {n : NodeId} (p : Point text n) (d : Deed
   pub header : point.header ≡ p.header
   pub deeds : point.deeds ≡ p.deeds ++ d ∷ []
   pub comes : session_at point ≡ line_session p d
+  pub acts : acts_at point ≡ acts_at p ++ acts_by p d
 
 next_point : {text : List ℕ} {n : NodeId} (p : Point text n) (line : List ℕ) (more : List (List ℕ)) (d : Deed) → p.rest ≡ line ∷ more → IsAsked p.header n line d.asked → IsWhole d.asked d.answers → steps_of n p.deeds + length (inputs_of n d) ≤ 200000
     → datagrams_of p.deeds + datagrams_in d.answers ≤ 1000000 → NextPoint p d more
@@ -95,6 +94,7 @@ next_point {text} {n} p line more d next is whole few fewer =
       left = refl;
       header = refl;
       deeds = refl;
+      acts = acts_more n p.deeds d (opening p.header n);
       comes = lines_more n 1 p.deeds d (opening p.header n)
           ∙ ap (λ (x : List AnyInput). plays n (1 + length p.deeds) x (session_at p)) (sym (take_all (inputs_of n d) (200000 - steps_of n p.deeds) (omega (arith, few))));
     }
@@ -108,27 +108,51 @@ stands_at text before now r rest f = record {
 }
 
 -- what was seen, where the replies of a line were written
-seen_more : (before now : Seen) (k : Node) (s t : Session) (came_all bs : List (Option Arrival)) (sent : Option (List Sent)) (handed : Option (List (Option Arrival))) (written : Option (List ℕ)) → IsSeen s came_all before now
-    → Stands before.sent (replies_text s.replies) k sent t → Grows now.handed bs handed → Takes now.written k.replies written → IsSeen t (came_all ++ bs) before (seen sent handed written)
-seen_more before now k s t came_all bs sent handed written h st grown takes = record {
+seen_more : (before now : Seen) (k : Node) (s t : Session) (came_all bs : List (Option Arrival)) (made more : List Act) (sent : Option (List Sent)) (handed : Option (List (Option Arrival))) (acts : Option (List Act)) (written : Option (List ℕ)) → IsSeen s came_all made before now
+    → Stands before.sent (replies_text s.replies) k sent t → Grows now.handed bs handed → Grows now.acts more acts → Takes now.written k.replies written → IsSeen t (came_all ++ bs) (made ++ more) before (seen sent handed acts written)
+seen_more before now k s t came_all bs made more sent handed acts written h st grown done takes = record {
   sent = st.sent;
   handed = grows_more before.handed now.handed handed came_all bs h.handed grown;
+  acts = grows_more before.acts now.acts acts made more h.acts done;
   written = subst (λ (x : List ℕ). Takes before.written x written) (sym st.replies) (grows_more before.written now.written written (replies_text s.replies) k.replies h.written takes);
 }
 
-front_more : (before now : Seen) (k : Node) (s t : Session) (came_all : List (Option Arrival)) (sent : Option (List Sent)) (handed : Option (List (Option Arrival))) (written : Option (List ℕ)) → IsSeen s came_all before now
-    → Stands before.sent (replies_text s.replies) k sent t → TakesFront now.written k.replies written → IsFront t before (seen sent handed written)
-front_more before now k s t came_all sent handed written h st front =
-    subst (λ (x : List ℕ). TakesFront before.written x written) (sym st.replies) (front_after before.written now.written written (replies_text s.replies) k.replies h.written front)
+-- cut off before a line is begun
+pub cut_here : (text : List ℕ) (before now : Seen) (r : Run) (rest : List (List ℕ)) → Follows text before now r rest → IsCutBetween text r.id before (seen now.sent now.handed now.acts now.written)
+cut_here text before now r rest f = inr (f.point, record { sent = f.seen.sent; handed = f.seen.handed; acts = f.seen.acts; written = f.seen.written })
 
--- the session so far was written
-pub cut_here : (text : List ℕ) (before now : Seen) (r : Run) (rest : List (List ℕ)) (sent : Option (List Sent)) (handed : Option (List (Option Arrival))) → Follows text before now r rest → IsCutShort text r.id before (seen sent handed now.written)
-cut_here text before now r rest sent handed f =
-    let whole = replies_text (session_at f.point).replies in
-    inr (inl (f.point, (whole, [], sym (append-nil whole), f.seen.written)))
+-- cut off in the midst of a line, of which nothing was written
+pub line_cut : (text : List ℕ) (before now : Seen) (r : Run) (line : List ℕ) (more : List (List ℕ)) (asked : Asked) (event : ℕ) (sent : Option (List Sent)) (handed : Option (List (Option Arrival))) (acts : Option (List Act)) → Follows text before now r (line ∷ more) → IsAsked r.cluster r.id line asked
+    → event ≡ r.lines + 1 → BreaksLine (record { node = r.id; event = event }) asked r.node now.sent now.acts acts → IsCutInLine text r.id before (seen sent handed acts now.written)
+line_cut text before now r line more asked event sent handed acts f is at b =
+    let s = session_at f.point in
+    let cut = b.breaks before.sent (replies_text s.replies) s (stands_at text before now r (line ∷ more) f) in
+    let number : 1 + length f.point.deeds ≡ event = let l : r.lines ≡ length f.point.deeds = f.lines in omega (arith, at, l) in (
+      f.point,
+      now,
+      f.seen,
+      record {
+        deed = record { asked = asked; answers = b.answers };
+        line = record { line = line; more = more; next = f.left; asked = subst (λ (h : Header). IsAsked h r.id line asked) f.header is; part = b.part };
+        done = cut.0;
+        rest = cut.1;
+        cut = ap (λ (k : ℕ). line_acts r.id k (200000 - steps_of r.id f.point.deeds) asked b.answers s) number
+            ∙ ap (λ (j : ℕ). line_acts r.id event (200000 - j) asked b.answers s) (sym f.steps) ∙ cut.2;
+        handed = cut.3;
+        acts = cut.4;
+        written = refl;
+      },
+    )
 
-module _ (text : List ℕ) (before now : Seen) (r : Run) (line : List ℕ) (more : List (List ℕ)) (asked : Asked) (event : ℕ) (m : Moved) (sent : Option (List Sent)) (handed : Option (List (Option Arrival))) (f : Follows text before now r (line ∷ more))
-    (is : IsAsked r.cluster r.id line asked) (at : event ≡ r.lines + 1) (took : TookLine (record { node = r.id; event = event }) asked now.handed r.node now.sent m handed sent) where
+-- a wait that had all its answers had no more
+whole_part : (a : Asked) (answers : List (Option Arrival)) → IsWhole a answers → IsPart a answers
+whole_part (Wait calls) answers whole = omega (arith, whole)
+whole_part Tick answers whole = whole
+whole_part (Given c) answers whole = whole
+whole_part (Update oid op) answers whole = whole
+
+module _ (text : List ℕ) (before now : Seen) (r : Run) (line : List ℕ) (more : List (List ℕ)) (asked : Asked) (event : ℕ) (m : Moved) (sent : Option (List Sent)) (handed : Option (List (Option Arrival))) (acts : Option (List Act)) (f : Follows text before now r (line ∷ more))
+    (is : IsAsked r.cluster r.id line asked) (at : event ≡ r.lines + 1) (took : TookLine (record { node = r.id; event = event }) asked now.handed r.node now.sent m handed sent now.acts acts) where
   asked_here : IsAsked f.point.header r.id line asked
   asked_here = subst (λ (h : Header). IsAsked h r.id line asked) f.header is
 
@@ -141,6 +165,15 @@ module _ (text : List ℕ) (before now : Seen) (r : Run) (line : List ℕ) (more
       subst (λ (j : ℕ). Stands before.sent (replies_text s.replies) m.node sent (plays r.id (1 + length f.point.deeds) (take (200000 - j) inputs) s)) f.steps
       (subst (λ (k : ℕ). Stands before.sent (replies_text s.replies) m.node sent (plays r.id k (take (200000 - r.node.steps) inputs) s)) number
       (took.takes.goes before.sent (replies_text s.replies) s (stands_at text before now r (line ∷ more) f)))
+
+  -- what the line did with the link
+  acts_here : Grows now.acts (acts_by f.point (record { asked = asked; answers = took.answers })) acts
+  acts_here =
+      let s = session_at f.point in
+      let number : event ≡ 1 + length f.point.deeds = let l : r.lines ≡ length f.point.deeds = f.lines in omega (arith, at, l) in
+      subst (λ (j : ℕ). Grows now.acts (line_acts r.id (1 + length f.point.deeds) (200000 - j) asked took.answers s) acts) f.steps
+      (subst (λ (k : ℕ). Grows now.acts (line_acts r.id k (200000 - r.node.steps) asked took.answers s) acts) number
+      (took.does before.sent (replies_text s.replies) s (stands_at text before now r (line ∷ more) f)))
 
   next_here : IsWhole asked took.answers → m.node.steps ≡ r.node.steps + length (inputs_by r.id asked took.answers) → NextPoint f.point (record { asked = asked; answers = took.answers }) more
   next_here whole made =
@@ -173,31 +206,42 @@ module _ (text : List ℕ) (before now : Seen) (r : Run) (line : List ℕ) (more
     over = (over_here w ends).1;
   }
 
+  ended_here : (o : Option Which) → EndsLine asked took.answers (r.node.steps + length (inputs_by r.id asked took.answers)) (r.node.received + datagrams_in took.answers) o m.node.steps → IsPart asked took.answers × IsEnded f.point (record { asked = asked; answers = took.answers })
+  ended_here None ends = (whole_part asked took.answers ends.0, inl ends.0)
+  ended_here (Some w) ends = let over = over_here w ends in (over.0, inr (w, over.1))
+
   -- the replies of the line were written in part
-  front_here : (o : Option Which) → EndsLine asked took.answers (r.node.steps + length (inputs_by r.id asked took.answers)) (r.node.received + datagrams_in took.answers) o m.node.steps → (written : Option (List ℕ)) → TakesFront now.written m.node.replies written
-      → IsCutShort text r.id before (seen sent handed written)
-  front_here None ends written front =
-      let next = next_here ends.0 ends.1 in
-      inr (inl (
-        next.point,
-        subst (λ (s : Session). IsFront s before (seen sent handed written)) (sym next.comes)
-            (front_more before now m.node (session_at f.point) (line_session f.point (record { asked = asked; answers = took.answers })) (answers_at f.point) sent handed written f.seen after_line front),
-      ))
-  front_here (Some w) ends written front =
-      inr (inr (w, midst_here w ends, front_more before now m.node (session_at f.point) (line_session f.point (record { asked = asked; answers = took.answers })) (answers_at f.point) sent handed written f.seen after_line front))
+  front_here : (written : Option (List ℕ)) → TakesFront now.written m.node.replies written → IsCutInReplies text r.id before (seen sent handed acts written)
+  front_here written front =
+      let ended = ended_here m.stopped took.takes.ends in (
+        f.point,
+        now,
+        f.seen,
+        record {
+          deed = record { asked = asked; answers = took.answers };
+          line = record { line = line; more = more; next = f.left; asked = asked_here; part = ended.0 };
+          ended = ended.1;
+          sent = after_line.sent;
+          handed = took.grown;
+          acts = acts_here;
+          replies = m.node.replies;
+          whole = after_line.replies;
+          front = front;
+        },
+      )
 
   -- a limit is passed
-  limited_here : (w : Which) (written : Option (List ℕ)) → m.stopped ≡ Some w → Takes now.written m.node.replies written → Limited text r.id w before (seen sent handed written)
+  limited_here : (w : Which) (written : Option (List ℕ)) → m.stopped ≡ Some w → Takes now.written m.node.replies written → Limited text r.id w before (seen sent handed acts written)
   limited_here w written e takes =
       let ends = subst (λ (o : Option Which). EndsLine asked took.answers (r.node.steps + length (inputs_by r.id asked took.answers)) (r.node.received + datagrams_in took.answers) o m.node.steps) e took.takes.ends in
       record {
         midst = midst_here w ends;
-        seen = seen_more before now m.node (session_at f.point) (line_session f.point (record { asked = asked; answers = took.answers })) (answers_at f.point) took.answers sent handed written f.seen after_line took.grown takes;
+        seen = seen_more before now m.node (session_at f.point) (line_session f.point (record { asked = asked; answers = took.answers })) (answers_at f.point) took.answers (acts_at f.point) (acts_by f.point (record { asked = asked; answers = took.answers })) sent handed acts written f.seen after_line took.grown acts_here takes;
       }
 
   -- the run goes on
   goes_here : (written : Option (List ℕ)) → m.stopped ≡ None → Takes now.written m.node.replies written
-      → Follows text before (seen sent handed written) (record { id = r.id; cluster = r.cluster; lines = event; node = record { own = m.node.own; steps = m.node.steps; received = m.node.received; replies = [] } }) more
+      → Follows text before (seen sent handed acts written) (record { id = r.id; cluster = r.cluster; lines = event; node = record { own = m.node.own; steps = m.node.steps; received = m.node.received; replies = [] } }) more
   goes_here written e takes =
       let ends = subst (λ (o : Option Which). EndsLine asked took.answers (r.node.steps + length (inputs_by r.id asked took.answers)) (r.node.received + datagrams_in took.answers) o m.node.steps) e took.takes.ends in
       let next = next_here ends.0 ends.1 in
@@ -212,7 +256,7 @@ module _ (text : List ℕ) (before now : Seen) (r : Run) (line : List ℕ) (more
       let e1 : r.node.steps ≡ steps_of r.id f.point.deeds = f.steps in
       let e2 : r.node.received ≡ datagrams_of f.point.deeds = f.received in
       let got : m.node.received ≡ r.node.received + datagrams_in took.answers = took.takes.received in
-      let seen_then = seen_more before now m.node (session_at f.point) (line_session f.point (record { asked = asked; answers = took.answers })) (answers_at f.point) took.answers sent handed written f.seen after_line took.grown takes in
+      let seen_then = seen_more before now m.node (session_at f.point) (line_session f.point (record { asked = asked; answers = took.answers })) (answers_at f.point) took.answers (acts_at f.point) (acts_by f.point (record { asked = asked; answers = took.answers })) sent handed acts written f.seen after_line took.grown acts_here takes in
       record {
         point = next.point;
         left = next.left;
@@ -222,16 +266,17 @@ module _ (text : List ℕ) (before now : Seen) (r : Run) (line : List ℕ) (more
         received = omega (arith, got, datagrams_then, e2);
         none = refl;
         keeps = subst (λ (s : Session). KeepsNode all_kinds m.node.steps m.node.own s.node) (sym next.comes) after_line.node;
-        seen = subst (λ (s : Session). IsSeen s (answers_at next.point) before (seen sent handed written)) (sym next.comes)
-            (subst (λ (came_all : List (Option Arrival)). IsSeen (line_session f.point (record { asked = asked; answers = took.answers })) came_all before (seen sent handed written)) (sym answers_then) seen_then);
+        seen = subst (λ (s : Session). IsSeen s (answers_at next.point) (acts_at next.point) before (seen sent handed acts written)) (sym next.comes)
+            (subst (λ (l : List Act). IsSeen (line_session f.point d) (answers_at next.point) l before (seen sent handed acts written)) (sym next.acts)
+            (subst (λ (came_all : List (Option Arrival)). IsSeen (line_session f.point d) came_all (acts_at f.point ++ acts_by f.point d) before (seen sent handed acts written)) (sym answers_then) seen_then));
       }
 
-  pub line_follows : (written : Option (List ℕ)) (x : Next) → IsWritten r.id r.cluster event m now.written written x → Follow text r.id before (seen sent handed written) more x
+  pub line_follows : (written : Option (List ℕ)) (x : Next) → IsWritten r.id r.cluster event m now.written written x → Follow text r.id before (seen sent handed acts written) more x
   line_follows written (GoesOn q) w =
-      (ap (λ (y : Run). y.id) w.1, subst (λ (y : Run). Follows text before (seen sent handed written) y more) (sym w.1) (goes_here written w.0 w.2))
+      (ap (λ (y : Run). y.id) w.1, subst (λ (y : Run). Follows text before (seen sent handed acts written) y more) (sym w.1) (goes_here written w.0 w.2))
   line_follows written (Ends (status.Limit w)) h = limited_here w written h.0 h.1
-  line_follows written (Ends status.WriteFault) h = front_here m.stopped took.takes.ends written h
-  line_follows written (Ends status.NoMemory) h = front_here m.stopped took.takes.ends written h
+  line_follows written (Ends status.WriteFault) h = front_here written h
+  line_follows written (Ends status.NoMemory) h = inr (inr (front_here written h))
   line_follows written (Ends status.Done) h = absurd h
   line_follows written (Ends (status.Illegal l c)) h = absurd h
   line_follows written (Ends status.Words) h = absurd h
@@ -337,7 +382,7 @@ line_first text n p line more k next at none =
 
 -- a line is refused
 pub line_refused : (text : List ℕ) (before now : Seen) (r : Run) (line : List ℕ) (more : List (List ℕ)) (x : Next) → Follows text before now r (line ∷ more) → ((a : Asked) → IsAsked r.cluster r.id line a → ⊥) → IsRefused r.lines x
-    → Follow text r.id before (seen now.sent now.handed now.written) more x
+    → Follow text r.id before (seen now.sent now.handed now.acts now.written) more x
 line_refused text before now r line more (Ends (status.Script k)) f none at =
     let l : r.lines ≡ length f.point.deeds = f.lines in
     let place : k ≡ 4 + r.lines = at in
@@ -346,9 +391,9 @@ line_refused text before now r line more (Ends (status.Script k)) f none at =
       first = line_first text r.id f.point line more k f.left at_line (λ a is. none a (subst (λ (h : Header). IsAsked h r.id line a) (sym f.header) is));
       point = f.point;
       place = at_line;
-      seen = record { sent = f.seen.sent; handed = f.seen.handed; written = f.seen.written };
+      seen = record { sent = f.seen.sent; handed = f.seen.handed; acts = f.seen.acts; written = f.seen.written };
     })
-line_refused text before now r line more (Ends status.NoMemory) f none at = cut_here text before now r (line ∷ more) now.sent now.handed f
+line_refused text before now r line more (Ends status.NoMemory) f none at = inl (cut_here text before now r (line ∷ more) f)
 line_refused text before now r line more (GoesOn q) f none at = absurd at
 line_refused text before now r line more (Ends status.Done) f none at = absurd at
 line_refused text before now r line more (Ends (status.Illegal l c)) f none at = absurd at
@@ -359,8 +404,8 @@ line_refused text before now r line more (Ends status.LinkFault) f none at = abs
 line_refused text before now r line more (Ends (status.Limit w)) f none at = absurd at
 
 -- the text has ended
-pub text_ended : (text : List ℕ) (before now : Seen) (r : Run) → Follows text before now r [] → Followed text r.id before (seen now.sent now.handed now.written)
-text_ended text before now r f = record { point = f.point; end = f.left; seen = record { sent = f.seen.sent; handed = f.seen.handed; written = f.seen.written } }
+pub text_ended : (text : List ℕ) (before now : Seen) (r : Run) → Follows text before now r [] → Followed text r.id before (seen now.sent now.handed now.acts now.written)
+text_ended text before now r f = record { point = f.point; end = f.left; seen = record { sent = f.seen.sent; handed = f.seen.handed; acts = f.seen.acts; written = f.seen.written } }
 
 -- What is written of a line.
 

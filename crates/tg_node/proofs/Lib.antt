@@ -1,3 +1,5 @@
+pub mod Doing
+pub mod OneList
 pub mod Stepping
 pub mod Openings
 pub mod Following

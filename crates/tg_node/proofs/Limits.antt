@@ -17,6 +17,7 @@ use Rattle.tg_node.specs.declared.asked.Asked.TheVariants.{Tick, Wait, Given, Up
 use Rattle.tg_node.proofs.Reading.{own_only, line_again}
 use Rattle.tg_node.specs.Sessions.{Deed, IsWhole, inputs_by, inputs_of, answers_of, steps_of, datagrams_of, datagrams_in, packets_in}
 use Rattle.tg_node.specs.Texts.{Seen, AreDone, Point, answers_at, IsPart, IsPast, IsOver, Midst, answers_in, PassesLimit, Refused, Outcome, Told}
+use Rattle.tg_node.proofs.Doing.{many_both}
 use Rattle.tg_node.proofs.Openings.{le_or_lt}
 use Rattle.tg_node.proofs.Following.{many_done, midst_begins, same_parts}
 use Rattle.tg_node.proofs.Ending.{IsUndisturbed}
@@ -52,10 +53,6 @@ fronts_same (x ∷ xs) (y ∷ ys) got bs l e =
     let few : length xs ≡ length ys = omega (arith, l) in
     let rest = fronts_same xs ys got bs few parts.1 in
     (cons_same x y xs ys parts.0 rest.0, rest.1)
-
-many_both : {A : Type 0} (xs ys : List A) → length (xs ++ ys) ≡ length xs + length ys
-many_both [] ys = omega arith
-many_both (x ∷ xs) ys = let e : length (xs ++ ys) ≡ length xs + length ys = many_both xs ys in omega (arith, e)
 
 no_items : {A : Type 0} (xs : List A) → length xs ≡ 0 → xs ≡ []
 no_items [] e = refl

@@ -1,5 +1,5 @@
 -- The first lines of a node's text, and what they are.
-use Rattle.std.proofs.Common.{◌≡◌, ◌⊎◌, ◌↔◌, ℕ, zero, suc, ◌+◌, ◌<◌, ◌≤◌, Bool, true, List, [], ◌∷◌, ◌++◌, length, take, Option, Some, None, Result, Ok, Err, IsTrue, refl, sym, ap, ◌∙◌, subst, arith, codes, ⊎_elim, inl, inr}
+use Rattle.std.proofs.Common.{◌≡◌, ◌⊎◌, ◌↔◌, ℕ, zero, suc, ◌+◌, ◌<◌, ◌≤◌, Bool, true, List, [], ◌∷◌, ◌++◌, length, take, Option, Some, None, Result, Ok, Err, IsTrue, IfNone, IfSome, refl, sym, ap, ◌∙◌, subst, arith, codes, ⊎_elim, inl, inr}
 use Rattle.std.specs.Prelude.{nat_lt}
 use Rattle.std.proofs.lemmas.Bool.{lt-ltb}
 use Rattle.std.proofs.lemmas.Bool.Decides.{nat_tests}
@@ -19,13 +19,16 @@ use Rattle.tg_script.specs.declared.header.Sizes.{Sizes}
 use Rattle.tg_script.specs.Headers.{are_sizes, sizes, sizes_of, header_lines, IsFront, IsFirstOutside, OnOutside, sizes_in}
 use Rattle.tg_script.specs.Nodes.{count_of, is_declared}
 use Rattle.tg_script.proofs.Clusters.{header_sizes, lines_again}
+use Rattle.tg_lines.specs.Feeds.{feeds, NoneOutside, TakesFeeds}
 use Rattle.tg_lines.specs.Lines.{lines, TakesLine}
 use Rattle.tg_lines.specs.Openings.{Reached}
 use Rattle.tg_lines.specs.declared.header.Opening.{Opening}
 use Rattle.tg_lines.specs.declared.header.Opening.TheVariants.{Opens, Outside}
-use Rattle.tg_node.specs.Texts.{text_lines, Begins, FirstOutside}
+use Rattle.tg_lines.proofs.Feeding.{takes_more}
+use Rattle.tg_node.specs.Texts.{Begins, FirstOutside}
 use Rattle.tg_node.specs.Openings.{Opened, IsOpening}
-use Rattle.tg_node.proofs.Stepping.{take_all, take_before}
+use Rattle.tg_node.proofs.Doing.{take_all}
+use Rattle.tg_node.proofs.Stepping.{take_before}
 
 -- The nodes that a first line declares.
 
@@ -173,3 +176,45 @@ opened_end n (Some text) (Some rest) (Some more) ls (Opens header) h t is =
 opened_end n (Some text) (Some rest) (Some more) ls (Outside k) h t is =
     let all : lines text ≡ ls = h ∙ ap (λ (xs : List ℕ). ls ++ lines xs) t.0 ∙ append-nil ls in
     (is.0, subst (λ (xs : List (List ℕ)). FirstOutside xs n k) (sym all) is.1)
+
+-- Lines of which none is outside.
+
+-- one line is the first outside
+pub not_before : (ls : List (List ℕ)) (n : NodeId) (j k : ℕ) → j < k → FirstOutside ls n k → FirstOutside ls n j → ⊥
+not_before ls n j k lt h g = g.outside (h.before j g.line lt)
+
+pub none_before : (ls : List (List ℕ)) (n : NodeId) (j k : ℕ) → j < k → (k ≤ 3) × FirstOutside ls n k → FirstOutside ls n j → ⊥
+none_before ls n j k lt h g = not_before ls n j k lt h.1 g
+
+-- no line of a header that declares the node is outside
+pub whole_front : (ls : List (List ℕ)) (n : NodeId) (h : Header) (k : ℕ) → IsHeader h → (ls ≡ header_lines h) × (is_declared h n ≡ true) → k ≤ length ls → FirstOutside ls n k → ⊥
+whole_front ls n h k lawful e le out = out.outside (record { header = h; lawful = lawful; declared = e.1; body = []; asked = tt }, ap (λ (xs : List (List ℕ)). take k xs) (e.0 ∙ sym (append-nil (header_lines h))))
+
+-- what is outside among more lines was so among fewer
+outside_less : (xs ys : List (List ℕ)) (n : NodeId) (k : ℕ) → k ≤ length xs → FirstOutside (xs ++ ys) n k → FirstOutside xs n k
+outside_less xs ys n k le out = record {
+  line = out.line;
+  before = λ m low lt. let b = out.before m low lt in let short : m ≤ length xs = omega (arith, le, lt) in (b.0, sym (take_before xs ys m short) ∙ b.1);
+  outside = λ x. out.outside (x.0, take_before xs ys k le ∙ x.1);
+}
+
+pub unrefused : (r : Option ℕ) (ls : List (List ℕ)) (n : NodeId) → ((k : ℕ) → r ≡ Some k → ⊥) → IfNone r ((k : ℕ) → k ≤ length ls → FirstOutside ls n k → ⊥) → (k : ℕ) → k ≤ length ls → FirstOutside ls n k → ⊥
+unrefused None ls n not h = h
+unrefused (Some k) ls n not h = absurd (not k refl)
+
+-- the source failed after these lines, none of which is outside
+pub header_came : (n : NodeId) (text rest left : Option (List ℕ)) (ls : List (List ℕ)) → Reached text rest ls → ((k : ℕ) → k ≤ length ls → FirstOutside ls n k → ⊥) → TakesFeeds (length ls) text rest → TakesFeeds 0 rest left
+    → IfSome text (λ t. NoneOutside t left (FirstOutside (lines t) n))
+header_came n None rest left ls h none f g = tt
+header_came n (Some text) None left ls h none f g = absurd h
+header_came n (Some text) (Some rest) None ls h none f g = g
+header_came n (Some text) (Some rest) (Some left) ls h none f g =
+    let same : length ls + 0 ≤ length ls = omega arith in
+    let all = takes_more (Some text) (Some rest) (Some left) (length ls) 0 (length ls) same f g in
+    let few : feeds all.0 ≤ length ls = all.2 in (
+      all.0,
+      all.1,
+      λ k le out.
+          let here : k ≤ length ls = omega (arith, le, few) in
+          none k here (outside_less ls (lines rest) n k here (subst (λ (xs : List (List ℕ)). FirstOutside xs n k) h out)),
+    )

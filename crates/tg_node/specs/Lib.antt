@@ -1,3 +1,4 @@
+pub mod Acts
 pub mod Sessions
 pub mod Texts
 pub mod Openings

@@ -3,6 +3,7 @@ use Rattle.std.specs.Prelude.{◌≡◌, ℕ, ◌+◌, ◌≤◌, List, [], ◌�
 use Rattle.tg_base.specs.declared.ids.NodeId.{NodeId}
 use Rattle.tg_io.specs.declared.link.Arrival.{Arrival}
 use Rattle.tg_io.specs.declared.link.Sent.{Sent}
+use Rattle.tg_io.specs.Acts.{Act}
 use Rattle.tg_io.specs.Bytes.{Takes, TakesFront}
 use Rattle.tg_io.specs.Faults.{Rose}
 use Rattle.tg_io.specs.declared.status.Status.{Status}
@@ -13,14 +14,14 @@ use Rattle.tg_lines.specs.Lines.{lines}
 use Rattle.tg_node_state.specs.Kept.{KeepsNode}
 use Rattle.tg_any.specs.AllKinds.{all_kinds}
 use Rattle.tg_node.specs.Sessions.{steps_of, datagrams_of}
-use Rattle.tg_node.specs.Texts.{Seen, IsSeen, Point, session_at, answers_at, Outcome, IsOfNode}
+use Rattle.tg_node.specs.Texts.{Seen, IsSeen, Point, session_at, answers_at, acts_at, Outcome, IsOfNode}
 use Rattle.tg_node.specs.Steps.{IsSound}
 use Rattle.tg_node.specs.declared.stages.Run.{Run}
 use Rattle.tg_node.specs.declared.stages.Next.{Next}
 use Rattle.tg_node.specs.declared.stages.Next.TheVariants.{Goes, Ends}
 
-abbrev pub seen : Option (List Sent) → Option (List (Option Arrival)) → Option (List ℕ) → Seen
-seen sent handed written = record { sent = sent; handed = handed; written = written }
+abbrev pub seen : Option (List Sent) → Option (List (Option Arrival)) → Option (List Act) → Option (List ℕ) → Seen
+seen sent handed acts written = record { sent = sent; handed = handed; acts = acts; written = written }
 
 -- A run has followed a text up to the lines that are left.
 pub record Follows (text : List ℕ) (before now : Seen) (r : Run) (rest : List (List ℕ)) : Type 0 where
@@ -32,7 +33,7 @@ pub record Follows (text : List ℕ) (before now : Seen) (r : Run) (rest : List 
   pub received : r.node.received ≡ datagrams_of point.deeds
   pub none : r.node.replies ≡ []
   pub keeps : KeepsNode all_kinds r.node.steps r.node.own (session_at point).node
-  pub seen : IsSeen (session_at point) (answers_at point) before now
+  pub seen : IsSeen (session_at point) (answers_at point) (acts_at point) before now
 
 -- What comes of a line: the run goes on with the lines after it, or it has ended.
 abbrev pub Follow : List ℕ → NodeId → Seen → Seen → List (List ℕ) → Next → Type 0
@@ -56,13 +57,17 @@ IsOfLine (Ends (Illegal line clause)) = ⊥
 IsOfLine (Ends ReadFault) = ⊥
 IsOfLine other = Unit {0}
 
--- A fault that ends a run has its cause in a count that rose: of the source, the sink or the link.
+-- A fault that ends a run has its cause in a count that rose: of the source, the sink or the link. No count fell, and
+-- that of the source rose only at its fault, or at want of memory.
 pub record Causes (read_before read_now write_before write_now link_before link_now : ℕ) (status : Status) : Type 0 where
   pub read : status ≡ ReadFault → Rose read_before read_now
   pub write : status ≡ WriteFault → Rose write_before write_now
   pub link : status ≡ LinkFault → Rose link_before link_now
   pub ways : IsOfNode status
   pub read_later : read_before ≤ read_now
+  pub write_later : write_before ≤ write_now
+  pub link_later : link_before ≤ link_now
+  pub read_still : (status ≡ ReadFault → ⊥) → (status ≡ NoMemory → ⊥) → read_now ≡ read_before
 
 -- the same of a line, which reads nothing
 pub record LineCauses (write_before write_now link_before link_now : ℕ) (x : Next) : Type 0 where
@@ -77,6 +82,11 @@ abbrev pub IsRefused : ℕ → Next → Type 0
 IsRefused followed (Ends (AtLine k)) = k ≡ 4 + followed
 IsRefused followed (Ends NoMemory) = Unit {0}
 IsRefused followed other = ⊥
+
+-- a run that goes on has followed one line more
+abbrev pub IsNextLine : ℕ → Next → Type 0
+IsNextLine followed (Goes r) = r.lines ≡ followed + 1
+IsNextLine followed (Ends status) = Unit {0}
 
 -- a run that goes on is sound
 abbrev pub GoesSound : Next → Type 0

@@ -3,6 +3,7 @@ use Rattle.std.specs.Prelude.{◌≡◌, ◌⊎◌, ℕ, suc, ◌+◌, ◌-◌, 
 use Rattle.tg_base.specs.declared.fault.Which.{Which}
 use Rattle.tg_base.specs.declared.fault.Which.TheVariants as which
 use Rattle.tg_base.specs.declared.ids.NodeId.{NodeId}
+use Rattle.tg_io.specs.Acts.{Act, answers_in}
 use Rattle.tg_io.specs.Bytes.{Grows}
 use Rattle.tg_io.specs.declared.link.Arrival.{Arrival}
 use Rattle.tg_io.specs.declared.link.Sent.{Sent}
@@ -11,6 +12,7 @@ use Rattle.tg_node.specs.Replies.{replies_text}
 use Rattle.tg_node.specs.declared.asked.Asked.{Asked}
 use Rattle.tg_node.specs.declared.asked.Asked.TheVariants.{Tick, Wait, Given, Update}
 use Rattle.tg_node_state.specs.Kept.{KeepsNode, IsNode}
+use Rattle.tg_node.specs.Acts.{GrowsFront, acts_in, line_acts, wait_acts}
 use Rattle.tg_any.specs.AllKinds.{all_kinds}
 use Rattle.tg_node.specs.Sessions.{AnyInput, Deed, Session, IsWhole, inputs_by, packets_in, datagrams_in, plays}
 use Rattle.tg_node.specs.Texts.{IsPart, IsPast, IsAnother}
@@ -37,6 +39,22 @@ after p is s = plays p.node p.event is s
 -- From one node and state of the link to another, in these inputs.
 abbrev pub Goes : Place → List AnyInput → Node → Option (List Sent) → Node → Option (List Sent) → Type 0
 Goes p is k before l sent = (from : Option (List Sent)) (written : List ℕ) (s : Session) → Stands from written k before s → Stands from written l sent (after p is s)
+
+-- what these inputs do with the link, as far as the limit
+abbrev pub made_acts : Place → Node → List AnyInput → Session → List Act
+made_acts p k is s = acts_in p.node p.event (take (200000 - k.steps) is) s
+
+-- what a line with these answers does with the link, as far as the limit
+abbrev pub asked_acts : Place → Node → Asked → List (Option Arrival) → Session → List Act
+asked_acts p k a answers s = line_acts p.node p.event (200000 - k.steps) a answers s
+
+-- What was done with the link is what the session of a node does.
+abbrev pub Does : Node → Option (List Sent) → (Session → List Act) → Option (List Act) → Option (List Act) → Type 0
+Does k sent acts before after = (from : Option (List Sent)) (written : List ℕ) (s : Session) → Stands from written k sent s → Grows before (acts s) after
+
+-- a front of it was done
+abbrev pub Breaks : Node → Option (List Sent) → (Session → List Act) → Option (List Act) → Option (List Act) → Type 0
+Breaks k sent acts before after = (from : Option (List Sent)) (written : List ℕ) (s : Session) → Stands from written k sent s → GrowsFront before (acts s) after
 
 -- How many steps were made of so many, and the limit that stopped them, if one did.
 abbrev pub Counts : ℕ → Option Which → ℕ → Type 0
@@ -70,15 +88,24 @@ pub record TakesOne (p : Place) (a : Option Arrival) (k : Node) (before : Option
   pub received : m.node.received ≡ k.received + datagrams_in (a ∷ [])
 
 -- A wait so far.
-pub record Waits (p : Place) (calls : ℕ) (handed : Option (List (Option Arrival))) (k : Node) (before : Option (List Sent)) (l : Node) (after_handed : Option (List (Option Arrival))) (sent : Option (List Sent)) : Type 0 where
+pub record Waits (p : Place) (calls : ℕ) (handed : Option (List (Option Arrival))) (k : Node) (before : Option (List Sent)) (l : Node) (after_handed : Option (List (Option Arrival))) (sent : Option (List Sent)) (acts after_acts : Option (List Act)) : Type 0 where
   pub answers : List (Option Arrival)
   pub many : length answers ≡ calls
   pub grown : Grows handed answers after_handed
   pub makes : Makes p (packets_in p.node answers) k before (record { node = l; stopped = None }) sent
+  pub does : Does k before (asked_acts p k (Wait calls) answers) acts after_acts
   pub received : l.received ≡ k.received + datagrams_in answers
 
 -- A line was taken with the answers that were handed.
-pub record TookLine (p : Place) (a : Asked) (handed : Option (List (Option Arrival))) (k : Node) (before : Option (List Sent)) (m : Moved) (after_handed : Option (List (Option Arrival))) (sent : Option (List Sent)) : Type 0 where
+pub record TookLine (p : Place) (a : Asked) (handed : Option (List (Option Arrival))) (k : Node) (before : Option (List Sent)) (m : Moved) (after_handed : Option (List (Option Arrival))) (sent : Option (List Sent)) (acts after_acts : Option (List Act)) : Type 0 where
   pub answers : List (Option Arrival)
   pub grown : Grows handed answers after_handed
   pub takes : TakesLine p a answers k before m sent
+  pub does : Does k before (asked_acts p k a answers) acts after_acts
+
+-- A line was cut off: of what it does with the link, with some answers, a front was done, in which these were handed.
+pub record BreaksLine (p : Place) (a : Asked) (k : Node) (sent : Option (List Sent)) (before after : Option (List Act)) : Type 0 where
+  pub answers : List (Option Arrival)
+  pub part : IsPart a answers
+  pub breaks : (from : Option (List Sent)) (written : List ℕ) (s : Session) → Stands from written k sent s
+      → (done rest : List Act) × (asked_acts p k a answers s ≡ done ++ rest) × (answers_in done ≡ answers) × Grows before done after

@@ -4,6 +4,7 @@ use Rattle.tg_base.specs.Clusters.{Header, IsHeader}
 use Rattle.tg_base.specs.declared.fault.Which.{Which}
 use Rattle.tg_base.specs.declared.fault.Which.TheVariants as which
 use Rattle.tg_base.specs.declared.ids.NodeId.{NodeId}
+use Rattle.tg_io.specs.Acts.{Act, answers_in as answers_among}
 use Rattle.tg_io.specs.Bytes.{Grows, Takes, TakesFront}
 use Rattle.tg_io.specs.declared.link.Arrival.{Arrival}
 use Rattle.tg_io.specs.declared.link.Sent.{Sent}
@@ -13,22 +14,27 @@ use Rattle.tg_script.specs.Headers.{header_lines}
 use Rattle.tg_script.specs.Nodes.{is_declared}
 use Rattle.tg_lines.specs.Lines.{lines}
 use Rattle.tg_link_packets.specs.Mail.{all_sent}
+use Rattle.tg_node.specs.Acts.{acts_of, line_acts}
 use Rattle.tg_node.specs.Lines.{IsAsked}
 use Rattle.tg_node.specs.Replies.{replies_text}
 use Rattle.tg_node.specs.declared.asked.Asked.{Asked}
 use Rattle.tg_node.specs.declared.asked.Asked.TheVariants.{Tick, Wait, Given, Update}
 use Rattle.tg_node.specs.Sessions.{Deed, Session, IsWhole, inputs_of, datagrams_in, answers_of, steps_of, datagrams_of, plays, session, opening}
 
--- What a link and a sink tell: what was sent, the answers of `recv`, and what was written.
+-- What a link and a sink tell: what was sent, the answers of `recv`, both as one list in their order, and what was
+-- written.
 pub record Seen : Type 0 where
   pub sent : Option (List Sent)
   pub handed : Option (List (Option Arrival))
+  pub acts : Option (List Act)
   pub written : Option (List ℕ)
 
--- Over a session the packets were sent as their spellings, in order, these answers were handed, and its replies were written.
-pub record IsSeen (s : Session) (answers : List (Option Arrival)) (before after : Seen) : Type 0 where
+-- Over a session the packets were sent as their spellings, in order, these answers were handed, this was done with the
+-- link, and nothing else, in this order, and its replies were written.
+pub record IsSeen (s : Session) (answers : List (Option Arrival)) (in_order : List Act) (before after : Seen) : Type 0 where
   pub sent : Grows before.sent (all_sent s.sent) after.sent
   pub handed : Grows before.handed answers after.handed
+  pub acts : Grows before.acts in_order after.acts
   pub written : Takes before.written (replies_text s.replies) after.written
 
 -- each line asks something of the node
@@ -87,18 +93,30 @@ session_at {text} {n} p = session p.header n p.deeds
 abbrev pub answers_at : {text : List ℕ} {n : NodeId} → Point text n → List (Option Arrival)
 answers_at p = answers_of p.deeds
 
+-- what the lines up to a point do with the link
+abbrev pub acts_at : {text : List ℕ} {n : NodeId} → Point text n → List Act
+acts_at {text} {n} p = acts_of p.header n p.deeds
+
+-- what a session comes to at the line after a point, as far as the limit
+abbrev pub line_session : {text : List ℕ} {n : NodeId} → Point text n → Deed → Session
+line_session {text} {n} p d = plays n (1 + length p.deeds) (take (200000 - steps_of n p.deeds) (inputs_of n d)) (session_at p)
+
+-- what that line does with the link
+abbrev pub acts_by : {text : List ℕ} {n : NodeId} → Point text n → Deed → List Act
+acts_by {text} {n} p d = line_acts n (1 + length p.deeds) (200000 - steps_of n p.deeds) d.asked d.answers (session_at p)
+
 -- The text was followed to its end.
 pub record Followed (text : List ℕ) (n : NodeId) (before after : Seen) : Type 0 where
   pub point : Point text n
   pub end : point.rest ≡ []
-  pub seen : IsSeen (session_at point) (answers_at point) before after
+  pub seen : IsSeen (session_at point) (answers_at point) (acts_at point) before after
 
 -- Line k, below the header, is the first outside, after the session of the lines before it.
 pub record RefusedLine (text : List ℕ) (n : NodeId) (k : ℕ) (before after : Seen) : Type 0 where
   pub first : FirstOutside (lines text) n k
   pub point : Point text n
   pub place : k ≡ 4 + length point.deeds
-  pub seen : IsSeen (session_at point) (answers_at point) before after
+  pub seen : IsSeen (session_at point) (answers_at point) (acts_at point) before after
 
 -- Line k is one of the header's three and the first outside, and nothing is done.
 pub record RefusedHeader (text : List ℕ) (n : NodeId) (k : ℕ) (before after : Seen) : Type 0 where
@@ -142,14 +160,17 @@ pub record Midst (text : List ℕ) (n : NodeId) (w : Which) : Type 0 where
 
 -- the first 200,000 steps are made
 abbrev pub session_in : {text : List ℕ} {n : NodeId} {w : Which} → Midst text n w → Session
-session_in {text} {n} m = plays n (1 + length m.point.deeds) (take (200000 - steps_of n m.point.deeds) (inputs_of n m.last)) (session_at m.point)
+session_in m = line_session m.point m.last
 
 abbrev pub answers_in : {text : List ℕ} {n : NodeId} {w : Which} → Midst text n w → List (Option Arrival)
 answers_in m = answers_at m.point ++ m.last.answers
 
+abbrev pub acts_in_midst : {text : List ℕ} {n : NodeId} {w : Which} → Midst text n w → List Act
+acts_in_midst m = acts_at m.point ++ acts_by m.point m.last
+
 pub record Limited (text : List ℕ) (n : NodeId) (w : Which) (before after : Seen) : Type 0 where
   pub midst : Midst text n w
-  pub seen : IsSeen (session_in midst) (answers_in midst) before after
+  pub seen : IsSeen (session_in midst) (answers_in midst) (acts_in_midst midst) before after
 
 -- a limit is passed with the answers that were handed
 abbrev pub PassesLimit : List ℕ → NodeId → Which → Option (List (Option Arrival)) → Option (List (Option Arrival)) → Type 0
@@ -159,13 +180,64 @@ PassesLimit text n w handed after = (m : Midst text n w) × Grows handed (answer
 abbrev pub IsWithin : List ℕ → NodeId → Option (List (Option Arrival)) → Option (List (Option Arrival)) → Type 0
 IsWithin text n handed after = (w : Which) → PassesLimit text n w handed after → ⊥
 
--- Some front of the replies of a session was written.
-abbrev pub IsFront : Session → Seen → Seen → Type 0
-IsFront s before after = TakesFront before.written (replies_text s.replies) after.written
+-- A fault, or want of memory, cuts a session off. What was done before it is a front of what the session does with the
+-- answers that were handed.
+
+-- the line after a point is begun
+pub record IsNext {text : List ℕ} {n : NodeId} (p : Point text n) (d : Deed) : Type 0 where
+  pub line : List ℕ
+  pub more : List (List ℕ)
+  pub next : p.rest ≡ line ∷ more
+  pub asked : IsAsked p.header n line d.asked
+  pub part : IsPart d.asked d.answers
+
+-- The link is cut off in the midst of a line: of what the line does with it a front was done, in which these answers
+-- were handed, and none of its replies was written.
+pub record InLine {text : List ℕ} {n : NodeId} (p : Point text n) (mid after : Seen) : Type 0 where
+  pub deed : Deed
+  pub line : IsNext p deed
+  pub done : List Act
+  pub rest : List Act
+  pub cut : acts_by p deed ≡ done ++ rest
+  pub handed : answers_among done ≡ deed.answers
+  pub acts : Grows mid.acts done after.acts
+  pub written : after.written ≡ mid.written
+
+-- a line is done, or as far as a limit
+abbrev pub IsEnded : {text : List ℕ} {n : NodeId} → Point text n → Deed → Type 0
+IsEnded {text} {n} p d =
+    IsWhole d.asked d.answers ⊎ ((w : Which) × IsOver w d (steps_of n p.deeds + length (inputs_of n d)) (datagrams_of p.deeds + datagrams_in d.answers))
+
+-- The sink is cut off while a line's replies are written: the line is done, with the answers that were handed, and of
+-- its replies a front was written.
+pub record InReplies {text : List ℕ} {n : NodeId} (p : Point text n) (before mid after : Seen) : Type 0 where
+  pub deed : Deed
+  pub line : IsNext p deed
+  pub ended : IsEnded p deed
+  pub sent : Grows before.sent (all_sent (line_session p deed).sent) after.sent
+  pub handed : Grows mid.handed deed.answers after.handed
+  pub acts : Grows mid.acts (acts_by p deed) after.acts
+  pub replies : List ℕ
+  pub whole : replies_text (line_session p deed).replies ≡ replies_text (session_at p).replies ++ replies
+  pub front : TakesFront mid.written replies after.written
+
+-- lines were followed whole, and nothing else was done
+abbrev pub IsSeenTo : {text : List ℕ} {n : NodeId} → Point text n → Seen → Seen → Type 0
+IsSeenTo p before after = IsSeen (session_at p) (answers_at p) (acts_at p) before after
+
+-- cut off between two lines, or before the first
+abbrev pub IsCutBetween : List ℕ → NodeId → Seen → Seen → Type 0
+IsCutBetween text n before after = (after ≡ before) ⊎ ((p : Point text n) × IsSeenTo p before after)
+
+-- the lines before the one that is cut off were followed whole
+abbrev pub IsCutInLine : List ℕ → NodeId → Seen → Seen → Type 0
+IsCutInLine text n before after = (p : Point text n) × (mid : Seen) × IsSeenTo p before mid × InLine p mid after
+
+abbrev pub IsCutInReplies : List ℕ → NodeId → Seen → Seen → Type 0
+IsCutInReplies text n before after = (p : Point text n) × (mid : Seen) × IsSeenTo p before mid × InReplies p before mid after
 
 abbrev pub IsCutShort : List ℕ → NodeId → Seen → Seen → Type 0
-IsCutShort text n before after = (after.written ≡ before.written)
-    ⊎ (((p : Point text n) × IsFront (session_at p) before after) ⊎ ((w : Which) × (m : Midst text n w) × IsFront (session_in m) before after))
+IsCutShort text n before after = IsCutBetween text n before after ⊎ (IsCutInLine text n before after ⊎ IsCutInReplies text n before after)
 
 -- What each status says.
 abbrev pub Outcome : List ℕ → NodeId → Status → Seen → Seen → Type 0
@@ -174,12 +246,19 @@ Outcome text n (AtLine k) before after = Refused text n k before after
 Outcome text n (Limit w) before after = Limited text n w before after
 Outcome text n Words before after = ⊥
 Outcome text n (Illegal line clause) before after = ⊥
-Outcome text n _ before after = IsCutShort text n before after
+Outcome text n ReadFault before after = IsCutBetween text n before after
+Outcome text n WriteFault before after = IsCutInReplies text n before after
+Outcome text n LinkFault before after = IsCutInLine text n before after
+Outcome text n NoMemory before after = IsCutShort text n before after
 
 -- where the source tells its text
 abbrev pub Told : Option (List ℕ) → (List ℕ → Type 0) → Type 0
 Told (Some text) P = P text
 Told None P = Unit {0}
+
+-- a session ends so, unless a limit stops it or memory runs out
+abbrev pub IsOrStops : Status → Status → Type 0
+IsOrStops status is = (status ≡ is) ⊎ (((which : Which) × (status ≡ Limit which)) ⊎ (status ≡ NoMemory))
 
 -- a node ends by none of the others
 abbrev pub IsOfNode : Status → Type 0

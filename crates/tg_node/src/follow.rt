@@ -6,7 +6,7 @@ ghost use Rattle.tg_io.specs.declared.status.Status.TheVariants.{WriteFault, Lim
 ghost use Rattle.tg_node.specs.Lines.{IsAsked};
 ghost use Rattle.tg_node.specs.Texts.{Seen};
 ghost use Rattle.tg_node.specs.Steps.{IsSound};
-ghost use Rattle.tg_node.specs.Stages.{Follows, Follow, IsWritten, IsOfLine, IsRefused, LineCauses, GoesSound, seen};
+ghost use Rattle.tg_node.specs.Stages.{Follows, Follow, IsWritten, IsOfLine, IsRefused, LineCauses, GoesSound, IsNextLine, seen};
 ghost use Rattle.tg_node.specs.declared.stages.Next.TheVariants as nexts;
 
 use crate::asked::{Asked, parse_asked};
@@ -25,8 +25,9 @@ pub fn follow_line<K: Sink, L: Link>(
     link: &mut L,
 ) -> Next
     requires { IsSound run.node }
-    ensures follows { (text : List ℕ) (before : Seen) (more : List (List ℕ)) → Follows text before (seen (L.sent link.old) (L.handed link.old) (K.written sink.old)) run (line.now ∷ more) → Follow text run.id before (seen (L.sent link.new) (L.handed link.new) (K.written sink.new)) more result }
+    ensures follows { (text : List ℕ) (before : Seen) (more : List (List ℕ)) → Follows text before (seen (L.sent link.old) (L.handed link.old) (L.acts link.old) (K.written sink.old)) run (line.now ∷ more) → Follow text run.id before (seen (L.sent link.new) (L.handed link.new) (L.acts link.new) (K.written sink.new)) more result }
     ensures sound { GoesSound result }
+    ensures next { IsNextLine run.lines result }
     ensures causes { LineCauses (K.faults sink.old) (K.faults sink.new) (L.faults link.old) (L.faults link.new) result }
     ensures sink { StaysSure (K.sure sink.old) (K.sure sink.new) (K.faults sink.old) (K.faults sink.new) }
     ensures link { StaysSure (L.sure link.old) (L.sure link.new) (L.faults link.old) (L.faults link.new) }
@@ -57,8 +58,9 @@ fn follow_asked<K: Sink, L: Link>(
     link: &mut L,
 ) -> Next
     requires { IsSound run.node }
-    ensures follows { (text : List ℕ) (before : Seen) (line : List ℕ) (more : List (List ℕ)) → IsAsked run.cluster run.id line asked → Follows text before (seen (L.sent link.old) (L.handed link.old) (K.written sink.old)) run (line ∷ more) → Follow text run.id before (seen (L.sent link.new) (L.handed link.new) (K.written sink.new)) more result }
+    ensures follows { (text : List ℕ) (before : Seen) (line : List ℕ) (more : List (List ℕ)) → IsAsked run.cluster run.id line asked → Follows text before (seen (L.sent link.old) (L.handed link.old) (L.acts link.old) (K.written sink.old)) run (line ∷ more) → Follow text run.id before (seen (L.sent link.new) (L.handed link.new) (L.acts link.new) (K.written sink.new)) more result }
     ensures sound { GoesSound result }
+    ensures next { IsNextLine run.lines result }
     ensures causes { LineCauses (K.faults sink.old) (K.faults sink.new) (L.faults link.old) (L.faults link.new) result }
     ensures sink { StaysSure (K.sure sink.old) (K.sure sink.new) (K.faults sink.old) (K.faults sink.new) }
     ensures link { StaysSure (L.sure link.old) (L.sure link.new) (L.faults link.old) (L.faults link.new) }

@@ -1,8 +1,11 @@
 //! The header of a node's text.
 
-ghost use Rattle.std.specs.Prelude.{◌≡◌, ◌≤◌, ◌∷◌, ◌↔◌, [], codes, length, true, IfOk, IfSome, IsTrue};
+ghost use Rattle.std.specs.Prelude.{◌≡◌, ◌≤◌, ◌∷◌, ◌↔◌, ℕ, [], codes, length, true, IfOk, IfSome, IfNone, IsTrue, IsErrOf};
+ghost use Rattle.tg_base.specs.Clusters.{IsHeader};
 ghost use Rattle.tg_io.specs.Faults.{HasCause, StaysSure};
-ghost use Rattle.tg_lines.specs.Lines.{ahead};
+ghost use Rattle.tg_io.specs.declared.fault.IoErr.TheVariants.{Failed};
+ghost use Rattle.tg_lines.specs.Feeds.{NoneOutside, TakesFeeds};
+ghost use Rattle.tg_lines.specs.Lines.{ahead, lines};
 ghost use Rattle.tg_script.specs.Headers.{OnOutside, header_lines};
 ghost use Rattle.tg_script.specs.Nodes.{is_declared};
 ghost use Rattle.tg_node.specs.Texts.{Begins, FirstOutside};
@@ -29,6 +32,11 @@ pub fn read_own_header<S: Source>(
     ensures opened { IfOk result (Opened id (ahead reader.old (S.left source.old)) (ahead reader.new (S.left source.new))) }
     ensures cause { HasCause (S.faults source.old) (S.faults source.new) result }
     ensures sure { StaysSure (S.sure source.old) (S.sure source.new) (S.faults source.old) (S.faults source.new) }
+    ensures still { IfOk result (λ opening. S.faults source.new ≡ S.faults source.old) }
+    // What is taken has three line feeds at most.
+    ensures feeds { IfOk result (λ opening. TakesFeeds 3 (ahead reader.old (S.left source.old)) (ahead reader.new (S.left source.new))) }
+    // Where the source fails, none of the lines that came whole is outside.
+    ensures first { IsErrOf result Failed → IfSome (ahead reader.old (S.left source.old)) (λ text. NoneOutside text (S.left source.new) (FirstOutside (lines text) id)) }
 {
     let mut lines: List<List<u8>> = List::new(alloc);
     while lines.len() < HEADER {
@@ -45,14 +53,17 @@ pub fn read_own_header<S: Source>(
 }
 
 // The first line that is outside, if one of these is.
+#[tactic(auto, using(crate::proofs::Openings::none_before, crate::proofs::Openings::whole_front))]
 fn refused(alloc: Global, id: NodeId, lines: &[List<u8>]) -> Result<Option<u64>, NoMemory>
     requires { length lines.now ≤ 3 }
-    ensures { IfOk result (λ r. IfSome r (λ k. (k ≤ length lines.now) × FirstOutside lines.now id k)) }
+    ensures some { IfOk result (λ r. IfSome r (λ k. (k ≤ length lines.now) × FirstOutside lines.now id k)) }
+    ensures none { IfOk result (λ r. IfNone r ((k : ℕ) → k ≤ length lines.now → FirstOutside lines.now id k → ⊥)) }
 {
     match parse_own(alloc, id, lines) {
+        Ok(_) => Ok(None),
         Err(TextFault::Outside { line }) if line <= lines.len() as u64 => Ok(Some(line)),
         Err(TextFault::NoMemory) => Err(NoMemory),
-        _ => Ok(None),
+        Err(TextFault::Outside { .. }) => Ok(None),
     }
 }
 
@@ -71,6 +82,7 @@ fn whole_header(alloc: Global, id: NodeId, lines: &[List<u8>]) -> Result<Opening
 // The cluster that these lines declare, with the node among its nodes.
 fn parse_own(alloc: Global, id: NodeId, lines: &[List<u8>]) -> Result<Cluster, TextFault>
     requires { length lines.now ≤ 3 }
+    ensures lawful { IfOk result IsHeader }
     ensures found { IfOk result (λ h. (lines.now ≡ header_lines h) × (is_declared h id ≡ true)) }
     ensures outside { OnOutside result (λ k. (k ≤ 3) × FirstOutside lines.now id k) }
 {

@@ -1,10 +1,10 @@
 //! What a node does at a line.
 
-ghost use Rattle.std.specs.Prelude.{◌≡◌, ◌∷◌, [], IfOk};
+ghost use Rattle.std.specs.Prelude.{◌≡◌, ◌∷◌, [], IfOk, OnErr};
 ghost use Rattle.tg_io.specs.Faults.{HasCause, StaysSure};
 ghost use Rattle.tg_model.specs.declared.command.Command.TheVariants as cmd;
 ghost use Rattle.tg_node_state.specs.declared.input.Input.TheVariants as comes;
-ghost use Rattle.tg_node.specs.Steps.{IsSound, Makes, TookLine};
+ghost use Rattle.tg_node.specs.Steps.{IsSound, Makes, TookLine, Does, Breaks, BreaksLine, made_acts};
 
 use crate::asked::Asked;
 use crate::nodes::{Moved, Node, Place};
@@ -25,7 +25,8 @@ impl Node {
         asked: Asked,
     ) -> Result<Moved, IoErr>
         requires { IsSound self }
-        ensures took { IfOk result (λ m. TookLine place asked (L.handed link.old) self (L.sent link.old) m (L.handed link.new) (L.sent link.new)) }
+        ensures took { IfOk result (λ m. TookLine place asked (L.handed link.old) self (L.sent link.old) m (L.handed link.new) (L.sent link.new) (L.acts link.old) (L.acts link.new)) }
+        ensures breaks { OnErr result (BreaksLine place asked self (L.sent link.old) (L.acts link.old) (L.acts link.new)) }
         ensures cause { HasCause (L.faults link.old) (L.faults link.new) result }
         ensures sure { StaysSure (L.sure link.old) (L.sure link.new) (L.faults link.old) (L.faults link.new) }
     {
@@ -49,6 +50,8 @@ impl Node {
         ensures makes { IfOk result (λ m. Makes place (input ∷ []) self (L.sent link.old) m (L.sent link.new)) }
         ensures received { IfOk result (λ m. m.node.received ≡ self.received) }
         ensures handed { L.handed link.new ≡ L.handed link.old }
+        ensures does { IfOk result (λ _. Does self (L.sent link.old) (made_acts place self (input ∷ [])) (L.acts link.old) (L.acts link.new)) }
+        ensures breaks { OnErr result (Breaks self (L.sent link.old) (made_acts place self (input ∷ [])) (L.acts link.old) (L.acts link.new)) }
         ensures cause { HasCause (L.faults link.old) (L.faults link.new) result }
         ensures sure { StaysSure (L.sure link.old) (L.sure link.new) (L.faults link.old) (L.faults link.new) }
     {
@@ -72,6 +75,8 @@ impl Node {
         ensures makes { IfOk result (λ m. Makes place (comes.Command cmd.Begin ∷ comes.Command (cmd.Put oid op) ∷ comes.Command cmd.End ∷ []) self (L.sent link.old) m (L.sent link.new)) }
         ensures received { IfOk result (λ m. m.node.received ≡ self.received) }
         ensures handed { L.handed link.new ≡ L.handed link.old }
+        ensures does { IfOk result (λ _. Does self (L.sent link.old) (made_acts place self (comes.Command cmd.Begin ∷ comes.Command (cmd.Put oid op) ∷ comes.Command cmd.End ∷ [])) (L.acts link.old) (L.acts link.new)) }
+        ensures breaks { OnErr result (Breaks self (L.sent link.old) (made_acts place self (comes.Command cmd.Begin ∷ comes.Command (cmd.Put oid op) ∷ comes.Command cmd.End ∷ [])) (L.acts link.old) (L.acts link.new)) }
         ensures cause { HasCause (L.faults link.old) (L.faults link.new) result }
         ensures sure { StaysSure (L.sure link.old) (L.sure link.new) (L.faults link.old) (L.faults link.new) }
     {
@@ -95,6 +100,8 @@ impl Node {
         ensures makes { IfOk result (λ m. Makes place (comes.Command (cmd.Put oid op) ∷ comes.Command cmd.End ∷ []) self (L.sent link.old) m (L.sent link.new)) }
         ensures received { IfOk result (λ m. m.node.received ≡ self.received) }
         ensures handed { L.handed link.new ≡ L.handed link.old }
+        ensures does { IfOk result (λ _. Does self (L.sent link.old) (made_acts place self (comes.Command (cmd.Put oid op) ∷ comes.Command cmd.End ∷ [])) (L.acts link.old) (L.acts link.new)) }
+        ensures breaks { OnErr result (Breaks self (L.sent link.old) (made_acts place self (comes.Command (cmd.Put oid op) ∷ comes.Command cmd.End ∷ [])) (L.acts link.old) (L.acts link.new)) }
         ensures cause { HasCause (L.faults link.old) (L.faults link.new) result }
         ensures sure { StaysSure (L.sure link.old) (L.sure link.new) (L.faults link.old) (L.faults link.new) }
     {

@@ -1,13 +1,14 @@
 //! A node that runs by itself, and its steps.
 
-ghost use Rattle.std.specs.Prelude.{◌≡◌, ◌+◌, ◌<◌, ◌++◌, ◌∷◌, [], nat_le, List, Option, Some, None, IfOk};
+ghost use Rattle.std.specs.Prelude.{◌≡◌, ◌+◌, ◌<◌, ◌++◌, ◌∷◌, [], nat_le, List, Option, Some, None, IfOk, OnErr};
 ghost use Rattle.tg_io.specs.Faults.{HasCause, StaysSure};
 ghost use Rattle.tg_io.specs.declared.link.Sent.{Sent};
 ghost use Rattle.tg_node_state.specs.Kept.{KeepsNode, IsNode};
 ghost use Rattle.tg_node_state.specs.Nodes.{node_start};
+ghost use Rattle.tg_node.specs.Acts.{step_acts};
 ghost use Rattle.tg_any.specs.AllKinds.{all_kinds};
 ghost use Rattle.tg_node.specs.Sessions.{Session, turned};
-ghost use Rattle.tg_node.specs.Steps.{Stands, Goes, IsSound};
+ghost use Rattle.tg_node.specs.Steps.{Stands, Goes, Does, Breaks, IsSound};
 
 use crate::replies::write_replies;
 use std::alloc::Global;
@@ -108,6 +109,8 @@ impl Node {
         ensures received { IfOk result (λ k. k.received ≡ self.received) }
         ensures sound { IfOk result IsSound }
         ensures handed { L.handed link.new ≡ L.handed link.old }
+        ensures does { IfOk result (λ _. Does self (L.sent link.old) (step_acts place.node input) (L.acts link.old) (L.acts link.new)) }
+        ensures breaks { OnErr result (Breaks self (L.sent link.old) (step_acts place.node input) (L.acts link.old) (L.acts link.new)) }
         ensures cause { HasCause (L.faults link.old) (L.faults link.new) result }
         ensures sure { StaysSure (L.sure link.old) (L.sure link.new) (L.faults link.old) (L.faults link.new) }
     {

@@ -1,11 +1,11 @@
 //! What comes to a node over its link.
 
-ghost use Rattle.std.specs.Prelude.{◌≡◌, ◌+◌, ◌<◌, Option, IfOk};
+ghost use Rattle.std.specs.Prelude.{◌≡◌, ◌+◌, ◌<◌, ◌∷◌, [], Option, IfOk, OnErr};
 ghost use Rattle.tg_io.specs.Faults.{HasCause, StaysSure};
 ghost use Rattle.tg_io.specs.Links.{Adds};
 ghost use Rattle.tg_io.specs.declared.link.Arrival.{Arrival};
 ghost use Rattle.tg_node.specs.declared.asked.Asked.TheVariants.{Wait};
-ghost use Rattle.tg_node.specs.Steps.{IsSound, TakesOne, TookLine};
+ghost use Rattle.tg_node.specs.Steps.{IsSound, TakesOne, TookLine, Does, BreaksLine, asked_acts};
 
 use crate::nodes::{MOST_DATAGRAMS, Moved, Node, Place};
 use std::alloc::Global;
@@ -27,7 +27,8 @@ impl Node {
         calls: u32,
     ) -> Result<Moved, IoErr>
         requires { IsSound self }
-        ensures took { IfOk result (λ m. TookLine place (Wait calls) (L.handed link.old) self (L.sent link.old) m (L.handed link.new) (L.sent link.new)) }
+        ensures took { IfOk result (λ m. TookLine place (Wait calls) (L.handed link.old) self (L.sent link.old) m (L.handed link.new) (L.sent link.new) (L.acts link.old) (L.acts link.new)) }
+        ensures breaks { OnErr result (BreaksLine place (Wait calls) self (L.sent link.old) (L.acts link.old) (L.acts link.new)) }
         ensures cause { HasCause (L.faults link.old) (L.faults link.new) result }
         ensures sure { StaysSure (L.sure link.old) (L.sure link.new) (L.faults link.old) (L.faults link.new) }
     {
@@ -49,7 +50,8 @@ impl Node {
     fn take_next<L: Link>(self, alloc: Global, place: Place, link: &mut L) -> Result<Moved, IoErr>
         requires sound { IsSound self }
         requires few { self.received < 1000000 }
-        ensures took { IfOk result (λ m. (a : Option Arrival) × Adds (L.handed link.old) a (L.handed link.new) × TakesOne place a self (L.sent link.old) m (L.sent link.new)) }
+        ensures took { IfOk result (λ m. (a : Option Arrival) × Adds (L.handed link.old) a (L.handed link.new) × TakesOne place a self (L.sent link.old) m (L.sent link.new) × Does self (L.sent link.old) (asked_acts place self (Wait 1) (a ∷ [])) (L.acts link.old) (L.acts link.new)) }
+        ensures breaks { OnErr result (BreaksLine place (Wait 1) self (L.sent link.old) (L.acts link.old) (L.acts link.new)) }
         ensures cause { HasCause (L.faults link.old) (L.faults link.new) result }
         ensures sure { StaysSure (L.sure link.old) (L.sure link.new) (L.faults link.old) (L.faults link.new) }
     {

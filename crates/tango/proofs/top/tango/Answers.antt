@@ -7,8 +7,9 @@ use Rattle.tg_io.specs.declared.status.Status.TheVariants.{Done, Script, ReadFau
 use Rattle.tg_replay.specs.Runs.{IsWithin, run_of}
 use Rattle.tg_bench.specs.Loads.{load, summary, IsFront}
 use Rattle.tg_node.specs.Stages.{seen}
+use Rattle.tg_lines.specs.Feeds.{NoneOutside}
 use Rattle.tg_lines.specs.Lines.{lines}
-use Rattle.tg_node.specs.Texts.{Told, Followed, FirstOutside, Refused, PassesLimit, IsWithin as WithNoLimit, Limited, IsCutShort, IsText}
+use Rattle.tg_node.specs.Texts.{Told, Followed, FirstOutside, Refused, PassesLimit, IsWithin as WithNoLimit, Limited, IsCutBetween, IsCutInLine, IsCutInReplies, IsCutShort, IsText, IsOrStops}
 use Rattle.tango.proofs.Lawful.{legal_told, illegal_told}
 use Rattle.tango.proofs.Loads.{moved}
 use Rattle.tango.proofs.Nodes.{moved as moved_node}
@@ -41,23 +42,38 @@ returns-in-Ok-Some-Bench-clause-load_limits g c = λ start count named. moved (m
 
 pub returns-in-Ok-Some-Node-clause-node_done : goal.returns-in-Ok-Some-Node-clause-node_done
 returns-in-Ok-Some-Node-clause-node_done g c = λ id named. moved_node (map string_bytes c.args.words.now) c.in-Ok-Some-Node.field-0 c.in-Ok-Some-Node.field-0-0 c.in-Ok-Some-Node.id id
-    (λ n. c.node.result ≡ Done → Told (g.S.Source.left c.args.source.now) (λ text. Followed text n (seen (g.L.Link.sent c.args.link.now) (g.L.Link.handed c.args.link.now) (g.K.Sink.written c.args.sink.now)) (seen (g.L.Link.sent c.node.new.link) (g.L.Link.handed c.node.new.link) (g.K.Sink.written c.node.new.sink))))
+    (λ n. c.node.result ≡ Done → Told (g.S.Source.left c.args.source.now) (λ text. Followed text n (seen (g.L.Link.sent c.args.link.now) (g.L.Link.handed c.args.link.now) (g.L.Link.acts c.args.link.now) (g.K.Sink.written c.args.sink.now)) (seen (g.L.Link.sent c.node.new.link) (g.L.Link.handed c.node.new.link) (g.L.Link.acts c.node.new.link) (g.K.Sink.written c.node.new.sink))))
     c.in-Ok-Some-Node.ensures c.in-Ok-Some-Node.field-0-is c.in-Ok-Some-Node.field-0-0-is named c.node.ensures.done
 
 pub returns-in-Ok-Some-Node-clause-node_script : goal.returns-in-Ok-Some-Node-clause-node_script
 returns-in-Ok-Some-Node-clause-node_script g c = λ id named. moved_node (map string_bytes c.args.words.now) c.in-Ok-Some-Node.field-0 c.in-Ok-Some-Node.field-0-0 c.in-Ok-Some-Node.id id
-    (λ n. (line : ℕ) → c.node.result ≡ Script line → Told (g.S.Source.left c.args.source.now) (λ text. Refused text n line (seen (g.L.Link.sent c.args.link.now) (g.L.Link.handed c.args.link.now) (g.K.Sink.written c.args.sink.now)) (seen (g.L.Link.sent c.node.new.link) (g.L.Link.handed c.node.new.link) (g.K.Sink.written c.node.new.sink))))
+    (λ n. (line : ℕ) → c.node.result ≡ Script line → Told (g.S.Source.left c.args.source.now) (λ text. Refused text n line (seen (g.L.Link.sent c.args.link.now) (g.L.Link.handed c.args.link.now) (g.L.Link.acts c.args.link.now) (g.K.Sink.written c.args.sink.now)) (seen (g.L.Link.sent c.node.new.link) (g.L.Link.handed c.node.new.link) (g.L.Link.acts c.node.new.link) (g.K.Sink.written c.node.new.sink))))
     c.in-Ok-Some-Node.ensures c.in-Ok-Some-Node.field-0-is c.in-Ok-Some-Node.field-0-0-is named c.node.ensures.script
 
 pub returns-in-Ok-Some-Node-clause-node_limit : goal.returns-in-Ok-Some-Node-clause-node_limit
 returns-in-Ok-Some-Node-clause-node_limit g c = λ id named. moved_node (map string_bytes c.args.words.now) c.in-Ok-Some-Node.field-0 c.in-Ok-Some-Node.field-0-0 c.in-Ok-Some-Node.id id
-    (λ n. (which : Which) → c.node.result ≡ Limit which → Told (g.S.Source.left c.args.source.now) (λ text. Limited text n which (seen (g.L.Link.sent c.args.link.now) (g.L.Link.handed c.args.link.now) (g.K.Sink.written c.args.sink.now)) (seen (g.L.Link.sent c.node.new.link) (g.L.Link.handed c.node.new.link) (g.K.Sink.written c.node.new.sink))))
+    (λ n. (which : Which) → c.node.result ≡ Limit which → Told (g.S.Source.left c.args.source.now) (λ text. Limited text n which (seen (g.L.Link.sent c.args.link.now) (g.L.Link.handed c.args.link.now) (g.L.Link.acts c.args.link.now) (g.K.Sink.written c.args.sink.now)) (seen (g.L.Link.sent c.node.new.link) (g.L.Link.handed c.node.new.link) (g.L.Link.acts c.node.new.link) (g.K.Sink.written c.node.new.sink))))
     c.in-Ok-Some-Node.ensures c.in-Ok-Some-Node.field-0-is c.in-Ok-Some-Node.field-0-0-is named c.node.ensures.limit
 
-pub returns-in-Ok-Some-Node-clause-node_cut_short : goal.returns-in-Ok-Some-Node-clause-node_cut_short
-returns-in-Ok-Some-Node-clause-node_cut_short g c = λ id named. moved_node (map string_bytes c.args.words.now) c.in-Ok-Some-Node.field-0 c.in-Ok-Some-Node.field-0-0 c.in-Ok-Some-Node.id id
-    (λ n. (c.node.result ≡ ReadFault) ⊎ ((c.node.result ≡ WriteFault) ⊎ ((c.node.result ≡ LinkFault) ⊎ (c.node.result ≡ NoMemory))) → Told (g.S.Source.left c.args.source.now) (λ text. IsCutShort text n (seen (g.L.Link.sent c.args.link.now) (g.L.Link.handed c.args.link.now) (g.K.Sink.written c.args.sink.now)) (seen (g.L.Link.sent c.node.new.link) (g.L.Link.handed c.node.new.link) (g.K.Sink.written c.node.new.sink))))
-    c.in-Ok-Some-Node.ensures c.in-Ok-Some-Node.field-0-is c.in-Ok-Some-Node.field-0-0-is named c.node.ensures.cut_short
+pub returns-in-Ok-Some-Node-clause-node_read_cut : goal.returns-in-Ok-Some-Node-clause-node_read_cut
+returns-in-Ok-Some-Node-clause-node_read_cut g c = λ id named. moved_node (map string_bytes c.args.words.now) c.in-Ok-Some-Node.field-0 c.in-Ok-Some-Node.field-0-0 c.in-Ok-Some-Node.id id
+    (λ n. c.node.result ≡ ReadFault → Told (g.S.Source.left c.args.source.now) (λ text. IsCutBetween text n (seen (g.L.Link.sent c.args.link.now) (g.L.Link.handed c.args.link.now) (g.L.Link.acts c.args.link.now) (g.K.Sink.written c.args.sink.now)) (seen (g.L.Link.sent c.node.new.link) (g.L.Link.handed c.node.new.link) (g.L.Link.acts c.node.new.link) (g.K.Sink.written c.node.new.sink))))
+    c.in-Ok-Some-Node.ensures c.in-Ok-Some-Node.field-0-is c.in-Ok-Some-Node.field-0-0-is named c.node.ensures.read_cut
+
+pub returns-in-Ok-Some-Node-clause-node_write_cut : goal.returns-in-Ok-Some-Node-clause-node_write_cut
+returns-in-Ok-Some-Node-clause-node_write_cut g c = λ id named. moved_node (map string_bytes c.args.words.now) c.in-Ok-Some-Node.field-0 c.in-Ok-Some-Node.field-0-0 c.in-Ok-Some-Node.id id
+    (λ n. c.node.result ≡ WriteFault → Told (g.S.Source.left c.args.source.now) (λ text. IsCutInReplies text n (seen (g.L.Link.sent c.args.link.now) (g.L.Link.handed c.args.link.now) (g.L.Link.acts c.args.link.now) (g.K.Sink.written c.args.sink.now)) (seen (g.L.Link.sent c.node.new.link) (g.L.Link.handed c.node.new.link) (g.L.Link.acts c.node.new.link) (g.K.Sink.written c.node.new.sink))))
+    c.in-Ok-Some-Node.ensures c.in-Ok-Some-Node.field-0-is c.in-Ok-Some-Node.field-0-0-is named c.node.ensures.write_cut
+
+pub returns-in-Ok-Some-Node-clause-node_link_cut : goal.returns-in-Ok-Some-Node-clause-node_link_cut
+returns-in-Ok-Some-Node-clause-node_link_cut g c = λ id named. moved_node (map string_bytes c.args.words.now) c.in-Ok-Some-Node.field-0 c.in-Ok-Some-Node.field-0-0 c.in-Ok-Some-Node.id id
+    (λ n. c.node.result ≡ LinkFault → Told (g.S.Source.left c.args.source.now) (λ text. IsCutInLine text n (seen (g.L.Link.sent c.args.link.now) (g.L.Link.handed c.args.link.now) (g.L.Link.acts c.args.link.now) (g.K.Sink.written c.args.sink.now)) (seen (g.L.Link.sent c.node.new.link) (g.L.Link.handed c.node.new.link) (g.L.Link.acts c.node.new.link) (g.K.Sink.written c.node.new.sink))))
+    c.in-Ok-Some-Node.ensures c.in-Ok-Some-Node.field-0-is c.in-Ok-Some-Node.field-0-0-is named c.node.ensures.link_cut
+
+pub returns-in-Ok-Some-Node-clause-node_memory_cut : goal.returns-in-Ok-Some-Node-clause-node_memory_cut
+returns-in-Ok-Some-Node-clause-node_memory_cut g c = λ id named. moved_node (map string_bytes c.args.words.now) c.in-Ok-Some-Node.field-0 c.in-Ok-Some-Node.field-0-0 c.in-Ok-Some-Node.id id
+    (λ n. c.node.result ≡ NoMemory → Told (g.S.Source.left c.args.source.now) (λ text. IsCutShort text n (seen (g.L.Link.sent c.args.link.now) (g.L.Link.handed c.args.link.now) (g.L.Link.acts c.args.link.now) (g.K.Sink.written c.args.sink.now)) (seen (g.L.Link.sent c.node.new.link) (g.L.Link.handed c.node.new.link) (g.L.Link.acts c.node.new.link) (g.K.Sink.written c.node.new.sink))))
+    c.in-Ok-Some-Node.ensures c.in-Ok-Some-Node.field-0-is c.in-Ok-Some-Node.field-0-0-is named c.node.ensures.memory_cut
 
 pub returns-in-Ok-Some-Node-clause-node_complete : goal.returns-in-Ok-Some-Node-clause-node_complete
 returns-in-Ok-Some-Node-clause-node_complete g c = λ id named. moved_node (map string_bytes c.args.words.now) c.in-Ok-Some-Node.field-0 c.in-Ok-Some-Node.field-0-0 c.in-Ok-Some-Node.id id
@@ -81,3 +97,20 @@ returns-in-Ok-Some-Audit-clause-lawful g c = λ named done.
 pub returns-in-Ok-Some-Audit-clause-unlawful : goal.returns-in-Ok-Some-Audit-clause-unlawful
 returns-in-Ok-Some-Audit-clause-unlawful g c = λ named line clause is.
     illegal_told c.verdicts_are_true.ensures (g.S.Source.left c.args.source.now) (g.K.Sink.written c.args.sink.now) (g.K.Sink.written c.judge.new.sink) line clause (c.judge.ensures.illegal line clause is)
+
+pub returns-in-Ok-Some-Node-clause-node_ends : goal.returns-in-Ok-Some-Node-clause-node_ends
+returns-in-Ok-Some-Node-clause-node_ends g c = λ id named. moved_node (map string_bytes c.args.words.now) c.in-Ok-Some-Node.field-0 c.in-Ok-Some-Node.field-0-0 c.in-Ok-Some-Node.id id
+    (λ n. (Rose (g.S.Source.faults c.args.source.now) (g.S.Source.faults c.node.new.source) → ⊥) → (Rose (g.K.Sink.faults c.args.sink.now) (g.K.Sink.faults c.node.new.sink) → ⊥) → (Rose (g.L.Link.faults c.args.link.now) (g.L.Link.faults c.node.new.link) → ⊥) →
+    Told (g.S.Source.left c.args.source.now) (λ text. IsText text n → IsOrStops c.node.result Done))
+    c.in-Ok-Some-Node.ensures c.in-Ok-Some-Node.field-0-is c.in-Ok-Some-Node.field-0-0-is named c.node.ensures.ends
+
+pub returns-in-Ok-Some-Node-clause-node_refuses_or_ends : goal.returns-in-Ok-Some-Node-clause-node_refuses_or_ends
+returns-in-Ok-Some-Node-clause-node_refuses_or_ends g c = λ id named. moved_node (map string_bytes c.args.words.now) c.in-Ok-Some-Node.field-0 c.in-Ok-Some-Node.field-0-0 c.in-Ok-Some-Node.id id
+    (λ n. (Rose (g.S.Source.faults c.args.source.now) (g.S.Source.faults c.node.new.source) → ⊥) → (Rose (g.K.Sink.faults c.args.sink.now) (g.K.Sink.faults c.node.new.sink) → ⊥) → (Rose (g.L.Link.faults c.args.link.now) (g.L.Link.faults c.node.new.link) → ⊥) →
+    Told (g.S.Source.left c.args.source.now) (λ text. (line : ℕ) → FirstOutside (lines text) n line → IsOrStops c.node.result (Script line)))
+    c.in-Ok-Some-Node.ensures c.in-Ok-Some-Node.field-0-is c.in-Ok-Some-Node.field-0-0-is named c.node.ensures.refuses_or_ends
+
+pub returns-in-Ok-Some-Node-clause-node_first : goal.returns-in-Ok-Some-Node-clause-node_first
+returns-in-Ok-Some-Node-clause-node_first g c = λ id named. moved_node (map string_bytes c.args.words.now) c.in-Ok-Some-Node.field-0 c.in-Ok-Some-Node.field-0-0 c.in-Ok-Some-Node.id id
+    (λ n. c.node.result ≡ ReadFault → Told (g.S.Source.left c.args.source.now) (λ text. NoneOutside text (g.S.Source.left c.node.new.source) (FirstOutside (lines text) n)))
+    c.in-Ok-Some-Node.ensures c.in-Ok-Some-Node.field-0-is c.in-Ok-Some-Node.field-0-0-is named c.node.ensures.first

@@ -1,7 +1,7 @@
 use Rattle.std.proofs.Common.{◌≡◌, [], ◌∷◌, ◌∙◌, sym, ap, subst}
 use Rattle.tg_node.specs.Steps.{Makes}
 use Rattle.tg_node.specs.declared.nodes.Moved.{Moved}
-use Rattle.tg_node.proofs.Stepping.{makes_stop, makes_one, room_left}
+use Rattle.tg_node.proofs.Stepping.{on_err, makes_stop, makes_one, room_left, does_stop, does_one, breaks_one}
 use Rattle.tg_node.proofs.nodes.Node.make.Goals as goal
 
 pub step-requires-clause-room : goal.step-requires-clause-room
@@ -26,3 +26,17 @@ returns-clause-makes g c =
 
 pub returns-clause-received : goal.returns-clause-received
 returns-clause-received g c = ap (λ (m : Moved). m.node.received) c.on.ensures ∙ c.in_ok-node.ensures.received
+
+pub returns-then-is_at_limit-clause-does : goal.returns-then-is_at_limit-clause-does
+returns-then-is_at_limit-clause-does g c =
+    does_stop c.args.place c.args.input c.args.self (g.L.Link.sent c.args.link.now) (g.L.Link.acts c.args.link.now) (sym c.is_at_limit.ensures ∙ c.if-is_at_limit.true)
+
+pub returns-clause-does : goal.returns-clause-does
+returns-clause-does g c =
+    does_one c.args.place c.args.input c.args.self (g.L.Link.sent c.args.link.now) (g.L.Link.acts c.args.link.now) (g.L.Link.acts c.step.new.link)
+    (room_left c.args.self.steps c.is_at_limit.result c.is_at_limit.ensures c.if-is_at_limit.false) c.in_ok-node.ensures.does
+
+pub returns-in_err-node-clause-breaks : goal.returns-in_err-node-clause-breaks
+returns-in_err-node-clause-breaks g c =
+    on_err c.from_residual.result (breaks_one c.args.place c.args.input c.args.self (g.L.Link.sent c.args.link.now) (g.L.Link.acts c.args.link.now) (g.L.Link.acts c.step.new.link)
+    (room_left c.args.self.steps c.is_at_limit.result c.is_at_limit.ensures c.if-is_at_limit.false) c.in_err-node.ensures.breaks)
