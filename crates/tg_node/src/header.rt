@@ -1,6 +1,6 @@
 //! The header of a node's text.
 
-ghost use Rattle.std.specs.Prelude.{◌≡◌, ◌≤◌, ◌∷◌, ◌↔◌, ℕ, [], codes, length, true, IfOk, IfSome, IfNone, IsTrue, IsErrOf};
+ghost use Rattle.std.specs.Prelude.{◌≡◌, ◌<◌, ◌≤◌, ◌∷◌, ◌↔◌, ℕ, [], codes, length, true, IfOk, IfSome, IfNone, IsTrue, IsErrOf};
 ghost use Rattle.tg_base.specs.Clusters.{IsHeader};
 ghost use Rattle.tg_io.specs.Faults.{HasCause, StaysSure};
 ghost use Rattle.tg_io.specs.declared.fault.IoErr.TheVariants.{Failed};
@@ -61,9 +61,20 @@ fn refused(alloc: Global, id: NodeId, lines: &[List<u8>]) -> Result<Option<u64>,
 {
     match parse_own(alloc, id, lines) {
         Ok(_) => Ok(None),
-        Err(TextFault::Outside { line }) if line <= lines.len() as u64 => Ok(Some(line)),
+        Err(TextFault::Outside { line }) => Ok(among(line, lines)),
         Err(TextFault::NoMemory) => Err(NoMemory),
-        Err(TextFault::Outside { .. }) => Ok(None),
+    }
+}
+
+// The line of this number, if these lines have it.
+fn among(line: u64, lines: &[List<u8>]) -> Option<u64>
+    ensures some { IfSome result (λ k. (k ≡ line) × (k ≤ length lines.now)) }
+    ensures none { IfNone result (length lines.now < line) }
+{
+    if line <= lines.len() as u64 {
+        Some(line)
+    } else {
+        None
     }
 }
 
