@@ -21,8 +21,8 @@ pub returns-clause-none : goal.returns-clause-none
 returns-clause-none c =
     let P : Result (Option ℕ) NoMemory → Type 0 = λ x. IfOk x (λ r. IfNone r (NoneOf c.args.lines.now c.args.id)) in
     elim c.match-parse_own.branch as (λ _. P c.match-parse_own.result) [
-    | in-Ok w ↦ subst P (sym w.result-is) (λ k le out. whole_front c.args.lines.now c.args.id w.in-Ok.field-0 k w.in-Ok.ensures.lawful w.in-Ok.ensures.found le out)
-    | in-Err-Outside w ↦ subst P (sym w.result-is) (below_all w.among.result w.in-Err-Outside.line c.args.lines.now c.args.id w.among.ensures.none
-        (subst (λ (f : TextFault). OnOutside {A = Header} (Err f) (λ k. (k ≤ 3) × FirstOutside c.args.lines.now c.args.id k)) w.in-Err-Outside.field-0-is w.in-Err-Outside.ensures.outside))
-    | in-Err-NoMemory w ↦ subst P (sym w.result-is) tt
+      | in-Ok w ↦ subst P (sym w.result-is) (λ k le out. whole_front c.args.lines.now c.args.id w.in-Ok.field-0 k w.in-Ok.ensures.lawful w.in-Ok.ensures.found le out)
+      | in-Err-Outside w ↦ subst P (sym w.result-is) (below_all w.among.result w.in-Err-Outside.line c.args.lines.now c.args.id w.among.ensures.none
+          (subst (λ (f : TextFault). OnOutside {A = Header} (Err f) (λ k. (k ≤ 3) × FirstOutside c.args.lines.now c.args.id k)) w.in-Err-Outside.field-0-is w.in-Err-Outside.ensures.outside))
+      | in-Err-NoMemory w ↦ subst P (sym w.result-is) tt
     ]
