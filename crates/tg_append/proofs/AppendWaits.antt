@@ -9,7 +9,8 @@ use Rattle.tg_base.specs.declared.msg.Msg.{Msg}
 use Rattle.tg_base.specs.declared.packet.Out.{Out}
 use Rattle.tg_entry.specs.declared.entry.Entry.{Entry}
 use Rattle.tg_protocol.specs.Words.{cell_eq}
-use Rattle.tg_protocol.specs.Entries.{streams_of, linked}
+use Rattle.tg_protocol.specs.Entries.{streams_of}
+use Rattle.tg_entry.specs.Records.{linked}
 use Rattle.tg_protocol.specs.Pages.{page_of}
 use Rattle.tg_protocol.specs.Requests.{Next, Goes, Learns, Ends, awaits}
 use Rattle.tg_protocol.specs.Replies.{Reply, IsIssued, IsFull, IsOldEpoch, reply}

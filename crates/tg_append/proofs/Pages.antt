@@ -10,16 +10,11 @@ use Rattle.tg_codec.proofs.Laws.{both}
 use Rattle.tg_entry.specs.declared.entry.Entry.{Entry}
 use Rattle.tg_entry.specs.Format.{entry}
 use Rattle.tg_entry.specs.Writes.{stream_numbers}
-use Rattle.tg_entry.specs.Records.{is_number, are_backs, has_backs, is_falling as falls}
+use Rattle.tg_entry.specs.Records.{is_number, are_backs, has_backs, linked}
 use Rattle.tg_entry.proofs.Linked.{linked_fit}
-use Rattle.tg_protocol.specs.Words.{oid_eq, too_far}
-use Rattle.tg_protocol.specs.Entries.{oid_of_link, streams_of, linked}
-use Rattle.tg_protocol.specs.Appending.{is_falling, is_link, names_all}
-
-falling_same : (ps : List ℕ) → is_falling ps ≡ falls ps
-falling_same [] = refl
-falling_same (x ∷ []) = refl
-falling_same (x ∷ y ∷ ys) = ap (λ b. nat_lt y x && b) (falling_same (y ∷ ys))
+use Rattle.tg_protocol.specs.Words.{too_far}
+use Rattle.tg_protocol.specs.Entries.{oid_of_link, streams_of}
+use Rattle.tg_protocol.specs.Appending.{is_link, names_all}
 
 near_number : (p : ℕ) → not (too_far p) ≡ true → is_number p ≡ true
 near_number p e = grind (arith, nat_tests)
@@ -31,7 +26,7 @@ near_numbers (p ∷ ps) e = both _ _ (near_number p (and-left _ _ e)) (near_numb
 link_backs : (l : StreamLink) → is_link l ≡ true → has_backs l ≡ true
 link_backs l e =
     let few = and-right _ _ (and-left _ _ e) in
-    both _ _ (both _ _ few (near_numbers l.backs (and-right _ _ e))) (sym (falling_same l.backs) ∙ and-left _ _ (and-left _ _ e))
+    both _ _ (both _ _ few (near_numbers l.backs (and-right _ _ e))) (and-left _ _ (and-left _ _ e))
 
 links_backs : (os : List Oid) (ls : List StreamLink) → names_all os ls ≡ true → list_all has_backs ls ≡ true
 links_backs [] [] e = refl

@@ -21,7 +21,8 @@ use Rattle.tg_entry.specs.Writes.{write, after_write, stream_numbers, writes}
 use Rattle.tg_entry.specs.Checkpoints.{fields}
 use Rattle.tg_entry.specs.Drafts.{is_draft}
 use Rattle.tg_entry.specs.Format.{body, tag_of, stream_counts, entry}
-use Rattle.tg_protocol.specs.Entries.{oid_of_link, streams_of, linked}
+use Rattle.tg_protocol.specs.Entries.{oid_of_link, streams_of}
+use Rattle.tg_entry.specs.Records.{linked}
 use Rattle.tg_protocol.specs.Pages.{page_of}
 use Rattle.tg_protocol.specs.Appending.{is_link, names_all}
 use Rattle.tg_append.proofs.Pages.{links_numbers}

@@ -2,7 +2,8 @@
 
 ghost use Rattle.std.specs.Prelude.{◌≡◌, not, map};
 ghost use Rattle.tg_protocol.specs.Entries.{oid_of_link};
-ghost use Rattle.tg_protocol.specs.Appending.{names_all, is_link, is_falling};
+ghost use Rattle.tg_protocol.specs.Appending.{names_all, is_link};
+ghost use Rattle.tg_entry.specs.Records.{is_falling};
 ghost use Rattle.tg_protocol.specs.Words.{too_far};
 ghost use Rattle.std.specs.List.{list_all};
 

@@ -2,7 +2,8 @@
 
 ghost use Rattle.std.specs.Prelude.{◌≡◌, ◌↔◌, ◌≤◌, true, length, IsTrue, IfOk};
 ghost use Rattle.tg_entry.specs.Format.{entry as spelling};
-ghost use Rattle.tg_protocol.specs.Entries.{streams_of, linked};
+ghost use Rattle.tg_protocol.specs.Entries.{streams_of};
+ghost use Rattle.tg_entry.specs.Records.{linked};
 ghost use Rattle.tg_protocol.specs.Pages.{page_of};
 ghost use Rattle.tg_protocol.specs.Appending.{names_all};
 ghost use Rattle.tg_append.specs.Appends.{HasRoom};

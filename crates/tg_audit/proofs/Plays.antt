@@ -6,7 +6,7 @@ use Rattle.tg_base.specs.Orders.{oid_eq}
 use Rattle.tg_base.specs.declared.ids.Oid.{Oid}
 use Rattle.tg_kind.specs.Meaning.{Meaning}
 use Rattle.tg_model.specs.Kinds.{DoneOf}
-use Rattle.tg_model.specs.Stores.{Store, History, state_in, with_state, after_writes, store_after, state_at}
+use Rattle.tg_model.specs.Stores.{Store, History, stored_state, with_stored_state, after_writes, store_after, state_at}
 use Rattle.tg_audit.proofs.Lists.{rest_next, rest_none}
 use Rattle.tg_audit.specs.Judging.{write, written, step, played}
 
@@ -23,17 +23,17 @@ if_apart a b c x y z e = grind (arith, nat_tests)
 
 module _ (m : Meaning) where
   abbrev found : List Oid → Store m → Oid → m.state
-  found objects s o = state_in m objects s o
+  found objects s o = stored_state m objects s o
 
   -- the state of each object after one was put
   put_by : (objects : List Oid) (y : Oid × m.state) (ys : Store m) (p : Oid) (x : m.state) (o : Oid) (b : Bool) → oid_eq y.0 p ≡ b
-      → found objects (with_state m ys p x) o ≡ (if oid_eq p o then x else found objects ys o)
-      → found objects (if b then (p, x) ∷ ys else y ∷ with_state m ys p x) o ≡ (if oid_eq p o then x else (if oid_eq y.0 o then y.1 else found objects ys o))
+      → found objects (with_stored_state m ys p x) o ≡ (if oid_eq p o then x else found objects ys o)
+      → found objects (if b then (p, x) ∷ ys else y ∷ with_stored_state m ys p x) o ≡ (if oid_eq p o then x else (if oid_eq y.0 o then y.1 else found objects ys o))
   put_by objects y ys p x o true e rest = if_same y.0.0 p.0 o.0 x y.1 (found objects ys o) e
   put_by objects y ys p x o false e rest =
       ap (λ (z : m.state). if oid_eq y.0 o then y.1 else z) rest ∙ if_apart y.0.0 p.0 o.0 x y.1 (found objects ys o) e
 
-  put_state : (objects : List Oid) (ys : Store m) (p : Oid) (x : m.state) (o : Oid) → found objects (with_state m ys p x) o ≡ (if oid_eq p o then x else found objects ys o)
+  put_state : (objects : List Oid) (ys : Store m) (p : Oid) (x : m.state) (o : Oid) → found objects (with_stored_state m ys p x) o ≡ (if oid_eq p o then x else found objects ys o)
   put_state objects [] p x o = refl
   put_state objects (y ∷ ys) p x o = put_by objects y ys p x o (oid_eq y.0 p) refl (put_state objects ys p x o)
 
@@ -46,7 +46,7 @@ module _ (m : Meaning) where
   unfolding written
   write_state objects s [] o = refl
   write_state objects s (w ∷ ws) o =
-      write_state objects (with_state m s w.0 (m.apply (found objects s w.0) w.1)) ws o
+      write_state objects (with_stored_state m s w.0 (m.apply (found objects s w.0) w.1)) ws o
       ∙ ap (λ (x : m.state). written m o x ws) (put_state objects s w.0 (m.apply (found objects s w.0) w.1) o ∙ write_by objects s w o (oid_eq w.0 o) refl)
 
   play_by : (objects : List Oid) (s : Store m) (d : DoneOf m) (ds : History m) (n : ℕ) (o : Oid) (b : Bool)

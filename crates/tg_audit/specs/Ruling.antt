@@ -13,7 +13,7 @@ use Rattle.tg_model.specs.declared.trace.What.TheVariants as told
 use Rattle.tg_model.specs.Kinds.{WhatOf, MarkOf, DoneOf}
 use Rattle.tg_model.specs.Stores.{History, changed, is_stamp}
 use Rattle.tg_model.specs.Traces.{Trace, puts_of, has_items}
-use Rattle.tg_model.specs.Verdicts.{part_eq}
+use Rattle.tg_kind.specs.Parts.{part_eq}
 use Rattle.tg_audit.specs.declared.verdict.Verdict.{Verdict}
 use Rattle.tg_audit.specs.declared.verdict.Verdict.TheVariants.{Legal}
 use Rattle.tg_audit.specs.Judging.{Test, passes, meets, any_ask, snapshot_is, ends_by, are_same, entry_of, only_here, commits, causes, holds, holds_still, reach, bound_by, failed, first_fault, told_at}

@@ -3,9 +3,8 @@
 ghost use Rattle.std.specs.Prelude.{◌≡◌, ◌+◌, ◌==◌, map};
 ghost use Rattle.std.specs.Cmp.Lexicographic.{pointwise};
 ghost use Rattle.tg_kind.specs.Of.{meaning_of};
-ghost use Rattle.tg_kind.specs.Parts.{part_of, overlap};
+ghost use Rattle.tg_kind.specs.Parts.{part_of, overlap, part_eq};
 ghost use Rattle.tg_model.specs.Stores.{writes_part, changes, changed};
-ghost use Rattle.tg_model.specs.Verdicts.{part_eq};
 ghost use Rattle.tg_audit.specs.Judging as of;
 ghost use Rattle.tg_audit.specs.Places.{IsRising, Splits};
 ghost use Rattle.tg_audit.specs.Runs as runs;

@@ -2,7 +2,7 @@
 
 ghost use Rattle.std.specs.Prelude.{◌≡◌, ◌&&◌, ◌==◌, nat_le, Option, IfOk};
 ghost use Rattle.tg_kind.specs.Of.{meaning_of};
-ghost use Rattle.tg_protocol.specs.Words.{oid_eq};
+ghost use Rattle.tg_base.specs.Orders.{oid_eq};
 ghost use Rattle.tg_protocol.specs.Versions.{based};
 ghost use Rattle.tg_protocol.specs.Checkpoints as told;
 ghost use Rattle.tg_ckpt.specs.Kept.{kept_at, kept_maybe, offered};

@@ -8,8 +8,7 @@ use Rattle.std.proofs.lemmas.List.{append-nil}
 use Rattle.std.proofs.lemmas.Map.Keys.{sorted_head, sorted_tail}
 use Rattle.tg_entry.specs.declared.entry.Entry.{Entry}
 use Rattle.tg_entry.specs.Drafts.{all_below}
-use Rattle.tg_protocol.specs.Views.{Entries}
-use Rattle.tg_client_cells.specs.Words.{entry_if}
+use Rattle.tg_protocol.specs.Views.{Entries, entry_if}
 use Rattle.tg_client_cells.proofs.Unions.{rises}
 
 -- the positions that are left rise, and all entries stand below each

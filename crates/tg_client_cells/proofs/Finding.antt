@@ -10,10 +10,10 @@ use Rattle.tg_base.specs.declared.cell.Cell.TheVariants.{Junk, Data}
 use Rattle.tg_entry.specs.declared.entry.Entry.{Entry}
 use Rattle.tg_protocol.specs.Words.{has_num, cell_at}
 use Rattle.tg_protocol.specs.Entries.{is_commit}
-use Rattle.tg_protocol.specs.Pages.{entry_of}
-use Rattle.tg_protocol.specs.Views.{Entries}
+use Rattle.tg_protocol.specs.Pages.{entry_of, cell_entry}
+use Rattle.tg_protocol.specs.Views.{Entries, entry_if}
 use Rattle.tg_protocol.specs.Past.{commit_at}
-use Rattle.tg_client_cells.specs.Words.{cell_entry, entry_if, entries_at, entries_from, commits_by, commit_by, commit_of, below, within, is_within}
+use Rattle.tg_client_cells.specs.Words.{entries_at, entries_from, commits_by, commit_by, commit_of, below, within, is_within}
 use Rattle.tg_client_cells.specs.Known.{settles, IsSettled, CommitsBelow}
 
 pub put_if : (p : ℕ) (x : Option Entry) (es : Entries) → entry_if p x [] ++ es ≡ entry_if p x es

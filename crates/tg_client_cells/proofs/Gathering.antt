@@ -8,8 +8,9 @@ use Rattle.tg_base.specs.declared.cell.Cell.{Cell}
 use Rattle.tg_entry.specs.Drafts.{all_below}
 use Rattle.tg_entry.specs.declared.entry.Entry.{Entry}
 use Rattle.tg_protocol.specs.Past.{commit_at}
-use Rattle.tg_protocol.specs.Views.{Entries}
-use Rattle.tg_client_cells.specs.Words.{ByStream, positions_of, any_has, is_within, within, below, cell_entry, entry_if, entries_at, commit_of}
+use Rattle.tg_protocol.specs.Views.{Entries, entry_if}
+use Rattle.tg_client_cells.specs.Words.{ByStream, positions_of, any_has, is_within, within, below, entries_at, commit_of}
+use Rattle.tg_protocol.specs.Pages.{cell_entry}
 use Rattle.tg_client_cells.specs.Known.{Knowledge, all_positions, all_entries, new_entries}
 use Rattle.tg_client_cells.proofs.Unions.{filter_union, has_all}
 use Rattle.tg_client_cells.proofs.Streams.{rises_of, has_of}

@@ -7,12 +7,14 @@ use Rattle.tg_base.specs.declared.cell.Cell.TheVariants.{Junk, Data}
 use Rattle.tg_base.specs.declared.ids.Oid.{Oid}
 use Rattle.tg_entry.specs.declared.entry.Entry.{Entry}
 use Rattle.tg_kind.specs.Meaning.{Meaning}
-use Rattle.tg_protocol.specs.Words.{oid_eq, oid_lt, has_num, with_nums, cell_at}
-use Rattle.tg_protocol.specs.Views.{Entries}
+use Rattle.tg_protocol.specs.Words.{has_num, with_nums, cell_at}
+use Rattle.tg_base.specs.Orders.{oid_eq, oid_lt}
+use Rattle.tg_protocol.specs.Views.{Entries, entry_if}
 use Rattle.tg_protocol.specs.Clients as rules
 use Rattle.tg_protocol.specs.Clients.{Client, Work, upto}
 use Rattle.tg_protocol.specs.Answers as replies
-use Rattle.tg_client_cells.specs.Words.{ByStream, positions_in, with_positions, positions_of, entries_at, entry_if, cell_entry, below, is_page}
+use Rattle.tg_client_cells.specs.Words.{ByStream, positions_in, with_positions, positions_of, entries_at, below, is_page}
+use Rattle.tg_protocol.specs.Pages.{cell_entry}
 use Rattle.tg_client_cells.specs.Known.{keeps, all_entries, member_entries}
 use Rattle.tg_client_cells.specs.Rules.{known_by, AsRuled}
 
@@ -30,22 +32,10 @@ module _ (m : Meaning) where
   of-same xs [] = refl
   of-same xs (o ∷ os) = ap (λ (l : List ℕ). with_nums l (positions_of xs os)) (in-same xs o) ∙ ap (with_nums (rules.positions_in m xs o)) (of-same xs os)
 
-  entry-same : (c : Option Cell) → cell_entry c ≡ rules.cell_entry m c
-  entry-same None = refl
-  entry-same (Some Junk) = refl
-  entry-same (Some (Data d)) = refl
-
-  if-same : (p : ℕ) (x : Option Entry) (es : Entries) → entry_if p x es ≡ rules.entry_if m p x es
-  if-same p None es = refl
-  if-same p (Some e) es = refl
-
   at-same : (cells : List (ℕ × Cell)) (ps : List ℕ) → entries_at cells ps ≡ rules.entries_at m cells ps
   unfolding rules.entries_at
   at-same cells [] = refl
-  at-same cells (p ∷ ps) =
-      if-same p (cell_entry (cell_at cells p)) (entries_at cells ps)
-      ∙ ap (λ (x : Option Entry). rules.entry_if m p x (entries_at cells ps)) (entry-same (cell_at cells p))
-      ∙ ap (rules.entry_if m p (rules.cell_entry m (cell_at cells p))) (at-same cells ps)
+  at-same cells (p ∷ ps) = ap (entry_if p (cell_entry (cell_at cells p))) (at-same cells ps)
 
   all-same : (c : Client m) (w : Work m) (os : List Oid) (s : ℕ) → all_entries (known_by m c s) w.found os w.tail ≡ rules.all_entries m c w os
   all-same c w os s =

@@ -5,7 +5,8 @@ use Rattle.std.specs.List.{list_all}
 use Rattle.std.proofs.lemmas.Bool.Decides.{nat_tests}
 use Rattle.tg_base.specs.declared.cell.Cell.{Cell}
 use Rattle.tg_protocol.specs.Words.{has_num, with_num, with_cell}
-use Rattle.tg_client_cells.specs.Words.{cell_entry, commits_by, is_page, is_within, cells_within}
+use Rattle.tg_client_cells.specs.Words.{commits_by, is_page, is_within, cells_within}
+use Rattle.tg_protocol.specs.Pages.{cell_entry}
 use Rattle.tg_client_cells.specs.Known.{settles, is_own_commit, IsSettled, keeps, commits_if_own}
 use Rattle.tg_client_cells.specs.Pruned.{stays}
 use Rattle.tg_client_cells.specs.Walks.{SameBelow}

@@ -4,8 +4,8 @@ use Rattle.std.specs.List.{list_all}
 use Rattle.std.proofs.lemmas.Bool.{true≢false}
 use Rattle.tg_entry.specs.declared.entry.Entry.{Entry}
 use Rattle.tg_entry.specs.Format.{entry}
-use Rattle.tg_protocol.specs.Views.{Entries}
-use Rattle.tg_client_cells.specs.Words.{entry_if, fits_by, AreSpelled}
+use Rattle.tg_protocol.specs.Views.{Entries, entry_if}
+use Rattle.tg_client_cells.specs.Words.{fits_by, AreSpelled}
 
 abbrev placed-fits : ℕ × Entry → Bool
 placed-fits x = entry.fits x.1

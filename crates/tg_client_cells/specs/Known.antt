@@ -8,7 +8,8 @@ use Rattle.tg_entry.specs.declared.entry.Entry.{Entry}
 use Rattle.tg_protocol.specs.Words.{has_num, with_num, with_nums, with_cell}
 use Rattle.tg_protocol.specs.Entries.{is_commit}
 use Rattle.tg_protocol.specs.Views.{Entries}
-use Rattle.tg_client_cells.specs.Words.{ByStream, positions_of, below, cells_within, is_page, cell_entry, commits_by, entries_at, entries_from}
+use Rattle.tg_client_cells.specs.Words.{ByStream, positions_of, below, cells_within, is_page, commits_by, entries_at, entries_from}
+use Rattle.tg_protocol.specs.Pages.{cell_entry}
 
 pub record Knowledge : Type 0 where
   pub cells : List (ℕ × Cell)  -- the known ones, by position

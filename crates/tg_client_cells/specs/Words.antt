@@ -7,10 +7,11 @@ use Rattle.tg_base.specs.declared.cell.Cell.TheVariants.{Junk, Data}
 use Rattle.tg_base.specs.declared.ids.Oid.{Oid}
 use Rattle.tg_entry.specs.declared.entry.Entry.{Entry}
 use Rattle.tg_entry.specs.Format.{entry}
-use Rattle.tg_protocol.specs.Words.{oid_eq, oid_lt, has_num, with_nums, cell_at}
+use Rattle.tg_protocol.specs.Words.{has_num, with_nums, cell_at}
+use Rattle.tg_base.specs.Orders.{oid_eq, oid_lt}
 use Rattle.tg_protocol.specs.Entries.{is_commit}
-use Rattle.tg_protocol.specs.Pages.{entry_of}
-use Rattle.tg_protocol.specs.Views.{Entries}
+use Rattle.tg_protocol.specs.Pages.{cell_entry}
+use Rattle.tg_protocol.specs.Views.{Entries, entry_if}
 
 -- Positions by stream: streams rise, and so do the positions of each.
 
@@ -58,15 +59,6 @@ is_page Junk = false
 is_page (Data d) = true
 
 -- Entries.
-
-abbrev pub cell_entry : Option Cell → Option Entry
-cell_entry None = None
-cell_entry (Some Junk) = None
-cell_entry (Some (Data d)) = entry_of d
-
-abbrev pub entry_if : ℕ → Option Entry → Entries → Entries
-entry_if p None es = es
-entry_if p (Some e) es = (p, e) ∷ es
 
 -- the entries at these positions, as far as their pages are known
 abbrev pub entries_at : List (ℕ × Cell) → List ℕ → Entries

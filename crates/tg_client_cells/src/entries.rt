@@ -4,8 +4,9 @@ ghost use Rattle.std.specs.Prelude.{◌≡◌, ◌++◌, [], true, Some, IfOk, O
 ghost use Rattle.tg_entry.specs.Drafts.{all_below};
 ghost use Rattle.tg_protocol.specs.Words.{cell_at};
 ghost use Rattle.tg_protocol.specs.Entries.{is_commit};
-ghost use Rattle.tg_protocol.specs.Pages.{entry_of};
-ghost use Rattle.tg_client_cells.specs.Words.{cell_entry, entry_if, entries_at, commits_by, commit_of, fits_by, AreSpelled};
+ghost use Rattle.tg_protocol.specs.Pages.{entry_of, cell_entry};
+ghost use Rattle.tg_client_cells.specs.Words.{entries_at, commits_by, commit_of, fits_by, AreSpelled};
+ghost use Rattle.tg_protocol.specs.Views.{entry_if};
 
 use crate::positions::Positions;
 use std::alloc::Global;

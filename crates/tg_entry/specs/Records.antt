@@ -128,7 +128,7 @@ pub record RecordsFit : Type 0 where
 abbrev pub has_backs : StreamLink → Bool
 has_backs l = are_backs l.backs
 
--- the entry with other links
+-- the entry with these links, as a draft has those that were issued
 abbrev pub linked : Entry → List StreamLink → Entry
 linked e ls = record { head = record { format = e.head.format; client = e.head.client; number = e.head.number; streams = ls }; body = e.body }
 

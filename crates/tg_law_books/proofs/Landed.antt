@@ -8,7 +8,8 @@ use Rattle.tg_model.specs.declared.command.Command.TheVariants as cmd
 use Rattle.tg_model.specs.Kinds.{CommandOf, EventOf, WhatOf}
 use Rattle.tg_model.specs.Traces.{Trace}
 use Rattle.tg_protocol.specs.Words.{numbers}
-use Rattle.tg_protocol.specs.Entries.{is_commit, linked}
+use Rattle.tg_protocol.specs.Entries.{is_commit}
+use Rattle.tg_entry.specs.Records.{linked}
 use Rattle.tg_protocol.specs.Appending.{Append, AppendEnd, At}
 use Rattle.tg_protocol.specs.Views.{Entries}
 use Rattle.tg_protocol.specs.Transactions.{Tx, commit_record}

@@ -7,7 +7,8 @@ use Rattle.tg_model.specs.declared.refusal.Refusal.TheVariants as cause
 use Rattle.tg_model.specs.declared.trace.What.TheVariants as told
 use Rattle.tg_model.specs.Kinds.{NoteOf, WhatOf}
 use Rattle.tg_model.specs.Traces.{Tells}
-use Rattle.tg_protocol.specs.Entries.{body_commits, is_commit, linked}
+use Rattle.tg_protocol.specs.Entries.{body_commits, is_commit}
+use Rattle.tg_entry.specs.Records.{linked}
 use Rattle.tg_protocol.specs.Appending.{Append, At, Forgotten}
 use Rattle.tg_protocol.specs.Views.{Entries}
 use Rattle.tg_protocol.specs.Transactions.{Tx, commit_record}

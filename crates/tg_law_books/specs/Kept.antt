@@ -9,7 +9,8 @@ use Rattle.tg_model.specs.declared.refusal.Refusal.TheVariants as cause
 use Rattle.tg_model.specs.declared.trace.What.TheVariants as told
 use Rattle.tg_model.specs.Kinds.{MarkOf}
 use Rattle.tg_model.specs.Traces.{Trace, Tells}
-use Rattle.tg_protocol.specs.Entries.{is_commit, linked}
+use Rattle.tg_protocol.specs.Entries.{is_commit}
+use Rattle.tg_entry.specs.Records.{linked}
 use Rattle.tg_protocol.specs.Appending.{Append, AppendEnd, At, Full, Forgotten}
 use Rattle.tg_protocol.specs.Views.{Entries}
 use Rattle.tg_protocol.specs.Worlds.{World, start, client, trace}

@@ -12,8 +12,10 @@ use Rattle.tg_entry.specs.declared.entry.Head.{Head}
 use Rattle.tg_entry.specs.Format.{tag_of}
 use Rattle.tg_append.proofs.Pages.{linked_fits}
 use Rattle.tg_kind.specs.Meaning.{Meaning}
-use Rattle.tg_protocol.specs.Words.{oid_eq, client_id}
-use Rattle.tg_protocol.specs.Entries.{oid_of_link, streams_of, linked}
+use Rattle.tg_protocol.specs.Words.{client_id}
+use Rattle.tg_base.specs.Orders.{oid_eq}
+use Rattle.tg_protocol.specs.Entries.{oid_of_link, streams_of}
+use Rattle.tg_entry.specs.Records.{linked}
 use Rattle.tg_protocol.specs.Pages.{entry_of}
 use Rattle.tg_protocol.specs.Appending.{is_link, names_all, Append}
 use Rattle.tg_protocol.specs.Clients.{Task, Work, Client}

@@ -11,13 +11,15 @@ use Rattle.tg_entry.specs.declared.entry.Body.TheVariants.{Commit, Decision, Che
 use Rattle.tg_entry.specs.declared.entry.Entry.{Entry}
 use Rattle.tg_entry.specs.declared.entry.WriteOp.{WriteOp}
 use Rattle.tg_kind.specs.Meaning.{Meaning}
-use Rattle.tg_protocol.specs.Words.{oid_eq, part_eq, overlap, cell_at}
-use Rattle.tg_protocol.specs.Pages.{entry_of}
+use Rattle.tg_protocol.specs.Words.{cell_at}
+use Rattle.tg_kind.specs.Parts.{part_eq, overlap}
+use Rattle.tg_base.specs.Orders.{oid_eq}
+use Rattle.tg_protocol.specs.Pages.{entry_of, cell_entry}
 use Rattle.tg_protocol.specs.Entries.{is_commit, writes_of, needs_decision}
 use Rattle.tg_protocol.specs.Versions.{Based, PartVersion, Versions, no_versions, based, key_version, version_in, base_version, noted_or, version_of}
-use Rattle.tg_protocol.specs.Views.{Entries, decision_in, Verdict, Commits, Aborts, Unknown, Base, View, view_start, base_of, played_version, view_version, applied, state_of, set_state, write_by, plays, write, write_all, with_fate, with_verdict, with_open, Play, stands_at, Step, On, Stuck, decided_step, record_step, entry_step, step_at, passed_over, verdict, between, play_on, play_from, play}
+use Rattle.tg_protocol.specs.Views.{Entries, decision_in, Verdict, Commits, Aborts, Unknown, Base, View, view_start, base_of, played_version, view_version, applied, state_of, set_state, write_by, plays, write, write_all, with_fate, with_verdict, with_open, Play, stands_at, Step, On, Stuck, decided_step, record_step, entry_step, step_at, passed_over, verdict, between, play_on, play_from, play, entry_if}
 use Rattle.tg_protocol.specs.Checkpoints.{TrimPoints, trim_of, loaded, base_in, base_at, option_list, bases_in, lower, least_base, from_upto, load_from, base_or, base_by, view_base, view_bases}
-use Rattle.tg_protocol.specs.Clients.{entry_if, cell_entry, entries_at}
+use Rattle.tg_protocol.specs.Clients.{entries_at}
 use Rattle.tg_law_moves.proofs.Members.{Has}
 use Rattle.tg_law_drafts.proofs.Ranges.{KeysBelow, checkpoint_versions}
 
@@ -97,7 +99,7 @@ below_all top (p ∷ ps) = by (nat_lt p top) refl (below_all top ps)
     by false e rest = rest
 
 module _ (m : Meaning) where
-  cell_read : (c : Option Cell) (e : Entry) → cell_entry m c ≡ Some e → IsRead e
+  cell_read : (c : Option Cell) (e : Entry) → cell_entry c ≡ Some e → IsRead e
   cell_read None e h = absurd cc
   cell_read (Some Junk) e h = absurd cc
   cell_read (Some (Data d)) e h = record { page = d; reads = h }
@@ -105,9 +107,9 @@ module _ (m : Meaning) where
   entries_read : (cells : List (ℕ × Cell)) (top : ℕ) (ps : List ℕ) → AllBelow top ps → AreRead top (entries_at m cells ps)
   unfolding entries_at AllBelow
   entries_read cells top [] h = tt
-  entries_read cells top (p ∷ ps) h = by (cell_entry m (cell_at cells p)) refl (entries_read cells top ps h.1)
+  entries_read cells top (p ∷ ps) h = by (cell_entry (cell_at cells p)) refl (entries_read cells top ps h.1)
     where
-      by : (e : Option Entry) → cell_entry m (cell_at cells p) ≡ e → AreRead top (entries_at m cells ps) → AreRead top (entry_if m p e (entries_at m cells ps))
+      by : (e : Option Entry) → cell_entry (cell_at cells p) ≡ e → AreRead top (entries_at m cells ps) → AreRead top (entry_if p e (entries_at m cells ps))
       by None i rest = rest
       by (Some e) i rest = (h.0, cell_read (cell_at cells p) e i, rest)
 

@@ -14,7 +14,8 @@ use Rattle.tg_entry.specs.declared.entry.Entry.{Entry}
 use Rattle.tg_kind.specs.Meaning.{Meaning}
 use Rattle.tg_model.specs.Kinds.{EventOf}
 use Rattle.tg_protocol.specs.Words.{client_id, seqr_id, numbers}
-use Rattle.tg_protocol.specs.Entries.{streams_of, linked}
+use Rattle.tg_protocol.specs.Entries.{streams_of}
+use Rattle.tg_entry.specs.Records.{linked}
 use Rattle.tg_protocol.specs.Pages.{page_of}
 use Rattle.tg_protocol.specs.Requests.{awaits, Next, Goes, Learns, Ends}
 use Rattle.tg_protocol.specs.Replies.{Reply, reply}

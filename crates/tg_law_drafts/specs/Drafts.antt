@@ -4,7 +4,8 @@ use Rattle.tg_base.specs.Clusters.{Header}
 use Rattle.tg_entry.specs.declared.entry.Entry.{Entry}
 use Rattle.tg_entry.specs.Format.{tag_of}
 use Rattle.tg_kind.specs.Meaning.{Meaning}
-use Rattle.tg_protocol.specs.Entries.{streams_of, linked}
+use Rattle.tg_protocol.specs.Entries.{streams_of}
+use Rattle.tg_entry.specs.Records.{linked}
 use Rattle.tg_protocol.specs.Appending.{Append}
 use Rattle.tg_protocol.specs.Worlds.{World, client}
 use Rattle.tg_protocol.specs.Runs.{Moves, Passes}

@@ -2,7 +2,8 @@
 use Rattle.std.specs.Prelude.{Bool, true, false, ◌&&◌, ◌==◌, ℤ, pos, negsuc, Option, Some, None}
 use Rattle.std.specs.Cmp.Lexicographic.{pointwise}
 use Rattle.tg_model.specs.Verdicts.{Sameness}
-use Rattle.tg_protocol.specs.Words.{oid_eq, bytes_eq}
+use Rattle.tg_protocol.specs.Words.{bytes_eq}
+use Rattle.tg_base.specs.Orders.{oid_eq}
 use Rattle.tg_law_examples.proofs.SevenKinds.{kinds, Op, Answer}
 use Rattle.tg_law_examples.proofs.SevenKinds as kind
 

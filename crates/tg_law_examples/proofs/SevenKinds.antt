@@ -5,7 +5,8 @@ use Rattle.tg_base.specs.declared.ids.Oid.{Oid}
 use Rattle.tg_base.specs.declared.marks.Part.{Part}
 use Rattle.tg_base.specs.declared.marks.Part.TheVariants.{All, Text, Num}
 use Rattle.tg_kind.specs.Meaning.{Meaning}
-use Rattle.tg_protocol.specs.Words.{oid_eq, bytes_eq, bytes_lt, has_num, with_num, directory}
+use Rattle.tg_protocol.specs.Words.{bytes_eq, bytes_lt, has_num, with_num, directory}
+use Rattle.tg_base.specs.Orders.{oid_eq}
 use Rattle.tg_law_examples.proofs.Bytes.{number, all_of, text_bytes, Taken, and_then, num, text, oid, counted}
 
 -- a name of the directory

@@ -9,8 +9,9 @@ use Rattle.tg_entry.specs.declared.entry.Entry.{Entry}
 use Rattle.tg_kind.specs.Meaning.{Meaning}
 use Rattle.tg_protocol.specs.Words.{with_num, with_nums}
 use Rattle.tg_protocol.specs.Units.{UnitState}
-use Rattle.tg_protocol.specs.Views.{Entries}
-use Rattle.tg_protocol.specs.Logs.{Log, positions, all_positions, cell_if, log_cell, cells_of, log_of, entry_in, entry_if, entries_of, cell_entry, entry_at, outcome_by, outcome}
+use Rattle.tg_protocol.specs.Views.{Entries, entry_if}
+use Rattle.tg_protocol.specs.Logs.{Log, positions, all_positions, cell_if, log_cell, cells_of, log_of, entries_of, entry_at, outcome_by, outcome}
+use Rattle.tg_protocol.specs.Pages.{entry_in, cell_entry}
 use Rattle.tg_protocol.specs.Worlds.{World, log, latest}
 use Rattle.tg_law_plays.specs.Sound.{rise_from}
 use Rattle.tg_law_history.specs.Worlds.{entries_in, LogsRise, OutcomesAre}

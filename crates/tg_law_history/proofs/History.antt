@@ -9,7 +9,8 @@ use Rattle.tg_entry.specs.declared.entry.Entry.{Entry}
 use Rattle.tg_kind.specs.Meaning.{Meaning}
 use Rattle.tg_model.specs.Kinds.{DoneOf}
 use Rattle.tg_model.specs.Stores.{writes_part, changes, later_of, changed}
-use Rattle.tg_protocol.specs.Words.{oid_eq, overlap}
+use Rattle.tg_kind.specs.Parts.{overlap}
+use Rattle.tg_base.specs.Orders.{oid_eq}
 use Rattle.tg_protocol.specs.Entries.{writes_of}
 use Rattle.tg_protocol.specs.Versions.{PartVersion}
 use Rattle.tg_protocol.specs.Views.{Entries, touched}
@@ -20,7 +21,6 @@ use Rattle.tg_law_history.specs.Laws.{VersionsAreChanges}
 use Rattle.tg_law_history.proofs.Members.{Has, contained_has, of_lt, of_not_lt, lt_of, not_lt}
 use Rattle.tg_law_history.proofs.Ledger.{Ledger, noted, with_writes, after, below, noted_after, rises_next, rises_here, has_from, on_below, none_below}
 use Rattle.tg_law_history.proofs.Versions.{version_in, version_on, version_off, version_at}
-use Rattle.tg_law_history.proofs.States.{overlaps}
 
 module _ (m : Meaning) where
   -- Its transactions.
@@ -105,7 +105,7 @@ module _ (m : Meaning) where
 
     part_is : (w : WriteOp) (op : m.op) → m.read w.oid w.op ≡ Some op → writes_part m o k (w.oid, op) ≡ writes_to m o k w
     part_is w op is =
-        ap (λ (b : Bool). oid_eq w.oid o && b) (overlaps (m.touch op) k) ∙ ap (λ (t : Option m.op). oid_eq w.oid o && overlap (touched m t) k) (sym is)
+        ap (λ (t : Option m.op). oid_eq w.oid o && overlap (touched m t) k) (sym is)
 
     pub changes_are : (ws : List WriteOp) → ((w : WriteOp) → Has ws w → (op : m.op) × (m.read w.oid w.op ≡ Some op)) → list_any (writes_part m o k) (ops_of m ws) ≡ hits ws
     changes_are [] h = refl

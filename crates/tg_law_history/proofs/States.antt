@@ -6,10 +6,10 @@ use Rattle.tg_base.specs.declared.marks.Part.{Part}
 use Rattle.tg_base.specs.declared.marks.Part.TheVariants.{All, Text, Num}
 use Rattle.tg_entry.specs.declared.entry.WriteOp.{WriteOp}
 use Rattle.tg_kind.specs.Meaning.{Meaning}
-use Rattle.tg_kind.specs.Parts.{overlap as apart_overlap}
+use Rattle.tg_kind.specs.Parts.{overlap}
 use Rattle.tg_model.specs.Kinds.{DoneOf}
-use Rattle.tg_model.specs.Stores.{Store, state_in, with_state, after_writes, store_after}
-use Rattle.tg_protocol.specs.Words.{oid_eq, overlap, part_eq, bytes_eq}
+use Rattle.tg_model.specs.Stores.{Store, stored_state, with_stored_state, after_writes, store_after}
+use Rattle.tg_base.specs.Orders.{oid_eq}
 use Rattle.tg_protocol.specs.Entries.{writes_of}
 use Rattle.tg_protocol.specs.Versions.{PartVersion}
 use Rattle.tg_protocol.specs.Views.{Entries, touched}
@@ -21,28 +21,9 @@ use Rattle.tg_law_history.proofs.Members.{same_oid, of_lt, of_not_lt, lt_of, not
 use Rattle.tg_law_history.proofs.Ledger.{Ledger, noted, with_writes, after, below, noted_after, Steps, grow, rises_next, rises_here}
 use Rattle.tg_law_history.proofs.Versions.{version_in, version_on, version_off, at, version_at, version_most}
 
--- both words for an overlap are one
-
-bytes_one : (s t : List ℕ) → apart_overlap (Text s) (Text t) ≡ bytes_eq s t
-unfolding bytes_eq
-bytes_one [] [] = refl
-bytes_one [] (y ∷ ys) = refl
-bytes_one (x ∷ xs) [] = refl
-bytes_one (x ∷ xs) (y ∷ ys) = ap (λ (b : Bool). (x == y) && b) (bytes_one xs ys)
-
-pub overlaps : (a b : Part) → apart_overlap a b ≡ overlap a b
-unfolding part_eq
-overlaps All b = refl
-overlaps (Text s) All = refl
-overlaps (Text s) (Text t) = bytes_one s t
-overlaps (Text s) (Num n) = refl
-overlaps (Num i) All = refl
-overlaps (Num i) (Text t) = refl
-overlaps (Num i) (Num n) = refl
-
 -- an op keeps the answer to an ask that looks elsewhere
 abbrev pub Apart : Meaning → Type 0
-Apart m = (s : m.state) (op : m.op) (q : m.ask) → apart_overlap (m.touch op) (m.look q) ≡ false → m.answers (m.apply s op) q ≡ m.answers s q
+Apart m = (s : m.state) (op : m.op) (q : m.ask) → overlap (m.touch op) (m.look q) ≡ false → m.answers (m.apply s op) q ≡ m.answers s q
 
 module _ (m : Meaning) (objects : List Oid) where
   abbrev pub op_on : Option m.op → m.state → m.state
@@ -74,26 +55,26 @@ module _ (m : Meaning) (objects : List Oid) where
   apart_oids : (a b c : Oid) → oid_eq a b ≡ false → oid_eq a c ≡ true → oid_eq b c ≡ false
   apart_oids a b c e f = grind arith
 
-  stored : (st : Store m) (y o : Oid) (s : m.state) → state_in m objects (with_state m st y s) o ≡ (if oid_eq y o then s else state_in m objects st o)
+  stored : (st : Store m) (y o : Oid) (s : m.state) → stored_state m objects (with_stored_state m st y s) o ≡ (if oid_eq y o then s else stored_state m objects st o)
   stored [] y o s = refl
   stored (x ∷ st) y o s = by (oid_eq x.0 y) refl (stored st y o s)
     where
-      by : (b : Bool) → oid_eq x.0 y ≡ b → state_in m objects (with_state m st y s) o ≡ (if oid_eq y o then s else state_in m objects st o)
-          → state_in m objects (if b then (y, s) ∷ st else x ∷ with_state m st y s) o ≡ (if oid_eq y o then s else state_in m objects (x ∷ st) o)
-      by true e rest = taken (oid_eq x.0 o) (oid_eq y o) x.1 s (state_in m objects st o) (ap (λ (z : Oid). oid_eq z o) (same_oid x.0 y e))
-      by false e rest = skipped (oid_eq x.0 o) (oid_eq y o) x.1 (state_in m objects (with_state m st y s) o) s (state_in m objects st o) (apart_oids x.0 y o e) rest
+      by : (b : Bool) → oid_eq x.0 y ≡ b → stored_state m objects (with_stored_state m st y s) o ≡ (if oid_eq y o then s else stored_state m objects st o)
+          → stored_state m objects (if b then (y, s) ∷ st else x ∷ with_stored_state m st y s) o ≡ (if oid_eq y o then s else stored_state m objects (x ∷ st) o)
+      by true e rest = taken (oid_eq x.0 o) (oid_eq y o) x.1 s (stored_state m objects st o) (ap (λ (z : Oid). oid_eq z o) (same_oid x.0 y e))
+      by false e rest = skipped (oid_eq x.0 o) (oid_eq y o) x.1 (stored_state m objects (with_stored_state m st y s) o) s (stored_state m objects st o) (apart_oids x.0 y o e) rest
 
   -- a store has the states of a ledger
   abbrev pub AreStates : Store m → Ledger m → Type 0
-  AreStates st xs = (o : Oid) → state_in m objects st o ≡ state_after o xs
+  AreStates st xs = (o : Oid) → stored_state m objects st o ≡ state_after o xs
 
   write_agrees : (p : ℕ) (w : WriteOp) (op : m.op) (st : Store m) (xs : Ledger m) → m.read w.oid w.op ≡ Some op → AreStates st xs
-      → AreStates (with_state m st w.oid (m.apply (state_in m objects st w.oid) op)) ((p, w) ∷ xs)
-  write_agrees p w op st xs is h o = stored st w.oid o (m.apply (state_in m objects st w.oid) op) ∙ by (oid_eq w.oid o) refl
+      → AreStates (with_stored_state m st w.oid (m.apply (stored_state m objects st w.oid) op)) ((p, w) ∷ xs)
+  write_agrees p w op st xs is h o = stored st w.oid o (m.apply (stored_state m objects st w.oid) op) ∙ by (oid_eq w.oid o) refl
     where
       by : (b : Bool) → oid_eq w.oid o ≡ b
-          → (if b then m.apply (state_in m objects st w.oid) op else state_in m objects st o) ≡ (if b then op_on (m.read w.oid w.op) (state_after o xs) else state_after o xs)
-      by true e = ap (λ (s : m.state). m.apply s op) (ap (λ (y : Oid). state_in m objects st y) (same_oid w.oid o e) ∙ h o) ∙ ap (λ (t : Option m.op). op_on t (state_after o xs)) (sym is)
+          → (if b then m.apply (stored_state m objects st w.oid) op else stored_state m objects st o) ≡ (if b then op_on (m.read w.oid w.op) (state_after o xs) else state_after o xs)
+      by true e = ap (λ (s : m.state). m.apply s op) (ap (λ (y : Oid). stored_state m objects st y) (same_oid w.oid o e) ∙ h o) ∙ ap (λ (t : Option m.op). op_on t (state_after o xs)) (sym is)
       by false e = h o
 
   skip_agrees : (p : ℕ) (w : WriteOp) (st : Store m) (xs : Ledger m) → m.read w.oid w.op ≡ None → AreStates st xs → AreStates st ((p, w) ∷ xs)
@@ -169,7 +150,7 @@ module _ (m : Meaning) (objects : List Oid) where
 
     own_answer : (w : WriteOp) (ys : Ledger m) (op : Option m.op) → overlap (touched m op) (m.look q) ≡ false → m.answers (op_on op (state_after o ys)) q ≡ m.answers (state_after o ys) q
     own_answer w ys None h = refl
-    own_answer w ys (Some op) h = apart (state_after o ys) op q (overlaps (m.touch op) (m.look q) ∙ h)
+    own_answer w ys (Some op) h = apart (state_after o ys) op q h
 
     answer_off : (p : ℕ) (w : WriteOp) (ys : Ledger m) (c : Bool) → oid_eq w.oid o ≡ c → writes_to m o (m.look q) w ≡ false → m.answers (state_after o ((p, w) ∷ ys)) q ≡ m.answers (state_after o ys) q
     answer_off p w ys true e off =

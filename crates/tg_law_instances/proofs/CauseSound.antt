@@ -18,7 +18,8 @@ use Rattle.tg_model.specs.declared.trace.What.TheVariants as told
 use Rattle.tg_model.specs.Kinds.{CommandOf, WhatOf}
 use Rattle.tg_model.specs.Words.{word_of}
 use Rattle.tg_model.specs.Stores.{state_at}
-use Rattle.tg_protocol.specs.Words.{client_id, unit_id, oid_eq, numbers, directory}
+use Rattle.tg_protocol.specs.Words.{client_id, unit_id, numbers, directory}
+use Rattle.tg_base.specs.Orders.{oid_eq}
 use Rattle.tg_protocol.specs.Entries.{is_commit, lists, needs_decision, reads_of}
 use Rattle.tg_protocol.specs.Views.{View, decision_in}
 use Rattle.tg_protocol.specs.Transactions.{Tx}

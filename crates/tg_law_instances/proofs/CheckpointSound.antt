@@ -8,7 +8,9 @@ use Rattle.tg_base.specs.declared.marks.Part.TheVariants.{All, Text, Num}
 use Rattle.tg_entry.specs.declared.entry.Body.{Body}
 use Rattle.tg_entry.specs.declared.entry.Entry.{Entry}
 use Rattle.tg_model.specs.Stores.{state_at}
-use Rattle.tg_protocol.specs.Words.{oid_eq, part_eq, bytes_eq, is_whole}
+use Rattle.tg_protocol.specs.Words.{bytes_eq}
+use Rattle.tg_kind.specs.Parts.{part_eq, is_whole}
+use Rattle.tg_base.specs.Orders.{oid_eq}
 use Rattle.tg_protocol.specs.Versions.{Based, PartVersion, key_version, version_in, noted_or, whole_noted}
 use Rattle.tg_protocol.specs.Logs.{version, changes_below}
 use Rattle.tg_protocol.specs.Worlds.{history}

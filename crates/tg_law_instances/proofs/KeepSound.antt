@@ -11,7 +11,9 @@ use Rattle.tg_model.specs.declared.refusal.Refusal.{Refusal}
 use Rattle.tg_model.specs.declared.refusal.Refusal.TheVariants as cause
 use Rattle.tg_model.specs.declared.trace.What.TheVariants as told
 use Rattle.tg_model.specs.Kinds.{CommandOf, WhatOf}
-use Rattle.tg_protocol.specs.Words.{client_id, oid_eq, part_eq, directory}
+use Rattle.tg_protocol.specs.Words.{client_id, directory}
+use Rattle.tg_kind.specs.Parts.{part_eq}
+use Rattle.tg_base.specs.Orders.{oid_eq}
 use Rattle.tg_protocol.specs.Transactions.{Tx}
 use Rattle.tg_protocol.specs.Clients.{Client, new_client, refusal}
 use Rattle.tg_protocol.specs.ClientSteps.{refused_or, called, client_command}

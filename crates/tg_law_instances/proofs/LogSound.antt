@@ -17,11 +17,13 @@ use Rattle.tg_base.specs.declared.packet.Packet.{Packet}
 use Rattle.tg_entry.specs.declared.entry.Entry.{Entry}
 use Rattle.tg_model.specs.declared.trace.What.TheVariants as told
 use Rattle.tg_model.specs.Kinds.{MarkOf, WhatOf, DoneOf}
-use Rattle.tg_model.specs.Stores.{state_in, store_after, after_writes}
+use Rattle.tg_model.specs.Stores.{stored_state, store_after, after_writes}
 use Rattle.tg_model.specs.Traces.{Trace, puts_of, has_items, point_of}
 use Rattle.tg_model.specs.Verdicts.{is_of, is_begin, begins, or_zero, bound_in, bound}
 use Rattle.tg_model.specs.Legal.{Legal}
-use Rattle.tg_protocol.specs.Words.{directory, oid_eq, part_eq, cell_at, bytes_eq, numbers, has_num, client_id, node_eq}
+use Rattle.tg_protocol.specs.Words.{directory, cell_at, bytes_eq, numbers, has_num, client_id, node_eq}
+use Rattle.tg_kind.specs.Parts.{part_eq}
+use Rattle.tg_base.specs.Orders.{oid_eq}
 use Rattle.tg_protocol.specs.Entries.{is_commit, needs_decision, lists, reads_of, writes_of, streams_of}
 use Rattle.tg_protocol.specs.Transactions.{read_before}
 use Rattle.tg_protocol.specs.Checkpoints.{base_at}
@@ -361,7 +363,7 @@ nothing_before objects (d ∷ ds) = skipped d ds (nat_lt d.stamp 0) (none_less d
     skipped d ds false e = refl
 
 first_directory : (w : W) → directory_at w 0 ≡ kinds.fresh directory w.cluster.objects
-first_directory w = ap (λ (s : List (Oid × State)). state_in kinds w.cluster.objects s directory) (nothing_before w.cluster.objects (history kinds w))
+first_directory w = ap (λ (s : List (Oid × State)). stored_state kinds w.cluster.objects s directory) (nothing_before w.cluster.objects (history kinds w))
 
 new_played : (w : W) (k : ℕ) → (new_client kinds w.cluster k).played ≡ 0
 unfolding new_client

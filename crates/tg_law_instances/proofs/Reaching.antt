@@ -12,13 +12,14 @@ use Rattle.tg_base.specs.declared.marks.Part.{Part}
 use Rattle.tg_entry.specs.declared.entry.Body.{Body}
 use Rattle.tg_entry.specs.declared.entry.Body.TheVariants.{Commit, Decision, Checkpoint}
 use Rattle.tg_entry.specs.declared.entry.Entry.{Entry}
-use Rattle.tg_entry.specs.Records.{is_object}
-use Rattle.tg_kind.specs.Parts.{is_part}
+use Rattle.tg_entry.specs.Records.{is_object, linked}
+use Rattle.tg_kind.specs.Parts.{is_part, part_eq}
 use Rattle.tg_model.specs.declared.command.Command.TheVariants as cmd
 use Rattle.tg_model.specs.declared.command.Event.TheVariants.{Command as Commands, Deliver, Lose, Tick, Stop}
 use Rattle.tg_model.specs.Kinds.{CommandOf}
-use Rattle.tg_protocol.specs.Words.{client_id, oid_eq, part_eq, bytes_eq, directory, numbers}
-use Rattle.tg_protocol.specs.Entries.{linked, streams_of}
+use Rattle.tg_protocol.specs.Words.{client_id, bytes_eq, directory, numbers}
+use Rattle.tg_base.specs.Orders.{oid_eq}
+use Rattle.tg_protocol.specs.Entries.{streams_of}
 use Rattle.tg_protocol.specs.Appending.{Append}
 use Rattle.tg_protocol.specs.Holding.{append_by, EntriesOwn}
 use Rattle.tg_protocol.specs.Worlds.{Line, start, client, next_event, happens}

@@ -19,7 +19,8 @@ use Rattle.tg_model.specs.Kinds.{WhatOf}
 use Rattle.tg_model.specs.Stores.{state_at, answer_at, is_stamp}
 use Rattle.tg_model.specs.Legal.{Legal}
 use Rattle.tg_model.specs.Verdicts.{Fault, fault}
-use Rattle.tg_protocol.specs.Words.{client_id, directory, node_eq, oid_eq, bytes_eq, cell_eq, numbers, or_else, where_true}
+use Rattle.tg_protocol.specs.Words.{client_id, directory, node_eq, bytes_eq, cell_eq, numbers, or_else, where_true}
+use Rattle.tg_base.specs.Orders.{oid_eq}
 use Rattle.tg_protocol.specs.Entries.{needs_decision, reads_of, decides}
 use Rattle.tg_protocol.specs.Transactions.{read_before}
 use Rattle.tg_protocol.specs.Views.{Entries, decision_in}

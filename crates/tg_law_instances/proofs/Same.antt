@@ -13,7 +13,9 @@ use Rattle.tg_base.specs.declared.marks.Part.TheVariants.{All, Text, Num}
 use Rattle.tg_base.specs.declared.marks.StreamLink.{StreamLink}
 use Rattle.tg_entry.specs.declared.entry.WriteOp.{WriteOp}
 use Rattle.tg_model.specs.Verdicts.{IsSameness}
-use Rattle.tg_protocol.specs.Words.{oid_eq, bytes_eq, part_eq, role_code, node_eq}
+use Rattle.tg_protocol.specs.Words.{bytes_eq, role_code, node_eq}
+use Rattle.tg_kind.specs.Parts.{part_eq}
+use Rattle.tg_base.specs.Orders.{oid_eq}
 use Rattle.tg_law_verdicts.proofs.Members.{and_both, both_and}
 use Rattle.tg_law_verdicts.proofs.Tests.{same_number, number_same, same_oid, oid_same}
 use Rattle.tg_law_examples.proofs.SevenKinds.{kinds, Op, Answer}
@@ -166,9 +168,8 @@ sameness_exact = record { ops = exact_by op_eq ops_same op_itself; answers = exa
 -- Parts, nodes, links, writes, layouts.
 
 pub parts_same : (a b : Part) → part_eq a b ≡ true → a ≡ b
-unfolding part_eq
 parts_same All All e = refl
-parts_same (Text s) (Text t) e = ap Text (bytes_same s t e)
+parts_same (Text s) (Text t) e = ap Text ((nums_exact s t).0 e)
 parts_same (Num m) (Num n) e = ap Num (same_number m n e)
 parts_same All (Text t) e = absurd cc
 parts_same All (Num n) e = absurd cc
@@ -178,9 +179,8 @@ parts_same (Num m) All e = absurd cc
 parts_same (Num m) (Text t) e = absurd cc
 
 pub part_itself : (a : Part) → part_eq a a ≡ true
-unfolding part_eq
 part_itself All = refl
-part_itself (Text s) = bytes_itself s
+part_itself (Text s) = (nums_exact s s).1 refl
 part_itself (Num n) = number_same n n refl
 
 roles_same : (a b : Role) → role_code a ≡ role_code b → a ≡ b

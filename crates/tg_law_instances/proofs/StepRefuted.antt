@@ -13,7 +13,8 @@ use Rattle.tg_model.specs.declared.refusal.Refusal.TheVariants as cause
 use Rattle.tg_model.specs.declared.trace.What.TheVariants as told
 use Rattle.tg_model.specs.Kinds.{CommandOf, WhatOf}
 use Rattle.tg_model.specs.Stores.{state_at}
-use Rattle.tg_protocol.specs.Words.{client_id, cell_at, numbers, directory, oid_eq, or_else}
+use Rattle.tg_protocol.specs.Words.{client_id, cell_at, numbers, directory, or_else}
+use Rattle.tg_base.specs.Orders.{oid_eq}
 use Rattle.tg_protocol.specs.Entries.{is_commit}
 use Rattle.tg_protocol.specs.Pages.{entry_of}
 use Rattle.tg_protocol.specs.Logs.{members}

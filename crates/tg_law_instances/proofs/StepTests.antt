@@ -25,7 +25,9 @@ use Rattle.tg_model.specs.Words.{word_of}
 use Rattle.tg_model.specs.declared.command.Word.{Word}
 use Rattle.tg_model.specs.declared.command.Word.TheVariants as word
 use Rattle.std.specs.Cmp.Lexicographic.{pointwise}
-use Rattle.tg_protocol.specs.Words.{oid_eq, part_eq, cell_eq, cell_at, node_eq, has_num, directory, client_id, unit_id, seqr_id, numbers}
+use Rattle.tg_protocol.specs.Words.{cell_eq, cell_at, node_eq, has_num, directory, client_id, unit_id, seqr_id, numbers}
+use Rattle.tg_kind.specs.Parts.{part_eq}
+use Rattle.tg_base.specs.Orders.{oid_eq}
 use Rattle.tg_protocol.specs.Layouts.{units_of}
 use Rattle.tg_protocol.specs.Entries.{is_commit, lists, needs_decision, reads_of, entry_size}
 use Rattle.tg_protocol.specs.Pages.{entry_of}

@@ -8,7 +8,8 @@ use Rattle.tg_base.specs.declared.cell.Cell.TheVariants.{Junk, Data}
 use Rattle.tg_base.specs.declared.ids.Oid.{Oid}
 use Rattle.tg_base.specs.declared.marks.StreamLink.{StreamLink}
 use Rattle.tg_entry.specs.declared.entry.Entry.{Entry}
-use Rattle.tg_protocol.specs.Words.{cell_at, where_true, oid_eq}
+use Rattle.tg_protocol.specs.Words.{cell_at, where_true}
+use Rattle.tg_base.specs.Orders.{oid_eq}
 use Rattle.tg_protocol.specs.Entries.{link_of, backs_of, backs_in, lists}
 use Rattle.tg_protocol.specs.Pages.{entry_of}
 use Rattle.tg_protocol.specs.Requests.{Waits, without_wait, Next, Goes, Learns, Ends, Turn}

@@ -19,12 +19,12 @@ use Rattle.tg_kind.specs.Meaning.{Meaning}
 use Rattle.tg_model.specs.Kinds.{EventOf}
 use Rattle.tg_protocol.specs.Words.{client_id, seqr_id, unit_id, cell_at}
 use Rattle.tg_protocol.specs.Entries.{streams_of, lists}
-use Rattle.tg_protocol.specs.Pages.{entry_of}
+use Rattle.tg_protocol.specs.Pages.{entry_of, cell_entry}
 use Rattle.tg_protocol.specs.Units.{unit_ask}
 use Rattle.tg_protocol.specs.Requests.{awaits, Ends}
 use Rattle.tg_protocol.specs.Replies.{reply}
 use Rattle.tg_protocol.specs.Cells.{Place, CellJob, Gone, cell_asks, cell_feed}
-use Rattle.tg_protocol.specs.Logs.{Log, cell_entry, entry_at}
+use Rattle.tg_protocol.specs.Logs.{Log, entry_at}
 use Rattle.tg_protocol.specs.Sequencers.{scanning}
 use Rattle.tg_protocol.specs.Clients.{Client}
 use Rattle.tg_protocol.specs.Worlds.{World, start, log}

@@ -9,10 +9,11 @@ use Rattle.tg_base.specs.declared.packet.Packet.{Packet}
 use Rattle.tg_entry.specs.declared.entry.Entry.{Entry}
 use Rattle.tg_kind.specs.Meaning.{Meaning}
 use Rattle.std.specs.List.{list_any}
-use Rattle.tg_protocol.specs.Words.{oid_eq, cell_at}
+use Rattle.tg_protocol.specs.Words.{cell_at}
+use Rattle.tg_base.specs.Orders.{oid_eq}
 use Rattle.tg_protocol.specs.Entries.{lists, oid_of_link, streams_of}
-use Rattle.tg_protocol.specs.Pages.{entry_of}
-use Rattle.tg_protocol.specs.Logs.{Log, cell_entry}
+use Rattle.tg_protocol.specs.Pages.{entry_of, cell_entry}
+use Rattle.tg_protocol.specs.Logs.{Log}
 use Rattle.tg_protocol.specs.Sequencers.{cell_streams, entry_streams}
 use Rattle.tg_protocol.specs.Worlds.{log}
 use Rattle.tg_protocol.specs.Runs.{Moves, Reaches, Later, run}

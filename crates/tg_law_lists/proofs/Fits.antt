@@ -7,7 +7,7 @@ use Rattle.tg_entry.specs.declared.entry.Entry.{Entry}
 use Rattle.tg_entry.specs.declared.entry.Head.{Head}
 use Rattle.tg_kind.specs.Meaning.{Meaning}
 use Rattle.tg_protocol.specs.Words.{client_id}
-use Rattle.tg_protocol.specs.Entries.{linked}
+use Rattle.tg_entry.specs.Records.{linked}
 use Rattle.tg_protocol.specs.Pages.{entry_of}
 use Rattle.tg_protocol.specs.Runs.{Moves, most_steps, LawfulCommand, Always}
 use Rattle.tg_law_moves.specs.After.{after}

@@ -5,7 +5,7 @@ use Rattle.std.specs.List.{list_any}
 use Rattle.tg_base.specs.declared.ids.Oid.{Oid}
 use Rattle.tg_base.specs.declared.marks.StreamLink.{StreamLink}
 use Rattle.tg_codec.proofs.Laws.{and-left, and-right}
-use Rattle.tg_protocol.specs.Words.{oid_eq}
+use Rattle.tg_base.specs.Orders.{oid_eq}
 use Rattle.tg_protocol.specs.Entries.{oid_of_link}
 use Rattle.tg_protocol.specs.Appending.{is_link, names_all}
 use Rattle.tg_law_moves.proofs.Members.{Has}

@@ -16,7 +16,7 @@ use Rattle.tg_kind.specs.Meaning.{Meaning}
 use Rattle.tg_model.specs.Kinds.{EventOf}
 use Rattle.tg_protocol.specs.Words.{seqr_id, unit_id, cell_at}
 use Rattle.tg_protocol.specs.Entries.{streams_of}
-use Rattle.tg_protocol.specs.Logs.{cell_entry}
+use Rattle.tg_protocol.specs.Pages.{cell_entry}
 use Rattle.tg_protocol.specs.Units.{unit_ask}
 use Rattle.tg_protocol.specs.Requests.{awaits, Next, Goes, Ends}
 use Rattle.tg_protocol.specs.Replies.{Reply, reply}

@@ -22,7 +22,8 @@ use Rattle.tg_protocol.specs.Replies.{reply}
 use Rattle.tg_protocol.specs.Requests.{awaits, out, drawn_from}
 use Rattle.tg_protocol.specs.Cells.{Place, CellWork, Puts, Gets, Fills, Copies, Probes, CellJob, cell_asks, cell_feed, work_asks}
 use Rattle.tg_protocol.specs.Sequencers.{SeqrState, SeqrTurn, scanning, links_of, scan_asks, seqr_asks, stand_answer, answers, begun, issue, on_token, unfenced, own_epoch, on_learn, learn_or_old, fed_if, scan_fed, scan_turn, seqr_step, seqr_tick}
-use Rattle.tg_protocol.specs.Logs.{cell_entry, entry_at}
+use Rattle.tg_protocol.specs.Logs.{entry_at}
+use Rattle.tg_protocol.specs.Pages.{cell_entry}
 use Rattle.tg_protocol.specs.Chosen.{IsDecided}
 use Rattle.tg_protocol.specs.Worlds.{World, start, log, packet_of, happens, next_event}
 use Rattle.tg_protocol.specs.Runs.{Moves, Move, Next, Takes, run, Reaches}

@@ -15,8 +15,9 @@ use Rattle.tg_kind.specs.Meaning.{Meaning}
 use Rattle.tg_model.specs.declared.command.Event.TheVariants.{Command as Commands, Deliver, Lose, Tick, Stop}
 use Rattle.tg_model.specs.Kinds.{EventOf}
 use Rattle.tg_protocol.specs.Words.{node_eq, role_code, layout_id, client_id}
-use Rattle.tg_protocol.specs.Entries.{is_commit, linked}
-use Rattle.tg_protocol.specs.Pages.{entry_of}
+use Rattle.tg_protocol.specs.Entries.{is_commit}
+use Rattle.tg_entry.specs.Records.{linked}
+use Rattle.tg_protocol.specs.Pages.{entry_of, entry_in}
 use Rattle.tg_protocol.specs.Requests.{awaits, Next, Goes, Learns, Ends, Turn}
 use Rattle.tg_protocol.specs.Replies.{Reply, IsLatest, reply}
 use Rattle.tg_protocol.specs.Cells.{Place, place_in, Done}
@@ -25,7 +26,8 @@ use Rattle.tg_protocol.specs.Transactions.{Tx}
 use Rattle.tg_protocol.specs.Clients.{Purpose, Writes, Judged, Decides, Rescues, Saves, Marks, Task, Appending, Hand, Doing, Learning, Work, Client, new_client}
 use Rattle.tg_protocol.specs.Answers.{Moved}
 use Rattle.tg_protocol.specs.ClientSteps.{task_asks, task_awaited, task_in, after_turn, met, stands, append_ended, append_to, on_append, task_feed, fed_if, hand_feed, reply_feed, feed, called, client_deliver}
-use Rattle.tg_protocol.specs.Logs.{Log, entry_in, entry_if, entries_of}
+use Rattle.tg_protocol.specs.Logs.{Log, entries_of}
+use Rattle.tg_protocol.specs.Views.{entry_if}
 use Rattle.tg_protocol.specs.Worlds.{World, start, client, log, trace, runs, client_turned, moves, comes, handed, delivers, counted, happens}
 use Rattle.tg_protocol.specs.Runs.{Moves, Takes, Reaches, run}
 use Rattle.tg_law_moves.specs.After.{after}

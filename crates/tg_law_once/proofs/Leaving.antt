@@ -14,7 +14,7 @@ use Rattle.tg_model.specs.declared.trace.What.TheVariants as told
 use Rattle.tg_model.specs.Kinds.{EventOf, MarkOf, NoteOf}
 use Rattle.tg_model.specs.Traces.{Trace}
 use Rattle.tg_protocol.specs.Words.{client_id, numbers}
-use Rattle.tg_protocol.specs.Entries.{linked}
+use Rattle.tg_entry.specs.Records.{linked}
 use Rattle.tg_protocol.specs.LayoutServers.{layout_step}
 use Rattle.tg_protocol.specs.Appending.{Append, Full}
 use Rattle.tg_protocol.specs.Clients.{Client, new_client}

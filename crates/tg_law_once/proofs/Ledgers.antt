@@ -9,7 +9,8 @@ use Rattle.tg_kind.specs.Meaning.{Meaning}
 use Rattle.tg_model.specs.declared.trace.What.TheVariants as told
 use Rattle.tg_model.specs.Kinds.{WhatOf, MarkOf}
 use Rattle.tg_model.specs.Traces.{Trace, Tells, puts_of}
-use Rattle.tg_protocol.specs.Words.{oid_eq, part_eq}
+use Rattle.tg_kind.specs.Parts.{part_eq}
+use Rattle.tg_base.specs.Orders.{oid_eq}
 use Rattle.tg_protocol.specs.Transactions.{same_part, read_before, with_read}
 use Rattle.tg_protocol.specs.Clients.{write_of}
 use Rattle.tg_law_plays.proofs.Parts.{part_same}

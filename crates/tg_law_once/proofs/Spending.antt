@@ -16,7 +16,8 @@ use Rattle.tg_append.proofs.Pages.{linked_fits}
 use Rattle.tg_kind.specs.Meaning.{Meaning}
 use Rattle.tg_model.specs.Traces.{Trace}
 use Rattle.tg_protocol.specs.Words.{client_id}
-use Rattle.tg_protocol.specs.Entries.{streams_of, linked}
+use Rattle.tg_protocol.specs.Entries.{streams_of}
+use Rattle.tg_entry.specs.Records.{linked}
 use Rattle.tg_protocol.specs.Pages.{page_of, entry_of}
 use Rattle.tg_protocol.specs.Requests.{awaits, Next, Goes}
 use Rattle.tg_protocol.specs.Replies.{IsLatest, reply}

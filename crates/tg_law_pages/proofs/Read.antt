@@ -22,10 +22,11 @@ use Rattle.tg_entry.specs.Checkpoints.{Fields, fields, make_checkpoint}
 use Rattle.tg_entry.specs.Format.{commit, truth, decision, checkpoint, body, stream_counts, in_streams, by_number, by_client, of_tag, of_format, Row, to_entry, from_entry, entry}
 use Rattle.tg_kind.specs.Meaning.{Meaning}
 use Rattle.tg_codec.specs.Whole.{ended}
-use Rattle.tg_protocol.specs.Pages.{entry_of, if_read}
-use Rattle.tg_protocol.specs.Words.{oid_eq}
+use Rattle.tg_protocol.specs.Pages.{entry_of, if_read, entry_in}
+use Rattle.tg_base.specs.Orders.{oid_eq}
 use Rattle.tg_protocol.specs.Entries.{oid_of_link, body_commits, writes_in, writes_of, lists}
-use Rattle.tg_protocol.specs.Logs.{Log, entry_in, entry_if, entries_of}
+use Rattle.tg_protocol.specs.Logs.{Log, entries_of}
+use Rattle.tg_protocol.specs.Views.{entry_if}
 use Rattle.tg_protocol.specs.Worlds.{log}
 use Rattle.tg_law_history.specs.Worlds.{entries_in}
 use Rattle.tg_law_history.proofs.Members.{Has, has_contained, contained_has, number_same}

@@ -7,8 +7,8 @@ use Rattle.tg_base.specs.declared.marks.Part.TheVariants.{All, Text, Num}
 use Rattle.tg_entry.specs.declared.entry.WriteOp.{WriteOp}
 use Rattle.tg_entry.specs.declared.entry.Entry.{Entry}
 use Rattle.tg_kind.specs.Meaning.{Meaning}
-use Rattle.tg_kind.specs.Parts.{overlap as apart_overlap}
-use Rattle.tg_protocol.specs.Words.{oid_eq, overlap, part_eq, bytes_eq}
+use Rattle.tg_kind.specs.Parts.{overlap}
+use Rattle.tg_base.specs.Orders.{oid_eq}
 use Rattle.tg_protocol.specs.Versions.{noted_or, version_of}
 use Rattle.tg_protocol.specs.Entries.{is_commit, writes_of}
 use Rattle.tg_protocol.specs.Views.{Entries, Verdict, Commits, Aborts, Unknown, Base, View, base_of, state_in, state_of, view_version, played_version, with_state, applied, set_state, touched, note, write_by, plays, write, write_all, passed_over, verdict, with_fate, with_verdict, with_open, Play, stands_at, Step, On, Stuck, decided_step, record_step, entry_step, step_at, between, play_on, play_from, play}
@@ -21,26 +21,7 @@ use Rattle.tg_law_plays.proofs.Saved.{same_oid, base_lawful, noted_within}
 
 -- an op keeps the answer to an ask that looks elsewhere
 abbrev pub Apart : Meaning → Type 0
-Apart m = (s : m.state) (op : m.op) (q : m.ask) → apart_overlap (m.touch op) (m.look q) ≡ false → m.answers (m.apply s op) q ≡ m.answers s q
-
--- both words for an overlap are one
-
-bytes_one : (s t : List ℕ) → apart_overlap (Text s) (Text t) ≡ bytes_eq s t
-unfolding bytes_eq
-bytes_one [] [] = refl
-bytes_one [] (y ∷ ys) = refl
-bytes_one (x ∷ xs) [] = refl
-bytes_one (x ∷ xs) (y ∷ ys) = ap (λ (b : Bool). (x == y) && b) (bytes_one xs ys)
-
-overlaps : (a b : Part) → apart_overlap a b ≡ overlap a b
-unfolding part_eq
-overlaps All b = refl
-overlaps (Text s) All = refl
-overlaps (Text s) (Text t) = bytes_one s t
-overlaps (Text s) (Num n) = refl
-overlaps (Num i) All = refl
-overlaps (Num i) (Text t) = refl
-overlaps (Num i) (Num n) = refl
+Apart m = (s : m.state) (op : m.op) (q : m.ask) → overlap (m.touch op) (m.look q) ≡ false → m.answers (m.apply s op) q ≡ m.answers s q
 
 -- One object's state after a state was put.
 
@@ -151,7 +132,7 @@ module _ (m : Meaning) where
         let new : m.apply s op ≡ t = some_state (m.apply s op) t (sym (own_state v.states o (m.apply s op) s is) ∙ told) in
         moved_on v s _ t (h.told s is)
         (other_version o K v o (m.touch op) p (Some (m.apply s op)) (both_false (oid_eq o o) (overlap (m.touch op) K) apart_from))
-        (sym (ap (λ (u : m.state). m.answers u q) new) ∙ apart s op q (overlaps (m.touch op) K ∙ apart_from))
+        (sym (ap (λ (u : m.state). m.answers u q) new) ∙ apart s op q apart_from)
       where
         both_false : (a b : Bool) → b ≡ false → (a && b) ≡ false
         both_false a b e = grind arith

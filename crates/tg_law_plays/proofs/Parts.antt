@@ -1,43 +1,27 @@
 -- Parts, their versions, and what a checkpoint tells of them.
 use Rattle.std.proofs.Common.{◌≡◌, ℕ, ◌<◌, ◌≤◌, List, [], ◌∷◌, Bool, true, false, not, refl, sym, ap, ◌∙◌, subst, arith, Some, None, Option, ◌&&◌, ◌||◌, filter, map, cond}
 use Rattle.std.specs.Prelude.{nat_lt, if◌then◌else◌, ◌==◌}
+use Rattle.std.specs.Cmp.Lexicographic.{bytes_decides}
 use Rattle.tg_base.specs.declared.ids.Oid.{Oid}
 use Rattle.tg_base.specs.declared.marks.Part.{Part}
 use Rattle.tg_base.specs.declared.marks.Part.TheVariants.{All, Text, Num}
-use Rattle.tg_protocol.specs.Words.{oid_eq, bytes_eq, part_eq, part_lt, is_whole}
+use Rattle.tg_protocol.specs.Words.{part_lt}
+use Rattle.tg_kind.specs.Parts.{part_eq, is_whole}
+use Rattle.tg_base.specs.Orders.{oid_eq}
 use Rattle.tg_protocol.specs.Versions.{Based, PartVersion, key_version, version_in, base_version, noted_or, version_of, whole_noted, with_part, parts_noted, parts_based, base_parts, parts_of, based}
 use Rattle.tg_law_plays.specs.Sound.{AreKeys, IsBased, AreVersions, Fall}
 
 -- Equal parts.
 
-bytes_more : (x y : ℕ) (xs ys : List ℕ) → (bytes_eq xs ys ≡ true → xs ≡ ys) → ((x == y) && bytes_eq xs ys) ≡ true → (x ∷ xs) ≡ (y ∷ ys)
-bytes_more x y xs ys rest h = grind arith
-
-bytes_same : (xs ys : List ℕ) → bytes_eq xs ys ≡ true → xs ≡ ys
-unfolding bytes_eq
-bytes_same [] [] h = refl
-bytes_same [] (y ∷ ys) h = absurd (cc)
-bytes_same (x ∷ xs) [] h = absurd (cc)
-bytes_same (x ∷ xs) (y ∷ ys) h = bytes_more x y xs ys (bytes_same xs ys) h
-
-itself_more : (x : ℕ) (b : Bool) → b ≡ true → ((x == x) && b) ≡ true
-itself_more x b h = grind arith
-
-bytes_itself : (xs : List ℕ) → bytes_eq xs xs ≡ true
-unfolding bytes_eq
-bytes_itself [] = refl
-bytes_itself (x ∷ xs) = itself_more x (bytes_eq xs xs) (bytes_itself xs)
-
 number_same : (a b : ℕ) → (a == b) ≡ true → Num a ≡ Num b
 number_same a b h = grind arith
 
 pub part_same : (a b : Part) → part_eq a b ≡ true → a ≡ b
-unfolding part_eq
 part_same All All h = refl
 part_same All (Text t) h = absurd (cc)
 part_same All (Num n) h = absurd (cc)
 part_same (Text t) All h = absurd (cc)
-part_same (Text s) (Text t) h = ap (λ (bytes : List ℕ). Text bytes) (bytes_same s t h)
+part_same (Text s) (Text t) h = ap (λ (bytes : List ℕ). Text bytes) ((bytes_decides s t).0 h)
 part_same (Text t) (Num n) h = absurd (cc)
 part_same (Num n) All h = absurd (cc)
 part_same (Num n) (Text t) h = absurd (cc)
@@ -47,9 +31,8 @@ pub number_itself : (n : ℕ) → (n == n) ≡ true
 number_itself n = grind arith
 
 pub part_itself : (a : Part) → part_eq a a ≡ true
-unfolding part_eq
 part_itself All = refl
-part_itself (Text t) = bytes_itself t
+part_itself (Text t) = (bytes_decides t t).1 refl
 part_itself (Num n) = number_itself n
 
 contrary : {X : Type 0} → (b : Bool) → b ≡ false → b ≡ true → X

@@ -10,7 +10,9 @@ use Rattle.tg_kind.specs.Meaning.{Meaning}
 use Rattle.tg_model.specs.declared.trace.What.TheVariants as told
 use Rattle.tg_model.specs.Kinds.{WhatOf, MarkOf, NoteOf}
 use Rattle.tg_model.specs.Traces.{Trace, Tells, put_of, puts_of}
-use Rattle.tg_protocol.specs.Words.{oid_eq, part_eq, bytes_eq}
+use Rattle.tg_protocol.specs.Words.{bytes_eq}
+use Rattle.tg_kind.specs.Parts.{part_eq}
+use Rattle.tg_base.specs.Orders.{oid_eq}
 use Rattle.tg_protocol.specs.Views.{Entries}
 use Rattle.tg_protocol.specs.Logs.{op_if, ops_of}
 use Rattle.tg_protocol.specs.Transactions.{Tx, same_part, read_before, with_read, tx_read, tx_put}
@@ -29,7 +31,6 @@ same_bytes (x ∷ xs) [] e = absurd cc
 same_bytes (x ∷ xs) (y ∷ ys) e = let p = and_both (x == y) (bytes_eq xs ys) e in let a = same_number x y p.0 in let b = same_bytes xs ys p.1 in λ i. a i ∷ b i
 
 same_part_is : (a b : Part) → part_eq a b ≡ true → a ≡ b
-unfolding part_eq
 same_part_is All All e = refl
 same_part_is All (Text t) e = absurd cc
 same_part_is All (Num n) e = absurd cc

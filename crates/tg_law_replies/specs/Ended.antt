@@ -9,7 +9,8 @@ use Rattle.tg_kind.specs.Meaning.{Meaning}
 use Rattle.tg_model.specs.declared.command.Event.TheVariants.{Deliver}
 use Rattle.tg_model.specs.Kinds.{EventOf}
 use Rattle.tg_protocol.specs.Words.{node_eq, layout_id, client_id}
-use Rattle.tg_protocol.specs.Entries.{is_commit, linked}
+use Rattle.tg_protocol.specs.Entries.{is_commit}
+use Rattle.tg_entry.specs.Records.{linked}
 use Rattle.tg_protocol.specs.Requests.{awaits, Next, Goes, Learns, Ends}
 use Rattle.tg_protocol.specs.Replies.{Reply, IsLatest, reply}
 use Rattle.tg_protocol.specs.Appending.{Append, AppendEnd, At, Full, Forgotten, append_feed, append_again}

@@ -8,9 +8,10 @@ use Rattle.tg_entry.specs.declared.entry.Entry.{Entry}
 use Rattle.tg_entry.specs.Format.{entry}
 use Rattle.tg_entry.proofs.Laws.{entry_law}
 use Rattle.tg_kind.specs.Meaning.{Meaning}
-use Rattle.tg_protocol.specs.Entries.{linked}
-use Rattle.tg_protocol.specs.Pages.{page_of, entry_of, if_read}
-use Rattle.tg_protocol.specs.Logs.{Log, entry_in, entry_if, entries_of}
+use Rattle.tg_entry.specs.Records.{linked}
+use Rattle.tg_protocol.specs.Pages.{page_of, entry_of, if_read, entry_in}
+use Rattle.tg_protocol.specs.Logs.{Log, entries_of}
+use Rattle.tg_protocol.specs.Views.{entry_if}
 use Rattle.tg_protocol.specs.Worlds.{log}
 use Rattle.tg_protocol.specs.Runs.{Moves, Always}
 use Rattle.tg_law_moves.specs.After.{after}

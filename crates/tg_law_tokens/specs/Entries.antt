@@ -4,7 +4,7 @@ use Rattle.tg_base.specs.declared.ids.NodeId.{NodeId}
 use Rattle.tg_entry.specs.declared.entry.Entry.{Entry}
 use Rattle.tg_entry.specs.Format.{entry}
 use Rattle.tg_kind.specs.Meaning.{Meaning}
-use Rattle.tg_protocol.specs.Entries.{linked}
+use Rattle.tg_entry.specs.Records.{linked}
 use Rattle.tg_protocol.specs.Worlds.{World}
 use Rattle.tg_protocol.specs.Alike.{HasEntry}
 use Rattle.tg_law_tokens.specs.Issuing.{IsOwnPage}

@@ -14,7 +14,8 @@ use Rattle.tg_model.specs.Kinds.{WhatOf, MarkOf, DoneOf}
 use Rattle.tg_model.specs.Stores.{History, answer_at, changes, changed, is_stamp}
 use Rattle.tg_model.specs.Traces.{Trace, Says, Tells, puts_of, point_of, has_items, IsOf, HasNone, Place, Snapshot, Stamp}
 use Rattle.tg_model.specs.Legal.{Legal, AsksHoldAt, AnswersRight, IsCommitted, CommitsRight, IsAborted, AbortsRight, EntriesRight, InOrder}
-use Rattle.tg_model.specs.Verdicts.{Sameness, IsSameness, part_eq, first_failed, is_of, asks_in, asks, puts, is_begin, is_end, begins, ended, or_zero, bound_in, bound, same_writes, entry_of, has_entry, holds_at, all_hold_at, answer_is_right, commit_is_right, is_cause, explains, abort_is_right, only_at, fate_is_right, entry_is_right, tests, reply_fault, entry_fault}
+use Rattle.tg_model.specs.Verdicts.{Sameness, IsSameness, first_failed, is_of, asks_in, asks, puts, is_begin, is_end, begins, ended, or_zero, bound_in, bound, same_writes, entry_of, has_entry, holds_at, all_hold_at, answer_is_right, commit_is_right, is_cause, explains, abort_is_right, only_at, fate_is_right, entry_is_right, tests, reply_fault, entry_fault}
+use Rattle.tg_kind.specs.Parts.{part_eq}
 use Rattle.tg_law_verdicts.proofs.Members.{Has, has_left, has_right, has_contained, contained_has, and_both, both_and, not_true, found, passes_somewhere, no_pass, all_pass}
 use Rattle.tg_law_verdicts.proofs.Tests.{same_number, number_same, le_of, lt_of, of_lt, same_oid, same_part, writes_decide}
 use Rattle.tg_law_verdicts.proofs.Lines.{first_fine, Replies, Entries, Fine, reply_at, entry_at}

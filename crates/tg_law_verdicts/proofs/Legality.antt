@@ -14,7 +14,8 @@ use Rattle.tg_model.specs.Kinds.{WhatOf, MarkOf, DoneOf}
 use Rattle.tg_model.specs.Stores.{History, AllAbove, Rises, answer_at, changes, changed, is_stamp}
 use Rattle.tg_model.specs.Traces.{Trace, Says, Tells, puts_of, point_of, has_items, IsOf, HasNone, Place, Snapshot, Stamp}
 use Rattle.tg_model.specs.Legal.{Legal, IsCommitted, IsAborted}
-use Rattle.tg_model.specs.Verdicts.{Sameness, IsSameness, part_eq, first_failed, is_of, asks_in, asks, puts, is_begin, is_end, begins, ended, or_zero, bound_in, bound, same_writes, entry_of, has_entry, holds_at, all_hold_at, answer_is_right, commit_is_right, is_cause, explains, abort_is_right, only_at, fate_is_right, entry_is_right, tests, entry_fault}
+use Rattle.tg_model.specs.Verdicts.{Sameness, IsSameness, first_failed, is_of, asks_in, asks, puts, is_begin, is_end, begins, ended, or_zero, bound_in, bound, same_writes, entry_of, has_entry, holds_at, all_hold_at, answer_is_right, commit_is_right, is_cause, explains, abort_is_right, only_at, fate_is_right, entry_is_right, tests, entry_fault}
+use Rattle.tg_kind.specs.Parts.{part_eq}
 use Rattle.tg_law_verdicts.specs.Laws.{VerdictsAreTrue}
 use Rattle.tg_law_verdicts.proofs.Members.{Has, has_left, has_right, has_contained, contained_has, joined, cut_at, contrary, and_both, both_and, not_false, found, passes_somewhere, none_passes, each_passes}
 use Rattle.tg_law_verdicts.proofs.Tests.{same_number, number_same, of_le, lt_of, of_lt, oid_same, part_itself, writes_decide}

@@ -7,7 +7,7 @@ use Rattle.tg_base.specs.Orders.{oid_eq}
 use Rattle.tg_base.specs.declared.ids.Oid.{Oid}
 use Rattle.tg_base.specs.declared.marks.Part.{Part}
 use Rattle.tg_base.specs.declared.marks.Part.TheVariants.{All, Text, Num}
-use Rattle.tg_model.specs.Verdicts.{part_eq}
+use Rattle.tg_kind.specs.Parts.{part_eq}
 use Rattle.tg_law_verdicts.proofs.Members.{and_both, both_and}
 
 pub same_number : (a b : ℕ) → (a == b) ≡ true → a ≡ b

@@ -6,7 +6,7 @@ use Rattle.tg_entry.specs.declared.entry.Body.{Body}
 use Rattle.tg_entry.specs.declared.entry.Body.TheVariants.{Commit, Decision, Checkpoint}
 use Rattle.tg_entry.specs.declared.entry.Entry.{Entry}
 use Rattle.tg_kind.specs.Meaning.{Meaning}
-use Rattle.tg_protocol.specs.Words.{oid_eq}
+use Rattle.tg_base.specs.Orders.{oid_eq}
 use Rattle.tg_protocol.specs.Versions.{based, no_versions}
 use Rattle.tg_protocol.specs.Views.{Entries, Base, fresh_base}
 use Rattle.tg_protocol.specs.Checkpoints.{TrimPoints, trim_of, base_at, base_in, loaded, option_list, bases_in, lower, least_base, from_upto, load_from, base_or, base_by, view_base, view_bases}

@@ -5,7 +5,7 @@ use Rattle.tg_base.specs.declared.ids.Oid.{Oid}
 use Rattle.tg_entry.specs.declared.entry.Entry.{Entry}
 use Rattle.tg_kind.specs.Meaning.{Meaning}
 use Rattle.tg_model.specs.declared.play.PlayEnd.TheVariants.{Played}
-use Rattle.tg_protocol.specs.Words.{oid_eq}
+use Rattle.tg_base.specs.Orders.{oid_eq}
 use Rattle.tg_protocol.specs.Entries.{lists}
 use Rattle.tg_protocol.specs.Views.{Entries, Base, View, Play, base_of, base_state, state_in, state_of, fate_of, fresh_base, view_start, play}
 use Rattle.tg_protocol.specs.Checkpoints.{TrimPoints, trim_of, base_at, bases_in, from_upto, within, load_from, base_or, base_by, view_base, view_bases, higher, greatest_base, least_base}

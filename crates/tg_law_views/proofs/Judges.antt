@@ -9,11 +9,13 @@ use Rattle.tg_entry.specs.declared.entry.Entry.{Entry}
 use Rattle.tg_kind.specs.Meaning.{Meaning}
 use Rattle.tg_model.specs.declared.play.PlayEnd.TheVariants.{Played, Blocked}
 use Rattle.tg_model.specs.declared.play.PlayEnd.{PlayEnd}
-use Rattle.tg_protocol.specs.Words.{oid_eq, oid_lt, with_oid, rising_oids, cell_at}
+use Rattle.tg_protocol.specs.Words.{with_oid, rising_oids, cell_at}
+use Rattle.tg_base.specs.Orders.{oid_eq, oid_lt}
 use Rattle.tg_protocol.specs.Entries.{is_commit, reads_of, writes_of, read_oid, write_oid, objects_of, needs_decision}
-use Rattle.tg_protocol.specs.Views.{Entries, Base, View, base_of, fate_of, Play, Step, On, Stuck, step_at, between, play_on, play_from, play}
+use Rattle.tg_protocol.specs.Views.{Entries, Base, View, base_of, fate_of, Play, Step, On, Stuck, step_at, between, play_on, play_from, play, entry_if}
 use Rattle.tg_protocol.specs.Past.{commit_at}
-use Rattle.tg_protocol.specs.Clients.{Work, Client, entry_if, cell_entry, entries_at, below, all_entries}
+use Rattle.tg_protocol.specs.Clients.{Work, Client, entries_at, below, all_entries}
+use Rattle.tg_protocol.specs.Pages.{cell_entry}
 use Rattle.tg_law_plays.specs.Sound.{IsRising, base_among}
 use Rattle.tg_law_plays.proofs.Joins.{step_on, on_more}
 use Rattle.tg_law_history.proofs.Members.{Has, has_contained, contained_has, same_oid, lt_of}
@@ -102,13 +104,13 @@ module _ (m : Meaning) where
   entries_among cells t [] p e i = absurd i
   entries_among cells t (q ∷ ps) p e i = by (nat_lt q t) refl i (entries_among cells t ps p e)
     where
-      first : q < t → (d : Option Entry) → Has (entry_if m q d (entries_at m cells (below m t ps))) (p, e) → (Has (entries_at m cells (below m t ps)) (p, e) → p < t) → p < t
+      first : q < t → (d : Option Entry) → Has (entry_if q d (entries_at m cells (below m t ps))) (p, e) → (Has (entries_at m cells (below m t ps)) (p, e) → p < t) → p < t
       first less None j rest = rest j
       first less (Some d) (inl s) rest = let n : p ≡ q = ap (λ (x : ℕ × Entry). x.0) s in omega (arith, n, less)
       first less (Some d) (inr j) rest = rest j
 
       by : (b : Bool) → nat_lt q t ≡ b → Has (entries_at m cells (if b then q ∷ below m t ps else below m t ps)) (p, e) → (Has (entries_at m cells (below m t ps)) (p, e) → p < t) → p < t
-      by true less j rest = first (lt_of q t less) (cell_entry m (cell_at cells q)) j rest
+      by true less j rest = first (lt_of q t less) (cell_entry (cell_at cells q)) j rest
       by false less j rest = rest j
 
   pub mine_below : (c : Client m) (w : Work m) (os : List Oid) (p : ℕ) (e : Entry) → Has (all_entries m c w os) (p, e) → p < w.tail

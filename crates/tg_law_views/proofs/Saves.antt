@@ -5,7 +5,9 @@ use Rattle.tg_base.specs.declared.ids.Oid.{Oid}
 use Rattle.tg_base.specs.declared.marks.Part.{Part}
 use Rattle.tg_base.specs.declared.marks.Part.TheVariants.{All, Text, Num}
 use Rattle.tg_kind.specs.Meaning.{Meaning}
-use Rattle.tg_protocol.specs.Words.{oid_eq, overlap, is_whole, part_eq, part_lt}
+use Rattle.tg_protocol.specs.Words.{part_lt}
+use Rattle.tg_kind.specs.Parts.{overlap, is_whole, part_eq}
+use Rattle.tg_base.specs.Orders.{oid_eq}
 use Rattle.tg_protocol.specs.Versions.{Based, PartVersion, Parts, key_version, version_in, base_version, noted_or, version_of, based, whole_noted, with_part, parts_noted, parts_based, base_parts, parts_of}
 use Rattle.tg_protocol.specs.Views.{Base, View, base_of, state_of, view_version, view_parts, played_version, played_parts}
 use Rattle.tg_protocol.specs.Checkpoints.{saved_bytes, checkpoint, base_at, loaded}

@@ -7,8 +7,9 @@ use Rattle.std.specs.BTreeMap.{is_at, insert_entry}
 use Rattle.tg_base.specs.declared.cell.Cell.{Cell}
 use Rattle.tg_entry.specs.declared.entry.Entry.{Entry}
 use Rattle.tg_protocol.specs.Words.{cell_at, with_cell}
-use Rattle.tg_protocol.specs.Views.{Entries}
-use Rattle.tg_protocol.specs.Logs.{Log, positions, entry_in, entry_if, entries_of, cell_entry, entry_at}
+use Rattle.tg_protocol.specs.Views.{Entries, entry_if}
+use Rattle.tg_protocol.specs.Logs.{Log, positions, entries_of, entry_at}
+use Rattle.tg_protocol.specs.Pages.{entry_in, cell_entry}
 use Rattle.tg_law_plays.specs.Sound.{rise_from}
 use Rattle.tg_law_walks.specs.Streams.{rises, AreKnown}
 use Rattle.tg_law_walks.specs.Walks.{AreRead}

@@ -7,7 +7,8 @@ use Rattle.tg_entry.specs.declared.entry.Entry.{Entry}
 use Rattle.tg_kind.specs.Meaning.{Meaning}
 use Rattle.tg_model.specs.Kinds.{CommandOf}
 use Rattle.tg_model.specs.declared.command.Command.TheVariants as cmd
-use Rattle.tg_protocol.specs.Words.{oid_eq, cell_at, with_nums}
+use Rattle.tg_protocol.specs.Words.{cell_at, with_nums}
+use Rattle.tg_base.specs.Orders.{oid_eq}
 use Rattle.tg_protocol.specs.Entries.{lists, is_commit}
 use Rattle.tg_protocol.specs.Logs.{Log, entries_of, entry_at}
 use Rattle.tg_protocol.specs.Views.{Entries, View, Base, base_of, view_start}

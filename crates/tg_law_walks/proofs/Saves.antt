@@ -8,13 +8,14 @@ use Rattle.tg_entry.specs.declared.entry.Entry.{Entry}
 use Rattle.tg_entry.specs.declared.entry.Body.{Body}
 use Rattle.tg_entry.specs.declared.entry.Body.TheVariants.{Checkpoint}
 use Rattle.tg_kind.specs.Meaning.{Meaning}
-use Rattle.tg_protocol.specs.Words.{oid_eq, cell_at}
+use Rattle.tg_protocol.specs.Words.{cell_at}
+use Rattle.tg_base.specs.Orders.{oid_eq}
 use Rattle.tg_protocol.specs.Versions.{Versions, based}
-use Rattle.tg_protocol.specs.Views.{Entries, Base}
+use Rattle.tg_protocol.specs.Views.{Entries, Base, entry_if}
 use Rattle.tg_protocol.specs.Checkpoints.{trim_of, loaded, base_in, base_at, option_list, bases_in, lower, least_base, higher, greatest_base, within, from_upto, load_from}
 use Rattle.tg_protocol.specs.Past.{last_base}
-use Rattle.tg_protocol.specs.Clients.{cell_entry, entry_if, entries_at}
-use Rattle.tg_protocol.specs.Logs as log
+use Rattle.tg_protocol.specs.Clients.{entries_at}
+use Rattle.tg_protocol.specs.Pages.{cell_entry}
 use Rattle.tg_law_plays.specs.Sound.{rise_from}
 use Rattle.tg_law_walks.specs.Streams.{rises}
 use Rattle.tg_law_walks.specs.Rounds.{IsSaving}
@@ -55,56 +56,52 @@ module _ (m : Meaning) where
   some_entry : (a b : Entry) → Some a ≡ Some b → a ≡ b
   some_entry a b i = cc
 
-  pub entries_have : (cells : List (ℕ × Cell)) (ps : List ℕ) (p : ℕ) (e : Entry) → Has (entries_at m cells ps) (p, e) → Has ps p × (cell_entry m (cell_at cells p) ≡ Some e)
+  pub entries_have : (cells : List (ℕ × Cell)) (ps : List ℕ) (p : ℕ) (e : Entry) → Has (entries_at m cells ps) (p, e) → Has ps p × (cell_entry (cell_at cells p) ≡ Some e)
   unfolding entries_at
   entries_have cells [] p e i = absurd i
-  entries_have cells (q ∷ ps) p e i = by (cell_entry m (cell_at cells q)) refl i (λ j. entries_have cells ps p e j)
+  entries_have cells (q ∷ ps) p e i = by (cell_entry (cell_at cells q)) refl i (λ j. entries_have cells ps p e j)
     where
-      later : Has ps p × (cell_entry m (cell_at cells p) ≡ Some e) → Has (q ∷ ps) p × (cell_entry m (cell_at cells p) ≡ Some e)
+      later : Has ps p × (cell_entry (cell_at cells p) ≡ Some e) → Has (q ∷ ps) p × (cell_entry (cell_at cells p) ≡ Some e)
       later h = (inr h.0, h.1)
 
-      by : (d : Option Entry) → cell_entry m (cell_at cells q) ≡ d → Has (entry_if m q d (entries_at m cells ps)) (p, e) → (Has (entries_at m cells ps) (p, e) → Has ps p × (cell_entry m (cell_at cells p) ≡ Some e)) →
-          Has (q ∷ ps) p × (cell_entry m (cell_at cells p) ≡ Some e)
+      by : (d : Option Entry) → cell_entry (cell_at cells q) ≡ d → Has (entry_if q d (entries_at m cells ps)) (p, e) → (Has (entries_at m cells ps) (p, e) → Has ps p × (cell_entry (cell_at cells p) ≡ Some e)) →
+          Has (q ∷ ps) p × (cell_entry (cell_at cells p) ≡ Some e)
       by None is j rest = later (rest j)
       by (Some d) is (inl s) rest =
-          let at : p ≡ q = ap (λ (y : ℕ × Entry). y.0) s in (inl at, ap (λ n. cell_entry m (cell_at cells n)) at ∙ (is ∙ ap (λ (y : ℕ × Entry). Some y.1) (sym s)))
+          let at : p ≡ q = ap (λ (y : ℕ × Entry). y.0) s in (inl at, ap (λ n. cell_entry (cell_at cells n)) at ∙ (is ∙ ap (λ (y : ℕ × Entry). Some y.1) (sym s)))
       by (Some d) is (inr j) rest = later (rest j)
 
-  pub have_entries : (cells : List (ℕ × Cell)) (ps : List ℕ) (p : ℕ) (e : Entry) → Has ps p → cell_entry m (cell_at cells p) ≡ Some e → Has (entries_at m cells ps) (p, e)
+  pub have_entries : (cells : List (ℕ × Cell)) (ps : List ℕ) (p : ℕ) (e : Entry) → Has ps p → cell_entry (cell_at cells p) ≡ Some e → Has (entries_at m cells ps) (p, e)
   unfolding entries_at
   have_entries cells [] p e i h = absurd i
-  have_entries cells (q ∷ ps) p e (inl s) h = by (cell_entry m (cell_at cells q)) (ap (λ n. cell_entry m (cell_at cells n)) (sym s) ∙ h)
+  have_entries cells (q ∷ ps) p e (inl s) h = by (cell_entry (cell_at cells q)) (ap (λ n. cell_entry (cell_at cells n)) (sym s) ∙ h)
     where
-      by : (d : Option Entry) → d ≡ Some e → Has (entry_if m q d (entries_at m cells ps)) (p, e)
+      by : (d : Option Entry) → d ≡ Some e → Has (entry_if q d (entries_at m cells ps)) (p, e)
       by None f = absurd (cc)
       by (Some d) f = inl (pair (p, e) (q, d) s (sym (some_entry d e f)))
-  have_entries cells (q ∷ ps) p e (inr i) h = by (cell_entry m (cell_at cells q)) (have_entries cells ps p e i h)
+  have_entries cells (q ∷ ps) p e (inr i) h = by (cell_entry (cell_at cells q)) (have_entries cells ps p e i h)
     where
-      by : (d : Option Entry) → Has (entries_at m cells ps) (p, e) → Has (entry_if m q d (entries_at m cells ps)) (p, e)
+      by : (d : Option Entry) → Has (entries_at m cells ps) (p, e) → Has (entry_if q d (entries_at m cells ps)) (p, e)
       by None j = j
       by (Some d) j = inr j
 
   pub entries_rising : (cells : List (ℕ × Cell)) (low : ℕ) (ps : List ℕ) → rises low ps ≡ true → rise_from low (entries_at m cells ps) ≡ true
   unfolding entries_at
   entries_rising cells low [] h = refl
-  entries_rising cells low (q ∷ ps) h = by (cell_entry m (cell_at cells q)) (entries_rising cells (q + 1) ps (and_both (nat_le low q) (rises (q + 1) ps) h).1)
+  entries_rising cells low (q ∷ ps) h = by (cell_entry (cell_at cells q)) (entries_rising cells (q + 1) ps (and_both (nat_le low q) (rises (q + 1) ps) h).1)
     where
       first : low ≤ q
       first = let p = (and_both (nat_le low q) (rises (q + 1) ps) h).0 in grind arith
 
-      by : (d : Option Entry) → rise_from (q + 1) (entries_at m cells ps) ≡ true → rise_from low (entry_if m q d (entries_at m cells ps)) ≡ true
+      by : (d : Option Entry) → rise_from (q + 1) (entries_at m cells ps) ≡ true → rise_from low (entry_if q d (entries_at m cells ps)) ≡ true
       by None rest = let le = first in less_rise (q + 1) low (entries_at m cells ps) (omega (arith, le)) rest
       by (Some d) rest = both_and (nat_le low q) (rise_from (q + 1) (entries_at m cells ps)) (and_both (nat_le low q) (rises (q + 1) ps) h).0 rest
 
   -- a known cell's entry is the log's
-  pub known_entry : (x : Option Cell) (e : Entry) → cell_entry m x ≡ Some e → (c : Cell) × (x ≡ Some c) × (log.cell_entry (Some c) ≡ Some e)
+  pub known_entry : (x : Option Cell) (e : Entry) → cell_entry x ≡ Some e → (c : Cell) × (x ≡ Some c) × (cell_entry (Some c) ≡ Some e)
   known_entry None e h = absurd (cc)
   known_entry (Some Junk) e h = absurd (cc)
   known_entry (Some (Data d)) e h = (Data d, refl, h)
-
-  pub entry_known : (c : Cell) (e : Entry) → log.cell_entry (Some c) ≡ Some e → cell_entry m (Some c) ≡ Some e
-  entry_known Junk e h = absurd (cc)
-  entry_known (Data d) e h = h
 
   -- Bases.
 

@@ -9,7 +9,8 @@ use Rattle.tg_protocol.specs.Words.{cell_at, where_true}
 use Rattle.tg_protocol.specs.Entries.{lists, backs_in}
 use Rattle.tg_protocol.specs.Pages.{entry_of}
 use Rattle.tg_protocol.specs.Walking.{pointers_at, listed}
-use Rattle.tg_protocol.specs.Logs.{entry_if, entries_of, members_in, members}
+use Rattle.tg_protocol.specs.Logs.{entries_of, members_in, members}
+use Rattle.tg_protocol.specs.Views.{entry_if}
 use Rattle.tg_law_walks.specs.Streams.{AreLinked, IsGood}
 use Rattle.tg_law_walks.specs.One.{one_page, OnePageWalks}
 

@@ -14,7 +14,8 @@ use Rattle.tg_protocol.specs.Walking.{Walk}
 use Rattle.tg_protocol.specs.Logs.{Log, entry_at, entries_of}
 use Rattle.tg_protocol.specs.Views.{View, Base, base_of}
 use Rattle.tg_protocol.specs.Checkpoints.{trim_of, base_at}
-use Rattle.tg_protocol.specs.Clients.{Task, Syncing, Walking, Work, Client, upto_in, positions_in, cell_entry, all_entries}
+use Rattle.tg_protocol.specs.Clients.{Task, Syncing, Walking, Work, Client, upto_in, positions_in, all_entries}
+use Rattle.tg_protocol.specs.Pages.{cell_entry}
 use Rattle.tg_protocol.specs.Answers.{Moved, walked, own_view, play_target}
 use Rattle.tg_protocol.specs.ClientSteps.{plays_kept, task_in}
 use Rattle.tg_law_views.specs.Views.{AreEntriesFor}
@@ -92,7 +93,7 @@ module _ (m : Meaning) where
       pub at : ℕ
       pub entry : Entry
       pub found : Contains (positions_in m r.found o) at
-      pub here : cell_entry m (cell_at r.cells at) ≡ Some entry
+      pub here : cell_entry (cell_at r.cells at) ≡ Some entry
       pub below : at < r.tail
       pub saves : IsSaving o b entry
 

@@ -14,18 +14,18 @@ module _ (m : Meaning) where
   Store = List (Oid × m.state)
 
   -- an object's state: fresh where it was never written
-  abbrev pub state_in : List Oid → Store → Oid → m.state
-  state_in objects [] o = m.fresh o objects
-  state_in objects (x ∷ xs) o = if oid_eq x.0 o then x.1 else state_in objects xs o
+  abbrev pub stored_state : List Oid → Store → Oid → m.state
+  stored_state objects [] o = m.fresh o objects
+  stored_state objects (x ∷ xs) o = if oid_eq x.0 o then x.1 else stored_state objects xs o
 
-  abbrev pub with_state : Store → Oid → m.state → Store
-  with_state [] o s = (o, s) ∷ []
-  with_state (x ∷ xs) o s = if oid_eq x.0 o then (o, s) ∷ xs else x ∷ with_state xs o s
+  abbrev pub with_stored_state : Store → Oid → m.state → Store
+  with_stored_state [] o s = (o, s) ∷ []
+  with_stored_state (x ∷ xs) o s = if oid_eq x.0 o then (o, s) ∷ xs else x ∷ with_stored_state xs o s
 
   -- each write in order
   abbrev pub after_writes : List Oid → Store → List (Oid × m.op) → Store
   after_writes objects s [] = s
-  after_writes objects s (w ∷ ws) = after_writes objects (with_state s w.0 (m.apply (state_in objects s w.0) w.1)) ws
+  after_writes objects s (w ∷ ws) = after_writes objects (with_stored_state s w.0 (m.apply (stored_state objects s w.0) w.1)) ws
 
   abbrev pub History : Type 0
   History = List (DoneOf m)
@@ -51,7 +51,7 @@ module _ (m : Meaning) where
 
   -- an object's state before position n
   abbrev pub state_at : List Oid → History → ℕ → Oid → m.state
-  state_at objects h n o = state_in objects (store_at objects h n) o
+  state_at objects h n o = stored_state objects (store_at objects h n) o
 
   -- the plain machine's answer before position n
   abbrev pub answer_at : List Oid → History → ℕ → Oid → m.ask → m.answer

@@ -30,12 +30,6 @@ pub record Fault : Type 0 where
   pub line : ℕ
   pub clause : Clause
 
-abbrev pub part_eq : Part → Part → Bool
-part_eq All All = true
-part_eq (Text s) (Text t) = pointwise (λ x y. x == y) s t
-part_eq (Num m) (Num n) = m == n
-part_eq _ _ = false
-
 -- the clause of the first test that fails
 abbrev pub first_failed : List (Clause × Bool) → Option Clause
 first_failed [] = None

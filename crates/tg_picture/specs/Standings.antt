@@ -13,7 +13,8 @@ use Rattle.tg_picture.specs.declared.picture.LogBox.{LogBox}
 use Rattle.tg_picture.specs.declared.picture.Standing.{Standing}
 use Rattle.tg_picture.specs.declared.picture.Standing.TheVariants.{Committed, Aborted, Undecided, Decision, Checkpoint, Junk}
 use Rattle.tg_protocol.specs.Entries.{needs_decision}
-use Rattle.tg_protocol.specs.Logs.{Log, entry_in}
+use Rattle.tg_protocol.specs.Logs.{Log}
+use Rattle.tg_protocol.specs.Pages.{entry_in}
 
 -- the position that a decision record decides
 abbrev pub decided_by : Body → List ℕ

@@ -6,13 +6,12 @@ use Rattle.std.specs.Map.{remove_entry}
 use Rattle.std.specs.Ordering.{is_eq}
 use Rattle.std.proofs.Common.{sym, ap, ◌∙◌, subst, arith}
 use Rattle.std.proofs.lemmas.Bool.Decides.{nat_tests}
-use Rattle.tg_base.specs.Orders.{oid_cmp}
+use Rattle.tg_base.specs.Orders.{oid_cmp, oid_eq}
 use Rattle.tg_base.specs.declared.ids.Oid.{Oid}
 use Rattle.tg_base.specs.declared.marks.Part.{Part}
 use Rattle.tg_base.specs.declared.marks.ReadMark.{ReadMark}
 use Rattle.tg_entry.specs.declared.entry.WriteOp.{WriteOp}
 use Rattle.tg_kind.specs.Meaning.{Meaning}
-use Rattle.tg_protocol.specs.Words.{oid_eq}
 use Rattle.tg_protocol.specs.Versions.{Based, PartVersion, version_of, with_change}
 use Rattle.tg_protocol.specs.Views.{Base, View, base_of, state_in, state_of, past, plays, with_state, set_state, applied, touched, note, write_by, write, version_by, played_versions}
 use Rattle.tg_vers.specs.Kept.{Objects, Keeps}

@@ -5,12 +5,11 @@ use Rattle.std.specs.BTreeSet.{insert_key}
 use Rattle.std.specs.Map.{remove_entry}
 use Rattle.std.specs.Ordering.{nat_cmp}
 use Rattle.std.proofs.Common.{sym, ap, ◌∙◌, subst, arith}
-use Rattle.tg_base.specs.Orders.{oid_cmp}
+use Rattle.tg_base.specs.Orders.{oid_cmp, oid_eq}
 use Rattle.tg_base.specs.declared.ids.Oid.{Oid}
 use Rattle.tg_base.specs.declared.marks.Part.{Part}
 use Rattle.tg_entry.specs.declared.entry.Entry.{Entry}
 use Rattle.tg_entry.specs.Drafts.{IsInOrder}
-use Rattle.tg_protocol.specs.Words.{oid_eq}
 use Rattle.tg_protocol.specs.Views.{Entries}
 use Rattle.tg_vers.specs.Kept.{kept_of}
 use Rattle.tg_vers.proofs.Lookups.{lookup_put, lookup_taken}

@@ -11,7 +11,7 @@ use Rattle.tg_base.specs.Parts.{part_cmp}
 use Rattle.tg_base.specs.declared.ids.Oid.{Oid}
 use Rattle.tg_base.specs.declared.marks.Part.{Part}
 use Rattle.tg_base.specs.declared.marks.Part.TheVariants.{All, Text, Num}
-use Rattle.tg_protocol.specs.Words.{is_whole}
+use Rattle.tg_kind.specs.Parts.{is_whole}
 use Rattle.tg_protocol.specs.Versions.{Versions, no_versions, based, with_change}
 use Rattle.tg_vers.specs.Kept as vers
 use Rattle.tg_vers.specs.Kept.{Objects, Keeps, unchanged, kept_of, keys_kept, based_kept, noted_in, noted}

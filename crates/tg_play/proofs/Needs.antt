@@ -10,7 +10,8 @@ use Rattle.tg_entry.specs.declared.entry.Body.{Body}
 use Rattle.tg_entry.specs.declared.entry.Body.TheVariants.{Commit, Decision, Checkpoint}
 use Rattle.tg_entry.specs.declared.entry.Entry.{Entry}
 use Rattle.tg_entry.specs.Needs as short
-use Rattle.tg_protocol.specs.Words.{oid_eq, oid_lt, with_oid, rising_oids}
+use Rattle.tg_protocol.specs.Words.{with_oid, rising_oids}
+use Rattle.tg_base.specs.Orders.{oid_eq, oid_lt}
 use Rattle.tg_protocol.specs.Entries.{read_oid, write_oid, needs_decision}
 use Rattle.tg_play.proofs.Hosting.{same_oid, oid_itself}
 

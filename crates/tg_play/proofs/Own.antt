@@ -3,7 +3,8 @@ use Rattle.std.specs.Prelude.{◌≡◌, ℕ, ◌≤◌, Bool, true, false, cond
 use Rattle.std.proofs.Common.{sym, ap, ◌∙◌, arith}
 use Rattle.tg_base.specs.declared.ids.Oid.{Oid}
 use Rattle.tg_base.specs.declared.marks.Part.{Part}
-use Rattle.tg_protocol.specs.Words.{oid_eq, is_whole, overlap}
+use Rattle.tg_kind.specs.Parts.{is_whole, overlap}
+use Rattle.tg_base.specs.Orders.{oid_eq}
 use Rattle.tg_protocol.specs.Versions.{Versions, Based, PartVersion, noted_or, version_of, whole_noted, with_part, parts_noted, base_parts, parts_of}
 use Rattle.tg_play.specs.Kept.{own_noted, own}
 use Rattle.tg_play.specs.Relations.{AtMost}

@@ -2,10 +2,9 @@
 use Rattle.std.specs.Prelude.{◌≡◌, ℕ, ◌<◌, Bool, true, false, cond, List, [], ◌∷◌, remove, slice_get, map, find, Option, Some, refl}
 use Rattle.std.specs.BTreeMap.{insert_entry}
 use Rattle.std.proofs.Common.{suc, length, take, drop, sym, ap, ◌∙◌, subst}
-use Rattle.tg_base.specs.Orders.{oid_cmp}
+use Rattle.tg_base.specs.Orders.{oid_cmp, oid_eq}
 use Rattle.tg_base.specs.declared.ids.Oid.{Oid}
 use Rattle.tg_kind.specs.Meaning.{Meaning}
-use Rattle.tg_protocol.specs.Words.{oid_eq}
 use Rattle.tg_protocol.specs.Versions.{PartVersion}
 use Rattle.tg_protocol.specs.Views as told
 use Rattle.tg_vers.specs.Kept.{Keeps}

@@ -9,7 +9,8 @@ use Rattle.tg_base.specs.declared.marks.Part.{Part}
 use Rattle.tg_base.specs.declared.marks.Part.TheVariants.{All, Text, Num}
 use Rattle.tg_entry.specs.Reads.{is_all}
 use Rattle.tg_entry.specs.Records.{keys_rise}
-use Rattle.tg_protocol.specs.Words.{oid_eq, is_whole}
+use Rattle.tg_kind.specs.Parts.{is_whole}
+use Rattle.tg_base.specs.Orders.{oid_eq}
 use Rattle.tg_protocol.specs.Versions.{Versions, Based, PartVersion, version_of, whole_noted, with_part, parts_noted, parts_based, base_parts, Parts, parts_of}
 use Rattle.tg_vers.specs.Kept as vers
 use Rattle.tg_vers.specs.Kept.{Objects, Keeps, kept_of, version_kept, parts_kept}

@@ -5,11 +5,10 @@ use Rattle.std.specs.BTreeMap.{insert_entry, is_at}
 use Rattle.std.specs.BTreeSet.{insert_key}
 use Rattle.std.specs.Map.{lookup}
 use Rattle.std.specs.Ordering.{nat_cmp}
-use Rattle.tg_base.specs.Orders.{oid_cmp}
+use Rattle.tg_base.specs.Orders.{oid_cmp, oid_eq}
 use Rattle.tg_base.specs.declared.ids.Oid.{Oid}
 use Rattle.tg_entry.specs.declared.entry.Body.{Body}
 use Rattle.tg_entry.specs.declared.entry.Body.TheVariants.{Commit, Decision, Checkpoint}
-use Rattle.tg_protocol.specs.Words.{oid_eq}
 use Rattle.tg_protocol.specs.Versions.{Versions, Based, PartVersion}
 use Rattle.tg_protocol.specs.Views.{Entries}
 use Rattle.tg_play.specs.declared.base.Base.{Base}

@@ -8,19 +8,16 @@ use Rattle.tg_base.specs.declared.marks.StreamLink.{StreamLink}
 use Rattle.tg_base.specs.declared.msg.Msg.TheVariants as msg
 use Rattle.tg_base.specs.declared.packet.Out.{Out}
 use Rattle.tg_entry.specs.declared.entry.Entry.{Entry}
-use Rattle.tg_protocol.specs.Words.{seqr_id, oid_eq, cell_eq, too_far}
-use Rattle.tg_protocol.specs.Entries.{streams_of, linked}
+use Rattle.tg_protocol.specs.Words.{seqr_id, cell_eq, too_far}
+use Rattle.tg_base.specs.Orders.{oid_eq}
+use Rattle.tg_protocol.specs.Entries.{streams_of}
+use Rattle.tg_entry.specs.Records.{is_falling, linked}
 use Rattle.tg_protocol.specs.Pages.{page_of}
 use Rattle.tg_protocol.specs.Requests.{out, Next, Goes, Learns, Ends, Turn, turn, passes, draws, ends, learns, met_gone}
 use Rattle.tg_protocol.specs.Replies.{Reply, IsIssued, IsOldEpoch, IsFull}
 use Rattle.tg_protocol.specs.Cells.{CellJob, CellEnd, CellTurn, Done, Seen, Lost, Fenced, Gone, place_in, put_cell, fill_cell, cell_asks, cell_feed}
 
 -- What a sequencer's answer must keep.
-
-abbrev pub is_falling : List ℕ → Bool
-is_falling [] = true
-is_falling (x ∷ []) = true
-is_falling (x ∷ y ∷ ys) = nat_lt y x && is_falling (y ∷ ys)
 
 abbrev pub is_link : StreamLink → Bool
 is_link l = is_falling l.backs && nat_le (length l.backs) 4 && list_all (λ p. not (too_far p)) l.backs

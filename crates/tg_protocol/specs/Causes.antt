@@ -46,13 +46,13 @@ most many.Hosted = 128
 most many.Ranges = 32
 most many.Units = 5
 
-abbrev pub reads_in : Option Tx → List ReadMark
-reads_in None = []
-reads_in (Some t) = t.reads
+abbrev pub tx_reads : Option Tx → List ReadMark
+tx_reads None = []
+tx_reads (Some t) = t.reads
 
-abbrev pub writes_in : Option Tx → List WriteOp
-writes_in None = []
-writes_in (Some t) = t.writes
+abbrev pub tx_writes : Option Tx → List WriteOp
+tx_writes None = []
+tx_writes (Some t) = t.writes
 
 -- the chain that a unit joins
 abbrev pub joined_chain : Layout → Option Join → List ℕ
@@ -102,12 +102,12 @@ module _ (m : Meaning) where
 
   -- the reads and writes that the transaction would have with it
   abbrev pub reads_with : Option Tx → CommandOf m → List ReadMark
-  reads_with t (cmd.Ask o q) = with_read (record { oid = o; part = m.look q; version = 0 }) (reads_in t)
-  reads_with t x = reads_in t
+  reads_with t (cmd.Ask o q) = with_read (record { oid = o; part = m.look q; version = 0 }) (tx_reads t)
+  reads_with t x = tx_reads t
 
   abbrev pub writes_with : Option Tx → CommandOf m → List WriteOp
-  writes_with t (cmd.Put o op) = writes_in t ++ write_of m o op ∷ []
-  writes_with t x = writes_in t
+  writes_with t (cmd.Put o op) = tx_writes t ++ write_of m o op ∷ []
+  writes_with t x = tx_writes t
 
   abbrev pub hosted_with : List Oid → CommandOf m → List Oid
   hosted_with os (cmd.Host o) = with_oid o os

@@ -3,7 +3,6 @@ use Rattle.std.specs.Prelude.{ℕ, Bool, not, ◌&&◌, nat_lt, nat_le, List, []
 use Rattle.tg_base.specs.Layouts.{Layout}
 use Rattle.tg_base.specs.Clusters.{Header}
 use Rattle.tg_base.specs.declared.cell.Cell.{Cell}
-use Rattle.tg_base.specs.declared.cell.Cell.TheVariants.{Junk, Data}
 use Rattle.tg_base.specs.declared.fault.Many.TheVariants as many
 use Rattle.tg_base.specs.declared.ids.Oid.{Oid}
 use Rattle.tg_base.specs.declared.marks.Part.{Part}
@@ -11,18 +10,19 @@ use Rattle.tg_base.specs.declared.marks.StreamLink.{StreamLink}
 use Rattle.tg_entry.specs.declared.entry.WriteOp.{WriteOp}
 use Rattle.tg_entry.specs.declared.entry.Entry.{Entry}
 use Rattle.tg_kind.specs.Meaning.{Meaning}
-use Rattle.tg_protocol.specs.Words.{oid_eq, oid_lt, has_oid, with_nums, cell_at, directory, first_some, where_true}
+use Rattle.tg_protocol.specs.Words.{has_oid, with_nums, cell_at, directory, first_some, where_true}
+use Rattle.tg_base.specs.Orders.{oid_eq, oid_lt}
 use Rattle.tg_proj.specs.declared.fault.ProjFault.{ProjFault}
 use Rattle.tg_proj.specs.declared.fault.ProjFault.TheVariants as layout
 use Rattle.tg_protocol.specs.Layouts.{first_layout, change_fault, spare_fault}
-use Rattle.tg_protocol.specs.Pages.{entry_of}
+use Rattle.tg_protocol.specs.Pages.{cell_entry}
 use Rattle.tg_protocol.specs.Requests.{Waits}
 use Rattle.tg_protocol.specs.Appending.{Append}
 use Rattle.tg_protocol.specs.Syncing.{Sync}
 use Rattle.tg_protocol.specs.Walking.{Walk}
 use Rattle.tg_protocol.specs.Trimming.{Trims, Copying}
 use Rattle.tg_protocol.specs.Reconfiguring.{Reconf}
-use Rattle.tg_protocol.specs.Views.{Entries, View}
+use Rattle.tg_protocol.specs.Views.{Entries, View, entry_if}
 use Rattle.tg_protocol.specs.Transactions.{Tx, TxFault, read_fault, write_fault}
 use Rattle.tg_protocol.specs.Transactions as tx
 use Rattle.tg_model.specs.declared.command.Command.TheVariants as cmd
@@ -150,15 +150,6 @@ module _ (m : Meaning) where
       if oid_eq x.0 o then (x.0, with_nums ps x.1) ∷ xs else (if oid_lt o x.0 then (o, with_nums ps []) ∷ x ∷ xs else x ∷ with_positions xs o ps)
 
   -- Entries that a client has.
-
-  abbrev pub entry_if : ℕ → Option Entry → Entries → Entries
-  entry_if p None es = es
-  entry_if p (Some e) es = (p, e) ∷ es
-
-  abbrev pub cell_entry : Option Cell → Option Entry
-  cell_entry None = None
-  cell_entry (Some Junk) = None
-  cell_entry (Some (Data d)) = entry_of d
 
   -- the entries at these positions, as far as their pages are known
   unfoldable pub entries_at : List (ℕ × Cell) → List ℕ → Entries

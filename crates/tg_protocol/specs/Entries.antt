@@ -10,7 +10,8 @@ use Rattle.tg_entry.specs.declared.entry.WriteOp.{WriteOp}
 use Rattle.tg_entry.specs.declared.entry.Body.{Body}
 use Rattle.tg_entry.specs.declared.entry.Body.TheVariants.{Commit, Decision, Checkpoint}
 use Rattle.tg_entry.specs.declared.entry.Entry.{Entry}
-use Rattle.tg_protocol.specs.Words.{oid_eq, rising_oids, where_true}
+use Rattle.tg_protocol.specs.Words.{rising_oids, where_true}
+use Rattle.tg_base.specs.Orders.{oid_eq}
 
 -- Sizes, in bytes.
 
@@ -78,10 +79,6 @@ streams_of e = map oid_of_link e.head.streams
 -- an entry before its position is issued: in these streams, rising, by this client
 abbrev pub draft : ℕ → ℕ → List Oid → Body → Entry
 draft client number oids body = record { head = record { format = 2; client = client; number = number; streams = map unlinked oids }; body = body }
-
--- the draft with the links that were issued
-abbrev pub linked : Entry → List StreamLink → Entry
-linked e ls = record { head = record { format = e.head.format; client = e.head.client; number = e.head.number; streams = ls }; body = e.body }
 
 -- Commit records.
 

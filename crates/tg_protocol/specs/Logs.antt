@@ -3,7 +3,6 @@ use Rattle.std.specs.Prelude.{ℕ, zero, suc, ◌+◌, Bool, true, false, ◌&&�
 use Rattle.std.specs.List.{list_any, list_all}
 use Rattle.tg_base.specs.Layouts.{Layout}
 use Rattle.tg_base.specs.declared.cell.Cell.{Cell}
-use Rattle.tg_base.specs.declared.cell.Cell.TheVariants.{Junk, Data}
 use Rattle.tg_base.specs.declared.ids.Ballot.{Ballot}
 use Rattle.tg_base.specs.declared.ids.Oid.{Oid}
 use Rattle.tg_base.specs.declared.marks.Part.{Part}
@@ -14,14 +13,15 @@ use Rattle.tg_base.specs.declared.packet.Packet.{Packet}
 use Rattle.tg_entry.specs.declared.entry.WriteOp.{WriteOp}
 use Rattle.tg_entry.specs.declared.entry.Entry.{Entry}
 use Rattle.tg_kind.specs.Meaning.{Meaning}
-use Rattle.tg_protocol.specs.Words.{node_eq, layout_id, ballot_eq, cell_eq, cell_at, with_nums, where_true, or_else}
+use Rattle.tg_protocol.specs.Words.{node_eq, layout_id, cell_eq, cell_at, with_nums, where_true, or_else}
+use Rattle.tg_base.specs.Orders.{ballot_eq}
 use Rattle.tg_protocol.specs.Layouts.{chain_of}
 use Rattle.tg_protocol.specs.Units.{UnitState, new_unit}
 use Rattle.tg_protocol.specs.Entries.{is_commit, reads_of, writes_of, lists}
-use Rattle.tg_protocol.specs.Pages.{entry_of}
+use Rattle.tg_protocol.specs.Pages.{entry_in, cell_entry}
 use Rattle.tg_protocol.specs.Walking.{Trail, trail, next_of_trail, trail_after, pointers_at}
 use Rattle.tg_protocol.specs.Versions.{PartVersion, noted_or}
-use Rattle.tg_protocol.specs.Views.{Entries, touched}
+use Rattle.tg_protocol.specs.Views.{Entries, entry_if, touched}
 use Rattle.tg_model.specs.Kinds.{DoneOf}
 
 -- Decided layouts: over all packets that were ever sent.
@@ -122,14 +122,6 @@ log_of q us archive = cells_of q us archive (with_nums (positions archive) (all_
 
 -- Entries of the log.
 
-abbrev pub entry_in : Cell → Option Entry
-entry_in Junk = None
-entry_in (Data d) = entry_of d
-
-abbrev pub entry_if : ℕ → Option Entry → Entries → Entries
-entry_if p None es = es
-entry_if p (Some e) es = (p, e) ∷ es
-
 unfoldable pub entries_of : Log → Entries
 entries_of [] = []
 entries_of (x ∷ xs) = entry_if x.0 (entry_in x.1) (entries_of xs)
@@ -141,10 +133,6 @@ members_in (x ∷ xs) o lo hi = if nat_le lo x.0 && nat_lt x.0 hi && lists x.1 o
 -- the positions from lo on and below hi with an entry that lists the stream
 unfoldable pub members : Log → Oid → ℕ → ℕ → List ℕ
 members l o lo hi = members_in (entries_of l) o lo hi
-
-abbrev pub cell_entry : Option Cell → Option Entry
-cell_entry None = None
-cell_entry (Some c) = entry_in c
 
 abbrev pub entry_at : Log → ℕ → Option Entry
 entry_at l p = cell_entry (cell_at l p)

@@ -6,7 +6,8 @@ use Rattle.tg_base.specs.declared.change.Join.{Join}
 use Rattle.tg_base.specs.declared.ids.Ballot.{Ballot}
 use Rattle.tg_base.specs.declared.msg.Msg.TheVariants as msg
 use Rattle.tg_base.specs.declared.packet.Out.{Out}
-use Rattle.tg_protocol.specs.Words.{unit_id, layout_id, seqr_id, ballot_lt, ballot_eq, numbers}
+use Rattle.tg_protocol.specs.Words.{unit_id, layout_id, seqr_id, ballot_lt, numbers}
+use Rattle.tg_base.specs.Orders.{ballot_eq}
 use Rattle.tg_proj.specs.Refusals.{new_start}
 use Rattle.tg_protocol.specs.Layouts.{next_units, next_of}
 use Rattle.tg_protocol.specs.Requests.{out, Waits, waits_for, asked_of, without_wait, Goes, Turn, turn, passes, draws, ends}

@@ -10,7 +10,7 @@ use Rattle.tg_base.specs.declared.msg.Msg.{Msg}
 use Rattle.tg_base.specs.declared.msg.Msg.TheVariants as msg
 use Rattle.tg_base.specs.declared.packet.Out.{Out}
 use Rattle.tg_entry.specs.declared.entry.Entry.{Entry}
-use Rattle.tg_protocol.specs.Words.{oid_eq}
+use Rattle.tg_base.specs.Orders.{oid_eq}
 use Rattle.tg_protocol.specs.Entries.{streams_of, link_of, unlinked}
 use Rattle.tg_protocol.specs.Pages.{entry_of}
 use Rattle.tg_protocol.specs.Requests.{out, awaits, drawn_from, Next, Goes, Learns, Ends, Turn}

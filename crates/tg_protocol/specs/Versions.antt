@@ -4,7 +4,9 @@ use Rattle.tg_base.specs.declared.ids.Oid.{Oid}
 use Rattle.tg_base.specs.declared.marks.Part.{Part}
 use Rattle.tg_base.specs.declared.marks.Part.TheVariants.{All, Text, Num}
 use Rattle.tg_base.specs.declared.marks.ReadMark.{ReadMark}
-use Rattle.tg_protocol.specs.Words.{oid_eq, part_eq, part_lt, is_whole, overlap}
+use Rattle.tg_protocol.specs.Words.{part_lt}
+use Rattle.tg_kind.specs.Parts.{part_eq, is_whole, overlap}
+use Rattle.tg_base.specs.Orders.{oid_eq}
 
 -- the versions of one object that a checkpoint tells
 pub record Based : Type 0 where

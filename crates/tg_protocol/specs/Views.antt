@@ -10,13 +10,19 @@ use Rattle.tg_entry.specs.declared.entry.Entry.{Entry}
 use Rattle.tg_kind.specs.Meaning.{Meaning}
 use Rattle.tg_model.specs.declared.play.PlayEnd.{PlayEnd}
 use Rattle.tg_model.specs.declared.play.PlayEnd.TheVariants.{Played, Blocked}
-use Rattle.tg_protocol.specs.Words.{oid_eq, or_else}
+use Rattle.tg_protocol.specs.Words.{or_else}
+use Rattle.tg_base.specs.Orders.{oid_eq}
 use Rattle.tg_protocol.specs.Entries.{is_commit, reads_of, writes_of, decides, needs_decision}
 use Rattle.tg_protocol.specs.Versions.{Versions, PartVersion, Changed, no_versions, version_of, first_changed, Parts, parts_of}
 
 -- entries with their positions, rising
 abbrev pub Entries : Type 0
 Entries = List (ℕ × Entry)
+
+-- with an entry at its position, where there is one
+abbrev pub entry_if : ℕ → Option Entry → Entries → Entries
+entry_if p None es = es
+entry_if p (Some e) es = (p, e) ∷ es
 
 -- what the decision records among the entries say of a position; the first one counts
 unfoldable pub decision_in : Entries → ℕ → Option Bool

@@ -4,6 +4,7 @@ use Rattle.std.specs.Ordering.{nat_cmp}
 use Rattle.std.specs.Map.{lookup}
 use Rattle.std.specs.BTreeMap.{insert_entry, is_at}
 use Rattle.std.specs.List.{list_any}
+use Rattle.tg_base.specs.Orders.{oid_eq, oid_lt}
 use Rattle.tg_base.specs.declared.cell.Cell.{Cell}
 use Rattle.tg_base.specs.declared.cell.Cell.TheVariants.{Junk, Data}
 use Rattle.tg_base.specs.declared.ids.Ballot.{Ballot}
@@ -41,16 +42,7 @@ client_id n = record { role = role.Client; num = n }
 abbrev pub ballot_lt : Ballot → Ballot → Bool
 ballot_lt a b = nat_lt a.round b.round || ((a.round == b.round) && nat_lt a.client b.client)
 
-abbrev pub ballot_eq : Ballot → Ballot → Bool
-ballot_eq a b = (a.round == b.round) && (a.client == b.client)
-
 -- Objects and parts.
-
-abbrev pub oid_eq : Oid → Oid → Bool
-oid_eq a b = a.0 == b.0
-
-abbrev pub oid_lt : Oid → Oid → Bool
-oid_lt a b = nat_lt a.0 b.0
 
 -- the directory, `dir0`
 abbrev pub directory : Oid
@@ -66,12 +58,6 @@ bytes_lt [] (y ∷ ys) = true
 bytes_lt (x ∷ xs) (y ∷ ys) = nat_lt x y || ((x == y) && bytes_lt xs ys)
 bytes_lt _ [] = false
 
-unfoldable pub part_eq : Part → Part → Bool
-part_eq All All = true
-part_eq (Text a) (Text b) = bytes_eq a b
-part_eq (Num a) (Num b) = a == b
-part_eq _ _ = false
-
 -- the whole first, then texts by their bytes, then numbers
 unfoldable pub part_lt : Part → Part → Bool
 part_lt All All = false
@@ -80,14 +66,6 @@ part_lt (Text a) (Text b) = bytes_lt a b
 part_lt (Text a) (Num b) = true
 part_lt (Num a) (Num b) = nat_lt a b
 part_lt _ _ = false
-
-abbrev pub is_whole : Part → Bool
-is_whole All = true
-is_whole _ = false
-
--- two parts overlap where one is the whole, or both name the same key
-abbrev pub overlap : Part → Part → Bool
-overlap a b = is_whole a || is_whole b || part_eq a b
 
 unfoldable pub cell_eq : Cell → Cell → Bool
 cell_eq Junk Junk = true

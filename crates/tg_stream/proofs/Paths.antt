@@ -11,7 +11,7 @@ use Rattle.tg_base.specs.declared.ids.NodeId.{NodeId}
 use Rattle.tg_base.specs.declared.ids.Oid.{Oid}
 use Rattle.tg_base.specs.declared.msg.Msg.{Msg}
 use Rattle.tg_protocol.specs.Words.{cell_at, with_cell, where_true}
-use Rattle.tg_protocol.specs.Appending.{is_falling}
+use Rattle.tg_entry.specs.Records.{is_falling}
 use Rattle.tg_protocol.specs.Logs.{Log, path, path_on, first_on}
 use Rattle.tg_protocol.specs.Requests.{Next, Goes, Learns, Ends}
 use Rattle.tg_protocol.specs.Replies.{Reply, reply}

@@ -6,7 +6,8 @@ use Rattle.tg_base.specs.declared.marks.StreamLink.{StreamLink}
 use Rattle.tg_codec.specs.Whole.{whole}
 use Rattle.tg_entry.specs.declared.entry.Entry.{Entry}
 use Rattle.tg_entry.specs.Format.{entry}
-use Rattle.tg_protocol.specs.Words.{oid_eq, where_true}
+use Rattle.tg_protocol.specs.Words.{where_true}
+use Rattle.tg_base.specs.Orders.{oid_eq}
 use Rattle.tg_protocol.specs.Entries.{backs_of, link_of}
 use Rattle.tg_protocol.specs.Pages.{entry_of, if_read}
 use Rattle.tg_protocol.specs.Walking.{listed}

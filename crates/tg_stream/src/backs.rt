@@ -2,7 +2,8 @@
 
 ghost use Rattle.std.specs.Prelude.{◌≡◌, ◌≤◌, ◌+◌, ◌++◌, nat_lt, length, filter, Some, IfOk};
 ghost use Rattle.std.specs.List.{list_any};
-ghost use Rattle.tg_protocol.specs.Words.{oid_eq, where_true};
+ghost use Rattle.tg_protocol.specs.Words.{where_true};
+ghost use Rattle.tg_base.specs.Orders.{oid_eq};
 ghost use Rattle.tg_protocol.specs.Entries.{backs_of, link_of};
 ghost use Rattle.tg_protocol.specs.Pages.{entry_of};
 ghost use Rattle.tg_protocol.specs.Walking.{listed, pointers_at};

@@ -5,12 +5,12 @@ use Rattle.std.specs.Cmp.{IsTotalOrder, eq_by_cmp_equiv, nat_cmp_total, nat_eq_e
 use Rattle.std.specs.Map.{lookup, remove_entry}
 use Rattle.std.specs.Ordering.{is_eq}
 use Rattle.std.proofs.Common.{sym, ap, ◌∙◌, subst}
-use Rattle.tg_base.specs.Orders.{oid_cmp}
+use Rattle.tg_base.specs.Orders.{oid_cmp, oid_eq}
 use Rattle.tg_base.specs.Parts.{part_cmp}
 use Rattle.tg_base.specs.declared.ids.Oid.{Oid}
 use Rattle.tg_base.specs.declared.marks.Part.{Part}
 use Rattle.tg_base.specs.declared.marks.Part.TheVariants.{All, Text, Num}
-use Rattle.tg_protocol.specs.Words.{oid_eq, part_eq, is_whole, overlap}
+use Rattle.tg_kind.specs.Parts.{part_eq, is_whole, overlap}
 use Rattle.tg_protocol.specs.Versions.{Versions, Based, PartVersion, no_versions, based, key_version, version_in, base_version, noted_or, version_of, with_change, whole_noted, with_part, parts_noted, parts_based, base_parts, parts_of}
 use Rattle.tg_vers.specs.Kept.{Kept, Objects, Keeps, unchanged, version_kept, parts_kept, kept_of, noted_in, noted, keys_kept, based_kept, base_kept, notes_kept}
 use Rattle.tg_vers.proofs.Lookups.{lookup_put, lookup_taken}
@@ -119,7 +119,6 @@ same_noted x f ps w (Num m) n h = record {
 -- ---- a base
 
 no_whole : (p x : Part) → is_whole p ≡ false → is_whole x ≡ true → part_eq p x ≡ false
-unfolding part_eq
 no_whole All x d e = absurd cc
 no_whole (Text s) All d e = refl
 no_whole (Text s) (Text t) d e = absurd cc

@@ -1,6 +1,6 @@
 -- The order of parts, and the tests of the definitions by it.
 use Rattle.std.specs.Prelude.{◌≡◌, ℕ, Bool, true, false, cond, ◌&&◌, ◌||◌, ◌==◌, nat_lt, List, [], ◌∷◌, refl}
-use Rattle.std.specs.Cmp.{IsTotalOrder, nat_cmp_total, unsigned_ties, unsigned_Decides, both_tied}
+use Rattle.std.specs.Cmp.{IsTotalOrder, nat_cmp_total, unsigned_ties, unsigned_Decides}
 use Rattle.std.specs.Cmp.Lexicographic.{slice_cmp, nat_list_cmp_total, texts_ties, bytes_decides}
 use Rattle.std.specs.Ordering.{nat_cmp, is_eq, is_lt, ordering_then, ordering_reverse}
 use Rattle.std.specs.declared.cmp.Ordering.{Ordering}
@@ -9,7 +9,8 @@ use Rattle.std.proofs.Common.{ap, ◌∙◌}
 use Rattle.tg_base.specs.Parts.{part_cmp}
 use Rattle.tg_base.specs.declared.marks.Part.{Part}
 use Rattle.tg_base.specs.declared.marks.Part.TheVariants.{All, Text, Num}
-use Rattle.tg_protocol.specs.Words.{bytes_eq, bytes_lt, part_eq, part_lt}
+use Rattle.tg_protocol.specs.Words.{bytes_lt, part_lt}
+use Rattle.tg_kind.specs.Parts.{part_eq}
 
 turned : (a b : Part) → part_cmp a b ≡ ordering_reverse (part_cmp b a)
 turned All All = refl
@@ -68,13 +69,6 @@ part_total = record {
   congr = λ a b c e. ap (λ (p : Part). part_cmp p c) (same_part a b e);
 }
 
-texts_eq : (s t : List ℕ) → bytes_eq s t ≡ is_eq (slice_cmp nat_cmp s t)
-unfolding bytes_eq
-texts_eq [] [] = refl
-texts_eq [] (y ∷ ys) = refl
-texts_eq (x ∷ xs) [] = refl
-texts_eq (x ∷ xs) (y ∷ ys) = both_tied _ _ (nat_cmp x y) (slice_cmp nat_cmp xs ys) (unsigned_ties x y) (texts_eq xs ys)
-
 below_then : (below level : Bool) (rest : Bool) (r : Ordering) → rest ≡ is_lt r → (below || (level && rest)) ≡ is_lt (ordering_then (cond below Less (cond level Equal Greater)) r)
 below_then true level rest r e = refl
 below_then false true rest r e = e
@@ -93,12 +87,11 @@ numbers_lt false true = refl
 numbers_lt false false = refl
 
 pub part_eq_is : (a b : Part) → part_eq a b ≡ is_eq (part_cmp a b)
-unfolding part_eq
 part_eq_is All All = refl
 part_eq_is All (Text t) = refl
 part_eq_is All (Num n) = refl
 part_eq_is (Text s) All = refl
-part_eq_is (Text s) (Text t) = texts_eq s t
+part_eq_is (Text s) (Text t) = texts_ties s t
 part_eq_is (Text s) (Num n) = refl
 part_eq_is (Num m) All = refl
 part_eq_is (Num m) (Text t) = refl

@@ -10,7 +10,7 @@ use Rattle.std.proofs.Common.{sym, ap, ◌∙◌, subst, arith}
 use Rattle.std.proofs.lemmas.Bool.Decides.{nat_tests}
 use Rattle.tg_base.specs.Parts.{part_cmp}
 use Rattle.tg_base.specs.declared.marks.Part.{Part}
-use Rattle.tg_protocol.specs.Words.{part_eq, is_whole}
+use Rattle.tg_kind.specs.Parts.{part_eq, is_whole}
 use Rattle.tg_protocol.specs.Versions.{with_part}
 use Rattle.tg_vers.proofs.Order.{part_total, part_eq_is, part_lt_is, same_part}
 

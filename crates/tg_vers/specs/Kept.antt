@@ -9,7 +9,7 @@ use Rattle.tg_base.specs.declared.ids.Oid.{Oid}
 use Rattle.tg_base.specs.declared.marks.Part.{Part}
 use Rattle.tg_base.specs.declared.marks.Part.TheVariants.{All, Text, Num}
 use Rattle.tg_base.specs.declared.marks.ReadMark.{ReadMark}
-use Rattle.tg_protocol.specs.Words.{is_whole}
+use Rattle.tg_kind.specs.Parts.{is_whole}
 use Rattle.tg_protocol.specs.Versions.{Versions, Based, PartVersion, Changed, Parts}
 
 -- the versions of one object's parts

@@ -5,7 +5,7 @@ ghost use Rattle.std.specs.BTreeMap.{insert_entry, is_at};
 ghost use Rattle.std.specs.Map.{lookup};
 ghost use Rattle.tg_base.specs.Parts.{part_cmp};
 ghost use Rattle.tg_base.specs.declared.marks.Part.{Part};
-ghost use Rattle.tg_protocol.specs.Words.{is_whole};
+ghost use Rattle.tg_kind.specs.Parts.{is_whole};
 ghost use Rattle.tg_vers.specs.Kept.{unchanged, version_kept, parts_kept, noted_in, based_kept, keys_kept};
 
 use std::alloc::{AllocError, Global};

@@ -7,8 +7,9 @@ use Rattle.tg_entry.specs.declared.entry.Entry.{Entry}
 use Rattle.tg_kind.specs.Meaning.{Meaning}
 use Rattle.tg_model.specs.Kinds.{DoneOf}
 use Rattle.tg_protocol.specs.Versions.{PartVersion, no_versions}
-use Rattle.tg_protocol.specs.Views.{Entries}
-use Rattle.tg_protocol.specs.Logs.{Log, entry_in, entry_if, entries_of, commits_after, changes_after, done_if, history_after, history_of}
+use Rattle.tg_protocol.specs.Views.{Entries, entry_if}
+use Rattle.tg_protocol.specs.Logs.{Log, entries_of, commits_after, changes_after, done_if, history_after, history_of}
+use Rattle.tg_protocol.specs.Pages.{entry_in}
 use Rattle.tg_vers.specs.Kept.{Objects, Keeps}
 use Rattle.tg_world_log.specs.Turns.{changed, dones_of, dones_by, changes_by}
 

@@ -4,7 +4,8 @@ ghost use Rattle.std.specs.Prelude.{◌≡◌, ◌++◌, ◌<◌, ◌^◌, ◌�
 ghost use Rattle.std.specs.List.{list_all};
 ghost use Rattle.tg_entry.specs.Answers.{Decodes};
 ghost use Rattle.tg_kind.specs.Of.{meaning_of};
-ghost use Rattle.tg_protocol.specs.Logs.{entry_in, is_current, change_of, with_changes, changes_after, ops_of, op_if, history_of};
+ghost use Rattle.tg_protocol.specs.Logs.{is_current, change_of, with_changes, changes_after, ops_of, op_if, history_of};
+ghost use Rattle.tg_protocol.specs.Pages.{entry_in};
 ghost use Rattle.tg_protocol.specs.Versions.{PartVersion};
 ghost use Rattle.tg_vers.specs.Kept.{Keeps};
 ghost use Rattle.tg_world_log.specs.Turns.{changed, changes_by, dones_by, dones_of};

@@ -2,7 +2,7 @@ use Rattle.std.proofs.Common.{◌≡◌, ℕ, ◌+◌, ◌-◌, ◌<◌, cond, l
 use Rattle.std.specs.List.{list_any}
 use Rattle.std.proofs.lemmas.List.{take_rest}
 use Rattle.tg_entry.specs.declared.entry.WriteOp.{WriteOp}
-use Rattle.tg_protocol.specs.Words.{oid_eq}
+use Rattle.tg_base.specs.Orders.{oid_eq}
 use Rattle.tg_protocol.specs.Transactions.{tx_streams}
 use Rattle.tg_tx.proofs.Orders.{count_at}
 use Rattle.tg_tx.proofs.writes.stream_count.Goals as goal

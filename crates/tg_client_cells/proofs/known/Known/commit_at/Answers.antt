@@ -1,7 +1,8 @@
 use Rattle.std.proofs.Common.{None, cond, sym, ap, ◌∙◌}
 use Rattle.tg_protocol.specs.Words.{cell_at}
 use Rattle.tg_stream.proofs.Subs.{ok_then}
-use Rattle.tg_client_cells.specs.Words.{cell_entry, commit_of}
+use Rattle.tg_client_cells.specs.Words.{commit_of}
+use Rattle.tg_protocol.specs.Pages.{cell_entry}
 use Rattle.tg_client_cells.specs.Known.{Knowledge}
 use Rattle.tg_client_cells.proofs.Gathering.{commit_is}
 use Rattle.tg_client_cells.proofs.known.Known.commit_at.Goals as goal
