@@ -1,6 +1,7 @@
 -- What a transaction that is open has put and asked, by the trace.
 use Rattle.std.proofs.Common.{◌≡◌, ◌⊎◌, ℕ, ◌<◌, List, [], ◌∷◌, ◌++◌, map, Bool, true, false, refl, sym, ap, ◌∙◌, subst, inl, inr, arith, Option, Some, None}
 use Rattle.std.specs.Prelude.{if◌then◌else◌, ◌&&◌, ◌==◌}
+use Rattle.std.specs.Cmp.Lexicographic.{bytes_decides}
 use Rattle.tg_base.specs.declared.ids.Oid.{Oid}
 use Rattle.tg_base.specs.declared.marks.Part.{Part}
 use Rattle.tg_base.specs.declared.marks.Part.TheVariants.{All, Text, Num}
@@ -10,7 +11,6 @@ use Rattle.tg_kind.specs.Meaning.{Meaning}
 use Rattle.tg_model.specs.declared.trace.What.TheVariants as told
 use Rattle.tg_model.specs.Kinds.{WhatOf, MarkOf, NoteOf}
 use Rattle.tg_model.specs.Traces.{Trace, Tells, put_of, puts_of}
-use Rattle.tg_protocol.specs.Words.{bytes_eq}
 use Rattle.tg_kind.specs.Parts.{part_eq}
 use Rattle.tg_base.specs.Orders.{oid_eq}
 use Rattle.tg_protocol.specs.Views.{Entries}
@@ -23,19 +23,12 @@ use Rattle.tg_law_history.proofs.Members.{has_left, has_right, has_image, has_ei
 
 -- Parts.
 
-same_bytes : (s t : List ℕ) → bytes_eq s t ≡ true → s ≡ t
-unfolding bytes_eq
-same_bytes [] [] e = refl
-same_bytes [] (y ∷ ys) e = absurd cc
-same_bytes (x ∷ xs) [] e = absurd cc
-same_bytes (x ∷ xs) (y ∷ ys) e = let p = and_both (x == y) (bytes_eq xs ys) e in let a = same_number x y p.0 in let b = same_bytes xs ys p.1 in λ i. a i ∷ b i
-
 same_part_is : (a b : Part) → part_eq a b ≡ true → a ≡ b
 same_part_is All All e = refl
 same_part_is All (Text t) e = absurd cc
 same_part_is All (Num n) e = absurd cc
 same_part_is (Text s) All e = absurd cc
-same_part_is (Text s) (Text t) e = ap Text (same_bytes s t e)
+same_part_is (Text s) (Text t) e = ap Text ((bytes_decides s t).0 e)
 same_part_is (Text s) (Num n) e = absurd cc
 same_part_is (Num i) All e = absurd cc
 same_part_is (Num i) (Text t) e = absurd cc
