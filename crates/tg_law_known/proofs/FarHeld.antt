@@ -333,7 +333,7 @@ module _ (m : Meaning) (h : Header) (zs : Moves m) (r : Reaches m h zs (after m 
       hears_newer w q (Trimming t) at works less d = later_onto q less d
       hears_newer w q (Copying' y) at works less d = later_onto q less d
 
-      hears_all : Hears m (log m (after m h zs)) (Reached m h zs r trims fit c) (Past m h zs r trims fit c) (Told m h zs r trims fit c k) D cl.next cl x.from x.rid x.msg
+      pub hears_all : Hears m (log m (after m h zs)) (Reached m h zs r trims fit c) (Past m h zs r trims fit c) (Told m h zs r trims fit c k) D cl.next cl x.from x.rid x.msg
       hears_all = record {
         answer = hears_task;
         newer = λ w q works is b. hears_newer w q (task_in m w.hand) refl works (less_of (node_eq x.from (layout_id x.from.num)) cl.stand.epoch q.epoch b)
@@ -342,7 +342,7 @@ module _ (m : Meaning) (h : Header) (zs : Moves m) (r : Reaches m h zs (after m 
 
     -- A step.
 
-    none_told : (k : ℕ) (q : Layout) (rid : ℕ) (G : ℕ → Type 0) → (client_in m c k).next ≤ rid → Told m h zs r trims fit c k q rid G
+    pub none_told : (k : ℕ) (q : Layout) (rid : ℕ) (G : ℕ → Type 0) → (client_in m c k).next ≤ rid → Told m h zs r trims fit c k q rid G
     none_told k q rid G le a g to from number t ls tells =
         let b = (answers_hold m h xs).1.each q.seq a t ls g from tells in
         let less = (all.0.0.clients k).below b.ask b.has (b.from ∙ to) b.request in

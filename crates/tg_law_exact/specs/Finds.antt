@@ -1,0 +1,39 @@
+-- What exact syncs give of what clients find.
+use Rattle.tg_base.specs.Clusters.{Header}
+use Rattle.tg_kind.specs.Meaning.{Meaning}
+use Rattle.tg_protocol.specs.Runs.{Moves, Reaches}
+use Rattle.tg_protocol.specs.Worlds.{World}
+use Rattle.tg_law_history.specs.Worlds.{entries_in}
+use Rattle.tg_law_replies.specs.Found.{Fits}
+use Rattle.tg_law_replies.specs.Laws.{ClientsFind}
+use Rattle.tg_law_replies.specs.Runs.{InEachStep}
+use Rattle.tg_law_replies.specs.Steps.{EachEvent}
+use Rattle.tg_law_lists.specs.Spared.{TrimsWereSpare}
+use Rattle.tg_law_finds.specs.Left.{IsBased, SavesPrecede, RoundsExact, RoundsKnown, PassesOwn}
+
+module _ (m : Meaning) where
+  -- what holds of each run in which trims were spare
+  abbrev pub ByRunsOfSpareTrims : (Header → Moves m → World m → Type 0) → Type 0
+  ByRunsOfSpareTrims P = (h : Header) (ms : Moves m) (w : World m) → Reaches m h ms w → TrimsWereSpare m h ms → P h ms w
+
+  abbrev pub RoundsExactBySpareTrims : Type 0
+  RoundsExactBySpareTrims = ByRunsOfSpareTrims (RoundsExact m)
+
+  abbrev pub RoundsKnownBySpareTrims : Type 0
+  RoundsKnownBySpareTrims = ByRunsOfSpareTrims (RoundsKnown m)
+
+  -- Wherever a step comes to the end of a command's walks, no base of a kept view is past the tail.
+  abbrev pub ViewsBelow : Header → Moves m → World m → Type 0
+  ViewsBelow h ms w = InEachStep m h ms (λ before v e. EachEvent m h.objects (entries_in m w) (λ c x. IsBased m h (entries_in m w) before c x) v e)
+
+  abbrev pub ViewsBelowBySpareTrims : Type 0
+  ViewsBelowBySpareTrims = ByRunsOfSpareTrims (λ h ms w. SavesPrecede m (entries_in m w) → ViewsBelow h ms w)
+
+  -- What is left there: for `fate` and `decide`, what a kept view has gone past; for `checkpoint`, that the state to be saved loads.
+  abbrev pub ViewsFit : Header → Moves m → World m → Type 0
+  ViewsFit h ms w = InEachStep m h ms (λ before v e. EachEvent m h.objects (entries_in m w) (λ c x. Fits m h (entries_in m w) before c x x.command) v e)
+
+  -- So the clients of a run find what they need, where entries of each log on the way were begun by their clients, and no checkpoint
+  -- saves more than what stands below it.
+  abbrev pub ClientsFindBySpareTrims : Type 0
+  ClientsFindBySpareTrims = ByRunsOfSpareTrims (λ h ms w. PassesOwn m h ms w → SavesPrecede m (entries_in m w) → ViewsFit h ms w → ClientsFind m h ms w)
