@@ -6,3 +6,4 @@ pub mod Finds
 pub mod Tops
 pub mod Topped
 pub mod Fits
+pub mod Awaiting

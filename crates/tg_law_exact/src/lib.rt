@@ -8,6 +8,8 @@
 
 mod laws;
 mod rounds;
+mod worked;
 
 pub use laws::{clients_work, syncs_are_exact};
 pub use rounds::{clients_find, rounds_are_exact, rounds_are_known, views_are_below};
+pub use worked::walk_is_in_hand;

@@ -25,7 +25,7 @@ module _ (m : Meaning) where
     abbrev pub AreBegun : Entries → Type 0
     AreBegun own = (p : ℕ) (e : Entry) → Contains own (p, e) → WasBegun m h before e
 
-    -- no base of a kept view is past the tail: nothing gives it yet; it follows where no later sync of a client tells a lower tail
+    -- no base of a kept view is past the tail: where trims left what is needed it is had of runs whose checkpoints precede (`views_are_below` of tg_law_exact)
     abbrev pub IsBased : Client m → Work m → Type 0
     IsBased c v = (k : View m) (o : Oid) (b : Base m) → c.view ≡ Some k → base_of m k o ≡ Some b → b.upto ≤ v.tail
 
