@@ -109,7 +109,7 @@ module _ (m : Meaning) (objects : List Oid) (es fs : Entries) (P Q : Client m �
   delivery_more c None from rid x p = tt
   delivery_more c (Some w) from rid x p = reply_more c w from rid x p
 
-  event_more : (w : World m) (e : EventOf m) → EachEvent m objects es P w e → EachEvent m objects fs Q w e
+  pub event_more : (w : World m) (e : EventOf m) → EachEvent m objects es P w e → EachEvent m objects fs Q w e
   event_more w (Deliver i) p = λ x at is on. delivery_more (client m w x.to.num) (client m w x.to.num).work x.from x.rid (reply x.msg) (p x at is on)
   event_more w (Commands k x) p = tt
   event_more w (Lose i) p = tt

@@ -10,14 +10,16 @@ use Rattle.tg_protocol.specs.Runs.{Moves, Reaches}
 use Rattle.tg_protocol.specs.Worlds.{World}
 use Rattle.tg_law_moves.specs.After.{after}
 use Rattle.tg_law_history.specs.Worlds.{entries_in}
+use Rattle.tg_law_history.proofs.Cells.{logs_rise}
+use Rattle.tg_law_history.proofs.Loads.{states_load}
 use Rattle.tg_law_replies.specs.Found.{Fits}
 use Rattle.tg_law_replies.proofs.Carried.{both_more}
 use Rattle.tg_law_lists.specs.Spared.{TrimsWereSpare}
 use Rattle.tg_law_lists.proofs.Fits.{drafts_fit}
 use Rattle.tg_law_finds.specs.Left.{IsBased, PlaysFor, SavesPrecede, RoundsFit}
-use Rattle.tg_law_exact.specs.Finds.{ViewsBelow, ViewsFit, ViewsBelowBySpareTrims, ClientsFindBySpareTrims}
+use Rattle.tg_law_exact.specs.Finds.{ViewsBelow, ViewsFit, ViewsBelowBySpareTrims, ClientsFindBySpareTrims, LeavesFor, HasStates, ViewsFitWhere}
 use Rattle.tg_law_exact.proofs.Topped.{event_at}
-use Rattle.tg_law_exact.proofs.Finds.{at_end, rounds_exact, rounds_known}
+use Rattle.tg_law_exact.proofs.Finds.{event_more, at_end, rounds_exact, rounds_known}
 use Rattle.tg_law_finds.proofs.Rounds.{clients_find}
 
 module _ (m : Meaning) where
@@ -40,3 +42,15 @@ module _ (m : Meaning) where
   pub finds : ClientsFindBySpareTrims m
   finds h ms w r trims own precede fit =
       clients_find m h ms w r (rounds_exact m h ms w r trims) (rounds_known m h ms w r trims) own precede (rounds_fit h ms w (views_below h ms w r trims precede) fit)
+
+  -- Of kinds whose states load.
+
+  fits_for : (h : Header) (w : World m) (before : Moves m) → HasStates m h w → (c : Client m) (v : Work m) (x : CommandOf m) → LeavesFor m c v x → Fits m h (entries_in m w) before c v x
+  fits_for h w before k c v (cmd.Fate p) f = f
+  fits_for h w before k c v (cmd.Decide p) f = f
+  fits_for h w before k c v (cmd.Checkpoint o) f = states_load m k.is_state k.is_op h.objects (entries_in m w) o v.tail k.states (logs_rise m w) k.ops (k.fresh o)
+  fits_for h w before k c v x f = tt
+
+  pub views_fit : ViewsFitWhere m
+  views_fit h ms w k none before rest e split =
+      event_more m h.objects (entries_in m w) (entries_in m w) (λ c x. LeavesFor m c x x.command) (λ c x. Fits m h (entries_in m w) before c x x.command) (λ c x f. fits_for h w before k c x x.command f) (after m h before) e (none before rest e split)

@@ -1,10 +1,18 @@
 -- What exact syncs give of what clients find.
+use Rattle.std.specs.Prelude.{◌≡◌, Bool, true, Some}
 use Rattle.tg_base.specs.Clusters.{Header}
+use Rattle.tg_base.specs.declared.ids.Oid.{Oid}
 use Rattle.tg_kind.specs.Meaning.{Meaning}
+use Rattle.tg_model.specs.Kinds.{CommandOf}
+use Rattle.tg_model.specs.declared.command.Command.TheVariants as cmd
+use Rattle.tg_protocol.specs.Clients.{Work, Client}
+use Rattle.tg_protocol.specs.Views.{View}
 use Rattle.tg_protocol.specs.Runs.{Moves, Reaches}
 use Rattle.tg_protocol.specs.Worlds.{World}
+use Rattle.tg_law_history.specs.Loading.{AreStates, AreOpsOf}
 use Rattle.tg_law_history.specs.Worlds.{entries_in}
-use Rattle.tg_law_replies.specs.Found.{Fits}
+use Rattle.tg_law_views.specs.Exact.{LeavesNone}
+use Rattle.tg_law_replies.specs.Found.{mine, Fits}
 use Rattle.tg_law_replies.specs.Laws.{ClientsFind}
 use Rattle.tg_law_replies.specs.Runs.{InEachStep}
 use Rattle.tg_law_replies.specs.Steps.{EachEvent}
@@ -37,3 +45,24 @@ module _ (m : Meaning) where
   -- saves more than what stands below it.
   abbrev pub ClientsFindBySpareTrims : Type 0
   ClientsFindBySpareTrims = ByRunsOfSpareTrims (λ h ms w. PassesOwn m h ms w → SavesPrecede m (entries_in m w) → ViewsFit h ms w → ClientsFind m h ms w)
+
+  -- What a kept view leaves for `fate` and `decide`: no record without a fate that the entries don't decide.
+  abbrev pub LeavesFor : Client m → Work m → CommandOf m → Type 0
+  LeavesFor c v (cmd.Fate p) = (k : View m) → c.view ≡ Some k → LeavesNone m k (mine m c v)
+  LeavesFor c v (cmd.Decide p) = (k : View m) → c.view ≡ Some k → LeavesNone m k (mine m c v)
+  LeavesFor c v x = Unit {0}
+
+  abbrev pub ViewsLeaveNone : Header → Moves m → World m → Type 0
+  ViewsLeaveNone h ms w = InEachStep m h ms (λ before v e. EachEvent m h.objects (entries_in m w) (λ c x. LeavesFor c x x.command) v e)
+
+  -- States that load from what is saved of them: each object begins with one, and what is read of the log's writes keeps them.
+  pub record HasStates (h : Header) (w : World m) : Type 0 where
+    pub is_state : Oid → m.state → Bool
+    pub is_op : m.op → Bool
+    pub states : AreStates m is_state is_op
+    pub fresh : (o : Oid) → is_state o (m.fresh o h.objects) ≡ true
+    pub ops : AreOpsOf m is_op (entries_in m w)
+
+  -- Of kinds that have such states only that is left.
+  abbrev pub ViewsFitWhere : Type 0
+  ViewsFitWhere = (h : Header) (ms : Moves m) (w : World m) → HasStates h w → ViewsLeaveNone h ms w → ViewsFit h ms w

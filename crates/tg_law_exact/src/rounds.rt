@@ -1,7 +1,7 @@
 //! What exact syncs give of what clients find, in every run.
 
 ghost use Rattle.tg_kind.specs.Of.{meaning_of};
-ghost use Rattle.tg_law_exact.specs.Finds.{ClientsFindBySpareTrims, RoundsExactBySpareTrims, RoundsKnownBySpareTrims, ViewsBelowBySpareTrims};
+ghost use Rattle.tg_law_exact.specs.Finds.{ClientsFindBySpareTrims, RoundsExactBySpareTrims, RoundsKnownBySpareTrims, ViewsBelowBySpareTrims, ViewsFitWhere};
 
 use tg_kind::Registry;
 
@@ -24,4 +24,10 @@ pub fn views_are_below<K: Registry>()
 /// saves more than what stands below it, and what is left holds of what kept views have gone past and of states to be saved.
 pub fn clients_find<K: Registry>()
     ensures { ClientsFindBySpareTrims (meaning_of K.Registry) }
+{}
+
+/// Of kinds whose states load from what is saved of them, it is left of kept views alone: that they leave `fate` and `decide` no
+/// record without a fate that the entries don't decide.
+pub fn views_fit<K: Registry>()
+    ensures { ViewsFitWhere (meaning_of K.Registry) }
 {}
