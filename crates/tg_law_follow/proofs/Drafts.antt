@@ -58,10 +58,13 @@ module _ (m : Meaning) (h : Header) (zs : Moves m) (reach : Reaches m h zs (afte
     state : State m h (after m h xs)
     state = state_at m h zs (header m h zs reach) (give m h zs reach) (short m h zs reach) xs ys split
 
+    made_fixed : (j : ℕ) (u : ClientTurn m) → Fixed m n d (client_in m g j) → drafts.Turned m (client_in m g j) u → Fixed m n d u.now
+    made_fixed j u f x = subst (Fixed m n d) (sym x.now) (called_fixed m n d x.made (x.made.calls + 1) (fixed_made m n d (client_in m g j) x.made x.good.comes f))
+
     turned : (j : ℕ) (u : ClientTurn m) → (i : ClientInput m g j u) → Given m (LawfulCommand m) g j u i → j < length g.clients → Fixed m n d (client_in m g j) → Fixed m n d u.now
     turned j u i lawful less f =
         let x = drafts.turned m g j u i lawful (few_in m h (header m h zs reach) (after m h xs) (short_at m h zs (header m h zs reach) (give m h zs reach) (short m h zs reach) xs ys split) state j less) (state.clients.sound j) in
-        subst (Fixed m n d) (sym x.now) (called_fixed m n d x.made (x.made.calls + 1) (fixed_made m n d (client_in m g j) x.made x.good.comes f))
+        made_fixed j u f x
 
     cases : Fixed m n d (client_in m g k) → CasesOf m (LawfulCommand m) g (λ e. Fixed m n d (client_in m e k))
     cases f = record {

@@ -10,7 +10,7 @@ use Rattle.tg_law_replies.specs.Laws.{ClientsFind}
 use Rattle.tg_law_replies.specs.Ended.{AppendsEnd}
 use Rattle.tg_law_history.specs.Worlds.{entries_in}
 use Rattle.tg_law_books.specs.Kept.{AsksPrecede}
-use Rattle.tg_law_finds.specs.Left.{SavesPrecede}
+use Rattle.tg_law_finds.specs.Left.{SavesPrecede, RoundsExact, RoundsKnown, RoundsFit, PassesOwn}
 
 module _ (m : Meaning) where
   -- what holds of every run in which trims were spare
@@ -24,6 +24,11 @@ module _ (m : Meaning) where
   -- a checkpoint saves no more than what stands below it, where each entry is what its client began
   abbrev pub SavesPrecedeBySpareTrims : Type 0
   SavesPrecedeBySpareTrims = ByRunsOfSpareTrims (λ h ms w. EntriesOwn m h ms w → SavesPrecede m (entries_in m w))
+
+  -- So clients find what they need where their walks are exact, what they know is the log's at hand, entries on the way were
+  -- begun by their clients, and the rest fits.
+  abbrev pub ClientsFindBySpareTrims : Type 0
+  ClientsFindBySpareTrims = ByRunsOfSpareTrims (λ h ms w. RoundsExact m h ms w → RoundsKnown m h ms w → PassesOwn m h ms w → RoundsFit m h ms w → ClientsFind m h ms w)
 
   -- What replies tell of records and of checkpoints stands in the log, where an append that ends stands where it says.
   abbrev pub RepliesRecordedBySpareTrims : Type 0

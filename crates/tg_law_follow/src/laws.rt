@@ -1,7 +1,7 @@
 //! What holds of every run in which trims were spare.
 
 ghost use Rattle.tg_kind.specs.Of.{meaning_of};
-ghost use Rattle.tg_law_follow.specs.Laws.{AsksPrecedeBySpareTrims, RepliesRecordedBySpareTrims, RunsLegalBySpareTrims, SavesPrecedeBySpareTrims};
+ghost use Rattle.tg_law_follow.specs.Laws.{AsksPrecedeBySpareTrims, ClientsFindBySpareTrims, RepliesRecordedBySpareTrims, RunsLegalBySpareTrims, SavesPrecedeBySpareTrims};
 
 use tg_kind::Registry;
 
@@ -13,6 +13,13 @@ pub fn records_follow_asks<K: Registry>()
 /// A checkpoint saves no more than what stands below it, where each entry was begun by its client.
 pub fn saves_stay_below<K: Registry>()
     ensures { SavesPrecedeBySpareTrims (meaning_of K.Registry) }
+{}
+
+/// So the clients of a run find what they need, where in each step their walks are exact of the log that the run ends with, and
+/// what they know is the log's at hand; where entries of each log on the way were begun by their clients; and where kept views
+/// have bases up to the tail, left no record without a fate that the entries don't decide, and saved states load.
+pub fn clients_find<K: Registry>()
+    ensures { ClientsFindBySpareTrims (meaning_of K.Registry) }
 {}
 
 /// What replies tell of a transaction's record, or of a checkpoint, stands in the log where they say, where an append that

@@ -6,4 +6,4 @@
 
 mod laws;
 
-pub use laws::{records_follow_asks, replies_recorded, runs_legal, saves_stay_below};
+pub use laws::{clients_find, records_follow_asks, replies_recorded, runs_legal, saves_stay_below};
