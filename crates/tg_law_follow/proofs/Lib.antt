@@ -1,0 +1,11 @@
+pub mod Looks
+pub mod Snapshots
+pub mod Asks
+pub mod Says
+pub mod Steps
+pub mod Shut
+pub mod Committed
+pub mod Replies
+pub mod Drafts
+pub mod Saves
+pub mod Legal

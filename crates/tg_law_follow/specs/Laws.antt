@@ -1,0 +1,40 @@
+-- What follows what, in every run in which trims were spare.
+use Rattle.tg_base.specs.Clusters.{Header}
+use Rattle.tg_kind.specs.Meaning.{Meaning}
+use Rattle.tg_model.specs.Legal.{InOrder, Legal}
+use Rattle.tg_protocol.specs.Worlds.{World, trace, history}
+use Rattle.tg_protocol.specs.Runs.{Moves, Reaches}
+use Rattle.tg_protocol.specs.Holding.{EntriesOwn, RepliesHaveRecords}
+use Rattle.tg_law_lists.specs.Spared.{TrimsWereSpare}
+use Rattle.tg_law_replies.specs.Laws.{ClientsFind}
+use Rattle.tg_law_replies.specs.Ended.{AppendsEnd}
+use Rattle.tg_law_history.specs.Worlds.{entries_in}
+use Rattle.tg_law_books.specs.Kept.{AsksPrecede}
+use Rattle.tg_law_finds.specs.Left.{SavesPrecede, RoundsExact, RoundsKnown, RoundsFit, PassesOwn}
+
+module _ (m : Meaning) where
+  -- what holds of every run in which trims were spare
+  abbrev pub ByRunsOfSpareTrims : (Header → Moves m → World m → Type 0) → Type 0
+  ByRunsOfSpareTrims P = (h : Header) (ms : Moves m) (w : World m) → Reaches m h ms w → TrimsWereSpare m h ms → P h ms w
+
+  -- a record stands at or past where its transaction asked
+  abbrev pub AsksPrecedeBySpareTrims : Type 0
+  AsksPrecedeBySpareTrims = ByRunsOfSpareTrims (λ h ms w. AsksPrecede m w)
+
+  -- a checkpoint saves no more than what stands below it, where each entry is what its client began
+  abbrev pub SavesPrecedeBySpareTrims : Type 0
+  SavesPrecedeBySpareTrims = ByRunsOfSpareTrims (λ h ms w. EntriesOwn m h ms w → SavesPrecede m (entries_in m w))
+
+  -- So clients find what they need where their walks are exact, what they know is the log's at hand, entries on the way were
+  -- begun by their clients, and the rest fits.
+  abbrev pub ClientsFindBySpareTrims : Type 0
+  ClientsFindBySpareTrims = ByRunsOfSpareTrims (λ h ms w. RoundsExact m h ms w → RoundsKnown m h ms w → PassesOwn m h ms w → RoundsFit m h ms w → ClientsFind m h ms w)
+
+  -- What replies tell of records and of checkpoints stands in the log, where an append that ends stands where it says.
+  abbrev pub RepliesRecordedBySpareTrims : Type 0
+  RepliesRecordedBySpareTrims = ByRunsOfSpareTrims (λ h ms w. AppendsEnd m h ms w → RepliesHaveRecords m w)
+
+  -- A run is legal, where its clients find what they need of the log that it comes to, an append that ends stands where it
+  -- says, each entry is what its client began, and no place precedes a reply from before its transaction.
+  abbrev pub RunsLegalBySpareTrims : Type 0
+  RunsLegalBySpareTrims = ByRunsOfSpareTrims (λ h ms w. ClientsFind m h ms w → AppendsEnd m h ms w → EntriesOwn m h ms w → InOrder m (history m w) (trace m w) → Legal m w.cluster.objects (history m w) (trace m w))

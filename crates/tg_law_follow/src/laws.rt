@@ -1,0 +1,35 @@
+//! What holds of every run in which trims were spare.
+
+ghost use Rattle.tg_kind.specs.Of.{meaning_of};
+ghost use Rattle.tg_law_follow.specs.Laws.{AsksPrecedeBySpareTrims, ClientsFindBySpareTrims, RepliesRecordedBySpareTrims, RunsLegalBySpareTrims, SavesPrecedeBySpareTrims};
+
+use tg_kind::Registry;
+
+/// A commit record stands at or past the position at which its transaction's asks were answered.
+pub fn records_follow_asks<K: Registry>()
+    ensures { AsksPrecedeBySpareTrims (meaning_of K.Registry) }
+{}
+
+/// A checkpoint saves no more than what stands below it, where each entry was begun by its client.
+pub fn saves_stay_below<K: Registry>()
+    ensures { SavesPrecedeBySpareTrims (meaning_of K.Registry) }
+{}
+
+/// So the clients of a run find what they need, where in each step their walks are exact of the log that the run ends with, and
+/// what they know is the log's at hand; where entries of each log on the way were begun by their clients; and where kept views
+/// have bases up to the tail, left no record without a fate that the entries don't decide, and saved states load.
+pub fn clients_find<K: Registry>()
+    ensures { ClientsFindBySpareTrims (meaning_of K.Registry) }
+{}
+
+/// What replies tell of a transaction's record, or of a checkpoint, stands in the log where they say, where an append that
+/// ends stands where it says.
+pub fn replies_recorded<K: Registry>()
+    ensures { RepliesRecordedBySpareTrims (meaning_of K.Registry) }
+{}
+
+/// So a run is legal where its clients find what they need of the log that it ends with, an append that ends stands where it
+/// says, each entry was begun by its client, and no place of a transaction precedes a reply that came before its beginning.
+pub fn runs_legal<K: Registry>()
+    ensures { RunsLegalBySpareTrims (meaning_of K.Registry) }
+{}
