@@ -7,3 +7,4 @@ pub mod Tops
 pub mod Topped
 pub mod Fits
 pub mod Awaiting
+pub mod Own

@@ -1,14 +1,18 @@
 -- What exact syncs give of what clients find.
-use Rattle.std.specs.Prelude.{◌≡◌, Bool, true, Some}
+use Rattle.std.specs.Prelude.{◌≡◌, ℕ, ◌++◌, Bool, true, Some}
 use Rattle.tg_base.specs.Clusters.{Header}
 use Rattle.tg_base.specs.declared.ids.Oid.{Oid}
+use Rattle.tg_entry.specs.declared.entry.Entry.{Entry}
+use Rattle.tg_entry.specs.Format.{tag_of}
 use Rattle.tg_kind.specs.Meaning.{Meaning}
 use Rattle.tg_model.specs.Kinds.{CommandOf}
 use Rattle.tg_model.specs.declared.command.Command.TheVariants as cmd
 use Rattle.tg_protocol.specs.Clients.{Work, Client}
 use Rattle.tg_protocol.specs.Views.{View}
-use Rattle.tg_protocol.specs.Runs.{Moves, Reaches}
-use Rattle.tg_protocol.specs.Worlds.{World}
+use Rattle.tg_protocol.specs.Alike.{HasEntry}
+use Rattle.tg_protocol.specs.Holding.{WasBegun}
+use Rattle.tg_protocol.specs.Runs.{Moves, Reaches, run}
+use Rattle.tg_protocol.specs.Worlds.{World, start}
 use Rattle.tg_law_history.specs.Loading.{AreStates, AreOpsOf}
 use Rattle.tg_law_history.specs.Worlds.{entries_in}
 use Rattle.tg_law_views.specs.Exact.{LeavesNone}
@@ -66,3 +70,11 @@ module _ (m : Meaning) where
   -- Of kinds that have such states only that is left.
   abbrev pub ViewsFitWhere : Type 0
   ViewsFitWhere = (h : Header) (ms : Moves m) (w : World m) → HasStates h w → ViewsLeaveNone h ms w → ViewsFit h ms w
+
+  -- Checkpoints of the log of each world on the way were begun by their clients.
+  abbrev pub SavesOwn : Header → Moves m → Type 0
+  SavesOwn h ms = (before after : Moves m) → ms ≡ before ++ after → (p : ℕ) (e : Entry) → HasEntry m (run m before (start m h)) p e → tag_of e.body ≡ 3 → WasBegun m h before e
+
+  -- Then all entries were.
+  abbrev pub PassesOwnWhere : Type 0
+  PassesOwnWhere = (h : Header) (ms : Moves m) (w : World m) → Reaches m h ms w → SavesOwn h ms → PassesOwn m h ms w

@@ -11,5 +11,7 @@ mod rounds;
 mod worked;
 
 pub use laws::{clients_work, syncs_are_exact};
-pub use rounds::{clients_find, rounds_are_exact, rounds_are_known, views_are_below, views_fit};
+pub use rounds::{
+    clients_find, passes_own, rounds_are_exact, rounds_are_known, views_are_below, views_fit,
+};
 pub use worked::walk_is_in_hand;

@@ -1,7 +1,7 @@
 //! What exact syncs give of what clients find, in every run.
 
 ghost use Rattle.tg_kind.specs.Of.{meaning_of};
-ghost use Rattle.tg_law_exact.specs.Finds.{ClientsFindBySpareTrims, RoundsExactBySpareTrims, RoundsKnownBySpareTrims, ViewsBelowBySpareTrims, ViewsFitWhere};
+ghost use Rattle.tg_law_exact.specs.Finds.{ClientsFindBySpareTrims, PassesOwnWhere, RoundsExactBySpareTrims, RoundsKnownBySpareTrims, ViewsBelowBySpareTrims, ViewsFitWhere};
 
 use tg_kind::Registry;
 
@@ -30,4 +30,9 @@ pub fn clients_find<K: Registry>()
 /// record without a fate that the entries don't decide.
 pub fn views_fit<K: Registry>()
     ensures { ViewsFitWhere (meaning_of K.Registry) }
+{}
+
+/// Entries of the log of each world on the way were begun by their clients, where its checkpoints were.
+pub fn passes_own<K: Registry>()
+    ensures { PassesOwnWhere (meaning_of K.Registry) }
 {}
