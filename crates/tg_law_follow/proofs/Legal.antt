@@ -8,6 +8,7 @@ use Rattle.tg_law_once.proofs.Known.{runs_legal as legal_by_safe_trims}
 use Rattle.tg_law_finds.proofs.Rounds.{clients_find as finds_where}
 use Rattle.tg_law_follow.specs.Laws.{ClientsFindBySpareTrims, RepliesRecordedBySpareTrims, RunsLegalBySpareTrims}
 use Rattle.tg_law_follow.proofs.Asks.{records_follow_asks}
+use Rattle.tg_law_follow.proofs.Landing.{appends_stand}
 use Rattle.tg_law_follow.proofs.Replies.{replies_have_records}
 use Rattle.tg_law_follow.proofs.Saves.{saves_precede}
 
@@ -17,7 +18,8 @@ module _ (m : Meaning) where
       finds_where m h ms w r exact known own (saves_precede m h ms w r trims (subst (λ (v : World m). EntriesOwn m h ms v) (sym r.goes.is) (own ms [] (sym (append-nil ms))))) fit
 
   pub replies_recorded : RepliesRecordedBySpareTrims m
-  replies_recorded h ms w r trims ends = replies_have_records m h ms w r trims.safe (records_follow_asks m h ms w r trims) ends
+  replies_recorded h ms w r trims saves = replies_have_records m h ms w r trims.safe (records_follow_asks m h ms w r trims) (appends_stand m h ms w r trims saves)
 
   pub runs_legal : Apart m → RunsLegalBySpareTrims m
-  runs_legal apart h ms w r trims find ends own order = legal_by_safe_trims m apart h ms w r trims.safe find ends own (replies_recorded h ms w r trims ends) (records_follow_asks m h ms w r trims) order
+  runs_legal apart h ms w r trims find saves own order =
+      legal_by_safe_trims m apart h ms w r trims.safe find (appends_stand m h ms w r trims saves) own (replies_recorded h ms w r trims saves) (records_follow_asks m h ms w r trims) order
