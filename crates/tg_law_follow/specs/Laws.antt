@@ -2,6 +2,7 @@
 use Rattle.std.specs.Prelude.{◌≡◌, ℕ, List, Some, Contains}
 use Rattle.tg_base.specs.Clusters.{Header}
 use Rattle.tg_base.specs.declared.marks.StreamLink.{StreamLink}
+use Rattle.tg_entry.specs.declared.entry.Entry.{Entry}
 use Rattle.tg_entry.specs.Format.{tag_of}
 use Rattle.tg_entry.specs.Records.{linked}
 use Rattle.tg_kind.specs.Meaning.{Meaning}
@@ -9,7 +10,8 @@ use Rattle.tg_model.specs.Legal.{InOrder, Legal}
 use Rattle.tg_protocol.specs.Appending.{Append, At}
 use Rattle.tg_protocol.specs.Worlds.{World, client, trace, history}
 use Rattle.tg_protocol.specs.Runs.{Moves, Reaches}
-use Rattle.tg_protocol.specs.Holding.{append_by, EntriesOwn, RepliesHaveRecords}
+use Rattle.tg_protocol.specs.Alike.{HasEntry}
+use Rattle.tg_protocol.specs.Holding.{append_by, WasBegun, EntriesOwn, RepliesHaveRecords}
 use Rattle.tg_law_lists.specs.Spared.{TrimsWereSpare}
 use Rattle.tg_law_replies.specs.Laws.{ClientsFind}
 use Rattle.tg_law_replies.specs.Runs.{InEachStep}
@@ -49,7 +51,11 @@ module _ (m : Meaning) where
   abbrev pub RepliesRecordedBySpareTrims : Type 0
   RepliesRecordedBySpareTrims = ByRunsOfSpareTrims (λ h ms w. SavesEnd h ms w → RepliesHaveRecords m w)
 
+  -- Each checkpoint is the draft of an append that its client began, with other links, as all other entries are.
+  abbrev pub SavesOwn : Header → Moves m → World m → Type 0
+  SavesOwn h ms w = (p : ℕ) (e : Entry) → HasEntry m w p e → tag_of e.body ≡ 3 → WasBegun m h ms e
+
   -- A run is legal, where its clients find what they need of the log that it comes to, a checkpoint whose append ends stands
-  -- where it says, each entry is what its client began, and no place precedes a reply from before its transaction.
+  -- where it says, each checkpoint is what its client began, and no place precedes a reply from before its transaction.
   abbrev pub RunsLegalBySpareTrims : Type 0
-  RunsLegalBySpareTrims = ByRunsOfSpareTrims (λ h ms w. ClientsFind m h ms w → SavesEnd h ms w → EntriesOwn m h ms w → InOrder m (history m w) (trace m w) → Legal m w.cluster.objects (history m w) (trace m w))
+  RunsLegalBySpareTrims = ByRunsOfSpareTrims (λ h ms w. ClientsFind m h ms w → SavesEnd h ms w → SavesOwn h ms w → InOrder m (history m w) (trace m w) → Legal m w.cluster.objects (history m w) (trace m w))

@@ -35,7 +35,7 @@ pub fn replies_recorded<K: Registry>()
 {}
 
 /// So a run is legal where its clients find what they need of the log that it ends with, a checkpoint whose append ends stands
-/// where it says, each entry was begun by its client, and no place of a transaction precedes a reply that came before its
+/// where it says, each checkpoint was begun by its client, and no place of a transaction precedes a reply that came before its
 /// beginning.
 pub fn runs_legal<K: Registry>()
     ensures { RunsLegalBySpareTrims (meaning_of K.Registry) }
