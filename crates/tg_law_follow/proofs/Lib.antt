@@ -8,4 +8,5 @@ pub mod Committed
 pub mod Replies
 pub mod Drafts
 pub mod Saves
+pub mod Landing
 pub mod Legal

@@ -1,7 +1,7 @@
 //! What holds of every run in which trims were spare.
 
 ghost use Rattle.tg_kind.specs.Of.{meaning_of};
-ghost use Rattle.tg_law_follow.specs.Laws.{AsksPrecedeBySpareTrims, ClientsFindBySpareTrims, RepliesRecordedBySpareTrims, RunsLegalBySpareTrims, SavesPrecedeBySpareTrims};
+ghost use Rattle.tg_law_follow.specs.Laws.{AppendsEndBySpareTrims, AsksPrecedeBySpareTrims, ClientsFindBySpareTrims, RepliesRecordedBySpareTrims, RunsLegalBySpareTrims, SavesPrecedeBySpareTrims};
 
 use tg_kind::Registry;
 
@@ -22,14 +22,21 @@ pub fn clients_find<K: Registry>()
     ensures { ClientsFindBySpareTrims (meaning_of K.Registry) }
 {}
 
-/// What replies tell of a transaction's record, or of a checkpoint, stands in the log where they say, where an append that
-/// ends stands where it says.
+/// An append that ends stands where it says, where those of checkpoints do: of kinds whose ops touch what no part is, a
+/// checkpoint may be read back with other parts.
+pub fn appends_land<K: Registry>()
+    ensures { AppendsEndBySpareTrims (meaning_of K.Registry) }
+{}
+
+/// What replies tell of a transaction's record, or of a checkpoint, stands in the log where they say, where a checkpoint whose
+/// append ends does.
 pub fn replies_recorded<K: Registry>()
     ensures { RepliesRecordedBySpareTrims (meaning_of K.Registry) }
 {}
 
-/// So a run is legal where its clients find what they need of the log that it ends with, an append that ends stands where it
-/// says, each entry was begun by its client, and no place of a transaction precedes a reply that came before its beginning.
+/// So a run is legal where its clients find what they need of the log that it ends with, a checkpoint whose append ends stands
+/// where it says, each checkpoint was begun by its client, and no place of a transaction precedes a reply that came before its
+/// beginning.
 pub fn runs_legal<K: Registry>()
     ensures { RunsLegalBySpareTrims (meaning_of K.Registry) }
 {}

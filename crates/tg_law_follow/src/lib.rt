@@ -6,4 +6,6 @@
 
 mod laws;
 
-pub use laws::{clients_find, records_follow_asks, replies_recorded, runs_legal, saves_stay_below};
+pub use laws::{
+    appends_land, clients_find, records_follow_asks, replies_recorded, runs_legal, saves_stay_below,
+};
