@@ -1,6 +1,6 @@
 -- The directory of all kinds, and their states.
-use Rattle.std.proofs.Common.{◌≡◌, ◌⊎◌, ℕ, ◌≤◌, List, [], ◌∷◌, Bool, true, false, refl, sym, ap, ◌∙◌, subst, arith, Option, Some}
-use Rattle.std.specs.Prelude.{◌≢◌, Result, filter, ◌&&◌, if◌then◌else◌}
+use Rattle.std.proofs.Common.{◌≡◌, ℕ, ◌≤◌, List, ◌∷◌, Bool, true, false, refl, sym, ap, ◌∙◌, subst, arith}
+use Rattle.std.specs.Prelude.{◌≢◌, Result, filter, if◌then◌else◌}
 use Rattle.tg_base.specs.declared.ids.Oid.{Oid}
 use Rattle.tg_codec.specs.Codec.{u64}
 use Rattle.tg_codec.specs.Streams.{any}
@@ -10,15 +10,14 @@ use Rattle.tg_kind.specs.Of.{loaded_by}
 use Rattle.tg_protocol.specs.Words.{directory}
 use Rattle.tg_dir.specs.Spellings.{is_number}
 use Rattle.tg_dir.specs.Directories.{op_format}
-use Rattle.tg_dir.specs.declared.directory.DirectoryOp.{DirectoryOp}
 use Rattle.tg_dir.specs.declared.directory.DirectoryOp.TheVariants.{Name, Mark}
 use Rattle.tg_any.specs.declared.any.AnyKind.{AnyKind}
 use Rattle.tg_any.specs.declared.any.AnyKind.TheVariants as states
 use Rattle.tg_any.specs.declared.any.AnyOp.{AnyOp}
 use Rattle.tg_any.specs.declared.any.AnyOp.TheVariants as ops
-use Rattle.tg_any.specs.Anys.{is_state, is_op, first, applied, saved, loaded, lists_object, floor_of, marking}
+use Rattle.tg_any.specs.Anys.{is_op, first, applied, lists_object, floor_of, marking}
 use Rattle.tg_any.specs.AnyLaws as laws
-use Rattle.tg_law_kinds.specs.Kinds.{KindsHaveDirectory, KindsAreStates}
+use Rattle.tg_law_kinds.specs.Kinds.{KindsHaveDirectory, KindsAreStates, KindsBegin}
 use Rattle.tg_law_kinds.proofs.Marks.{mark_in, first_marks, named_listed, named_marks, marked_listed, mark_changes, floor_stays, floor_rises}
 
 abbrev mark_of : AnyKind → Oid → ℕ
@@ -123,3 +122,6 @@ kinds_are_states = record {
   applies = laws.applied_is;
   loads = λ o s is. ap (λ (r : Result AnyKind ℕ). loaded_by r) (laws.loads_saved o s is);
 }
+
+pub kinds_begin : KindsBegin
+kinds_begin = laws.first_is

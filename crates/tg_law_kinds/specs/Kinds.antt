@@ -1,14 +1,26 @@
 -- What all kinds of objects owe the laws of the log.
+use Rattle.std.specs.Prelude.{◌≡◌, true, List}
+use Rattle.tg_base.specs.declared.ids.Oid.{Oid}
+use Rattle.tg_kind.specs.Headers.{is_header}
 use Rattle.tg_any.specs.Anys as any
 use Rattle.tg_any.specs.AllKinds.{all_kinds}
 use Rattle.tg_dir.specs.Spellings.{is_number}
 use Rattle.tg_law_history.specs.Loading.{AreStates}
 use Rattle.tg_law_history.specs.Floors.{IsDirectory}
+use Rattle.tg_law_kinds.specs.Directories.{DirectoryLaws}
 
 -- the directory marks what has an object's number
 abbrev pub KindsHaveDirectory : Type 0
 KindsHaveDirectory = IsDirectory all_kinds is_number any.is_op
 
+-- and what is marked and registered there are objects, by ops of their own
+abbrev pub KindsKeepDirectory : Type 0
+KindsKeepDirectory = DirectoryLaws all_kinds is_number any.is_op
+
 -- ops keep the states, which load again from what is saved of them
 abbrev pub KindsAreStates : Type 0
 KindsAreStates = AreStates all_kinds any.is_state any.is_op
+
+-- an object is a state at first
+abbrev pub KindsBegin : Type 0
+KindsBegin = (o : Oid) (os : List Oid) → any.is_object o ≡ true → is_header os ≡ true → any.is_state o (all_kinds.fresh o os) ≡ true

@@ -1,6 +1,6 @@
 //! What holds of all kinds.
 
-ghost use Rattle.tg_law_kinds.specs.Kinds.{KindsHaveDirectory, KindsAreStates};
+ghost use Rattle.tg_law_kinds.specs.Kinds.{KindsHaveDirectory, KindsKeepDirectory, KindsAreStates, KindsBegin};
 
 /// The directory is one: objects stay registered, an op that has a spelling changes the mark of no object but the one
 /// that it marks, and the floor never falls, nor rises above the mark of an object that is registered.
@@ -8,7 +8,18 @@ pub fn kinds_have_directory()
     ensures { KindsHaveDirectory }
 {}
 
+/// No user may put an op that marks an object, the marks of two objects are told apart, what is registered is an object, and
+/// what an op touches is a part of the format.
+pub fn kinds_keep_directory()
+    ensures { KindsKeepDirectory }
+{}
+
 /// Ops that have a spelling keep the states of each kind, and a state loads again from what is saved of it.
 pub fn kinds_are_states()
     ensures { KindsAreStates }
+{}
+
+/// Each object begins with a state of its kind, where the header's objects are distinct and none is the directory.
+pub fn kinds_begin()
+    ensures { KindsBegin }
 {}

@@ -4,4 +4,4 @@
 
 mod laws;
 
-pub use laws::{kinds_are_states, kinds_have_directory};
+pub use laws::{kinds_are_states, kinds_begin, kinds_have_directory, kinds_keep_directory};
