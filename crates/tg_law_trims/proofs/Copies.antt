@@ -1,9 +1,8 @@
 -- What a unit has told as gone to a client that copies was asked to be trimmed before.
-use Rattle.std.proofs.Common.{◌≡◌, ℕ, ◌+◌, ◌<◌, ◌≤◌, refl, sym, ap, ◌∙◌, subst, arith, Some, Option, true}
+use Rattle.std.proofs.Common.{◌≡◌, ℕ, sym, ap, ◌∙◌, subst, arith, Some, Option, true}
 use Rattle.tg_base.specs.Clusters.{Header}
 use Rattle.tg_base.specs.Layouts.{Layout}
 use Rattle.tg_base.specs.declared.msg.Msg.{Msg}
-use Rattle.tg_base.specs.declared.msg.Msg.TheVariants as msg
 use Rattle.tg_base.specs.declared.packet.Out.{Out}
 use Rattle.tg_base.specs.declared.packet.Packet.{Packet}
 use Rattle.tg_kind.specs.Meaning.{Meaning}
@@ -13,7 +12,7 @@ use Rattle.tg_protocol.specs.Requests.{awaits, Ends}
 use Rattle.tg_protocol.specs.Replies.{reply}
 use Rattle.tg_protocol.specs.Cells.{CellJob, Gone, cell_asks, cell_feed}
 use Rattle.tg_protocol.specs.Trimming.{CopyWork, Sealing, Reading, Storing, Trimming, Looking, Copying, copy_work_asks}
-use Rattle.tg_protocol.specs.Clients.{Task, Copying', Hand, Doing, Work}
+use Rattle.tg_protocol.specs.Clients.{Copying', Hand, Doing, Work}
 use Rattle.tg_protocol.specs.ClientSteps.{task_asks, task_awaited}
 use Rattle.tg_protocol.specs.Runs.{Moves, Reaches}
 use Rattle.tg_law_moves.specs.After.{after}

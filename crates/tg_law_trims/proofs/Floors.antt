@@ -1,32 +1,25 @@
 -- The floor of a log's directory below a confirmed tail is spare.
-use Rattle.std.proofs.Common.{◌≡◌, ◌⊎◌, ℕ, ◌+◌, ◌<◌, ◌≤◌, List, [], ◌∷◌, Bool, true, refl, sym, ap, ◌∙◌, subst, inl, inr, arith, Some, Option, append-nil}
-use Rattle.std.specs.Prelude.{Contains}
+use Rattle.std.proofs.Common.{◌≡◌, ◌⊎◌, ℕ, ◌<◌, ◌≤◌, [], ◌∷◌, Bool, true, refl, sym, ap, ◌∙◌, subst, inl, inr, arith, Option, append-nil}
 use Rattle.tg_base.specs.Clusters.{Header}
 use Rattle.tg_base.specs.Layouts.{Layout}
 use Rattle.tg_base.specs.declared.cell.Cell.TheVariants.{Data}
 use Rattle.tg_base.specs.declared.ids.Oid.{Oid}
-use Rattle.tg_base.specs.declared.marks.StreamLink.{StreamLink}
-use Rattle.tg_entry.specs.declared.entry.WriteOp.{WriteOp}
-use Rattle.tg_entry.specs.declared.entry.Entry.{Entry}
 use Rattle.tg_kind.specs.Meaning.{Meaning}
-use Rattle.tg_model.specs.Kinds.{EventOf}
 use Rattle.tg_protocol.specs.Words.{directory}
-use Rattle.tg_protocol.specs.Entries.{writes_of, streams_of}
-use Rattle.tg_protocol.specs.Views.{Entries, state_of}
+use Rattle.tg_protocol.specs.Entries.{streams_of}
+use Rattle.tg_protocol.specs.Views.{state_of}
 use Rattle.tg_protocol.specs.Clients.{Work, Client}
 use Rattle.tg_protocol.specs.Answers.{floor_of}
 use Rattle.tg_protocol.specs.Chosen.{IsDecided}
-use Rattle.tg_protocol.specs.Worlds.{World, start, log}
-use Rattle.tg_protocol.specs.Runs.{Moves, Takes, Reaches, Passes, run}
+use Rattle.tg_protocol.specs.Worlds.{World, log}
+use Rattle.tg_protocol.specs.Runs.{Moves, Takes, Reaches, Passes}
 use Rattle.tg_law_moves.specs.After.{after}
 use Rattle.tg_law_moves.proofs.Lists.{contained}
-use Rattle.tg_law_layouts.specs.Decisions.{IsOfDecided}
 use Rattle.tg_law_layouts.proofs.Deciding.{layouts_are_sound}
 use Rattle.tg_law_tokens.specs.Issuing.{Issued}
 use Rattle.tg_law_order.specs.Tails.{ConfirmedTail}
 use Rattle.tg_law_order.proofs.Tails.{starts_past}
 use Rattle.tg_law_entries.specs.Archive.{TrimsWereSafe}
-use Rattle.tg_law_history.specs.Logs.{state_below, commits}
 use Rattle.tg_law_history.specs.Worlds.{entries_in}
 use Rattle.tg_law_history.specs.Loading.{AreOpsOf}
 use Rattle.tg_law_history.specs.Floors.{IsDirectory, HasMark}
@@ -38,13 +31,12 @@ use Rattle.tg_law_replies.specs.Runs.{InEachStep}
 use Rattle.tg_law_replies.specs.Steps.{EachEvent}
 use Rattle.tg_law_replies.proofs.Carried.{both_more}
 use Rattle.tg_law_walks.specs.Streams.{stands_in}
-use Rattle.tg_law_walks.specs.Rounds.{IsSaving}
 use Rattle.tg_law_lists.specs.Spared.{IsSaved, WasSettled}
 use Rattle.tg_law_lists.proofs.Ends.{PageAt, page_at, settled_of, streams_there, fit_page, home}
 use Rattle.tg_law_lists.proofs.Fits.{drafts_fit}
 use Rattle.tg_law_lists.proofs.Reached.{before_reached}
-use Rattle.tg_law_trims.specs.Spare.{IsSpare, own_play, TellsSpare, WereSpare, FloorsSpare, TrimsAre}
-use Rattle.tg_law_trims.specs.Floors.{directory_at, floor_at, WasRegistered, WasIssued, IsWhole, IsSettledFor, RestsOn, FloorsRest, HasTail, ConfirmsTail, SeesDirectory, StepRests, FloorsAreSpare, TrimsAreSpareBySight}
+use Rattle.tg_law_trims.specs.Spare.{IsSpare, own_play, TellsSpare, WereSpare, FloorsSpare}
+use Rattle.tg_law_trims.specs.Floors.{directory_at, floor_at, WasRegistered, WasIssued, IsWhole, RestsOn, FloorsRest, HasTail, ConfirmsTail, SeesDirectory, StepRests, FloorsAreSpare, TrimsAreSpareBySight}
 use Rattle.tg_law_trims.proofs.Growing.{settled_on, spare_on}
 use Rattle.tg_law_trims.proofs.Runs.{trims_are_spare}
 

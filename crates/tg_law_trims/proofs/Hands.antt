@@ -1,5 +1,5 @@
 -- Through each of a client's turns: what it asks units to trim has B, where the floor that it tells at a trim has.
-use Rattle.std.proofs.Common.{◌≡◌, ℕ, ◌<◌, ◌≤◌, List, [], ◌∷◌, Bool, true, false, refl, sym, ap, subst, arith, Some, None, Option}
+use Rattle.std.proofs.Common.{◌≡◌, ℕ, ◌<◌, ◌≤◌, List, [], ◌∷◌, Bool, true, false, refl, sym, subst, arith, Some, None, Option}
 use Rattle.std.specs.Prelude.{nat_lt, not, ◌&&◌, ◌==◌}
 use Rattle.std.proofs.lemmas.Bool.Decides.{nat_tests}
 use Rattle.tg_base.specs.Layouts.{Layout}
@@ -30,7 +30,7 @@ use Rattle.tg_protocol.specs.ClientSteps as step
 use Rattle.tg_protocol.specs.ClientSteps.{after_turn, met, goes_on, start_walk, walks, takes_back, found_by, lends, sync_to, on_sync, stale, gives_up, given_up_if, starts_over, at_trim, walk_ended_by, walk_to, on_walk, decided_for, append_ended, append_to, on_append, trim_to, on_trims, copy_to, on_copy, stands, task_in, task_awaited, reconf_to, on_reconf, task_feed, task_again, copies_again, on_newer, accepts, refused_or, new_work}
 use Rattle.tg_law_moves.proofs.Besides.{OnlyLearns, none_learns, sync_besides, sync_again_besides, append_besides, append_again_besides}
 use Rattle.tg_law_moves.proofs.Turns.{Begins, begins_walk, not_busy}
-use Rattle.tg_law_replies.specs.Steps.{EachWalk, EachSync, EachOver, EachTrim, EachEnd, EachWalked, EachFeed, EachAgain, EachNewer, EachAwaited, EachHand, EachLatest, EachReply, EachDelivery}
+use Rattle.tg_law_replies.specs.Steps.{EachWalk, EachSync, EachOver, EachTrim, EachEnd, EachWalked, EachFeed, EachNewer, EachAwaited, EachHand, EachLatest, EachReply, EachDelivery}
 use Rattle.tg_law_trims.proofs.Machines.{TrimNext, trim_starts, trims_ok, CopyOk, CopyNext, CopyHears, copy_ok, start_copies}
 use Rattle.tg_law_trims.proofs.Walked.{IsPlainTask, IsPlainWork, Plain, played, walked_by}
 

@@ -1,7 +1,7 @@
 -- What trims and copies ask units to trim: B of an epoch and a position, where it stays so in later epochs.
 use Rattle.std.proofs.Common.{◌≡◌, ℕ, ◌+◌, [], ◌∷◌, Bool, true, false, refl, sym, ap, subst}
 use Rattle.tg_base.specs.Layouts.{Layout}
-use Rattle.tg_protocol.specs.Requests.{Waits, Next, Goes, Learns, Ends, Turn}
+use Rattle.tg_protocol.specs.Requests.{Waits, Next, Goes, Learns, Ends}
 use Rattle.tg_protocol.specs.Replies.{Reply}
 use Rattle.tg_protocol.specs.Replies as replied
 use Rattle.tg_protocol.specs.Cells.{Place, CellJob, CellEnd, Done, Seen, Lost, Fenced, Gone, get_cell, cell_feed}

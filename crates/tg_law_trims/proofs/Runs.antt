@@ -2,13 +2,11 @@
 use Rattle.std.proofs.Common.{◌≡◌, ◌⊎◌, ℕ, ◌<◌, ◌≤◌, List, [], ◌∷◌, ◌++◌, length, map, true, false, refl, sym, ap, ◌∙◌, subst, inl, inr, arith, Some, None, Option, append-nil}
 use Rattle.tg_base.specs.Clusters.{Header}
 use Rattle.tg_base.specs.declared.ids.NodeId.{NodeId}
-use Rattle.tg_base.specs.declared.ids.Oid.{Oid}
 use Rattle.tg_base.specs.declared.msg.Msg.{Msg}
-use Rattle.tg_base.specs.declared.msg.Msg.TheVariants as msg
 use Rattle.tg_base.specs.declared.packet.Out.{Out}
 use Rattle.tg_base.specs.declared.packet.Packet.{Packet}
 use Rattle.tg_kind.specs.Meaning.{Meaning}
-use Rattle.tg_model.specs.Kinds.{CommandOf, EventOf}
+use Rattle.tg_model.specs.Kinds.{EventOf}
 use Rattle.tg_protocol.specs.Words.{client_id, seqr_id, unit_id, layout_id, numbers}
 use Rattle.tg_protocol.specs.Requests.{awaits, Ends}
 use Rattle.tg_protocol.specs.Replies.{reply}
@@ -17,18 +15,16 @@ use Rattle.tg_protocol.specs.Units.{unit_step}
 use Rattle.tg_protocol.specs.LayoutServers.{layout_step}
 use Rattle.tg_protocol.specs.Sequencers.{SeqrTurn, scan_asks}
 use Rattle.tg_protocol.specs.Trimming.{CopyWork, Reading, Copying}
-use Rattle.tg_protocol.specs.Views.{Entries}
-use Rattle.tg_protocol.specs.Clients.{Task, Syncing, Walking, Appending, Trimming, Copying', Reconfiguring, Hand, Doing, Learning, Work, Client, new_client}
+use Rattle.tg_protocol.specs.Clients.{Syncing, Walking, Appending, Trimming, Copying', Reconfiguring, Hand, Doing, Learning, Work, Client, new_client}
 use Rattle.tg_protocol.specs.ClientSteps.{ClientTurn, task_awaited, client_command, client_deliver, client_tick}
-use Rattle.tg_protocol.specs.Worlds.{World, start, log, packet_of, answer_to, happens, next_event}
+use Rattle.tg_protocol.specs.Worlds.{World, start, packet_of, answer_to, happens, next_event}
 use Rattle.tg_protocol.specs.Runs.{Moves, Move, Next, Takes, Reaches, run}
-use Rattle.tg_protocol.specs.Chosen.{Sent}
 use Rattle.tg_protocol.specs.Holding.{HasCell}
 use Rattle.tg_law_moves.specs.After.{after}
 use Rattle.tg_law_moves.specs.Configs.{Config, config, client_in, seqr_in, unit_in, layout_in}
 use Rattle.tg_law_moves.specs.Telling.{is_request}
 use Rattle.tg_law_moves.proofs.Growth.{answer_from}
-use Rattle.tg_law_moves.proofs.Lists.{contained, at_map, at_set}
+use Rattle.tg_law_moves.proofs.Lists.{at_map, at_set}
 use Rattle.tg_law_moves.proofs.Members.{Has, has_contained, has_either, has_map}
 use Rattle.tg_law_moves.proofs.Moves.{Comes, seqr_turn, client_turn, unit_turn, layout_turn, SeqrInput, Hears, Ticks}
 use Rattle.tg_law_moves.proofs.Scripts.{run_both}
@@ -40,12 +36,12 @@ use Rattle.tg_law_entries.specs.Archive.{TrimsSafely, TrimsWereSafe}
 use Rattle.tg_law_entries.proofs.Archive.{log_is_settled}
 use Rattle.tg_law_entries.proofs.Lists.{joined}
 use Rattle.tg_law_history.specs.Worlds.{entries_in}
-use Rattle.tg_law_replies.specs.Steps.{EachEvent, EachDelivery}
-use Rattle.tg_law_lists.specs.Spared.{TrimsSpare, TrimsWereSpare, GoesOn, WasSettled}
+use Rattle.tg_law_replies.specs.Steps.{EachEvent}
+use Rattle.tg_law_lists.specs.Spared.{TrimsSpare, TrimsWereSpare, GoesOn}
 use Rattle.tg_law_lists.proofs.Reached.{before_reached}
 use Rattle.tg_law_trims.specs.Spare.{IsSpare, TellsSpare, WereSpare, FloorsSpare, TrimsAre, TrimsAreSpare}
 use Rattle.tg_law_trims.proofs.Machines.{CopyOk, CopyHears}
-use Rattle.tg_law_trims.proofs.Hands.{TaskOk, LearnOk, HandOk, WorkOk, FloorOk, ClientOk, ClientHears, TaskHears}
+use Rattle.tg_law_trims.proofs.Hands.{HandOk, WorkOk, FloorOk, ClientOk, ClientHears}
 use Rattle.tg_law_trims.proofs.Sent.{trim_named, named_pair, trim_is, TrimsOnly, job_trims, TurnOk, command_ok, deliver_ok, tick_ok}
 use Rattle.tg_law_trims.proofs.Growing.{spare_on, spare_late}
 use Rattle.tg_law_trims.proofs.Copies.{copy_gone}

@@ -29,7 +29,7 @@ use Rattle.tg_law_moves.proofs.Members.{Has, has_map, has_either, has_filter}
 use Rattle.tg_law_moves.proofs.Turns.{asked_awaited, task_again_reserved}
 use Rattle.tg_law_replies.specs.Steps.{EachDelivery}
 use Rattle.tg_law_trims.proofs.Machines.{CopyOk}
-use Rattle.tg_law_trims.proofs.Hands.{TaskOk, LearnOk, HandOk, WorkOk, FloorOk, ClientOk, Fine, ClientHears, command_fine, deliver_fine}
+use Rattle.tg_law_trims.proofs.Hands.{TaskOk, HandOk, WorkOk, FloorOk, ClientOk, Fine, ClientHears, command_fine, deliver_fine}
 
 -- the epoch and the position of a request to trim
 unfoldable pub trim_named : Msg → Option (ℕ × ℕ)

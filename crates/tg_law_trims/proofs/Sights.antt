@@ -14,10 +14,10 @@ use Rattle.tg_protocol.specs.Clients.{Task, Syncing, Walking, Appending, Trimmin
 use Rattle.tg_protocol.specs.Answers.{play_target, view_or_new}
 use Rattle.tg_protocol.specs.ClientSteps.{knows, given_up_if, task_in}
 use Rattle.tg_protocol.specs.Worlds.{World, start, client}
-use Rattle.tg_protocol.specs.Runs.{Moves, Takes, Reaches, run}
+use Rattle.tg_protocol.specs.Runs.{Moves, Takes, Reaches}
 use Rattle.tg_law_moves.specs.After.{after}
 use Rattle.tg_law_entries.proofs.Lists.{joined}
-use Rattle.tg_law_plays.specs.Sound.{IsRising, base_among}
+use Rattle.tg_law_plays.specs.Sound.{base_among}
 use Rattle.tg_law_history.specs.Logs.{state_below, AreListed}
 use Rattle.tg_law_history.specs.Worlds.{entries_in}
 use Rattle.tg_law_history.proofs.Cells.{logs_rise}

@@ -16,9 +16,9 @@ use Rattle.tg_protocol.specs.Replies.{reply}
 use Rattle.tg_protocol.specs.Sequencers.{SeqrTurn}
 use Rattle.tg_protocol.specs.Views.{Entries}
 use Rattle.tg_protocol.specs.Clients.{Work, Client}
-use Rattle.tg_protocol.specs.ClientSteps.{ClientTurn, client_command, client_deliver, client_tick}
+use Rattle.tg_protocol.specs.ClientSteps.{client_command, client_deliver, client_tick}
 use Rattle.tg_protocol.specs.Worlds.{World, moves, comes, handed, delivers, runs, count_of, unit_moves, layout_moves, seqr_moves, client_turned, noted_if, commands, ticks, ticks_if, stops_if, happens}
-use Rattle.tg_law_moves.specs.Configs.{Config, config, unit_in, layout_in, seqr_in, client_in}
+use Rattle.tg_law_moves.specs.Configs.{Config, config, unit_in, layout_in, client_in}
 use Rattle.tg_law_moves.proofs.Members.{Has, has_got}
 use Rattle.tg_law_moves.proofs.Moves.{Comes, unit_turn, layout_turn, seqr_turn, client_turn, SeqrInput, Hears, Ticks}
 use Rattle.tg_law_replies.specs.Steps.{EachDelivery, EachEvent}

@@ -1,5 +1,5 @@
 -- What a command other than a trim leaves where all streams are walked: it ends, or an append or a sync begins.
-use Rattle.std.proofs.Common.{◌≡◌, ℕ, ◌+◌, List, [], Bool, true, false, refl, sym, ap, subst, arith, Option, Some, None}
+use Rattle.std.proofs.Common.{◌≡◌, ℕ, ◌+◌, List, [], Bool, true, false, refl, sym, subst, arith, Option, Some, None}
 use Rattle.tg_base.specs.declared.ids.Oid.{Oid}
 use Rattle.tg_entry.specs.declared.entry.Entry.{Entry}
 use Rattle.tg_kind.specs.Meaning.{Meaning}
@@ -13,8 +13,8 @@ use Rattle.tg_protocol.specs.Views.{View, Entries, Verdict, Commits, Aborts, Unk
 use Rattle.tg_protocol.specs.Versions.{Changed}
 use Rattle.tg_protocol.specs.Checkpoints.{ForgetFault}
 use Rattle.tg_protocol.specs.Past.{RescueTurn, Wider, Wide, Absent, StuckAt, Known}
-use Rattle.tg_protocol.specs.Clients.{Purpose, Task, Syncing, Appending, Hand, Doing, Learning, Work, Client, all_entries}
-use Rattle.tg_protocol.specs.Answers.{Moved, with_decision, appends, syncs, end_decided, end_aborted, end_no, end_by, end_record, decides_if, decide_verdict, decide_record, decide_blocked, decide_played, save_if, forget_by, rescue_decision, rescue_known, rescue_by, with_view, own_view, play_target, on_ask, on_end, on_fate, on_decide, on_checkpoint, on_forget, on_trim, on_ask_at, answer_by, played_on, plays_own, walked_for, walked}
+use Rattle.tg_protocol.specs.Clients.{Purpose, Task, Syncing, Appending, Work, Client, all_entries}
+use Rattle.tg_protocol.specs.Answers.{Moved, with_decision, appends, syncs, end_decided, end_aborted, end_no, end_by, end_record, decides_if, decide_verdict, decide_record, decide_blocked, decide_played, save_if, forget_by, rescue_decision, rescue_known, rescue_by, with_view, own_view, play_target, on_ask, on_end, on_fate, on_decide, on_checkpoint, on_forget, on_trim, on_ask_at, answer_by, plays_own, walked_for, walked}
 use Rattle.tg_protocol.specs.ClientSteps.{task_in}
 
 module _ (m : Meaning) where

@@ -1,5 +1,5 @@
 -- Trims that leave what is needed, and the floors from which they come.
-use Rattle.std.specs.Prelude.{◌≡◌, ℕ, ◌<◌, true, Some}
+use Rattle.std.specs.Prelude.{◌≡◌, ℕ, ◌<◌, true}
 use Rattle.tg_base.specs.Clusters.{Header}
 use Rattle.tg_base.specs.declared.ids.Oid.{Oid}
 use Rattle.tg_kind.specs.Meaning.{Meaning}
