@@ -1,5 +1,5 @@
 -- The headline of a replay: the script's run reaches a world that holds, and its transcript is written.
-use Rattle.std.specs.Prelude.{◌≡◌, true, List, ℕ}
+use Rattle.std.specs.Prelude.{◌≡◌, ◌<◌, ◌^◌, true, List, length, ℕ}
 use Rattle.tg_base.specs.Clusters.{Header}
 use Rattle.tg_protocol.specs.Worlds.{trace, history}
 use Rattle.tg_protocol.specs.Runs.{Moves, Reaches}
@@ -21,8 +21,9 @@ ScriptsReach = (s : Script) → IsScript s → IsWithin s → IsReached s
 abbrev pub told_in : Header → Worlds → Transcript
 told_in h w = record { objects = h.objects; trace = trace all_kinds w; history = history all_kinds w }
 
+-- (A reply tells the number of its event, which has 64 bits in a transcript, and a drain of nothing takes no step.)
 abbrev pub TranscriptsFit : Type 0
-TranscriptsFit = (s : Script) → IsScript s → IsWithin s → is_transcript (told_in s.header (world_of s)) ≡ true
+TranscriptsFit = (s : Script) → IsScript s → IsWithin s → length s.events < 2 ^ 64 → is_transcript (told_in s.header (world_of s)) ≡ true
 
 -- The headline: the script's run reaches its world, and what is told in it holds.
 pub record IsTrueRun (s : Script) : Type 0 where

@@ -1,0 +1,10 @@
+pub mod Small
+pub mod Begun
+pub mod Committed
+pub mod Replays
+pub mod Adding
+pub mod Idling
+pub mod Changed
+pub mod Lives
+pub mod Arriving
+pub mod Sessions
