@@ -1,8 +1,7 @@
 -- A token that is asked for names the streams of a draft, each once.
-use Rattle.std.proofs.Common.{◌≡◌, ◌⊎◌, ℕ, ◌+◌, ◌<◌, ◌≤◌, List, [], ◌∷◌, ◌++◌, length, map, true, false, refl, sym, ap, ◌∙◌, subst, inl, inr, Option, Some, arith, append-nil}
+use Rattle.std.proofs.Common.{◌≡◌, ◌⊎◌, ℕ, ◌+◌, ◌<◌, ◌≤◌, List, [], ◌∷◌, ◌++◌, length, map, true, false, refl, sym, ap, ◌∙◌, subst, inl, inr, Some, arith, append-nil}
 use Rattle.tg_base.specs.Layouts.{Layout}
 use Rattle.tg_base.specs.Clusters.{Header, IsHeader}
-use Rattle.tg_base.specs.declared.ids.NodeId.{NodeId}
 use Rattle.tg_base.specs.declared.ids.Oid.{Oid}
 use Rattle.tg_base.specs.declared.ids.Role.{Role}
 use Rattle.tg_base.specs.declared.ids.Role.TheVariants as role
@@ -36,7 +35,7 @@ use Rattle.tg_law_drafts.proofs.Drafting.{Fitting, Whole, Saving}
 use Rattle.tg_law_drafts.proofs.Sound.{DraftOk, TaskOk, HandOk}
 use Rattle.tg_law_drafts.proofs.Senders.{silent}
 use Rattle.tg_law_drafts.proofs.Clients.{Turned, turned, few_in}
-use Rattle.tg_law_drafts.proofs.Tokens.{AsksToken, task_token}
+use Rattle.tg_law_drafts.proofs.Tokens.{task_token}
 use Rattle.tg_law_drafts.proofs.Written.{state_at, short_at, then_next, then_takes, give_right, regroup}
 
 rise_above : (low : ℕ) (ls : List StreamLink) (o : Oid) → RiseFrom low ls → Has (map oid_of_link ls) o → low ≤ o.0

@@ -17,8 +17,8 @@ use Rattle.tg_protocol.specs.Clients.{Work, Client, busy, no_tx, wrong_kind, not
 use Rattle.tg_protocol.specs.ClientSteps.{new_work, hosts_more, puts, asks, asks_by, asks_view, asked_of_state, purpose_of, end_by, ends, works_on, accepts, refused_or}
 use Rattle.tg_protocol.specs.Runs.{IsSpelled, LawfulCommand}
 use Rattle.tg_law_drafts.proofs.Views.{ViewOk, version_small}
-use Rattle.tg_law_drafts.proofs.Drafting.{Whole, TxOk, open_ok, read_ok, put_ok, record_fits}
-use Rattle.tg_law_drafts.proofs.Sound.{MaybeView, MaybeTx, CommandOk, Few, Sound, HandOk, HandComes, OfRecord, Good, In, part_is, same_good, syncs_on, starts, reconf_task, copies_task}
+use Rattle.tg_law_drafts.proofs.Drafting.{TxOk, open_ok, read_ok, put_ok, record_fits}
+use Rattle.tg_law_drafts.proofs.Sound.{MaybeView, MaybeTx, CommandOk, Few, Sound, HandOk, HandComes, OfRecord, Good, In, whole_draft, part_is, same_good, syncs_on, starts, reconf_task, copies_task}
 use Rattle.tg_law_drafts.proofs.Sound as sounds
 
 module _ {X : Type 0} where
@@ -92,7 +92,7 @@ module _ (m : Meaning) (c : Client m) (few : Few m c) (sound : Sound m c) where
 
         view : (at : ℕ) (v : Option (View m)) → MaybeView m v → Good m c (asks_view m c t at o q v).now
         view at None k = same_good m c sound
-        view at (Some v) k = state at v (state_of m v o) k
+        view at (Some v) k = state at v (state_of m v o) k.0
 
         by : (s : Option ℕ) → Good m c (asks_by m c (cmd.Ask o q) o q t s).now
         by None = work_on (cmd.Ask o q) (object, part, λ u has. subst (λ (x : Tx). read_fault x o (m.look q) ≡ None) (one t u (sym is ∙ has)) fault)
@@ -111,7 +111,7 @@ module _ (m : Meaning) (c : Client m) (few : Few m c) (sound : Sound m c) where
             let high = a.1 in
             let b = few.begun in
             starts m c (new_work m cmd.End) few sound.tx tt c (new_work m cmd.End) (commit_record t c.num) (purpose_of m t) _ c.begun refl refl refl (omega arith) (omega arith) refl refl (omega arith) sound.view sound.tx
-            (record { client = refl; fits = Whole (record_fits t c.num a.2 low (omega (arith, high, b)) few.client (grind (arith, e))) })
+            (whole_draft m c.num (commit_record t c.num) refl (record_fits t c.num a.2 low (omega (arith, high, b)) few.client (grind (arith, e))))
             (OfRecord refl refl refl)
 
     accepts_good : (x : CommandOf m) → refusal m c x ≡ None → LawfulCommand m x → Good m c (accepts m c x).now

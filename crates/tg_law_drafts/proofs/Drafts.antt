@@ -19,7 +19,7 @@ use Rattle.tg_entry.specs.Records.{linked}
 use Rattle.tg_protocol.specs.Pages.{entry_of}
 use Rattle.tg_protocol.specs.Appending.{is_link, names_all, Append}
 use Rattle.tg_protocol.specs.Clients.{Task, Work, Client}
-use Rattle.tg_protocol.specs.Worlds.{World, start, client, log}
+use Rattle.tg_protocol.specs.Worlds.{World, start, log}
 use Rattle.tg_protocol.specs.Runs.{Moves, most_steps, LawfulCommand, Always, AlwaysBy}
 use Rattle.tg_protocol.specs.Alike.{HasEntry}
 use Rattle.tg_protocol.specs.Holding.{EntriesLinked, append_of, append_by, WasBegun}

@@ -2,6 +2,7 @@ pub mod Heads
 pub mod Ranges
 pub mod Views
 pub mod Drafting
+pub mod Saving
 pub mod Tails
 pub mod Sound
 pub mod Commands

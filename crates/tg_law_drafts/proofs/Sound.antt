@@ -8,9 +8,8 @@ use Rattle.tg_base.specs.declared.ids.Oid.{Oid}
 use Rattle.tg_base.specs.declared.marks.Part.{Part}
 use Rattle.tg_base.specs.declared.marks.Part.TheVariants.{All, Text, Num}
 use Rattle.tg_base.specs.declared.msg.Msg.{Msg}
-use Rattle.tg_entry.specs.declared.entry.Body.TheVariants.{Checkpoint}
 use Rattle.tg_entry.specs.declared.entry.Entry.{Entry}
-use Rattle.tg_entry.specs.Format.{tag_of}
+use Rattle.tg_entry.specs.Format.{tag_of, entry}
 use Rattle.tg_entry.specs.Records.{is_object, is_read}
 use Rattle.tg_entry.specs.Records as records
 use Rattle.tg_kind.specs.Meaning.{Meaning}
@@ -39,10 +38,16 @@ use Rattle.tg_protocol.specs.Clients.{Purpose, Writes, Judged, Decides, Rescues,
 use Rattle.tg_protocol.specs.Answers.{Moved, moved, mark_record, pruned, took_over, closed, appends, syncs, walked, walked_for, plays_own, own_view, view_or_new, answer_by, play_target, with_view, on_ask, ask_in, ask_answer, unsure, aborted, end_decided, end_aborted, end_no, end_by, end_record, on_end, lacks_decision, decision, with_decision, forgotten_or, fate_verdict, fate_record, fate_known, fate_blocked, blocks, on_fate, trim_above, decides_if, decide_verdict, decide_record, decide_blocked, on_decide, save_if, on_checkpoint, forget_by, on_forget, trims_if, on_trim, past_answer, past_played, past_turn, ahead_or, on_ask_at, rescue_decision, rescue_known, absent, rescue_by}
 use Rattle.tg_protocol.specs.ClientSteps.{task_in, after_turn, met, goes_on, takes_back, found_by, start_walk, walks, lo_for, knows, sync_to, on_sync, stale, starts_over, gives_up, given_up_if, at_trim, walk_ended_by, walk_to, on_walk, knows_page, owns, record_lost, lost, page_known, decided_for, append_ended, append_to, on_append, trim_to, on_trims, copy_to, on_copy, stands, reconf_ended, reconf_to, on_reconf, task_feed, copies_again, task_again, on_newer, fed_if, hand_feed, latest_if, reply_feed}
 use Rattle.tg_protocol.specs.Runs.{IsSpelled}
+use Rattle.tg_law_plays.specs.Sound.{IsRising, IsSound}
+use Rattle.tg_law_plays.proofs.Kept.{plays_keep}
+use Rattle.tg_law_walks.proofs.Positions.{all_rise, rises_filter, positions_rise}
+use Rattle.tg_law_walks.proofs.Saves.{entries_rising}
 use Rattle.tg_law_replies.proofs.Turns.{Keeps, feed_keeps, again_keeps}
+use Rattle.tg_law_drafts.specs.Parts.{TouchParts}
 use Rattle.tg_law_drafts.proofs.Ranges.{AreStreams, entry_streams}
 use Rattle.tg_law_drafts.proofs.Views.{AreRead, below_read, ViewOk, version_small, play_ok, start_ok}
 use Rattle.tg_law_drafts.proofs.Drafting.{Fitting, Whole, TxOk, read_ok, decision_fits, mark_fits, saving}
+use Rattle.tg_law_drafts.proofs.Saving.{checkpoint_fits}
 use Rattle.tg_law_drafts.proofs.Tails.{TailOk, TailNext, tail_feed_ok, tail_start_ok}
 
 pub part_is : (k : Part) → is_part k ≡ true → records.is_part k ≡ true
@@ -53,7 +58,7 @@ part_is (Num n) e = e
 module _ (m : Meaning) where
   abbrev pub MaybeView : Option (View m) → Type 0
   MaybeView None = Unit {0}
-  MaybeView (Some v) = ViewOk m v
+  MaybeView (Some v) = ViewOk m v × IsSound m v
 
   -- an open transaction, with a number that was begun
   abbrev pub MaybeTx : ℕ → Option Tx → Type 0
@@ -67,10 +72,14 @@ module _ (m : Meaning) where
   CommandOk tx (cmd.Forget o n) = IsSpelled m directory (m.mark_op o n)
   CommandOk tx x = Unit {0}
 
-  -- a draft in hand: it is its client's, and has a spelling
+  -- a draft in hand: it is its client's, and has a spelling, which a checkpoint has where ops touch parts of the format
   pub record DraftOk (num : ℕ) (d : Entry) : Type 0 where
     pub client : d.head.client ≡ num
     pub fits : Fitting d
+    pub spelled : TouchParts m → entry.fits d ≡ true
+
+  pub whole_draft : (num : ℕ) (d : Entry) → d.head.client ≡ num → entry.fits d ≡ true → DraftOk num d
+  whole_draft num d client fits = record { client = client; fits = Whole fits; spelled = λ parts. fits }
 
   abbrev pub TaskOk : ℕ → Task m → Type 0
   TaskOk num (Appending a y) = DraftOk num a.draft
@@ -222,7 +231,7 @@ module _ (m : Meaning) (c0 : Client m) (w0 : Work m) (few : Few m c0) (tx0 : May
         let d = h.3 in
         let b = few.decisions in
         starts (with_decision m c) w (decision m c e p so) y [] c0.begun h.0 h.1 h.2 (omega arith) (omega arith) h.5 h.7 h.8 h.9 (tx_of c h.2 h.5)
-        (record { client = refl; fits = Whole (decision_fits c.num (c.decisions + 1) e p so r.1 (small c w h) (omega arith) (omega (arith, d, b)) (let t = h.8 in let l = r.0 in omega (arith, t, l))) })
+        (whole_draft m c.num (decision m c e p so) refl (decision_fits c.num (c.decisions + 1) e p so r.1 (small c w h) (omega arith) (omega (arith, d, b)) (let t = h.8 in let l = r.0 in omega (arith, t, l))))
         (OfDecision refl (ap (λ (n : ℕ). n + 1) d) (ap (λ (n : ℕ). n + 1) d) h.4)
 
     ask_ok : (c : Client m) (w : Work m) (o : Oid) (q : m.ask) (v : View m) (came : PlayEnd) → In c w → c.view ≡ Some v → w0.command ≡ cmd.Ask o q → Good m c0 (on_ask m c w o q v came).now
@@ -233,7 +242,7 @@ module _ (m : Meaning) (c0 : Client m) (w0 : Work m) (few : Few m c0) (tx0 : May
         command = subst (CommandOk m c0.tx) at command0
 
         view : ViewOk m v
-        view = subst (MaybeView m) is h.9
+        view = (subst (MaybeView m) is h.9).0
 
         answer : (t : Tx) → c.tx ≡ Some t → (s : Option m.state) → Good m c0 (ask_answer m c w t o q v s).now
         answer t has None = rests c w h
@@ -325,19 +334,32 @@ module _ (m : Meaning) (c0 : Client m) (w0 : Work m) (few : Few m c0) (tx0 : May
         by true = rests c w h
         by false = decide_record_ok c w es v p (commit_at es p) refl r h
 
-    checkpoint_ok : (c : Client m) (w : Work m) (v : View m) (o : Oid) (came : PlayEnd) → In c w → w0.command ≡ cmd.Checkpoint o → Good m c0 (on_checkpoint m c w v o came).now
+    checkpoint_ok : (c : Client m) (w : Work m) (v : View m) (o : Oid) (came : PlayEnd) → In c w → c.view ≡ Some v → w0.command ≡ cmd.Checkpoint o → Good m c0 (on_checkpoint m c w v o came).now
     unfolding checkpoint
-    checkpoint_ok c w v o (Blocked q x) h at = rests c w h
-    checkpoint_ok c w v o (Played t) h at = by (nat_lt 4096 (entry_size (checkpoint m v o w.tail c.num (c.checkpoints + 1))))
+    checkpoint_ok c w v o (Blocked q x) h is at = rests c w h
+    checkpoint_ok c w v o (Played t) h is at = by (nat_lt 4096 (entry_size (checkpoint m v o w.tail c.num (c.checkpoints + 1)))) refl
       where
-        by : (b : Bool) → Good m c0 (save_if m b c w o (checkpoint m v o w.tail c.num (c.checkpoints + 1))).now
-        by true = rests c w h
-        by false =
-            let d = h.4 in
-            let b = few.checkpoints in
-            starts (record c { checkpoints = c.checkpoints + 1 }) w _ (Saves o w.tail) [] c0.begun h.0 h.1 h.2 (omega arith) (omega arith) h.5 h.7 h.8 h.9 (tx_of c h.2 h.5)
-            (record { client = refl; fits = saving c.num (c.checkpoints + 1) o _ refl (subst (CommandOk m c0.tx) at command0) (small c w h) (omega arith) (omega (arith, d, b)) })
-            (OfCheckpoint refl (ap (λ (n : ℕ). n + 1) d) h.3 (ap (λ (n : ℕ). n + 1) d))
+        view : ViewOk m v × IsSound m v
+        view = subst (MaybeView m) is h.9
+
+        object : is_object o ≡ true
+        object = subst (CommandOk m c0.tx) at command0
+
+        in_range : c.checkpoints + 1 < 2 ^ 32
+        in_range = let d = h.4 in let b = few.checkpoints in omega (arith, d, b)
+
+        spelled : nat_lt 4096 (entry_size (checkpoint m v o w.tail c.num (c.checkpoints + 1))) ≡ false → TouchParts m → entry.fits (checkpoint m v o w.tail c.num (c.checkpoints + 1)) ≡ true
+        spelled e parts = checkpoint_fits m parts v o view.0 view.1 w.tail c.num (c.checkpoints + 1) object (small c w h) (omega arith) in_range (let k = h.8 in omega (arith, k)) e
+
+        drafted : nat_lt 4096 (entry_size (checkpoint m v o w.tail c.num (c.checkpoints + 1))) ≡ false → DraftOk m c.num (checkpoint m v o w.tail c.num (c.checkpoints + 1))
+        drafted e = record { client = refl; fits = saving c.num (c.checkpoints + 1) o _ refl object (small c w h) (omega arith) in_range; spelled = spelled e }
+
+        kind : Kind m c0 c.decisions (c.checkpoints + 1) (checkpoint m v o w.tail c.num (c.checkpoints + 1))
+        kind = let d = h.4 in OfCheckpoint refl (ap (λ (n : ℕ). n + 1) d) h.3 (ap (λ (n : ℕ). n + 1) d)
+
+        by : (b : Bool) → nat_lt 4096 (entry_size (checkpoint m v o w.tail c.num (c.checkpoints + 1))) ≡ b → Good m c0 (save_if m b c w o (checkpoint m v o w.tail c.num (c.checkpoints + 1))).now
+        by true e = rests c w h
+        by false e = starts (record c { checkpoints = c.checkpoints + 1 }) w (checkpoint m v o w.tail c.num (c.checkpoints + 1)) (Saves o w.tail) [] c0.begun h.0 h.1 h.2 (omega arith) (omega arith) h.5 h.7 h.8 h.9 (tx_of c h.2 h.5) (drafted e) kind
 
     later_tx : (c : Client m) (w : Work m) (t : Option Tx) → c.tx ≡ t → In c w → MaybeTx m (c.begun + 1) t
     later_tx c w None is h = tt
@@ -350,7 +372,7 @@ module _ (m : Meaning) (c0 : Client m) (w0 : Work m) (few : Few m c0) (tx0 : May
         let d = h.2 in
         let b = few.begun in
         starts (record c { begun = c.begun + 1 }) w (mark_record m c o n) (Marks (c.begun + 1) o n) _ (c0.begun + 1) h.0 h.1 (ap (λ (k : ℕ). k + 1) d) (omega arith) (omega arith) h.5 h.7 h.8 h.9 (later_tx c w c.tx refl h)
-        (record { client = refl; fits = Whole (mark_fits c.num (c.begun + 1) (m.spell (m.mark_op o n)) (small c w h) (omega arith) (omega (arith, d, b)) (subst (CommandOk m c0.tx) at command0).fits) })
+        (whole_draft m c.num (mark_record m c o n) refl (mark_fits c.num (c.begun + 1) (m.spell (m.mark_op o n)) (small c w h) (omega arith) (omega (arith, d, b)) (subst (CommandOk m c0.tx) at command0).fits))
         (OfRecord refl h.3 h.4)
 
     forget_ok : (c : Client m) (w : Work m) (es : Entries) (o : Oid) (n : ℕ) (came : PlayEnd) → In c w → w0.command ≡ cmd.Forget o n → Good m c0 (on_forget m c w es o n came).now
@@ -409,15 +431,15 @@ module _ (m : Meaning) (c0 : Client m) (w0 : Work m) (few : Few m c0) (tx0 : May
     answer_ok c w es p cmd.End r h v is = end_ok c w es p.view p.came r h
     answer_ok c w es p (cmd.Fate at) r h v is = fate_ok c w es p.view at p.came h
     answer_ok c w es p (cmd.Decide at) r h v is = decide_ok c w es p.view at p.came _ r h
-    answer_ok c w es p (cmd.Checkpoint o) r h v is = checkpoint_ok c w p.view o p.came h is
+    answer_ok c w es p (cmd.Checkpoint o) r h v is = checkpoint_ok c w p.view o p.came h v is
     answer_ok c w es p (cmd.Forget o n) r h v is = forget_ok c w es o n p.came h is
     answer_ok c w es p cmd.Trim r h v is = trim_ok c w p.view p.came h
     answer_ok c w es p x r h v is = rests c w h
 
-    own_ok : (c : Client m) (w : Work m) (es : Entries) → AreRead w.tail es → In c w → ViewOk m (own_view m c w es)
+    own_ok : (c : Client m) (w : Work m) (es : Entries) → AreRead w.tail es → In c w → ViewOk m (own_view m c w es) × IsSound m (own_view m c w es)
     own_ok c w es r h = by c.view h.9
       where
-        by : (v : Option (View m)) → MaybeView m v → ViewOk m (view_or_new m c w es v)
+        by : (v : Option (View m)) → MaybeView m v → ViewOk m (view_or_new m c w es v) × IsSound m (view_or_new m c w es v)
         by None k = start_ok m w.tail es w.trims c.objects c.hosted r
         by (Some v) k = k
 
@@ -425,19 +447,25 @@ module _ (m : Meaning) (c0 : Client m) (w0 : Work m) (few : Few m c0) (tx0 : May
     unfolding walked
     walked_ok c w h = by w.command (sym h.7)
       where
-        plays : (x : CommandOf m) → w0.command ≡ x → (es : Entries) → AreRead w.tail es → (p : Play m) → ViewOk m p.view → Good m c0 (answer_by m (with_view m c p.view) w es p x).now
+        plays : (x : CommandOf m) → w0.command ≡ x → (es : Entries) → AreRead w.tail es → (p : Play m) → ViewOk m p.view × IsSound m p.view → Good m c0 (answer_by m (with_view m c p.view) w es p x).now
         plays x is es r p v = answer_ok (with_view m c p.view) w es p x r (h.0, h.1, h.2, h.3, h.4, h.5, h.6, h.7, h.8, v) refl is
 
-        own : (es : Entries) → AreRead w.tail es → Good m c0 (plays_own m c w es).now
-        own es r = plays w.command (sym h.7) es r (play m (own_view m c w es) es (play_target m w w.command)) (play_ok m (own_view m c w es) es w.tail (play_target m w w.command) h.8 r (own_ok c w es r h))
+        own : (es : Entries) → AreRead w.tail es → IsRising es → Good m c0 (plays_own m c w es).now
+        own es r rising =
+            let v = own_ok c w es r h in
+            plays w.command (sym h.7) es r (play m (own_view m c w es) es (play_target m w w.command))
+            (play_ok m (own_view m c w es) es w.tail (play_target m w w.command) h.8 r v.0, plays_keep m es (own_view m c w es) (play_target m w w.command) rising v.1)
 
         reads : (os : List Oid) → AreRead w.tail (all_entries m c w os)
         reads os = below_read m c.cells w.tail (with_nums c.own (member_positions m w os))
 
+        rises : (os : List Oid) → IsRising (all_entries m c w os)
+        rises os = entries_rising m c.cells 0 _ (rises_filter (λ p. nat_lt p w.tail) 0 (with_nums c.own (member_positions m w os)) (all_rise c.own (member_positions m w os) (positions_rise m w.found os)))
+
         by : (x : CommandOf m) → w0.command ≡ x → Good m c0 (walked_for m c w x).now
         by (cmd.AskAt p o q) is = ask_at_ok c w p o q h
         by (cmd.Rescue p) is = rescue_ok c w _ p _ (reads w.oids) h
-        by x is = own (all_entries m c w c.hosted) (reads c.hosted)
+        by x is = own (all_entries m c w c.hosted) (reads c.hosted) (rises c.hosted)
 
     -- Walks and syncs.
 

@@ -1,5 +1,6 @@
--- Of a client's view: its versions are numbers of eight bytes.
-use Rattle.std.proofs.Common.{◌≡◌, ℕ, ◌+◌, ◌-◌, ◌<◌, ◌≤◌, ◌^◌, Bool, true, false, cond, List, [], ◌∷◌, ◌++◌, Option, Some, None, refl, sym, subst, inl, inr, arith}
+-- Of a client's view: its versions are numbers of eight bytes, and those of lawful bases; the parts that it names are parts of the
+-- format, as far as ops touch no others.
+use Rattle.std.proofs.Common.{◌≡◌, ℕ, ◌-◌, ◌<◌, ◌≤◌, ◌^◌, Bool, true, false, cond, List, [], ◌∷◌, ◌++◌, Option, Some, None, refl, sym, subst, inl, inr, arith}
 use Rattle.std.specs.Prelude.{filter, find, not, ◌&&◌, ◌==◌, nat_lt, nat_le, is_some}
 use Rattle.tg_base.specs.declared.cell.Cell.{Cell}
 use Rattle.tg_base.specs.declared.cell.Cell.TheVariants.{Junk, Data}
@@ -12,26 +13,35 @@ use Rattle.tg_entry.specs.declared.entry.Entry.{Entry}
 use Rattle.tg_entry.specs.declared.entry.WriteOp.{WriteOp}
 use Rattle.tg_kind.specs.Meaning.{Meaning}
 use Rattle.tg_protocol.specs.Words.{cell_at}
-use Rattle.tg_kind.specs.Parts.{part_eq, overlap}
+use Rattle.tg_kind.specs.Parts.{part_eq, overlap, is_part}
 use Rattle.tg_base.specs.Orders.{oid_eq}
 use Rattle.tg_protocol.specs.Pages.{entry_of, cell_entry}
 use Rattle.tg_protocol.specs.Entries.{is_commit, writes_of, needs_decision}
-use Rattle.tg_protocol.specs.Versions.{Based, PartVersion, Versions, no_versions, based, key_version, version_in, base_version, noted_or, version_of}
-use Rattle.tg_protocol.specs.Views.{Entries, decision_in, Verdict, Commits, Aborts, Unknown, Base, View, view_start, base_of, played_version, view_version, applied, state_of, set_state, write_by, plays, write, write_all, with_fate, with_verdict, with_open, Play, stands_at, Step, On, Stuck, decided_step, record_step, entry_step, step_at, passed_over, verdict, between, play_on, play_from, play, entry_if}
+use Rattle.tg_protocol.specs.Versions.{Based, PartVersion, no_versions, based, key_version, version_in, base_version, noted_or, version_of}
+use Rattle.tg_protocol.specs.Views.{Entries, decision_in, Verdict, Commits, Aborts, Unknown, Base, View, view_start, base_of, played_version, view_version, touched, applied, state_of, set_state, write_by, plays, write, write_all, with_fate, with_verdict, with_open, Play, stands_at, Step, On, Stuck, decided_step, record_step, entry_step, step_at, passed_over, verdict, between, play_on, play_from, play, entry_if}
 use Rattle.tg_protocol.specs.Checkpoints.{TrimPoints, trim_of, loaded, base_in, base_at, option_list, bases_in, lower, least_base, from_upto, load_from, base_or, base_by, view_base, view_bases}
 use Rattle.tg_protocol.specs.Clients.{entries_at}
 use Rattle.tg_law_moves.proofs.Members.{Has}
-use Rattle.tg_law_drafts.proofs.Ranges.{KeysBelow, checkpoint_versions}
+use Rattle.tg_law_plays.specs.Sound.{AreKeys, IsBase, AreBases, IsSound}
+use Rattle.tg_law_plays.proofs.Kept.{starts_sound}
+use Rattle.tg_law_drafts.specs.Parts.{TouchParts}
+use Rattle.tg_law_drafts.proofs.Ranges.{KeysBelow, AreTold, told_below, checkpoint_versions}
 
 -- Versions.
 
+-- keys name parts of the format
+abbrev pub NameParts : List (Part × ℕ) → Type 0
+NameParts [] = Unit {0}
+NameParts (k ∷ ks) = (is_part k.0 ≡ true) × NameParts ks
+
 abbrev pub BasedOk : Option Based → Type 0
 BasedOk None = Unit {0}
-BasedOk (Some b) = (b.version < 2 ^ 64) × (b.whole < 2 ^ 64) × KeysBelow (2 ^ 64 - 1) b.keys
+BasedOk (Some b) = (b.version < 2 ^ 64) × (b.whole < 2 ^ 64) × KeysBelow (2 ^ 64 - 1) b.keys × NameParts b.keys
 
-abbrev pub NotedOk : List PartVersion → Type 0
-NotedOk [] = Unit {0}
-NotedOk (n ∷ ns) = (n.version < 2 ^ 64) × NotedOk ns
+-- changes of parts of the format, where ops touch no others
+abbrev pub NotedOk : Meaning → List PartVersion → Type 0
+NotedOk m [] = Unit {0}
+NotedOk m (n ∷ ns) = (n.version < 2 ^ 64) × (TouchParts m → is_part n.part ≡ true) × NotedOk m ns
 
 key_small : (k : Part) (whole : ℕ) (ks : List (Part × ℕ)) → whole < 2 ^ 64 → KeysBelow (2 ^ 64 - 1) ks → key_version k whole ks < 2 ^ 64
 key_small k whole [] w h = w
@@ -54,9 +64,9 @@ base_small (Some b) o k h = by (oid_eq b.oid o)
     by true = in_small b k h
     by false = omega arith
 
-noted_small : (b : Option Based) (ns : List PartVersion) (o : Oid) (k : Part) → BasedOk b → NotedOk ns → noted_or b ns o k < 2 ^ 64
-noted_small b [] o k h n = base_small b o k h
-noted_small b (x ∷ ns) o k h n = by (oid_eq x.oid o && overlap x.part k) (noted_small b ns o k h n.1)
+noted_small : (m : Meaning) (b : Option Based) (ns : List PartVersion) (o : Oid) (k : Part) → BasedOk b → NotedOk m ns → noted_or b ns o k < 2 ^ 64
+noted_small m b [] o k h n = base_small b o k h
+noted_small m b (x ∷ ns) o k h n = by (oid_eq x.oid o && overlap x.part k) (noted_small m b ns o k h n.2)
   where
     by : (t : Bool) → noted_or b ns o k < 2 ^ 64 → cond t x.version (noted_or b ns o k) < 2 ^ 64
     by true rest = n.0
@@ -118,21 +128,24 @@ module _ (m : Meaning) where
   below_read cells top ps = entries_read cells top _ (below_all top ps)
 
 module _ (m : Meaning) where
+  abbrev pub BaseOk : Base m → Type 0
+  BaseOk b = BasedOk b.versions.base × IsBase m b
+
   abbrev pub BasesOk : List (Base m) → Type 0
   BasesOk [] = Unit {0}
-  BasesOk (b ∷ bs) = BasedOk b.versions.base × BasesOk bs
+  BasesOk (b ∷ bs) = BaseOk b × BasesOk bs
 
   abbrev pub ViewOk : View m → Type 0
-  ViewOk v = BasesOk v.bases × NotedOk v.noted
+  ViewOk v = BasesOk v.bases × NotedOk m v.noted
 
-  found_ok : (o : Oid) (bs : List (Base m)) → BasesOk bs → (b : Option (Base m)) → find (λ b. oid_eq b.oid o) bs ≡ b → elim b as (λ _. Type 0) [ None ↦ Unit {0} | Some x ↦ BasedOk x.versions.base ]
+  pub found_ok : (o : Oid) (bs : List (Base m)) → BasesOk bs → (b : Option (Base m)) → find (λ b. oid_eq b.oid o) bs ≡ b → elim b as (λ _. Type 0) [ None ↦ Unit {0} | Some x ↦ BasedOk x.versions.base ]
   found_ok o [] h None e = tt
   found_ok o [] h (Some x) e = absurd cc
   found_ok o (y ∷ ys) h b e = by (oid_eq y.oid o) refl (λ c f. found_ok o ys h.1 c f) e
     where
       by : (t : Bool) → oid_eq y.oid o ≡ t → ((c : Option (Base m)) → find (λ b. oid_eq b.oid o) ys ≡ c → elim c as (λ _. Type 0) [ None ↦ Unit {0} | Some x ↦ BasedOk x.versions.base ])
           → cond t (Some y) (find (λ b. oid_eq b.oid o) ys) ≡ b → elim b as (λ _. Type 0) [ None ↦ Unit {0} | Some x ↦ BasedOk x.versions.base ]
-      by true f rest g = subst (λ (c : Option (Base m)). elim c as (λ _. Type 0) [ None ↦ Unit {0} | Some x ↦ BasedOk x.versions.base ]) g h.0
+      by true f rest g = subst (λ (c : Option (Base m)). elim c as (λ _. Type 0) [ None ↦ Unit {0} | Some x ↦ BasedOk x.versions.base ]) g h.0.0
       by false f rest g = rest b g
 
   pub version_small : (v : View m) (o : Oid) (k : Part) → ViewOk v → view_version m v o k < 2 ^ 64
@@ -141,7 +154,7 @@ module _ (m : Meaning) where
     where
       by : (b : Option (Base m)) → elim b as (λ _. Type 0) [ None ↦ Unit {0} | Some x ↦ BasedOk x.versions.base ] → played_version m v b o k < 2 ^ 64
       by None i = omega arith
-      by (Some b) i = noted_small b.versions.base v.noted o k i h.1
+      by (Some b) i = noted_small m b.versions.base v.noted o k i h.1
 
   -- Playing.
 
@@ -150,6 +163,11 @@ module _ (m : Meaning) where
   set_ok v o None h = h
   set_ok v o (Some s) h = h
 
+  -- bytes that spell no op change all of an object
+  touched_part : (o : Oid) (bytes : List ℕ) (op : Option m.op) → m.read o bytes ≡ op → TouchParts m → is_part (touched m op) ≡ true
+  touched_part o bytes None is parts = refl
+  touched_part o bytes (Some op) is parts = parts o bytes op is
+
   write_ok : (p : ℕ) (v : View m) (w : WriteOp) → p < 2 ^ 62 → ViewOk v → ViewOk (write m p v w)
   write_ok p v w less h = by (plays m p (base_of m v w.oid))
     where
@@ -157,7 +175,7 @@ module _ (m : Meaning) where
       set = set_ok v w.oid (applied m (m.read w.oid w.op) (state_of m v w.oid)) h
 
       by : (b : Bool) → ViewOk (cond b (write_by m v p w (m.read w.oid w.op)) v)
-      by true = (set.0, (omega (arith, less), set.1))
+      by true = (set.0, (omega (arith, less), touched_part w.oid w.op (m.read w.oid w.op) refl, set.1))
       by false = h
 
   writes_ok : (p : ℕ) (ws : List WriteOp) (v : View m) → p < 2 ^ 62 → ViewOk v → ViewOk (write_all m p v ws)
@@ -219,32 +237,47 @@ module _ (m : Meaning) where
 
   -- New views.
 
-  loaded_ok : (o : Oid) (upto : ℕ) (vs : Versions) (s : Option m.state) (b : Base m) → BasedOk vs.base → loaded m o upto vs s ≡ Some b → BasedOk b.versions.base
-  loaded_ok o upto vs None b h e = absurd cc
-  loaded_ok o upto vs (Some s) b h e = let same : vs ≡ b.versions = cc in subst (λ (x : Versions). BasedOk x.base) same h
+  -- a base that a checkpoint gives
+
+  one_base : (a b : Base m) → Some a ≡ Some b → a ≡ b
+  one_base a b e = cc
+
+  loaded_ok : (o : Oid) (upto v w : ℕ) (ks : List (Part × ℕ)) (s : Option m.state) (b : Base m) → (BasedOk (Some (record { oid = o; version = v; whole = w; keys = ks }))) → v ≤ upto → w ≤ v → AreKeys w v ks → loaded m o upto (based o v w ks) s ≡ Some b → BaseOk b
+  unfolding based
+  loaded_ok o upto v w ks None b h le low keys e = absurd cc
+  loaded_ok o upto v w ks (Some s) b h le low keys e =
+      subst BaseOk (one_base (record { oid = o; state = s; versions = based o v w ks; upto = upto }) b e) (h, record { oid = refl; version = le; whole = low; keys = keys })
 
   keys_more : (a b : ℕ) (ks : List (Part × ℕ)) → a ≤ b → KeysBelow a ks → KeysBelow b ks
   keys_more a b [] le h = tt
   keys_more a b (k ∷ ks) le h = (let x = h.0 in omega (arith, x, le), keys_more a b ks le h.1)
 
-  base_in_ok : (o : Oid) (e : Entry) (b : Base m) (x : Body) → IsRead e → e.head.format ≡ 2 → e.body ≡ x → base_in m o x ≡ Some b → BasedOk b.versions.base
-  unfolding based
+  told_named : (w v : ℕ) (ks : List (Part × ℕ)) → AreTold w v ks → NameParts ks
+  told_named w v [] h = tt
+  told_named w v (k ∷ ks) h = (h.0.1, told_named w v ks h.1)
+
+  told_keys : (w v : ℕ) (ks : List (Part × ℕ)) → AreTold w v ks → AreKeys w v ks
+  told_keys w v [] h = tt
+  told_keys w v (k ∷ ks) h = (h.0.0, h.0.2, h.0.3, told_keys w v ks h.1)
+
+  base_in_ok : (o : Oid) (e : Entry) (b : Base m) (x : Body) → IsRead e → e.head.format ≡ 2 → e.body ≡ x → base_in m o x ≡ Some b → BaseOk b
   base_in_ok o e b (Commit rs ws) r format is h = absurd cc
   base_in_ok o e b (Decision at so) r format is h = absurd cc
-  base_in_ok o e b (Checkpoint p u v w ks s) r format is h = by (oid_eq o p && nat_le v u) h
+  base_in_ok o e b (Checkpoint p u v w ks s) r format is h = by (oid_eq o p) (nat_le v u) refl h
     where
-      by : (t : Bool) → cond t (loaded m o u (based o v w ks) (m.load o s)) None ≡ Some b → BasedOk b.versions.base
-      by true f =
+      by : (t x : Bool) → nat_le v u ≡ x → cond (t && x) (loaded m o u (based o v w ks) (m.load o s)) None ≡ Some b → BaseOk b
+      by true true le f =
           let a = checkpoint_versions r.page e p u v w ks s r.reads format is in
           let fits = a.fits in
           let low = a.below in
-          loaded_ok o u (based o v w ks) (m.load o s) b (fits, omega (arith, fits, low), keys_more v (2 ^ 64 - 1) ks (omega (arith, fits)) a.keys) f
-      by false f = absurd cc
+          loaded_ok o u v w ks (m.load o s) b (fits, omega (arith, fits, low), keys_more v (2 ^ 64 - 1) ks (omega (arith, fits)) (told_below w v ks a.keys), told_named w v ks a.keys) (grind (arith, le)) low (told_keys w v ks a.keys) f
+      by true false le f = absurd cc
+      by false x le f = absurd cc
 
-  base_at_ok : (o : Oid) (e : Entry) (b : Base m) → IsRead e → base_at m o e ≡ Some b → BasedOk b.versions.base
+  base_at_ok : (o : Oid) (e : Entry) (b : Base m) → IsRead e → base_at m o e ≡ Some b → BaseOk b
   base_at_ok o e b r h = by (e.head.format == 2) refl h
     where
-      by : (t : Bool) → (e.head.format == 2) ≡ t → cond t (base_in m o e.body) None ≡ Some b → BasedOk b.versions.base
+      by : (t : Bool) → (e.head.format == 2) ≡ t → cond t (base_in m o e.body) None ≡ Some b → BaseOk b
       by true f g = base_in_ok o e b e.body r (grind (arith, f)) refl g
       by false f g = absurd cc
 
@@ -267,13 +300,13 @@ module _ (m : Meaning) where
 
   abbrev MaybeOk : Option (Base m) → Type 0
   MaybeOk None = Unit {0}
-  MaybeOk (Some b) = BasedOk b.versions.base
+  MaybeOk (Some b) = BaseOk b
 
-  lower_ok : (b : Base m) (c : Option (Base m)) → BasedOk b.versions.base → MaybeOk c → BasedOk (lower m b c).versions.base
+  lower_ok : (b : Base m) (c : Option (Base m)) → BaseOk b → MaybeOk c → BaseOk (lower m b c)
   lower_ok b None h k = h
   lower_ok b (Some c) h k = by (nat_le b.upto c.upto)
     where
-      by : (t : Bool) → BasedOk (cond t b c).versions.base
+      by : (t : Bool) → BaseOk (cond t b c)
       by true = h
       by false = k
 
@@ -281,16 +314,16 @@ module _ (m : Meaning) where
   least_ok [] h = tt
   least_ok (b ∷ bs) h = lower_ok b (least_base m bs) h.0 (least_ok bs h.1)
 
-  view_base_ok : (top : ℕ) (es : Entries) (gone : TrimPoints) (objects : List Oid) (o : Oid) → AreRead top es → BasedOk (view_base m es gone objects o).versions.base
+  view_base_ok : (top : ℕ) (es : Entries) (gone : TrimPoints) (objects : List Oid) (o : Oid) → AreRead top es → BaseOk (view_base m es gone objects o)
   unfolding view_base load_from no_versions
   view_base_ok top es gone objects o r = by (trim_of gone o)
     where
-      some : (b : Option (Base m)) → MaybeOk b → BasedOk (base_or m objects o b).versions.base
-      some None h = tt
+      some : (b : Option (Base m)) → MaybeOk b → BaseOk (base_or m objects o b)
+      some None h = (tt, tt)
       some (Some b) h = h
 
-      by : (t : Option ℕ) → BasedOk (base_by m es objects o t).versions.base
-      by None = tt
+      by : (t : Option ℕ) → BaseOk (base_by m es objects o t)
+      by None = (tt, tt)
       by (Some below) = some (load_from m es o below) (least_ok (filter (from_upto m below) (bases_in m es o)) (filter_bases (from_upto m below) (bases_in m es o) (bases_ok top es o r)))
 
   views_ok : (top : ℕ) (es : Entries) (gone : TrimPoints) (objects os : List Oid) → AreRead top es → BasesOk (view_bases m es gone objects os)
@@ -298,6 +331,10 @@ module _ (m : Meaning) where
   views_ok top es gone objects [] r = tt
   views_ok top es gone objects (o ∷ os) r = (view_base_ok top es gone objects o r, views_ok top es gone objects os r)
 
-  pub start_ok : (top : ℕ) (es : Entries) (gone : TrimPoints) (objects os : List Oid) → AreRead top es → ViewOk (view_start m (view_bases m es gone objects os))
+  are_bases : (bs : List (Base m)) → BasesOk bs → AreBases m bs
+  are_bases [] h = tt
+  are_bases (b ∷ bs) h = (h.0.1, are_bases bs h.1)
+
+  pub start_ok : (top : ℕ) (es : Entries) (gone : TrimPoints) (objects os : List Oid) → AreRead top es → ViewOk (view_start m (view_bases m es gone objects os)) × IsSound m (view_start m (view_bases m es gone objects os))
   unfolding view_start
-  start_ok top es gone objects os r = (views_ok top es gone objects os r, tt)
+  start_ok top es gone objects os r = let h = views_ok top es gone objects os r in ((h, tt), starts_sound m (view_bases m es gone objects os) (are_bases (view_bases m es gone objects os) h))

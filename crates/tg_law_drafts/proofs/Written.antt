@@ -24,7 +24,7 @@ use Rattle.tg_protocol.specs.Cells.{Place, Puts, CellJob, CellEnd, Done, Seen, L
 use Rattle.tg_protocol.specs.Appending.{names_all, on_older, on_newer, AppendWork, Asking, Putting, Judging, Token, Append, AppendEnd, append_work_asks, append_asks, put_end, put_next, own_or_not, judge_end, judge_next, on_issued, asking_feed, append_feed, dead_or_judged, again_with, append_again}
 use Rattle.tg_protocol.specs.Clients.{Appending, Hand, Doing, Work, Client, new_client}
 use Rattle.tg_protocol.specs.ClientSteps.{task_asks, task_in, ClientTurn}
-use Rattle.tg_protocol.specs.Worlds.{World, start, client, packet_of, happens, next_event}
+use Rattle.tg_protocol.specs.Worlds.{World, start, packet_of, happens, next_event}
 use Rattle.tg_protocol.specs.Runs.{Move, Moves, Next as Counts, Takes, run, most_steps, LawfulCommand}
 use Rattle.tg_law_moves.specs.After.{after}
 use Rattle.tg_law_moves.specs.Configs.{Config, config, client_in}

@@ -9,7 +9,7 @@ use Rattle.tg_base.specs.declared.ids.Role.{Role}
 use Rattle.tg_base.specs.declared.marks.StreamLink.{StreamLink}
 use Rattle.tg_base.specs.declared.packet.Packet.{Packet}
 use Rattle.tg_entry.specs.declared.entry.Entry.{Entry}
-use Rattle.tg_entry.specs.Format.{tag_of}
+use Rattle.tg_entry.specs.Format.{tag_of, entry}
 use Rattle.tg_append.proofs.Pages.{linked_fits}
 use Rattle.tg_kind.specs.Meaning.{Meaning}
 use Rattle.tg_model.specs.declared.command.Event.TheVariants.{Command as Commands, Deliver, Lose, Tick, Stop}
@@ -43,7 +43,7 @@ use Rattle.tg_law_cells.proofs.Jobs.{JobOk, AppendOk}
 use Rattle.tg_law_tokens.proofs.Linked.{read_back}
 use Rattle.tg_law_entries.specs.Archive.{TrimsWereSafe}
 use Rattle.tg_law_entries.proofs.Archive.{log_is_settled}
-use Rattle.tg_law_replies.specs.Ended.{end_of, task_ends, again_ends, awaited_ends, hand_ends, latest_ends, reply_ends, work_ends, handed_ends, packet_ends, ended_in}
+use Rattle.tg_law_replies.specs.Ended.{end_of, task_ends, again_ends, awaited_ends, hand_ends, latest_ends, reply_ends, work_ends, handed_ends, packet_ends, ended_in, EndsSo, AppendsEnd}
 use Rattle.tg_law_books.specs.Kept.{RecordEndsSo, RecordsEnd}
 use Rattle.tg_law_books.proofs.Effects.{IsRecord}
 use Rattle.tg_law_books.proofs.Closing.{Only, None', DraftsAre}
@@ -162,13 +162,12 @@ module _ (m : Meaning) (h : Header) (zs : Moves m) (reach : Reaches m h zs (afte
     pub ended_so : (e : EventOf m) (x : AppendEnd) → ended_in m (after m h xs) e k ≡ Some x → Ended x
     ended_so e x is = let d = delivery e x is in work_ended d.packet (has_got ps d.index d.packet d.got) d.to x d.ends
 
-    -- A record that has ended at a position.
+    -- An append that has ended at a position, whose draft has a spelling.
 
-    pub landed : TrimsWereSafe m h zs → o.work.hand ≡ Doing (Appending a o.purpose) → (p : ℕ) (d : List ℕ) → feeding.Lands ps a p d → is_commit a.draft ≡ true → (ls : List StreamLink) × Contains (entries_in m w) (p, linked a.draft ls)
-    landed safe doing p d l commit =
+    pub landed : TrimsWereSafe m h zs → o.work.hand ≡ Doing (Appending a o.purpose) → (p : ℕ) (d : List ℕ) → feeding.Lands ps a p d → entry.fits a.draft ≡ true → (ls : List StreamLink) × Contains (entries_in m w) (p, linked a.draft ls)
+    landed safe doing p d l spelled =
         let drawn = ((spent_at m h zs reach xs ys split).of k).drawn a o l.of l.had in
-        let tag = tag_commit a.draft.body a.draft refl commit in
-        let fits = linked_fits a.draft drawn.0 drawn.1 (whole m a.draft ((draft_in m h zs (header m h zs reach) (give m h zs reach) (short m h zs reach) xs ys split k a o).fits) tag) in
+        let fits = linked_fits a.draft drawn.0 drawn.1 spelled in
         let reads = read_back (linked a.draft drawn.0) l.of.page fits drawn.2 in
         let here = (log_is_settled m h zs w reach safe).has p (Data l.of.page) settled in
         (drawn.0, contained (entries_in m w) (p, linked a.draft drawn.0) (entry_has (log m w) p l.of.page (linked a.draft drawn.0) (has_contained (log m w) (p, Data l.of.page) here) reads))
@@ -346,10 +345,22 @@ module _ (m : Meaning) (h : Header) (zs : Moves m) (reach : Reaches m h zs (afte
         by (inl dead) = absurd (z.kept dead)
         by (inr l) = left l
 
+    -- where drafts have a spelling, whatever they are of
+    pub all_ends_so : entry.fits a.draft ≡ true → (x : AppendEnd) → ended_in m (after m h xs) e k ≡ Some x → EndsSo m (entries_in m w) a.draft x
+    all_ends_so spelled (At p d) is = let f = ended_so xs tail split k a o (s.tokens a o) e (At p d) is in landed xs tail split k a o (s.tokens a o) safe f.doing p d f.so spelled
+    all_ends_so spelled (Full l) is = tt
+    all_ends_so spelled (Forgotten p below) is = nowhere_else p below (delivery xs tail split k a o (s.tokens a o) e (Forgotten p below) is) (ended_so xs tail split k a o (s.tokens a o) e (Forgotten p below) is).so
+
     pub ends_so : (x : AppendEnd) → ended_in m (after m h xs) e k ≡ Some x → RecordEndsSo m (entries_in m w) a.draft x
-    ends_so (At p d) is = let f = ended_so xs tail split k a o (s.tokens a o) e (At p d) is in landed xs tail split k a o (s.tokens a o) safe f.doing p d f.so
+    ends_so (At p d) is = let f = ended_so xs tail split k a o (s.tokens a o) e (At p d) is in λ commit. landed xs tail split k a o (s.tokens a o) safe f.doing p d f.so (whole m a.draft (draft_in m h zs (header m h zs reach) (give m h zs reach) (short m h zs reach) xs tail split k a o).fits (tag_commit a.draft.body a.draft refl commit))
     ends_so (Full l) is = tt
     ends_so (Forgotten p below) is = nowhere_else p below (delivery xs tail split k a o (s.tokens a o) e (Forgotten p below) is) (ended_so xs tail split k a o (s.tokens a o) e (Forgotten p below) is).so
+
+  pub all_end_here : ((k : ℕ) (xs ys : Moves m) (a : Append) → zs ≡ xs ++ ys → Holds m (client m (after m h xs) k) a → entry.fits a.draft ≡ true) → TrimsWereSafe m h zs → AppendsEnd m h zs w
+  all_end_here spelled safe before rest e split k a x has is =
+      let y = in_hand m (client m (after m h before) k) a has in
+      let o : Holds m (client m (after m h before) k) a = record { work = y.work; purpose = y.purpose; has = y.works; holds = y.task } in
+      all_ends_so safe before rest e split k a o (spelled k before (Takes e ∷ rest) a split o) x is
 
   pub ends_here : TrimsWereSafe m h zs → RecordsEnd m h zs w
   ends_here safe before rest e split k a x has is =
