@@ -4,17 +4,14 @@ use Rattle.tg_kind.specs.Meaning.{Meaning}
 use Rattle.tg_model.specs.Legal.{InOrder, Legal}
 use Rattle.tg_protocol.specs.Worlds.{World, trace, history}
 use Rattle.tg_protocol.specs.Runs.{Moves, Reaches}
+use Rattle.tg_law_drafts.specs.Parts.{TouchParts}
 use Rattle.tg_law_lists.specs.Spared.{TrimsWereSpare}
-use Rattle.tg_law_exact.specs.Finds.{SavesOwn, HasStates, ViewsLeaveNone}
-use Rattle.tg_law_follow.specs.Laws.{SavesEnd}
+use Rattle.tg_law_exact.specs.Finds.{HasStates, ViewsLeaveNone}
 
 module _ (m : Meaning) where
   pub record LegalRests (h : Header) (ms : Moves m) (w : World m) : Type 0 where
     -- trims left what is needed
     pub trims : TrimsWereSpare m h ms
-    -- checkpoints were begun by their clients, and stand where their appends ended
-    pub saves_own : SavesOwn m h ms
-    pub saves_end : SavesEnd m h ms w
     -- states load from what is saved of them
     pub states : HasStates m h w
     -- what a kept view has gone past has a fate, or is decided among the entries
@@ -22,5 +19,6 @@ module _ (m : Meaning) where
     -- no place precedes a reply that came before its transaction
     pub order : InOrder m (history m w) (trace m w)
 
+  -- over kinds whose ops touch parts of the format
   abbrev pub RunsLegalWhere : Type 0
-  RunsLegalWhere = (h : Header) (ms : Moves m) (w : World m) → Reaches m h ms w → LegalRests h ms w → Legal m w.cluster.objects (history m w) (trace m w)
+  RunsLegalWhere = TouchParts m → (h : Header) (ms : Moves m) (w : World m) → Reaches m h ms w → LegalRests h ms w → Legal m w.cluster.objects (history m w) (trace m w)

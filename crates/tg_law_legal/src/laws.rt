@@ -5,8 +5,8 @@ ghost use Rattle.tg_law_legal.specs.Legal.{RunsLegalWhere};
 
 use tg_kind::Registry;
 
-/// A run is legal where trims left what is needed, checkpoints are those that their clients began, states load from what is saved
-/// of them, kept views leave no record without a fate, and no place precedes a reply that came before its transaction.
+/// Over kinds whose ops touch parts of the format, a run is legal where trims left what is needed, states load from what is saved of
+/// them, kept views leave no record without a fate, and no place precedes a reply that came before its transaction.
 pub fn runs_are_legal<K: Registry>()
     ensures { RunsLegalWhere (meaning_of K.Registry) }
 {}
