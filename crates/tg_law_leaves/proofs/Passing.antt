@@ -8,7 +8,7 @@ use Rattle.tg_kind.specs.Meaning.{Meaning}
 use Rattle.tg_model.specs.Kinds.{EventOf}
 use Rattle.tg_protocol.specs.Words.{numbers}
 use Rattle.tg_protocol.specs.Checkpoints.{trim_of}
-use Rattle.tg_protocol.specs.Views.{Entries, View}
+use Rattle.tg_protocol.specs.Views.{View}
 use Rattle.tg_protocol.specs.Clients.{Task, Syncing, Walking, Appending, Trimming, Copying', Reconfiguring, Work, Client, new_client}
 use Rattle.tg_protocol.specs.ClientSteps.{knows, given_up_if, task_in}
 use Rattle.tg_protocol.specs.Walked.{Walked, walked_in}
@@ -52,9 +52,6 @@ module _ (m : Meaning) (h : Header) where
   met_here xs e k y o b p is t less = record { before = xs; event = e; after = []; split = refl; client = k; end = y; walked = is; below = b; met = t; above = less }
 
   module _ (w : World m) where
-    abbrev es : Entries
-    es = entries_in m w
-
     -- a kept view, by the run so far
     abbrev pub Kept : Moves m → List Oid → Option (View m) → Type 0
     Kept xs = Passes m (WasMet m h xs) (entries_in m w)

@@ -1,7 +1,9 @@
-//! What a client's kept view leaves behind, in every run whose walks are exact: a record of a hosted stream that the view went
-//! past has a fate, unless the view doesn't know what it reads, or a walk of the stream had met a trim above it. So where what
-//! was trimmed rests, and where the client's own records are passed, a kept view leaves `fate` and `decide` no record without a
-//! fate that their entries don't decide.
+//! What a client's kept view leaves behind, in every run of every cluster in which trims leave what is needed: a record of a
+//! hosted stream that the view went past has a fate, unless the view doesn't know what it reads, or an earlier walk of the stream
+//! met a trim above it. So a kept view leaves `fate` and `decide` no record without a fate that their entries don't decide, where
+//! those decide what it went past below such a trim, and where it has fates of the client's own.
+//!
+//! The premise is that of `tg_law_lists`: `TrimsWereSpare`.
 #![tactic(auto)]
 
 mod laws;
