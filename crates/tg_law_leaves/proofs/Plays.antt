@@ -1,0 +1,111 @@
+-- A play keeps what a view has gone past, where its client's walks were exact.
+use Rattle.std.proofs.Common.{◌≡◌, ◌⊎◌, ℕ, ◌<◌, ◌≤◌, List, Bool, true, false, refl, sym, ap, ◌∙◌, subst, inl, inr, arith, Option, Some, None, []}
+use Rattle.std.specs.Prelude.{nat_lt, Contains}
+use Rattle.tg_base.specs.declared.ids.Oid.{Oid}
+use Rattle.tg_entry.specs.declared.entry.Entry.{Entry}
+use Rattle.tg_kind.specs.Meaning.{Meaning}
+use Rattle.tg_model.specs.Kinds.{CommandOf}
+use Rattle.tg_model.specs.declared.command.Command.TheVariants as cmd
+use Rattle.tg_protocol.specs.Entries.{reads_of, lists}
+use Rattle.tg_protocol.specs.Logs.{Log, entries_of}
+use Rattle.tg_protocol.specs.Views.{Entries, View, view_start, play}
+use Rattle.tg_protocol.specs.Checkpoints.{trim_of, view_bases}
+use Rattle.tg_protocol.specs.Clients.{Work, Client, upto_in, all_entries}
+use Rattle.tg_protocol.specs.Answers.{view_or_new, play_target}
+use Rattle.tg_law_history.proofs.Members.{Has, has_contained, lt_of, not_lt}
+use Rattle.tg_law_views.proofs.Settled.{IsFated, plays_further, plays_fated, unknown_same}
+use Rattle.tg_law_walks.specs.Streams.{IsByPosition}
+use Rattle.tg_law_walks.specs.Rounds.{round, IsRound}
+use Rattle.tg_law_walks.proofs.Plays.{own_rising, From, untrimmed, trimmed}
+use Rattle.tg_law_known.proofs.Views.{play_low}
+use Rattle.tg_law_known.proofs.Ways.{played_view}
+use Rattle.tg_law_leaves.specs.Passed.{HasPassed}
+
+module _ (m : Meaning) (G : Oid → ℕ → Type 0) (es : Entries) where
+  -- of a kept view, where there is one
+  abbrev pub Passes : List Oid → Option (View m) → Type 0
+  Passes hosted view = (k : View m) → view ≡ Some k → HasPassed m G es hosted k
+
+  pub none_passes : (hosted : List Oid) → Passes hosted None
+  none_passes hosted k e = absurd (no k e)
+    where
+      no : (k : View m) → None ≡ Some k → ⊥
+      no k e = cc
+
+  -- what the walks of a command met
+  abbrev pub Meets : Client m → Work m → Type 0
+  Meets c w = (o : Oid) (b p : ℕ) → trim_of w.trims o ≡ Some b → p < b → G o p
+
+module _ (m : Meaning) (G : Oid → ℕ → Type 0) (l : Log) (byp : IsByPosition l) (c : Client m) (w : Work m) (h : IsRound m l (round m c w c.cells) []) (met : Meets m G (entries_of l) c w) where
+  abbrev own : Entries
+  own = all_entries m c w c.hosted
+
+  abbrev Mine : Oid → ℕ → Type 0
+  Mine o from = From m l byp c w h c.hosted c.own h.hosts o from
+
+  target_low : (x : CommandOf m) → play_target m w x ≤ w.tail
+  target_low cmd.End = h.at
+  target_low x = omega arith
+
+  -- A record from where the view stood is among the entries, or below a trim.
+  found : (p : ℕ) (e : Entry) (o : Oid) → Has (entries_of l) (p, e) → Contains c.hosted o → lists e o ≡ true → w.lo ≤ p → p < w.tail → Has own (p, e) ⊎ G o p
+  found p e o i hosted f low less = by (trim_of w.trims o) refl
+    where
+      by : (t : Option ℕ) → trim_of w.trims o ≡ t → Has own (p, e) ⊎ G o p
+      by None is = inl (untrimmed m l byp c w h c.hosted c.own h.hosts o hosted is p e low less i f)
+      by (Some b) is = test (nat_lt p b) refl
+        where
+          test : (t : Bool) → nat_lt p b ≡ t → Has own (p, e) ⊎ G o p
+          test true k = inr (met o b p is (lt_of p b k))
+          test false k = inl (trimmed m l byp c w h c.hosted c.own h.hosts o b hosted is p e (not_lt p b k) less i f)
+
+  -- of a view that stands where the walks began or further, whatever it has passed before
+  module _ (u : View m) (low : w.lo ≤ u.upto) (top : u.upto ≤ w.tail) (before : HasPassed m G (entries_of l) c.hosted u) where
+    abbrev target : ℕ
+    target = play_target m w w.command
+
+    abbrev v : View m
+    v = (play m u (all_entries m c w c.hosted) (play_target m w w.command)).view
+
+    further : HasPassed m G (entries_of l) c.hosted (play m u (all_entries m c w c.hosted) (play_target m w w.command)).view
+    further p e o i commit hosted f less known = by (nat_lt p u.upto) refl
+      where
+        old : p < u.upto → IsFated m v p ⊎ G o p
+        old small = fated (before p e o i commit hosted f small (unknown_same m u v (reads_of e) p (sym (plays_further m own u target).bases) ∙ known))
+          where
+            fated : IsFated m u p ⊎ G o p → IsFated m v p ⊎ G o p
+            fated (inl k) = inl ((plays_further m own u target).fates p k)
+            fated (inr g) = inr g
+
+        new : u.upto ≤ p → IsFated m v p ⊎ G o p
+        new le =
+            let n = play_low m own w.tail target u top (target_low w.command) in
+            played (found p e o (has_contained (entries_of l) (p, e) i) hosted f (omega (arith, low, le)) (omega (arith, less, n)))
+          where
+            played : Has own (p, e) ⊎ G o p → IsFated m v p ⊎ G o p
+            played (inl j) = inl (plays_fated m own u target p e (own_rising m l byp c w h c.hosted c.own h.hosts) j commit le less (λ k. known))
+            played (inr g) = inr g
+
+        by : (b : Bool) → nat_lt p u.upto ≡ b → IsFated m v p ⊎ G o p
+        by true k = old (lt_of p u.upto k)
+        by false k = new (not_lt p u.upto k)
+
+  -- a new view has passed nothing
+  starts : (u : View m) → u.upto ≡ 0 → HasPassed m G (entries_of l) c.hosted u
+  starts u is p e o i commit hosted f less known = absurd (omega (arith, is, less))
+
+  own_passes : (view : Option (View m)) → c.view ≡ view → Passes m G (entries_of l) c.hosted c.view
+      → HasPassed m G (entries_of l) c.hosted (play m (view_or_new m c w (all_entries m c w c.hosted) view) (all_entries m c w c.hosted) (play_target m w w.command)).view
+  unfolding view_start
+  own_passes None is k =
+      let low = h.low in let zero' : upto_in m c.view ≡ 0 = ap (upto_in m) is in
+      further (view_start m (view_bases m own w.trims c.objects c.hosted)) (omega (arith, low, zero')) (omega arith) (starts (view_start m (view_bases m own w.trims c.objects c.hosted)) refl)
+  own_passes (Some u) is k =
+      let low = h.low in let top = h.upto in let at : upto_in m c.view ≡ u.upto = ap (upto_in m) is in
+      further u (omega (arith, low, at)) (omega (arith, top, at)) (k u is)
+
+  pub play_passes : Passes m G (entries_of l) c.hosted c.view → Passes m G (entries_of l) c.hosted (Some (played_view m c w))
+  play_passes k v is = subst (λ (x : View m). HasPassed m G (entries_of l) c.hosted x) (some_view (played_view m c w) v is) (own_passes c.view refl k)
+    where
+      some_view : (x y : View m) → Some x ≡ Some y → x ≡ y
+      some_view x y e = cc

@@ -1,0 +1,82 @@
+-- What a client's kept view has gone past, by the trims that walks met.
+use Rattle.std.specs.Prelude.{◌≡◌, ◌⊎◌, ℕ, ◌<◌, true, Bool, List, ◌∷◌, ◌++◌, Some, None, Contains}
+use Rattle.tg_base.specs.Clusters.{Header}
+use Rattle.tg_base.specs.declared.ids.Oid.{Oid}
+use Rattle.tg_entry.specs.declared.entry.Entry.{Entry}
+use Rattle.tg_kind.specs.Meaning.{Meaning}
+use Rattle.tg_model.specs.declared.command.Command.TheVariants as cmd
+use Rattle.tg_model.specs.Kinds.{CommandOf, EventOf}
+use Rattle.tg_protocol.specs.Entries.{is_commit, reads_of, lists, needs_decision}
+use Rattle.tg_protocol.specs.Views.{Entries, View, decision_in, fate_of, unknown_in}
+use Rattle.tg_protocol.specs.Checkpoints.{trim_of}
+use Rattle.tg_protocol.specs.Clients.{Work, Client}
+use Rattle.tg_protocol.specs.Walked.{Walked, walked_in}
+use Rattle.tg_protocol.specs.Worlds.{World, start}
+use Rattle.tg_protocol.specs.Runs.{Moves, Takes, run}
+use Rattle.tg_law_history.specs.Worlds.{entries_in}
+use Rattle.tg_law_replies.specs.Found.{mine}
+use Rattle.tg_law_replies.specs.Runs.{InEachStep}
+use Rattle.tg_law_replies.specs.Steps.{EachEvent}
+use Rattle.tg_law_exact.specs.Finds.{ByRunsOfSpareTrims, ViewsLeaveNone}
+
+module _ (m : Meaning) where
+  -- A step of the run came to the end of a client's walks, of which that of this stream had met a trim above a position.
+  pub record WasMet (h : Header) (ms : Moves m) (o : Oid) (p : ℕ) : Type 0 where
+    pub before : Moves m
+    pub event : EventOf m
+    pub after : Moves m
+    pub split : ms ≡ before ++ Takes event ∷ after
+    pub client : ℕ
+    pub end : Walked m
+    pub walked : walked_in m (run m before (start m h)) event client ≡ Some end
+    pub below : ℕ
+    pub met : trim_of end.work.trims o ≡ Some below
+    pub above : p < below
+
+  -- A record of a hosted stream that a view went past, of which it knows all reads there, has a fate, or stands below a trim
+  -- that a walk of the stream had met.
+  abbrev pub HasPassed : (Oid → ℕ → Type 0) → Entries → List Oid → View m → Type 0
+  HasPassed G es hosted v = (p : ℕ) (e : Entry) (o : Oid) → Contains es (p, e) → is_commit e ≡ true → Contains hosted o → lists e o ≡ true → p < v.upto →
+      unknown_in m v (reads_of e) p ≡ None → ((b : Bool) × (fate_of m v p ≡ Some b)) ⊎ G o p
+
+  module _ (h : Header) (ms : Moves m) (w : World m) where
+    -- so it is of kept views wherever a step of the run comes to the end of a command's walks, by the walks before it
+    abbrev pub ViewsPass : Type 0
+    ViewsPass = InEachStep m h ms (λ before v e. EachEvent m h.objects (entries_in m w)
+        (λ c x. (k : View m) → c.view ≡ Some k → HasPassed (WasMet h before) (entries_in m w) c.hosted k) v e)
+
+  abbrev pub ViewsPassBySpareTrims : Type 0
+  ViewsPassBySpareTrims = ByRunsOfSpareTrims m ViewsPass
+
+  -- What kept views leave for `fate` and `decide`.
+
+  abbrev pub TellsFates : CommandOf m → Type 0
+  TellsFates (cmd.Fate p) = Unit {0}
+  TellsFates (cmd.Decide p) = Unit {0}
+  TellsFates x = ⊥
+
+  -- a record of a hosted stream that the kept view went past without a fate, though it knows all reads there, and that stood below
+  -- a trim which an earlier walk met, has its decision among the entries, where it needs one
+  abbrev pub HasRested : Header → Moves m → Client m → Work m → Type 0
+  HasRested h before c x = (k : View m) (p : ℕ) (e : Entry) (o : Oid) → c.view ≡ Some k → Contains (mine m c x) (p, e) → is_commit e ≡ true → needs_decision e ≡ true → Contains c.hosted o → lists e o ≡ true → p < k.upto →
+      fate_of m k p ≡ None → unknown_in m k (reads_of e) p ≡ None → WasMet h before o p → decision_in (mine m c x) p ≡ None → ⊥
+
+  -- a record of the client's own that the kept view went past has a fate, where all its reads are known
+  abbrev pub HasOwn : Client m → Work m → Type 0
+  HasOwn c x = (k : View m) (p : ℕ) (e : Entry) → c.view ≡ Some k → Contains c.own p → Contains (mine m c x) (p, e) → is_commit e ≡ true → p < k.upto →
+      unknown_in m k (reads_of e) p ≡ None → (b : Bool) × (fate_of m k p ≡ Some b)
+
+  module _ (h : Header) (ms : Moves m) (w : World m) where
+    abbrev pub InFates : (Moves m → Client m → Work m → Type 0) → Type 0
+    InFates P = InEachStep m h ms (λ before v e. EachEvent m h.objects (entries_in m w) (λ c x. TellsFates x.command → P before c x) v e)
+
+    -- wherever a step comes to the end of the walks of `fate` or `decide`
+    abbrev pub TrimsRest : Type 0
+    TrimsRest = InFates (HasRested h)
+
+    abbrev pub OwnsPass : Type 0
+    OwnsPass = InFates (λ before c x. HasOwn c x)
+
+  -- So kept views leave none, where what was trimmed rests, and the client's own records are passed.
+  abbrev pub ViewsLeaveNoneWhere : Type 0
+  ViewsLeaveNoneWhere = ByRunsOfSpareTrims m (λ h ms w. TrimsRest h ms w → OwnsPass h ms w → ViewsLeaveNone m h ms w)
