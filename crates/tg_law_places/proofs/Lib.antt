@@ -1,0 +1,5 @@
+pub mod Units
+pub mod Left
+pub mod Pages
+pub mod Late
+pub mod Tails
