@@ -34,7 +34,7 @@ use Rattle.tg_law_places.proofs.Pages.{Lates, lates_hold}
 -- What was told in a world was sent there.
 
 module _ (m : Meaning) (h : Header) (xs : Moves m) (header : IsHeader h) (give : AllGive m (LawfulCommand m) xs) where
-  homes : Homes m h words (after m h xs).packets (line m h xs header give) (roots m h xs header give (told_here m h xs header give)).tells (config m (after m h xs))
+  pub homes : Homes m h words (after m h xs).packets (line m h xs header give) (roots m h xs header give (told_here m h xs header give)).tells (config m (after m h xs))
   homes = homes_hold m h words (after m h xs).packets (line m h xs header give) (roots m h xs header give (told_here m h xs header give)).tells h xs (record { cluster = has_header m h xs; sent = λ x g. g })
 
   was_sent : (n : ℕ) (k : Claim) (d : List ℕ) → Tells (after m h xs).packets n k → k.cell ≡ Data d → WasSent m (after m h xs) 0 k.pos d

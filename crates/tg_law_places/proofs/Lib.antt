@@ -3,3 +3,5 @@ pub mod Left
 pub mod Pages
 pub mod Late
 pub mod Tails
+pub mod Past
+pub mod Order

@@ -28,10 +28,10 @@ use Rattle.tg_law_places.proofs.Left.{passed_lawful, served_chains_are_late}
 module _ (m : Meaning) where
   -- a new page wasn't sent before
 
-  abbrev NewUnsent : World m → World m → Type 0
+  abbrev pub NewUnsent : World m → World m → Type 0
   NewUnsent u v = (first pos : ℕ) (page : List ℕ) → IsNew m u v pos page → WasSent m u first pos page → ⊥
 
-  new_unsent : EachPassed m NewUnsent
+  pub new_unsent : EachPassed m NewUnsent
   new_unsent = passed_lawful m NewUnsent by
     where
       by : (h : Header) (xs ys : Moves m) → IsHeader h → AllGive m (LawfulCommand m) xs → AllGive m (LawfulCommand m) (xs ++ ys) → NewUnsent (after m h xs) (after m h (xs ++ ys))

@@ -4,6 +4,8 @@ ghost use Rattle.tg_kind.specs.Of.{meaning_of};
 ghost use Rattle.tg_law_order.specs.Tails.{EachPassed};
 ghost use Rattle.tg_law_places.specs.Late.{LatePages, NewPagesFollow, ServedTailsRise};
 ghost use Rattle.tg_law_places.specs.Left.{ChainsLeft, ChainsStand, EarlySettledTold, LeftRefuse, LeftTold, ServedLate};
+ghost use Rattle.tg_law_places.specs.Order.{PointsPrecede};
+ghost use Rattle.tg_law_places.specs.Past.{NewPagesRise, ServedTailsPast};
 ghost use Rattle.tg_protocol.specs.Runs.{Always};
 
 use tg_kind::Registry;
@@ -54,4 +56,21 @@ pub fn new_pages_follow<K: Registry>()
 /// afterwards.
 pub fn served_tails_rise<K: Registry>()
     ensures { EachPassed (meaning_of K.Registry) (ServedTailsRise (meaning_of K.Registry)) }
+{}
+
+/// A page with tokens that were issued after a page was settled is settled only past that one.
+pub fn new_pages_rise<K: Registry>()
+    ensures { EachPassed (meaning_of K.Registry) (NewPagesRise (meaning_of K.Registry)) }
+{}
+
+/// Nor is a tail told that isn't past a page which was settled before, by the sequencer of a layout of which a whole chain
+/// serves requests afterwards.
+pub fn served_tails_past<K: Registry>()
+    ensures { EachPassed (meaning_of K.Registry) (ServedTailsPast (meaning_of K.Registry)) }
+{}
+
+/// So no place precedes a point: a confirmed tail, or one past a settled page, isn't above where a new page is settled, nor above a
+/// tail that is told afterwards by the sequencer of a layout of which a whole chain serves requests since.
+pub fn points_precede_places<K: Registry>()
+    ensures { EachPassed (meaning_of K.Registry) (PointsPrecede (meaning_of K.Registry)) }
 {}

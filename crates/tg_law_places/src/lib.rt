@@ -11,5 +11,6 @@ mod laws;
 
 pub use laws::{
     chains_are_left, chains_stand, early_settled_told, late_pages, left_refuse, left_told,
-    new_pages_follow, served_chains_are_late, served_tails_rise,
+    new_pages_follow, new_pages_rise, points_precede_places, served_chains_are_late,
+    served_tails_past, served_tails_rise,
 };
