@@ -123,7 +123,7 @@ module _ (m : Meaning) where
     since_keep : (c : Config m) → Base c → Since c → Cases m c (λ d. NumbersOnce d.packets → Since d)
     since_keep c base h = by_seqr m (λ d. NumbersOnce d.packets → Since d) c (λ n. h) (since_calm c base.1 h) (λ s t i less n. since_turned c base h s t i less n)
 
-    since_keeps : Keeps m (λ c. Base c × Since c)
+    pub since_keeps : Keeps m (λ c. Base c × Since c)
     since_keeps = keeps_above m Base Since (both_keeps m) (λ c a f. cases_map m c (λ d. NumbersOnce d.packets → Since d) (λ d. Base d → Since d) (λ d g x. g (numbers_once m d x.0.0.0.0)) (since_keep c a f))
 
   -- A tail is told by the sequencer of a layout of its epoch that is known, from its start on.
@@ -245,11 +245,11 @@ module _ (m : Meaning) where
     check_of : (s e tail : ℕ) (t : ToldTail m v s e tail) → Checked v.packets t.answer e t.streams
     check_of s e tail t = record { ask = t.ask; has = has_contained v.packets t.ask t.asked; to = t.to_seqr ∙ sym t.from_seqr; from = sym t.back; rid = sym t.number; is = t.asks }
 
-    decided_of : (q : Layout) → Known v.packets (first_layout v.cluster) q → IsOfDecided m v q
+    pub decided_of : (q : Layout) → Known v.packets (first_layout v.cluster) q → IsOfDecided m v q
     decided_of q (inl e) = inl (ap (λ (y : Layout). y.epoch) e, e)
     decided_of q (inr k) = subst (λ (y : Msg). TellsDecided m v y) k.is ((layouts_are_known m h ms v r).sent k.packet (contained v.packets k.packet k.sent))
 
-    under_of : (s e tail : ℕ) → 0 < e → ToldTail m v s e tail → Under v.packets (first_layout v.cluster) s e tail
+    pub under_of : (s e tail : ℕ) → 0 < e → ToldTail m v s e tail → Under v.packets (first_layout v.cluster) s e tail
     under_of s e tail some t =
         (subst (λ (y : World m). Unders (config m y)) (sym r.goes.is) (unders_hold h ms)).under s t.answer tail e t.links t.streams (has_contained v.packets t.answer t.answered) t.from_seqr t.tells (check_of s e tail t) some
 

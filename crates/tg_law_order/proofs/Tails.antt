@@ -358,7 +358,7 @@ module _ (m : Meaning) where
     since_keep : (c : Config m) → Low m c → Since c → Cases m c (λ d. NumbersOnce d.packets → Since d)
     since_keep c low h = by_seqr m (λ d. NumbersOnce d.packets → Since d) c (λ n. h) (since_calm c low.1 h) (λ s t i less n. since_turned c low.1 h s t i less n)
 
-    since_keeps : Keeps m (λ c. Low m c × Since c)
+    pub since_keeps : Keeps m (λ c. Low m c × Since c)
     since_keeps = keeps_above m (Low m) Since (low_keeps m) (λ c a f. cases_map m c (λ d. NumbersOnce d.packets → Since d) (λ d. Low m d → Since d) (λ d g x. g (numbers_once m d x.0.0.0)) (since_keep c a f))
 
   module _ (h : Header) (xs ys : Moves m) where

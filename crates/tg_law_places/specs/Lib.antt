@@ -1,0 +1,4 @@
+pub mod Left
+pub mod Late
+pub mod Past
+pub mod Order
