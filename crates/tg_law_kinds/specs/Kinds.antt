@@ -7,6 +7,7 @@ use Rattle.tg_any.specs.AllKinds.{all_kinds}
 use Rattle.tg_dir.specs.Spellings.{is_number}
 use Rattle.tg_law_history.specs.Loading.{AreStates}
 use Rattle.tg_law_history.specs.Floors.{IsDirectory}
+use Rattle.tg_law_drafts.specs.Parts.{TouchParts}
 use Rattle.tg_law_kinds.specs.Directories.{DirectoryLaws}
 
 -- the directory marks what has an object's number
@@ -24,3 +25,7 @@ KindsAreStates = AreStates all_kinds any.is_state any.is_op
 -- an object is a state at first
 abbrev pub KindsBegin : Type 0
 KindsBegin = (o : Oid) (os : List Oid) → any.is_object o ≡ true → is_header os ≡ true → any.is_state o (all_kinds.fresh o os) ≡ true
+
+-- what is read as an op touches a part of the format, whatever the bytes are
+abbrev pub KindsTouchParts : Type 0
+KindsTouchParts = TouchParts all_kinds

@@ -1,6 +1,6 @@
 //! What holds of all kinds.
 
-ghost use Rattle.tg_law_kinds.specs.Kinds.{KindsHaveDirectory, KindsKeepDirectory, KindsAreStates, KindsBegin};
+ghost use Rattle.tg_law_kinds.specs.Kinds.{KindsHaveDirectory, KindsKeepDirectory, KindsAreStates, KindsBegin, KindsTouchParts};
 
 /// The directory is one: objects stay registered, an op that has a spelling changes the mark of no object but the one
 /// that it marks, and the floor never falls, nor rises above the mark of an object that is registered.
@@ -22,4 +22,9 @@ pub fn kinds_are_states()
 /// Each object begins with a state of its kind, where the header's objects are distinct and none is the directory.
 pub fn kinds_begin()
     ensures { KindsBegin }
+{}
+
+/// What is read as an op touches a part of the format, whatever the bytes are.
+pub fn kinds_touch_parts()
+    ensures { KindsTouchParts }
 {}
