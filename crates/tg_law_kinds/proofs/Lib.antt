@@ -1,3 +1,4 @@
 pub mod Marks
 pub mod Holds
 pub mod Keeps
+pub mod Spelled

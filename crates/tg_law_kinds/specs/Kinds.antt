@@ -1,9 +1,11 @@
 -- What all kinds of objects owe the laws of the log.
-use Rattle.std.specs.Prelude.{◌≡◌, true, List}
+use Rattle.std.specs.Prelude.{◌≡◌, ℕ, true, List, Some}
 use Rattle.tg_base.specs.declared.ids.Oid.{Oid}
+use Rattle.tg_kind.specs.Bytes.{IsBytes}
 use Rattle.tg_kind.specs.Headers.{is_header}
 use Rattle.tg_any.specs.Anys as any
 use Rattle.tg_any.specs.AllKinds.{all_kinds}
+use Rattle.tg_any.specs.declared.any.AnyOp.{AnyOp}
 use Rattle.tg_dir.specs.Spellings.{is_number}
 use Rattle.tg_law_history.specs.Loading.{AreStates}
 use Rattle.tg_law_history.specs.Floors.{IsDirectory}
@@ -24,3 +26,7 @@ KindsAreStates = AreStates all_kinds any.is_state any.is_op
 -- an object is a state at first
 abbrev pub KindsBegin : Type 0
 KindsBegin = (o : Oid) (os : List Oid) → any.is_object o ≡ true → is_header os ≡ true → any.is_state o (all_kinds.fresh o os) ≡ true
+
+-- what is read of bytes is an op
+abbrev pub KindsReadOps : Type 0
+KindsReadOps = (o : Oid) (bytes : List ℕ) (op : AnyOp) → IsBytes bytes → all_kinds.read o bytes ≡ Some op → any.is_op op ≡ true

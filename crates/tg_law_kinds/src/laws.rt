@@ -1,6 +1,6 @@
 //! What holds of all kinds.
 
-ghost use Rattle.tg_law_kinds.specs.Kinds.{KindsHaveDirectory, KindsKeepDirectory, KindsAreStates, KindsBegin};
+ghost use Rattle.tg_law_kinds.specs.Kinds.{KindsHaveDirectory, KindsKeepDirectory, KindsAreStates, KindsBegin, KindsReadOps};
 
 /// The directory is one: objects stay registered, an op that has a spelling changes the mark of no object but the one
 /// that it marks, and the floor never falls, nor rises above the mark of an object that is registered.
@@ -22,4 +22,9 @@ pub fn kinds_are_states()
 /// Each object begins with a state of its kind, where the header's objects are distinct and none is the directory.
 pub fn kinds_begin()
     ensures { KindsBegin }
+{}
+
+/// What is read of bytes as an op of an object is one that has a spelling.
+pub fn kinds_read_ops()
+    ensures { KindsReadOps }
 {}

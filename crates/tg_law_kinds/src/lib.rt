@@ -4,4 +4,6 @@
 
 mod laws;
 
-pub use laws::{kinds_are_states, kinds_begin, kinds_have_directory, kinds_keep_directory};
+pub use laws::{
+    kinds_are_states, kinds_begin, kinds_have_directory, kinds_keep_directory, kinds_read_ops,
+};
