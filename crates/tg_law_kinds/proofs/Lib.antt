@@ -2,3 +2,4 @@ pub mod Marks
 pub mod Holds
 pub mod Keeps
 pub mod Touching
+pub mod Spelled

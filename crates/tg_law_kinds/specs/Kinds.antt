@@ -1,9 +1,11 @@
 -- What all kinds of objects owe the laws of the log.
-use Rattle.std.specs.Prelude.{◌≡◌, true, List}
+use Rattle.std.specs.Prelude.{◌≡◌, ℕ, true, List, Some}
 use Rattle.tg_base.specs.declared.ids.Oid.{Oid}
+use Rattle.tg_kind.specs.Bytes.{IsBytes}
 use Rattle.tg_kind.specs.Headers.{is_header}
 use Rattle.tg_any.specs.Anys as any
 use Rattle.tg_any.specs.AllKinds.{all_kinds}
+use Rattle.tg_any.specs.declared.any.AnyOp.{AnyOp}
 use Rattle.tg_dir.specs.Spellings.{is_number}
 use Rattle.tg_law_history.specs.Loading.{AreStates}
 use Rattle.tg_law_history.specs.Floors.{IsDirectory}
@@ -29,3 +31,7 @@ KindsBegin = (o : Oid) (os : List Oid) → any.is_object o ≡ true → is_heade
 -- what is read as an op touches a part of the format, whatever the bytes are
 abbrev pub KindsTouchParts : Type 0
 KindsTouchParts = TouchParts all_kinds
+
+-- what is read of bytes is an op
+abbrev pub KindsReadOps : Type 0
+KindsReadOps = (o : Oid) (bytes : List ℕ) (op : AnyOp) → IsBytes bytes → all_kinds.read o bytes ≡ Some op → any.is_op op ≡ true

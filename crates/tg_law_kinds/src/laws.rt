@@ -1,6 +1,6 @@
 //! What holds of all kinds.
 
-ghost use Rattle.tg_law_kinds.specs.Kinds.{KindsHaveDirectory, KindsKeepDirectory, KindsAreStates, KindsBegin, KindsTouchParts};
+ghost use Rattle.tg_law_kinds.specs.Kinds.{KindsHaveDirectory, KindsKeepDirectory, KindsAreStates, KindsBegin, KindsReadOps, KindsTouchParts};
 
 /// The directory is one: objects stay registered, an op that has a spelling changes the mark of no object but the one
 /// that it marks, and the floor never falls, nor rises above the mark of an object that is registered.
@@ -27,4 +27,9 @@ pub fn kinds_begin()
 /// What is read as an op touches a part of the format, whatever the bytes are.
 pub fn kinds_touch_parts()
     ensures { KindsTouchParts }
+{}
+
+/// What is read of bytes as an op of an object is one that has a spelling.
+pub fn kinds_read_ops()
+    ensures { KindsReadOps }
 {}
