@@ -7,7 +7,8 @@ use Rattle.tg_codec.specs.Reading.{Read}
 use Rattle.tg_codec.proofs.Laws.{and-left}
 use Rattle.tg_kind.specs.Bytes.{IsBytes}
 use Rattle.tg_kind.specs.Headers.{is_header, directory}
-use Rattle.tg_kind.specs.Parts.{tag_of, overlap, is_part}
+use Rattle.tg_base.specs.Parts.{is_part}
+use Rattle.tg_kind.specs.Parts.{tag_of, overlap}
 use Rattle.tg_dir.specs.Directories as directories
 use Rattle.tg_cell.specs.Counters as counters
 use Rattle.tg_cell.specs.Registers as registers

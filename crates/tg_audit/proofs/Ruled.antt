@@ -72,8 +72,8 @@ module _ (m : Meaning) (ops : m.op → m.op → Bool) (answers : m.answer → m.
   fate_is p (Some true) = refl
   fate_is p (Some false) = refl
 
-  bound_same : (k x : ℕ) → judge.bound m same objects h trace k x ≡ rule.bound m ops answers objects h trace k x
-  unfolding rule.bound
+  bound_same : (k x : ℕ) → judge.bound m same objects h trace k x ≡ rule.reach_before m ops answers objects h trace k x
+  unfolding rule.reach_before
   bound_same k x = sym (bound_is m same objects h trace k x trace)
 
   end_same : (w : WhatOf m) → judge.is_end m same objects h trace w ≡ is_end m w

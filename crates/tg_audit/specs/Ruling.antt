@@ -19,8 +19,8 @@ use Rattle.tg_audit.specs.declared.verdict.Verdict.TheVariants.{Legal}
 use Rattle.tg_audit.specs.Judging.{Test, passes, meets, any_ask, snapshot_is, ends_by, are_same, entry_of, only_here, commits, causes, holds, holds_still, reach, bound_by, failed, first_fault, told_at}
 
 module _ (m : Meaning) (ops : m.op → m.op → Bool) (answers : m.answer → m.answer → Bool) (objects : List Oid) (h : History m) (trace : Trace m) where
-  unfoldable pub bound : ℕ → ℕ → ℕ
-  bound k x = bound_by m (reach m trace) k x 0 0 trace
+  unfoldable pub reach_before : ℕ → ℕ → ℕ
+  reach_before k x = bound_by m (reach m trace) k x 0 0 trace
 
   abbrev pub all_hold : ℕ → ℕ → ℕ → Bool
   all_hold k x p = list_all (passes m k x (holds_still m answers objects h p)) trace
@@ -63,7 +63,7 @@ module _ (m : Meaning) (ops : m.op → m.op → Bool) (answers : m.answer → m.
   asked_fault right bounded = if right then failed E bounded else Some A
 
   unfoldable pub answer_fault : Trace m → ℕ → ℕ → Oid → m.ask → ℕ → m.answer → Option Clause
-  answer_fault earlier k x o q t a = asked_fault (right_answer earlier k x o q t a) (nat_le (bound k x) t)
+  answer_fault earlier k x o q t a = asked_fault (right_answer earlier k x o q t a) (nat_le (reach_before k x) t)
 
   abbrev pub refused_fault : ℕ → ℕ → Refusal → Option Clause
   refused_fault k x (cause.Forgotten p n) = failed D (right_place k x p)
@@ -98,7 +98,7 @@ module _ (m : Meaning) (ops : m.op → m.op → Bool) (answers : m.answer → m.
 
   -- the clause that fails at an entry
   unfoldable pub done_fault : History m → DoneOf m → Option Clause
-  done_fault earlier d = entry_fault_by (right_entry earlier d) (nat_le (bound d.client d.number) d.stamp)
+  done_fault earlier d = entry_fault_by (right_entry earlier d) (nat_le (reach_before d.client d.number) d.stamp)
 
   abbrev pub in_trace : Option (ℕ × Clause)
   in_trace = first_fault mark_fault 0 [] trace

@@ -31,10 +31,10 @@ fn failed(clause: Clause, right: bool) -> Option<Clause>
 
 impl<'a, K: Judged> Run<'a, K> {
     // The greatest point of a reply before the transaction's last begin.
-    #[tactic(auto, unfolding(crate::specs::Ruling::bound))]
+    #[tactic(auto, unfolding(crate::specs::Ruling::reach_before))]
     fn bound(&self, client: u16, tx: u32) -> u128
         requires { runs.IsRun (meaning_of K.Registry) K.same_answers self.now.objects.now self.now.history.now self.now.trace.now self.now.tables.now }
-        ensures { result ≡ rule.bound (meaning_of K.Registry) K.same_ops K.same_answers self.now.objects.now self.now.history.now self.now.trace.now client tx }
+        ensures { result ≡ rule.reach_before (meaning_of K.Registry) K.same_ops K.same_answers self.now.objects.now self.now.history.now self.now.trace.now client tx }
     {
         match self.tables.bounds.get(&key(client, tx)) {
             Some(bound) => *bound,
@@ -45,7 +45,7 @@ impl<'a, K: Judged> Run<'a, K> {
     // Whether a place isn't below the transaction's bound.
     fn is_bounded(&self, client: u16, tx: u32, at: Pos) -> bool
         requires { runs.IsRun (meaning_of K.Registry) K.same_answers self.now.objects.now self.now.history.now self.now.trace.now self.now.tables.now }
-        ensures { result ≡ nat_le (rule.bound (meaning_of K.Registry) K.same_ops K.same_answers self.now.objects.now self.now.history.now self.now.trace.now client tx) at }
+        ensures { result ≡ nat_le (rule.reach_before (meaning_of K.Registry) K.same_ops K.same_answers self.now.objects.now self.now.history.now self.now.trace.now client tx) at }
     {
         self.bound(client, tx) <= u128::from(at)
     }

@@ -7,7 +7,8 @@ use Rattle.tg_base.specs.declared.ids.Oid.{Oid}
 use Rattle.tg_codec.proofs.Laws.{IsCodec, via_law, no_front, and-left, and-right, both}
 use Rattle.tg_kind.specs.Bytes.{IsBytes}
 use Rattle.tg_kind.specs.Headers.{is_header}
-use Rattle.tg_kind.specs.Parts.{overlap, is_part}
+use Rattle.tg_base.specs.Parts.{is_part}
+use Rattle.tg_kind.specs.Parts.{overlap}
 use Rattle.tg_kind.specs.Words as words
 use Rattle.tg_cell.specs.Signed.{in_i64, i64, i64_law, spells_i64}
 use Rattle.tg_cell.specs.declared.counter.CounterOp.{CounterOp}

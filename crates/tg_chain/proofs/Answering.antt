@@ -1,33 +1,16 @@
 -- Which messages answer a request.
 use Rattle.std.proofs.Common.{◌≡◌, ℕ, Bool, true, false, ◌&&◌, ◌||◌, ◌==◌, [], ◌∷◌, refl, ap, sym, ◌∙◌}
-use Rattle.tg_base.specs.Orders.{role_number}
-use Rattle.tg_base.specs.Orders as base
+use Rattle.tg_base.specs.Orders.{node_eq}
 use Rattle.tg_base.specs.declared.ids.NodeId.{NodeId}
-use Rattle.tg_base.specs.declared.ids.Role.{Role}
 use Rattle.tg_base.specs.declared.ids.Role.TheVariants as role
 use Rattle.tg_base.specs.declared.msg.Msg.{Msg}
 use Rattle.tg_protocol.specs.Requests.{awaits, Waits, asked_of}
-use Rattle.tg_protocol.specs.Words.{role_code, node_eq, unit_id}
+use Rattle.tg_protocol.specs.Words.{unit_id}
 use Rattle.tg_chain.specs.Waits.{is_answer, waits_on}
-
-role_same : (r : Role) → role_number r ≡ role_code r
-unfolding role_code
-role_same role.Unit = refl
-role_same role.Layout = refl
-role_same role.Seqr = refl
-role_same role.Client = refl
-
--- both tests of nodes are one
-pub node_same : (a b : NodeId) → base.node_eq a b ≡ node_eq a b
-unfolding node_eq
-node_same a b = ap (λ k. (k == role_number b.role) && (a.num == b.num)) (role_same a.role) ∙ ap (λ k. (role_code a.role == k) && (a.num == b.num)) (role_same b.role)
 
 or_false : (b : Bool) → (b || false) ≡ b
 or_false true = refl
 or_false false = refl
-
-pub from_one : (to from : NodeId) (rid number : ℕ) → (base.node_eq to from && (rid == number)) ≡ (node_eq to from && (rid == number))
-from_one to from rid number = ap (λ b. b && (rid == number)) (node_same to from)
 
 pub answers_one : (to from : NodeId) (rid number : ℕ) → (node_eq to from && (rid == number)) ≡ is_answer to rid from number
 answers_one to from rid number = sym (or_false (node_eq to from && (rid == number)))

@@ -6,7 +6,8 @@ use Rattle.tg_base.specs.declared.msg.Msg.{Msg}
 use Rattle.tg_base.specs.declared.msg.Msg.TheVariants as msg
 use Rattle.tg_base.specs.declared.packet.Out.{Out}
 use Rattle.tg_base.specs.declared.turn.Stand.{Stand}
-use Rattle.tg_protocol.specs.Words.{node_eq, layout_id, numbers}
+use Rattle.tg_base.specs.Orders.{node_eq}
+use Rattle.tg_protocol.specs.Words.{layout_id, numbers}
 use Rattle.tg_protocol.specs.Requests.{Waits, waits_for, asked_of, Turn, Goes, turn, passes, ends}
 use Rattle.tg_protocol.specs.Replies.{Reply, IsLatest, reply}
 use Rattle.tg_chain.specs.declared.ends.LearnEnd.{LearnEnd}

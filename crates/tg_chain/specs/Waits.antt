@@ -5,7 +5,7 @@ use Rattle.tg_base.specs.declared.ids.NodeId.{NodeId}
 use Rattle.tg_base.specs.declared.ids.Role.{Role}
 use Rattle.tg_base.specs.declared.msg.Msg.TheVariants as msg
 use Rattle.tg_protocol.specs.Requests.{Waits, out, awaits}
-use Rattle.tg_protocol.specs.Words.{node_eq}
+use Rattle.tg_base.specs.Orders.{node_eq}
 
 -- a message from a node under a number answers the request of this number to this node, whatever that asks
 abbrev pub is_answer : NodeId → ℕ → NodeId → ℕ → Bool

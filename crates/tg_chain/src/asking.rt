@@ -3,7 +3,8 @@
 ghost use Rattle.std.specs.Prelude.{◌≡◌, ◌&&◌, ◌==◌, [], ◌∷◌, IfOk};
 ghost use Rattle.tg_base.specs.declared.cell.Cell.TheVariants.{Data};
 ghost use Rattle.tg_protocol.specs.Requests.{out};
-ghost use Rattle.tg_protocol.specs.Words.{cell_eq, node_eq, seqr_id, unit_id};
+ghost use Rattle.tg_base.specs.Orders.{node_eq};
+ghost use Rattle.tg_protocol.specs.Words.{cell_eq, seqr_id, unit_id};
 ghost use Rattle.tg_chain.specs.Waits.{is_answer};
 
 use std::alloc::Global;
@@ -42,7 +43,6 @@ pub fn one(alloc: Global, to: NodeId, rid: u64, msg: Msg) -> Result<List<Out>, N
 }
 
 /// Whether a message from a node under a number comes from the node `to` under the number `rid`.
-#[tactic(auto, using(crate::proofs::Answering::from_one))]
 pub fn is_from(to: NodeId, rid: u64, from: NodeId, number: u64) -> bool
     ensures { result ≡ (node_eq to from && (rid == number)) }
 {

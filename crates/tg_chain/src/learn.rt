@@ -4,7 +4,8 @@ ghost use Rattle.std.specs.Prelude.{ℕ, ◌≡◌, ◌<◌, ◌≤◌, ◌+◌,
 ghost use Rattle.tg_base.specs.declared.msg.Msg.TheVariants.{Latest};
 ghost use Rattle.tg_protocol.specs.Replies.{reply};
 ghost use Rattle.tg_protocol.specs.Requests.{passes, waits_for};
-ghost use Rattle.tg_protocol.specs.Words.{node_eq, layout_id, numbers};
+ghost use Rattle.tg_base.specs.Orders.{node_eq};
+ghost use Rattle.tg_protocol.specs.Words.{layout_id, numbers};
 ghost use Rattle.tg_chain.specs.Turns.{shown, by_rules};
 ghost use Rattle.tg_chain.specs.Learns.{learn, learn_asks, learn_feed, tells_newer};
 

@@ -11,7 +11,8 @@ use Rattle.tg_entry.specs.declared.entry.Entry.{Entry}
 use Rattle.tg_entry.specs.declared.entry.Body.TheVariants.{Checkpoint}
 use Rattle.tg_entry.specs.Drafts.{IsDraft}
 use Rattle.tg_entry.specs.Reads.{is_all}
-use Rattle.tg_entry.specs.Records.{is_byte, is_object, is_part, is_stream, is_key, IsHead}
+use Rattle.tg_base.specs.Parts.{is_part}
+use Rattle.tg_entry.specs.Records.{is_byte, is_object, is_stream, is_key, IsHead}
 use Rattle.tg_entry.specs.Checkpoints.{Keyed}
 use Rattle.tg_entry.proofs.Fits.{records_fit}
 use Rattle.tg_protocol.specs.Entries.{unlinked, draft, sum_of, key_size, entry_size}

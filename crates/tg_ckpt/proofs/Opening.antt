@@ -3,16 +3,15 @@ use Rattle.std.specs.Prelude.{◌≡◌, ℕ, Bool, true, false, cond, not, ◌&
 use Rattle.std.proofs.Common.{sym, ap, ◌∙◌, subst}
 use Rattle.tg_base.specs.declared.ids.Oid.{Oid}
 use Rattle.tg_entry.specs.declared.entry.Entry.{Entry}
-use Rattle.tg_entry.specs.Needs as short
 use Rattle.tg_kind.specs.Meaning.{Meaning}
-use Rattle.tg_protocol.specs.Entries.{lists, needs_decision}
+use Rattle.tg_entry.specs.Needs.{needs_decision}
+use Rattle.tg_protocol.specs.Entries.{lists}
 use Rattle.tg_protocol.specs.Views as told
 use Rattle.tg_protocol.specs.Views.{Entries, decision_in}
 use Rattle.tg_protocol.specs.Checkpoints.{open_decision, open_fault, forget_fault, load_from, may_forget}
 use Rattle.tg_protocol.specs.Checkpoints as forgetting
 use Rattle.tg_play.specs.declared.base.Base.{Base}
 use Rattle.tg_play.specs.Kept.{at_position, decisions_kept}
-use Rattle.tg_play.proofs.Needs.{needs_same}
 use Rattle.tg_play.proofs.Places.{decisions_told}
 use Rattle.tg_ckpt.specs.declared.fault.CkptFault.{CkptFault}
 use Rattle.tg_ckpt.specs.declared.fault.CkptFault.TheVariants.{OpenDecision, NoCheckpoint, TooLarge, NoMemory}
@@ -27,13 +26,12 @@ joined false b c d = refl
 
 module _ (es : Entries) (ds : List (ℕ × Bool)) (o : Oid) (mark : ℕ) (is : ds ≡ decisions_kept es) where
   abbrev pub is_open : ℕ × Entry → Bool
-  is_open x = nat_lt x.0 mark && (lists x.1 o && (short.needs_decision x.1 && not (is_some (at_position ds x.0))))
+  is_open x = nat_lt x.0 mark && (lists x.1 o && (needs_decision x.1 && not (is_some (at_position ds x.0))))
 
   told_open : (x : ℕ × Entry) → is_open x ≡ (nat_lt x.0 mark && lists x.1 o && needs_decision x.1 && not (is_some (decision_in es x.0)))
   told_open x =
-      ap (λ (es' : List (ℕ × Bool)). nat_lt x.0 mark && (lists x.1 o && (short.needs_decision x.1 && not (is_some (at_position es' x.0))))) is
-      ∙ ap (λ (d : Option Bool). nat_lt x.0 mark && (lists x.1 o && (short.needs_decision x.1 && not (is_some d)))) (decisions_told es x.0)
-      ∙ ap (λ (n : Bool). nat_lt x.0 mark && (lists x.1 o && (n && not (is_some (decision_in es x.0))))) (needs_same x.1)
+      ap (λ (es' : List (ℕ × Bool)). nat_lt x.0 mark && (lists x.1 o && (needs_decision x.1 && not (is_some (at_position es' x.0))))) is
+      ∙ ap (λ (d : Option Bool). nat_lt x.0 mark && (lists x.1 o && (needs_decision x.1 && not (is_some d)))) (decisions_told es x.0)
       ∙ joined (nat_lt x.0 mark) (lists x.1 o) (needs_decision x.1) (not (is_some (decision_in es x.0)))
 
   first_by : (x : ℕ × Entry) (xs : Entries) → open_decision es (x ∷ xs) o mark ≡ cond (is_open x) (Some x.0) (open_decision es xs o mark)

@@ -15,7 +15,7 @@ use Rattle.tg_model.specs.Kinds.{CommandOf, NoteOf, WhatOf}
 use Rattle.tg_protocol.specs.Reconfiguring.{reconf_start}
 use Rattle.tg_protocol.specs.Transactions.{Tx, open_tx, tx_read, tx_put, commit_record}
 use Rattle.tg_protocol.specs.Views.{View, state_of, view_version}
-use Rattle.tg_protocol.specs.Words.{with_oid}
+use Rattle.tg_base.specs.Orders.{with_oid}
 use Rattle.tg_protocol.specs.Clients.{Client, Purpose, tx_number, number_on, put_fault, write_of}
 use Rattle.tg_protocol.specs.Answers.{Moved, moved, note, appends}
 use Rattle.tg_protocol.specs.ClientSteps.{hosts_more, begins, accepts, end_by, ends, snapshot_or, purpose_of, new_work, on_reconf, asked_of_state, asks_view, asks_by, asks, refused_or}

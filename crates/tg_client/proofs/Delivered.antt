@@ -5,7 +5,8 @@ use Rattle.tg_base.proofs.Exact.{and-right}
 use Rattle.tg_base.specs.Layouts.{Layout}
 use Rattle.tg_base.specs.declared.ids.NodeId.{NodeId}
 use Rattle.tg_kind.specs.Meaning.{Meaning}
-use Rattle.tg_protocol.specs.Words.{node_eq, layout_id}
+use Rattle.tg_base.specs.Orders.{node_eq}
+use Rattle.tg_protocol.specs.Words.{layout_id}
 use Rattle.tg_protocol.specs.Requests.{Waits, awaits}
 use Rattle.tg_protocol.specs.Replies.{Reply, IsLatest}
 use Rattle.tg_protocol.specs.Answers.{Moved, moved}

@@ -9,7 +9,7 @@ use Rattle.tg_model.specs.Kinds.{CommandOf}
 use Rattle.tg_model.specs.declared.command.Command.TheVariants as cmd
 use Rattle.tg_model.specs.declared.play.PlayEnd.{PlayEnd}
 use Rattle.tg_model.specs.declared.play.PlayEnd.TheVariants.{Played, Blocked}
-use Rattle.tg_protocol.specs.Entries.{needs_decision, reads_of}
+use Rattle.tg_entry.specs.Needs.{needs_decision, reads_of}
 use Rattle.tg_protocol.specs.Past.{commit_at}
 use Rattle.tg_protocol.specs.Versions.{Changed}
 use Rattle.tg_protocol.specs.Views.{Entries, View, Play, Verdict, Commits, Aborts, Unknown, verdict, unknown_in, changed_in, play}

@@ -16,7 +16,7 @@ use Rattle.tg_protocol.specs.Clients.{Client, Work}
 use Rattle.tg_protocol.specs.Past.{PastTurn, PastView, PastGone, past_at, rescue_turn}
 use Rattle.tg_protocol.specs.Past as views
 use Rattle.tg_protocol.specs.Views.{Entries, Play, state_of}
-use Rattle.tg_protocol.specs.Words.{with_oid}
+use Rattle.tg_base.specs.Orders.{with_oid}
 use Rattle.tg_protocol.specs.Answers.{Moved, note, replies, refuses, syncs, trim_above, past_answer, past_played, past_turn, ahead_or, on_ask_at, absent, rescue_by}
 use Rattle.tg_play.specs.Kept.{Kept}
 use Rattle.tg_play.specs.Relations.{PlayedOn}

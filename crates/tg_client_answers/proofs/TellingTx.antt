@@ -13,7 +13,7 @@ use Rattle.tg_model.specs.declared.refusal.Refusal.TheVariants as cause
 use Rattle.tg_model.specs.declared.trace.What.TheVariants as what
 use Rattle.tg_play.specs.Kept.{Kept}
 use Rattle.tg_play.specs.Relations.{KeepsView}
-use Rattle.tg_protocol.specs.Entries.{reads_of}
+use Rattle.tg_entry.specs.Needs.{reads_of}
 use Rattle.tg_protocol.specs.Transactions.{Tx, tx_read}
 use Rattle.tg_protocol.specs.Versions.{Changed}
 use Rattle.tg_protocol.specs.Past.{commit_at}

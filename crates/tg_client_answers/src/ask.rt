@@ -1,7 +1,7 @@
 //! The answer to an ask.
 
 ghost use Rattle.std.specs.Prelude.{◌≡◌, true, Some};
-ghost use Rattle.tg_entry.specs.Records.{is_part};
+ghost use Rattle.tg_base.specs.Parts.{is_part};
 ghost use Rattle.tg_kind.specs.Of.{meaning_of};
 ghost use Rattle.tg_protocol.specs.Answers as told;
 ghost use Rattle.tg_protocol.specs.Transactions.{Tx};

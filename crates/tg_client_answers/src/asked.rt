@@ -2,7 +2,7 @@
 
 ghost use Rattle.std.specs.Prelude.{◌≡◌, ◌≤◌, true, length, IfOk, IfSome};
 ghost use Rattle.tg_base.specs.declared.marks.Part.TheVariants.{Text};
-ghost use Rattle.tg_entry.specs.Records.{is_part};
+ghost use Rattle.tg_base.specs.Parts.{is_part};
 ghost use Rattle.tg_kind.specs.Of.{meaning_of};
 ghost use Rattle.tg_kind.specs.Parts as scopes;
 ghost use Rattle.tg_protocol.specs.Transactions.{tx_read};

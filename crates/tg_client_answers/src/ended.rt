@@ -4,7 +4,7 @@ ghost use Rattle.std.specs.Prelude.{◌≡◌, IfOk};
 ghost use Rattle.tg_kind.specs.Of.{meaning_of};
 ghost use Rattle.tg_protocol.specs.Answers as told;
 ghost use Rattle.tg_protocol.specs.Clients.{Client, Work};
-ghost use Rattle.tg_protocol.specs.Entries.{reads_of};
+ghost use Rattle.tg_entry.specs.Needs.{reads_of};
 ghost use Rattle.tg_vers.specs.Kept.{changed_of};
 ghost use Rattle.tg_protocol.specs.Views as views;
 ghost use Rattle.tg_play.specs.Relations.{KeepsView};

@@ -3,7 +3,7 @@
 ghost use Rattle.std.specs.Prelude.{◌≡◌};
 ghost use Rattle.tg_kind.specs.Of.{meaning_of};
 ghost use Rattle.tg_protocol.specs.Answers as told;
-ghost use Rattle.tg_protocol.specs.Entries.{reads_of as told_reads};
+ghost use Rattle.tg_entry.specs.Needs.{reads_of as told_reads};
 ghost use Rattle.tg_client_answers.specs.Fates.{blocked_by};
 
 use tg_base::{Oid, Pos, ReadMark};

@@ -7,7 +7,7 @@ ghost use Rattle.tg_protocol.specs.Answers as told;
 ghost use Rattle.tg_protocol.specs.Clients as rules;
 ghost use Rattle.tg_protocol.specs.Past as views;
 ghost use Rattle.tg_protocol.specs.Views as plays;
-ghost use Rattle.tg_protocol.specs.Words.{with_oid};
+ghost use Rattle.tg_base.specs.Orders.{with_oid};
 ghost use Rattle.tg_rescue.specs.Answers.{told_turn};
 ghost use Rattle.tg_entry.specs.Drafts.{all_below};
 ghost use Rattle.tg_client_cells.specs.Words.{AreSpelled};

@@ -7,7 +7,7 @@ use Rattle.tg_protocol.specs.Words.{cell_at}
 use Rattle.tg_protocol.specs.Requests.{Next, Goes, Learns, Ends}
 use Rattle.tg_protocol.specs.Replies.{Reply}
 use Rattle.tg_protocol.specs.Cells.{CellJob, CellEnd, Done, Seen, Lost, Fenced, Gone, Place, CellWork, works, place_in, get_cell, fill_cell, cell_feed, work_feed}
-use Rattle.tg_protocol.specs.Walking.{Walk, WalkTurn, next_visit, walk_on, walks, steps_left, walk_start, walk_feed, visited, read_at, reads_turn, walk_end, walk_next}
+use Rattle.tg_protocol.specs.Walking.{Walk, WalkTurn, next_visit, walk_on, walk_from, steps_left, walk_start, walk_feed, visited, read_at, reads_turn, walk_end, walk_next}
 use Rattle.tg_stream.specs.Walks.{begun, walk_of}
 use Rattle.tg_stream.proofs.Visits.{on-zero, on-none, on-known, on-unknown, start-is}
 use Rattle.tg_stream.proofs.Trails.{visit-from}
@@ -37,7 +37,7 @@ on-leaves p next (suc n) w lo cells same h =
           ] refl
     ] refl
 
-walks-leave : (p : Layout) (next : ℕ) (w : Walk) (lo : ℕ) (cells : List (ℕ × Cell)) → w.lo ≡ lo → SameBelow lo cells w.cells → ThenLeaves lo cells (walks p next w).to
+walks-leave : (p : Layout) (next : ℕ) (w : Walk) (lo : ℕ) (cells : List (ℕ × Cell)) → w.lo ≡ lo → SameBelow lo cells w.cells → ThenLeaves lo cells (walk_from p next w).to
 walks-leave p next w lo cells same h = on-leaves p next (steps_left (next_visit w)) w lo cells same h
 
 -- ---- an answer

@@ -7,7 +7,7 @@ use Rattle.tg_protocol.specs.Words.{cell_at, with_num}
 use Rattle.tg_protocol.specs.Requests.{Next, Goes, Learns, Ends}
 use Rattle.tg_protocol.specs.Replies.{Reply}
 use Rattle.tg_protocol.specs.Cells.{CellJob, CellEnd, Done, Seen, Lost, Fenced, Gone, Place, place_in, get_cell, cell_feed}
-use Rattle.tg_protocol.specs.Walking.{Trail, Walk, WalkTurn, pointers_at, trail_after, member_after, next_visit, walk_on, walks, steps_left, walk_start, walk_feed, visited, read_at, reads_turn, walk_end, walk_next}
+use Rattle.tg_protocol.specs.Walking.{Trail, Walk, WalkTurn, pointers_at, trail_after, member_after, next_visit, walk_on, walk_from, steps_left, walk_start, walk_feed, visited, read_at, reads_turn, walk_end, walk_next}
 use Rattle.tg_stream.specs.Walks.{begun, walk_of}
 use Rattle.tg_stream.proofs.Visits.{on-zero, on-none, on-known, on-unknown, start-is}
 use Rattle.tg_stream.proofs.Trails.{passed-below, below-own, visit-below}
@@ -58,7 +58,7 @@ on-down p next (suc n) w o h =
           ] refl
     ] refl
 
-walks-down : (p : Layout) (next : ℕ) (w : Walk) → InOrder w.members → LeadsBelow w.members w.trail → ThenInOrder (walks p next w).to
+walks-down : (p : Layout) (next : ℕ) (w : Walk) → InOrder w.members → LeadsBelow w.members w.trail → ThenInOrder (walk_from p next w).to
 walks-down p next w o h = on-down p next (steps_left (next_visit w)) w o h
 
 -- ---- an answer

@@ -7,7 +7,8 @@ use Rattle.tg_entry.specs.declared.entry.Body.TheVariants.{Commit, Decision, Che
 use Rattle.tg_entry.specs.declared.entry.Entry.{Entry}
 use Rattle.tg_kind.specs.Meaning.{Meaning}
 use Rattle.tg_protocol.specs.Words.{or_else}
-use Rattle.tg_protocol.specs.Entries.{body_commits, is_commit, decides, needs_decision}
+use Rattle.tg_entry.specs.Needs.{needs_decision}
+use Rattle.tg_protocol.specs.Entries.{body_commits, is_commit, decides}
 use Rattle.tg_protocol.specs.Views.{Entries, decision_in, View, Play, Step, On, Stuck, verdict, by_decision, fate_or_verdict, fate_of, view_outcome, passed_over, record_step, entry_step, step_at, between, play_on, play_from, play, stands_at}
 use Rattle.tg_model.specs.declared.play.PlayEnd.TheVariants.{Blocked}
 use Rattle.tg_protocol.specs.Past.{commit_at}

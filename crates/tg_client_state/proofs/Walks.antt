@@ -8,7 +8,7 @@ use Rattle.tg_protocol.specs.Words.{cell_at}
 use Rattle.tg_protocol.specs.Requests.{Next, Goes, Learns, Ends, awaits, passes, ends}
 use Rattle.tg_protocol.specs.Replies.{Reply, reply}
 use Rattle.tg_protocol.specs.Cells.{CellJob, CellEnd, Done, Fenced, Gone, place_in, get_cell, cell_asks, cell_feed}
-use Rattle.tg_protocol.specs.Walking.{trail, Walk, Members, WalkTurn, walk_asks, walked, visited, read_at, reads_turn, next_visit, steps_left, walk_on, walks, walk_start, walk_end, walk_next, walk_feed}
+use Rattle.tg_protocol.specs.Walking.{trail, Walk, Members, WalkTurn, walk_asks, walk_members, visited, read_at, reads_turn, next_visit, steps_left, walk_on, walk_from, walk_start, walk_end, walk_next, walk_feed}
 use Rattle.tg_stream.specs.Walks.{course_of, walk_of, walk_fed_if}
 use Rattle.tg_stream.proofs.Visits.{on-none, on-known, on-unknown, on-zero}
 use Rattle.tg_reconf.specs.Turns.{all_drawn}
@@ -36,14 +36,14 @@ on_cell p n k w q None rest e f = subst (λ (t : WalkTurn). Begins n t) (sym (on
 on_cell p n k w q (Some c) rest e f = subst (λ (t : WalkTurn). Begins n t) (sym (on-known p n k w q c e f)) (rest (visited w q c))
 
 on_visit : (p : Layout) (n k : ℕ) (w : Walk) (o : Option ℕ) → ((v : Walk) → Begins n (walk_on p n k v)) → next_visit w ≡ o → Begins n (walk_on p n (suc k) w)
-on_visit p n k w None rest e = subst (λ (t : WalkTurn). Begins n t) (sym (on-none p n k w e)) (over n (walked w None))
+on_visit p n k w None rest e = subst (λ (t : WalkTurn). Begins n t) (sym (on-none p n k w e)) (over n (walk_members w None))
 on_visit p n k w (Some q) rest e = on_cell p n k w q (cell_at w.cells q) rest e refl
 
 pub on_begins : (p : Layout) (n k : ℕ) (w : Walk) → Begins n (walk_on p n k w)
-on_begins p n zero w = subst (λ (t : WalkTurn). Begins n t) (sym (on-zero p n w)) (over n (walked w None))
+on_begins p n zero w = subst (λ (t : WalkTurn). Begins n t) (sym (on-zero p n w)) (over n (walk_members w None))
 on_begins p n (suc k) w = on_visit p n k w (next_visit w) (λ v. on_begins p n k v) refl
 
-walks_begin : (p : Layout) (n : ℕ) (w : Walk) → BeginsNumbers walk_asks n (walks p n w)
+walks_begin : (p : Layout) (n : ℕ) (w : Walk) → BeginsNumbers walk_asks n (walk_from p n w)
 walks_begin p n w =
     let b = on_begins p n (steps_left (next_visit w)) w in
     plain_begins walk_asks n _ b.plain b.fresh

@@ -19,7 +19,8 @@ use Rattle.tg_codec.proofs.Widths.{u32_law, u64_law}
 use Rattle.tg_codec.proofs.Objects.{oid_law}
 use Rattle.tg_kind.specs.Bytes.{IsBytes}
 use Rattle.tg_kind.specs.Headers.{is_header, directory, names, distinct}
-use Rattle.tg_kind.specs.Parts.{overlap, is_part}
+use Rattle.tg_base.specs.Parts.{is_part}
+use Rattle.tg_kind.specs.Parts.{overlap}
 use Rattle.tg_kind.specs.Texts.{IsText, text_format, text_law, text_is_part}
 use Rattle.tg_kind.specs.Words as words
 use Rattle.tg_dir.specs.Spellings.{is_number, spelling}

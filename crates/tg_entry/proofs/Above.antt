@@ -10,7 +10,7 @@ use Rattle.tg_base.specs.declared.ids.Oid.{Oid}
 use Rattle.tg_base.specs.declared.marks.Part.{Part}
 use Rattle.tg_base.specs.declared.marks.Part.TheVariants.{All, Text, Num}
 use Rattle.tg_base.specs.Clusters.{is_user_object}
-use Rattle.tg_base.specs.Parts.{part_cmp}
+use Rattle.tg_base.specs.Parts.{part_cmp, is_part}
 use Rattle.tg_codec.specs.Reading.{meets}
 use Rattle.tg_codec.specs.Codec.{u8, u16, u32, u64}
 use Rattle.tg_codec.specs.Bounds.{is_above, tops}
@@ -18,7 +18,7 @@ use Rattle.tg_codec.specs.Streams.{any, oids_from, oid}
 use Rattle.tg_codec.proofs.Laws.{IsBytes, and-left, and-right, both}
 use Rattle.tg_codec.proofs.Bounds.{fit_above}
 use Rattle.tg_entry.specs.Parts.{over, text_above, part_above}
-use Rattle.tg_entry.specs.Records.{is_object, is_byte, is_number, is_part}
+use Rattle.tg_entry.specs.Records.{is_object, is_byte, is_number}
 
 -- ---- numbers from a range
 

@@ -9,7 +9,7 @@ use Rattle.tg_base.specs.declared.marks.Part.{Part}
 use Rattle.tg_base.specs.declared.marks.Part.TheVariants.{All, Text, Num}
 use Rattle.tg_base.specs.declared.marks.ReadMark.{ReadMark}
 use Rattle.tg_base.specs.declared.marks.StreamLink.{StreamLink}
-use Rattle.tg_base.specs.Parts.{part_cmp}
+use Rattle.tg_base.specs.Parts.{part_cmp, is_part}
 use Rattle.tg_base.specs.Units.{has, is_distinct, is_rising, is_within}
 use Rattle.tg_codec.specs.Codec.{u8, u64, fit_many, text}
 use Rattle.tg_codec.specs.Owing.{Debt, points, named, owing, paid}
@@ -26,7 +26,7 @@ use Rattle.tg_entry.specs.Reads.{mark, after_mark, is_all, no_read, marks, reads
 use Rattle.tg_entry.specs.Writes.{write, after_write, stream_numbers, writes}
 use Rattle.tg_entry.specs.Checkpoints.{Keyed, key, after_key, first_key, keys, new_fields}
 use Rattle.tg_entry.specs.Format.{tag_of, stream_counts, body, entry}
-use Rattle.tg_entry.specs.Records.{is_object, is_number, is_part, is_falling, are_backs, is_stream, IsHead, is_read, reads_rise, is_write, written, IsCommit, is_key, keys_rise, IsCheckpoint, RecordsFit}
+use Rattle.tg_entry.specs.Records.{is_object, is_number, is_falling, are_backs, is_stream, IsHead, is_read, reads_rise, is_write, written, IsCommit, is_key, keys_rise, IsCheckpoint, RecordsFit}
 use Rattle.tg_entry.proofs.Named.{Covers, meets_points, stays, distinct-stays, few_names, rising_distinct}
 use Rattle.tg_entry.proofs.Above.{u8_fits, u16_fits, u32_fits, u64_fits, u64_any, oid_fits, oid_small, is_after, part_fits}
 

@@ -31,11 +31,6 @@ is_byte b = nat_lt b 256
 abbrev pub is_number : ℕ → Bool
 is_number n = nat_lt n (2 ^ 64)
 
-abbrev pub is_part : Part → Bool
-is_part All = true
-is_part (Text t) = is_within 1 4096 (length t) && list_all is_byte t
-is_part (Num n) = is_number n
-
 -- ---- streams
 
 -- each position is below the one before it

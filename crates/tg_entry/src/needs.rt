@@ -3,7 +3,7 @@
 ghost use Rattle.std.specs.Prelude.{◌≡◌, not};
 ghost use Rattle.std.specs.List.{list_any};
 ghost use Rattle.tg_base.specs.Orders.{oid_eq};
-ghost use Rattle.tg_entry.specs.Needs.{needs_decision, body_needs};
+ghost use Rattle.tg_entry.specs.Needs.{needs_decision};
 
 use crate::entry::{Body, Entry, WriteOp};
 use tg_base::{Oid, ReadMark};
@@ -13,21 +13,14 @@ use tg_base::{Oid, ReadMark};
 pub fn needs_decision(entry: &Entry) -> bool
     ensures { result ≡ needs_decision entry.now }
 {
-    body_needs(&entry.body)
-}
-
-fn body_needs(body: &Body) -> bool
-    ensures { result ≡ body_needs body.now }
-{
-    match body {
+    match &entry.body {
         Body::Commit { reads, writes } => match reads.as_slice() {
             [] => false,
             [first, rest @ ..] => {
                 has_other_read(rest, first.oid) || has_other_write(writes.as_slice(), first.oid)
             }
         },
-        Body::Decision { .. } => false,
-        Body::Checkpoint { .. } => false,
+        Body::Decision { .. } | Body::Checkpoint { .. } => false,
     }
 }
 

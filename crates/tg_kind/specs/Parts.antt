@@ -32,9 +32,3 @@ overlap a b = is_whole a || is_whole b || part_eq a b
 -- the tag of an object's kind, which is the top byte of its number
 abbrev pub tag_of : Oid → ℕ
 tag_of o = o.0 / 2 ^ 24
-
--- a text of 1 to 4,096 bytes, or a number of 64 bits, or the whole
-abbrev pub is_part : Part → Bool
-is_part All = true
-is_part (Text t) = nat_le 1 (length t) && nat_le (length t) 4096 && list_all (λ b. nat_lt b 256) t
-is_part (Num n) = nat_lt n (2 ^ 64)

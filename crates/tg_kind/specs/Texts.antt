@@ -13,7 +13,7 @@ use Rattle.tg_codec.proofs.Widths.{u16_law}
 use Rattle.tg_codec.proofs.Shapes.{behind_law}
 use Rattle.tg_codec.specs.Codec as codec
 use Rattle.tg_base.specs.declared.marks.Part.TheVariants.{Text}
-use Rattle.tg_kind.specs.Parts.{is_part}
+use Rattle.tg_base.specs.Parts.{is_part}
 
 -- A-Z, a-z, 0-9, _ . -
 abbrev pub text_bytes : List (ℕ × ℕ)

@@ -4,7 +4,8 @@ ghost use Rattle.std.specs.Prelude.{◌≡◌, ◌≤◌, ◌++◌, List, length
 ghost use Rattle.tg_base.specs.declared.ids.Oid.{Oid};
 ghost use Rattle.tg_base.specs.declared.marks.Part.{Part};
 ghost use Rattle.tg_codec.specs.Reading.{Read};
-ghost use Rattle.tg_kind.specs.Parts.{part_of, overlap, is_part};
+ghost use Rattle.tg_base.specs.Parts.{is_part};
+ghost use Rattle.tg_kind.specs.Parts.{part_of, overlap};
 ghost use Rattle.tg_kind.specs.Bytes.{IsBytes, Answers, front};
 ghost use Rattle.tg_kind.specs.Headers.{is_header};
 

@@ -12,7 +12,8 @@ use Rattle.tg_base.specs.declared.msg.Msg.{Msg}
 use Rattle.tg_base.specs.declared.msg.Msg.TheVariants as msg
 use Rattle.tg_base.specs.declared.packet.Out.{Out}
 use Rattle.tg_base.specs.declared.packet.Packet.{Packet}
-use Rattle.tg_protocol.specs.Words.{ballot_lt, layout_id, client_id, unit_id, node_eq}
+use Rattle.tg_base.specs.Orders.{node_eq}
+use Rattle.tg_protocol.specs.Words.{ballot_lt, layout_id, client_id, unit_id}
 use Rattle.tg_protocol.specs.Layouts.{next_of}
 use Rattle.tg_protocol.specs.LayoutServers.{LayoutState, Vote, no_vote, vote_of, layout_step}
 use Rattle.tg_protocol.specs.Logs.{acceptances}

@@ -7,7 +7,8 @@ use Rattle.tg_base.specs.declared.ids.NodeId.{NodeId}
 use Rattle.tg_base.specs.declared.msg.Msg.{Msg}
 use Rattle.tg_base.specs.declared.msg.Msg.TheVariants as msg
 use Rattle.tg_base.specs.declared.packet.Packet.{Packet}
-use Rattle.tg_protocol.specs.Words.{role_code, layout_id, node_eq, ballot_lt}
+use Rattle.tg_base.specs.Orders.{node_eq}
+use Rattle.tg_protocol.specs.Words.{layout_id, ballot_lt}
 use Rattle.tg_protocol.specs.Logs.{is_acceptance, has_accepted, acceptances}
 use Rattle.tg_protocol.specs.Reconfiguring.{Before, greatest, value_or}
 use Rattle.tg_law_moves.proofs.Members.{Has, found}
@@ -67,7 +68,7 @@ acceptances_count ps e b zero = refl
 acceptances_count ps e b (suc n) = ap (λ k. (if has_accepted ps e b n then 1 else 0) + k) (acceptances_count ps e b n)
 
 from_layout : (a : NodeId) (n : ℕ) → node_eq a (layout_id n) ≡ true → a ≡ layout_id n
-unfolding node_eq role_code
+unfolding node_eq
 from_layout a n h = grind arith
 
 is_accepted : (m : Msg) (e : ℕ) (b : Ballot) → is_acceptance e b m ≡ true → m ≡ msg.Accepted e b

@@ -13,7 +13,7 @@ use Rattle.tg_base.specs.declared.packet.Out.{Out}
 use Rattle.tg_base.specs.declared.packet.Packet.{Packet}
 use Rattle.tg_protocol.specs.Words.{ballot_lt, unit_id, layout_id, numbers}
 use Rattle.tg_protocol.specs.Layouts.{next_of, next_units}
-use Rattle.tg_protocol.specs.Words.{node_eq, role_code}
+use Rattle.tg_base.specs.Orders.{node_eq}
 use Rattle.tg_protocol.specs.Requests.{passes, awaits, Waits, waits_for, without_wait, asked_of, out, Next, Goes, Learns, Ends}
 use Rattle.tg_protocol.specs.Trimming.{learns_if, has_stripe}
 use Rattle.tg_protocol.specs.Replies.{Reply}
@@ -88,7 +88,7 @@ pub record OfServer (from : NodeId) (rid : ℕ) (ws : Waits) : Type 0 where
 
 awaited_more : (m : Msg) (w : ℕ × ℕ) (ws : Waits) (from : NodeId) (rid : ℕ) → (awaits (asked_of layout_id m ws) from rid ≡ true → OfServer from rid ws)
     → awaits (asked_of layout_id m (w ∷ ws)) from rid ≡ true → OfServer from rid (w ∷ ws)
-unfolding node_eq role_code
+unfolding node_eq
 awaited_more m w ws from rid rest h = grind arith
 
 awaited_asked : (m : Msg) (ws : Waits) (from : NodeId) (rid : ℕ) → awaits (asked_of layout_id m ws) from rid ≡ true → OfServer from rid ws

@@ -7,7 +7,7 @@ use Rattle.tg_base.specs.declared.ids.Ballot.{Ballot}
 use Rattle.tg_base.specs.declared.msg.Msg.{Msg}
 use Rattle.tg_base.specs.declared.msg.Msg.TheVariants as msg
 use Rattle.tg_base.specs.declared.packet.Packet.{Packet}
-use Rattle.tg_protocol.specs.Words.{node_eq, role_code}
+use Rattle.tg_base.specs.Orders.{node_eq}
 use Rattle.tg_protocol.specs.Layouts.{units_of, next_of}
 use Rattle.tg_protocol.specs.LayoutServers.{new_layout, layout_step, layout_ask, on_layout_ask}
 use Rattle.tg_protocol.specs.Logs.{by_majority}
@@ -58,10 +58,10 @@ msg_at ps i = said (slice_get ps i)
 
 -- c1's layout is chosen
 chosen : (by_majority after.packets 3 2 (ballot 1 1) ≡ true) × (msg_at after.packets 16 ≡ Some (msg.Accept 2 (ballot 1 1) (second 1 1)))
-unfolding after first wish_for second events ballot msg_at contest proposers_from packets_from run happens hears reply reconf_start reconf_feed reconf_latest reconf_work_asks new_layout layout_step layout_ask on_layout_ask node_eq role_code units_of next_of
+unfolding after first wish_for second events ballot msg_at contest proposers_from packets_from run happens hears reply reconf_start reconf_feed reconf_latest reconf_work_asks new_layout layout_step layout_ask on_layout_ask node_eq units_of next_of
 chosen = (refl, refl)
 
 -- and c0 proposes it too
 adopted : msg_at after.packets 27 ≡ Some (msg.Accept 2 (ballot 2 0) (second 1 1))
-unfolding after first wish_for second events ballot msg_at contest proposers_from packets_from run happens hears reply reconf_start reconf_feed reconf_latest reconf_work_asks new_layout layout_step layout_ask on_layout_ask node_eq role_code units_of next_of
+unfolding after first wish_for second events ballot msg_at contest proposers_from packets_from run happens hears reply reconf_start reconf_feed reconf_latest reconf_work_asks new_layout layout_step layout_ask on_layout_ask node_eq units_of next_of
 adopted = refl

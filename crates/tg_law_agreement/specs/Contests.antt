@@ -8,7 +8,8 @@ use Rattle.tg_base.specs.declared.ids.Role.TheVariants as role
 use Rattle.tg_base.specs.declared.msg.Msg.{Msg}
 use Rattle.tg_base.specs.declared.packet.Out.{Out}
 use Rattle.tg_base.specs.declared.packet.Packet.{Packet}
-use Rattle.tg_protocol.specs.Words.{node_eq, layout_id, client_id, unit_id}
+use Rattle.tg_base.specs.Orders.{node_eq}
+use Rattle.tg_protocol.specs.Words.{layout_id, client_id, unit_id}
 use Rattle.tg_protocol.specs.Requests.{awaits, drawn_from, Next, Goes, Learns, Ends}
 use Rattle.tg_protocol.specs.Replies.{Reply, IsLatest, reply}
 use Rattle.tg_protocol.specs.LayoutServers.{LayoutState, LayoutTurn, layout_step}

@@ -14,8 +14,10 @@ use Rattle.tg_model.specs.declared.refusal.Refusal.{Refusal}
 use Rattle.tg_model.specs.declared.refusal.Refusal.TheVariants as cause
 use Rattle.tg_model.specs.declared.trace.What.TheVariants as told
 use Rattle.tg_model.specs.Kinds.{CommandOf, WhatOf, NoteOf}
-use Rattle.tg_protocol.specs.Words.{node_eq, layout_id, with_oid}
-use Rattle.tg_protocol.specs.Entries.{is_commit, reads_of, entry_size}
+use Rattle.tg_base.specs.Orders.{node_eq, with_oid}
+use Rattle.tg_protocol.specs.Words.{layout_id}
+use Rattle.tg_entry.specs.Needs.{reads_of}
+use Rattle.tg_protocol.specs.Entries.{is_commit, entry_size}
 use Rattle.tg_protocol.specs.Versions.{Changed}
 use Rattle.tg_protocol.specs.Requests.{awaits, Next, Goes, Learns, Ends, Turn}
 use Rattle.tg_protocol.specs.Replies.{Reply, IsLatest}

@@ -16,7 +16,8 @@ use Rattle.tg_model.specs.Kinds.{WhatOf, MarkOf, NoteOf}
 use Rattle.tg_model.specs.Traces.{Trace, Tells, put_of, puts_of}
 use Rattle.tg_model.specs.Legal.{InOrder, Legal}
 use Rattle.tg_protocol.specs.Words.{directory}
-use Rattle.tg_protocol.specs.Entries.{is_commit, reads_in, reads_of, writes_in, writes_of}
+use Rattle.tg_entry.specs.Needs.{reads_in, reads_of, writes_in, writes_of}
+use Rattle.tg_protocol.specs.Entries.{is_commit}
 use Rattle.tg_protocol.specs.Views.{Entries}
 use Rattle.tg_protocol.specs.Logs.{op_if, ops_of, history_of, history_after}
 use Rattle.tg_protocol.specs.Transactions.{Tx}

@@ -13,7 +13,7 @@ use Rattle.tg_protocol.specs.Replies as replied
 use Rattle.tg_protocol.specs.Cells.{Place, place_in, CellWork, CellJob, CellEnd, Done, Seen, Lost, Fenced, Gone, last_unit, put_cell, get_cell, fill_cell, probe, cell_feed}
 use Rattle.tg_protocol.specs.Appending.{on_older, on_newer, AppendWork, Asking, Putting, Judging, Token, Append, AppendEnd, put_end, put_next, own_or_not, judge_end, judge_next, on_issued, asking_feed, append_feed, dead_or_judged, again_with, append_again}
 use Rattle.tg_protocol.specs.Syncing.{Answer, SyncWork, Checking, Settling, Probing, Sync, Confirmed, sync_start, probe_end, probe_next, probes, settle_end, settle_next, confirm_by, on_tail, checking_feed, sync_feed}
-use Rattle.tg_protocol.specs.Walking.{Walk, Members, WalkTurn, reads_turn, walked, walk_on, walks, walk_end, walk_next, walk_feed, next_visit, visited, read_at}
+use Rattle.tg_protocol.specs.Walking.{Walk, Members, WalkTurn, reads_turn, walk_members, walk_on, walk_from, walk_end, walk_next, walk_feed, next_visit, visited, read_at}
 use Rattle.tg_protocol.specs.Trimming.{CopyWork, Sealing, Reading, Storing, Trimming, Looking, Copying, CopyEnd, learns_if, copy_start, copy_from, copies_past, read_end, read_next, stored_if, skipped_if, sealed_if, copy_feed}
 use Rattle.tg_protocol.specs.Words.{cell_at}
 use Rattle.tg_law_cells.proofs.Justified.{ToldBy, WorkOk, EndOk, NextOk, Claims, work_ok}
@@ -217,7 +217,7 @@ module _ (ps : List Packet) (p : Layout) where
   by_cell next n w q (Some c) ih = ih (visited w q c)
 
   by_visit : (next n : ℕ) (w : Walk) (o : Option ℕ) → ((v : Walk) → WalkNext (walk_on p next n v).to) → WalkNext (elim o as (λ _. WalkTurn) [
-    | None ↦ ends next (walked w None)
+    | None ↦ ends next (walk_members w None)
     | Some q ↦ elim (cell_at w.cells q) as (λ _. WalkTurn) [ Some c ↦ walk_on p next n (visited w q c) | None ↦ reads_turn w (get_cell (place_in p q) next) ]
   ]).to
   by_visit next n w None ih = tt
@@ -228,7 +228,7 @@ module _ (ps : List Packet) (p : Layout) where
   walk_on_ok next zero w = tt
   walk_on_ok next (suc n) w = by_visit next n w (next_visit w) (λ v. walk_on_ok next n v)
 
-  pub walks_ok : (next : ℕ) (w : Walk) → WalkNext (walks p next w).to
+  pub walks_ok : (next : ℕ) (w : Walk) → WalkNext (walk_from p next w).to
   walks_ok next w = walk_on_ok next _ w
 
   walk_end_ok : (w : Walk) (q : ℕ) (e : CellEnd) (next : ℕ) → MaybeOk w.job → WalkNext (walk_end p w q e next).to

@@ -9,7 +9,8 @@ use Rattle.tg_base.specs.declared.msg.Msg.TheVariants as msg
 use Rattle.tg_base.specs.declared.packet.Out.{Out}
 use Rattle.tg_base.specs.declared.packet.Packet.{Packet}
 use Rattle.tg_kind.specs.Meaning.{Meaning}
-use Rattle.tg_protocol.specs.Words.{unit_id, client_id, seqr_id, node_eq, role_code, cell_eq}
+use Rattle.tg_base.specs.Orders.{node_eq}
+use Rattle.tg_protocol.specs.Words.{unit_id, client_id, seqr_id, cell_eq}
 use Rattle.tg_protocol.specs.Units.{unit_ask}
 use Rattle.tg_protocol.specs.Requests.{Waits, awaits, Next, Goes, Learns, Ends}
 use Rattle.tg_protocol.specs.Replies.{Reply, reply}
@@ -33,7 +34,7 @@ pub record Awaited (outs : List Out) (from : NodeId) (rid : ℕ) : Type 0 where
   pub number : ask.rid ≡ rid
 
 same_node : (a b : NodeId) → node_eq a b ≡ true → a ≡ b
-unfolding node_eq role_code
+unfolding node_eq
 same_node a b h = grind arith
 
 both : (a b : Bool) → (a && b) ≡ true → (a ≡ true) × (b ≡ true)

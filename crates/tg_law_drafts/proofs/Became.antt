@@ -9,7 +9,8 @@ use Rattle.tg_kind.specs.Meaning.{Meaning}
 use Rattle.tg_model.specs.declared.command.Command.TheVariants as cmd
 use Rattle.tg_model.specs.declared.refusal.Refusal.{Refusal}
 use Rattle.tg_model.specs.Kinds.{CommandOf, WhatOf}
-use Rattle.tg_protocol.specs.Words.{node_eq, layout_id, client_id, numbers}
+use Rattle.tg_base.specs.Orders.{node_eq}
+use Rattle.tg_protocol.specs.Words.{layout_id, client_id, numbers}
 use Rattle.tg_protocol.specs.Requests.{awaits, waits_for, Next, Goes, Learns, Ends, Turn}
 use Rattle.tg_protocol.specs.Replies.{Reply, IsLatest, reply}
 use Rattle.tg_protocol.specs.Appending.{Append, AppendEnd, At, Full, Forgotten, append_asks, append_feed, append_again}
@@ -119,7 +120,7 @@ module _ (m : Meaning) where
     c = client_in m g k
 
     pub same_node : (n : NodeId) → node_eq n (layout_id n.num) ≡ true → n ≡ layout_id n.num
-    unfolding node_eq Rattle.tg_protocol.specs.Words.role_code
+    unfolding node_eq
     same_node n e = grind arith
 
     pub both : (a b : Bool) → (a && b) ≡ true → (a ≡ true) × (b ≡ true)

@@ -20,7 +20,8 @@ use Rattle.tg_entry.specs.Checkpoints.{key, after_key, first_key, keys, Fields, 
 use Rattle.tg_entry.specs.Format.{body, stream_counts, in_streams, by_number, by_client, of_tag, of_format, entry}
 use Rattle.tg_entry.specs.Parts.{over, least_tag, text_bound, text_above, number_range, part_body, part_above}
 use Rattle.tg_entry.specs.Records.{is_object}
-use Rattle.tg_kind.specs.Parts.{is_whole, is_part}
+use Rattle.tg_base.specs.Parts.{is_part}
+use Rattle.tg_kind.specs.Parts.{is_whole}
 use Rattle.tg_protocol.specs.Pages.{entry_of}
 use Rattle.tg_law_drafts.proofs.Heads.{ok_is, ended_ok, pair_with, pair_on, shape, read_row, read_whole}
 

@@ -8,12 +8,12 @@ use Rattle.std.specs.declared.cmp.Ordering.TheVariants.{Less, Equal, Greater}
 use Rattle.tg_base.specs.declared.ids.Oid.{Oid}
 use Rattle.tg_base.specs.declared.marks.Part.{Part}
 use Rattle.tg_base.specs.declared.marks.Part.TheVariants.{All, Text, Num}
-use Rattle.tg_base.specs.Parts.{part_cmp}
+use Rattle.tg_base.specs.Parts.{part_cmp, is_part}
 use Rattle.tg_base.specs.Orders.{oid_eq}
 use Rattle.tg_entry.specs.Format.{entry}
 use Rattle.tg_entry.specs.Records.{is_object, keys_rise}
 use Rattle.tg_kind.specs.Meaning.{Meaning}
-use Rattle.tg_kind.specs.Parts.{part_eq, is_whole, overlap, is_part}
+use Rattle.tg_kind.specs.Parts.{part_eq, is_whole, overlap}
 use Rattle.tg_protocol.specs.Words.{part_lt}
 use Rattle.tg_protocol.specs.Entries.{entry_size}
 use Rattle.tg_protocol.specs.Versions.{Based, PartVersion, key_version, version_in, base_version, noted_or, version_of, whole_noted, with_part, parts_noted, parts_based, base_parts, Parts, parts_of}

@@ -13,15 +13,17 @@ use Rattle.tg_entry.specs.Format.{tag_of, entry}
 use Rattle.tg_entry.specs.Records.{is_object, is_read}
 use Rattle.tg_entry.specs.Records as records
 use Rattle.tg_kind.specs.Meaning.{Meaning}
-use Rattle.tg_kind.specs.Parts.{is_part}
+use Rattle.tg_base.specs.Parts.{is_part}
 use Rattle.tg_model.specs.declared.command.Command.TheVariants as cmd
 use Rattle.tg_model.specs.declared.play.PlayEnd.{PlayEnd}
 use Rattle.tg_model.specs.declared.play.PlayEnd.TheVariants.{Played, Blocked}
 use Rattle.tg_model.specs.declared.refusal.Refusal.{Refusal}
 use Rattle.tg_model.specs.declared.trace.What.TheVariants as told
 use Rattle.tg_model.specs.Kinds.{CommandOf, WhatOf, NoteOf}
-use Rattle.tg_protocol.specs.Words.{directory, with_oid, with_nums}
-use Rattle.tg_protocol.specs.Entries.{draft, reads_of, entry_size}
+use Rattle.tg_base.specs.Orders.{with_oid}
+use Rattle.tg_protocol.specs.Words.{directory, with_nums}
+use Rattle.tg_entry.specs.Needs.{reads_of}
+use Rattle.tg_protocol.specs.Entries.{draft, entry_size}
 use Rattle.tg_protocol.specs.Versions.{Changed}
 use Rattle.tg_protocol.specs.Requests.{Next, Goes, Learns, Ends, Turn}
 use Rattle.tg_protocol.specs.Replies.{Reply, IsLatest, reply}

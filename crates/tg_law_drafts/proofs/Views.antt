@@ -13,10 +13,12 @@ use Rattle.tg_entry.specs.declared.entry.Entry.{Entry}
 use Rattle.tg_entry.specs.declared.entry.WriteOp.{WriteOp}
 use Rattle.tg_kind.specs.Meaning.{Meaning}
 use Rattle.tg_protocol.specs.Words.{cell_at}
-use Rattle.tg_kind.specs.Parts.{part_eq, overlap, is_part}
+use Rattle.tg_base.specs.Parts.{is_part}
+use Rattle.tg_kind.specs.Parts.{part_eq, overlap}
 use Rattle.tg_base.specs.Orders.{oid_eq}
 use Rattle.tg_protocol.specs.Pages.{entry_of, cell_entry}
-use Rattle.tg_protocol.specs.Entries.{is_commit, writes_of, needs_decision}
+use Rattle.tg_entry.specs.Needs.{writes_of, needs_decision}
+use Rattle.tg_protocol.specs.Entries.{is_commit}
 use Rattle.tg_protocol.specs.Versions.{Based, PartVersion, no_versions, based, key_version, version_in, base_version, noted_or, version_of}
 use Rattle.tg_protocol.specs.Views.{Entries, decision_in, Verdict, Commits, Aborts, Unknown, Base, View, view_start, base_of, played_version, view_version, touched, applied, state_of, set_state, write_by, plays, write, write_all, with_fate, with_verdict, with_open, Play, stands_at, Step, On, Stuck, decided_step, record_step, entry_step, step_at, passed_over, verdict, between, play_on, play_from, play, entry_if}
 use Rattle.tg_protocol.specs.Checkpoints.{TrimPoints, trim_of, loaded, base_in, base_at, option_list, bases_in, lower, least_base, from_upto, load_from, base_or, base_by, view_base, view_bases}

@@ -1,11 +1,10 @@
 -- The bases of a client's view are of objects that it hosts: of a view that begins, and of one that has played.
 use Rattle.std.proofs.Common.{◌≡◌, ℕ, ◌≤◌, arith, List, [], ◌∷◌, map, Bool, true, false, cond, refl, sym, ap, ◌∙◌, subst, inl, inr, Option, Some, None}
 use Rattle.std.specs.Prelude.{Contains}
-use Rattle.tg_base.specs.Orders.{oid_eq}
+use Rattle.tg_base.specs.Orders.{oid_eq, with_oid}
 use Rattle.tg_base.specs.declared.ids.Oid.{Oid}
 use Rattle.tg_entry.specs.declared.entry.Entry.{Entry}
 use Rattle.tg_kind.specs.Meaning.{Meaning}
-use Rattle.tg_protocol.specs.Words.{with_oid}
 use Rattle.tg_protocol.specs.Views.{Entries, Base, View, base_of, view_start}
 use Rattle.tg_protocol.specs.Checkpoints.{TrimPoints, trim_of, base_at, load_from, base_or, base_by, view_base, view_bases}
 use Rattle.tg_protocol.specs.Clients.{Work, Client, all_entries}

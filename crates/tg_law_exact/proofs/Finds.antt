@@ -11,7 +11,8 @@ use Rattle.tg_base.specs.declared.ids.Role.TheVariants as role
 use Rattle.tg_kind.specs.Meaning.{Meaning}
 use Rattle.tg_model.specs.Kinds.{EventOf}
 use Rattle.tg_model.specs.declared.command.Event.TheVariants.{Command as Commands, Deliver, Lose, Tick, Stop}
-use Rattle.tg_protocol.specs.Words.{client_id, node_eq, layout_id}
+use Rattle.tg_base.specs.Orders.{node_eq}
+use Rattle.tg_protocol.specs.Words.{client_id, layout_id}
 use Rattle.tg_protocol.specs.Requests.{awaits, Next, Goes, Learns, Ends}
 use Rattle.tg_protocol.specs.Replies.{Reply, IsLatest, reply}
 use Rattle.tg_protocol.specs.Syncing.{Sync, Confirmed, sync_start, sync_feed, sync_again}

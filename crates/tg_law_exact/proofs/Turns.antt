@@ -13,7 +13,7 @@ use Rattle.tg_kind.specs.Meaning.{Meaning}
 use Rattle.tg_model.specs.declared.command.Command.TheVariants as cmd
 use Rattle.tg_model.specs.Kinds.{CommandOf, WhatOf, NoteOf}
 use Rattle.tg_model.specs.declared.refusal.Refusal.{Refusal}
-use Rattle.tg_protocol.specs.Words.{with_oid}
+use Rattle.tg_base.specs.Orders.{with_oid}
 use Rattle.tg_protocol.specs.Requests.{awaits, Next, Goes, Learns, Ends, Turn}
 use Rattle.tg_protocol.specs.Replies.{Reply, reply, IsLatest}
 use Rattle.tg_protocol.specs.Appending.{Append, AppendEnd, At, Full, Forgotten, append_start, append_feed, append_again}

@@ -10,7 +10,8 @@ use Rattle.tg_base.specs.declared.packet.Packet.{Packet}
 use Rattle.tg_base.specs.declared.packet.Out.{Out}
 use Rattle.tg_kind.specs.Meaning.{Meaning}
 use Rattle.tg_model.specs.Kinds.{CommandOf}
-use Rattle.tg_protocol.specs.Words.{node_eq, client_id, seqr_id}
+use Rattle.tg_base.specs.Orders.{node_eq}
+use Rattle.tg_protocol.specs.Words.{client_id, seqr_id}
 use Rattle.tg_protocol.specs.Requests.{out}
 use Rattle.tg_base.specs.declared.msg.Msg.TheVariants as msg
 use Rattle.tg_protocol.specs.Cells.{CellWork, Puts, Gets, Fills, Copies, Probes, place_in, work_asks, Place}
@@ -20,7 +21,7 @@ use Rattle.tg_protocol.specs.Clients.{Appending, Syncing, Doing, Work, Client, H
 use Rattle.tg_protocol.specs.ClientSteps.{task_asks}
 use Rattle.tg_protocol.specs.Worlds.{World, seqr, client, latest, settle}
 use Rattle.tg_protocol.specs.Runs.{Moves, Reaches, Always}
-use Rattle.tg_protocol.specs.Finishing.{longest_chain, is_with_client, passes, WaitsAlone, IsReadyFor, bound, bound_in, Finishes, HasReply}
+use Rattle.tg_protocol.specs.Finishing.{longest_chain, is_with_client, passes, WaitsAlone, IsReadyFor, most_deliveries, most_deliveries_in, Finishes, HasReply}
 use Rattle.tg_law_moves.proofs.Clients.{reserved, work_reserved, hand_reserved}
 use Rattle.tg_law_moves.proofs.Members.{Has}
 use Rattle.tg_law_cells.proofs.Hands as hands
@@ -94,7 +95,7 @@ each_room c t l one few =
     let b = mul-le (16 * c) (t + 1) (16 * c) (t + 1) (omega arith) (omega arith) in
     omega (arith, one, few)
 
-bounds : (m : Meaning) (x : CommandOf m) (c t n a : ℕ) → a ≤ 16 * c * (t + 4) → a ≤ bound m x c t n
+bounds : (m : Meaning) (x : CommandOf m) (c t n a : ℕ) → a ≤ 16 * c * (t + 4) → a ≤ most_deliveries m x c t n
 bounds m x c t n a le = grind arith
 
 module _ (m : Meaning) (h : Header) (ms : Moves m) (w : World m) (r : Reaches m h ms w) (k : ℕ) where
@@ -204,7 +205,7 @@ module _ (m : Meaning) (h : Header) (ms : Moves m) (w : World m) (r : Reaches m 
       let c = writes_finish m w k p (longest_chain p) (working m h ms w r k x a b) (lawful m h ms w r k x a b g) (writes b.stand f) a.within in
       answered_of m k _ w _ (subst (λ l. Counted m k (4 * longest_chain p + 2 * l + 2) w (settle m w).world) layouts_are c) (settle_replies m k f.work.command f.command w (in_work f.work f.waits) c.answered)
 
-  pub append_in_time : (x : CommandOf m) → WaitsAlone m w k x → IsReadyFor m w k → Granted m w → WaitsForAppend m w k → IsAnswered m w k (bound_in m w x)
+  pub append_in_time : (x : CommandOf m) → WaitsAlone m w k x → IsReadyFor m w k → Granted m w → WaitsForAppend m w k → IsAnswered m w k (most_deliveries_in m w x)
   append_in_time x a b g f = within m k _ _ w _ (bounds m x _ _ _ _ (rooms _ _ _ (longest g x a b) few_layouts)) (append_answered x a b g f)
 
   pub ask_answered : (x : CommandOf m) → WaitsAlone m w k x → IsReadyFor m w k → Granted m w → NothingTrimmed m w → HasIssued m w → WaitsForSync m w k → IsAnswered m w k (2 * ((longest_chain p + 1) * ((seqr m w p.seq).next + 1)) + 2 * w.cluster.layouts)
@@ -212,7 +213,7 @@ module _ (m : Meaning) (h : Header) (ms : Moves m) (w : World m) (r : Reaches m 
       let c = asks_finish m w k p (longest_chain p) (working m h ms w r k x a b) (lawful m h ms w r k x a b g) (untrimmed u n) (asks f) a.within in
       answered_of m k _ w _ (subst (λ l. Counted m k (2 * ((longest_chain p + 1) * ((seqr m w p.seq).next + 1)) + 2 * l) w (settle m w).world) layouts_are c) (settle_replies m k f.work.command (asks_play f.work.command f.asks) w (in_work f.work f.waits) c.answered)
 
-  pub ask_in_time : (x : CommandOf m) → WaitsAlone m w k x → IsReadyFor m w k → Granted m w → NothingTrimmed m w → HasIssued m w → WaitsForSync m w k → IsAnswered m w k (bound_in m w x)
+  pub ask_in_time : (x : CommandOf m) → WaitsAlone m w k x → IsReadyFor m w k → Granted m w → NothingTrimmed m w → HasIssued m w → WaitsForSync m w k → IsAnswered m w k (most_deliveries_in m w x)
   ask_in_time x a b g u n f = within m k _ _ w _ (bounds m x _ _ _ _ (each_room _ _ _ (longest g x a b) few_layouts)) (ask_answered x a b g u n f)
 
 pub appends_are_answered : (m : Meaning) → Always m (AppendAnswered m)

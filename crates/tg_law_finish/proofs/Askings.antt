@@ -11,7 +11,8 @@ use Rattle.tg_base.specs.declared.msg.Msg.{Msg}
 use Rattle.tg_base.specs.declared.msg.Msg.TheVariants as msg
 use Rattle.tg_base.specs.declared.packet.Out.{Out}
 use Rattle.tg_kind.specs.Meaning.{Meaning}
-use Rattle.tg_protocol.specs.Words.{node_eq, cell_at, with_cell, too_far, unit_id, seqr_id, layout_id, client_id}
+use Rattle.tg_base.specs.Orders.{node_eq}
+use Rattle.tg_protocol.specs.Words.{cell_at, with_cell, too_far, unit_id, seqr_id, layout_id, client_id}
 use Rattle.tg_protocol.specs.Entries.{link_of, backs_of}
 use Rattle.tg_protocol.specs.Sequencers.{SeqrState, scanning, links_of}
 use Rattle.tg_protocol.specs.Requests.{out, awaits, drawn_from}

@@ -13,7 +13,8 @@ use Rattle.std.specs.Prelude.{nat_lt}
 use Rattle.tg_law_finish.specs.Laws.{TakesTurn}
 use Rattle.tg_law_finish.specs.Queues.{Rises, Carries, Queue}
 use Rattle.tg_law_moves.proofs.Members.{set_long}
-use Rattle.tg_protocol.specs.Words.{node_eq, seqr_id, client_id, numbers}
+use Rattle.tg_base.specs.Orders.{node_eq}
+use Rattle.tg_protocol.specs.Words.{seqr_id, client_id, numbers}
 use Rattle.tg_protocol.specs.Layouts.{first_layout}
 use Rattle.tg_protocol.specs.Units.{UnitState, new_unit, unit_step}
 use Rattle.tg_protocol.specs.LayoutServers.{LayoutState, new_layout, layout_step}

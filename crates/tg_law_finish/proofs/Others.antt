@@ -11,7 +11,8 @@ use Rattle.tg_base.specs.declared.msg.Msg.TheVariants as msg
 use Rattle.tg_base.specs.declared.packet.Out.{Out}
 use Rattle.tg_base.specs.declared.packet.Packet.{Packet}
 use Rattle.tg_kind.specs.Meaning.{Meaning}
-use Rattle.tg_protocol.specs.Words.{node_eq, role_code, unit_id, layout_id, seqr_id, client_id}
+use Rattle.tg_base.specs.Orders.{node_eq}
+use Rattle.tg_protocol.specs.Words.{unit_id, layout_id, seqr_id, client_id}
 use Rattle.tg_protocol.specs.Layouts.{first_layout}
 use Rattle.tg_protocol.specs.Units.{new_unit, unit_ask, unit_step}
 use Rattle.tg_protocol.specs.LayoutServers.{LayoutState, new_layout, layout_ask, on_layout_ask, layout_step}
@@ -90,7 +91,7 @@ module _ (m : Meaning) (h : Header) (stopped : List NodeId) (k : ℕ) (p : Layou
 
   answer_strays : (x u rid : ℕ) (y : Msg) (o : Option Msg) → eqb x p.seq ≡ false → ((z : Msg) → o ≡ Some z → is_plain z ≡ true)
       → Each Stray (answer_to m (record { from = seqr_id x; to = unit_id u; rid = rid; msg = y }) o) × (weigh (answer_to m (record { from = seqr_id x; to = unit_id u; rid = rid; msg = y }) o) ≡ 0)
-  unfolding weigh weight node_eq role_code
+  unfolding weigh weight node_eq
   answer_strays x u rid y None other plain = (tt, refl)
   answer_strays x u rid y (Some z) other plain = ((Scanned x u rid z other (plain z refl), tt), refl)
 
@@ -116,7 +117,7 @@ module _ (m : Meaning) (h : Header) (stopped : List NodeId) (k : ℕ) (p : Layou
           by (inr c) = c
 
   light_scan : (x u rid : ℕ) (y : Msg) → weight (record { from = seqr_id x; to = unit_id u; rid = rid; msg = y }) ≡ 0
-  unfolding weight node_eq role_code
+  unfolding weight node_eq
   light_scan x u rid y = refl
 
   asks_strays : (x : ℕ) → eqb x p.seq ≡ false → (os : List Out) → Each (AsksOf p.epoch) os → Each Stray (map (packet_of m (seqr_id x)) os) × (weigh (map (packet_of m (seqr_id x)) os) ≡ 0)
@@ -160,16 +161,16 @@ module _ (m : Meaning) (h : Header) (stopped : List NodeId) (k : ℕ) (p : Layou
           by (inr c) = subst (λ (t : SeqrState). Old p.epoch t) (sym c) (r.old y off)
 
   to_client : (x : NodeId) (rid : ℕ) (y : Msg) → cost k (Some (record { from = x; to = client_id k; rid = rid; msg = y })) ≡ 1
-  unfolding node_eq role_code
+  unfolding node_eq
   to_client x rid y = grind arith
 
   told_weighs : (l rid : ℕ) (q : Layout) → weight (record { from = layout_id l; to = client_id k; rid = rid; msg = msg.Latest q }) ≡ 1
-  unfolding weight node_eq role_code
+  unfolding weight node_eq
   told_weighs l rid q = let e = to_client (layout_id l) rid (msg.Latest q) in omega (arith, e)
 
   -- a packet of the client, and one to it
   pub from_weighs : (o : Out) → (weight (packet_of m (client_id k) o) ≡ 2) × (cost k (Some (packet_of m (client_id k) o)) ≡ 1)
-  unfolding weight node_eq role_code
+  unfolding weight node_eq
   from_weighs o = (grind arith, grind arith)
 
   pub to_weighs : (x : NodeId) (rid : ℕ) (y : Msg) → node_eq x (client_id k) ≡ false → (weight (record { from = x; to = client_id k; rid = rid; msg = y }) ≡ 1) × (cost k (Some (record { from = x; to = client_id k; rid = rid; msg = y })) ≡ 1)
@@ -220,18 +221,18 @@ module _ (m : Meaning) (h : Header) (stopped : List NodeId) (k : ℕ) (p : Layou
       }
 
   scan_weighs : (x u rid : ℕ) (y : Msg) → (weight (record { from = seqr_id x; to = unit_id u; rid = rid; msg = y }) ≡ 0) × (cost k (Some (record { from = seqr_id x; to = unit_id u; rid = rid; msg = y })) ≡ 0)
-  unfolding weight node_eq role_code
+  unfolding weight node_eq
   scan_weighs x u rid y = (refl, refl)
 
   scanned_weighs : (x u rid : ℕ) (y : Msg) → (weight (record { from = unit_id u; to = seqr_id x; rid = rid; msg = y }) ≡ 0) × (cost k (Some (record { from = unit_id u; to = seqr_id x; rid = rid; msg = y })) ≡ 0)
-  unfolding weight node_eq role_code
+  unfolding weight node_eq
   scanned_weighs x u rid y = (refl, refl)
 
   weighing : (s t : Net m) (sent : List Packet) (x : Packet) (a b : ℕ) → (weight x ≡ a) × (cost k (Some x) ≡ b) → Passes s t sent a b → Passes s t sent (weight x) (cost k (Some x))
   weighing s t sent x a b e q = subst (λ n. Passes s t sent n (cost k (Some x))) (sym e.0) (subst (λ n. Passes s t sent a n) (sym e.1) q)
 
   layout_no_client : (l : ℕ) → node_eq (layout_id l) (client_id k) ≡ false
-  unfolding node_eq role_code
+  unfolding node_eq
   layout_no_client l = refl
 
   -- a stray packet comes to a node, or is lost
@@ -245,7 +246,7 @@ module _ (m : Meaning) (h : Header) (stopped : List NodeId) (k : ℕ) (p : Layou
   -- Ticks of other nodes.
 
   same_client : (j : ℕ) → node_eq (client_id j) (client_id k) ≡ false → eqb j k ≡ false
-  unfolding node_eq role_code
+  unfolding node_eq
   same_client j e = e
 
   seqr_off : (n : ℕ) → (eqb n p.seq ≡ true) ⊎ (eqb n p.seq ≡ false)

@@ -11,7 +11,7 @@ use Rattle.tg_protocol.specs.Entries.{backs_in, lists}
 use Rattle.tg_protocol.specs.Pages.{entry_of}
 use Rattle.tg_protocol.specs.Requests.{Goes, Ends}
 use Rattle.tg_protocol.specs.Cells.{Gets, works, place_in, get_cell}
-use Rattle.tg_protocol.specs.Walking.{Trail, Walk, Members, WalkTurn, walk_on, walked, with_job, visited, pointers_at, listed, trail_after, next_visit, next_of_trail, next_on, go_down, at_least, rest_of, reads_turn}
+use Rattle.tg_protocol.specs.Walking.{Trail, Walk, Members, WalkTurn, walk_on, walk_members, with_job, visited, pointers_at, listed, trail_after, next_visit, next_of_trail, next_on, go_down, at_least, rest_of, reads_turn}
 use Rattle.tg_law_steps.proofs.Units.{cell_stored}
 use Rattle.tg_law_finish.proofs.Lists.{Each}
 
@@ -153,13 +153,13 @@ module _ (p : Layout) (tail : ℕ) where
 
   by_visit : (w : Walk) (cells : List (ℕ × Cell)) (next : ℕ) (o : Option ℕ) (rest : ℕ → Cell → WalkTurn) → w.cells ≡ cells → TrailLow w.trail → next_visit w ≡ o
       → ((q : ℕ) (c : Cell) → q < tail → Walked cells next (rest q c)) → Walked cells next (elim o as (λ _. WalkTurn) [
-        | None ↦ record { next = next; besides = []; gone = 0; to = Ends (walked w None) }
+        | None ↦ record { next = next; besides = []; gone = 0; to = Ends (walk_members w None) }
         | Some q ↦ elim (cell_at w.cells q) as (λ _. WalkTurn) [ Some c ↦ rest q c | None ↦ reads_turn w (get_cell (place_in p q) next) ]
       ])
-  by_visit w cells next None rest same low e t = WalkEnds (walked w None) same refl
+  by_visit w cells next None rest same low e t = WalkEnds (walk_members w None) same refl
   by_visit w cells next (Some q) rest same low e t = let less = next_low w q low e in by_cell w cells next q (cell_at w.cells q) (rest q) same low less refl (λ c. t q c less)
 
   pub walk_goes : (fuel next : ℕ) (w : Walk) (cells : List (ℕ × Cell)) → w.cells ≡ cells → TrailLow w.trail → Walked cells next (walk_on p next fuel w)
   unfolding walk_on
-  walk_goes zero next w cells same low = WalkEnds (walked w None) same refl
+  walk_goes zero next w cells same low = WalkEnds (walk_members w None) same refl
   walk_goes (suc n) next w cells same low = by_visit w cells next (next_visit w) (λ q c. walk_on p next n (visited w q c)) same low refl (λ q c less. walk_goes n next (visited w q c) cells same (visit_low w q c less low))

@@ -13,7 +13,8 @@ use Rattle.tg_model.specs.declared.trace.What.TheVariants as told
 use Rattle.tg_model.specs.Kinds.{MarkOf}
 use Rattle.tg_model.specs.Traces.{Tells}
 use Rattle.tg_protocol.specs.Words.{numbers}
-use Rattle.tg_protocol.specs.Entries.{is_commit, reads_in}
+use Rattle.tg_entry.specs.Needs.{reads_in}
+use Rattle.tg_protocol.specs.Entries.{is_commit}
 use Rattle.tg_protocol.specs.Appending.{Append, Token}
 use Rattle.tg_protocol.specs.Transactions.{Tx, commit_record}
 use Rattle.tg_protocol.specs.Clients.{Purpose, Writes, Judged, Decides, Rescues, Saves, Marks, Task, Hand, Doing, Learning, Work, Client, new_client, upto}

@@ -7,7 +7,8 @@ use Rattle.tg_entry.specs.declared.entry.Entry.{Entry}
 use Rattle.tg_kind.specs.Meaning.{Meaning}
 use Rattle.tg_protocol.specs.Words.{directory}
 use Rattle.tg_base.specs.Orders.{oid_eq}
-use Rattle.tg_protocol.specs.Entries.{writes_of, lists}
+use Rattle.tg_entry.specs.Needs.{writes_of}
+use Rattle.tg_protocol.specs.Entries.{lists}
 use Rattle.tg_protocol.specs.Views.{Entries}
 use Rattle.tg_protocol.specs.Logs.{commits_after}
 use Rattle.tg_law_plays.specs.Sound.{IsRising}

@@ -11,7 +11,7 @@ use Rattle.tg_model.specs.Kinds.{DoneOf}
 use Rattle.tg_model.specs.Stores.{writes_part, changes, later_of, changed}
 use Rattle.tg_kind.specs.Parts.{overlap}
 use Rattle.tg_base.specs.Orders.{oid_eq}
-use Rattle.tg_protocol.specs.Entries.{writes_of}
+use Rattle.tg_entry.specs.Needs.{writes_of}
 use Rattle.tg_protocol.specs.Versions.{PartVersion}
 use Rattle.tg_protocol.specs.Views.{Entries, touched}
 use Rattle.tg_protocol.specs.Logs.{commits_after, changes_after, op_if, ops_of, done_at, done_if, history_after}

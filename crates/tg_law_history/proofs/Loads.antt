@@ -5,7 +5,7 @@ use Rattle.tg_entry.specs.declared.entry.WriteOp.{WriteOp}
 use Rattle.tg_entry.specs.declared.entry.Entry.{Entry}
 use Rattle.tg_kind.specs.Meaning.{Meaning}
 use Rattle.tg_base.specs.Orders.{oid_eq}
-use Rattle.tg_protocol.specs.Entries.{writes_of}
+use Rattle.tg_entry.specs.Needs.{writes_of}
 use Rattle.tg_protocol.specs.Views.{Entries}
 use Rattle.tg_law_plays.specs.Sound.{IsRising}
 use Rattle.tg_law_history.specs.Logs.{state_below}

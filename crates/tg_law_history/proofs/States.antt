@@ -10,7 +10,7 @@ use Rattle.tg_kind.specs.Parts.{overlap}
 use Rattle.tg_model.specs.Kinds.{DoneOf}
 use Rattle.tg_model.specs.Stores.{Store, stored_state, with_stored_state, after_writes, store_after}
 use Rattle.tg_base.specs.Orders.{oid_eq}
-use Rattle.tg_protocol.specs.Entries.{writes_of}
+use Rattle.tg_entry.specs.Needs.{writes_of}
 use Rattle.tg_protocol.specs.Versions.{PartVersion}
 use Rattle.tg_protocol.specs.Views.{Entries, touched}
 use Rattle.tg_protocol.specs.Logs.{commits_after, changes_after, op_if, ops_of, done_if, history_after}

@@ -6,7 +6,7 @@ use Rattle.tg_base.specs.declared.marks.Part.{Part}
 use Rattle.tg_entry.specs.declared.entry.WriteOp.{WriteOp}
 use Rattle.tg_entry.specs.declared.entry.Entry.{Entry}
 use Rattle.tg_kind.specs.Meaning.{Meaning}
-use Rattle.tg_protocol.specs.Entries.{writes_of}
+use Rattle.tg_entry.specs.Needs.{writes_of}
 use Rattle.tg_protocol.specs.Versions.{PartVersion, noted_or}
 use Rattle.tg_protocol.specs.Views.{Entries}
 use Rattle.tg_protocol.specs.Logs.{commits_after, version_after}

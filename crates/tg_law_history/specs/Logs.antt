@@ -8,7 +8,8 @@ use Rattle.tg_kind.specs.Meaning.{Meaning}
 use Rattle.tg_model.specs.Stores.{state_at}
 use Rattle.tg_kind.specs.Parts.{overlap}
 use Rattle.tg_base.specs.Orders.{oid_eq}
-use Rattle.tg_protocol.specs.Entries.{is_commit, writes_of, lists}
+use Rattle.tg_entry.specs.Needs.{writes_of}
+use Rattle.tg_protocol.specs.Entries.{is_commit, lists}
 use Rattle.tg_protocol.specs.Views.{Entries, touched}
 use Rattle.tg_protocol.specs.Logs.{version_after, commits_after, changes_below, history_after}
 

@@ -20,7 +20,8 @@ use Rattle.tg_model.specs.Words.{word_of}
 use Rattle.tg_model.specs.Stores.{state_at}
 use Rattle.tg_protocol.specs.Words.{client_id, unit_id, numbers, directory}
 use Rattle.tg_base.specs.Orders.{oid_eq}
-use Rattle.tg_protocol.specs.Entries.{is_commit, lists, needs_decision, reads_of}
+use Rattle.tg_entry.specs.Needs.{needs_decision, reads_of}
+use Rattle.tg_protocol.specs.Entries.{is_commit, lists}
 use Rattle.tg_protocol.specs.Views.{View, decision_in}
 use Rattle.tg_protocol.specs.Transactions.{Tx}
 use Rattle.tg_protocol.specs.Checkpoints.{base_at}

@@ -16,7 +16,7 @@ use Rattle.tg_protocol.specs.Sequencers.{SeqrState}
 use Rattle.tg_protocol.specs.Clients.{Work}
 use Rattle.tg_protocol.specs.Chosen.{IsDecided}
 use Rattle.tg_protocol.specs.Worlds.{Told, Line, Settle, Ran, client, seqr, noted_of, runs, has_stopped, next_event, happens, lowest, limit_of, ran, drain_on, drain, nodes, tick_all, unless_stopped, rounds, settle}
-use Rattle.tg_protocol.specs.Finishing.{longest_chain, deliveries, WaitsAlone, bound_in, NoReconf, HasReply, is_with_client, Finishes, CommandFinishes, IsEnd, is_scan, IsInstalled, ReconfFinishes}
+use Rattle.tg_protocol.specs.Finishing.{longest_chain, deliveries, WaitsAlone, most_deliveries_in, NoReconf, HasReply, is_with_client, Finishes, CommandFinishes, IsEnd, is_scan, IsInstalled, ReconfFinishes}
 use Rattle.tg_law_instances.proofs.Small.{clash}
 use Rattle.tg_law_verdicts.proofs.Members.{Has, has_contained, contained_has, and_both, both_and, found, passes_somewhere, each_passes}
 use Rattle.tg_law_verdicts.proofs.Tests.{same_number, number_same, lt_of, le_of}
@@ -142,7 +142,7 @@ most_of_reconf w = 2 * w.cluster.units + 64 * w.cluster.layouts + 22
 
 abbrev finishes_as : W → W → ℕ → CommandOf kinds → Bool
 finishes_as w v k (cmd.Reconf c) = has_finished w v k (most_of_reconf w) is_end && has_installed w v k (noted_of kinds w k).epoch c
-finishes_as w v k x = has_finished w v k (bound_in kinds w x) (λ what. true)
+finishes_as w v k x = has_finished w v k (most_deliveries_in kinds w x) (λ what. true)
 
 abbrev finishes_if : W → W → ℕ → Option (Work kinds) → Bool
 finishes_if w v k None = true
@@ -207,9 +207,9 @@ finished_so w k most f P is h =
     let a = and_both (is_idle (client kinds v k).work) (list_any (replies_so k f) (replies w v)) b.0 in
     record { idle = idle_none (client kinds v k).work a.0; reply = has_reply_so w k f P is a.1; few = le_of (deliveries kinds (is_with_client kinds k) w v) most b.1 }
 
-command_finished : (w : W) (k : ℕ) (x : CommandOf kinds) → NoReconf kinds x → finishes_as w (settle kinds w).world k x ≡ true → Finishes kinds w (settle kinds w).world k (bound_in kinds w x) (λ what. Unit {0})
+command_finished : (w : W) (k : ℕ) (x : CommandOf kinds) → NoReconf kinds x → finishes_as w (settle kinds w).world k x ≡ true → Finishes kinds w (settle kinds w).world k (most_deliveries_in kinds w x) (λ what. Unit {0})
 command_finished w k (cmd.Reconf c) plain h = absurd plain
-command_finished w k x plain h = finished_so w k (bound_in kinds w x) (λ what. true) (λ what. Unit {0}) (λ what t. tt) h
+command_finished w k x plain h = finished_so w k (most_deliveries_in kinds w x) (λ what. true) (λ what. Unit {0}) (λ what t. tt) h
 
 pub commands_sound : (w : W) → finish_all w ≡ true → CommandFinishes kinds w
 commands_sound w h k x alone ready spare plain = command_finished w k x plain (finishes_at w k x h alone)

@@ -11,7 +11,8 @@ use Rattle.tg_base.specs.declared.packet.Packet.{Packet}
 use Rattle.tg_model.specs.declared.command.Command.TheVariants as cmd
 use Rattle.tg_model.specs.declared.command.Event.TheVariants.{Command as Commands}
 use Rattle.tg_proj.specs.Refusals.{new_start}
-use Rattle.tg_protocol.specs.Words.{unit_id, node_eq, or_else, where_true}
+use Rattle.tg_base.specs.Orders.{node_eq}
+use Rattle.tg_protocol.specs.Words.{unit_id, or_else, where_true}
 use Rattle.tg_protocol.specs.Layouts.{units_of, change_fault, next_of}
 use Rattle.tg_protocol.specs.Trimming.{has_stripe}
 use Rattle.tg_protocol.specs.Worlds.{Line, Happens}

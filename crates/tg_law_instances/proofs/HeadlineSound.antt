@@ -18,11 +18,11 @@ use Rattle.tg_model.specs.Stores.{Rises, answer_at, is_stamp, state_at}
 use Rattle.tg_model.specs.Traces.{put_of, puts_of, has_items}
 use Rattle.tg_model.specs.Legal.{Legal}
 use Rattle.tg_model.specs.Verdicts.{Fault, fault}
-use Rattle.tg_protocol.specs.Words.{client_id, unit_id, seqr_id, directory, node_eq, where_true}
-use Rattle.tg_base.specs.Orders.{oid_eq}
+use Rattle.tg_protocol.specs.Words.{client_id, unit_id, seqr_id, directory, where_true}
+use Rattle.tg_base.specs.Orders.{oid_eq, node_eq}
 use Rattle.tg_protocol.specs.Layouts.{units_of}
 use Rattle.tg_protocol.specs.Trimming.{has_stripe}
-use Rattle.tg_protocol.specs.Entries.{needs_decision}
+use Rattle.tg_entry.specs.Needs.{needs_decision}
 use Rattle.tg_protocol.specs.Views.{View, fate_of}
 use Rattle.tg_protocol.specs.Logs.{outcome}
 use Rattle.tg_protocol.specs.Clients.{Client, new_client}

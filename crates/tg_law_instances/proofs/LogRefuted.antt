@@ -18,7 +18,8 @@ use Rattle.tg_model.specs.Kinds.{MarkOf, WhatOf, DoneOf}
 use Rattle.tg_model.specs.Traces.{Trace, Tells, puts_of, has_items, point_of}
 use Rattle.tg_model.specs.Legal.{HasNoAsk}
 use Rattle.tg_proj.specs.Refusals.{new_start}
-use Rattle.tg_protocol.specs.Words.{client_id, unit_id, node_eq, has_num, numbers}
+use Rattle.tg_base.specs.Orders.{node_eq}
+use Rattle.tg_protocol.specs.Words.{client_id, unit_id, has_num, numbers}
 use Rattle.tg_protocol.specs.Layouts.{units_of}
 use Rattle.tg_protocol.specs.Entries.{is_commit}
 use Rattle.tg_protocol.specs.Logs.{path}

@@ -21,10 +21,11 @@ use Rattle.tg_model.specs.Stores.{stored_state, store_after, after_writes}
 use Rattle.tg_model.specs.Traces.{Trace, puts_of, has_items, point_of}
 use Rattle.tg_model.specs.Verdicts.{is_of, is_begin, begins, or_zero, bound_in, bound}
 use Rattle.tg_model.specs.Legal.{Legal}
-use Rattle.tg_protocol.specs.Words.{directory, cell_at, bytes_eq, numbers, has_num, client_id, node_eq}
+use Rattle.tg_protocol.specs.Words.{directory, cell_at, bytes_eq, numbers, has_num, client_id}
 use Rattle.tg_kind.specs.Parts.{part_eq}
-use Rattle.tg_base.specs.Orders.{oid_eq}
-use Rattle.tg_protocol.specs.Entries.{is_commit, needs_decision, lists, reads_of, writes_of, streams_of}
+use Rattle.tg_base.specs.Orders.{oid_eq, node_eq}
+use Rattle.tg_entry.specs.Needs.{needs_decision, reads_of, writes_of}
+use Rattle.tg_protocol.specs.Entries.{is_commit, lists, streams_of}
 use Rattle.tg_protocol.specs.Transactions.{read_before}
 use Rattle.tg_protocol.specs.Checkpoints.{base_at}
 use Rattle.tg_protocol.specs.Units.{UnitState, new_unit}

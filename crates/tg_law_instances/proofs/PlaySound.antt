@@ -16,9 +16,10 @@ use Rattle.tg_model.specs.declared.command.Command.TheVariants as cmd
 use Rattle.tg_model.specs.declared.command.Event.TheVariants.{Command as Commands, Deliver, Lose, Tick, Stop}
 use Rattle.tg_model.specs.declared.trace.What.TheVariants as told
 use Rattle.tg_model.specs.Kinds.{CommandOf, WhatOf}
-use Rattle.tg_protocol.specs.Words.{client_id, node_eq, cell_at, has_num, directory}
-use Rattle.tg_base.specs.Orders.{oid_eq}
-use Rattle.tg_protocol.specs.Entries.{is_commit, lists, reads_of}
+use Rattle.tg_protocol.specs.Words.{client_id, cell_at, has_num, directory}
+use Rattle.tg_base.specs.Orders.{oid_eq, node_eq}
+use Rattle.tg_entry.specs.Needs.{reads_of}
+use Rattle.tg_protocol.specs.Entries.{is_commit, lists}
 use Rattle.tg_protocol.specs.Pages.{entry_of}
 use Rattle.tg_protocol.specs.Replies.{reply}
 use Rattle.tg_protocol.specs.Views.{View, base_of, decision_in, unknown_by}

@@ -13,7 +13,8 @@ use Rattle.tg_entry.specs.declared.entry.Body.{Body}
 use Rattle.tg_entry.specs.declared.entry.Body.TheVariants.{Commit, Decision, Checkpoint}
 use Rattle.tg_entry.specs.declared.entry.Entry.{Entry}
 use Rattle.tg_entry.specs.Records.{is_object, linked}
-use Rattle.tg_kind.specs.Parts.{is_part, part_eq}
+use Rattle.tg_base.specs.Parts.{is_part}
+use Rattle.tg_kind.specs.Parts.{part_eq}
 use Rattle.tg_model.specs.declared.command.Command.TheVariants as cmd
 use Rattle.tg_model.specs.declared.command.Event.TheVariants.{Command as Commands, Deliver, Lose, Tick, Stop}
 use Rattle.tg_model.specs.Kinds.{CommandOf}

@@ -10,7 +10,8 @@ use Rattle.tg_base.specs.declared.packet.Packet.{Packet}
 use Rattle.tg_entry.specs.declared.entry.Body.{Body}
 use Rattle.tg_entry.specs.declared.entry.Body.TheVariants.{Commit, Decision, Checkpoint}
 use Rattle.tg_entry.specs.declared.entry.Entry.{Entry}
-use Rattle.tg_protocol.specs.Words.{client_id, node_eq, where_true, or_else}
+use Rattle.tg_base.specs.Orders.{node_eq}
+use Rattle.tg_protocol.specs.Words.{client_id, where_true, or_else}
 use Rattle.tg_protocol.specs.Layouts.{first_layout}
 use Rattle.tg_protocol.specs.Entries.{is_commit, decides}
 use Rattle.tg_protocol.specs.Views.{Entries, decision_in, fate_in}

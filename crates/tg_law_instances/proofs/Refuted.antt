@@ -19,9 +19,10 @@ use Rattle.tg_model.specs.Kinds.{WhatOf}
 use Rattle.tg_model.specs.Stores.{state_at, answer_at, is_stamp}
 use Rattle.tg_model.specs.Legal.{Legal}
 use Rattle.tg_model.specs.Verdicts.{Fault, fault}
-use Rattle.tg_protocol.specs.Words.{client_id, directory, node_eq, bytes_eq, cell_eq, numbers, or_else, where_true}
-use Rattle.tg_base.specs.Orders.{oid_eq}
-use Rattle.tg_protocol.specs.Entries.{needs_decision, reads_of, decides}
+use Rattle.tg_protocol.specs.Words.{client_id, directory, bytes_eq, cell_eq, numbers, or_else, where_true}
+use Rattle.tg_base.specs.Orders.{oid_eq, node_eq}
+use Rattle.tg_entry.specs.Needs.{needs_decision, reads_of}
+use Rattle.tg_protocol.specs.Entries.{decides}
 use Rattle.tg_protocol.specs.Transactions.{read_before}
 use Rattle.tg_protocol.specs.Views.{Entries, decision_in}
 use Rattle.tg_protocol.specs.Logs.{version}

@@ -13,9 +13,9 @@ use Rattle.tg_base.specs.declared.marks.Part.TheVariants.{All, Text, Num}
 use Rattle.tg_base.specs.declared.marks.StreamLink.{StreamLink}
 use Rattle.tg_entry.specs.declared.entry.WriteOp.{WriteOp}
 use Rattle.tg_model.specs.Verdicts.{IsSameness}
-use Rattle.tg_protocol.specs.Words.{bytes_eq, role_code, node_eq}
+use Rattle.tg_protocol.specs.Words.{bytes_eq}
 use Rattle.tg_kind.specs.Parts.{part_eq}
-use Rattle.tg_base.specs.Orders.{oid_eq}
+use Rattle.tg_base.specs.Orders.{oid_eq, role_number, node_eq}
 use Rattle.tg_law_verdicts.proofs.Members.{and_both, both_and}
 use Rattle.tg_law_verdicts.proofs.Tests.{same_number, number_same, same_oid, oid_same}
 use Rattle.tg_law_examples.proofs.SevenKinds.{kinds, Op, Answer}
@@ -183,8 +183,7 @@ part_itself All = refl
 part_itself (Text s) = (nums_exact s s).1 refl
 part_itself (Num n) = number_same n n refl
 
-roles_same : (a b : Role) → role_code a ≡ role_code b → a ≡ b
-unfolding role_code
+roles_same : (a b : Role) → role_number a ≡ role_number b → a ≡ b
 roles_same role.Unit role.Unit e = refl
 roles_same role.Layout role.Layout e = refl
 roles_same role.Seqr role.Seqr e = refl
@@ -194,15 +193,15 @@ roles_same a b e = absurd cc
 pub nodes_same : (a b : NodeId) → node_eq a b ≡ true → a ≡ b
 unfolding node_eq
 nodes_same a b e =
-    let p = and_both (role_code a.role == role_code b.role) (a.num == b.num) e in
-    let r = roles_same a.role b.role (same_number (role_code a.role) (role_code b.role) p.0) in
+    let p = and_both (role_number a.role == role_number b.role) (a.num == b.num) e in
+    let r = roles_same a.role b.role (same_number (role_number a.role) (role_number b.role) p.0) in
     let n = same_number a.num b.num p.1 in
     λ i. record { role = r i; num = n i }
 
 pub node_itself : (a b : NodeId) → a ≡ b → node_eq a b ≡ true
 unfolding node_eq
 node_itself a b e =
-    both_and (role_code a.role == role_code b.role) (a.num == b.num) (number_same (role_code a.role) (role_code b.role) (ap (λ (x : NodeId). role_code x.role) e))
+    both_and (role_number a.role == role_number b.role) (a.num == b.num) (number_same (role_number a.role) (role_number b.role) (ap (λ (x : NodeId). role_number x.role) e))
     (number_same a.num b.num (ap (λ (x : NodeId). x.num) e))
 
 abbrev link_eq : StreamLink → StreamLink → Bool

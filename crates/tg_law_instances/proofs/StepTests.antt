@@ -25,11 +25,12 @@ use Rattle.tg_model.specs.Words.{word_of}
 use Rattle.tg_model.specs.declared.command.Word.{Word}
 use Rattle.tg_model.specs.declared.command.Word.TheVariants as word
 use Rattle.std.specs.Cmp.Lexicographic.{pointwise}
-use Rattle.tg_protocol.specs.Words.{cell_eq, cell_at, node_eq, has_num, directory, client_id, unit_id, seqr_id, numbers}
+use Rattle.tg_protocol.specs.Words.{cell_eq, cell_at, has_num, directory, client_id, unit_id, seqr_id, numbers}
 use Rattle.tg_kind.specs.Parts.{part_eq}
-use Rattle.tg_base.specs.Orders.{oid_eq}
+use Rattle.tg_base.specs.Orders.{oid_eq, node_eq}
 use Rattle.tg_protocol.specs.Layouts.{units_of}
-use Rattle.tg_protocol.specs.Entries.{is_commit, lists, needs_decision, reads_of, entry_size}
+use Rattle.tg_entry.specs.Needs.{needs_decision, reads_of}
+use Rattle.tg_protocol.specs.Entries.{is_commit, lists, entry_size}
 use Rattle.tg_protocol.specs.Pages.{entry_of}
 use Rattle.tg_protocol.specs.Views.{Base, View, base_of, decision_in, unknown_by}
 use Rattle.tg_protocol.specs.Transactions.{Tx, record_size}
@@ -40,7 +41,7 @@ use Rattle.tg_protocol.specs.Stuck.{asks_for, command_in}
 use Rattle.tg_protocol.specs.Playing.{from_to}
 use Rattle.tg_protocol.specs.Walked.{Walked, walked_in, walked_from, positions_found, entries_had}
 use Rattle.tg_protocol.specs.Causes.{most, is_of_tx, would_be, reads_with, writes_with, layout_cause, command_at, is_at}
-use Rattle.tg_protocol.specs.Finishing.{deliveries, is_with_client, bound_in}
+use Rattle.tg_protocol.specs.Finishing.{deliveries, is_with_client, most_deliveries_in}
 use Rattle.tg_protocol.specs.Worlds.{Told, Line, Happens, Update, Drain, Settle, start, next_event, unit, seqr, client, noted_of, runs, latest, log, history, happens, lowest, nodes, line, settle}
 use Rattle.tg_law_examples.proofs.SevenKinds.{kinds}
 use Rattle.tg_law_instances.proofs.Tests.{Claim, Stands, Falls, GivesUp, ReadsOn, SyncsExact, CausesRefuse, CausesTrue, NonesTrue, RefusalsKeep, StuckTrue, LogStays, Finishes, W, E, implies, is_any_gone, tail_links, layouts, overtakes, writes_eq, failed, nums_eq, read_pos, bool_eq, states_eq, oids_eq, heard, heard_now, is_gone, is_gone_above, is_full, is_tail, entry_here, answered, fails, world_fails}
@@ -477,7 +478,7 @@ is_ready w k =
 abbrev pub finishes_by : W → W → ℕ → Option (CommandOf kinds) → Bool
 finishes_by w v k None = true
 finishes_by w v k (Some (cmd.Reconf c)) = is_idle (client kinds v k).work && nat_le (deliveries kinds (is_with_client kinds k) w v) (2 * w.cluster.units + 64 * w.cluster.layouts + 22)
-finishes_by w v k (Some x) = implies (is_ready w k) (is_idle (client kinds v k).work && nat_le (deliveries kinds (is_with_client kinds k) w v) (bound_in kinds w x))
+finishes_by w v k (Some x) = implies (is_ready w k) (is_idle (client kinds v k).work && nat_le (deliveries kinds (is_with_client kinds k) w v) (most_deliveries_in kinds w x))
 
 abbrev pub finishes_one : W → W → Option ℕ → Bool
 finishes_one w v None = true

@@ -23,11 +23,12 @@ use Rattle.tg_model.specs.Kinds.{EventOf, MarkOf, WhatOf, DoneOf}
 use Rattle.tg_model.specs.Stores.{state_at, answer_at, is_stamp}
 use Rattle.tg_model.specs.Traces.{puts_of, has_items}
 use Rattle.tg_model.specs.Verdicts.{fault, bound}
-use Rattle.tg_protocol.specs.Words.{bytes_eq, cell_at, node_eq, has_num, directory, client_id, unit_id, numbers, seqr_id, where_true}
+use Rattle.tg_protocol.specs.Words.{bytes_eq, cell_at, has_num, directory, client_id, unit_id, numbers, seqr_id, where_true}
 use Rattle.tg_kind.specs.Parts.{is_whole, part_eq}
-use Rattle.tg_base.specs.Orders.{oid_eq}
+use Rattle.tg_base.specs.Orders.{oid_eq, node_eq}
 use Rattle.tg_protocol.specs.Layouts.{units_of, first_layout}
-use Rattle.tg_protocol.specs.Entries.{is_commit, lists, needs_decision, reads_of, writes_of, streams_of}
+use Rattle.tg_entry.specs.Needs.{needs_decision, reads_of, writes_of}
+use Rattle.tg_protocol.specs.Entries.{is_commit, lists, streams_of}
 use Rattle.tg_protocol.specs.Views.{Base, View, Entries, decision_in}
 use Rattle.tg_protocol.specs.Transactions.{read_before}
 use Rattle.tg_protocol.specs.Checkpoints.{base_at}

@@ -16,7 +16,7 @@ use Rattle.tg_protocol.specs.Requests.{Waits, without_wait, Next, Goes, Learns, 
 use Rattle.tg_protocol.specs.Replies.{Reply, IsTail, IsOldEpoch, IsIssued, IsFull}
 use Rattle.tg_protocol.specs.Replies as replied
 use Rattle.tg_protocol.specs.Cells.{Place, place_in, CellWork, Puts, Gets, Fills, Copies, Probes, CellJob, CellEnd, Done, Seen, Lost, Fenced, Gone, works, put_on, copy_on, copy_if_same, end_if, probe_on, get_cell, fill_cell, work_feed, cell_feed}
-use Rattle.tg_protocol.specs.Walking.{Trail, go_down, next_on, next_of_trail, rest_of, listed, pointers_at, trail_after, Walk, Members, visited, with_job, at_least, next_visit, walk_on, walks, walk_start, walk_end, walk_next, walk_feed, walk_again, read_at}
+use Rattle.tg_protocol.specs.Walking.{Trail, go_down, next_on, next_of_trail, rest_of, listed, pointers_at, trail_after, Walk, Members, visited, with_job, at_least, next_visit, walk_on, walk_from, walk_start, walk_end, walk_next, walk_feed, walk_again, read_at}
 
 less_of : (a b : ℕ) → nat_lt a b ≡ true → a < b
 less_of a b e = grind (arith, nat_tests)
@@ -232,7 +232,7 @@ module _ (B : ℕ → ℕ → Type 0) (L : ℕ → ℕ → Type 0) where
         by ih None e = tt
         by ih (Some q) e = cell ih q (visit_below w q k e) (cell_at w.cells q)
 
-    pub walks_ok : (next : ℕ) (w : Walk) → TrailOk t w.trail → WalkNext t (walks p next w).to
+    pub walks_ok : (next : ℕ) (w : Walk) → TrailOk t w.trail → WalkNext t (walk_from p next w).to
     walks_ok next w k = on_ok _ next w k
 
     pub start_ok : (o : Oid) (lasts : List ℕ) (lo : ℕ) (cells : List (ℕ × Cell)) (next : ℕ) → AllBelow t lasts → WalkNext t (walk_start p o lasts lo cells next).to

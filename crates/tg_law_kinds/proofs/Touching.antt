@@ -9,7 +9,7 @@ use Rattle.tg_codec.specs.Bounds.{same_ranges, raw_in}
 use Rattle.tg_codec.specs.Streams.{any}
 use Rattle.tg_codec.proofs.Shapes.{met_within}
 use Rattle.tg_kind.specs.Of.{read_by}
-use Rattle.tg_kind.specs.Parts.{is_part}
+use Rattle.tg_base.specs.Parts.{is_part}
 use Rattle.tg_kind.specs.Texts.{text_bytes, text_format}
 use Rattle.tg_dir.specs.Directories as directories
 use Rattle.tg_dir.specs.declared.directory.DirectoryOp.{DirectoryOp}

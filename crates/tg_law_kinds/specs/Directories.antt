@@ -2,7 +2,7 @@
 use Rattle.std.specs.Prelude.{◌≡◌, ◌≢◌, ◌⊎◌, ℕ, Bool, true, List}
 use Rattle.tg_base.specs.declared.ids.Oid.{Oid}
 use Rattle.tg_kind.specs.Meaning.{Meaning}
-use Rattle.tg_kind.specs.Parts.{is_part}
+use Rattle.tg_base.specs.Parts.{is_part}
 use Rattle.tg_protocol.specs.Words.{directory}
 use Rattle.tg_law_history.specs.Floors.{IsDirectory}
 

@@ -14,7 +14,8 @@ use Rattle.tg_base.specs.declared.packet.Out.{Out}
 use Rattle.tg_base.specs.declared.packet.Packet.{Packet}
 use Rattle.tg_kind.specs.Meaning.{Meaning}
 use Rattle.tg_model.specs.Kinds.{EventOf}
-use Rattle.tg_protocol.specs.Words.{client_id, seqr_id, node_eq, layout_id, numbers}
+use Rattle.tg_base.specs.Orders.{node_eq}
+use Rattle.tg_protocol.specs.Words.{client_id, seqr_id, layout_id, numbers}
 use Rattle.tg_protocol.specs.Entries.{streams_of}
 use Rattle.tg_protocol.specs.Requests.{awaits, Next, Goes, Learns, Ends, Turn}
 use Rattle.tg_protocol.specs.Replies.{reply, IsTail, IsIssued, IsLatest}

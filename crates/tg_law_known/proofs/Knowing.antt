@@ -18,7 +18,7 @@ use Rattle.tg_entry.specs.declared.entry.Entry.{Entry}
 use Rattle.tg_protocol.specs.Cells.{CellJob, CellEnd, Done, Seen, Lost, Fenced, Gone, cell_feed, place_in, get_cell}
 use Rattle.tg_protocol.specs.Appending.{Append, AppendEnd, At, Full, Forgotten, append_start, append_feed, append_again}
 use Rattle.tg_protocol.specs.Syncing.{Sync, Confirmed, sync_start, sync_feed, sync_again}
-use Rattle.tg_protocol.specs.Walking.{Walk, Members, WalkTurn, reads_turn, visited, read_at, next_visit, walk_on, walks, walk_end, walk_next, walk_start, walk_feed, walk_again, trail}
+use Rattle.tg_protocol.specs.Walking.{Walk, Members, WalkTurn, reads_turn, visited, read_at, next_visit, walk_on, walk_from, walk_end, walk_next, walk_start, walk_feed, walk_again, trail}
 use Rattle.tg_protocol.specs.Walking as walking
 use Rattle.tg_protocol.specs.Trimming.{Trims, Trimmed, trim_start, trim_feed, Copying, CopyEnd, copy_feed, copy_start}
 use Rattle.tg_protocol.specs.Trimming as copying
@@ -59,7 +59,7 @@ module _ (l : Log) where
 
   at_visit : Layout → ℕ → ℕ → Walk → Option ℕ → WalkTurn
   at_visit p next n w o = elim o as (λ _. WalkTurn) [
-    | None ↦ ends next (walking.walked w None)
+    | None ↦ ends next (walking.walk_members w None)
     | Some q ↦ at_cell p next n w q (cell_at w.cells q)
   ]
 
@@ -81,7 +81,7 @@ module _ (l : Log) where
   on_knows p next zero w k = k
   on_knows p next (suc n) w k = subst (λ (t : WalkTurn). WalkKnows t.to) (sym (walk_on_is p next n w)) (on_step p next n w (λ v i. on_knows p next n v i) k (next_visit w))
 
-  pub walks_know : (p : Layout) (next : ℕ) (w : Walk) → AreKnown l w.cells → WalkKnows (walks p next w).to
+  pub walks_know : (p : Layout) (next : ℕ) (w : Walk) → AreKnown l w.cells → WalkKnows (walk_from p next w).to
   walks_know p next w k = on_knows p next _ w k
 
   pub starts_know : (p : Layout) (o : Oid) (lasts : List ℕ) (lo : ℕ) (cells : List (ℕ × Cell)) (next : ℕ) → AreKnown l cells → WalkKnows (walk_start p o lasts lo cells next).to

@@ -11,7 +11,7 @@ use Rattle.tg_protocol.specs.Replies.{Reply}
 use Rattle.tg_protocol.specs.Cells.{CellJob, CellEnd, Done, Seen, Lost, Fenced, Gone, cell_feed, place_in, get_cell, fill_cell, put_cell, probe}
 use Rattle.tg_protocol.specs.Appending.{AppendWork, Asking, Putting, Judging, Token, Append, AppendEnd, put_end, put_next, judge_end, judge_next, append_asks, asking_feed, append_feed, dead_or_judged, again_with, append_again}
 use Rattle.tg_protocol.specs.Syncing.{Answer, SyncWork, Checking, Settling, Probing, Sync, Confirmed, sync_asks, sync_feed, probe_end, probe_next, probes, settle_end, settle_next, confirm_by, on_tail, checking_feed}
-use Rattle.tg_protocol.specs.Walking.{Walk, Members, WalkTurn, walk_asks, reads_turn, visited, read_at, next_visit, walk_on, walks, walk_end, walk_next, walk_feed, walk_again}
+use Rattle.tg_protocol.specs.Walking.{Walk, Members, WalkTurn, walk_asks, reads_turn, visited, read_at, next_visit, walk_on, walk_from, walk_end, walk_next, walk_feed, walk_again}
 use Rattle.tg_protocol.specs.Walking as walking
 use Rattle.tg_law_moves.proofs.Draws.{NextDraws}
 use Rattle.tg_law_moves.proofs.Machines.{append_draws, append_again_draws, sync_draws, walk_draws, walk_again_draws}
@@ -131,7 +131,7 @@ module _ (p : Layout) (next : ℕ) where
 
   at_visit : ℕ → Walk → Option ℕ → WalkTurn
   at_visit n w o = elim o as (λ _. WalkTurn) [
-    | None ↦ ends next (walking.walked w None)
+    | None ↦ ends next (walking.walk_members w None)
     | Some q ↦ at_cell n w q (cell_at w.cells q)
   ]
 
@@ -153,7 +153,7 @@ module _ (p : Layout) (next : ℕ) where
   on_none zero w = refl
   on_none (suc n) w = ap (λ (t : WalkTurn). t.gone) (walk_on_is n w) ∙ step_none n w (λ v. on_none n v) (next_visit w)
 
-  pub walks_none : (w : Walk) → (walks p next w).gone ≡ 0
+  pub walks_none : (w : Walk) → (walk_from p next w).gone ≡ 0
   walks_none w = on_none _ w
 
 pub walk_again_none : (p : Layout) (w : Walk) (next : ℕ) → (walk_again p w next).gone ≡ 0

@@ -9,8 +9,10 @@ use Rattle.tg_model.specs.declared.command.Command.TheVariants as cmd
 use Rattle.tg_model.specs.declared.play.PlayEnd.{PlayEnd}
 use Rattle.tg_model.specs.declared.play.PlayEnd.TheVariants.{Played, Blocked}
 use Rattle.tg_model.specs.Kinds.{CommandOf, WhatOf, NoteOf}
-use Rattle.tg_protocol.specs.Words.{with_oid, directory}
-use Rattle.tg_protocol.specs.Entries.{reads_of, entry_size}
+use Rattle.tg_base.specs.Orders.{with_oid}
+use Rattle.tg_protocol.specs.Words.{directory}
+use Rattle.tg_entry.specs.Needs.{reads_of}
+use Rattle.tg_protocol.specs.Entries.{entry_size}
 use Rattle.tg_protocol.specs.Versions.{Changed}
 use Rattle.tg_protocol.specs.Trimming.{trim_start}
 use Rattle.tg_protocol.specs.Views.{Entries, View, Play, Verdict, Commits, Aborts, Unknown, state_of, changed_in, unknown_in, verdict, view_outcome, fate_of, play}

@@ -9,7 +9,8 @@ use Rattle.tg_base.specs.declared.msg.Msg.{Msg}
 use Rattle.tg_base.specs.declared.msg.Msg.TheVariants as msg
 use Rattle.tg_base.specs.declared.packet.Packet.{Packet}
 use Rattle.tg_kind.specs.Meaning.{Meaning}
-use Rattle.tg_protocol.specs.Words.{unit_id, layout_id, seqr_id, client_id, numbers, node_eq, role_code}
+use Rattle.tg_base.specs.Orders.{node_eq}
+use Rattle.tg_protocol.specs.Words.{unit_id, layout_id, seqr_id, client_id, numbers}
 use Rattle.tg_protocol.specs.Layouts.{first_layout}
 use Rattle.tg_protocol.specs.Logs.{is_acceptance}
 use Rattle.tg_protocol.specs.LayoutServers.{LayoutState, new_layout, vote_of, layout_step}
@@ -224,7 +225,7 @@ module _ (m : Meaning) where
   reply_accepted x e b h = grind arith
 
   passes : (from : NodeId) (l e : ℕ) (b : Ballot) (x : Msg) → from ≡ layout_id l → x ≡ msg.Accepted e b → (node_eq from (layout_id l) && is_acceptance e b x) ≡ true
-  unfolding node_eq role_code
+  unfolding node_eq
   passes from l e b x f i = grind arith
 
   tells_of : (c : Config m) → Lay c → (x : Packet) → Has c.packets x → x.from ≡ layout_id x.from.num → Tells c.cluster.layouts c.packets (K c c.packets) x.from.num (reply x.msg)

@@ -9,7 +9,8 @@ use Rattle.tg_base.specs.declared.msg.Msg.TheVariants as msg
 use Rattle.tg_base.specs.declared.packet.Out.{Out}
 use Rattle.tg_base.specs.declared.packet.Packet.{Packet}
 use Rattle.tg_kind.specs.Meaning.{Meaning}
-use Rattle.tg_protocol.specs.Words.{unit_id, layout_id, seqr_id, node_eq, role_code}
+use Rattle.tg_base.specs.Orders.{node_eq}
+use Rattle.tg_protocol.specs.Words.{unit_id, layout_id, seqr_id}
 use Rattle.tg_protocol.specs.Logs.{has_accepted, by_majority, is_acceptance}
 use Rattle.tg_protocol.specs.Requests.{out, Waits, asked_of}
 use Rattle.tg_protocol.specs.Trimming.{has_stripe}
@@ -67,7 +68,7 @@ module _ (n : ℕ) (first : Layout) (ps qs : List Packet) (more : (x : Packet) �
 -- What a majority accepted was proposed.
 
 from_layout : (a : NodeId) (l : ℕ) → node_eq a (layout_id l) ≡ true → a ≡ layout_id l
-unfolding node_eq role_code
+unfolding node_eq
 from_layout a l h = grind arith
 
 is_accepted : (x : Msg) (e : ℕ) (b : Ballot) → is_acceptance e b x ≡ true → x ≡ msg.Accepted e b

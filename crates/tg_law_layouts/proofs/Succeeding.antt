@@ -14,7 +14,8 @@ use Rattle.tg_base.specs.declared.packet.Packet.{Packet}
 use Rattle.tg_kind.specs.Meaning.{Meaning}
 use Rattle.tg_model.specs.Kinds.{CommandOf}
 use Rattle.tg_model.specs.declared.command.Command.TheVariants as cmd
-use Rattle.tg_protocol.specs.Words.{unit_id, layout_id, seqr_id, client_id, numbers, node_eq, role_code}
+use Rattle.tg_base.specs.Orders.{node_eq}
+use Rattle.tg_protocol.specs.Words.{unit_id, layout_id, seqr_id, client_id, numbers}
 use Rattle.tg_protocol.specs.Layouts.{first_layout, change_fault}
 use Rattle.tg_protocol.specs.LayoutServers.{layout_step}
 use Rattle.tg_protocol.specs.Requests.{out, Waits, awaits, asked_of}
@@ -54,7 +55,7 @@ use Rattle.tg_law_moves.specs.After.{after}
 -- Small facts.
 
 unit_more : (x : Msg) (w : ℕ × ℕ) (ws : Waits) (from : NodeId) (rid : ℕ) → (awaits (asked_of unit_id x ws) from rid ≡ true → from ≡ unit_id from.num) → awaits (asked_of unit_id x (w ∷ ws)) from rid ≡ true → from ≡ unit_id from.num
-unfolding node_eq role_code
+unfolding node_eq
 unit_more x w ws from rid rest h = grind arith
 
 asked_unit : (x : Msg) (ws : Waits) (from : NodeId) (rid : ℕ) → awaits (asked_of unit_id x ws) from rid ≡ true → from ≡ unit_id from.num
@@ -89,7 +90,7 @@ unfolding node_eq
 unit_num u n rid from h = grind arith
 
 unit_from : (u n rid : ℕ) (from : NodeId) → (node_eq (unit_id u) from && (n == rid)) ≡ true → from ≡ unit_id u
-unfolding node_eq role_code
+unfolding node_eq
 unit_from u n rid from h = grind arith
 
 unit_rid : (u n rid : ℕ) (from : NodeId) → (node_eq (unit_id u) from && (n == rid)) ≡ true → n ≡ rid

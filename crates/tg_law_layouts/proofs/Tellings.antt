@@ -9,7 +9,8 @@ use Rattle.tg_base.specs.declared.ids.NodeId.{NodeId}
 use Rattle.tg_base.specs.declared.msg.Msg.{Msg}
 use Rattle.tg_base.specs.declared.packet.Out.{Out}
 use Rattle.tg_base.specs.declared.packet.Packet.{Packet}
-use Rattle.tg_protocol.specs.Words.{layout_id, node_eq, role_code}
+use Rattle.tg_base.specs.Orders.{node_eq}
+use Rattle.tg_protocol.specs.Words.{layout_id}
 use Rattle.tg_protocol.specs.Logs.{has_accepted, acceptances, by_majority}
 use Rattle.tg_protocol.specs.Requests.{Waits, awaits, asked_of, without_wait, passes, Next, Goes, Learns, Ends}
 use Rattle.tg_protocol.specs.Replies.{Reply}
@@ -36,7 +37,7 @@ now_answered [] l = refl
 now_answered (w ∷ ws) l = now_more w ws l (now_answered ws l)
 
 asked_more : (m : Msg) (w : ℕ × ℕ) (ws : Waits) (from : NodeId) (rid : ℕ) → (awaits (asked_of layout_id m ws) from rid ≡ true → answered ws from.num ≡ false) → awaits (asked_of layout_id m (w ∷ ws)) from rid ≡ true → answered (w ∷ ws) from.num ≡ false
-unfolding node_eq role_code
+unfolding node_eq
 asked_more m w ws from rid rest h = grind arith
 
 pub asked_waits : (m : Msg) (ws : Waits) (from : NodeId) (rid : ℕ) → awaits (asked_of layout_id m ws) from rid ≡ true → answered ws from.num ≡ false
@@ -44,7 +45,7 @@ asked_waits m [] from rid h = absurd (cc)
 asked_waits m (w ∷ ws) from rid h = asked_more m w ws from rid (asked_waits m ws from rid) h
 
 rid_more : (m : Msg) (w : ℕ × ℕ) (ws : Waits) (from : NodeId) (rid : ℕ) → (awaits (asked_of layout_id m ws) from rid ≡ true → has_rid from.num rid ws ≡ true) → awaits (asked_of layout_id m (w ∷ ws)) from rid ≡ true → has_rid from.num rid (w ∷ ws) ≡ true
-unfolding node_eq role_code
+unfolding node_eq
 rid_more m w ws from rid rest h = grind arith
 
 either_more : (o : Out) (xs ys : List Out) (from : NodeId) (rid : ℕ) → (awaits (xs ++ ys) from rid ≡ true → (awaits xs from rid ≡ true) ⊎ (awaits ys from rid ≡ true))
@@ -56,7 +57,7 @@ awaited_either [] ys from rid h = inr h
 awaited_either (o ∷ xs) ys from rid h = either_more o xs ys from rid (awaited_either xs ys from rid) h
 
 server_more : (m : Msg) (w : ℕ × ℕ) (ws : Waits) (from : NodeId) (rid : ℕ) → (awaits (asked_of layout_id m ws) from rid ≡ true → from ≡ layout_id from.num) → awaits (asked_of layout_id m (w ∷ ws)) from rid ≡ true → from ≡ layout_id from.num
-unfolding node_eq role_code
+unfolding node_eq
 server_more m w ws from rid rest h = grind arith
 
 pub asked_server : (m : Msg) (ws : Waits) (from : NodeId) (rid : ℕ) → awaits (asked_of layout_id m ws) from rid ≡ true → from ≡ layout_id from.num

@@ -10,7 +10,8 @@ use Rattle.tg_base.specs.declared.packet.Packet.{Packet}
 use Rattle.tg_kind.specs.Meaning.{Meaning}
 use Rattle.tg_model.specs.Kinds.{EventOf}
 use Rattle.tg_model.specs.declared.command.Event.TheVariants.{Command as Commands, Deliver, Lose, Tick, Stop}
-use Rattle.tg_protocol.specs.Words.{node_eq, layout_id, client_id, role_code}
+use Rattle.tg_base.specs.Orders.{node_eq, role_number}
+use Rattle.tg_protocol.specs.Words.{layout_id, client_id}
 use Rattle.tg_protocol.specs.Requests.{awaits, Next, Goes, Learns, Ends}
 use Rattle.tg_protocol.specs.Replies.{Reply, IsLatest, reply}
 use Rattle.tg_protocol.specs.Syncing.{Sync, Confirmed, sync_start, sync_feed}
@@ -110,8 +111,8 @@ module _ (m : Meaning) (objects : List Oid) (es : Entries) (P Q : Client m → W
   delivery_ends c (Some w) from rid x f p = reply_ends c w from rid x f p
 
   same_node : (n : NodeId) → n.role ≡ role.Client → node_eq n (client_id n.num) ≡ true
-  unfolding node_eq role_code
-  same_node n c = both_and (role_code n.role == 3) (n.num == n.num) (ap (λ (r : Role). role_code r == 3) c) (number_same n.num n.num refl)
+  unfolding node_eq
+  same_node n c = both_and (role_number n.role == 3) (n.num == n.num) (ap (λ (r : Role). role_number r == 3) c) (number_same n.num n.num refl)
 
   here : (w : World m) (i : ℕ) (p : Packet) → slice_get w.packets i ≡ Some p → p.to.role ≡ role.Client → runs m w p.to ≡ true
       → walked_in m w (Deliver i) p.to.num ≡ work_end m (client m w p.to.num) (client m w p.to.num).work p.from p.rid (reply p.msg)

@@ -6,7 +6,8 @@ use Rattle.tg_entry.specs.declared.entry.Entry.{Entry}
 use Rattle.tg_kind.specs.Meaning.{Meaning}
 use Rattle.tg_model.specs.Kinds.{CommandOf}
 use Rattle.tg_model.specs.declared.command.Command.TheVariants as cmd
-use Rattle.tg_protocol.specs.Entries.{reads_of, lists}
+use Rattle.tg_entry.specs.Needs.{reads_of}
+use Rattle.tg_protocol.specs.Entries.{lists}
 use Rattle.tg_protocol.specs.Logs.{Log, entries_of}
 use Rattle.tg_protocol.specs.Views.{Entries, View, view_start, play}
 use Rattle.tg_protocol.specs.Checkpoints.{trim_of, view_bases}

@@ -6,7 +6,8 @@ use Rattle.tg_entry.specs.declared.entry.Entry.{Entry}
 use Rattle.tg_kind.specs.Meaning.{Meaning}
 use Rattle.tg_model.specs.declared.command.Command.TheVariants as cmd
 use Rattle.tg_model.specs.Kinds.{CommandOf, EventOf}
-use Rattle.tg_protocol.specs.Entries.{is_commit, reads_of, lists, needs_decision}
+use Rattle.tg_entry.specs.Needs.{reads_of, needs_decision}
+use Rattle.tg_protocol.specs.Entries.{is_commit, lists}
 use Rattle.tg_protocol.specs.Views.{Entries, View, decision_in, fate_of, unknown_in}
 use Rattle.tg_protocol.specs.Checkpoints.{trim_of}
 use Rattle.tg_protocol.specs.Clients.{Work, Client}

@@ -16,7 +16,7 @@ use Rattle.tg_protocol.specs.Replies as reply
 use Rattle.tg_protocol.specs.Cells.{Place, CellWork, Puts, Gets, Fills, Copies, Probes, CellJob, CellEnd, CellTurn, Done, Seen, Lost, Fenced, Gone, place_in, works, work_asks, cell_asks, put_cell, get_cell, fill_cell, probe, put_on, copy_on, end_if, copy_if_same, probe_on, work_feed, cell_feed}
 use Rattle.tg_protocol.specs.Appending.{on_older, on_newer, AppendWork, Asking, Putting, Judging, Token, Append, AppendEnd, AppendTurn, append_work_asks, append_asks, asks_token, put_end, put_next, own_or_not, judge_end, judge_next, on_issued, asking_feed, append_feed, dead_or_judged, again_with, append_again}
 use Rattle.tg_protocol.specs.Syncing.{Answer, SyncWork, Checking, Settling, Probing, Sync, Confirmed, SyncTurn, sync_work_asks, sync_asks, sync_start, probe_end, probe_next, probes, settle_end, settle_next, confirm_by, on_tail, checking_feed, sync_feed}
-use Rattle.tg_protocol.specs.Walking.{Walk, Members, WalkTurn, job_asks, walk_asks, reads_turn, walked, walk_on, walks, walk_start, walk_end, walk_next, walk_feed, walk_again, next_visit, visited, read_at, trail}
+use Rattle.tg_protocol.specs.Walking.{Walk, Members, WalkTurn, job_asks, walk_asks, reads_turn, walk_members, walk_on, walk_from, walk_start, walk_end, walk_next, walk_feed, walk_again, next_visit, visited, read_at, trail}
 use Rattle.tg_protocol.specs.Trimming.{Trims, TrimTurn, trim_asks, trim_start, trims_left, learns_if, trim_feed, CopyWork, Sealing, Reading, Storing, Trimming, Looking, Copying, CopyTurn, copy_work_asks, copy_asks, copy_start, copy_from, copies_past, read_end, read_next, stored_if, skipped_if, sealed_if, copy_feed}
 use Rattle.tg_law_moves.proofs.Members.{Has}
 use Rattle.tg_law_moves.proofs.Draws.{TurnDraws, NextDraws, keeps, same, draws_one, draws_all, besides, later, fewer_asked, without}
@@ -253,7 +253,7 @@ module _ (p : Layout) where
   by_cell next n w q (Some c) ih = ih (visited w q c)
 
   by_visit : (next n : ℕ) (w : Walk) (o : Option ℕ) → ((v : Walk) → WalkDraws [] next (walk_on p next n v)) → WalkDraws [] next (elim o as (λ _. WalkTurn) [
-    | None ↦ ends next (walked w None)
+    | None ↦ ends next (walk_members w None)
     | Some q ↦ elim (cell_at w.cells q) as (λ _. WalkTurn) [ Some c ↦ walk_on p next n (visited w q c) | None ↦ reads_turn w (get_cell (place_in p q) next) ]
   ])
   by_visit next n w None ih = omega arith
@@ -264,7 +264,7 @@ module _ (p : Layout) where
   walk_on_draws next zero w = omega arith
   walk_on_draws next (suc n) w = by_visit next n w (next_visit w) (λ v. walk_on_draws next n v)
 
-  walks_draws : (next : ℕ) (w : Walk) → WalkDraws [] next (walks p next w)
+  walks_draws : (next : ℕ) (w : Walk) → WalkDraws [] next (walk_from p next w)
   walks_draws next w = walk_on_draws next _ w
 
   -- from a later number on

@@ -18,7 +18,7 @@ use Rattle.tg_protocol.specs.Replies as replied
 use Rattle.tg_protocol.specs.Cells.{place_in, get_cell}
 use Rattle.tg_protocol.specs.Appending.{Append, AppendEnd, At, append_asks}
 use Rattle.tg_protocol.specs.Syncing.{Sync, Confirmed, sync_asks}
-use Rattle.tg_protocol.specs.Walking.{Walk, Members, WalkTurn, walk_asks, walk_on, walk_start, reads_turn, walked, next_visit, visited}
+use Rattle.tg_protocol.specs.Walking.{Walk, Members, WalkTurn, walk_asks, walk_on, walk_start, reads_turn, walk_members, next_visit, visited}
 use Rattle.tg_protocol.specs.Requests.{ends}
 use Rattle.tg_protocol.specs.Trimming.{Trims, Trimmed, trim_asks, Copying, CopyEnd, copy_asks}
 use Rattle.tg_protocol.specs.Reconfiguring.{Reconf, ReconfEnd, reconf_asks, reconf_awaited, reconf_again_asks, later_asks, this_or, reconf_feed, reconf_latest, reconf_start}
@@ -55,7 +55,7 @@ begins_cell p next n w q None ih = tt
 begins_cell p next n w q (Some c) ih = ih (visited w q c)
 
 begins_visit : (p : Layout) (next n : ℕ) (w : Walk) (o : Option ℕ) → ((v : Walk) → Begins (walk_on p next n v).to) → Begins (elim o as (λ _. WalkTurn) [
-  | None ↦ ends next (walked w None)
+  | None ↦ ends next (walk_members w None)
   | Some q ↦ elim (cell_at w.cells q) as (λ _. WalkTurn) [ Some c ↦ walk_on p next n (visited w q c) | None ↦ reads_turn w (get_cell (place_in p q) next) ]
 ]).to
 begins_visit p next n w None ih = tt

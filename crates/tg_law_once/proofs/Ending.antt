@@ -14,7 +14,8 @@ use Rattle.tg_append.proofs.Pages.{linked_fits}
 use Rattle.tg_kind.specs.Meaning.{Meaning}
 use Rattle.tg_model.specs.declared.command.Event.TheVariants.{Command as Commands, Deliver, Lose, Tick, Stop}
 use Rattle.tg_model.specs.Kinds.{EventOf}
-use Rattle.tg_protocol.specs.Words.{node_eq, role_code, layout_id, client_id}
+use Rattle.tg_base.specs.Orders.{node_eq}
+use Rattle.tg_protocol.specs.Words.{layout_id, client_id}
 use Rattle.tg_protocol.specs.Entries.{is_commit}
 use Rattle.tg_entry.specs.Records.{linked}
 use Rattle.tg_protocol.specs.Pages.{entry_of, entry_in}
@@ -76,7 +77,7 @@ entry_has (x ∷ l) p d e (inr i) reads = more (entry_in x.1) (entry_has l p d e
     more (Some y) g = inr g
 
 same_node : (a b : NodeId) → node_eq a b ≡ true → a ≡ b
-unfolding node_eq role_code
+unfolding node_eq
 same_node a b h = grind arith
 
 both : (a b : Bool) → (a && b) ≡ true → (a ≡ true) × (b ≡ true)

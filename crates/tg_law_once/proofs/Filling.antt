@@ -6,7 +6,8 @@ use Rattle.tg_base.specs.declared.ids.NodeId.{NodeId}
 use Rattle.tg_base.specs.declared.packet.Packet.{Packet}
 use Rattle.tg_entry.specs.declared.entry.Entry.{Entry}
 use Rattle.tg_kind.specs.Meaning.{Meaning}
-use Rattle.tg_protocol.specs.Words.{node_eq, layout_id, client_id}
+use Rattle.tg_base.specs.Orders.{node_eq}
+use Rattle.tg_protocol.specs.Words.{layout_id, client_id}
 use Rattle.tg_protocol.specs.Worlds.{World, client, runs}
 use Rattle.tg_protocol.specs.Requests.{awaits, Next, Goes, Learns, Ends, Turn}
 use Rattle.tg_protocol.specs.Replies.{Reply, IsLatest, reply}

@@ -12,7 +12,8 @@ use Rattle.tg_model.specs.declared.trace.What.TheVariants as told
 use Rattle.tg_model.specs.Kinds.{MarkOf, NoteOf, EventOf}
 use Rattle.tg_model.specs.Traces.{Trace, Tells}
 use Rattle.tg_protocol.specs.Words.{directory, numbers}
-use Rattle.tg_protocol.specs.Entries.{is_commit, reads_in, writes_in, reads_of, writes_of}
+use Rattle.tg_entry.specs.Needs.{reads_in, writes_in, reads_of, writes_of}
+use Rattle.tg_protocol.specs.Entries.{is_commit}
 use Rattle.tg_protocol.specs.Appending.{Append, AppendEnd}
 use Rattle.tg_protocol.specs.Transactions.{Tx, open_tx, tx_put, tx_read, commit_record}
 use Rattle.tg_protocol.specs.Clients.{Purpose, Writes, Judged, Decides, Rescues, Saves, Marks, Appending, Work, Client, new_client, write_of}

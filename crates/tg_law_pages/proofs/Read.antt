@@ -24,7 +24,8 @@ use Rattle.tg_kind.specs.Meaning.{Meaning}
 use Rattle.tg_codec.specs.Whole.{ended}
 use Rattle.tg_protocol.specs.Pages.{entry_of, if_read, entry_in}
 use Rattle.tg_base.specs.Orders.{oid_eq}
-use Rattle.tg_protocol.specs.Entries.{oid_of_link, body_commits, writes_in, writes_of, lists}
+use Rattle.tg_entry.specs.Needs.{writes_in, writes_of}
+use Rattle.tg_protocol.specs.Entries.{oid_of_link, body_commits, lists}
 use Rattle.tg_protocol.specs.Logs.{Log, entries_of}
 use Rattle.tg_protocol.specs.Views.{entry_if}
 use Rattle.tg_protocol.specs.Worlds.{log}

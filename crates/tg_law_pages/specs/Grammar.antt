@@ -5,7 +5,8 @@ use Rattle.tg_entry.specs.declared.entry.WriteOp.{WriteOp}
 use Rattle.tg_entry.specs.declared.entry.Entry.{Entry}
 use Rattle.tg_kind.specs.Meaning.{Meaning}
 use Rattle.tg_protocol.specs.Pages.{entry_of}
-use Rattle.tg_protocol.specs.Entries.{is_commit, writes_of, streams_of, lists}
+use Rattle.tg_entry.specs.Needs.{writes_of}
+use Rattle.tg_protocol.specs.Entries.{is_commit, streams_of, lists}
 use Rattle.tg_protocol.specs.Worlds.{World}
 use Rattle.tg_law_history.specs.Logs.{AreListed}
 use Rattle.tg_law_history.specs.Worlds.{entries_in}

@@ -10,7 +10,8 @@ use Rattle.tg_kind.specs.Meaning.{Meaning}
 use Rattle.tg_kind.specs.Parts.{overlap}
 use Rattle.tg_base.specs.Orders.{oid_eq}
 use Rattle.tg_protocol.specs.Versions.{noted_or, version_of}
-use Rattle.tg_protocol.specs.Entries.{is_commit, writes_of}
+use Rattle.tg_entry.specs.Needs.{writes_of}
+use Rattle.tg_protocol.specs.Entries.{is_commit}
 use Rattle.tg_protocol.specs.Views.{Entries, Verdict, Commits, Aborts, Unknown, Base, View, base_of, state_in, state_of, view_version, played_version, with_state, applied, set_state, touched, note, write_by, plays, write, write_all, passed_over, verdict, with_fate, with_verdict, with_open, Play, stands_at, Step, On, Stuck, decided_step, record_step, entry_step, step_at, between, play_on, play_from, play}
 use Rattle.tg_law_plays.specs.Sound.{IsRising, IsSound, base_among}
 use Rattle.tg_law_plays.specs.Laws.{AnswersStay}

@@ -7,7 +7,8 @@ use Rattle.tg_entry.specs.declared.entry.WriteOp.{WriteOp}
 use Rattle.tg_entry.specs.declared.entry.Entry.{Entry}
 use Rattle.tg_kind.specs.Meaning.{Meaning}
 use Rattle.tg_model.specs.declared.play.PlayEnd.TheVariants.{Played, Blocked}
-use Rattle.tg_protocol.specs.Entries.{is_commit, reads_of, writes_of}
+use Rattle.tg_entry.specs.Needs.{reads_of, writes_of}
+use Rattle.tg_protocol.specs.Entries.{is_commit}
 use Rattle.tg_protocol.specs.Views.{Entries, decision_in, Verdict, Commits, Aborts, Unknown, View, base_of, state_of, unknown_by, unknown_in, changed_in, by_versions, by_decision, verdict, applied, set_state, touched, note, write_by, plays, write, write_all, passed_over, with_fate, with_verdict, with_open, Play, stands_at, Step, On, Stuck, decided_step, record_step, entry_step, step_at, between, play_on, play_from, play}
 use Rattle.tg_law_plays.specs.Sound.{rise_from, IsRising}
 use Rattle.tg_law_plays.specs.Laws.{PlaysJoin}

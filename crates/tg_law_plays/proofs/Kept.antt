@@ -6,7 +6,8 @@ use Rattle.tg_base.specs.declared.marks.Part.{Part}
 use Rattle.tg_entry.specs.declared.entry.WriteOp.{WriteOp}
 use Rattle.tg_entry.specs.declared.entry.Entry.{Entry}
 use Rattle.tg_kind.specs.Meaning.{Meaning}
-use Rattle.tg_protocol.specs.Entries.{is_commit, writes_of}
+use Rattle.tg_entry.specs.Needs.{writes_of}
+use Rattle.tg_protocol.specs.Entries.{is_commit}
 use Rattle.tg_protocol.specs.Views.{Entries, Verdict, Commits, Aborts, Unknown, Base, View, view_start, base_of, set_state, note, write_by, plays, write, write_all, passed_over, verdict, with_fate, with_verdict, with_open, Play, Step, On, Stuck, decided_step, record_step, entry_step, step_at, between, play_on, play_from, play}
 use Rattle.tg_law_plays.specs.Sound.{rise_from, IsRising, AreSound, IsSound, upto_of}
 use Rattle.tg_law_plays.specs.Laws.{StartsSound, PlaysKeep}

@@ -8,7 +8,8 @@ use Rattle.tg_entry.specs.declared.entry.Entry.{Entry}
 use Rattle.tg_kind.specs.Meaning.{Meaning}
 use Rattle.tg_protocol.specs.Words.{has_oid}
 use Rattle.tg_base.specs.Orders.{oid_eq}
-use Rattle.tg_protocol.specs.Entries.{is_commit, reads_of, writes_of}
+use Rattle.tg_entry.specs.Needs.{reads_of, writes_of}
+use Rattle.tg_protocol.specs.Entries.{is_commit}
 use Rattle.tg_protocol.specs.Pages.{entry_of}
 use Rattle.tg_protocol.specs.Views.{Entries, fresh_base, view_start, fate_of, play}
 use Rattle.tg_law_plays.specs.Sound.{IsRising}

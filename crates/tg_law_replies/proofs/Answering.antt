@@ -11,8 +11,10 @@ use Rattle.tg_model.specs.declared.play.PlayEnd.{PlayEnd}
 use Rattle.tg_model.specs.declared.play.PlayEnd.TheVariants.{Played, Blocked}
 use Rattle.tg_model.specs.declared.refusal.Refusal.TheVariants as cause
 use Rattle.tg_model.specs.declared.trace.What.TheVariants as told
-use Rattle.tg_protocol.specs.Words.{with_oid, directory}
-use Rattle.tg_protocol.specs.Entries.{reads_of, entry_size}
+use Rattle.tg_base.specs.Orders.{with_oid}
+use Rattle.tg_protocol.specs.Words.{directory}
+use Rattle.tg_entry.specs.Needs.{reads_of}
+use Rattle.tg_protocol.specs.Entries.{entry_size}
 use Rattle.tg_protocol.specs.Versions.{Changed}
 use Rattle.tg_protocol.specs.Views.{Entries, Verdict, Commits, Aborts, Unknown, View, Play, state_of, view_version, fate_of, changed_in, unknown_in, verdict, view_outcome, play}
 use Rattle.tg_protocol.specs.Checkpoints.{checkpoint, NoCheckpoint, OpenDecision, ForgetFault, may_forget}

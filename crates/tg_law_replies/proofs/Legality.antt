@@ -14,7 +14,8 @@ use Rattle.tg_model.specs.Kinds.{DoneOf}
 use Rattle.tg_model.specs.Stores.{History, changes, has_stamp, is_stamp}
 use Rattle.tg_model.specs.Traces.{Trace, Tells, puts_of, IsOf, HasNone}
 use Rattle.tg_model.specs.Legal.{Legal, AsksHoldAt, IsCommitted, IsAborted, EntriesRight}
-use Rattle.tg_protocol.specs.Entries.{body_commits, is_commit, reads_of, writes_in, writes_of}
+use Rattle.tg_entry.specs.Needs.{reads_of, writes_in, writes_of}
+use Rattle.tg_protocol.specs.Entries.{body_commits, is_commit}
 use Rattle.tg_protocol.specs.Views.{Entries}
 use Rattle.tg_protocol.specs.Logs.{is_current, changes_below, done_at, history_after}
 use Rattle.tg_law_plays.specs.Sound.{IsRising}

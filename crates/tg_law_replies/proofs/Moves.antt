@@ -13,7 +13,8 @@ use Rattle.tg_model.specs.declared.refusal.Refusal.TheVariants as cause
 use Rattle.tg_model.specs.declared.trace.What.TheVariants as told
 use Rattle.tg_model.specs.Kinds.{WhatOf, NoteOf}
 use Rattle.tg_protocol.specs.Words.{directory}
-use Rattle.tg_protocol.specs.Entries.{is_commit, reads_of}
+use Rattle.tg_entry.specs.Needs.{reads_of}
+use Rattle.tg_protocol.specs.Entries.{is_commit}
 use Rattle.tg_protocol.specs.Versions.{Changed}
 use Rattle.tg_protocol.specs.Views.{Entries, Verdict, Commits, Aborts, Unknown, Base, View, base_of, state_of, view_version, fate_of, changed_in, unknown_in, verdict, view_outcome, fate_or_verdict}
 use Rattle.tg_protocol.specs.Checkpoints.{base_at}

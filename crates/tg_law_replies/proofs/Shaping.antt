@@ -18,8 +18,8 @@ use Rattle.tg_model.specs.declared.command.Event.TheVariants.{Command as Command
 use Rattle.tg_model.specs.declared.refusal.Refusal.{Refusal}
 use Rattle.tg_model.specs.declared.refusal.Refusal.TheVariants as cause
 use Rattle.tg_model.specs.declared.trace.What.TheVariants as told
-use Rattle.tg_protocol.specs.Words.{node_eq, layout_id, client_id, directory, has_oid, with_oid, numbers, first_some, where_true}
-use Rattle.tg_base.specs.Orders.{oid_eq}
+use Rattle.tg_protocol.specs.Words.{layout_id, client_id, directory, has_oid, numbers, first_some, where_true}
+use Rattle.tg_base.specs.Orders.{oid_eq, node_eq, with_oid}
 use Rattle.tg_protocol.specs.Layouts.{change_fault}
 use Rattle.tg_protocol.specs.Requests.{awaits, Next, Goes, Learns, Ends, Turn}
 use Rattle.tg_protocol.specs.Replies.{Reply, IsLatest, reply}

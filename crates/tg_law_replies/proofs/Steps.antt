@@ -14,7 +14,8 @@ use Rattle.tg_model.specs.declared.refusal.Refusal.{Refusal}
 use Rattle.tg_model.specs.declared.refusal.Refusal.TheVariants as cause
 use Rattle.tg_model.specs.declared.trace.What.TheVariants as told
 use Rattle.tg_model.specs.Kinds.{CommandOf, EventOf, WhatOf, NoteOf}
-use Rattle.tg_protocol.specs.Words.{first_some, where_true, client_id, node_eq, role_code}
+use Rattle.tg_base.specs.Orders.{node_eq, role_number}
+use Rattle.tg_protocol.specs.Words.{first_some, where_true, client_id}
 use Rattle.tg_protocol.specs.Replies.{reply}
 use Rattle.tg_protocol.specs.Reconfiguring.{reconf_start}
 use Rattle.tg_protocol.specs.Views.{Entries, View, state_of}
@@ -94,8 +95,8 @@ module _ (m : Meaning) where
 
   -- how a delivery ends the append of the client that it comes to
   same_node : (n : NodeId) → n.role ≡ role.Client → node_eq n (client_id n.num) ≡ true
-  unfolding node_eq role_code
-  same_node n c = both_and (role_code n.role == 3) (n.num == n.num) (ap (λ (r : Role). role_code r == 3) c) (number_same n.num n.num refl)
+  unfolding node_eq
+  same_node n c = both_and (role_number n.role == 3) (n.num == n.num) (ap (λ (r : Role). role_number r == 3) c) (number_same n.num n.num refl)
 
   pub ended_here : (w : World m) (i : ℕ) (p : Packet) → slice_get w.packets i ≡ Some p → p.to.role ≡ role.Client → runs m w p.to ≡ true
       → ended_in m w (Deliver i) p.to.num ≡ work_ends m (client m w p.to.num) (client m w p.to.num).work p.from p.rid (reply p.msg)

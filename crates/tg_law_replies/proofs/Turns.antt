@@ -16,8 +16,10 @@ use Rattle.tg_model.specs.declared.refusal.Refusal.{Refusal}
 use Rattle.tg_model.specs.declared.refusal.Refusal.TheVariants as cause
 use Rattle.tg_model.specs.declared.trace.What.TheVariants as told
 use Rattle.tg_model.specs.Kinds.{CommandOf, WhatOf, NoteOf}
-use Rattle.tg_protocol.specs.Words.{node_eq, layout_id}
-use Rattle.tg_protocol.specs.Entries.{is_commit, reads_of, streams_of}
+use Rattle.tg_base.specs.Orders.{node_eq}
+use Rattle.tg_protocol.specs.Words.{layout_id}
+use Rattle.tg_entry.specs.Needs.{reads_of}
+use Rattle.tg_protocol.specs.Entries.{is_commit, streams_of}
 use Rattle.tg_entry.specs.Records.{linked}
 use Rattle.tg_protocol.specs.Logs.{is_current, changes_below}
 use Rattle.tg_protocol.specs.Views.{Entries, View}

@@ -13,9 +13,10 @@ use Rattle.tg_base.specs.declared.fault.Many.TheVariants as many
 use Rattle.tg_model.specs.declared.refusal.Refusal.TheVariants as cause
 use Rattle.tg_model.specs.declared.trace.What.TheVariants as told
 use Rattle.tg_model.specs.Kinds.{NoteOf}
-use Rattle.tg_protocol.specs.Words.{with_oid, directory, has_oid}
-use Rattle.tg_base.specs.Orders.{oid_eq}
-use Rattle.tg_protocol.specs.Entries.{entry_size, needs_decision}
+use Rattle.tg_protocol.specs.Words.{directory, has_oid}
+use Rattle.tg_base.specs.Orders.{oid_eq, with_oid}
+use Rattle.tg_entry.specs.Needs.{needs_decision}
+use Rattle.tg_protocol.specs.Entries.{entry_size}
 use Rattle.tg_protocol.specs.Versions.{based, version_in, version_of}
 use Rattle.tg_protocol.specs.Views.{Entries, decision_in, Verdict, Commits, Aborts, Unknown, Base, View, Play, state_of, view_outcome, view_version, view_parts}
 use Rattle.tg_protocol.specs.Checkpoints.{TrimPoints, base_at, base_in, loaded, saved_bytes, checkpoint, ForgetFault, NoCheckpoint, OpenDecision, may_forget}

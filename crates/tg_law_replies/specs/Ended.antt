@@ -8,7 +8,8 @@ use Rattle.tg_entry.specs.declared.entry.Entry.{Entry}
 use Rattle.tg_kind.specs.Meaning.{Meaning}
 use Rattle.tg_model.specs.declared.command.Event.TheVariants.{Deliver}
 use Rattle.tg_model.specs.Kinds.{EventOf}
-use Rattle.tg_protocol.specs.Words.{node_eq, layout_id, client_id}
+use Rattle.tg_base.specs.Orders.{node_eq}
+use Rattle.tg_protocol.specs.Words.{layout_id, client_id}
 use Rattle.tg_protocol.specs.Entries.{is_commit}
 use Rattle.tg_entry.specs.Records.{linked}
 use Rattle.tg_protocol.specs.Requests.{awaits, Next, Goes, Learns, Ends}

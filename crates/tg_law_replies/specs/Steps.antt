@@ -8,7 +8,8 @@ use Rattle.tg_base.specs.declared.packet.Packet.{Packet}
 use Rattle.tg_kind.specs.Meaning.{Meaning}
 use Rattle.tg_model.specs.Kinds.{EventOf}
 use Rattle.tg_model.specs.declared.command.Event.TheVariants.{Deliver}
-use Rattle.tg_protocol.specs.Words.{node_eq, layout_id}
+use Rattle.tg_base.specs.Orders.{node_eq}
+use Rattle.tg_protocol.specs.Words.{layout_id}
 use Rattle.tg_protocol.specs.Requests.{awaits, Next, Ends}
 use Rattle.tg_protocol.specs.Replies.{Reply, IsLatest, reply}
 use Rattle.tg_protocol.specs.Syncing.{Sync, Confirmed, sync_feed, sync_again}

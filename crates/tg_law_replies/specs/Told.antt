@@ -9,7 +9,8 @@ use Rattle.tg_model.specs.declared.refusal.Refusal.TheVariants as cause
 use Rattle.tg_model.specs.declared.trace.What.TheVariants as told
 use Rattle.tg_model.specs.Traces.{Trace, Says, Tells, puts_of}
 use Rattle.tg_model.specs.Legal.{HasNoAsk, InOrder}
-use Rattle.tg_protocol.specs.Entries.{is_commit, reads_of, writes_of}
+use Rattle.tg_entry.specs.Needs.{reads_of, writes_of}
+use Rattle.tg_protocol.specs.Entries.{is_commit}
 use Rattle.tg_protocol.specs.Views.{Entries}
 use Rattle.tg_protocol.specs.Logs.{ops_of, history_after}
 use Rattle.tg_model.specs.Legal.{Legal}

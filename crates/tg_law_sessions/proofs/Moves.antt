@@ -12,7 +12,8 @@ use Rattle.tg_base.specs.declared.packet.Packet.{Packet}
 use Rattle.tg_kind.specs.Meaning.{Meaning}
 use Rattle.tg_model.specs.Kinds.{CommandOf, NoteOf}
 use Rattle.tg_model.specs.declared.command.Event.TheVariants.{Command as Commands, Deliver, Tick}
-use Rattle.tg_protocol.specs.Words.{node_eq, role_code, unit_id, layout_id, seqr_id, client_id}
+use Rattle.tg_base.specs.Orders.{node_eq}
+use Rattle.tg_protocol.specs.Words.{unit_id, layout_id, seqr_id, client_id}
 use Rattle.tg_protocol.specs.Logs.{Log}
 use Rattle.tg_protocol.specs.Units.{UnitTurn, unit_step}
 use Rattle.tg_protocol.specs.LayoutServers.{LayoutTurn, layout_step}
@@ -49,7 +50,7 @@ answers m n p (Some x) to = ap (λ (k : NodeId). record { from = k; to = p.from;
 
 unit_turned : (m : Meaning) (w : World m) (n : ℕ) (p : Packet) (t : UnitTurn) (archive : Log) → p.to ≡ unit_id n → n < length w.units
     → Turned m w (unit_moved m w n p t archive) (unit_id n) (unit_turn m p t)
-unfolding node_eq role_code
+unfolding node_eq
 unit_turned m w n p t archive to lt = record {
   cluster = refl;
   units = length-set w.units n t.now;
@@ -74,7 +75,7 @@ layout_moved m w n p t = sends m (record w { layouts = slice_set w.layouts n t.n
 
 layout_turned : (m : Meaning) (w : World m) (n : ℕ) (p : Packet) (t : LayoutTurn) → p.to ≡ layout_id n → n < length w.layouts
     → Turned m w (layout_moved m w n p t) (layout_id n) (layout_turn m p t)
-unfolding node_eq role_code
+unfolding node_eq
 layout_turned m w n p t to lt = record {
   cluster = refl;
   units = refl;
@@ -95,7 +96,7 @@ layout_turned m w n p t to lt = record {
     others role.Client k other = refl
 
 seqr_turns : (m : Meaning) (w : World m) (n : ℕ) (t : SeqrTurn) → n < length w.seqrs → Turned m w (seqr_turned m w n t) (seqr_id n) (seqr_turn m t)
-unfolding node_eq role_code
+unfolding node_eq
 seqr_turns m w n t lt = record {
   cluster = refl;
   units = refl;
@@ -123,7 +124,7 @@ marks_say m w n [] = refl
 marks_say m w n (x ∷ xs) = ap (λ (ss : List (Said m)). said_by m (client_id n) x ∷ ss) (marks_say m w n xs)
 
 client_turns : (m : Meaning) (w : World m) (n : ℕ) (t : ClientTurn m) → n < length w.clients → Turned m w (client_turned m w n t) (client_id n) (client_turn m t)
-unfolding node_eq role_code client_turned
+unfolding node_eq client_turned
 client_turns m w n t lt = record {
   cluster = refl;
   units = refl;

@@ -13,7 +13,8 @@ use Rattle.tg_base.specs.declared.packet.Packet.{Packet}
 use Rattle.tg_kind.specs.Meaning.{Meaning}
 use Rattle.tg_model.specs.Kinds.{EventOf, NoteOf}
 use Rattle.tg_model.specs.declared.command.Event.TheVariants.{Command as Commands, Deliver, Tick}
-use Rattle.tg_protocol.specs.Words.{node_eq, role_code, numbers}
+use Rattle.tg_base.specs.Orders.{node_eq}
+use Rattle.tg_protocol.specs.Words.{numbers}
 use Rattle.tg_protocol.specs.Layouts.{first_layout}
 use Rattle.tg_protocol.specs.Units.{new_unit}
 use Rattle.tg_protocol.specs.LayoutServers.{new_layout}
@@ -63,7 +64,7 @@ module _ (m : Meaning) where
       ap (after m (node_start m h n)) (session_more n before s ∙ ap (λ (xs : List (InputOf m)). session m n before ++ xs) last ∙ append-nil _)
 
   same_node : (a b : NodeId) → node_eq a b ≡ true → a ≡ b
-  unfolding node_eq role_code
+  unfolding node_eq
   same_node a b h = grind arith
 
   -- ---- a world that shows what was done so far

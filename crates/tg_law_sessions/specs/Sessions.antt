@@ -8,7 +8,8 @@ use Rattle.tg_base.specs.declared.packet.Packet.{Packet}
 use Rattle.tg_kind.specs.Meaning.{Meaning}
 use Rattle.tg_model.specs.Kinds.{EventOf, NoteOf, WhatOf}
 use Rattle.tg_model.specs.declared.command.Event.TheVariants.{Command as Commands, Deliver, Tick}
-use Rattle.tg_protocol.specs.Words.{node_eq, client_id}
+use Rattle.tg_base.specs.Orders.{node_eq}
+use Rattle.tg_protocol.specs.Words.{client_id}
 use Rattle.tg_protocol.specs.Worlds.{World, Told, unit, layout, seqr, client, start, happens, packet_of}
 use Rattle.tg_node_state.specs.Nodes.{Node, NodeTurn, UnitNode, LayoutNode, SeqrNode, ClientNode, InputOf, node_start, node_step}
 use Rattle.tg_node_state.specs.declared.input.Input.TheVariants as input

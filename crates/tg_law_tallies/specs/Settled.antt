@@ -5,7 +5,7 @@ use Rattle.tg_model.specs.declared.command.Event.TheVariants.{Command as Command
 use Rattle.tg_model.specs.Kinds.{CommandOf}
 use Rattle.tg_protocol.specs.Worlds.{World, start, settle}
 use Rattle.tg_protocol.specs.Runs.{Moves, Takes, Reaches, run}
-use Rattle.tg_protocol.specs.Finishing.{deliveries, is_with_client, bound_in, WaitsAlone, IsReadyFor}
+use Rattle.tg_protocol.specs.Finishing.{deliveries, is_with_client, most_deliveries_in, WaitsAlone, IsReadyFor}
 use Rattle.tg_law_finish.specs.Granted.{Granted}
 use Rattle.tg_law_finish.specs.Appends.{WaitsForAppend}
 use Rattle.tg_law_finish.specs.Asks.{NothingTrimmed, HasIssued, WaitsForSync}
@@ -16,7 +16,7 @@ use Rattle.tg_law_tallies.specs.Tallies.{tallies, tally, with_tally}
 pub record Counted (w : World tallies) (taken most in_time : ℕ) (bound : World tallies → ℕ) (x : CommandOf tallies) : Type 0 where
   pub counted : deliveries tallies (is_with_client tallies 0) w (settle tallies w).world ≡ taken
   pub allowed : bound w ≡ most
-  pub in_bound : bound_in tallies w x ≡ in_time
+  pub in_bound : most_deliveries_in tallies w x ≡ in_time
 
 -- a client adds to a tally, and its request for a token is lost
 abbrev pub append_lost : Moves tallies

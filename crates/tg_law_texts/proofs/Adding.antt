@@ -12,13 +12,15 @@ use Rattle.tg_entry.specs.Reads.{marks, reads}
 use Rattle.tg_entry.specs.Writes.{writes}
 use Rattle.tg_entry.specs.Checkpoints.{keys, new_fields, old_fields}
 use Rattle.tg_entry.specs.Format.{body, entry}
-use Rattle.tg_protocol.specs.Words.{role_code, node_eq, bytes_eq, bytes_lt, part_lt, cell_eq}
+use Rattle.tg_base.specs.Orders.{node_eq}
+use Rattle.tg_protocol.specs.Words.{bytes_eq, bytes_lt, part_lt, cell_eq}
 use Rattle.tg_protocol.specs.Layouts.{chain_of, units_of}
 use Rattle.tg_protocol.specs.Units.{new_unit, unit_ask, first_missing, on_ask, unit_step}
 use Rattle.tg_protocol.specs.LayoutServers.{new_layout}
 use Rattle.tg_protocol.specs.Replies.{reply}
 use Rattle.tg_protocol.specs.Cells.{work_asks, put_cell, work_feed, cell_feed}
-use Rattle.tg_protocol.specs.Entries.{entry_size, needs_decision}
+use Rattle.tg_entry.specs.Needs.{needs_decision}
+use Rattle.tg_protocol.specs.Entries.{entry_size}
 use Rattle.tg_protocol.specs.Pages.{page_of, entry_of}
 use Rattle.tg_protocol.specs.Sequencers.{new_seqr, seqr_step}
 use Rattle.tg_protocol.specs.Appending.{append_work_asks, append_start, append_feed}
@@ -153,7 +155,7 @@ record Way : Type 0 where
   none_waits : lowest all_kinds added.waiting ≡ None
 
 way : Way
-unfolding u8_at u16_at u32_at u64_at raw_at fixed_at read_many spell_many fit_many marks reads writes keys new_fields old_fields body entry role_code node_eq bytes_eq bytes_lt part_lt cell_eq chain_of units_of new_unit unit_ask first_missing on_ask unit_step new_layout reply work_asks put_cell work_feed cell_feed entry_size needs_decision page_of entry_of new_seqr seqr_step append_work_asks append_start append_feed verdict read_fault write_fault commit_record new_client entries_at tests refusal appends task_asks client_asks task_feed accepts client_command client_deliver fields_size decided newest log_of entries_of changes_below outcome history_of start latest log history unit_moves seqr_moves client_turned happens limit_of drain_on drain run lines_on first spelled read touched
+unfolding u8_at u16_at u32_at u64_at raw_at fixed_at read_many spell_many fit_many marks reads writes keys new_fields old_fields body entry node_eq bytes_eq bytes_lt part_lt cell_eq chain_of units_of new_unit unit_ask first_missing on_ask unit_step new_layout reply work_asks put_cell work_feed cell_feed entry_size needs_decision page_of entry_of new_seqr seqr_step append_work_asks append_start append_feed verdict read_fault write_fault commit_record new_client entries_at tests refusal appends task_asks client_asks task_feed accepts client_command client_deliver fields_size decided newest log_of entries_of changes_below outcome history_of start latest log history unit_moves seqr_moves client_turned happens limit_of drain_on drain run lines_on first spelled read touched
 way = record {
   limit_0 = refl;
   limit_1 = refl;
@@ -203,11 +205,11 @@ unfolding run
 is_run = refl
 
 pub adding_printed : adding_transcript ≡ replays.transcript cluster added
-unfolding u8_at u16_at u32_at u64_at raw_at fixed_at read_many spell_many fit_many marks reads writes keys new_fields old_fields body entry role_code node_eq bytes_eq bytes_lt part_lt cell_eq chain_of units_of new_unit unit_ask first_missing on_ask unit_step new_layout reply work_asks put_cell work_feed cell_feed entry_size needs_decision page_of entry_of new_seqr seqr_step append_work_asks append_start append_feed verdict read_fault write_fault commit_record new_client entries_at tests refusal appends task_asks client_asks task_feed accepts client_command client_deliver fields_size decided newest log_of entries_of changes_below outcome history_of start latest log history unit_moves seqr_moves client_turned happens limit_of drain_on drain run lines_on first spelled read touched rendered digits
+unfolding u8_at u16_at u32_at u64_at raw_at fixed_at read_many spell_many fit_many marks reads writes keys new_fields old_fields body entry node_eq bytes_eq bytes_lt part_lt cell_eq chain_of units_of new_unit unit_ask first_missing on_ask unit_step new_layout reply work_asks put_cell work_feed cell_feed entry_size needs_decision page_of entry_of new_seqr seqr_step append_work_asks append_start append_feed verdict read_fault write_fault commit_record new_client entries_at tests refusal appends task_asks client_asks task_feed accepts client_command client_deliver fields_size decided newest log_of entries_of changes_below outcome history_of start latest log history unit_moves seqr_moves client_turned happens limit_of drain_on drain run lines_on first spelled read touched rendered digits
 adding_printed = refl
 
 lawful_moves : (x : Move all_kinds) → Contains moves x → LawfulMove all_kinds cluster x
-unfolding digits u8_at u16_at u32_at u64_at raw_at fixed_at read_many spell_many fit_many marks reads writes keys new_fields old_fields body entry role_code node_eq bytes_eq bytes_lt part_lt cell_eq chain_of units_of new_unit unit_ask first_missing on_ask unit_step new_layout reply work_asks put_cell work_feed cell_feed entry_size needs_decision page_of entry_of new_seqr seqr_step append_work_asks append_start append_feed verdict read_fault write_fault commit_record new_client entries_at tests refusal appends task_asks client_asks task_feed accepts client_command client_deliver fields_size decided newest log_of entries_of changes_below outcome history_of start latest log history unit_moves seqr_moves client_turned happens limit_of drain_on drain run lines_on first spelled read touched
+unfolding digits u8_at u16_at u32_at u64_at raw_at fixed_at read_many spell_many fit_many marks reads writes keys new_fields old_fields body entry node_eq bytes_eq bytes_lt part_lt cell_eq chain_of units_of new_unit unit_ask first_missing on_ask unit_step new_layout reply work_asks put_cell work_feed cell_feed entry_size needs_decision page_of entry_of new_seqr seqr_step append_work_asks append_start append_feed verdict read_fault write_fault commit_record new_client entries_at tests refusal appends task_asks client_asks task_feed accepts client_command client_deliver fields_size decided newest log_of entries_of changes_below outcome history_of start latest log history unit_moves seqr_moves client_turned happens limit_of drain_on drain run lines_on first spelled read touched
 lawful_moves x (k, less, e) = by k less e
   where
     by : (k : ℕ) → k < 9 → slice_index_or moves k x ≡ x → LawfulMove all_kinds cluster x
@@ -223,7 +225,7 @@ lawful_moves x (k, less, e) = by k less e
     by (suc (suc (suc (suc (suc (suc (suc (suc (suc k))))))))) less e = absurd (omega (arith, less))
 
 seven_steps : added.steps ≡ 7
-unfolding u8_at u16_at u32_at u64_at raw_at fixed_at read_many spell_many fit_many marks reads writes keys new_fields old_fields body entry role_code node_eq bytes_eq bytes_lt part_lt cell_eq chain_of units_of new_unit unit_ask first_missing on_ask unit_step new_layout reply work_asks put_cell work_feed cell_feed entry_size needs_decision page_of entry_of new_seqr seqr_step append_work_asks append_start append_feed verdict read_fault write_fault commit_record new_client entries_at tests refusal appends task_asks client_asks task_feed accepts client_command client_deliver fields_size decided newest log_of entries_of changes_below outcome history_of start latest log history unit_moves seqr_moves client_turned happens limit_of drain_on drain run lines_on first spelled read touched
+unfolding u8_at u16_at u32_at u64_at raw_at fixed_at read_many spell_many fit_many marks reads writes keys new_fields old_fields body entry node_eq bytes_eq bytes_lt part_lt cell_eq chain_of units_of new_unit unit_ask first_missing on_ask unit_step new_layout reply work_asks put_cell work_feed cell_feed entry_size needs_decision page_of entry_of new_seqr seqr_step append_work_asks append_start append_feed verdict read_fault write_fault commit_record new_client entries_at tests refusal appends task_asks client_asks task_feed accepts client_command client_deliver fields_size decided newest log_of entries_of changes_below outcome history_of start latest log history unit_moves seqr_moves client_turned happens limit_of drain_on drain run lines_on first spelled read touched
 seven_steps = refl
 
 reaches : Reaches all_kinds cluster moves added
@@ -231,23 +233,23 @@ unfolding start
 reaches = record { header = header; goes = record { lawful = lawful_moves; is = is_run; few = omega (arith, seven_steps) } }
 
 told_is : added.told ≡ map (noted all_kinds counter five 2) (replies all_kinds counter five 2)
-unfolding u8_at u16_at u32_at u64_at raw_at fixed_at read_many spell_many fit_many marks reads writes keys new_fields old_fields body entry role_code node_eq bytes_eq bytes_lt part_lt cell_eq chain_of units_of new_unit unit_ask first_missing on_ask unit_step new_layout reply work_asks put_cell work_feed cell_feed entry_size needs_decision page_of entry_of new_seqr seqr_step append_work_asks append_start append_feed verdict read_fault write_fault commit_record new_client entries_at tests refusal appends task_asks client_asks task_feed accepts client_command client_deliver fields_size decided newest log_of entries_of changes_below outcome history_of start latest log history unit_moves seqr_moves client_turned happens limit_of drain_on drain run lines_on first spelled read touched
+unfolding u8_at u16_at u32_at u64_at raw_at fixed_at read_many spell_many fit_many marks reads writes keys new_fields old_fields body entry node_eq bytes_eq bytes_lt part_lt cell_eq chain_of units_of new_unit unit_ask first_missing on_ask unit_step new_layout reply work_asks put_cell work_feed cell_feed entry_size needs_decision page_of entry_of new_seqr seqr_step append_work_asks append_start append_feed verdict read_fault write_fault commit_record new_client entries_at tests refusal appends task_asks client_asks task_feed accepts client_command client_deliver fields_size decided newest log_of entries_of changes_below outcome history_of start latest log history unit_moves seqr_moves client_turned happens limit_of drain_on drain run lines_on first spelled read touched
 told_is = refl
 
 history_is : history all_kinds added ≡ done all_kinds counter five 2 ∷ []
-unfolding u8_at u16_at u32_at u64_at raw_at fixed_at read_many spell_many fit_many marks reads writes keys new_fields old_fields body entry role_code node_eq bytes_eq bytes_lt part_lt cell_eq chain_of units_of new_unit unit_ask first_missing on_ask unit_step new_layout reply work_asks put_cell work_feed cell_feed entry_size needs_decision page_of entry_of new_seqr seqr_step append_work_asks append_start append_feed verdict read_fault write_fault commit_record new_client entries_at tests refusal appends task_asks client_asks task_feed accepts client_command client_deliver fields_size decided newest log_of entries_of changes_below outcome history_of start latest log history unit_moves seqr_moves client_turned happens limit_of drain_on drain run lines_on first spelled read touched
+unfolding u8_at u16_at u32_at u64_at raw_at fixed_at read_many spell_many fit_many marks reads writes keys new_fields old_fields body entry node_eq bytes_eq bytes_lt part_lt cell_eq chain_of units_of new_unit unit_ask first_missing on_ask unit_step new_layout reply work_asks put_cell work_feed cell_feed entry_size needs_decision page_of entry_of new_seqr seqr_step append_work_asks append_start append_feed verdict read_fault write_fault commit_record new_client entries_at tests refusal appends task_asks client_asks task_feed accepts client_command client_deliver fields_size decided newest log_of entries_of changes_below outcome history_of start latest log history unit_moves seqr_moves client_turned happens limit_of drain_on drain run lines_on first spelled read touched
 history_is = refl
 
 entries_are : entries_of (log all_kinds added) ≡ (0, record_of all_kinds counter five 2 (spelled five)) ∷ []
-unfolding u8_at u16_at u32_at u64_at raw_at fixed_at read_many spell_many fit_many marks reads writes keys new_fields old_fields body entry role_code node_eq bytes_eq bytes_lt part_lt cell_eq chain_of units_of new_unit unit_ask first_missing on_ask unit_step new_layout reply work_asks put_cell work_feed cell_feed entry_size needs_decision page_of entry_of new_seqr seqr_step append_work_asks append_start append_feed verdict read_fault write_fault commit_record new_client entries_at tests refusal appends task_asks client_asks task_feed accepts client_command client_deliver fields_size decided newest log_of entries_of changes_below outcome history_of start latest log history unit_moves seqr_moves client_turned happens limit_of drain_on drain run lines_on first spelled read touched
+unfolding u8_at u16_at u32_at u64_at raw_at fixed_at read_many spell_many fit_many marks reads writes keys new_fields old_fields body entry node_eq bytes_eq bytes_lt part_lt cell_eq chain_of units_of new_unit unit_ask first_missing on_ask unit_step new_layout reply work_asks put_cell work_feed cell_feed entry_size needs_decision page_of entry_of new_seqr seqr_step append_work_asks append_start append_feed verdict read_fault write_fault commit_record new_client entries_at tests refusal appends task_asks client_asks task_feed accepts client_command client_deliver fields_size decided newest log_of entries_of changes_below outcome history_of start latest log history unit_moves seqr_moves client_turned happens limit_of drain_on drain run lines_on first spelled read touched
 entries_are = refl
 
 commits : outcome all_kinds (log all_kinds added) 0 ≡ true
-unfolding u8_at u16_at u32_at u64_at raw_at fixed_at read_many spell_many fit_many marks reads writes keys new_fields old_fields body entry role_code node_eq bytes_eq bytes_lt part_lt cell_eq chain_of units_of new_unit unit_ask first_missing on_ask unit_step new_layout reply work_asks put_cell work_feed cell_feed entry_size needs_decision page_of entry_of new_seqr seqr_step append_work_asks append_start append_feed verdict read_fault write_fault commit_record new_client entries_at tests refusal appends task_asks client_asks task_feed accepts client_command client_deliver fields_size decided newest log_of entries_of changes_below outcome history_of start latest log history unit_moves seqr_moves client_turned happens limit_of drain_on drain run lines_on first spelled read touched
+unfolding u8_at u16_at u32_at u64_at raw_at fixed_at read_many spell_many fit_many marks reads writes keys new_fields old_fields body entry node_eq bytes_eq bytes_lt part_lt cell_eq chain_of units_of new_unit unit_ask first_missing on_ask unit_step new_layout reply work_asks put_cell work_feed cell_feed entry_size needs_decision page_of entry_of new_seqr seqr_step append_work_asks append_start append_feed verdict read_fault write_fault commit_record new_client entries_at tests refusal appends task_asks client_asks task_feed accepts client_command client_deliver fields_size decided newest log_of entries_of changes_below outcome history_of start latest log history unit_moves seqr_moves client_turned happens limit_of drain_on drain run lines_on first spelled read touched
 commits = refl
 
 no_view : (k : ℕ) → (client all_kinds added k).view ≡ None
-unfolding u8_at u16_at u32_at u64_at raw_at fixed_at read_many spell_many fit_many marks reads writes keys new_fields old_fields body entry role_code node_eq bytes_eq bytes_lt part_lt cell_eq chain_of units_of new_unit unit_ask first_missing on_ask unit_step new_layout reply work_asks put_cell work_feed cell_feed entry_size needs_decision page_of entry_of new_seqr seqr_step append_work_asks append_start append_feed verdict read_fault write_fault commit_record new_client entries_at tests refusal appends task_asks client_asks task_feed accepts client_command client_deliver fields_size decided newest log_of entries_of changes_below outcome history_of start latest log history unit_moves seqr_moves client_turned happens limit_of drain_on drain run lines_on first spelled read touched
+unfolding u8_at u16_at u32_at u64_at raw_at fixed_at read_many spell_many fit_many marks reads writes keys new_fields old_fields body entry node_eq bytes_eq bytes_lt part_lt cell_eq chain_of units_of new_unit unit_ask first_missing on_ask unit_step new_layout reply work_asks put_cell work_feed cell_feed entry_size needs_decision page_of entry_of new_seqr seqr_step append_work_asks append_start append_feed verdict read_fault write_fault commit_record new_client entries_at tests refusal appends task_asks client_asks task_feed accepts client_command client_deliver fields_size decided newest log_of entries_of changes_below outcome history_of start latest log history unit_moves seqr_moves client_turned happens limit_of drain_on drain run lines_on first spelled read touched
 no_view zero = refl
 no_view (suc k) = refl
 

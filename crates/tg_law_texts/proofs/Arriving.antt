@@ -11,13 +11,15 @@ use Rattle.tg_entry.specs.Reads.{marks, reads}
 use Rattle.tg_entry.specs.Writes.{writes}
 use Rattle.tg_entry.specs.Checkpoints.{keys, new_fields, old_fields}
 use Rattle.tg_entry.specs.Format.{body, entry}
-use Rattle.tg_protocol.specs.Words.{role_code, node_eq, bytes_eq, bytes_lt, part_lt, cell_eq}
+use Rattle.tg_base.specs.Orders.{node_eq}
+use Rattle.tg_protocol.specs.Words.{bytes_eq, bytes_lt, part_lt, cell_eq}
 use Rattle.tg_protocol.specs.Layouts.{chain_of, units_of}
 use Rattle.tg_protocol.specs.Units.{new_unit, unit_ask, first_missing, on_ask, unit_step}
 use Rattle.tg_protocol.specs.LayoutServers.{new_layout}
 use Rattle.tg_protocol.specs.Replies.{reply}
 use Rattle.tg_protocol.specs.Cells.{work_asks, put_cell, work_feed, cell_feed}
-use Rattle.tg_protocol.specs.Entries.{entry_size, needs_decision}
+use Rattle.tg_entry.specs.Needs.{needs_decision}
+use Rattle.tg_protocol.specs.Entries.{entry_size}
 use Rattle.tg_protocol.specs.Pages.{page_of, entry_of}
 use Rattle.tg_protocol.specs.Sequencers.{new_seqr, seqr_step}
 use Rattle.tg_protocol.specs.Appending.{append_work_asks, append_start, append_feed}
@@ -110,7 +112,7 @@ record Way : Type 0 where
   fourth : matched (spellings x6.packets) (2 ∷ 1 ∷ 0 ∷ []) (nth 3).to (packet.spell (nth 3)) ≡ Some 3
 
 way : Way
-unfolding u8_at u16_at u32_at u64_at raw_at fixed_at read_many spell_many fit_many marks reads writes keys new_fields old_fields body entry role_code node_eq bytes_eq bytes_lt part_lt cell_eq chain_of units_of new_unit unit_ask first_missing on_ask unit_step new_layout reply work_asks put_cell work_feed cell_feed entry_size needs_decision page_of entry_of new_seqr seqr_step append_work_asks append_start append_feed verdict read_fault write_fault commit_record new_client entries_at tests refusal appends task_asks client_asks task_feed accepts client_command client_deliver fields_size decided newest log_of entries_of changes_below outcome history_of start latest log history unit_moves seqr_moves client_turned happens limit_of drain_on drain run lines_on first spelled read touched packet wire.message wire.token wire.issued wire.write wire.held
+unfolding u8_at u16_at u32_at u64_at raw_at fixed_at read_many spell_many fit_many marks reads writes keys new_fields old_fields body entry node_eq bytes_eq bytes_lt part_lt cell_eq chain_of units_of new_unit unit_ask first_missing on_ask unit_step new_layout reply work_asks put_cell work_feed cell_feed entry_size needs_decision page_of entry_of new_seqr seqr_step append_work_asks append_start append_feed verdict read_fault write_fault commit_record new_client entries_at tests refusal appends task_asks client_asks task_feed accepts client_command client_deliver fields_size decided newest log_of entries_of changes_below outcome history_of start latest log history unit_moves seqr_moves client_turned happens limit_of drain_on drain run lines_on first spelled read touched packet wire.message wire.token wire.issued wire.write wire.held
 way = record {
   limit_0 = refl;
   limit_3 = refl;
@@ -223,7 +225,7 @@ runs_over = record {
 }
 
 live_printed : adding_recording ≡ printed cluster l7
-unfolding u8_at u16_at u32_at u64_at raw_at fixed_at read_many spell_many fit_many marks reads writes keys new_fields old_fields body entry role_code node_eq bytes_eq bytes_lt part_lt cell_eq chain_of units_of new_unit unit_ask first_missing on_ask unit_step new_layout reply work_asks put_cell work_feed cell_feed entry_size needs_decision page_of entry_of new_seqr seqr_step append_work_asks append_start append_feed verdict read_fault write_fault commit_record new_client entries_at tests refusal appends task_asks client_asks task_feed accepts client_command client_deliver fields_size decided newest log_of entries_of changes_below outcome history_of start latest log history unit_moves seqr_moves client_turned happens limit_of drain_on drain run lines_on first spelled read touched rendered digits
+unfolding u8_at u16_at u32_at u64_at raw_at fixed_at read_many spell_many fit_many marks reads writes keys new_fields old_fields body entry node_eq bytes_eq bytes_lt part_lt cell_eq chain_of units_of new_unit unit_ask first_missing on_ask unit_step new_layout reply work_asks put_cell work_feed cell_feed entry_size needs_decision page_of entry_of new_seqr seqr_step append_work_asks append_start append_feed verdict read_fault write_fault commit_record new_client entries_at tests refusal appends task_asks client_asks task_feed accepts client_command client_deliver fields_size decided newest log_of entries_of changes_below outcome history_of start latest log history unit_moves seqr_moves client_turned happens limit_of drain_on drain run lines_on first spelled read touched rendered digits
 live_printed = refl
 
 live_replayed : lives.Replayed busy_link adding_script adding_recording
@@ -280,7 +282,7 @@ record Counts : Type 0 where
   four : length x6.packets ≡ 4
 
 counts : Counts
-unfolding u8_at u16_at u32_at u64_at raw_at fixed_at read_many spell_many fit_many marks reads writes keys new_fields old_fields body entry role_code node_eq bytes_eq bytes_lt part_lt cell_eq chain_of units_of new_unit unit_ask first_missing on_ask unit_step new_layout reply work_asks put_cell work_feed cell_feed entry_size needs_decision page_of entry_of new_seqr seqr_step append_work_asks append_start append_feed verdict read_fault write_fault commit_record new_client entries_at tests refusal appends task_asks client_asks task_feed accepts client_command client_deliver fields_size decided newest log_of entries_of changes_below outcome history_of start latest log history unit_moves seqr_moves client_turned happens limit_of drain_on drain run lines_on first spelled read touched
+unfolding u8_at u16_at u32_at u64_at raw_at fixed_at read_many spell_many fit_many marks reads writes keys new_fields old_fields body entry node_eq bytes_eq bytes_lt part_lt cell_eq chain_of units_of new_unit unit_ask first_missing on_ask unit_step new_layout reply work_asks put_cell work_feed cell_feed entry_size needs_decision page_of entry_of new_seqr seqr_step append_work_asks append_start append_feed verdict read_fault write_fault commit_record new_client entries_at tests refusal appends task_asks client_asks task_feed accepts client_command client_deliver fields_size decided newest log_of entries_of changes_below outcome history_of start latest log history unit_moves seqr_moves client_turned happens limit_of drain_on drain run lines_on first spelled read touched
 counts = record { one = refl; two = refl; three = refl; four = refl }
 
 was_sent : (i n : ℕ) (w v : Worlds) (l : Line) → deliver i ≡ l → w ≡ v → length v.packets ≡ n → i < n → MayCome w l
@@ -315,11 +317,11 @@ is_lawful (y ∷ xs) h x zero less e = subst (LawfulMove all_kinds cluster) e h.
 is_lawful (y ∷ xs) h x (suc k) less e = is_lawful xs h.1 x k (omega (arith, less)) e
 
 are_lawful : AreLawful moves
-unfolding u8_at u16_at u32_at u64_at raw_at fixed_at read_many spell_many fit_many marks reads writes keys new_fields old_fields body entry role_code node_eq bytes_eq bytes_lt part_lt cell_eq chain_of units_of new_unit unit_ask first_missing on_ask unit_step new_layout reply work_asks put_cell work_feed cell_feed entry_size needs_decision page_of entry_of new_seqr seqr_step append_work_asks append_start append_feed verdict read_fault write_fault commit_record new_client entries_at tests refusal appends task_asks client_asks task_feed accepts client_command client_deliver fields_size decided newest log_of entries_of changes_below outcome history_of start latest log history unit_moves seqr_moves client_turned happens limit_of drain_on drain run lines_on first spelled read touched
+unfolding u8_at u16_at u32_at u64_at raw_at fixed_at read_many spell_many fit_many marks reads writes keys new_fields old_fields body entry node_eq bytes_eq bytes_lt part_lt cell_eq chain_of units_of new_unit unit_ask first_missing on_ask unit_step new_layout reply work_asks put_cell work_feed cell_feed entry_size needs_decision page_of entry_of new_seqr seqr_step append_work_asks append_start append_feed verdict read_fault write_fault commit_record new_client entries_at tests refusal appends task_asks client_asks task_feed accepts client_command client_deliver fields_size decided newest log_of entries_of changes_below outcome history_of start latest log history unit_moves seqr_moves client_turned happens limit_of drain_on drain run lines_on first spelled read touched
 are_lawful = (tt, ((omega arith, tt), ((omega arith, (refl, λ allowed. record { read = refl; fits = refl })), ((omega arith, tt), (tt, (tt, (tt, (tt, (tt, (tt, (tt, (tt, tt))))))))))))
 
 seven_steps : x7.steps ≡ 7
-unfolding u8_at u16_at u32_at u64_at raw_at fixed_at read_many spell_many fit_many marks reads writes keys new_fields old_fields body entry role_code node_eq bytes_eq bytes_lt part_lt cell_eq chain_of units_of new_unit unit_ask first_missing on_ask unit_step new_layout reply work_asks put_cell work_feed cell_feed entry_size needs_decision page_of entry_of new_seqr seqr_step append_work_asks append_start append_feed verdict read_fault write_fault commit_record new_client entries_at tests refusal appends task_asks client_asks task_feed accepts client_command client_deliver fields_size decided newest log_of entries_of changes_below outcome history_of start latest log history unit_moves seqr_moves client_turned happens limit_of drain_on drain run lines_on first spelled read touched
+unfolding u8_at u16_at u32_at u64_at raw_at fixed_at read_many spell_many fit_many marks reads writes keys new_fields old_fields body entry node_eq bytes_eq bytes_lt part_lt cell_eq chain_of units_of new_unit unit_ask first_missing on_ask unit_step new_layout reply work_asks put_cell work_feed cell_feed entry_size needs_decision page_of entry_of new_seqr seqr_step append_work_asks append_start append_feed verdict read_fault write_fault commit_record new_client entries_at tests refusal appends task_asks client_asks task_feed accepts client_command client_deliver fields_size decided newest log_of entries_of changes_below outcome history_of start latest log history unit_moves seqr_moves client_turned happens limit_of drain_on drain run lines_on first spelled read touched
 seven_steps = refl
 
 reaches : Reaches all_kinds cluster moves x7
@@ -327,23 +329,23 @@ unfolding start
 reaches = record { header = header; goes = record { lawful = λ x c. is_lawful moves are_lawful x c.0 c.1 c.2; is = is_run; few = omega (arith, seven_steps) } }
 
 told_is : x7.told ≡ map (noted all_kinds counter five 5) (replies all_kinds counter five 5)
-unfolding u8_at u16_at u32_at u64_at raw_at fixed_at read_many spell_many fit_many marks reads writes keys new_fields old_fields body entry role_code node_eq bytes_eq bytes_lt part_lt cell_eq chain_of units_of new_unit unit_ask first_missing on_ask unit_step new_layout reply work_asks put_cell work_feed cell_feed entry_size needs_decision page_of entry_of new_seqr seqr_step append_work_asks append_start append_feed verdict read_fault write_fault commit_record new_client entries_at tests refusal appends task_asks client_asks task_feed accepts client_command client_deliver fields_size decided newest log_of entries_of changes_below outcome history_of start latest log history unit_moves seqr_moves client_turned happens limit_of drain_on drain run lines_on first spelled read touched
+unfolding u8_at u16_at u32_at u64_at raw_at fixed_at read_many spell_many fit_many marks reads writes keys new_fields old_fields body entry node_eq bytes_eq bytes_lt part_lt cell_eq chain_of units_of new_unit unit_ask first_missing on_ask unit_step new_layout reply work_asks put_cell work_feed cell_feed entry_size needs_decision page_of entry_of new_seqr seqr_step append_work_asks append_start append_feed verdict read_fault write_fault commit_record new_client entries_at tests refusal appends task_asks client_asks task_feed accepts client_command client_deliver fields_size decided newest log_of entries_of changes_below outcome history_of start latest log history unit_moves seqr_moves client_turned happens limit_of drain_on drain run lines_on first spelled read touched
 told_is = refl
 
 history_is : history all_kinds x7 ≡ done all_kinds counter five 5 ∷ []
-unfolding u8_at u16_at u32_at u64_at raw_at fixed_at read_many spell_many fit_many marks reads writes keys new_fields old_fields body entry role_code node_eq bytes_eq bytes_lt part_lt cell_eq chain_of units_of new_unit unit_ask first_missing on_ask unit_step new_layout reply work_asks put_cell work_feed cell_feed entry_size needs_decision page_of entry_of new_seqr seqr_step append_work_asks append_start append_feed verdict read_fault write_fault commit_record new_client entries_at tests refusal appends task_asks client_asks task_feed accepts client_command client_deliver fields_size decided newest log_of entries_of changes_below outcome history_of start latest log history unit_moves seqr_moves client_turned happens limit_of drain_on drain run lines_on first spelled read touched
+unfolding u8_at u16_at u32_at u64_at raw_at fixed_at read_many spell_many fit_many marks reads writes keys new_fields old_fields body entry node_eq bytes_eq bytes_lt part_lt cell_eq chain_of units_of new_unit unit_ask first_missing on_ask unit_step new_layout reply work_asks put_cell work_feed cell_feed entry_size needs_decision page_of entry_of new_seqr seqr_step append_work_asks append_start append_feed verdict read_fault write_fault commit_record new_client entries_at tests refusal appends task_asks client_asks task_feed accepts client_command client_deliver fields_size decided newest log_of entries_of changes_below outcome history_of start latest log history unit_moves seqr_moves client_turned happens limit_of drain_on drain run lines_on first spelled read touched
 history_is = refl
 
 entries_are : entries_of (log all_kinds x7) ≡ (0, record_of all_kinds counter five 5 (spelled five)) ∷ []
-unfolding u8_at u16_at u32_at u64_at raw_at fixed_at read_many spell_many fit_many marks reads writes keys new_fields old_fields body entry role_code node_eq bytes_eq bytes_lt part_lt cell_eq chain_of units_of new_unit unit_ask first_missing on_ask unit_step new_layout reply work_asks put_cell work_feed cell_feed entry_size needs_decision page_of entry_of new_seqr seqr_step append_work_asks append_start append_feed verdict read_fault write_fault commit_record new_client entries_at tests refusal appends task_asks client_asks task_feed accepts client_command client_deliver fields_size decided newest log_of entries_of changes_below outcome history_of start latest log history unit_moves seqr_moves client_turned happens limit_of drain_on drain run lines_on first spelled read touched
+unfolding u8_at u16_at u32_at u64_at raw_at fixed_at read_many spell_many fit_many marks reads writes keys new_fields old_fields body entry node_eq bytes_eq bytes_lt part_lt cell_eq chain_of units_of new_unit unit_ask first_missing on_ask unit_step new_layout reply work_asks put_cell work_feed cell_feed entry_size needs_decision page_of entry_of new_seqr seqr_step append_work_asks append_start append_feed verdict read_fault write_fault commit_record new_client entries_at tests refusal appends task_asks client_asks task_feed accepts client_command client_deliver fields_size decided newest log_of entries_of changes_below outcome history_of start latest log history unit_moves seqr_moves client_turned happens limit_of drain_on drain run lines_on first spelled read touched
 entries_are = refl
 
 commits : outcome all_kinds (log all_kinds x7) 0 ≡ true
-unfolding u8_at u16_at u32_at u64_at raw_at fixed_at read_many spell_many fit_many marks reads writes keys new_fields old_fields body entry role_code node_eq bytes_eq bytes_lt part_lt cell_eq chain_of units_of new_unit unit_ask first_missing on_ask unit_step new_layout reply work_asks put_cell work_feed cell_feed entry_size needs_decision page_of entry_of new_seqr seqr_step append_work_asks append_start append_feed verdict read_fault write_fault commit_record new_client entries_at tests refusal appends task_asks client_asks task_feed accepts client_command client_deliver fields_size decided newest log_of entries_of changes_below outcome history_of start latest log history unit_moves seqr_moves client_turned happens limit_of drain_on drain run lines_on first spelled read touched
+unfolding u8_at u16_at u32_at u64_at raw_at fixed_at read_many spell_many fit_many marks reads writes keys new_fields old_fields body entry node_eq bytes_eq bytes_lt part_lt cell_eq chain_of units_of new_unit unit_ask first_missing on_ask unit_step new_layout reply work_asks put_cell work_feed cell_feed entry_size needs_decision page_of entry_of new_seqr seqr_step append_work_asks append_start append_feed verdict read_fault write_fault commit_record new_client entries_at tests refusal appends task_asks client_asks task_feed accepts client_command client_deliver fields_size decided newest log_of entries_of changes_below outcome history_of start latest log history unit_moves seqr_moves client_turned happens limit_of drain_on drain run lines_on first spelled read touched
 commits = refl
 
 no_view : (k : ℕ) → (client all_kinds x7 k).view ≡ None
-unfolding u8_at u16_at u32_at u64_at raw_at fixed_at read_many spell_many fit_many marks reads writes keys new_fields old_fields body entry role_code node_eq bytes_eq bytes_lt part_lt cell_eq chain_of units_of new_unit unit_ask first_missing on_ask unit_step new_layout reply work_asks put_cell work_feed cell_feed entry_size needs_decision page_of entry_of new_seqr seqr_step append_work_asks append_start append_feed verdict read_fault write_fault commit_record new_client entries_at tests refusal appends task_asks client_asks task_feed accepts client_command client_deliver fields_size decided newest log_of entries_of changes_below outcome history_of start latest log history unit_moves seqr_moves client_turned happens limit_of drain_on drain run lines_on first spelled read touched
+unfolding u8_at u16_at u32_at u64_at raw_at fixed_at read_many spell_many fit_many marks reads writes keys new_fields old_fields body entry node_eq bytes_eq bytes_lt part_lt cell_eq chain_of units_of new_unit unit_ask first_missing on_ask unit_step new_layout reply work_asks put_cell work_feed cell_feed entry_size needs_decision page_of entry_of new_seqr seqr_step append_work_asks append_start append_feed verdict read_fault write_fault commit_record new_client entries_at tests refusal appends task_asks client_asks task_feed accepts client_command client_deliver fields_size decided newest log_of entries_of changes_below outcome history_of start latest log history unit_moves seqr_moves client_turned happens limit_of drain_on drain run lines_on first spelled read touched
 no_view zero = refl
 no_view (suc k) = refl
 
@@ -363,7 +365,7 @@ true_live_adding = record { replayed = live_replayed; script = lawful_recorded; 
 -- Over a link that hands nothing over it isn't that recording.
 
 unhanded : length (printed cluster l3) ≡ 177
-unfolding u8_at u16_at u32_at u64_at raw_at fixed_at read_many spell_many fit_many marks reads writes keys new_fields old_fields body entry role_code node_eq bytes_eq bytes_lt part_lt cell_eq chain_of units_of new_unit unit_ask first_missing on_ask unit_step new_layout reply work_asks put_cell work_feed cell_feed entry_size needs_decision page_of entry_of new_seqr seqr_step append_work_asks append_start append_feed verdict read_fault write_fault commit_record new_client entries_at tests refusal appends task_asks client_asks task_feed accepts client_command client_deliver fields_size decided newest log_of entries_of changes_below outcome history_of start latest log history unit_moves seqr_moves client_turned happens limit_of drain_on drain run lines_on first spelled read touched rendered digits
+unfolding u8_at u16_at u32_at u64_at raw_at fixed_at read_many spell_many fit_many marks reads writes keys new_fields old_fields body entry node_eq bytes_eq bytes_lt part_lt cell_eq chain_of units_of new_unit unit_ask first_missing on_ask unit_step new_layout reply work_asks put_cell work_feed cell_feed entry_size needs_decision page_of entry_of new_seqr seqr_step append_work_asks append_start append_feed verdict read_fault write_fault commit_record new_client entries_at tests refusal appends task_asks client_asks task_feed accepts client_command client_deliver fields_size decided newest log_of entries_of changes_below outcome history_of start latest log history unit_moves seqr_moves client_turned happens limit_of drain_on drain run lines_on first spelled read touched rendered digits
 unhanded = refl
 
 pub unhanded_isnt : TrueLive link adding_script adding_recording → ⊥

@@ -10,7 +10,7 @@ use Rattle.tg_script.specs.Lines.{line_read, short_read}
 use Rattle.tg_script.specs.declared.line.Line.{Line}
 use Rattle.tg_script.proofs.Clusters.{same_header}
 use Rattle.tg_script.proofs.EventLines.{line_only}
-use Rattle.tg_protocol.specs.Words.{node_eq}
+use Rattle.tg_base.specs.Orders.{node_eq}
 use Rattle.tg_protocol.specs.Units.{new_unit}
 use Rattle.tg_protocol.specs.Clients.{new_client, tests, refusal}
 use Rattle.tg_protocol.specs.ClientSteps.{client_asks, accepts, client_command}

@@ -11,7 +11,7 @@ use Rattle.tg_model.specs.Traces.{Trace, Says, Tells, puts_of}
 use Rattle.tg_model.specs.Legal.{AsksHoldAt, Legal, AnswersRight, IsCommitted, CommitsRight, AbortsRight, EntriesRight}
 use Rattle.tg_model.specs.declared.refusal.Refusal.TheVariants as cause
 use Rattle.tg_model.specs.declared.trace.What.TheVariants as told
-use Rattle.tg_protocol.specs.Entries.{needs_decision}
+use Rattle.tg_entry.specs.Needs.{needs_decision}
 use Rattle.tg_protocol.specs.Views.{Entries}
 use Rattle.tg_protocol.specs.Logs.{entries_of, outcome}
 use Rattle.tg_protocol.specs.Worlds.{World, Told, client, log, history, trace}

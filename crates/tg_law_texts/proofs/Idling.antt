@@ -2,7 +2,7 @@
 use Rattle.std.proofs.Common.{◌≡◌, ℕ, zero, suc, ◌+◌, List, [], ◌∷◌, Some, None, true, false, refl, sym, ap, ◌∙◌, subst, arith}
 use Rattle.std.specs.Prelude.{◌^◌, slice_get}
 use Rattle.std.specs.Fmt.{digits}
-use Rattle.tg_protocol.specs.Words.{node_eq}
+use Rattle.tg_base.specs.Orders.{node_eq}
 use Rattle.tg_protocol.specs.Units.{new_unit}
 use Rattle.tg_protocol.specs.Clients.{new_client, tests, refusal}
 use Rattle.tg_protocol.specs.ClientSteps.{client_asks, accepts, client_command}

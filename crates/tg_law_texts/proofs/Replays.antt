@@ -6,7 +6,7 @@ use Rattle.tg_base.specs.Clusters.{IsHeader}
 use Rattle.tg_model.specs.declared.command.Command.TheVariants as cmd
 use Rattle.tg_model.specs.declared.command.Event.TheVariants as event
 use Rattle.tg_model.specs.declared.trace.What.TheVariants as told
-use Rattle.tg_protocol.specs.Words.{node_eq}
+use Rattle.tg_base.specs.Orders.{node_eq}
 use Rattle.tg_protocol.specs.Units.{new_unit}
 use Rattle.tg_protocol.specs.Clients.{new_client, tests, refusal}
 use Rattle.tg_protocol.specs.ClientSteps.{client_asks, accepts, client_command}

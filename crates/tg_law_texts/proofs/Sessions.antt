@@ -10,7 +10,8 @@ use Rattle.tg_model.specs.declared.command.Command.TheVariants as cmd
 use Rattle.tg_model.specs.declared.command.Event.TheVariants as event
 use Rattle.tg_model.specs.declared.trace.What.TheVariants as told
 use Rattle.tg_model.specs.Kinds.{EventOf}
-use Rattle.tg_protocol.specs.Words.{role_code, node_eq, client_id}
+use Rattle.tg_base.specs.Orders.{node_eq}
+use Rattle.tg_protocol.specs.Words.{client_id}
 use Rattle.tg_protocol.specs.Units.{new_unit}
 use Rattle.tg_protocol.specs.Clients.{new_client, tests, refusal}
 use Rattle.tg_protocol.specs.ClientSteps.{client_asks, accepts, client_command}
@@ -66,11 +67,11 @@ abbrev begun : World all_kinds
 begun = run all_kinds (start all_kinds cluster) events
 
 shows : Shows all_kinds cluster in_order begun
-unfolding run start happens client_turned client_command refusal tests accepts new_client client_asks after given gathered node_step role_code node_eq
+unfolding run start happens client_turned client_command refusal tests accepts new_client client_asks after given gathered node_step node_eq
 shows = record { packets = refl; replies = refl }
 
 nodes_are : (r : Role) (k : ℕ) → node_in all_kinds begun (record { role = r; num = k }) ≡ after all_kinds (node_start all_kinds cluster (record { role = r; num = k })) (one_begins (record { role = r; num = k }))
-unfolding run start happens client_turned client_command refusal tests accepts new_client client_asks after node_step role_code node_eq
+unfolding run start happens client_turned client_command refusal tests accepts new_client client_asks after node_step node_eq
 nodes_are role.Unit zero = refl
 nodes_are role.Unit (suc k) = refl
 nodes_are role.Layout zero = refl
@@ -81,7 +82,7 @@ nodes_are role.Client zero = refl
 nodes_are role.Client (suc k) = ap (λ (b : Bool). after all_kinds (node_start all_kinds cluster (later k)) (if b then begins ∷ [] else [])) (sym (other k))
 
 packets_are : (r : Role) (k : ℕ) → filter (λ (p : Packet). node_eq (record { role = r; num = k }) p.from) begun.packets ≡ given all_kinds (sends_of all_kinds (record { role = r; num = k })) (node_start all_kinds cluster (record { role = r; num = k })) (one_begins (record { role = r; num = k }))
-unfolding run start happens client_turned client_command refusal tests accepts new_client client_asks given node_step role_code node_eq
+unfolding run start happens client_turned client_command refusal tests accepts new_client client_asks given node_step node_eq
 packets_are role.Unit k = refl
 packets_are role.Layout k = refl
 packets_are role.Seqr k = refl
@@ -89,7 +90,7 @@ packets_are role.Client zero = refl
 packets_are role.Client (suc k) = ap (λ (b : Bool). given all_kinds (sends_of all_kinds (later k)) (node_start all_kinds cluster (later k)) (if b then begins ∷ [] else [])) (sym (other k))
 
 replies_are : (r : Role) (k : ℕ) → filter (λ (x : Said all_kinds). node_eq (record { role = r; num = k }) x.node) (said_in all_kinds begun) ≡ given all_kinds (says_of all_kinds (record { role = r; num = k })) (node_start all_kinds cluster (record { role = r; num = k })) (one_begins (record { role = r; num = k }))
-unfolding run start happens client_turned client_command refusal tests accepts new_client client_asks given node_step role_code node_eq
+unfolding run start happens client_turned client_command refusal tests accepts new_client client_asks given node_step node_eq
 replies_are role.Unit k = refl
 replies_are role.Layout k = refl
 replies_are role.Seqr k = refl
@@ -144,11 +145,11 @@ hold = record { header = header; lawful = lawful; kept = kept; order = ordered; 
 -- Others make none.
 
 one_said : said all_kinds cluster in_order ≡ record { node = client_id 0; tx = 1; what = told.Begin } ∷ []
-unfolding client_command refusal tests accepts new_client client_asks after gathered node_step role_code node_eq
+unfolding client_command refusal tests accepts new_client client_asks after gathered node_step node_eq
 one_said = refl
 
 pub idle_makes_none : MakesARun all_kinds cluster idle in_order → ⊥
-unfolding given role_code node_eq
+unfolding given node_eq
 idle_makes_none h =
     let e = ap (λ (xs : List (Said all_kinds)). filter (λ (x : Said all_kinds). node_eq (client_id 0) x.node) xs) (sym (h.shows.replies ∙ one_said)) ∙ h.keeps.replies (client_id 0) in
     absurd cc
@@ -162,7 +163,7 @@ pub unsent_makes_none : (sessions : Sessions) → MakesARun all_kinds cluster se
 unsent_makes_none sessions h = not_sent h.events h.follows
 
 stranger_said : said all_kinds cluster stranger_begins ≡ record { node = client_id 1; tx = 1; what = told.Begin } ∷ []
-unfolding client_command refusal tests accepts new_client client_asks after gathered node_step role_code node_eq
+unfolding client_command refusal tests accepts new_client client_asks after gathered node_step node_eq
 stranger_said = refl
 
 not_told : (events : List (EventOf all_kinds)) → Follows all_kinds (start all_kinds cluster) stranger_begins events → said_in all_kinds (run all_kinds (start all_kinds cluster) events) ≡ []

@@ -4,7 +4,8 @@ use Rattle.tg_base.specs.Clusters.{Header, IsHeader}
 use Rattle.tg_base.specs.declared.ids.NodeId.{NodeId}
 use Rattle.tg_base.specs.declared.msg.Msg.TheVariants as msg
 use Rattle.tg_model.specs.declared.command.Command.TheVariants as cmd
-use Rattle.tg_protocol.specs.Words.{node_eq, client_id, unit_id}
+use Rattle.tg_base.specs.Orders.{node_eq}
+use Rattle.tg_protocol.specs.Words.{client_id, unit_id}
 use Rattle.tg_node_state.specs.Nodes.{InputOf}
 use Rattle.tg_node_state.specs.declared.input.Input.TheVariants as input
 use Rattle.tg_any.specs.AllKinds.{all_kinds}

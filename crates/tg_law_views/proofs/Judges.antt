@@ -9,9 +9,10 @@ use Rattle.tg_entry.specs.declared.entry.Entry.{Entry}
 use Rattle.tg_kind.specs.Meaning.{Meaning}
 use Rattle.tg_model.specs.declared.play.PlayEnd.TheVariants.{Played, Blocked}
 use Rattle.tg_model.specs.declared.play.PlayEnd.{PlayEnd}
-use Rattle.tg_protocol.specs.Words.{with_oid, rising_oids, cell_at}
-use Rattle.tg_base.specs.Orders.{oid_eq, oid_lt}
-use Rattle.tg_protocol.specs.Entries.{is_commit, reads_of, writes_of, read_oid, write_oid, objects_of, needs_decision}
+use Rattle.tg_protocol.specs.Words.{cell_at}
+use Rattle.tg_base.specs.Orders.{oid_eq, oid_lt, with_oid, rising_oids}
+use Rattle.tg_entry.specs.Needs.{reads_of, writes_of, read_oid, write_oid, objects_of, needs_decision}
+use Rattle.tg_protocol.specs.Entries.{is_commit}
 use Rattle.tg_protocol.specs.Views.{Entries, Base, View, base_of, fate_of, Play, Step, On, Stuck, step_at, between, play_on, play_from, play, entry_if}
 use Rattle.tg_protocol.specs.Past.{commit_at}
 use Rattle.tg_protocol.specs.Clients.{Work, Client, entries_at, below, all_entries}

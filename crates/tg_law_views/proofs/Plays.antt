@@ -11,7 +11,8 @@ use Rattle.tg_kind.specs.Meaning.{Meaning}
 use Rattle.tg_model.specs.declared.play.PlayEnd.TheVariants.{Played, Blocked}
 use Rattle.tg_kind.specs.Parts.{overlap}
 use Rattle.tg_base.specs.Orders.{oid_eq}
-use Rattle.tg_protocol.specs.Entries.{is_commit, reads_of, writes_of}
+use Rattle.tg_entry.specs.Needs.{reads_of, writes_of}
+use Rattle.tg_protocol.specs.Entries.{is_commit}
 use Rattle.tg_protocol.specs.Versions.{PartVersion, Changed, noted_or, no_versions, version_of, first_changed}
 use Rattle.tg_protocol.specs.Views.{Entries, decision_in, Verdict, Commits, Aborts, Unknown, Base, View, base_of, base_state, fresh_base, view_start, state_in, state_of, played_versions, played_version, view_version, fate_in, fate_of, past, version_by, version_at, unknown_by, unknown_in, changed_in, by_changes, by_versions, said, by_decision, verdict, with_state, applied, set_state, touched, note, write_by, plays, write, write_all, passed_over, with_fate, with_verdict, with_open, Play, stands_at, Step, On, Stuck, decided_step, record_step, entry_step, step_at, between, play_on, play_from, play}
 use Rattle.tg_protocol.specs.Logs.{version_after, is_current, commits_after, changes_below}

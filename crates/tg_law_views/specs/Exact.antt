@@ -6,7 +6,8 @@ use Rattle.tg_entry.specs.declared.entry.Body.TheVariants.{Decision}
 use Rattle.tg_entry.specs.declared.entry.WriteOp.{WriteOp}
 use Rattle.tg_entry.specs.declared.entry.Entry.{Entry}
 use Rattle.tg_kind.specs.Meaning.{Meaning}
-use Rattle.tg_protocol.specs.Entries.{is_commit, reads_of, writes_of, lists, needs_decision}
+use Rattle.tg_entry.specs.Needs.{reads_of, writes_of, needs_decision}
+use Rattle.tg_protocol.specs.Entries.{is_commit, lists}
 use Rattle.tg_protocol.specs.Views.{Entries, decision_in, Base, View, base_of, fate_of, unknown_in}
 use Rattle.tg_protocol.specs.Checkpoints.{TrimPoints, trim_of, load_from}
 use Rattle.tg_law_plays.specs.Sound.{IsRising}

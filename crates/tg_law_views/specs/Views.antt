@@ -7,7 +7,8 @@ use Rattle.tg_base.specs.declared.marks.ReadMark.{ReadMark}
 use Rattle.tg_entry.specs.declared.entry.WriteOp.{WriteOp}
 use Rattle.tg_entry.specs.declared.entry.Entry.{Entry}
 use Rattle.tg_kind.specs.Meaning.{Meaning}
-use Rattle.tg_protocol.specs.Entries.{is_commit, reads_of, writes_of, lists}
+use Rattle.tg_entry.specs.Needs.{reads_of, writes_of}
+use Rattle.tg_protocol.specs.Entries.{is_commit, lists}
 use Rattle.tg_protocol.specs.Versions.{Changed, version_in, version_of}
 use Rattle.tg_protocol.specs.Views.{Entries, decision_in, unknown_in, Base, View, base_of, state_of, view_version, fate_of}
 use Rattle.tg_law_plays.specs.Sound.{IsRising}

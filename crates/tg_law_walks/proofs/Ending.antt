@@ -9,7 +9,8 @@ use Rattle.tg_base.specs.declared.packet.Packet.{Packet}
 use Rattle.tg_kind.specs.Meaning.{Meaning}
 use Rattle.tg_model.specs.Kinds.{EventOf}
 use Rattle.tg_model.specs.declared.command.Event.TheVariants.{Command as Commands, Deliver, Lose, Tick, Stop}
-use Rattle.tg_protocol.specs.Words.{node_eq, layout_id, client_id, role_code, with_cell}
+use Rattle.tg_base.specs.Orders.{node_eq}
+use Rattle.tg_protocol.specs.Words.{layout_id, client_id, with_cell}
 use Rattle.tg_protocol.specs.Requests.{awaits, Next, Goes, Learns, Ends}
 use Rattle.tg_protocol.specs.Replies.{Reply, IsLatest, reply}
 use Rattle.tg_protocol.specs.Syncing.{Sync, Confirmed, sync_feed}
@@ -218,7 +219,7 @@ module _ (m : Meaning) (l : Log) (byp : IsByPosition l) (linked : AreLinked l) w
   work_found c (Some w) from rid x h k = reply_found c w from rid x h k
 
   same_node : (a b : NodeId) → node_eq a b ≡ true → a ≡ b
-  unfolding node_eq role_code
+  unfolding node_eq
   same_node a b h = grind arith
 
   packet_found : (w : World m) (k : ℕ) (p : Option Packet) → IsAtWork m l (client m w k) (client m w k).work →

@@ -13,7 +13,8 @@ use Rattle.tg_codec.specs.Reading.{meets}
 use Rattle.tg_codec.specs.Streams.{any}
 use Rattle.tg_kind.specs.Bytes.{IsBytes}
 use Rattle.tg_kind.specs.Headers.{is_header}
-use Rattle.tg_kind.specs.Parts.{overlap, is_part}
+use Rattle.tg_base.specs.Parts.{is_part}
+use Rattle.tg_kind.specs.Parts.{overlap}
 use Rattle.tg_kind.specs.Words as words
 use Rattle.tg_kind.specs.Texts.{text_format, text_law}
 use Rattle.tg_list.specs.declared.text_list.TextListOp.{TextListOp}

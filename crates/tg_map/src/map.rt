@@ -4,7 +4,8 @@ ghost use Rattle.std.specs.Prelude.{◌≡◌, ◌++◌, true, false, [], Ok, If
 ghost use Rattle.std.specs.Map.{keys_of};
 ghost use Rattle.tg_codec.specs.Reading.{Gives};
 ghost use Rattle.tg_codec.specs.Codec.{read_many, spell_many};
-ghost use Rattle.tg_kind.specs.Parts.{part_of, is_part};
+ghost use Rattle.tg_base.specs.Parts.{is_part};
+ghost use Rattle.tg_kind.specs.Parts.{part_of};
 ghost use Rattle.tg_kind.specs.Texts.{text_format};
 ghost use Rattle.tg_base.specs.declared.marks.Part.TheVariants as part;
 ghost use Rattle.tg_map.specs.Maps.{is_object, is_state, is_of, first, applied, answered, touched, looked, saved, loaded, state_format, op_format, takes, set_pair, unset_pair, value_of, has_key, new_key, pair, after_pair};

@@ -12,7 +12,7 @@ use Rattle.tg_model.specs.declared.history.Done.{Done}
 use Rattle.tg_picture.specs.declared.picture.LogBox.{LogBox}
 use Rattle.tg_picture.specs.declared.picture.Standing.{Standing}
 use Rattle.tg_picture.specs.declared.picture.Standing.TheVariants.{Committed, Aborted, Undecided, Decision, Checkpoint, Junk}
-use Rattle.tg_protocol.specs.Entries.{needs_decision}
+use Rattle.tg_entry.specs.Needs.{needs_decision}
 use Rattle.tg_protocol.specs.Logs.{Log}
 use Rattle.tg_protocol.specs.Pages.{entry_in}
 

@@ -8,7 +8,6 @@ pub mod Places
 pub mod Hosting
 pub mod Lawful
 pub mod Telling
-pub mod Needs
 pub mod Deciding
 pub mod Starting
 pub mod Stepping

@@ -8,7 +8,7 @@ use Rattle.tg_base.specs.declared.marks.ReadMark.{ReadMark}
 use Rattle.tg_entry.specs.declared.entry.Entry.{Entry}
 use Rattle.tg_entry.specs.declared.entry.WriteOp.{WriteOp}
 use Rattle.tg_kind.specs.Meaning.{Meaning}
-use Rattle.tg_protocol.specs.Entries.{reads_of}
+use Rattle.tg_entry.specs.Needs.{reads_of}
 use Rattle.tg_protocol.specs.Versions.{Changed, first_changed}
 use Rattle.tg_protocol.specs.Views as told
 

@@ -10,15 +10,14 @@ use Rattle.tg_base.specs.declared.marks.Part.{Part}
 use Rattle.tg_entry.specs.declared.entry.WriteOp.{WriteOp}
 use Rattle.tg_entry.specs.declared.entry.Entry.{Entry}
 use Rattle.tg_kind.specs.Meaning.{Meaning}
-use Rattle.tg_entry.specs.Needs as short
-use Rattle.tg_protocol.specs.Entries.{is_commit, writes_of, needs_decision}
+use Rattle.tg_entry.specs.Needs.{writes_of, needs_decision}
+use Rattle.tg_protocol.specs.Entries.{is_commit}
 use Rattle.tg_protocol.specs.Views as told
 use Rattle.tg_protocol.specs.Views.{Entries, decision_in}
 use Rattle.tg_play.specs.Kept.{Kept, Hosts, at_position, fates_kept, rising_positions, decisions_kept}
 use Rattle.tg_play.specs.Relations.{AtMost, KeepsObjects, KeepsTo, Stepped, record_made}
 use Rattle.tg_play.proofs.Own.{at_most_more}
 use Rattle.tg_play.proofs.Places.{decisions_told}
-use Rattle.tg_play.proofs.Needs.{needs_same}
 
 module _ (m : Meaning) where
   abbrev pub opened : Kept m.state → ℕ → Bool → Kept m.state
@@ -197,13 +196,13 @@ module _ (m : Meaning) where
   unfolding told.step_at told.verdict
   record_step_is v es p e needs d is needed said = made_by v es p e needs d (is_commit e) refl is needed said
 
-  -- the same where the view's own decisions are looked at, and the shorter word for the need
+  -- the same where the view's own decisions are looked at
   pub commit_made : (v : told.View m) (es : Entries) (p : ℕ) (e : Entry) (ds : List (ℕ × Bool)) (decision : Option Bool) (needs : Bool) (d : told.Verdict) → is_commit e ≡ true
-      → ds ≡ decisions_kept es → decision ≡ at_position ds p → needs ≡ (short.needs_decision e && not (is_some decision)) → d ≡ told.by_decision m v e p decision
+      → ds ≡ decisions_kept es → decision ≡ at_position ds p → needs ≡ (needs_decision e && not (is_some decision)) → d ≡ told.by_decision m v e p decision
       → record_made m v p e needs d ≡ told.step_at m v es p e
   commit_made v es p e ds decision needs d is kept found needed said =
       let same : decision ≡ decision_in es p = found ∙ ap (λ (xs : List (ℕ × Bool)). at_position xs p) kept ∙ decisions_told es p in
-      record_step_is v es p e needs d is (needed ∙ (λ i. needs_same e i && not (is_some (same i)))) (said ∙ (λ i. told.by_decision m v e p (same i)))
+      record_step_is v es p e needs d is (needed ∙ (λ i. needs_decision e && not (is_some (same i)))) (said ∙ (λ i. told.by_decision m v e p (same i)))
 
   pub other_step : (c : Kept m.state) (v : told.View m) (es : Entries) (p : ℕ) (e : Entry) → is_commit e ≡ false → KeepsTo m p c v → Stepped m p c v None (told.step_at m v es p e)
   unfolding told.step_at

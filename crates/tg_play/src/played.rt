@@ -9,7 +9,7 @@ ghost use Rattle.tg_entry.specs.Drafts.{IsInOrder};
 ghost use Rattle.tg_entry.specs.declared.entry.Entry.{Entry};
 ghost use Rattle.tg_entry.specs.declared.entry.WriteOp.{WriteOp};
 ghost use Rattle.tg_kind.specs.Of.{meaning_of};
-ghost use Rattle.tg_protocol.specs.Entries.{reads_of, writes_of};
+ghost use Rattle.tg_entry.specs.Needs.{reads_of, writes_of};
 ghost use Rattle.tg_protocol.specs.Views as told;
 ghost use Rattle.tg_vers.specs.Kept.{first_other};
 ghost use Rattle.tg_play.specs.Kept.{decisions_kept};

@@ -3,7 +3,7 @@
 ghost use Rattle.std.specs.Prelude.{◌≡◌, is_some, if◌then◌else◌};
 ghost use Rattle.tg_kind.specs.Of.{meaning_of};
 ghost use Rattle.tg_entry.specs.declared.entry.Entry.{Entry};
-ghost use Rattle.tg_protocol.specs.Entries.{reads_of};
+ghost use Rattle.tg_entry.specs.Needs.{reads_of};
 ghost use Rattle.tg_protocol.specs.Views as told;
 ghost use Rattle.tg_vers.specs.Kept.{first_other};
 ghost use Rattle.tg_play.specs.Relations.{KeepsObjects, told_verdict};

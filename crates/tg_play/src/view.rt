@@ -5,7 +5,7 @@ ghost use Rattle.std.specs.Option.{option_copied};
 ghost use Rattle.tg_base.specs.declared.marks.Part.TheVariants.{All};
 ghost use Rattle.tg_entry.specs.declared.entry.Entry.{Entry};
 ghost use Rattle.tg_kind.specs.Of.{meaning_of};
-ghost use Rattle.tg_protocol.specs.Entries.{reads_of as told_reads};
+ghost use Rattle.tg_entry.specs.Needs.{reads_of as told_reads};
 ghost use Rattle.tg_protocol.specs.Views as told;
 ghost use Rattle.tg_protocol.specs.Views.{decision_in};
 ghost use Rattle.tg_protocol.specs.Words.{or_else};

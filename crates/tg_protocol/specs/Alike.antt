@@ -14,7 +14,8 @@ use Rattle.tg_kind.specs.Meaning.{Meaning}
 use Rattle.tg_protocol.specs.Words.{client_id, unit_id, seqr_id, directory}
 use Rattle.tg_protocol.specs.Layouts.{units_of}
 use Rattle.tg_protocol.specs.Trimming.{has_stripe}
-use Rattle.tg_protocol.specs.Entries.{is_commit, needs_decision}
+use Rattle.tg_entry.specs.Needs.{needs_decision}
+use Rattle.tg_protocol.specs.Entries.{is_commit}
 use Rattle.tg_protocol.specs.Versions.{version_in}
 use Rattle.tg_protocol.specs.Views.{View, fate_of}
 use Rattle.tg_protocol.specs.Logs.{entries_of, version, outcome}

@@ -10,8 +10,10 @@ use Rattle.tg_entry.specs.declared.entry.Entry.{Entry}
 use Rattle.tg_kind.specs.Meaning.{Meaning}
 use Rattle.tg_model.specs.declared.play.PlayEnd.{PlayEnd}
 use Rattle.tg_model.specs.declared.play.PlayEnd.TheVariants.{Played, Blocked}
-use Rattle.tg_protocol.specs.Words.{has_num, with_oid, directory}
-use Rattle.tg_protocol.specs.Entries.{draft, streams_of, reads_of, needs_decision, entry_size}
+use Rattle.tg_base.specs.Orders.{with_oid}
+use Rattle.tg_protocol.specs.Words.{has_num, directory}
+use Rattle.tg_entry.specs.Needs.{reads_of, needs_decision}
+use Rattle.tg_protocol.specs.Entries.{draft, streams_of, entry_size}
 use Rattle.tg_protocol.specs.Requests.{Next, Goes, Turn}
 use Rattle.tg_protocol.specs.Appending.{Append, AppendEnd, append_start}
 use Rattle.tg_protocol.specs.Syncing.{Sync, Confirmed, sync_start}

@@ -22,9 +22,11 @@ use Rattle.tg_model.specs.Kinds.{CommandOf, EventOf, WhatOf}
 use Rattle.tg_model.specs.Stores.{state_at}
 use Rattle.tg_model.specs.Words.{word_of}
 use Rattle.tg_proj.specs.Places.{chain_at}
-use Rattle.tg_protocol.specs.Words.{client_id, unit_id, directory, with_oid, or_else}
+use Rattle.tg_base.specs.Orders.{with_oid}
+use Rattle.tg_protocol.specs.Words.{client_id, unit_id, directory, or_else}
 use Rattle.tg_protocol.specs.Layouts.{change_fault, next_of}
-use Rattle.tg_protocol.specs.Entries.{is_commit, lists, needs_decision, reads_of, entry_size}
+use Rattle.tg_entry.specs.Needs.{needs_decision, reads_of}
+use Rattle.tg_protocol.specs.Entries.{is_commit, lists, entry_size}
 use Rattle.tg_protocol.specs.Transactions.{Tx, read_before, with_read, tx_streams, record_size}
 use Rattle.tg_protocol.specs.Logs.{version}
 use Rattle.tg_protocol.specs.Checkpoints.{base_at, checkpoint}

@@ -7,7 +7,8 @@ use Rattle.tg_entry.specs.declared.entry.Body.TheVariants.{Checkpoint}
 use Rattle.tg_entry.specs.declared.entry.Entry.{Entry}
 use Rattle.tg_kind.specs.Meaning.{Meaning}
 use Rattle.tg_base.specs.Orders.{oid_eq}
-use Rattle.tg_protocol.specs.Entries.{draft, lists, needs_decision}
+use Rattle.tg_entry.specs.Needs.{needs_decision}
+use Rattle.tg_protocol.specs.Entries.{draft, lists}
 use Rattle.tg_protocol.specs.Versions.{Versions, based, Parts}
 use Rattle.tg_protocol.specs.Views.{Entries, decision_in, Base, View, state_of, view_version, view_parts, fresh_base}
 

@@ -9,7 +9,8 @@ use Rattle.tg_base.specs.declared.msg.Msg.{Msg}
 use Rattle.tg_base.specs.declared.msg.Msg.TheVariants as msg
 use Rattle.tg_base.specs.declared.packet.Out.{Out}
 use Rattle.tg_kind.specs.Meaning.{Meaning}
-use Rattle.tg_protocol.specs.Words.{node_eq, layout_id, with_num, with_cell, with_oid, numbers}
+use Rattle.tg_base.specs.Orders.{node_eq, with_oid}
+use Rattle.tg_protocol.specs.Words.{layout_id, with_num, with_cell, numbers}
 use Rattle.tg_protocol.specs.Entries.{link_of, backs_of}
 use Rattle.tg_protocol.specs.Requests.{awaits, drawn_from, Waits, waits_for, asked_of, Next, Goes, Learns, Ends, Turn}
 use Rattle.tg_protocol.specs.Replies.{Reply, IsLatest, reply}

@@ -10,8 +10,8 @@ use Rattle.tg_entry.specs.declared.entry.WriteOp.{WriteOp}
 use Rattle.tg_entry.specs.declared.entry.Body.{Body}
 use Rattle.tg_entry.specs.declared.entry.Body.TheVariants.{Commit, Decision, Checkpoint}
 use Rattle.tg_entry.specs.declared.entry.Entry.{Entry}
-use Rattle.tg_protocol.specs.Words.{rising_oids, where_true}
-use Rattle.tg_base.specs.Orders.{oid_eq}
+use Rattle.tg_protocol.specs.Words.{where_true}
+use Rattle.tg_base.specs.Orders.{oid_eq, rising_oids}
 
 -- Sizes, in bytes.
 
@@ -86,36 +86,8 @@ abbrev pub body_commits : Body → Bool
 body_commits (Commit rs ws) = true
 body_commits _ = false
 
-abbrev pub reads_in : Body → List ReadMark
-reads_in (Commit rs ws) = rs
-reads_in _ = []
-
-abbrev pub writes_in : Body → List WriteOp
-writes_in (Commit rs ws) = ws
-writes_in _ = []
-
 abbrev pub is_commit : Entry → Bool
 is_commit e = body_commits e.body
-
-abbrev pub reads_of : Entry → List ReadMark
-reads_of e = reads_in e.body
-
-abbrev pub writes_of : Entry → List WriteOp
-writes_of e = writes_in e.body
-
-abbrev pub read_oid : ReadMark → Oid
-read_oid r = r.oid
-
-abbrev pub write_oid : WriteOp → Oid
-write_oid w = w.oid
-
--- the objects that it reads or writes, each once
-abbrev pub objects_of : Entry → List Oid
-objects_of e = rising_oids (map read_oid (reads_of e) ++ map write_oid (writes_of e))
-
--- a client that hosts one of its objects may be unable to decide it
-unfoldable pub needs_decision : Entry → Bool
-needs_decision e = not (length (reads_of e) == 0) && nat_le 2 (length (objects_of e))
 
 -- a decision record for this position, and what it says
 abbrev pub decides : ℕ → Body → Option Bool

@@ -10,7 +10,8 @@ use Rattle.tg_model.specs.declared.command.Command.TheVariants as cmd
 use Rattle.tg_model.specs.declared.refusal.Refusal.TheVariants as cause
 use Rattle.tg_model.specs.declared.trace.What.TheVariants as told
 use Rattle.tg_model.specs.Kinds.{CommandOf, WhatOf}
-use Rattle.tg_protocol.specs.Words.{node_eq, unit_id, layout_id, seqr_id, client_id, numbers}
+use Rattle.tg_base.specs.Orders.{node_eq}
+use Rattle.tg_protocol.specs.Words.{unit_id, layout_id, seqr_id, client_id, numbers}
 use Rattle.tg_protocol.specs.Layouts.{units_of, next_units}
 use Rattle.tg_protocol.specs.Sequencers.{SeqrState}
 use Rattle.tg_protocol.specs.Clients.{Work}
@@ -81,13 +82,13 @@ module _ (m : Meaning) where
 
   -- The bound: c is the length of the longest chain, next is the sequencer's next position, n is how many units there
   -- are.
-  abbrev pub bound : CommandOf m → ℕ → ℕ → ℕ → ℕ
-  bound cmd.Trim c next n = 16 * c * (next + 4) + 2 * n
-  bound (cmd.Rescue p) c next n = 128 * (16 * c * (next + 4))
-  bound x c next n = 16 * c * (next + 4)
+  abbrev pub most_deliveries : CommandOf m → ℕ → ℕ → ℕ → ℕ
+  most_deliveries cmd.Trim c next n = 16 * c * (next + 4) + 2 * n
+  most_deliveries (cmd.Rescue p) c next n = 128 * (16 * c * (next + 4))
+  most_deliveries x c next n = 16 * c * (next + 4)
 
-  abbrev pub bound_in : World m → CommandOf m → ℕ
-  bound_in w x = bound x (longest_chain (latest m w)) (seqr m w (latest m w).seq).next w.cluster.units
+  abbrev pub most_deliveries_in : World m → CommandOf m → ℕ
+  most_deliveries_in w x = most_deliveries x (longest_chain (latest m w)) (seqr m w (latest m w).seq).next w.cluster.units
 
   abbrev pub NoReconf : CommandOf m → Type 0
   NoReconf (cmd.Reconf c) = ⊥
@@ -113,7 +114,7 @@ module _ (m : Meaning) where
 
   abbrev pub CommandFinishes : World m → Type 0
   CommandFinishes w = (k : ℕ) (x : CommandOf m) → WaitsAlone w k x → IsReadyFor w k → IsSpareReady w x → NoReconf x →
-      Finishes w (settle m w).world k (bound_in w x) (λ what. Unit {0})
+      Finishes w (settle m w).world k (most_deliveries_in w x) (λ what. Unit {0})
 
   -- Reconfigurations.
 

@@ -17,7 +17,8 @@ use Rattle.tg_model.specs.Stores.{state_at}
 use Rattle.tg_model.specs.Traces.{Trace, Tells, puts_of, point_of}
 use Rattle.tg_model.specs.Legal.{AnswersRight, CommitsRight, EntriesRight, HasNoAsk, InOrder}
 use Rattle.tg_protocol.specs.Words.{directory}
-use Rattle.tg_protocol.specs.Entries.{is_commit, needs_decision, lists, reads_of, writes_of, streams_of}
+use Rattle.tg_entry.specs.Needs.{needs_decision, reads_of, writes_of}
+use Rattle.tg_protocol.specs.Entries.{is_commit, lists, streams_of}
 use Rattle.tg_entry.specs.Records.{linked}
 use Rattle.tg_protocol.specs.Appending.{Append}
 use Rattle.tg_protocol.specs.Checkpoints.{base_at}

@@ -13,11 +13,12 @@ use Rattle.tg_base.specs.declared.packet.Packet.{Packet}
 use Rattle.tg_entry.specs.declared.entry.WriteOp.{WriteOp}
 use Rattle.tg_entry.specs.declared.entry.Entry.{Entry}
 use Rattle.tg_kind.specs.Meaning.{Meaning}
-use Rattle.tg_protocol.specs.Words.{node_eq, layout_id, cell_eq, cell_at, with_nums, where_true, or_else}
-use Rattle.tg_base.specs.Orders.{ballot_eq}
+use Rattle.tg_protocol.specs.Words.{layout_id, cell_eq, cell_at, with_nums, where_true, or_else}
+use Rattle.tg_base.specs.Orders.{ballot_eq, node_eq}
 use Rattle.tg_protocol.specs.Layouts.{chain_of}
 use Rattle.tg_protocol.specs.Units.{UnitState, new_unit}
-use Rattle.tg_protocol.specs.Entries.{is_commit, reads_of, writes_of, lists}
+use Rattle.tg_entry.specs.Needs.{reads_of, writes_of}
+use Rattle.tg_protocol.specs.Entries.{is_commit, lists}
 use Rattle.tg_protocol.specs.Pages.{entry_in, cell_entry}
 use Rattle.tg_protocol.specs.Walking.{Trail, trail, next_of_trail, trail_after, pointers_at}
 use Rattle.tg_protocol.specs.Versions.{PartVersion, noted_or}

@@ -6,7 +6,8 @@ use Rattle.tg_kind.specs.Meaning.{Meaning}
 use Rattle.tg_model.specs.declared.play.PlayEnd.{PlayEnd}
 use Rattle.tg_model.specs.declared.play.PlayEnd.TheVariants.{Played, Blocked}
 use Rattle.tg_protocol.specs.Words.{has_oid}
-use Rattle.tg_protocol.specs.Entries.{is_commit, needs_decision}
+use Rattle.tg_entry.specs.Needs.{needs_decision}
+use Rattle.tg_protocol.specs.Entries.{is_commit}
 use Rattle.tg_protocol.specs.Views.{Entries, decision_in, Verdict, Commits, Aborts, Unknown, Base, View, Play, view_start, fresh_base, view_outcome, play}
 use Rattle.tg_protocol.specs.Checkpoints.{TrimPoints, trim_of, bases_in, greatest_base, within, base_or, load_from, view_bases}
 

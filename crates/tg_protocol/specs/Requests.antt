@@ -4,7 +4,8 @@ use Rattle.std.specs.List.{list_any}
 use Rattle.tg_base.specs.declared.ids.NodeId.{NodeId}
 use Rattle.tg_base.specs.declared.msg.Msg.{Msg}
 use Rattle.tg_base.specs.declared.packet.Out.{Out}
-use Rattle.tg_protocol.specs.Words.{node_eq, numbers}
+use Rattle.tg_base.specs.Orders.{node_eq}
+use Rattle.tg_protocol.specs.Words.{numbers}
 
 abbrev pub out : NodeId → ℕ → Msg → Out
 out to rid m = record { to = to; rid = rid; msg = m }

@@ -9,10 +9,11 @@ use Rattle.tg_base.specs.declared.marks.ReadMark.{ReadMark}
 use Rattle.tg_entry.specs.declared.entry.WriteOp.{WriteOp}
 use Rattle.tg_entry.specs.declared.entry.Body.TheVariants.{Commit}
 use Rattle.tg_entry.specs.declared.entry.Entry.{Entry}
-use Rattle.tg_protocol.specs.Words.{part_lt, rising_oids, first_some, where_true}
+use Rattle.tg_protocol.specs.Words.{part_lt, first_some, where_true}
 use Rattle.tg_kind.specs.Parts.{part_eq}
-use Rattle.tg_base.specs.Orders.{oid_eq, oid_lt}
-use Rattle.tg_protocol.specs.Entries.{draft, write_oid, commit_size}
+use Rattle.tg_base.specs.Orders.{oid_eq, oid_lt, rising_oids}
+use Rattle.tg_entry.specs.Needs.{write_oid}
+use Rattle.tg_protocol.specs.Entries.{draft, commit_size}
 
 pub record Tx : Type 0 where
   pub number : ℕ

@@ -12,7 +12,8 @@ use Rattle.tg_model.specs.declared.play.PlayEnd.{PlayEnd}
 use Rattle.tg_model.specs.declared.play.PlayEnd.TheVariants.{Played, Blocked}
 use Rattle.tg_protocol.specs.Words.{or_else}
 use Rattle.tg_base.specs.Orders.{oid_eq}
-use Rattle.tg_protocol.specs.Entries.{is_commit, reads_of, writes_of, decides, needs_decision}
+use Rattle.tg_entry.specs.Needs.{reads_of, writes_of, needs_decision}
+use Rattle.tg_protocol.specs.Entries.{is_commit, decides}
 use Rattle.tg_protocol.specs.Versions.{Versions, PartVersion, Changed, no_versions, version_of, first_changed, Parts, parts_of}
 
 -- entries with their positions, rising

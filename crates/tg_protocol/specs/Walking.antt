@@ -85,8 +85,8 @@ seen_with w q ps = record w { trail = trail_after w.trail q ps; members = member
 abbrev pub visited : Walk → ℕ → Cell → Walk
 visited w q c = seen_with w q (pointers_at w.oid q c)
 
-abbrev pub walked : Walk → Option ℕ → Members
-walked w gone = record { list = w.members; gone = gone; cells = w.cells }
+abbrev pub walk_members : Walk → Option ℕ → Members
+walk_members w gone = record { list = w.members; gone = gone; cells = w.cells }
 
 abbrev pub with_job : Walk → CellJob → Walk
 with_job w j = record w { job = Some j }
@@ -108,9 +108,9 @@ next_visit w = at_least w.lo (next_of_trail w.trail)
 
 -- on over known cells, to the first that must be read or to the end; each visit goes further down, so n need only be past the first position
 unfoldable pub walk_on : Layout → ℕ → ℕ → Walk → WalkTurn
-walk_on p next zero w = ends next (walked w None)
+walk_on p next zero w = ends next (walk_members w None)
 walk_on p next (suc n) w = elim (next_visit w) as (λ _. WalkTurn) [
-  | None ↦ ends next (walked w None)
+  | None ↦ ends next (walk_members w None)
   | Some q ↦ elim (cell_at w.cells q) as (λ _. WalkTurn) [
     | Some c ↦ walk_on p next n (visited w q c)
     | None ↦ reads_turn w (get_cell (place_in p q) next)
@@ -121,18 +121,18 @@ abbrev pub steps_left : Option ℕ → ℕ
 steps_left None = 1
 steps_left (Some q) = q + 2
 
-abbrev pub walks : Layout → ℕ → Walk → WalkTurn
-walks p next w = walk_on p next (steps_left (next_visit w)) w
+abbrev pub walk_from : Layout → ℕ → Walk → WalkTurn
+walk_from p next w = walk_on p next (steps_left (next_visit w)) w
 
 unfoldable pub walk_start : Layout → Oid → List ℕ → ℕ → List (ℕ × Cell) → ℕ → WalkTurn
-walk_start p o lasts lo cells next = walks p next (record { oid = o; lo = lo; cells = cells; trail = trail lasts 0; members = []; job = None })
+walk_start p o lasts lo cells next = walk_from p next (record { oid = o; lo = lo; cells = cells; trail = trail lasts 0; members = []; job = None })
 
 abbrev pub read_at : Walk → ℕ → Cell → Walk
 read_at w q c = visited (record w { cells = with_cell w.cells q c }) q c
 
 abbrev pub walk_end : Layout → Walk → ℕ → CellEnd → ℕ → WalkTurn
-walk_end p w q (Done c) next = walks p next (read_at w q c)
-walk_end p w q (Gone b) next = met_gone b (ends next (walked w (Some b)))
+walk_end p w q (Done c) next = walk_from p next (read_at w q c)
+walk_end p w q (Gone b) next = met_gone b (ends next (walk_members w (Some b)))
 walk_end p w q (Fenced u e) next = learns next w
 walk_end p w q _ next = passes next w
 
@@ -151,4 +151,4 @@ walk_feed p w (Some j) u x next = walk_turn p w j.place.pos (cell_feed j u x nex
 
 -- in a newer layout it goes on where it was
 abbrev pub walk_again : Layout → Walk → ℕ → WalkTurn
-walk_again p w next = walks p next w
+walk_again p w next = walk_from p next w

@@ -17,15 +17,6 @@ use Rattle.tg_base.specs.declared.marks.Part.TheVariants.{All, Text, Num}
 
 -- Nodes.
 
-unfoldable pub role_code : Role → ℕ
-role_code role.Unit = 0
-role_code role.Layout = 1
-role_code role.Seqr = 2
-role_code role.Client = 3
-
-unfoldable pub node_eq : NodeId → NodeId → Bool
-node_eq a b = (role_code a.role == role_code b.role) && (a.num == b.num)
-
 abbrev pub unit_id : ℕ → NodeId
 unit_id n = record { role = role.Unit; num = n }
 
@@ -100,15 +91,6 @@ with_num x (y ∷ ys) = if nat_lt x y then x ∷ y ∷ ys else (if x == y then y
 abbrev pub with_nums : List ℕ → List ℕ → List ℕ
 with_nums [] ys = ys
 with_nums (x ∷ xs) ys = with_num x (with_nums xs ys)
-
--- a rising list with one object more
-abbrev pub with_oid : Oid → List Oid → List Oid
-with_oid x [] = x ∷ []
-with_oid x (y ∷ ys) = if oid_lt x y then x ∷ y ∷ ys else (if oid_eq x y then y ∷ ys else y ∷ with_oid x ys)
-
-abbrev pub rising_oids : List Oid → List Oid
-rising_oids [] = []
-rising_oids (x ∷ xs) = with_oid x (rising_oids xs)
 
 -- so many numbers, rising from a first one
 abbrev pub numbers : ℕ → ℕ → List ℕ

@@ -14,7 +14,8 @@ use Rattle.tg_base.specs.declared.msg.Msg.{Msg}
 use Rattle.tg_base.specs.declared.packet.Out.{Out}
 use Rattle.tg_base.specs.declared.packet.Packet.{Packet}
 use Rattle.tg_kind.specs.Meaning.{Meaning}
-use Rattle.tg_protocol.specs.Words.{node_eq, unit_id, layout_id, seqr_id, client_id, with_cell, numbers, first_some, where_true}
+use Rattle.tg_base.specs.Orders.{node_eq}
+use Rattle.tg_protocol.specs.Words.{unit_id, layout_id, seqr_id, client_id, with_cell, numbers, first_some, where_true}
 use Rattle.tg_protocol.specs.Layouts.{first_layout}
 use Rattle.tg_protocol.specs.Units.{UnitState, UnitTurn, new_unit, unit_step}
 use Rattle.tg_protocol.specs.LayoutServers.{LayoutState, new_layout, layout_step}

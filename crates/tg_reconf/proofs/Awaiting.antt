@@ -8,7 +8,8 @@ use Rattle.tg_base.specs.declared.change.Join.{Join}
 use Rattle.tg_base.specs.declared.ids.Role.{Role}
 use Rattle.tg_base.specs.declared.ids.Role.TheVariants as role
 use Rattle.tg_base.specs.declared.packet.Out.{Out}
-use Rattle.tg_protocol.specs.Words.{node_eq, unit_id}
+use Rattle.tg_base.specs.Orders.{node_eq}
+use Rattle.tg_protocol.specs.Words.{unit_id}
 use Rattle.tg_protocol.specs.Requests.{out, awaits, Waits, asked_of}
 use Rattle.tg_protocol.specs.Reconfiguring.{Reconf, reconf_asks, reconf_awaited, reconf_work_asks, join_asks, stage_asks, later_asks, set_asks}
 use Rattle.tg_reconf.specs.declared.plan.Plan.{Plan}

@@ -6,7 +6,8 @@ use Rattle.tg_base.specs.Changes.{Changed}
 use Rattle.tg_base.specs.declared.ids.NodeId.{NodeId}
 use Rattle.tg_base.specs.declared.msg.Msg.{Msg}
 use Rattle.tg_base.specs.declared.packet.Packet.{Packet}
-use Rattle.tg_protocol.specs.Words.{node_eq, layout_id}
+use Rattle.tg_base.specs.Orders.{node_eq}
+use Rattle.tg_protocol.specs.Words.{layout_id}
 use Rattle.tg_protocol.specs.Layouts.{next_units}
 use Rattle.tg_protocol.specs.Replies.{Reply, IsFenced, IsSealed, IsMissing, IsWhole, IsPromise, IsNack, IsAccepted, IsLatest, IsTail, IsOldEpoch, reply}
 use Rattle.tg_protocol.specs.Requests.{Waits, without_wait, Next, Goes, Learns, Ends, turn, awaits}

@@ -7,7 +7,7 @@ use Rattle.tg_kind.specs.Meaning.{Meaning}
 use Rattle.tg_model.specs.declared.play.PlayEnd.{PlayEnd}
 use Rattle.tg_model.specs.declared.play.PlayEnd.TheVariants.{Played, Blocked}
 use Rattle.tg_protocol.specs.Words.{has_oid}
-use Rattle.tg_protocol.specs.Entries.{needs_decision}
+use Rattle.tg_entry.specs.Needs.{needs_decision}
 use Rattle.tg_protocol.specs.Views.{Entries, decision_in, Verdict, Commits, Aborts, Unknown, View, Play, view_outcome}
 use Rattle.tg_protocol.specs.Past.{RescueTurn, Absent, StuckAt, commit_at, record_block, entry_block, block_in, known_by, at_record, grows, rescue_by, rescue_played}
 use Rattle.tg_rescue.specs.Answers.{stuck_or_absent, by_block, judged_by}

@@ -18,7 +18,8 @@ use Rattle.tg_codec.proofs.Shapes.{tagged_law, chosen_law, behind_many_exact}
 use Rattle.tg_codec.proofs.Widths.{u32_law, u64_law}
 use Rattle.tg_kind.specs.Bytes.{IsBytes}
 use Rattle.tg_kind.specs.Headers.{is_header}
-use Rattle.tg_kind.specs.Parts.{overlap, is_part}
+use Rattle.tg_base.specs.Parts.{is_part}
+use Rattle.tg_kind.specs.Parts.{overlap}
 use Rattle.tg_kind.specs.Words.{after}
 use Rattle.tg_kind.specs.Words as words
 use Rattle.tg_set.specs.declared.set.SetOp.{SetOp}

@@ -5,7 +5,8 @@ ghost use Rattle.tg_base.specs.declared.marks.Part.TheVariants as part;
 ghost use Rattle.tg_codec.specs.Codec.{u64, read_many, spell_many};
 ghost use Rattle.tg_codec.specs.Reading.{Gives};
 ghost use Rattle.tg_codec.specs.Streams.{any};
-ghost use Rattle.tg_kind.specs.Parts.{part_of, is_part};
+ghost use Rattle.tg_base.specs.Parts.{is_part};
+ghost use Rattle.tg_kind.specs.Parts.{part_of};
 ghost use Rattle.tg_set.specs.Sets.{is_object, is_state, is_of, first, applied, answered, touched, looked, saved, loaded, state_format, op_format, has, takes, with_number, without_number, between, rises, number_format, after_number};
 
 use std::alloc::Global;

@@ -10,7 +10,7 @@ use Rattle.tg_protocol.specs.Words.{cell_at}
 use Rattle.tg_protocol.specs.Requests.{Next, Goes, Learns, Ends, awaits}
 use Rattle.tg_protocol.specs.Replies.{Reply, reply}
 use Rattle.tg_protocol.specs.Cells.{Place, CellJob, CellWork, Puts, Gets, Fills, Copies, Probes, CellEnd, Done, Seen, Lost, Fenced, Gone, works, place_in, get_cell, cell_asks, work_asks}
-use Rattle.tg_protocol.specs.Walking.{Walk, Members, WalkTurn, next_visit, walk_on, walks, steps_left, walked, visited, read_at, with_job, reads_turn, walk_end, walk_next}
+use Rattle.tg_protocol.specs.Walking.{Walk, Members, WalkTurn, next_visit, walk_on, walk_from, steps_left, walk_members, visited, read_at, with_job, reads_turn, walk_end, walk_next}
 use Rattle.tg_chain.specs.Turns.{fed, drawn_between, new_asks as cell_news}
 use Rattle.tg_chain.specs.Laws.{Completes, Loses, passed_by, awaits_more, EndsBy as CellEndsBy}
 use Rattle.tg_chain.proofs.Outs.{get_drawn}
@@ -57,17 +57,17 @@ on_walked p next (suc n) w =
           ] refl
     ] refl
 
-walks_walked : (p : Layout) (next : ℕ) (w : Walk) → Walked next (walks p next w)
+walks_walked : (p : Layout) (next : ℕ) (w : Walk) → Walked next (walk_from p next w)
 walks_walked p next w = on_walked p next (steps_left (next_visit w)) w
 
-walks_end : (p : Layout) (next : ℕ) (w : Walk) (e : Members) → (walks p next w).to ≡ Ends e → e.gone ≡ None
-walks_end p next w e h = subst (WalkedTo next (walks p next w)) h (walks_walked p next w)
+walks_end : (p : Layout) (next : ℕ) (w : Walk) (e : Members) → (walk_from p next w).to ≡ Ends e → e.gone ≡ None
+walks_end p next w e h = subst (WalkedTo next (walk_from p next w)) h (walks_walked p next w)
 
-walks_learn : (p : Layout) (next : ℕ) (w v : Walk) → (walks p next w).to ≡ Learns v → ⊥
-walks_learn p next w v h = subst (WalkedTo next (walks p next w)) h (walks_walked p next w)
+walks_learn : (p : Layout) (next : ℕ) (w v : Walk) → (walk_from p next w).to ≡ Learns v → ⊥
+walks_learn p next w v h = subst (WalkedTo next (walk_from p next w)) h (walks_walked p next w)
 
-walks_send : (p : Layout) (next : ℕ) (w v : Walk) → (walks p next w).to ≡ Goes v → (by_walk next (walks p next w)).outs ≡ [] → ⊥
-walks_send p next w v h = subst (WalkedTo next (walks p next w)) h (walks_walked p next w)
+walks_send : (p : Layout) (next : ℕ) (w v : Walk) → (walk_from p next w).to ≡ Goes v → (by_walk next (walk_from p next w)).outs ≡ [] → ⊥
+walks_send p next w v h = subst (WalkedTo next (walk_from p next w)) h (walks_walked p next w)
 
 -- ---- ends
 
@@ -103,7 +103,7 @@ end_by p w j u x next Seen e by h = absurd (goes_ends _ _ h)
 end_by p w j u x next (Lost c) e by h = absurd (goes_ends _ _ h)
 end_by p w j u x next (Fenced v f) e by h = absurd (learns_ends _ _ h)
 end_by p w j u x next (Gone b) e by h =
-    let gone : Some b ≡ e.gone = ap (λ (z : Members). z.gone) (same_end (walked (with_job w j) (Some b)) e h) in
+    let gone : Some b ≡ e.gone = ap (λ (z : Members). z.gone) (same_end (walk_members (with_job w j) (Some b)) e h) in
     subst (EndsBy j x) gone (by.0, by.1)
 
 turn_ends : (p : Layout) (w : Walk) (j : CellJob) (from : NodeId) (rid : ℕ) (m : Msg) (next : ℕ) (e : Members) (x : Next CellJob CellEnd) → (fed j from rid m next).to ≡ x →

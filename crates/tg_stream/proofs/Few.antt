@@ -10,7 +10,7 @@ use Rattle.tg_protocol.specs.Words.{cell_at, with_cell}
 use Rattle.tg_protocol.specs.Layouts.{chain_of}
 use Rattle.tg_protocol.specs.Requests.{Next, Goes, Learns, Ends}
 use Rattle.tg_protocol.specs.Cells.{CellJob, CellEnd, Done, Seen, Lost, Fenced, Gone, place_in, get_cell}
-use Rattle.tg_protocol.specs.Walking.{Walk, Members, WalkTurn, next_visit, walk_on, walks, steps_left, walk_start, visited, read_at, with_job, reads_turn, walk_end, walk_next}
+use Rattle.tg_protocol.specs.Walking.{Walk, Members, WalkTurn, next_visit, walk_on, walk_from, steps_left, walk_start, visited, read_at, with_job, reads_turn, walk_end, walk_next}
 use Rattle.tg_chain.specs.Laws.{left, left_then as cell_left}
 use Rattle.tg_chain.specs.Turns.{fed}
 use Rattle.tg_chain.proofs.Steps.{steps_are_few as cell_steps_are_few}
@@ -55,17 +55,17 @@ on_few p next (suc n) w bound most hc h =
     ] refl
 
 walks_few : (p : Layout) (next : ℕ) (w : Walk) (bound most : ℕ) → HasChains p most → IsBelow bound w.trail →
-    Within most bound (next + reads_cost most bound w.cells w.lo) (walks p next w)
+    Within most bound (next + reads_cost most bound w.cells w.lo) (walk_from p next w)
 walks_few p next w bound most hc h = on_few p next (steps_left (next_visit w)) w bound most hc h
 
 -- a read that has ended with its cell
 done_few : (p : Layout) (w : Walk) (j : CellJob) (c : Cell) (next bound most : ℕ) → HasChains p most → Reads bound w j →
-    Within most bound (next + left_by most bound w (Some j)) (walks p next (read_at (with_job w j) j.place.pos c))
+    Within most bound (next + left_by most bound w (Some j)) (walk_from p next (read_at (with_job w j) j.place.pos c))
 done_few p w j c next bound most hc r =
     let q = j.place.pos in
     let v = read_at (with_job w j) q c in
     let one : reads_cost most bound w.cells w.lo ≡ reads_cost most bound (with_cell w.cells q c) w.lo + (most + 1) = cost_one (most + 1) w.cells q c w.lo (bound - w.lo) r.unknown r.from (omega (arith, r.from, r.below)) in
-    let few : (walks p next v).next + left_then most bound (walks p next v).to ≤ next + reads_cost most bound (with_cell w.cells q c) w.lo = walks_few p next v bound most hc (after-below bound q w.trail w.oid c r.trail r.below) in
+    let few : (walk_from p next v).next + left_then most bound (walk_from p next v).to ≤ next + reads_cost most bound (with_cell w.cells q c) w.lo = walks_few p next v bound most hc (after-below bound q w.trail w.oid c r.trail r.below) in
     omega (arith, one, few)
 
 end_few : (p : Layout) (w : Walk) (j : CellJob) (e : CellEnd) (next bound most : ℕ) → HasChains p most → Reads bound w j →

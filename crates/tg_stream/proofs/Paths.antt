@@ -16,7 +16,7 @@ use Rattle.tg_protocol.specs.Logs.{Log, path, path_on, first_on}
 use Rattle.tg_protocol.specs.Requests.{Next, Goes, Learns, Ends}
 use Rattle.tg_protocol.specs.Replies.{Reply, reply}
 use Rattle.tg_protocol.specs.Cells.{CellJob, CellEnd, Done, Seen, Lost, Fenced, Gone, place_in, get_cell}
-use Rattle.tg_protocol.specs.Walking.{Trail, trail, go_down, next_on, next_of_trail, rest_of, trail_after, pointers_at, member_after, Walk, WalkTurn, at_least, next_visit, steps_left, visited, read_at, with_job, reads_turn, walk_on, walks, walk_start, walk_end, walk_next}
+use Rattle.tg_protocol.specs.Walking.{Trail, trail, go_down, next_on, next_of_trail, rest_of, trail_after, pointers_at, member_after, Walk, WalkTurn, at_least, next_visit, steps_left, visited, read_at, with_job, reads_turn, walk_on, walk_from, walk_start, walk_end, walk_next}
 use Rattle.tg_chain.specs.Turns.{fed}
 use Rattle.tg_chain.specs.Laws.{EndsBy as CellEndsBy}
 use Rattle.tg_chain.proofs.Steps.{ends_by_answers as cell_ends_by_answers}
@@ -159,7 +159,7 @@ on_along p next (suc n) w lasts l falling a le =
           ] refl
     ] refl
 
-walks_along : (p : Layout) (next : ℕ) (w : Walk) (lasts : List ℕ) (l : Log) → FallsIn l w.oid → Alongs l lasts w → ThenAlong l w.oid lasts w.lo (walks p next w).to
+walks_along : (p : Layout) (next : ℕ) (w : Walk) (lasts : List ℕ) (l : Log) → FallsIn l w.oid → Alongs l lasts w → ThenAlong l w.oid lasts w.lo (walk_from p next w).to
 walks_along p next w lasts l falling a = on_along p next (steps_left (next_visit w)) w lasts l falling a (λ h. omega arith)
 
 -- ---- a message comes

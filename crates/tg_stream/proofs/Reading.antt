@@ -8,7 +8,7 @@ use Rattle.tg_base.specs.declared.msg.Msg.{Msg}
 use Rattle.tg_protocol.specs.Words.{cell_at}
 use Rattle.tg_protocol.specs.Requests.{Next, Goes, Learns, Ends}
 use Rattle.tg_protocol.specs.Cells.{CellJob, CellEnd, Done, Seen, Lost, Fenced, Gone, place_in, get_cell}
-use Rattle.tg_protocol.specs.Walking.{trail, Walk, WalkTurn, next_visit, walk_on, walks, steps_left, walk_start, visited, read_at, with_job, reads_turn, walk_end, walk_next}
+use Rattle.tg_protocol.specs.Walking.{trail, Walk, WalkTurn, next_visit, walk_on, walk_from, steps_left, walk_start, visited, read_at, with_job, reads_turn, walk_end, walk_next}
 use Rattle.tg_chain.specs.Turns.{fed}
 use Rattle.tg_stream.specs.Walks.{begun, course_of, walk_of, walk_fed}
 use Rattle.tg_stream.specs.Laws.{IsBelow, Reads, ReadsBy, ThenReads, AsksUnknown, all_below, reads_cell}
@@ -43,7 +43,7 @@ on_reads p next (suc n) w bound h =
           ] refl
     ] refl
 
-walks_read : (p : Layout) (next : ℕ) (w : Walk) (bound : ℕ) → IsBelow bound w.trail → ThenReads bound (walks p next w).to
+walks_read : (p : Layout) (next : ℕ) (w : Walk) (bound : ℕ) → IsBelow bound w.trail → ThenReads bound (walk_from p next w).to
 walks_read p next w bound h = on_reads p next (steps_left (next_visit w)) w bound h
 
 -- a read that goes on

@@ -7,7 +7,7 @@ use Rattle.tg_base.specs.declared.ids.Oid.{Oid}
 use Rattle.tg_protocol.specs.Words.{cell_at}
 use Rattle.tg_protocol.specs.Requests.{ends}
 use Rattle.tg_protocol.specs.Cells.{CellJob, place_in, get_cell}
-use Rattle.tg_protocol.specs.Walking.{Walk, WalkTurn, walk_start, walks, walk_on, walked, visited, reads_turn, next_visit}
+use Rattle.tg_protocol.specs.Walking.{Walk, WalkTurn, walk_start, walk_from, walk_on, walk_members, visited, reads_turn, next_visit}
 use Rattle.tg_stream.specs.Walks.{Course, begun, walk_of, seen_if, comes_to}
 
 -- ---- one visit
@@ -21,11 +21,11 @@ at_cell p next n w q o = elim o as (λ _. WalkTurn) [
 
 at_visit : Layout → ℕ → ℕ → Walk → Option ℕ → WalkTurn
 at_visit p next n w o = elim o as (λ _. WalkTurn) [
-  | None ↦ ends next (walked w None)
+  | None ↦ ends next (walk_members w None)
   | Some q ↦ at_cell p next n w q (cell_at w.cells q)
 ]
 
-pub on-none : (p : Layout) (next n : ℕ) (w : Walk) → next_visit w ≡ None → walk_on p next (suc n) w ≡ ends next (walked w None)
+pub on-none : (p : Layout) (next n : ℕ) (w : Walk) → next_visit w ≡ None → walk_on p next (suc n) w ≡ ends next (walk_members w None)
 unfolding walk_on at_visit at_cell
 on-none p next n w e = ap (at_visit p next n w) e
 
@@ -39,7 +39,7 @@ pub on-unknown : (p : Layout) (next n : ℕ) (w : Walk) (q : ℕ) → next_visit
 unfolding walk_on at_visit at_cell
 on-unknown p next n w q e f = ap (at_visit p next n w) e ∙ ap (at_cell p next n w q) f
 
-pub on-zero : (p : Layout) (next : ℕ) (w : Walk) → walk_on p next zero w ≡ ends next (walked w None)
+pub on-zero : (p : Layout) (next : ℕ) (w : Walk) → walk_on p next zero w ≡ ends next (walk_members w None)
 unfolding walk_on
 on-zero p next w = refl
 
@@ -83,6 +83,6 @@ left-unknown p next j left rest s t q e h known is =
 -- ---- the beginning
 
 pub start-is : (p : Layout) (o : Oid) (lasts : List ℕ) (lo : ℕ) (cells : List (ℕ × Cell)) (next : ℕ) →
-    walk_start p o lasts lo cells next ≡ walks p next (walk_of (begun o lasts lo cells) None)
+    walk_start p o lasts lo cells next ≡ walk_from p next (walk_of (begun o lasts lo cells) None)
 unfolding walk_start
 start-is p o lasts lo cells next = refl

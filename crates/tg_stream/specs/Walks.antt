@@ -8,7 +8,7 @@ use Rattle.tg_base.specs.declared.msg.Msg.{Msg}
 use Rattle.tg_protocol.specs.Replies.{reply}
 use Rattle.tg_protocol.specs.Requests.{passes, ends, awaits}
 use Rattle.tg_protocol.specs.Cells.{CellJob, CellEnd, Done, place_in, get_cell}
-use Rattle.tg_protocol.specs.Walking.{Trail, trail, Walk, Members, WalkTurn, walk_asks, walk_feed, visited, seen_with, read_at, walked, reads_turn}
+use Rattle.tg_protocol.specs.Walking.{Trail, trail, Walk, Members, WalkTurn, walk_asks, walk_feed, visited, seen_with, read_at, walk_members, reads_turn}
 use Rattle.tg_stream.specs.declared.members.Members.{Members as Given}
 
 -- what goes on of a walk in a newer layout
@@ -45,7 +45,7 @@ read s q c = course_of (read_at (walk_of s None) q c)
 
 -- what becomes of a walk at the end of known cells: a position is read, or the walk is over
 abbrev pub comes_to : Layout → ℕ → Walk → Option ℕ → WalkTurn
-comes_to p next w None = ends next (walked w None)
+comes_to p next w None = ends next (walk_members w None)
 comes_to p next w (Some q) = reads_turn w (get_cell (place_in p q) next)
 
 abbrev pub members_of : Given → Members

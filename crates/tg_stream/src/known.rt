@@ -3,7 +3,7 @@
 ghost use Rattle.std.specs.Prelude.{ℕ, ◌≡◌, Option, IfOk};
 ghost use Rattle.tg_base.specs.Layouts.{Layout};
 ghost use Rattle.tg_protocol.specs.Cells.{CellJob};
-ghost use Rattle.tg_protocol.specs.Walking.{walks};
+ghost use Rattle.tg_protocol.specs.Walking.{walk_from};
 ghost use Rattle.tg_stream.specs.Walks.{walk_of, comes_to};
 
 use crate::paused::PausedWalk;
@@ -12,7 +12,7 @@ use tg_base::{NoMemory, Pos};
 
 /// Visits known cells up to the first position whose cell must be read, None where the walk ends first.
 pub fn over_known(alloc: Global, course: &mut PausedWalk) -> Result<Option<Pos>, NoMemory>
-    ensures { IfOk result (λ at. (p : Layout) (n : ℕ) (j : Option CellJob) → walks p n (walk_of course.old j) ≡ comes_to p n (walk_of course.new j) at) }
+    ensures { IfOk result (λ at. (p : Layout) (n : ℕ) (j : Option CellJob) → walk_from p n (walk_of course.old j) ≡ comes_to p n (walk_of course.new j) at) }
 {
     let mut left = course.steps_left();
     while left > 0 {

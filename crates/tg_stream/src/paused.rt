@@ -3,7 +3,7 @@
 ghost use Rattle.std.specs.Prelude.{ℕ, ◌≡◌, ◌<◌, ◌≤◌, ◌+◌, ◌^◌, Some, None, Option, is_some, option_copied, IfOk, OnOk, OnErr};
 ghost use Rattle.tg_protocol.specs.Cells.{CellJob};
 ghost use Rattle.tg_protocol.specs.Words.{cell_at, with_cell};
-ghost use Rattle.tg_protocol.specs.Walking.{at_least, next_visit, steps_left, walked, walk_again};
+ghost use Rattle.tg_protocol.specs.Walking.{at_least, next_visit, steps_left, walk_members, walk_again};
 ghost use Rattle.tg_stream.specs.Turns.{shown, by_walk};
 ghost use Rattle.tg_stream.specs.Walks.{begun, walk_of, seen, seen_if, read, members_of};
 
@@ -140,7 +140,7 @@ impl PausedWalk {
 
     /// What it has found, and where it met a trim. It takes no memory.
     pub(crate) fn into_members(self, gone: Option<Pos>) -> Members
-        ensures { members_of result ≡ walked (walk_of self None) gone }
+        ensures { members_of result ≡ walk_members (walk_of self None) gone }
     {
         let PausedWalk {
             oid: _,

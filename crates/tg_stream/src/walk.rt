@@ -5,7 +5,7 @@ ghost use Rattle.tg_base.specs.Layouts.{Layout};
 ghost use Rattle.tg_protocol.specs.Requests.{awaits, learns, ends, met_gone};
 ghost use Rattle.tg_protocol.specs.Cells.{CellJob, get_cell, place_in};
 ghost use Rattle.tg_protocol.specs.Words.{cell_at};
-ghost use Rattle.tg_protocol.specs.Walking.{walk_asks, walk_start, walks, walked, walk_end, reads_turn};
+ghost use Rattle.tg_protocol.specs.Walking.{walk_asks, walk_start, walk_from, walk_members, walk_end, reads_turn};
 ghost use Rattle.tg_chain.specs.Turns.{needs_memory};
 ghost use Rattle.tg_chain.specs.Ends.{get_end};
 ghost use Rattle.tg_stream.specs.Turns.{shown, by_walk, awaiting};
@@ -150,7 +150,7 @@ impl Walk {
         rids: &mut Rids,
     ) -> Result<WalkStep, NoMemory>
         requires { rids.old.next < 2 ^ 62 }
-        ensures turn { IfOk result (λ t. (j : Option CellJob) → shown t rids.new.next ≡ by_walk rids.old.next (walks proj.now rids.old.next (walk_of course j))) }
+        ensures turn { IfOk result (λ t. (j : Option CellJob) → shown t rids.new.next ≡ by_walk rids.old.next (walk_from proj.now rids.old.next (walk_of course j))) }
         ensures err { OnErr result (rids.new ≡ rids.old) }
         ensures drawn { rids.new.next ≤ rids.old.next + 1 }
     {
@@ -232,7 +232,7 @@ impl Walk {
 
     /// No position is left.
     fn end(alloc: Global, course: PausedWalk) -> WalkStep
-        ensures { (n : ℕ) (j : Option CellJob) → shown result n ≡ by_walk n (ends n (walked (walk_of course j) None)) }
+        ensures { (n : ℕ) (j : Option CellJob) → shown result n ≡ by_walk n (ends n (walk_members (walk_of course j) None)) }
     {
         let end = course.into_members(None);
         Step {
@@ -244,7 +244,7 @@ impl Walk {
 
     /// A unit has trimmed all positions below this one.
     fn end_at(alloc: Global, course: PausedWalk, below: Pos) -> WalkStep
-        ensures { (n : ℕ) (j : Option CellJob) → shown result n ≡ by_walk n (met_gone below (ends n (walked (walk_of course j) (Some below)))) }
+        ensures { (n : ℕ) (j : Option CellJob) → shown result n ≡ by_walk n (met_gone below (ends n (walk_members (walk_of course j) (Some below)))) }
     {
         let end = course.into_members(Some(below));
         Step {

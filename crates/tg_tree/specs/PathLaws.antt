@@ -13,7 +13,7 @@ use Rattle.tg_codec.specs.Bounds.{same_ranges}
 use Rattle.tg_codec.proofs.Laws.{IsBytes, IsCodec, and-left, and-right, both, many_law, alike_law, length-fit_many}
 use Rattle.tg_codec.proofs.Shapes.{behind_law, met_within}
 use Rattle.tg_codec.proofs.Widths.{u8_law, u16_law}
-use Rattle.tg_kind.specs.Parts.{is_part}
+use Rattle.tg_base.specs.Parts.{is_part}
 use Rattle.tg_kind.specs.Texts.{text_bytes, IsText}
 use Rattle.tg_tree.specs.Paths.{same, root, next_bytes, path_byte, after_byte, path_body, path_format, IsPath, has_slash, last_slash, last_name}
 

@@ -18,7 +18,8 @@ use Rattle.tg_codec.proofs.Shapes.{behind_many_exact, tagged_law, IsTable, table
 use Rattle.tg_codec.proofs.Widths.{u32_law}
 use Rattle.tg_kind.specs.Bytes.{IsBytes}
 use Rattle.tg_kind.specs.Headers.{is_header}
-use Rattle.tg_kind.specs.Parts.{overlap, is_part}
+use Rattle.tg_base.specs.Parts.{is_part}
+use Rattle.tg_kind.specs.Parts.{overlap}
 use Rattle.tg_kind.specs.Words as words
 use Rattle.tg_kind.specs.Texts.{text_format, text_law}
 use Rattle.tg_tree.specs.Paths.{root, by_bytes, same, path_format, IsPath, parent}

@@ -5,7 +5,8 @@ use Rattle.std.proofs.lemmas.Bool.Decides.{nat_tests}
 use Rattle.tg_base.specs.Layouts.{Layout}
 use Rattle.tg_base.specs.declared.ids.NodeId.{NodeId}
 use Rattle.tg_base.specs.declared.msg.Msg.{Msg}
-use Rattle.tg_protocol.specs.Words.{node_eq, unit_id}
+use Rattle.tg_base.specs.Orders.{node_eq}
+use Rattle.tg_protocol.specs.Words.{unit_id}
 use Rattle.tg_protocol.specs.Requests.{Waits, asked_of, without_wait, awaits, Next, Goes, Learns, Ends}
 use Rattle.tg_protocol.specs.Replies.{Reply, IsGone, IsFenced, reply}
 use Rattle.tg_protocol.specs.Trimming.{Trims, Trimmed, trims_left, trim_asks, trim_feed, learns_if}

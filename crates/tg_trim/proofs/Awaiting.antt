@@ -3,7 +3,8 @@ use Rattle.std.proofs.Common.{◌≡◌, ℕ, ◌&&◌, ◌||◌, ◌==◌, [], 
 use Rattle.tg_base.specs.declared.ids.NodeId.{NodeId}
 use Rattle.tg_base.specs.declared.ids.Role.TheVariants as role
 use Rattle.tg_base.specs.declared.msg.Msg.{Msg}
-use Rattle.tg_protocol.specs.Words.{node_eq, unit_id}
+use Rattle.tg_base.specs.Orders.{node_eq}
+use Rattle.tg_protocol.specs.Words.{unit_id}
 use Rattle.tg_protocol.specs.Requests.{Waits, asked_of, awaits}
 use Rattle.tg_chain.specs.Waits.{waits_on}
 

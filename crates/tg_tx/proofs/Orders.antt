@@ -9,12 +9,12 @@ use Rattle.std.specs.declared.cmp.Ordering.TheVariants.{Less, Equal, Greater}
 use Rattle.std.proofs.Common.{sym, ap, ◌∙◌, subst, arith, get_or, append_assoc, drop-cons, add-one}
 use Rattle.std.proofs.lemmas.Bool.{true≢false}
 use Rattle.std.proofs.lemmas.List.{take_more}
-use Rattle.tg_base.specs.Orders.{oid_cmp, oid_eq}
+use Rattle.tg_base.specs.Orders.{oid_cmp, oid_eq, with_oid}
 use Rattle.tg_base.specs.Parts.{part_cmp}
 use Rattle.tg_base.specs.declared.ids.Oid.{Oid}
 use Rattle.tg_base.specs.declared.marks.ReadMark.{ReadMark}
 use Rattle.tg_entry.specs.declared.entry.WriteOp.{WriteOp}
-use Rattle.tg_protocol.specs.Words.{part_lt, with_oid}
+use Rattle.tg_protocol.specs.Words.{part_lt}
 use Rattle.tg_protocol.specs.Transactions.{same_part, has_read, read_before, with_read, tx_streams}
 use Rattle.tg_tx.specs.Pendings.{read_cmp, Rising, has_key}
 use Rattle.tg_tx.proofs.Sets.{by_order, rising_put, length_put, any_put, some_put}

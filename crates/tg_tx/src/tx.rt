@@ -2,7 +2,8 @@
 
 ghost use Rattle.std.specs.Prelude.{◌≡◌, ◌≤◌, ◌==◌, true, None, length, OnOk, OnErr, IfErr, IfOk};
 ghost use Rattle.tg_base.specs.declared.marks.ReadMark.{ReadMark};
-ghost use Rattle.tg_entry.specs.Records.{is_object, is_part};
+ghost use Rattle.tg_base.specs.Parts.{is_part};
+ghost use Rattle.tg_entry.specs.Records.{is_object};
 ghost use Rattle.tg_protocol.specs.Transactions.{open_tx, tx_read, tx_put, read_fault, write_fault, commit_record};
 ghost use Rattle.tg_tx.specs.Faults.{Faults, FaultsLate, Judges};
 

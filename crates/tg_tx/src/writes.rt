@@ -3,9 +3,9 @@
 ghost use Rattle.std.specs.Prelude.{◌≡◌, ℕ, List, ◌≤◌, ◌+◌, ◌++◌, ◌∷◌, [], length, map, IfOk, if◌then◌else◌};
 ghost use Rattle.std.specs.List.{list_any};
 ghost use Rattle.tg_entry.specs.declared.entry.WriteOp.{WriteOp};
-ghost use Rattle.tg_protocol.specs.Words.{rising_oids};
-ghost use Rattle.tg_base.specs.Orders.{oid_eq};
-ghost use Rattle.tg_protocol.specs.Entries.{write_oid, unlinked};
+ghost use Rattle.tg_base.specs.Orders.{oid_eq, rising_oids};
+ghost use Rattle.tg_entry.specs.Needs.{write_oid};
+ghost use Rattle.tg_protocol.specs.Entries.{unlinked};
 ghost use Rattle.tg_protocol.specs.Transactions.{tx_streams};
 
 use std::alloc::Global;

@@ -2,7 +2,8 @@
 
 ghost use Rattle.std.specs.Prelude.{◌≡◌, ◌≤◌, ◌&&◌, nat_lt, option_copied};
 ghost use Rattle.tg_protocol.specs.Logs.{is_acceptance, has_accepted, acceptances, by_majority, decided_by, newer, newest};
-ghost use Rattle.tg_protocol.specs.Words.{node_eq, layout_id};
+ghost use Rattle.tg_base.specs.Orders.{node_eq};
+ghost use Rattle.tg_protocol.specs.Words.{layout_id};
 
 use tg_base::{Ballot, Epoch, Msg, NodeId, Packet, Projection, Role};
 

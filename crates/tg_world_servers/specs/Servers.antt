@@ -11,7 +11,8 @@ use Rattle.tg_base.specs.declared.ids.Role.{Role}
 use Rattle.tg_base.specs.declared.ids.Role.TheVariants as role
 use Rattle.tg_base.specs.declared.packet.Out.{Out}
 use Rattle.tg_base.specs.declared.packet.Packet.{Packet}
-use Rattle.tg_protocol.specs.Words.{node_eq, numbers, seqr_id, first_some, where_true}
+use Rattle.tg_base.specs.Orders.{node_eq}
+use Rattle.tg_protocol.specs.Words.{numbers, seqr_id, first_some, where_true}
 use Rattle.tg_protocol.specs.Layouts.{first_layout}
 use Rattle.tg_protocol.specs.Units.{UnitState, UnitTurn, new_unit, unit_step}
 use Rattle.tg_protocol.specs.LayoutServers.{LayoutState, LayoutTurn, new_layout, layout_step}

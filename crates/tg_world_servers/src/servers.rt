@@ -4,7 +4,8 @@ ghost use Rattle.std.specs.Prelude.{◌≡◌, ◌<◌, ◌+◌, ◌++◌, nat_l
 ghost use Rattle.tg_base.specs.declared.packet.Packet.{Packet};
 ghost use Rattle.tg_protocol.specs.Logs.{newest};
 ghost use Rattle.tg_protocol.specs.Units.{UnitState, unit_step};
-ghost use Rattle.tg_protocol.specs.Words.{node_eq, numbers, seqr_id};
+ghost use Rattle.tg_base.specs.Orders.{node_eq};
+ghost use Rattle.tg_protocol.specs.Words.{numbers, seqr_id};
 ghost use Rattle.tg_world_servers.specs.Servers.{servers_start, count_of, has_stopped, runs, nodes, node_of, log, counted, taken, takes, ticked, receiver_of, archive_by, unit_takes, layout_takes, seqr_takes, seqr_ticks, stops, sends, hands, loses, servers_limit};
 
 use crate::Post;

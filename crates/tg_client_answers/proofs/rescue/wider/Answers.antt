@@ -3,7 +3,7 @@ use Rattle.std.specs.Prelude.{IfOk}
 use Rattle.tg_base.specs.declared.ids.Oid.{Oid}
 use Rattle.tg_play.proofs.Means.{means}
 use Rattle.tg_protocol.specs.Answers.{syncs}
-use Rattle.tg_protocol.specs.Words.{with_oid}
+use Rattle.tg_base.specs.Orders.{with_oid}
 use Rattle.tg_client_state.specs.States.{client_of, KeepsMoved}
 use Rattle.tg_client_answers.proofs.rescue.wider.Goals as goal
 

@@ -1,6 +1,7 @@
 use Rattle.std.proofs.Common.{sym, ap, ◌∙◌, subst, IfOk, Option, None}
 use Rattle.tg_base.specs.declared.ids.Oid.{Oid}
-use Rattle.tg_protocol.specs.Entries.{body_commits, reads_in, writes_in}
+use Rattle.tg_entry.specs.Needs.{reads_in, writes_in}
+use Rattle.tg_protocol.specs.Entries.{body_commits}
 use Rattle.tg_protocol.specs.Views.{Step}
 use Rattle.tg_play.specs.Relations.{Stepped}
 use Rattle.tg_play.proofs.Means.{means}

@@ -1,5 +1,5 @@
 use Rattle.std.proofs.Common.{sym, ap, ◌∙◌}
-use Rattle.tg_protocol.specs.Walking.{walks, walk_end}
+use Rattle.tg_protocol.specs.Walking.{walk_from, walk_end}
 use Rattle.tg_chain.specs.declared.ends.GetCellEnd.{GetCellEnd}
 use Rattle.tg_chain.specs.Ends.{get_end}
 use Rattle.tg_stream.specs.Turns.{by_walk}
@@ -13,7 +13,7 @@ returns-in_ok-course-in-Done-clause-turn c =
     ok_then c.go_on.result c.go_on.ensures.turn
     (λ t f j.
     f j
-    ∙ ap (λ (s : Course). by_walk old (walks c.args.proj.now old (walk_of s j))) c.in_ok-course-in-Done.ensures
+    ∙ ap (λ (s : Course). by_walk old (walk_from c.args.proj.now old (walk_of s j))) c.in_ok-course-in-Done.ensures
     ∙ ap (λ (e : GetCellEnd). by_walk old (walk_end c.args.proj.now (walk_of c.args.course j) c.args.pos (get_end e) old)) (sym c.in-Done.is))
 
 pub returns-in-Fenced-clause-turn : goal.returns-in-Fenced-clause-turn

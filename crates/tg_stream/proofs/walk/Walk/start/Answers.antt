@@ -1,5 +1,5 @@
 use Rattle.std.proofs.Common.{None, sym, ap, ◌∙◌}
-use Rattle.tg_protocol.specs.Walking.{walks}
+use Rattle.tg_protocol.specs.Walking.{walk_from}
 use Rattle.tg_stream.specs.Turns.{by_walk}
 use Rattle.tg_stream.specs.Walks.{Course, walk_of}
 use Rattle.tg_stream.proofs.Subs.{ok_then}
@@ -12,5 +12,5 @@ returns-clause-turn c =
     ok_then c.go_on.result c.go_on.ensures.turn
     (λ t f.
     f None
-    ∙ ap (λ (s : Course). by_walk old (walks c.args.proj.now old (walk_of s None))) c.new-course.ensures
+    ∙ ap (λ (s : Course). by_walk old (walk_from c.args.proj.now old (walk_of s None))) c.new-course.ensures
     ∙ ap (by_walk old) (sym (start-is c.args.proj.now c.args.oid c.args.lasts c.args.lo c.args.cells old)))

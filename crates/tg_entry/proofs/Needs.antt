@@ -1,4 +1,5 @@
--- Both words for the records that need a decision record say the same.
+-- Which records need a decision record, by their first read.
+use Rattle.std.specs.Cmp.{unsigned_Decides}
 use Rattle.std.specs.Prelude.{◌≡◌, Bool, true, false, cond, not, ◌&&◌, ◌||◌, ◌==◌, nat_le, List, [], ◌∷◌, ◌++◌, length, map, refl}
 use Rattle.std.specs.List.{list_any}
 use Rattle.std.proofs.Common.{sym, ap, ◌∙◌, arith}
@@ -9,11 +10,14 @@ use Rattle.tg_entry.specs.declared.entry.Head.{Head}
 use Rattle.tg_entry.specs.declared.entry.Body.{Body}
 use Rattle.tg_entry.specs.declared.entry.Body.TheVariants.{Commit, Decision, Checkpoint}
 use Rattle.tg_entry.specs.declared.entry.Entry.{Entry}
-use Rattle.tg_entry.specs.Needs as short
-use Rattle.tg_protocol.specs.Words.{with_oid, rising_oids}
-use Rattle.tg_base.specs.Orders.{oid_eq, oid_lt}
-use Rattle.tg_protocol.specs.Entries.{read_oid, write_oid, needs_decision}
-use Rattle.tg_play.proofs.Hosting.{same_oid, oid_itself}
+use Rattle.tg_base.specs.Orders.{oid_eq, oid_lt, with_oid, rising_oids}
+use Rattle.tg_entry.specs.Needs.{read_oid, write_oid, needs_decision}
+
+same_oid : (o q : Oid) → oid_eq o q ≡ true → o ≡ q
+same_oid o q e = let is : o.0 ≡ q.0 = (unsigned_Decides o.0 q.0).0 e in λ i. record { 0 = is i }
+
+oid_itself : (o : Oid) → oid_eq o o ≡ true
+oid_itself o = grind arith
 
 -- an object among these is another one
 abbrev has_other : Oid → List Oid → Bool
@@ -141,15 +145,12 @@ in_both o (r ∷ rs) ws =
 some_reads : (r : ReadMark) (rs : List ReadMark) → (length (r ∷ rs) == 0) ≡ false
 some_reads r rs = grind arith
 
-needs_by : (h : Head) (b : Body) → short.body_needs b ≡ needs_decision (record { head = h; body = b })
+-- A record that reads needs one where another read, or a write, names another object than the first read.
+pub needs_by_first : (h : Head) (r : ReadMark) (rs : List ReadMark) (ws : List WriteOp)
+    → (list_any (λ (m : ReadMark). not (oid_eq m.oid r.oid)) rs || list_any (λ (w : WriteOp). not (oid_eq w.oid r.oid)) ws)
+    ≡ needs_decision (record { head = h; body = Commit (r ∷ rs) ws })
 unfolding needs_decision
-needs_by h (Commit [] ws) = refl
-needs_by h (Commit (r ∷ rs) ws) =
+needs_by_first h r rs ws =
     in_both r.oid rs ws
     ∙ counted r.oid (map read_oid rs ++ map write_oid ws)
     ∙ ap (λ (t : Bool). not t && nat_le 2 (length (with_oid r.oid (rising_oids (map read_oid rs ++ map write_oid ws))))) (sym (some_reads r rs))
-needs_by h (Decision at is_yes) = refl
-needs_by h (Checkpoint o u v w ks s) = refl
-
-pub needs_same : (e : Entry) → short.needs_decision e ≡ needs_decision e
-needs_same e = needs_by e.head e.body
