@@ -6,4 +6,4 @@ pub mod Named
 pub mod Above
 pub mod Fits
 pub mod Linked
-pub mod Needs
+pub mod Deciding

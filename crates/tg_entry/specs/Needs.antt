@@ -1,6 +1,7 @@
 -- What a commit record reads and writes, and which records need a decision record.
-use Rattle.std.specs.Prelude.{Bool, not, ◌&&◌, ◌==◌, nat_le, List, [], ◌++◌, length, map}
-use Rattle.tg_base.specs.Orders.{rising_oids}
+use Rattle.std.specs.Prelude.{Bool, false, not, ◌&&◌, ◌||◌, ◌==◌, nat_le, List, [], ◌∷◌, ◌++◌, length, map}
+use Rattle.std.specs.List.{list_any}
+use Rattle.tg_base.specs.Orders.{oid_eq, rising_oids}
 use Rattle.tg_base.specs.declared.ids.Oid.{Oid}
 use Rattle.tg_base.specs.declared.marks.ReadMark.{ReadMark}
 use Rattle.tg_entry.specs.declared.entry.WriteOp.{WriteOp}
@@ -36,3 +37,8 @@ objects_of e = rising_oids (map read_oid (reads_of e) ++ map write_oid (writes_o
 -- objects at least.
 unfoldable pub needs_decision : Entry → Bool
 needs_decision e = not (length (reads_of e) == 0) && nat_le 2 (length (objects_of e))
+
+-- another object than that of the first read is read or written
+abbrev pub names_another : List ReadMark → List WriteOp → Bool
+names_another [] ws = false
+names_another (r ∷ rs) ws = list_any (λ (m : ReadMark). not (oid_eq m.oid r.oid)) rs || list_any (λ (w : WriteOp). not (oid_eq w.oid r.oid)) ws

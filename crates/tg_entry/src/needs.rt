@@ -3,7 +3,7 @@
 ghost use Rattle.std.specs.Prelude.{◌≡◌, not};
 ghost use Rattle.std.specs.List.{list_any};
 ghost use Rattle.tg_base.specs.Orders.{oid_eq};
-ghost use Rattle.tg_entry.specs.Needs.{needs_decision};
+ghost use Rattle.tg_entry.specs.Needs.{needs_decision, names_another};
 
 use crate::entry::{Body, Entry, WriteOp};
 use tg_base::{Oid, ReadMark};
@@ -14,13 +14,18 @@ pub fn needs_decision(entry: &Entry) -> bool
     ensures { result ≡ needs_decision entry.now }
 {
     match &entry.body {
-        Body::Commit { reads, writes } => match reads.as_slice() {
-            [] => false,
-            [first, rest @ ..] => {
-                has_other_read(rest, first.oid) || has_other_write(writes.as_slice(), first.oid)
-            }
-        },
+        Body::Commit { reads, writes } => names_another(reads.as_slice(), writes.as_slice()),
         Body::Decision { .. } | Body::Checkpoint { .. } => false,
+    }
+}
+
+// Whether another object than that of the first read is read or written.
+fn names_another(reads: &[ReadMark], writes: &[WriteOp]) -> bool
+    ensures { result ≡ names_another reads.now writes.now }
+{
+    match reads {
+        [] => false,
+        [first, rest @ ..] => has_other_read(rest, first.oid) || has_other_write(writes, first.oid),
     }
 }
 

@@ -11,7 +11,7 @@ use Rattle.tg_entry.specs.declared.entry.Body.{Body}
 use Rattle.tg_entry.specs.declared.entry.Body.TheVariants.{Commit, Decision, Checkpoint}
 use Rattle.tg_entry.specs.declared.entry.Entry.{Entry}
 use Rattle.tg_base.specs.Orders.{oid_eq, oid_lt, with_oid, rising_oids}
-use Rattle.tg_entry.specs.Needs.{read_oid, write_oid, needs_decision}
+use Rattle.tg_entry.specs.Needs.{reads_in, writes_in, reads_of, writes_of, read_oid, write_oid, needs_decision, names_another}
 
 same_oid : (o q : Oid) → oid_eq o q ≡ true → o ≡ q
 same_oid o q e = let is : o.0 ≡ q.0 = (unsigned_Decides o.0 q.0).0 e in λ i. record { 0 = is i }
@@ -145,12 +145,16 @@ in_both o (r ∷ rs) ws =
 some_reads : (r : ReadMark) (rs : List ReadMark) → (length (r ∷ rs) == 0) ≡ false
 some_reads r rs = grind arith
 
--- A record that reads needs one where another read, or a write, names another object than the first read.
-pub needs_by_first : (h : Head) (r : ReadMark) (rs : List ReadMark) (ws : List WriteOp)
-    → (list_any (λ (m : ReadMark). not (oid_eq m.oid r.oid)) rs || list_any (λ (w : WriteOp). not (oid_eq w.oid r.oid)) ws)
-    ≡ needs_decision (record { head = h; body = Commit (r ∷ rs) ws })
+needs_by : (h : Head) (b : Body) → needs_decision (record { head = h; body = b }) ≡ names_another (reads_in b) (writes_in b)
 unfolding needs_decision
-needs_by_first h r rs ws =
-    in_both r.oid rs ws
+needs_by h (Commit [] ws) = refl
+needs_by h (Commit (r ∷ rs) ws) =
+    sym
+    (in_both r.oid rs ws
     ∙ counted r.oid (map read_oid rs ++ map write_oid ws)
-    ∙ ap (λ (t : Bool). not t && nat_le 2 (length (with_oid r.oid (rising_oids (map read_oid rs ++ map write_oid ws))))) (sym (some_reads r rs))
+    ∙ ap (λ (t : Bool). not t && nat_le 2 (length (with_oid r.oid (rising_oids (map read_oid rs ++ map write_oid ws))))) (sym (some_reads r rs)))
+needs_by h (Decision at is_yes) = refl
+needs_by h (Checkpoint o u v w ks s) = refl
+
+pub needs_told : (e : Entry) → names_another (reads_of e) (writes_of e) ≡ needs_decision e
+needs_told e = sym (needs_by e.head e.body)
