@@ -2,7 +2,7 @@
 
 ghost use Rattle.std.specs.Prelude.{◌≡◌, ℕ, true, Option, Some, IfOk};
 ghost use Rattle.tg_kind.specs.Of.{meaning_of};
-ghost use Rattle.tg_kind.specs.Parts as scopes;
+ghost use Rattle.tg_base.specs.Parts.{is_part};
 ghost use Rattle.tg_model.specs.declared.command.Command.TheVariants as cmd;
 ghost use Rattle.tg_protocol.specs.ClientSteps as told;
 ghost use Rattle.tg_protocol.specs.Transactions as txs;
@@ -53,7 +53,7 @@ fn read_in<K: Registry>(
     at: Pos,
     version: u64,
 ) -> Result<Option<Tx<K>>, NoMemory>
-    requires { scopes.is_part part ≡ true }
+    requires { is_part part ≡ true }
     ensures { (t : txs.Tx) → tx ≡ Some t → IfOk result (λ u. u ≡ Some (txs.tx_read t (record { oid = oid; part = part; version = version }) at)) }
 {
     match tx {
@@ -73,7 +73,7 @@ fn with_read<K: Registry>(
     at: Pos,
     version: u64,
 ) -> Result<Tx<K>, NoMemory>
-    requires { scopes.is_part part ≡ true }
+    requires { is_part part ≡ true }
     ensures { IfOk result (λ t. t ≡ txs.tx_read tx (record { oid = oid; part = part; version = version }) at) }
 {
     if !is_object(oid) {

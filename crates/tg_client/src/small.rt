@@ -3,6 +3,7 @@
 ghost use Rattle.std.specs.Prelude.{◌≡◌, ◌+◌, ◌≤◌, ℕ, true, length, Option, IfOk};
 ghost use Rattle.tg_kind.specs.Of.{meaning_of};
 ghost use Rattle.tg_kind.specs.Parts as scopes;
+ghost use Rattle.tg_base.specs.Parts.{is_part};
 ghost use Rattle.tg_base.specs.declared.marks.Part.TheVariants.{Text};
 ghost use Rattle.tg_protocol.specs.Answers as told;
 ghost use Rattle.tg_protocol.specs.ClientSteps as steps;
@@ -78,7 +79,7 @@ pub fn has(oids: &List<Oid>, oid: Oid) -> bool
 /// The part that an ask looks at. An `Err` is want of memory.
 pub fn looked_at<K: Registry>(alloc: Global, ask: &K::Ask) -> Result<Part, NoMemory>
     ensures part { IfOk result (λ p. p ≡ K.looked ask.now) }
-    ensures lawful { scopes.is_part (K.looked ask.now) ≡ true }
+    ensures lawful { is_part (K.looked ask.now) ≡ true }
 {
     let scope = K::look(ask);
     part_in(alloc, scope)
@@ -86,7 +87,7 @@ pub fn looked_at<K: Registry>(alloc: Global, ask: &K::Ask) -> Result<Part, NoMem
 
 /// The part that a scope names.
 fn part_in(alloc: Global, scope: Scope<'_>) -> Result<Part, NoMemory>
-    requires { scopes.is_part (scopes.part_of scope) ≡ true }
+    requires { is_part (scopes.part_of scope) ≡ true }
     ensures { IfOk result (λ p. p ≡ scopes.part_of scope.entry) }
 {
     match scope {

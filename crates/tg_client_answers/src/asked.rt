@@ -37,7 +37,7 @@ fn text_part(alloc: Global, text: &[u8]) -> Result<Part, NoMemory>
 
 // The part that a scope names.
 fn part_in(alloc: Global, scope: Scope<'_>) -> Result<Part, NoMemory>
-    requires { scopes.is_part (scopes.part_of scope) ≡ true }
+    requires { is_part (scopes.part_of scope) ≡ true }
     ensures { IfOk result (λ p. p ≡ scopes.part_of scope.entry) }
 {
     match scope {
@@ -50,7 +50,7 @@ fn part_in(alloc: Global, scope: Scope<'_>) -> Result<Part, NoMemory>
 // The part at which an ask looks. An `Err` is want of memory.
 fn looked_at<K: Registry>(alloc: Global, ask: &K::Ask) -> Result<Part, NoMemory>
     ensures part { IfOk result (λ p. p ≡ K.looked ask.now) }
-    ensures lawful { scopes.is_part (K.looked ask.now) ≡ true }
+    ensures lawful { is_part (K.looked ask.now) ≡ true }
 {
     let scope = K::look(ask);
     part_in(alloc, scope)

@@ -9,7 +9,7 @@ use Rattle.tg_base.specs.declared.marks.ReadMark.{ReadMark}
 use Rattle.tg_base.specs.declared.marks.StreamLink.{StreamLink}
 use Rattle.tg_base.specs.Clusters.{is_user_object}
 use Rattle.tg_base.specs.Orders.{oid_eq, oid_lt}
-use Rattle.tg_base.specs.Parts.{part_cmp}
+use Rattle.tg_base.specs.Parts.{part_cmp, is_part}
 use Rattle.tg_base.specs.Units.{has, is_rising, is_within}
 use Rattle.tg_entry.specs.declared.entry.WriteOp.{WriteOp}
 use Rattle.tg_entry.specs.declared.entry.Head.{Head}

@@ -2,8 +2,8 @@
 use Rattle.std.proofs.Common.{◌≡◌, ℕ, ◌+◌, ◌≤◌, Bool, true, false, List, ◌∷◌, length, Option, Some, None, refl, sym, ◌∙◌, subst, arith}
 use Rattle.std.specs.Prelude.{not, ◌&&◌, ◌==◌}
 use Rattle.tg_base.specs.declared.ids.Oid.{Oid}
+use Rattle.tg_base.specs.Parts.{is_part}
 use Rattle.tg_entry.specs.Records.{is_object}
-use Rattle.tg_entry.specs.Records as records
 use Rattle.tg_kind.specs.Meaning.{Meaning}
 use Rattle.tg_model.specs.declared.command.Command.TheVariants as cmd
 use Rattle.tg_model.specs.declared.refusal.Refusal.{Refusal}
@@ -18,7 +18,7 @@ use Rattle.tg_protocol.specs.ClientSteps.{new_work, hosts_more, puts, asks, asks
 use Rattle.tg_protocol.specs.Runs.{IsSpelled, LawfulCommand}
 use Rattle.tg_law_drafts.proofs.Views.{ViewOk, version_small}
 use Rattle.tg_law_drafts.proofs.Drafting.{TxOk, open_ok, read_ok, put_ok, record_fits}
-use Rattle.tg_law_drafts.proofs.Sound.{MaybeView, MaybeTx, CommandOk, Few, Sound, HandOk, HandComes, OfRecord, Good, In, whole_draft, part_is, same_good, syncs_on, starts, reconf_task, copies_task}
+use Rattle.tg_law_drafts.proofs.Sound.{MaybeView, MaybeTx, CommandOk, Few, Sound, HandOk, HandComes, OfRecord, Good, In, whole_draft, same_good, syncs_on, starts, reconf_task, copies_task}
 use Rattle.tg_law_drafts.proofs.Sound as sounds
 
 module _ {X : Type 0} where
@@ -73,7 +73,7 @@ module _ (m : Meaning) (c : Client m) (few : Few m c) (sound : Sound m c) where
         both : (a b : Bool) → a ≡ true → b ≡ true → (a && b) ≡ true
         both a b e f = grind arith
 
-    ask_good : (o : Oid) (q : m.ask) (t : Option Tx) → c.tx ≡ t → is_object o ≡ true → records.is_part (m.look q) ≡ true → ask_fault m t o (m.look q) ≡ None → Good m c (asks m c (cmd.Ask o q) o q t).now
+    ask_good : (o : Oid) (q : m.ask) (t : Option Tx) → c.tx ≡ t → is_object o ≡ true → is_part (m.look q) ≡ true → ask_fault m t o (m.look q) ≡ None → Good m c (asks m c (cmd.Ask o q) o q t).now
     ask_good o q None is object part e = same_good m c sound
     ask_good o q (Some t) is object part e = by t.snapshot
       where
@@ -131,7 +131,7 @@ module _ (m : Meaning) (c : Client m) (few : Few m c) (sound : Sound m c) where
         let d = past_first (wrong_kind m (m.allows_ask o q) o) _ b.1 in
         let e = past_first (not_hosted m c o) _ d.1 in
         let f = past_first (ask_fault m c.tx o (m.look q)) _ e.1 in
-        ask_good o q c.tx refl lawful.0 (sounds.part_is (m.look q) lawful.1) f.0
+        ask_good o q c.tx refl lawful.0 lawful.1 f.0
     accepts_good cmd.End fine lawful = end_good c.tx refl
     accepts_good cmd.Drop fine lawful = free _ refl refl (omega arith) (omega arith) refl refl sound.view tt idle
     accepts_good (cmd.Reconf y) fine lawful = reconf_task m c (new_work m (cmd.Reconf y)) few sound.tx tt (stays (cmd.Reconf y) tt) c (new_work m (cmd.Reconf y)) (reconf_start c.stand c.layouts y c.num c.next) (here (cmd.Reconf y) tt)

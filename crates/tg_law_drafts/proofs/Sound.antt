@@ -11,7 +11,6 @@ use Rattle.tg_base.specs.declared.msg.Msg.{Msg}
 use Rattle.tg_entry.specs.declared.entry.Entry.{Entry}
 use Rattle.tg_entry.specs.Format.{tag_of, entry}
 use Rattle.tg_entry.specs.Records.{is_object, is_read}
-use Rattle.tg_entry.specs.Records as records
 use Rattle.tg_kind.specs.Meaning.{Meaning}
 use Rattle.tg_base.specs.Parts.{is_part}
 use Rattle.tg_model.specs.declared.command.Command.TheVariants as cmd
@@ -52,11 +51,6 @@ use Rattle.tg_law_drafts.proofs.Drafting.{Fitting, Whole, TxOk, read_ok, decisio
 use Rattle.tg_law_drafts.proofs.Saving.{checkpoint_fits}
 use Rattle.tg_law_drafts.proofs.Tails.{TailOk, TailNext, tail_feed_ok, tail_start_ok}
 
-pub part_is : (k : Part) → is_part k ≡ true → records.is_part k ≡ true
-part_is All e = refl
-part_is (Text t) e = grind (arith, e)
-part_is (Num n) e = e
-
 module _ (m : Meaning) where
   abbrev pub MaybeView : Option (View m) → Type 0
   MaybeView None = Unit {0}
@@ -69,7 +63,7 @@ module _ (m : Meaning) where
 
   -- a command that waits
   abbrev pub CommandOk : Option Tx → CommandOf m → Type 0
-  CommandOk tx (cmd.Ask o q) = (is_object o ≡ true) × (records.is_part (m.look q) ≡ true) × ((t : Tx) → tx ≡ Some t → read_fault t o (m.look q) ≡ None)
+  CommandOk tx (cmd.Ask o q) = (is_object o ≡ true) × (is_part (m.look q) ≡ true) × ((t : Tx) → tx ≡ Some t → read_fault t o (m.look q) ≡ None)
   CommandOk tx (cmd.Checkpoint o) = is_object o ≡ true
   CommandOk tx (cmd.Forget o n) = IsSpelled m directory (m.mark_op o n)
   CommandOk tx x = Unit {0}

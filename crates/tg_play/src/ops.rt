@@ -4,6 +4,7 @@ ghost use Rattle.std.specs.Prelude.{◌≡◌, ◌≤◌, ◌&&◌, true, Some, 
 ghost use Rattle.tg_base.specs.declared.marks.Part.TheVariants.{Text};
 ghost use Rattle.tg_kind.specs.Of.{meaning_of};
 ghost use Rattle.tg_kind.specs.Parts as scopes;
+ghost use Rattle.tg_base.specs.Parts.{is_part};
 ghost use Rattle.tg_protocol.specs.Views.{touched, applied};
 ghost use Rattle.tg_play.specs.Lawful.{is_named};
 
@@ -62,7 +63,7 @@ fn touch_of<K: Registry>(alloc: Global, op: &K::Op) -> Result<Part, NoMemory>
 
 // The part that a scope names.
 fn part_in(alloc: Global, scope: Scope<'_>) -> Result<Part, NoMemory>
-    requires { scopes.is_part (scopes.part_of scope) ≡ true }
+    requires { is_part (scopes.part_of scope) ≡ true }
     ensures { IfOk result (λ p. p ≡ scopes.part_of scope.entry) }
 {
     match scope {

@@ -3,6 +3,7 @@
 ghost use Rattle.std.specs.Prelude.{◌≡◌, ◌==◌, ◌&&◌, not, is_some, IfOk};
 ghost use Rattle.std.specs.Option.{option_copied};
 ghost use Rattle.tg_protocol.specs.Entries as told;
+ghost use Rattle.tg_entry.specs.Needs.{needs_decision};
 ghost use Rattle.tg_protocol.specs.Past as past;
 ghost use Rattle.tg_protocol.specs.Views as views;
 
@@ -56,7 +57,7 @@ pub fn needs_decision(
     at: Pos,
     entry: &Entry,
 ) -> Result<bool, NoMemory>
-    ensures { IfOk result (λ needs. needs ≡ (told.needs_decision entry.now && not (is_some (views.decision_in entries.now at)))) }
+    ensures { IfOk result (λ needs. needs ≡ (needs_decision entry.now && not (is_some (views.decision_in entries.now at)))) }
 {
     let decisions = decisions_of(alloc, entries.as_slice())?;
     Ok(lacks_decision(entry, decision_at(&decisions, at)))
