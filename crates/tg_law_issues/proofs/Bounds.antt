@@ -223,7 +223,7 @@ module _ (B : ℕ → ℕ → Type 0) (L : ℕ → ℕ → Type 0) where
         cell ih q less None = record { trail = k; job = (fit q less, less) }
 
         by : ((v : Walk) → TrailOk t v.trail → WalkNext t (walk_on p next n v).to) → (o : Option ℕ) → next_visit w ≡ o → WalkNext t (elim o as (λ _. Turn Walk Members) [
-          | None ↦ Rattle.tg_protocol.specs.Requests.ends next (Rattle.tg_protocol.specs.Walking.walked w None)
+          | None ↦ Rattle.tg_protocol.specs.Requests.ends next (Rattle.tg_protocol.specs.Walking.walk_members w None)
           | Some q ↦ elim (cell_at w.cells q) as (λ _. Turn Walk Members) [
             | Some c ↦ walk_on p next n (visited w q c)
             | None ↦ Rattle.tg_protocol.specs.Walking.reads_turn w (get_cell (place_in p q) next)
