@@ -3,3 +3,4 @@ pub mod Courses
 pub mod Elements
 pub mod Replies
 pub mod Standings
+pub mod Quiet

@@ -1,8 +1,11 @@
 //! Seals and new epochs.
 
-ghost use Rattle.std.specs.Prelude.{◌≡◌, ◌++◌, length, take, option_copied, IfOk, OnOk};
+ghost use Rattle.std.specs.Prelude.{◌≡◌, ◌++◌, length, take, drop, slice_get, option_copied, IfOk, OnOk};
+ghost use Rattle.std.specs.List.{list_any};
 ghost use Rattle.tg_picture.specs.Bands as seen;
 ghost use Rattle.tg_picture.specs.Bands.{seal_of, seal_in, seal_at, seals, decision_of, decision_at, decisions, listed};
+ghost use Rattle.tg_picture.specs.Courses.{sent_by};
+ghost use Rattle.tg_picture.specs.Quiet.{is_quiet, is_vote};
 
 use crate::steps::Step;
 use crate::ways::{sent_before, sent_by, sent_in};
@@ -137,15 +140,59 @@ fn put_decisions(
     Ok(())
 }
 
-// The decision in a step.
+// The decision in a step. Where no vote was sent in it there is none, and no layout is looked for.
 fn decision_at(epochs: &Epochs<'_>, steps: &[Step], at: usize) -> Option<Band>
     ensures { result ≡ decision_at epochs.now.first.now epochs.now.layouts epochs.now.packets.now steps.now at }
 {
-    decision_of(
-        at as u64,
-        epochs.after(sent_before(steps, at)),
-        epochs.after(sent_by(steps.get(at))),
-    )
+    let before = sent_before(steps, at);
+    let after = sent_at(steps, at);
+    if is_quiet(epochs.packets, before, after) {
+        return None;
+    }
+    decision_of(at as u64, epochs.after(before), epochs.after(after))
+}
+
+// How many packets had been sent after a step.
+fn sent_at(steps: &[Step], at: usize) -> u64
+    ensures { result ≡ sent_by (slice_get steps.now at) }
+{
+    sent_by(steps.get(at))
+}
+
+// Whether no vote is among the packets that were sent after so many and up to so many.
+fn is_quiet(packets: &[Packet], before: u64, after: u64) -> bool
+    ensures { result ≡ is_quiet packets.now before after }
+{
+    if after < before {
+        return false;
+    }
+    !has_vote(packets_after(first_packets(packets, after), before))
+}
+
+fn has_vote(packets: &[Packet]) -> bool
+    ensures { result ≡ list_any (λ p. is_vote p.msg) packets.now }
+{
+    packets.iter().any(|packet| is_vote(&packet.msg))
+}
+
+// The packets after so many.
+fn packets_after(packets: &[Packet], count: u64) -> &[Packet]
+    ensures { result.now ≡ drop count packets.now }
+{
+    if count < packets.len() as u64 {
+        return &packets[count as usize..];
+    }
+    &packets[packets.len()..]
+}
+
+// Whether a message is a proposal of a layout, or the acceptance of one.
+fn is_vote(msg: &Msg) -> bool
+    ensures { result ≡ is_vote msg.now }
+{
+    match msg {
+        Msg::Accept { .. } | Msg::Accepted { .. } => true,
+        _ => false,
+    }
 }
 
 // The decision in a step, by the epochs before it and after it.

@@ -22,7 +22,7 @@ pub fn put_packet(
     put_name(packet.from, out)?;
     out.extend(b" to ")?;
     put_name(packet.to, out)?;
-    out.extend(b", request ")?;
+    out.extend(b", number ")?;
     put_number(packet.rid, out)?;
     out.extend(b": ")?;
     put_label(&packet.msg, out)?;
