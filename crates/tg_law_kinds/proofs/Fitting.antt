@@ -189,7 +189,8 @@ tree_fits n false false false e f g = λ bytes x rest h. absurd (cc)
 fits_tree : FitsRead trees.op_format
 fits_tree = fits_tagged ((0x50, 0x52) ∷ []) trees.code_of (from_table trees.op_bodies) (small_range 0x50 0x52 (omega arith)) (λ n met. tree_fits n (n == 0x50) (n == 0x51) (n == 0x52) refl refl refl)
 
--- A list's op has a place of four bytes: of other numbers than bytes one is read that has no spelling. So it is what was spelled that is read.
+-- A list's op has a place in four bytes. Of numbers that are no bytes one is read that has no spelling, so here what is read was
+-- spelled.
 
 abbrev IsListOp : ℕ → TextListOp → Type 0
 IsListOp n x = IsCoded lists.code (from_table lists.ops) n x

@@ -35,8 +35,8 @@ use Rattle.tg_law_store.specs.Steps.{StepsHold, StoreStepsRest, StoreTrimsAreSpa
 use Rattle.tg_law_store.proofs.Found.{each_so_far, based_now, finds_now}
 use Rattle.tg_law_store.proofs.States.{store_reads_ops, store_has_states, store_runs_legal}
 
--- Of any kinds whose ops touch parts of the format: clients find what they need in a run in which trims were spare, and in the step after it, by
--- the log before that step.
+-- Of any kinds whose ops touch parts of the format: clients find what they need in a run in which trims were spare, and in the
+-- step after it, by the log before that step.
 module _ (m : Meaning) (parts : TouchParts m) (h : Header) (zs : Moves m) (r : Reaches m h zs (after m h zs)) (trims : TrimsWereSpare m h zs) (states : HasStates m h (after m h zs)) (e : EventOf m)
     (views : ViewsLeaveNone m h (zs ++ Takes e ∷ []) (after m h zs)) where
   own : PassesOwn m h zs (after m h zs)

@@ -25,8 +25,8 @@ pub record StepHolds (h : Header) (u : World all_kinds) (e : EventOf all_kinds) 
 abbrev pub StepsHold : Header → Moves all_kinds → Type 0
 StepsHold h ms = InEachStep all_kinds h ms (λ before u e. WereSpare all_kinds h before → StepHolds h u e)
 
--- then all is had of such a step that the law of trims asks: what is read of the log is an op, and clients that trim have confirmed
--- their tails, and see the log's directory
+-- then all is had of such a step that the law of trims asks: what is read of the log is an op, and clients that trim have
+-- confirmed their tails and see the log's directory
 abbrev pub StoreStepsRest : Type 0
 StoreStepsRest = (h : Header) (ms : Moves all_kinds) (w : World all_kinds) → Reaches all_kinds h ms w → StepsHold h ms → InEachStep all_kinds h ms (λ before u e. WereSpare all_kinds h before → StepRests all_kinds is_number is_op h.objects u e)
 

@@ -19,8 +19,8 @@ pub fn store_runs_legal()
     ensures { StoreRunsLegalWhere }
 {}
 
-/// Of each step before which trims were spare all is had that the law of trims asks, where, as far as trims were spare before, the log's floors rest on
-/// checkpoints and kept views leave no record without a fate.
+/// Where, as far as trims were spare before, the log's floors rest on checkpoints and kept views leave no record without a fate,
+/// all is had of each such step that the law of trims asks.
 pub fn store_steps_rest()
     ensures { StoreStepsRest }
 {}
