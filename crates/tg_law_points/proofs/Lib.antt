@@ -1,0 +1,4 @@
+pub mod Answered
+pub mod Steps
+pub mod Snapshots
+pub mod Points
