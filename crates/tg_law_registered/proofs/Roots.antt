@@ -28,17 +28,17 @@ use Rattle.tg_protocol.specs.Appending.{Append, AppendWork, Asking, Putting, Jud
 use Rattle.tg_protocol.specs.Sequencers.{seqr_tick}
 use Rattle.tg_protocol.specs.Reconfiguring.{Reconf, ReconfEnd, ReconfTurn, reconf_feed, reconf_latest}
 use Rattle.tg_protocol.specs.Views.{Entries, View, Base, base_of}
-use Rattle.tg_protocol.specs.Clients.{Purpose, Task, Syncing, Walking, Appending, Trimming, Copying', Reconfiguring, Hand, Work, Client, new_client, upto_in, upto, all_entries}
+use Rattle.tg_protocol.specs.Clients.{Purpose, Writes, Judged, Decides, Rescues, Saves, Marks, Task, Syncing, Walking, Appending, Trimming, Copying', Reconfiguring, Hand, Work, Client, new_client, upto_in, upto, all_entries}
 use Rattle.tg_protocol.specs.Answers.{base_upto, own_view, view_or_new}
 use Rattle.tg_protocol.specs.ClientSteps.{task_in, task_awaited, task_asks, ClientTurn, client_command, client_deliver, client_tick}
 use Rattle.tg_protocol.specs.Worlds.{World, start, happens, client, log, runs, count_of, packet_of, unit_moves, layout_moves, seqr_moves, client_turned, moves, comes, handed, delivers, noted_if, commands, ticks, ticks_if, stops_if}
-use Rattle.tg_protocol.specs.Runs.{Move, Moves, Next as Counts, Takes, run, Reaches}
+use Rattle.tg_protocol.specs.Runs.{Move, Moves, Next as Counts, Takes, run, Reaches, LawfulCommand, LawfulEvent}
 use Rattle.tg_law_moves.specs.After.{after}
 use Rattle.tg_law_moves.specs.Configs.{Config, config, client_in, seqr_in}
 use Rattle.tg_law_moves.specs.Telling.{is_request}
 use Rattle.tg_law_moves.proofs.Growth.{Quiet, unit_quiet, layout_quiet, seqr_quiet}
 use Rattle.tg_law_moves.proofs.Lists.{contained, at_map, at_set}
-use Rattle.tg_law_moves.proofs.Members.{Has, has_got, has_left, has_either, has_map, has_contained, found, passes_somewhere}
+use Rattle.tg_law_moves.proofs.Members.{Has, has_got, has_left, has_right, has_either, has_map, has_contained, found, passes_somewhere}
 use Rattle.tg_law_moves.proofs.Members as members
 use Rattle.tg_law_moves.proofs.Moves.{client_turn, ClientInput, Commanded, Hears', Ticks', run_keeps}
 use Rattle.tg_law_requests.proofs.Numbers.{numbers_once}
@@ -91,7 +91,7 @@ use Rattle.tg_law_trims.specs.Floors.{HasTail, WasRegistered}
 use Rattle.tg_law_trims.specs.Spare.{WereSpare}
 use Rattle.tg_law_floors.proofs.Tails.{walks_have_tails}
 use Rattle.tg_law_registered.specs.Registered.{TokensFollow, TokensFollowRegistrations}
-use Rattle.tg_law_registered.proofs.Grounds.{Stands, Registered, Listed, Grounded, TaskGrounded, WorkGrounded, ClientGrounded, Own, FoundFor, FoundGround, dir_reach, Rises, FeedFor, NewerFor, HearsFor, command_in, deliver_in, tick_in}
+use Rattle.tg_law_registered.proofs.Grounds.{Stands, Registered, Listed, Grounded, TaskGrounded, WorkGrounded, ClientGrounded, MarksKept, Own, IsOfLog, FoundFor, FoundGround, dir_reach, Rises, FeedFor, NewerFor, HearsFor, command_in, deliver_in, tick_in}
 
 -- Packets that are told apart by whence, whither and which number.
 
@@ -158,17 +158,25 @@ module _ (m : Meaning) (objects : List Oid) (es : Entries) (P Q : Layout → ℕ
   ground_on : (p : Layout) (o : Oid) → Grounded m objects es P p o → Grounded m objects es Q p o
   ground_on p o g = record { upto = g.upto; is_past = on p g.upto g.is_past; stands = g.stands }
 
-  task_on : (p : Layout) (t : Task m) → TaskGrounded m objects es P p t → TaskGrounded m objects es Q p t
-  task_on p (Appending a y) g = λ o i. ground_on p o (g o i)
-  task_on p (Syncing s) g = tt
-  task_on p (Walking k os) g = tt
-  task_on p (Trimming t) g = tt
-  task_on p (Copying' x) g = tt
-  task_on p (Reconfiguring r) g = tt
+  kept_on : (view : Option (View m)) (y : Purpose m) → MarksKept m objects es P view y → MarksKept m objects es Q view y
+  kept_on view (Marks n o j) g = (record { at = g.0.at; entry = g.0.entry; base = g.0.base; here = g.0.here; before = g.0.before; saves = g.0.saves; reaches = g.0.reaches }, g.1)
+  kept_on view Writes g = tt
+  kept_on view Judged g = tt
+  kept_on view (Decides x) g = tt
+  kept_on view (Rescues x) g = tt
+  kept_on view (Saves o u) g = tt
 
-  work_on : (p : Layout) (hosted : List Oid) (w : Option (Work m)) → WorkGrounded m objects es P p hosted w → WorkGrounded m objects es Q p hosted w
-  work_on p hosted None g = tt
-  work_on p hosted (Some w) g = (task_on p (task_in m w.hand) g.0, g.1)
+  task_on : (p : Layout) (view : Option (View m)) (t : Task m) → TaskGrounded m objects es P p view t → TaskGrounded m objects es Q p view t
+  task_on p view (Appending a y) g = ((λ o i. ground_on p o (g.0 o i)), kept_on view y g.1)
+  task_on p view (Syncing s) g = tt
+  task_on p view (Walking k os) g = tt
+  task_on p view (Trimming t) g = tt
+  task_on p view (Copying' x) g = tt
+  task_on p view (Reconfiguring r) g = tt
+
+  work_on : (p : Layout) (hosted : List Oid) (view : Option (View m)) (w : Option (Work m)) → WorkGrounded m objects es P p hosted view w → WorkGrounded m objects es Q p hosted view w
+  work_on p hosted view None g = tt
+  work_on p hosted view (Some w) g = (task_on p view (task_in m w.hand) g.0, g.1)
 
   client_on : (c : Client m) → ClientGrounded m objects es P c → ClientGrounded m objects es Q c
   client_on c g = (
@@ -177,8 +185,9 @@ module _ (m : Meaning) (objects : List Oid) (es : Entries) (P Q : Layout → ℕ
       hosted = λ o i. ground_on c.stand o (g.0.hosted o i);
       view = λ v e. on c.stand (dir_reach m objects es P v) (g.0.view v e);
       writes = λ t e o i. ground_on c.stand o (g.0.writes t e o i);
+      puts = g.0.puts;
     },
-    work_on c.stand c.hosted c.work g.1,
+    work_on c.stand c.hosted c.view c.work g.1,
   )
 
 module _ (m : Meaning) (h : Header) (zs : Moves m) (r : Reaches m h zs (after m h zs)) (trims : TrimsWereSpare m h zs) (found_all : ClientsFind m h zs (after m h zs)) (ends : AppendsEnd m h zs (after m h zs))
@@ -186,7 +195,7 @@ module _ (m : Meaning) (h : Header) (zs : Moves m) (r : Reaches m h zs (after m 
   abbrev es : Entries
   es = entries_in m (after m h zs)
 
-  abbrev St : Oid → ℕ → Type 0
+  abbrev pub St : Oid → ℕ → Type 0
   St = Stands m h.objects (entries_in m (after m h zs))
 
   stands_up : (o : Oid) (n k : ℕ) → n ≤ k → St o n → St o k
@@ -194,14 +203,14 @@ module _ (m : Meaning) (h : Header) (zs : Moves m) (r : Reaches m h zs (after m 
   stands_up o n k le (Listed p e less here i) = Listed p e (omega (arith, less, le)) here i
 
   -- a position that is issued by an answer which isn't among the packets of a world
-  record IssuedFrom (c : Config m) (s epoch pos : ℕ) : Type 0 where
-    streams : List Oid
-    links : List StreamLink
-    issued : Issued m (after m h zs) s epoch pos streams links
-    since : Has c.packets issued.answer → ⊥
+  pub record IssuedFrom (c : Config m) (s epoch pos : ℕ) : Type 0 where
+    pub streams : List Oid
+    pub links : List StreamLink
+    pub issued : Issued m (after m h zs) s epoch pos streams links
+    pub since : Has c.packets issued.answer → ⊥
 
   -- whatever is issued so in a layout or in a later one is at or past a position
-  abbrev Past : Config m → Layout → ℕ → Type 0
+  abbrev pub Past : Config m → Layout → ℕ → Type 0
   Past c p n = (s epoch pos : ℕ) → p.epoch ≤ epoch → IssuedFrom c s epoch pos → n ≤ pos
 
   past_down : (c : Config m) (p : Layout) (t u : ℕ) → u ≤ t → Past c p t → Past c p u
@@ -216,12 +225,12 @@ module _ (m : Meaning) (h : Header) (zs : Moves m) (r : Reaches m h zs (after m 
   past_on : (c d : Config m) → ((x : Packet) → Has c.packets x → Has d.packets x) → (p : Layout) (n : ℕ) → Past c p n → Past d p n
   past_on c d g p n f s epoch pos k i = f s epoch pos k (record { streams = i.streams; links = i.links; issued = i.issued; since = λ x. i.since (g i.issued.answer x) })
 
-  abbrev Ground : Config m → Client m → Type 0
+  abbrev pub Ground : Config m → Client m → Type 0
   Ground c x = ClientGrounded m h.objects (entries_in m (after m h zs)) (Past c) x
 
-  record Held (c : Config m) : Type 0 where
-    clients : (k : ℕ) → Ground c (client_in m c k)
-    tokens : (s epoch pos : ℕ) (os : List Oid) (ls : List StreamLink) (i : Issued m (after m h zs) s epoch pos os ls) → i.ask.from.role ≡ role.Client → Has c.packets i.ask → (o : Oid) → Has os o → St o pos
+  pub record Held (c : Config m) : Type 0 where
+    pub clients : (k : ℕ) → Ground c (client_in m c k)
+    pub tokens : (s epoch pos : ℕ) (os : List Oid) (ls : List StreamLink) (i : Issued m (after m h zs) s epoch pos os ls) → i.ask.from.role ≡ role.Client → Has c.packets i.ask → (o : Oid) → Has os o → St o pos
 
   listed : AreListed (entries_in m (after m h zs))
   listed = (logs_keep_grammar m (after m h zs)).0
@@ -315,10 +324,15 @@ module _ (m : Meaning) (h : Header) (zs : Moves m) (r : Reaches m h zs (after m 
           based None is = omega arith
           based (Some b) is = base_low b is
 
+      log_own : IsOfLog m h.objects (entries_in m (after m h zs)) (Past (config m (after m h xs))) v (mine m d v)
+      log_own p y i = (only p y i, mine_below m d v d.hosted p y (lists.has_contained (mine m d v) (p, y) i))
+
       found_ground : Past (config m (after m h xs)) d.stand (dir_reach m h.objects (entries_in m (after m h zs)) (Past (config m (after m h xs))) (played_view m d v)) × Own m h.objects (entries_in m (after m h zs)) (Past (config m (after m h xs))) d (mine m d v)
+          × IsOfLog m h.objects (entries_in m (after m h zs)) (Past (config m (after m h xs))) v (mine m d v)
       found_ground = (
         past_down (config m (after m h xs)) d.stand v.tail _ reach_low (tail_past d v t),
-        listed_ground d v (mine m d v) t (λ p y i. (only p y i, mine_below m d v d.hosted p y (lists.has_contained (mine m d v) (p, y) i))),
+        listed_ground d v (mine m d v) t log_own,
+        log_own,
       )
 
     grounds : (d : Client m) (v : Work m) → HasTail m (after m h xs) d v → Finds m h (entries_in m (after m h zs)) xs d v → FoundGround m h.objects (entries_in m (after m h zs)) (Past (config m (after m h xs))) d v
@@ -428,9 +442,9 @@ module _ (m : Meaning) (h : Header) (zs : Moves m) (r : Reaches m h zs (after m 
 
           ground : Grounded m h.objects (entries_in m (after m h zs)) (Past (config m (after m h xs))) t.now.stand x
           ground =
-              let w' = subst (WorkGrounded m h.objects (entries_in m (after m h zs)) (Past (config m (after m h xs))) t.now.stand t.now.hosted) has g.1 in
-              let t'' = subst (λ (y : Task m). TaskGrounded m h.objects (entries_in m (after m h zs)) (Past (config m (after m h xs))) t.now.stand y) (ap (λ (y : Hand m). task_in m y) at ∙ a.is) w'.0 in
-              t'' x (subst (λ (ns : List Oid). Has ns x) a.streams j)
+              let w' = subst (WorkGrounded m h.objects (entries_in m (after m h zs)) (Past (config m (after m h xs))) t.now.stand t.now.hosted t.now.view) has g.1 in
+              let t'' = subst (λ (y : Task m). TaskGrounded m h.objects (entries_in m (after m h zs)) (Past (config m (after m h xs))) t.now.stand t.now.view y) (ap (λ (y : Hand m). task_in m y) at ∙ a.is) w'.0 in
+              t''.0 x (subst (λ (ns : List Oid). Has ns x) a.streams j)
 
           new : (Has (after m h xs).packets i.answer → ⊥) → St x pos
           new since = stands_up x ground.upto pos (ground.is_past s epoch pos (omega (arith, same)) (record { streams = os; links = ls; issued = i; since = since })) ground.stands
@@ -518,19 +532,19 @@ module _ (m : Meaning) (h : Header) (zs : Moves m) (r : Reaches m h zs (after m 
         by None is = held
         by (Some y) is = comes_in y is (runs m (after m h xs) y.to) refl
 
-    command_turn : (k : ℕ) (x : CommandOf m) → k < length (after m h xs).clients → Held (client_turn m (config m (after m h xs)) k (client_command m (client_in m (config m (after m h xs)) k) x))
-    command_turn k x less = turned k (client_command m (client_in m (config m (after m h xs)) k) x) (Commanded x) less
+    command_turn : (k : ℕ) (x : CommandOf m) → LawfulCommand m x → k < length (after m h xs).clients → Held (client_turn m (config m (after m h xs)) k (client_command m (client_in m (config m (after m h xs)) k) x))
+    command_turn k x lawful less = turned k (client_command m (client_in m (config m (after m h xs)) k) x) (Commanded x) less
         (command_in m h.objects (entries_in m (after m h zs)) (Past (config m (after m h xs))) (past_down (config m (after m h xs))) (past_none (config m (after m h xs))) (past_onto (config m (after m h xs))) first
-        (client_in m (config m (after m h xs)) k) x (right.0.clients k).dir (held.clients k))
+        (client_in m (config m (after m h xs)) k) x lawful (right.0.clients k).dir (held.clients k))
 
-    commanded_noted : (k : ℕ) (x : CommandOf m) (b : Bool) → k < length (after m h xs).clients → Held (config m (client_turned m (noted_if m b (after m h xs) k (client m (after m h xs) k)) k (client_command m (client m (after m h xs) k) x)))
+    commanded_noted : (k : ℕ) (x : CommandOf m) (b : Bool) → LawfulCommand m x → k < length (after m h xs).clients → Held (config m (client_turned m (noted_if m b (after m h xs) k (client m (after m h xs) k)) k (client_command m (client m (after m h xs) k) x)))
     unfolding client_turned
-    commanded_noted k x true less = command_turn k x less
-    commanded_noted k x false less = command_turn k x less
+    commanded_noted k x true lawful less = command_turn k x lawful less
+    commanded_noted k x false lawful less = command_turn k x lawful less
 
-    commanded : (k : ℕ) (x : CommandOf m) (b : Bool) → runs m (after m h xs) (client_id k) ≡ b → Held (config m (commands m b (after m h xs) k x))
-    commanded k x false on = held
-    commanded k x true on = commanded_noted k x (is_some (client m (after m h xs) k).work) (below (client_id k) on)
+    commanded : (k : ℕ) (x : CommandOf m) (b : Bool) → LawfulCommand m x → runs m (after m h xs) (client_id k) ≡ b → Held (config m (commands m b (after m h xs) k x))
+    commanded k x false lawful on = held
+    commanded k x true lawful on = commanded_noted k x (is_some (client m (after m h xs) k).work) lawful (below (client_id k) on)
 
     ticked_role : (n : ℕ) (x : Role) → n < count_of m (after m h xs) x → Held (config m (ticks m (after m h xs) n x))
     unfolding client_turned
@@ -549,20 +563,20 @@ module _ (m : Meaning) (h : Header) (zs : Moves m) (r : Reaches m h zs (after m 
     stops n true = held
     stops n false = held
 
-    happened : (x : EventOf m) → EachEvent m h.objects (entries_in m (after m h zs)) (FoundGround m h.objects (entries_in m (after m h zs)) (Past (config m (after m h xs)))) (after m h xs) x → Held (config m (happens m (after m h xs) x))
+    happened : (x : EventOf m) → LawfulEvent m (start m h).cluster x → EachEvent m h.objects (entries_in m (after m h zs)) (FoundGround m h.objects (entries_in m (after m h zs)) (Past (config m (after m h xs)))) (after m h xs) x → Held (config m (happens m (after m h xs) x))
     unfolding happens
-    happened (Commands k x) f = commanded k x (runs m (after m h xs) (client_id k)) refl
-    happened (Deliver i) f = delivered i f
-    happened (Lose i) f = held
-    happened (Tick n) f = ticked n (runs m (after m h xs) n) refl
-    happened (Stop n) f = stops n (runs m (after m h xs) n)
+    happened (Commands k x) lawful f = commanded k x (runs m (after m h xs) (client_id k)) lawful.1 refl
+    happened (Deliver i) lawful f = delivered i f
+    happened (Lose i) lawful f = held
+    happened (Tick n) lawful f = ticked n (runs m (after m h xs) n) refl
+    happened (Stop n) lawful f = stops n (runs m (after m h xs) n)
 
     stepped : Held (config m (happens m (after m h xs) e))
-    stepped = happened e each
+    stepped = happened e (r.goes.lawful (Takes e) (contained zs (Takes e) (subst (λ (ms : Moves m). Has ms (Takes e)) (sym split) (has_right xs (Takes e ∷ ys) (Takes e) (inl refl))))) each
 
   -- Along the run.
 
-  abbrev Q : World m → Type 0
+  abbrev pub Q : World m → Type 0
   Q u = Held (config m u)
 
   start_ground : (k j : ℕ) → Ground (config m (after m h [])) (new_client m h j)
@@ -573,6 +587,7 @@ module _ (m : Meaning) (h : Header) (zs : Moves m) (r : Reaches m h zs (after m 
       hosted = λ o i. dir o i;
       view = λ v e. none_view v e;
       writes = λ t e. absurd cc;
+      puts = λ t e. absurd cc;
     },
     tt,
   )
@@ -588,7 +603,7 @@ module _ (m : Meaning) (h : Header) (zs : Moves m) (r : Reaches m h zs (after m 
     tokens = λ s epoch pos os ls i from y. absurd y;
   }
 
-  held_along : Along m Q zs (start m h)
+  pub held_along : Along m Q zs (start m h)
   unfolding run
   held_along = along m Q h zs start_held next
     where
