@@ -31,8 +31,9 @@ use Rattle.tg_law_walks.proofs.Syncs.{logs_by_position}
 use Rattle.tg_law_finds.specs.Left.{RoundsExact}
 use Rattle.tg_law_exact.specs.Finds.{LeavesFor}
 use Rattle.tg_law_exact.proofs.Finds.{rounds_exact}
-use Rattle.tg_law_leaves.specs.Passed.{WasMet, HasPassed, ViewsPass, TellsFates, HasRested, HasOwn, TrimsRest, OwnsPass, ViewsLeaveNoneWhere}
-use Rattle.tg_law_leaves.proofs.Passing.{views_pass}
+use Rattle.tg_law_leaves.specs.Passed.{WasMet, HasPassed, ViewsPass, TellsFates, HasRested, HasOwn, TrimsRest, OwnsPass, OwnsPassBySpareTrims, ViewsLeaveNoneWhere}
+use Rattle.tg_law_leaves.proofs.Plays.{OwnsPassed}
+use Rattle.tg_law_leaves.proofs.Passing.{views_pass, owns_stay}
 
 -- a position of some streams is one of one of them
 positions_from : (m : Meaning) (xs : List (Oid × List ℕ)) (os : List Oid) (q : ℕ) → Has (positions_of m xs os) q → (o : Oid) × Has os o × Has (positions_in m xs o) q
@@ -114,5 +115,14 @@ module _ (m : Meaning) where
         both_more m h.objects (entries_in m w) (λ c x. Exact c x × Passed c x) (λ c x. LeavesFor m c x x.command) (λ c x. Rests c x × Owns c x) leaves (run m before (start m h)) e
         (both Exact Passed (exact before after e split) (pass before after e split)) (both Rests Owns (rest before after e split) (own before after e split))
 
+  -- the client's own records
+  has_own : (h : Header) (before : Moves m) (l : Log) (byp : IsByPosition l) (c : Client m) (x : Work m) → IsRound m l (round m c x c.cells) [] → OwnsPassed m (WasMet m h before) (entries_of l) c.own c.view → HasOwn m c x
+  has_own h before l byp c x r f k p e is own i commit less known = f k is p e own (mine_of m l byp c x r p e i).0 commit less known
+
+  pub owns_pass : OwnsPassBySpareTrims m
+  owns_pass h ms w r trims before after e split =
+      both_more m h.objects (entries_in m w) (λ c x. IsRound m (log m w) (round m c x c.cells) []) (λ c x. TellsFates m x.command → HasOwn m c x) (λ c x. OwnsPassed m (WasMet m h before) (entries_in m w) c.own c.view)
+      (λ c x p q t. has_own h before (log m w) (logs_by_position m w) c x p q) (run m before (start m h)) e (rounds_exact m h ms w r trims before after e split) (owns_stay m h ms w r trims before after e split)
+
   pub views_leave_none : ViewsLeaveNoneWhere m
-  views_leave_none h ms w r trims rest own = each_leaves h ms w (rounds_exact m h ms w r trims) (views_pass m h ms w r trims) rest own
+  views_leave_none h ms w r trims rest = each_leaves h ms w (rounds_exact m h ms w r trims) (views_pass m h ms w r trims) rest (owns_pass h ms w r trims)

@@ -78,6 +78,9 @@ module _ (m : Meaning) where
     abbrev pub OwnsPass : Type 0
     OwnsPass = InFates (λ before c x. HasOwn c x)
 
-  -- So kept views leave none, where what was trimmed rests, and the client's own records are passed.
+  abbrev pub OwnsPassBySpareTrims : Type 0
+  OwnsPassBySpareTrims = ByRunsOfSpareTrims m OwnsPass
+
+  -- So kept views leave none, where what was trimmed rests.
   abbrev pub ViewsLeaveNoneWhere : Type 0
-  ViewsLeaveNoneWhere = ByRunsOfSpareTrims m (λ h ms w. TrimsRest h ms w → OwnsPass h ms w → ViewsLeaveNone m h ms w)
+  ViewsLeaveNoneWhere = ByRunsOfSpareTrims m (λ h ms w. TrimsRest h ms w → ViewsLeaveNone m h ms w)
