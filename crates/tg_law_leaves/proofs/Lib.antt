@@ -7,3 +7,4 @@ pub mod Steps
 pub mod Landing
 pub mod Passing
 pub mod Leaving
+pub mod Resting

@@ -45,8 +45,8 @@ grouped (x ∷ xs) ys zs = ap (λ us. x ∷ us) (grouped xs ys zs)
 
 module _ (m : Meaning) (h : Header) where
   -- what was met stays so
-  met_later : (xs ys : Moves m) (o : Oid) (p : ℕ) → WasMet m h xs o p → WasMet m h (xs ++ ys) o p
-  met_later xs ys o p x = record {
+  met_later : (xs ys : Moves m) (n : ℕ) (o : Oid) (p : ℕ) → WasMet m h xs n o p → WasMet m h (xs ++ ys) n o p
+  met_later xs ys n o p x = record {
     before = x.before;
     event = x.event;
     after = x.after ++ ys;
@@ -54,29 +54,30 @@ module _ (m : Meaning) (h : Header) where
     client = x.client;
     end = x.end;
     walked = x.walked;
+    of = x.of;
     below = x.below;
     met = x.met;
     above = x.above;
   }
 
-  met_here : (xs : Moves m) (e : EventOf m) (k : ℕ) (y : Walked m) (o : Oid) (b p : ℕ) → walked_in m (run m xs (start m h)) e k ≡ Some y → trim_of y.work.trims o ≡ Some b → p < b → WasMet m h (xs ++ Takes e ∷ []) o p
-  met_here xs e k y o b p is t less = record { before = xs; event = e; after = []; split = refl; client = k; end = y; walked = is; below = b; met = t; above = less }
+  met_here : (xs : Moves m) (e : EventOf m) (k : ℕ) (y : Walked m) (o : Oid) (b p : ℕ) → walked_in m (run m xs (start m h)) e k ≡ Some y → trim_of y.work.trims o ≡ Some b → p < b → WasMet m h (xs ++ Takes e ∷ []) y.client.num o p
+  met_here xs e k y o b p is t less = record { before = xs; event = e; after = []; split = refl; client = k; end = y; walked = is; of = refl; below = b; met = t; above = less }
 
   -- wherever a step of a run comes to the end of a command's walks, the kept view has the client's own records that it went past
   abbrev pub OwnsStayPassed : World m → Moves m → Type 0
-  OwnsStayPassed w zs = InEachStep m h zs (λ xs v e. EachEvent m h.objects (entries_in m w) (λ c x. OwnsPassed m (WasMet m h xs) (entries_in m w) c.own c.view) v e)
+  OwnsStayPassed w zs = InEachStep m h zs (λ xs v e. EachEvent m h.objects (entries_in m w) (λ c x. OwnsPassed m (WasMet m h xs c.num) (entries_in m w) c.own c.view) v e)
 
   module _ (w : World m) where
     -- a kept view, by the run so far, with its client's own records
-    abbrev pub Kept : Moves m → List ℕ → List (ℕ × Cell) → List Oid → Option (View m) → Type 0
-    Kept xs own cells hosted view =
-        OwnsKnown m (WasMet m h xs) (entries_in m w) own cells × OwnsPassed m (WasMet m h xs) (entries_in m w) own view × Passes m (WasMet m h xs) (entries_in m w) hosted view
+    abbrev pub Kept : Moves m → ℕ → List ℕ → List (ℕ × Cell) → List Oid → Option (View m) → Type 0
+    Kept xs n own cells hosted view =
+        OwnsKnown m (WasMet m h xs n) (entries_in m w) own cells × OwnsPassed m (WasMet m h xs n) (entries_in m w) own view × Passes m (WasMet m h xs n) (entries_in m w) hosted view
 
     some_view : (k : View m) (v : Option (View m)) (p : ℕ) → v ≡ Some k → upto_in m v ≤ p → p < k.upto → ⊥
     some_view k v p is le less = let at : upto_in m v ≡ k.upto = ap (upto_in m) is in omega (arith, at, le, less)
 
-    owned : (xs : Moves m) (own : List ℕ) (cells : List (ℕ × Cell)) (os : List Oid) (v : Option (View m)) (p : ℕ) (d : Cell) → upto_in m v ≤ p → Kept xs own cells os v → Kept xs (with_num p own) (with_cell cells p d) os v
-    owned xs own cells os v p d le k = (
+    owned : (xs : Moves m) (n : ℕ) (own : List ℕ) (cells : List (ℕ × Cell)) (os : List Oid) (v : Option (View m)) (p : ℕ) (d : Cell) → upto_in m v ≤ p → Kept xs n own cells os v → Kept xs n (with_num p own) (with_cell cells p d) os v
+    owned xs n own cells os v p d le k = (
       λ q i. known q (nums_split (p ∷ []) own q (has_contained (with_num p own) q i)),
       λ u is q e i there commit less reads. passed u is q e there commit less reads (nums_split (p ∷ []) own q (has_contained (with_num p own) q i)),
       k.2,
@@ -88,38 +89,38 @@ module _ (m : Meaning) (h : Header) where
         known q (inr i) = more_some cells p d q (k.0 q (contained_has own q i))
 
         passed : (u : View m) → v ≡ Some u → (q : ℕ) (e : Entry) → Contains (entries_in m w) (q, e) → is_commit e ≡ true → q < u.upto → unknown_in m u (reads_of e) q ≡ None → Has (p ∷ []) q ⊎ Has own q → IsFated m u q
-        passed u is q e there commit less reads (inl (inl same)) = absurd (some_view u v p is le (subst (λ (n : ℕ). n < u.upto) same less))
+        passed u is q e there commit less reads (inl (inl same)) = absurd (some_view u v p is le (subst (λ (i : ℕ). i < u.upto) same less))
         passed u is q e there commit less reads (inl (inr none)) = absurd none
         passed u is q e there commit less reads (inr i) = k.1 u is q e (contained_has own q i) there commit less reads
 
     lasts : (xs : Moves m) → Lasts m (Kept xs)
     lasts xs = record {
-      given = λ own cells os ps v k. (k.0, none_owned m (WasMet m h xs) (entries_in m w) own, none_passes m (WasMet m h xs) (entries_in m w) ps);
-      left = λ own cells more os v f k. (λ p i. f p i (k.0 p i), k.1, k.2);
-      owns = λ own cells os v p d le k. owned xs own cells os v p d le k;
+      given = λ n own cells os ps v k. (k.0, none_owned m (WasMet m h xs n) (entries_in m w) own, none_passes m (WasMet m h xs n) (entries_in m w) ps);
+      left = λ n own cells more os v f k. (λ p i. f p i (k.0 p i), k.1, k.2);
+      owns = λ n own cells os v p d le k. owned xs n own cells os v p d le k;
     }
 
-    kept_later : (xs ys : Moves m) (own : List ℕ) (cells : List (ℕ × Cell)) (hosted : List Oid) (view : Option (View m)) → Kept xs own cells hosted view → Kept (xs ++ ys) own cells hosted view
-    kept_later xs ys own cells hosted view f = (f.0, f.1, λ k is p e o i commit host l less known. by (f.2 k is p e o i commit host l less known))
+    kept_later : (xs ys : Moves m) (n : ℕ) (own : List ℕ) (cells : List (ℕ × Cell)) (hosted : List Oid) (view : Option (View m)) → Kept xs n own cells hosted view → Kept (xs ++ ys) n own cells hosted view
+    kept_later xs ys n own cells hosted view f = (f.0, f.1, λ k is p e o i commit host l less known. by (f.2 k is p e o i commit host l less known))
       where
-        by : {A : Type 0} {o : Oid} {p : ℕ} → A ⊎ WasMet m h xs o p → A ⊎ WasMet m h (xs ++ ys) o p
+        by : {A : Type 0} {o : Oid} {p : ℕ} → A ⊎ WasMet m h xs n o p → A ⊎ WasMet m h (xs ++ ys) n o p
         by {A} {o} {p} (inl a) = inl a
-        by {A} {o} {p} (inr x) = inr (met_later xs ys o p x)
+        by {A} {o} {p} (inr x) = inr (met_later xs ys n o p x)
 
     abbrev All : Moves m → World m → Type 0
     All xs v = (k : ℕ) → Holds m (Kept xs) (client m v k)
 
     all_later : (xs ys : Moves m) (c : Client m) → Holds m (Kept xs) c → Holds m (Kept (xs ++ ys)) c
-    all_later xs ys c k = kept_later xs ys c.own (work_cells m c.work c.cells) c.hosted c.view k
+    all_later xs ys c k = kept_later xs ys c.num c.own (work_cells m c.work c.cells) c.hosted c.view k
 
     abbrev Exact : Client m → Work m → Type 0
     Exact c x = IsRound m (log m w) (round m c x c.cells) []
 
-    play_kept : (xs : Moves m) (c : Client m) (x : Work m) → IsRound m (log m w) (round m c x c.cells) [] → ((o : Oid) (b p : ℕ) → trim_of x.trims o ≡ Some b → p < b → WasMet m h xs o p) → PlayHolds m (Kept xs) c x
+    play_kept : (xs : Moves m) (c : Client m) (x : Work m) → IsRound m (log m w) (round m c x c.cells) [] → ((o : Oid) (b p : ℕ) → trim_of x.trims o ≡ Some b → p < b → WasMet m h xs c.num o p) → PlayHolds m (Kept xs) c x
     play_kept xs c x r met plays k = (
       k.0,
-      owns_play m (WasMet m h xs) (log m w) (logs_by_position m w) c x r met k.0 k.1,
-      play_passes m (WasMet m h xs) (log m w) (logs_by_position m w) c x r met k.2,
+      owns_play m (WasMet m h xs c.num) (log m w) (logs_by_position m w) c x r met k.0 k.1,
+      play_passes m (WasMet m h xs c.num) (log m w) (logs_by_position m w) c x r met k.2,
     )
 
     takes_kept : (xs : Moves m) (e : EventOf m) → StepLands m (run m xs (start m h)) e → EachEvent m h.objects (entries_in m w) Exact (run m xs (start m h)) e → All xs (run m xs (start m h)) → All (xs ++ Takes e ∷ []) (run m (xs ++ Takes e ∷ []) (start m h))
@@ -146,12 +147,12 @@ module _ (m : Meaning) (h : Header) where
           subst (λ (us : Moves m). All us (run m us (start m h))) (grouped xs (Takes e ∷ []) ms)
           (kept_on (xs ++ Takes e ∷ []) ms ys (split ∙ sym (grouped xs (Takes e ∷ []) (ms ++ ys))) (takes_kept xs e (lands xs (ms ++ ys) e split) (exact xs (ms ++ ys) e split) q))
 
-      nothing_kept : (hosted : List Oid) → Kept [] [] [] hosted None
-      nothing_kept hosted = (λ p i. absurd (has_contained [] p i), none_owned m (WasMet m h []) (entries_in m w) [], none_passes m (WasMet m h []) (entries_in m w) hosted)
+      nothing_kept : (n : ℕ) (hosted : List Oid) → Kept [] n [] [] hosted None
+      nothing_kept n hosted = (λ p i. absurd (has_contained [] p i), none_owned m (WasMet m h [] n) (entries_in m w) [], none_passes m (WasMet m h [] n) (entries_in m w) hosted)
 
       first_kept : (k : ℕ) → Holds m (Kept []) (new_client m h k)
       unfolding new_client
-      first_kept k = nothing_kept (new_client m h k).hosted
+      first_kept k = nothing_kept (new_client m h k).num (new_client m h k).hosted
 
       new_kept : (ns : List ℕ) (k : ℕ) (d : Client m) → Holds m (Kept []) d → Holds m (Kept []) (slice_index_or (map (new_client m h) ns) k d)
       new_kept [] k d q = q
@@ -168,7 +169,7 @@ module _ (m : Meaning) (h : Header) where
       -- Through the walks of a step.
 
       abbrev I : Moves m → Client m → Work m → Type 0
-      I xs c x = OwnsPassed m (WasMet m h xs) (entries_in m w) c.own c.view × Passes m (WasMet m h xs) (entries_in m w) c.hosted c.view
+      I xs c x = OwnsPassed m (WasMet m h xs c.num) (entries_in m w) c.own c.view × Passes m (WasMet m h xs c.num) (entries_in m w) c.hosted c.view
 
       carries : (xs : Moves m) → Carries m (I xs)
       carries xs = record {
@@ -186,7 +187,7 @@ module _ (m : Meaning) (h : Header) where
           by c x (Some s) i = i
 
           given : (c : Client m) (x : Work m) (b : Bool) → I xs c x → I xs (given_up_if m b c) x
-          given c x true i = (none_owned m (WasMet m h xs) (entries_in m w) c.own, none_passes m (WasMet m h xs) (entries_in m w) c.hosted)
+          given c x true i = (none_owned m (WasMet m h xs c.num) (entries_in m w) c.own, none_passes m (WasMet m h xs c.num) (entries_in m w) c.hosted)
           given c x false i = i
 
       walks_kept : (xs : Moves m) (c : Client m) (x : Work m) (t : Task m) → I xs c x → WalksBy m (I xs) c x t
@@ -204,10 +205,10 @@ module _ (m : Meaning) (h : Header) where
           (λ k x works. walks_kept xs (client m (run m xs (start m h)) k) x (task_in m x.hand) (let q = kept_at xs (Takes e ∷ ys) split k in (q.1, q.2))) (exact xs ys e split) (exact xs ys e split)
 
       pub views_kept : ViewsPass m h zs w
-      views_kept = carried (λ xs c x. Passes m (WasMet m h xs) (entries_in m w) c.hosted c.view) (λ xs c x i. i.1)
+      views_kept = carried (λ xs c x. Passes m (WasMet m h xs c.num) (entries_in m w) c.hosted c.view) (λ xs c x i. i.1)
 
       pub owns_kept : OwnsStayPassed w zs
-      owns_kept = carried (λ xs c x. OwnsPassed m (WasMet m h xs) (entries_in m w) c.own c.view) (λ xs c x i. i.0)
+      owns_kept = carried (λ xs c x. OwnsPassed m (WasMet m h xs c.num) (entries_in m w) c.own c.view) (λ xs c x i. i.0)
 
 pub views_pass : (m : Meaning) → ViewsPassBySpareTrims m
 views_pass m h ms w r trims = views_kept m h w ms (rounds_exact m h ms w r trims) (lands_in_steps m h ms w r trims)

@@ -25,7 +25,7 @@ abbrev pub StepLands : (m : Meaning) → World m → EventOf m → Type 0
 StepLands m w (Deliver i) = (p : Packet) → slice_get w.packets i ≡ Some p → p.to.role ≡ role.Client → Lands m (client m w p.to.num) p.from p.rid (reply p.msg)
 StepLands m w e = Unit {0}
 
-module _ (m : Meaning) (objects : List Oid) (es : Entries) (K : List ℕ → List (ℕ × Cell) → List Oid → Option (View m) → Type 0) (keep : Lasts m K) where
+module _ (m : Meaning) (objects : List Oid) (es : Entries) (K : ℕ → List ℕ → List (ℕ × Cell) → List Oid → Option (View m) → Type 0) (keep : Lasts m K) where
   abbrev Of : Client m → Type 0
   Of c = Holds m K c
 

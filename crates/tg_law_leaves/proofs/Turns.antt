@@ -62,33 +62,33 @@ again_past q a next u = by a.token
     by None = tt
     by (Some t) = judged_past q a t next u _
 
-module _ (m : Meaning) (K : List ℕ → List (ℕ × Cell) → List Oid → Option (View m) → Type 0) where
+module _ (m : Meaning) (K : ℕ → List ℕ → List (ℕ × Cell) → List Oid → Option (View m) → Type 0) where
   -- it stays where the view is given up, where no known cell of the client's own records is, and where a record lands past the view
   pub record Lasts : Type 0 where
-    pub given : (own : List ℕ) (cells : List (ℕ × Cell)) (os ps : List Oid) (v : Option (View m)) → K own cells os v → K own cells ps None
-    pub left : (own : List ℕ) (cells more : List (ℕ × Cell)) (os : List Oid) (v : Option (View m)) → AreLeft own cells more → K own cells os v → K own more os v
-    pub owns : (own : List ℕ) (cells : List (ℕ × Cell)) (os : List Oid) (v : Option (View m)) (p : ℕ) (d : Cell) → upto_in m v ≤ p → K own cells os v → K (with_num p own) (with_cell cells p d) os v
+    pub given : (n : ℕ) (own : List ℕ) (cells : List (ℕ × Cell)) (os ps : List Oid) (v : Option (View m)) → K n own cells os v → K n own cells ps None
+    pub left : (n : ℕ) (own : List ℕ) (cells more : List (ℕ × Cell)) (os : List Oid) (v : Option (View m)) → AreLeft own cells more → K n own cells os v → K n own more os v
+    pub owns : (n : ℕ) (own : List ℕ) (cells : List (ℕ × Cell)) (os : List Oid) (v : Option (View m)) (p : ℕ) (d : Cell) → upto_in m v ≤ p → K n own cells os v → K n (with_num p own) (with_cell cells p d) os v
 
   -- of a client, by the cells that it has, or that its walk has
   abbrev pub With : List (ℕ × Cell) → Client m → Type 0
-  With cells c = K c.own cells c.hosted c.view
+  With cells c = K c.num c.own cells c.hosted c.view
 
   abbrev pub Now : Client m → Type 0
-  Now c = K c.own c.cells c.hosted c.view
+  Now c = K c.num c.own c.cells c.hosted c.view
 
   abbrev pub Holds : Client m → Type 0
-  Holds c = K c.own (work_cells m c.work c.cells) c.hosted c.view
+  Holds c = K c.num c.own (work_cells m c.work c.cells) c.hosted c.view
 
   -- a play keeps it
   abbrev pub PlayHolds : Client m → Work m → Type 0
-  PlayHolds c w = plays_kept m w.command ≡ true → K c.own c.cells c.hosted c.view → K c.own c.cells c.hosted (Some (played_view m c w))
+  PlayHolds c w = plays_kept m w.command ≡ true → K c.num c.own c.cells c.hosted c.view → K c.num c.own c.cells c.hosted (Some (played_view m c w))
 
 -- an append of the client's that ends by an answer lands past its view
 abbrev pub Lands : (m : Meaning) → Client m → NodeId → ℕ → Reply → Type 0
 Lands m c from rid x = (w : Work m) (a : Append) (y : Purpose m) → c.work ≡ Some w → w.hand ≡ Doing (Appending a y) → awaits (task_awaited m c.stand (Appending a y)) from rid ≡ true →
     LandsPast (upto m c) (append_feed c.stand a a.work from.num x c.next).to
 
-module _ (m : Meaning) (objects : List Oid) (es : Entries) (K : List ℕ → List (ℕ × Cell) → List Oid → Option (View m) → Type 0) (keep : Lasts m K) where
+module _ (m : Meaning) (objects : List Oid) (es : Entries) (K : ℕ → List ℕ → List (ℕ × Cell) → List Oid → Option (View m) → Type 0) (keep : Lasts m K) where
   abbrev Fine : Moved m → Type 0
   Fine x = Holds m K x.now
 
@@ -108,12 +108,13 @@ module _ (m : Meaning) (objects : List Oid) (es : Entries) (K : List ℕ → Lis
 
   kept : (c d : Client m) → Keeps m c d → Now m K c → Now m K d
   kept c d s k =
-      subst (λ (own : List ℕ). K own d.cells d.hosted d.view) (sym s.own)
-      (subst (λ (v : Option (View m)). K c.own d.cells d.hosted v) (sym s.view)
-      (subst (λ (os : List Oid). K c.own d.cells os c.view) (sym s.hosted) (keep.left c.own c.cells d.cells c.hosted c.view s.pages k)))
+      subst (λ (n : ℕ). K n d.own d.cells d.hosted d.view) (sym s.num)
+      (subst (λ (own : List ℕ). K c.num own d.cells d.hosted d.view) (sym s.own)
+      (subst (λ (v : Option (View m)). K c.num c.own d.cells d.hosted v) (sym s.view)
+      (subst (λ (os : List Oid). K c.num c.own d.cells os c.view) (sym s.hosted) (keep.left c.num c.own c.cells d.cells c.hosted c.view s.pages k))))
 
   idle : (d : Client m) → d.work ≡ None → Now m K d → Holds m K d
-  idle d e k = subst (λ (o : Option (Work m)). K d.own (work_cells m o d.cells) d.hosted d.view) (sym e) k
+  idle d e k = subst (λ (o : Option (Work m)). K d.num d.own (work_cells m o d.cells) d.hosted d.view) (sym e) k
 
   came_fine : (c : Client m) (w : Work m) (x : Moved m) → Now m K c → Came m c w x → Fine x
   came_fine c w x k (Rests s i) = idle x.now i (kept c x.now s k)
@@ -129,7 +130,7 @@ module _ (m : Meaning) (objects : List Oid) (es : Entries) (K : List ℕ → Lis
       by (LeavesView x) = came_fine c w (walked m c w) k x
 
   more : (cells known : List (ℕ × Cell)) (c : Client m) → AreMore cells known → With m K cells c → With m K known c
-  more cells known c g k = keep.left c.own cells known c.hosted c.view (λ p i. g p) k
+  more cells known c g k = keep.left c.num c.own cells known c.hosted c.view (λ p i. g p) k
 
   walks_at : (c : Client m) (w : Work m) (o : Oid) (os : List Oid) (to : Next Walk Members) → Begins to → WalkMore c.cells to → Now m K c → ((x : Members) → to ≡ Ends x → EachWalk m objects es (PlayHolds m K) os (takes_back m c x) (found_by m w o x))
       → ((d : Client m) (v : Work m) → Now m K d → EachWalk m objects es (PlayHolds m K) os d v → Fine (step.walks m os d v))
@@ -180,7 +181,7 @@ module _ (m : Meaning) (objects : List Oid) (es : Entries) (K : List ℕ → Lis
   ended_fine c w o os x (Some b) k f = by (gives_up m c w b) f
     where
       by : (z : Bool) → EachTrim m objects es (PlayHolds m K) (given_up_if m z c) w os (step.stale m c w o x b) (z && not (w.lo == 0)) → Fine (at_trim m (given_up_if m z c) w os (step.stale m c w o x b) (z && not (w.lo == 0)))
-      by true f = at_trim_fine (record c { view = None }) w os _ _ (keep.given c.own c.cells c.hosted c.hosted c.view k) f
+      by true f = at_trim_fine (record c { view = None }) w os _ _ (keep.given c.num c.own c.cells c.hosted c.hosted c.view k) f
       by false f = at_trim_fine c w os _ _ k f
 
   walk_to_fine : (cells : List (ℕ × Cell)) (c : Client m) (w : Work m) (o : Oid) (os : List Oid) (to : Next Walk Members) → WalkMore cells to → With m K cells c → EachWalked m objects es (PlayHolds m K) c w o os to → Fine (walk_to m c w o os to)
@@ -200,7 +201,7 @@ module _ (m : Meaning) (objects : List Oid) (es : Entries) (K : List ℕ → Lis
   replied c k = pruned_fine c c (keeps_same m c) k
 
   shut : (c : Client m) → Now m K c → Holds m K (pruned m (closed m c))
-  shut c k = pruned_fine c (closed m c) (record { own = refl; pages = λ p i g. g; view = refl; hosted = refl }) k
+  shut c k = pruned_fine c (closed m c) (record { num = refl; own = refl; pages = λ p i g. g; view = refl; hosted = refl }) k
 
   answered_fine : (c : Client m) → Now m K c → Holds m K (pruned m (took_over m c c.view))
   answered_fine c k = pruned_fine c (took_over m c c.view) (took_keeps m c c c.view (keeps_same m c)) k
@@ -209,7 +210,7 @@ module _ (m : Meaning) (objects : List Oid) (es : Entries) (K : List ℕ → Lis
   page c p d k = more c.cells (with_cell c.cells p (Data d)) c (more_some c.cells p (Data d)) k
 
   owned : (c : Client m) (p : ℕ) (d : List ℕ) → upto m c ≤ p → Now m K c → Now m K (owns m c p d)
-  owned c p d le k = keep.owns c.own c.cells c.hosted c.view p (Data d) le k
+  owned c p d le k = keep.owns c.num c.own c.cells c.hosted c.view p (Data d) le k
 
   decided_fine : (c : Client m) (x : CommandOf m) (what : WhatOf m) → Now m K c → Fine (decided_for m c x what)
   decided_fine c cmd.End what k = answered_fine (closed m c) k
@@ -322,7 +323,7 @@ module _ (m : Meaning) (objects : List Oid) (es : Entries) (K : List ℕ → Lis
 
   hosts_fine : (c : Client m) (o : Oid) (b : Bool) → Holds m K c → Fine (step.hosts_more m c o b)
   hosts_fine c o true k = k
-  hosts_fine c o false k = keep.given c.own (work_cells m c.work c.cells) c.hosted _ c.view k
+  hosts_fine c o false k = keep.given c.num c.own (work_cells m c.work c.cells) c.hosted _ c.view k
 
   puts_fine : (c : Client m) (o : Oid) (op : m.op) (t : Option Tx) → Holds m K c → Fine (step.puts m c o op t)
   puts_fine c o op None k = k
@@ -365,7 +366,7 @@ module _ (m : Meaning) (objects : List Oid) (es : Entries) (K : List ℕ → Lis
   accepts_fine c x k n = syncs_fine c (new_work m x) c.hosted n
 
   free : (c : Client m) → c.work ≡ None → Holds m K c → Now m K c
-  free c e k = subst (λ (o : Option (Work m)). K c.own (work_cells m o c.cells) c.hosted c.view) e k
+  free c e k = subst (λ (o : Option (Work m)). K c.num c.own (work_cells m o c.cells) c.hosted c.view) e k
 
   refused_fine : (c : Client m) (x : CommandOf m) (o : Option Refusal) → (o ≡ None → c.work ≡ None) → Holds m K c → Fine (refused_or m c x o)
   refused_fine c x None g k = accepts_fine c x k (free c (g refl) k)
@@ -399,9 +400,9 @@ module _ (m : Meaning) (objects : List Oid) (es : Entries) (K : List ℕ → Lis
 
   -- the cells in hand
   in_hand : (c : Client m) (w : Work m) (d : Hand m) → c.work ≡ Some w → w.hand ≡ d → Holds m K c → With m K (task_cells m (task_in m d) c.cells) c
-  in_hand c w d e h k = by d (subst (λ (z : Hand m). K c.own (hand_cells m z c.cells) c.hosted c.view) h (subst (λ (o : Option (Work m)). K c.own (work_cells m o c.cells) c.hosted c.view) e k))
+  in_hand c w d e h k = by d (subst (λ (z : Hand m). K c.num c.own (hand_cells m z c.cells) c.hosted c.view) h (subst (λ (o : Option (Work m)). K c.num c.own (work_cells m o c.cells) c.hosted c.view) e k))
     where
-      by : (d : Hand m) → K c.own (hand_cells m d c.cells) c.hosted c.view → With m K (task_cells m (task_in m d) c.cells) c
+      by : (d : Hand m) → K c.num c.own (hand_cells m d c.cells) c.hosted c.view → With m K (task_cells m (task_in m d) c.cells) c
       by (Doing t) k = k
       by (Learning ws t) k = k
 

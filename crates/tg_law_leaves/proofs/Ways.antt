@@ -64,13 +64,14 @@ num_here p (q ∷ ps) (inr i) = there (p == q) (has_num p ps) (num_here p ps i)
 module _ (m : Meaning) where
   -- what is left of a client: its view, what it hosts, and its own records with their cells
   pub record Keeps (c d : Client m) : Type 0 where
+    pub num : d.num ≡ c.num
     pub own : d.own ≡ c.own
     pub pages : (p : ℕ) → Contains c.own p → is_some (cell_at c.cells p) ≡ true → is_some (cell_at d.cells p) ≡ true
     pub view : d.view ≡ c.view
     pub hosted : d.hosted ≡ c.hosted
 
   pub keeps_same : (c : Client m) → Keeps c c
-  keeps_same c = record { own = refl; pages = λ p i k. k; view = refl; hosted = refl }
+  keeps_same c = record { num = refl; own = refl; pages = λ p i k. k; view = refl; hosted = refl }
 
   -- the command ends, or goes on with a machine that begins
   pub data Came (c : Client m) (w : Work m) (x : Moved m) : Type 0 where
@@ -88,6 +89,7 @@ module _ (m : Meaning) where
 
   pub pruned_keeps : (c d : Client m) → Keeps c d → Keeps c (pruned m d)
   pruned_keeps c d k = record {
+    num = k.num;
     own = k.own;
     pages = λ p i known. own_pages d p (subst (λ (ps : List ℕ). Contains ps p) (sym k.own) i) (k.pages p i known);
     view = k.view;
@@ -96,7 +98,7 @@ module _ (m : Meaning) where
 
   pub took_keeps : (c d : Client m) (v : Option (View m)) → Keeps c d → Keeps c (took_over m d v)
   took_keeps c d None k = k
-  took_keeps c d (Some v) k = record { own = k.own; pages = k.pages; view = k.view; hosted = k.hosted }
+  took_keeps c d (Some v) k = record { num = k.num; own = k.own; pages = k.pages; view = k.view; hosted = k.hosted }
 
   replied : (c d : Client m) (w : Work m) (ns : List (NoteOf m)) → Keeps c d → Came c w (replies m d ns)
   replied c d w ns k = Rests (pruned_keeps c d k) refl
@@ -108,10 +110,10 @@ module _ (m : Meaning) where
   tells c w n what = replied c (took_over m c c.view) w _ (took_keeps c c c.view (keeps_same c))
 
   shuts : (c : Client m) (w : Work m) (n : ℕ) (what : WhatOf m) → Came c w (answers m (closed m c) n what)
-  shuts c w n what = replied c (took_over m (closed m c) c.view) w _ (took_keeps c (closed m c) c.view (record { own = refl; pages = λ p i k. k; view = refl; hosted = refl }))
+  shuts c w n what = replied c (took_over m (closed m c) c.view) w _ (took_keeps c (closed m c) c.view (record { num = refl; own = refl; pages = λ p i k. k; view = refl; hosted = refl }))
 
   decides : (c : Client m) (w : Work m) (e : Entry) (y : Purpose m) → Came c w (appends m (with_decision m c) w e y [])
-  decides c w e y = Appends (with_decision m c) (record { own = refl; pages = λ p i k. k; view = refl; hosted = refl }) e y [] refl
+  decides c w e y = Appends (with_decision m c) (record { num = refl; own = refl; pages = λ p i k. k; view = refl; hosted = refl }) e y [] refl
 
   -- The answers of commands that have played.
 
@@ -121,7 +123,7 @@ module _ (m : Meaning) where
     where
       answer : (t : Tx) (s : Option m.state) → Came c w (ask_answer m c w t o q v s)
       answer t None = rests c w _
-      answer t (Some s) = replied c _ w _ (took_keeps c _ c.view (record { own = refl; pages = λ p i k. k; view = refl; hosted = refl }))
+      answer t (Some s) = replied c _ w _ (took_keeps c _ c.view (record { num = refl; own = refl; pages = λ p i k. k; view = refl; hosted = refl }))
 
       by : (t : Option Tx) → Came c w (ask_in m c w o q v t)
       by None = rests c w _
@@ -201,7 +203,7 @@ module _ (m : Meaning) where
 
   save_came : (b : Bool) (c : Client m) (w : Work m) (o : Oid) (e : Entry) → Came c w (save_if m b c w o e)
   save_came true c w o e = rests c w _
-  save_came false c w o e = Appends (record c { checkpoints = c.checkpoints + 1 }) (record { own = refl; pages = λ p i k. k; view = refl; hosted = refl }) e (Saves o w.tail) [] refl
+  save_came false c w o e = Appends (record c { checkpoints = c.checkpoints + 1 }) (record { num = refl; own = refl; pages = λ p i k. k; view = refl; hosted = refl }) e (Saves o w.tail) [] refl
 
   checkpoint_came : (c : Client m) (w : Work m) (v : View m) (o : Oid) (came : PlayEnd) → Came c w (on_checkpoint m c w v o came)
   checkpoint_came c w v o (Blocked q x) = rests c w _
@@ -210,7 +212,7 @@ module _ (m : Meaning) where
   forget_by_came : (c : Client m) (w : Work m) (o : Oid) (n : ℕ) (f : Option (ForgetFault m)) → Came c w (forget_by m c w o n f)
   forget_by_came c w o n (Some NoCheckpoint) = rests c w _
   forget_by_came c w o n (Some (OpenDecision p)) = rests c w _
-  forget_by_came c w o n None = Appends (record c { begun = c.begun + 1 }) (record { own = refl; pages = λ p i k. k; view = refl; hosted = refl }) (mark_record m c o n) (Marks (c.begun + 1) o n) (mark_notes m (c.begun + 1) o n) refl
+  forget_by_came c w o n None = Appends (record c { begun = c.begun + 1 }) (record { num = refl; own = refl; pages = λ p i k. k; view = refl; hosted = refl }) (mark_record m c o n) (Marks (c.begun + 1) o n) (mark_notes m (c.begun + 1) o n) refl
 
   forget_came : (c : Client m) (w : Work m) (es : Entries) (o : Oid) (n : ℕ) (came : PlayEnd) → Came c w (on_forget m c w es o n came)
   forget_came c w es o n (Played t) = forget_by_came c w o n (may_forget m es o n)
