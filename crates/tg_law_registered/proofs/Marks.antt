@@ -1,5 +1,6 @@
--- Over a run: each record that marks an object stands past a checkpoint of it that reaches the mark.
-use Rattle.std.proofs.Common.{◌≡◌, ◌⊎◌, ℕ, ◌≤◌, List, [], ◌∷◌, Bool, true, false, refl, sym, ap, ◌∙◌, subst, inl, inr, arith, Some}
+-- Over a run: each record that marks an object stands past a checkpoint of it that reaches the mark; so what stands below a floor is
+-- saved.
+use Rattle.std.proofs.Common.{◌≡◌, ◌⊎◌, ℕ, ◌<◌, ◌≤◌, List, [], ◌∷◌, Bool, true, false, refl, sym, ap, ◌∙◌, subst, inl, inr, arith, Some}
 use Rattle.std.specs.Prelude.{Contains}
 use Rattle.tg_base.specs.Clusters.{Header}
 use Rattle.tg_base.specs.declared.ids.Oid.{Oid}
@@ -13,7 +14,7 @@ use Rattle.tg_entry.specs.declared.entry.Head.{Head}
 use Rattle.tg_entry.specs.declared.entry.WriteOp.{WriteOp}
 use Rattle.tg_kind.specs.Meaning.{Meaning}
 use Rattle.tg_protocol.specs.Words.{directory}
-use Rattle.tg_protocol.specs.Entries.{is_commit}
+use Rattle.tg_protocol.specs.Entries.{is_commit, lists}
 use Rattle.tg_protocol.specs.Checkpoints.{base_at}
 use Rattle.tg_protocol.specs.Transactions.{Tx, commit_record}
 use Rattle.tg_protocol.specs.Clients.{Purpose, Writes, Judged, Decides, Rescues, Saves, Marks, Client, upto}
@@ -25,7 +26,9 @@ use Rattle.tg_law_moves.specs.After.{after}
 use Rattle.tg_law_moves.specs.Configs.{config}
 use Rattle.tg_law_history.specs.Logs.{state_below}
 use Rattle.tg_law_history.specs.Worlds.{entries_in}
-use Rattle.tg_law_history.specs.Floors.{HasCheckpoint, MarksAreKept}
+use Rattle.tg_law_history.specs.Floors.{HasCheckpoint, MarksAreKept, AreRegistered}
+use Rattle.tg_law_history.specs.Loading.{AreOpsOf}
+use Rattle.tg_law_history.proofs.Floors.{floors_are_safe}
 use Rattle.tg_law_history.proofs.Cells.{logs_rise}
 use Rattle.tg_law_history.proofs.Members.{Has, has_contained}
 use Rattle.tg_law_moves.proofs.Members as moves
@@ -43,10 +46,11 @@ use Rattle.tg_law_once.proofs.Once.{put_there, stands}
 use Rattle.tg_law_once.proofs.Spending.{Dead}
 use Rattle.tg_law_once.proofs.Turning.{tag_commit}
 use Rattle.tg_law_follow.proofs.Asks.{put_past}
+use Rattle.tg_law_trims.specs.Floors.{floor_at}
 use Rattle.tg_law_kinds.specs.Directories.{DirectoryLaws}
-use Rattle.tg_law_registered.specs.Marked.{MarksFollowCheckpoints}
+use Rattle.tg_law_registered.specs.Marked.{WhereMarksMark, MarksFollowCheckpoints, FloorsSave}
 use Rattle.tg_law_registered.proofs.Grounds.{TaskGrounded, WorkGrounded, MarksKept}
-use Rattle.tg_law_registered.proofs.Roots.{Past, Held, Q, held_along}
+use Rattle.tg_law_registered.proofs.Roots.{Past, Held, Q, held_along, entries_registered}
 
 one_op : {X : Type 0} (a b : X) → Some a ≡ Some b → a ≡ b
 one_op a b e = cc
@@ -164,10 +168,30 @@ module _ (m : Meaning) (is_object : Oid → Bool) (is_op : m.op → Bool) (laws 
   pub marks_here : MarksAreKept m is_object h.objects (entries_in m (after m h zs))
   marks_here p e x o mark object here commits has to is = kept p e here x has to o mark object is
 
+  registered : AreRegistered m is_object h.objects (entries_in m (after m h zs))
+  registered q e o i l = let a = entries_registered m h zs r trims found_all ends first q e o i l in (a.at, a.low, a.registered)
+
+  pub floors_here : AreOpsOf m is_op (entries_in m (after m h zs)) → (n q : ℕ) (e : Entry) (o : Oid) → HasEntry m (after m h zs) q e → lists e o ≡ true → q < floor_at m h.objects (after m h zs) n →
+      (floor_at m h.objects (after m h zs) n ≤ n) × HasCheckpoint m is_object h.objects (entries_in m (after m h zs)) o (floor_at m h.objects (after m h zs) n) n
+  floors_here ops n q e o i l less = floors_are_safe m is_object is_op laws.floors h.objects (entries_in m (after m h zs)) n q e o (logs_rise m (after m h zs)) ops marks_here registered i l less
+
 module _ (m : Meaning) where
-  pub marks_follow_checkpoints : MarksFollowCheckpoints m
-  marks_follow_checkpoints is_object is_op laws objects h ms w r trims found_all ends saves =
-      subst (λ (v : World m). Reaches m h ms v → ClientsFind m h ms v → AppendsEnd m h ms v → SavesPrecede m (entries_in m v) → MarksAreKept m is_object h.objects (entries_in m v)) (sym r.goes.is)
-      (λ a b c d. marks_here m is_object is_op laws objects h ms a trims b c
+  -- at the end of a run
+  at_end : (P : (Oid → Bool) → (m.op → Bool) → Header → World m → Type 0)
+      → ((is_object : Oid → Bool) (is_op : m.op → Bool) (laws : DirectoryLaws m is_object is_op) (objects : (o : Oid) → records.is_object o ≡ true → is_object o ≡ true)
+      (h : Header) (zs : Moves m) → Reaches m h zs (after m h zs) → TrimsWereSpare m h zs → ClientsFind m h zs (after m h zs) → AppendsEnd m h zs (after m h zs)
+      → m.registered (state_below m h.objects (entries_in m (after m h zs)) 0 directory) directory ≡ true → SavesPrecede m (entries_in m (after m h zs)) → P is_object is_op h (after m h zs))
+      → WhereMarksMark m P
+  at_end P f is_object is_op laws objects h ms w r trims found_all ends saves =
+      subst (λ (v : World m). Reaches m h ms v → ClientsFind m h ms v → AppendsEnd m h ms v → SavesPrecede m (entries_in m v) → P is_object is_op h v) (sym r.goes.is)
+      (λ a b c d. f is_object is_op laws objects h ms a trims b c
         (ap (λ (s : m.state). m.registered s directory) (sym (fresh_true m h.objects (entries_in m (after m h ms)) directory (logs_rise m (after m h ms))).state) ∙ laws.floors.first_listed h.objects) d)
       r found_all ends saves
+
+  pub marks_follow_checkpoints : MarksFollowCheckpoints m
+  marks_follow_checkpoints = at_end (λ is_object is_op h w. MarksAreKept m is_object h.objects (entries_in m w)) (λ is_object is_op laws objects h zs r trims found_all ends first saves. marks_here m is_object is_op laws objects h zs r trims found_all ends first saves)
+
+  pub floors_save : FloorsSave m
+  floors_save = at_end (λ is_object is_op h w. AreOpsOf m is_op (entries_in m w) → (n q : ℕ) (e : Entry) (o : Oid) → HasEntry m w q e → lists e o ≡ true → q < floor_at m h.objects w n →
+          (floor_at m h.objects w n ≤ n) × HasCheckpoint m is_object h.objects (entries_in m w) o (floor_at m h.objects w n) n)
+      (λ is_object is_op laws objects h zs r trims found_all ends first saves. floors_here m is_object is_op laws objects h zs r trims found_all ends first saves)

@@ -1,10 +1,10 @@
 -- Over a run: each stream of a token that was asked for was registered, or stands in an entry of the log, below what is issued to it.
 use Rattle.std.proofs.Common.{◌≡◌, ◌⊎◌, ℕ, zero, suc, ◌+◌, ◌<◌, ◌≤◌, List, [], ◌∷◌, ◌++◌, map, length, Bool, true, false, refl, sym, ap, ◌∙◌, subst, inl, inr, arith, Option, Some, None, Contains, is_some}
-use Rattle.std.specs.Prelude.{max, ◌&&◌, ◌==◌, slice_get, slice_index_or}
+use Rattle.std.specs.Prelude.{max, ◌&&◌, ◌==◌, slice_get, slice_index_or, ◌||◌}
 use Rattle.std.specs.List.{list_any}
 use Rattle.tg_base.specs.Clusters.{Header}
 use Rattle.tg_base.specs.Layouts.{Layout}
-use Rattle.tg_base.specs.Orders.{node_eq, role_number}
+use Rattle.tg_base.specs.Orders.{node_eq, role_number, oid_eq}
 use Rattle.tg_base.specs.declared.cell.Cell.TheVariants.{Data}
 use Rattle.tg_base.specs.declared.ids.NodeId.{NodeId}
 use Rattle.tg_base.specs.declared.ids.Oid.{Oid}
@@ -21,7 +21,7 @@ use Rattle.tg_model.specs.Kinds.{CommandOf, EventOf}
 use Rattle.tg_model.specs.declared.command.Command.TheVariants as cmd
 use Rattle.tg_model.specs.declared.command.Event.TheVariants.{Command as Commands, Deliver, Lose, Tick, Stop}
 use Rattle.tg_protocol.specs.Words.{client_id, directory, numbers}
-use Rattle.tg_protocol.specs.Entries.{oid_of_link, streams_of}
+use Rattle.tg_protocol.specs.Entries.{oid_of_link, streams_of, lists}
 use Rattle.tg_protocol.specs.Requests.{Next, Goes, Learns, Ends}
 use Rattle.tg_protocol.specs.Replies.{Reply, reply}
 use Rattle.tg_protocol.specs.Appending.{Append, AppendWork, Asking, Putting, Judging, append_work_asks}
@@ -61,7 +61,7 @@ use Rattle.tg_law_plays.specs.Sound.{base_among}
 use Rattle.tg_law_history.specs.Logs.{state_below, AreListed}
 use Rattle.tg_law_history.specs.Worlds.{entries_in}
 use Rattle.tg_law_history.proofs.Cells.{logs_rise}
-use Rattle.tg_law_history.proofs.Members as lists
+use Rattle.tg_law_history.proofs.Members as lists'
 use Rattle.tg_law_views.proofs.Judges.{mine_below}
 use Rattle.tg_law_views.proofs.Plays.{fresh_true}
 use Rattle.tg_law_views.proofs.Settled.{plays_further}
@@ -105,14 +105,14 @@ roles_same a b e = absurd cc
 nodes_same : (a b : NodeId) → node_eq a b ≡ true → a ≡ b
 unfolding node_eq
 nodes_same a b e =
-    let p = lists.and_both (role_number a.role == role_number b.role) (a.num == b.num) e in
-    let r = roles_same a.role b.role (lists.same_number (role_number a.role) (role_number b.role) p.0) in
-    let n = lists.same_number a.num b.num p.1 in
+    let p = lists'.and_both (role_number a.role == role_number b.role) (a.num == b.num) e in
+    let r = roles_same a.role b.role (lists'.same_number (role_number a.role) (role_number b.role) p.0) in
+    let n = lists'.same_number a.num b.num p.1 in
     λ i. record { role = r i; num = n i }
 
 node_itself : (a : NodeId) → node_eq a a ≡ true
 unfolding node_eq
-node_itself a = both (role_number a.role == role_number a.role) (a.num == a.num) (lists.number_same (role_number a.role) (role_number a.role) refl) (lists.number_same a.num a.num refl)
+node_itself a = both (role_number a.role == role_number a.role) (a.num == a.num) (lists'.number_same (role_number a.role) (role_number a.role) refl) (lists'.number_same a.num a.num refl)
   where
     both : (s t : Bool) → s ≡ true → t ≡ true → (s && t) ≡ true
     both true true e f = refl
@@ -133,7 +133,7 @@ unfolding is_issued
 issued_is y p ls e = subst (λ (z : Msg). is_issued z ≡ true) (sym e) refl
 
 like_itself : (a : Packet) → is_issued a.msg ≡ true → is_like a a ≡ true
-like_itself a e = all (node_eq a.from a.from) (node_eq a.to a.to) (a.rid == a.rid) (is_issued a.msg) (node_itself a.from) (node_itself a.to) (lists.number_same a.rid a.rid refl) e
+like_itself a e = all (node_eq a.from a.from) (node_eq a.to a.to) (a.rid == a.rid) (is_issued a.msg) (node_itself a.from) (node_itself a.to) (lists'.number_same a.rid a.rid refl) e
   where
     all : (p q r s : Bool) → p ≡ true → q ≡ true → r ≡ true → s ≡ true → (p && (q && (r && s))) ≡ true
     all p q r s e f g h = grind arith
@@ -149,6 +149,14 @@ in_epoch e os p a (Judging j) o h is = scan_none e os (Some j) o h is
 task_epoch : (m : Meaning) (e : ℕ) (os : List Oid) (p : Layout) (t : Task m) (o : Out) (a : Append) (y : Purpose m) → t ≡ Appending a y → Has (task_awaited m p t) o → o.msg ≡ msg.Token e os → e ≡ p.epoch
 unfolding task_asks
 task_epoch m e os p t o a y at h is = in_epoch e os p a a.work o (subst (λ (z : Task m). Has (task_awaited m p z) o) at h) is
+
+listed_has : (ls : List StreamLink) (o : Oid) → list_any (λ l. oid_eq l.oid o) ls ≡ true → Has (map oid_of_link ls) o
+listed_has [] o e = absurd cc
+listed_has (x ∷ ls) o e = by (oid_eq x.oid o) refl e (λ k. listed_has ls o k)
+  where
+    by : (b : Bool) → oid_eq x.oid o ≡ b → (b || list_any (λ l. oid_eq l.oid o) ls) ≡ true → (list_any (λ l. oid_eq l.oid o) ls ≡ true → Has (map oid_of_link ls) o) → Has (x.oid ∷ map oid_of_link ls) o
+    by true is k rest = inl (sym (lists'.same_oid x.oid o is))
+    by false is k rest = inr (rest k)
 
 none_view : {X : Type 0} {m : Meaning} (v : View m) → None ≡ Some v → X
 none_view v e = absurd (cc)
@@ -308,7 +316,7 @@ module _ (m : Meaning) (h : Header) (zs : Moves m) (r : Reaches m h zs (after m 
       base_low b = by d.view refl
         where
           by : (o : Option (View m)) → d.view ≡ o → base_of m (view_or_new m d v (mine m d v) o) directory ≡ Some b → b.upto ≤ v.tail
-          by None is at = new_low m (mine m d v) v.trims d.objects v.tail (λ p y x a i k. f.saved p y x a (lists.contained_has (mine m d v) (p, y) i) k) d.hosted directory b at
+          by None is at = new_low m (mine m d v) v.trims d.objects v.tail (λ p y x a i k. f.saved p y x a (lists'.contained_has (mine m d v) (p, y) i) k) d.hosted directory b at
           by (Some k) is at = (f.kept k is).low directory b at
 
       reach_low : dir_reach m h.objects (entries_in m (after m h zs)) (Past (config m (after m h xs))) (played_view m d v) ≤ v.tail
@@ -325,7 +333,7 @@ module _ (m : Meaning) (h : Header) (zs : Moves m) (r : Reaches m h zs (after m 
           based (Some b) is = base_low b is
 
       log_own : IsOfLog m h.objects (entries_in m (after m h zs)) (Past (config m (after m h xs))) v (mine m d v)
-      log_own p y i = (only p y i, mine_below m d v d.hosted p y (lists.has_contained (mine m d v) (p, y) i))
+      log_own p y i = (only p y i, mine_below m d v d.hosted p y (lists'.has_contained (mine m d v) (p, y) i))
 
       found_ground : Past (config m (after m h xs)) d.stand (dir_reach m h.objects (entries_in m (after m h zs)) (Past (config m (after m h xs))) (played_view m d v)) × Own m h.objects (entries_in m (after m h zs)) (Past (config m (after m h xs))) d (mine m d v)
           × IsOfLog m h.objects (entries_in m (after m h zs)) (Past (config m (after m h xs))) v (mine m d v)
@@ -340,7 +348,7 @@ module _ (m : Meaning) (h : Header) (zs : Moves m) (r : Reaches m h zs (after m 
       where
         by : (x : CommandOf m) → FindsFor m h (entries_in m (after m h zs)) xs d v x → FoundFor m h.objects (entries_in m (after m h zs)) (Past (config m (after m h xs))) d v x
         by (cmd.AskAt p o q) f = tt
-        by (cmd.Rescue p) f = listed_ground d v (all_entries m d v v.oids) t (λ p y i. (f.exact.only p y i, mine_below m d v v.oids p y (lists.has_contained (all_entries m d v v.oids) (p, y) i)))
+        by (cmd.Rescue p) f = listed_ground d v (all_entries m d v v.oids) t (λ p y i. (f.exact.only p y i, mine_below m d v v.oids p y (lists'.has_contained (all_entries m d v v.oids) (p, y) i)))
         by x f = found_ground d v t f
 
     each : EachEvent m h.objects (entries_in m (after m h zs)) (FoundGround m h.objects (entries_in m (after m h zs)) (Past (config m (after m h xs)))) (after m h xs) e
@@ -451,12 +459,12 @@ module _ (m : Meaning) (h : Header) (zs : Moves m) (r : Reaches m h zs (after m 
 
           old : members.Passes (is_like i.answer) (after m h xs).packets → St x pos
           old y =
-              let a1 = lists.and_both (node_eq y.it.from i.answer.from) (node_eq y.it.to i.answer.to && ((y.it.rid == i.answer.rid) && is_issued y.it.msg)) y.passes in
-              let a2 = lists.and_both (node_eq y.it.to i.answer.to) ((y.it.rid == i.answer.rid) && is_issued y.it.msg) a1.1 in
-              let a3 = lists.and_both (y.it.rid == i.answer.rid) (is_issued y.it.msg) a2.1 in
+              let a1 = lists'.and_both (node_eq y.it.from i.answer.from) (node_eq y.it.to i.answer.to && ((y.it.rid == i.answer.rid) && is_issued y.it.msg)) y.passes in
+              let a2 = lists'.and_both (node_eq y.it.to i.answer.to) ((y.it.rid == i.answer.rid) && is_issued y.it.msg) a1.1 in
+              let a3 = lists'.and_both (y.it.rid == i.answer.rid) (is_issued y.it.msg) a2.1 in
               let whence = nodes_same y.it.from i.answer.from a1.0 in
               let whither = nodes_same y.it.to i.answer.to a2.0 in
-              let number = lists.same_number y.it.rid i.answer.rid a3.0 in
+              let number = lists'.same_number y.it.rid i.answer.rid a3.0 in
               let z = issues_of y.it.msg a3.1 in
               let ours = (low_holds m h xs).1.ours s y.it z.0 z.1 y.has (whence ∙ i.from_seqr) z.2 in
               let q = ours.asked in
@@ -665,6 +673,10 @@ module _ (m : Meaning) (h : Header) (zs : Moves m) (r : Reaches m h zs (after m 
 
   pub follow : TokensFollow m h.objects (after m h zs)
   follow s epoch pos os ls o i j = registered_at (pos + 1) s epoch pos os ls (omega arith) i o (has_contained os o j)
+
+  -- so each object in whose stream an entry stands
+  pub entries_registered : (q : ℕ) (e : Entry) (o : Oid) → Contains (entries_in m (after m h zs)) (q, e) → lists e o ≡ true → WasRegistered m h.objects (after m h zs) o q
+  entries_registered q e o i l = let t = token_of q e i in registered_at (q + 1) t.seqr t.epoch q (streams_of e) t.links (omega arith) t.issued o (listed_has e.head.streams o l)
 
 module _ (m : Meaning) where
   pub tokens_follow_registrations : TokensFollowRegistrations m

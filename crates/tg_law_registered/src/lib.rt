@@ -7,4 +7,4 @@
 
 mod laws;
 
-pub use laws::{marks_follow_checkpoints, tokens_follow_registrations};
+pub use laws::{floors_save, marks_follow_checkpoints, tokens_follow_registrations, trims_are_spare_by_marks};
