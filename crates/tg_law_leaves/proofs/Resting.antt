@@ -1,6 +1,6 @@
--- What a walk met a trim above has its decision among the entries, where the log has one below the tail and walks find all of a
+-- What a walk met a trim above has its decision among the entries, where the log has one below the tail: walks find all of a
 -- stream above what they find.
-use Rattle.std.proofs.Common.{◌≡◌, ◌⊎◌, ℕ, ◌≤◌, List, [], ◌∷◌, Bool, true, refl, sym, ap, ◌∙◌, inl, inr, arith, Option, Some, None}
+use Rattle.std.proofs.Common.{◌≡◌, ◌⊎◌, ℕ, List, [], ◌∷◌, Bool, true, refl, sym, ap, ◌∙◌, inl, inr, arith, Option, Some, None}
 use Rattle.std.specs.Prelude.{nat_lt, is_some, Contains, ◌++◌}
 use Rattle.tg_base.specs.Clusters.{Header}
 use Rattle.tg_base.specs.declared.ids.Oid.{Oid}
@@ -20,7 +20,7 @@ use Rattle.tg_law_history.proofs.Members.{Has, has_contained, contained_has, has
 use Rattle.tg_law_replies.specs.Found.{mine}
 use Rattle.tg_law_replies.specs.Steps.{EachEvent}
 use Rattle.tg_law_replies.proofs.Carried.{both_more}
-use Rattle.tg_law_walks.specs.Streams.{IsByPosition, stands_in}
+use Rattle.tg_law_walks.specs.Streams.{IsByPosition}
 use Rattle.tg_law_walks.specs.Rounds.{round, IsRound}
 use Rattle.tg_law_walks.proofs.Cells.{entry_there}
 use Rattle.tg_law_walks.proofs.Positions.{nums_split, nums_right, in_positions, has_filter}
@@ -30,7 +30,7 @@ use Rattle.tg_law_walks.proofs.Stretches.{stand_entry, entry_stand}
 use Rattle.tg_law_walks.proofs.Syncs.{logs_by_position}
 use Rattle.tg_law_finds.specs.Left.{RoundsExact}
 use Rattle.tg_law_exact.proofs.Finds.{rounds_exact}
-use Rattle.tg_law_leaves.specs.Passed.{TellsFates, HasRested, HasOwn, HasAbove, IsDecidedBelow, HasDecided, OwnsPass, RoundsAbove, MetDecided, TrimsRestWhere}
+use Rattle.tg_law_leaves.specs.Passed.{TellsFates, HasRested, HasOwn, IsDecidedBelow, HasDecided, OwnsPass, MetDecided, TrimsRestWhere}
 use Rattle.tg_law_leaves.proofs.Leaving.{mine_of, positions_from, owns_pass}
 
 -- a decision record among the entries decides
@@ -66,13 +66,13 @@ module _ (m : Meaning) (l : Log) (byp : IsByPosition l) (c : Client m) (x : Work
   some_entry a b y e f = cc
 
   -- so its decision is among them too
-  decided_here : HasAbove m l c x → (p : ℕ) (e : Entry) (o : Oid) → Contains (entries_of l) (p, e) → Contains c.hosted o → Contains (positions_in m x.found o) p → IsDecidedBelow m (entries_of l) p e x.tail → is_some (decision_in (mine m c x) p) ≡ true
-  decided_here above p e o there hosted found d =
+  decided_here : (p : ℕ) (e : Entry) (o : Oid) → Contains (entries_of l) (p, e) → Contains c.hosted o → Contains (positions_in m x.found o) p → IsDecidedBelow m (entries_of l) p e x.tail → is_some (decision_in (mine m c x) p) ≡ true
+  decided_here p e o there hosted found d =
       let s = stand_entry l o p (r.only o p found).1 in
       let here : lists e o ≡ true = ap (λ (y : Entry). lists y o) (some_entry e s.0 (entry_at l p) (entry_there 0 l p e byp (has_contained (entries_of l) (p, e) there)) s.1) ∙ s.2 in
       let i = has_contained (entries_of l) (d.at, d.decision) d.here in
       let up = d.above in
-      let a = above o p d.at found (omega (arith, up)) d.below (entry_stand l o d.at d.decision byp i (d.streams o here)) in
+      let a = r.above o p d.at found (omega (arith, up)) d.below (entry_stand l o d.at d.decision byp i (d.streams o here)) in
       decision_has (mine m c x) p d.at d.decision d.is_yes
       (have_entries m c.cells (below m x.tail (with_nums c.own (member_positions m x c.hosted))) d.at d.decision
       (has_filter (λ q. nat_lt q x.tail) (with_nums c.own (member_positions m x c.hosted)) d.at
@@ -82,8 +82,8 @@ module _ (m : Meaning) (l : Log) (byp : IsByPosition l) (c : Client m) (x : Work
       (entry_read m l byp c.cells d.at d.decision r.known a.1 (entry_there 0 l d.at d.decision byp i)))
       d.says
 
-  rested : (h : Header) (before : Moves m) → HasAbove m l c x → HasDecided m h (entries_of l) before c x → HasOwn m c x → HasRested m h before c x
-  rested h before above decided own k p e o is i commit needs hosted f less unfated known met undecided = by (found_of p e i)
+  rested : (h : Header) (before : Moves m) → HasDecided m h (entries_of l) before c x → HasOwn m c x → HasRested m h before c x
+  rested h before decided own k p e o is i commit needs hosted f less unfated known met undecided = by (found_of p e i)
     where
       there : Contains (entries_of l) (p, e)
       there = (mine_of m l byp c x r p e i).0
@@ -97,10 +97,10 @@ module _ (m : Meaning) (l : Log) (byp : IsByPosition l) (c : Client m) (x : Work
 
       by : Contains c.own p ⊎ IsFound p → ⊥
       by (inl j) = let b = own k p e is j i commit less known in no_fate b.0 (fate_of m k p) unfated b.1
-      by (inr j) = no_decision (decision_in (mine m c x) p) undecided (decided_here above p e j.0 there j.1 j.2 (decided p e o there commit needs f met))
+      by (inr j) = no_decision (decision_in (mine m c x) p) undecided (decided_here p e j.0 there j.1 j.2 (decided p e o there commit needs f met))
 
 module _ (m : Meaning) where
-  module _ (h : Header) (ms : Moves m) (w : World m) (exact : RoundsExact m h ms w) (own : OwnsPass m h ms w) (above : RoundsAbove m h ms w) (decided : MetDecided m h ms w) (before after : Moves m) (e : EventOf m) (split : ms ≡ before ++ Takes e ∷ after) where
+  module _ (h : Header) (ms : Moves m) (w : World m) (exact : RoundsExact m h ms w) (own : OwnsPass m h ms w) (decided : MetDecided m h ms w) (before after : Moves m) (e : EventOf m) (split : ms ≡ before ++ Takes e ∷ after) where
     abbrev Each : (Client m → Work m → Type 0) → Type 0
     Each P = EachEvent m h.objects (entries_in m w) P (run m before (start m h)) e
 
@@ -109,9 +109,6 @@ module _ (m : Meaning) where
 
     abbrev Owns : Client m → Work m → Type 0
     Owns c x = TellsFates m x.command → HasOwn m c x
-
-    abbrev Above : Client m → Work m → Type 0
-    Above c x = TellsFates m x.command → HasAbove m (log m w) c x
 
     abbrev Decided : Client m → Work m → Type 0
     Decided c x = TellsFates m x.command → HasDecided m h (entries_in m w) before c x
@@ -124,9 +121,9 @@ module _ (m : Meaning) where
 
     each_rests : Each Rests
     each_rests =
-        both_more m h.objects (entries_in m w) (λ c x. Exact c x × Owns c x) Rests (λ c x. Above c x × Decided c x)
-        (λ c x p q t. rested m (log m w) (logs_by_position m w) c x p.0 h before (q.0 t) (q.1 t) (p.1 t)) (run m before (start m h)) e
-        (both Exact Owns (exact before after e split) (own before after e split)) (both Above Decided (above before after e split) (decided before after e split))
+        both_more m h.objects (entries_in m w) (λ c x. Exact c x × Owns c x) Rests Decided
+        (λ c x p q t. rested m (log m w) (logs_by_position m w) c x p.0 h before (q t) (p.1 t)) (run m before (start m h)) e
+        (both Exact Owns (exact before after e split) (own before after e split)) (decided before after e split)
 
   pub trims_rest : TrimsRestWhere m
-  trims_rest h ms w r trims above decided = each_rests h ms w (rounds_exact m h ms w r trims) (owns_pass m h ms w r trims) above decided
+  trims_rest h ms w r trims decided = each_rests h ms w (rounds_exact m h ms w r trims) (owns_pass m h ms w r trims) decided

@@ -1,5 +1,5 @@
 -- What a client's kept view has gone past, by the trims that walks met.
-use Rattle.std.specs.Prelude.{◌≡◌, ◌⊎◌, ℕ, ◌<◌, ◌≤◌, true, Bool, List, ◌∷◌, ◌++◌, Some, None, is_some, Contains}
+use Rattle.std.specs.Prelude.{◌≡◌, ◌⊎◌, ℕ, ◌<◌, true, Bool, List, ◌∷◌, ◌++◌, Some, None, Contains}
 use Rattle.tg_base.specs.Clusters.{Header}
 use Rattle.tg_base.specs.declared.ids.Oid.{Oid}
 use Rattle.tg_entry.specs.declared.entry.Entry.{Entry}
@@ -8,19 +8,16 @@ use Rattle.tg_model.specs.declared.command.Command.TheVariants as cmd
 use Rattle.tg_model.specs.Kinds.{CommandOf, EventOf}
 use Rattle.tg_entry.specs.Needs.{reads_of, needs_decision}
 use Rattle.tg_protocol.specs.Entries.{is_commit, lists, decides}
-use Rattle.tg_protocol.specs.Words.{cell_at}
-use Rattle.tg_protocol.specs.Logs.{Log}
 use Rattle.tg_protocol.specs.Views.{Entries, View, decision_in, fate_of, unknown_in}
 use Rattle.tg_protocol.specs.Checkpoints.{trim_of}
-use Rattle.tg_protocol.specs.Clients.{Work, Client, positions_in}
+use Rattle.tg_protocol.specs.Clients.{Work, Client}
 use Rattle.tg_protocol.specs.Walked.{Walked, walked_in}
-use Rattle.tg_protocol.specs.Worlds.{World, start, log}
+use Rattle.tg_protocol.specs.Worlds.{World, start}
 use Rattle.tg_protocol.specs.Runs.{Moves, Takes, run}
 use Rattle.tg_law_history.specs.Worlds.{entries_in}
 use Rattle.tg_law_replies.specs.Found.{mine}
 use Rattle.tg_law_replies.specs.Runs.{InEachStep}
 use Rattle.tg_law_replies.specs.Steps.{EachEvent}
-use Rattle.tg_law_walks.specs.Streams.{stands_in}
 use Rattle.tg_law_exact.specs.Finds.{ByRunsOfSpareTrims, ViewsLeaveNone}
 
 module _ (m : Meaning) where
@@ -83,10 +80,6 @@ module _ (m : Meaning) where
     abbrev pub OwnsPass : Type 0
     OwnsPass = InFates (λ before c x. HasOwn c x)
 
-  -- From each position on that the walks of a command found of a stream, they found all that stands in it, with its cell.
-  abbrev pub HasAbove : Log → Client m → Work m → Type 0
-  HasAbove l c x = (o : Oid) (p q : ℕ) → Contains (positions_in m x.found o) p → p ≤ q → q < x.tail → stands_in l o q ≡ true → Contains (positions_in m x.found o) q × (is_some (cell_at c.cells q) ≡ true)
-
   -- A record has its decision above it, in each of its streams, and below a tail.
   pub record IsDecidedBelow (es : Entries) (p : ℕ) (e : Entry) (tail : ℕ) : Type 0 where
     pub at : ℕ
@@ -103,15 +96,12 @@ module _ (m : Meaning) where
   HasDecided h es before c x = (p : ℕ) (e : Entry) (o : Oid) → Contains es (p, e) → is_commit e ≡ true → needs_decision e ≡ true → lists e o ≡ true → WasMet h before c.num o p → IsDecidedBelow es p e x.tail
 
   module _ (h : Header) (ms : Moves m) (w : World m) where
-    abbrev pub RoundsAbove : Type 0
-    RoundsAbove = InFates h ms w (λ before c x. HasAbove (log m w) c x)
-
     abbrev pub MetDecided : Type 0
     MetDecided = InFates h ms w (HasDecided h (entries_in m w))
 
-  -- So what was trimmed rests, where that is so of both.
+  -- So what was trimmed rests.
   abbrev pub TrimsRestWhere : Type 0
-  TrimsRestWhere = ByRunsOfSpareTrims m (λ h ms w. RoundsAbove h ms w → MetDecided h ms w → TrimsRest h ms w)
+  TrimsRestWhere = ByRunsOfSpareTrims m (λ h ms w. MetDecided h ms w → TrimsRest h ms w)
 
   abbrev pub OwnsPassBySpareTrims : Type 0
   OwnsPassBySpareTrims = ByRunsOfSpareTrims m OwnsPass

@@ -22,8 +22,7 @@ pub fn views_leave_none<K: Registry>()
     ensures { ViewsLeaveNoneWhere (meaning_of K.Registry) }
 {}
 
-/// What an earlier walk of the client's met a trim above has its decision among the entries, where the log has one below the tail,
-/// and where walks find all of a stream above what they find.
+/// What an earlier walk of the client's met a trim above has its decision among the entries, where the log has one below the tail.
 pub fn trims_rest<K: Registry>()
     ensures { TrimsRestWhere (meaning_of K.Registry) }
 {}
