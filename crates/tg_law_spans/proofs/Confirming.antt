@@ -1,15 +1,12 @@
 -- A sync ends only once a whole chain has served requests of it, with the tail that the sequencer told it.
-use Rattle.std.proofs.Common.{◌≡◌, ℕ, ◌-◌, List, Bool, true, false, refl, sym, ap, ◌∙◌, subst}
-use Rattle.std.specs.Prelude.{nat_lt}
+use Rattle.std.proofs.Common.{◌≡◌, ℕ, ◌-◌, List, Bool, true, false, refl, sym, ◌∙◌, subst}
 use Rattle.tg_base.specs.Layouts.{Layout}
 use Rattle.tg_base.specs.declared.marks.StreamLink.{StreamLink}
-use Rattle.tg_protocol.specs.Layouts.{chain_of}
 use Rattle.tg_protocol.specs.Requests.{Next, Goes, Learns, Ends}
 use Rattle.tg_protocol.specs.Replies.{Reply, IsTail, IsOldEpoch}
 use Rattle.tg_protocol.specs.Cells.{Place, place_in, CellJob, CellEnd, Done, Seen, Lost, Fenced, Gone, fill_cell, probe, cell_feed}
 use Rattle.tg_protocol.specs.Appending.{on_older, on_newer}
 use Rattle.tg_protocol.specs.Syncing.{Answer, SyncWork, Checking, Settling, Probing, Sync, Confirmed, probe_end, probe_next, probes, settle_end, settle_next, confirm_by, on_tail, checking_feed, sync_feed}
-use Rattle.tg_law_moves.proofs.Members.{Has}
 use Rattle.tg_law_spans.proofs.Serving.{AllServed, WorkServed, NextServed, EndServed, WorkHears, cell_served, probe_served, fill_served}
 
 -- units that have served, tails that were told in a layout, and the tails with which a sync may end

@@ -6,3 +6,5 @@ pub mod Turns
 pub mod Asking
 pub mod Opened
 pub mod Snapshots
+pub mod Places
+pub mod Beginnings

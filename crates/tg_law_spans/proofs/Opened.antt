@@ -1,10 +1,9 @@
 -- Where the open transaction of a client comes from, and its snapshot; and of which transaction an answer to an ask is told.
-use Rattle.std.proofs.Common.{◌≡◌, ◌⊎◌, ℕ, ◌+◌, ◌<◌, ◌≤◌, List, [], ◌∷◌, refl, sym, ap, ◌∙◌, subst, inl, inr, arith, Option, Some, None}
+use Rattle.std.proofs.Common.{◌≡◌, ◌⊎◌, ℕ, ◌+◌, ◌<◌, List, [], ◌∷◌, refl, sym, ap, ◌∙◌, subst, inl, inr, Option, Some, None}
 use Rattle.tg_base.specs.declared.ids.Oid.{Oid}
 use Rattle.tg_base.specs.declared.marks.ReadMark.{ReadMark}
 use Rattle.tg_kind.specs.Meaning.{Meaning}
 use Rattle.tg_model.specs.Kinds.{CommandOf, NoteOf, WhatOf}
-use Rattle.tg_model.specs.Traces.{Trace}
 use Rattle.tg_model.specs.declared.refusal.Refusal.{Refusal}
 use Rattle.tg_model.specs.declared.refusal.Refusal.TheVariants as cause
 use Rattle.tg_model.specs.declared.trace.What.TheVariants as told
@@ -15,7 +14,6 @@ use Rattle.tg_protocol.specs.Answers.{Moved, note, mark_notes}
 use Rattle.tg_protocol.specs.ClientSteps.{task_in, snapshot_or}
 use Rattle.tg_law_books.proofs.Effects.{IsEnd, IsAsk, OfRecord, Close, Lost, Written, Decided, Told, On, Quits, Closes, Asks, Marks'}
 use Rattle.tg_law_books.proofs.Commands.{Refuses, Takes', Taking, Nothing, Opening, Putting, Answering, Ending, EndingLater, Dropping, Beginning, Turned, Idles, Works, Takes}
-use Rattle.tg_law_books.proofs.Turns.{BookOf}
 use Rattle.tg_law_replies.proofs.Books.{IsPlain}
 use Rattle.tg_law_history.proofs.Members.{Has}
 use Rattle.tg_law_drafts.proofs.Became.{no_some, same_some}

@@ -1,11 +1,11 @@
 -- An append puts its page at the position that was issued to it, in the epoch in which it asked.
-use Rattle.std.proofs.Common.{◌≡◌, ◌⊎◌, ℕ, List, Bool, true, false, refl, sym, subst, inl, inr, Option, Some, None}
+use Rattle.std.proofs.Common.{◌≡◌, ℕ, List, Bool, true, false, refl, sym, subst, inl, inr, Option, Some, None}
 use Rattle.tg_base.specs.Layouts.{Layout}
 use Rattle.tg_base.specs.declared.marks.StreamLink.{StreamLink}
 use Rattle.tg_entry.specs.declared.entry.Entry.{Entry}
 use Rattle.tg_protocol.specs.Requests.{Next, Goes, Learns, Ends}
 use Rattle.tg_protocol.specs.Replies.{Reply, IsIssued, IsFull, IsOldEpoch}
-use Rattle.tg_protocol.specs.Cells.{Place, CellJob, CellEnd, Done, Seen, Lost, Fenced, Gone, put_cell, fill_cell, cell_feed}
+use Rattle.tg_protocol.specs.Cells.{Place, CellJob, CellEnd, Done, Seen, Lost, Fenced, Gone, put_cell, fill_cell}
 use Rattle.tg_protocol.specs.Appending.{on_older, on_newer, AppendWork, Asking, Putting, Judging, Token, Append, AppendEnd, put_end, put_next, own_or_not, judge_end, judge_next, on_issued, asking_feed, append_feed, dead_or_judged, again_with, append_again}
 use Rattle.tg_law_drafts.proofs.Became.{NextIs}
 use Rattle.tg_law_drafts.proofs.Cells.{NextPuts, cell_puts}

@@ -18,15 +18,12 @@ use Rattle.tg_kind.specs.Meaning.{Meaning}
 use Rattle.tg_protocol.specs.Words.{client_id, seqr_id, layout_id}
 use Rattle.tg_protocol.specs.Entries.{streams_of}
 use Rattle.tg_protocol.specs.Requests.{Waits, awaits, out}
-use Rattle.tg_protocol.specs.Replies.{Reply, reply, IsIssued}
-use Rattle.tg_protocol.specs.Cells.{CellJob}
+use Rattle.tg_protocol.specs.Replies.{reply, IsIssued}
 use Rattle.tg_protocol.specs.Appending.{AppendWork, Asking, Putting, Judging, Append, append_work_asks, append_asks, append_feed, append_again}
 use Rattle.tg_protocol.specs.Clients.{Task, Syncing, Walking, Appending, Trimming, Copying', Reconfiguring, Hand, Doing, Learning, Work, Client, new_client}
 use Rattle.tg_protocol.specs.ClientSteps.{task_asks, task_in, asks_latest, ClientTurn}
-use Rattle.tg_protocol.specs.Worlds.{World, start, packet_of, client, trace, log}
-use Rattle.tg_protocol.specs.Chosen.{Sent, IsDecided}
-use Rattle.tg_protocol.specs.Runs.{Move, Moves, Next as Counts, Takes, LawfulCommand, Reaches, Passes, run}
-use Rattle.tg_protocol.specs.Alike.{HasRecord}
+use Rattle.tg_protocol.specs.Worlds.{World, start, packet_of, trace, log}
+use Rattle.tg_protocol.specs.Runs.{Move, Moves, Next as Counts, Takes, LawfulCommand, Reaches}
 use Rattle.tg_law_moves.specs.After.{after}
 use Rattle.tg_law_moves.specs.Configs.{Config, config, client_in}
 use Rattle.tg_law_moves.proofs.Clients.{reserved, work_reserved, hand_reserved, task_kept}
@@ -38,10 +35,9 @@ use Rattle.tg_law_moves.proofs.Members.{Has, has_either, has_map, has_right, has
 use Rattle.tg_law_moves.proofs.Moves.{AllGive, Comes, ClientInput, Commanded, Hears', Ticks', Given, CasesOf, client_turn, step_cases_of}
 use Rattle.tg_law_layouts.specs.Decisions.{IsOfDecided}
 use Rattle.tg_law_layouts.proofs.Deciding.{layouts_are_known}
-use Rattle.tg_law_cells.specs.Settled.{IsSettled}
 use Rattle.tg_law_cells.proofs.Justified.{Awaited, awaited_ask}
 use Rattle.tg_law_tokens.specs.Issuing.{Issued}
-use Rattle.tg_law_tokens.proofs.Issues.{Asked, issued_once, token_asks}
+use Rattle.tg_law_tokens.proofs.Issues.{issued_once, token_asks}
 use Rattle.tg_law_tokens.proofs.Named.{one_issuer}
 use Rattle.tg_law_tokens.proofs.Owning.{Pair}
 use Rattle.tg_law_tokens.proofs.Pages.{Low}
@@ -64,8 +60,8 @@ use Rattle.tg_law_once.proofs.Reached.{header, give, short, reach_at}
 use Rattle.tg_law_once.proofs.Spending.{Put, put_among, IsNew, either}
 use Rattle.tg_law_once.proofs.Turning.{commit_tag, tag_commit, record_number}
 use Rattle.tg_law_places.specs.Late.{IsNew as IsNewAfter}
-use Rattle.tg_law_places.specs.Order.{IsPlace, OfPage}
-use Rattle.tg_law_spans.specs.Begun.{BegunSince, RecordsNew, EachPassedBySafeTrims}
+use Rattle.tg_law_places.specs.Order.{OfPage}
+use Rattle.tg_law_spans.specs.Begun.{RecordsNew, EachPassedBySafeTrims}
 use Rattle.tg_law_spans.proofs.Putting.{PutsNew, Issues, next_new, feed_new, again_new}
 
 -- what an append asks that asks for a token

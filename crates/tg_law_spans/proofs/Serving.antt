@@ -1,17 +1,16 @@
 -- A machine that fills a cell, or probes a chain, ends so only once each unit of the chain has served a request of it.
-use Rattle.std.proofs.Common.{◌≡◌, ◌⊎◌, ℕ, ◌+◌, ◌-◌, ◌<◌, ◌≤◌, List, [], ◌∷◌, length, Bool, true, false, refl, sym, ap, ◌∙◌, subst, inl, inr, arith}
-use Rattle.std.specs.Prelude.{nat_lt, not, ◌==◌, slice_index, zip, filter, if◌then◌else◌}
+use Rattle.std.proofs.Common.{◌≡◌, ◌⊎◌, ℕ, ◌+◌, ◌<◌, ◌≤◌, List, [], ◌∷◌, length, Bool, true, false, refl, sym, ap, ◌∙◌, subst, inl, inr, arith}
+use Rattle.std.specs.Prelude.{nat_lt, not, ◌==◌, zip, if◌then◌else◌}
 use Rattle.std.proofs.lemmas.Bool.Decides.{nat_tests}
-use Rattle.tg_base.specs.Layouts.{Layout}
 use Rattle.tg_base.specs.declared.cell.Cell.{Cell}
 use Rattle.tg_base.specs.declared.cell.Cell.TheVariants.{Junk}
 use Rattle.tg_protocol.specs.Words.{numbers}
-use Rattle.tg_protocol.specs.Requests.{Waits, waits_for, without_wait, Next, Goes, Learns, Ends}
+use Rattle.tg_protocol.specs.Requests.{Waits, without_wait, Next, Goes, Learns, Ends}
 use Rattle.tg_protocol.specs.Replies.{Reply}
 use Rattle.tg_protocol.specs.Replies as replied
-use Rattle.tg_protocol.specs.Cells.{Place, CellWork, Puts, Gets, Fills, Copies, Probes, CellJob, CellEnd, Done, Seen, Lost, Fenced, Gone, unit_at, works, fill_cell, probe, copy_on, end_if, copy_if_same, probe_on, work_feed, cell_feed}
+use Rattle.tg_protocol.specs.Cells.{Place, CellWork, Puts, Gets, Fills, Copies, Probes, CellJob, CellEnd, Done, Seen, Fenced, Gone, unit_at, works, fill_cell, probe, copy_on, end_if, copy_if_same, probe_on, work_feed, cell_feed}
 use Rattle.tg_law_moves.proofs.Members.{Has}
-use Rattle.tg_law_cells.proofs.Befores.{At, at_has}
+use Rattle.tg_law_cells.proofs.Befores.{at_has}
 
 -- a unit that is asked is among those that are awaited
 waits_in : (ns : List ℕ) (r n : ℕ) → Has ns n → (i : ℕ) × Has (zip ns (numbers (length ns) r)) (n, i)

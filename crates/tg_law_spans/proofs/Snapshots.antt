@@ -1,7 +1,6 @@
 -- Over a run, what a client asks and hears of a transaction that it has begun after a world is new: so each snapshot at which it is
 -- answered is.
-use Rattle.std.proofs.Common.{◌≡◌, ◌⊎◌, ℕ, ◌<◌, ◌≤◌, List, [], ◌∷◌, ◌++◌, length, map, true, refl, sym, ap, ◌∙◌, subst, inl, inr, arith, Option, Some, None, append-nil}
-use Rattle.std.specs.Prelude.{Contains, slice_index_or}
+use Rattle.std.proofs.Common.{◌≡◌, ◌⊎◌, ℕ, ◌<◌, ◌≤◌, List, [], ◌∷◌, ◌++◌, map, true, refl, sym, ap, ◌∙◌, subst, inl, inr, arith, Option, Some, None, append-nil}
 use Rattle.tg_base.specs.Clusters.{Header}
 use Rattle.tg_base.specs.Layouts.{Layout}
 use Rattle.tg_base.specs.declared.ids.NodeId.{NodeId}
@@ -13,13 +12,13 @@ use Rattle.tg_base.specs.declared.packet.Out.{Out}
 use Rattle.tg_base.specs.declared.packet.Packet.{Packet}
 use Rattle.tg_kind.specs.Meaning.{Meaning}
 use Rattle.tg_model.specs.declared.trace.What.TheVariants as told
-use Rattle.tg_model.specs.Kinds.{CommandOf, EventOf, MarkOf, NoteOf}
+use Rattle.tg_model.specs.Kinds.{CommandOf, EventOf, MarkOf}
 use Rattle.tg_model.specs.Traces.{Trace, Tells}
 use Rattle.tg_model.specs.declared.refusal.Refusal.{Refusal}
 use Rattle.tg_protocol.specs.Words.{client_id, seqr_id, unit_id, numbers}
 use Rattle.tg_protocol.specs.Layouts.{chain_of}
-use Rattle.tg_protocol.specs.Requests.{Waits, awaits, out}
-use Rattle.tg_protocol.specs.Replies.{Reply, reply, IsTail, IsFenced}
+use Rattle.tg_protocol.specs.Requests.{awaits, out}
+use Rattle.tg_protocol.specs.Replies.{reply, IsTail, IsFenced}
 use Rattle.tg_protocol.specs.Cells.{Place, place_in, unit_at, CellWork, Puts, Gets, Fills, Copies, Probes, CellJob, work_asks, cell_asks}
 use Rattle.tg_protocol.specs.Units.{unit_ask}
 use Rattle.tg_protocol.specs.Syncing.{Answer, SyncWork, Checking, Settling, Probing, Sync, sync_work_asks}
@@ -27,7 +26,7 @@ use Rattle.tg_protocol.specs.Transactions.{Tx}
 use Rattle.tg_protocol.specs.Clients.{Syncing, Walking, Appending, Trimming, Copying', Reconfiguring, Hand, Doing, Work, Client, new_client, refusal}
 use Rattle.tg_protocol.specs.ClientSteps.{ClientTurn, task_asks, task_in, task_awaited, refused_or, called, client_command, client_tick}
 use Rattle.tg_protocol.specs.ClientSteps as step
-use Rattle.tg_protocol.specs.Worlds.{World, start, client, trace, happens, next_event}
+use Rattle.tg_protocol.specs.Worlds.{World, start, client, trace, happens}
 use Rattle.tg_protocol.specs.Chosen.{Sent}
 use Rattle.tg_protocol.specs.Runs.{Move, Moves, Next as Counts, Takes, Reaches}
 use Rattle.tg_law_moves.specs.After.{after}
@@ -47,9 +46,7 @@ use Rattle.tg_law_history.proofs.Members as marks
 use Rattle.tg_law_history.proofs.Members.{has_image, contained_has}
 use Rattle.tg_law_replies.proofs.Books.{mark}
 use Rattle.tg_law_lists.specs.Telling.{tells_links}
-use Rattle.tg_law_books.proofs.Effects.{IsAsk, IsEnd}
-use Rattle.tg_law_books.proofs.Commands.{Turned}
-use Rattle.tg_law_books.proofs.Turns.{BookOf}
+use Rattle.tg_law_books.proofs.Effects.{IsAsk}
 use Rattle.tg_law_books.proofs.Worlds.{WorldBook, Stepped, Rests, Turns, run_book, start_book}
 use Rattle.tg_law_books.proofs.Worlds as books
 use Rattle.tg_law_known.proofs.Past.{answers_hold}
@@ -66,7 +63,7 @@ use Rattle.tg_law_places.specs.Left.{ServedSince, served_in}
 use Rattle.tg_law_places.specs.Order.{IsPlace, OfTail}
 use Rattle.tg_law_spans.specs.Begun.{SnapshotsNew}
 use Rattle.tg_law_spans.proofs.Serving.{AllServed, NotFenced, WorkHears}
-use Rattle.tg_law_spans.proofs.Confirming.{SyncServed, JobServed, Hears, sync_served}
+use Rattle.tg_law_spans.proofs.Confirming.{SyncServed, Hears, sync_served}
 use Rattle.tg_law_spans.proofs.Turns as turns
 use Rattle.tg_law_spans.proofs.Turns.{ClientTold, ClientHears, command_fine, deliver_fine, tick_fine}
 use Rattle.tg_law_spans.proofs.Asking.{AskedAt, deliver_at}

@@ -1,10 +1,11 @@
 -- Transactions that were begun after a world, and what is new of them after it.
-use Rattle.std.specs.Prelude.{ℕ, ◌<◌}
+use Rattle.std.specs.Prelude.{◌≡◌, ℕ, ◌<◌, ◌++◌, ◌∷◌}
 use Rattle.tg_base.specs.Clusters.{Header}
 use Rattle.tg_base.specs.declared.ids.Oid.{Oid}
 use Rattle.tg_kind.specs.Meaning.{Meaning}
 use Rattle.tg_model.specs.declared.trace.What.TheVariants as told
-use Rattle.tg_model.specs.Traces.{Tells, Place}
+use Rattle.tg_model.specs.Kinds.{MarkOf}
+use Rattle.tg_model.specs.Traces.{Trace, Tells, Place}
 use Rattle.tg_protocol.specs.Worlds.{World, client, trace, history}
 use Rattle.tg_protocol.specs.Runs.{Moves, Reaches, Passes}
 use Rattle.tg_protocol.specs.Alike.{HasRecord}
@@ -31,3 +32,14 @@ module _ (m : Meaning) where
   -- what holds of the world to which a run comes in which trims were safe, and of each through which it came
   abbrev pub EachPassedBySafeTrims : (World m → World m → Type 0) → Type 0
   EachPassedBySafeTrims P = (h : Header) (ms : Moves m) (u v : World m) → Reaches m h ms v → Passes m h ms u → TrimsWereSafe m h ms → P u v
+
+  -- A world through which a run came, with these replies, in which a transaction wasn't begun yet.
+  pub record NotBegun (h : Header) (ms : Moves m) (replies : Trace m) (k x : ℕ) : Type 0 where
+    pub at : World m
+    pub passed : Passes m h ms at
+    pub traced : trace m at ≡ replies
+    pub since : BegunSince at k x
+
+  -- The replies before the beginning of a transaction are those of such a world.
+  abbrev pub BeginsApart : Header → Moves m → World m → Type 0
+  BeginsApart h ms w = (before after : Trace m) (b : MarkOf m) → trace m w ≡ before ++ b ∷ after → b.what ≡ told.Begin → 0 < b.tx → NotBegun h ms before b.client b.tx

@@ -2,7 +2,8 @@
 
 ghost use Rattle.tg_kind.specs.Of.{meaning_of};
 ghost use Rattle.tg_law_order.specs.Tails.{EachPassed};
-ghost use Rattle.tg_law_spans.specs.Begun.{EachPassedBySafeTrims, RecordsNew, SnapshotsNew};
+ghost use Rattle.tg_law_spans.specs.Begun.{BeginsApart, EachPassedBySafeTrims, PlacesNew, RecordsNew, SnapshotsNew};
+ghost use Rattle.tg_protocol.specs.Runs.{AlwaysBy};
 
 use tg_kind::Registry;
 
@@ -15,4 +16,14 @@ pub fn records_are_new<K: Registry>()
 /// chain has served requests since.
 pub fn snapshots_are_new<K: Registry>()
     ensures { EachPassed (meaning_of K.Registry) (SnapshotsNew (meaning_of K.Registry)) }
+{}
+
+/// So each place of a transaction is new after each world in which it wasn't begun.
+pub fn places_are_new<K: Registry>()
+    ensures { EachPassedBySafeTrims (meaning_of K.Registry) (PlacesNew (meaning_of K.Registry)) }
+{}
+
+/// The replies before the beginning of a transaction are those of a world through which the run came, in which it wasn't begun.
+pub fn begins_are_apart<K: Registry>()
+    ensures { AlwaysBy (meaning_of K.Registry) (BeginsApart (meaning_of K.Registry)) }
 {}

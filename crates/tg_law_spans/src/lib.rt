@@ -4,4 +4,4 @@
 
 mod laws;
 
-pub use laws::{records_are_new, snapshots_are_new};
+pub use laws::{begins_are_apart, places_are_new, records_are_new, snapshots_are_new};
