@@ -89,8 +89,6 @@ module _ (m : Meaning) (is_object : Oid → Bool) (is_op : m.op → Bool) (laws 
       abbrev c : Client m
       c = client m (after m h a.before) k
 
-
-
       held : Held m h zs r trims found_all ends first (config m (after m h a.before))
       held = passed m (Q m h zs r trims found_all ends first) a.before a.mid (start m h) (subst (λ (ms : Moves m). Along m (Q m h zs r trims found_all ends first) ms (start m h)) a.split (held_along m h zs r trims found_all ends first))
 
@@ -185,7 +183,7 @@ module _ (m : Meaning) where
   at_end P f is_object is_op laws objects h ms w r trims found_all ends saves =
       subst (λ (v : World m). Reaches m h ms v → ClientsFind m h ms v → AppendsEnd m h ms v → SavesPrecede m (entries_in m v) → P is_object is_op h v) (sym r.goes.is)
       (λ a b c d. f is_object is_op laws objects h ms a trims b c
-        (ap (λ (s : m.state). m.registered s directory) (sym (fresh_true m h.objects (entries_in m (after m h ms)) directory (logs_rise m (after m h ms))).state) ∙ laws.floors.first_listed h.objects) d)
+      (ap (λ (s : m.state). m.registered s directory) (sym (fresh_true m h.objects (entries_in m (after m h ms)) directory (logs_rise m (after m h ms))).state) ∙ laws.floors.first_listed h.objects) d)
       r found_all ends saves
 
   pub marks_follow_checkpoints : MarksFollowCheckpoints m
@@ -193,5 +191,5 @@ module _ (m : Meaning) where
 
   pub floors_save : FloorsSave m
   floors_save = at_end (λ is_object is_op h w. AreOpsOf m is_op (entries_in m w) → (n q : ℕ) (e : Entry) (o : Oid) → HasEntry m w q e → lists e o ≡ true → q < floor_at m h.objects w n →
-          (floor_at m h.objects w n ≤ n) × HasCheckpoint m is_object h.objects (entries_in m w) o (floor_at m h.objects w n) n)
+      (floor_at m h.objects w n ≤ n) × HasCheckpoint m is_object h.objects (entries_in m w) o (floor_at m h.objects w n) n)
       (λ is_object is_op laws objects h zs r trims found_all ends first saves. floors_here m is_object is_op laws objects h zs r trims found_all ends first saves)

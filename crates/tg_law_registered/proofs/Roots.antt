@@ -472,7 +472,7 @@ module _ (m : Meaning) (h : Header) (zs : Moves m) (r : Reaches m h zs (after m 
               let f2 : q.ask.to ≡ i.ask.to = q.to ∙ (whence ∙ (i.from_seqr ∙ sym i.to_seqr)) in
               let f3 : q.ask.rid ≡ i.ask.rid = q.rid ∙ (number ∙ i.number) in
               let f4 : q.ask.msg ≡ i.ask.msg = (numbers_once m (config m (after m h zs)) (low_holds m h zs).0.0.0).same q.ask i.ask (up q.ask q.has) (has_contained (after m h zs).packets i.ask i.asked)
-                  (token_asks q.ask.msg ours.epoch ours.os q.is) (token_asks i.ask.msg epoch os i.asks) f1 f2 f3 in
+              (token_asks q.ask.msg ours.epoch ours.os q.is) (token_asks i.ask.msg epoch os i.asks) f1 f2 f3 in
               held.tokens s epoch pos os ls i from (subst (λ (n : Packet). Has (after m h xs).packets n) (λ n. record { from = f1 n; to = f2 n; rid = f3 n; msg = f4 n }) q.has) x j
 
           by : (b : Bool) → list_any (is_like i.answer) (after m h xs).packets ≡ b → St x pos

@@ -7,4 +7,6 @@
 
 mod laws;
 
-pub use laws::{floors_save, marks_follow_checkpoints, tokens_follow_registrations, trims_are_spare_by_marks};
+pub use laws::{
+    floors_save, marks_follow_checkpoints, tokens_follow_registrations, trims_are_spare_by_marks,
+};

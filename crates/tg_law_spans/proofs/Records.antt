@@ -154,12 +154,14 @@ module _ (m : Meaning) (h : Header) (zs : Moves m) (reach : Reaches m h zs (afte
   books = run_book m us (start m h) (start_book m h)
 
   starts : LaterIn (config m (after m h us))
-  starts = record { of = λ k. record {
-    next = omega arith;
-    asks = λ b o n. absurd (none k b o n);
-    hands = λ b o n. absurd (none k b o n);
-    puts = λ x n. absurd (let le = (((spent_at m h zs reach us vs begins).of k).below x).commit n.0 in let less = n.1 in omega (arith, le, less));
-  } }
+  starts = record {
+    of = λ k. record {
+      next = omega arith;
+      asks = λ b o n. absurd (none k b o n);
+      hands = λ b o n. absurd (none k b o n);
+      puts = λ x n. absurd (let le = (((spent_at m h zs reach us vs begins).of k).below x).commit n.0 in let less = n.1 in omega (arith, le, less));
+    };
+  }
     where
       none : (k : ℕ) (b : Append) → Holds m (client_in m (config m (after m h us)) k) b → IsLater k b.draft → ⊥
       none k b o n = let le = record_number m k (trace m (after m h us)) (client_in m (config m (after m h us)) k) (books k) b o (commit_tag b.draft.body n.0 b.draft refl) in let less = n.1 in omega (arith, le, less)
@@ -318,7 +320,7 @@ module _ (m : Meaning) (h : Header) (zs : Moves m) (reach : Reaches m h zs (afte
       of = at_set (after m h xs).clients k t.now (new_client m (after m h xs).cluster) (λ j x. LaterOf j ((after m h xs).packets ++ map (packet_of m (client_id k)) t.sends) x) less
           (later_now k t i lawful less)
           (λ j other. fewer (after m h xs).packets ((after m h xs).packets ++ map (packet_of m (client_id k)) t.sends) j (client_in m (config m (after m h xs)) j)
-              (λ x g from. by j other x from (has_either (after m h xs).packets (map (packet_of m (client_id k)) t.sends) x g)) (s.of j));
+          (λ x g from. by j other x from (has_either (after m h xs).packets (map (packet_of m (client_id k)) t.sends) x g)) (s.of j));
     }
       where
         by : (j : ℕ) → (j ≡ k → ⊥) → (x : Packet) → x.from ≡ client_id j → Has (after m h xs).packets x ⊎ Has (map (packet_of m (client_id k)) t.sends) x → Has (after m h xs).packets x

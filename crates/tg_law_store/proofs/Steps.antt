@@ -89,7 +89,7 @@ module _ (h : Header) (ms : Moves all_kinds) (r : Reaches all_kinds h ms (after 
     views =
         each_so_far all_kinds h zs e (λ b u y. Leaves h zs u y)
         (λ b a x at. by_log h zs (after all_kinds h b) x
-            (holds b (a ++ Takes e ∷ later) x (split ∙ (ap (λ (us : Moves all_kinds). us ++ Takes e ∷ later) at ∙ joined b (Takes x ∷ a) (Takes e ∷ later))) (front_spare all_kinds h zs here spare.were b a x at)).views)
+        (holds b (a ++ Takes e ∷ later) x (split ∙ (ap (λ (us : Moves all_kinds). us ++ Takes e ∷ later) at ∙ joined b (Takes x ∷ a) (Takes e ∷ later))) (front_spare all_kinds h zs here spare.were b a x at)).views)
         (holds zs later e split spare).views
 
     rests : StepRests all_kinds is_number is_op h.objects (after all_kinds h zs) e
