@@ -1,15 +1,14 @@
 -- What a walk met a trim above has its decision among the entries, where the log has one below the tail: walks find all of a
 -- stream above what they find.
-use Rattle.std.proofs.Common.{◌≡◌, ◌⊎◌, ℕ, List, [], ◌∷◌, Bool, true, refl, sym, ap, ◌∙◌, inl, inr, arith, Option, Some, None}
+use Rattle.std.proofs.Common.{◌≡◌, ◌⊎◌, ℕ, [], ◌∷◌, Bool, true, refl, sym, ap, ◌∙◌, inl, inr, arith, Option, Some, None}
 use Rattle.std.specs.Prelude.{nat_lt, is_some, Contains, ◌++◌}
 use Rattle.tg_base.specs.Clusters.{Header}
 use Rattle.tg_base.specs.declared.ids.Oid.{Oid}
-use Rattle.tg_entry.specs.Needs.{needs_decision}
 use Rattle.tg_entry.specs.declared.entry.Entry.{Entry}
 use Rattle.tg_kind.specs.Meaning.{Meaning}
 use Rattle.tg_model.specs.Kinds.{EventOf}
 use Rattle.tg_protocol.specs.Words.{with_nums, or_else}
-use Rattle.tg_protocol.specs.Entries.{is_commit, lists, decides}
+use Rattle.tg_protocol.specs.Entries.{lists, decides}
 use Rattle.tg_protocol.specs.Logs.{Log, entries_of, entry_at}
 use Rattle.tg_protocol.specs.Views.{Entries, decision_in, fate_of}
 use Rattle.tg_protocol.specs.Clients.{Work, Client, positions_in, member_positions, below}
