@@ -8,29 +8,27 @@ use Rattle.tg_model.specs.Traces.{Trace}
 use Rattle.tg_model.specs.declared.refusal.Refusal.{Refusal}
 use Rattle.tg_model.specs.declared.refusal.Refusal.TheVariants as cause
 use Rattle.tg_model.specs.declared.trace.What.TheVariants as told
-use Rattle.tg_protocol.specs.Words.{directory, numbers}
+use Rattle.tg_protocol.specs.Words.{directory}
 use Rattle.tg_protocol.specs.Appending.{AppendEnd}
-use Rattle.tg_protocol.specs.Clients.{Work, Client, new_client, tx_number, number_on}
+use Rattle.tg_protocol.specs.Clients.{Work, Client, tx_number, number_on}
 use Rattle.tg_protocol.specs.Answers.{Moved, note}
 use Rattle.tg_protocol.specs.ClientSteps.{snapshot_or}
 use Rattle.tg_protocol.specs.Worlds.{start, client, trace, happens}
 use Rattle.tg_protocol.specs.Runs.{Move, Moves, Next as Counts, Takes, Reaches, AlwaysBy, run}
 use Rattle.tg_law_moves.specs.After.{after}
-use Rattle.tg_law_moves.proofs.Lists.{at_map}
 use Rattle.tg_law_replies.proofs.Books.{mark}
 use Rattle.tg_law_history.proofs.Members.{Has, has_right}
 use Rattle.tg_law_books.proofs.Effects.{IsEnd, OfRecord, AllZero, Quit, Zeros, AskFails, Filled, Marked, MarkFilled, MarkLost, Close, Lost, Written, Decided, Told, On, Quits, Closes, Asks, Marks'}
 use Rattle.tg_law_books.proofs.Commands.{Refuses, Takes', Taking, Nothing, Opening, Putting, Answering, Ending, EndingLater, Dropping, Beginning, Turned, Idles, Works, Takes as Taken}
 use Rattle.tg_law_books.proofs.Worlds.{Stepped, Rests, Turns, run_book, start_book, compare, cancel}
 use Rattle.tg_law_books.proofs.Worlds as books
-use Rattle.tg_law_drafts.proofs.Became.{no_some}
 use Rattle.tg_law_drafts.proofs.Written.{then_next, then_takes}
 use Rattle.tg_law_drafts.proofs.Written as written
 use Rattle.tg_law_once.proofs.Along.{on_moves}
 use Rattle.tg_law_once.proofs.Nowhere.{reached}
-use Rattle.tg_law_once.proofs.Quieting.{awaits_run}
 use Rattle.tg_law_once.proofs.Refusing.{Awaits}
 use Rattle.tg_law_spans.specs.Begun.{BeginsApart}
+use Rattle.tg_law_spans.proofs.Opened.{awaits_at}
 
 same_head : {X : Type 0} → (x y : X) (xs ys : List X) → x ∷ xs ≡ y ∷ ys → x ≡ y
 same_head x y xs ys e = cc
@@ -167,14 +165,6 @@ module _ (m : Meaning) (h : Header) (zs : Moves m) (reach : Reaches m h zs (afte
   longer : (xs ys : Moves m) (before : Trace m) (b : MarkOf m) → There xs before b → There (xs ++ ys) before b
   longer xs ys before b y = record { start' = y.start'; rest = y.rest ++ ys; split = ap (λ (us : Moves m). us ++ ys) y.split ∙ written.regroup m y.start' y.rest ys; traced = y.traced; since = y.since }
 
-  new_awaits : (k : ℕ) → Awaits m (new_client m h k)
-  unfolding new_client
-  new_awaits k v has = no_some v has
-
-  start_awaits : (k : ℕ) → Awaits m (client m (start m h) k)
-  unfolding start
-  start_awaits k = at_map (new_client m h) (numbers h.clients 0) k (new_client m h k) (λ (x : Client m). Awaits m x) new_awaits (new_awaits k)
-
   module _ (xs : Moves m) (e : EventOf m) (apart : Apart xs) (before later : Trace m) (b : MarkOf m) (begins : b.what ≡ told.Begin) (positive : 0 < b.tx) where
     -- what a step adds to the replies
     added : (ys : Trace m) → trace m (after m h xs) ++ ys ≡ before ++ b ∷ later → ((mid : Trace m) → before ≡ trace m (after m h xs) ++ mid → ys ≡ mid ++ b ∷ later → There (xs ++ Takes e ∷ []) before b) → There (xs ++ Takes e ∷ []) before b
@@ -192,7 +182,7 @@ module _ (m : Meaning) (h : Header) (zs : Moves m) (reach : Reaches m h zs (afte
         by (Turns r turn f g same traced) = added (map (mark m (after m h xs).event b.client) r.notes) (sym traced ∙ is) (λ mid at end. made mid at (unmapped (mark m (after m h xs).event b.client) r.notes mid b later end))
           where
             made : (mid : Trace m) → before ≡ trace m (after m h xs) ++ mid → Unmapped (mark m (after m h xs).event b.client) r.notes mid b → There (xs ++ Takes e ∷ []) before b
-            made mid at y = on (begins_first m (client m (after m h xs) b.client) (awaits_run m b.client xs (start m h) (start_book m h) (start_awaits b.client)) r y.pre y.of y.post y.split
+            made mid at y = on (begins_first m (client m (after m h xs) b.client) (awaits_at m h xs b.client) r y.pre y.of y.post y.split
                 (ap (λ (z : MarkOf m). z.what) (sym y.is) ∙ begins) (subst (λ (i : ℕ). 0 < i) (ap (λ (z : MarkOf m). z.tx) y.is) positive) turn)
               where
                 on : (y.pre ≡ []) × (y.of.tx ≡ (client m (after m h xs) b.client).begun + 1) → There (xs ++ Takes e ∷ []) before b

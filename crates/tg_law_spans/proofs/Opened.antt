@@ -2,6 +2,13 @@
 use Rattle.std.proofs.Common.{◌≡◌, ◌⊎◌, ℕ, ◌+◌, ◌<◌, List, [], ◌∷◌, refl, sym, ap, ◌∙◌, subst, inl, inr, Option, Some, None}
 use Rattle.tg_base.specs.declared.ids.Oid.{Oid}
 use Rattle.tg_base.specs.declared.marks.ReadMark.{ReadMark}
+use Rattle.tg_base.specs.Clusters.{Header}
+use Rattle.tg_protocol.specs.Words.{numbers}
+use Rattle.tg_protocol.specs.Worlds.{start, client}
+use Rattle.tg_protocol.specs.Runs.{Moves}
+use Rattle.tg_law_moves.specs.After.{after}
+use Rattle.tg_law_moves.proofs.Lists.{at_map}
+use Rattle.tg_law_books.proofs.Worlds.{start_book}
 use Rattle.tg_kind.specs.Meaning.{Meaning}
 use Rattle.tg_model.specs.Kinds.{CommandOf, NoteOf, WhatOf}
 use Rattle.tg_model.specs.declared.refusal.Refusal.{Refusal}
@@ -9,7 +16,7 @@ use Rattle.tg_model.specs.declared.refusal.Refusal.TheVariants as cause
 use Rattle.tg_model.specs.declared.trace.What.TheVariants as told
 use Rattle.tg_protocol.specs.Appending.{AppendEnd}
 use Rattle.tg_protocol.specs.Transactions.{Tx, open_tx, tx_read, tx_put}
-use Rattle.tg_protocol.specs.Clients.{Work, Client, tx_number, number_on, write_of}
+use Rattle.tg_protocol.specs.Clients.{Work, Client, tx_number, number_on, write_of, new_client}
 use Rattle.tg_protocol.specs.Answers.{Moved, note, mark_notes}
 use Rattle.tg_protocol.specs.ClientSteps.{task_in, snapshot_or}
 use Rattle.tg_law_books.proofs.Effects.{IsEnd, IsAsk, OfRecord, Close, Lost, Written, Decided, Told, On, Quits, Closes, Asks, Marks'}
@@ -17,7 +24,7 @@ use Rattle.tg_law_books.proofs.Commands.{Refuses, Takes', Taking, Nothing, Openi
 use Rattle.tg_law_replies.proofs.Books.{IsPlain}
 use Rattle.tg_law_history.proofs.Members.{Has}
 use Rattle.tg_law_drafts.proofs.Became.{no_some, same_some}
-use Rattle.tg_law_once.proofs.Quieting.{PlainFor, nil_plain, cons_plain, one_plain, are_plain, zero_plain, quit_plain}
+use Rattle.tg_law_once.proofs.Quieting.{PlainFor, nil_plain, cons_plain, one_plain, are_plain, zero_plain, quit_plain, awaits_run}
 use Rattle.tg_law_once.proofs.Refusing.{Awaits}
 use Rattle.tg_law_follow.proofs.Looks.{IsWalk, Looks, SameView, NoneOpen, Walked}
 
@@ -171,3 +178,16 @@ module _ (m : Meaning) where
     told_open (Works w end works (Marks' y)) = marks y.oid y.mark (subst (λ (ns : List (NoteOf m)). Has ns x) y.notes has)
     told_open (Takes y (Refuses why at e)) = only (note m (number_on m c why) (told.Refused why)) (no_refusal why) (ap (λ (z : Moved m). z.notes) e)
     told_open (Takes y (Takes' free fine z)) = taken_told z
+
+-- Over a run, an end that waits for a decision record has an outcome of its record to tell.
+module _ (m : Meaning) (h : Header) where
+  new_awaits : (k : ℕ) → Awaits m (new_client m h k)
+  unfolding new_client
+  new_awaits k v has = no_some v has
+
+  start_awaits : (k : ℕ) → Awaits m (client m (start m h) k)
+  unfolding start
+  start_awaits k = at_map (new_client m h) (numbers h.clients 0) k (new_client m h k) (λ (x : Client m). Awaits m x) new_awaits (new_awaits k)
+
+  pub awaits_at : (xs : Moves m) (k : ℕ) → Awaits m (client m (after m h xs) k)
+  awaits_at xs k = awaits_run m k xs (start m h) (start_book m h) (start_awaits k)

@@ -15,7 +15,7 @@ use Rattle.tg_model.specs.declared.trace.What.TheVariants as told
 use Rattle.tg_model.specs.Kinds.{CommandOf, EventOf, MarkOf}
 use Rattle.tg_model.specs.Traces.{Trace, Tells}
 use Rattle.tg_model.specs.declared.refusal.Refusal.{Refusal}
-use Rattle.tg_protocol.specs.Words.{client_id, seqr_id, unit_id, numbers}
+use Rattle.tg_protocol.specs.Words.{client_id, seqr_id, unit_id}
 use Rattle.tg_protocol.specs.Layouts.{chain_of}
 use Rattle.tg_protocol.specs.Requests.{awaits, out}
 use Rattle.tg_protocol.specs.Replies.{reply, IsTail, IsFenced}
@@ -30,10 +30,10 @@ use Rattle.tg_protocol.specs.Worlds.{World, start, client, trace, happens}
 use Rattle.tg_protocol.specs.Chosen.{Sent}
 use Rattle.tg_protocol.specs.Runs.{Move, Moves, Next as Counts, Takes, Reaches}
 use Rattle.tg_law_moves.specs.After.{after}
-use Rattle.tg_law_moves.specs.Configs.{Config, config, client_in}
+use Rattle.tg_law_moves.specs.Configs.{config, client_in}
 use Rattle.tg_law_moves.proofs.Clients.{reserved, work_reserved, hand_reserved}
 use Rattle.tg_law_moves.proofs.Turns.{TurnDraws', command_draws, deliver_draws, tick_draws, not_busy}
-use Rattle.tg_law_moves.proofs.Lists.{at_set, at_map, contained}
+use Rattle.tg_law_moves.proofs.Lists.{at_set, contained}
 use Rattle.tg_law_moves.proofs.Members.{Has, has_map, has_right, has_contained}
 use Rattle.tg_law_moves.proofs.Moves.{Comes, Cases, ClientInput, Commanded, Hears', Ticks', step_cases}
 use Rattle.tg_law_requests.proofs.Starts.{All, all_hold}
@@ -54,9 +54,7 @@ use Rattle.tg_law_drafts.proofs.Became.{no_some, same_some}
 use Rattle.tg_law_drafts.proofs.Written.{sent_at, then_next, then_takes}
 use Rattle.tg_law_once.proofs.Along.{on_moves}
 use Rattle.tg_law_once.proofs.Nowhere.{reached}
-use Rattle.tg_law_once.proofs.Quieting.{awaits_run}
 use Rattle.tg_law_once.proofs.Reached.{header, give, short, reach_at, decided_later}
-use Rattle.tg_law_once.proofs.Refusing.{Awaits}
 use Rattle.tg_law_follow.proofs.Looks.{IsWalk}
 use Rattle.tg_law_follow.proofs.Snapshots.{Snap, snap_run, start_snap, step_sees}
 use Rattle.tg_law_places.specs.Left.{ServedSince, served_in}
@@ -67,7 +65,7 @@ use Rattle.tg_law_spans.proofs.Confirming.{SyncServed, Hears, sync_served}
 use Rattle.tg_law_spans.proofs.Turns as turns
 use Rattle.tg_law_spans.proofs.Turns.{ClientTold, ClientHears, command_fine, deliver_fine, tick_fine}
 use Rattle.tg_law_spans.proofs.Asking.{AskedAt, deliver_at}
-use Rattle.tg_law_spans.proofs.Opened.{FromOpen, from_open, snap_turned, told_open}
+use Rattle.tg_law_spans.proofs.Opened.{FromOpen, from_open, snap_turned, told_open, awaits_at}
 
 -- What a cell's machine asks of units: of whom, in its place's epoch.
 
@@ -319,9 +317,6 @@ module _ (m : Meaning) (h : Header) (zs : Moves m) (reach : Reaches m h zs (afte
       by (Some w) = inl refl
 
   module _ (xs ys : Moves m) (split : zs ≡ xs ++ ys) where
-    abbrev g : Config m
-    g = config m (after m h xs)
-
     turn_steps : (k : ℕ) (t : ClientTurn m) → ClientInput m (config m (after m h xs)) k t → Steps k (client_in m (config m (after m h xs)) k) t.now
     turn_steps k t (Commanded x) = drawn k (client_in m (config m (after m h xs)) k) _ (command_draws m (client_in m (config m (after m h xs)) k) x)
         (λ y n. command_fine m SyncOk IsNew starts_ok (client_in m (config m (after m h xs)) k) x y) (λ n y w has i j. command_asked (client_in m (config m (after m h xs)) k) x w has)
@@ -357,17 +352,6 @@ module _ (m : Meaning) (h : Header) (zs : Moves m) (reach : Reaches m h zs (afte
   book : (xs : Moves m) → WorldBook m (after m h xs)
   book xs = run_book m xs (start m h) (start_book m h)
 
-  new_awaits : (k : ℕ) → Awaits m (new_client m h k)
-  unfolding new_client
-  new_awaits k v has = no_some v has
-
-  start_awaits : (k : ℕ) → Awaits m (client m (start m h) k)
-  unfolding start
-  start_awaits k = at_map (new_client m h) (numbers h.clients 0) k (new_client m h k) (λ (x : Client m). Awaits m x) new_awaits (new_awaits k)
-
-  awaits_at : (xs : Moves m) (k : ℕ) → Awaits m (client m (after m h xs) k)
-  awaits_at xs k = awaits_run m k xs (start m h) (start_book m h) (start_awaits k)
-
   snap_at : (xs : Moves m) (k : ℕ) → Snap m (trace m (after m h xs)) k (client m (after m h xs) k)
   snap_at xs k = snap_run m k xs (start m h) (start_book m h) (start_snap m h k)
 
@@ -379,12 +363,6 @@ module _ (m : Meaning) (h : Header) (zs : Moves m) (reach : Reaches m h zs (afte
   }
 
   module _ (xs : Moves m) (e : EventOf m) (rest : Moves m) (split : zs ≡ xs ++ Takes e ∷ rest) (s : Since (after m h xs)) where
-    abbrev v : World m
-    v = after m h xs
-
-    abbrev w : World m
-    w = happens m (after m h xs) e
-
     made : (k : ℕ) → Steps k (client m (after m h xs) k) (client m (happens m (after m h xs) e) k)
     made k = steps xs (Takes e ∷ rest) split e k
 
@@ -465,7 +443,7 @@ module _ (m : Meaning) (h : Header) (zs : Moves m) (reach : Reaches m h zs (afte
             on (inl i) = old i
             on (inr i) =
                 let j = has_image (mark m (after m h xs).event k) r.notes u i in
-                open'' (told_open m (client m (after m h xs) k) (awaits_at xs k) r n x.number o q at a j.0 j.1 (sym (ap (λ (y : MarkOf m). y.tx) j.2)) (sym (ap (λ (y : MarkOf m). y.what) j.2)) turn)
+                open'' (told_open m (client m (after m h xs) k) (awaits_at m h xs k) r n x.number o q at a j.0 j.1 (sym (ap (λ (y : MarkOf m). y.tx) j.2)) (sym (ap (λ (y : MarkOf m). y.what) j.2)) turn)
 
     since_now : Since (after m h (xs ++ Takes e ∷ []))
     since_now = subst Since (sym there) (record { next = next_now; opens = opens_now; told = told_now })
