@@ -2,3 +2,4 @@ pub mod Answered
 pub mod Steps
 pub mod Snapshots
 pub mod Points
+pub mod Commits
