@@ -182,7 +182,7 @@ module _ (m : Meaning) where
       (clients_work m h ms w v r later trims).work (λ k. step_ends m h ms w v r later trims e k)
 
   -- up to a world through which a run came
-  spare_before : (h : Header) (zs xs ys : Moves m) → TrimsWereSpare m h zs → zs ≡ xs ++ ys → TrimsWereSafe m h xs → TrimsWereSpare m h xs
+  pub spare_before : (h : Header) (zs xs ys : Moves m) → TrimsWereSpare m h zs → zs ≡ xs ++ ys → TrimsWereSafe m h xs → TrimsWereSpare m h xs
   spare_before h zs xs ys trims split safe = record {
     safe = safe;
     spare = λ u g. trims.spare u (record { before = g.before; event = g.event; later = g.later ++ ys; split = split ∙ (ap (λ (ms : Moves m). ms ++ ys) g.split ∙ joined g.before (Takes g.event ∷ g.later) ys); is = g.is });

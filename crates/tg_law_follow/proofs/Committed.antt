@@ -174,23 +174,25 @@ module _ (m : Meaning) where
             shut_now : u.number ≤ t.moved.now.begun → Shut m u.number (called m t.moved.now)
             shut_now le = (le, λ y is same. no_some y (sym gone ∙ is))
 
-        after : Adds m k u.number (book.number u has).0 v1 (run m t.after v1)
-        after = adds_run m k u.number (book.number u has).0 t.after v1 (step_book m v t.event books) shut
+        module _ (more : Moves m) where
+          after : Adds m k u.number (book.number u has).0 v1 (run m (t.after ++ more) v1)
+          after = adds_run m k u.number (book.number u has).0 (t.after ++ more) v1 (step_book m v t.event books) shut
 
-        later : end ≡ run m t.after v1
-        later = ap at t.split ∙ (run_both m t.before (Takes t.event ∷ t.after) (start m h) ∙ run_next m t.event t.after v)
+          later : run m more end ≡ run m (t.after ++ more) v1
+          later = ap (λ (ms : Moves m). run m more (at ms)) t.split ∙ (ap (run m more) (run_both m t.before (Takes t.event ∷ t.after) (start m h) ∙ run_next m t.event t.after v) ∙ sym (run_both m t.after more v1))
 
-        nothing_put : puts_of m (trace m end) k u.number ≡ []
-        nothing_put = ap (λ (w : World m). puts_of m (trace m w) k u.number) later ∙ (ap (λ (tr : Trace m). puts_of m tr k u.number) after.traced ∙ (puts_stay m [] [] k u.number (trace m v1) after.more after.alone ∙ (here ∙ before)))
+          nothing_put : puts_of m (trace m (run m more end)) k u.number ≡ []
+          nothing_put = ap (λ (w : World m). puts_of m (trace m w) k u.number) later ∙ (ap (λ (tr : Trace m). puts_of m tr k u.number) after.traced ∙ (puts_stay m [] [] k u.number (trace m v1) after.more after.alone ∙ (here ∙ before)))
 
-      pub of_committed : HasRecordOf es p k x ⊎ (puts_of m (trace m end) k x ≡ [])
+      -- what has put nothing puts nothing later
+      pub committed_for_good : (more : Moves m) → HasRecordOf es p k x ⊎ (puts_of m (trace m (run m more end)) k x ≡ [])
       unfolding commit_record
-      of_committed = by (tale m c t.moved t.turn t.note t.here)
+      committed_for_good more = by (tale m c t.moved t.turn t.note t.here)
         where
-          by : Tale m c (ended_by m c t.moved t.turn) t.moved t.note → HasRecordOf es p k x ⊎ (puts_of m (trace m end) k x ≡ [])
+          by : Tale m c (ended_by m c t.moved t.turn) t.moved t.note → HasRecordOf es p k x ⊎ (puts_of m (trace m (run m more end)) k x ≡ [])
           by (Tells0 z) = let n = t.number in absurd (omega (arith, z, n, positive))
           by (TellsNothing z) = absurd (subst (Harmless m) t.says z)
-          by (TellsDone u has none gone notes e) = inr (subst (λ (i : ℕ). puts_of m (trace m end) k i ≡ []) (number u.number _ e) (nothing_put u has none gone notes))
+          by (TellsDone u has none gone notes e) = inr (subst (λ (i : ℕ). puts_of m (trace m (run m more end)) k i ≡ []) (number u.number _ e) (nothing_put u has none gone notes more))
           by (TellsDropped idle gone e) = absurd (subst (λ (i : WhatOf m). IsDropped i) (says _ _ e) tt)
           by (TellsLost w a y q b has z rec f e) = absurd (subst (λ (i : WhatOf m). IsRefused i) (says _ _ e) tt)
           by (TellsWritten w a q page has z f e) =
@@ -207,3 +209,7 @@ module _ (m : Meaning) where
               let d = subst (DraftOf m k (trace m v) c.tx c.begun) z (book.drafts w has) in
               inl (placed a q page (truly a (At q page) (append_in m es k c w a (Marks n o j) has z) f) (ap body_commits d.draft.2) d.draft.0 (d.draft.1 ∙ number n _ e) (at_is n q e))
           by (TellsMarkLost w a n o j q b has z f e) = absurd (subst (λ (i : WhatOf m). IsRefused i) (says _ _ e) tt)
+
+      pub of_committed : HasRecordOf es p k x ⊎ (puts_of m (trace m end) k x ≡ [])
+      unfolding run
+      of_committed = committed_for_good []

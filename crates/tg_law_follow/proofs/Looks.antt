@@ -84,7 +84,7 @@ module _ (m : Meaning) where
   took_view c None = refl
   took_view c (Some v) = refl
 
-  took_tx : (c : Client m) (v : Option (View m)) → (took_over m c v).tx ≡ c.tx
+  pub took_tx : (c : Client m) (v : Option (View m)) → (took_over m c v).tx ≡ c.tx
   took_tx c None = refl
   took_tx c (Some v) = refl
 
@@ -162,7 +162,7 @@ module _ (m : Meaning) where
 
   -- An ask that waits: it is answered at the tail, up to where the view has played then.
 
-  snapshot_is : (a b : Tx) (n s : ℕ) → Some a ≡ Some b → a.snapshot ≡ Some n → b.snapshot ≡ Some s → s ≡ n
+  pub snapshot_is : (a b : Tx) (n s : ℕ) → Some a ≡ Some b → a.snapshot ≡ Some n → b.snapshot ≡ Some s → s ≡ n
   snapshot_is a b n s e f g = sym (same_some n s (sym f ∙ (ap (λ (t : Tx). t.snapshot) (same_some a b e) ∙ g)))
 
   module _ (tx : Option Tx) where
@@ -212,7 +212,7 @@ module _ (m : Meaning) where
     walks_below [] c w i same = walked_below c w i same
     walks_below (o ∷ os) c w i same = walks_at c w o os (start_walk m c w o).to i same (λ d v j e. walks_below os d v j e)
 
-    knows_tx : (c : Client m) (s : Option (ℕ × Cell)) → c.tx ≡ tx → (knows m c s).tx ≡ tx
+    pub knows_tx : (c : Client m) (s : Option (ℕ × Cell)) → c.tx ≡ tx → (knows m c s).tx ≡ tx
     knows_tx c None e = e
     knows_tx c (Some s) e = e
 
@@ -224,7 +224,7 @@ module _ (m : Meaning) where
         by (Learns s) = inl same
         by (Ends x) = walks_below w.oids _ _ i (knows_tx (after_turn m c t) x.settled same)
 
-    given_up_tx : (b : Bool) (c : Client m) → c.tx ≡ tx → (given_up_if m b c).tx ≡ tx
+    pub given_up_tx : (b : Bool) (c : Client m) → c.tx ≡ tx → (given_up_if m b c).tx ≡ tx
     given_up_tx true c e = e
     given_up_tx false c e = e
 

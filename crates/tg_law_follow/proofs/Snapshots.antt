@@ -41,10 +41,10 @@ module _ (m : Meaning) where
   same_purpose : (a b : Append) (y z : Purpose m) → Appending a y ≡ Appending b z → y ≡ z
   same_purpose a b y z e = cc
 
-  same_asked : (o o' : Oid) (q q' : m.ask) (s s' : ℕ) (a a' : m.answer) (w w' : WhatOf m) → w ≡ told.Asked o q s a → w' ≡ told.Asked o' q' s' a' → w ≡ w' → s ≡ s'
+  pub same_asked : (o o' : Oid) (q q' : m.ask) (s s' : ℕ) (a a' : m.answer) (w w' : WhatOf m) → w ≡ told.Asked o q s a → w' ≡ told.Asked o' q' s' a' → w ≡ w' → s ≡ s'
   same_asked o o' q q' s s' a a' w w' e f g = cc
 
-  no_snapshot : {X : Type 0} (t : Tx) (s : ℕ) → t.snapshot ≡ None → t.snapshot ≡ Some s → X
+  pub no_snapshot : {X : Type 0} (t : Tx) (s : ℕ) → t.snapshot ≡ None → t.snapshot ≡ Some s → X
   no_snapshot t s e f = no_some s (sym e ∙ f)
 
   not_walk : (a : Append) (y : Purpose m) (t : Task m) → t ≡ Appending a y → IsWalk m t → ⊥

@@ -3,3 +3,4 @@ pub mod Holds
 pub mod Keeps
 pub mod Touching
 pub mod Spelled
+pub mod Fitting

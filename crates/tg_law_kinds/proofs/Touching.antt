@@ -38,7 +38,7 @@ use Rattle.tg_law_drafts.proofs.Ranges.{Reads, is_small, reads_dep, reads_shape,
 
 -- Texts, paths and numbers.
 
-letter_small : (b : ℕ) → meets text_bytes b b ≡ true → is_small b ≡ true
+pub letter_small : (b : ℕ) → meets text_bytes b b ≡ true → is_small b ≡ true
 letter_small b e = grind (arith, e)
 
 reads_letters : Reads text_format (λ t. is_part (Text t) ≡ true)
@@ -48,7 +48,7 @@ reads_letters = reads_short 1 (raw_in text_bytes) (omega arith) (λ n bytes t le
     letters n s = reads_many u8 same_ranges (λ s b. s ≡ text_bytes → is_small b ≡ true) (λ s bs. s ≡ text_bytes → list_all is_small bs ≡ true) (λ s is. refl) (λ s b bs p q is. small_more s b bs (p is) (q is))
         (λ s bytes b rest e is. letter_small b (subst (λ (r : List (ℕ × ℕ)). meets r b b ≡ true) is (u8_met s bytes b rest e))) n s
 
-path_small : (s : ℕ × ℕ) (b : ℕ) → meets (next_bytes s) b b ≡ true → is_small b ≡ true
+pub path_small : (s : ℕ × ℕ) (b : ℕ) → meets (next_bytes s) b b ≡ true → is_small b ≡ true
 path_small s b e = by (s.1 == 0) ((s.1 == 47) || (s.0 == 1)) e
   where
     by : (c d : Bool) → meets (cond c ((47, 47) ∷ []) (cond d text_bytes ((47, 47) ∷ text_bytes))) b b ≡ true → is_small b ≡ true

@@ -35,3 +35,7 @@ KindsTouchParts = TouchParts all_kinds
 -- what is read of bytes is an op
 abbrev pub KindsReadOps : Type 0
 KindsReadOps = (o : Oid) (bytes : List ℕ) (op : AnyOp) → IsBytes bytes → all_kinds.read o bytes ≡ Some op → any.is_op op ≡ true
+
+-- and so is what is read of the spelling of an op, whatever that is
+abbrev pub KindsReadBack : Type 0
+KindsReadBack = (o : Oid) (put op : AnyOp) → all_kinds.read o (all_kinds.spell put) ≡ Some op → any.is_op op ≡ true

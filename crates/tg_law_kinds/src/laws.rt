@@ -1,6 +1,6 @@
 //! What holds of all kinds.
 
-ghost use Rattle.tg_law_kinds.specs.Kinds.{KindsHaveDirectory, KindsKeepDirectory, KindsAreStates, KindsBegin, KindsReadOps, KindsTouchParts};
+ghost use Rattle.tg_law_kinds.specs.Kinds.{KindsHaveDirectory, KindsKeepDirectory, KindsAreStates, KindsBegin, KindsReadBack, KindsReadOps, KindsTouchParts};
 
 /// The directory is one: objects stay registered, an op that has a spelling changes the mark of no object but the one
 /// that it marks, and the floor never falls, nor rises above the mark of an object that is registered.
@@ -32,4 +32,9 @@ pub fn kinds_touch_parts()
 /// What is read of bytes as an op of an object is one that has a spelling.
 pub fn kinds_read_ops()
     ensures { KindsReadOps }
+{}
+
+/// And so is what is read of the spelling of an op, whatever that op is.
+pub fn kinds_read_back()
+    ensures { KindsReadBack }
 {}

@@ -5,6 +5,6 @@
 mod laws;
 
 pub use laws::{
-    kinds_are_states, kinds_begin, kinds_have_directory, kinds_keep_directory, kinds_read_ops,
-    kinds_touch_parts,
+    kinds_are_states, kinds_begin, kinds_have_directory, kinds_keep_directory, kinds_read_back,
+    kinds_read_ops, kinds_touch_parts,
 };

@@ -31,11 +31,12 @@ use Rattle.tg_law_walks.proofs.Syncs.{logs_by_position}
 use Rattle.tg_law_finds.specs.Left.{RoundsExact}
 use Rattle.tg_law_exact.specs.Finds.{LeavesFor}
 use Rattle.tg_law_exact.proofs.Finds.{rounds_exact}
-use Rattle.tg_law_leaves.specs.Passed.{WasMet, HasPassed, ViewsPass, TellsFates, HasRested, HasOwn, TrimsRest, OwnsPass, ViewsLeaveNoneWhere}
-use Rattle.tg_law_leaves.proofs.Passing.{views_pass}
+use Rattle.tg_law_leaves.specs.Passed.{WasMet, HasPassed, ViewsPass, TellsFates, HasRested, HasOwn, TrimsRest, OwnsPass, OwnsPassBySpareTrims, ViewsLeaveNoneWhere}
+use Rattle.tg_law_leaves.proofs.Plays.{OwnsPassed}
+use Rattle.tg_law_leaves.proofs.Passing.{views_pass, owns_stay}
 
 -- a position of some streams is one of one of them
-positions_from : (m : Meaning) (xs : List (Oid × List ℕ)) (os : List Oid) (q : ℕ) → Has (positions_of m xs os) q → (o : Oid) × Has os o × Has (positions_in m xs o) q
+pub positions_from : (m : Meaning) (xs : List (Oid × List ℕ)) (os : List Oid) (q : ℕ) → Has (positions_of m xs os) q → (o : Oid) × Has os o × Has (positions_in m xs o) q
 positions_from m xs [] q i = absurd i
 positions_from m xs (o ∷ os) q i = by (nums_split (positions_in m xs o) (positions_of m xs os) q i) (λ j. positions_from m xs os q j)
   where
@@ -52,7 +53,7 @@ module _ (m : Meaning) (l : Log) (byp : IsByPosition l) (c : Client m) (x : Work
   same_entry a b y e f = cc
 
   -- each of the client's entries is of the log, and stands in a hosted stream or is its own
-  mine_of : (p : ℕ) (e : Entry) → Contains (mine m c x) (p, e) → Contains (entries_of l) (p, e) × (Contains c.own p ⊎ IsMember p e)
+  pub mine_of : (p : ℕ) (e : Entry) → Contains (mine m c x) (p, e) → Contains (entries_of l) (p, e) × (Contains c.own p ⊎ IsMember p e)
   mine_of p e i =
       let k = entries_have m c.cells (below m x.tail (with_nums c.own (member_positions m x c.hosted))) p e (has_contained (mine m c x) (p, e) i) in
       let at = read_entry m l byp c.cells p e r.known k.1 in
@@ -65,14 +66,14 @@ module _ (m : Meaning) (l : Log) (byp : IsByPosition l) (c : Client m) (x : Work
           let s = stand_entry l o.0 p (r.only o.0 p (contained_has (positions_in m x.found o.0) p o.2)).1 in
           inr (o.0, contained_has c.hosted o.0 o.1, ap (λ (d : Entry). lists d o.0) (same_entry e s.0 (entry_at l p) at s.1) ∙ s.2)
 
-  module _ (h : Header) (before : Moves m) (pass : (k : View m) → c.view ≡ Some k → HasPassed m (WasMet m h before) (entries_of l) c.hosted k) (rest : HasRested m h before c x) (own : HasOwn m c x) where
+  module _ (h : Header) (before : Moves m) (pass : (k : View m) → c.view ≡ Some k → HasPassed m (WasMet m h before c.num) (entries_of l) c.hosted k) (rest : HasRested m h before c x) (own : HasOwn m c x) where
     none_some : (b : Bool) (y : Option Bool) → y ≡ None → y ≡ Some b → ⊥
     none_some b y e f = cc
 
     pub leaves_none : (k : View m) → c.view ≡ Some k → LeavesNone m k (mine m c x)
     leaves_none k is p e i commit needs less writes reads unfated undecided known = let f = mine_of p e i in by f.0 f.1
       where
-        passed : (o : Oid) → Contains c.hosted o → lists e o ≡ true → ((b : Bool) × (fate_of m k p ≡ Some b)) ⊎ WasMet m h before o p → ⊥
+        passed : (o : Oid) → Contains c.hosted o → lists e o ≡ true → ((b : Bool) × (fate_of m k p ≡ Some b)) ⊎ WasMet m h before c.num o p → ⊥
         passed o hosted f (inl b) = none_some b.0 (fate_of m k p) unfated b.1
         passed o hosted f (inr t) = rest k p e o is i commit needs hosted f less unfated known t undecided
 
@@ -95,7 +96,7 @@ module _ (m : Meaning) where
     Exact c x = IsRound m (log m w) (round m c x c.cells) []
 
     abbrev Passed : Client m → Work m → Type 0
-    Passed c x = (k : View m) → c.view ≡ Some k → HasPassed m (WasMet m h before) (entries_in m w) c.hosted k
+    Passed c x = (k : View m) → c.view ≡ Some k → HasPassed m (WasMet m h before c.num) (entries_in m w) c.hosted k
 
     abbrev Rests : Client m → Work m → Type 0
     Rests c x = TellsFates m x.command → HasRested m h before c x
@@ -114,5 +115,14 @@ module _ (m : Meaning) where
         both_more m h.objects (entries_in m w) (λ c x. Exact c x × Passed c x) (λ c x. LeavesFor m c x x.command) (λ c x. Rests c x × Owns c x) leaves (run m before (start m h)) e
         (both Exact Passed (exact before after e split) (pass before after e split)) (both Rests Owns (rest before after e split) (own before after e split))
 
+  -- the client's own records
+  has_own : (h : Header) (before : Moves m) (l : Log) (byp : IsByPosition l) (c : Client m) (x : Work m) → IsRound m l (round m c x c.cells) [] → OwnsPassed m (WasMet m h before c.num) (entries_of l) c.own c.view → HasOwn m c x
+  has_own h before l byp c x r f k p e is own i commit less known = f k is p e own (mine_of m l byp c x r p e i).0 commit less known
+
+  pub owns_pass : OwnsPassBySpareTrims m
+  owns_pass h ms w r trims before after e split =
+      both_more m h.objects (entries_in m w) (λ c x. IsRound m (log m w) (round m c x c.cells) []) (λ c x. TellsFates m x.command → HasOwn m c x) (λ c x. OwnsPassed m (WasMet m h before c.num) (entries_in m w) c.own c.view)
+      (λ c x p q t. has_own h before (log m w) (logs_by_position m w) c x p q) (run m before (start m h)) e (rounds_exact m h ms w r trims before after e split) (owns_stay m h ms w r trims before after e split)
+
   pub views_leave_none : ViewsLeaveNoneWhere m
-  views_leave_none h ms w r trims rest own = each_leaves h ms w (rounds_exact m h ms w r trims) (views_pass m h ms w r trims) rest own
+  views_leave_none h ms w r trims rest = each_leaves h ms w (rounds_exact m h ms w r trims) (views_pass m h ms w r trims) rest (owns_pass h ms w r trims)

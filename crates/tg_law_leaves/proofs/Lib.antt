@@ -1,6 +1,10 @@
+pub mod Ways
+pub mod Walks
 pub mod Turns
 pub mod Plays
 pub mod Ends
 pub mod Steps
+pub mod Landing
 pub mod Passing
 pub mod Leaving
+pub mod Resting

@@ -1,23 +1,29 @@
--- A play keeps what a view has gone past, where its client's walks were exact.
+-- A play keeps what a view has gone past, where its client's walks were exact, and the pages of the client's own records are known.
 use Rattle.std.proofs.Common.{◌≡◌, ◌⊎◌, ℕ, ◌<◌, ◌≤◌, List, Bool, true, false, refl, sym, ap, ◌∙◌, subst, inl, inr, arith, Option, Some, None, []}
-use Rattle.std.specs.Prelude.{nat_lt, Contains}
+use Rattle.std.specs.Prelude.{nat_lt, is_some, Contains}
+use Rattle.tg_base.specs.declared.cell.Cell.{Cell}
 use Rattle.tg_base.specs.declared.ids.Oid.{Oid}
 use Rattle.tg_entry.specs.declared.entry.Entry.{Entry}
 use Rattle.tg_kind.specs.Meaning.{Meaning}
 use Rattle.tg_model.specs.Kinds.{CommandOf}
 use Rattle.tg_model.specs.declared.command.Command.TheVariants as cmd
 use Rattle.tg_entry.specs.Needs.{reads_of}
-use Rattle.tg_protocol.specs.Entries.{lists}
+use Rattle.tg_protocol.specs.Entries.{is_commit, lists}
+use Rattle.tg_protocol.specs.Words.{cell_at, with_nums}
 use Rattle.tg_protocol.specs.Logs.{Log, entries_of}
-use Rattle.tg_protocol.specs.Views.{Entries, View, view_start, play}
+use Rattle.tg_protocol.specs.Views.{Entries, View, unknown_in, view_start, play}
 use Rattle.tg_protocol.specs.Checkpoints.{trim_of, view_bases}
-use Rattle.tg_protocol.specs.Clients.{Work, Client, upto_in, all_entries}
+use Rattle.tg_protocol.specs.Clients.{Work, Client, upto_in, member_positions, all_entries}
 use Rattle.tg_protocol.specs.Answers.{view_or_new, play_target}
-use Rattle.tg_law_history.proofs.Members.{Has, has_contained, lt_of, not_lt}
+use Rattle.tg_law_history.proofs.Members.{Has, has_contained, lt_of, of_lt, not_lt}
 use Rattle.tg_law_views.proofs.Settled.{IsFated, plays_further, plays_fated, unknown_same}
 use Rattle.tg_law_walks.specs.Streams.{IsByPosition}
 use Rattle.tg_law_walks.specs.Rounds.{round, IsRound}
-use Rattle.tg_law_walks.proofs.Plays.{own_rising, From, untrimmed, trimmed}
+use Rattle.tg_law_walks.proofs.Plays.{own_rising, ps, From, untrimmed, trimmed}
+use Rattle.tg_law_walks.proofs.Cells.{entry_there}
+use Rattle.tg_law_walks.proofs.Positions.{has_filter, nums_left}
+use Rattle.tg_law_walks.proofs.Rounds.{entry_read}
+use Rattle.tg_law_walks.proofs.Saves.{have_entries}
 use Rattle.tg_law_known.proofs.Views.{play_low}
 use Rattle.tg_law_known.proofs.Ways.{played_view}
 use Rattle.tg_law_leaves.specs.Passed.{HasPassed}
@@ -29,6 +35,23 @@ module _ (m : Meaning) (G : Oid → ℕ → Type 0) (es : Entries) where
 
   pub none_passes : (hosted : List Oid) → Passes hosted None
   none_passes hosted k e = absurd (no k e)
+    where
+      no : (k : View m) → None ≡ Some k → ⊥
+      no k e = cc
+
+  -- the pages of a client's own records are known
+  abbrev pub OwnsKnown : List ℕ → List (ℕ × Cell) → Type 0
+  OwnsKnown own cells = (p : ℕ) → Contains own p → is_some (cell_at cells p) ≡ true
+
+  -- of these a view has each that it went past, with its fate, where it knows all reads there
+  abbrev pub OwnPasses : List ℕ → View m → Type 0
+  OwnPasses own v = (p : ℕ) (e : Entry) → Contains own p → Contains es (p, e) → is_commit e ≡ true → p < v.upto → unknown_in m v (reads_of e) p ≡ None → IsFated m v p
+
+  abbrev pub OwnsPassed : List ℕ → Option (View m) → Type 0
+  OwnsPassed own view = (k : View m) → view ≡ Some k → OwnPasses own k
+
+  pub none_owned : (own : List ℕ) → OwnsPassed own None
+  none_owned own k e = absurd (no k e)
     where
       no : (k : View m) → None ≡ Some k → ⊥
       no k e = cc
@@ -105,8 +128,37 @@ module _ (m : Meaning) (G : Oid → ℕ → Type 0) (l : Log) (byp : IsByPositio
       let low = h.low in let top = h.upto in let at : upto_in m c.view ≡ u.upto = ap (upto_in m) is in
       further u (omega (arith, low, at)) (omega (arith, top, at)) (k u is)
 
+  some_view : (x y : View m) → Some x ≡ Some y → x ≡ y
+  some_view x y e = cc
+
   pub play_passes : Passes m G (entries_of l) c.hosted c.view → Passes m G (entries_of l) c.hosted (Some (played_view m c w))
   play_passes k v is = subst (λ (x : View m). HasPassed m G (entries_of l) c.hosted x) (some_view (played_view m c w) v is) (own_passes c.view refl k)
-    where
-      some_view : (x y : View m) → Some x ≡ Some y → x ≡ y
-      some_view x y e = cc
+
+  -- The client's own records.
+
+  module _ (known : OwnsKnown m G (entries_of l) c.own c.cells) where
+    -- each is among the entries
+    own_found : (p : ℕ) (e : Entry) → Contains c.own p → Has (entries_of l) (p, e) → p < w.tail → Has own (p, e)
+    own_found p e i there less =
+        have_entries m c.cells (ps m l byp c w h c.hosted c.own h.hosts) p e
+        (has_filter (λ q. nat_lt q w.tail) (with_nums c.own (member_positions m w c.hosted)) p
+        (nums_left c.own (member_positions m w c.hosted) p (has_contained c.own p i))
+        (of_lt p w.tail less))
+        (entry_read m l byp c.cells p e h.known (known p i) (entry_there 0 l p e byp there))
+
+    own_further : (u : View m) → u.upto ≤ w.tail → OwnPasses m G (entries_of l) c.own u → OwnPasses m G (entries_of l) c.own (play m u (all_entries m c w c.hosted) (play_target m w w.command)).view
+    own_further u top before p e i there commit less reads = by (nat_lt p u.upto) refl
+      where
+        by : (b : Bool) → nat_lt p u.upto ≡ b → IsFated m (play m u (all_entries m c w c.hosted) (play_target m w w.command)).view p
+        by true k = (plays_further m own u (play_target m w w.command)).fates p (before p e i there commit (lt_of p u.upto k) (unknown_same m u (play m u (all_entries m c w c.hosted) (play_target m w w.command)).view (reads_of e) p (sym (plays_further m own u (play_target m w w.command)).bases) ∙ reads))
+        by false k =
+            let n = play_low m own w.tail (play_target m w w.command) u top (target_low w.command) in
+            plays_fated m own u (play_target m w w.command) p e (own_rising m l byp c w h c.hosted c.own h.hosts) (own_found p e i (has_contained (entries_of l) (p, e) there) (omega (arith, less, n))) commit (not_lt p u.upto k) less (λ k. reads)
+
+    owns_further : (view : Option (View m)) → c.view ≡ view → OwnsPassed m G (entries_of l) c.own c.view → OwnPasses m G (entries_of l) c.own (play m (view_or_new m c w (all_entries m c w c.hosted) view) (all_entries m c w c.hosted) (play_target m w w.command)).view
+    unfolding view_start
+    owns_further None is k = own_further (view_start m (view_bases m own w.trims c.objects c.hosted)) (omega arith) (λ p e i there commit less. absurd (omega (arith, less)))
+    owns_further (Some u) is k = let top = h.upto in let at : upto_in m c.view ≡ u.upto = ap (upto_in m) is in own_further u (omega (arith, top, at)) (k u is)
+
+    pub owns_play : OwnsPassed m G (entries_of l) c.own c.view → OwnsPassed m G (entries_of l) c.own (Some (played_view m c w))
+    owns_play k u is = subst (λ (x : View m). OwnPasses m G (entries_of l) c.own x) (some_view (played_view m c w) u is) (owns_further c.view refl k)

@@ -2,7 +2,7 @@
 
 ghost use Rattle.tg_kind.specs.Of.{meaning_of};
 ghost use Rattle.tg_law_legal.specs.Legal.{RunsLegalWhere};
-ghost use Rattle.tg_law_legal.specs.Store.{StoreEntriesOwn, StoreRunsLegalWhere};
+ghost use Rattle.tg_law_legal.specs.Store.{StoreEntriesOwn};
 
 use tg_kind::Registry;
 
@@ -15,10 +15,4 @@ pub fn runs_are_legal<K: Registry>()
 /// In the store, each entry of the log is, links aside, the draft of an append that its client had begun.
 pub fn store_entries_own()
     ensures { StoreEntriesOwn }
-{}
-
-/// And a run of the store is legal where trims left what is needed, states load from what is saved of them, kept views leave no
-/// record without a fate, and no place precedes a reply that came before its transaction.
-pub fn store_runs_legal()
-    ensures { StoreRunsLegalWhere }
 {}

@@ -5,4 +5,4 @@
 
 mod laws;
 
-pub use laws::{runs_are_legal, store_entries_own, store_runs_legal};
+pub use laws::{runs_are_legal, store_entries_own};

@@ -176,6 +176,7 @@ module _ (m : Meaning) (l : Log) (byp : IsByPosition l) (linked : AreLinked l) w
     low = lo_low c w.command;
     whole = lo_whole c w.command;
     only = λ o q i. absurd (has_contained [] q (subst (λ (ys : List (Oid × List ℕ)). Contains (positions_in m ys o) q) h.found i));
+    above = λ o p q i. absurd (has_contained [] p (subst (λ (ys : List (Oid × List ℕ)). Contains (positions_in m ys o) p) h.found i));
     rising = subst (Rattle.tg_law_walks.specs.Rounds.AreRising m) (sym h.found) tt;
     each = λ o. subst (λ (ys : List (Oid × List ℕ)). rises 0 (positions_in m ys o) ≡ true) (sym h.found) refl;
     left = λ o i. i;

@@ -106,6 +106,10 @@ module _ (m : Meaning) where
       pub safe : IsSafe r o b
       pub kept : (v : View m) → plays_kept m r.command ≡ true → r.view ≡ Some v → b ≤ v.upto
 
+    -- from each position on that was found of a stream, it is found
+    abbrev pub HasAbove : Round → Type 0
+    HasAbove r = (o : Oid) (p q : ℕ) → Contains (positions_in m r.found o) p → p ≤ q → q < r.tail → stands_in l o q ≡ true → Contains (positions_in m r.found o) q × (is_some (cell_at r.cells q) ≡ true)
+
     -- Walks of a command of which these streams are left: what is found of the others is exact.
     pub record IsRound (r : Round) (rest : List Oid) : Type 0 where
       pub known : AreKnown l r.cells
@@ -117,6 +121,7 @@ module _ (m : Meaning) where
       pub low : r.lo ≤ upto_in m r.view
       pub whole : plays_kept m r.command ≡ false → r.lo ≡ 0
       pub only : (o : Oid) (q : ℕ) → Contains (positions_in m r.found o) q → (q < r.tail) × (stands_in l o q ≡ true)
+      pub above : HasAbove r
       pub rising : AreRising r.found
       pub each : (o : Oid) → rises 0 (positions_in m r.found o) ≡ true
       pub left : (o : Oid) → Contains rest o → Contains r.oids o

@@ -1,0 +1,5 @@
+pub mod Answered
+pub mod Steps
+pub mod Snapshots
+pub mod Points
+pub mod Commits

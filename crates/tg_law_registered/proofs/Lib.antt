@@ -1,0 +1,4 @@
+pub mod Grounds
+pub mod Roots
+pub mod Marks
+pub mod Resting
