@@ -1,7 +1,7 @@
 -- The lists that a sequencer has told: of the positions that it had issued in its epoch to a stream, one is missing only where
 -- four others that aren't below it stand there. What it issues later isn't below the position that it told.
-use Rattle.std.proofs.Common.{◌≡◌, ◌≢◌, ◌⊎◌, ℕ, ◌<◌, ◌≤◌, List, [], ◌∷◌, ◌++◌, length, map, true, false, refl, sym, ap, ◌∙◌, subst, inl, inr, arith, Some, append-nil}
-use Rattle.std.specs.Prelude.{slice_index_or}
+use Rattle.std.proofs.Common.{◌≡◌, ◌≢◌, ◌⊎◌, ℕ, ◌<◌, ◌≤◌, List, [], ◌∷◌, ◌++◌, length, map, true, false, refl, sym, ap, ◌∙◌, subst, inl, inr, arith, Some, None, Option, Bool, append-nil}
+use Rattle.std.specs.Prelude.{slice_index_or, if◌then◌else◌}
 use Rattle.tg_base.specs.Clusters.{Header}
 use Rattle.tg_base.specs.declared.ids.NodeId.{NodeId}
 use Rattle.tg_base.specs.declared.ids.Oid.{Oid}
@@ -14,8 +14,10 @@ use Rattle.tg_base.specs.declared.packet.Packet.{Packet}
 use Rattle.tg_kind.specs.Meaning.{Meaning}
 use Rattle.tg_model.specs.Kinds.{EventOf}
 use Rattle.tg_protocol.specs.Words.{seqr_id}
+use Rattle.tg_base.specs.Orders.{oid_eq}
+use Rattle.tg_protocol.specs.Entries.{link_of, backs_of}
 use Rattle.tg_protocol.specs.Layouts.{first_layout}
-use Rattle.tg_protocol.specs.Sequencers.{SeqrState, SeqrTurn, scanning, links_of, new_seqr, seqr_tick}
+use Rattle.tg_protocol.specs.Sequencers.{SeqrState, SeqrTurn, scanning, link_or_new, links_of, new_seqr, seqr_tick}
 use Rattle.tg_protocol.specs.Worlds.{World, start, packet_of, happens, next_event}
 use Rattle.tg_protocol.specs.Runs.{Moves, Next, Takes, run, Always}
 use Rattle.tg_law_moves.specs.After.{after}
@@ -30,11 +32,14 @@ use Rattle.tg_law_moves.proofs.Scripts.{run_both}
 use Rattle.tg_law_requests.proofs.Told.{NumbersOnce}
 use Rattle.tg_law_requests.proofs.Numbers.{numbers_once}
 use Rattle.tg_law_tokens.specs.Listing.{IsListed}
-use Rattle.tg_law_tokens.proofs.Backs.{Stands, link_backs}
+use Rattle.tg_law_tokens.proofs.Backs as kept
+use Rattle.tg_law_tokens.proofs.Backs.{Stands}
 use Rattle.tg_law_tokens.proofs.Issues.{Asked, same_asked, token_epoch, Issuing, low_holds, Turned, turned, old_asked, old_or_new, new_is, new_asked, New, asked_of}
 use Rattle.tg_law_tokens.proofs.Listing.{Lists, lists_hold}
 use Rattle.tg_law_order.proofs.Tails.{Passed, passed_on, not_scanning, same_seqr}
 use Rattle.tg_law_entries.proofs.Lists.{joined}
+use Rattle.tg_law_walks.specs.Lists.{backs}
+use Rattle.tg_law_walks.proofs.Members.{contrary, same_oid, oid_itself}
 use Rattle.tg_law_lists.specs.Telling.{asks_links, tells_links}
 use Rattle.tg_law_lists.proofs.Telling.{IsTold, step_told, tick_silent}
 use Rattle.tg_law_settling.specs.Listing.{ToldListsFull}
@@ -46,6 +51,35 @@ listed q xs (inr h) = inr (h.0, λ x g. h.1 x (has_contained xs x g))
 asked_request : (y : Msg) (epoch : ℕ) (os : List Oid) → asks_links y ≡ Some (epoch, os) → is_request y ≡ true
 unfolding asks_links is_request
 asked_request y epoch os i = grind arith
+
+-- The links that are told of some streams have the lists that are kept of them.
+
+some_link : (a b : StreamLink) → Some a ≡ Some b → a ≡ b
+some_link a b e = cc
+
+found_oid : (k : Oid) (ls : List StreamLink) (y : StreamLink) → link_of k ls ≡ Some y → y.oid ≡ k
+found_oid k [] y e = absurd (cc)
+found_oid k (z ∷ ls) y e = by (oid_eq z.oid k) refl e (λ f. found_oid k ls y f)
+  where
+    by : (b : Bool) → oid_eq z.oid k ≡ b → (if b then Some z else link_of k ls) ≡ Some y → (link_of k ls ≡ Some y → y.oid ≡ k) → y.oid ≡ k
+    by true t f rest = ap (λ (v : StreamLink). v.oid) (sym (some_link z y f)) ∙ same_oid z.oid k t
+    by false t f rest = rest f
+
+new_oid : (k : Oid) (ls : List StreamLink) (x : Option StreamLink) → link_of k ls ≡ x → (link_or_new k x).oid ≡ k
+new_oid k ls None e = refl
+new_oid k ls (Some y) e = found_oid k ls y e
+
+told_of : (os : List Oid) (ls : List StreamLink) (o : Oid) → Has os o → backs o (links_of ls os) ≡ kept.backs ls o
+told_of [] ls o i = absurd i
+told_of (k ∷ os) ls o i = by (oid_eq k o) refl i (λ j. told_of os ls o j)
+  where
+    test : (b : Bool) → oid_eq k o ≡ b → backs o (links_of ls (k ∷ os)) ≡ backs_of (if b then Some (link_or_new k (link_of k ls)) else link_of o (links_of ls os))
+    test b e = ap (λ (c : Bool). backs_of (if c then Some (link_or_new k (link_of k ls)) else link_of o (links_of ls os))) (ap (λ (y : Oid). oid_eq y o) (new_oid k ls (link_of k ls) refl) ∙ e)
+
+    by : (b : Bool) → oid_eq k o ≡ b → Has (k ∷ os) o → (Has os o → backs o (links_of ls os) ≡ kept.backs ls o) → backs o (links_of ls (k ∷ os)) ≡ kept.backs ls o
+    by true e j rest = test true e ∙ ap (λ (y : Oid). kept.backs ls y) (same_oid k o e)
+    by false e (inl s) rest = contrary (oid_eq k o) e (ap (oid_eq k) s ∙ oid_itself k)
+    by false e (inr j) rest = test false e ∙ rest j
 
 -- what an answer's sequencer has issued in an epoch below the position that it tells
 pub record IssuedBelow (ps : List Packet) (a : Packet) (epoch pos q : ℕ) (oz : List Oid) : Type 0 where
@@ -66,7 +100,7 @@ pub record Linked (ps : List Packet) (z : SeqrState) (a : Packet) (pos : ℕ) (l
   pub rid : ask.rid ≡ a.rid
   pub request : is_request ask.msg ≡ true
   pub passed : (epoch : ℕ) (os : List Oid) → asks_links ask.msg ≡ Some (epoch, os) → Passed z epoch pos
-  pub full : (epoch q : ℕ) (os oz : List Oid) (l : StreamLink) → asks_links ask.msg ≡ Some (epoch, os) → IssuedBelow ps a epoch pos q oz → Has ls l → Has oz l.oid → Stands q l.backs
+  pub full : (epoch q : ℕ) (os oz : List Oid) (o : Oid) → asks_links ask.msg ≡ Some (epoch, os) → IssuedBelow ps a epoch pos q oz → Has os o → Has oz o → Stands q (backs o ls)
 
 -- where nothing new is issued below it
 linked_on : (ps qs : List Packet) (y z : SeqrState) (a : Packet) (pos : ℕ) (ls : List StreamLink) → ((x : Packet) → Has ps x → Has qs x) → ((e t : ℕ) → Passed y e t → Passed z e t)
@@ -79,7 +113,7 @@ linked_on ps qs y z a pos ls up on older k = record {
   rid = k.rid;
   request = k.request;
   passed = λ e os is. on e pos (k.passed e os is);
-  full = λ e q os oz l is b hl ho. k.full e q os oz l is (older e q oz (k.passed e os is) b) hl ho;
+  full = λ e q os oz o is b i j. k.full e q os oz o is (older e q oz (k.passed e os is) b) i j;
 }
 
 module _ (m : Meaning) where
@@ -140,10 +174,10 @@ module _ (m : Meaning) where
     none_there j other a from e pos q oz b w = other (same_seqr j s (sym (b.from ∙ from) ∙ ap (λ (y : Packet). y.from) w.is))
 
     full_new : (p : Packet) (a : Packet) (pos : ℕ) (ls : List StreamLink) (o : Out) → a ≡ packet_of m (seqr_id s) o → IsTold z p.from p.rid p.msg o pos ls
-        → (e q : ℕ) (os oz : List Oid) (l : StreamLink) → asks_links p.msg ≡ Some (e, os) → IssuedBelow qs a e pos q oz → Has ls l → Has oz l.oid → Stands q l.backs
-    full_new p a pos ls o is k e q os oz l asks b hl ho =
-        subst (λ (ys : List ℕ). Stands q ys) (sym (link_backs z.lists os l (subst (λ (zs : List StreamLink). Has zs l) u.3 hl)))
-        (lists.named s old.answer q old.links oz l.oid old.has (old.from ∙ from) old.is (subst (λ (y : ℕ). Asked ps old.answer y oz) u.0 old.asked) ho)
+        → (e q : ℕ) (os oz : List Oid) (n : Oid) → asks_links p.msg ≡ Some (e, os) → IssuedBelow qs a e pos q oz → Has os n → Has oz n → Stands q (backs n ls)
+    full_new p a pos ls o is k e q os oz x asks b i j =
+        subst (λ (ys : List ℕ). Stands q ys) (sym (ap (backs x) u.3 ∙ told_of os z.lists x i))
+        (lists.named s old.answer q old.links oz x old.has (old.from ∙ from) old.is (subst (λ (y : ℕ). Asked ps old.answer y oz) u.0 old.asked) j)
       where
         u : (e ≡ z.epoch) × (scanning z ≡ false) × (pos ≡ z.next) × (ls ≡ links_of z.lists os)
         u = k.links e os asks
@@ -168,7 +202,7 @@ module _ (m : Meaning) where
       passed = λ epoch os asks.
           let u = k.links epoch os asks in
           on epoch pos (record { up = let e = u.0 in omega (arith, e); here = λ e. (not_scanning z u.1, let n = u.2 in omega (arith, n)) });
-      full = λ e q os oz l asks b hl ho. full_new p a pos ls o is k e q os oz l asks b hl ho;
+      full = λ e q os oz x asks b i j. full_new p a pos ls o is k e q os oz x asks b i j;
     }
 
     new : (u : SeqrTurn) → SeqrInput m c s u → u ≡ t → (a : Packet) (pos : ℕ) (ls : List StreamLink) → tells_links a.msg ≡ Some (pos, ls) → (o : Out) → Has u.sends o → a ≡ packet_of m (seqr_id s) o → Linked qs t.now a pos ls
@@ -235,7 +269,7 @@ module _ (m : Meaning) where
     told_hold xs = told_on [] xs start_told
 
     full_here : (xs : Moves m) → ToldListsFull m (after m h xs)
-    full_here xs s e q p os oz ls ks a b less l hl ho =
+    full_here xs s e q p os oz ls ks a b less o i j =
         let k = (told_hold xs).each s b.answer p ks (has_contained _ b.answer b.answered) b.from_seqr b.tells in
         let same = (once xs).same k.ask b.ask k.has (has_contained _ b.ask b.asked) k.request (asked_request b.ask.msg e oz b.asks) (k.from ∙ b.back) (k.to ∙ b.from_seqr ∙ sym b.to_seqr) (k.rid ∙ b.number) in
         let below : IssuedBelow (after m h xs).packets b.answer e p q os = record {
@@ -247,7 +281,7 @@ module _ (m : Meaning) where
           asked = asked_of m (after m h xs) s e q os ls a;
           below = less;
         } in
-        listed q l.backs (k.full e q oz os l (ap asks_links same ∙ b.asks) below (has_contained ks l hl) (has_contained os l.oid ho))
+        listed q (backs o ks) (k.full e q oz os o (ap asks_links same ∙ b.asks) below (has_contained oz o j) (has_contained os o i))
 
   pub told_lists_are_full : Always m (ToldListsFull m)
   told_lists_are_full = always m (ToldListsFull m) (λ h xs. full_here h xs)

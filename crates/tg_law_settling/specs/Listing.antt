@@ -6,6 +6,7 @@ use Rattle.tg_kind.specs.Meaning.{Meaning}
 use Rattle.tg_protocol.specs.Worlds.{World}
 use Rattle.tg_law_tokens.specs.Issuing.{Issued}
 use Rattle.tg_law_tokens.specs.Listing.{IsListed}
+use Rattle.tg_law_walks.specs.Lists.{backs}
 use Rattle.tg_law_lists.specs.Telling.{ToldLinks}
 
 module _ (m : Meaning) where
@@ -14,4 +15,4 @@ module _ (m : Meaning) where
   abbrev pub ToldListsFull : World m → Type 0
   ToldListsFull w = (s epoch q p : ℕ) (os oz : List Oid) (ls ks : List StreamLink) →
       Issued m w s epoch q os ls → ToldLinks m w s epoch oz p ks → q < p →
-      (l : StreamLink) → Contains ks l → Contains os l.oid → IsListed q l.backs
+      (o : Oid) → Contains os o → Contains oz o → IsListed q (backs o ks)

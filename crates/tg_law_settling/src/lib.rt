@@ -3,5 +3,7 @@
 #![tactic(auto)]
 
 mod laws;
+mod visits;
 
 pub use laws::told_lists_are_full;
+pub use visits::{walks_visit, walks_visit_again, walks_visit_on};
