@@ -173,8 +173,13 @@ module _ (m : Meaning) (h : Header) (zs : Moves m) (r : Reaches m h zs (after m 
         idle f = still E (one p.epoch) known.of known.each Tells f
 
         on_task : (v : Work m) (u : Task m) → cl.work ≡ Some v → v.hand ≡ Doing u → (b : Bool) → awaits (task_awaited m p u) x.from x.rid ≡ b → Learns' Tells
-        on_task v u e f true a = let g = task_heard v u e f a in record { more = g.more; each = g.each; within = g.within; heard = λ w t i j y.
-            subst (λ (z : Task m). TaskHeard m g.more cl z x.from.num (reply x.msg)) (same_task u t (sym f ∙ (ap (λ (z : Work m). z.hand) (same_work v w (sym e ∙ i)) ∙ j))) g.heard }
+        on_task v u e f true a = let g = task_heard v u e f a in record {
+          more = g.more;
+          each = g.each;
+          within = g.within;
+          heard = λ w t i j y.
+              subst (λ (z : Task m). TaskHeard m g.more cl z x.from.num (reply x.msg)) (same_task u t (sym f ∙ (ap (λ (z : Work m). z.hand) (same_work v w (sym e ∙ i)) ∙ j))) g.heard;
+        }
         on_task v u e f false a = idle (λ w t i j y. absurd (contrary (sym y ∙ (ap (λ (z : Task m). awaits (task_awaited m p z) x.from x.rid) (sym (same_task u t (sym f ∙ (ap (λ (z : Work m). z.hand) (same_work v w (sym e ∙ i)) ∙ j)))) ∙ a))))
 
         on_hand : (v : Work m) (d : Hand m) → cl.work ≡ Some v → v.hand ≡ d → Learns' Tells
