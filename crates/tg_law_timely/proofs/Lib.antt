@@ -1,3 +1,4 @@
 pub mod Standing
 pub mod Reading
 pub mod Timely
+pub mod Walked

@@ -31,6 +31,9 @@ use Rattle.tg_law_layouts.proofs.Phases.{phase, Follows, TurnFollows, end_stand,
 use Rattle.tg_law_layouts.proofs.Plain.{Plain, on_sync_plain, on_walk_plain, on_append_plain, on_trims_plain, on_copy_plain, host_plain, begin_plain, put_plain, asks_plain, ends_plain, drop_plain, syncs_plain}
 use Rattle.tg_law_known.proofs.FarHeld.{proposed_next}
 
+pub later : (a : Bool) (d e : ℕ) → (a && nat_lt d e) ≡ true → d < e
+later a d e h = grind arith
+
 module _ (m : Meaning) (n k : ℕ) (ps : List Packet) where
   abbrev Rises : Client m → Moved m → Type 0
   Rises c x = c.stand.epoch ≤ x.now.stand.epoch
@@ -99,9 +102,6 @@ module _ (m : Meaning) (n k : ℕ) (ps : List Packet) where
   hand_rises : (c : Client m) (w : Work m) (d : Hand m) (from : NodeId) (rid : ℕ) (x : Reply) → HandOk m n k ps c.stand (task_reconf m (task_in m d)) → Rises c (step.hand_feed m c w d from rid x)
   hand_rises c w (Doing t) from rid x h = fed_if_rises _ c w t from rid x h
   hand_rises c w (Learning ws t) from rid x h = omega arith
-
-  later : (a : Bool) (d e : ℕ) → (a && nat_lt d e) ≡ true → d < e
-  later a d e h = grind arith
 
   latest_rises : (b : Bool) (c : Client m) (w : Work m) (from : NodeId) (rid : ℕ) (q : Layout) → (b ≡ true → c.stand.epoch < q.epoch) → HandOk m n k ps c.stand (task_reconf m (task_in m w.hand)) → Rises c (step.latest_if m b c w from rid q)
   latest_rises true c w from rid q less h = newer_rises c w (task_in m w.hand) from.num rid q h (less refl)

@@ -53,13 +53,13 @@ use Rattle.tg_law_timely.proofs.Standing.{turn_rises}
 use Rattle.tg_law_timely.proofs.Reading.{some_cell, Learnt, still, walk_learns, append_learns, sync_learns, knows_more, in_hand}
 
 module _ (m : Meaning) (h : Header) (zs : Moves m) (r : Reaches m h zs (after m h zs)) (trims : TrimsWereSpare m h zs) (fit : DraftsFit m (after m h zs)) where
-  abbrev S : ℕ → ℕ → Cell → Type 0
+  abbrev pub S : ℕ → ℕ → Cell → Type 0
   S e q c = SettledBy m (after m h zs) e q c
 
-  one : (e q : ℕ) (c d : Cell) → S e q c → S e q d → c ≡ d
+  pub one : (e q : ℕ) (c d : Cell) → S e q c → S e q d → c ≡ d
   one e q c d x y = some_cell c d (sym (cell_of m h zs r (safe_of m h zs r trims) q c x.settled) ∙ cell_of m h zs r (safe_of m h zs r trims) q d y.settled)
 
-  up : (e f q : ℕ) (c : Cell) → e ≤ f → S e q c → S f q c
+  pub up : (e f q : ℕ) (c : Cell) → e ≤ f → S e q c → S f q c
   up e f q c le x = record { settled = x.settled; in_time = (let a = x.in_time in omega (arith, a, le)) }
 
   -- all that it knows is of a log whose cells were settled in time
@@ -80,10 +80,10 @@ module _ (m : Meaning) (h : Header) (zs : Moves m) (r : Reaches m h zs (after m 
     abbrev p : Layout
     p = (client_in m (config m (after m h xs)) k).stand
 
-    abbrev E : ℕ → Cell → Type 0
+    abbrev pub E : ℕ → Cell → Type 0
     E q c = SettledBy m (after m h zs) (client_in m (config m (after m h xs)) k).stand.epoch q c
 
-    abbrev Learns' : (Log → Type 0) → Type 0
+    abbrev pub Learns' : (Log → Type 0) → Type 0
     Learns' H = Learnt E (one p.epoch) known.of H
 
     all : All m (config m (after m h xs))
@@ -148,7 +148,7 @@ module _ (m : Meaning) (h : Header) (zs : Moves m) (r : Reaches m h zs (after m 
     task_heard w (Reconfiguring q) works hand awaited = still E (one p.epoch) known.of known.each (λ l. TaskHeard m l cl (Reconfiguring q) x.from.num (reply x.msg)) tt
 
     -- whatever it has in hand
-    abbrev Tells : Log → Type 0
+    abbrev pub Tells : Log → Type 0
     Tells l = (w : Work m) (t : Task m) → cl.work ≡ Some w → w.hand ≡ Doing t → awaits (task_awaited m p t) x.from x.rid ≡ true → TaskHeard m l cl t x.from.num (reply x.msg)
 
     no_work : (w : Work m) → None ≡ Some w → ⊥
@@ -166,7 +166,7 @@ module _ (m : Meaning) (h : Header) (zs : Moves m) (r : Reaches m h zs (after m 
     contrary : true ≡ false → ⊥
     contrary e = cc
 
-    tells : Learns' Tells
+    pub tells : Learns' Tells
     tells = by cl.work refl
       where
         idle : Tells known.of → Learns' Tells

@@ -1,10 +1,17 @@
 -- When what clients know of the log was settled.
 use Rattle.std.specs.Prelude.{◌≡◌, ℕ, ◌≤◌, Some}
+use Rattle.tg_base.specs.Clusters.{Header}
 use Rattle.tg_base.specs.declared.cell.Cell.{Cell}
 use Rattle.tg_kind.specs.Meaning.{Meaning}
-use Rattle.tg_protocol.specs.Clients.{known}
+use Rattle.tg_model.specs.Kinds.{EventOf}
+use Rattle.tg_protocol.specs.Words.{cell_at}
+use Rattle.tg_protocol.specs.Clients.{Work, Client, known}
 use Rattle.tg_protocol.specs.Worlds.{World, client}
+use Rattle.tg_protocol.specs.Runs.{Moves, Reaches}
 use Rattle.tg_law_cells.specs.Settled.{IsSettled}
+use Rattle.tg_law_history.specs.Worlds.{entries_in}
+use Rattle.tg_law_replies.specs.Steps.{EachEvent}
+use Rattle.tg_law_lists.specs.Spared.{TrimsWereSpare}
 
 module _ (m : Meaning) where
   -- the cell was settled at the position in an epoch up to this one
@@ -19,3 +26,11 @@ module _ (m : Meaning) where
   -- no client stands in an earlier epoch later
   abbrev pub StandsRise : World m → World m → Type 0
   StandsRise w v = (k : ℕ) → (client m w k).stand.epoch ≤ (client m v k).stand.epoch
+
+  -- So it is within a step too, of the world before it, wherever the step comes to the end of a command's walks.
+
+  abbrev pub KnowsInTime : World m → Client m → Work m → Type 0
+  KnowsInTime w c x = (pos : ℕ) (d : Cell) → cell_at c.cells pos ≡ Some d → SettledBy w c.stand.epoch pos d
+
+  abbrev pub WalksKnowInTime : Type 0
+  WalksKnowInTime = (h : Header) (before : Moves m) (w : World m) (e : EventOf m) → Reaches m h before w → TrimsWereSpare m h before → EachEvent m h.objects (entries_in m w) (KnowsInTime w) w e

@@ -6,4 +6,4 @@
 
 mod laws;
 
-pub use laws::{known_is_in_time, stands_rise};
+pub use laws::{known_is_in_time, stands_rise, walks_know_in_time};
