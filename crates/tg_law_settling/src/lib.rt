@@ -5,5 +5,5 @@
 mod laws;
 mod visits;
 
-pub use laws::told_lists_are_full;
+pub use laws::{entries_are_full, tails_are_full, told_lists_are_full};
 pub use visits::{walks_visit, walks_visit_again, walks_visit_on};
