@@ -21,7 +21,7 @@ use Rattle.tg_law_moves.specs.After.{after}
 use Rattle.tg_law_moves.proofs.Lists.{contained}
 use Rattle.tg_law_layouts.proofs.Deciding.{one_layout, layouts_are_sound}
 use Rattle.tg_law_cells.specs.Settled.{IsSettled}
-use Rattle.tg_law_tokens.specs.Issuing.{Issued, IsNamed}
+use Rattle.tg_law_tokens.specs.Issuing.{Issued}
 use Rattle.tg_law_tokens.specs.Listing.{IsListed}
 use Rattle.tg_law_tokens.proofs.Named.{issuer_is_named}
 use Rattle.tg_law_homes.specs.Homes.{Home}
@@ -37,7 +37,7 @@ use Rattle.tg_law_lists.proofs.Ends.{settled_of, home, fit_page, links_there, st
 use Rattle.tg_law_lists.proofs.Safe.{safe_of}
 use Rattle.tg_law_lists.proofs.Fits.{drafts_fit}
 use Rattle.tg_law_lists.proofs.Telling.{links_are_true, entries_are_good}
-use Rattle.tg_law_settling.specs.Visits.{IsFull, AreFull, IsIssuedTo, EntriesFull, TailsFull}
+use Rattle.tg_law_settling.specs.Visits.{IsFull, IsIssuedTo, EntriesFull, TailsFull}
 use Rattle.tg_law_settling.proofs.Told.{told_lists_are_full}
 
 -- What the cell at a position says of a stream.
