@@ -120,36 +120,36 @@ unfolding reply
 fenced_reply y e h = ap reply h
 
 module _ (m : Meaning) (h : Header) (zs : Moves m) (reach : Reaches m h zs (after m h zs)) (us vs : Moves m) (begins : zs ≡ us ++ vs) where
-  abbrev first : ℕ → ℕ
+  abbrev pub first : ℕ → ℕ
   first k = (client_in m (config m (after m h us)) k).next
 
   abbrev last : ℕ → ℕ
   last k = (client_in m (config m (after m h us)) k).begun
 
-  abbrev IsServed : ℕ → ℕ → Type 0
+  abbrev pub IsServed : ℕ → ℕ → Type 0
   IsServed n e = ServedSince m (after m h us) (after m h zs) n e
 
   pub record IsTold (p : Layout) (t : ℕ) : Type 0 where
     pub decided : IsOfDecided m (after m h zs) p
     pub told : ToldSince m (after m h us) (after m h zs) p.seq p.epoch t
 
-  abbrev IsNew : ℕ → Type 0
+  abbrev pub IsNew : ℕ → Type 0
   IsNew t = IsPlace m (after m h us) (after m h zs) t
 
   pub new_tail : (p : Layout) (t at : ℕ) → IsTold p t → AllServed IsServed (place_in p at) → IsNew t
   new_tail p t at k f = OfTail t at p k.decided k.told (λ n i. f n (has_contained (chain_of p at) n i))
 
-  abbrev SyncOk : Layout → SyncWork → Type 0
+  abbrev pub SyncOk : Layout → SyncWork → Type 0
   SyncOk p w = SyncServed IsServed IsTold IsNew new_tail p w
 
   pub starts_ok : (p : Layout) (r : ℕ) → SyncOk p (Checking r)
   starts_ok p r = tt
 
-  abbrev IsTrue : Client m → Type 0
+  abbrev pub IsTrue : Client m → Type 0
   IsTrue c = ClientTold m SyncOk IsNew starts_ok c
 
   -- all that is awaited was drawn since
-  abbrev AllNew : ℕ → Client m → Type 0
+  abbrev pub AllNew : ℕ → Client m → Type 0
   AllNew k c = (o : Out) → Has (reserved m c) o → first k ≤ o.rid
 
   -- What a client hears then.
@@ -272,7 +272,7 @@ module _ (m : Meaning) (h : Header) (zs : Moves m) (reach : Reaches m h zs (afte
         probes = λ a j at ok. cell j.place j.work (probing_in p s s.work a j at l.ask (asks l.ask l.has));
       }
 
-    hears_all : IsTrue cl → ClientHears m SyncOk IsNew starts_ok cl x.from x.rid (reply x.msg)
+    pub hears_all : IsTrue cl → ClientHears m SyncOk IsNew starts_ok cl x.from x.rid (reply x.msg)
     hears_all true' v (Syncing s) works hand awaited =
         sync_served IsServed IsTold IsNew new_tail p s x.from.num (reply x.msg) cl.next (hears v s works hand awaited)
         (subst (λ (d : Hand m). turns.HandTold m SyncOk IsNew starts_ok p v.tail d) hand (subst (λ (o : Option (Work m)). turns.WorkTold m SyncOk IsNew starts_ok p o) works true'))
@@ -335,7 +335,7 @@ module _ (m : Meaning) (h : Header) (zs : Moves m) (reach : Reaches m h zs (afte
       client = λ n t i less. at_set (after m h xs).clients n t.now (new_client m (after m h xs).cluster) (λ j x. Steps j (client_in m (config m (after m h xs)) j) x) less (turn_steps n t i) (λ j other. stays j (client_in m (config m (after m h xs)) j));
     }
 
-    steps : (e : EventOf m) (k : ℕ) → Steps k (client m (after m h xs) k) (client m (happens m (after m h xs) e) k)
+    pub steps : (e : EventOf m) (k : ℕ) → Steps k (client m (after m h xs) k) (client m (happens m (after m h xs) e) k)
     steps e = step_cases m (after m h xs) (λ d. (k : ℕ) → Steps k (client_in m (config m (after m h xs)) k) (client_in m d k)) steps_cases e
 
   -- A client whose transaction was begun since.
