@@ -3,4 +3,4 @@
 
 mod laws;
 
-pub use laws::{later_tails_follow};
+pub use laws::later_tails_follow;
