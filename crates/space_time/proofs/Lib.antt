@@ -1,0 +1,10 @@
+mod Moving
+mod Draining
+mod Ticking
+mod Parts
+mod Feeding
+mod Copies
+mod Ending
+mod Whole
+mod Showing
+mod Marked

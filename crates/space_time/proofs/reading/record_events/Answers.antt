@@ -1,0 +1,48 @@
+use Rattle.std.proofs.Common.{◌≤◌, ℕ, List, Option, Some, refl, subst, arith}
+use Rattle.tg_io.proofs.Faults.{sure_since}
+use Rattle.tg_lines.specs.Lines.{ahead, TakesLine}
+use Rattle.tg_replay.specs.declared.stages.End.TheVariants.{Whole}
+use Rattle.tg_replay.proofs.Feeding.{Feeds, still_more, still_stops, still_ends}
+use Rattle.space_time.specs.declared.reading.Fed.{Fed}
+use Rattle.space_time.specs.Records.{GoesOnRecorded, run_in, finish_in}
+use Rattle.space_time.proofs.reading.record_events.Goals as goal
+
+pub feed-requires : goal.feed-requires
+feed-requires g c = c.loop-line.invariant.kept
+
+pub returns-in-Stops-clause-finished : goal.returns-in-Stops-clause-finished
+returns-in-Stops-clause-finished g c =
+    let before = ahead c.args.reader.now (g.S.Source.left c.args.source.now) in
+    let rest = ahead c.loop-line.reader (g.S.Source.left c.loop-line.source) in
+    let after = ahead c.next.new.self (g.S.Source.left c.next.new.source) in
+    let line = subst (λ (o : Option (List ℕ)). TakesLine rest after o) c.in-Some.is c.in_ok-line.ensures.line in
+    let feeds = subst (λ (f : Fed). Feeds c.loop-line.recording.run c.in-Some.line (run_in f)) c.in-Stops.is c.in_ok-next.ensures.took in
+    still_stops before rest after c.args.recording.run c.loop-line.recording.run (finish_in c.in-Stops.recorded) c.in-Some.line c.loop-line.invariant.reads line feeds
+
+pub returns-in-Stops-clause-recorded : goal.returns-in-Stops-clause-recorded
+returns-in-Stops-clause-recorded g c = subst GoesOnRecorded c.in-Stops.is c.in_ok-next.ensures.kept
+
+pub loop-line-preserved : goal.loop-line-preserved
+loop-line-preserved g c =
+    let before = ahead c.args.reader.now (g.S.Source.left c.args.source.now) in
+    let rest = ahead c.loop-line.reader (g.S.Source.left c.loop-line.source) in
+    let after = ahead c.next.new.self (g.S.Source.left c.next.new.source) in
+    let i = c.loop-line.invariant in
+    let line = subst (λ (o : Option (List ℕ)). TakesLine rest after o) c.in-Some.is c.in_ok-line.ensures.line in
+    let feeds = subst (λ (f : Fed). Feeds c.loop-line.recording.run c.in-Some.line (run_in f)) c.in-Goes.is c.in_ok-next.ensures.took in
+    let later : g.S.Source.faults c.args.source.now ≤ g.S.Source.faults c.loop-line.source = i.later in
+    let rose : g.S.Source.faults c.loop-line.source ≤ g.S.Source.faults c.next.new.source = c.in_ok-line.ensures.cause.later in
+    record {
+      reads = still_more before rest after c.args.recording.run c.loop-line.recording.run c.in-Goes.next.run c.in-Some.line i.reads line feeds;
+      kept = subst GoesOnRecorded c.in-Goes.is c.in_ok-next.ensures.kept;
+      later = omega arith;
+      sure = sure_since _ _ _ _ _ _ i.sure c.in_ok-line.ensures.sure;
+    }
+
+pub returns-clause-finished : goal.returns-clause-finished
+returns-clause-finished g c =
+    let before = ahead c.args.reader.now (g.S.Source.left c.args.source.now) in
+    let rest = ahead c.loop-line.reader (g.S.Source.left c.loop-line.source) in
+    let after = ahead c.next.new.self (g.S.Source.left c.next.new.source) in
+    let none = subst (λ (o : Option (List ℕ)). TakesLine rest after o) c.in_default.is c.in_ok-line.ensures.line in
+    still_ends before rest after c.args.recording.run c.loop-line.recording.run (record { end = Whole; run = Some c.loop-line.recording.run }) c.loop-line.invariant.reads none refl refl

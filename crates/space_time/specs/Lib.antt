@@ -1,0 +1,4 @@
+pub mod Records
+pub mod Pictures
+pub mod Cuts
+pub mod Endings
