@@ -16,6 +16,7 @@ use Rattle.tg_protocol.specs.Transactions.{Tx, TxFault, read_fault, write_fault,
 use Rattle.tg_protocol.specs.Clients.{Work, Client, busy, no_tx, wrong_kind, not_registered, not_hosted, put_fault, ask_fault, by_tx, tests, refusal, write_of, hosts_oid}
 use Rattle.tg_protocol.specs.ClientSteps.{new_work, hosts_more, puts, asks, asks_by, asks_view, asked_of_state, purpose_of, end_by, ends, works_on, accepts, refused_or}
 use Rattle.tg_protocol.specs.Runs.{IsSpelled, LawfulCommand}
+use Rattle.tg_law_moves.proofs.Puts.{put_short}
 use Rattle.tg_law_drafts.proofs.Views.{ViewOk, version_small}
 use Rattle.tg_law_drafts.proofs.Drafting.{TxOk, open_ok, read_ok, put_ok, record_fits}
 use Rattle.tg_law_drafts.proofs.Sound.{MaybeView, MaybeTx, CommandOk, Few, Sound, HandOk, HandComes, OfRecord, Good, In, whole_draft, same_good, syncs_on, starts, reconf_task, copies_task}
@@ -124,7 +125,7 @@ module _ (m : Meaning) (c : Client m) (few : Few m c) (sound : Sound m c) where
         let d = past_first (wrong_kind m (m.allows o op) o) _ b.1 in
         let e = past_first (not_registered m c o) _ d.1 in
         let f = past_first (put_fault m c.tx (write_of m o op)) _ e.1 in
-        put_good o op c.tx refl lawful.0 (lawful.1 (passed (m.allows o op) _ d.0)) f.0
+        put_good o op c.tx refl lawful.0 (lawful.1 (passed (m.allows o op) _ d.0) (put_short m c o op fine)) f.0
     accepts_good (cmd.Ask o q) fine lawful =
         let a = past_first (busy m c.work) _ fine in
         let b = past_first (no_tx m c) _ a.1 in

@@ -120,7 +120,7 @@ spelled_is o op h =
 
 command_is : (x : CommandOf kinds) → lawful_command x ≡ true → LawfulCommand kinds x
 command_is (cmd.Host o) h = h
-command_is (cmd.Put o op) h = let b = and_both (is_object o) (implies (kinds.allows o op) (spelled o op)) h in (b.0, λ a. spelled_is o op (then_so (kinds.allows o op) (spelled o op) b.1 a))
+command_is (cmd.Put o op) h = let b = and_both (is_object o) (implies (kinds.allows o op) (spelled o op)) h in (b.0, λ a short. spelled_is o op (then_so (kinds.allows o op) (spelled o op) b.1 a))
 command_is (cmd.Ask o q) h = and_both (is_object o) (is_part (kinds.look q)) h
 command_is (cmd.Checkpoint o) h = h
 command_is (cmd.Forget o mark) h = let b = and_both (is_object o) (spelled directory (kinds.mark_op o mark)) h in (b.0, spelled_is directory (kinds.mark_op o mark) b.1)

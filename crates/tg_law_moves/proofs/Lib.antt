@@ -12,3 +12,4 @@ pub mod Clients
 pub mod Turns
 pub mod Seqrs
 pub mod Besides
+pub mod Puts

@@ -44,6 +44,7 @@ use Rattle.tg_protocol.specs.Answers as answer
 use Rattle.tg_protocol.specs.ClientSteps as step
 use Rattle.tg_protocol.specs.ClientSteps.{task_in, task_awaited, after_turn, met, goes_on, learns_for, start_walk, walks, takes_back, found_by, lends, knows, lo_for, sync_to, on_sync, stale, gives_up, given_up_if, starts_over, at_trim, walk_ended_by, walk_to, on_walk, knows_page, page_known, owns, tx_of, decided_for, append_ended, append_to, on_append, trim_to, on_trims, copy_to, on_copy, stands, reconf_to, on_reconf, task_feed, copies_again, task_again, on_newer, new_work, hosts_more, accepts, refused_or, ClientTurn, client_command, client_deliver, client_tick}
 use Rattle.tg_law_moves.proofs.Members.{Has}
+use Rattle.tg_law_moves.proofs.Puts.{put_short}
 use Rattle.tg_law_moves.proofs.Turns.{Begins, begins_walk, not_busy}
 use Rattle.tg_law_layouts.proofs.Phases.{end_stand}
 use Rattle.tg_law_history.specs.Logs.{state_below}
@@ -705,34 +706,34 @@ module _ (m : Meaning) (objects : List Oid) (es : Entries) where
       -- none of its tests refuses the command
       abbrev Passed : Client m → CommandOf m → Type 0
       Passed c (cmd.Host o) = m.registered c.dir o ≡ true
-      Passed c (cmd.Put o op) = (m.registered c.dir o ≡ true) × (m.allows o op ≡ true)
+      Passed c (cmd.Put o op) = (m.registered c.dir o ≡ true) × (m.allows o op ≡ true) × (length (m.spell op) ≤ 4096)
       Passed c (cmd.Checkpoint o) = Has c.hosted o
       Passed c x = Unit {0}
 
-      passes : (c : Client m) (x : CommandOf m) → first_some (tests m c x) ≡ None → Passed c x
+      passes : (c : Client m) (x : CommandOf m) → refusal m c x ≡ None → first_some (tests m c x) ≡ None → Passed c x
       unfolding tests
-      passes c (cmd.Host o) e = is_registered c o (first_none (not_registered m c o) (too_many_hosted m c o ∷ []) (first_none (tx_open m c) (not_registered m c o ∷ too_many_hosted m c o ∷ []) e).1).0
-      passes c (cmd.Put o op) e =
+      passes c (cmd.Host o) fine e = is_registered c o (first_none (not_registered m c o) (too_many_hosted m c o ∷ []) (first_none (tx_open m c) (not_registered m c o ∷ too_many_hosted m c o ∷ []) e).1).0
+      passes c (cmd.Put o op) fine e =
           let a = (first_none (no_tx m c) (wrong_kind m (m.allows o op) o ∷ not_registered m c o ∷ put_fault m c.tx (write_of m o op) ∷ []) e).1 in
           let b = (first_none (wrong_kind m (m.allows o op) o) (not_registered m c o ∷ put_fault m c.tx (write_of m o op) ∷ []) a).1 in
-          (is_registered c o (first_none (not_registered m c o) (put_fault m c.tx (write_of m o op) ∷ []) b).0, is_allowed o (m.allows o op) (first_none (wrong_kind m (m.allows o op) o) (not_registered m c o ∷ put_fault m c.tx (write_of m o op) ∷ []) a).0)
-      passes c (cmd.Checkpoint o) e = is_hosted c o (first_none (not_hosted m c o) [] (first_none (tx_open m c) (not_hosted m c o ∷ []) e).1).0
-      passes c cmd.Begin e = tt
-      passes c (cmd.Ask o q) e = tt
-      passes c cmd.End e = tt
-      passes c cmd.Drop e = tt
-      passes c (cmd.Fate p) e = tt
-      passes c (cmd.Decide p) e = tt
-      passes c (cmd.Forget o n) e = tt
-      passes c cmd.Trim e = tt
-      passes c (cmd.Reconf x) e = tt
-      passes c (cmd.Copy u r s) e = tt
-      passes c (cmd.AskAt p o q) e = tt
-      passes c (cmd.Rescue p) e = tt
+          (is_registered c o (first_none (not_registered m c o) (put_fault m c.tx (write_of m o op) ∷ []) b).0, is_allowed o (m.allows o op) (first_none (wrong_kind m (m.allows o op) o) (not_registered m c o ∷ put_fault m c.tx (write_of m o op) ∷ []) a).0, put_short m c o op fine)
+      passes c (cmd.Checkpoint o) fine e = is_hosted c o (first_none (not_hosted m c o) [] (first_none (tx_open m c) (not_hosted m c o ∷ []) e).1).0
+      passes c cmd.Begin fine e = tt
+      passes c (cmd.Ask o q) fine e = tt
+      passes c cmd.End fine e = tt
+      passes c cmd.Drop fine e = tt
+      passes c (cmd.Fate p) fine e = tt
+      passes c (cmd.Decide p) fine e = tt
+      passes c (cmd.Forget o n) fine e = tt
+      passes c cmd.Trim fine e = tt
+      passes c (cmd.Reconf x) fine e = tt
+      passes c (cmd.Copy u r s) fine e = tt
+      passes c (cmd.AskAt p o q) fine e = tt
+      passes c (cmd.Rescue p) fine e = tt
 
       passed : (c : Client m) (x : CommandOf m) → refusal m c x ≡ None → Passed c x
       unfolding refusal
-      passed c x e = passes c x (first_none (busy m c.work) (tests m c x) e).1
+      passed c x e = passes c x e (first_none (busy m c.work) (tests m c x) e).1
 
       -- a client whose directory is the log's where it has played
       abbrev pub SeesDir : Client m → Type 0
@@ -753,7 +754,7 @@ module _ (m : Meaning) (objects : List Oid) (es : Entries) where
           by x (inl e) = subst (λ (y : Oid). Grounded c.stand y) (sym e) (registered_ground c o sees h is)
           by x (inr i) = h.hosted x i
 
-      put_in : (c : Client m) (o : Oid) (op : m.op) (t : Option Tx) → c.tx ≡ t → SeesDir c → Rooted c → c.work ≡ None → (m.registered c.dir o ≡ true) × (m.allows o op ≡ true) → IsSpelled m o op → Good (step.puts m c o op t)
+      put_in : (c : Client m) (o : Oid) (op : m.op) (t : Option Tx) → c.tx ≡ t → SeesDir c → Rooted c → c.work ≡ None → (m.registered c.dir o ≡ true) × (m.allows o op ≡ true) × (length (m.spell op) ≤ 4096) → IsSpelled m o op → Good (step.puts m c o op t)
       put_in c o op None is sees h idle known spelled = no_work c idle h
       put_in c o op (Some t) is sees h idle known spelled =
           no_work (record c { tx = Some (tx_put t (write_of m o op)) }) idle (record { played = h.played; hosted = h.hosted; view = h.view; writes = λ u e x i. by u x (more t.writes x (subst (λ (z : Tx). Has (map write_oid z.writes) x) (sym (same_some (tx_put t (write_of m o op)) u e)) i)); puts = λ u e y i. put y (last t.writes y (subst (λ (z : Tx). Has z.writes y) (sym (same_some (tx_put t (write_of m o op)) u e)) i)) })
@@ -835,7 +836,7 @@ module _ (m : Meaning) (objects : List Oid) (es : Entries) where
       accepts_in c cmd.Begin lawful sees h idle k =
           no_work (record c { begun = c.begun + 1; tx = Some (open_tx (c.begun + 1)) }) idle
           (record { played = h.0.played; hosted = h.0.hosted; view = h.0.view; writes = λ t e o i. absurd (subst (λ (z : Tx). Has (map write_oid z.writes) o) (sym (same_some (open_tx (c.begun + 1)) t e)) i); puts = λ t e y i. absurd (subst (λ (z : Tx). Has z.writes y) (sym (same_some (open_tx (c.begun + 1)) t e)) i) })
-      accepts_in c (cmd.Put o op) lawful sees h idle k = put_in c o op c.tx refl sees h.0 idle k (lawful.1 k.1)
+      accepts_in c (cmd.Put o op) lawful sees h idle k = put_in c o op c.tx refl sees h.0 idle k (lawful.1 k.1 k.2)
       accepts_in c (cmd.Ask o q) lawful sees h idle k = ask_in' c o q c.tx lawful refl h.0 idle
       accepts_in c cmd.End lawful sees h idle k = end_in c c.tx refl h.0 idle
       accepts_in c cmd.Drop lawful sees h idle k = no_work (closed m c) idle (shut c h.0)

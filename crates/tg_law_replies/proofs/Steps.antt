@@ -39,6 +39,7 @@ use Rattle.tg_law_replies.proofs.Upkeep.{syncs_right}
 use Rattle.tg_law_replies.proofs.Turns.{LandsBy, feed_right, reconf_right, copies_right, still}
 use Rattle.tg_protocol.specs.Runs.{LawfulCommand}
 use Rattle.tg_protocol.specs.Holding.{append_by}
+use Rattle.tg_law_moves.proofs.Puts.{put_short}
 use Rattle.tg_law_moves.proofs.Turns.{not_busy}
 
 -- an element of a list where one was set
@@ -90,7 +91,7 @@ module _ (m : Meaning) where
 
   spelled_unless : (c : Client m) (x : CommandOf m) → LawfulCommand m x → refusal m c x ≡ None → IsSpelled x
   unfolding refusal tests
-  spelled_unless c (cmd.Put o op) lawful fine = (lawful.1 (no_cause (m.allows o op) (cause.WrongKind o) _ (past_first (no_tx m c) _ (past_first (busy m c.work) _ fine)))).read
+  spelled_unless c (cmd.Put o op) lawful fine = (lawful.1 (no_cause (m.allows o op) (cause.WrongKind o) _ (past_first (no_tx m c) _ (past_first (busy m c.work) _ fine))) (put_short m c o op fine)).read
   spelled_unless c x lawful fine = tt
 
   -- how a delivery ends the append of the client that it comes to

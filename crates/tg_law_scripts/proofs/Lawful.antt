@@ -1,4 +1,4 @@
--- A line that keeps the grammar, whose ops are short, is of lawful events.
+-- A line that keeps the grammar is of lawful events.
 use Rattle.std.proofs.Common.{◌≡◌, ℕ, ◌<◌, ◌≤◌, ◌^◌, Option, Bool, true, false, List, [], ◌∷◌, length, Some, None, refl, sym, ap, ◌∙◌, subst, arith, ltb, leb}
 use Rattle.std.specs.Prelude.{◌&&◌, nat_lt, nat_le, Ok, if◌then◌else◌}
 use Rattle.std.specs.List.{list_all}
@@ -59,7 +59,6 @@ use Rattle.tg_script.specs.declared.line.Line.TheVariants as line
 use Rattle.tg_script.proofs.Bytes.{all_weaker}
 use Rattle.tg_script.proofs.Changes.{few_units, change_lawful}
 use Rattle.tg_script.proofs.Clusters.{chains_are}
-use Rattle.tg_law_scripts.specs.Scripts.{IsShort}
 
 -- Objects, and ops that are spelled.
 
@@ -107,10 +106,10 @@ within low high n a b = grind (arith, nat_tests)
 op_spelled : (o : Oid) (op : AnyOp) → any.is_op op ≡ true → any.is_of o op ≡ true → length (any.spelled op) ≤ 4096 → IsSpelled all_kinds o op
 op_spelled o op is of short = record { read = reads_back o op is of; fits = within 1 4096 (length (any.spelled op)) (spelled_some op is) short }
 
-put_lawful : (o : Oid) (op : AnyOp) → (is_named o && (op_fits op && is_put op)) ≡ true → length (all_kinds.spell op) ≤ 4096 → LawfulCommand all_kinds (cmd.Put o op)
-put_lawful o op e short =
+put_lawful : (o : Oid) (op : AnyOp) → (is_named o && (op_fits op && is_put op)) ≡ true → LawfulCommand all_kinds (cmd.Put o op)
+put_lawful o op e =
     let is = op_is op (and-left (op_fits op) (is_put op) (and-right (is_named o) _ e)) in
-    (named_object o (and-left (is_named o) _ e), λ allowed. op_spelled o op is (allowed_is o op allowed) short)
+    (named_object o (and-left (is_named o) _ e), λ allowed short. op_spelled o op is (allowed_is o op allowed) short)
 
 mark_op_is : (o : Oid) (n : ℕ) → is_number o ≡ true → ltb n (2 ^ 64) ≡ true → any.is_op (any.marking o n) ≡ true
 unfolding any.is_op directories.op_format
@@ -177,27 +176,23 @@ reconf_lawful h header c e =
 
 -- Commands and lines.
 
-abbrev pub ShortPut : Command AnyOp AnyAsk → Type 0
-ShortPut (cmd.Put o op) = length (all_kinds.spell op) ≤ 4096
-ShortPut x = Unit {0}
-
-command_lawful : (h : Header) → IsHeader h → (x : Command AnyOp AnyAsk) → command_fits h x ≡ true → ShortPut x → LawfulCommand all_kinds x
-command_lawful h header (cmd.Host o) e s = named_object o e
-command_lawful h header cmd.Begin e s = tt
-command_lawful h header (cmd.Put o op) e s = put_lawful o op e s
-command_lawful h header (cmd.Ask o q) e s = (named_object o (and-left (is_named o) (ask_fits q) e), looks_part q (and-right (is_named o) (ask_fits q) e))
-command_lawful h header cmd.End e s = tt
-command_lawful h header cmd.Drop e s = tt
-command_lawful h header (cmd.Fate at) e s = tt
-command_lawful h header (cmd.Decide at) e s = tt
-command_lawful h header (cmd.Checkpoint o) e s = named_object o e
-command_lawful h header (cmd.Forget o n) e s =
+command_lawful : (h : Header) → IsHeader h → (x : Command AnyOp AnyAsk) → command_fits h x ≡ true → LawfulCommand all_kinds x
+command_lawful h header (cmd.Host o) e = named_object o e
+command_lawful h header cmd.Begin e = tt
+command_lawful h header (cmd.Put o op) e = put_lawful o op e
+command_lawful h header (cmd.Ask o q) e = (named_object o (and-left (is_named o) (ask_fits q) e), looks_part q (and-right (is_named o) (ask_fits q) e))
+command_lawful h header cmd.End e = tt
+command_lawful h header cmd.Drop e = tt
+command_lawful h header (cmd.Fate at) e = tt
+command_lawful h header (cmd.Decide at) e = tt
+command_lawful h header (cmd.Checkpoint o) e = named_object o e
+command_lawful h header (cmd.Forget o n) e =
     let f = and-right (is_named o) (nat_lt n (2 ^ 64) && nat_le 1 n) e in forget_lawful o n (and-left (is_named o) _ e) (and-left (nat_lt n (2 ^ 64)) (nat_le 1 n) f)
-command_lawful h header cmd.Trim e s = tt
-command_lawful h header (cmd.Reconf c) e s = reconf_lawful h header c e
-command_lawful h header (cmd.Copy u r t) e s = tt
-command_lawful h header (cmd.AskAt at o q) e s = named_object o (and-left (is_named o) (ask_fits q) (and-right (nat_lt at (2 ^ 64)) (is_named o && ask_fits q) e))
-command_lawful h header (cmd.Rescue at) e s = tt
+command_lawful h header cmd.Trim e = tt
+command_lawful h header (cmd.Reconf c) e = reconf_lawful h header c e
+command_lawful h header (cmd.Copy u r t) e = tt
+command_lawful h header (cmd.AskAt at o q) e = named_object o (and-left (is_named o) (ask_fits q) (and-right (nat_lt at (2 ^ 64)) (is_named o && ask_fits q) e))
+command_lawful h header (cmd.Rescue at) e = tt
 
 count_same : (h : Header) (r : Role) → count_of h r ≡ declared_of h r
 count_same h role.Unit = refl
@@ -212,19 +207,13 @@ node_declared : (h : Header) (n : NodeId) → is_declared h n ≡ true → IsDec
 node_declared h n e = subst (λ (k : ℕ). n.num < k) (count_same h n.role) (below_of n.num (count_of h n.role) e)
 
 -- an event that is a line
-pub event_lawful : (h : Header) → IsHeader h → (e : EventOf all_kinds) → line_fits h (line.Event e) ≡ true → IsShort (line.Event e) → LawfulEvent all_kinds h e
-event_lawful h header (event.Command k x) f s =
-    (below_of k h.clients (and-left (ltb k h.clients) (command_fits h x) f), command_lawful h header x (and-right (ltb k h.clients) (command_fits h x) f) (short_put k x s))
-  where
-    short_put : (k : ℕ) (x : Command AnyOp AnyAsk) → IsShort (line.Event (event.Command k x)) → ShortPut x
-    short_put k (cmd.Put o op) s = s
-    short_put k (cmd.Host o) s = tt
-    short_put k x s = tt
-event_lawful h header (event.Deliver i) f s = tt
-event_lawful h header (event.Lose i) f s = tt
-event_lawful h header (event.Tick n) f s = node_declared h n f
-event_lawful h header (event.Stop n) f s = node_declared h n f
+pub event_lawful : (h : Header) → IsHeader h → (e : EventOf all_kinds) → line_fits h (line.Event e) ≡ true → LawfulEvent all_kinds h e
+event_lawful h header (event.Command k x) f = (below_of k h.clients (and-left (ltb k h.clients) (command_fits h x) f), command_lawful h header x (and-right (ltb k h.clients) (command_fits h x) f))
+event_lawful h header (event.Deliver i) f = tt
+event_lawful h header (event.Lose i) f = tt
+event_lawful h header (event.Tick n) f = node_declared h n f
+event_lawful h header (event.Stop n) f = node_declared h n f
 
 -- and the put of an update
-pub update_lawful : (h : Header) (k : ℕ) (o : Oid) (op : AnyOp) → line_fits h (line.Update k o op) ≡ true → IsShort (line.Update k o op) → IsDeclared h (client_id k) × LawfulCommand all_kinds (cmd.Put o op)
-update_lawful h k o op f s = (below_of k h.clients (and-left (ltb k h.clients) _ f), put_lawful o op (and-right (ltb k h.clients) _ f) s)
+pub update_lawful : (h : Header) (k : ℕ) (o : Oid) (op : AnyOp) → line_fits h (line.Update k o op) ≡ true → IsDeclared h (client_id k) × LawfulCommand all_kinds (cmd.Put o op)
+update_lawful h k o op f = (below_of k h.clients (and-left (ltb k h.clients) _ f), put_lawful o op (and-right (ltb k h.clients) _ f))

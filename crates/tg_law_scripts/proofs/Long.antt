@@ -1,4 +1,4 @@
--- A script may put an op for which no record has room, and no lawful command does.
+-- A script may put an op for which no record has room.
 use Rattle.std.proofs.Common.{◌≡◌, ℕ, zero, suc, ◌+◌, ◌<◌, ◌≤◌, true, List, [], ◌∷◌, ◌++◌, length, Some, refl, sym, ◌∙◌, subst, arith}
 use Rattle.std.specs.Prelude.{◌&&◌, replicate, slice_get}
 use Rattle.std.specs.List.{list_all}
@@ -6,7 +6,6 @@ use Rattle.std.specs.Fmt.{digits}
 use Rattle.std.specs.Int.{w16, to_be_bytes}
 use Rattle.std.proofs.lemmas.List.{length-append, length-replicate}
 use Rattle.std.proofs.lemmas.Bool.Decides.{nat_tests}
-use Rattle.tg_base.specs.Units.{is_within}
 use Rattle.tg_codec.proofs.Laws.{both}
 use Rattle.tg_kind.specs.Texts.{IsText, text_format, is_letter, fits_letters}
 use Rattle.tg_map.specs.Maps as maps
@@ -21,7 +20,7 @@ use Rattle.tg_script.specs.Lines.{line_fits}
 use Rattle.tg_script.specs.declared.line.Line.{Line}
 use Rattle.tg_script.specs.declared.line.Line.TheVariants as line
 use Rattle.tg_replay.specs.Runs.{IsLine, IsScript, MayCome, front, world_of, line_text}
-use Rattle.tg_law_scripts.specs.Long.{a_map, cluster, letters, long_put, puts_long}
+use Rattle.tg_law_scripts.specs.Long.{a_map, cluster, letters, long_op, long_put, puts_long}
 
 abbrev put_of : List ℕ → Line
 put_of s = line.Event (event.Command 0 (cmd.Put a_map (ops.Map (Set s s))))
@@ -66,8 +65,11 @@ long_script = record {
   comes = λ k l e. first_of_one (λ (x : Line). MayCome (world_of (front k puts_long)) x) (put_of letters) tt k l e;
 }
 
-above : (n : ℕ) → 4096 < n → is_within 1 4096 n ≡ true → ⊥
-above n more e = grind (arith, nat_tests)
+pub op_is_long : 4096 < length (all_kinds.spell long_op)
+op_is_long = op_long letters four_thousand
 
-pub long_unlawful : LawfulCommand all_kinds long_put → ⊥
-long_unlawful h = above _ (op_long letters four_thousand) (h.1 refl).fits
+not_both : (n : ℕ) → 4096 < n → n ≤ 4096 → ⊥
+not_both n more few = omega (arith, more, few)
+
+pub long_lawful : LawfulCommand all_kinds long_put
+long_lawful = (refl, λ allowed short. absurd (not_both _ op_is_long short))

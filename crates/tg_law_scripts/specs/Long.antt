@@ -23,8 +23,11 @@ abbrev pub letters : List ℕ
 letters = replicate 4000 97
 
 -- the map is to have a key and a value of 4,000 letters each
+abbrev pub long_op : AnyOp
+long_op = ops.Map (Set letters letters)
+
 abbrev pub long_put : Command AnyOp AnyAsk
-long_put = cmd.Put a_map (ops.Map (Set letters letters))
+long_put = cmd.Put a_map long_op
 
 abbrev pub puts_long : Script
 puts_long = record { header = cluster; events = line.Event (event.Command 0 long_put) ∷ [] }

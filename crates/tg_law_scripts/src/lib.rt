@@ -3,4 +3,4 @@
 
 mod laws;
 
-pub use laws::{scripts_put_long_ops, short_scripts_reach};
+pub use laws::{scripts_put_long_ops, scripts_reach};

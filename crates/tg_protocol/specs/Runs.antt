@@ -32,8 +32,8 @@ most_steps = 119 * 200000
 
 module _ (m : Meaning) where
   -- Lawful events: their nodes are declared, and they name objects by numbers that a page has room for. An op that its
-  -- object allows has a spelling, and so has the directory's op that marks an object; what an ask looks at has one too,
-  -- and a change keeps the rules of layouts.
+  -- object allows and a page has room for (a put of a longer one is refused) has a spelling, and so has the directory's op
+  -- that marks an object; what an ask looks at has one too, and a change keeps the rules of layouts.
 
   -- an op's bytes, 1 to 4,096 of them, are read back as the op
   pub record IsSpelled (o : Oid) (op : m.op) : Type 0 where
@@ -42,7 +42,7 @@ module _ (m : Meaning) where
 
   abbrev pub LawfulCommand : CommandOf m → Type 0
   LawfulCommand (cmd.Host o) = is_object o ≡ true
-  LawfulCommand (cmd.Put o op) = (is_object o ≡ true) × (m.allows o op ≡ true → IsSpelled o op)
+  LawfulCommand (cmd.Put o op) = (is_object o ≡ true) × (m.allows o op ≡ true → length (m.spell op) ≤ 4096 → IsSpelled o op)
   LawfulCommand (cmd.Ask o q) = (is_object o ≡ true) × (is_part (m.look q) ≡ true)
   LawfulCommand (cmd.Checkpoint o) = is_object o ≡ true
   LawfulCommand (cmd.Forget o mark) = (is_object o ≡ true) × IsSpelled directory (m.mark_op o mark)
