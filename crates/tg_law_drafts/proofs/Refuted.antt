@@ -88,7 +88,7 @@ lawful_none x g = absurd g
 lawful_commit : LawfulFar (Takes (Commands 0 cmd.Begin) ∷ Takes (Commands 0 (cmd.Put directory 1)) ∷ Takes (Commands 0 cmd.End) ∷ [])
 unfolding LawfulFar
 lawful_commit x (inl e) = is_lawful x _ e (omega arith, tt)
-lawful_commit x (inr (inl e)) = is_lawful x _ e (omega arith, (refl, λ allowed. record { read = refl; fits = refl }))
+lawful_commit x (inr (inl e)) = is_lawful x _ e (omega arith, (refl, λ allowed short. record { read = refl; fits = refl }))
 lawful_commit x (inr (inr (inl e))) = is_lawful x _ e (omega arith, tt)
 lawful_commit x (inr (inr (inr i))) = absurd i
 

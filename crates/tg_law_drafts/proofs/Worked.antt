@@ -44,7 +44,7 @@ use Rattle.tg_law_drafts.specs.Worked.{committed_again, WorkedLinks}
 lawful_commit : LawfulAll (Takes (Commands 0 cmd.Begin) ∷ Takes (Commands 0 (cmd.Put directory 1)) ∷ Takes (Commands 0 cmd.End) ∷ [])
 unfolding LawfulAll
 lawful_commit x (inl e) = is_lawful x _ e (omega arith, tt)
-lawful_commit x (inr (inl e)) = is_lawful x _ e (omega arith, (refl, λ allowed. record { read = refl; fits = refl }))
+lawful_commit x (inr (inl e)) = is_lawful x _ e (omega arith, (refl, λ allowed short. record { read = refl; fits = refl }))
 lawful_commit x (inr (inr (inl e))) = is_lawful x _ e (omega arith, tt)
 lawful_commit x (inr (inr (inr i))) = absurd i
 

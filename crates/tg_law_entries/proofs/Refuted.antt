@@ -57,7 +57,7 @@ use Rattle.tg_law_entries.proofs.Worked.{LawfulAll, lawful_both, is_lawful, lawf
 lawful_put : (k n : ℕ) → k < 3 → LawfulAll (Takes (Commands k cmd.Begin) ∷ Takes (Commands k (cmd.Put directory n)) ∷ Takes (Commands k cmd.End) ∷ [])
 unfolding LawfulAll
 lawful_put k n l x (inl e) = is_lawful x _ e (l, tt)
-lawful_put k n l x (inr (inl e)) = is_lawful x _ e (l, (refl, λ allowed. record { read = refl; fits = refl }))
+lawful_put k n l x (inr (inl e)) = is_lawful x _ e (l, (refl, λ allowed short. record { read = refl; fits = refl }))
 lawful_put k n l x (inr (inr (inl e))) = is_lawful x _ e (l, tt)
 lawful_put k n l x (inr (inr (inr i))) = absurd i
 

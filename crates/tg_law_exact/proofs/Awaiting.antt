@@ -98,7 +98,7 @@ computed = record { told = refl; few = refl; is_walk = refl }
 lawful_added : LawfulAll added
 unfolding LawfulAll
 lawful_added x (inl e) = is_lawful x _ e (omega arith, tt)
-lawful_added x (inr (inl e)) = is_lawful x _ e (omega arith, (refl, λ allowed. record { read = refl; fits = refl }))
+lawful_added x (inr (inl e)) = is_lawful x _ e (omega arith, (refl, λ allowed short. record { read = refl; fits = refl }))
 lawful_added x (inr (inr (inl e))) = is_lawful x _ e (omega arith, tt)
 lawful_added x (inr (inr (inr i))) = absurd i
 

@@ -91,7 +91,7 @@ are_lawful = (
   (
     (omega arith, tt),
     (
-      (omega arith, (refl, λ a. record { read = refl; fits = refl })),
+      (omega arith, (refl, λ a short. record { read = refl; fits = refl })),
       (
         (omega arith, tt),
         (
@@ -99,7 +99,7 @@ are_lawful = (
           (
             (omega arith, tt),
             (
-              (omega arith, (refl, λ a. record { read = refl; fits = refl })),
+              (omega arith, (refl, λ a short. record { read = refl; fits = refl })),
               (
                 (omega arith, tt),
                 (tt, (tt, (tt, (tt, (tt, (tt, (tt, (tt, (tt, (tt, (tt, (tt, (tt, (tt, (tt, (tt, tt)))))))))))))))),

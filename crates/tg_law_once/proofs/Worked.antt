@@ -47,7 +47,7 @@ use Rattle.tg_law_once.proofs.Once.{entries_stand_once}
 lawful_lost : LawfulAll page_lost
 unfolding LawfulAll
 lawful_lost x (inl e) = is_lawful x _ e (omega arith, tt)
-lawful_lost x (inr (inl e)) = is_lawful x _ e (omega arith, (refl, λ allowed. record { read = refl; fits = refl }))
+lawful_lost x (inr (inl e)) = is_lawful x _ e (omega arith, (refl, λ allowed short. record { read = refl; fits = refl }))
 lawful_lost x (inr (inr (inl e))) = is_lawful x _ e (omega arith, tt)
 lawful_lost x (inr (inr (inr (inl e)))) = is_lawful x _ e tt
 lawful_lost x (inr (inr (inr (inr (inl e))))) = is_lawful x _ e tt

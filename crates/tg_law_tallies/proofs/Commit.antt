@@ -266,7 +266,7 @@ reached = record {
   where
     lawful : (x : Move tallies) → Has adds x → LawfulMove tallies with_tally x
     lawful x (inl e) = subst (λ (y : Move tallies). LawfulMove tallies with_tally y) (sym e) (omega arith, tt)
-    lawful x (inr (inl e)) = subst (λ (y : Move tallies). LawfulMove tallies with_tally y) (sym e) (omega arith, (refl, λ allowed. record { read = refl; fits = refl }))
+    lawful x (inr (inl e)) = subst (λ (y : Move tallies). LawfulMove tallies with_tally y) (sym e) (omega arith, (refl, λ allowed short. record { read = refl; fits = refl }))
     lawful x (inr (inr (inl e))) = subst (λ (y : Move tallies). LawfulMove tallies with_tally y) (sym e) (omega arith, tt)
     lawful x (inr (inr (inr (inl e)))) = subst (λ (y : Move tallies). LawfulMove tallies with_tally y) (sym e) tt
     lawful x (inr (inr (inr (inr (inl e))))) = subst (λ (y : Move tallies). LawfulMove tallies with_tally y) (sym e) tt

@@ -75,7 +75,7 @@ append_reached = record {
   where
     lawful : (x : Move tallies) → Has append_lost x → LawfulMove tallies with_tally x
     lawful x (inl e) = subst (λ (y : Move tallies). LawfulMove tallies with_tally y) (sym e) (omega arith, tt)
-    lawful x (inr (inl e)) = subst (λ (y : Move tallies). LawfulMove tallies with_tally y) (sym e) (omega arith, (refl, λ allowed. record { read = refl; fits = refl }))
+    lawful x (inr (inl e)) = subst (λ (y : Move tallies). LawfulMove tallies with_tally y) (sym e) (omega arith, (refl, λ allowed short. record { read = refl; fits = refl }))
     lawful x (inr (inr (inl e))) = subst (λ (y : Move tallies). LawfulMove tallies with_tally y) (sym e) (omega arith, tt)
     lawful x (inr (inr (inr (inl e)))) = subst (λ (y : Move tallies). LawfulMove tallies with_tally y) (sym e) tt
     lawful x (inr (inr (inr (inr i)))) = absurd i
@@ -147,7 +147,7 @@ ask_reached = record {
   where
     lawful : (x : Move tallies) → Has ask_lost x → LawfulMove tallies with_tally x
     lawful x (inl e) = subst (λ (y : Move tallies). LawfulMove tallies with_tally y) (sym e) (omega arith, tt)
-    lawful x (inr (inl e)) = subst (λ (y : Move tallies). LawfulMove tallies with_tally y) (sym e) (omega arith, (refl, λ allowed. record { read = refl; fits = refl }))
+    lawful x (inr (inl e)) = subst (λ (y : Move tallies). LawfulMove tallies with_tally y) (sym e) (omega arith, (refl, λ allowed short. record { read = refl; fits = refl }))
     lawful x (inr (inr (inl e))) = subst (λ (y : Move tallies). LawfulMove tallies with_tally y) (sym e) (omega arith, tt)
     lawful x (inr (inr (inr (inl e)))) = subst (λ (y : Move tallies). LawfulMove tallies with_tally y) (sym e) tt
     lawful x (inr (inr (inr (inr (inl e))))) = subst (λ (y : Move tallies). LawfulMove tallies with_tally y) (sym e) tt

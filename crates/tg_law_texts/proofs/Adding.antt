@@ -215,7 +215,7 @@ lawful_moves x (k, less, e) = by k less e
     by : (k : ℕ) → k < 9 → slice_index_or moves k x ≡ x → LawfulMove all_kinds cluster x
     by zero less e = subst (LawfulMove all_kinds cluster) e tt
     by (suc zero) less e = subst (LawfulMove all_kinds cluster) e (omega arith, tt)
-    by (suc (suc zero)) less e = subst (LawfulMove all_kinds cluster) e (omega arith, (refl, λ allowed. record { read = refl; fits = refl }))
+    by (suc (suc zero)) less e = subst (LawfulMove all_kinds cluster) e (omega arith, (refl, λ allowed short. record { read = refl; fits = refl }))
     by (suc (suc (suc zero))) less e = subst (LawfulMove all_kinds cluster) e (omega arith, tt)
     by (suc (suc (suc (suc zero)))) less e = subst (LawfulMove all_kinds cluster) e tt
     by (suc (suc (suc (suc (suc zero))))) less e = subst (LawfulMove all_kinds cluster) e tt

@@ -318,7 +318,7 @@ is_lawful (y ∷ xs) h x (suc k) less e = is_lawful xs h.1 x k (omega (arith, le
 
 are_lawful : AreLawful moves
 unfolding u8_at u16_at u32_at u64_at raw_at fixed_at read_many spell_many fit_many marks reads writes keys new_fields old_fields body entry node_eq bytes_eq bytes_lt part_lt cell_eq chain_of units_of new_unit unit_ask first_missing on_ask unit_step new_layout reply work_asks put_cell work_feed cell_feed entry_size needs_decision page_of entry_of new_seqr seqr_step append_work_asks append_start append_feed verdict read_fault write_fault commit_record new_client entries_at tests refusal appends task_asks client_asks task_feed accepts client_command client_deliver fields_size decided newest log_of entries_of changes_below outcome history_of start latest log history unit_moves seqr_moves client_turned happens limit_of drain_on drain run lines_on first spelled read touched
-are_lawful = (tt, ((omega arith, tt), ((omega arith, (refl, λ allowed. record { read = refl; fits = refl })), ((omega arith, tt), (tt, (tt, (tt, (tt, (tt, (tt, (tt, (tt, tt))))))))))))
+are_lawful = (tt, ((omega arith, tt), ((omega arith, (refl, λ allowed short. record { read = refl; fits = refl })), ((omega arith, tt), (tt, (tt, (tt, (tt, (tt, (tt, (tt, (tt, tt))))))))))))
 
 seven_steps : x7.steps ≡ 7
 unfolding u8_at u16_at u32_at u64_at raw_at fixed_at read_many spell_many fit_many marks reads writes keys new_fields old_fields body entry node_eq bytes_eq bytes_lt part_lt cell_eq chain_of units_of new_unit unit_ask first_missing on_ask unit_step new_layout reply work_asks put_cell work_feed cell_feed entry_size needs_decision page_of entry_of new_seqr seqr_step append_work_asks append_start append_feed verdict read_fault write_fault commit_record new_client entries_at tests refusal appends task_asks client_asks task_feed accepts client_command client_deliver fields_size decided newest log_of entries_of changes_below outcome history_of start latest log history unit_moves seqr_moves client_turned happens limit_of drain_on drain run lines_on first spelled read touched
