@@ -1,5 +1,5 @@
 -- What a client hears, in a world through which a run comes: the lists that are told with a tail, and trims that its walks meet.
-use Rattle.std.proofs.Common.{◌≡◌, ℕ, ◌-◌, ◌<◌, List, ◌++◌, true, refl, sym, ap, ◌∙◌, subst, arith, Some, Option}
+use Rattle.std.proofs.Common.{◌≡◌, ℕ, ◌<◌, List, ◌++◌, true, refl, sym, ap, ◌∙◌, subst, arith, Some, Option}
 use Rattle.tg_base.specs.Clusters.{Header}
 use Rattle.tg_base.specs.Layouts.{Layout}
 use Rattle.tg_base.specs.declared.ids.Oid.{Oid}

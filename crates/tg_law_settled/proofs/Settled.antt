@@ -1,5 +1,5 @@
 -- Over a run, what each client's walks have settled, and what its kept view rests on; so walks settle the streams that they walk.
-use Rattle.std.proofs.Common.{◌≡◌, ℕ, ◌+◌, ◌<◌, ◌≤◌, List, [], ◌∷◌, ◌++◌, length, true, refl, sym, ◌∙◌, subst, inl, arith, Some, None, append-nil}
+use Rattle.std.proofs.Common.{◌≡◌, ℕ, ◌<◌, ◌≤◌, List, [], ◌∷◌, ◌++◌, length, true, refl, sym, ◌∙◌, subst, inl, arith, Some, None, append-nil}
 use Rattle.std.specs.Prelude.{slice_index_or, Contains}
 use Rattle.tg_base.specs.Clusters.{Header}
 use Rattle.tg_base.specs.Layouts.{Layout}
@@ -22,7 +22,7 @@ use Rattle.tg_protocol.specs.Logs.{Log, entries_of}
 use Rattle.tg_protocol.specs.Clients.{Syncing, Walking, Appending, Trimming, Copying', Reconfiguring, Doing, Work, Client, new_client}
 use Rattle.tg_protocol.specs.Answers.{play_target}
 use Rattle.tg_protocol.specs.ClientSteps.{ClientTurn, task_awaited}
-use Rattle.tg_protocol.specs.Worlds.{World, start, client, log, happens, next_event}
+use Rattle.tg_protocol.specs.Worlds.{World, start, log, happens, next_event}
 use Rattle.tg_protocol.specs.Runs.{Moves, Next as Counts, Takes, run, Reaches}
 use Rattle.tg_law_moves.specs.After.{after}
 use Rattle.tg_law_moves.specs.Configs.{Config, config, client_in}
