@@ -1,5 +1,5 @@
 -- Over a run: each decision record that a client has in hand was begun for a commit record that was settled by then.
-use Rattle.std.proofs.Common.{◌≡◌, ℕ, ◌+◌, ◌<◌, Bool, List, [], ◌∷◌, ◌++◌, length, true, refl, sym, ap, ◌∙◌, subst, arith, Option, Some, None, append-nil}
+use Rattle.std.proofs.Common.{◌≡◌, ℕ, ◌<◌, Bool, List, [], ◌∷◌, ◌++◌, length, true, refl, sym, ap, ◌∙◌, subst, arith, Option, Some, None, append-nil}
 use Rattle.std.specs.Prelude.{slice_index_or}
 use Rattle.tg_base.specs.Clusters.{Header}
 use Rattle.tg_base.specs.declared.cell.Cell.{Cell}
@@ -17,9 +17,8 @@ use Rattle.tg_protocol.specs.LayoutServers.{layout_step}
 use Rattle.tg_protocol.specs.Appending.{Append, append_feed, append_again}
 use Rattle.tg_protocol.specs.Entries.{is_commit}
 use Rattle.tg_protocol.specs.Pages.{entry_of, cell_entry}
-use Rattle.tg_protocol.specs.Past.{commit_at}
 use Rattle.tg_protocol.specs.Replies.{reply}
-use Rattle.tg_protocol.specs.Clients.{Purpose, Task, Syncing, Walking, Appending, Trimming, Copying', Reconfiguring, Work, Client, new_client, all_entries, member_positions, below}
+use Rattle.tg_protocol.specs.Clients.{Task, Syncing, Walking, Appending, Trimming, Copying', Reconfiguring, Work, Client, new_client, all_entries, member_positions, below}
 use Rattle.tg_protocol.specs.ClientSteps.{ClientTurn, task_in}
 use Rattle.tg_protocol.specs.Runs.{Move, Moves, Next as Counts, Takes, LawfulCommand, Reaches, run}
 use Rattle.tg_protocol.specs.Worlds.{World, start, client, happens}
@@ -39,7 +38,7 @@ use Rattle.tg_law_lists.specs.Drafted.{DraftsFit}
 use Rattle.tg_law_lists.specs.Spared.{TrimsWereSpare}
 use Rattle.tg_law_lists.proofs.Fits.{drafts_fit}
 use Rattle.tg_law_lists.proofs.Safe.{safe_before}
-use Rattle.tg_law_drafts.proofs.Became.{Holds, NextIs, Became, Fresh, Same, Fed, Again, became, no_some}
+use Rattle.tg_law_drafts.proofs.Became.{Holds, Became, Fresh, Same, Fed, Again, became, no_some}
 use Rattle.tg_law_drafts.proofs.Clients.{State, few_in}
 use Rattle.tg_law_drafts.proofs.Sound.{Kind, OfRecord, OfDecision, OfCheckpoint}
 use Rattle.tg_law_drafts.proofs.Written.{next_draft, state_at, short_at, then_next, then_takes, give_right, regroup}

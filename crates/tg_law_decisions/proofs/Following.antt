@@ -1,5 +1,5 @@
 -- A decision record stands above the commit record that it decides, in each of that record's streams.
-use Rattle.std.proofs.Common.{◌≡◌, ℕ, ◌<◌, List, [], ◌∷◌, ◌++◌, map, Bool, true, false, ◌||◌, refl, sym, ap, ◌∙◌, subst, arith, Option, Some, None}
+use Rattle.std.proofs.Common.{◌≡◌, ℕ, ◌<◌, List, [], ◌∷◌, ◌++◌, map, Bool, true, ◌||◌, refl, sym, ap, ◌∙◌, subst, arith, Option, Some}
 use Rattle.std.specs.List.{list_any}
 use Rattle.tg_base.specs.Clusters.{Header}
 use Rattle.tg_base.specs.Orders.{oid_eq}
@@ -12,18 +12,15 @@ use Rattle.tg_entry.specs.declared.entry.Body.TheVariants.{Decision}
 use Rattle.tg_entry.specs.declared.entry.Entry.{Entry}
 use Rattle.tg_kind.specs.Meaning.{Meaning}
 use Rattle.tg_protocol.specs.Alike.{HasEntry}
-use Rattle.tg_protocol.specs.Appending.{Append}
 use Rattle.tg_protocol.specs.Entries.{oid_of_link, streams_of, lists}
 use Rattle.tg_protocol.specs.Holding.{append_by, WasBegun}
 use Rattle.tg_protocol.specs.Logs.{entries_of, entry_at}
 use Rattle.tg_protocol.specs.Pages.{cell_entry}
 use Rattle.tg_protocol.specs.Runs.{Moves, Reaches}
-use Rattle.tg_protocol.specs.Words.{cell_at}
 use Rattle.tg_protocol.specs.Worlds.{World, client, log}
 use Rattle.tg_law_moves.specs.After.{after}
 use Rattle.tg_law_moves.specs.Configs.{config, client_in}
 use Rattle.tg_law_cells.specs.Settled.{IsSettled}
-use Rattle.tg_law_history.specs.Worlds.{entries_in}
 use Rattle.tg_law_history.proofs.Members.{has_contained, contained_has}
 use Rattle.tg_law_books.proofs.Records.{InHand, in_hand}
 use Rattle.tg_law_walks.proofs.Cells.{entry_there, there_entry}

@@ -12,14 +12,13 @@ use Rattle.tg_entry.specs.declared.entry.Entry.{Entry}
 use Rattle.tg_entry.specs.Needs.{needs_decision}
 use Rattle.tg_kind.specs.Meaning.{Meaning}
 use Rattle.tg_model.specs.Kinds.{EventOf}
-use Rattle.tg_model.specs.declared.command.Command.TheVariants as cmd
 use Rattle.tg_model.specs.declared.command.Event.TheVariants.{Command as Commands, Deliver, Lose, Tick, Stop}
 use Rattle.tg_protocol.specs.Alike.{HasEntry}
-use Rattle.tg_protocol.specs.Checkpoints.{trim_of, open_decision, open_fault, forget_fault, ForgetFault, NoCheckpoint, OpenDecision, may_forget, load_from}
+use Rattle.tg_protocol.specs.Checkpoints.{trim_of, open_decision, open_fault, forget_fault, NoCheckpoint, OpenDecision, may_forget, load_from}
 use Rattle.tg_protocol.specs.Clients.{Work, Client, positions_in, member_positions, below}
 use Rattle.tg_protocol.specs.Entries.{is_commit, lists, decides}
 use Rattle.tg_protocol.specs.Holding.{EntriesOwn}
-use Rattle.tg_protocol.specs.Logs.{Log, entries_of, entry_at}
+use Rattle.tg_protocol.specs.Logs.{entries_of}
 use Rattle.tg_protocol.specs.Pages.{entry_of, cell_entry}
 use Rattle.tg_protocol.specs.Replies.{reply}
 use Rattle.tg_protocol.specs.Runs.{Moves, Reaches, Later}
@@ -31,20 +30,20 @@ use Rattle.tg_law_history.specs.Worlds.{entries_in}
 use Rattle.tg_law_history.proofs.Members.{Has, has_contained, contained_has, of_lt, number_same}
 use Rattle.tg_law_views.specs.Exact.{low_of, or_first}
 use Rattle.tg_law_views.proofs.Judges.{mine_below}
-use Rattle.tg_law_views.proofs.Records.{IsDecision, decision_there}
+use Rattle.tg_law_views.proofs.Records.{decision_there}
 use Rattle.tg_law_replies.specs.Found.{mine}
 use Rattle.tg_law_replies.specs.Steps.{EachEvent}
 use Rattle.tg_law_replies.proofs.Carried.{both_more}
 use Rattle.tg_law_walks.specs.Laws.{IsFound}
 use Rattle.tg_law_walks.specs.Rounds.{round, IsRound, HasAll}
-use Rattle.tg_law_walks.specs.Streams.{IsByPosition, AreLinked}
+use Rattle.tg_law_walks.specs.Streams.{IsByPosition}
 use Rattle.tg_law_walks.proofs.Cells.{entry_there, there_entry}
 use Rattle.tg_law_walks.proofs.Positions.{nums_right, in_positions, has_filter}
 use Rattle.tg_law_walks.proofs.Rounds.{read_entry, entry_read}
 use Rattle.tg_law_walks.proofs.Saves.{Gives, entries_have, have_entries, load_gives}
 use Rattle.tg_law_walks.proofs.Stretches.{entry_stand}
 use Rattle.tg_law_walks.proofs.Syncs.{logs_by_position}
-use Rattle.tg_law_lists.specs.Spared.{WasSettled, TrimsWereSpare}
+use Rattle.tg_law_lists.specs.Spared.{TrimsWereSpare}
 use Rattle.tg_law_lists.proofs.Telling.{entries_are_good}
 use Rattle.tg_law_finds.specs.Left.{SavesPrecede}
 use Rattle.tg_law_exact.proofs.Exact.{step_ends}

@@ -3,7 +3,6 @@ use Rattle.std.proofs.Common.{◌≡◌, ℕ, List, [], ◌∷◌, Bool, true, f
 use Rattle.std.specs.Prelude.{not, ◌&&◌, ◌==◌, nat_lt}
 use Rattle.tg_base.specs.Layouts.{Layout}
 use Rattle.tg_base.specs.Orders.{node_eq}
-use Rattle.tg_base.specs.declared.cell.Cell.{Cell}
 use Rattle.tg_base.specs.declared.ids.NodeId.{NodeId}
 use Rattle.tg_base.specs.declared.ids.Oid.{Oid}
 use Rattle.tg_base.specs.declared.msg.Msg.{Msg}
@@ -24,7 +23,7 @@ use Rattle.tg_protocol.specs.Reconfiguring.{Reconf, ReconfEnd, Installed, Overta
 use Rattle.tg_protocol.specs.Transactions.{Tx, commit_record}
 use Rattle.tg_protocol.specs.Views.{Entries}
 use Rattle.tg_protocol.specs.Clients.{Task, Syncing, Walking, Appending, Trimming, Copying', Reconfiguring, Hand, Doing, Learning, Work, Client, refusal, all_entries}
-use Rattle.tg_protocol.specs.Answers.{Moved, moved, walked}
+use Rattle.tg_protocol.specs.Answers.{Moved, moved}
 use Rattle.tg_protocol.specs.ClientSteps as step
 use Rattle.tg_protocol.specs.ClientSteps.{after_turn, met, goes_on, start_walk, takes_back, found_by, lends, knows, lo_for, synced, sync_to, on_sync, stale, gives_up, given_up_if, starts_over, at_trim, walk_ended_by, walk_to, on_walk, trim_to, on_trims, copy_to, on_copy, stands, task_in, task_awaited, reconf_to, on_reconf, task_feed, task_again, copies_again, on_newer, accepts, refused_or, new_work, client_command, client_deliver, client_tick}
 use Rattle.tg_law_moves.proofs.Turns.{Begins, begins_walk, not_busy}

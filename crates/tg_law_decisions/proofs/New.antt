@@ -56,7 +56,6 @@ use Rattle.tg_law_drafts.proofs.Senders.{sender}
 use Rattle.tg_law_drafts.proofs.Tokens.{AsksToken, task_token}
 use Rattle.tg_law_drafts.proofs.Written.{next_draft, state_at, short_at, sent_at, then_next, then_takes, give_right}
 use Rattle.tg_law_once.proofs.Along.{on_moves, spent_at, written_at}
-use Rattle.tg_law_once.proofs.Nowhere.{reached}
 use Rattle.tg_law_once.proofs.Once.{Stands, stands}
 use Rattle.tg_law_once.proofs.Reached.{header, give, short, reach_at}
 use Rattle.tg_law_once.proofs.Spending.{Put, put_among, IsNew, either}

@@ -1,11 +1,10 @@
 -- A checkpoint that is read off a page stands in the stream of the object that it saves: as `Read` of `tg_law_pages` has it of writes.
-use Rattle.std.proofs.Common.{◌≡◌, ℕ, ◌-◌, max, min, Bool, true, false, List, [], ◌∷◌, length, Option, Some, None, Result, Ok, Err, refl, sym, ap, subst, inl, inr, arith}
+use Rattle.std.proofs.Common.{◌≡◌, ℕ, ◌-◌, max, min, Bool, true, false, List, [], ◌∷◌, length, Some, None, Result, Ok, Err, refl, sym, ap, subst, inl, inr, arith}
 use Rattle.std.specs.Prelude.{nat_le, ◌==◌, ◌&&◌, if◌then◌else◌}
 use Rattle.std.specs.List.{list_any}
 use Rattle.std.proofs.lemmas.Bool.{leb-true, or_cases, or_left, or_right}
 use Rattle.tg_base.specs.Orders.{oid_eq}
 use Rattle.tg_base.specs.declared.ids.Oid.{Oid}
-use Rattle.tg_base.specs.declared.marks.Part.{Part}
 use Rattle.tg_base.specs.declared.marks.StreamLink.{StreamLink}
 use Rattle.tg_codec.specs.Reading.{◌>>=◌, meets, u32_at}
 use Rattle.tg_codec.specs.Codec.{Codec, u8, u16, u32, u64, fixed, dep, via, from_table}
@@ -26,7 +25,7 @@ use Rattle.tg_protocol.specs.Entries.{lists}
 use Rattle.tg_protocol.specs.Pages.{entry_of, if_read}
 use Rattle.tg_protocol.specs.Versions.{based}
 use Rattle.tg_protocol.specs.Views.{Base}
-use Rattle.tg_law_history.proofs.Members.{Has, number_same, same_oid, and_both}
+use Rattle.tg_law_history.proofs.Members.{Has, number_same, same_oid}
 
 -- each value that the format reads is such a one
 abbrev Reads : {A : Type 0} → Codec A → (A → Type 0) → Type 0

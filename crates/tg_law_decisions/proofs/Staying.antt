@@ -1,5 +1,5 @@
 -- What has its decision record has it in each later world, and by each later epoch.
-use Rattle.std.proofs.Common.{◌≡◌, ℕ, ◌≤◌, ◌∷◌, ◌++◌, List, refl, sym, ap, ◌∙◌, subst, arith, Option}
+use Rattle.std.proofs.Common.{ℕ, ◌≤◌, ◌∷◌, ◌++◌, refl, sym, ap, ◌∙◌, subst, arith, Option}
 use Rattle.tg_base.specs.Clusters.{Header}
 use Rattle.tg_base.specs.declared.cell.Cell.{Cell}
 use Rattle.tg_base.specs.declared.cell.Cell.TheVariants.{Data}
@@ -24,7 +24,7 @@ use Rattle.tg_law_lists.specs.Spared.{WasSettled}
 use Rattle.tg_law_lists.proofs.Ends.{cell_of}
 use Rattle.tg_law_lists.proofs.Reached.{before_reached}
 use Rattle.tg_law_syncs.proofs.Later.{late}
-use Rattle.tg_law_decisions.specs.Decisions.{IsDecidedBy, DecidedStays}
+use Rattle.tg_law_decisions.specs.Decisions.{DecidedStays}
 
 module _ (m : Meaning) (h : Header) (xs ys : Moves m) (r : Reaches m h (xs ++ ys) (after m h (xs ++ ys))) (safe : TrimsWereSafe m h (xs ++ ys)) where
   early : TrimsWereSafe m h xs

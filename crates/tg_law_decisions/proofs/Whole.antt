@@ -2,7 +2,6 @@
 use Rattle.std.proofs.Common.{◌≡◌, ℕ, List, [], ◌∷◌, Bool, true, false, refl, sym, ap, subst, arith, Some, None, Option}
 use Rattle.std.specs.Prelude.{not, ◌&&◌, ◌==◌}
 use Rattle.tg_base.specs.Layouts.{Layout}
-use Rattle.tg_base.specs.declared.cell.Cell.{Cell}
 use Rattle.tg_base.specs.declared.ids.NodeId.{NodeId}
 use Rattle.tg_base.specs.declared.ids.Oid.{Oid}
 use Rattle.tg_base.specs.declared.msg.Msg.{Msg}
@@ -12,7 +11,7 @@ use Rattle.tg_kind.specs.Meaning.{Meaning}
 use Rattle.tg_model.specs.declared.command.Command.TheVariants as cmd
 use Rattle.tg_model.specs.Kinds.{CommandOf, WhatOf, NoteOf}
 use Rattle.tg_model.specs.declared.refusal.Refusal.{Refusal}
-use Rattle.tg_protocol.specs.Requests.{awaits, Next, Goes, Learns, Ends, Turn}
+use Rattle.tg_protocol.specs.Requests.{Next, Goes, Learns, Ends, Turn}
 use Rattle.tg_protocol.specs.Replies.{Reply, reply, IsLatest}
 use Rattle.tg_protocol.specs.Appending.{Append, AppendEnd, At, append_start, append_feed, append_again}
 use Rattle.tg_protocol.specs.Syncing.{Sync, Confirmed, sync_start, sync_feed, sync_again}

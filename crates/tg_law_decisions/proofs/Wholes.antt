@@ -1,5 +1,5 @@
 -- Over a run: the walks of a command that forgets begin at the log's beginning.
-use Rattle.std.proofs.Common.{◌≡◌, ℕ, ◌<◌, length, refl, sym, subst}
+use Rattle.std.proofs.Common.{ℕ, ◌<◌, length, refl, sym, subst}
 use Rattle.std.specs.Prelude.{slice_index_or}
 use Rattle.tg_base.specs.Clusters.{Header}
 use Rattle.tg_base.specs.declared.ids.Role.TheVariants as role
@@ -10,13 +10,13 @@ use Rattle.tg_protocol.specs.Replies.{reply}
 use Rattle.tg_protocol.specs.Words.{numbers}
 use Rattle.tg_protocol.specs.Clients.{Client, new_client}
 use Rattle.tg_protocol.specs.ClientSteps.{ClientTurn}
-use Rattle.tg_protocol.specs.Runs.{Moves, run, Reaches}
+use Rattle.tg_protocol.specs.Runs.{Moves}
 use Rattle.tg_protocol.specs.Worlds.{World, start, client}
 use Rattle.tg_law_moves.specs.After.{after}
 use Rattle.tg_law_moves.specs.Configs.{Config, config, client_in}
 use Rattle.tg_law_moves.proofs.Growth.{IsCalm, by_client}
 use Rattle.tg_law_moves.proofs.Lists.{at_map, at_set}
-use Rattle.tg_law_moves.proofs.Moves.{ClientInput, Commanded, Hears', Ticks', Cases, Keeps, client_turn, run_keeps}
+use Rattle.tg_law_moves.proofs.Moves.{ClientInput, Commanded, Hears', Ticks', Keeps, client_turn, run_keeps}
 use Rattle.tg_law_history.specs.Worlds.{entries_in}
 use Rattle.tg_law_replies.specs.Steps.{EachEvent}
 use Rattle.tg_law_decisions.specs.Forgetting.{WalksWhole, ForgetsWalkWhole}
