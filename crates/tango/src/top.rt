@@ -30,6 +30,7 @@ ghost use Rattle.tg_audit_run.specs.Verdicts.{judged, status_of};
 ghost use Rattle.tg_audit_run.specs.Outcomes as verdicts;
 ghost use Rattle.tg_audit_run.specs.Outcomes.{IsToldOf, IsRefused, IsSilent, IsOfJudge};
 ghost use Rattle.tango.specs.Forms.{is_over_link, is_reading};
+ghost use Rattle.tango.specs.Holding.{LimitedTruly, RefusedTruly, ReplayedTruly};
 ghost use Rattle.tango.specs.Lawful.{IsLegalText, IsIllegalText};
 
 use std::alloc::Global;
@@ -39,6 +40,7 @@ use tg_audit_run::judge;
 use tg_base::NoMemory;
 use tg_bench::bench;
 use tg_io::{Link, Sink, Source, Status};
+use tg_law_runs::scripts_hold;
 use tg_law_verdicts::verdicts_are_true;
 use tg_live::run;
 use tg_node::node;
@@ -63,6 +65,12 @@ pub fn tango<S: Source, K: Sink, L: Link>(
     ensures script { form_of (map string_bytes words.now) ≡ Some Replay → (line : ℕ) → result ≡ AtLine line → Told (S.left source.old) (K.written sink.old) (K.written sink.new) (λ text out. Refused text line out) }
     // A limit stops a run, after the transcript of the steps before it.
     ensures limit { form_of (map string_bytes words.now) ≡ Some Replay → (which : Which) → result ≡ Limit which → Told (S.left source.old) (K.written sink.old) (K.written sink.new) (λ text out. Limited text which out) }
+    // Whatever losses, repeats, reorderings, stops and reconfigurations the script says, what is printed is of a run that holds: it
+    // is the replies and the one history of a world to which lawful events lead; the replies are those of the plain machine over
+    // that history, and in order; and what they tell of the log is true of it. So it is as far as a run came.
+    ensures done_truly { form_of (map string_bytes words.now) ≡ Some Replay → result ≡ Done → Told (S.left source.old) (K.written sink.old) (K.written sink.new) ReplayedTruly }
+    ensures script_truly { form_of (map string_bytes words.now) ≡ Some Replay → (line : ℕ) → result ≡ AtLine line → Told (S.left source.old) (K.written sink.old) (K.written sink.new) (λ text out. RefusedTruly text line out) }
+    ensures limit_truly { form_of (map string_bytes words.now) ≡ Some Replay → (which : Which) → result ≡ Limit which → Told (S.left source.old) (K.written sink.old) (K.written sink.new) (λ text out. LimitedTruly text which out) }
     // What is written at a fault is a front of a transcript, or nothing.
     ensures cut_short { form_of (map string_bytes words.now) ≡ Some Replay → (result ≡ WriteFault) ⊎ (result ≡ OutOfMemory) → Told (S.left source.old) (K.written sink.old) (K.written sink.new) IsCutShort }
     ensures silent { form_of (map string_bytes words.now) ≡ Some Replay → result ≡ ReadFault → K.written sink.new ≡ K.written sink.old }
@@ -159,7 +167,10 @@ pub fn tango<S: Source, K: Sink, L: Link>(
     ensures unread { is_reading (form_of (map string_bytes words.now)) ≡ false → source.new ≡ source.old }
 {
     match read_form(alloc, words) {
-        Ok(Some(Form::Replay)) => replay(alloc, source, sink),
+        Ok(Some(Form::Replay)) => {
+            scripts_hold();
+            replay(alloc, source, sink)
+        }
         Ok(Some(Form::Live)) => run(alloc, source, sink, link),
         Ok(Some(Form::Node(id))) => node(alloc, id, source, sink, link),
         Ok(Some(Form::Bench { start, count })) => bench(alloc, start, count, sink),

@@ -1,0 +1,6 @@
+//! The headline of every run of the store, and of every script: what is told in the world that it comes to holds.
+#![tactic(auto)]
+
+mod laws;
+
+pub use laws::{runs_hold, scripts_hold};
