@@ -1,6 +1,6 @@
 -- What is told of transactions that were aborted, are unsure, or have committed.
 use Rattle.std.proofs.Common.{◌≡◌, ◌≢◌, ◌⊎◌, ℕ, ◌<◌, List, [], ◌∷◌, map, ◌&&◌, Bool, true, false, refl, sym, ap, ◌∙◌, subst, inl, inr, arith}
-use Rattle.std.specs.Prelude.{Contains, ◌==◌, if◌then◌else◌}
+use Rattle.std.specs.Prelude.{◌==◌, if◌then◌else◌}
 use Rattle.tg_base.specs.Clusters.{Header}
 use Rattle.tg_base.specs.declared.ids.Oid.{Oid}
 use Rattle.tg_kind.specs.Meaning.{Meaning}
@@ -14,7 +14,6 @@ use Rattle.tg_protocol.specs.Holding.{HasItsRecord, RepliesHaveRecords}
 use Rattle.tg_law_history.proofs.Members.{Has, has_contained, contained_has}
 use Rattle.tg_law_lists.specs.Spared.{TrimsWereSpare}
 use Rattle.tg_law_replies.specs.Ended.{AppendsEnd}
-use Rattle.tg_law_replies.specs.Outcomes.{TellsOutcomes}
 use Rattle.tg_law_follow.proofs.Asks.{records_follow_asks}
 use Rattle.tg_law_follow.proofs.Says.{Other}
 use Rattle.tg_law_follow.proofs.Replies.{Fact, IsOther, IsOfTx, IsSaved, state, replies_have_records}
@@ -43,7 +42,7 @@ module _ (m : Meaning) where
 
   -- Puts.
 
-  has_mark : (ts : List (Told m)) (t : Told m) → Has ts t → Has (map (λ (x : Told m). x.mark) ts) t.mark
+  pub has_mark : (ts : List (Told m)) (t : Told m) → Has ts t → Has (map (λ (x : Told m). x.mark) ts) t.mark
   has_mark [] t i = absurd i
   has_mark (x ∷ ts) t (inl e) = inl (ap (λ (y : Told m). y.mark) e)
   has_mark (x ∷ ts) t (inr i) = inr (has_mark ts t i)

@@ -8,7 +8,7 @@ use Rattle.tg_model.specs.declared.trace.What.TheVariants as told
 use Rattle.tg_protocol.specs.Logs.{outcome}
 use Rattle.tg_protocol.specs.Worlds.{World, Told, log}
 use Rattle.tg_protocol.specs.Runs.{Moves, Reaches}
-use Rattle.tg_protocol.specs.Alike.{HasRecord, LogAgrees, OfTx}
+use Rattle.tg_protocol.specs.Alike.{HasRecord, LogAgrees, OfTx, SavedAt, CopiedBy, InstalledBy}
 use Rattle.tg_law_lists.specs.Spared.{TrimsWereSpare}
 use Rattle.tg_law_replies.specs.Ended.{AppendsEnd}
 use Rattle.tg_law_replies.specs.Outcomes.{TellsOutcomes}
@@ -40,3 +40,30 @@ module _ (m : Meaning) where
 
   abbrev pub CommitsAgreeByRuns : Type 0
   CommitsAgreeByRuns = ByRunsOfOutcomes CommitsAgree
+
+  -- What is told of a reconfiguration that installed a layout, of a copy, and of a checkpoint.
+
+  abbrev pub InstallsAgree : World m → Type 0
+  InstallsAgree w = (t : Told m) (e : ℕ) → Contains w.told t → t.mark.what ≡ told.Installed e → InstalledBy m w t e
+
+  abbrev pub CopiesAgree : World m → Type 0
+  CopiesAgree w = (t : Told m) (u r s : ℕ) → Contains w.told t → t.mark.what ≡ told.Copied u r s → CopiedBy m w t u r s
+
+  abbrev pub SavesAgree : World m → Type 0
+  SavesAgree w = (t : Told m) (o : Oid) (p u : ℕ) → Contains w.told t → t.mark.what ≡ told.Saved o p u → SavedAt m w t o p u
+
+  -- where an append that ends stands where it says
+  abbrev pub SavesAgreeByRuns : Type 0
+  SavesAgreeByRuns = (h : Header) (ms : Moves m) (w : World m) → Reaches m h ms w → AppendsEnd m h ms w → SavesAgree w
+
+  -- the rows of `Alike` that are had here
+  pub record AlikeRows (w : World m) : Type 0 where
+    pub aborts : AbortsAgree w
+    pub unsure : UnsureAgree w
+    pub commits : CommitsAgree w
+    pub installs : InstallsAgree w
+    pub copies : CopiesAgree w
+    pub saves : SavesAgree w
+
+  abbrev pub AlikeRowsByRuns : Type 0
+  AlikeRowsByRuns = ByRunsOfOutcomes AlikeRows
