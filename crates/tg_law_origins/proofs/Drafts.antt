@@ -14,7 +14,7 @@ use Rattle.tg_model.specs.Kinds.{CommandOf}
 use Rattle.tg_protocol.specs.Words.{directory, has_oid}
 use Rattle.tg_protocol.specs.Checkpoints.{may_forget}
 use Rattle.tg_protocol.specs.Transactions.{Tx}
-use Rattle.tg_protocol.specs.Clients.{Purpose, Writes, Judged, Decides, Rescues, Saves, Marks, Task, Syncing, Walking, Appending, Trimming, Copying', Reconfiguring, Work, Client, write_of, all_entries}
+use Rattle.tg_protocol.specs.Clients.{Purpose, Writes, Judged, Decides, Rescues, Saves, Marks, Task, Syncing, Walking, Appending, Trimming, Copying', Reconfiguring, Work, Client, upto, write_of, all_entries}
 use Rattle.tg_protocol.specs.ClientSteps.{task_in}
 use Rattle.tg_protocol.specs.Walked.{Walked}
 use Rattle.tg_protocol.specs.Runs.{LawfulCommand}
@@ -91,11 +91,12 @@ module _ (m : Meaning) where
       pub state : List ℕ
       pub body : d.body ≡ Checkpoint o u version whole keys state
 
-    -- a draft that marks an object
-    pub record MarksBy (n : ℕ) (d : Entry) (o : Oid) (mark : ℕ) : Type 0 where
+    -- a draft that marks an object, where the client's view has come to the tail
+    pub record MarksBy (n top : ℕ) (d : Entry) (o : Oid) (mark : ℕ) : Type 0 where
       pub by : EndBy n
       pub command : by.end.work.command ≡ cmd.Forget o mark
       pub allowed : may_forget m (all_entries m by.end.client by.end.work by.end.client.hosted) o mark ≡ None
+      pub below : by.end.work.tail ≤ top
       pub body : d.body ≡ Commit [] (write_of m directory (m.mark_op o mark) ∷ [])
 
     -- a decision
@@ -113,49 +114,49 @@ module _ (m : Meaning) where
       pub body : d.body ≡ Commit reads writes
       pub puts : (x : WriteOp) → Has writes x → IsPut x
 
-    abbrev pub DraftFits : ℕ → Entry → Purpose m → Type 0
-    DraftFits n d Writes = IsRecord d
-    DraftFits n d Judged = IsRecord d
-    DraftFits n d (Decides what) = DecidesBy n d
-    DraftFits n d (Rescues what) = DecidesBy n d
-    DraftFits n d (Saves o u) = SavesBy n d o u
-    DraftFits n d (Marks i o mark) = MarksBy n d o mark
+    abbrev pub DraftFits : ℕ → ℕ → Entry → Purpose m → Type 0
+    DraftFits n top d Writes = IsRecord d
+    DraftFits n top d Judged = IsRecord d
+    DraftFits n top d (Decides what) = DecidesBy n d
+    DraftFits n top d (Rescues what) = DecidesBy n d
+    DraftFits n top d (Saves o u) = SavesBy n d o u
+    DraftFits n top d (Marks i o mark) = MarksBy n top d o mark
 
-    abbrev pub TaskFits : ℕ → Task m → Type 0
-    TaskFits n (Appending a y) = DraftFits n a.draft y
-    TaskFits n t = Unit {0}
+    abbrev pub TaskFits : ℕ → ℕ → Task m → Type 0
+    TaskFits n top (Appending a y) = DraftFits n top a.draft y
+    TaskFits n top t = Unit {0}
 
-    abbrev pub WorkFits : ℕ → List Oid → Option (Work m) → Type 0
-    WorkFits n hosted None = Unit {0}
-    WorkFits n hosted (Some w) = TaskFits n (task_in m w.hand) × CommandFits hosted w.oids w.command
+    abbrev pub WorkFits : ℕ → ℕ → List Oid → Option (Work m) → Type 0
+    WorkFits n top hosted None = Unit {0}
+    WorkFits n top hosted (Some w) = TaskFits n top (task_in m w.hand) × CommandFits hosted w.oids w.command
 
     abbrev pub ClientFits : Client m → Type 0
-    ClientFits c = TxFits c.tx × WorkFits c.stand.epoch c.hosted c.work
+    ClientFits c = TxFits c.tx × WorkFits c.stand.epoch (upto m c) c.hosted c.work
 
   -- As a run goes on.
   module _ (D E : Walked m → Type 0) (more : (y : Walked m) → D y → E y) where
     abbrev end_on : (n k : ℕ) → n ≤ k → EndBy D n → EndBy E k
     end_on n k le b = record { end = b.end; came = more b.end b.came; some = b.some; epoch = (let a = b.epoch in omega (arith, a, le)); fits = b.fits }
 
-    pub draft_on : (n k : ℕ) → n ≤ k → (d : Entry) (y : Purpose m) → DraftFits D n d y → DraftFits E k d y
-    draft_on n k le d Writes f = record { reads = f.reads; writes = f.writes; body = f.body; puts = f.puts }
-    draft_on n k le d Judged f = record { reads = f.reads; writes = f.writes; body = f.body; puts = f.puts }
-    draft_on n k le d (Decides what) f = record { by = end_on n k le f.by; at = f.at; is_yes = f.is_yes; body = f.body; decides = f.decides }
-    draft_on n k le d (Rescues what) f = record { by = end_on n k le f.by; at = f.at; is_yes = f.is_yes; body = f.body; decides = f.decides }
-    draft_on n k le d (Saves o u) f = record { by = end_on n k le f.by; command = f.command; tail = f.tail; version = f.version; whole = f.whole; keys = f.keys; state = f.state; body = f.body }
-    draft_on n k le d (Marks i o mark) f = record { by = end_on n k le f.by; command = f.command; allowed = f.allowed; body = f.body }
+    pub draft_on : (n k : ℕ) → n ≤ k → (top : ℕ) (d : Entry) (y : Purpose m) → DraftFits D n top d y → DraftFits E k top d y
+    draft_on n k le top d Writes f = record { reads = f.reads; writes = f.writes; body = f.body; puts = f.puts }
+    draft_on n k le top d Judged f = record { reads = f.reads; writes = f.writes; body = f.body; puts = f.puts }
+    draft_on n k le top d (Decides what) f = record { by = end_on n k le f.by; at = f.at; is_yes = f.is_yes; body = f.body; decides = f.decides }
+    draft_on n k le top d (Rescues what) f = record { by = end_on n k le f.by; at = f.at; is_yes = f.is_yes; body = f.body; decides = f.decides }
+    draft_on n k le top d (Saves o u) f = record { by = end_on n k le f.by; command = f.command; tail = f.tail; version = f.version; whole = f.whole; keys = f.keys; state = f.state; body = f.body }
+    draft_on n k le top d (Marks i o mark) f = record { by = end_on n k le f.by; command = f.command; allowed = f.allowed; below = f.below; body = f.body }
 
-    task_on : (n : ℕ) (t : Task m) → TaskFits D n t → TaskFits E n t
-    task_on n (Appending a y) f = draft_on n n (omega arith) a.draft y f
-    task_on n (Syncing s) f = tt
-    task_on n (Walking k os) f = tt
-    task_on n (Trimming t) f = tt
-    task_on n (Copying' x) f = tt
-    task_on n (Reconfiguring r) f = tt
+    task_on : (n top : ℕ) (t : Task m) → TaskFits D n top t → TaskFits E n top t
+    task_on n top (Appending a y) f = draft_on n n (omega arith) top a.draft y f
+    task_on n top (Syncing s) f = tt
+    task_on n top (Walking k os) f = tt
+    task_on n top (Trimming t) f = tt
+    task_on n top (Copying' x) f = tt
+    task_on n top (Reconfiguring r) f = tt
 
-    work_on : (n : ℕ) (hosted : List Oid) (w : Option (Work m)) → WorkFits D n hosted w → WorkFits E n hosted w
-    work_on n hosted None f = tt
-    work_on n hosted (Some w) f = (task_on n (task_in m w.hand) f.0, f.1)
+    work_on : (n top : ℕ) (hosted : List Oid) (w : Option (Work m)) → WorkFits D n top hosted w → WorkFits E n top hosted w
+    work_on n top hosted None f = tt
+    work_on n top hosted (Some w) f = (task_on n top (task_in m w.hand) f.0, f.1)
 
     pub client_on : (c : Client m) → ClientFits D c → ClientFits E c
-    client_on c f = (f.0, work_on c.stand.epoch c.hosted c.work f.1)
+    client_on c f = (f.0, work_on c.stand.epoch (upto m c) c.hosted c.work f.1)

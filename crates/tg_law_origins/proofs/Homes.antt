@@ -27,6 +27,8 @@ use Rattle.tg_law_entries.specs.Archive.{TrimsWereSafe}
 use Rattle.tg_law_entries.proofs.Archive.{log_is_settled}
 use Rattle.tg_law_drafts.proofs.Senders.{sender}
 use Rattle.tg_law_drafts.proofs.Drafts.{sourced}
+use Rattle.tg_law_once.specs.GivenUp.{IsGivenUp, IsKept}
+use Rattle.tg_law_once.proofs.Nowhere.{log_has_no_given_up}
 use Rattle.tg_law_once.proofs.Reached.{header, give, short}
 use Rattle.tg_law_once.proofs.Spending.{Put}
 use Rattle.tg_law_origins.specs.Origins.{StartsBelow, Follows}
@@ -54,8 +56,15 @@ module _ (m : Meaning) (h : Header) (zs : Moves m) (reach : Reaches m h zs (afte
     pub settled : IsSettled m (after m h zs) pos (Data page.page)
     settled = (log_is_settled m h zs (after m h zs) reach safe).settled pos (Data page.page) (contained (log m (after m h zs)) (pos, Data page.page) page.here)
 
-    pub home : Home m (after m h zs) pos page.page settled.layout.epoch
-    home = settled_has_home m h zs (after m h zs) reach pos page.page settled
+    abbrev there : (last : ℕ) × IsKept m (after m h zs) pos page.page last
+    there = log_has_no_given_up m h zs (after m h zs) reach safe pos page.page (contained (log m (after m h zs)) (pos, Data page.page) page.here)
+
+    abbrev pub home : Home m (after m h zs) pos page.page there.0
+    home = there.1.home
+
+    -- whose token wasn't given up
+    pub kept : IsGivenUp m (after m h zs) home.epoch pos page.page → ⊥
+    kept = there.1.kept
 
     -- a home's layout starts at the position or below it
     starts : (last : ℕ) → (a : Home m (after m h zs) pos page.page last) → a.layout.start ≤ pos
@@ -85,7 +94,7 @@ module _ (m : Meaning) (h : Header) (zs : Moves m) (reach : Reaches m h zs (afte
           let n = (layouts_are_sound m h zs (after m h zs) reach epoch q d).epoch in
           let of = home.of in
           let up = starts_rise m h zs (after m h zs) reach q home.layout (subst (λ (k : ℕ). IsDecided m (after m h zs) k q) (sym n) d) home.decided (omega (arith, n, le, of)) in
-          let low = starts settled.layout.epoch home in
+          let low = starts there.0 home in
           omega (arith, up, low)
 
       start : StartsBelow m (after m h zs) epoch pos
@@ -98,7 +107,7 @@ module _ (m : Meaning) (h : Header) (zs : Moves m) (reach : Reaches m h zs (afte
       late s =
           let b = settled_has_home m h zs (after m h zs) reach pos page.page s in
           let up = b.up_to in
-          let same = no_later s.layout.epoch settled.layout.epoch b home in
+          let same = no_later s.layout.epoch there.0 b home in
           omega (arith, le, up, same)
 
       pub follows : Follows m (after m h zs) epoch pos

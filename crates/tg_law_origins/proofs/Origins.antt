@@ -19,7 +19,7 @@ use Rattle.tg_model.specs.declared.command.Command.TheVariants as cmd
 use Rattle.tg_model.specs.Kinds.{CommandOf}
 use Rattle.tg_protocol.specs.Words.{directory}
 use Rattle.tg_protocol.specs.Checkpoints.{may_forget}
-use Rattle.tg_protocol.specs.Clients.{Purpose, Writes, Judged, Decides, Rescues, Saves, Marks, write_of, all_entries}
+use Rattle.tg_protocol.specs.Clients.{Purpose, Writes, Judged, Decides, Rescues, Saves, Marks, upto, write_of, all_entries}
 use Rattle.tg_protocol.specs.Worlds.{World, client}
 use Rattle.tg_protocol.specs.Runs.{Moves, Reaches}
 use Rattle.tg_protocol.specs.Alike.{HasEntry}
@@ -34,14 +34,15 @@ use Rattle.tg_law_drafts.proofs.Written.{draft_in}
 use Rattle.tg_law_kinds.specs.Directories.{DirectoryLaws}
 use Rattle.tg_law_lists.specs.Spared.{TrimsWereSpare}
 use Rattle.tg_law_checkpoints.proofs.Checkpoints.{entries_own}
+use Rattle.tg_law_follow.proofs.Asks.{put_past}
 use Rattle.tg_law_follow.proofs.Saves.{saved_below}
 use Rattle.tg_law_once.proofs.Nowhere.{reached}
 use Rattle.tg_law_once.proofs.Reached.{header, give, short}
-use Rattle.tg_law_origins.specs.Origins.{WalkedFor, Follows, DecidesAt, CheckpointFrom, MarkFrom, DecisionFrom, ByRuns, CheckpointsFollowWalks, MarksFollowWalks, DecisionsFollowWalks}
+use Rattle.tg_law_origins.specs.Origins.{WalkedFor, Follows, DecidesAt, CheckpointFrom, MarkFrom, DecisionFrom, ByRuns, BySpareRuns, CheckpointsFollowWalks, MarksFollowWalks, DecisionsFollowWalks}
 use Rattle.tg_law_origins.proofs.Drafts.{CommandFits, EndBy, SavesBy, MarksBy, DecidesBy, IsRecord, DraftFits, TaskFits, WorkFits}
 use Rattle.tg_law_origins.proofs.Along.{Ended, ended_on, fits_at}
 use Rattle.tg_law_origins.proofs.Puts.{PutFor, puts_for}
-use Rattle.tg_law_origins.proofs.Homes.{sent, follows}
+use Rattle.tg_law_origins.proofs.Homes.{kept, sent, follows}
 
 two_tags : {X : Type 0} (a b n : ℕ) → n ≡ a → n ≡ b → (a ≡ b → ⊥) → X
 two_tags a b n e f isnt = absurd (isnt (sym e ∙ f))
@@ -53,14 +54,22 @@ module _ (m : Meaning) (h : Header) (zs : Moves m) (reach : Reaches m h zs (afte
   abbrev k : ℕ
   k = e.head.client
 
-  put : PutFor m h zs reach zs e.head.client (sent m h zs reach safe pos e i).epoch (sent m h zs reach safe pos e i).page e
+  put : PutFor m h zs reach zs e.head.client (sent m h zs reach safe pos e i).packet (sent m h zs reach safe pos e i).epoch (sent m h zs reach safe pos e i).page e
   put = puts_for m h zs reach e.head.client (sent m h zs reach safe pos e i)
 
+  -- how far its client had played then
+  abbrev top : ℕ
+  top = upto m (client m (after m h put.before) e.head.client)
+
   -- what it comes from
-  fits : DraftFits m (Ended m h put.before e.head.client) (client m (after m h put.before) e.head.client).stand.epoch put.append.draft put.holds.purpose
-  fits = subst (TaskFits m (Ended m h put.before e.head.client) (client m (after m h put.before) e.head.client).stand.epoch) put.holds.holds
-      (subst (WorkFits m (Ended m h put.before e.head.client) (client m (after m h put.before) e.head.client).stand.epoch (client m (after m h put.before) e.head.client).hosted) put.holds.has
+  fits : DraftFits m (Ended m h put.before e.head.client) (client m (after m h put.before) e.head.client).stand.epoch top put.append.draft put.holds.purpose
+  fits = subst (TaskFits m (Ended m h put.before e.head.client) (client m (after m h put.before) e.head.client).stand.epoch top) put.holds.holds
+      (subst (WorkFits m (Ended m h put.before e.head.client) (client m (after m h put.before) e.head.client).stand.epoch top (client m (after m h put.before) e.head.client).hosted) put.holds.has
       (fits_at m h zs reach put.before put.mid put.split e.head.client).1).0
+
+  -- it stands at or past what its client had played
+  view_past : TrimsWereSpare m h zs → top ≤ pos
+  view_past spare = put_past m h zs reach spare put.before put.mid put.split e.head.client put.append put.holds (sent m h zs reach safe pos e i) put.sent put.kind (kept m h zs reach safe pos e i)
 
   -- where its draft has a spelling, it is the draft with links
   same_body : format.entry.fits put.append.draft ≡ true → e.body ≡ put.append.draft.body
@@ -120,7 +129,7 @@ module _ (m : Meaning) (h : Header) (zs : Moves m) (reach : Reaches m h zs (afte
     checkpoint_from : CheckpointFrom m h zs (after m h zs) pos e o upto
     checkpoint_from = by put.holds.purpose fits
       where
-        by : (y : Purpose m) → DraftFits m (Ended m h put.before e.head.client) (client m (after m h put.before) e.head.client).stand.epoch put.append.draft y → CheckpointFrom m h zs (after m h zs) pos e o upto
+        by : (y : Purpose m) → DraftFits m (Ended m h put.before e.head.client) (client m (after m h put.before) e.head.client).stand.epoch top put.append.draft y → CheckpointFrom m h zs (after m h zs) pos e o upto
         by Writes f = two_tags 3 1 (tag_of e.body) tag (commit_not f.reads f.writes f.body) (λ z. omega (arith, z))
         by Judged f = two_tags 3 1 (tag_of e.body) tag (commit_not f.reads f.writes f.body) (λ z. omega (arith, z))
         by (Decides what) f = two_tags 3 2 (tag_of e.body) tag (decision_tag f) (λ z. omega (arith, z))
@@ -131,7 +140,7 @@ module _ (m : Meaning) (h : Header) (zs : Moves m) (reach : Reaches m h zs (afte
   -- Marks.
 
   module _ (is_object : Oid → Bool) (is_op : m.op → Bool) (laws : DirectoryLaws m is_object is_op) (objects : (o : Oid) → records.is_object o ≡ true → is_object o ≡ true) (x : WriteOp) (o : Oid) (mark : ℕ) (object : is_object o ≡ true)
-      (has : Contains (writes_of e) x) (to : x.oid ≡ directory) (reads : m.read directory x.op ≡ Some (m.mark_op o mark)) where
+      (has : Contains (writes_of e) x) (to : x.oid ≡ directory) (reads : m.read directory x.op ≡ Some (m.mark_op o mark)) (past : top ≤ pos) where
     writes : Has (writes_of e) x
     writes = has_contained (writes_of e) x has
 
@@ -156,7 +165,7 @@ module _ (m : Meaning) (h : Header) (zs : Moves m) (reach : Reaches m h zs (afte
     decides_none : (d : DecidesBy m (Ended m h put.before e.head.client) (client m (after m h put.before) e.head.client).stand.epoch put.append.draft) → MarkFrom m h zs (after m h zs) pos e o mark
     decides_none d = absurd (subst (λ (b : Body). Has (writes_in b) x) d.body written)
 
-    marked : (a : Oid) (n : ℕ) → MarksBy m (Ended m h put.before e.head.client) (client m (after m h put.before) e.head.client).stand.epoch put.append.draft a n → MarkFrom m h zs (after m h zs) pos e o mark
+    marked : (a : Oid) (n : ℕ) → MarksBy m (Ended m h put.before e.head.client) (client m (after m h put.before) e.head.client).stand.epoch top put.append.draft a n → MarkFrom m h zs (after m h zs) pos e o mark
     marked a n f = by (subst (λ (b : Body). Has (writes_in b) x) f.body written)
       where
         fit : CommandFits m f.by.end.client.hosted f.by.end.work.oids (cmd.Forget a n)
@@ -171,6 +180,7 @@ module _ (m : Meaning) (h : Header) (zs : Moves m) (reach : Reaches m h zs (afte
             record {
               walk = walk f.by (cmd.Forget o mark) command;
               allowed = (λ j. may_forget m (all_entries m f.by.end.client f.by.end.work f.by.end.client.hosted) (sym one.0 j) (sym one.1 j)) ∙ f.allowed;
+              below = (let seen = f.below in omega (arith, seen, past));
               walked = contained f.by.end.work.oids o (subst (Has f.by.end.work.oids) one.0 fit.1);
               hosted = contained f.by.end.client.hosted o (subst (Has f.by.end.client.hosted) one.0 fit.0);
               follows = follow f.by;
@@ -179,7 +189,7 @@ module _ (m : Meaning) (h : Header) (zs : Moves m) (reach : Reaches m h zs (afte
     mark_from : MarkFrom m h zs (after m h zs) pos e o mark
     mark_from = by put.holds.purpose fits
       where
-        by : (y : Purpose m) → DraftFits m (Ended m h put.before e.head.client) (client m (after m h put.before) e.head.client).stand.epoch put.append.draft y → MarkFrom m h zs (after m h zs) pos e o mark
+        by : (y : Purpose m) → DraftFits m (Ended m h put.before e.head.client) (client m (after m h put.before) e.head.client).stand.epoch top put.append.draft y → MarkFrom m h zs (after m h zs) pos e o mark
         by Writes f = unput f
         by Judged f = unput f
         by (Decides what) f = decides_none f
@@ -209,7 +219,7 @@ module _ (m : Meaning) (h : Header) (zs : Moves m) (reach : Reaches m h zs (afte
     decision_from : DecisionFrom m h zs (after m h zs) pos e p
     decision_from = by put.holds.purpose fits
       where
-        by : (y : Purpose m) → DraftFits m (Ended m h put.before e.head.client) (client m (after m h put.before) e.head.client).stand.epoch put.append.draft y → DecisionFrom m h zs (after m h zs) pos e p
+        by : (y : Purpose m) → DraftFits m (Ended m h put.before e.head.client) (client m (after m h put.before) e.head.client).stand.epoch top put.append.draft y → DecisionFrom m h zs (after m h zs) pos e p
         by Writes f = two_tags 2 1 (tag_of e.body) tag_two (commit_not f.reads f.writes f.body) (λ z. omega (arith, z))
         by Judged f = two_tags 2 1 (tag_of e.body) tag_two (commit_not f.reads f.writes f.body) (λ z. omega (arith, z))
         by (Decides what) f = decided f
@@ -224,8 +234,11 @@ module _ (m : Meaning) where
   pub decisions_follow_walks : DecisionsFollowWalks m
   decisions_follow_walks = at_end _ (λ h zs reach safe pos e p so i is. decision_from m h zs reach safe pos e i p so is)
 
+  at_spare_end : (P : Header → Moves m → World m → Type 0) → ((h : Header) (zs : Moves m) → Reaches m h zs (after m h zs) → TrimsWereSpare m h zs → P h zs (after m h zs)) → BySpareRuns m P
+  at_spare_end P f h ms w r spare = subst (P h ms) (sym r.goes.is) (f h ms (reached m h ms w r) spare)
+
   pub marks_follow_walks : MarksFollowWalks m
-  marks_follow_walks is_object is_op laws objects = at_end _ (λ h zs reach safe pos e x o mark object i has to reads. mark_from m h zs reach safe pos e i is_object is_op laws objects x o mark object has to reads)
+  marks_follow_walks is_object is_op laws objects = at_spare_end _ (λ h zs reach spare pos e x o mark object i has to reads. mark_from m h zs reach spare.safe pos e i is_object is_op laws objects x o mark object has to reads (view_past m h zs reach spare.safe pos e i spare))
 
   pub checkpoints_follow_walks : CheckpointsFollowWalks m
   checkpoints_follow_walks parts h ms w r spare = subst (λ (u : World m). (pos : ℕ) (e : Entry) (o : Oid) (upto version whole : ℕ) (keys : List (Part × ℕ)) (state : List ℕ) → HasEntry m u pos e → e.body ≡ Checkpoint o upto version whole keys state → CheckpointFrom m h ms u pos e o upto) (sym r.goes.is)

@@ -22,11 +22,12 @@ use Rattle.tg_protocol.specs.Views.{Entries, View, Play, Verdict, Commits, Abort
 use Rattle.tg_protocol.specs.Checkpoints.{ForgetFault, NoCheckpoint, OpenDecision, checkpoint, may_forget}
 use Rattle.tg_protocol.specs.Past.{commit_at, PastTurn, PastView, PastGone, RescueTurn, Wider, Wide, Absent, StuckAt, Known}
 use Rattle.tg_protocol.specs.Transactions.{Tx, tx_read}
-use Rattle.tg_protocol.specs.Clients.{Purpose, Decides, Rescues, Saves, Marks, Task, Work, Client, all_entries}
+use Rattle.tg_protocol.specs.Clients.{Purpose, Decides, Rescues, Saves, Marks, Task, Work, Client, upto, all_entries}
 use Rattle.tg_protocol.specs.Answers.{Moved, replies, pruned, took_over, closed, appends, syncs, walked, walked_for, plays_own, own_view, play_target, answer_by, with_view, on_ask, ask_in, ask_answer, aborted, end_decided, end_aborted, end_no, end_record, on_end, decision, lacks_decision, with_decision, forgotten_or, fate_verdict, fate_record, fate_known, fate_blocked, blocks, on_fate, trim_above, decides_if, decide_verdict, decide_record, decide_blocked, on_decide, save_if, on_checkpoint, mark_record, mark_notes, forget_by, on_forget, floor_of, trim_begun, trims_if, on_trim, past_answer, past_played, past_turn, ahead_or, on_ask_at, rescue_decision, rescue_known, absent, rescue_by, on_rescue}
 use Rattle.tg_protocol.specs.Answers as answer
 use Rattle.tg_protocol.specs.ClientSteps.{goes_on, learns_for}
 use Rattle.tg_protocol.specs.Walked.{Walked}
+use Rattle.tg_law_follow.proofs.Looks.{played_to}
 use Rattle.tg_law_origins.specs.Origins.{DecidesAt}
 use Rattle.tg_law_origins.proofs.Drafts.{TxFits, CommandFits, EndBy, DraftFits, TaskFits, ClientFits, DecidesBy}
 
@@ -52,7 +53,7 @@ module _ (m : Meaning) (E : Walked m → Type 0) where
   pub shuts : (c : Client m) → ClientFits m E (pruned m (took_over m (closed m c) c.view))
   shuts c = replied (took_over m (closed m c) c.view) (took (closed m c) c.view tt)
 
-  pub appended : (c : Client m) (w : Work m) (e : Entry) (y : Purpose m) (ns : List (NoteOf m)) → TxFits m c.tx → Fits c w → DraftFits m E c.stand.epoch e y → Good (appends m c w e y ns)
+  pub appended : (c : Client m) (w : Work m) (e : Entry) (y : Purpose m) (ns : List (NoteOf m)) → TxFits m c.tx → Fits c w → DraftFits m E c.stand.epoch (upto m c) e y → Good (appends m c w e y ns)
   unfolding appends append_start
   appended c w e y ns h k g = (h, (g, k))
 
@@ -64,10 +65,10 @@ module _ (m : Meaning) (E : Walked m → Type 0) where
   unfolding trim_start
   trims_begin c w below h k = (h, (tt, k))
 
-  pub goes : (c : Client m) (w : Work m) (t : Task m) (bs : List Out) → TxFits m c.tx → Fits c w → TaskFits m E c.stand.epoch t → Good (goes_on m c w t bs)
+  pub goes : (c : Client m) (w : Work m) (t : Task m) (bs : List Out) → TxFits m c.tx → Fits c w → TaskFits m E c.stand.epoch (upto m c) t → Good (goes_on m c w t bs)
   goes c w t bs h k g = (h, (g, k))
 
-  pub learns : (c : Client m) (w : Work m) (t : Task m) → TxFits m c.tx → Fits c w → TaskFits m E c.stand.epoch t → Good (learns_for m c w t)
+  pub learns : (c : Client m) (w : Work m) (t : Task m) → TxFits m c.tx → Fits c w → TaskFits m E c.stand.epoch (upto m c) t → Good (learns_for m c w t)
   learns c w t h k g = (h, (g, k))
 
   same_le : (n : ℕ) → n ≤ n
@@ -82,7 +83,7 @@ module _ (m : Meaning) (E : Walked m → Type 0) where
     here = record { end = y; came = came; some = some; epoch = same_le y.client.stand.epoch; fits = k }
 
     -- a decision of what the command decides
-    decided : (c : Client m) → c.stand ≡ y.client.stand → c.hosted ≡ y.client.hosted → TxFits m c.tx → (e : Entry) (p : ℕ) (so : Bool) (z : Purpose m) → (DecidesBy m E c.stand.epoch (decision m c e p so) → DraftFits m E c.stand.epoch (decision m c e p so) z) → DecidesAt m y.work.command y.work.at p
+    decided : (c : Client m) → c.stand ≡ y.client.stand → c.hosted ≡ y.client.hosted → TxFits m c.tx → (e : Entry) (p : ℕ) (so : Bool) (z : Purpose m) → (DecidesBy m E c.stand.epoch (decision m c e p so) → DraftFits m E c.stand.epoch (upto m c) (decision m c e p so) z) → DecidesAt m y.work.command y.work.at p
         → Good (appends m (with_decision m c) w (decision m c e p so) z [])
     decided c at hosts h e p so z give d =
         appended (with_decision m c) w (decision m c e p so) z [] h (subst (λ (os : List Oid). CommandFits m os w.oids w.command) (sym hosts) k)
@@ -204,16 +205,16 @@ module _ (m : Meaning) (E : Walked m → Type 0) where
       checkpoint_good u o (Played t) is = save_good (nat_lt 4096 (entry_size (checkpoint m u o w.tail c.num (c.checkpoints + 1)))) u o is
 
       -- `forget`
-      forget_by_good : (o : Oid) (n : ℕ) → y.work.command ≡ cmd.Forget o n → (f : Option (ForgetFault m)) → may_forget m (all_entries m y.client y.work y.client.hosted) o n ≡ f → Good (forget_by m c w o n f)
-      forget_by_good o n is (Some NoCheckpoint) e = replied c h
-      forget_by_good o n is (Some (OpenDecision p)) e = replied c h
-      forget_by_good o n is None e =
+      forget_by_good : (o : Oid) (n : ℕ) → y.work.command ≡ cmd.Forget o n → y.work.tail ≤ v.upto → (f : Option (ForgetFault m)) → may_forget m (all_entries m y.client y.work y.client.hosted) o n ≡ f → Good (forget_by m c w o n f)
+      forget_by_good o n is low (Some NoCheckpoint) e = replied c h
+      forget_by_good o n is low (Some (OpenDecision p)) e = replied c h
+      forget_by_good o n is low None e =
           appended (record c { begun = c.begun + 1 }) w (mark_record m c o n) (Marks (c.begun + 1) o n) (mark_notes m (c.begun + 1) o n) h k
-          (record { by = here; command = is; allowed = e; body = refl })
+          (record { by = here; command = is; allowed = e; below = low; body = refl })
 
-      forget_good : (o : Oid) (n : ℕ) (end : PlayEnd) → y.work.command ≡ cmd.Forget o n → Good (on_forget m c w (all_entries m y.client y.work y.client.hosted) o n end)
-      forget_good o n (Played t) is = forget_by_good o n is (may_forget m (all_entries m y.client y.work y.client.hosted) o n) refl
-      forget_good o n (Blocked q x) is = replied c h
+      forget_good : (o : Oid) (n : ℕ) (end : PlayEnd) → y.work.command ≡ cmd.Forget o n → ((t : ℕ) → end ≡ Played t → y.work.tail ≤ v.upto) → Good (on_forget m c w (all_entries m y.client y.work y.client.hosted) o n end)
+      forget_good o n (Played t) is low = forget_by_good o n is (low t refl) (may_forget m (all_entries m y.client y.work y.client.hosted) o n) refl
+      forget_good o n (Blocked q x) is low = replied c h
 
       -- `trim`
       trims_good : (b : ℕ) (zero : Bool) → Good (trims_if m c w b zero)
@@ -224,15 +225,15 @@ module _ (m : Meaning) (E : Walked m → Type 0) where
       trim_good u (Played t) = trims_good (floor_of m (state_of m u directory)) _
       trim_good u (Blocked q x) = replied c h
 
-      answer_good : (p : Play m) (x : CommandOf m) → y.work.command ≡ x → Good (answer_by m c w (all_entries m y.client y.work y.client.hosted) p x)
-      answer_good p (cmd.Ask o q) is = ask_good o q p.view p.came
-      answer_good p cmd.End is = end_good is (all_entries m y.client y.work y.client.hosted) p.view p.came
-      answer_good p (cmd.Fate at) is = fate_good (all_entries m y.client y.work y.client.hosted) p.view at p.came
-      answer_good p (cmd.Decide at) is = decide_good at is (all_entries m y.client y.work y.client.hosted) p.view p.came _
-      answer_good p (cmd.Checkpoint o) is = checkpoint_good p.view o p.came is
-      answer_good p (cmd.Forget o n) is = forget_good o n p.came is
-      answer_good p cmd.Trim is = trim_good p.view p.came
-      answer_good p x is = replied c h
+      answer_good : (p : Play m) (x : CommandOf m) → y.work.command ≡ x → ((t : ℕ) → p.came ≡ Played t → play_target m y.work x ≤ v.upto) → Good (answer_by m c w (all_entries m y.client y.work y.client.hosted) p x)
+      answer_good p (cmd.Ask o q) is low = ask_good o q p.view p.came
+      answer_good p cmd.End is low = end_good is (all_entries m y.client y.work y.client.hosted) p.view p.came
+      answer_good p (cmd.Fate at) is low = fate_good (all_entries m y.client y.work y.client.hosted) p.view at p.came
+      answer_good p (cmd.Decide at) is low = decide_good at is (all_entries m y.client y.work y.client.hosted) p.view p.came _
+      answer_good p (cmd.Checkpoint o) is low = checkpoint_good p.view o p.came is
+      answer_good p (cmd.Forget o n) is low = forget_good o n p.came is low
+      answer_good p cmd.Trim is low = trim_good p.view p.came
+      answer_good p x is low = replied c h
 
     -- Past views and rescues, which leave the kept view alone.
 
@@ -286,6 +287,7 @@ module _ (m : Meaning) (E : Walked m → Type 0) where
           plays : Good (plays_own m y.client w (all_entries m y.client w y.client.hosted))
           plays = answer_good (play m (own_view m y.client w (all_entries m y.client w y.client.hosted)) (all_entries m y.client w y.client.hosted) (play_target m w w.command)).view h
               (play m (own_view m y.client w (all_entries m y.client w y.client.hosted)) (all_entries m y.client w y.client.hosted) (play_target m w w.command)) w.command refl
+              (λ t came. played_to m (all_entries m y.client w y.client.hosted) (play_target m w w.command) t (own_view m y.client w (all_entries m y.client w y.client.hosted)) came)
 
           by : (x : CommandOf m) → y.work.command ≡ x → Good (walked_for m y.client w x)
           by (cmd.AskAt p o q) is = ask_at_good p o q

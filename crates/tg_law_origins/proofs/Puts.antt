@@ -78,12 +78,13 @@ module _ (m : Meaning) (h : Header) (zs : Moves m) (reach : Reaches m h zs (afte
       client = own;
     }
 
-  -- A page was sent for an append that its client had in hand then: it is that of the draft with links, and is sent in the epoch
+  -- A page was sent by then, for an append that its client had in hand then: it is that of the draft with links, and is sent in the epoch
   -- in which the client stood.
-  pub record PutFor (xs : Moves m) (k epoch : ℕ) (page : List ℕ) (e : Entry) : Type 0 where
+  pub record PutFor (xs : Moves m) (k : ℕ) (packet : Packet) (epoch : ℕ) (page : List ℕ) (e : Entry) : Type 0 where
     pub before : Moves m
     pub mid : Moves m
     pub split : xs ≡ before ++ mid
+    pub sent : Has (after m h before).packets packet
     pub append : Append
     pub holds : Holds m (client m (after m h before) k) append
     pub stands : epoch ≡ (client m (after m h before) k).stand.epoch
@@ -93,13 +94,14 @@ module _ (m : Meaning) (h : Header) (zs : Moves m) (reach : Reaches m h zs (afte
     pub is : page ≡ page_of (linked append.draft links)
 
   abbrev PutsFor : Moves m → Type 0
-  PutsFor xs = (k : ℕ) (x : Put (after m h xs).packets k) → PutFor xs k x.epoch x.page x.entry
+  PutsFor xs = (k : ℕ) (x : Put (after m h xs).packets k) → PutFor xs k x.packet x.epoch x.page x.entry
 
-  longer : (xs ys : Moves m) (k epoch : ℕ) (page : List ℕ) (y : Entry) → PutFor xs k epoch page y → PutFor (xs ++ ys) k epoch page y
-  longer xs ys k epoch page y a = record {
+  longer : (xs ys : Moves m) (k : ℕ) (packet : Packet) (epoch : ℕ) (page : List ℕ) (y : Entry) → PutFor xs k packet epoch page y → PutFor (xs ++ ys) k packet epoch page y
+  longer xs ys k packet epoch page y a = record {
     before = a.before;
     mid = a.mid ++ ys;
     split = ap (λ (ms : Moves m). ms ++ ys) a.split ∙ regroup m a.before a.mid ys;
+    sent = a.sent;
     append = a.append;
     holds = a.holds;
     stands = a.stands;
@@ -110,11 +112,12 @@ module _ (m : Meaning) (h : Header) (zs : Moves m) (reach : Reaches m h zs (afte
   }
 
   -- with what is in hand in a world of the run
-  put_now : (xs ys : Moves m) → zs ≡ xs ++ ys → (k epoch : ℕ) (page : List ℕ) (e : Entry) → HeldOf (client m (after m h xs) k) epoch page e → PutFor xs k epoch page e
-  put_now xs ys split k epoch page e a = record {
+  put_now : (xs ys : Moves m) → zs ≡ xs ++ ys → (k : ℕ) (packet : Packet) (epoch : ℕ) (page : List ℕ) (e : Entry) → Has (after m h xs).packets packet → HeldOf (client m (after m h xs) k) epoch page e → PutFor xs k packet epoch page e
+  put_now xs ys split k packet epoch page e sent a = record {
     before = xs;
     mid = [];
     split = sym (append-nil xs);
+    sent = sent;
     append = a.append;
     holds = a.holds;
     stands = a.stands;
@@ -131,7 +134,7 @@ module _ (m : Meaning) (h : Header) (zs : Moves m) (reach : Reaches m h zs (afte
       ours = puts_ok a.rid page a.index a.puts
 
   on_event : (xs : Moves m) (e : EventOf m) (rest : Moves m) → zs ≡ xs ++ Takes e ∷ rest → PutsFor xs → PutsFor (xs ++ Takes e ∷ [])
-  on_event xs e rest split l = subst (λ (u : World m). (k : ℕ) (x : Put u.packets k) → PutFor (xs ++ Takes e ∷ []) k x.epoch x.page x.entry) (sym now) puts_now
+  on_event xs e rest split l = subst (λ (u : World m). (k : ℕ) (x : Put u.packets k) → PutFor (xs ++ Takes e ∷ []) k x.packet x.epoch x.page x.entry) (sym now) puts_now
     where
       now : after m h (xs ++ Takes e ∷ []) ≡ happens m (after m h xs) e
       now = then_takes m h xs e
@@ -140,22 +143,22 @@ module _ (m : Meaning) (h : Header) (zs : Moves m) (reach : Reaches m h zs (afte
       sends = step_cases_of m (LawfulCommand m) (after m h xs) (Sends xs (Takes e ∷ rest) split) (sends_cases xs (Takes e ∷ rest) split) e
           (give_right m xs (Takes e ∷ rest) (subst (λ (ms : Moves m). AllGive m (LawfulCommand m) ms) split (give m h zs reach))).0
 
-      puts_now : (k : ℕ) (x : Put (happens m (after m h xs) e).packets k) → PutFor (xs ++ Takes e ∷ []) k x.epoch x.page x.entry
+      puts_now : (k : ℕ) (x : Put (happens m (after m h xs) e).packets k) → PutFor (xs ++ Takes e ∷ []) k x.packet x.epoch x.page x.entry
       puts_now k x = by (sends k x)
         where
-          by : Has (after m h xs).packets x.packet ⊎ HeldOf (client_in m (config m (happens m (after m h xs) e)) k) x.epoch x.page x.entry → PutFor (xs ++ Takes e ∷ []) k x.epoch x.page x.entry
-          by (inl old) = longer xs (Takes e ∷ []) k x.epoch x.page x.entry (l k (put_among (after m h xs).packets (happens m (after m h xs) e).packets k x old))
-          by (inr a) = put_now (xs ++ Takes e ∷ []) rest (split ∙ sym (regroup m xs (Takes e ∷ []) rest)) k x.epoch x.page x.entry
-              (subst (λ (u : World m). HeldOf (client m u k) x.epoch x.page x.entry) (sym now) a)
+          by : Has (after m h xs).packets x.packet ⊎ HeldOf (client_in m (config m (happens m (after m h xs) e)) k) x.epoch x.page x.entry → PutFor (xs ++ Takes e ∷ []) k x.packet x.epoch x.page x.entry
+          by (inl old) = longer xs (Takes e ∷ []) k x.packet x.epoch x.page x.entry (l k (put_among (after m h xs).packets (happens m (after m h xs) e).packets k x old))
+          by (inr a) = put_now (xs ++ Takes e ∷ []) rest (split ∙ sym (regroup m xs (Takes e ∷ []) rest)) k x.packet x.epoch x.page x.entry
+              (subst (λ (u : World m). Has u.packets x.packet) (sym now) x.sent) (subst (λ (u : World m). HeldOf (client m u k) x.epoch x.page x.entry) (sym now) a)
 
   on_move : (xs : Moves m) (x : Move m) (rest : Moves m) → zs ≡ xs ++ x ∷ rest → PutsFor xs → PutsFor (xs ++ x ∷ [])
-  on_move xs Counts rest e l = subst (λ (u : World m). (k : ℕ) (x : Put u.packets k) → PutFor (xs ++ Counts ∷ []) k x.epoch x.page x.entry) (sym (then_next m h xs))
-      (λ k x. longer xs (Counts ∷ []) k x.epoch x.page x.entry (l k (put_among (after m h xs).packets (after m h xs).packets k x x.sent)))
+  on_move xs Counts rest e l = subst (λ (u : World m). (k : ℕ) (x : Put u.packets k) → PutFor (xs ++ Counts ∷ []) k x.packet x.epoch x.page x.entry) (sym (then_next m h xs))
+      (λ k x. longer xs (Counts ∷ []) k x.packet x.epoch x.page x.entry (l k (put_among (after m h xs).packets (after m h xs).packets k x x.sent)))
   on_move xs (Takes x) rest e l = on_event xs x rest e l
 
   start_puts : PutsFor []
   unfolding run start
   start_puts k x = absurd x.sent
 
-  pub puts_for : (k : ℕ) (x : Put (after m h zs).packets k) → PutFor zs k x.epoch x.page x.entry
+  pub puts_for : (k : ℕ) (x : Put (after m h zs).packets k) → PutFor zs k x.packet x.epoch x.page x.entry
   puts_for = on_moves m h zs reach PutsFor on_move [] zs [] (sym (append-nil zs)) start_puts

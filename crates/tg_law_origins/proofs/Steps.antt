@@ -25,7 +25,7 @@ use Rattle.tg_protocol.specs.Trimming as copying
 use Rattle.tg_protocol.specs.Reconfiguring.{Reconf, ReconfEnd, Installed, Overtaken, NotWhole, reconf_start, reconf_feed, reconf_latest}
 use Rattle.tg_protocol.specs.Views.{View, state_of, view_version}
 use Rattle.tg_protocol.specs.Transactions.{Tx, open_tx, tx_put, tx_read, commit_record}
-use Rattle.tg_protocol.specs.Clients.{Purpose, Writes, Judged, Decides, Rescues, Saves, Marks, Task, Syncing, Walking, Appending, Trimming, Copying', Reconfiguring, Hand, Doing, Learning, Work, Client, tests, tx_open, not_hosted, not_registered, no_tx, wrong_kind, put_fault, busy, hosts_oid, write_of, refusal}
+use Rattle.tg_protocol.specs.Clients.{Purpose, Writes, Judged, Decides, Rescues, Saves, Marks, Task, Syncing, Walking, Appending, Trimming, Copying', Reconfiguring, Hand, Doing, Learning, Work, Client, upto, tests, tx_open, not_hosted, not_registered, no_tx, wrong_kind, put_fault, busy, hosts_oid, write_of, refusal}
 use Rattle.tg_protocol.specs.Runs.{IsSpelled, LawfulCommand}
 use Rattle.tg_protocol.specs.Answers.{Moved, moved, note, took_over, closed}
 use Rattle.tg_protocol.specs.ClientSteps as step
@@ -131,12 +131,12 @@ module _ (m : Meaning) (E : Walked m → Type 0) where
   append_ended_in c w (Marks n o u) (Full l) h k = replied m E c h
   append_ended_in c w (Marks n o u) (Forgotten p b) h k = replied m E c h
 
-  append_in : (a : Append) (c : Client m) (w : Work m) (y : Purpose m) (t : Turn Append AppendEnd) → TxFits m c.tx → Fits m E c w → DraftFits m E c.stand.epoch a.draft y → Keeps a.draft t.to → Good m E (on_append m c w y t)
+  append_in : (a : Append) (c : Client m) (w : Work m) (y : Purpose m) (t : Turn Append AppendEnd) → TxFits m c.tx → Fits m E c w → DraftFits m E c.stand.epoch (upto m c) a.draft y → Keeps a.draft t.to → Good m E (on_append m c w y t)
   append_in a c w y t h k g s = by t.to s
     where
       by : (x : Next Append AppendEnd) → Keeps a.draft x → Good m E (append_to m (after_turn m c t) (met m w t) y t.besides x)
-      by (Goes b) s = goes m E (after_turn m c t) (met m w t) (Appending b y) t.besides h k (subst (λ d. DraftFits m E c.stand.epoch d y) (sym s) g)
-      by (Learns b) s = learns m E (after_turn m c t) (met m w t) (Appending b y) h k (subst (λ d. DraftFits m E c.stand.epoch d y) (sym s) g)
+      by (Goes b) s = goes m E (after_turn m c t) (met m w t) (Appending b y) t.besides h k (subst (λ d. DraftFits m E c.stand.epoch (upto m c) d y) (sym s) g)
+      by (Learns b) s = learns m E (after_turn m c t) (met m w t) (Appending b y) h k (subst (λ d. DraftFits m E c.stand.epoch (upto m c) d y) (sym s) g)
       by (Ends e) s = append_ended_in (after_turn m c t) (met m w t) y e h k
 
   -- Trims, copies, reconfigurations.
@@ -169,7 +169,7 @@ module _ (m : Meaning) (E : Walked m → Type 0) where
 
   -- An awaited answer, and a newer layout.
 
-  fed_in : (c : Client m) (w : Work m) (t : Task m) (n rid : ℕ) (x : Reply) → TxFits m c.tx → 0 < c.stand.epoch → TaskFits m E c.stand.epoch t → Fits m E c w → Came (task_end m c w t n x) → Good m E (task_feed m c w t n rid x)
+  fed_in : (c : Client m) (w : Work m) (t : Task m) (n rid : ℕ) (x : Reply) → TxFits m c.tx → 0 < c.stand.epoch → TaskFits m E c.stand.epoch (upto m c) t → Fits m E c w → Came (task_end m c w t n x) → Good m E (task_feed m c w t n rid x)
   unfolding task_feed
   fed_in c w (Syncing s) n rid x h z g k f = sync_in c w (sync_feed c.stand s s.work n x c.next) h z k f
   fed_in c w (Walking j os) n rid x h z g k f = walk_in c w j.oid os (walk_feed c.stand j j.job n x c.next) h z k f
@@ -182,36 +182,36 @@ module _ (m : Meaning) (E : Walked m → Type 0) where
   copies_in c w x None h k = copy_in c w x (copy_start x.unit x.range x.stripe c.next) h k
   copies_in c w x (Some why) h k = replied m E c h
 
-  newer_in : (c : Client m) (w : Work m) (t : Task m) (n rid : ℕ) (q : Layout) → TxFits m c.tx → TaskFits m E c.stand.epoch t → Fits m E c w → c.stand.epoch < q.epoch → Came (again_end m (stands m c q) w t) → Good m E (on_newer m c w t n rid q)
+  newer_in : (c : Client m) (w : Work m) (t : Task m) (n rid : ℕ) (q : Layout) → TxFits m c.tx → TaskFits m E c.stand.epoch (upto m c) t → Fits m E c w → c.stand.epoch < q.epoch → Came (again_end m (stands m c q) w t) → Good m E (on_newer m c w t n rid q)
   unfolding task_again sync_start
   newer_in c w (Reconfiguring y) n rid q h g k less f = reconf_in c w (reconf_latest y y.work n rid q c.next) h k
   newer_in c w (Syncing s) n rid q h g k less f = sync_in (stands m c q) (record w { gone_before = w.gone }) (sync_again s c.next) h (omega (arith, less)) k (λ y e. no_some y e)
   newer_in c w (Walking j os) n rid q h g k less f = walk_in (stands m c q) w j.oid os (walk_again q j c.next) h (omega (arith, less)) k f
-  newer_in c w (Appending a y) n rid q h g k less f = append_in a (stands m c q) w y (append_again q a c.next) h k (draft_on m E E (λ v i. i) c.stand.epoch q.epoch (omega (arith, less)) a.draft y g) (again_keeps q a c.next)
+  newer_in c w (Appending a y) n rid q h g k less f = append_in a (stands m c q) w y (append_again q a c.next) h k (draft_on m E E (λ v i. i) c.stand.epoch q.epoch (omega (arith, less)) (upto m c) a.draft y g) (again_keeps q a c.next)
   newer_in c w (Trimming t) n rid q h g k less f = trims_in (stands m c q) w t.below (trim_start q t.below c.next) h k
   newer_in c w (Copying' x) n rid q h g k less f = copies_in (stands m c q) w x _ h k
 
   module _ (c : Client m) (from : NodeId) (rid : ℕ) (h : ClientFits m E c) (z : 0 < c.stand.epoch) where
-    fed_if_in : (b : Bool) (w : Work m) (t : Task m) (x : Reply) → TaskFits m E c.stand.epoch t → Fits m E c w → Came (if b then task_end m c w t from.num x else None) → Good m E (step.fed_if m b c w t from rid x)
+    fed_if_in : (b : Bool) (w : Work m) (t : Task m) (x : Reply) → TaskFits m E c.stand.epoch (upto m c) t → Fits m E c w → Came (if b then task_end m c w t from.num x else None) → Good m E (step.fed_if m b c w t from rid x)
     fed_if_in true w t x g k f = fed_in c w t from.num rid x h.0 z g k f
     fed_if_in false w t x g k f = h
 
-    hand_in : (w : Work m) (d : Hand m) (x : Reply) → TaskFits m E c.stand.epoch (task_in m d) → Fits m E c w → Came (hand_end m c w d from rid x) → Good m E (step.hand_feed m c w d from rid x)
+    hand_in : (w : Work m) (d : Hand m) (x : Reply) → TaskFits m E c.stand.epoch (upto m c) (task_in m d) → Fits m E c w → Came (hand_end m c w d from rid x) → Good m E (step.hand_feed m c w d from rid x)
     hand_in w (Doing t) x g k f = fed_if_in (awaits (task_awaited m c.stand t) from rid) w t x g k f
     hand_in w (Learning ws t) x g k f = h
 
-    latest_in : (b : Bool) (w : Work m) (q : Layout) → (b ≡ true → c.stand.epoch < q.epoch) → TaskFits m E c.stand.epoch (task_in m w.hand) → Fits m E c w → Came (if b then again_end m (stands m c q) w (task_in m w.hand) else None) → Good m E (step.latest_if m b c w from rid q)
+    latest_in : (b : Bool) (w : Work m) (q : Layout) → (b ≡ true → c.stand.epoch < q.epoch) → TaskFits m E c.stand.epoch (upto m c) (task_in m w.hand) → Fits m E c w → Came (if b then again_end m (stands m c q) w (task_in m w.hand) else None) → Good m E (step.latest_if m b c w from rid q)
     latest_in true w q less g k f = newer_in c w (task_in m w.hand) from.num rid q h.0 g k (less refl) f
     latest_in false w q less g k f = h
 
-    reply_in : (w : Work m) (x : Reply) → TaskFits m E c.stand.epoch (task_in m w.hand) → Fits m E c w → Came (reply_end m c w from rid x) → Good m E (step.reply_feed m c w from rid x)
+    reply_in : (w : Work m) (x : Reply) → TaskFits m E c.stand.epoch (upto m c) (task_in m w.hand) → Fits m E c w → Came (reply_end m c w from rid x) → Good m E (step.reply_feed m c w from rid x)
     reply_in w (IsLatest q) g k f = latest_in (node_eq from (layout_id from.num) && nat_lt c.stand.epoch q.epoch) w q (λ e. lt_of c.stand.epoch q.epoch (and_both (node_eq from (layout_id from.num)) (nat_lt c.stand.epoch q.epoch) e).1) g k f
     reply_in w x g k f = hand_in w w.hand x g k f
 
     feed_in : (x : Reply) → Came (work_end m c c.work from rid x) → Good m E (step.feed m c c.work from rid x)
     feed_in x f = by c.work h.1 f
       where
-        by : (w : Option (Work m)) → WorkFits m E c.stand.epoch c.hosted w → Came (work_end m c w from rid x) → Good m E (step.feed m c w from rid x)
+        by : (w : Option (Work m)) → WorkFits m E c.stand.epoch (upto m c) c.hosted w → Came (work_end m c w from rid x) → Good m E (step.feed m c w from rid x)
         by None g f = h
         by (Some w) g f = reply_in w x g.0 g.1 f
 
@@ -264,7 +264,7 @@ module _ (m : Meaning) (E : Walked m → Type 0) where
   passed c x e = passes c x e (first_none (busy m c.work) (tests m c x) e).1
 
   no_work : (d : Client m) → d.work ≡ None → TxFits m d.tx → ClientFits m E d
-  no_work d e h = (h, subst (WorkFits m E d.stand.epoch d.hosted) (sym e) tt)
+  no_work d e h = (h, subst (WorkFits m E d.stand.epoch (upto m d) d.hosted) (sym e) tt)
 
   host_in : (c : Client m) (o : Oid) (b : Bool) → TxFits m c.tx → c.work ≡ None → Good m E (hosts_more m c o b)
   host_in c o true h idle = no_work c idle h
@@ -309,7 +309,7 @@ module _ (m : Meaning) (E : Walked m → Type 0) where
   end_in c None h0 h idle = no_work c idle h0
   end_in c (Some t) h0 h idle = by (length t.writes == 0)
     where
-      fits : (b : Bool) → DraftFits m E c.stand.epoch (commit_record t c.num) (if b then Writes else Judged)
+      fits : (b : Bool) → DraftFits m E c.stand.epoch (upto m c) (commit_record t c.num) (if b then Writes else Judged)
       fits true = record { reads = t.reads; writes = t.writes; body = refl; puts = h }
       fits false = record { reads = t.reads; writes = t.writes; body = refl; puts = h }
 
@@ -353,6 +353,6 @@ module _ (m : Meaning) (E : Walked m → Type 0) where
   unfolding client_tick
   tick_in c h = by c.work h.1
     where
-      by : (w : Option (Work m)) → WorkFits m E c.stand.epoch c.hosted w → ClientFits m E (step.tick_by m c w).now
+      by : (w : Option (Work m)) → WorkFits m E c.stand.epoch (upto m c) c.hosted w → ClientFits m E (step.tick_by m c w).now
       by None g = h
       by (Some w) g = h

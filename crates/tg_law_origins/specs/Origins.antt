@@ -59,10 +59,12 @@ module _ (m : Meaning) where
     pub hosted : Contains walk.end.client.hosted o
     pub follows : Follows w walk.end.client.stand.epoch pos
 
-  -- A mark comes from the end of the walks of a command that forgets, where the entries at hand allowed that.
+  -- A mark comes from the end of the walks of a command that forgets, where the entries at hand allowed that, and stands at or past
+  -- that command's tail.
   pub record MarkFrom (h : Header) (ms : Moves m) (w : World m) (pos : ℕ) (e : Entry) (o : Oid) (mark : ℕ) : Type 0 where
     pub walk : WalkedFor h ms e.head.client (cmd.Forget o mark)
     pub allowed : may_forget m (all_entries m walk.end.client walk.end.work walk.end.client.hosted) o mark ≡ None
+    pub below : walk.end.work.tail ≤ pos
     pub walked : Contains walk.end.work.oids o
     pub hosted : Contains walk.end.client.hosted o
     pub follows : Follows w walk.end.client.stand.epoch pos
@@ -86,15 +88,19 @@ module _ (m : Meaning) where
   abbrev pub ByRuns : (Header → Moves m → World m → Type 0) → Type 0
   ByRuns P = (h : Header) (ms : Moves m) (w : World m) → Reaches m h ms w → TrimsWereSafe m h ms → P h ms w
 
+  -- in which they were spare too
+  abbrev pub BySpareRuns : (Header → Moves m → World m → Type 0) → Type 0
+  BySpareRuns P = (h : Header) (ms : Moves m) (w : World m) → Reaches m h ms w → TrimsWereSpare m h ms → P h ms w
+
   -- checkpoints over kinds whose ops touch parts of the format, where trims were spare too
   abbrev pub CheckpointsFollowWalks : Type 0
   CheckpointsFollowWalks = TouchParts m → (h : Header) (ms : Moves m) (w : World m) → Reaches m h ms w → TrimsWereSpare m h ms → (pos : ℕ) (e : Entry) (o : Oid) (upto version whole : ℕ) (keys : List (Part × ℕ)) (state : List ℕ) →
       HasEntry m w pos e → e.body ≡ Checkpoint o upto version whole keys state → CheckpointFrom h ms w pos e o upto
 
-  -- marks over kinds with a directory that only marks mark, and whose objects have the format's numbers
+  -- marks over kinds with a directory that only marks mark, and whose objects have the format's numbers, where trims were spare too
   abbrev pub MarksFollowWalks : Type 0
   MarksFollowWalks = (is_object : Oid → Bool) (is_op : m.op → Bool) → DirectoryLaws m is_object is_op → ((o : Oid) → records.is_object o ≡ true → is_object o ≡ true) →
-      ByRuns (λ h ms w. (pos : ℕ) (e : Entry) (x : WriteOp) (o : Oid) (mark : ℕ) → is_object o ≡ true → HasEntry m w pos e → Contains (writes_of e) x → x.oid ≡ directory →
+      BySpareRuns (λ h ms w. (pos : ℕ) (e : Entry) (x : WriteOp) (o : Oid) (mark : ℕ) → is_object o ≡ true → HasEntry m w pos e → Contains (writes_of e) x → x.oid ≡ directory →
       m.read directory x.op ≡ Some (m.mark_op o mark) → MarkFrom h ms w pos e o mark)
 
   abbrev pub DecisionsFollowWalks : Type 0

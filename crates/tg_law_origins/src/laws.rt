@@ -13,7 +13,8 @@ pub fn checkpoints_follow_walks<K: Registry>()
 {}
 
 /// A mark is put by no user, and a client appends one only where the walks of a command end that forgets, and the entries at hand
-/// allow that. So each record of the log that marks an object comes from such an end, and is of no earlier epoch than it.
+/// allow that; it has played up to the command's tail then. So each record of the log that marks an object comes from such an end,
+/// stands at or past its tail, and is of no earlier epoch than it.
 pub fn marks_follow_walks<K: Registry>()
     ensures { MarksFollowWalks (meaning_of K.Registry) }
 {}
