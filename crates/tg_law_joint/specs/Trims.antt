@@ -1,0 +1,45 @@
+-- Of which floors the trims come that walks meet, and what walks settle.
+use Rattle.std.specs.Prelude.{◌≡◌, ℕ, ◌≤◌, ◌∷◌, ◌++◌, Some, Contains}
+use Rattle.tg_base.specs.Clusters.{Header}
+use Rattle.tg_base.specs.declared.ids.Oid.{Oid}
+use Rattle.tg_kind.specs.Meaning.{Meaning}
+use Rattle.tg_model.specs.Kinds.{EventOf}
+use Rattle.tg_model.specs.declared.command.Command.TheVariants as cmd
+use Rattle.tg_model.specs.declared.play.PlayEnd.TheVariants.{Played}
+use Rattle.tg_protocol.specs.Words.{directory}
+use Rattle.tg_protocol.specs.Views.{state_of}
+use Rattle.tg_protocol.specs.Answers.{floor_of}
+use Rattle.tg_protocol.specs.Checkpoints.{trim_of}
+use Rattle.tg_protocol.specs.Walked.{Walked, walked_in}
+use Rattle.tg_protocol.specs.Worlds.{World, start}
+use Rattle.tg_protocol.specs.Runs.{Moves, Takes, run, Reaches}
+use Rattle.tg_law_trims.specs.Spare.{own_play}
+use Rattle.tg_law_trims.specs.Floors.{IsSettledFor}
+use Rattle.tg_law_floors.specs.Confirming.{EachEndBySpareTrims}
+
+module _ (m : Meaning) where
+  -- A client had walked for a trim in a step of the run, and its view, once played, had a floor: at or past a position, in an epoch up
+  -- to this one.
+  pub record FloorTold (h : Header) (ms : Moves m) (epoch below : ℕ) : Type 0 where
+    pub before : Moves m
+    pub event : EventOf m
+    pub after : Moves m
+    pub split : ms ≡ before ++ Takes event ∷ after
+    pub client : ℕ
+    pub end : Walked m
+    pub walked : walked_in m (run m before (start m h)) event client ≡ Some end
+    pub command : end.work.command ≡ cmd.Trim
+    pub at : ℕ
+    pub played : (own_play m end.client end.work).came ≡ Played at
+    pub reaches : below ≤ floor_of m (state_of m (own_play m end.client end.work).view directory)
+    pub in_time : end.client.stand.epoch ≤ epoch
+
+  -- Where a step comes to the end of a command's walks, each trim that they met was told so before the step, in an epoch up to that
+  -- in which the client stands.
+  abbrev pub WalksMeetToldTrims : Type 0
+  WalksMeetToldTrims = (h : Header) (ms : Moves m) (w : World m) → Reaches m h ms w → (e : EventOf m) (k : ℕ) (end : Walked m) → walked_in m w e k ≡ Some end →
+      (o : Oid) (below : ℕ) → trim_of end.work.trims o ≡ Some below → FloorTold h ms end.client.stand.epoch below
+
+  -- And each stream that was walked is settled up to the tail.
+  abbrev pub WalksSettle : Type 0
+  WalksSettle = EachEndBySpareTrims m (λ w c v. (o : Oid) → Contains v.oids o → IsSettledFor m w o v.tail c.stand.epoch)
