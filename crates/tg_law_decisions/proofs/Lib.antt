@@ -1,0 +1,10 @@
+pub mod Whole
+pub mod Wholes
+pub mod Drawing
+pub mod Fresh
+pub mod Begun
+pub mod New
+pub mod Following
+pub mod Staying
+pub mod Saved
+pub mod Forgets

@@ -1,0 +1,10 @@
+pub mod Rounds
+pub mod Checks
+pub mod Meets
+pub mod Widens
+pub mod Turns
+pub mod Steps
+pub mod Ends
+pub mod Heard
+pub mod Joins
+pub mod Settled
