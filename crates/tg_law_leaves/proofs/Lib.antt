@@ -3,6 +3,8 @@ pub mod Walks
 pub mod Turns
 pub mod Plays
 pub mod Ends
+pub mod Ended
+pub mod Named
 pub mod Steps
 pub mod Landing
 pub mod Passing

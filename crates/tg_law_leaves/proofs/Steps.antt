@@ -18,19 +18,23 @@ use Rattle.tg_protocol.specs.ClientSteps.{ClientTurn, client_command, client_del
 use Rattle.tg_protocol.specs.Worlds.{World, client, unit_moves, layout_moves, seqr_moves, client_turned, moves, comes, handed, delivers, noted_if, commands, ticks, ticks_if, stops_if, happens, runs}
 use Rattle.tg_law_replies.specs.Steps.{EachDelivery, EachEvent}
 use Rattle.tg_law_replies.proofs.Steps.{set_at}
-use Rattle.tg_law_leaves.proofs.Turns.{Lasts, Holds, PlayHolds, Lands, command_fine, deliver_fine, tick_fine}
+use Rattle.tg_law_leaves.proofs.Turns.{Lasts, Holds, Rested, PlayHolds, Lands, command_fine, deliver_fine, tick_fine}
 
 -- the appends of a step land past the views of their clients
 abbrev pub StepLands : (m : Meaning) → World m → EventOf m → Type 0
 StepLands m w (Deliver i) = (p : Packet) → slice_get w.packets i ≡ Some p → p.to.role ≡ role.Client → Lands m (client m w p.to.num) p.from p.rid (reply p.msg)
 StepLands m w e = Unit {0}
 
-module _ (m : Meaning) (objects : List Oid) (es : Entries) (K : ℕ → List ℕ → List (ℕ × Cell) → List Oid → Option (View m) → Type 0) (keep : Lasts m K) where
+module _ (m : Meaning) (objects : List Oid) (es : Entries) (K J : ℕ → List ℕ → List (ℕ × Cell) → List Oid → Option (View m) → Type 0) (keep : Lasts m K) (last : Lasts m J)
+    (weaker : (n : ℕ) (own : List ℕ) (cells : List (ℕ × Cell)) (os : List Oid) (v : Option (View m)) → K n own cells os v → J n own cells os v) where
   abbrev Of : Client m → Type 0
-  Of c = Holds m K c
+  Of c = Holds m K J c
 
   abbrev pub AllHold : World m → Type 0
-  AllHold w = (k : ℕ) → Holds m K (client m w k)
+  AllHold w = (k : ℕ) → Holds m K J (client m w k)
+
+  abbrev pub AllRested : World m → Type 0
+  AllRested w = (k : ℕ) → Rested m K J (client m w k)
 
   turned_hold : (w : World m) (n : ℕ) (t : ClientTurn m) → AllHold w → Of t.now → AllHold (client_turned m w n t)
   unfolding client_turned
@@ -42,7 +46,7 @@ module _ (m : Meaning) (objects : List Oid) (es : Entries) (K : ℕ → List ℕ
       by (inr e) = subst Of (sym e) (q k)
 
   abbrev Handed : World m → Packet → Type 0
-  Handed w p = EachDelivery m objects es (PlayHolds m K) (client m w p.to.num) (client m w p.to.num).work p.from p.rid (reply p.msg) × Lands m (client m w p.to.num) p.from p.rid (reply p.msg)
+  Handed w p = EachDelivery m objects es (PlayHolds m K J) (client m w p.to.num) (client m w p.to.num).work p.from p.rid (reply p.msg) × Lands m (client m w p.to.num) p.from p.rid (reply p.msg)
 
   moves_hold : (w : World m) (p : Packet) (r : Role) → AllHold w → (r ≡ role.Client → Handed w p) → AllHold (moves m w p r)
   unfolding unit_moves layout_moves seqr_moves
@@ -50,20 +54,20 @@ module _ (m : Meaning) (objects : List Oid) (es : Entries) (K : ℕ → List ℕ
   moves_hold w p role.Layout q e = q
   moves_hold w p role.Seqr q e = q
   moves_hold w p role.Client q e =
-      turned_hold w p.to.num (client_deliver m (client m w p.to.num) p.from p.rid p.msg) q (deliver_fine m objects es K keep (client m w p.to.num) p.from p.rid p.msg (e refl).1 (q p.to.num) (e refl).0)
+      turned_hold w p.to.num (client_deliver m (client m w p.to.num) p.from p.rid p.msg) q (deliver_fine m objects es K J keep last weaker (client m w p.to.num) p.from p.rid p.msg (e refl).1 (q p.to.num) (e refl).0)
 
-  pub happens_hold : (w : World m) (e : EventOf m) → AllHold w → EachEvent m objects es (PlayHolds m K) w e → StepLands m w e → AllHold (happens m w e)
+  pub happens_hold : (w : World m) (e : EventOf m) → AllRested w → AllHold w → EachEvent m objects es (PlayHolds m K J) w e → StepLands m w e → AllHold (happens m w e)
   unfolding happens
-  happens_hold w (Commands k x) q r lands = by (runs m w (client_id k))
+  happens_hold w (Commands k x) rest q r lands = by (runs m w (client_id k))
     where
       noted : (b : Bool) → AllHold (noted_if m b w k (client m w k))
       noted true = q
       noted false = q
 
       by : (b : Bool) → AllHold (commands m b w k x)
-      by true = turned_hold (noted_if m (is_some (client m w k).work) w k (client m w k)) k (client_command m (client m w k) x) (noted (is_some (client m w k).work)) (command_fine m objects es K keep (client m w k) x (q k))
+      by true = turned_hold (noted_if m (is_some (client m w k).work) w k (client m w k)) k (client_command m (client m w k) x) (noted (is_some (client m w k).work)) (command_fine m objects es K J keep last weaker (client m w k) x (rest k) (q k))
       by false = q
-  happens_hold w (Deliver i) q r lands = by (slice_get w.packets i) refl
+  happens_hold w (Deliver i) rest q r lands = by (slice_get w.packets i) refl
     where
       comes_hold : (p : Packet) → slice_get w.packets i ≡ Some p → (b : Bool) → runs m w p.to ≡ b → AllHold (comes m b (handed m w i) p)
       comes_hold p is true on = moves_hold (handed m w i) p p.to.role q (λ c. (r p is c on, lands p is c))
@@ -72,19 +76,19 @@ module _ (m : Meaning) (objects : List Oid) (es : Entries) (K : ℕ → List ℕ
       by : (p : Option Packet) → slice_get w.packets i ≡ p → AllHold (delivers m w i p)
       by None is = q
       by (Some p) is = comes_hold p is (runs m (handed m w i) p.to) refl
-  happens_hold w (Lose i) q r lands = q
-  happens_hold w (Tick n) q r lands = by (runs m w n)
+  happens_hold w (Lose i) rest q r lands = q
+  happens_hold w (Tick n) rest q r lands = by (runs m w n)
     where
       ticks_hold : (x : Role) → AllHold (ticks m w n.num x)
       ticks_hold role.Unit = q
       ticks_hold role.Layout = q
       ticks_hold role.Seqr = q
-      ticks_hold role.Client = turned_hold w n.num (client_tick m (client m w n.num)) q (tick_fine m objects es K keep (client m w n.num) (q n.num))
+      ticks_hold role.Client = turned_hold w n.num (client_tick m (client m w n.num)) q (tick_fine m objects es K J keep last weaker (client m w n.num) (q n.num))
 
       by : (b : Bool) → AllHold (ticks_if m b w n)
       by true = ticks_hold n.role
       by false = q
-  happens_hold w (Stop n) q r lands = by (runs m w n)
+  happens_hold w (Stop n) rest q r lands = by (runs m w n)
     where
       by : (b : Bool) → AllHold (stops_if m b w n)
       by true = q

@@ -21,7 +21,7 @@ use Rattle.tg_protocol.specs.Views.{Entries, View, Play, Verdict, Commits, Abort
 use Rattle.tg_protocol.specs.Checkpoints.{ForgetFault, NoCheckpoint, OpenDecision, checkpoint, may_forget}
 use Rattle.tg_protocol.specs.Past.{commit_at, PastTurn, PastView, PastGone, RescueTurn, Wider, Wide, Absent, StuckAt, Known}
 use Rattle.tg_protocol.specs.Transactions.{Tx}
-use Rattle.tg_protocol.specs.Clients.{Purpose, Saves, Marks, Work, Client, upto, all_entries}
+use Rattle.tg_protocol.specs.Clients.{Purpose, Judged, Decides, Rescues, Saves, Marks, Work, Client, upto, all_entries}
 use Rattle.tg_protocol.specs.Answers.{Moved, keeps, is_page, mark_notes, mark_record, replies, pruned, took_over, answers, closed, appends, syncs, walked, walked_for, plays_own, own_view, play_target, answer_by, with_view, on_ask, ask_in, ask_answer, aborted, end_decided, end_aborted, end_no, end_by, end_record, on_end, lacks_decision, with_decision, forgotten_or, fate_verdict, fate_record, fate_known, fate_blocked, blocks, on_fate, trim_above, decides_if, decide_verdict, decide_record, decide_blocked, on_decide, save_if, on_checkpoint, forget_by, on_forget, floor_of, trim_begun, trims_if, on_trim, past_answer, past_played, past_turn, ahead_or, on_ask_at, rescue_decision, rescue_known, absent, rescue_by}
 use Rattle.tg_protocol.specs.ClientSteps.{plays_kept}
 use Rattle.tg_law_moves.proofs.Members.{Has, has_contained}
@@ -73,11 +73,16 @@ module _ (m : Meaning) where
   pub keeps_same : (c : Client m) → Keeps c c
   keeps_same c = record { num = refl; own = refl; pages = λ p i k. k; view = refl; hosted = refl }
 
-  -- the command ends, or goes on with a machine that begins
+  -- an append with which a command ends, whatever comes of it
+  abbrev pub IsLast : Purpose m → Type 0
+  IsLast Judged = ⊥
+  IsLast y = Unit {0}
+
+  -- The command ends, or goes on with a machine that begins. A sync begins only where the kept view is left alone.
   pub data Came (c : Client m) (w : Work m) (x : Moved m) : Type 0 where
     Rests : Keeps c x.now → x.now.work ≡ None → Came c w x
-    Appends : (d : Client m) → Keeps c d → (e : Entry) (y : Purpose m) (ns : List (NoteOf m)) → x ≡ appends m d w e y ns → Came c w x
-    Syncs : (o : Oid) → x ≡ syncs m c w (with_oid o w.oids) → Came c w x
+    Appends : (d : Client m) → Keeps c d → (e : Entry) (y : Purpose m) (ns : List (NoteOf m)) → IsLast y → x ≡ appends m d w e y ns → Came c w x
+    Syncs : plays_kept m w.command ≡ false → (o : Oid) → x ≡ syncs m c w (with_oid o w.oids) → Came c w x
     Trims : (below : ℕ) → x ≡ trim_begun m c w below (trim_start c.stand below c.next) → Came c w x
 
   -- a reply gives up no page of the client's own records
@@ -112,8 +117,8 @@ module _ (m : Meaning) where
   shuts : (c : Client m) (w : Work m) (n : ℕ) (what : WhatOf m) → Came c w (answers m (closed m c) n what)
   shuts c w n what = replied c (took_over m (closed m c) c.view) w _ (took_keeps c (closed m c) c.view (record { num = refl; own = refl; pages = λ p i k. k; view = refl; hosted = refl }))
 
-  decides : (c : Client m) (w : Work m) (e : Entry) (y : Purpose m) → Came c w (appends m (with_decision m c) w e y [])
-  decides c w e y = Appends (with_decision m c) (record { num = refl; own = refl; pages = λ p i k. k; view = refl; hosted = refl }) e y [] refl
+  decides : (c : Client m) (w : Work m) (e : Entry) (y : Purpose m) → IsLast y → Came c w (appends m (with_decision m c) w e y [])
+  decides c w e y last = Appends (with_decision m c) (record { num = refl; own = refl; pages = λ p i k. k; view = refl; hosted = refl }) e y [] last refl
 
   -- The answers of commands that have played.
 
@@ -130,7 +135,7 @@ module _ (m : Meaning) where
       by (Some t) = answer t (state_of m v o)
 
   end_decided_came : (b : Bool) (c : Client m) (w : Work m) (e : Entry) (p : ℕ) (so : Bool) (what : WhatOf m) → Came c w (end_decided m b c w e p so what)
-  end_decided_came true c w e p so what = decides c w _ _
+  end_decided_came true c w e p so what = decides c w _ (Decides what) tt
   end_decided_came false c w e p so what = shuts c w _ _
 
   end_aborted_came : (c : Client m) (w : Work m) (es : Entries) (e : Entry) (p : ℕ) (x : Option Changed) → Came c w (end_aborted m c w es e p x)
@@ -180,7 +185,7 @@ module _ (m : Meaning) where
       by false = fate_known_came c w es v p (fate_of m v p)
 
   decides_came : (b : Bool) (c : Client m) (w : Work m) (e : Entry) (p : ℕ) (so : Bool) (n : ℕ) (what : WhatOf m) → Came c w (decides_if m b c w e p so n what)
-  decides_came true c w e p so n what = decides c w _ _
+  decides_came true c w e p so n what = decides c w _ (Decides _) tt
   decides_came false c w e p so n what = tells c w _ _
 
   decide_verdict_came : (c : Client m) (w : Work m) (es : Entries) (p : ℕ) (e : Entry) (d : Verdict) → Came c w (decide_verdict m c w es p e d)
@@ -203,7 +208,7 @@ module _ (m : Meaning) where
 
   save_came : (b : Bool) (c : Client m) (w : Work m) (o : Oid) (e : Entry) → Came c w (save_if m b c w o e)
   save_came true c w o e = rests c w _
-  save_came false c w o e = Appends (record c { checkpoints = c.checkpoints + 1 }) (record { num = refl; own = refl; pages = λ p i k. k; view = refl; hosted = refl }) e (Saves o w.tail) [] refl
+  save_came false c w o e = Appends (record c { checkpoints = c.checkpoints + 1 }) (record { num = refl; own = refl; pages = λ p i k. k; view = refl; hosted = refl }) e (Saves o w.tail) [] tt refl
 
   checkpoint_came : (c : Client m) (w : Work m) (v : View m) (o : Oid) (came : PlayEnd) → Came c w (on_checkpoint m c w v o came)
   checkpoint_came c w v o (Blocked q x) = rests c w _
@@ -212,7 +217,7 @@ module _ (m : Meaning) where
   forget_by_came : (c : Client m) (w : Work m) (o : Oid) (n : ℕ) (f : Option (ForgetFault m)) → Came c w (forget_by m c w o n f)
   forget_by_came c w o n (Some NoCheckpoint) = rests c w _
   forget_by_came c w o n (Some (OpenDecision p)) = rests c w _
-  forget_by_came c w o n None = Appends (record c { begun = c.begun + 1 }) (record { num = refl; own = refl; pages = λ p i k. k; view = refl; hosted = refl }) (mark_record m c o n) (Marks (c.begun + 1) o n) (mark_notes m (c.begun + 1) o n) refl
+  forget_by_came c w o n None = Appends (record c { begun = c.begun + 1 }) (record { num = refl; own = refl; pages = λ p i k. k; view = refl; hosted = refl }) (mark_record m c o n) (Marks (c.begun + 1) o n) (mark_notes m (c.begun + 1) o n) tt refl
 
   forget_came : (c : Client m) (w : Work m) (es : Entries) (o : Oid) (n : ℕ) (came : PlayEnd) → Came c w (on_forget m c w es o n came)
   forget_came c w es o n (Played t) = forget_by_came c w o n (may_forget m es o n)
@@ -251,18 +256,18 @@ module _ (m : Meaning) where
     where
       by : (e : Option Entry) → Came c w (rescue_decision m c w es p so e)
       by None = rests c w _
-      by (Some e) = decides c w _ _
+      by (Some e) = decides c w _ (Rescues _) tt
 
-  rescue_came : (c : Client m) (w : Work m) (es : Entries) (p : ℕ) (t : RescueTurn m) → Came c w (rescue_by m c w es p t)
-  rescue_came c w es p (Wider o) = Syncs o refl
-  rescue_came c w es p Wide = rests c w _
-  rescue_came c w es p Absent = by (trim_above m w.trims p)
+  rescue_came : (c : Client m) (w : Work m) (es : Entries) (p : ℕ) (t : RescueTurn m) → plays_kept m w.command ≡ false → Came c w (rescue_by m c w es p t)
+  rescue_came c w es p (Wider o) left = Syncs left o refl
+  rescue_came c w es p Wide left = rests c w _
+  rescue_came c w es p Absent left = by (trim_above m w.trims p)
     where
       by : (b : Option ℕ) → Came c w (absent m c p b)
       by None = rests c w _
       by (Some b) = rests c w _
-  rescue_came c w es p (StuckAt q x) = rests c w _
-  rescue_came c w es p (Known so needs) = rescue_known_came c w es p so needs
+  rescue_came c w es p (StuckAt q x) left = rests c w _
+  rescue_came c w es p (Known so needs) left = rescue_known_came c w es p so needs
 
   answer_came : (c : Client m) (w : Work m) (es : Entries) (p : Play m) (x : CommandOf m) → Came c w (answer_by m c w es p x)
   answer_came c w es p (cmd.Ask o q) = ask_came c w o q p.view p.came
@@ -290,5 +295,5 @@ module _ (m : Meaning) where
 
       by : (x : CommandOf m) → w.command ≡ x → WalkedWay c w (walked_for m c w x)
       by (cmd.AskAt p o q) is = LeavesView (ask_at_came c w p o q)
-      by (cmd.Rescue p) is = LeavesView (rescue_came c w _ p _)
+      by (cmd.Rescue p) is = LeavesView (rescue_came c w _ p _ (ap (λ (y : CommandOf m). plays_kept m y) is))
       by x is = plays x is refl

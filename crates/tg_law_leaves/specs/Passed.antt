@@ -12,7 +12,7 @@ use Rattle.tg_protocol.specs.Views.{Entries, View, decision_in, fate_of, unknown
 use Rattle.tg_protocol.specs.Checkpoints.{trim_of}
 use Rattle.tg_protocol.specs.Clients.{Work, Client}
 use Rattle.tg_protocol.specs.Walked.{Walked, walked_in}
-use Rattle.tg_protocol.specs.Worlds.{World, start}
+use Rattle.tg_protocol.specs.Worlds.{World, start, client}
 use Rattle.tg_protocol.specs.Runs.{Moves, Takes, run}
 use Rattle.tg_law_history.specs.Worlds.{entries_in}
 use Rattle.tg_law_replies.specs.Found.{mine}
@@ -21,8 +21,12 @@ use Rattle.tg_law_replies.specs.Steps.{EachEvent}
 use Rattle.tg_law_exact.specs.Finds.{ByRunsOfSpareTrims, ViewsLeaveNone}
 
 module _ (m : Meaning) where
+  -- a client has no work
+  abbrev pub IsIdle : World m → ℕ → Type 0
+  IsIdle u k = (client m u k).work ≡ None
+
   -- A step of the run came to the end of the walks of the client with a number, of which that of this stream had met a trim above a
-  -- position.
+  -- position; and the run came through a world since in which this client had no work.
   pub record WasMet (h : Header) (ms : Moves m) (n : ℕ) (o : Oid) (p : ℕ) : Type 0 where
     pub before : Moves m
     pub event : EventOf m
@@ -35,6 +39,14 @@ module _ (m : Meaning) where
     pub below : ℕ
     pub met : trim_of end.work.trims o ≡ Some below
     pub above : p < below
+    pub until : Moves m
+    pub since : Moves m
+    pub rest : after ≡ until ++ since
+    pub idle : IsIdle (run m (before ++ Takes event ∷ until) (start m h)) client
+
+  -- the world in which the client had no work
+  abbrev pub idle_world : {h : Header} {ms : Moves m} {n : ℕ} {o : Oid} {p : ℕ} → WasMet h ms n o p → World m
+  idle_world {h} {ms} {n} {o} {p} x = run m (x.before ++ Takes x.event ∷ x.until) (start m h)
 
   -- A record of a hosted stream that a view went past, of which it knows all reads there, has a fate, or stands below a trim
   -- that a walk of the stream had met.

@@ -1,0 +1,5 @@
+pub mod Asked
+pub mod Told
+pub mod Turns
+pub mod Meeting
+pub mod Decided
