@@ -36,7 +36,7 @@ use Rattle.tg_law_lists.proofs.Safe.{safe_before}
 use Rattle.tg_law_syncs.proofs.Later.{grow, late}
 use Rattle.tg_law_exact.proofs.Finds.{spare_before}
 use Rattle.tg_law_trims.specs.Spare.{WereSpare}
-use Rattle.tg_law_joint.specs.Decisions.{IsDecidedBy}
+use Rattle.tg_law_decisions.specs.Decisions.{IsDecidedBy}
 
 module _ (m : Meaning) (h : Header) (zs : Moves m) (r : Reaches m h zs (after m h zs)) (xs ys : Moves m) (split : zs ≡ xs ++ ys) where
   sent_late : (x : Packet) → Sent m (after m h xs) x → Sent m (after m h zs) x

@@ -25,8 +25,11 @@ use Rattle.tg_law_views.specs.Exact.{low_of}
 use Rattle.tg_law_lists.specs.Spared.{IsSaved, TrimsWereSpare}
 use Rattle.tg_law_lists.proofs.Reached.{before_reached}
 use Rattle.tg_law_trims.specs.Floors.{IsSettledFor, RestsOn}
+use Rattle.tg_law_settled.proofs.Settled.{walks_settle}
 use Rattle.tg_law_joint.specs.Origins.{CheckpointFrom, MarkFrom}
-use Rattle.tg_law_joint.specs.Decisions.{IsDecidedBy, IsDecidedUpTo, ForgetsDecided}
+use Rattle.tg_law_decisions.specs.Decisions.{IsDecidedBy}
+use Rattle.tg_law_decisions.specs.Forgetting.{IsDecidedUpTo, ForgetsDecided}
+use Rattle.tg_law_decisions.proofs.Forgets.{forgets_decide}
 use Rattle.tg_law_joint.specs.Joint.{JointRests, EachOwns, MarksRestWhere}
 use Rattle.tg_law_joint.proofs.Linking.{at_end}
 use Rattle.tg_law_joint.proofs.Lifting.{saved_late, entry_stays, front_spare, step_spare}
@@ -81,7 +84,7 @@ module _ (m : Meaning) (is_object : Oid → Bool) (rests : JointRests m is_objec
       from c =
           let b = c.walk.before in
           let rb = before_reached m h zs r b (Takes c.walk.event ∷ c.walk.after) c.walk.split in
-          let each = rests.settle h b (after m h b) c.walk.event rb (step_spare m h zs r trims b c.walk.after c.walk.event c.walk.split) in
+          let each = walks_settle m h b (after m h b) c.walk.event rb (step_spare m h zs r trims b c.walk.after c.walk.event c.walk.split) in
           let there = at_end m h.objects (entries_in m (after m h b)) (λ x v. (i : Oid) → Contains v.oids i → IsSettledFor m (after m h b) i v.tail x.stand.epoch) (after m h b) s.entry.head.client c.walk.event c.walk.end each c.walk.walked o c.walked in
           let low = c.follows.settled (Data s.page) s.settled in
           let time = s.in_time in (
@@ -115,7 +118,7 @@ module _ (m : Meaning) (is_object : Oid → Bool) (rests : JointRests m is_objec
   found : IsDecidedUpTo m (after m h from.walk.before) from.walk.end.client.stand.epoch o mark from.walk.end.work
   found =
       at_end m h.objects (entries_in m (after m h b)) (ForgetsDecided m (after m h b)) (after m h b) e.head.client from.walk.event from.walk.end
-      (rests.forgets h b (after m h b) from.walk.event rb tb (owns h b (after m h b) rb)) from.walk.walked o mark from.walk.command from.hosted from.allowed
+      (forgets_decide m h b (after m h b) from.walk.event rb tb (owns h b (after m h b) rb)) from.walk.walked o mark from.walk.command from.hosted from.allowed
 
   whole_there : (found.saved.saves.base.upto ≤ found.saved.at) × IsSettledFor m (after m h from.walk.before) o found.saved.saves.base.upto from.walk.end.client.stand.epoch
   whole_there = saved_whole m is_object rests owns h b rb tb o last mark found.saved found.here

@@ -40,7 +40,8 @@ use Rattle.tg_law_store.specs.Steps.{StepHolds, StepsHold}
 use Rattle.tg_law_store.proofs.Found.{each_so_far}
 use Rattle.tg_law_store.proofs.States.{store_reads_ops, store_has_states}
 use Rattle.tg_law_store.proofs.Steps.{store_steps_rest, views_here}
-use Rattle.tg_law_joint.specs.Met.{MetSettled}
+use Rattle.tg_law_trimming.specs.Decided.{MetSettled}
+use Rattle.tg_law_trimming.proofs.Decided.{met_decided_where}
 use Rattle.tg_law_joint.specs.Joint.{JointRests, EachOwns, StepsHoldWhere}
 use Rattle.tg_law_joint.proofs.Linking.{at_end, one_end}
 use Rattle.tg_law_joint.proofs.Resting.{marks_rest_where}
@@ -108,7 +109,7 @@ module _ (rests : JointRests all_kinds is_number) (h : Header) (zs : Moves all_k
       settled = met_settled_where all_kinds is_number is_op kinds_have_directory rests owns h ms w on trims steps
 
       decided : MetDecided all_kinds h (zs ++ Takes e ∷ []) (after all_kinds h (zs ++ Takes e ∷ []))
-      decided = rests.met h ms w on settled
+      decided = met_decided_where all_kinds h ms w on settled
 
       leaves : ViewsLeaveNone all_kinds h (zs ++ Takes e ∷ []) (after all_kinds h (zs ++ Takes e ∷ []))
       leaves = views_leave_none all_kinds h ms w on trims (trims_rest all_kinds h ms w on trims decided)

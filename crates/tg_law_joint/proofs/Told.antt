@@ -27,8 +27,9 @@ use Rattle.tg_law_trims.specs.Spare.{WereSpare}
 use Rattle.tg_law_trims.specs.Floors.{directory_at, floor_at, WasRegistered, FloorsRest, HasTail, ConfirmsTail, SeesDirectory, StepRests}
 use Rattle.tg_law_trims.proofs.Floors.{floors_are_spare}
 use Rattle.tg_law_joint.specs.Origins.{MarkFrom}
-use Rattle.tg_law_joint.specs.Decisions.{IsDecidedBy}
-use Rattle.tg_law_joint.specs.Trims.{FloorTold}
+use Rattle.tg_law_decisions.specs.Decisions.{IsDecidedBy}
+use Rattle.tg_law_trimming.specs.Trimming.{FloorTold}
+use Rattle.tg_law_trimming.proofs.Meeting.{walks_meet_told_trims}
 use Rattle.tg_law_joint.specs.Joint.{JointRests, EachOwns}
 use Rattle.tg_law_joint.proofs.Linking.{at_end}
 use Rattle.tg_law_joint.proofs.Lifting.{entry_was, decided_late, front_spare, step_spare}
@@ -151,7 +152,7 @@ module _ (m : Meaning) (is_object : Oid → Bool) (is_op : m.op → Bool) (d : I
       where
         met : (x : Option ℕ) → trim_of from.walk.end.work.trims o ≡ x → p < or_first x → (low : ℕ) × (p < low) × FloorTold m h from.walk.before from.walk.end.client.stand.epoch low
         met None is less = absurd (omega (arith, less))
-        met (Some low) is less = (low, less, rests.floors h from.walk.before (after m h from.walk.before) (before_reached m h t rt from.walk.before (Takes from.walk.event ∷ from.walk.after) from.walk.split) from.walk.event mark.entry.head.client from.walk.end from.walk.walked o low is)
+        met (Some low) is less = (low, less, walks_meet_told_trims m h from.walk.before (after m h from.walk.before) (before_reached m h t rt from.walk.before (Takes from.walk.event ∷ from.walk.after) from.walk.split) from.walk.event mark.entry.head.client from.walk.end from.walk.walked o low is)
 
         by : (p < low_of from.walk.end.work.trims o) ⊎ (low_of from.walk.end.work.trims o ≤ p)
             → IsDecidedBy m (after m h from.walk.before) from.walk.end.client.stand.epoch p e ⊎ ((low : ℕ) × (p < low) × FloorTold m h from.walk.before from.walk.end.client.stand.epoch low)

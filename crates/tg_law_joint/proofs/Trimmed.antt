@@ -1,5 +1,5 @@
 -- What a walk met a trim above was decided and settled before.
-use Rattle.std.proofs.Common.{◌≡◌, ℕ, ◌∷◌, ◌++◌, length, Bool, true, sym, ap, ◌∙◌, subst, arith}
+use Rattle.std.proofs.Common.{◌≡◌, ℕ, ◌∷◌, ◌++◌, refl, length, Bool, true, sym, ap, ◌∙◌, subst, arith}
 use Rattle.tg_base.specs.Clusters.{Header}
 use Rattle.tg_base.specs.declared.cell.Cell.TheVariants.{Data}
 use Rattle.tg_base.specs.declared.ids.Oid.{Oid}
@@ -23,14 +23,16 @@ use Rattle.tg_law_history.specs.Floors.{IsDirectory}
 use Rattle.tg_law_replies.specs.Runs.{InEachStep}
 use Rattle.tg_law_lists.specs.Spared.{TrimsWereSpare}
 use Rattle.tg_law_lists.proofs.Reached.{before_reached}
+use Rattle.tg_law_syncs.proofs.Later.{late}
 use Rattle.tg_law_exact.proofs.Finds.{event_more}
 use Rattle.tg_law_leaves.specs.Passed.{WasMet, TellsFates}
 use Rattle.tg_law_trims.specs.Spare.{WereSpare}
 use Rattle.tg_law_trims.specs.Floors.{HasTail, StepRests}
 use Rattle.tg_law_floors.proofs.Tails.{walks_have_tails}
-use Rattle.tg_law_joint.specs.Decisions.{IsDecidedBy}
-use Rattle.tg_law_joint.specs.Trims.{FloorTold}
-use Rattle.tg_law_joint.specs.Met.{IsDecidedIn, HasSettled, MetSettled}
+use Rattle.tg_law_decisions.specs.Decisions.{IsDecidedBy}
+use Rattle.tg_law_trimming.specs.Trimming.{FloorTold}
+use Rattle.tg_law_trimming.proofs.Meeting.{walks_meet_told_trims}
+use Rattle.tg_law_trimming.specs.Decided.{IsDecidedIn, HasSettled, MetSettled}
 use Rattle.tg_law_joint.specs.Joint.{JointRests, EachOwns, MetSettledWhere}
 use Rattle.tg_law_joint.proofs.Lifting.{entry_stays, front_spare, step_spare}
 use Rattle.tg_law_joint.proofs.Told.{told_decided}
@@ -48,20 +50,33 @@ module _ (m : Meaning) (is_object : Oid → Bool) (is_op : m.op → Bool) (d : I
     rx : Reaches m h x.before (after m h x.before)
     rx = before_reached m h zs r x.before (Takes x.event ∷ rest) at
 
+    -- the run up to a world since, in which the client had no work
+    abbrev idle : Moves m
+    idle = x.before ++ Takes x.event ∷ x.until
+
+    abbrev onward : Moves m
+    onward = x.since ++ Takes ev ∷ later
+
+    idle_at : zs ≡ (x.before ++ Takes x.event ∷ x.until) ++ (x.since ++ Takes ev ∷ later)
+    idle_at =
+        at
+        ∙ (ap (λ (ms : Moves m). x.before ++ Takes x.event ∷ (ms ++ Takes ev ∷ later)) x.rest
+        ∙ (ap (λ (ms : Moves m). x.before ++ Takes x.event ∷ ms) (joined x.until x.since (Takes ev ∷ later)) ∙ sym (joined x.before (Takes x.event ∷ x.until) onward)))
+
     floor : FloorTold m h x.before x.end.client.stand.epoch x.below
-    floor = rests.floors h x.before (after m h x.before) rx x.event x.client x.end x.walked o x.below x.met
+    floor = walks_meet_told_trims m h x.before (after m h x.before) rx x.event x.client x.end x.walked o x.below x.met
 
     decided : (last : ℕ) × IsDecidedBy m (after m h x.before) last p e
     decided =
         told_decided m is_object is_op d rests owns h zs r trims steps p e o commit needs stands here (length x.before) x.before (Takes x.event ∷ rest) at (omega arith) x.end.client.stand.epoch x.below floor x.above
 
-    settled : IsDecidedIn m (entries_in m (after m h zs)) (after m h x.before) p e
+    settled : IsDecidedIn m (entries_in m (after m h zs)) (after m h (x.before ++ Takes x.event ∷ x.until)) p e
     settled = by decided
       where
-        by : (last : ℕ) × IsDecidedBy m (after m h x.before) last p e → IsDecidedIn m (entries_in m (after m h zs)) (after m h x.before) p e
+        by : (last : ℕ) × IsDecidedBy m (after m h x.before) last p e → IsDecidedIn m (entries_in m (after m h zs)) (after m h (x.before ++ Takes x.event ∷ x.until)) p e
         by k = of_page (page_in (log m (after m h x.before)) k.1.at k.1.decision (has_contained (entries_of (log m (after m h x.before))) (k.1.at, k.1.decision) k.1.here))
           where
-            of_page : PageOf (log m (after m h x.before)) k.1.at k.1.decision → IsDecidedIn m (entries_in m (after m h zs)) (after m h x.before) p e
+            of_page : PageOf (log m (after m h x.before)) k.1.at k.1.decision → IsDecidedIn m (entries_in m (after m h zs)) (after m h (x.before ++ Takes x.event ∷ x.until)) p e
             of_page g = record {
               at = k.1.at;
               decision = k.1.decision;
@@ -71,7 +86,7 @@ module _ (m : Meaning) (is_object : Oid → Bool) (is_op : m.op → Bool) (d : I
               says = k.1.says;
               streams = k.1.streams;
               page = g.page;
-              settled = (log_is_settled m h x.before (after m h x.before) rx (front_spare m h zs r trims x.before (Takes x.event ∷ rest) at).safe).settled k.1.at (Data g.page) (contained (log m (after m h x.before)) (k.1.at, Data g.page) g.here);
+              settled = late m h idle (before_reached m h zs r idle onward idle_at) x.before (Takes x.event ∷ x.until) refl k.1.at (Data g.page) ((log_is_settled m h x.before (after m h x.before) rx (front_spare m h zs r trims x.before (Takes x.event ∷ rest) at).safe).settled k.1.at (Data g.page) (contained (log m (after m h x.before)) (k.1.at, Data g.page) g.here));
             }
 
   pub met_settled : MetSettled m h zs (after m h zs)

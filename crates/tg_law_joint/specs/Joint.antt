@@ -1,4 +1,4 @@
--- What is left of each step of a run of the store follows from what walks found, settled and met.
+-- What is left of each step of a run of the store follows from the ends of walks from which the log's checkpoints and marks come.
 use Rattle.std.specs.Prelude.{◌≡◌, ℕ, Bool, true, Some, Contains}
 use Rattle.tg_base.specs.Clusters.{Header}
 use Rattle.tg_base.specs.declared.ids.Oid.{Oid}
@@ -19,25 +19,14 @@ use Rattle.tg_law_lists.specs.Spared.{TrimsWereSpare}
 use Rattle.tg_law_exact.specs.Finds.{ByRunsOfSpareTrims}
 use Rattle.tg_law_trims.specs.Spare.{WereSpare}
 use Rattle.tg_law_trims.specs.Floors.{RestsOn, StepRests}
+use Rattle.tg_law_trimming.specs.Decided.{MetSettled}
 use Rattle.tg_law_store.specs.Steps.{StepsHold}
 use Rattle.tg_law_joint.specs.Origins.{CheckpointsFollowWalks, MarksFollowWalks}
-use Rattle.tg_law_joint.specs.Decisions.{ForgetsDecide}
-use Rattle.tg_law_joint.specs.Trims.{WalksMeetToldTrims, WalksSettle}
-use Rattle.tg_law_joint.specs.Met.{MetSettled, MetDecidedWhere}
 
--- What is to be known of every run in which trims were spare.
+-- What is to be known of every run in which trims were spare: each checkpoint, and each mark, of the log came from an end of walks.
 pub record JointRests (m : Meaning) (is_object : Oid → Bool) : Type 0 where
-  -- each checkpoint, and each mark, of the log came from an end of walks
   pub checkpoints : CheckpointsFollowWalks m
   pub marks : MarksFollowWalks m is_object
-  -- where walks end, the streams are settled up to the tail
-  pub settle : WalksSettle m
-  -- and what may be forgotten is saved and decided
-  pub forgets : ForgetsDecide m
-  -- the trims that walks meet came of floors
-  pub floors : WalksMeetToldTrims m
-  -- what was settled when a walk met a trim lies below the tails of the client's later commands
-  pub met : MetDecidedWhere m
 
 module _ (m : Meaning) where
   -- each entry of each log is what its client began

@@ -19,7 +19,7 @@ pub fn met_settled_where<K: Registry>()
 {}
 
 /// In each step of a run of the store before which trims were spare, the log's floors rest on checkpoints, and what a kept view has
-/// gone past has a fate, or is decided; where that is known of ends of walks which the parts of `JointRests` say.
+/// gone past has a fate, or is decided; where the log's checkpoints and marks come from ends of walks, as `JointRests` says.
 pub fn steps_hold_where()
     ensures { StepsHoldWhere }
 {}

@@ -1,6 +1,6 @@
-//! What is left of each step of a run of the store (`StepsHold` of `tg_law_store`) follows from what ends of walks have: from which of
-//! them the log's checkpoints and marks come, what they have settled, what they let be forgotten, and of which floors the trims come
-//! that they meet.
+//! What is left of each step of a run of the store (`StepsHold` of `tg_law_store`) follows from the ends of walks from which the log's
+//! checkpoints and marks come: those have settled what they walked, found decided what they let be forgotten, and met only trims that
+//! were told as floors.
 #![tactic(auto)]
 
 mod laws;
