@@ -1,5 +1,5 @@
 -- Where the walks of a client end, it has its number still.
-use Rattle.std.proofs.Common.{◌≡◌, ℕ, Bool, true, false, ◌∙◌, Some, None, Option}
+use Rattle.std.proofs.Common.{◌≡◌, ℕ, Bool, true, false, Some, None, Option}
 use Rattle.tg_base.specs.Clusters.{Header}
 use Rattle.tg_base.specs.Layouts.{Layout}
 use Rattle.tg_base.specs.declared.cell.Cell.{Cell}
@@ -10,7 +10,7 @@ use Rattle.tg_protocol.specs.Walking.{Walk, Members, walk_feed}
 use Rattle.tg_protocol.specs.Clients.{Task, Syncing, Walking, Appending, Trimming, Copying', Reconfiguring, Work, Client}
 use Rattle.tg_protocol.specs.ClientSteps.{knows, given_up_if, task_in}
 use Rattle.tg_protocol.specs.Walked.{Walked, walked_in}
-use Rattle.tg_protocol.specs.Worlds.{World, start, client}
+use Rattle.tg_protocol.specs.Worlds.{start, client}
 use Rattle.tg_protocol.specs.Runs.{Moves, run}
 use Rattle.tg_law_moves.proofs.Moves.{run_keeps}
 use Rattle.tg_law_layouts.proofs.Decisions.{Pax, pax_keep}

@@ -1,6 +1,6 @@
 -- A step, for any predicate B of what units are asked to trim, which stays so in later epochs: where clients hold only such, and units
 -- were asked for such alone, it is so after the step, where a client that tells a floor has B of it.
-use Rattle.std.proofs.Common.{◌≡◌, ◌⊎◌, ℕ, ◌<◌, ◌≤◌, List, length, map, ◌++◌, true, false, refl, sym, ap, ◌∙◌, subst, inl, inr, arith, Some, None, Option}
+use Rattle.std.proofs.Common.{◌≡◌, ◌⊎◌, ℕ, ◌<◌, ◌≤◌, List, length, map, ◌++◌, true, false, sym, ap, ◌∙◌, subst, inl, inr, arith, Some, None, Option}
 use Rattle.tg_base.specs.Clusters.{Header}
 use Rattle.tg_base.specs.declared.ids.NodeId.{NodeId}
 use Rattle.tg_base.specs.declared.msg.Msg.{Msg}
@@ -20,7 +20,7 @@ use Rattle.tg_protocol.specs.Trimming as copying
 use Rattle.tg_protocol.specs.Clients.{Syncing, Walking, Appending, Trimming, Copying', Reconfiguring, Hand, Doing, Learning, Work, Client, new_client}
 use Rattle.tg_protocol.specs.ClientSteps.{ClientTurn, task_awaited, client_command, client_deliver, client_tick}
 use Rattle.tg_protocol.specs.Views.{Entries}
-use Rattle.tg_protocol.specs.Worlds.{World, packet_of, answer_to, happens}
+use Rattle.tg_protocol.specs.Worlds.{packet_of, answer_to, happens}
 use Rattle.tg_protocol.specs.Runs.{Moves, Reaches}
 use Rattle.tg_law_moves.specs.After.{after}
 use Rattle.tg_law_moves.specs.Configs.{Config, config, client_in, seqr_in, unit_in, layout_in}

@@ -2,12 +2,11 @@
 use Rattle.std.proofs.Common.{◌≡◌, ℕ, ◌∷◌, ◌++◌, refl, sym, ap, ◌∙◌, subst, Some}
 use Rattle.tg_base.specs.Clusters.{Header}
 use Rattle.tg_base.specs.declared.ids.Oid.{Oid}
-use Rattle.tg_entry.specs.declared.entry.Entry.{Entry}
 use Rattle.tg_kind.specs.Meaning.{Meaning}
 use Rattle.tg_model.specs.Kinds.{EventOf}
 use Rattle.tg_protocol.specs.Views.{Entries}
 use Rattle.tg_protocol.specs.Walked.{Walked, walked_in}
-use Rattle.tg_protocol.specs.Worlds.{World, start}
+use Rattle.tg_protocol.specs.Worlds.{start}
 use Rattle.tg_protocol.specs.Runs.{Moves, Takes, Passes, Reaches, run}
 use Rattle.tg_law_moves.specs.After.{after}
 use Rattle.tg_law_entries.proofs.Lists.{joined}
@@ -19,7 +18,7 @@ use Rattle.tg_law_leaves.proofs.Ends.{event_ends}
 use Rattle.tg_law_leaves.proofs.Named.{walked_number}
 use Rattle.tg_law_decided.specs.Later.{Follows}
 use Rattle.tg_law_decided.proofs.Later.{later_tails_follow}
-use Rattle.tg_law_trimming.specs.Decided.{IsDecidedIn, HasSettled, MetSettled, MetDecidedWhere}
+use Rattle.tg_law_trimming.specs.Decided.{IsDecidedIn, HasSettled, MetDecidedWhere}
 
 module _ (m : Meaning) (h : Header) (before : Moves m) (r : Reaches m h before (after m h before)) (e : EventOf m) (k : ℕ) (y : Walked m) (is : walked_in m (after m h before) e k ≡ Some y) where
   -- the run came through the world in which the client had no work

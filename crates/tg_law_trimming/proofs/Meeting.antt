@@ -1,5 +1,5 @@
 -- Over a run, each trim that walks met was told by a client that trims.
-use Rattle.std.proofs.Common.{◌≡◌, ◌⊎◌, ℕ, ◌<◌, ◌≤◌, List, [], ◌∷◌, ◌++◌, length, true, refl, sym, ap, ◌∙◌, subst, inl, inr, arith, Some, None, Option, append-nil}
+use Rattle.std.proofs.Common.{◌≡◌, ℕ, ◌<◌, List, [], ◌∷◌, ◌++◌, length, true, refl, sym, ap, ◌∙◌, subst, inl, inr, arith, Some, None, Option, append-nil}
 use Rattle.std.specs.Prelude.{slice_index_or, Bool, false, if◌then◌else◌}
 use Rattle.tg_base.specs.Clusters.{Header}
 use Rattle.tg_base.specs.Layouts.{Layout}
@@ -12,7 +12,7 @@ use Rattle.tg_base.specs.declared.packet.Packet.{Packet}
 use Rattle.tg_kind.specs.Meaning.{Meaning}
 use Rattle.tg_model.specs.Kinds.{EventOf}
 use Rattle.tg_protocol.specs.Words.{client_id, unit_id, numbers}
-use Rattle.tg_protocol.specs.Requests.{awaits, Next, Ends}
+use Rattle.tg_protocol.specs.Requests.{awaits, Ends}
 use Rattle.tg_protocol.specs.Replies.{reply}
 use Rattle.tg_protocol.specs.Cells.{Place, CellJob, Gone, cell_asks, cell_feed}
 use Rattle.tg_protocol.specs.Units.{unit_ask}
@@ -21,7 +21,7 @@ use Rattle.tg_protocol.specs.Checkpoints.{trim_of}
 use Rattle.tg_protocol.specs.Clients.{Task, Syncing, Walking, Appending, Trimming, Copying', Reconfiguring, Hand, Doing, Work, Client, new_client}
 use Rattle.tg_protocol.specs.ClientSteps.{ClientTurn, task_asks, task_awaited, task_in}
 use Rattle.tg_protocol.specs.Walked.{Walked, walked_in}
-use Rattle.tg_protocol.specs.Worlds.{World, start, client, happens, next_event}
+use Rattle.tg_protocol.specs.Worlds.{World, start, happens}
 use Rattle.tg_protocol.specs.Runs.{Move, Moves, Next as Counts, Takes, Reaches, run}
 use Rattle.tg_law_moves.specs.After.{after}
 use Rattle.tg_law_moves.specs.Configs.{Config, config, client_in}
@@ -35,7 +35,7 @@ use Rattle.tg_law_cells.proofs.Hands as cells
 use Rattle.tg_law_cells.proofs.Jobs.{JobOk, MaybeOk}
 use Rattle.tg_law_cells.proofs.Justified.{Awaited, awaited_ask}
 use Rattle.tg_law_cells.proofs.Stores.{cells_hold}
-use Rattle.tg_law_homes.specs.Homes.{TrimAsked, ToldGone, epoch_asked}
+use Rattle.tg_law_homes.specs.Homes.{ToldGone, epoch_asked}
 use Rattle.tg_law_homes.proofs.Gones.{gone_is_asked}
 use Rattle.tg_law_drafts.proofs.Written.{then_next, then_takes}
 use Rattle.tg_law_once.proofs.Along.{on_moves}
@@ -44,7 +44,7 @@ use Rattle.tg_law_lists.proofs.Reached.{before_reached}
 use Rattle.tg_law_lists.proofs.Scanning.{AtTrim, OfUnit, at_trim, is_gone}
 use Rattle.tg_law_replies.proofs.Carried.{WalksBy}
 use Rattle.tg_law_leaves.proofs.Walks.{MetBy, feed_by}
-use Rattle.tg_law_leaves.proofs.Ended.{Tells, TaskTells, stays_there}
+use Rattle.tg_law_leaves.proofs.Ended.{Tells, stays_there}
 use Rattle.tg_law_trimming.specs.Trimming.{FloorTold, WalksMeetToldTrims}
 use Rattle.tg_law_trimming.proofs.Asked.{asked_has}
 use Rattle.tg_law_trimming.proofs.Told.{told_grows, told_later, all_told}

@@ -1,29 +1,24 @@
 -- Over a run, whatever units are asked to trim was told by a client that trims.
-use Rattle.std.proofs.Common.{◌≡◌, ℕ, ◌≤◌, List, [], ◌∷◌, ◌++◌, refl, sym, ap, ◌∙◌, subst, arith, Some, append-nil}
+use Rattle.std.proofs.Common.{◌≡◌, ℕ, ◌≤◌, [], ◌∷◌, ◌++◌, refl, sym, ap, ◌∙◌, subst, arith, Some, append-nil}
 use Rattle.std.specs.Prelude.{Contains}
 use Rattle.tg_base.specs.Clusters.{Header}
-use Rattle.tg_base.specs.declared.packet.Packet.{Packet}
 use Rattle.tg_kind.specs.Meaning.{Meaning}
-use Rattle.tg_model.specs.declared.command.Command.TheVariants as cmd
-use Rattle.tg_model.specs.declared.play.PlayEnd.TheVariants.{Played}
 use Rattle.tg_model.specs.Kinds.{EventOf}
-use Rattle.tg_protocol.specs.Words.{directory, numbers}
-use Rattle.tg_protocol.specs.Views.{Entries, state_of}
-use Rattle.tg_protocol.specs.Answers.{floor_of}
-use Rattle.tg_protocol.specs.Clients.{Work, Client, new_client}
+use Rattle.tg_protocol.specs.Words.{numbers}
+use Rattle.tg_protocol.specs.Views.{Entries}
+use Rattle.tg_protocol.specs.Clients.{Client, new_client}
 use Rattle.tg_protocol.specs.Walked.{Walked, walked_in}
 use Rattle.tg_protocol.specs.Worlds.{World, start, happens, next_event}
 use Rattle.tg_protocol.specs.Runs.{Move, Moves, Next as Counts, Takes, Reaches, run}
 use Rattle.tg_law_moves.specs.After.{after}
-use Rattle.tg_law_moves.specs.Configs.{Config, config, client_in}
+use Rattle.tg_law_moves.specs.Configs.{Config, config}
 use Rattle.tg_law_moves.proofs.Lists.{at_map}
-use Rattle.tg_law_moves.proofs.Members.{Has, has_contained}
+use Rattle.tg_law_moves.proofs.Members.{has_contained}
 use Rattle.tg_law_entries.proofs.Lists.{joined}
 use Rattle.tg_law_drafts.proofs.Written.{then_next, then_takes}
 use Rattle.tg_law_once.proofs.Along.{on_moves}
 use Rattle.tg_law_once.proofs.Nowhere.{reached}
 use Rattle.tg_law_lists.proofs.Reached.{before_reached}
-use Rattle.tg_law_trims.specs.Spare.{own_play}
 use Rattle.tg_law_trims.proofs.Hands.{FloorOk, ClientOk}
 use Rattle.tg_law_trims.proofs.Sent.{trim_is}
 use Rattle.tg_law_leaves.proofs.Ends.{ends_have}
