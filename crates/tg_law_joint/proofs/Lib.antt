@@ -5,3 +5,4 @@ pub mod Resting
 pub mod Told
 pub mod Trimmed
 pub mod Steps
+pub mod Holding

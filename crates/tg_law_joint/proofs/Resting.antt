@@ -26,7 +26,7 @@ use Rattle.tg_law_lists.specs.Spared.{IsSaved, TrimsWereSpare}
 use Rattle.tg_law_lists.proofs.Reached.{before_reached}
 use Rattle.tg_law_trims.specs.Floors.{IsSettledFor, RestsOn}
 use Rattle.tg_law_settled.proofs.Settled.{walks_settle}
-use Rattle.tg_law_joint.specs.Origins.{CheckpointFrom, MarkFrom}
+use Rattle.tg_law_origins.specs.Origins.{CheckpointFrom, MarkFrom}
 use Rattle.tg_law_decisions.specs.Decisions.{IsDecidedBy}
 use Rattle.tg_law_decisions.specs.Forgetting.{IsDecidedUpTo, ForgetsDecided}
 use Rattle.tg_law_decisions.proofs.Forgets.{forgets_decide}

@@ -26,7 +26,7 @@ use Rattle.tg_law_lists.proofs.Reached.{before_reached}
 use Rattle.tg_law_trims.specs.Spare.{WereSpare}
 use Rattle.tg_law_trims.specs.Floors.{directory_at, floor_at, WasRegistered, FloorsRest, HasTail, ConfirmsTail, SeesDirectory, StepRests}
 use Rattle.tg_law_trims.proofs.Floors.{floors_are_spare}
-use Rattle.tg_law_joint.specs.Origins.{MarkFrom}
+use Rattle.tg_law_origins.specs.Origins.{MarkFrom}
 use Rattle.tg_law_decisions.specs.Decisions.{IsDecidedBy}
 use Rattle.tg_law_trimming.specs.Trimming.{FloorTold}
 use Rattle.tg_law_trimming.proofs.Meeting.{walks_meet_told_trims}

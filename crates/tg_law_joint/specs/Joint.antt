@@ -1,8 +1,10 @@
 -- What is left of each step of a run of the store follows from the ends of walks from which the log's checkpoints and marks come.
-use Rattle.std.specs.Prelude.{◌≡◌, ℕ, Bool, true, Some, Contains}
+use Rattle.std.specs.Prelude.{◌≡◌, ℕ, Bool, true, Some, Contains, List}
 use Rattle.tg_base.specs.Clusters.{Header}
 use Rattle.tg_base.specs.declared.ids.Oid.{Oid}
+use Rattle.tg_base.specs.declared.marks.Part.{Part}
 use Rattle.tg_entry.specs.Needs.{writes_of}
+use Rattle.tg_entry.specs.declared.entry.Body.TheVariants.{Checkpoint}
 use Rattle.tg_entry.specs.declared.entry.Entry.{Entry}
 use Rattle.tg_entry.specs.declared.entry.WriteOp.{WriteOp}
 use Rattle.tg_kind.specs.Meaning.{Meaning}
@@ -21,12 +23,14 @@ use Rattle.tg_law_trims.specs.Spare.{WereSpare}
 use Rattle.tg_law_trims.specs.Floors.{RestsOn, StepRests}
 use Rattle.tg_law_trimming.specs.Decided.{MetSettled}
 use Rattle.tg_law_store.specs.Steps.{StepsHold}
-use Rattle.tg_law_joint.specs.Origins.{CheckpointsFollowWalks, MarksFollowWalks}
+use Rattle.tg_law_origins.specs.Origins.{CheckpointFrom, MarkFrom}
 
 -- What is to be known of every run in which trims were spare: each checkpoint, and each mark, of the log came from an end of walks.
 pub record JointRests (m : Meaning) (is_object : Oid → Bool) : Type 0 where
-  pub checkpoints : CheckpointsFollowWalks m
-  pub marks : MarksFollowWalks m is_object
+  pub checkpoints : ByRunsOfSpareTrims m (λ h ms w. (pos : ℕ) (e : Entry) (o : Oid) (upto version whole : ℕ) (keys : List (Part × ℕ)) (state : List ℕ) →
+      HasEntry m w pos e → e.body ≡ Checkpoint o upto version whole keys state → CheckpointFrom m h ms w pos e o upto)
+  pub marks : ByRunsOfSpareTrims m (λ h ms w. (pos : ℕ) (e : Entry) (x : WriteOp) (o : Oid) (mark : ℕ) → is_object o ≡ true → HasEntry m w pos e → Contains (writes_of e) x → x.oid ≡ directory →
+      m.read directory x.op ≡ Some (m.mark_op o mark) → MarkFrom m h ms w pos e o mark)
 
 module _ (m : Meaning) where
   -- each entry of each log is what its client began
@@ -47,3 +51,7 @@ module _ (m : Meaning) where
 -- have gone past has a fate, or is decided.
 abbrev pub StepsHoldWhere : Type 0
 StepsHoldWhere = JointRests all_kinds is_number → (h : Header) (ms : Moves all_kinds) (w : World all_kinds) → Reaches all_kinds h ms w → StepsHold h ms
+
+-- They do, of every run of the store.
+abbrev pub EachStepHolds : Type 0
+EachStepHolds = (h : Header) (ms : Moves all_kinds) (w : World all_kinds) → Reaches all_kinds h ms w → StepsHold h ms

@@ -1,2 +1,1 @@
-pub mod Origins
 pub mod Joint

@@ -1,7 +1,7 @@
 //! What holds of each step of a run.
 
 ghost use Rattle.tg_kind.specs.Of.{meaning_of};
-ghost use Rattle.tg_law_joint.specs.Joint.{MarksRestWhere, MetSettledWhere, StepsHoldWhere};
+ghost use Rattle.tg_law_joint.specs.Joint.{EachStepHolds, MarksRestWhere, MetSettledWhere, StepsHoldWhere};
 
 use tg_kind::Registry;
 
@@ -22,4 +22,9 @@ pub fn met_settled_where<K: Registry>()
 /// gone past has a fate, or is decided; where the log's checkpoints and marks come from ends of walks, as `JointRests` says.
 pub fn steps_hold_where()
     ensures { StepsHoldWhere }
+{}
+
+/// They do: so it is in each step of every run of the store.
+pub fn steps_hold()
+    ensures { EachStepHolds }
 {}

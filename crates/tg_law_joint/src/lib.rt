@@ -5,4 +5,4 @@
 
 mod laws;
 
-pub use laws::{marks_rest_where, met_settled_where, steps_hold_where};
+pub use laws::{marks_rest_where, met_settled_where, steps_hold, steps_hold_where};

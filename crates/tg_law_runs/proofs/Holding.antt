@@ -2,7 +2,7 @@
 use Rattle.tg_replay.specs.Runs.{world_of}
 use Rattle.tg_law_headline.proofs.Store.{store_runs_hold}
 use Rattle.tg_law_scripts.proofs.Reaching.{each_script_reaches}
-use Rattle.tg_law_joint.proofs.Steps.{steps_hold}
+use Rattle.tg_law_joint.proofs.Holding.{steps_hold}
 use Rattle.tg_law_runs.specs.Runs.{EachRunHolds, EachScriptHolds}
 
 pub runs_hold : EachRunHolds
