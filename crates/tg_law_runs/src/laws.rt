@@ -1,12 +1,18 @@
 //! What holds of every run of the store, and of every script.
 
-ghost use Rattle.tg_law_runs.specs.Runs.{EachRunHolds, EachScriptHolds};
+ghost use Rattle.tg_law_runs.specs.Runs.{EachLogHolds, EachRunHolds, EachScriptHolds};
 
 /// Whatever losses, repeats, reorderings, stops and reconfigurations a run takes: the stamps of its history rise, its replies
 /// are those of the plain machine over that history and in order, and what it tells of outcomes, of past positions and of
 /// rescues is true of its log, as are the log's decision records and checkpoints.
 pub fn runs_hold()
     ensures { EachRunHolds }
+{}
+
+/// Trims leave what is needed in each run. An entry of its log is what its client began to append, and stands once; a commit record
+/// is of what was put and asked; and what a reply tells of stands there as it says.
+pub fn logs_hold()
+    ensures { EachLogHolds }
 {}
 
 /// So it is of each script, whether a limit stops it or not: its world is one to which a run of lawful events comes.

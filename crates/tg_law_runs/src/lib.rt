@@ -3,4 +3,4 @@
 
 mod laws;
 
-pub use laws::{runs_hold, scripts_hold};
+pub use laws::{logs_hold, runs_hold, scripts_hold};
