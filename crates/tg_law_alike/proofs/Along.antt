@@ -1,38 +1,57 @@
 -- Along a run: what each client's work has been told since its command began, and so what each reply speaks of, by the packets
 -- of the world to which the run comes.
-use Rattle.std.proofs.Common.{◌≡◌, ◌⊎◌, ℕ, ◌+◌, ◌≤◌, List, [], ◌∷◌, ◌++◌, map, refl, sym, ap, ◌∙◌, subst, inl, inr, arith, Option, Some, None}
+use Rattle.std.proofs.Common.{◌≡◌, ◌⊎◌, ℕ, ◌+◌, ◌<◌, ◌≤◌, List, [], ◌∷◌, ◌++◌, map, refl, sym, ap, ◌∙◌, subst, inl, inr, arith, Option, Some, None}
 use Rattle.tg_base.specs.Layouts.{Layout}
 use Rattle.tg_base.specs.Clusters.{Header}
 use Rattle.tg_base.specs.declared.ids.NodeId.{NodeId}
+use Rattle.tg_base.specs.declared.ids.Oid.{Oid}
 use Rattle.tg_base.specs.declared.msg.Msg.{Msg}
 use Rattle.tg_base.specs.declared.msg.Msg.TheVariants as msg
 use Rattle.tg_base.specs.declared.packet.Out.{Out}
 use Rattle.tg_base.specs.declared.packet.Packet.{Packet}
 use Rattle.tg_kind.specs.Meaning.{Meaning}
-use Rattle.tg_protocol.specs.Words.{unit_id, client_id, numbers}
+use Rattle.tg_model.specs.declared.trace.What.TheVariants as told
+use Rattle.tg_model.specs.Kinds.{WhatOf, NoteOf}
+use Rattle.tg_model.specs.Traces.{Trace, Tells}
+use Rattle.tg_protocol.specs.Words.{unit_id, client_id, numbers, directory}
+use Rattle.tg_protocol.specs.Layouts.{first_layout}
+use Rattle.tg_protocol.specs.Requests.{Waits}
 use Rattle.tg_protocol.specs.Replies.{reply, IsLatest}
+use Rattle.tg_protocol.specs.Reconfiguring.{ReconfWork, Telling, Reconf}
 use Rattle.tg_protocol.specs.Clients.{Task, Syncing, Walking, Appending, Trimming, Copying', Reconfiguring, Hand, Doing, Work, Client, new_client, refusal}
+use Rattle.tg_protocol.specs.Answers.{note}
 use Rattle.tg_protocol.specs.ClientSteps.{ClientTurn, task_in, task_awaited, client_command, client_deliver, client_tick, tick_by}
-use Rattle.tg_protocol.specs.Worlds.{CommandStart, World, Told, start, client, noted_of, happens}
+use Rattle.tg_protocol.specs.Worlds.{CommandStart, World, Told, start, client, noted_of, happens, trace}
 use Rattle.tg_protocol.specs.Chosen.{IsDecided}
 use Rattle.tg_protocol.specs.Runs.{Moves, Next, Takes, Reaches, run}
 use Rattle.tg_law_moves.specs.After.{after}
 use Rattle.tg_law_moves.specs.Configs.{config}
-use Rattle.tg_law_moves.proofs.Lists.{at_map, at_replicate}
+use Rattle.tg_law_moves.proofs.Lists.{contained, at_map, at_replicate}
 use Rattle.tg_law_moves.proofs.Members.{Has, has_either, has_map}
 use Rattle.tg_law_moves.proofs.Moves.{ClientInput, Commanded, Hears', Ticks', run_keeps}
 use Rattle.tg_law_moves.proofs.Clients.{reserved, hand_reserved, work_reserved}
 use Rattle.tg_law_moves.proofs.Turns.{not_busy, command_draws, deliver_draws, tick_draws}
 use Rattle.tg_law_requests.proofs.Starts.{All, all_keeps, start_all}
 use Rattle.tg_law_layouts.proofs.Pax.{task_reconf, reconf_of, HandOk}
+use Rattle.tg_law_layouts.proofs.Phases.{told_epoch}
+use Rattle.tg_law_layouts.proofs.Tellings.{WorkKnown}
+use Rattle.tg_law_layouts.proofs.Known.{ReconfKnown}
+use Rattle.tg_law_layouts.proofs.Standing.{IsKnown}
+use Rattle.tg_law_layouts.proofs.Decided.{lay_holds}
+use Rattle.tg_law_layouts.specs.Decisions.{TellsDecided}
 use Rattle.tg_law_layouts.proofs.Decisions.{Pax, pax_keep}
 use Rattle.tg_law_layouts.proofs.Layouts.{start_pax, stays_sent}
 use Rattle.tg_law_layouts.proofs.Deciding.{layouts_are_known, decided_stays}
 use Rattle.tg_law_timely.proofs.Standing.{turn_rises}
 use Rattle.tg_law_lists.proofs.Reached.{before_reached, goes_later}
-use Rattle.tg_law_books.proofs.Worlds.{nil_right, regroup, run_both}
-use Rattle.tg_law_alike.proofs.Since.{SayOk, AllSay, Held, WorkHeld, TaskFits, WorkFits, feed_good, command_good, work_on}
+use Rattle.tg_law_books.proofs.Turns.{tells_on}
+use Rattle.tg_law_books.proofs.Worlds.{nil_right, regroup, run_both, WorldBook, run_book, start_book, run_grows}
+use Rattle.tg_law_alike.proofs.Refusals.{fine_refusal}
+use Rattle.tg_law_alike.proofs.Reconfs.{News}
+use Rattle.tg_law_alike.proofs.Bounds.{decided_near}
+use Rattle.tg_law_alike.proofs.Since.{SayOk, AllSay, Each, Marking, Held, WorkHeld, TaskFits, WorkFits, feed_good, command_good, work_on}
 use Rattle.tg_law_alike.proofs.Speaks.{Noted, Before, Anew, Speaks, Silent, Speaks', Turns, told_of, speaks}
+use Rattle.tg_law_alike.proofs.Marks.{MarksTold, none_marked, more_marked, un_marked, pair_marked, put_told}
 
 is_latest : (y : Msg) (q : Layout) → reply y ≡ IsLatest q → y ≡ msg.Latest q
 unfolding reply
@@ -52,8 +71,13 @@ module _ (m : Meaning) (h : Header) (ms : Moves m) (r : Reaches m h ms (after m 
   abbrev pub Known : Layout → Type 0
   Known q = IsDecided m end q.epoch q
 
+  -- a mark, of which more is told
+  abbrev pub IsMark : WhatOf m → Type 0
+  IsMark (told.Marked o j) = Unit {0}
+  IsMark what = ⊥
+
   abbrev pub Says : Told m → Type 0
-  Says t = SayOk m (Got t.mark.client) (AskSent t.mark.client) t.noted.next t.noted.epoch t.mark.client Known t.mark.what
+  Says t = SayOk m (Got t.mark.client) (AskSent t.mark.client) t.noted.next t.noted.epoch t.mark.client Known t.mark.what ⊎ IsMark t.mark.what
 
   abbrev HeldBy : CommandStart → ℕ → Client m → Type 0
   HeldBy s k c = Held m (Got k) (AskSent k) s.next s.epoch k Known c
@@ -66,6 +90,7 @@ module _ (m : Meaning) (h : Header) (ms : Moves m) (r : Reaches m h ms (after m 
   record State (w : World m) : Type 0 where
     clients : (k : ℕ) → Kept (noted_of m w k) k (client m w k)
     told : (t : Told m) → Has w.told t → Says t
+    marks : MarksTold m (trace m end) w.told
 
   -- A step at a world of the run.
 
@@ -82,11 +107,25 @@ module _ (m : Meaning) (h : Header) (ms : Moves m) (r : Reaches m h ms (after m 
     decided : (q : Layout) → IsDecided m w q.epoch q → Known q
     decided q d = (decided_stays m h xs w end reached (goes_later m h ms r xs ys split)).stays q.epoch q d
 
+    books : WorldBook m (after m h xs)
+    books = run_book m xs (start m h) (start_book m h)
+
+    -- what was told by then stays told
+    at_end : (k x : ℕ) (what : WhatOf m) → Tells m (trace m w) k x what → Tells m (trace m end) k x what
+    at_end k x what y =
+        let g = run_grows m ys w books in
+        subst (λ (tr : Trace m). Tells m tr k x what) (sym (ap (λ (v : World m). trace m v) (ap (λ (zs : Moves m). after m h zs) split ∙ run_both m xs ys (start m h)) ∙ g.1)) (tells_on m (trace m w) g.0 k x what y)
+
     pax : Pax m (config m (after m h xs))
     pax = run_keeps m (Pax m) (pax_keep m) xs (start m h) (start_pax m h)
 
     all : All m (config m (after m h xs))
     all = run_keeps m (All m) (all_keeps m) xs (start m h) (start_all m h)
+
+    -- a layout past the first that is known by then
+    decided_of : (q : Layout) → 1 < q.epoch → IsKnown w.cluster.layouts (first_layout w.cluster) w.packets q → Known q
+    decided_of q past (inl e) = let z = ap (λ (p : Layout). p.epoch) e in absurd (omega (arith, z, past))
+    decided_of q past (inr v) = decided q (inr (past, record { ballot = v.ballot; proposal = v.proposed.packet; sent = contained w.packets v.proposed.packet v.proposed.sent; proposes = v.proposed.is; accepted = v.most }))
 
     module _ (n : ℕ) (s : CommandStart) (kept : Kept s n (client m w n)) where
       abbrev c : Client m
@@ -95,10 +134,28 @@ module _ (m : Meaning) (h : Header) (ms : Moves m) (r : Reaches m h ms (after m 
       stand : Known c.stand
       stand = decided c.stand ((layouts_are_known m h xs w reached).clients n)
 
+      -- epochs begin with 1
+      positive_epoch : (q : Layout) → Known q → 0 < q.epoch
+      positive_epoch q (inl d) = let z = d.0 in omega (arith, z)
+      positive_epoch q (inr d) = let less = d.0 in omega (arith, less)
+
+      -- what it tells the layout servers is decided
+      tells_known : (z : Reconf) → reconf_of m c.work ≡ Some z → told_epoch z.work (z.stand.epoch + 1) ≡ z.stand.epoch + 1 → Known z.stand → (ws : Waits) (i : ℕ) (q : Layout) → z.work ≡ Telling ws i q → Known q
+      unfolding told_epoch
+      tells_known z has told at ws i q is =
+          let first = positive_epoch z.stand at in
+          decided_of q (let e = next in omega (arith, e, first))
+          (subst (λ (y : ReconfWork). WorkKnown w.cluster.layouts w.packets (IsKnown w.cluster.layouts (first_layout w.cluster) w.packets) z y) is
+          (subst (λ (o : Option Reconf). ReconfKnown m w.cluster.layouts w.packets (IsKnown w.cluster.layouts (first_layout w.cluster) w.packets) o) has ((lay_holds m h xs).clients n).hand))
+        where
+          next : q.epoch ≡ z.stand.epoch + 1
+          next = subst (λ (y : ReconfWork). told_epoch y (z.stand.epoch + 1) ≡ z.stand.epoch + 1) is told
+
       fits : (v : Work m) (t : Task m) → c.work ≡ Some v → task_in m v.hand ≡ t → TaskFits m (Got n) (AskSent n) s.next s.epoch n Known c.stand t
       fits v (Reconfiguring z) has is =
           let ok = subst (HandOk m (config m w).cluster.layouts n (config m w).packets c.stand) (ap (λ (z : Option (Work m)). reconf_of m z) has ∙ ap (λ (t : Task m). task_reconf m t) is) (pax.clients n) in
-          (record { me_is = ok.ok.me; told = ok.told; stand = subst Known (sym ok.stand) stand; up = let u = kept.epoch in let e = ap (λ (p : Layout). p.epoch) ok.stand in omega (arith, u, e) }, ok.stand)
+          let at = subst Known (sym ok.stand) stand in
+          (record { me_is = ok.ok.me; told = ok.told; stand = at; tells = tells_known z (ap (λ (z : Option (Work m)). reconf_of m z) has ∙ ap (λ (t : Task m). task_reconf m t) is) ok.told at; up = let u = kept.epoch in let e = ap (λ (p : Layout). p.epoch) ok.stand in omega (arith, u, e) }, ok.stand)
       fits v (Syncing z) has is = tt
       fits v (Walking z os) has is = tt
       fits v (Appending a y) has is = tt
@@ -108,6 +165,16 @@ module _ (m : Meaning) (h : Header) (ms : Moves m) (r : Reaches m h ms (after m 
       module _ (p : Packet) (i : Has w.packets p) (to : p.to ≡ client_id n) where
         got : Got n p.from p.rid p.msg
         got = subst (λ (z : NodeId). Has end.packets (record { from = p.from; to = z; rid = p.rid; msg = p.msg })) to (sent p i)
+
+        -- a layout that is told is decided, and the client's own isn't far ahead of it
+        hears : (q : Layout) → p.msg ≡ msg.Latest q → News (Got n) s.next s.epoch n Known c.stand q
+        hears q is = record {
+          known = decided q now;
+          near = λ mine. subst (λ (k : ℕ). q.epoch ≤ (client m w k).stand.epoch + 1) mine (decided_near m h xs reached q now);
+        }
+          where
+            now : IsDecided m w q.epoch q
+            now = subst (TellsDecided m w) is ((layouts_are_known m h xs w reached).sent p (contained w.packets p i))
 
         -- what is outstanding is what a unit was asked
         look_sent : (u : ℕ) (o : Out) → Has (reserved m c) o → o.to ≡ unit_id u → o.to ≡ p.from → o.rid ≡ p.rid → AskSent n o.to o.rid o.msg
@@ -138,14 +205,14 @@ module _ (m : Meaning) (h : Header) (ms : Moves m) (r : Reaches m h ms (after m 
         )
 
       ticked : (o : Option (Work m)) → c.work ≡ o → HeldBy s n (tick_by m c o).now × AllSay m (Got n) (AskSent n) s.next s.epoch n Known (tick_by m c o).notes
-      ticked None is = (kept.held, λ y i. absurd i)
-      ticked (Some v) is = (work_on m (Got n) (AskSent n) s.next s.epoch n Known c.next (c.next + c.layouts) c.work (omega arith) kept.held, λ y i. absurd i)
+      ticked None is = (kept.held, Each (λ y i. absurd i))
+      ticked (Some v) is = (work_on m (Got n) (AskSent n) s.next s.epoch n Known c.next (c.next + c.layouts) c.work (omega arith) kept.held, Each (λ y i. absurd i))
 
       turn_good : (t : ClientTurn m) → ClientInput m (config m w) n t → HeldBy s n t.now × AllSay m (Got n) (AskSent n) s.next s.epoch n Known t.notes
       unfolding client_command client_deliver client_tick
-      turn_good t (Commanded x) = let g = command_good m (Got n) (AskSent n) s.next s.epoch n Known c x (refusal m c x) (not_busy m c x) kept.next kept.held in (g.held, g.says)
+      turn_good t (Commanded x) = let g = command_good m (Got n) (AskSent n) s.next s.epoch n Known c x (refusal m c x) (not_busy m c x) (fine_refusal m c x) kept.next kept.held in (g.held, g.says)
       turn_good t (Hears' p comes) =
-          let g = feed_good m (Got n) (AskSent n) s.next s.epoch n Known p.from p.rid p.msg (got p comes.sent comes.to_node) (is_latest p.msg) c c.work refl kept.next stand kept.held (work_fits p comes.sent comes.to_node c.work refl) in
+          let g = feed_good m (Got n) (AskSent n) s.next s.epoch n Known p.from p.rid p.msg (got p comes.sent comes.to_node) (is_latest p.msg) c c.work refl kept.next stand (hears p comes.sent comes.to_node) kept.held (work_fits p comes.sent comes.to_node c.work refl) in
           (g.held, g.says)
       turn_good t Ticks' = ticked c.work refl
 
@@ -173,8 +240,13 @@ module _ (m : Meaning) (h : Header) (ms : Moves m) (r : Reaches m h ms (after m 
     stepped v (Silent t c nn) st = record {
       clients = λ k. subst (λ (z : CommandStart). Kept z k (client m v k)) (sym (nn k)) (subst (λ (z : Client m). Kept (noted_of m w k) k z) (sym (c k)) (st.clients k));
       told = λ x i. st.told x (subst (λ (xs : List (Told m)). Has xs x) t i);
+      marks = subst (MarksTold m (trace m end)) (sym t) st.marks;
     }
-    stepped v (Speaks' n t s i noted x f) st = record { clients = λ k. by k (f k); told = λ y j. tells y (has_either w.told (map (told_of m w n s) t.notes) y (subst (λ (zs : List (Told m)). Has zs y) x j)) }
+    stepped v (Speaks' n t s i noted x f) st = record {
+      clients = λ k. by k (f k);
+      told = λ y j. tells y (has_either w.told (map (told_of m w n s) t.notes) y (subst (λ (zs : List (Told m)). Has zs y) x j));
+      marks = subst (MarksTold m (trace m end)) (sym x) (more_marked m (trace m end) w.told (map (told_of m w n s) t.notes) st.marks (marks_of t.notes refl (turn_good n s kept t i).1));
+    }
       where
         kept : Kept s n (client m w n)
         kept = kept_of n s noted (st.clients n)
@@ -183,9 +255,24 @@ module _ (m : Meaning) (h : Header) (ms : Moves m) (r : Reaches m h ms (after m 
         by k (inl e) = subst (λ (z : CommandStart). Kept z k (client m v k)) (sym e.2) (subst (λ (z : Client m). Kept s k z) (sym e.1) (subst (λ (z : ℕ). Kept s z t.now) (sym e.0) (now_kept n s kept t i)))
         by k (inr e) = subst (λ (z : CommandStart). Kept z k (client m v k)) (sym e.1) (subst (λ (z : Client m). Kept (noted_of m w k) k z) (sym e.0) (st.clients k))
 
+        note_says : (ns : List (NoteOf m)) → AllSay m (Got n) (AskSent n) s.next s.epoch n Known ns → (y : NoteOf m) → Has ns y → Says (told_of m w n s y)
+        note_says ns (Each each) y j = inl (each y j)
+        note_says ns (Marking z o k p positive) y (inl e) = subst (λ (u : NoteOf m). Says (told_of m w n s u)) (sym e) (inl tt)
+        note_says ns (Marking z o k p positive) y (inr (inl e)) = subst (λ (u : NoteOf m). Says (told_of m w n s u)) (sym e) (inr tt)
+        note_says ns (Marking z o k p positive) y (inr (inr j)) = absurd j
+
         tells : (y : Told m) → Has w.told y ⊎ Has (map (told_of m w n s) t.notes) y → Says y
         tells y (inl j) = st.told y j
-        tells y (inr j) = let z = has_map (told_of m w n s) t.notes y j in subst Says (sym z.is) ((turn_good n s kept t i).1 z.of z.has)
+        tells y (inr j) = let z = has_map (told_of m w n s) t.notes y j in subst Says (sym z.is) (note_says t.notes (turn_good n s kept t i).1 z.of z.has)
+
+        marks_of : (ns : List (NoteOf m)) → t.notes ≡ ns → AllSay m (Got n) (AskSent n) s.next s.epoch n Known ns → MarksTold m (trace m end) (map (told_of m w n s) ns)
+        marks_of ns is (Each each) = un_marked m (trace m end) (map (told_of m w n s) ns) none
+          where
+            none : (y : Told m) (o : Oid) (k : ℕ) → Has (map (told_of m w n s) ns) y → y.mark.what ≡ told.Marked o k → ⊥
+            none y o k j e = let z = has_map (told_of m w n s) ns y j in
+                subst (SayOk m (Got n) (AskSent n) s.next s.epoch n Known) (sym (ap (λ (u : Told m). u.mark.what) z.is) ∙ e) (each z.of z.has)
+        marks_of ns is (Marking z o k p positive) =
+            pair_marked m (trace m end) (told_of m w n s (note m z (told.Committed p))) (told_of m w n s (note m 0 (told.Marked o k))) p o k refl refl refl (at_end n z (told.Put directory (m.mark_op o k)) (put_told m w books n z o k p positive t i is))
 
   -- The start.
 
@@ -198,6 +285,7 @@ module _ (m : Meaning) (h : Header) (ms : Moves m) (r : Reaches m h ms (after m 
   start_state = record {
     clients = λ k. at_replicate h.clients (record { next = 1; epoch = 1; upto = 0 }) k (record { next = 1; epoch = 1; upto = 0 }) (λ (z : CommandStart). Kept z k (client m (start m h) k)) (here k) (here k);
     told = λ t i. absurd i;
+    marks = none_marked m (trace m end);
   }
     where
       here : (k : ℕ) → Kept (record { next = 1; epoch = 1; upto = 0 }) k (client m (start m h) k)
@@ -207,7 +295,7 @@ module _ (m : Meaning) (h : Header) (ms : Moves m) (r : Reaches m h ms (after m 
   unfolding run
   state_on [] done e st = subst (λ (xs : Moves m). State (after m h xs)) (sym (e ∙ nil_right done)) st
   state_on (Next ∷ zs) done e st = state_on zs (done ++ Next ∷ []) (e ∙ sym (regroup done (Next ∷ []) zs))
-      (subst State (sym (run_both m done (Next ∷ []) (start m h))) (record { clients = st.clients; told = st.told }))
+      (subst State (sym (run_both m done (Next ∷ []) (start m h))) (record { clients = st.clients; told = st.told; marks = st.marks }))
   state_on (Takes x ∷ zs) done e st = state_on zs (done ++ Takes x ∷ []) (e ∙ sym (regroup done (Takes x ∷ []) zs))
       (subst State (sym (run_both m done (Takes x ∷ []) (start m h))) (stepped done (Takes x ∷ zs) e (happens m (after m h done) x) (speaks m (after m h done) x) st))
 
@@ -217,3 +305,6 @@ module _ (m : Meaning) (h : Header) (ms : Moves m) (r : Reaches m h ms (after m 
 
   pub all_say : (t : Told m) → Has end.told t → Says t
   all_say t i = end_state.told t i
+
+  pub all_marked : MarksTold m (trace m end) end.told
+  all_marked = end_state.marks

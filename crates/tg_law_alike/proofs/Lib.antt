@@ -1,8 +1,11 @@
 pub mod Records
 pub mod Appends
 pub mod Machines
+pub mod Refusals
+pub mod Bounds
 pub mod Reconfs
 pub mod Since
 pub mod Speaks
+pub mod Marks
 pub mod Along
 pub mod Told

@@ -44,6 +44,14 @@ module _ (Got : NodeId → ℕ → Msg → Type 0) (lo e0 me : ℕ) (Known : Lay
     pub own : proj.by ≡ me
     pub heard : TailOf proj ⊎ LatestPast e
 
+  -- another's layout is decided for a later epoch
+  pub record OvertakeTold (e : ℕ) : Type 0 where
+    pub proj : Layout
+    pub known : Known proj
+    pub epoch : proj.epoch ≡ e
+    pub later : e0 < proj.epoch
+    pub other : proj.by ≡ me → ⊥
+
   -- the client starts the sequencer of a layout of its own
   abbrev pub StartOk : Layout → ReconfWork → Type 0
   StartOk p (Starting k) = (lo ≤ k) × (e0 < p.epoch) × (p.by ≡ me)
@@ -53,7 +61,7 @@ module _ (Got : NodeId → ℕ → Msg → Type 0) (lo e0 me : ℕ) (Known : Lay
   ReconfNext (Goes r) = StartOk r.stand r.work
   ReconfNext (Learns r) = StartOk r.stand r.work
   ReconfNext (Ends (Installed e p)) = InstallTold e
-  ReconfNext (Ends (Overtaken e p)) = Unit {0}
+  ReconfNext (Ends (Overtaken e p)) = OvertakeTold e
   ReconfNext (Ends (NotWhole u i p)) = Unit {0}
 
   first_ok : (r : Reconf) (next : ℕ) (j : Option Join) → ReconfNext (first_step r next j).to
@@ -70,6 +78,12 @@ module _ (Got : NodeId → ℕ → Msg → Type 0) (lo e0 me : ℕ) (Known : Lay
     pub told : IsTold r
     pub stand : Known r.stand
     pub up : e0 ≤ r.stand.epoch
+    pub tells : (ws : Waits) (h : ℕ) (q : Layout) → r.work ≡ Telling ws h q → Known q
+
+  -- a layout that it hears of, when it stands there
+  pub record News (p q : Layout) : Type 0 where
+    pub known : Known q
+    pub near : q.by ≡ me → q.epoch ≤ p.epoch + 1
 
   module _ (r : Reconf) (ok : StartOk r.stand r.work) (fits : ReconfFits r) where
     told_is : (ws : Waits) (h : ℕ) (q : Layout) → r.work ≡ Telling ws h q → q.epoch ≡ r.stand.epoch + 1
@@ -78,39 +92,51 @@ module _ (Got : NodeId → ℕ → Msg → Type 0) (lo e0 me : ℕ) (Known : Lay
 
     -- A newer layout.
 
-    adopts_ok : (q : Layout) (next : ℕ) (b : Bool) → (q.by == r.me) ≡ b → lo ≤ next → q.epoch ≡ r.stand.epoch + 1 → ReconfNext (adopts r q next b).to
-    adopts_ok q next true h le is = (le, (let u = fits.up in omega (arith, u, is)), same q.by r.me h ∙ fits.me_is)
+    adopts_ok : (q : Layout) (next : ℕ) (b : Bool) → (q.by == r.me) ≡ b → lo ≤ next → q.epoch ≡ r.stand.epoch + 1 → Known q → ReconfNext (adopts r q next b).to
+    adopts_ok q next true h le is known = (le, (let u = fits.up in omega (arith, u, is)), same q.by r.me h ∙ fits.me_is)
       where
         same : (a b : ℕ) → (a == b) ≡ true → a ≡ b
         same a b h = grind arith
-    adopts_ok q next false h le is = tt
+    adopts_ok q next false h le is known = record { proj = q; known = known; epoch = refl; later = (let u = fits.up in omega (arith, u, is)); other = λ mine. differ q.by r.me h (mine ∙ sym fits.me_is) }
+      where
+        differ : (a b : ℕ) → (a == b) ≡ false → a ≡ b → ⊥
+        differ a b h e = grind arith
 
     heard_ok : (ws vs : Waits) (h n : ℕ) (q : Layout) (next : ℕ) (b : Bool) → r.work ≡ Telling ws h q → lo ≤ next → ReconfNext (heard_on r vs n q next b).to
-    heard_ok ws vs h n q next true is le = adopts_ok q next (q.by == r.me) refl le (told_is ws h q is)
+    heard_ok ws vs h n q next true is le = adopts_ok q next (q.by == r.me) refl le (told_is ws h q is) (fits.tells ws h q is)
     heard_ok ws vs h n q next false is le = tt
 
     decided_ok : (w : ReconfWork) (q : Layout) (next : ℕ) → ReconfNext (own_decided r w q next).to
     decided_ok (Telling ws h p) q next = ok
     decided_ok w q next = tt
 
-    newer_ok : (q : Layout) (next : ℕ) (b : Bool) → ReconfNext (on_newer r q next b).to
-    newer_ok q next true = decided_ok r.work q next
-    newer_ok q next false = tt
+    newer_ok : (q : Layout) (next : ℕ) (b : Bool) → is_own r q ≡ b → r.stand.epoch < q.epoch → News r.stand q → ReconfNext (on_newer r q next b).to
+    newer_ok q next true own less news = decided_ok r.work q next
+    newer_ok q next false own less news = record {
+      proj = q;
+      known = news.known;
+      epoch = refl;
+      later = (let u = fits.up in omega (arith, u, less));
+      other = λ mine. let le = news.near mine in not_both q.by r.me q.epoch (next_epoch r) own (mine ∙ sym fits.me_is) (omega (arith, le, less));
+    }
+      where
+        not_both : (a b c d : ℕ) → ((a == b) && (c == d)) ≡ false → a ≡ b → c ≡ d → ⊥
+        not_both a b c d h e f = grind arith
 
-    latest_by : (w : ReconfWork) (n rid : ℕ) (q : Layout) (next : ℕ) → r.work ≡ w → lo ≤ next → r.stand.epoch < q.epoch → (from : NodeId) → Got from rid (msg.Latest q) → ReconfNext (reconf_latest r w n rid q next).to
+    latest_by : (w : ReconfWork) (n rid : ℕ) (q : Layout) (next : ℕ) → r.work ≡ w → lo ≤ next → r.stand.epoch < q.epoch → News r.stand q → (from : NodeId) → Got from rid (msg.Latest q) → ReconfNext (reconf_latest r w n rid q next).to
     unfolding reconf_latest
-    latest_by (Starting k) n rid q next is le less from got =
+    latest_by (Starting k) n rid q next is le less news from got =
         let s = subst (λ (w : ReconfWork). StartOk r.stand w) is ok in
         record { proj = r.stand; known = fits.stand; epoch = refl; later = s.1; own = s.2; heard = inr (record { from = from; rid = rid; proj = q; got = got; later = less }) }
-    latest_by (Telling ws h y) n rid q next is le less from got = by (has_rid n rid ws && (q.epoch == next_epoch r))
+    latest_by (Telling ws h y) n rid q next is le less news from got = by (has_rid n rid ws && (q.epoch == next_epoch r))
       where
         by : (b : Bool) → ReconfNext (if b then heard r n ws h y next else on_newer r q next (is_own r q)).to
         by true = heard_ok ws (without_wait n ws) h (h + 1) y next _ is le
-        by false = newer_ok q next (is_own r q)
-    latest_by w n rid q next is le less from got = newer_ok q next (is_own r q)
+        by false = newer_ok q next (is_own r q) refl less news
+    latest_by w n rid q next is le less news from got = newer_ok q next (is_own r q) refl less news
 
-    pub latest_ok : (n rid : ℕ) (q : Layout) (next : ℕ) → lo ≤ next → r.stand.epoch < q.epoch → (from : NodeId) → Got from rid (msg.Latest q) → ReconfNext (reconf_latest r r.work n rid q next).to
-    latest_ok n rid q next le less from got = latest_by r.work n rid q next refl le less from got
+    pub latest_ok : (n rid : ℕ) (q : Layout) (next : ℕ) → lo ≤ next → r.stand.epoch < q.epoch → News r.stand q → (from : NodeId) → Got from rid (msg.Latest q) → ReconfNext (reconf_latest r r.work n rid q next).to
+    latest_ok n rid q next le less news from got = latest_by r.work n rid q next refl le less news from got
 
     -- An awaited answer.
 

@@ -47,7 +47,7 @@ module _ (m : Meaning) where
   has_mark (x ∷ ts) t (inl e) = inl (ap (λ (y : Told m). y.mark) e)
   has_mark (x ∷ ts) t (inr i) = inr (has_mark ts t i)
 
-  some_put : (tr : Trace m) (k x : ℕ) (o : Oid) (op : m.op) (u : MarkOf m) → Has tr u → u.client ≡ k → u.tx ≡ x → u.what ≡ told.Put o op → Has (puts_of m tr k x) (o, op)
+  pub some_put : (tr : Trace m) (k x : ℕ) (o : Oid) (op : m.op) (u : MarkOf m) → Has tr u → u.client ≡ k → u.tx ≡ x → u.what ≡ told.Put o op → Has (puts_of m tr k x) (o, op)
   unfolding puts_of
   some_put [] k x o op u i c n is = absurd i
   some_put (t ∷ tr) k x o op u (inl e) c n is =
@@ -69,7 +69,7 @@ module _ (m : Meaning) where
       later (told.Put p q) j = put p q ((k == t.client) && (x == t.tx)) j
       later w j = j
 
-  has_some : {X : Type 0} (xs : List X) (x : X) → Has xs x → xs ≢ []
+  pub has_some : {X : Type 0} (xs : List X) (x : X) → Has xs x → xs ≢ []
   has_some {X} xs x i none = subst (λ (ys : List X). Has ys x) none i
 
   pub puts_some : (w : World m) (k x : ℕ) (o : Oid) (op : m.op) → OfTx m w k x (told.Put o op) → puts_of m (trace m w) k x ≢ []

@@ -44,7 +44,8 @@ use Rattle.tg_law_moves.proofs.Machines.{sync_draws, sync_start_draws, walk_draw
 use Rattle.tg_law_moves.proofs.Turns.{Begins, begins_walk}
 use Rattle.tg_law_alike.proofs.Appends.{is_whole, Asked, asked, Issued, AppendOk, NextOk, TurnOk, append_on, EndOk, feed_ok, again_ok}
 use Rattle.tg_law_alike.proofs.Machines.{TailTold, SyncOk, SyncNext, sync_ok, sync_start_ok, CopyOk, CopyNext, copy_fed, copy_start_ok}
-use Rattle.tg_law_alike.proofs.Reconfs.{InstallTold, StartOk, ReconfNext, ReconfFits, reconf_ok, latest_ok, reconf_start_ok}
+use Rattle.tg_law_alike.proofs.Refusals.{NotOvertaken, Fine, fine_copy}
+use Rattle.tg_law_alike.proofs.Reconfs.{InstallTold, OvertakeTold, News, StartOk, ReconfNext, ReconfFits, reconf_ok, latest_ok, reconf_start_ok}
 
 -- a turn draws no number below its next
 up_of : {M E : Type 0} → (asks : M → List Out) (old : List Out) (next : ℕ) (bs : List Out) (end : ℕ) (to : Next M E) → NextDraws asks old next bs end to → next ≤ end
@@ -74,16 +75,24 @@ module _ (m : Meaning) (Got AskSent : NodeId → ℕ → Msg → Type 0) (lo e0 
   SayOk (told.Saved o p u) = SaveTold p u
   SayOk (told.Installed e) = InstallTold Got lo e0 me Known e
   SayOk (told.Copied u r s) = CopyTold u r s
+  SayOk (told.Marked o j) = ⊥
+  SayOk (told.Refused (cause.Overtaken e)) = OvertakeTold Got lo e0 me Known e
   SayOk what = Unit {0}
 
-  abbrev pub AllSay : List (NoteOf m) → Type 0
-  AllSay ns = (n : NoteOf m) → Has ns n → SayOk n.what
+  abbrev pub EachSays : List (NoteOf m) → Type 0
+  EachSays ns = (n : NoteOf m) → Has ns n → SayOk n.what
+
+  -- a mark is told right after its own transaction's commit, and in no other turn
+  pub data AllSay : List (NoteOf m) → Type 0 where
+    Each : {ns : List (NoteOf m)} → EachSays ns → AllSay ns
+    Marking : (x : ℕ) (o : Oid) (j p : ℕ) → 0 < x → AllSay (note m x (told.Committed p) ∷ note m 0 (told.Marked o j) ∷ [])
 
   -- what an append is for
   abbrev pub Fits : Purpose m → Type 0
   Fits (Decides what) = SayOk what
   Fits (Rescues what) = SayOk what
   Fits (Saves o u) = TailTold Got lo u
+  Fits (Marks x o j) = 0 < x
   Fits y = Unit {0}
 
   abbrev pub TaskHeld : ℕ → ℕ → Task m → Type 0
@@ -155,15 +164,21 @@ module _ (m : Meaning) (Got AskSent : NodeId → ℕ → Msg → Type 0) (lo e0 
   abbrev Le : Client m → Type 0
   Le c = lo ≤ c.next
 
-  none_says : AllSay []
-  none_says n i = absurd i
+  each_none : EachSays []
+  each_none n i = absurd i
 
-  and_says : (k : NoteOf m) (ns : List (NoteOf m)) → SayOk k.what → AllSay ns → AllSay (k ∷ ns)
-  and_says k ns s rest n (inl e) = subst (λ (z : NoteOf m). SayOk z.what) (sym e) s
-  and_says k ns s rest n (inr i) = rest n i
+  each_and : (k : NoteOf m) (ns : List (NoteOf m)) → SayOk k.what → EachSays ns → EachSays (k ∷ ns)
+  each_and k ns s rest n (inl e) = subst (λ (z : NoteOf m). SayOk z.what) (sym e) s
+  each_and k ns s rest n (inr i) = rest n i
+
+  each_one : (k : NoteOf m) → SayOk k.what → EachSays (k ∷ [])
+  each_one k s = each_and k [] s each_none
+
+  none_says : AllSay []
+  none_says = Each each_none
 
   one_says : (k : NoteOf m) → SayOk k.what → AllSay (k ∷ [])
-  one_says k s = and_says k [] s none_says
+  one_says k s = Each (each_one k s)
 
   replied : (c : Client m) (ns : List (NoteOf m)) → AllSay ns → Good (replies m c ns)
   replied c ns s = record { held = tt; says = s }
@@ -281,13 +296,13 @@ module _ (m : Meaning) (Got AskSent : NodeId → ℕ → Msg → Type 0) (lo e0 
   checkpoint_good c w v o (Played t) l k = save_good _ c w o _ l k
 
   marks_say : (x : ℕ) (o : Oid) (n : ℕ) → AllSay (mark_notes m x o n)
-  marks_say x o n = and_says (note m x told.Begin) (note m x (told.Put directory (m.mark_op o n)) ∷ note m x told.End ∷ []) tt
-      (and_says (note m x (told.Put directory (m.mark_op o n))) (note m x told.End ∷ []) tt (one_says (note m x told.End) tt))
+  marks_say x o n = Each (each_and (note m x told.Begin) (note m x (told.Put directory (m.mark_op o n)) ∷ note m x told.End ∷ []) tt
+      (each_and (note m x (told.Put directory (m.mark_op o n))) (note m x told.End ∷ []) tt (each_one (note m x told.End) tt)))
 
   forget_by_good : (c : Client m) (w : Work m) (o : Oid) (n : ℕ) (f : Option (ForgetFault m)) → Le c → Good (forget_by m c w o n f)
   forget_by_good c w o n (Some NoCheckpoint) l = refused c _ _ tt
   forget_by_good c w o n (Some (OpenDecision p)) l = refused c _ _ tt
-  forget_by_good c w o n None l = appended (record c { begun = c.begun + 1 }) w (mark_record m c o n) (Marks (c.begun + 1) o n) (mark_notes m (c.begun + 1) o n) l tt (marks_say (c.begun + 1) o n)
+  forget_by_good c w o n None l = appended (record c { begun = c.begun + 1 }) w (mark_record m c o n) (Marks (c.begun + 1) o n) (mark_notes m (c.begun + 1) o n) l (omega arith) (marks_say (c.begun + 1) o n)
 
   forget_good : (c : Client m) (w : Work m) (es : Entries) (o : Oid) (n : ℕ) (came : PlayEnd) → Le c → Good (on_forget m c w es o n came)
   forget_good c w es o n (Played t) l = forget_by_good c w o n (may_forget m es o n) l
@@ -442,7 +457,7 @@ module _ (m : Meaning) (Got AskSent : NodeId → ℕ → Msg → Type 0) (lo e0 
   ended_good c w (Saves o u) (At p d) end l k x = answered (knows_page m c p d) 0 (told.Saved o p u) (record { end = end; issued = x; tail = k })
   ended_good c w (Saves o u) (Full i) end l k x = refused c _ _ tt
   ended_good c w (Saves o u) (Forgotten p b) end l k x = refused c _ _ tt
-  ended_good c w (Marks n o j) (At p d) end l k x = replied (took_over m (owns m c p d) c.view) _ (and_says (note m n (told.Committed p)) (note m 0 (told.Marked o j) ∷ []) tt (one_says (note m 0 (told.Marked o j)) tt))
+  ended_good c w (Marks n o j) (At p d) end l k x = replied (took_over m (owns m c p d) c.view) _ (Marking n o j p k)
   ended_good c w (Marks n o j) (Full i) end l k x = refused c _ _ tt
   ended_good c w (Marks n o j) (Forgotten p b) end l k x = refused c _ _ tt
 
@@ -473,9 +488,14 @@ module _ (m : Meaning) (Got AskSent : NodeId → ℕ → Msg → Type 0) (lo e0 
       by (Learns a) k = record { held = tt; says = none_says }
       by (Ends e) k = replied (after_turn m c t) _ (one_says (note m 0 (told.Copied x.unit x.range x.stripe)) k)
 
-  copies_good : (c : Client m) (w : Work m) (x : Copying) (o : Option Refusal) → Good (copies_again m c w x o)
-  copies_good c w x None = copy_good c w x (copy_start x.unit x.range x.stripe c.next) (copy_start_ok lo (CopyTold x.unit x.range x.stripe) x.unit x.range x.stripe c.next)
-  copies_good c w x (Some why) = refused c 0 why tt
+  -- a refusal other than that
+  say_refused : (why : Refusal) → NotOvertaken why → SayOk (told.Refused why)
+  say_refused (cause.Overtaken e) n = absurd n
+  say_refused why n = tt
+
+  copies_good : (c : Client m) (w : Work m) (x : Copying) (o : Option Refusal) → Fine o → Good (copies_again m c w x o)
+  copies_good c w x None f = copy_good c w x (copy_start x.unit x.range x.stripe c.next) (copy_start_ok lo (CopyTold x.unit x.range x.stripe) x.unit x.range x.stripe c.next)
+  copies_good c w x (Some why) f = refused c 0 why (say_refused why f)
 
   reconf_good : (c : Client m) (w : Work m) (t : Turn Reconf ReconfEnd) → ReconfNext Got lo e0 me Known t.to → Good (on_reconf m c w t)
   reconf_good c w t k = by t.to k
@@ -484,7 +504,7 @@ module _ (m : Meaning) (Got AskSent : NodeId → ℕ → Msg → Type 0) (lo e0 
       by (Goes r) k = record { held = k; says = none_says }
       by (Learns r) k = record { held = k; says = none_says }
       by (Ends (Installed e p)) k = replied (stands m (after_turn m c t) p) _ (one_says (note m 0 (told.Installed e)) k)
-      by (Ends (Overtaken e p)) k = refused (stands m (after_turn m c t) p) 0 (cause.Overtaken e) tt
+      by (Ends (Overtaken e p)) k = refused (stands m (after_turn m c t) p) 0 (cause.Overtaken e) k
       by (Ends (NotWhole u q p)) k = refused (stands m (after_turn m c t) p) 0 (cause.NotWhole u q) tt
 
   -- Deliveries.
@@ -501,7 +521,11 @@ module _ (m : Meaning) (Got AskSent : NodeId → ℕ → Msg → Type 0) (lo e0 
       pub below : (o : Out) → Has (task_awaited m c.stand t) o → o.rid < c.next
       pub looks : (u : ℕ) (o : Out) → Has (task_awaited m c.stand t) o → o.to ≡ unit_id u → o.to ≡ from → o.rid ≡ rid → y ≡ msg.Whole → AskSent o.to o.rid o.msg
 
-    module _ (c : Client m) (w : Work m) (l : Le c) (stand : Known c.stand) where
+    -- the layout that the message tells, where the client stands
+    abbrev pub Hears : Client m → Type 0
+    Hears c = (q : Layout) → y ≡ msg.Latest q → News Got lo e0 me Known c.stand q
+
+    module _ (c : Client m) (w : Work m) (l : Le c) (stand : Known c.stand) (hears : Hears c) where
       look_asked : (x : Copying) (r : ℕ) (p : Layout) → Asked (copy_work_asks p x (Looking r)) from rid → (unit_id x.unit ≡ from) × (r ≡ rid)
       unfolding copy_work_asks
       look_asked x r p a = by a.of a.has a.to a.number
@@ -543,14 +567,14 @@ module _ (m : Meaning) (Got AskSent : NodeId → ℕ → Msg → Type 0) (lo e0 
       unfolding task_again
       newer_good (Reconfiguring r) q is newer k f =
           let e = ap (λ (p : Layout). p.epoch) f.1 in
-          reconf_good c w (reconf_latest r r.work from.num rid q c.next) (latest_ok Got lo e0 me Known r k f.0 from.num rid q c.next l (omega (arith, newer, e)) from (subst (Got from rid) (latest q is) got))
+          reconf_good c w (reconf_latest r r.work from.num rid q c.next) (latest_ok Got lo e0 me Known r k f.0 from.num rid q c.next l (omega (arith, newer, e)) (subst (λ (p : Layout). News Got lo e0 me Known p q) (sym f.1) (hears q (latest q is))) from (subst (Got from rid) (latest q is) got))
       newer_good (Syncing s) q is newer k f = sync_good (stands m c q) (record w { gone_before = w.gone }) (sync_again s c.next)
           (let u = up_of (sync_asks q) [] c.next (sync_again s c.next).besides (sync_again s c.next).next (sync_again s c.next).to (sync_start_draws q s.oids c.next) in omega (arith, l, u)) (sync_start_ok Got lo s.oids c.next l)
       newer_good (Walking v os) q is newer k f = walk_good (stands m c q) w v.oid os (walk_again q v c.next)
           (let u = up_of walk_asks [] c.next (walk_again q v c.next).besides (walk_again q v c.next).next (walk_again q v c.next).to (walk_again_draws q v c.next) in omega (arith, l, u)) k
       newer_good (Appending a z) q is newer k f = append_good (stands m c q) w z (append_again q a c.next) l (again_ok Got q lo a c.next l k.0) k.1
       newer_good (Trimming t) q is newer k f = trims_turn (stands m c q) w t.below (trim_start q t.below c.next)
-      newer_good (Copying' x) q is newer k f = copies_good (stands m c q) w x _
+      newer_good (Copying' x) q is newer k f = copies_good (stands m c q) w x _ (fine_copy m q x.unit x.range x.stripe)
 
       module _ (has : c.work ≡ Some w) (held : Held c) where
         still : Good (record { now = c; besides = []; notes = [] })
@@ -580,9 +604,9 @@ module _ (m : Meaning) (Got AskSent : NodeId → ℕ → Msg → Type 0) (lo e0 
     WorkFits c None = Unit {0}
     WorkFits c (Some w) = TaskFits c.stand (task_in m w.hand) × ((t : Task m) → w.hand ≡ Doing t → Looks c t)
 
-    pub feed_good : (c : Client m) (o : Option (Work m)) → c.work ≡ o → lo ≤ c.next → Known c.stand → Held c → WorkFits c o → Good (step.feed m c o from rid (reply y))
-    feed_good c None is l stand k f = record { held = k; says = none_says }
-    feed_good c (Some w) is l stand k f = reply_good c w l stand is k (reply y) refl (subst (WorkHeld c.next) is k) f.0 f.1
+    pub feed_good : (c : Client m) (o : Option (Work m)) → c.work ≡ o → lo ≤ c.next → Known c.stand → Hears c → Held c → WorkFits c o → Good (step.feed m c o from rid (reply y))
+    feed_good c None is l stand hears k f = record { held = k; says = none_says }
+    feed_good c (Some w) is l stand hears k f = reply_good c w l stand hears is k (reply y) refl (subst (WorkHeld c.next) is k) f.0 f.1
 
   -- Commands.
 
@@ -623,7 +647,7 @@ module _ (m : Meaning) (Got AskSent : NodeId → ℕ → Msg → Type 0) (lo e0 
     ends_good (Some t) = by (length t.writes == 0)
       where
         by : (b : Bool) → Good (step.end_by m c cmd.End t b)
-        by true = moves _ _ refl (and_says (note m t.number told.End) (note m t.number (told.Committed (step.snapshot_or m t.snapshot)) ∷ []) tt (one_says (note m t.number (told.Committed (step.snapshot_or m t.snapshot))) tt))
+        by true = moves _ _ refl (Each (each_and (note m t.number told.End) (note m t.number (told.Committed (step.snapshot_or m t.snapshot)) ∷ []) tt (each_one (note m t.number (told.Committed (step.snapshot_or m t.snapshot))) tt)))
         by false = appended c (new_work m cmd.End) _ _ _ l (purpose_fits (length t.reads == 0)) (one_says (note m t.number told.End) tt)
 
     accepts_good : (x : CommandOf m) → Good (accepts m c x)
@@ -635,9 +659,9 @@ module _ (m : Meaning) (Got AskSent : NodeId → ℕ → Msg → Type 0) (lo e0 
     accepts_good cmd.End = ends_good c.tx
     accepts_good cmd.Drop = moves _ _ refl (one_says _ tt)
     accepts_good (cmd.Reconf y) = reconf_good c (new_work m (cmd.Reconf y)) (reconf_start c.stand c.layouts y c.num c.next) (reconf_start_ok Got lo e0 me Known c.stand c.layouts y c.num c.next)
-    accepts_good (cmd.Copy u r s) = copies_good c (new_work m (cmd.Copy u r s)) (record { unit = u; range = r; stripe = s; work = copying.Sealing 0 }) None
+    accepts_good (cmd.Copy u r s) = copies_good c (new_work m (cmd.Copy u r s)) (record { unit = u; range = r; stripe = s; work = copying.Sealing 0 }) None tt
     accepts_good x = synced' c _ _ l
 
-  pub command_good : (c : Client m) (x : CommandOf m) (o : Option Refusal) → (o ≡ None → c.work ≡ None) → lo ≤ c.next → Held c → Good (refused_or m c x o)
-  command_good c x None free l k = accepts_good c (free refl) l x
-  command_good c x (Some why) free l k = record { held = k; says = one_says _ tt }
+  pub command_good : (c : Client m) (x : CommandOf m) (o : Option Refusal) → (o ≡ None → c.work ≡ None) → Fine o → lo ≤ c.next → Held c → Good (refused_or m c x o)
+  command_good c x None free f l k = accepts_good c (free refl) l x
+  command_good c x (Some why) free f l k = record { held = k; says = one_says _ (say_refused why f) }

@@ -1,14 +1,16 @@
 -- What replies tell, row by row of `Alike` (tg_protocol).
-use Rattle.std.specs.Prelude.{◌≡◌, ℕ, true, Contains}
+use Rattle.std.specs.Prelude.{◌≡◌, ℕ, true, List, ◌∷◌, ◌++◌, Contains}
 use Rattle.tg_base.specs.Clusters.{Header}
 use Rattle.tg_base.specs.declared.ids.Oid.{Oid}
 use Rattle.tg_base.specs.declared.marks.Part.{Part}
 use Rattle.tg_kind.specs.Meaning.{Meaning}
+use Rattle.tg_model.specs.declared.refusal.Refusal.TheVariants as cause
 use Rattle.tg_model.specs.declared.trace.What.TheVariants as told
+use Rattle.tg_model.specs.Legal.{Legal}
 use Rattle.tg_protocol.specs.Logs.{outcome}
-use Rattle.tg_protocol.specs.Worlds.{World, Told, log}
+use Rattle.tg_protocol.specs.Worlds.{World, Told, log, history, trace}
 use Rattle.tg_protocol.specs.Runs.{Moves, Reaches}
-use Rattle.tg_protocol.specs.Alike.{HasRecord, LogAgrees, OfTx, SavedAt, CopiedBy, InstalledBy}
+use Rattle.tg_protocol.specs.Alike.{HasRecord, LogAgrees, OfTx, SavedAt, CopiedBy, MarkedBy, InstalledBy, OvertakenBy}
 use Rattle.tg_law_lists.specs.Spared.{TrimsWereSpare}
 use Rattle.tg_law_replies.specs.Ended.{AppendsEnd}
 use Rattle.tg_law_replies.specs.Outcomes.{TellsOutcomes}
@@ -46,6 +48,10 @@ module _ (m : Meaning) where
   abbrev pub InstallsAgree : World m → Type 0
   InstallsAgree w = (t : Told m) (e : ℕ) → Contains w.told t → t.mark.what ≡ told.Installed e → InstalledBy m w t e
 
+  -- a reconfiguration that was told overtaken
+  abbrev pub OvertakesAgree : World m → Type 0
+  OvertakesAgree w = (t : Told m) (e : ℕ) → Contains w.told t → t.mark.what ≡ told.Refused (cause.Overtaken e) → OvertakenBy m w t e
+
   abbrev pub CopiesAgree : World m → Type 0
   CopiesAgree w = (t : Told m) (u r s : ℕ) → Contains w.told t → t.mark.what ≡ told.Copied u r s → CopiedBy m w t u r s
 
@@ -56,14 +62,24 @@ module _ (m : Meaning) where
   abbrev pub SavesAgreeByRuns : Type 0
   SavesAgreeByRuns = (h : Header) (ms : Moves m) (w : World m) → Reaches m h ms w → AppendsEnd m h ms w → SavesAgree w
 
+  -- a mark is told right after the commit of a transaction that is in the history and marks the object there
+  abbrev pub MarksAgree : World m → Type 0
+  MarksAgree w = (before after : List (Told m)) (t : Told m) (o : Oid) (n : ℕ) → w.told ≡ before ++ t ∷ after → t.mark.what ≡ told.Marked o n → MarkedBy m w before t.mark.client o n
+
+  -- in a legal run
+  abbrev pub MarksAgreeByRuns : Type 0
+  MarksAgreeByRuns = (h : Header) (ms : Moves m) (w : World m) → Reaches m h ms w → Legal m w.cluster.objects (history m w) (trace m w) → MarksAgree w
+
   -- the rows of `Alike` that are had here
   pub record AlikeRows (w : World m) : Type 0 where
     pub aborts : AbortsAgree w
     pub unsure : UnsureAgree w
     pub commits : CommitsAgree w
     pub installs : InstallsAgree w
+    pub overtakes : OvertakesAgree w
     pub copies : CopiesAgree w
     pub saves : SavesAgree w
+    pub marks : MarksAgree w
 
   abbrev pub AlikeRowsByRuns : Type 0
-  AlikeRowsByRuns = ByRunsOfOutcomes AlikeRows
+  AlikeRowsByRuns = ByRunsOfOutcomes (λ w. Legal m w.cluster.objects (history m w) (trace m w) → AlikeRows w)

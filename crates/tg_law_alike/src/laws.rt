@@ -1,7 +1,7 @@
 //! What holds of every run.
 
 ghost use Rattle.tg_kind.specs.Of.{meaning_of};
-ghost use Rattle.tg_law_alike.specs.Rows.{AbortsAgreeByRuns, AlikeRowsByRuns, CommitsAgreeByRuns, CopiesAgree, InstallsAgree, SavesAgreeByRuns, UnsureAgreeByRuns};
+ghost use Rattle.tg_law_alike.specs.Rows.{AbortsAgreeByRuns, AlikeRowsByRuns, CommitsAgreeByRuns, CopiesAgree, InstallsAgree, MarksAgreeByRuns, OvertakesAgree, SavesAgreeByRuns, UnsureAgreeByRuns};
 ghost use Rattle.tg_protocol.specs.Runs.{Always};
 
 use tg_kind::Registry;
@@ -27,6 +27,11 @@ pub fn installs_agree<K: Registry>()
     ensures { Always (meaning_of K.Registry) (InstallsAgree (meaning_of K.Registry)) }
 {}
 
+/// Of a reconfiguration that was told overtaken, a layout of another is decided for that epoch, later than that of its command's beginning.
+pub fn overtakes_agree<K: Registry>()
+    ensures { Always (meaning_of K.Registry) (OvertakesAgree (meaning_of K.Registry)) }
+{}
+
 /// Of a copy that was told done, the unit has answered since its command began that it has all of the stripe, as a decided
 /// layout has it.
 pub fn copies_agree<K: Registry>()
@@ -37,6 +42,11 @@ pub fn copies_agree<K: Registry>()
 /// command began.
 pub fn saves_agree<K: Registry>()
     ensures { SavesAgreeByRuns (meaning_of K.Registry) }
+{}
+
+/// In a legal run a mark is told right after the commit of a transaction that is in the history, and marks the object there.
+pub fn marks_agree<K: Registry>()
+    ensures { MarksAgreeByRuns (meaning_of K.Registry) }
 {}
 
 /// All of these together.

@@ -6,6 +6,6 @@
 mod laws;
 
 pub use laws::{
-    aborts_agree, alike_rows, commits_agree, copies_agree, installs_agree, saves_agree,
-    unsure_agree,
+    aborts_agree, alike_rows, commits_agree, copies_agree, installs_agree, marks_agree,
+    overtakes_agree, saves_agree, unsure_agree,
 };
