@@ -40,7 +40,7 @@ logs_hold h ms w r = record {
   once = entries_stand_once all_kinds h ms w r (trims h ms w r).were.safe;
   records = records_own all_kinds h ms w r (trims h ms w r).were.safe;
   replies = replies_recorded all_kinds h ms w r (trims h ms w r).were (saves h ms w r);
-  rows = alike_rows all_kinds h ms w r (trims h ms w r).were (ends h ms w r) (runs_hold h ms w r).outcomes;
+  rows = alike_rows all_kinds h ms w r (trims h ms w r).were (ends h ms w r) (runs_hold h ms w r).outcomes (runs_hold h ms w r).legal;
 }
 
 pub scripts_hold : EachScriptHolds
