@@ -1,4 +1,5 @@
--- Every run of the store holds, and so does every script.
+-- Every run of the store holds, and so does every script and every live run.
+use Rattle.std.proofs.Common.{subst}
 use Rattle.tg_base.specs.Clusters.{Header}
 use Rattle.tg_protocol.specs.Appending.{At}
 use Rattle.tg_protocol.specs.Worlds.{World}
@@ -18,7 +19,10 @@ use Rattle.tg_law_store.proofs.Steps.{store_trims_are_spare}
 use Rattle.tg_law_headline.proofs.Store.{store_runs_hold}
 use Rattle.tg_law_joint.proofs.Holding.{steps_hold}
 use Rattle.tg_law_scripts.proofs.Reaching.{each_script_reaches}
-use Rattle.tg_law_runs.specs.Runs.{EachRunHolds, EachLogHolds, EachScriptHolds}
+use Rattle.tg_live.specs.Scripts.{recording}
+use Rattle.tg_law_headline.specs.Store.{StoreHolds}
+use Rattle.tg_law_lives.proofs.Recording.{each_live_reaches}
+use Rattle.tg_law_runs.specs.Runs.{EachRunHolds, EachLogHolds, EachScriptHolds, EachLiveHolds}
 
 pub runs_hold : EachRunHolds
 runs_hold h ms w reach = store_runs_hold h ms w reach (steps_hold h ms w reach)
@@ -45,3 +49,8 @@ logs_hold h ms w r = record {
 
 pub scripts_hold : EachScriptHolds
 scripts_hold s is = let r = each_script_reaches s is in record { reached = r; holds = runs_hold s.header r.moves (world_of s) r.reaches }
+
+pub lives_hold : EachLiveHolds
+lives_hold s answers end is lived =
+    let r = each_live_reaches s answers end is lived in
+    record { recorded = r; holds = subst StoreHolds r.world (runs_hold s.header r.reached.moves (world_of (recording s.header end.live)) r.reached.reaches) }

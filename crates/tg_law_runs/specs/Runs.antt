@@ -1,4 +1,5 @@
--- The headline, of every run of the store and of every script.
+-- The headline, of every run of the store, of every script and of every live run.
+use Rattle.std.specs.Prelude.{List}
 use Rattle.tg_base.specs.Clusters.{Header}
 use Rattle.tg_protocol.specs.Holding.{EntriesOnce, EntriesOwn, RecordsOwn, RepliesHaveRecords}
 use Rattle.tg_protocol.specs.Worlds.{World}
@@ -6,8 +7,11 @@ use Rattle.tg_protocol.specs.Runs.{Moves, Reaches}
 use Rattle.tg_any.specs.AllKinds.{all_kinds}
 use Rattle.tg_replay.specs.Runs.{Script, IsScript, world_of}
 use Rattle.tg_replay.specs.Headline.{IsReached}
+use Rattle.tg_live.specs.Lives.{Answer, Live, LiveRan, IsLived, opened}
+use Rattle.tg_live.specs.Scripts.{IsLiveScript}
 use Rattle.tg_law_alike.specs.Rows.{AlikeRows}
 use Rattle.tg_law_headline.specs.Store.{StoreHolds}
+use Rattle.tg_law_lives.specs.Lives.{RecordsScript}
 use Rattle.tg_law_trims.specs.Spare.{TrimsAre}
 
 abbrev pub EachRunHolds : Type 0
@@ -36,3 +40,13 @@ pub record ScriptHolds (s : Script) : Type 0 where
 
 abbrev pub EachScriptHolds : Type 0
 EachScriptHolds = (s : Script) → IsScript s → ScriptHolds s
+
+-- A live run's recording is a script, lawful events lead to the live run's world, which is that script's, and what is told there
+-- holds.
+pub record LiveHolds (h : Header) (l : Live) : Type 0 where
+  pub recorded : RecordsScript h l
+  pub holds : StoreHolds l.world
+
+-- whatever the link hands over, and wherever a limit stops the run
+abbrev pub EachLiveHolds : Type 0
+EachLiveHolds = (s : Script) (answers : List Answer) (end : LiveRan) → IsLiveScript s → IsLived s.events answers (opened s.header) end → LiveHolds s.header end.live

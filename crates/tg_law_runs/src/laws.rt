@@ -1,6 +1,6 @@
-//! What holds of every run of the store, and of every script.
+//! What holds of every run of the store, of every script and of every live run.
 
-ghost use Rattle.tg_law_runs.specs.Runs.{EachLogHolds, EachRunHolds, EachScriptHolds};
+ghost use Rattle.tg_law_runs.specs.Runs.{EachLiveHolds, EachLogHolds, EachRunHolds, EachScriptHolds};
 
 /// Whatever losses, repeats, reorderings, stops and reconfigurations a run takes: the stamps of its history rise, its replies
 /// are those of the plain machine over that history and in order, and what it tells of outcomes, of past positions and of
@@ -18,4 +18,9 @@ pub fn logs_hold()
 /// So it is of each script, whether a limit stops it or not: its world is one to which a run of lawful events comes.
 pub fn scripts_hold()
     ensures { EachScriptHolds }
+{}
+
+/// And of each live run, whatever the link hands over: its recording is a script, whose world is the live run's.
+pub fn lives_hold()
+    ensures { EachLiveHolds }
 {}
