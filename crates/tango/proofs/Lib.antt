@@ -1,4 +1,3 @@
 mod Lawful
 mod Loads
 mod Nodes
-mod Holding
