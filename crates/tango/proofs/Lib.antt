@@ -1,3 +1,4 @@
 mod Lawful
 mod Loads
 mod Nodes
+mod Holding

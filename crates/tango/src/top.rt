@@ -29,7 +29,9 @@ ghost use Rattle.tg_audit.specs.declared.verdict.Verdict.TheVariants as verdict;
 ghost use Rattle.tg_audit_run.specs.Verdicts.{judged, status_of};
 ghost use Rattle.tg_audit_run.specs.Outcomes as verdicts;
 ghost use Rattle.tg_audit_run.specs.Outcomes.{IsToldOf, IsRefused, IsSilent, IsOfJudge};
+ghost use Rattle.tg_law_scripts.specs.Headline.Headline.{ScriptHolds};
 ghost use Rattle.tango.specs.Forms.{is_over_link, is_reading};
+ghost use Rattle.tango.specs.Holding.{LimitedTruly, LiveLimitedTruly, LiveRefusedTruly, LivedTruly, RefusedTruly, ReplayedTruly};
 ghost use Rattle.tango.specs.Lawful.{IsLegalText, IsIllegalText};
 
 use std::alloc::Global;
@@ -39,6 +41,7 @@ use tg_audit_run::judge;
 use tg_base::NoMemory;
 use tg_bench::bench;
 use tg_io::{Link, Sink, Source, Status};
+use tg_law_scripts::laws_of_headline::{lives_hold, scripts_hold};
 use tg_law_verdicts::verdicts_are_true;
 use tg_live::run;
 use tg_node::node;
@@ -63,6 +66,12 @@ pub fn tango<S: Source, K: Sink, L: Link>(
     ensures script { form_of (map string_bytes words.now) ≡ Some Replay → (line : ℕ) → result ≡ AtLine line → Told (S.left source.old) (K.written sink.old) (K.written sink.new) (λ text out. Refused text line out) }
     // A limit stops a run, after the transcript of the steps before it.
     ensures limit { form_of (map string_bytes words.now) ≡ Some Replay → (which : Which) → result ≡ Limit which → Told (S.left source.old) (K.written sink.old) (K.written sink.new) (λ text out. Limited text which out) }
+    // Whatever losses, repeats, reorderings, stops and reconfigurations the script says, what is printed is of a run that holds: it
+    // is the replies and the one history of a world to which lawful events lead; the replies are those of the plain machine over
+    // that history, and in order; and what they tell of the log is true of it. So it is as far as a run came.
+    ensures done_truly { form_of (map string_bytes words.now) ≡ Some Replay → result ≡ Done → Told (S.left source.old) (K.written sink.old) (K.written sink.new) ReplayedTruly }
+    ensures script_truly { form_of (map string_bytes words.now) ≡ Some Replay → (line : ℕ) → result ≡ AtLine line → Told (S.left source.old) (K.written sink.old) (K.written sink.new) (λ text out. RefusedTruly text line out) }
+    ensures limit_truly { form_of (map string_bytes words.now) ≡ Some Replay → (which : Which) → result ≡ Limit which → Told (S.left source.old) (K.written sink.old) (K.written sink.new) (λ text out. LimitedTruly text which out) }
     // What is written at a fault is a front of a transcript, or nothing.
     ensures cut_short { form_of (map string_bytes words.now) ≡ Some Replay → (result ≡ WriteFault) ⊎ (result ≡ OutOfMemory) → Told (S.left source.old) (K.written sink.old) (K.written sink.new) IsCutShort }
     ensures silent { form_of (map string_bytes words.now) ≡ Some Replay → result ≡ ReadFault → K.written sink.new ≡ K.written sink.old }
@@ -81,6 +90,10 @@ pub fn tango<S: Source, K: Sink, L: Link>(
     ensures live_script { form_of (map string_bytes words.now) ≡ Some Live → (line : ℕ) → result ≡ AtLine line → Told (S.left source.old) (K.written sink.old) (K.written sink.new) (λ text out. recordings.Refused (over (L.handed link.old) (L.handed link.new) (L.sent link.old) (L.sent link.new)) text line out) }
     // A limit stops a run, which is printed as far as it came.
     ensures live_limit { form_of (map string_bytes words.now) ≡ Some Live → (which : Which) → result ≡ Limit which → Told (S.left source.old) (K.written sink.old) (K.written sink.new) (λ text out. recordings.Limited (over (L.handed link.old) (L.handed link.new) (L.sent link.old) (L.sent link.new)) text which out) }
+    // So is what a live run prints, whatever the link hands over: its recording is a script, whose world is the run's.
+    ensures live_done_truly { form_of (map string_bytes words.now) ≡ Some Live → result ≡ Done → Told (S.left source.old) (K.written sink.old) (K.written sink.new) (LivedTruly (over (L.handed link.old) (L.handed link.new) (L.sent link.old) (L.sent link.new))) }
+    ensures live_script_truly { form_of (map string_bytes words.now) ≡ Some Live → (line : ℕ) → result ≡ AtLine line → Told (S.left source.old) (K.written sink.old) (K.written sink.new) (λ text out. LiveRefusedTruly (over (L.handed link.old) (L.handed link.new) (L.sent link.old) (L.sent link.new)) text line out) }
+    ensures live_limit_truly { form_of (map string_bytes words.now) ≡ Some Live → (which : Which) → result ≡ Limit which → Told (S.left source.old) (K.written sink.old) (K.written sink.new) (λ text out. LiveLimitedTruly (over (L.handed link.old) (L.handed link.new) (L.sent link.old) (L.sent link.new)) text which out) }
     // What is written at a fault is a front of what a run prints, or nothing.
     ensures live_cut_short { form_of (map string_bytes words.now) ≡ Some Live → (result ≡ WriteFault) ⊎ (result ≡ OutOfMemory) → Told (S.left source.old) (K.written sink.old) (K.written sink.new) (lives.IsCutShort (over (L.handed link.old) (L.handed link.new) (L.sent link.old) (L.sent link.new))) }
     ensures live_silent { form_of (map string_bytes words.now) ≡ Some Live → (result ≡ ReadFault) ⊎ (result ≡ LinkFault) → K.written sink.new ≡ K.written sink.old }
@@ -127,6 +140,8 @@ pub fn tango<S: Source, K: Sink, L: Link>(
     // A made load: its run is a replay's, and what is written is the summary of the world that it comes to, or of the steps before a limit.
     ensures load_done { (start count : ℕ) → form_of (map string_bytes words.now) ≡ Some (Bench start count) → result ≡ Done → IsWithin (load start count) × Takes (K.written sink.old) (summary (load start count)) (K.written sink.new) }
     ensures load_limit { (start count : ℕ) → form_of (map string_bytes words.now) ≡ Some (Bench start count) → (which : Which) → result ≡ Limit which → ((run_of (load start count)).stopped ≡ Some which) × Takes (K.written sink.old) (summary (load start count)) (K.written sink.new) }
+    // So is that run: it is of a script, which holds.
+    ensures load_truly { (start count : ℕ) → form_of (map string_bytes words.now) ≡ Some (Bench start count) → (result ≡ Done) ⊎ ((which : Which) × (result ≡ Limit which)) → ScriptHolds (load start count) }
     ensures load_cut_short { (start count : ℕ) → form_of (map string_bytes words.now) ≡ Some (Bench start count) → (result ≡ WriteFault) ⊎ (result ≡ OutOfMemory) → IsFront (load start count) (K.written sink.old) (K.written sink.new) }
     ensures load_ways { (start count : ℕ) → form_of (map string_bytes words.now) ≡ Some (Bench start count) → IsOfLoad result }
     ensures load_complete { (start count : ℕ) → form_of (map string_bytes words.now) ≡ Some (Bench start count) → (Rose (K.faults sink.old) (K.faults sink.new) → ⊥) → IsWithin (load start count) → (result ≡ Done) ⊎ (result ≡ OutOfMemory) }
@@ -159,10 +174,19 @@ pub fn tango<S: Source, K: Sink, L: Link>(
     ensures unread { is_reading (form_of (map string_bytes words.now)) ≡ false → source.new ≡ source.old }
 {
     match read_form(alloc, words) {
-        Ok(Some(Form::Replay)) => replay(alloc, source, sink),
-        Ok(Some(Form::Live)) => run(alloc, source, sink, link),
+        Ok(Some(Form::Replay)) => {
+            scripts_hold();
+            replay(alloc, source, sink)
+        }
+        Ok(Some(Form::Live)) => {
+            lives_hold();
+            run(alloc, source, sink, link)
+        }
         Ok(Some(Form::Node(id))) => node(alloc, id, source, sink, link),
-        Ok(Some(Form::Bench { start, count })) => bench(alloc, start, count, sink),
+        Ok(Some(Form::Bench { start, count })) => {
+            scripts_hold();
+            bench(alloc, start, count, sink)
+        }
         Ok(Some(Form::Audit)) => {
             verdicts_are_true::<AnyKind>();
             judge(alloc, source, sink)

@@ -1,2 +1,6 @@
-pub mod Chains
-pub mod Settled
+pub mod Cells
+pub mod Tokens
+pub mod Entries
+pub mod Homes
+pub mod Order
+pub mod Places

@@ -37,14 +37,13 @@ use Rattle.tg_protocol.specs.ClientSteps.{task_asks, client_asks, walks, task_fe
 use Rattle.tg_protocol.specs.Sizes.{fields_size}
 use Rattle.tg_protocol.specs.Logs.{decided, newest, log_of, entries_of, members, path_on, path, changes_below, version, outcome, history_of}
 use Rattle.tg_protocol.specs.Worlds.{start, latest, log, history, unit_moves, layout_moves, seqr_moves, client_turned, happens, limit_of, drain_on, drain, tick_all, rounds, settle, line, lines, replay}
-use Rattle.tg_protocol.specs.Runs.{run}
+use Rattle.tg_protocol.specs.Runs.{run, Reaches}
 use Rattle.tg_protocol.specs.Walked.{walks_end}
 use Rattle.tg_law_examples.proofs.SevenKinds.{kinds}
 use Rattle.tg_law_examples.proofs.Farther.{past_answers_header, past_answers_script}
 use Rattle.tg_law_examples.proofs.First.{crossed_reads_header, crossed_reads_script}
 use Rattle.tg_law_examples.proofs.Moves.{carried_by_scan_header, carried_by_scan_script, checkpoints_and_trim_header, checkpoints_and_trim_script, new_sequencer_header, new_sequencer_script, overtaken_and_refused_header, overtaken_and_refused_script, unit_joins_header, unit_joins_script}
 use Rattle.tg_base.specs.Clusters.{IsHeader}
-use Rattle.tg_protocol.specs.Runs.{Reaches}
 use Rattle.tg_protocol.specs.Following.{LayoutsFollow}
 use Rattle.tg_protocol.specs.Holding.{EntriesOwn}
 use Rattle.tg_law_instances.proofs.StepTests.{drain_ev, tick_ev, round_ev}

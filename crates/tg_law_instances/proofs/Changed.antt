@@ -1,6 +1,6 @@
 -- Changed worlds, and changed steps, of worked runs, and the claims that fail of them.
 use Rattle.std.proofs.Common.{◌≡◌, List, [], ◌∷◌, refl}
-use Rattle.std.specs.Prelude.{true, false}
+use Rattle.std.specs.Prelude.{true, false, ◌++◌, pos}
 use Rattle.tg_model.specs.Stores.{store_after, changed}
 use Rattle.tg_model.specs.Traces.{puts_of}
 use Rattle.tg_model.specs.Verdicts.{asks_in, bound_in, entries_fault, replies_fault, fault}
@@ -36,7 +36,7 @@ use Rattle.tg_protocol.specs.Answers.{appends, syncs, walked}
 use Rattle.tg_protocol.specs.ClientSteps.{task_asks, client_asks, walks, task_feed, task_again, accepts, client_command, client_deliver, client_tick}
 use Rattle.tg_protocol.specs.Sizes.{fields_size}
 use Rattle.tg_protocol.specs.Logs.{decided, newest, log_of, entries_of, members, path_on, path, changes_below, version, outcome, history_of}
-use Rattle.tg_protocol.specs.Worlds.{start, latest, log, history, unit_moves, layout_moves, seqr_moves, client_turned, happens, limit_of, drain_on, drain, tick_all, rounds, settle, line, lines, replay}
+use Rattle.tg_protocol.specs.Worlds.{start, latest, log, history, unit_moves, layout_moves, seqr_moves, client_turned, happens, limit_of, drain_on, drain, tick_all, rounds, settle, line, lines, replay, Line, Happens, Update, Settle}
 use Rattle.tg_protocol.specs.Runs.{run}
 use Rattle.tg_protocol.specs.Walked.{walks_end}
 use Rattle.tg_law_examples.proofs.SevenKinds.{kinds}
@@ -45,14 +45,12 @@ use Rattle.tg_law_examples.proofs.First.{crossed_reads_header, crossed_reads_scr
 use Rattle.tg_law_examples.proofs.Moves.{carried_by_scan_header, carried_by_scan_script, checkpoints_and_trim_header, checkpoints_and_trim_script, two_keys_header, two_keys_script, unit_joins_header, unit_joins_script}
 use Rattle.tg_law_examples.proofs.PlayingOn.{view_plays_on_header, view_plays_on_script}
 use Rattle.tg_law_instances.proofs.Tests as claim
-use Rattle.tg_law_instances.proofs.Tests.{world_fails, path_fails}
+use Rattle.tg_law_instances.proofs.Tests.{world_fails, path_fails, linked, layouts, one_layout}
 use Rattle.tg_law_instances.proofs.StepTests.{drain_ev, tick_ev, round_ev, step_fails, run_fails, changed_so, replied, ends_walks, sends_reads, log_stays}
 use Rattle.tg_law_instances.proofs.Changes.{doctored, copied, unheard, untold, trimmed_more as trims_more, unarchived, played_more as plays_more, replaced, two_layouts, higher, reads as reads_at, viewless, closed, with_client, knows_log, reads_low, emptied, replied_so, accepted, none_there as says_none, last_wrong, named_late, untrimmed, undecided, marked_less, commits_later}
-use Rattle.std.specs.Prelude.{◌++◌, pos}
 use Rattle.tg_base.specs.Clusters.{Header}
 use Rattle.tg_model.specs.declared.command.Command.TheVariants as cmd
 use Rattle.tg_model.specs.declared.command.Event.TheVariants.{Command as Commands}
-use Rattle.tg_protocol.specs.Worlds.{Line, Happens, Update, Settle}
 use Rattle.tg_law_examples.proofs.SevenKinds as kind
 use Rattle.tg_law_examples.proofs.Shown.{obj}
 use Rattle.tg_protocol.specs.Headline.{Holds}
@@ -61,7 +59,6 @@ use Rattle.tg_protocol.specs.Chosen.{OneLayout}
 use Rattle.tg_protocol.specs.Holding.{EntriesLinked, FloorsStay, TrimsSpare, LogStays}
 use Rattle.tg_protocol.specs.Causes.{DirectoryTrue, AbortsLeast}
 use Rattle.tg_law_instances.proofs.Readings.{es_of}
-use Rattle.tg_law_instances.proofs.Tests.{linked, layouts, one_layout}
 use Rattle.tg_law_instances.proofs.Refuted.{headline_refuted, linked_refuted, one_layout_refuted, some_cell_lost, stays_refuted, aborts_refuted, alike_refuted, checkpoints_refuted, directories_refuted, floors_refuted, past_refuted, rescue_refuted, some_aborts_off, some_alike_off, some_checkpoint_off, some_directory_off, some_floor_off, some_past_off, some_rescue_off, some_trim_off, trims_refuted}
 
 abbrev plays_on_further_header : Header

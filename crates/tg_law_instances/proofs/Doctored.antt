@@ -1,6 +1,6 @@
 -- Changed worlds, and steps from changed worlds, of which a claim is refuted.
 use Rattle.std.proofs.Common.{◌≡◌, [], refl}
-use Rattle.std.specs.Prelude.{true}
+use Rattle.std.specs.Prelude.{true, Some}
 use Rattle.tg_model.specs.Stores.{store_after, changed}
 use Rattle.tg_model.specs.Traces.{puts_of}
 use Rattle.tg_model.specs.Verdicts.{asks_in, bound_in, entries_fault, replies_fault, fault}
@@ -33,10 +33,10 @@ use Rattle.tg_protocol.specs.Trimming.{trim_start, trim_feed, copy_work_asks, co
 use Rattle.tg_protocol.specs.Reconfiguring.{reconf_work_asks, reconf_start, reconf_feed, reconf_latest}
 use Rattle.tg_protocol.specs.Clients.{new_client, entries_at, copy_fault, tests, refusal}
 use Rattle.tg_protocol.specs.Answers.{appends, syncs, walked}
-use Rattle.tg_protocol.specs.ClientSteps.{task_asks, client_asks, walks, task_feed, task_again, accepts, client_command, client_deliver, client_tick}
+use Rattle.tg_protocol.specs.ClientSteps.{task_asks, client_asks, walks, task_feed, task_again, accepts, client_command, client_deliver, client_tick, new_work}
 use Rattle.tg_protocol.specs.Sizes.{fields_size}
 use Rattle.tg_protocol.specs.Logs.{decided, newest, log_of, entries_of, members, path_on, path, changes_below, version, outcome, history_of}
-use Rattle.tg_protocol.specs.Worlds.{start, latest, log, history, unit_moves, layout_moves, seqr_moves, client_turned, happens, limit_of, drain_on, drain, tick_all, rounds, settle, line, lines, replay}
+use Rattle.tg_protocol.specs.Worlds.{start, latest, log, history, unit_moves, layout_moves, seqr_moves, client_turned, happens, limit_of, drain_on, drain, tick_all, rounds, settle, line, lines, replay, client}
 use Rattle.tg_protocol.specs.Runs.{run}
 use Rattle.tg_protocol.specs.Walked.{walks_end}
 use Rattle.tg_law_examples.proofs.SevenKinds.{kinds}
@@ -52,10 +52,7 @@ use Rattle.tg_protocol.specs.Holding.{EntriesOwn, RecordsOwn, RepliesHaveRecords
 use Rattle.tg_protocol.specs.Playing.{SyncsExact, ReadsOnPath, PlaysOn}
 use Rattle.tg_protocol.specs.Causes.{RefusalsTrue, CausesRefuse, UnsureTrue, NonesTrue, RefusalsKeep}
 use Rattle.tg_protocol.specs.Stuck.{StuckTrue}
-use Rattle.std.specs.Prelude.{Some}
-use Rattle.tg_protocol.specs.Worlds.{client}
 use Rattle.tg_protocol.specs.Finishing.{CommandFinishes, ReconfFinishes}
-use Rattle.tg_protocol.specs.ClientSteps.{new_work}
 use Rattle.tg_law_examples.proofs.SevenKinds as kind
 use Rattle.tg_law_examples.proofs.Shown.{obj}
 use Rattle.tg_law_instances.proofs.StepTests.{drain_ev, tick_ev, round_ev}

@@ -23,9 +23,8 @@ use Rattle.tg_law_verdicts.proofs.Tests.{same_number, number_same, lt_of, le_of}
 use Rattle.tg_law_examples.proofs.SevenKinds.{kinds}
 use Rattle.tg_law_instances.proofs.Readings.{then_so, layouts_decided}
 use Rattle.tg_law_instances.proofs.Tests.{W, implies, layouts}
-use Rattle.tg_law_instances.proofs.StepTests.{replies, is_idle, lost, line_ev, all_of}
+use Rattle.tg_law_instances.proofs.StepTests.{replies, is_idle, lost, line_ev, all_of, each_client}
 use Rattle.tg_law_instances.proofs.Steps.{Grows, none_added, step_adds, dropped, of_client_test}
-use Rattle.tg_law_instances.proofs.StepTests.{each_client}
 use Rattle.tg_law_instances.proofs.PlaySound.{idle_none}
 
 -- A settling adds replies to those before it.

@@ -1,7 +1,7 @@
 -- Fates of a view over entries whose reads are of whole objects, and of parts.
 use Rattle.std.proofs.Common.{◌≡◌, List, [], ◌∷◌, refl, Some}
-use Rattle.std.specs.Prelude.{true, false}
-use Rattle.tg_base.specs.declared.marks.Part.TheVariants.{All}
+use Rattle.std.specs.Prelude.{true, false, ℕ, Bool, map, Option}
+use Rattle.tg_base.specs.declared.marks.Part.TheVariants.{All, Text}
 use Rattle.tg_codec.specs.Reading.{u8_at, u16_at, u32_at, u64_at, raw_at, fixed_at}
 use Rattle.tg_codec.specs.Codec.{read_many, spell_many, fit_many}
 use Rattle.tg_entry.specs.Reads.{marks, reads}
@@ -23,13 +23,13 @@ use Rattle.tg_protocol.specs.Appending.{append_work_asks, append_start, append_f
 use Rattle.tg_protocol.specs.Syncing.{sync_work_asks, sync_start, sync_feed}
 use Rattle.tg_protocol.specs.Walking.{walk_on, walk_start, walk_feed}
 use Rattle.tg_protocol.specs.Versions.{no_versions, based, version_of, with_change, parts_of}
-use Rattle.tg_protocol.specs.Views.{decision_in, view_start, view_version, view_parts, unknown_in, changed_in, verdict, view_outcome, step_at, play_on, play}
+use Rattle.tg_protocol.specs.Views.{decision_in, view_start, view_version, view_parts, unknown_in, changed_in, verdict, view_outcome, step_at, play_on, play, Entries, View, fresh_base, fate_of}
 use Rattle.tg_protocol.specs.Transactions.{read_fault, write_fault, commit_record}
 use Rattle.tg_protocol.specs.Checkpoints.{open_decision, checkpoint, bases_in, load_from, view_base, view_bases, may_forget}
 use Rattle.tg_protocol.specs.Past.{commit_at, past_at, rescue_turn}
 use Rattle.tg_protocol.specs.Trimming.{trim_start, trim_feed, copy_work_asks, copy_start, copy_feed}
 use Rattle.tg_protocol.specs.Reconfiguring.{reconf_work_asks, reconf_start, reconf_feed, reconf_latest}
-use Rattle.tg_protocol.specs.Clients.{new_client, entries_at, copy_fault, tests, refusal}
+use Rattle.tg_protocol.specs.Clients.{new_client, entries_at, copy_fault, tests, refusal, write_of}
 use Rattle.tg_protocol.specs.Answers.{appends, syncs, walked}
 use Rattle.tg_protocol.specs.ClientSteps.{task_asks, client_asks, walks, task_feed, task_again, accepts, client_command, client_deliver, client_tick}
 use Rattle.tg_protocol.specs.Sizes.{fields_size}
@@ -38,16 +38,12 @@ use Rattle.tg_protocol.specs.Worlds.{start, latest, log, history, unit_moves, la
 use Rattle.tg_law_examples.proofs.SevenKinds.{kinds}
 use Rattle.tg_law_examples.proofs.SevenKinds as kind
 use Rattle.tg_law_examples.proofs.Shown.{obj}
-use Rattle.std.specs.Prelude.{ℕ, Bool, map, Option}
 use Rattle.tg_base.specs.declared.ids.Oid.{Oid}
 use Rattle.tg_base.specs.declared.marks.Part.{Part}
-use Rattle.tg_base.specs.declared.marks.Part.TheVariants.{Text}
 use Rattle.tg_base.specs.declared.marks.ReadMark.{ReadMark}
 use Rattle.tg_entry.specs.declared.entry.Body.TheVariants.{Commit}
 use Rattle.tg_entry.specs.declared.entry.Entry.{Entry}
-use Rattle.tg_protocol.specs.Clients.{write_of}
-use Rattle.tg_protocol.specs.Views.{Entries, View, fresh_base, fate_of}
-use Rattle.tg_law_plays.specs.Old.{commits_at}
+use Rattle.tg_law_replies.specs.Plays.Old.{commits_at}
 
 abbrev o : Oid
 o = obj 50331648

@@ -6,7 +6,7 @@ use Rattle.tg_base.specs.declared.ids.Oid.{Oid}
 use Rattle.tg_base.specs.declared.marks.StreamLink.{StreamLink}
 use Rattle.tg_entry.specs.declared.entry.Body.TheVariants.{Commit}
 use Rattle.tg_entry.specs.declared.entry.Entry.{Entry}
-use Rattle.tg_base.specs.Clusters.{Header}
+use Rattle.tg_base.specs.Clusters.{Header, IsHeader}
 use Rattle.tg_model.specs.declared.command.Command.TheVariants as cmd
 use Rattle.tg_model.specs.declared.command.Event.TheVariants.{Command as Commands, Deliver}
 use Rattle.tg_codec.specs.Reading.{u8_at, u16_at, u32_at, u64_at, raw_at, fixed_at}
@@ -30,13 +30,13 @@ use Rattle.tg_protocol.specs.Appending.{append_work_asks, append_start, append_f
 use Rattle.tg_protocol.specs.Syncing.{sync_work_asks, sync_start, sync_feed}
 use Rattle.tg_protocol.specs.Walking.{walk_on, walk_start, walk_feed}
 use Rattle.tg_protocol.specs.Versions.{no_versions, based, version_of, with_change, parts_of}
-use Rattle.tg_protocol.specs.Views.{decision_in, view_start, view_version, view_parts, unknown_in, changed_in, verdict, view_outcome, step_at, play_on, play}
+use Rattle.tg_protocol.specs.Views.{decision_in, view_start, view_version, view_parts, unknown_in, changed_in, verdict, view_outcome, step_at, play_on, play, Entries}
 use Rattle.tg_protocol.specs.Transactions.{read_fault, write_fault, commit_record}
 use Rattle.tg_protocol.specs.Checkpoints.{open_decision, checkpoint, bases_in, load_from, view_base, view_bases, may_forget}
 use Rattle.tg_protocol.specs.Past.{commit_at, past_at, rescue_turn}
 use Rattle.tg_protocol.specs.Trimming.{trim_start, trim_feed, copy_work_asks, copy_start, copy_feed}
 use Rattle.tg_protocol.specs.Reconfiguring.{reconf_work_asks, reconf_start, reconf_feed, reconf_latest}
-use Rattle.tg_protocol.specs.Clients.{new_client, entries_at, copy_fault, tests, refusal}
+use Rattle.tg_protocol.specs.Clients.{new_client, entries_at, copy_fault, tests, refusal, write_of}
 use Rattle.tg_protocol.specs.Answers.{appends, syncs, walked}
 use Rattle.tg_protocol.specs.ClientSteps.{task_asks, client_asks, walks, task_feed, task_again, accepts, client_command, client_deliver, client_tick}
 use Rattle.tg_protocol.specs.Sizes.{fields_size}
@@ -44,9 +44,6 @@ use Rattle.tg_protocol.specs.Logs.{decided, newest, log_of, entries_of, members,
 use Rattle.tg_law_examples.proofs.SevenKinds.{kinds}
 use Rattle.tg_law_examples.proofs.SevenKinds as kind
 use Rattle.tg_law_examples.proofs.Shown.{obj}
-use Rattle.tg_base.specs.Clusters.{IsHeader}
-use Rattle.tg_protocol.specs.Views.{Entries}
-use Rattle.tg_protocol.specs.Clients.{write_of}
 use Rattle.tg_protocol.specs.Worlds.{World, start, latest, log, history, unit_moves, layout_moves, seqr_moves, client_turned, happens, limit_of, drain_on, drain, tick_all, rounds, settle, line, lines}
 use Rattle.tg_protocol.specs.Runs.{Move, Moves, Next, Takes, LawfulMove, run, Reaches, most_steps}
 use Rattle.tg_protocol.specs.Holding.{EntriesOnce}

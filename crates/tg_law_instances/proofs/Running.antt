@@ -1,6 +1,6 @@
 -- Worked runs, at each step and line of which the claims hold.
 use Rattle.std.proofs.Common.{◌≡◌, [], ◌∷◌, refl}
-use Rattle.std.specs.Prelude.{true, false}
+use Rattle.std.specs.Prelude.{true, false, take}
 use Rattle.tg_model.specs.Stores.{store_after, changed}
 use Rattle.tg_model.specs.Traces.{puts_of}
 use Rattle.tg_model.specs.Verdicts.{asks_in, bound_in, entries_fault, replies_fault, fault}
@@ -37,21 +37,18 @@ use Rattle.tg_protocol.specs.ClientSteps.{task_asks, client_asks, walks, task_fe
 use Rattle.tg_protocol.specs.Sizes.{fields_size}
 use Rattle.tg_protocol.specs.Logs.{decided, newest, log_of, entries_of, members, path_on, path, changes_below, version, outcome, history_of}
 use Rattle.tg_protocol.specs.Worlds.{start, latest, log, history, unit_moves, layout_moves, seqr_moves, client_turned, happens, limit_of, drain_on, drain, tick_all, rounds, settle, line, lines, replay}
-use Rattle.tg_protocol.specs.Runs.{run}
+use Rattle.tg_protocol.specs.Runs.{run, Moves}
 use Rattle.tg_protocol.specs.Walked.{walks_end}
 use Rattle.tg_law_examples.proofs.SevenKinds.{kinds}
 use Rattle.tg_law_examples.proofs.Farther.{open_record_header, open_record_script, past_answers_header, past_answers_script, past_trimmed_header, past_trimmed_script, rescue_and_trim_header, rescue_and_trim_script, rescue_by_part_header, rescue_by_part_script}
 use Rattle.tg_law_examples.proofs.First.{crossed_reads_header, crossed_reads_script, full_log_header, full_log_script, orphan_decided_header, orphan_decided_script, refusals_header, refusals_script, unsure_then_fate_header, unsure_then_fate_script}
 use Rattle.tg_law_examples.proofs.Moves.{carried_by_scan_header, carried_by_scan_script, checkpoints_and_trim_header, checkpoints_and_trim_script, new_sequencer_header, new_sequencer_script, overtaken_and_refused_header, overtaken_and_refused_script, unit_joins_header, unit_joins_script}
 use Rattle.tg_law_examples.proofs.PlayingOn.{view_plays_on_header, view_plays_on_script}
-use Rattle.tg_law_instances.proofs.Tests.{world_fails, path_fails}
+use Rattle.tg_law_instances.proofs.Tests.{world_fails, path_fails, W}
 use Rattle.tg_law_instances.proofs.StepTests.{drain_ev, tick_ev, round_ev, step_fails, run_fails, failures, exact_at_end, settlings_of, log_stays}
-use Rattle.std.specs.Prelude.{take}
-use Rattle.tg_protocol.specs.Runs.{Moves}
 use Rattle.tg_protocol.specs.Holding.{LogStays}
 use Rattle.tg_protocol.specs.Headline.{Holds}
 use Rattle.tg_protocol.specs.Playing.{ReadsOnPath}
-use Rattle.tg_law_instances.proofs.Tests.{W}
 use Rattle.tg_law_instances.proofs.Sound.{stays_sound}
 use Rattle.tg_law_instances.proofs.HeadlineSound.{holds_sound}
 use Rattle.tg_law_instances.proofs.LogSound.{LogHolds, log_sound, reads_sound}

@@ -1,1 +1,5 @@
-pub mod Decisions
+pub mod Steps
+pub mod Moves
+pub mod Requests
+pub mod Agreement
+pub mod Layouts

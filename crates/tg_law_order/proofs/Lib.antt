@@ -1,2 +1,6 @@
-pub mod Tails
-pub mod Later
+pub mod Spans
+pub mod Points
+pub mod Ordered
+pub mod Decided
+pub mod Decisions
+pub mod Trimming

@@ -1,8 +1,9 @@
-//! The order of tails and tokens: what is issued after a sequencer told a tail stands at that tail or past it, in its epoch and,
-//! where the tail was confirmed, in each later one. Laws over the definitions of `tg_protocol`, for the kinds of any
-//! implementation.
+//! Order: no place of a transaction precedes a reply from before its begin, and decisions precede what rests on them.
 #![tactic(auto)]
 
-mod laws;
-
-pub use laws::{confirmed_tails_precede, tails_precede, tails_rise};
+pub mod laws_of_decided;
+pub mod laws_of_decisions;
+pub mod laws_of_ordered;
+pub mod laws_of_points;
+pub mod laws_of_spans;
+pub mod laws_of_trimming;

@@ -1,7 +1,6 @@
-pub mod Told
-pub mod Runs
-pub mod Steps
-pub mod Ended
-pub mod Outcomes
-pub mod Found
-pub mod Laws
+pub mod Plays
+pub mod History
+pub mod Views
+pub mod Pages
+pub mod Replies
+pub mod Books

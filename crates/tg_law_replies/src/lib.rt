@@ -1,8 +1,10 @@
-//! What clients tell and write is true of the log, in every run of a cluster. From what the clients find of the log that
-//! the run ends with. Laws over the definitions of `tg_protocol` and `tg_model`, for the kinds of
-//! any implementation.
+//! Replies and outcomes: what plays of a log give, the history it tells, views that are true of it, and so the truth of
+//! what clients are told and write.
 #![tactic(auto)]
 
-mod laws;
-
-pub use laws::{runs_tell_truth, runs_write_truth, telling_is_legal};
+pub mod laws_of_books;
+pub mod laws_of_history;
+pub mod laws_of_pages;
+pub mod laws_of_plays;
+pub mod laws_of_replies;
+pub mod laws_of_views;

@@ -1,4 +1,3 @@
-pub mod Leading
-pub mod Lawful
-pub mod Reaching
-pub mod Long
+pub mod Scripts
+pub mod Lives
+pub mod Headline

@@ -1,2 +1,3 @@
 pub mod Scripts
-pub mod Long
+pub mod Lives
+pub mod Headline

@@ -1,6 +1,6 @@
-//! Scripts as runs: the world that a script makes is one to which lawful events lead.
+//! Scripts and live runs: lawful events lead to the world of each, and so what is told there holds.
 #![tactic(auto)]
 
-mod laws;
-
-pub use laws::{scripts_put_long_ops, scripts_reach};
+pub mod laws_of_headline;
+pub mod laws_of_lives;
+pub mod laws_of_scripts;

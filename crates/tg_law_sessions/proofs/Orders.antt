@@ -23,7 +23,7 @@ use Rattle.tg_protocol.specs.Clients.{new_client}
 use Rattle.tg_protocol.specs.Worlds.{World, count_of, happens, packet_of, runs, start}
 use Rattle.tg_node_state.specs.Nodes.{Node, NodeTurn, UnitNode, LayoutNode, SeqrNode, ClientNode, InputOf, begins, node_start, node_step}
 use Rattle.tg_node_state.specs.declared.input.Input.TheVariants as input
-use Rattle.tg_law_sessions.specs.Sessions.{Step, Said, after, count_in, declares, session, node_after, turn, sends_of, says_of, given, gathered, said_by, MayTake, GoesOn, node_at, node_in, said_in, run, IsEventOf, Follows, Shows, SessionsMakeARun}
+use Rattle.tg_law_sessions.specs.Sessions.{Step, Said, after, count_in, declares, session, node_after, turn, sends_of, says_of, given, gathered, said_by, MayTake, GoesOn, node_at, node_in, said_in, run, IsEventOf, AreEventsOf, Shows, SessionsMakeARun}
 use Rattle.tg_law_sessions.proofs.Moves.{Turned, tick_turns, packet_turns, command_turns}
 
 -- ---- one step more
@@ -147,7 +147,7 @@ module _ (m : Meaning) where
   -- ---- all steps
 
   abbrev Runs : Header → List (Step m) → List (Step m) → World m → Type 0
-  Runs h before rest w = (events : List (EventOf m)) × Follows m w rest events × Stands h (before ++ rest) (run m w events)
+  Runs h before rest w = (events : List (EventOf m)) × AreEventsOf m w rest events × Stands h (before ++ rest) (run m w events)
 
   runs_on : (h : Header) (rest before : List (Step m)) (w : World m) → Stands h before w → GoesOn m h before rest → Runs h before rest w
   unfolding run

@@ -9,7 +9,7 @@ use Rattle.tg_node_state.specs.declared.input.Input.TheVariants as input
 use Rattle.tg_protocol.specs.Worlds.{World, start}
 use Rattle.tg_protocol.specs.Runs.{LawfulCommand, Moves, Takes, Reaches}
 use Rattle.tg_protocol.specs.Headline.{Holds}
-use Rattle.tg_law_sessions.specs.Sessions.{Step, session, IsOrder, Follows, Shows, Keeps, run}
+use Rattle.tg_law_sessions.specs.Sessions.{Step, session, IsOrder, AreEventsOf, Shows, Keeps, run}
 
 module _ (m : Meaning) where
   abbrev pub LawfulInput : InputOf m → Type 0
@@ -28,7 +28,7 @@ module _ (m : Meaning) where
   -- the world of the sessions in one order: its packets and replies are theirs, a run reaches it, and it holds
   pub record MakesARun (h : Header) (sessions : NodeId → List (InputOf m)) (steps : List (Step m)) : Type 0 where
     pub events : List (EventOf m)
-    pub follows : Follows m (start m h) steps events
+    pub follows : AreEventsOf m (start m h) steps events
     pub shows : Shows m h steps (run m (start m h) events)
     pub keeps : Keeps m h sessions (run m (start m h) events)
     pub reaches : Reaches m h (moves_of events) (run m (start m h) events)

@@ -122,11 +122,11 @@ module _ (m : Meaning) where
   IsEventOf w n (input.Command x) e = e ≡ Commands n.num x
 
   -- an event for each step
-  abbrev pub Follows : World m → List Step → List (EventOf m) → Type 0
-  Follows w [] [] = Unit {0}
-  Follows w (s ∷ ss) (e ∷ es) = IsEventOf w s.node s.input e × Follows (happens m w e) ss es
-  Follows w [] (e ∷ es) = ⊥
-  Follows w (s ∷ ss) [] = ⊥
+  abbrev pub AreEventsOf : World m → List Step → List (EventOf m) → Type 0
+  AreEventsOf w [] [] = Unit {0}
+  AreEventsOf w (s ∷ ss) (e ∷ es) = IsEventOf w s.node s.input e × AreEventsOf (happens m w e) ss es
+  AreEventsOf w [] (e ∷ es) = ⊥
+  AreEventsOf w (s ∷ ss) [] = ⊥
 
   -- The packets and the replies of the world are those of the steps, in their order.
   pub record Shows (h : Header) (steps : List Step) (w : World m) : Type 0 where
@@ -142,4 +142,4 @@ module _ (m : Meaning) where
   -- Such an order, which keeps the order of each session, is a run of a world.
   abbrev pub SessionsMakeARun : Type 0
   SessionsMakeARun = (h : Header) (sessions : NodeId → List (InputOf m)) (steps : List Step) → ((n : NodeId) → session n steps ≡ sessions n) → IsOrder h steps →
-      (events : List (EventOf m)) × Follows (start m h) steps events × Shows h steps (run (start m h) events) × Keeps h sessions (run (start m h) events)
+      (events : List (EventOf m)) × AreEventsOf (start m h) steps events × Shows h steps (run (start m h) events) × Keeps h sessions (run (start m h) events)

@@ -1,3 +1,7 @@
-pub mod States
-pub mod Found
-pub mod Steps
+pub mod Kinds
+pub mod Legal
+pub mod Registered
+pub mod Store
+pub mod Headline
+pub mod Origins
+pub mod Joint

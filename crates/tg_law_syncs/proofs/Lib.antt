@@ -1,5 +1,7 @@
-pub mod Later
-pub mod Hands
-pub mod Clients
-pub mod Confirming
-pub mod Scanned
+pub mod Syncs
+pub mod Known
+pub mod Timely
+pub mod Settling
+pub mod Finds
+pub mod Exact
+pub mod Follow

@@ -1,2 +1,7 @@
 pub mod Syncs
-pub mod Scan
+pub mod Known
+pub mod Timely
+pub mod Settling
+pub mod Finds
+pub mod Exact
+pub mod Follow

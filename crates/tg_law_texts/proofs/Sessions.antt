@@ -21,7 +21,7 @@ use Rattle.tg_protocol.specs.Runs.{Move, Takes, LawfulMove, most_steps, Reaches}
 use Rattle.tg_protocol.specs.Runs as runs
 use Rattle.tg_any.specs.AllKinds.{all_kinds}
 use Rattle.tg_node_state.specs.Nodes.{InputOf, node_step, node_start}
-use Rattle.tg_law_sessions.specs.Sessions.{Step, Said, session, after, given, gathered, sends_of, says_of, said, said_in, node_in, IsOrder, Follows, Shows, Keeps, run}
+use Rattle.tg_law_sessions.specs.Sessions.{Step, Said, session, after, given, gathered, sends_of, says_of, said, said_in, node_in, IsOrder, AreEventsOf, Shows, Keeps, run}
 use Rattle.tg_law_sessions.specs.Holding.{LawfulInput, AreSessions, moves_of, MakesARun}
 use Rattle.tg_law_texts.specs.Texts.{cluster}
 use Rattle.tg_law_texts.specs.Sessions.{Sessions, Hold, begins, one_begins, in_order, idle, takes_unsent, stranger_begins}
@@ -154,7 +154,7 @@ idle_makes_none h =
     let e = ap (λ (xs : List (Said all_kinds)). filter (λ (x : Said all_kinds). node_eq (client_id 0) x.node) xs) (sym (h.shows.replies ∙ one_said)) ∙ h.keeps.replies (client_id 0) in
     absurd cc
 
-not_sent : (events : List (EventOf all_kinds)) → Follows all_kinds (start all_kinds cluster) takes_unsent events → ⊥
+not_sent : (events : List (EventOf all_kinds)) → AreEventsOf all_kinds (start all_kinds cluster) takes_unsent events → ⊥
 unfolding start
 not_sent [] f = f
 not_sent (e ∷ es) f = let none = f.0.2 in absurd cc
@@ -166,7 +166,7 @@ stranger_said : said all_kinds cluster stranger_begins ≡ record { node = clien
 unfolding client_command refusal tests accepts new_client client_asks after gathered node_step node_eq
 stranger_said = refl
 
-not_told : (events : List (EventOf all_kinds)) → Follows all_kinds (start all_kinds cluster) stranger_begins events → said_in all_kinds (run all_kinds (start all_kinds cluster) events) ≡ []
+not_told : (events : List (EventOf all_kinds)) → AreEventsOf all_kinds (start all_kinds cluster) stranger_begins events → said_in all_kinds (run all_kinds (start all_kinds cluster) events) ≡ []
 unfolding run start happens
 not_told [] f = absurd f
 not_told (e ∷ []) f = ap (λ (e : EventOf all_kinds). said_in all_kinds (happens all_kinds (start all_kinds cluster) e)) f.0

@@ -1,10 +1,5 @@
-pub mod Machines
-pub mod Walked
-pub mod Hands
-pub mod Sent
-pub mod Growing
-pub mod Copies
-pub mod Steps
-pub mod Runs
+pub mod Issues
+pub mod Trims
 pub mod Floors
-pub mod Sights
+pub mod Leaves
+pub mod Settled

@@ -1,2 +1,5 @@
-pub mod Spare
+pub mod Issues
+pub mod Trims
 pub mod Floors
+pub mod Leaves
+pub mod Settled

@@ -10,6 +10,9 @@ use Rattle.tg_node.specs.Stages.{seen}
 use Rattle.tg_lines.specs.Feeds.{NoneOutside}
 use Rattle.tg_lines.specs.Lines.{lines}
 use Rattle.tg_node.specs.Texts.{Told, Followed, FirstOutside, Refused, PassesLimit, IsWithin as WithNoLimit, Limited, IsCutBetween, IsCutInLine, IsCutInReplies, IsCutShort, IsText, IsOrStops}
+use Rattle.tango.proofs.Holding.{replayed_truly, refused_truly, limited_truly, lived_truly, live_refused_truly, live_limited_truly}
+use Rattle.tg_law_scripts.specs.Headline.Headline.{ScriptHolds}
+use Rattle.tg_live.specs.Stages.{over}
 use Rattle.tango.proofs.Lawful.{legal_told, illegal_told}
 use Rattle.tango.proofs.Loads.{moved}
 use Rattle.tango.proofs.Nodes.{moved as moved_node}
@@ -114,3 +117,32 @@ pub returns-in-Ok-Some-Node-clause-node_first : goal.returns-in-Ok-Some-Node-cla
 returns-in-Ok-Some-Node-clause-node_first g c = λ id named. moved_node (map string_bytes c.args.words.now) c.in-Ok-Some-Node.field-0 c.in-Ok-Some-Node.field-0-0 c.in-Ok-Some-Node.id id
     (λ n. c.node.result ≡ ReadFault → Told (g.S.Source.left c.args.source.now) (λ text. NoneOutside text (g.S.Source.left c.node.new.source) (FirstOutside (lines text) n)))
     c.in-Ok-Some-Node.ensures c.in-Ok-Some-Node.field-0-is c.in-Ok-Some-Node.field-0-0-is named c.node.ensures.first
+
+pub returns-in-Ok-Some-Replay-clause-done_truly : goal.returns-in-Ok-Some-Replay-clause-done_truly
+returns-in-Ok-Some-Replay-clause-done_truly g c = λ named done.
+    replayed_truly c.scripts_hold.ensures (g.S.Source.left c.args.source.now) (g.K.Sink.written c.args.sink.now) (g.K.Sink.written c.replay.new.sink) (c.replay.ensures.done done)
+
+pub returns-in-Ok-Some-Replay-clause-script_truly : goal.returns-in-Ok-Some-Replay-clause-script_truly
+returns-in-Ok-Some-Replay-clause-script_truly g c = λ named line is.
+    refused_truly c.scripts_hold.ensures (g.S.Source.left c.args.source.now) (g.K.Sink.written c.args.sink.now) (g.K.Sink.written c.replay.new.sink) line (c.replay.ensures.script line is)
+
+pub returns-in-Ok-Some-Replay-clause-limit_truly : goal.returns-in-Ok-Some-Replay-clause-limit_truly
+returns-in-Ok-Some-Replay-clause-limit_truly g c = λ named which is.
+    limited_truly c.scripts_hold.ensures (g.S.Source.left c.args.source.now) (g.K.Sink.written c.args.sink.now) (g.K.Sink.written c.replay.new.sink) which (c.replay.ensures.limit which is)
+
+pub returns-in-Ok-Some-Live-clause-live_done_truly : goal.returns-in-Ok-Some-Live-clause-live_done_truly
+returns-in-Ok-Some-Live-clause-live_done_truly g c = λ named done.
+    lived_truly c.lives_hold.ensures (over (g.L.Link.handed c.args.link.now) (g.L.Link.handed c.run.new.link) (g.L.Link.sent c.args.link.now) (g.L.Link.sent c.run.new.link)) (g.S.Source.left c.args.source.now) (g.K.Sink.written c.args.sink.now) (g.K.Sink.written c.run.new.sink) (c.run.ensures.done done)
+
+pub returns-in-Ok-Some-Live-clause-live_script_truly : goal.returns-in-Ok-Some-Live-clause-live_script_truly
+returns-in-Ok-Some-Live-clause-live_script_truly g c = λ named line is.
+    live_refused_truly c.lives_hold.ensures (over (g.L.Link.handed c.args.link.now) (g.L.Link.handed c.run.new.link) (g.L.Link.sent c.args.link.now) (g.L.Link.sent c.run.new.link)) (g.S.Source.left c.args.source.now) (g.K.Sink.written c.args.sink.now) (g.K.Sink.written c.run.new.sink) line (c.run.ensures.script line is)
+
+pub returns-in-Ok-Some-Live-clause-live_limit_truly : goal.returns-in-Ok-Some-Live-clause-live_limit_truly
+returns-in-Ok-Some-Live-clause-live_limit_truly g c = λ named which is.
+    live_limited_truly c.lives_hold.ensures (over (g.L.Link.handed c.args.link.now) (g.L.Link.handed c.run.new.link) (g.L.Link.sent c.args.link.now) (g.L.Link.sent c.run.new.link)) (g.S.Source.left c.args.source.now) (g.K.Sink.written c.args.sink.now) (g.K.Sink.written c.run.new.sink) which (c.run.ensures.limit which is)
+
+pub returns-in-Ok-Some-Bench-clause-load_truly : goal.returns-in-Ok-Some-Bench-clause-load_truly
+returns-in-Ok-Some-Bench-clause-load_truly g c = λ start count named came. moved (map string_bytes c.args.words.now) c.in-Ok-Some-Bench.field-0 c.in-Ok-Some-Bench.field-0-0 c.in-Ok-Some-Bench.start c.in-Ok-Some-Bench.count start count
+    (λ s n. ScriptHolds (load s n)) c.in-Ok-Some-Bench.ensures c.in-Ok-Some-Bench.field-0-is c.in-Ok-Some-Bench.field-0-0-is named
+    (c.scripts_hold-in-Ok-Some-Bench.ensures (load c.in-Ok-Some-Bench.start c.in-Ok-Some-Bench.count) c.bench.ensures.load.0)

@@ -1,0 +1,15 @@
+pub mod Justified
+pub mod Jobs
+pub mod Hands
+pub mod Sent
+pub mod Chains
+pub mod Stores
+pub mod Befores
+pub mod Settles
+pub mod Roots
+pub mod Stripes
+pub mod Successors
+pub mod Owned
+pub mod Joining
+pub mod Settling
+pub mod Heads

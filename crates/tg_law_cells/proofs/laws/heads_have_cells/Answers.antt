@@ -1,5 +1,0 @@
-use Rattle.tg_law_cells.proofs.Heads.{heads_have_cells}
-use Rattle.tg_law_cells.proofs.laws.heads_have_cells.Goals as goal
-
-pub returns : goal.returns
-returns g c = heads_have_cells _

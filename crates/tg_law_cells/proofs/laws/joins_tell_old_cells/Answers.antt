@@ -1,5 +1,0 @@
-use Rattle.tg_law_cells.proofs.Settling.{joins_tell_old_cells}
-use Rattle.tg_law_cells.proofs.laws.joins_tell_old_cells.Goals as goal
-
-pub returns : goal.returns
-returns g c = joins_tell_old_cells _

@@ -1,5 +1,0 @@
-use Rattle.tg_law_cells.proofs.Settling.{last_unit_settles}
-use Rattle.tg_law_cells.proofs.laws.last_unit_settles.Goals as goal
-
-pub returns : goal.returns
-returns g c = last_unit_settles _

@@ -1,5 +1,0 @@
-use Rattle.tg_law_cells.proofs.Settling.{settled_is_in_log}
-use Rattle.tg_law_cells.proofs.laws.settled_is_in_log.Goals as goal
-
-pub returns : goal.returns
-returns g c = settled_is_in_log _

@@ -1,0 +1,5 @@
+use Rattle.tg_law_cells.proofs.Cells.Settling.{settled_is_held}
+use Rattle.tg_law_cells.proofs.laws_of_cells.settled_is_held.Goals as goal
+
+pub returns : goal.returns
+returns g c = settled_is_held _

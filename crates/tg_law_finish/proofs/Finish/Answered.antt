@@ -1,0 +1,231 @@
+-- The laws, from what is proved of a settling.
+use Rattle.std.proofs.Common.{◌≡◌, ◌≢◌, ℕ, zero, suc, ◌+◌, ◌-◌, ◌*◌, ◌<◌, ◌≤◌, List, [], ◌∷◌, ◌++◌, length, filter, take, cond, Bool, true, false, ◌||◌, eqb, refl, ap, ◌∙◌, sym, subst, inl, arith, Some, None, Option, length-append}
+use Rattle.std.proofs.Math.Seq.{take-append_seam}
+use Rattle.std.proofs.lemmas.Nat.{mul-le}
+use Rattle.std.specs.Prelude.{slice_get, nat_lt}
+use Rattle.tg_base.specs.Clusters.{Header}
+use Rattle.tg_base.specs.Layouts.{Layout}
+use Rattle.tg_base.specs.declared.ids.NodeId.{NodeId}
+use Rattle.tg_base.specs.declared.packet.Packet.{Packet}
+use Rattle.tg_base.specs.declared.packet.Out.{Out}
+use Rattle.tg_kind.specs.Meaning.{Meaning}
+use Rattle.tg_model.specs.Kinds.{CommandOf}
+use Rattle.tg_base.specs.Orders.{node_eq}
+use Rattle.tg_protocol.specs.Words.{client_id, seqr_id}
+use Rattle.tg_protocol.specs.Requests.{out}
+use Rattle.tg_base.specs.declared.msg.Msg.TheVariants as msg
+use Rattle.tg_protocol.specs.Cells.{CellWork, Puts, Gets, Fills, Copies, Probes, place_in, work_asks, Place}
+use Rattle.tg_protocol.specs.Appending.{Append, AppendWork, Asking, Putting, Judging, append_work_asks, append_asks}
+use Rattle.tg_protocol.specs.Syncing.{sync_work_asks, SyncWork}
+use Rattle.tg_protocol.specs.Clients.{Appending, Syncing, Doing, Work, Client, Hand, Task}
+use Rattle.tg_protocol.specs.ClientSteps.{task_asks}
+use Rattle.tg_protocol.specs.Worlds.{World, seqr, client, latest, settle}
+use Rattle.tg_protocol.specs.Runs.{Moves, Reaches, Always}
+use Rattle.tg_protocol.specs.Finishing.{longest_chain, is_with_client, passes, WaitsAlone, IsReadyFor, most_deliveries, most_deliveries_in, Finishes, HasReply}
+use Rattle.tg_law_layouts.proofs.Moves.Clients.{reserved, work_reserved, hand_reserved}
+use Rattle.tg_law_layouts.proofs.Moves.Members.{Has}
+use Rattle.tg_law_cells.proofs.Cells.Hands as hands
+use Rattle.tg_law_cells.proofs.Cells.Jobs.{AppendOk}
+use Rattle.tg_law_finish.specs.Finish.Granted.{Granted}
+use Rattle.tg_law_finish.specs.Finish.Appends as appends
+use Rattle.tg_law_finish.specs.Finish.Appends.{WaitsForAppend, AppendStands, PuttingStands, JudgingStands}
+use Rattle.tg_law_finish.specs.Finish.Asks.{NothingTrimmed, HasIssued, WaitsForSync}
+use Rattle.tg_law_finish.specs.Finish.Laws.{IsAnswered, AppendAnswered, AppendInTime, AskAnswered, AskInTime, EndsAreTold}
+use Rattle.tg_law_finish.proofs.Finish.Asking.{Untrimmed, Asks}
+use Rattle.tg_law_finish.proofs.Finish.Counted.{is_of, one_if, cost, counted, Finishes as Counted}
+use Rattle.tg_law_finish.proofs.Finish.Replying.{settle_replies}
+use Rattle.tg_law_finish.proofs.Finish.Telling.{CommandIs}
+use Rattle.tg_law_finish.specs.Finish.Commands.{is_ask, plays}
+use Rattle.tg_law_finish.proofs.Finish.Finishes.{writes_finish, asks_finish}
+use Rattle.tg_law_finish.proofs.Finish.Standing.{numbers_hold, cells_always, pax_always, working, lawful, next_near, names_below, cluster_is, header_limits}
+use Rattle.tg_law_finish.proofs.Finish.Writing.{Writes, Stands, InHand, PutStands, JudgeStands}
+
+-- Counting.
+
+node_turned : (a b : NodeId) → node_eq a b ≡ node_eq b a
+unfolding node_eq
+node_turned a b = grind arith
+
+is_same : (m : Meaning) (k : ℕ) (x : Packet) → is_of k x ≡ is_with_client m k x
+is_same m k x = ap (λ b. b || node_eq x.to (client_id k)) (node_turned x.from (client_id k)) ∙ ap (λ b. node_eq (client_id k) x.from || b) (node_turned x.to (client_id k))
+
+cost_is : (m : Meaning) (k : ℕ) (o : Option Packet) → cost k o ≡ one_if (passes m (is_with_client m k) o)
+cost_is m k None = refl
+cost_is m k (Some x) = ap one_if (is_same m k x)
+
+long_by : (b : Bool) (i : ℕ) (is : List ℕ) → length (cond b (i ∷ is) is) ≡ one_if b + length is
+long_by true i is = omega arith
+long_by false i is = omega arith
+
+counted_is : (m : Meaning) (k : ℕ) (ps : List Packet) (is : List ℕ) → counted k ps is ≡ length (filter (λ i. passes m (is_with_client m k) (slice_get ps i)) is)
+unfolding counted
+counted_is m k ps [] = refl
+counted_is m k ps (i ∷ is) =
+    let a = cost_is m k (slice_get ps i) in
+    let b = counted_is m k ps is in
+    let c : length (filter (λ i. passes m (is_with_client m k) (slice_get ps i)) (i ∷ is)) ≡ one_if (passes m (is_with_client m k) (slice_get ps i)) + length (filter (λ i. passes m (is_with_client m k) (slice_get ps i)) is) = long_by (passes m (is_with_client m k) (slice_get ps i)) i (filter (λ i. passes m (is_with_client m k) (slice_get ps i)) is) in
+    omega (arith, a, b, c)
+
+front_of : (xs ys zs : List ℕ) → zs ≡ xs ++ ys → take (length zs - length ys) zs ≡ xs
+front_of xs ys zs e = subst (λ (l : List ℕ). take (length l - length ys) l ≡ xs) (sym e) (ap (λ n. take n (xs ++ ys)) (less xs ys) ∙ take-append_seam xs ys)
+  where
+    less : (xs ys : List ℕ) → length (xs ++ ys) - length ys ≡ length xs
+    less xs ys = let a = length-append xs ys in omega (arith, a)
+
+answered_of : (m : Meaning) (k n : ℕ) (w v : World m) → Counted m k n w v → HasReply m w v k (λ what. Unit {0}) → Finishes m w v k n (λ what. Unit {0})
+answered_of m k n w v f r = record {
+  idle = f.answered;
+  reply = r;
+  few = subst (λ (is : List ℕ). length (filter (λ i. passes m (is_with_client m k) (slice_get v.packets i)) is) ≤ n) (sym (front_of f.done w.delivered v.delivered f.since))
+      (subst (λ c. c ≤ n) (counted_is m k v.packets f.done) f.few);
+}
+
+within : (m : Meaning) (k a b : ℕ) (w v : World m) → a ≤ b → Finishes m w v k a (λ what. Unit {0}) → Finishes m w v k b (λ what. Unit {0})
+within m k a b w v le f = let few = f.few in record { idle = f.idle; reply = f.reply; few = omega (arith, le, few) }
+
+-- The bounds of commands.
+
+rooms : (c t l : ℕ) → 1 ≤ c → l ≤ 7 → 4 * c + 2 * l + 2 ≤ 16 * c * (t + 4)
+rooms c t l one few = let e = mul-le (16 * c) 4 (16 * c) (t + 4) (omega arith) (omega arith) in omega (arith, e, one, few)
+
+each_room : (c t l : ℕ) → 1 ≤ c → l ≤ 7 → 2 * ((c + 1) * (t + 1)) + 2 * l ≤ 16 * c * (t + 4)
+each_room c t l one few =
+    let a = mul-le (c + 1) (t + 1) (2 * c) (t + 1) (omega (arith, one)) (omega arith) in
+    let b = mul-le (16 * c) (t + 1) (16 * c) (t + 1) (omega arith) (omega arith) in
+    omega (arith, one, few)
+
+bounds : (m : Meaning) (x : CommandOf m) (c t n a : ℕ) → a ≤ 16 * c * (t + 4) → a ≤ most_deliveries m x c t n
+bounds m x c t n a le = grind arith
+
+module _ (m : Meaning) (h : Header) (ms : Moves m) (w : World m) (r : Reaches m h ms w) (k : ℕ) where
+  abbrev p : Layout
+  p = latest m w
+
+  -- What a client has asked has a number below its next one.
+
+  below_next : (o : Out) → Has (reserved m (client m w k)) o → o.rid < (client m w k).next
+  below_next o g = ((numbers_hold m h ms w r).clients k).open' o g
+
+  reserves : (c : Client m) (work : Work m) (t : Task m) (o : Out) → c.work ≡ Some work → work.hand ≡ Doing t → Has (hand_reserved m c.stand (Doing t)) o → Has (reserved m c) o
+  reserves c work t o e f g = subst (λ (y : Option (Work m)). Has (work_reserved m c.stand y) o) (sym e) (subst (λ (y : Hand m). Has (hand_reserved m c.stand y) o) (sym f) g)
+
+  -- Appends.
+
+  append_below : (f : WaitsForAppend m w k) (o : Out) → Has (append_asks (client m w k).stand f.append) o → o.rid < (client m w k).next
+  unfolding task_asks
+  append_below f o g = below_next o (reserves (client m w k) f.work (Appending f.append f.purpose) o f.waits f.hand g)
+
+  append_ok : (f : WaitsForAppend m w k) → AppendOk w.packets (client m w k).stand f.append.work
+  append_ok f = subst (λ (y : Hand m). hands.HandOk m w.packets (client m w k).stand y) f.hand (subst (λ (y : Option (Work m)). hands.WorkOk m w.packets (client m w k).stand y) f.waits ((cells_always m h ms w r).hands k))
+
+  in_hand : (a : Append) (pos i rid : ℕ) → rid < (client m w k).next → appends.InHand m w a pos i → InHand m w (client m w k) p a pos rid i
+  in_hand a pos i rid less f = record { token = f.token; has = f.has; less = f.within; off = unequal _ _ f.issued; below = less }
+    where
+      unequal : (c d : ℕ) → c ≢ d → eqb c d ≡ false
+      unequal c d f = grind (arith, f)
+
+  putting : (a : Append) (pos : ℕ) (y : CellWork) (rid : ℕ) → ((o : Out) → Has (work_asks (place_in p pos) y) o → o.rid < (client m w k).next) → PuttingStands m w a pos y → PutStands m w (client m w k) p a pos y
+  unfolding work_asks
+  putting a pos (Puts r d zero) rid g f = in_hand a pos zero r (g _ (inl refl)) f
+  putting a pos (Puts r d (suc i)) rid g f = (in_hand a pos (suc i) r (g _ (inl refl)) f.0, f.1)
+  putting a pos (Gets r) rid g f = absurd f
+  putting a pos (Fills r) rid g f = absurd f
+  putting a pos (Copies r c i) rid g f = absurd f
+  putting a pos (Probes ws) rid g f = absurd f
+
+  judging : (a : Append) (pos : ℕ) (y : CellWork) (rid : ℕ) → ((o : Out) → Has (work_asks (place_in p pos) y) o → o.rid < (client m w k).next) → JudgingStands m w a pos y → JudgeStands m w (client m w k) p a pos y
+  unfolding work_asks
+  judging a pos (Fills r) rid g f = in_hand a pos 0 r (g _ (inl refl)) f
+  judging a pos (Copies r c i) rid g f = (in_hand a pos i r (g _ (inl refl)) f.0, f.1)
+  judging a pos (Puts r d i) rid g f = absurd f
+  judging a pos (Gets r) rid g f = absurd f
+  judging a pos (Probes ws) rid g f = absurd f
+
+  stands : (a : Append) (y : AppendWork) → ((o : Out) → Has (append_work_asks p a y) o → o.rid < (client m w k).next) → AppendOk w.packets p y → AppendStands m w a y → Stands m w (client m w k) p a y
+  unfolding append_work_asks
+  stands a (Asking rid) g ok f = g _ (inl refl)
+  stands a (Putting j) g ok f = (ok.place, putting a j.place.pos j.work 0 (λ o x. g o (subst (λ (b : Place). Has (work_asks b j.work) o) (sym ok.place) x)) f)
+  stands a (Judging j) g ok f = (ok.place, judging a j.place.pos j.work 0 (λ o x. g o (subst (λ (b : Place). Has (work_asks b j.work) o) (sym ok.place) x)) f)
+
+  writes : (client m w k).stand ≡ p → (f : WaitsForAppend m w k) → Writes m w k p
+  writes e f = record {
+    work = f.work;
+    waits = f.waits;
+    append = f.append;
+    purpose = f.purpose;
+    hand = f.hand;
+    last = f.last;
+    stands = stands f.append f.append.work (λ o g. append_below f o (subst (λ (q : Layout). Has (append_asks q f.append) o) (sym e) g)) (subst (λ (q : Layout). AppendOk w.packets q f.append.work) e (append_ok f)) f.stands;
+  }
+
+  -- Asks.
+
+  untrimmed : NothingTrimmed m w → HasIssued m w → Untrimmed m w p
+  untrimmed u n = record { lows = u; past = is_less _ _ n; near = next_near m h ms w r; backs = λ o os. names_below m h ms w r o os }
+    where
+      is_less : (a b : ℕ) → a < b → nat_lt a b ≡ true
+      is_less a b less = grind arith
+
+  abbrev asked : WaitsForSync m w k → Out
+  asked f = out (seqr_id (client m w k).stand.seq) f.rid (msg.Check (client m w k).stand.epoch f.sync.oids)
+
+  asks : (f : WaitsForSync m w k) → Asks m w k
+  unfolding task_asks sync_work_asks
+  asks f = record {
+    work = f.work;
+    waits = f.waits;
+    sync = f.sync;
+    rid = f.rid;
+    hand = f.hand;
+    first = f.first;
+    below = below_next (asked f) (reserves (client m w k) f.work (Syncing f.sync) (asked f) f.waits f.hand
+        (subst (λ (y : SyncWork). Has (sync_work_asks (client m w k).stand f.sync y) (asked f)) (sym f.first) (inl refl)));
+    asks = f.asks;
+  }
+
+  layouts_are : (client m w k).layouts ≡ w.cluster.layouts
+  layouts_are = (pax_always m h ms w r).layouts k
+
+  few_layouts : w.cluster.layouts ≤ 7
+  few_layouts = subst (λ (y : Header). y.layouts ≤ 7) (sym (cluster_is m h ms w r)) (header_limits h r.header).0
+
+  in_work : (work : Work m) → (client m w k).work ≡ Some work → CommandIs m work.command (client m w k).work
+  in_work work e = subst (λ (o : Option (Work m)). CommandIs m work.command o) (sym e) refl
+
+  asks_play : (x : CommandOf m) → is_ask m x ≡ true → plays m x ≡ true
+  unfolding is_ask plays
+  asks_play x e = grind arith
+
+  longest : Granted m w → (x : CommandOf m) → WaitsAlone m w k x → IsReadyFor m w k → 1 ≤ longest_chain p
+  longest g x a b = let l = lawful m h ms w r k x a b g in let y = l.some 0 in let z = l.short 0 in omega (arith, y, z)
+
+  pub append_answered : (x : CommandOf m) → WaitsAlone m w k x → IsReadyFor m w k → Granted m w → WaitsForAppend m w k → IsAnswered m w k (4 * longest_chain p + 2 * w.cluster.layouts + 2)
+  append_answered x a b g f =
+      let c = writes_finish m w k p (longest_chain p) (working m h ms w r k x a b) (lawful m h ms w r k x a b g) (writes b.stand f) a.within in
+      answered_of m k _ w _ (subst (λ l. Counted m k (4 * longest_chain p + 2 * l + 2) w (settle m w).world) layouts_are c) (settle_replies m k f.work.command f.command w (in_work f.work f.waits) c.answered)
+
+  pub append_in_time : (x : CommandOf m) → WaitsAlone m w k x → IsReadyFor m w k → Granted m w → WaitsForAppend m w k → IsAnswered m w k (most_deliveries_in m w x)
+  append_in_time x a b g f = within m k _ _ w _ (bounds m x _ _ _ _ (rooms _ _ _ (longest g x a b) few_layouts)) (append_answered x a b g f)
+
+  pub ask_answered : (x : CommandOf m) → WaitsAlone m w k x → IsReadyFor m w k → Granted m w → NothingTrimmed m w → HasIssued m w → WaitsForSync m w k → IsAnswered m w k (2 * ((longest_chain p + 1) * ((seqr m w p.seq).next + 1)) + 2 * w.cluster.layouts)
+  ask_answered x a b g u n f =
+      let c = asks_finish m w k p (longest_chain p) (working m h ms w r k x a b) (lawful m h ms w r k x a b g) (untrimmed u n) (asks f) a.within in
+      answered_of m k _ w _ (subst (λ l. Counted m k (2 * ((longest_chain p + 1) * ((seqr m w p.seq).next + 1)) + 2 * l) w (settle m w).world) layouts_are c) (settle_replies m k f.work.command (asks_play f.work.command f.asks) w (in_work f.work f.waits) c.answered)
+
+  pub ask_in_time : (x : CommandOf m) → WaitsAlone m w k x → IsReadyFor m w k → Granted m w → NothingTrimmed m w → HasIssued m w → WaitsForSync m w k → IsAnswered m w k (most_deliveries_in m w x)
+  ask_in_time x a b g u n f = within m k _ _ w _ (bounds m x _ _ _ _ (each_room _ _ _ (longest g x a b) few_layouts)) (ask_answered x a b g u n f)
+
+pub appends_are_answered : (m : Meaning) → Always m (AppendAnswered m)
+appends_are_answered m h ms w r k x a b g f = append_answered m h ms w r k x a b g f
+
+pub appends_in_time : (m : Meaning) → Always m (AppendInTime m)
+appends_in_time m h ms w r k x a b g f = append_in_time m h ms w r k x a b g f
+
+pub asks_are_answered : (m : Meaning) → Always m (AskAnswered m)
+asks_are_answered m h ms w r k x a b g u n f = ask_answered m h ms w r k x a b g u n f
+
+pub asks_in_time : (m : Meaning) → Always m (AskInTime m)
+asks_in_time m h ms w r k x a b g u n f = ask_in_time m h ms w r k x a b g u n f
+
+pub ends_are_told : (m : Meaning) → EndsAreTold m
+ends_are_told m w k work e g idle = settle_replies m k work.command g w (subst (λ (o : Option (Work m)). CommandIs m work.command o) (sym e) refl) idle

@@ -1,5 +1,0 @@
-use Rattle.tg_law_finish.proofs.Answered.{appends_in_time}
-use Rattle.tg_law_finish.proofs.laws.appends_are_answered_in_time.Goals as goal
-
-pub returns : goal.returns
-returns g c = appends_in_time _

@@ -1,5 +1,0 @@
-use Rattle.tg_law_finish.proofs.Answered.{asks_are_answered}
-use Rattle.tg_law_finish.proofs.laws.asks_are_answered.Goals as goal
-
-pub returns : goal.returns
-returns g c = asks_are_answered _

@@ -1,5 +1,0 @@
-use Rattle.tg_law_finish.proofs.Answered.{ends_are_told}
-use Rattle.tg_law_finish.proofs.laws.ends_are_told.Goals as goal
-
-pub returns : goal.returns
-returns g c = ends_are_told _

@@ -1,0 +1,6 @@
+pub mod Commands
+pub mod Granted
+pub mod Appends
+pub mod Asks
+pub mod Queues
+pub mod Laws

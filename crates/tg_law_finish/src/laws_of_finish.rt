@@ -1,0 +1,52 @@
+//! Commands finish, in every run of every cluster. In a quiet world a client waits alone, and the latest layout's
+//! units and sequencer, and the client, run and stand in it. Then a settling ends the command, the client tells a
+//! reply, and few packets with it are delivered until then.
+//!
+//! Proved for a command that waits for an append after which nothing is left to do (of a transaction without reads, a
+//! decision record, a checkpoint or a mark), from wherever the append stands; and for `ask`, `fate` and `ask-at` whose
+//! sync waits for its first answer, where nothing is trimmed and the sequencer has issued a position since its layout's
+//! start (`NothingTrimmed`, `HasIssued` in specs/Asks.antt). Three conditions on a world are premises that no other law
+//! gives yet: `Granted` in specs/Granted.antt. Where an append stands is a premise too: `AppendStands` in
+//! specs/Appends.antt. That the next position is unwritten, and that a sequencer names positions below it alone, is
+//! proved (`tg_law_trims::laws_of_issues`).
+
+ghost use Rattle.tg_kind.specs.Of.{meaning_of};
+ghost use Rattle.tg_law_finish.specs.Finish.Laws.{AppendAnswered, AppendInTime, AskAnswered, AskInTime, DeliveriesTakeTurns, EndsAreTold};
+ghost use Rattle.tg_protocol.specs.Runs.{Always};
+
+use tg_kind::Registry;
+
+/// A client that waits for an append alone is answered, within four deliveries for each unit of the longest chain, two
+/// for each layout server, and two more. Conditions: the client waits alone in a quiet world which is ready for it; where
+/// its append stands (`WaitsForAppend`); and of units and the sequencer, `Granted`.
+pub fn appends_are_answered<K: Registry>()
+    ensures { Always (meaning_of K.Registry) (AppendAnswered (meaning_of K.Registry)) }
+{}
+
+/// So it is answered within the bound of its command.
+pub fn appends_are_answered_in_time<K: Registry>()
+    ensures { Always (meaning_of K.Registry) (AppendInTime (meaning_of K.Registry)) }
+{}
+
+/// A client whose `ask`, `fate` or `ask-at` still waits for its sync's first answer is answered, within two deliveries for
+/// each unit of the longest chain and one more, at each position and once more, and two for each layout server.
+/// Conditions: the client waits alone in a quiet world which is ready for it; `Granted`; nothing is trimmed; and the latest
+/// layout's sequencer has issued a position since that layout's start.
+pub fn asks_are_answered<K: Registry>()
+    ensures { Always (meaning_of K.Registry) (AskAnswered (meaning_of K.Registry)) }
+{}
+
+/// So it is answered within the bound of its command.
+pub fn asks_are_answered_in_time<K: Registry>()
+    ensures { Always (meaning_of K.Registry) (AskInTime (meaning_of K.Registry)) }
+{}
+
+/// In any world, where a settling ends a client's command that plays, the client has told a reply.
+pub fn ends_are_told<K: Registry>()
+    ensures { EndsAreTold (meaning_of K.Registry) }
+{}
+
+/// In any world the delivery of the oldest packet takes it out, and puts what a node sends then behind the others.
+pub fn deliveries_take_turns<K: Registry>()
+    ensures { DeliveriesTakeTurns (meaning_of K.Registry) }
+{}

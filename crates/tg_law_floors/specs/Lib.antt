@@ -1,3 +1,0 @@
-pub mod Confirming
-pub mod Tokens
-pub mod Wholes

@@ -1,5 +1,0 @@
-use Rattle.tg_law_layouts.proofs.Deciding.{decided_stays}
-use Rattle.tg_law_layouts.proofs.laws.decided_stays.Goals as goal
-
-pub returns : goal.returns
-returns g c = decided_stays _

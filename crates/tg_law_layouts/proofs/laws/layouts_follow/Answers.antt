@@ -1,5 +1,0 @@
-use Rattle.tg_law_layouts.proofs.Deciding.{layouts_follow}
-use Rattle.tg_law_layouts.proofs.laws.layouts_follow.Goals as goal
-
-pub returns : goal.returns
-returns g c = layouts_follow _

@@ -1,5 +1,0 @@
-use Rattle.tg_law_layouts.proofs.Deciding.{one_layout}
-use Rattle.tg_law_layouts.proofs.laws.one_layout.Goals as goal
-
-pub returns : goal.returns
-returns g c = one_layout _

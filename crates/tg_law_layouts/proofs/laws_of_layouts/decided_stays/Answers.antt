@@ -1,0 +1,5 @@
+use Rattle.tg_law_layouts.proofs.Layouts.Deciding.{decided_stays}
+use Rattle.tg_law_layouts.proofs.laws_of_layouts.decided_stays.Goals as goal
+
+pub returns : goal.returns
+returns g c = decided_stays _

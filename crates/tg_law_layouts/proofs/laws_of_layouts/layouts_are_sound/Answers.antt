@@ -1,0 +1,5 @@
+use Rattle.tg_law_layouts.proofs.Layouts.Deciding.{layouts_are_sound}
+use Rattle.tg_law_layouts.proofs.laws_of_layouts.layouts_are_sound.Goals as goal
+
+pub returns : goal.returns
+returns g c = layouts_are_sound _

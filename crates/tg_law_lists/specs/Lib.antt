@@ -1,4 +1,0 @@
-pub mod Spared
-pub mod Drafted
-pub mod Lists
-pub mod Telling

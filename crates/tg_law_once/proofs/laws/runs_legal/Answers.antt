@@ -1,5 +1,0 @@
-use Rattle.tg_law_once.proofs.Known.{runs_legal}
-use Rattle.tg_law_once.proofs.laws.runs_legal.Goals as goal
-
-pub returns : goal.returns
-returns g c = runs_legal _ (λ s op q h. g.met.K.Kind.apart s op q h)

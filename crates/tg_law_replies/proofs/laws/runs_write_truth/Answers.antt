@@ -1,5 +1,0 @@
-use Rattle.tg_law_replies.proofs.Rescues.{runs_write_truth}
-use Rattle.tg_law_replies.proofs.laws.runs_write_truth.Goals as goal
-
-pub returns : goal.returns
-returns g c = runs_write_truth _

@@ -1,0 +1,5 @@
+use Rattle.tg_law_replies.proofs.Views.Exact.{new_views_true}
+use Rattle.tg_law_replies.proofs.laws_of_views.anew.new_views_true.Goals as goal
+
+pub returns : goal.returns
+returns g c = new_views_true _

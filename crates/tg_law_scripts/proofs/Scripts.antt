@@ -1,0 +1,4 @@
+pub mod Leading
+pub mod Lawful
+pub mod Reaching
+pub mod Long

@@ -1,0 +1,5 @@
+use Rattle.tg_law_store.proofs.Kinds.Holds.{kinds_are_states}
+use Rattle.tg_law_store.proofs.laws_of_kinds.kinds_are_states.Goals as goal
+
+pub returns : goal.returns
+returns g = kinds_are_states

@@ -1,0 +1,5 @@
+use Rattle.tg_law_syncs.proofs.Settling.Visiting.{walks_visit_on}
+use Rattle.tg_law_syncs.proofs.laws_of_settling.visits.walks_visit_on.Goals as goal
+
+pub returns : goal.returns
+returns g c = walks_visit_on _

@@ -1,0 +1,10 @@
+pub mod Machines
+pub mod Walked
+pub mod Hands
+pub mod Sent
+pub mod Growing
+pub mod Copies
+pub mod Steps
+pub mod Runs
+pub mod Floors
+pub mod Sights

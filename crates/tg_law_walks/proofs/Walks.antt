@@ -1,0 +1,17 @@
+pub mod Members
+pub mod Cells
+pub mod Stretches
+pub mod Turns
+pub mod Positions
+pub mod Rising
+pub mod Saves
+pub mod Rounds
+pub mod Commands
+pub mod Plays
+pub mod Syncs
+pub mod Ending
+pub mod Logged
+pub mod Reading
+pub mod Listing
+pub mod Seqrs
+pub mod Single

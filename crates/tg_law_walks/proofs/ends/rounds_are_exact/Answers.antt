@@ -1,5 +1,0 @@
-use Rattle.tg_law_walks.proofs.Ending.{rounds_exact}
-use Rattle.tg_law_walks.proofs.ends.rounds_are_exact.Goals as goal
-
-pub returns : goal.returns
-returns g c = rounds_exact _

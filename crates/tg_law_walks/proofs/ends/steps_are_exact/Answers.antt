@@ -1,5 +1,0 @@
-use Rattle.tg_law_walks.proofs.Ending.{steps_exact}
-use Rattle.tg_law_walks.proofs.ends.steps_are_exact.Goals as goal
-
-pub returns : goal.returns
-returns g c = steps_exact _

@@ -1,5 +1,0 @@
-use Rattle.tg_law_walks.proofs.Ending.{syncs_exact_where}
-use Rattle.tg_law_walks.proofs.ends.syncs_are_exact.Goals as goal
-
-pub returns : goal.returns
-returns g c = syncs_exact_where _

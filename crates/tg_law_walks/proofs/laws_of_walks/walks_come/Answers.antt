@@ -1,0 +1,5 @@
+use Rattle.tg_law_walks.proofs.Walks.Commands.{walks_come_on}
+use Rattle.tg_law_walks.proofs.laws_of_walks.walks_come.Goals as goal
+
+pub returns : goal.returns
+returns g c = walks_come_on _

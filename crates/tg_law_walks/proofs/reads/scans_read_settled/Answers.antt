@@ -1,5 +1,0 @@
-use Rattle.tg_law_walks.proofs.Reading.{scans_read_settled}
-use Rattle.tg_law_walks.proofs.reads.scans_read_settled.Goals as goal
-
-pub returns : goal.returns
-returns g c = scans_read_settled _
