@@ -24,15 +24,15 @@ module _ (m : Meaning) (h : Header) (before : Moves m) (r : Reaches m h before (
   -- the run came through the world in which the client had no work
   passes : (n : ℕ) (o : Oid) (p : ℕ) → (x : WasMet m h before n o p) → Passes m h before (idle_world m x)
   passes n o p x = record {
-    before = x.before ++ Takes x.event ∷ x.until;
+    before = x.came.before ++ Takes x.came.event ∷ x.until;
     after = x.since;
-    split = x.split ∙ (ap (λ (us : Moves m). x.before ++ Takes x.event ∷ us) x.rest ∙ sym (joined x.before (Takes x.event ∷ x.until) x.since));
+    split = x.came.split ∙ (ap (λ (us : Moves m). x.came.before ++ Takes x.came.event ∷ us) x.rest ∙ sym (joined x.came.before (Takes x.came.event ∷ x.until) x.since));
     is = refl;
   }
 
   -- it was the client whose walks end now
   same : (o : Oid) (p : ℕ) → (x : WasMet m h before y.client.num o p) → x.client ≡ k
-  same o p x = sym (walked_number m h x.before x.event x.client x.end x.walked) ∙ (x.of ∙ walked_number m h before e k y is)
+  same o p x = sym (walked_number m h x.came.before x.came.event x.client x.end x.came.walked) ∙ (x.of ∙ walked_number m h before e k y is)
 
   follows : (o : Oid) (p : ℕ) → (x : WasMet m h before y.client.num o p) → TailFollows m (idle_world m x) (after m h before) y.work.tail
   follows o p x = later_tails_follow m h before (after m h before) r e k y is (idle_world m x) (passes y.client.num o p x)

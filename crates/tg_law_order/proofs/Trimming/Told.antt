@@ -24,19 +24,16 @@ use Rattle.tg_law_trims.proofs.Trims.Sent.{trim_is}
 use Rattle.tg_law_trims.proofs.Leaves.Ends.{ends_have}
 use Rattle.tg_law_order.specs.Trimming.Trimming.{FloorTold, TrimsComeOfFloors}
 use Rattle.tg_law_order.proofs.Trimming.Asked.{Held, stepped, held_more}
+use Rattle.tg_law_trims.proofs.Leaves.Passing.{ended_on}
 
 module _ (m : Meaning) (h : Header) where
   -- It was told so in later epochs too, and by longer runs.
 
   pub told_grows : (xs : Moves m) (e f b : ℕ) → e ≤ f → FloorTold m h xs e b → FloorTold m h xs f b
   told_grows xs e f b le k = record {
-    before = k.before;
-    event = k.event;
-    after = k.after;
-    split = k.split;
     client = k.client;
     end = k.end;
-    walked = k.walked;
+    came = k.came;
     command = k.command;
     at = k.at;
     played = k.played;
@@ -46,13 +43,9 @@ module _ (m : Meaning) (h : Header) where
 
   pub told_later : (xs ys : Moves m) (e b : ℕ) → FloorTold m h xs e b → FloorTold m h (xs ++ ys) e b
   told_later xs ys e b k = record {
-    before = k.before;
-    event = k.event;
-    after = k.after ++ ys;
-    split = ap (λ (us : Moves m). us ++ ys) k.split ∙ joined k.before (Takes k.event ∷ k.after) ys;
     client = k.client;
     end = k.end;
-    walked = k.walked;
+    came = ended_on m h xs ys k.client k.end k.came;
     command = k.command;
     at = k.at;
     played = k.played;
@@ -77,13 +70,9 @@ module _ (m : Meaning) (h : Header) where
 
     tells : (k : ℕ) (y : Walked m) → walked_in m (run m xs (start m h)) e k ≡ Some y → FloorOk m (FloorTold m h (xs ++ Takes e ∷ [])) (told_grows (xs ++ Takes e ∷ [])) h.objects [] y.client y.work
     tells k y is t command came = record {
-      before = xs;
-      event = e;
-      after = [];
-      split = refl;
       client = k;
       end = y;
-      walked = is;
+      came = record { before = xs; event = e; after = []; split = refl; walked = is };
       command = command;
       at = t;
       played = came;

@@ -17,18 +17,15 @@ use Rattle.tg_protocol.specs.Worlds.{World, start}
 use Rattle.tg_protocol.specs.Chosen.{Sent}
 use Rattle.tg_protocol.specs.Runs.{Moves, Takes, Reaches, run}
 use Rattle.tg_law_trims.specs.Trims.Spare.{own_play}
+use Rattle.tg_law_trims.specs.Leaves.Passed.{Ended}
 
 module _ (m : Meaning) where
   -- A client had walked for a trim in a step of the run, and its view, once played, had a floor: at or past a position, in an
   -- epoch up to this one.
   pub record FloorTold (h : Header) (ms : Moves m) (epoch below : ℕ) : Type 0 where
-    pub before : Moves m
-    pub event : EventOf m
-    pub after : Moves m
-    pub split : ms ≡ before ++ Takes event ∷ after
     pub client : ℕ
     pub end : Walked m
-    pub walked : walked_in m (run m before (start m h)) event client ≡ Some end
+    pub came : Ended m h ms client end
     pub command : end.work.command ≡ cmd.Trim
     pub at : ℕ
     pub played : (own_play m end.client end.work).came ≡ Played at

@@ -82,14 +82,14 @@ module _ (m : Meaning) (is_object : Oid → Bool) (rests : JointRests m is_objec
     where
       from : CheckpointFrom m h zs (after m h zs) s.at s.entry o s.saves.base.upto → (s.saves.base.upto ≤ s.at) × IsSettledFor m (after m h zs) o s.saves.base.upto last
       from c =
-          let b = c.walk.before in
-          let rb = before_reached m h zs r b (Takes c.walk.event ∷ c.walk.after) c.walk.split in
-          let each = walks_settle m h b (after m h b) c.walk.event rb (step_spare m h zs r trims b c.walk.after c.walk.event c.walk.split) in
-          let there = at_end m h.objects (entries_in m (after m h b)) (λ x v. (i : Oid) → Contains v.oids i → IsSettledFor m (after m h b) i v.tail x.stand.epoch) (after m h b) s.entry.head.client c.walk.event c.walk.end each c.walk.walked o c.walked in
+          let b = c.walk.came.before in
+          let rb = before_reached m h zs r b (Takes c.walk.came.event ∷ c.walk.came.after) c.walk.came.split in
+          let each = walks_settle m h b (after m h b) c.walk.came.event rb (step_spare m h zs r trims b c.walk.came.after c.walk.came.event c.walk.came.split) in
+          let there = at_end m h.objects (entries_in m (after m h b)) (λ x v. (i : Oid) → Contains v.oids i → IsSettledFor m (after m h b) i v.tail x.stand.epoch) (after m h b) s.entry.head.client c.walk.came.event c.walk.end each c.walk.came.walked o c.walked in
           let low = c.follows.settled (Data s.page) s.settled in
           let time = s.in_time in (
             c.below,
-            whole_late m h zs r trims b (Takes c.walk.event ∷ c.walk.after) c.walk.split o s.saves.base.upto c.walk.end.client.stand.epoch
+            whole_late m h zs r trims b (Takes c.walk.came.event ∷ c.walk.came.after) c.walk.came.split o s.saves.base.upto c.walk.end.client.stand.epoch
                 (subst (λ (n : ℕ). IsSettledFor m (after m h b) o n c.walk.end.client.stand.epoch) c.tail there) last (omega (arith, low, time)),
           )
 
@@ -101,47 +101,47 @@ module _ (m : Meaning) (is_object : Oid → Bool) (rests : JointRests m is_objec
     (zs : Moves m) (r : Reaches m h zs (after m h zs)) (trims : TrimsWereSpare m h zs) (pos : ℕ) (e : Entry) (o : Oid) (mark : ℕ) (from : MarkFrom m h zs (after m h zs) pos e o mark) where
   -- the run before the step in which the client had walked to forget
   abbrev b : Moves m
-  b = from.walk.before
+  b = from.walk.came.before
 
   abbrev rest : Moves m
-  rest = Takes from.walk.event ∷ from.walk.after
+  rest = Takes from.walk.came.event ∷ from.walk.came.after
 
   abbrev last : ℕ
   last = from.walk.end.client.stand.epoch
 
-  rb : Reaches m h from.walk.before (after m h from.walk.before)
-  rb = before_reached m h zs r b rest from.walk.split
+  rb : Reaches m h from.walk.came.before (after m h from.walk.came.before)
+  rb = before_reached m h zs r b rest from.walk.came.split
 
-  tb : TrimsWereSpare m h from.walk.before
-  tb = front_spare m h zs r trims b rest from.walk.split
+  tb : TrimsWereSpare m h from.walk.came.before
+  tb = front_spare m h zs r trims b rest from.walk.came.split
 
-  found : IsDecidedUpTo m (after m h from.walk.before) from.walk.end.client.stand.epoch o mark from.walk.end.work
+  found : IsDecidedUpTo m (after m h from.walk.came.before) from.walk.end.client.stand.epoch o mark from.walk.end.work
   found =
-      at_end m h.objects (entries_in m (after m h b)) (ForgetsDecided m (after m h b)) (after m h b) e.head.client from.walk.event from.walk.end
-      (forgets_decide m h b (after m h b) from.walk.event rb tb (owns h b (after m h b) rb)) from.walk.walked o mark from.walk.command from.hosted from.allowed
+      at_end m h.objects (entries_in m (after m h b)) (ForgetsDecided m (after m h b)) (after m h b) e.head.client from.walk.came.event from.walk.end
+      (forgets_decide m h b (after m h b) from.walk.came.event rb tb (owns h b (after m h b) rb)) from.walk.came.walked o mark from.walk.command from.hosted from.allowed
 
-  whole_there : (found.saved.saves.base.upto ≤ found.saved.at) × IsSettledFor m (after m h from.walk.before) o found.saved.saves.base.upto from.walk.end.client.stand.epoch
+  whole_there : (found.saved.saves.base.upto ≤ found.saved.at) × IsSettledFor m (after m h from.walk.came.before) o found.saved.saves.base.upto from.walk.end.client.stand.epoch
   whole_there = saved_whole m is_object rests owns h b rb tb o last mark found.saved found.here
 
   pub rests_on : RestsOn m (after m h zs) o mark pos
   rests_on = record {
     last = last;
-    saved = saved_late m h zs r b rest from.walk.split o last mark found.saved;
-    here = entry_stays m h zs r b rest from.walk.split trims.safe found.saved.at found.saved.entry found.here;
+    saved = saved_late m h zs r b rest from.walk.came.split o last mark found.saved;
+    here = entry_stays m h zs r b rest from.walk.came.split trims.safe found.saved.at found.saved.entry found.here;
     below = (let a = found.below in let c = from.below in omega (arith, a, c));
     earlier = whole_there.0;
     layout = from.follows.start.layout;
     decided = from.follows.start.decided;
     past = from.follows.start.low;
-    whole = whole_late m h zs r trims b rest from.walk.split o found.saved.saves.base.upto last whole_there.1 last (omega arith);
+    whole = whole_late m h zs r trims b rest from.walk.came.split o found.saved.saves.base.upto last whole_there.1 last (omega arith);
   }
 
   -- and each record of the object below the mark, from where that client's walk met a trim, was decided there
   pub decided_there : (p : ℕ) (d : Entry) → HasEntry m (after m h zs) p d → is_commit d ≡ true → needs_decision d ≡ true → lists d o ≡ true → p < mark → low_of from.walk.end.work.trims o ≤ p
-      → IsDecidedBy m (after m h from.walk.before) from.walk.end.client.stand.epoch p d
+      → IsDecidedBy m (after m h from.walk.came.before) from.walk.end.client.stand.epoch p d
   decided_there p d i commit needs stands less low =
       let reaches = found.saved.saves.reaches in
-      found.decided p d (stood m h zs r trims b rest from.walk.split o found.saved.saves.base.upto last whole_there.1 p d stands (omega (arith, less, reaches)) i) commit needs stands low less
+      found.decided p d (stood m h zs r trims b rest from.walk.came.split o found.saved.saves.base.upto last whole_there.1 p d stands (omega (arith, less, reaches)) i) commit needs stands low less
 
 module _ (m : Meaning) where
   pub marks_rest_where : MarksRestWhere m

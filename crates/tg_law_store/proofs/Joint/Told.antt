@@ -87,75 +87,75 @@ module _ (m : Meaning) (is_object : Oid → Bool) (is_op : m.op → Bool) (d : I
   -- In the step in which a floor was told, a record below it stood in the log, and its object was marked past it.
   module _ (b c : Moves m) (split : zs ≡ b ++ c) (epoch below : ℕ) (f : FloorTold m h b epoch below) (p : ℕ) (e : Entry) (o : Oid) (less : p < below) (stands : lists e o ≡ true) (here : HasEntry m (after m h zs) p e) where
     abbrev t : Moves m
-    t = f.before
+    t = f.came.before
 
     abbrev later : Moves m
-    later = Takes f.event ∷ (f.after ++ c)
+    later = Takes f.came.event ∷ (f.came.after ++ c)
 
     at : zs ≡ t ++ later
-    at = split ∙ (ap (λ (ms : Moves m). ms ++ c) f.split ∙ joined f.before (Takes f.event ∷ f.after) c)
+    at = split ∙ (ap (λ (ms : Moves m). ms ++ c) f.came.split ∙ joined f.came.before (Takes f.came.event ∷ f.came.after) c)
 
-    rt : Reaches m h f.before (after m h f.before)
+    rt : Reaches m h f.came.before (after m h f.came.before)
     rt = before_reached m h zs r t later at
 
-    spare : WereSpare m h f.before
-    spare = step_spare m h zs r trims t (f.after ++ c) f.event at
+    spare : WereSpare m h f.came.before
+    spare = step_spare m h zs r trims t (f.came.after ++ c) f.came.event at
 
-    step : StepRests m is_object is_op h.objects (after m h f.before) f.event
-    step = steps t (f.after ++ c) f.event at spare
+    step : StepRests m is_object is_op h.objects (after m h f.came.before) f.came.event
+    step = steps t (f.came.after ++ c) f.came.event at spare
 
-    tail : HasTail m (after m h f.before) f.end.client f.end.work
-    tail = at_end m h.objects (entries_in m (after m h t)) (ConfirmsTail m (after m h t)) (after m h t) f.client f.event f.end step.tails f.walked f.command
+    tail : HasTail m (after m h f.came.before) f.end.client f.end.work
+    tail = at_end m h.objects (entries_in m (after m h t)) (ConfirmsTail m (after m h t)) (after m h t) f.client f.came.event f.end step.tails f.came.walked f.command
 
-    reaches : below ≤ floor_at m h.objects (after m h f.before) f.end.work.tail
+    reaches : below ≤ floor_at m h.objects (after m h f.came.before) f.end.work.tail
     reaches = subst (λ (x : Option m.state). below ≤ floor_of m x)
-        (at_end m h.objects (entries_in m (after m h t)) (SeesDirectory m h.objects (after m h t)) (after m h t) f.client f.event f.end step.sees f.walked f.at f.command f.played) f.reaches
+        (at_end m h.objects (entries_in m (after m h t)) (SeesDirectory m h.objects (after m h t)) (after m h t) f.client f.came.event f.end step.sees f.came.walked f.at f.command f.played) f.reaches
 
-    under : p < floor_at m h.objects (after m h f.before) f.end.work.tail
+    under : p < floor_at m h.objects (after m h f.came.before) f.end.work.tail
     under = let a = reaches in omega (arith, a, less)
 
-    settled : WasSettled m (after m h f.before) tail.epoch p
+    settled : WasSettled m (after m h f.came.before) tail.epoch p
     settled = (floors_are_spare m is_object is_op d h t (after m h t) rt spare.were.safe step.ops step.rest tail.epoch f.end.work.tail tail.tail).whole p under
 
-    there : HasEntry m (after m h f.before) p e
+    there : HasEntry m (after m h f.came.before) p e
     there = entry_was m h zs r t later at trims.safe tail.epoch p e settled here
 
-    registered : WasRegistered m h.objects (after m h f.before) o p
+    registered : WasRegistered m h.objects (after m h f.came.before) o p
     registered = let k = token_of m h t rt spare.were p e o stands there in step.rest.tokens k.seqr k.epoch p k.streams k.links o k.issued k.stream
 
-    mark : HasMark m is_object h.objects (entries_in m (after m h f.before)) o (floor_at m h.objects (after m h f.before) f.end.work.tail) f.end.work.tail
+    mark : HasMark m is_object h.objects (entries_in m (after m h f.came.before)) o (floor_at m h.objects (after m h f.came.before) f.end.work.tail) f.end.work.tail
     mark = marked_there m is_object is_op d h t step.ops step.rest f.end.work.tail o p under registered
 
-    from : MarkFrom m h f.before (after m h f.before) mark.at mark.entry o mark.mark
+    from : MarkFrom m h f.came.before (after m h f.came.before) mark.at mark.entry o mark.mark
     from = rests.marks h t (after m h t) rt spare.were mark.at mark.entry mark.write o mark.mark mark.object mark.here mark.writes mark.to mark.is
 
     past_mark : p < mark.mark
     past_mark = let a = under in let b = mark.reaches in omega (arith, a, b)
 
-    split_there : f.before ≡ from.walk.before ++ Takes from.walk.event ∷ from.walk.after
-    split_there = from.walk.split
+    split_there : f.came.before ≡ from.walk.came.before ++ Takes from.walk.came.event ∷ from.walk.came.after
+    split_there = from.walk.came.split
 
     -- the run that told the floor goes on from the step in which the client had walked to forget
     abbrev rest_of : Moves m
-    rest_of = Takes from.walk.event ∷ (from.walk.after ++ (Takes f.event ∷ f.after))
+    rest_of = Takes from.walk.came.event ∷ (from.walk.came.after ++ (Takes f.came.event ∷ f.came.after))
 
-    rest_is : b ≡ from.walk.before ++ rest_of
-    rest_is = f.split ∙ (ap (λ (ms : Moves m). ms ++ Takes f.event ∷ f.after) from.walk.split ∙ joined from.walk.before (Takes from.walk.event ∷ from.walk.after) (Takes f.event ∷ f.after))
+    rest_is : b ≡ from.walk.came.before ++ rest_of
+    rest_is = f.came.split ∙ (ap (λ (ms : Moves m). ms ++ Takes f.came.event ∷ f.came.after) from.walk.came.split ∙ joined from.walk.came.before (Takes from.walk.came.event ∷ from.walk.came.after) (Takes f.came.event ∷ f.came.after))
 
-    shorter : length from.walk.before < length b
-    shorter = longer from.walk.before (Takes from.walk.event) (from.walk.after ++ (Takes f.event ∷ f.after)) b rest_is
+    shorter : length from.walk.came.before < length b
+    shorter = longer from.walk.came.before (Takes from.walk.came.event) (from.walk.came.after ++ (Takes f.came.event ∷ f.came.after)) b rest_is
 
     -- it was decided there, or lies below a trim that the walk had met
     decided_or : is_commit e ≡ true → needs_decision e ≡ true
-        → IsDecidedBy m (after m h from.walk.before) from.walk.end.client.stand.epoch p e ⊎ ((low : ℕ) × (p < low) × FloorTold m h from.walk.before from.walk.end.client.stand.epoch low)
+        → IsDecidedBy m (after m h from.walk.came.before) from.walk.end.client.stand.epoch p e ⊎ ((low : ℕ) × (p < low) × FloorTold m h from.walk.came.before from.walk.end.client.stand.epoch low)
     decided_or commit needs = by (less_or p (low_of from.walk.end.work.trims o))
       where
-        met : (x : Option ℕ) → trim_of from.walk.end.work.trims o ≡ x → p < or_first x → (low : ℕ) × (p < low) × FloorTold m h from.walk.before from.walk.end.client.stand.epoch low
+        met : (x : Option ℕ) → trim_of from.walk.end.work.trims o ≡ x → p < or_first x → (low : ℕ) × (p < low) × FloorTold m h from.walk.came.before from.walk.end.client.stand.epoch low
         met None is less = absurd (omega (arith, less))
-        met (Some low) is less = (low, less, walks_meet_told_trims m h from.walk.before (after m h from.walk.before) (before_reached m h t rt from.walk.before (Takes from.walk.event ∷ from.walk.after) from.walk.split) from.walk.event mark.entry.head.client from.walk.end from.walk.walked o low is)
+        met (Some low) is less = (low, less, walks_meet_told_trims m h from.walk.came.before (after m h from.walk.came.before) (before_reached m h t rt from.walk.came.before (Takes from.walk.came.event ∷ from.walk.came.after) from.walk.came.split) from.walk.came.event mark.entry.head.client from.walk.end from.walk.came.walked o low is)
 
         by : (p < low_of from.walk.end.work.trims o) ⊎ (low_of from.walk.end.work.trims o ≤ p)
-            → IsDecidedBy m (after m h from.walk.before) from.walk.end.client.stand.epoch p e ⊎ ((low : ℕ) × (p < low) × FloorTold m h from.walk.before from.walk.end.client.stand.epoch low)
+            → IsDecidedBy m (after m h from.walk.came.before) from.walk.end.client.stand.epoch p e ⊎ ((low : ℕ) × (p < low) × FloorTold m h from.walk.came.before from.walk.end.client.stand.epoch low)
         by (inl less) = inr (met (trim_of from.walk.end.work.trims o) refl less)
         by (inr le) = inl (decided_there m is_object rests owns h t rt spare.were mark.at mark.entry o mark.mark from p e there commit needs stands past_mark le)
 
@@ -170,11 +170,11 @@ module _ (m : Meaning) (is_object : Oid → Bool) (is_op : m.op → Bool) (d : I
     pub told_decided : (n : ℕ) (b c : Moves m) (split : zs ≡ b ++ c) → length b ≤ n → (epoch below : ℕ) → FloorTold m h b epoch below → p < below → Decided b
     told_decided zero b c split short epoch below f less = let k = shorter b c split epoch below f p e o less stands here in absurd (omega (arith, k, short))
     told_decided (suc n) b c split short epoch below f less =
-        decided_on b c (from b c split epoch below f p e o less stands here).walk.before (rest_of b c split epoch below f p e o less stands here) split (rest_is b c split epoch below f p e o less stands here)
+        decided_on b c (from b c split epoch below f p e o less stands here).walk.came.before (rest_of b c split epoch below f p e o less stands here) split (rest_is b c split epoch below f p e o less stands here)
         (by (decided_or b c split epoch below f p e o less stands here commit needs) (λ low k g. told_decided n x (y ++ c) onto lower (from b c split epoch below f p e o less stands here).walk.end.client.stand.epoch low g k))
       where
         x : Moves m
-        x = (from b c split epoch below f p e o less stands here).walk.before
+        x = (from b c split epoch below f p e o less stands here).walk.came.before
 
         y : Moves m
         y = rest_of b c split epoch below f p e o less stands here

@@ -42,51 +42,51 @@ module _ (m : Meaning) (is_object : Oid → Bool) (is_op : m.op → Bool) (d : I
   module _ (before later : Moves m) (ev : EventOf m) (split : zs ≡ before ++ Takes ev ∷ later) (n p : ℕ) (e : Entry) (o : Oid) (here : HasEntry m (after m h zs) p e) (commit : is_commit e ≡ true) (needs : needs_decision e ≡ true)
       (stands : lists e o ≡ true) (x : WasMet m h before n o p) where
     abbrev rest : Moves m
-    rest = x.after ++ Takes ev ∷ later
+    rest = x.came.after ++ Takes ev ∷ later
 
-    at : zs ≡ x.before ++ Takes x.event ∷ rest
-    at = split ∙ (ap (λ (ms : Moves m). ms ++ Takes ev ∷ later) x.split ∙ joined x.before (Takes x.event ∷ x.after) (Takes ev ∷ later))
+    at : zs ≡ x.came.before ++ Takes x.came.event ∷ rest
+    at = split ∙ (ap (λ (ms : Moves m). ms ++ Takes ev ∷ later) x.came.split ∙ joined x.came.before (Takes x.came.event ∷ x.came.after) (Takes ev ∷ later))
 
-    rx : Reaches m h x.before (after m h x.before)
-    rx = before_reached m h zs r x.before (Takes x.event ∷ rest) at
+    rx : Reaches m h x.came.before (after m h x.came.before)
+    rx = before_reached m h zs r x.came.before (Takes x.came.event ∷ rest) at
 
     -- the run up to a world since, in which the client had no work
     abbrev idle : Moves m
-    idle = x.before ++ Takes x.event ∷ x.until
+    idle = x.came.before ++ Takes x.came.event ∷ x.until
 
     abbrev onward : Moves m
     onward = x.since ++ Takes ev ∷ later
 
-    idle_at : zs ≡ (x.before ++ Takes x.event ∷ x.until) ++ (x.since ++ Takes ev ∷ later)
+    idle_at : zs ≡ (x.came.before ++ Takes x.came.event ∷ x.until) ++ (x.since ++ Takes ev ∷ later)
     idle_at =
         at
-        ∙ (ap (λ (ms : Moves m). x.before ++ Takes x.event ∷ (ms ++ Takes ev ∷ later)) x.rest
-        ∙ (ap (λ (ms : Moves m). x.before ++ Takes x.event ∷ ms) (joined x.until x.since (Takes ev ∷ later)) ∙ sym (joined x.before (Takes x.event ∷ x.until) onward)))
+        ∙ (ap (λ (ms : Moves m). x.came.before ++ Takes x.came.event ∷ (ms ++ Takes ev ∷ later)) x.rest
+        ∙ (ap (λ (ms : Moves m). x.came.before ++ Takes x.came.event ∷ ms) (joined x.until x.since (Takes ev ∷ later)) ∙ sym (joined x.came.before (Takes x.came.event ∷ x.until) onward)))
 
-    floor : FloorTold m h x.before x.end.client.stand.epoch x.below
-    floor = walks_meet_told_trims m h x.before (after m h x.before) rx x.event x.client x.end x.walked o x.below x.met
+    floor : FloorTold m h x.came.before x.end.client.stand.epoch x.below
+    floor = walks_meet_told_trims m h x.came.before (after m h x.came.before) rx x.came.event x.client x.end x.came.walked o x.below x.met
 
-    decided : (last : ℕ) × IsDecidedBy m (after m h x.before) last p e
+    decided : (last : ℕ) × IsDecidedBy m (after m h x.came.before) last p e
     decided =
-        told_decided m is_object is_op d rests owns h zs r trims steps p e o commit needs stands here (length x.before) x.before (Takes x.event ∷ rest) at (omega arith) x.end.client.stand.epoch x.below floor x.above
+        told_decided m is_object is_op d rests owns h zs r trims steps p e o commit needs stands here (length x.came.before) x.came.before (Takes x.came.event ∷ rest) at (omega arith) x.end.client.stand.epoch x.below floor x.above
 
-    settled : IsDecidedIn m (entries_in m (after m h zs)) (after m h (x.before ++ Takes x.event ∷ x.until)) p e
+    settled : IsDecidedIn m (entries_in m (after m h zs)) (after m h (x.came.before ++ Takes x.came.event ∷ x.until)) p e
     settled = by decided
       where
-        by : (last : ℕ) × IsDecidedBy m (after m h x.before) last p e → IsDecidedIn m (entries_in m (after m h zs)) (after m h (x.before ++ Takes x.event ∷ x.until)) p e
-        by k = of_page (page_in (log m (after m h x.before)) k.1.at k.1.decision (has_contained (entries_of (log m (after m h x.before))) (k.1.at, k.1.decision) k.1.here))
+        by : (last : ℕ) × IsDecidedBy m (after m h x.came.before) last p e → IsDecidedIn m (entries_in m (after m h zs)) (after m h (x.came.before ++ Takes x.came.event ∷ x.until)) p e
+        by k = of_page (page_in (log m (after m h x.came.before)) k.1.at k.1.decision (has_contained (entries_of (log m (after m h x.came.before))) (k.1.at, k.1.decision) k.1.here))
           where
-            of_page : PageOf (log m (after m h x.before)) k.1.at k.1.decision → IsDecidedIn m (entries_in m (after m h zs)) (after m h (x.before ++ Takes x.event ∷ x.until)) p e
+            of_page : PageOf (log m (after m h x.came.before)) k.1.at k.1.decision → IsDecidedIn m (entries_in m (after m h zs)) (after m h (x.came.before ++ Takes x.came.event ∷ x.until)) p e
             of_page g = record {
               at = k.1.at;
               decision = k.1.decision;
-              here = entry_stays m h zs r x.before (Takes x.event ∷ rest) at trims.safe k.1.at k.1.decision k.1.here;
+              here = entry_stays m h zs r x.came.before (Takes x.came.event ∷ rest) at trims.safe k.1.at k.1.decision k.1.here;
               above = k.1.above;
               is_yes = k.1.is_yes;
               says = k.1.says;
               streams = k.1.streams;
               page = g.page;
-              settled = late m h idle (before_reached m h zs r idle onward idle_at) x.before (Takes x.event ∷ x.until) refl k.1.at (Data g.page) ((log_is_settled m h x.before (after m h x.before) rx (front_spare m h zs r trims x.before (Takes x.event ∷ rest) at).safe).settled k.1.at (Data g.page) (contained (log m (after m h x.before)) (k.1.at, Data g.page) g.here));
+              settled = late m h idle (before_reached m h zs r idle onward idle_at) x.came.before (Takes x.came.event ∷ x.until) refl k.1.at (Data g.page) ((log_is_settled m h x.came.before (after m h x.came.before) rx (front_spare m h zs r trims x.came.before (Takes x.came.event ∷ rest) at).safe).settled k.1.at (Data g.page) (contained (log m (after m h x.came.before)) (k.1.at, Data g.page) g.here));
             }
 
   pub met_settled : MetSettled m h zs (after m h zs)

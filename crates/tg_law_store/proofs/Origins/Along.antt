@@ -20,22 +20,12 @@ use Rattle.tg_law_walks.proofs.Once.Reached.{give, reach_at}
 use Rattle.tg_law_store.proofs.Origins.Drafts.{ClientFits, client_on}
 use Rattle.tg_law_store.proofs.Origins.Steps.{command_in, deliver_in, tick_in}
 use Rattle.tg_law_store.proofs.Origins.Turning.{Input, Commanded, Handed, Ticked, Turns, Makes, Rests, Turned, makes}
+use Rattle.tg_law_trims.specs.Leaves.Passed.{Ended}
+use Rattle.tg_law_trims.proofs.Leaves.Passing.{ended_on}
 
 module _ (m : Meaning) (h : Header) where
-  -- a step of the run came to this end of the client's walks
-  pub record Ended (xs : Moves m) (k : ℕ) (end : Walked m) : Type 0 where
-    pub before : Moves m
-    pub event : EventOf m
-    pub later : Moves m
-    pub split : xs ≡ before ++ Takes event ∷ later
-    pub walked : walked_in m (after m h before) event k ≡ Some end
-
-  -- so it has where the run goes on
-  pub ended_on : (xs ys : Moves m) (k : ℕ) (end : Walked m) → Ended xs k end → Ended (xs ++ ys) k end
-  ended_on xs ys k end a = record { before = a.before; event = a.event; later = a.later ++ ys; split = ap (λ (ms : Moves m). ms ++ ys) a.split ∙ regroup m a.before (Takes a.event ∷ a.later) ys; walked = a.walked }
-
   abbrev pub Fits : Moves m → ℕ → Client m → Type 0
-  Fits xs k c = ClientFits m (Ended xs k) c
+  Fits xs k c = ClientFits m (Ended m h xs k) c
 
   abbrev pub AllFit : Moves m → Type 0
   AllFit xs = (k : ℕ) → Fits xs k (client m (after m h xs) k)
@@ -63,7 +53,7 @@ module _ (m : Meaning) (h : Header) (zs : Moves m) (reach : Reaches m h zs (afte
     still k = client_on m (Ended m h xs k) (Ended m h (xs ++ Takes e ∷ []) k) (λ y a. ended_on m h xs (Takes e ∷ []) k y a) (client m (after m h xs) k) (fits k)
 
     came : (k : ℕ) (y : Walked m) → walked_in m (after m h xs) e k ≡ Some y → Ended m h (xs ++ Takes e ∷ []) k y
-    came k y is = record { before = xs; event = e; later = []; split = refl; walked = is }
+    came k y is = record { before = xs; event = e; after = []; split = refl; walked = is }
 
     turned : (n : ℕ) (t : ClientTurn m) → Input m (after m h xs) e n t → Fits m h (xs ++ Takes e ∷ []) n t.now
     turned n t (Commanded x is) = command_in m (Ended m h (xs ++ Takes e ∷ []) n) (client m (after m h xs) n) x (subst (λ (d : EventOf m). Gives m (LawfulCommand m) d) is lawful) (still n)

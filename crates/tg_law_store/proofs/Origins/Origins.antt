@@ -40,9 +40,11 @@ use Rattle.tg_law_walks.proofs.Once.Nowhere.{reached}
 use Rattle.tg_law_walks.proofs.Once.Reached.{header, give, short}
 use Rattle.tg_law_store.specs.Origins.Origins.{WalkedFor, StandsSince, DecidesAt, CheckpointFrom, MarkFrom, DecisionFrom, ByRuns, BySpareRuns, CheckpointsFollowWalks, MarksFollowWalks, DecisionsFollowWalks}
 use Rattle.tg_law_store.proofs.Origins.Drafts.{CommandFits, EndBy, SavesBy, MarksBy, DecidesBy, IsRecord, DraftFits, TaskFits, WorkFits}
-use Rattle.tg_law_store.proofs.Origins.Along.{Ended, ended_on, fits_at}
+use Rattle.tg_law_store.proofs.Origins.Along.{fits_at}
 use Rattle.tg_law_store.proofs.Origins.Puts.{PutFor, puts_for}
 use Rattle.tg_law_store.proofs.Origins.Homes.{kept, sent, follows}
+use Rattle.tg_law_trims.specs.Leaves.Passed.{Ended}
+use Rattle.tg_law_trims.proofs.Leaves.Passing.{ended_on}
 
 two_tags : {X : Type 0} (a b n : ℕ) → n ≡ a → n ≡ b → (a ≡ b → ⊥) → X
 two_tags a b n e f isnt = absurd (isnt (sym e ∙ f))
@@ -92,7 +94,7 @@ module _ (m : Meaning) (h : Header) (zs : Moves m) (reach : Reaches m h zs (afte
   of_run b = subst (λ (ms : Moves m). Ended m h ms e.head.client b.end) (sym put.split) (ended_on m h put.before put.mid e.head.client b.end b.came)
 
   abbrev walk : (b : EndBy m (Ended m h put.before e.head.client) (client m (after m h put.before) e.head.client).stand.epoch) → (x : CommandOf m) → b.end.work.command ≡ x → WalkedFor m h zs e.head.client x
-  walk b x is = record { before = (of_run b).before; event = (of_run b).event; after = (of_run b).later; split = (of_run b).split; end = b.end; walked = (of_run b).walked; command = is }
+  walk b x is = record { end = b.end; came = of_run b; command = is }
 
   follow : (b : EndBy m (Ended m h put.before e.head.client) (client m (after m h put.before) e.head.client).stand.epoch) → StandsSince m (after m h zs) b.end.client.stand.epoch pos
   follow b = follows m h zs reach safe pos e i b.end.client.stand.epoch b.some (let a = b.epoch in let s = put.stands in omega (arith, a, s))

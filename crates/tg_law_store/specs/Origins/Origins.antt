@@ -26,16 +26,13 @@ use Rattle.tg_law_cells.specs.Entries.Archive.{TrimsWereSafe}
 use Rattle.tg_law_walks.specs.Drafts.Parts.{TouchParts}
 use Rattle.tg_law_walks.specs.Lists.Spared.{TrimsWereSpare}
 use Rattle.tg_law_store.specs.Kinds.Directories.{DirectoryLaws}
+use Rattle.tg_law_trims.specs.Leaves.Passed.{Ended}
 
 module _ (m : Meaning) where
   -- A step of the run came to the end of the walks of a client's command.
   pub record WalkedFor (h : Header) (ms : Moves m) (k : ℕ) (x : CommandOf m) : Type 0 where
-    pub before : Moves m
-    pub event : EventOf m
-    pub after : Moves m
-    pub split : ms ≡ before ++ Takes event ∷ after
     pub end : Walked m
-    pub walked : walked_in m (run m before (start m h)) event k ≡ Some end
+    pub came : Ended m h ms k end
     pub command : end.work.command ≡ x
 
   -- A position lies at or past the start of the layout that is decided for an epoch.

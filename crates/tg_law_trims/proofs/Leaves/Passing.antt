@@ -33,7 +33,7 @@ use Rattle.tg_law_walks.specs.Lists.Spared.{TrimsWereSpare}
 use Rattle.tg_law_syncs.specs.Finds.Left.{RoundsExact}
 use Rattle.tg_law_syncs.proofs.Exact.Finds.{rounds_exact}
 use Rattle.tg_law_syncs.proofs.Known.Ways.{played_view}
-use Rattle.tg_law_trims.specs.Leaves.Passed.{IsIdle, WasMet, ViewsPass, ViewsPassBySpareTrims}
+use Rattle.tg_law_trims.specs.Leaves.Passed.{IsIdle, WasMet, ViewsPass, ViewsPassBySpareTrims, Ended}
 use Rattle.tg_law_trims.proofs.Leaves.Turns.{Lasts, AtPurpose, AtTask, AtWork, Holds, Rested, PlayHolds}
 use Rattle.tg_law_trims.proofs.Leaves.Plays.{OwnsKnown, OwnsPassed, none_owned, owns_play, Passes, none_passes, play_passes}
 use Rattle.tg_law_trims.proofs.Leaves.Ends.{event_ends}
@@ -47,32 +47,34 @@ grouped (x ∷ xs) ys zs = ap (λ us. x ∷ us) (grouped xs ys zs)
 
 module _ (m : Meaning) (h : Header) where
   -- what was met, whether its client had no work since or not
+  -- so it has where the run goes on
+  pub ended_on : (xs ys : Moves m) (k : ℕ) (end : Walked m) → Ended m h xs k end → Ended m h (xs ++ ys) k end
+  ended_on xs ys k end a = record {
+    before = a.before;
+    event = a.event;
+    after = a.after ++ ys;
+    split = ap (λ (us : Moves m). us ++ ys) a.split ∙ grouped a.before (Takes a.event ∷ a.after) ys;
+    walked = a.walked;
+  }
+
   record HadMet (ms : Moves m) (n : ℕ) (o : Oid) (p : ℕ) : Type 0 where
-    before : Moves m
-    event : EventOf m
-    after : Moves m
-    split : ms ≡ before ++ Takes event ∷ after
     client : ℕ
     end : Walked m
-    walked : walked_in m (run m before (start m h)) event client ≡ Some end
+    came : Ended m h ms client end
     of : end.client.num ≡ n
     below : ℕ
     met : trim_of end.work.trims o ≡ Some below
     above : p < below
 
   had_met : (xs : Moves m) (n : ℕ) (o : Oid) (p : ℕ) → WasMet m h xs n o p → HadMet xs n o p
-  had_met xs n o p x = record { before = x.before; event = x.event; after = x.after; split = x.split; client = x.client; end = x.end; walked = x.walked; of = x.of; below = x.below; met = x.met; above = x.above }
+  had_met xs n o p x = record { client = x.client; end = x.end; came = x.came; of = x.of; below = x.below; met = x.met; above = x.above }
 
   -- what was met stays so
   met_later : (xs ys : Moves m) (n : ℕ) (o : Oid) (p : ℕ) → WasMet m h xs n o p → WasMet m h (xs ++ ys) n o p
   met_later xs ys n o p x = record {
-    before = x.before;
-    event = x.event;
-    after = x.after ++ ys;
-    split = ap (λ (us : Moves m). us ++ ys) x.split ∙ grouped x.before (Takes x.event ∷ x.after) ys;
     client = x.client;
     end = x.end;
-    walked = x.walked;
+    came = ended_on xs ys x.client x.end x.came;
     of = x.of;
     below = x.below;
     met = x.met;
@@ -85,13 +87,9 @@ module _ (m : Meaning) (h : Header) where
 
   had_later : (xs ys : Moves m) (n : ℕ) (o : Oid) (p : ℕ) → HadMet xs n o p → HadMet (xs ++ ys) n o p
   had_later xs ys n o p x = record {
-    before = x.before;
-    event = x.event;
-    after = x.after ++ ys;
-    split = ap (λ (us : Moves m). us ++ ys) x.split ∙ grouped x.before (Takes x.event ∷ x.after) ys;
     client = x.client;
     end = x.end;
-    walked = x.walked;
+    came = ended_on xs ys x.client x.end x.came;
     of = x.of;
     below = x.below;
     met = x.met;
@@ -99,30 +97,26 @@ module _ (m : Meaning) (h : Header) where
   }
 
   met_here : (xs : Moves m) (e : EventOf m) (k : ℕ) (y : Walked m) (o : Oid) (b p : ℕ) → walked_in m (run m xs (start m h)) e k ≡ Some y → trim_of y.work.trims o ≡ Some b → p < b → HadMet (xs ++ Takes e ∷ []) y.client.num o p
-  met_here xs e k y o b p is t less = record { before = xs; event = e; after = []; split = refl; client = k; end = y; walked = is; of = refl; below = b; met = t; above = less }
+  met_here xs e k y o b p is t less = record { client = k; end = y; came = record { before = xs; event = e; after = []; split = refl; walked = is }; of = refl; below = b; met = t; above = less }
 
   -- in a world in which the client has no work
   met_idle : (xs : Moves m) (k : ℕ) (o : Oid) (p : ℕ) → IsIdle m (run m xs (start m h)) k → HadMet xs k o p → WasMet m h xs k o p
   met_idle xs k o p idle x = record {
-    before = x.before;
-    event = x.event;
-    after = x.after;
-    split = x.split;
     client = x.client;
     end = x.end;
-    walked = x.walked;
+    came = x.came;
     of = x.of;
     below = x.below;
     met = x.met;
     above = x.above;
-    until = x.after;
+    until = x.came.after;
     since = [];
-    rest = sym (append-nil x.after);
-    idle = subst (λ (us : Moves m). IsIdle m (run m us (start m h)) x.client) x.split (subst (λ (j : ℕ). IsIdle m (run m xs (start m h)) j) (sym same) idle);
+    rest = sym (append-nil x.came.after);
+    idle = subst (λ (us : Moves m). IsIdle m (run m us (start m h)) x.client) x.came.split (subst (λ (j : ℕ). IsIdle m (run m xs (start m h)) j) (sym same) idle);
   }
     where
       same : x.client ≡ k
-      same = sym (walked_number m h x.before x.event x.client x.end x.walked) ∙ x.of
+      same = sym (walked_number m h x.came.before x.came.event x.client x.end x.came.walked) ∙ x.of
 
   -- wherever a step of a run comes to the end of a command's walks, the kept view has the client's own records that it went past
   abbrev pub OwnsStayPassed : World m → Moves m → Type 0

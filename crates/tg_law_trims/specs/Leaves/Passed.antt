@@ -26,28 +26,32 @@ module _ (m : Meaning) where
   abbrev pub IsIdle : World m → ℕ → Type 0
   IsIdle u k = (client m u k).work ≡ None
 
-  -- A step of the run came to the end of the walks of the client with a number, of which that of this stream had met a trim above a
-  -- position; and the run came through a world since in which this client had no work.
-  pub record WasMet (h : Header) (ms : Moves m) (n : ℕ) (o : Oid) (p : ℕ) : Type 0 where
+  -- A step of the run came to this end of the walks of the client with a number.
+  pub record Ended (h : Header) (ms : Moves m) (client : ℕ) (end : Walked m) : Type 0 where
     pub before : Moves m
     pub event : EventOf m
     pub after : Moves m
     pub split : ms ≡ before ++ Takes event ∷ after
+    pub walked : walked_in m (run m before (start m h)) event client ≡ Some end
+
+  -- A step of the run came to the end of the walks of the client with a number, of which that of this stream had met a trim above a
+  -- position; and the run came through a world since in which this client had no work.
+  pub record WasMet (h : Header) (ms : Moves m) (n : ℕ) (o : Oid) (p : ℕ) : Type 0 where
     pub client : ℕ
     pub end : Walked m
-    pub walked : walked_in m (run m before (start m h)) event client ≡ Some end
+    pub came : Ended h ms client end
     pub of : end.client.num ≡ n
     pub below : ℕ
     pub met : trim_of end.work.trims o ≡ Some below
     pub above : p < below
     pub until : Moves m
     pub since : Moves m
-    pub rest : after ≡ until ++ since
-    pub idle : IsIdle (run m (before ++ Takes event ∷ until) (start m h)) client
+    pub rest : came.after ≡ until ++ since
+    pub idle : IsIdle (run m (came.before ++ Takes came.event ∷ until) (start m h)) client
 
   -- the world in which the client had no work
   abbrev pub idle_world : {h : Header} {ms : Moves m} {n : ℕ} {o : Oid} {p : ℕ} → WasMet h ms n o p → World m
-  idle_world {h} {ms} {n} {o} {p} x = run m (x.before ++ Takes x.event ∷ x.until) (start m h)
+  idle_world {h} {ms} {n} {o} {p} x = run m (x.came.before ++ Takes x.came.event ∷ x.until) (start m h)
 
   -- A record of a hosted stream that a view went past, of which it knows all reads there, has a fate, or stands below a trim
   -- that a walk of the stream had met.
