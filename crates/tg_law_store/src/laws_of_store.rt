@@ -5,8 +5,8 @@
 //! were spare, kept views leave no record without a fate, and the order holds; and trims are spare where, as far as they were
 //! so before, floors rest on checkpoints and kept views leave none.
 
-ghost use Rattle.tg_law_store.specs.Store.States.{StoreHasStates, StoreReadsOps, StoreRunsLegalWhere};
-ghost use Rattle.tg_law_store.specs.Store.Steps.{StoreRunsLegalBySteps, StoreStepsRest, StoreTrimsAreSpare};
+ghost use Rattle.tg_law_store.specs.Store.States.{StoreHasStates, StoreReadsOps};
+ghost use Rattle.tg_law_store.specs.Store.Steps.{StoreStepsRest, StoreTrimsAreSpare};
 
 /// What is read of the writes of a log is an op of the format, where trims were safe: each is what its client had put.
 pub fn store_reads_ops()
@@ -16,12 +16,6 @@ pub fn store_reads_ops()
 /// So each object's state loads from what is saved of it.
 pub fn store_has_states()
     ensures { StoreHasStates }
-{}
-
-/// A run is legal where trims left what is needed, kept views leave no record without a fate, and no place precedes a reply that
-/// came before its transaction.
-pub fn store_runs_legal()
-    ensures { StoreRunsLegalWhere }
 {}
 
 /// Where, as far as trims were spare before, the log's floors rest on checkpoints and kept views leave no record without a fate,
@@ -34,9 +28,4 @@ pub fn store_steps_rest()
 /// floors rest on checkpoints and kept views leave no record without a fate.
 pub fn store_trims_are_spare()
     ensures { StoreTrimsAreSpare }
-{}
-
-/// And such a run is legal where no place precedes a reply that came before its transaction.
-pub fn store_runs_legal_by_steps()
-    ensures { StoreRunsLegalBySteps }
 {}

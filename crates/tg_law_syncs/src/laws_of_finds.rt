@@ -4,7 +4,6 @@
 
 ghost use Rattle.tg_kind.specs.Of.{meaning_of};
 ghost use Rattle.tg_law_syncs.specs.Finds.Laws.{ClientsFindWhere, RoundsFind};
-ghost use Rattle.tg_law_syncs.specs.Finds.Order.{AsksPrecedeWhere, SavesPrecedeWhere};
 
 use tg_kind::Registry;
 
@@ -20,14 +19,4 @@ pub fn rounds_find<K: Registry>()
 /// without a fate that the entries don't decide, and saved states load.
 pub fn clients_find<K: Registry>()
     ensures { ClientsFindWhere (meaning_of K.Registry) }
-{}
-
-/// A record stands at or past where its transaction asked, where its token was issued after that tail was confirmed.
-pub fn asks_precede<K: Registry>()
-    ensures { AsksPrecedeWhere (meaning_of K.Registry) }
-{}
-
-/// A checkpoint saves no more than what stands below it, where its token was issued after that tail was confirmed.
-pub fn saves_precede<K: Registry>()
-    ensures { SavesPrecedeWhere (meaning_of K.Registry) }
 {}

@@ -5,7 +5,7 @@
 //! Proved for every lawful header and every run of lawful events, where whatever a unit was asked to trim is settled, in
 //! the epoch of the trim or before (`TrimsInTime`): a walk goes on in a later epoch below a tail that was confirmed
 //! before, and where the last cell below that tail was trimmed, this premise alone says that the later layout starts past
-//! it. It is false of kinds whose floors lie past what is committed, and no law gives it yet.
+//! it. It is false of kinds whose floors lie past what is committed, and so in the store (`logs_hold` of `tg_law_headline`).
 
 ghost use Rattle.tg_kind.specs.Of.{meaning_of};
 ghost use Rattle.tg_law_trims.specs.Issues.Issues.{AlwaysByTrims, NextUnwritten, PositionsBelow};

@@ -31,9 +31,9 @@ use Rattle.tg_law_trims.proofs.Trims.Floors.{trims_are_spare_by_sight}
 use Rattle.tg_law_trims.proofs.Floors.Tails.{trims_confirm_tails}
 use Rattle.tg_law_store.proofs.Kinds.Holds.{kinds_have_directory}
 use Rattle.tg_law_store.proofs.Kinds.Touching.{kinds_touch_parts}
-use Rattle.tg_law_store.specs.Store.Steps.{StepsHold, StoreStepsRest, StoreTrimsAreSpare, StoreRunsLegalBySteps}
+use Rattle.tg_law_store.specs.Store.Steps.{StepsHold, StoreStepsRest, StoreTrimsAreSpare}
 use Rattle.tg_law_store.proofs.Store.Found.{each_so_far, based_now, finds_now}
-use Rattle.tg_law_store.proofs.Store.States.{store_reads_ops, store_has_states, store_runs_legal}
+use Rattle.tg_law_store.proofs.Store.States.{store_reads_ops, store_has_states}
 
 -- Of any kinds whose ops touch parts of the format: clients find what they need in a run in which trims were spare, and in the
 -- step after it, by the log before that step.
@@ -112,12 +112,3 @@ store_steps_rest h ms w r holds = steps_rest h ms (subst (Reaches all_kinds h ms
 
 pub store_trims_are_spare : StoreTrimsAreSpare
 store_trims_are_spare h ms w r holds = trims_are_spare_by_sight all_kinds is_number is_op kinds_have_directory h ms w r (store_steps_rest h ms w r holds)
-
-pub store_runs_legal_by_steps : StoreRunsLegalBySteps
-store_runs_legal_by_steps h ms w r holds order =
-    let trims = (store_trims_are_spare h ms w r holds).were in
-    store_runs_legal h ms w r (record {
-      trims = trims;
-      views = subst (ViewsLeaveNone all_kinds h ms) (sym r.goes.is) (views_here h ms (subst (Reaches all_kinds h ms) r.goes.is r) holds trims);
-      order = order;
-    })

@@ -33,8 +33,3 @@ StoreStepsRest = (h : Header) (ms : Moves all_kinds) (w : World all_kinds) → R
 -- so trims are spare, safe and in time
 abbrev pub StoreTrimsAreSpare : Type 0
 StoreTrimsAreSpare = (h : Header) (ms : Moves all_kinds) (w : World all_kinds) → Reaches all_kinds h ms w → StepsHold h ms → TrimsAre all_kinds h ms w
-
--- and the run is legal, where no place precedes a reply that came before its transaction
-abbrev pub StoreRunsLegalBySteps : Type 0
-StoreRunsLegalBySteps = (h : Header) (ms : Moves all_kinds) (w : World all_kinds) → Reaches all_kinds h ms w → StepsHold h ms → InOrder all_kinds (history all_kinds w) (trace all_kinds w) →
-    Legal all_kinds w.cluster.objects (history all_kinds w) (trace all_kinds w)

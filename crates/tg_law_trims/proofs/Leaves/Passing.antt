@@ -71,6 +71,7 @@ module _ (m : Meaning) (h : Header) where
 
   -- what was met stays so
   met_later : (xs ys : Moves m) (n : ℕ) (o : Oid) (p : ℕ) → WasMet m h xs n o p → WasMet m h (xs ++ ys) n o p
+  unfolding ended_on
   met_later xs ys n o p x = record {
     client = x.client;
     end = x.end;

@@ -52,8 +52,8 @@ module _ (m : Meaning) where
   abbrev pub PositionsBelow : World m → Type 0
   PositionsBelow w = (x : Packet) (epoch pos : ℕ) → Sent m w x → position_named x.msg ≡ Some (epoch, pos) → IsBelow w epoch pos
 
-  -- Whatever a unit was ever asked to trim is settled, in the epoch of the trim or before. Nothing gives it yet; of kinds
-  -- whose floors lie past what is committed it is false.
+  -- Whatever a unit was ever asked to trim is settled, in the epoch of the trim or before. So it is in the store (`logs_hold` of
+  -- tg_law_headline); of kinds whose floors lie past what is committed it is false.
   pub record TrimsInTime (w : World m) : Type 0 where
     pub settled : (x : Packet) (epoch below pos : ℕ) → Sent m w x → x.msg ≡ msg.Trim epoch below → pos < below → WasSettled m w epoch pos
 
