@@ -1,4 +1,4 @@
-pub mod Kinds
+pub mod AllKinds
 pub mod Legal
 pub mod Registered
 pub mod Store

@@ -1,7 +1,7 @@
 //! What the laws of the log ask of the kinds of objects, of all kinds that the program has: a directory whose floor
 //! rises by marks, states that load again from what is saved of them, and ops that touch parts of the format.
 
-ghost use Rattle.tg_law_store.specs.Kinds.Kinds.{KindsHaveDirectory, KindsKeepDirectory, KindsAreStates, KindsBegin, KindsReadBack, KindsReadOps, KindsTouchParts};
+ghost use Rattle.tg_law_store.specs.AllKinds.Kinds.{KindsHaveDirectory, KindsKeepDirectory, KindsAreStates, KindsBegin, KindsReadBack, KindsReadOps, KindsTouchParts};
 
 /// The directory is one: objects stay registered, an op that has a spelling changes the mark of no object but the one
 /// that it marks, and the floor never falls, nor rises above the mark of an object that is registered.

@@ -11,7 +11,7 @@ use Rattle.tg_law_walks.proofs.Once.Owning.{records_own}
 use Rattle.tg_law_walks.proofs.Checkpoints.Checkpoints.{entries_own, appends_end}
 use Rattle.tg_law_syncs.specs.Follow.Laws.{SavesEnd}
 use Rattle.tg_law_syncs.proofs.Follow.Legal.{replies_recorded}
-use Rattle.tg_law_store.proofs.Kinds.Touching.{kinds_touch_parts}
+use Rattle.tg_law_store.proofs.AllKinds.Touching.{kinds_touch_parts}
 use Rattle.tg_law_store.proofs.Store.Steps.{store_trims_are_spare}
 use Rattle.tg_law_store.proofs.Headline.Store.{store_runs_hold}
 use Rattle.tg_law_store.proofs.Joint.Holding.{steps_hold}

@@ -15,7 +15,7 @@ use Rattle.tg_law_syncs.specs.Finds.Left.{PassesOwn}
 use Rattle.tg_law_syncs.specs.Exact.Finds.{ViewsLeaveNone}
 use Rattle.tg_law_syncs.proofs.Exact.Fits.{finds, views_fit}
 use Rattle.tg_law_syncs.proofs.Follow.Saves.{saves_precede}
-use Rattle.tg_law_store.proofs.Kinds.Touching.{kinds_touch_parts}
+use Rattle.tg_law_store.proofs.AllKinds.Touching.{kinds_touch_parts}
 use Rattle.tg_law_walks.proofs.Checkpoints.Checkpoints.{entries_own, appends_end}
 use Rattle.tg_law_order.proofs.Ordered.Histories.{histories_rise}
 use Rattle.tg_law_order.proofs.Ordered.Order.{runs_are_in_order, records_are_in_order}

@@ -6,8 +6,8 @@ use Rattle.tg_entry.specs.Records as records
 use Rattle.tg_dir.specs.Spellings.{is_number}
 use Rattle.tg_any.specs.Anys.{is_op}
 use Rattle.tg_any.specs.AllKinds.{all_kinds}
-use Rattle.tg_law_store.proofs.Kinds.Keeps.{kinds_keep_directory}
-use Rattle.tg_law_store.proofs.Kinds.Touching.{kinds_touch_parts}
+use Rattle.tg_law_store.proofs.AllKinds.Keeps.{kinds_keep_directory}
+use Rattle.tg_law_store.proofs.AllKinds.Touching.{kinds_touch_parts}
 use Rattle.tg_law_store.proofs.Origins.Origins.{checkpoints_follow_walks, marks_follow_walks}
 use Rattle.tg_law_store.specs.Joint.Joint.{JointRests, EachStepHolds}
 use Rattle.tg_law_store.proofs.Joint.Steps.{steps_hold_where}

@@ -34,8 +34,8 @@ use Rattle.tg_law_trims.proofs.Trims.Floors.{trims_are_spare_by_sight}
 use Rattle.tg_law_trims.proofs.Floors.Swept.{tails_are_whole}
 use Rattle.tg_law_trims.proofs.Floors.Tails.{walks_have_tails, trims_confirm_tails}
 use Rattle.tg_law_store.proofs.Registered.Roots.{tokens_follow_registrations}
-use Rattle.tg_law_store.proofs.Kinds.Holds.{kinds_have_directory}
-use Rattle.tg_law_store.proofs.Kinds.Touching.{kinds_touch_parts}
+use Rattle.tg_law_store.proofs.AllKinds.Holds.{kinds_have_directory}
+use Rattle.tg_law_store.proofs.AllKinds.Touching.{kinds_touch_parts}
 use Rattle.tg_law_store.specs.Store.Steps.{StepHolds, StepsHold}
 use Rattle.tg_law_store.proofs.Store.Found.{each_so_far}
 use Rattle.tg_law_store.proofs.Store.States.{store_reads_ops, store_has_states}

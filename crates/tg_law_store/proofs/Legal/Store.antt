@@ -1,6 +1,6 @@
 -- Entries of the store's logs.
 use Rattle.tg_any.specs.AllKinds.{all_kinds}
-use Rattle.tg_law_store.proofs.Kinds.Touching.{kinds_touch_parts}
+use Rattle.tg_law_store.proofs.AllKinds.Touching.{kinds_touch_parts}
 use Rattle.tg_law_walks.proofs.Checkpoints.Checkpoints.{entries_own}
 use Rattle.tg_law_store.specs.Legal.Store.{StoreEntriesOwn}
 

@@ -31,7 +31,7 @@ use Rattle.tg_law_cells.specs.Entries.Archive.{TrimsWereSafe}
 use Rattle.tg_law_walks.proofs.Drafts.Drafting.{Fitting, Whole, Saving}
 use Rattle.tg_law_walks.proofs.Drafts.Sound.{DraftOk}
 use Rattle.tg_law_walks.proofs.Drafts.Written.{draft_in}
-use Rattle.tg_law_store.specs.Kinds.Directories.{DirectoryLaws}
+use Rattle.tg_law_store.specs.AllKinds.Directories.{DirectoryLaws}
 use Rattle.tg_law_walks.specs.Lists.Spared.{TrimsWereSpare}
 use Rattle.tg_law_walks.proofs.Checkpoints.Checkpoints.{entries_own}
 use Rattle.tg_law_syncs.proofs.Follow.Asks.{put_past}

@@ -47,7 +47,7 @@ use Rattle.tg_law_walks.proofs.Once.Spending.{Dead}
 use Rattle.tg_law_walks.proofs.Once.Turning.{tag_commit}
 use Rattle.tg_law_syncs.proofs.Follow.Asks.{put_past}
 use Rattle.tg_law_trims.specs.Trims.Floors.{floor_at}
-use Rattle.tg_law_store.specs.Kinds.Directories.{DirectoryLaws}
+use Rattle.tg_law_store.specs.AllKinds.Directories.{DirectoryLaws}
 use Rattle.tg_law_store.specs.Registered.Marked.{WhereMarksMark, MarksFollowCheckpoints, FloorsSave}
 use Rattle.tg_law_store.proofs.Registered.Grounds.{TaskGrounded, WorkGrounded, MarksKept}
 use Rattle.tg_law_store.proofs.Registered.Roots.{Past, Held, Q, held_along, entries_registered}

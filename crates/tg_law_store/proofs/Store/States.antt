@@ -31,8 +31,8 @@ use Rattle.tg_any.specs.declared.any.AnyKind.TheVariants as states
 use Rattle.tg_any.specs.declared.any.AnyOp.{AnyOp}
 use Rattle.tg_law_layouts.proofs.Moves.Members.{Image, has_contained, has_map}
 use Rattle.tg_law_walks.proofs.Once.Owning.{records_own}
-use Rattle.tg_law_store.proofs.Kinds.Fitting.{kinds_read_back}
-use Rattle.tg_law_store.proofs.Kinds.Touching.{kinds_touch_parts}
+use Rattle.tg_law_store.proofs.AllKinds.Fitting.{kinds_read_back}
+use Rattle.tg_law_store.proofs.AllKinds.Touching.{kinds_touch_parts}
 use Rattle.tg_law_store.proofs.Legal.Legal.{runs_are_legal}
 use Rattle.tg_law_store.specs.Store.States.{StoreReadsOps, StoreHasStates, StoreRunsLegalWhere}
 

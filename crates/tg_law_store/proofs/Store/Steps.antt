@@ -29,8 +29,8 @@ use Rattle.tg_law_trims.specs.Trims.Floors.{FindSoFar, SeesDirectory, StepRests}
 use Rattle.tg_law_trims.proofs.Trims.Sights.{sights_by_finds}
 use Rattle.tg_law_trims.proofs.Trims.Floors.{trims_are_spare_by_sight}
 use Rattle.tg_law_trims.proofs.Floors.Tails.{trims_confirm_tails}
-use Rattle.tg_law_store.proofs.Kinds.Holds.{kinds_have_directory}
-use Rattle.tg_law_store.proofs.Kinds.Touching.{kinds_touch_parts}
+use Rattle.tg_law_store.proofs.AllKinds.Holds.{kinds_have_directory}
+use Rattle.tg_law_store.proofs.AllKinds.Touching.{kinds_touch_parts}
 use Rattle.tg_law_store.specs.Store.Steps.{StepsHold, StoreStepsRest, StoreTrimsAreSpare}
 use Rattle.tg_law_store.proofs.Store.Found.{each_so_far, based_now, finds_now}
 use Rattle.tg_law_store.proofs.Store.States.{store_reads_ops, store_has_states}

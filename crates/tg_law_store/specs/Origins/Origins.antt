@@ -25,7 +25,7 @@ use Rattle.tg_law_cells.specs.Cells.Settled.{IsSettled}
 use Rattle.tg_law_cells.specs.Entries.Archive.{TrimsWereSafe}
 use Rattle.tg_law_walks.specs.Drafts.Parts.{TouchParts}
 use Rattle.tg_law_walks.specs.Lists.Spared.{TrimsWereSpare}
-use Rattle.tg_law_store.specs.Kinds.Directories.{DirectoryLaws}
+use Rattle.tg_law_store.specs.AllKinds.Directories.{DirectoryLaws}
 use Rattle.tg_law_trims.specs.Leaves.Passed.{Ended}
 
 module _ (m : Meaning) where

@@ -17,7 +17,7 @@ use Rattle.tg_law_replies.specs.Replies.Laws.{ClientsFind}
 use Rattle.tg_law_walks.specs.Lists.Spared.{TrimsWereSpare}
 use Rattle.tg_law_syncs.specs.Finds.Left.{SavesPrecede}
 use Rattle.tg_law_trims.specs.Trims.Floors.{floor_at}
-use Rattle.tg_law_store.specs.Kinds.Directories.{DirectoryLaws}
+use Rattle.tg_law_store.specs.AllKinds.Directories.{DirectoryLaws}
 
 module _ (m : Meaning) where
   -- What holds in each run over kinds with a directory that only marks mark, and whose objects have the format's numbers, in which

@@ -1,4 +1,4 @@
-use Rattle.tg_law_store.proofs.Kinds.Holds.{kinds_begin}
+use Rattle.tg_law_store.proofs.AllKinds.Holds.{kinds_begin}
 use Rattle.tg_law_store.proofs.laws_of_kinds.kinds_begin.Goals as goal
 
 pub returns : goal.returns

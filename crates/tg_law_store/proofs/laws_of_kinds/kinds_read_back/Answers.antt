@@ -1,4 +1,4 @@
-use Rattle.tg_law_store.proofs.Kinds.Fitting.{kinds_read_back}
+use Rattle.tg_law_store.proofs.AllKinds.Fitting.{kinds_read_back}
 use Rattle.tg_law_store.proofs.laws_of_kinds.kinds_read_back.Goals as goal
 
 pub returns : goal.returns

@@ -1,4 +1,4 @@
-use Rattle.tg_law_store.proofs.Kinds.Spelled.{kinds_read_ops}
+use Rattle.tg_law_store.proofs.AllKinds.Spelled.{kinds_read_ops}
 use Rattle.tg_law_store.proofs.laws_of_kinds.kinds_read_ops.Goals as goal
 
 pub returns : goal.returns

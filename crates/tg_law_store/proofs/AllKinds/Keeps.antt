@@ -15,8 +15,8 @@ use Rattle.tg_any.specs.declared.any.AnyOp.{AnyOp}
 use Rattle.tg_any.specs.declared.any.AnyOp.TheVariants as ops
 use Rattle.tg_any.specs.Anys.{is_op, first, applied, allowed, lists_object, marking}
 use Rattle.tg_any.specs.AnyLaws as laws
-use Rattle.tg_law_store.specs.Kinds.Kinds.{KindsKeepDirectory}
-use Rattle.tg_law_store.proofs.Kinds.Holds.{kinds_have_directory}
+use Rattle.tg_law_store.specs.AllKinds.Kinds.{KindsKeepDirectory}
+use Rattle.tg_law_store.proofs.AllKinds.Holds.{kinds_have_directory}
 
 none : {X : Type 0} → false ≡ true → X
 none z = absurd cc

@@ -17,8 +17,8 @@ use Rattle.tg_any.specs.declared.any.AnyOp.{AnyOp}
 use Rattle.tg_any.specs.declared.any.AnyOp.TheVariants as ops
 use Rattle.tg_any.specs.Anys.{is_op, first, applied, lists_object, floor_of, marking}
 use Rattle.tg_any.specs.AnyLaws as laws
-use Rattle.tg_law_store.specs.Kinds.Kinds.{KindsHaveDirectory, KindsAreStates, KindsBegin}
-use Rattle.tg_law_store.proofs.Kinds.Marks.{mark_in, first_marks, named_listed, named_marks, marked_listed, mark_changes, floor_stays, floor_rises}
+use Rattle.tg_law_store.specs.AllKinds.Kinds.{KindsHaveDirectory, KindsAreStates, KindsBegin}
+use Rattle.tg_law_store.proofs.AllKinds.Marks.{mark_in, first_marks, named_listed, named_marks, marked_listed, mark_changes, floor_stays, floor_rises}
 
 abbrev mark_of : AnyKind → Oid → ℕ
 mark_of (states.Directory s) o = mark_in s.entries o

@@ -6,7 +6,7 @@ use Rattle.tg_kind.specs.Of.{read_by}
 use Rattle.tg_any.specs.declared.any.AnyOp.{AnyOp}
 use Rattle.tg_any.specs.Anys as any
 use Rattle.tg_any.specs.AnyLaws.{reads_only}
-use Rattle.tg_law_store.specs.Kinds.Kinds.{KindsReadOps}
+use Rattle.tg_law_store.specs.AllKinds.Kinds.{KindsReadOps}
 
 some_op : (a b : AnyOp) → Some a ≡ Some b → a ≡ b
 some_op a b e = cc

@@ -39,8 +39,8 @@ use Rattle.tg_any.specs.declared.any.AnyOp.{AnyOp}
 use Rattle.tg_any.specs.declared.any.AnyOp.TheVariants as ops
 use Rattle.tg_law_walks.proofs.Drafts.Heads.{ok_is, shape, dep_front}
 use Rattle.tg_law_walks.proofs.Drafts.Ranges.{Reads, reads_dep, reads_shape, reads_many, u8_met, u16_met, u64_met}
-use Rattle.tg_law_store.specs.Kinds.Kinds.{KindsReadBack}
-use Rattle.tg_law_store.proofs.Kinds.Touching.{letter_small, path_small}
+use Rattle.tg_law_store.specs.AllKinds.Kinds.{KindsReadBack}
+use Rattle.tg_law_store.proofs.AllKinds.Touching.{letter_small, path_small}
 
 -- each value that a format reads has a spelling, whatever the bytes are
 abbrev FitsRead : {A : Type 0} → Codec A → Type 0

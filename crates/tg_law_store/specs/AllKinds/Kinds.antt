@@ -10,7 +10,7 @@ use Rattle.tg_dir.specs.Spellings.{is_number}
 use Rattle.tg_law_replies.specs.History.Loading.{AreStates}
 use Rattle.tg_law_replies.specs.History.Floors.{IsDirectory}
 use Rattle.tg_law_walks.specs.Drafts.Parts.{TouchParts}
-use Rattle.tg_law_store.specs.Kinds.Directories.{DirectoryLaws}
+use Rattle.tg_law_store.specs.AllKinds.Directories.{DirectoryLaws}
 
 -- the directory marks what has an object's number
 abbrev pub KindsHaveDirectory : Type 0
