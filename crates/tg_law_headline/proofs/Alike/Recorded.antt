@@ -37,7 +37,7 @@ use Rattle.tg_protocol.specs.Views.{Entries, View, Play, Verdict, Commits, Abort
 use Rattle.tg_protocol.specs.Checkpoints.{ForgetFault, NoCheckpoint, OpenDecision, may_forget}
 use Rattle.tg_protocol.specs.Past.{commit_at, PastTurn, PastView, PastGone, RescueTurn, Wider, Wide, Absent, StuckAt}
 use Rattle.tg_protocol.specs.Past as past
-use Rattle.tg_protocol.specs.Clients.{Purpose, Writes, Judged, Decides, Rescues, Saves, Marks, Task, Syncing, Walking, Appending, Trimming, Copying', Reconfiguring, Hand, Doing, Learning, Work, Client, all_entries, copy_fault, tx_number}
+use Rattle.tg_protocol.specs.Clients.{Purpose, Writes, Judged, Decides, Rescues, Saves, Marks, Task, Syncing, Walking, Appending, Trimming, Copying', Reconfiguring, Hand, Doing, Learning, Work, Client, tx_number}
 use Rattle.tg_protocol.specs.Answers.{Moved, note, replies, refuses, took_over, answers, closed, appends, syncs, walked, walked_for, plays_own, own_view, play_target, answer_by, with_view, on_ask, ask_in, ask_answer, aborted, end_decided, end_aborted, end_no, end_by, end_record, on_end, lacks_decision, with_decision, forgotten_or, fate_verdict, fate_record, fate_known, fate_blocked, blocks, on_fate, trim_above, decides_if, decide_verdict, decide_record, decide_blocked, on_decide, save_if, on_checkpoint, mark_record, mark_notes, decision, forget_by, on_forget, floor_of, trim_begun, trims_if, on_trim, past_answer, past_played, past_turn, ahead_or, on_ask_at, rescue_decision, rescue_known, absent, rescue_by}
 use Rattle.tg_protocol.specs.ClientSteps as step
 use Rattle.tg_protocol.specs.ClientSteps.{task_in, task_asks, task_awaited, after_turn, met, goes_on, lends, takes_back, found_by, start_walk, walks, sync_to, on_sync, stale, starts_over, gives_up, given_up_if, at_trim, walk_ended_by, walk_to, on_walk, owns, knows_page, page_known, decided_for, append_ended, append_to, on_append, trim_to, on_trims, copy_to, on_copy, stands, reconf_to, on_reconf, task_feed, copies_again, task_again, hosts_more, accepts, refused_or, new_work}
@@ -49,7 +49,7 @@ use Rattle.tg_law_layouts.proofs.Moves.Turns.{Begins, begins_walk}
 use Rattle.tg_law_replies.specs.Plays.Sound.{IsRising}
 use Rattle.tg_law_replies.specs.Views.Exact.{IsDecided}
 use Rattle.tg_law_replies.specs.Replies.Found.{mine}
-use Rattle.tg_law_replies.specs.Replies.Steps.{EachWalk, EachSync, EachOver, EachTrim, EachEnd, EachWalked, EachFeed, EachAgain, EachNewer, EachAwaited, EachHand, EachLatest, EachReply, EachDelivery}
+use Rattle.tg_law_replies.specs.Replies.Steps.{EachWalk, EachSync, EachOver, EachTrim, EachEnd, EachWalked, EachFeed, EachNewer, EachAwaited, EachHand, EachLatest, EachReply, EachDelivery}
 use Rattle.tg_law_replies.specs.Replies.Ended.{end_of, task_ends, again_ends, awaited_ends, hand_ends, latest_ends, reply_ends, work_ends, EndsSo}
 use Rattle.tg_law_replies.proofs.History.Members.{has_contained, contained_has}
 use Rattle.tg_law_replies.proofs.History.Ledger.{one_entry}
@@ -79,15 +79,15 @@ blind_needs e none = by (length (reads_of e) == 0) (ap (λ (rs : List ReadMark).
     by true k = refl
     by false k = absurd cc
 
--- What is so of the entries of a log, and of what a client got, of which node and with which number, since its command began with
--- this number. Of some transactions it was told that they did nothing.
+-- Of the entries of a log; of what a client got, of which node and with which number; and of its transactions that have put
+-- nothing, whose commit has no record. Its command began with this number.
 module _ (m : Meaning) (objects : List Oid) (es : Entries) (rising : IsRising es) (Got : NodeId → ℕ → Msg → Type 0) (Idle : ℕ → Type 0) (lo : ℕ) where
-  -- from a number on, an append met the log's end, or a trim
+  -- an append met the log's end, or a trim, told with numbers from this one on
   pub data Met (b : ℕ) : Type 0 where
     MetFull : (limit : ℕ) → FullTold Got b limit → Met b
     MetGone : (p below : ℕ) → GoneTold Got b p below → Met b
 
-  -- and this since the position of a record was issued
+  -- after the position of a record was issued
   pub record MetSince (p : ℕ) : Type 0 where
     pub since : ℕ
     pub issued : Issued Got lo since p
@@ -108,7 +108,7 @@ module _ (m : Meaning) (objects : List Oid) (es : Entries) (rising : IsRising es
   abbrev pub EachSays : List (NoteOf m) → Type 0
   EachSays ns = (n : NoteOf m) → Has ns n → Say n.tx n.what
 
-  -- what is told of no such record
+  -- what tells of no such record
   abbrev pub Free : WhatOf m → Type 0
   Free (told.Committed p) = ⊥
   Free (told.Aborted p o k seen now) = ⊥
@@ -127,7 +127,7 @@ module _ (m : Meaning) (objects : List Oid) (es : Entries) (rising : IsRising es
     pub is_yes : Bool
     pub is : d.body ≡ Decision p is_yes
 
-  -- of the decision record of a client's own record, since the position of that was issued
+  -- the append of the decision record of a client's own record, from a number on past that with which its position was issued
   pub record AfterRecord (next : ℕ) (a : Append) (p : ℕ) : Type 0 where
     pub since : ℕ
     pub issued : Issued Got lo since p
@@ -149,7 +149,7 @@ module _ (m : Meaning) (objects : List Oid) (es : Entries) (rising : IsRising es
   Fits next a (Saves o u) = Unit {0}
   Fits next a (Marks x o j) = reads_of a.draft ≡ []
 
-  -- the position of the record that the command ended was issued
+  -- the position of the record that the command appended was issued, and all that is asked now has a later number
   pub record Since (next at : ℕ) : Type 0 where
     pub since : ℕ
     pub issued : Issued Got lo since at
@@ -174,7 +174,7 @@ module _ (m : Meaning) (objects : List Oid) (es : Entries) (rising : IsRising es
 
   -- With a later number, and with an append that goes on.
 
-  -- what is told of an append from any number on
+  -- from whatever number on its answers were told, an append goes on as another
   abbrev Goes' : ℕ → ℕ → Append → Append → Type 0
   Goes' next later a b = (s : ℕ) → s ≤ next → AppendOk Got s next a → (next ≤ later) × AppendOk Got s later b
 
@@ -547,7 +547,7 @@ module _ (m : Meaning) (objects : List Oid) (es : Entries) (rising : IsRising es
 
   -- Appends.
 
-  -- what is told of an append that ends, from any number on
+  -- likewise one that ends
   abbrev Ends' : ℕ → ℕ → Append → AppendEnd → Type 0
   Ends' next end a e = (s : ℕ) → s ≤ next → AppendOk Got s next a → EndOk Got s end e
 
@@ -591,7 +591,7 @@ module _ (m : Meaning) (objects : List Oid) (es : Entries) (rising : IsRising es
   since_at next at cmd.End i = record { since = next; issued = i; le = omega arith }
   since_at next at x i = tt
 
-  -- the next number, where the append began its turn
+  -- the first number is the next one before the turn
   ended_good : (next : ℕ) (c : Client m) (w : Work m) (y : Purpose m) (a : Append) (e : AppendEnd) → lo ≤ next → Fits next a y → Ends' next c.next a e → EndsSo m es a.draft e → Good (append_ended m c w y e)
   ended_good next c w Writes a (At p d) l k ends so = replied (closed m (owns m c p d)) _ (one_says _ (inr (blind_say a.draft p d k so)))
   ended_good next c w Writes a (Full i) l k ends so = refused c _ _
@@ -728,7 +728,7 @@ module _ (m : Meaning) (objects : List Oid) (es : Entries) (rising : IsRising es
 
   -- Commands.
 
-  -- that an end of what has put nothing is told so
+  -- an end without writes is of a transaction that has put nothing
   abbrev pub EndsIdle : Client m → CommandOf m → Type 0
   EndsIdle c cmd.End = (t : Tx) → c.tx ≡ Some t → (length t.writes == 0) ≡ true → Idle t.number
   EndsIdle c x = Unit {0}

@@ -1,19 +1,16 @@
 -- Along a run: a record that a reply tells decided has its decision record, or what its client was told since says why there is
 -- none.
-use Rattle.std.proofs.Common.{◌≡◌, ◌⊎◌, ℕ, suc, ◌+◌, ◌<◌, ◌≤◌, List, [], ◌∷◌, ◌++◌, map, length, Bool, true, refl, sym, ap, ◌∙◌, subst, inl, inr, arith, Option, Some, None, Contains}
-use Rattle.std.specs.Prelude.{◌==◌, slice_get}
+use Rattle.std.proofs.Common.{◌≡◌, ◌⊎◌, ℕ, suc, ◌+◌, ◌≤◌, List, [], ◌∷◌, ◌++◌, map, length, Bool, true, refl, sym, ap, ◌∙◌, subst, inl, inr, arith, Option, Some, None, Contains}
+use Rattle.std.specs.Prelude.{◌==◌}
 use Rattle.tg_base.specs.Clusters.{Header}
 use Rattle.tg_base.specs.declared.ids.NodeId.{NodeId}
 use Rattle.tg_base.specs.declared.ids.Oid.{Oid}
-use Rattle.tg_base.specs.declared.ids.Role.TheVariants as role
-use Rattle.tg_base.specs.declared.marks.Part.{Part}
 use Rattle.tg_base.specs.declared.msg.Msg.{Msg}
 use Rattle.tg_base.specs.declared.msg.Msg.TheVariants as msg
 use Rattle.tg_base.specs.declared.packet.Out.{Out}
 use Rattle.tg_base.specs.declared.packet.Packet.{Packet}
 use Rattle.tg_entry.specs.declared.entry.Entry.{Entry}
 use Rattle.tg_entry.specs.declared.entry.WriteOp.{WriteOp}
-use Rattle.tg_entry.specs.Needs.{needs_decision}
 use Rattle.tg_kind.specs.Meaning.{Meaning}
 use Rattle.tg_model.specs.declared.command.Command.TheVariants as cmd
 use Rattle.tg_model.specs.declared.command.Event.TheVariants.{Deliver}
@@ -22,7 +19,6 @@ use Rattle.tg_model.specs.declared.trace.What.TheVariants as told
 use Rattle.tg_model.specs.Kinds.{CommandOf, EventOf, MarkOf, NoteOf, WhatOf}
 use Rattle.tg_model.specs.Traces.{Trace, puts_of}
 use Rattle.tg_protocol.specs.Words.{client_id, numbers}
-use Rattle.tg_protocol.specs.Appending.{Append, AppendEnd}
 use Rattle.tg_protocol.specs.Replies.{reply}
 use Rattle.tg_protocol.specs.Views.{Entries, View}
 use Rattle.tg_protocol.specs.Transactions.{Tx}
@@ -30,10 +26,10 @@ use Rattle.tg_protocol.specs.Clients.{Task, Hand, Doing, Work, Client, new_clien
 use Rattle.tg_protocol.specs.Answers.{note}
 use Rattle.tg_protocol.specs.ClientSteps as step
 use Rattle.tg_protocol.specs.ClientSteps.{ClientTurn, task_in, task_awaited, snapshot_or, end_by, accepts, refused_or, given, client_command, client_deliver, client_tick, tick_by}
-use Rattle.tg_protocol.specs.Worlds.{CommandStart, World, Told, start, client, noted_of, happens, runs, trace}
+use Rattle.tg_protocol.specs.Worlds.{CommandStart, World, Told, start, client, noted_of, happens, trace}
 use Rattle.tg_protocol.specs.Runs.{Moves, Next, Takes, Reaches, run}
 use Rattle.tg_protocol.specs.Holding.{append_by, RecordsOwn}
-use Rattle.tg_protocol.specs.Alike.{SentTo, SentNow, HasEntry, HasDecision, MetEnd, MetTrim, Recorded, MetEndNow, MetTrimNow, RecordedNow}
+use Rattle.tg_protocol.specs.Alike.{SentTo, SentNow, HasDecision, MetEnd, MetTrim, Recorded, MetEndNow, MetTrimNow, RecordedNow}
 use Rattle.tg_law_layouts.specs.Moves.After.{after}
 use Rattle.tg_law_layouts.specs.Moves.Configs.{config}
 use Rattle.tg_law_layouts.proofs.Moves.Lists.{contained, at_map, at_replicate}
@@ -46,7 +42,7 @@ use Rattle.tg_law_layouts.proofs.Layouts.Layouts.{stays_sent}
 use Rattle.tg_law_replies.specs.Plays.Sound.{IsRising}
 use Rattle.tg_law_replies.specs.History.Worlds.{entries_in}
 use Rattle.tg_law_replies.specs.Views.Exact.{IsDecided}
-use Rattle.tg_law_replies.specs.Replies.Ended.{AppendsEnd, EndsSo, work_ends, ended_in}
+use Rattle.tg_law_replies.specs.Replies.Ended.{AppendsEnd, work_ends, ended_in}
 use Rattle.tg_law_replies.specs.Replies.Found.{HasFound, FindsFor, Finds, mine}
 use Rattle.tg_law_replies.specs.Replies.Laws.{ClientsFind}
 use Rattle.tg_law_replies.specs.Replies.Steps.{EachEvent, EachDelivery}
@@ -64,8 +60,7 @@ use Rattle.tg_law_replies.proofs.Replies.Turns.{LandsBy}
 use Rattle.tg_law_walks.proofs.Once.Owning.{records_own}
 use Rattle.tg_law_syncs.proofs.Follow.Shut.{Shut, Adds, adds_run}
 use Rattle.tg_law_headline.specs.Alike.Rows.{DecisionsRecorded, AbortsRecorded, CommitsRecorded, DecisionsRecordedByRuns, AbortsRecordedByRuns, CommitsRecordedByRuns}
-use Rattle.tg_law_headline.proofs.Alike.Appends.{Issued, FullTold, GoneTold}
-use Rattle.tg_law_headline.proofs.Alike.Recorded.{Met, MetFull, MetGone, MetSince, DecideSaid, EndSaid, Say, EachSays, Held, WorkHeld, work_on, SeesFor, Sees, BelowIn, feed_good, EndsIdle, command_good}
+use Rattle.tg_law_headline.proofs.Alike.Recorded.{Met, MetFull, MetGone, MetSince, EndSaid, Say, EachSays, Held, WorkHeld, work_on, SeesFor, Sees, BelowIn, feed_good, EndsIdle, command_good}
 use Rattle.tg_law_headline.proofs.Alike.Speaks.{Noted, Before, Anew, Speaks, Silent, Speaks', Turns, Delivered, From, told_of, speaks}
 
 module _ (m : Meaning) where
