@@ -8,4 +8,6 @@ pub mod Since
 pub mod Speaks
 pub mod Marks
 pub mod Along
+pub mod Recorded
+pub mod Recording
 pub mod Told

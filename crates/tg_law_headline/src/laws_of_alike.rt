@@ -3,7 +3,7 @@
 //! Proved for every lawful header and every run of lawful events.
 
 ghost use Rattle.tg_kind.specs.Of.{meaning_of};
-ghost use Rattle.tg_law_headline.specs.Alike.Rows.{AbortsAgreeByRuns, AlikeRowsByRuns, CommitsAgreeByRuns, CopiesAgree, InstallsAgree, MarksAgreeByRuns, OvertakesAgree, SavesAgreeByRuns, UnsureAgreeByRuns};
+ghost use Rattle.tg_law_headline.specs.Alike.Rows.{AbortsAgreeByRuns, AbortsRecordedByRuns, AlikeRowsByRuns, CommitsAgreeByRuns, CommitsRecordedByRuns, CopiesAgree, DecisionsRecordedByRuns, InstallsAgree, MarksAgreeByRuns, OvertakesAgree, SavesAgreeByRuns, UnsureAgreeByRuns};
 ghost use Rattle.tg_protocol.specs.Runs.{Always};
 
 use tg_kind::Registry;
@@ -49,6 +49,23 @@ pub fn saves_agree<K: Registry>()
 /// In a legal run a mark is told right after the commit of a transaction that is in the history, and marks the object there.
 pub fn marks_agree<K: Registry>()
     ensures { MarksAgreeByRuns (meaning_of K.Registry) }
+{}
+
+/// A record that needs a decision record, and that a client was told it has decided, has one; or the log was told full since its
+/// command began, or a further position issued and then gone.
+pub fn decisions_recorded<K: Registry>()
+    ensures { DecisionsRecordedByRuns (meaning_of K.Registry) }
+{}
+
+/// So has one that was told aborted; or the log was told full after its position was issued, or a further position issued and then
+/// gone.
+pub fn aborts_recorded<K: Registry>()
+    ensures { AbortsRecordedByRuns (meaning_of K.Registry) }
+{}
+
+/// So has one that was told committed.
+pub fn commits_recorded<K: Registry>()
+    ensures { CommitsRecordedByRuns (meaning_of K.Registry) }
 {}
 
 /// All of these together.

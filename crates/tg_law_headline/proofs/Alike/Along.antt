@@ -11,7 +11,7 @@ use Rattle.tg_base.specs.declared.packet.Out.{Out}
 use Rattle.tg_base.specs.declared.packet.Packet.{Packet}
 use Rattle.tg_kind.specs.Meaning.{Meaning}
 use Rattle.tg_model.specs.declared.trace.What.TheVariants as told
-use Rattle.tg_model.specs.Kinds.{WhatOf, NoteOf}
+use Rattle.tg_model.specs.Kinds.{EventOf, WhatOf, NoteOf}
 use Rattle.tg_model.specs.Traces.{Trace, Tells}
 use Rattle.tg_protocol.specs.Words.{unit_id, client_id, numbers, directory}
 use Rattle.tg_protocol.specs.Layouts.{first_layout}
@@ -236,13 +236,13 @@ module _ (m : Meaning) (h : Header) (ms : Moves m) (r : Reaches m h ms (after m 
       held = subst (WorkHeld m (Got n) (AskSent n) s.next s.epoch n Known (client m w n).next) (sym idle) tt;
     }
 
-    stepped : (v : World m) → Speaks m w v → State w → State v
-    stepped v (Silent t c nn) st = record {
+    stepped : (e : EventOf m) (v : World m) → Speaks m w e v → State w → State v
+    stepped e v (Silent t c nn) st = record {
       clients = λ k. subst (λ (z : CommandStart). Kept z k (client m v k)) (sym (nn k)) (subst (λ (z : Client m). Kept (noted_of m w k) k z) (sym (c k)) (st.clients k));
       told = λ x i. st.told x (subst (λ (xs : List (Told m)). Has xs x) t i);
       marks = subst (MarksTold m (trace m end)) (sym t) st.marks;
     }
-    stepped v (Speaks' n t s i noted x f) st = record {
+    stepped e v (Speaks' n t s i noted x f d) st = record {
       clients = λ k. by k (f k);
       told = λ y j. tells y (has_either w.told (map (told_of m w n s) t.notes) y (subst (λ (zs : List (Told m)). Has zs y) x j));
       marks = subst (MarksTold m (trace m end)) (sym x) (more_marked m (trace m end) w.told (map (told_of m w n s) t.notes) st.marks (marks_of t.notes refl (turn_good n s kept t i).1));
@@ -297,7 +297,7 @@ module _ (m : Meaning) (h : Header) (ms : Moves m) (r : Reaches m h ms (after m 
   state_on (Next ∷ zs) done e st = state_on zs (done ++ Next ∷ []) (e ∙ sym (regroup done (Next ∷ []) zs))
       (subst State (sym (run_both m done (Next ∷ []) (start m h))) (record { clients = st.clients; told = st.told; marks = st.marks }))
   state_on (Takes x ∷ zs) done e st = state_on zs (done ++ Takes x ∷ []) (e ∙ sym (regroup done (Takes x ∷ []) zs))
-      (subst State (sym (run_both m done (Takes x ∷ []) (start m h))) (stepped done (Takes x ∷ zs) e (happens m (after m h done) x) (speaks m (after m h done) x) st))
+      (subst State (sym (run_both m done (Takes x ∷ []) (start m h))) (stepped done (Takes x ∷ zs) e x (happens m (after m h done) x) (speaks m (after m h done) x) st))
 
   end_state : State end
   unfolding run

@@ -33,6 +33,7 @@ use Rattle.tg_law_headline.proofs.Alike.Reconfs.{TailOf, LatestPast, InstallTold
 use Rattle.tg_law_headline.proofs.Alike.Since.{SayOk, CopyTold, SaveTold}
 use Rattle.tg_law_headline.proofs.Alike.Along.{Got, AskSent, Known, IsMark, all_say, all_marked}
 use Rattle.tg_law_headline.proofs.Alike.Marks.{MarkTold}
+use Rattle.tg_law_headline.proofs.Alike.Recording.{decisions_recorded, aborts_recorded, commits_recorded}
 use Rattle.tg_law_headline.proofs.Alike.Records.{has_mark, some_put, has_some, aborts_agree, unsure_agree, commits_agree}
 
 module _ (m : Meaning) (h : Header) (ms : Moves m) (r : Reaches m h ms (after m h ms)) where
@@ -193,7 +194,7 @@ module _ (m : Meaning) where
       at_end = subst (Reaches m h ms) r.goes.is r
 
   pub alike_rows : AlikeRowsByRuns m
-  alike_rows h ms w r trims ends out legal = record {
+  alike_rows h ms w r trims finds ends out legal = record {
     aborts = aborts_agree m h ms w r trims ends out;
     unsure = unsure_agree m h ms w r trims ends out;
     commits = commits_agree m h ms w r trims ends out;
@@ -202,4 +203,7 @@ module _ (m : Meaning) where
     copies = copies_agree h ms w r;
     saves = saves_agree h ms w r ends;
     marks = marks_agree h ms w r legal;
+    decisions_recorded = decisions_recorded m h ms w r finds ends;
+    aborts_recorded = aborts_recorded m h ms w r finds ends;
+    commits_recorded = commits_recorded m h ms w r trims finds ends;
   }

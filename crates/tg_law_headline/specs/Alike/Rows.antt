@@ -1,8 +1,10 @@
 -- What replies tell, row by row of `Alike` (tg_protocol).
-use Rattle.std.specs.Prelude.{◌≡◌, ℕ, true, List, ◌∷◌, ◌++◌, Contains}
+use Rattle.std.specs.Prelude.{◌≡◌, ℕ, Bool, true, List, ◌∷◌, ◌++◌, Some, Contains}
 use Rattle.tg_base.specs.Clusters.{Header}
 use Rattle.tg_base.specs.declared.ids.Oid.{Oid}
 use Rattle.tg_base.specs.declared.marks.Part.{Part}
+use Rattle.tg_entry.specs.declared.entry.Entry.{Entry}
+use Rattle.tg_entry.specs.Needs.{needs_decision}
 use Rattle.tg_kind.specs.Meaning.{Meaning}
 use Rattle.tg_model.specs.declared.refusal.Refusal.TheVariants as cause
 use Rattle.tg_model.specs.declared.trace.What.TheVariants as told
@@ -10,9 +12,10 @@ use Rattle.tg_model.specs.Legal.{Legal}
 use Rattle.tg_protocol.specs.Logs.{outcome}
 use Rattle.tg_protocol.specs.Worlds.{World, Told, log, history, trace}
 use Rattle.tg_protocol.specs.Runs.{Moves, Reaches}
-use Rattle.tg_protocol.specs.Alike.{HasRecord, LogAgrees, OfTx, SavedAt, CopiedBy, MarkedBy, InstalledBy, OvertakenBy}
+use Rattle.tg_protocol.specs.Alike.{HasEntry, HasRecord, LogAgrees, OfTx, SavedAt, CopiedBy, MarkedBy, InstalledBy, OvertakenBy, Recorded, RecordedNow}
 use Rattle.tg_law_walks.specs.Lists.Spared.{TrimsWereSpare}
 use Rattle.tg_law_replies.specs.Replies.Ended.{AppendsEnd}
+use Rattle.tg_law_replies.specs.Replies.Laws.{ClientsFind}
 use Rattle.tg_law_replies.specs.Replies.Outcomes.{TellsOutcomes}
 
 module _ (m : Meaning) where
@@ -70,6 +73,34 @@ module _ (m : Meaning) where
   abbrev pub MarksAgreeByRuns : Type 0
   MarksAgreeByRuns = (h : Header) (ms : Moves m) (w : World m) → Reaches m h ms w → Legal m w.cluster.objects (history m w) (trace m w) → MarksAgree w
 
+  -- A record that needs a decision record, and that a reply tells decided, committed or aborted, has one, or the append of it met
+  -- the log's end or a trim.
+
+  abbrev pub DecisionsRecorded : World m → Type 0
+  DecisionsRecorded w = (t : Told m) (p : ℕ) (b : Bool) (e : Entry) → Contains w.told t → t.mark.what ≡ told.Decided p (Some b) → HasEntry m w p e → needs_decision e ≡ true → RecordedNow m w t p
+
+  abbrev pub AbortsRecorded : World m → Type 0
+  AbortsRecorded w = (t : Told m) (p : ℕ) (o : Oid) (k : Part) (seen now : ℕ) (e : Entry) → Contains w.told t → t.mark.what ≡ told.Aborted p o k seen now →
+      HasEntry m w p e → needs_decision e ≡ true → Recorded m w t.mark.client p
+
+  abbrev pub CommitsRecorded : World m → Type 0
+  CommitsRecorded w = (t : Told m) (p : ℕ) (e : Entry) → Contains w.told t → t.mark.what ≡ told.Committed p → HasRecord m w p t.mark.client t.mark.tx →
+      HasEntry m w p e → needs_decision e ≡ true → Recorded m w t.mark.client p
+
+  -- What holds of every run in which clients find what they need of the log, and an append that ends stands where it says.
+  abbrev pub ByRunsThatFind : (World m → Type 0) → Type 0
+  ByRunsThatFind P = (h : Header) (ms : Moves m) (w : World m) → Reaches m h ms w → ClientsFind m h ms w → AppendsEnd m h ms w → P w
+
+  abbrev pub DecisionsRecordedByRuns : Type 0
+  DecisionsRecordedByRuns = ByRunsThatFind DecisionsRecorded
+
+  abbrev pub AbortsRecordedByRuns : Type 0
+  AbortsRecordedByRuns = ByRunsThatFind AbortsRecorded
+
+  -- and trims were spare
+  abbrev pub CommitsRecordedByRuns : Type 0
+  CommitsRecordedByRuns = (h : Header) (ms : Moves m) (w : World m) → Reaches m h ms w → TrimsWereSpare m h ms → ClientsFind m h ms w → AppendsEnd m h ms w → CommitsRecorded w
+
   -- the rows of `Alike` that are had here
   pub record AlikeRows (w : World m) : Type 0 where
     pub aborts : AbortsAgree w
@@ -80,6 +111,11 @@ module _ (m : Meaning) where
     pub copies : CopiesAgree w
     pub saves : SavesAgree w
     pub marks : MarksAgree w
+    pub decisions_recorded : DecisionsRecorded w
+    pub aborts_recorded : AbortsRecorded w
+    pub commits_recorded : CommitsRecorded w
 
+  -- in every legal run of which all of that is had
   abbrev pub AlikeRowsByRuns : Type 0
-  AlikeRowsByRuns = ByRunsOfOutcomes (λ w. Legal m w.cluster.objects (history m w) (trace m w) → AlikeRows w)
+  AlikeRowsByRuns = (h : Header) (ms : Moves m) (w : World m) → Reaches m h ms w → TrimsWereSpare m h ms → ClientsFind m h ms w → AppendsEnd m h ms w → TellsOutcomes m w →
+      Legal m w.cluster.objects (history m w) (trace m w) → AlikeRows w
