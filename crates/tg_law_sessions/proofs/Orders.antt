@@ -222,10 +222,10 @@ module _ (m : Meaning) where
       go (x ∷ xs) true is = rw is (ap (λ (ys : List (Said m)). said_by m k x ∷ ys) (go xs true is))
       go (x ∷ xs) false is = rw is (go xs false is)
 
-  own_first : (n : NodeId) (s : Step m) (rest : List (Step m)) → node_eq n s.node ≡ true → session m n (s ∷ rest) ≡ s.input ∷ session m n rest
+  pub own_first : (n : NodeId) (s : Step m) (rest : List (Step m)) → node_eq n s.node ≡ true → session m n (s ∷ rest) ≡ s.input ∷ session m n rest
   own_first n s rest is = rw is refl
 
-  other_first : (n : NodeId) (s : Step m) (rest : List (Step m)) → node_eq n s.node ≡ false → session m n (s ∷ rest) ≡ session m n rest
+  pub other_first : (n : NodeId) (s : Step m) (rest : List (Step m)) → node_eq n s.node ≡ false → session m n (s ∷ rest) ≡ session m n rest
   other_first n s rest is = rw is refl
 
   own_gathered : {X : Type 0} (from : X → NodeId) (f : NodeId → NodeTurn m → List X) → Tells from f → (h : Header) (n : NodeId) (rest before : List (Step m))

@@ -2,6 +2,7 @@
 
 ghost use Rattle.tg_kind.specs.Of.{meaning_of};
 ghost use Rattle.tg_law_sessions.specs.Sessions.{SessionsMakeARun};
+ghost use Rattle.tg_law_sessions.specs.Holding.{SessionsReach, StoreSessionsHold};
 ghost use Rattle.tg_law_sessions.specs.Whole.{SessionIsNode};
 
 use tg_kind::Registry;
@@ -13,6 +14,18 @@ use tg_kind::Registry;
 /// the packets and the replies of that node, is what its session gives by itself.
 pub fn sessions_make_a_run<K: Registry>()
     ensures { SessionsMakeARun (meaning_of K.Registry) }
+{}
+
+/// Where the header keeps its rules, the commands are lawful and each session has 200,000 steps at most, that world is one to
+/// which a run of lawful events comes: a header declares 119 nodes at most, so all sessions have together no more steps than a
+/// run may.
+pub fn sessions_reach<K: Registry>()
+    ensures { SessionsReach (meaning_of K.Registry) }
+{}
+
+/// So in the store what is told there holds, as in the world of each run.
+pub fn store_sessions_hold()
+    ensures { StoreSessionsHold }
 {}
 
 /// What one node does over a text is a session of its own: its state, the packets that it sends and its replies are

@@ -137,10 +137,11 @@ is_begun = record {
 }
 
 makes_a_run : MakesARun all_kinds cluster one_begins in_order
-makes_a_run = record { events = events; follows = (refl, tt); shows = shows; keeps = keeps; reaches = reaches; holds = begun_holds all_kinds begun is_begun }
+makes_a_run = record { events = events; follows = (refl, tt); shows = shows; keeps = keeps; reaches = reaches }
 
 pub hold : Hold cluster one_begins in_order
-hold = record { header = header; lawful = lawful; kept = kept; order = ordered; run = makes_a_run }
+unfolding makes_a_run
+hold = record { header = header; lawful = lawful; kept = kept; order = ordered; run = record { made = makes_a_run; holds = begun_holds all_kinds begun is_begun } }
 
 -- Others make none.
 

@@ -6,11 +6,12 @@ use Rattle.tg_base.specs.declared.msg.Msg.TheVariants as msg
 use Rattle.tg_model.specs.declared.command.Command.TheVariants as cmd
 use Rattle.tg_base.specs.Orders.{node_eq}
 use Rattle.tg_protocol.specs.Words.{client_id, unit_id}
+use Rattle.tg_protocol.specs.Headline.{Holds}
 use Rattle.tg_node_state.specs.Nodes.{InputOf}
 use Rattle.tg_node_state.specs.declared.input.Input.TheVariants as input
 use Rattle.tg_any.specs.AllKinds.{all_kinds}
 use Rattle.tg_law_sessions.specs.Sessions.{Step, session, IsOrder}
-use Rattle.tg_law_sessions.specs.Holding.{AreSessions, MakesARun}
+use Rattle.tg_law_sessions.specs.Holding.{AreSessions, MakesARunWhere}
 
 abbrev pub Steps : Type 0
 Steps = List (Step all_kinds)
@@ -24,7 +25,7 @@ pub record Hold (h : Header) (sessions : Sessions) (steps : Steps) : Type 0 wher
   pub lawful : AreSessions all_kinds sessions
   pub kept : (n : NodeId) → session all_kinds n steps ≡ sessions n
   pub order : IsOrder all_kinds h steps
-  pub run : MakesARun all_kinds h sessions steps
+  pub run : MakesARunWhere all_kinds (Holds all_kinds) h sessions steps
 
 abbrev pub begins : InputOf all_kinds
 begins = input.Command cmd.Begin
