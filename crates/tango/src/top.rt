@@ -30,6 +30,7 @@ ghost use Rattle.tg_audit_run.specs.Verdicts.{judged, status_of};
 ghost use Rattle.tg_audit_run.specs.Outcomes as verdicts;
 ghost use Rattle.tg_audit_run.specs.Outcomes.{IsToldOf, IsRefused, IsSilent, IsOfJudge};
 ghost use Rattle.tg_law_scripts.specs.Headline.Headline.{ScriptHolds};
+ghost use Rattle.tg_law_sessions.specs.Nodes.{NodesHold};
 ghost use Rattle.tango.specs.Forms.{is_over_link, is_reading};
 ghost use Rattle.tango.specs.Holding.{LimitedTruly, LiveLimitedTruly, LiveRefusedTruly, LivedTruly, RefusedTruly, ReplayedTruly};
 ghost use Rattle.tango.specs.Lawful.{IsLegalText, IsIllegalText};
@@ -42,6 +43,7 @@ use tg_base::NoMemory;
 use tg_bench::bench;
 use tg_io::{Link, Sink, Source, Status};
 use tg_law_scripts::laws_of_headline::{lives_hold, scripts_hold};
+use tg_law_sessions::nodes_hold;
 use tg_law_verdicts::verdicts_are_true;
 use tg_live::run;
 use tg_node::node;
@@ -137,6 +139,9 @@ pub fn tango<S: Source, K: Sink, L: Link>(
         nodes.Told (S.left source.old) (λ text. (line : ℕ) → nodes.FirstOutside (lines text) id line → nodes.IsWithin text id (L.handed link.old) (L.handed link.new) → (result ≡ AtLine line) ⊎ (result ≡ OutOfMemory)) }
     ensures node_limits { (id : NodeId) → form_of (map string_bytes words.now) ≡ Some (Node id) → (Rose (S.faults source.old) (S.faults source.new) → ⊥) → (Rose (K.faults sink.old) (K.faults sink.new) → ⊥) → (Rose (L.faults link.old) (L.faults link.new) → ⊥) →
         nodes.Told (S.left source.old) (λ text. IfSome (L.handed link.old) (λ handed. (which : Which) → nodes.PassesLimit text id which (L.handed link.old) (L.handed link.new) → (result ≡ Limit which) ⊎ (result ≡ OutOfMemory))) }
+    // Nodes that each do what their texts and links tell, as these clauses say of one, make a run that holds, in each order of their
+    // steps that keeps each node's own and in which a packet is sent before it is taken.
+    ensures nodes_truly { (id : NodeId) → form_of (map string_bytes words.now) ≡ Some (Node id) → NodesHold }
     // A made load: its run is a replay's, and what is written is the summary of the world that it comes to, or of the steps before a limit.
     ensures load_done { (start count : ℕ) → form_of (map string_bytes words.now) ≡ Some (Bench start count) → result ≡ Done → IsWithin (load start count) × Takes (K.written sink.old) (summary (load start count)) (K.written sink.new) }
     ensures load_limit { (start count : ℕ) → form_of (map string_bytes words.now) ≡ Some (Bench start count) → (which : Which) → result ≡ Limit which → ((run_of (load start count)).stopped ≡ Some which) × Takes (K.written sink.old) (summary (load start count)) (K.written sink.new) }
@@ -182,7 +187,10 @@ pub fn tango<S: Source, K: Sink, L: Link>(
             lives_hold();
             run(alloc, source, sink, link)
         }
-        Ok(Some(Form::Node(id))) => node(alloc, id, source, sink, link),
+        Ok(Some(Form::Node(id))) => {
+            nodes_hold();
+            node(alloc, id, source, sink, link)
+        }
         Ok(Some(Form::Bench { start, count })) => {
             scripts_hold();
             bench(alloc, start, count, sink)

@@ -1,3 +1,4 @@
 pub mod Sessions
 pub mod Holding
 pub mod Whole
+pub mod Nodes

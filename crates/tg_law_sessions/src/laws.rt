@@ -3,6 +3,7 @@
 ghost use Rattle.tg_kind.specs.Of.{meaning_of};
 ghost use Rattle.tg_law_sessions.specs.Sessions.{SessionsMakeARun};
 ghost use Rattle.tg_law_sessions.specs.Holding.{SessionsReach, StoreSessionsHold};
+ghost use Rattle.tg_law_sessions.specs.Nodes.{NodesHold};
 ghost use Rattle.tg_law_sessions.specs.Whole.{SessionIsNode};
 
 use tg_kind::Registry;
@@ -32,4 +33,9 @@ pub fn store_sessions_hold()
 /// those that the session of all its inputs gives by itself, line after line, and a reply's event says nothing more.
 pub fn sessions_are_nodes()
     ensures { SessionIsNode }
+{}
+
+/// So nodes that follow texts, each in a process of its own, make a run of the store that holds.
+pub fn nodes_hold()
+    ensures { NodesHold }
 {}

@@ -4,4 +4,6 @@
 
 mod laws;
 
-pub use laws::{sessions_are_nodes, sessions_make_a_run, sessions_reach, store_sessions_hold};
+pub use laws::{
+    nodes_hold, sessions_are_nodes, sessions_make_a_run, sessions_reach, store_sessions_hold,
+};
