@@ -4,8 +4,12 @@ pub mod Machines
 pub mod Refusals
 pub mod Bounds
 pub mod Reconfs
+pub mod Trims
 pub mod Since
+pub mod Ends
 pub mod Speaks
 pub mod Marks
 pub mod Along
+pub mod Sights
+pub mod Trimmed
 pub mod Told

@@ -43,10 +43,17 @@ module _ (m : Meaning) where
   abbrev pub told_of : World m → ℕ → CommandStart → NoteOf m → Told m
   told_of w n s y = record { mark = record { event = w.event; client = n; tx = y.tx; what = y.what }; noted = s }
 
+  -- the event that brings a client a packet
+  abbrev pub Brings : (w : World m) → EventOf m → (n : ℕ) (t : ClientTurn m) → ClientInput m (config m w) n t → Type 0
+  Brings w e n t (Commanded x) = Unit {0}
+  Brings w e n t (Hears' p comes) = (i : ℕ) × (e ≡ Deliver i) × (slice_get w.packets i ≡ Some p) × (p.to.role ≡ role.Client) × (runs m w p.to ≡ true)
+  Brings w e n t Ticks' = Unit {0}
+
   -- what a step makes of the clients, and of what is told and noted
-  pub data Speaks (w v : World m) : Type 0 where
-    Silent : v.told ≡ w.told → ((k : ℕ) → client m v k ≡ client m w k) → ((k : ℕ) → noted_of m v k ≡ noted_of m w k) → Speaks w v
-    Speaks' : (n : ℕ) (t : ClientTurn m) (s : CommandStart) → ClientInput m (config m w) n t → Noted w n s → v.told ≡ w.told ++ map (told_of w n s) t.notes → ((k : ℕ) → Turns w v n t s k) → Speaks w v
+  pub data Speaks (w : World m) (e : EventOf m) (v : World m) : Type 0 where
+    Silent : v.told ≡ w.told → ((k : ℕ) → client m v k ≡ client m w k) → ((k : ℕ) → noted_of m v k ≡ noted_of m w k) → Speaks w e v
+    Speaks' : (n : ℕ) (t : ClientTurn m) (s : CommandStart) → (i : ClientInput m (config m w) n t) → Brings w e n t i → Noted w n s → v.told ≡ w.told ++ map (told_of w n s) t.notes → ((k : ℕ) → Turns w v n t s k)
+        → Speaks w e v
 
   module _ (w : World m) where
     one : (n : ℕ) (x : Client m) → n < length w.clients → (k : ℕ) → ((k ≡ n) × (slice_index_or (slice_set w.clients n x) k (new_client m w.cluster k) ≡ x)) ⊎ ((k ≡ n → ⊥) × (slice_index_or (slice_set w.clients n x) k (new_client m w.cluster k) ≡ client m w k))
@@ -74,10 +81,10 @@ module _ (m : Meaning) where
         by (inl f) = Anew (none (client m w n).work e) f
         by (inr f) = Before f
 
-    commanded : (n : ℕ) (x : CommandOf m) (b : Bool) → is_some (client m w n).work ≡ b → n < length w.clients → Speaks w (client_turned m (noted_if m b w n (client m w n)) n (client_command m (client m w n) x))
+    commanded : (e : EventOf m) (n : ℕ) (x : CommandOf m) (b : Bool) → is_some (client m w n).work ≡ b → n < length w.clients → Speaks w e (client_turned m (noted_if m b w n (client m w n)) n (client_command m (client m w n) x))
     unfolding client_turned
-    commanded n x true e less = Speaks' n (client_command m (client m w n) x) (noted_of m w n) (Commanded x) (Before refl) refl (kept n (client_command m (client m w n) x) less)
-    commanded n x false e less = Speaks' n (client_command m (client m w n) x) (noted_of m u n) (Commanded x) (noted_now false n e) refl turned
+    commanded y n x true e less = Speaks' n (client_command m (client m w n) x) (noted_of m w n) (Commanded x) tt (Before refl) refl (kept n (client_command m (client m w n) x) less)
+    commanded y n x false e less = Speaks' n (client_command m (client m w n) x) (noted_of m u n) (Commanded x) tt (noted_now false n e) refl turned
       where
         u : World m
         u = noted_if m false w n (client m w n)
@@ -92,53 +99,53 @@ module _ (m : Meaning) where
             by (inl f) = inl (f.0, f.1, ap (noted_of m u) f.0)
             by (inr f) = inr (f.1, set_other w.noted n _ k _ f.0)
 
-    commands_speak : (n : ℕ) (x : CommandOf m) (b : Bool) → runs m w (client_id n) ≡ b → Speaks w (commands m b w n x)
-    commands_speak n x true on = commanded n x (is_some (client m w n).work) refl (declared m w (client_id n) refl on)
-    commands_speak n x false on = Silent refl (λ j. refl) (λ j. refl)
+    commands_speak : (e : EventOf m) (n : ℕ) (x : CommandOf m) (b : Bool) → runs m w (client_id n) ≡ b → Speaks w e (commands m b w n x)
+    commands_speak e n x true on = commanded e n x (is_some (client m w n).work) refl (declared m w (client_id n) refl on)
+    commands_speak e n x false on = Silent refl (λ j. refl) (λ j. refl)
 
     client_is : (a : NodeId) → a.role ≡ role.Client → a ≡ client_id a.num
     client_is a e = ap (λ (r : Role). record { role = r; num = a.num }) e
 
-    moves_speak : (i : ℕ) (p : Packet) (r : Role) → p.to.role ≡ r → slice_get w.packets i ≡ Some p → runs m w p.to ≡ true → Speaks w (moves m (handed m w i) p r)
+    moves_speak : (i : ℕ) (p : Packet) (r : Role) → p.to.role ≡ r → slice_get w.packets i ≡ Some p → runs m w p.to ≡ true → Speaks w (Deliver i) (moves m (handed m w i) p r)
     unfolding unit_moves layout_moves seqr_moves client_turned
     moves_speak i p role.Unit is got on = Silent refl (λ j. refl) (λ j. refl)
     moves_speak i p role.Layout is got on = Silent refl (λ j. refl) (λ j. refl)
     moves_speak i p role.Seqr is got on = Silent refl (λ j. refl) (λ j. refl)
     moves_speak i p role.Client is got on =
         let t = client_deliver m (client m w p.to.num) p.from p.rid p.msg in
-        Speaks' p.to.num t (noted_of m w p.to.num) (Hears' p (record { sent = has_got w.packets i p got; to_node = client_is p.to is })) (Before refl) refl (kept p.to.num t (declared m w p.to is on))
+        Speaks' p.to.num t (noted_of m w p.to.num) (Hears' p (record { sent = has_got w.packets i p got; to_node = client_is p.to is })) (i, refl, got, is, on) (Before refl) refl (kept p.to.num t (declared m w p.to is on))
 
-    ticks_speak : (n : NodeId) (r : Role) → n.role ≡ r → runs m w n ≡ true → Speaks w (ticks m w n.num r)
+    ticks_speak : (n : NodeId) (r : Role) → n.role ≡ r → runs m w n ≡ true → Speaks w (Tick n) (ticks m w n.num r)
     unfolding client_turned
     ticks_speak n role.Unit is on = Silent refl (λ j. refl) (λ j. refl)
     ticks_speak n role.Layout is on = Silent refl (λ j. refl) (λ j. refl)
     ticks_speak n role.Seqr is on = Silent refl (λ j. refl) (λ j. refl)
-    ticks_speak n role.Client is on = Speaks' n.num (client_tick m (client m w n.num)) (noted_of m w n.num) Ticks' (Before refl) refl (kept n.num (client_tick m (client m w n.num)) (declared m w n is on))
+    ticks_speak n role.Client is on = Speaks' n.num (client_tick m (client m w n.num)) (noted_of m w n.num) Ticks' tt (Before refl) refl (kept n.num (client_tick m (client m w n.num)) (declared m w n is on))
 
-    counted_speaks : (v : World m) → Speaks w v → Speaks w (counted m v)
-    counted_speaks v (Silent t c n) = Silent t c n
-    counted_speaks v (Speaks' n t s i o x f) = Speaks' n t s i o x f
+    counted_speaks : (e : EventOf m) (v : World m) → Speaks w e v → Speaks w e (counted m v)
+    counted_speaks e v (Silent t c n) = Silent t c n
+    counted_speaks e v (Speaks' n t s i b o x f) = Speaks' n t s i b o x f
 
-    pub speaks : (e : EventOf m) → Speaks w (happens m w e)
+    pub speaks : (e : EventOf m) → Speaks w e (happens m w e)
     unfolding happens
-    speaks (Commands k x) = counted_speaks _ (commands_speak k x (runs m w (client_id k)) refl)
-    speaks (Deliver i) = counted_speaks _ (by (slice_get w.packets i) refl)
+    speaks (Commands k x) = counted_speaks (Commands k x) _ (commands_speak (Commands k x) k x (runs m w (client_id k)) refl)
+    speaks (Deliver i) = counted_speaks (Deliver i) _ (by (slice_get w.packets i) refl)
       where
-        comes_speak : (p : Packet) → slice_get w.packets i ≡ Some p → (b : Bool) → runs m w p.to ≡ b → Speaks w (comes m b (handed m w i) p)
+        comes_speak : (p : Packet) → slice_get w.packets i ≡ Some p → (b : Bool) → runs m w p.to ≡ b → Speaks w (Deliver i) (comes m b (handed m w i) p)
         comes_speak p is true on = moves_speak i p p.to.role refl is on
         comes_speak p is false on = Silent refl (λ j. refl) (λ j. refl)
 
-        by : (o : Option Packet) → slice_get w.packets i ≡ o → Speaks w (delivers m w i o)
+        by : (o : Option Packet) → slice_get w.packets i ≡ o → Speaks w (Deliver i) (delivers m w i o)
         by None is = Silent refl (λ j. refl) (λ j. refl)
         by (Some p) is = comes_speak p is (runs m w p.to) refl
     speaks (Lose i) = Silent refl (λ j. refl) (λ j. refl)
-    speaks (Tick n) = counted_speaks _ (by (runs m w n) refl)
+    speaks (Tick n) = counted_speaks (Tick n) _ (by (runs m w n) refl)
       where
-        by : (b : Bool) → runs m w n ≡ b → Speaks w (ticks_if m b w n)
+        by : (b : Bool) → runs m w n ≡ b → Speaks w (Tick n) (ticks_if m b w n)
         by true on = ticks_speak n n.role refl on
         by false on = Silent refl (λ j. refl) (λ j. refl)
-    speaks (Stop n) = counted_speaks _ (by (runs m w n))
+    speaks (Stop n) = counted_speaks (Stop n) _ (by (runs m w n))
       where
-        by : (b : Bool) → Speaks w (stops_if m b w n)
+        by : (b : Bool) → Speaks w (Stop n) (stops_if m b w n)
         by true = Silent refl (λ j. refl) (λ j. refl)
         by false = Silent refl (λ j. refl) (λ j. refl)

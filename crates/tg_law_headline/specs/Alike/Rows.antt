@@ -10,9 +10,10 @@ use Rattle.tg_model.specs.Legal.{Legal}
 use Rattle.tg_protocol.specs.Logs.{outcome}
 use Rattle.tg_protocol.specs.Worlds.{World, Told, log, history, trace}
 use Rattle.tg_protocol.specs.Runs.{Moves, Reaches}
-use Rattle.tg_protocol.specs.Alike.{HasRecord, LogAgrees, OfTx, SavedAt, CopiedBy, MarkedBy, InstalledBy, OvertakenBy}
+use Rattle.tg_protocol.specs.Alike.{HasRecord, LogAgrees, OfTx, SavedAt, TrimmedTo, CopiedBy, MarkedBy, InstalledBy, OvertakenBy}
 use Rattle.tg_law_walks.specs.Lists.Spared.{TrimsWereSpare}
 use Rattle.tg_law_replies.specs.Replies.Ended.{AppendsEnd}
+use Rattle.tg_law_replies.specs.Replies.Laws.{ClientsFind}
 use Rattle.tg_law_replies.specs.Replies.Outcomes.{TellsOutcomes}
 
 module _ (m : Meaning) where
@@ -70,6 +71,15 @@ module _ (m : Meaning) where
   abbrev pub MarksAgreeByRuns : Type 0
   MarksAgreeByRuns = (h : Header) (ms : Moves m) (w : World m) → Reaches m h ms w → Legal m w.cluster.objects (history m w) (trace m w) → MarksAgree w
 
+  -- What is told of a trim: a tail was told since its command began, below which the directory has this floor, and each unit of
+  -- a layout that was decided since has trimmed up to it.
+  abbrev pub TrimsAgree : World m → Type 0
+  TrimsAgree w = (t : Told m) (n : ℕ) → Contains w.told t → t.mark.what ≡ told.Trimmed n → TrimmedTo m w t n
+
+  -- where clients find what they need of the log, and an append that ends stands where it says
+  abbrev pub TrimsAgreeByRuns : Type 0
+  TrimsAgreeByRuns = (h : Header) (ms : Moves m) (w : World m) → Reaches m h ms w → ClientsFind m h ms w → AppendsEnd m h ms w → TrimsAgree w
+
   -- the rows of `Alike` that are had here
   pub record AlikeRows (w : World m) : Type 0 where
     pub aborts : AbortsAgree w
@@ -80,6 +90,8 @@ module _ (m : Meaning) where
     pub copies : CopiesAgree w
     pub saves : SavesAgree w
     pub marks : MarksAgree w
+    pub trims : TrimsAgree w
 
   abbrev pub AlikeRowsByRuns : Type 0
-  AlikeRowsByRuns = ByRunsOfOutcomes (λ w. Legal m w.cluster.objects (history m w) (trace m w) → AlikeRows w)
+  AlikeRowsByRuns = (h : Header) (ms : Moves m) (w : World m) → Reaches m h ms w → TrimsWereSpare m h ms → AppendsEnd m h ms w → TellsOutcomes m w →
+      Legal m w.cluster.objects (history m w) (trace m w) → ClientsFind m h ms w → AlikeRows w
