@@ -4,10 +4,14 @@ pub mod Machines
 pub mod Refusals
 pub mod Bounds
 pub mod Reconfs
+pub mod Trims
 pub mod Since
+pub mod Ends
 pub mod Speaks
 pub mod Marks
 pub mod Along
+pub mod Sights
+pub mod Trimmed
 pub mod Recorded
 pub mod Recording
 pub mod Told

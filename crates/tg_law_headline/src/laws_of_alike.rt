@@ -3,7 +3,7 @@
 //! Proved for every lawful header and every run of lawful events.
 
 ghost use Rattle.tg_kind.specs.Of.{meaning_of};
-ghost use Rattle.tg_law_headline.specs.Alike.Rows.{AbortsAgreeByRuns, AbortsRecordedByRuns, AlikeRowsByRuns, CommitsAgreeByRuns, CommitsRecordedByRuns, CopiesAgree, DecisionsRecordedByRuns, InstallsAgree, MarksAgreeByRuns, OvertakesAgree, SavesAgreeByRuns, UnsureAgreeByRuns};
+ghost use Rattle.tg_law_headline.specs.Alike.Rows.{AbortsAgreeByRuns, AbortsRecordedByRuns, AlikeRowsByRuns, CommitsAgreeByRuns, CommitsRecordedByRuns, CopiesAgree, DecisionsRecordedByRuns, InstallsAgree, MarksAgreeByRuns, OvertakesAgree, SavesAgreeByRuns, TrimsAgreeByRuns, UnsureAgreeByRuns};
 ghost use Rattle.tg_protocol.specs.Runs.{Always};
 
 use tg_kind::Registry;
@@ -49,6 +49,12 @@ pub fn saves_agree<K: Registry>()
 /// In a legal run a mark is told right after the commit of a transaction that is in the history, and marks the object there.
 pub fn marks_agree<K: Registry>()
     ensures { MarksAgreeByRuns (meaning_of K.Registry) }
+{}
+
+/// Of a trim that was told done, a tail was told since its command began, below which the whole history's directory has this
+/// floor; each unit of a layout that was decided for the epoch of its beginning, or a later one, has trimmed up to it.
+pub fn trims_agree<K: Registry>()
+    ensures { TrimsAgreeByRuns (meaning_of K.Registry) }
 {}
 
 /// A record that needs a decision record, and that a client was told it has decided, has one; or the log was told full since its

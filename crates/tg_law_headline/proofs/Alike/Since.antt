@@ -42,9 +42,11 @@ use Rattle.tg_law_layouts.proofs.Moves.Members.{Has}
 use Rattle.tg_law_layouts.proofs.Moves.Draws.{NextDraws}
 use Rattle.tg_law_layouts.proofs.Moves.Machines.{sync_draws, sync_start_draws, walk_draws, walk_again_draws}
 use Rattle.tg_law_layouts.proofs.Moves.Turns.{Begins, begins_walk}
+use Rattle.tg_law_replies.specs.Replies.Steps.{EachWalk, EachSync, EachOver, EachTrim, EachEnd, EachWalked, EachFeed, EachNewer, EachAwaited, EachHand, EachLatest, EachReply, EachDelivery}
 use Rattle.tg_law_headline.proofs.Alike.Appends.{is_whole, Asked, asked, Issued, AppendOk, NextOk, TurnOk, append_on, EndOk, feed_ok, again_ok}
 use Rattle.tg_law_headline.proofs.Alike.Machines.{TailTold, SyncOk, SyncNext, sync_ok, sync_start_ok, CopyOk, CopyNext, copy_fed, copy_start_ok}
 use Rattle.tg_law_headline.proofs.Alike.Refusals.{NotOvertaken, Fine, fine_copy}
+use Rattle.tg_law_headline.proofs.Alike.Trims.{TrimsOk, AllTold, TrimNext, trim_start_ok, trim_fed}
 use Rattle.tg_law_headline.proofs.Alike.Reconfs.{InstallTold, OvertakeTold, News, StartOk, ReconfNext, ReconfFits, reconf_ok, latest_ok, reconf_start_ok}
 
 -- a turn draws no number below its next
@@ -53,9 +55,17 @@ up_of asks old next bs end (Goes x) d = d.up
 up_of asks old next bs end (Learns x) d = d.0
 up_of asks old next bs end (Ends e) d = d
 
+-- how a client plays its own view, once its streams are walked
+abbrev pub own_play : (m : Meaning) → Client m → Work m → Play m
+own_play m c w = play m (own_view m c w (all_entries m c w c.hosted)) (all_entries m c w c.hosted) (play_target m w w.command)
+
+-- the floor that a client that trims sees then in its directory
+abbrev pub SeesFloor : (m : Meaning) → (ℕ → ℕ → Type 0) → Client m → Work m → Type 0
+SeesFloor m Floor c w = (t : ℕ) → w.command ≡ cmd.Trim → (own_play m c w).came ≡ Played t → Floor w.tail (floor_of m (state_of m (own_play m c w).view directory))
+
 -- What a client got, of which node and with which number, and what it has asked so. Its command began with this number, in this
--- epoch.
-module _ (m : Meaning) (Got AskSent : NodeId → ℕ → Msg → Type 0) (lo e0 me : ℕ) (Known : Layout → Type 0) where
+-- epoch. At a tail the directory has this floor. Walks are those of a log's entries.
+module _ (m : Meaning) (Got AskSent : NodeId → ℕ → Msg → Type 0) (lo e0 me : ℕ) (Known : Layout → Type 0) (Floor : ℕ → ℕ → Type 0) (objects : List Oid) (es : Entries) where
   -- a unit answered that it has a stripe
   pub record CopyTold (u r s : ℕ) : Type 0 where
     pub layout : Layout
@@ -71,8 +81,20 @@ module _ (m : Meaning) (Got AskSent : NodeId → ℕ → Msg → Type 0) (lo e0 
     pub issued : Issued Got lo end p
     pub tail : TailTold Got lo u
 
+  -- a trim in hand: its tail was told, and it is up to the directory's floor there
+  pub record TrimHeld (tail n : ℕ) : Type 0 where
+    pub told : TailTold Got lo tail
+    pub floor : Floor tail n
+
+  -- a trim's reply
+  pub record TrimSaid (n : ℕ) : Type 0 where
+    pub tail : ℕ
+    pub held : TrimHeld tail n
+    pub all : AllTold Got AskSent e0 Known n
+
   abbrev pub SayOk : WhatOf m → Type 0
   SayOk (told.Saved o p u) = SaveTold p u
+  SayOk (told.Trimmed n) = TrimSaid n
   SayOk (told.Installed e) = InstallTold Got lo e0 me Known e
   SayOk (told.Copied u r s) = CopyTold u r s
   SayOk (told.Marked o j) = ⊥
@@ -99,7 +121,7 @@ module _ (m : Meaning) (Got AskSent : NodeId → ℕ → Msg → Type 0) (lo e0 
   TaskHeld next tail (Syncing s) = SyncOk Got lo s.work
   TaskHeld next tail (Walking k os) = TailTold Got lo tail
   TaskHeld next tail (Appending a y) = AppendOk Got lo next a × Fits y
-  TaskHeld next tail (Trimming t) = Unit {0}
+  TaskHeld next tail (Trimming t) = TrimHeld tail t.below × TrimsOk Got AskSent e0 Known t.below t.waits
   TaskHeld next tail (Copying' x) = CopyOk lo x.work
   TaskHeld next tail (Reconfiguring r) = StartOk Got lo e0 me Known r.stand r.work
 
@@ -108,7 +130,7 @@ module _ (m : Meaning) (Got AskSent : NodeId → ℕ → Msg → Type 0) (lo e0 
   LearnHeld next tail (Syncing s) = Unit {0}
   LearnHeld next tail (Walking k os) = TailTold Got lo tail
   LearnHeld next tail (Appending a y) = AppendOk Got lo next a × Fits y
-  LearnHeld next tail (Trimming t) = Unit {0}
+  LearnHeld next tail (Trimming t) = TrimHeld tail t.below
   LearnHeld next tail (Copying' x) = Unit {0}
   LearnHeld next tail (Reconfiguring r) = StartOk Got lo e0 me Known r.stand r.work
 
@@ -127,7 +149,7 @@ module _ (m : Meaning) (Got AskSent : NodeId → ℕ → Msg → Type 0) (lo e0 
   learn_of next tail (Doing (Syncing s)) k = tt
   learn_of next tail (Doing (Walking v os)) k = k
   learn_of next tail (Doing (Appending a y)) k = k
-  learn_of next tail (Doing (Trimming t)) k = tt
+  learn_of next tail (Doing (Trimming t)) k = k.0
   learn_of next tail (Doing (Copying' x)) k = tt
   learn_of next tail (Doing (Reconfiguring r)) k = k
   learn_of next tail (Learning ws t) k = k
@@ -137,7 +159,7 @@ module _ (m : Meaning) (Got AskSent : NodeId → ℕ → Msg → Type 0) (lo e0 
   task_on next later tail (Syncing s) le k = k
   task_on next later tail (Walking v os) le k = k
   task_on next later tail (Appending a y) le k = (append_on Got lo next later a le k.0, k.1)
-  task_on next later tail (Trimming t) le k = tt
+  task_on next later tail (Trimming t) le k = k
   task_on next later tail (Copying' x) le k = k
   task_on next later tail (Reconfiguring r) le k = k
 
@@ -145,7 +167,7 @@ module _ (m : Meaning) (Got AskSent : NodeId → ℕ → Msg → Type 0) (lo e0 
   learn_on next later tail (Syncing s) le k = tt
   learn_on next later tail (Walking v os) le k = k
   learn_on next later tail (Appending a y) le k = (append_on Got lo next later a le k.0, k.1)
-  learn_on next later tail (Trimming t) le k = tt
+  learn_on next later tail (Trimming t) le k = k
   learn_on next later tail (Copying' x) le k = tt
   learn_on next later tail (Reconfiguring r) le k = k
 
@@ -163,6 +185,13 @@ module _ (m : Meaning) (Got AskSent : NodeId → ℕ → Msg → Type 0) (lo e0 
 
   abbrev Le : Client m → Type 0
   Le c = lo ≤ c.next
+
+  -- where it stands is known, and not before its command began
+  abbrev Stands : Client m → Type 0
+  Stands c = Known c.stand × (e0 ≤ c.stand.epoch)
+
+  abbrev Sees : Client m → Work m → Type 0
+  Sees = SeesFloor m Floor
 
   each_none : EachSays []
   each_none n i = absurd i
@@ -197,9 +226,9 @@ module _ (m : Meaning) (Got AskSent : NodeId → ℕ → Msg → Type 0) (lo e0 
   unfolding syncs sync_start
   synced' c w os l = record { held = l; says = none_says }
 
-  trims_begin : (c : Client m) (w : Work m) (below : ℕ) → Good (trim_begun m c w below (trim_start c.stand below c.next))
+  trims_begin : (c : Client m) (w : Work m) (below : ℕ) → Stands c → TrimHeld w.tail below → Good (trim_begun m c w below (trim_start c.stand below c.next))
   unfolding trim_start
-  trims_begin c w below = record { held = tt; says = none_says }
+  trims_begin c w below s k = record { held = (k, (trim_start_ok Got AskSent e0 Known c.stand below c.next s.0 s.1).1); says = none_says }
 
   -- The answers of commands that have played.
 
@@ -308,13 +337,16 @@ module _ (m : Meaning) (Got AskSent : NodeId → ℕ → Msg → Type 0) (lo e0 
   forget_good c w es o n (Played t) l = forget_by_good c w o n (may_forget m es o n) l
   forget_good c w es o n (Blocked q x) l = refused c _ _ tt
 
-  trims_good : (c : Client m) (w : Work m) (b : ℕ) (zero : Bool) → Good (trims_if m c w b zero)
-  trims_good c w b true = answered c _ _ tt
-  trims_good c w b false = trims_begin c w b
+  trims_good : (c : Client m) (w : Work m) (b : ℕ) (zero : Bool) → (zero ≡ true → b ≡ 0) → Stands c → TrimHeld w.tail b → Good (trims_if m c w b zero)
+  trims_good c w b true none s k = answered c 0 (told.Trimmed b) (record { tail = w.tail; held = k; all = record { layout = c.stand; known = s.0; later = s.1; units = λ u h. inl (none refl) } })
+  trims_good c w b false none s k = trims_begin c w b s k
 
-  trim_good : (c : Client m) (w : Work m) (v : View m) (came : PlayEnd) → Good (on_trim m c w v came)
-  trim_good c w v (Played t) = trims_good c w (floor_of m (state_of m v directory)) _
-  trim_good c w v (Blocked q x) = refused c _ _ tt
+  is_zero : (n : ℕ) → (n == 0) ≡ true → n ≡ 0
+  is_zero n e = grind arith
+
+  trim_good : (c : Client m) (w : Work m) (v : View m) (came : PlayEnd) → Stands c → TailTold Got lo w.tail → ((t : ℕ) → came ≡ Played t → Floor w.tail (floor_of m (state_of m v directory))) → Good (on_trim m c w v came)
+  trim_good c w v (Played t) s k sees = trims_good c w (floor_of m (state_of m v directory)) (floor_of m (state_of m v directory) == 0) (is_zero (floor_of m (state_of m v directory))) s (record { told = k; floor = sees t refl })
+  trim_good c w v (Blocked q x) s k sees = refused c _ _ tt
 
   past_good : (c : Client m) (w : Work m) (p : ℕ) (o : Oid) (q : m.ask) (x : PastTurn m) → Good (past_turn m c p o q x)
   past_good c w p o q (PastGone b) = refused c _ _ tt
@@ -354,86 +386,98 @@ module _ (m : Meaning) (Got AskSent : NodeId → ℕ → Msg → Type 0) (lo e0 
   rescue_good c w es p (StuckAt q x) l = refused c _ _ tt
   rescue_good c w es p (past.Known so needs) l = rescue_known_good c w es p so needs l
 
-  answer_good : (c : Client m) (w : Work m) (es : Entries) (p : Play m) (x : CommandOf m) → Le c → TailTold Got lo w.tail → Good (answer_by m c w es p x)
-  answer_good c w es p (cmd.Ask o q) l k = ask_good c w o q p.view p.came
-  answer_good c w es p cmd.End l k = end_good c w es p.view p.came l
-  answer_good c w es p (cmd.Fate at) l k = fate_good c w es p.view at p.came
-  answer_good c w es p (cmd.Decide at) l k = decide_good c w es p.view at p.came _ l
-  answer_good c w es p (cmd.Checkpoint o) l k = checkpoint_good c w p.view o p.came l k
-  answer_good c w es p (cmd.Forget o j) l k = forget_good c w es o j p.came l
-  answer_good c w es p cmd.Trim l k = trim_good c w p.view p.came
-  answer_good c w es p x l k = replied c _ none_says
+  answer_good : (c : Client m) (w : Work m) (es : Entries) (p : Play m) (x : CommandOf m) → Le c → Stands c → TailTold Got lo w.tail
+      → ((t : ℕ) → x ≡ cmd.Trim → p.came ≡ Played t → Floor w.tail (floor_of m (state_of m p.view directory))) → Good (answer_by m c w es p x)
+  answer_good c w es p (cmd.Ask o q) l s k sees = ask_good c w o q p.view p.came
+  answer_good c w es p cmd.End l s k sees = end_good c w es p.view p.came l
+  answer_good c w es p (cmd.Fate at) l s k sees = fate_good c w es p.view at p.came
+  answer_good c w es p (cmd.Decide at) l s k sees = decide_good c w es p.view at p.came _ l
+  answer_good c w es p (cmd.Checkpoint o) l s k sees = checkpoint_good c w p.view o p.came l k
+  answer_good c w es p (cmd.Forget o j) l s k sees = forget_good c w es o j p.came l
+  answer_good c w es p cmd.Trim l s k sees = trim_good c w p.view p.came s k (λ t came. sees t refl came)
+  answer_good c w es p x l s k sees = replied c _ none_says
 
   -- Where all streams are walked.
 
   abbrev own_entries : Client m → Work m → Entries
   own_entries c w = all_entries m c w c.hosted
 
-  abbrev own_play : Client m → Work m → Play m
-  own_play c w = play m (own_view m c w (own_entries c w)) (own_entries c w) (play_target m w w.command)
-
-  walked_good : (c : Client m) (w : Work m) → Le c → TailTold Got lo w.tail → Good (walked m c w)
+  walked_good : (c : Client m) (w : Work m) → Le c → Stands c → TailTold Got lo w.tail → Sees c w → Good (walked m c w)
   unfolding walked
-  walked_good c w l k = by w.command
+  walked_good c w l s k sees = by w.command
     where
       plays : Good (plays_own m c w (own_entries c w))
-      plays = answer_good (with_view m c (own_play c w).view) w (own_entries c w) (own_play c w) w.command l k
+      plays = answer_good (with_view m c (own_play m c w).view) w (own_entries c w) (own_play m c w) w.command l s k sees
 
       by : (x : CommandOf m) → Good (walked_for m c w x)
       by (cmd.AskAt p o q) = ask_at_good c w p o q
       by (cmd.Rescue p) = rescue_good c w _ p _ l
       by x = plays
 
-  walks_at : (c : Client m) (w : Work m) (o : Oid) (os : List Oid) (to : Next Walk Members) → Begins to → TailTold Got lo w.tail → ((x : Members) → Good (walks m os (takes_back m c x) (found_by m w o x)))
+  abbrev Walks : List Oid → Client m → Work m → Type 0
+  Walks os c w = EachWalk m objects es Sees os c w
+
+  walks_at : (c : Client m) (w : Work m) (o : Oid) (os : List Oid) (to : Next Walk Members) → (start_walk m c w o).to ≡ to → Begins to → TailTold Got lo w.tail
+      → ((x : Members) → (start_walk m c w o).to ≡ Ends x → Good (walks m os (takes_back m c x) (found_by m w o x)))
       → Good (elim to as (λ _. Moved m) [
         | Goes x ↦ goes_on m (lends m (after_turn m c (start_walk m c w o))) w (Walking x os) []
         | Learns x ↦ record { now = c; besides = []; notes = [] }
         | Ends x ↦ walks m os (takes_back m c x) (found_by m w o x)
       ])
-  walks_at c w o os (Goes x) b k rest = record { held = k; says = none_says }
-  walks_at c w o os (Learns x) b k rest = absurd b
-  walks_at c w o os (Ends x) b k rest = rest x
+  walks_at c w o os (Goes x) e b k rest = record { held = k; says = none_says }
+  walks_at c w o os (Learns x) e b k rest = absurd b
+  walks_at c w o os (Ends x) e b k rest = rest x e
 
-  walks_good : (os : List Oid) (c : Client m) (w : Work m) → Le c → TailTold Got lo w.tail → Good (walks m os c w)
+  walks_good : (os : List Oid) (c : Client m) (w : Work m) → Le c → Stands c → TailTold Got lo w.tail → Walks os c w → Good (walks m os c w)
   unfolding walks
-  walks_good [] c w l k = walked_good c w l k
-  walks_good (o ∷ os) c w l k = walks_at c w o os (start_walk m c w o).to (begins_walk c.stand o _ w.lo c.cells c.next) k (λ x. walks_good os (takes_back m c x) (found_by m w o x) l k)
+  walks_good [] c w l s k each = walked_good c w l s k each
+  walks_good (o ∷ os) c w l s k each = walks_at c w o os (start_walk m c w o).to refl (begins_walk c.stand o _ w.lo c.cells c.next) k (λ x e. walks_good os (takes_back m c x) (found_by m w o x) l s k (each x e))
 
   knows_le : (c : Client m) (s : Option (ℕ × Cell)) → Le c → Le (step.knows m c s)
   knows_le c None l = l
   knows_le c (Some s) l = l
 
-  sync_good : (c : Client m) (w : Work m) (t : Turn Sync Confirmed) → lo ≤ t.next → SyncNext Got lo t.to → Good (on_sync m c w t)
-  sync_good c w t l k = by t.to k
+  knows_stands : (c : Client m) (s : Option (ℕ × Cell)) → Stands c → Stands (step.knows m c s)
+  knows_stands c None l = l
+  knows_stands c (Some s) l = l
+
+  sync_good : (c : Client m) (w : Work m) (t : Turn Sync Confirmed) → lo ≤ t.next → Stands c → SyncNext Got lo t.to → EachSync m objects es Sees (after_turn m c t) (met m w t) t.to → Good (on_sync m c w t)
+  sync_good c w t l s k each = by t.to k each
     where
-      by : (to : Next Sync Confirmed) → SyncNext Got lo to → Good (sync_to m (after_turn m c t) (met m w t) t.besides to)
-      by (Goes s) k = record { held = k; says = none_says }
-      by (Learns s) k = record { held = tt; says = none_says }
-      by (Ends x) k = walks_good w.oids (step.knows m (after_turn m c t) x.settled) (record (met m w t) { tail = x.tail; lasts = x.lasts; lo = step.lo_for m (after_turn m c t) w.command }) (knows_le (after_turn m c t) x.settled l) k
+      by : (to : Next Sync Confirmed) → SyncNext Got lo to → EachSync m objects es Sees (after_turn m c t) (met m w t) to → Good (sync_to m (after_turn m c t) (met m w t) t.besides to)
+      by (Goes s) k each = record { held = k; says = none_says }
+      by (Learns s) k each = record { held = tt; says = none_says }
+      by (Ends x) k each =
+          walks_good w.oids (step.knows m (after_turn m c t) x.settled) (record (met m w t) { tail = x.tail; lasts = x.lasts; lo = step.lo_for m (after_turn m c t) w.command })
+          (knows_le (after_turn m c t) x.settled l) (knows_stands (after_turn m c t) x.settled s) k each
 
   given_up_le : (b : Bool) (c : Client m) → Le c → Le (given_up_if m b c)
   given_up_le true c l = l
   given_up_le false c l = l
 
-  over_good : (c : Client m) (w : Work m) (os : List Oid) (over : Bool) → Le c → TailTold Got lo w.tail → Good (starts_over m c w os over)
-  over_good c w os true l k = walks_good w.oids c _ l k
-  over_good c w os false l k = walks_good os c w l k
+  given_up_stands : (b : Bool) (c : Client m) → Stands c → Stands (given_up_if m b c)
+  given_up_stands true c l = l
+  given_up_stands false c l = l
 
-  trim_met : (c : Client m) (w : Work m) (os : List Oid) (old over : Bool) → Le c → TailTold Got lo w.tail → Good (at_trim m c w os old over)
-  trim_met c w os true over l k = synced' c w w.oids l
-  trim_met c w os false over l k = over_good c w os over l k
+  over_good : (c : Client m) (w : Work m) (os : List Oid) (over : Bool) → Le c → Stands c → TailTold Got lo w.tail → EachOver m objects es Sees c w os over → Good (starts_over m c w os over)
+  over_good c w os true l s k each = walks_good w.oids c _ l s k each
+  over_good c w os false l s k each = walks_good os c w l s k each
 
-  walk_good : (c : Client m) (w : Work m) (o : Oid) (os : List Oid) (t : Turn Walk Members) → lo ≤ t.next → TailTold Got lo w.tail → Good (on_walk m c w o os t)
-  walk_good c w o os t l k = by t.to
+  trim_met : (c : Client m) (w : Work m) (os : List Oid) (old over : Bool) → Le c → Stands c → TailTold Got lo w.tail → EachTrim m objects es Sees c w os old over → Good (at_trim m c w os old over)
+  trim_met c w os true over l s k each = synced' c w w.oids l
+  trim_met c w os false over l s k each = over_good c w os over l s k each
+
+  walk_good : (c : Client m) (w : Work m) (o : Oid) (os : List Oid) (t : Turn Walk Members) → lo ≤ t.next → Stands c → TailTold Got lo w.tail → EachWalked m objects es Sees (after_turn m c t) (met m w t) o os t.to → Good (on_walk m c w o os t)
+  walk_good c w o os t l s k each = by t.to each
     where
-      ended : (d : Client m) (v : Work m) (x : Members) (g : Option ℕ) → Le d → TailTold Got lo v.tail → Good (walk_ended_by m d v o os x g)
-      ended d v x None i j = walks_good os d v i j
-      ended d v x (Some b) i j = trim_met (given_up_if m (gives_up m d v b) d) v os _ _ (given_up_le (gives_up m d v b) d i) j
+      ended : (d : Client m) (v : Work m) (x : Members) (g : Option ℕ) → Le d → Stands d → TailTold Got lo v.tail → EachEnd m objects es Sees d v o os x g → Good (walk_ended_by m d v o os x g)
+      ended d v x None i a j each = walks_good os d v i a j each
+      ended d v x (Some b) i a j each = trim_met (given_up_if m (gives_up m d v b) d) v os _ _ (given_up_le (gives_up m d v b) d i) (given_up_stands (gives_up m d v b) d a) j each
 
-      by : (to : Next Walk Members) → Good (walk_to m (after_turn m c t) (met m w t) o os to)
-      by (Goes x) = record { held = k; says = none_says }
-      by (Learns x) = record { held = k; says = none_says }
-      by (Ends x) = ended (takes_back m (after_turn m c t) x) (found_by m (met m w t) o x) x x.gone l k
+      by : (to : Next Walk Members) → EachWalked m objects es Sees (after_turn m c t) (met m w t) o os to → Good (walk_to m (after_turn m c t) (met m w t) o os to)
+      by (Goes x) each = record { held = k; says = none_says }
+      by (Learns x) each = record { held = k; says = none_says }
+      by (Ends x) each = ended (takes_back m (after_turn m c t) x) (found_by m (met m w t) o x) x x.gone l s k each
 
   -- Appends.
 
@@ -472,13 +516,13 @@ module _ (m : Meaning) (Got AskSent : NodeId → ℕ → Msg → Type 0) (lo e0 
       by (Learns b) k = record { held = (append_on Got lo t.next (t.next + c.layouts) b (omega arith) k, f); says = none_says }
       by (Ends e) k = ended_good (after_turn m c t) (met m w t) y e t.next le f k
 
-  trims_turn : (c : Client m) (w : Work m) (b : ℕ) (t : Turn Trims Trimmed) → Good (on_trims m c w b t)
-  trims_turn c w b t = by t.to
+  trims_turn : (c : Client m) (w : Work m) (b : ℕ) (t : Turn Trims Trimmed) → TrimHeld w.tail b → TrimNext Got AskSent e0 Known b t.to → Good (on_trims m c w b t)
+  trims_turn c w b t k h = by t.to h
     where
-      by : (to : Next Trims Trimmed) → Good (trim_to m (after_turn m c t) (met m w t) b to)
-      by (Goes a) = record { held = tt; says = none_says }
-      by (Learns a) = record { held = tt; says = none_says }
-      by (Ends e) = answered (after_turn m c t) 0 _ tt
+      by : (to : Next Trims Trimmed) → TrimNext Got AskSent e0 Known b to → Good (trim_to m (after_turn m c t) (met m w t) b to)
+      by (Goes a) h = record { held = (subst (TrimHeld w.tail) (sym h.0) k, subst (λ (n : ℕ). TrimsOk Got AskSent e0 Known n a.waits) (sym h.0) h.1); says = none_says }
+      by (Learns a) h = record { held = subst (TrimHeld w.tail) (sym h) k; says = none_says }
+      by (Ends e) h = answered (after_turn m c t) 0 (told.Trimmed b) (record { tail = w.tail; held = k; all = h })
 
   copy_good : (c : Client m) (w : Work m) (x : Copying) (t : Turn Copying CopyEnd) → CopyNext lo (CopyTold x.unit x.range x.stripe) t.to → Good (on_copy m c w x t)
   copy_good c w x t k = by t.to k
@@ -519,13 +563,13 @@ module _ (m : Meaning) (Got AskSent : NodeId → ℕ → Msg → Type 0) (lo e0 
     -- what was asked is what is outstanding
     pub record Looks (c : Client m) (t : Task m) : Type 0 where
       pub below : (o : Out) → Has (task_awaited m c.stand t) o → o.rid < c.next
-      pub looks : (u : ℕ) (o : Out) → Has (task_awaited m c.stand t) o → o.to ≡ unit_id u → o.to ≡ from → o.rid ≡ rid → y ≡ msg.Whole → AskSent o.to o.rid o.msg
+      pub looks : (u : ℕ) (o : Out) → Has (task_awaited m c.stand t) o → o.to ≡ unit_id u → o.to ≡ from → o.rid ≡ rid → AskSent o.to o.rid o.msg
 
     -- the layout that the message tells, where the client stands
     abbrev pub Hears : Client m → Type 0
     Hears c = (q : Layout) → y ≡ msg.Latest q → News Got lo e0 me Known c.stand q
 
-    module _ (c : Client m) (w : Work m) (l : Le c) (stand : Known c.stand) (hears : Hears c) where
+    module _ (c : Client m) (w : Work m) (l : Le c) (stand : Known c.stand) (up : e0 ≤ c.stand.epoch) (hears : Hears c) where
       look_asked : (x : Copying) (r : ℕ) (p : Layout) → Asked (copy_work_asks p x (Looking r)) from rid → (unit_id x.unit ≡ from) × (r ≡ rid)
       unfolding copy_work_asks
       look_asked x r p a = by a.of a.has a.to a.number
@@ -539,7 +583,7 @@ module _ (m : Meaning) (Got AskSent : NodeId → ℕ → Msg → Type 0) (lo e0 
       look_out x r p = inl refl
 
       copied : (x : Copying) → CopyOk lo x.work → Asked (copy_asks c.stand x) from rid
-          → ((u : ℕ) (o : Out) → Has (copy_asks c.stand x) o → o.to ≡ unit_id u → o.to ≡ from → o.rid ≡ rid → y ≡ msg.Whole → AskSent o.to o.rid o.msg) → (r : ℕ) → x.work ≡ Looking r → reply y ≡ IsWhole → CopyTold x.unit x.range x.stripe
+          → ((u : ℕ) (o : Out) → Has (copy_asks c.stand x) o → o.to ≡ unit_id u → o.to ≡ from → o.rid ≡ rid → AskSent o.to o.rid o.msg) → (r : ℕ) → x.work ≡ Looking r → reply y ≡ IsWhole → CopyTold x.unit x.range x.stripe
       copied x k a looks r is whole =
           let at = look_asked x r c.stand (subst (λ (z : CopyWork). Asked (copy_work_asks c.stand x z) from rid) is a) in
           record {
@@ -547,66 +591,71 @@ module _ (m : Meaning) (Got AskSent : NodeId → ℕ → Msg → Type 0) (lo e0 
             known = stand;
             rid = r;
             now = subst (CopyOk lo) is k;
-            look = looks x.unit (out (unit_id x.unit) r (has_stripe c.stand.epoch c.stand x.range x.stripe)) (subst (λ (z : CopyWork). Has (copy_work_asks c.stand x z) (out (unit_id x.unit) r (has_stripe c.stand.epoch c.stand x.range x.stripe))) (sym is) (look_out x r c.stand)) refl at.0 at.1 (is_whole y whole);
+            look = looks x.unit (out (unit_id x.unit) r (has_stripe c.stand.epoch c.stand x.range x.stripe)) (subst (λ (z : CopyWork). Has (copy_work_asks c.stand x z) (out (unit_id x.unit) r (has_stripe c.stand.epoch c.stand x.range x.stripe))) (sym is) (look_out x r c.stand)) refl at.0 at.1;
             whole = subst (λ (n : ℕ). Got (unit_id x.unit) n msg.Whole) (sym at.1) (subst (λ (z : NodeId). Got z rid msg.Whole) (sym at.0) (subst (Got from rid) (is_whole y whole) got));
           }
 
-      task_good : (t : Task m) → TaskHeld c.next w.tail t → Asked (task_awaited m c.stand t) from rid → TaskFits c.stand t → Looks c t → Good (task_feed m c w t from.num rid (reply y))
+      task_good : (t : Task m) → TaskHeld c.next w.tail t → Asked (task_awaited m c.stand t) from rid → TaskFits c.stand t → Looks c t → EachFeed m objects es Sees c w t from.num rid (reply y) → Good (task_feed m c w t from.num rid (reply y))
       unfolding task_feed task_asks
-      task_good (Syncing s) k a f looks = sync_good c w (sync_feed c.stand s s.work from.num (reply y) c.next)
+      task_good (Syncing s) k a f looks each = sync_good c w (sync_feed c.stand s s.work from.num (reply y) c.next)
           (let u = up_of (sync_asks c.stand) (sync_asks c.stand s) c.next (sync_feed c.stand s s.work from.num (reply y) c.next).besides (sync_feed c.stand s s.work from.num (reply y) c.next).next (sync_feed c.stand s s.work from.num (reply y) c.next).to (sync_draws c.stand s from.num (reply y) c.next) in omega (arith, l, u))
-          (sync_ok Got lo c.stand s k from rid y got from.num c.next a)
-      task_good (Walking v os) k a f looks = walk_good c w v.oid os (walk_feed c.stand v v.job from.num (reply y) c.next)
-          (let u = up_of walk_asks (walk_asks v) c.next (walk_feed c.stand v v.job from.num (reply y) c.next).besides (walk_feed c.stand v v.job from.num (reply y) c.next).next (walk_feed c.stand v v.job from.num (reply y) c.next).to (walk_draws c.stand v from.num (reply y) c.next) in omega (arith, l, u)) k
-      task_good (Appending a' z) k a f looks = append_good c w z (append_feed c.stand a' a'.work from.num (reply y) c.next) l (feed_ok Got c.stand lo a' from.num c.next from rid y k.0 got (let b = looks.below a.of a.has in let e = a.number in omega (arith, b, e)) a) k.1
-      task_good (Trimming t) k a f looks = trims_turn c w t.below (trim_feed c.stand t from.num (reply y) c.next)
-      task_good (Copying' x) k a f looks = copy_good c w x (copy_feed c.stand x x.work from.num (reply y) c.next) (copy_fed lo (CopyTold x.unit x.range x.stripe) c.stand x k from.num c.next (reply y) (copied x k a looks.looks) l)
-      task_good (Reconfiguring r) k a f looks = reconf_good c w (reconf_feed r r.work from.num rid (reply y) c.next) (reconf_ok Got lo e0 me Known r k f.0 from.num from rid y c.next got a)
+          (stand, up) (sync_ok Got lo c.stand s k from rid y got from.num c.next a) each
+      task_good (Walking v os) k a f looks each = walk_good c w v.oid os (walk_feed c.stand v v.job from.num (reply y) c.next)
+          (let u = up_of walk_asks (walk_asks v) c.next (walk_feed c.stand v v.job from.num (reply y) c.next).besides (walk_feed c.stand v v.job from.num (reply y) c.next).next (walk_feed c.stand v v.job from.num (reply y) c.next).to (walk_draws c.stand v from.num (reply y) c.next) in omega (arith, l, u)) (stand, up) k each
+      task_good (Appending a' z) k a f looks each = append_good c w z (append_feed c.stand a' a'.work from.num (reply y) c.next) l (feed_ok Got c.stand lo a' from.num c.next from rid y k.0 got (let b = looks.below a.of a.has in let e = a.number in omega (arith, b, e)) a) k.1
+      task_good (Trimming t) k a f looks each = trims_turn c w t.below (trim_feed c.stand t from.num (reply y) c.next) k.0 (trim_fed Got AskSent e0 Known c.stand t k.1 from rid y got c.next a looks.looks)
+      task_good (Copying' x) k a f looks each = copy_good c w x (copy_feed c.stand x x.work from.num (reply y) c.next) (copy_fed lo (CopyTold x.unit x.range x.stripe) c.stand x k from.num c.next (reply y) (copied x k a looks.looks) l)
+      task_good (Reconfiguring r) k a f looks each = reconf_good c w (reconf_feed r r.work from.num rid (reply y) c.next) (reconf_ok Got lo e0 me Known r k f.0 from.num from rid y c.next got a)
 
-      newer_good : (t : Task m) (q : Layout) → reply y ≡ IsLatest q → c.stand.epoch < q.epoch → LearnHeld c.next w.tail t → TaskFits c.stand t → Good (step.on_newer m c w t from.num rid q)
+      -- a newer layout that is told
+      newly : (q : Layout) → reply y ≡ IsLatest q → c.stand.epoch < q.epoch → Known q × (e0 ≤ q.epoch)
+      newly q is newer = ((hears q (latest q is)).known, omega (arith, newer, up))
+
+      newer_good : (t : Task m) (q : Layout) → reply y ≡ IsLatest q → c.stand.epoch < q.epoch → LearnHeld c.next w.tail t → TaskFits c.stand t → EachNewer m objects es Sees c w t q → Good (step.on_newer m c w t from.num rid q)
       unfolding task_again
-      newer_good (Reconfiguring r) q is newer k f =
+      newer_good (Reconfiguring r) q is newer k f each =
           let e = ap (λ (p : Layout). p.epoch) f.1 in
           reconf_good c w (reconf_latest r r.work from.num rid q c.next) (latest_ok Got lo e0 me Known r k f.0 from.num rid q c.next l (omega (arith, newer, e)) (subst (λ (p : Layout). News Got lo e0 me Known p q) (sym f.1) (hears q (latest q is))) from (subst (Got from rid) (latest q is) got))
-      newer_good (Syncing s) q is newer k f = sync_good (stands m c q) (record w { gone_before = w.gone }) (sync_again s c.next)
-          (let u = up_of (sync_asks q) [] c.next (sync_again s c.next).besides (sync_again s c.next).next (sync_again s c.next).to (sync_start_draws q s.oids c.next) in omega (arith, l, u)) (sync_start_ok Got lo s.oids c.next l)
-      newer_good (Walking v os) q is newer k f = walk_good (stands m c q) w v.oid os (walk_again q v c.next)
-          (let u = up_of walk_asks [] c.next (walk_again q v c.next).besides (walk_again q v c.next).next (walk_again q v c.next).to (walk_again_draws q v c.next) in omega (arith, l, u)) k
-      newer_good (Appending a z) q is newer k f = append_good (stands m c q) w z (append_again q a c.next) l (again_ok Got q lo a c.next l k.0) k.1
-      newer_good (Trimming t) q is newer k f = trims_turn (stands m c q) w t.below (trim_start q t.below c.next)
-      newer_good (Copying' x) q is newer k f = copies_good (stands m c q) w x _ (fine_copy m q x.unit x.range x.stripe)
+      newer_good (Syncing s) q is newer k f each = sync_good (stands m c q) (record w { gone_before = w.gone }) (sync_again s c.next)
+          (let u = up_of (sync_asks q) [] c.next (sync_again s c.next).besides (sync_again s c.next).next (sync_again s c.next).to (sync_start_draws q s.oids c.next) in omega (arith, l, u)) (newly q is newer) (sync_start_ok Got lo s.oids c.next l) each
+      newer_good (Walking v os) q is newer k f each = walk_good (stands m c q) w v.oid os (walk_again q v c.next)
+          (let u = up_of walk_asks [] c.next (walk_again q v c.next).besides (walk_again q v c.next).next (walk_again q v c.next).to (walk_again_draws q v c.next) in omega (arith, l, u)) (newly q is newer) k each
+      newer_good (Appending a z) q is newer k f each = append_good (stands m c q) w z (append_again q a c.next) l (again_ok Got q lo a c.next l k.0) k.1
+      newer_good (Trimming t) q is newer k f each = trims_turn (stands m c q) w t.below (trim_start q t.below c.next) k (let s = newly q is newer in trim_start_ok Got AskSent e0 Known q t.below c.next s.0 s.1)
+      newer_good (Copying' x) q is newer k f each = copies_good (stands m c q) w x _ (fine_copy m q x.unit x.range x.stripe)
 
       module _ (has : c.work ≡ Some w) (held : Held c) where
         still : Good (record { now = c; besides = []; notes = [] })
         still = record { held = held; says = none_says }
 
-        fed_good : (b : Bool) (t : Task m) → awaits (task_awaited m c.stand t) from rid ≡ b → TaskHeld c.next w.tail t → TaskFits c.stand t → Looks c t → Good (step.fed_if m b c w t from rid (reply y))
-        fed_good true t a k f looks = task_good t k (asked (task_awaited m c.stand t) from rid a) f looks
-        fed_good false t a k f looks = still
+        fed_good : (b : Bool) (t : Task m) → awaits (task_awaited m c.stand t) from rid ≡ b → TaskHeld c.next w.tail t → TaskFits c.stand t → Looks c t → EachAwaited m objects es Sees b c w t from rid (reply y) → Good (step.fed_if m b c w t from rid (reply y))
+        fed_good true t a k f looks each = task_good t k (asked (task_awaited m c.stand t) from rid a) f looks each
+        fed_good false t a k f looks each = still
 
-        hand_good : (d : Hand m) → w.hand ≡ d → HandHeld c.next w.tail d → TaskFits c.stand (task_in m d) → ((t : Task m) → w.hand ≡ Doing t → Looks c t) → Good (step.hand_feed m c w d from rid (reply y))
-        hand_good (Doing t) e k f looks = fed_good _ t refl k f (looks t e)
-        hand_good (Learning ws t) e k f looks = still
+        hand_good : (d : Hand m) → w.hand ≡ d → HandHeld c.next w.tail d → TaskFits c.stand (task_in m d) → ((t : Task m) → w.hand ≡ Doing t → Looks c t) → EachHand m objects es Sees c w d from rid (reply y) → Good (step.hand_feed m c w d from rid (reply y))
+        hand_good (Doing t) e k f looks each = fed_good _ t refl k f (looks t e) each
+        hand_good (Learning ws t) e k f looks each = still
 
-        latest_good : (b : Bool) (q : Layout) → (node_eq from (layout_id from.num) && nat_lt c.stand.epoch q.epoch) ≡ b → reply y ≡ IsLatest q → LearnHeld c.next w.tail (task_in m w.hand) → TaskFits c.stand (task_in m w.hand) → Good (step.latest_if m b c w from rid q)
-        latest_good true q e is k f = newer_good (task_in m w.hand) q is (less_of (node_eq from (layout_id from.num)) c.stand.epoch q.epoch e) k f
+        latest_good : (b : Bool) (q : Layout) → (node_eq from (layout_id from.num) && nat_lt c.stand.epoch q.epoch) ≡ b → reply y ≡ IsLatest q → LearnHeld c.next w.tail (task_in m w.hand) → TaskFits c.stand (task_in m w.hand) → EachLatest m objects es Sees b c w q → Good (step.latest_if m b c w from rid q)
+        latest_good true q e is k f each = newer_good (task_in m w.hand) q is (less_of (node_eq from (layout_id from.num)) c.stand.epoch q.epoch e) k f each
           where
             less_of : (b : Bool) (i j : ℕ) → (b && nat_lt i j) ≡ true → i < j
             less_of b i j h = grind arith
-        latest_good false q e is k f = still
+        latest_good false q e is k f each = still
 
-        reply_good : (x : Reply) → reply y ≡ x → HandHeld c.next w.tail w.hand → TaskFits c.stand (task_in m w.hand) → ((t : Task m) → w.hand ≡ Doing t → Looks c t) → Good (step.reply_feed m c w from rid x)
-        reply_good (IsLatest q) is k f looks = latest_good _ q refl is (learn_of c.next w.tail w.hand k) f
-        reply_good x is k f looks = subst (λ (z : Reply). Good (step.hand_feed m c w w.hand from rid z)) is (hand_good w.hand refl k f looks)
+        reply_good : (x : Reply) → reply y ≡ x → HandHeld c.next w.tail w.hand → TaskFits c.stand (task_in m w.hand) → ((t : Task m) → w.hand ≡ Doing t → Looks c t) → EachReply m objects es Sees c w from rid x → Good (step.reply_feed m c w from rid x)
+        reply_good (IsLatest q) is k f looks each = latest_good _ q refl is (learn_of c.next w.tail w.hand k) f each
+        reply_good x is k f looks each = subst (λ (z : Reply). Good (step.hand_feed m c w w.hand from rid z)) is (hand_good w.hand refl k f looks (subst (λ (z : Reply). EachHand m objects es Sees c w w.hand from rid z) (sym is) each))
 
     -- of work that may be none
     abbrev pub WorkFits : Client m → Option (Work m) → Type 0
     WorkFits c None = Unit {0}
     WorkFits c (Some w) = TaskFits c.stand (task_in m w.hand) × ((t : Task m) → w.hand ≡ Doing t → Looks c t)
 
-    pub feed_good : (c : Client m) (o : Option (Work m)) → c.work ≡ o → lo ≤ c.next → Known c.stand → Hears c → Held c → WorkFits c o → Good (step.feed m c o from rid (reply y))
-    feed_good c None is l stand hears k f = record { held = k; says = none_says }
-    feed_good c (Some w) is l stand hears k f = reply_good c w l stand hears is k (reply y) refl (subst (WorkHeld c.next) is k) f.0 f.1
+    pub feed_good : (c : Client m) (o : Option (Work m)) → c.work ≡ o → lo ≤ c.next → Known c.stand → e0 ≤ c.stand.epoch → Hears c → Held c → WorkFits c o
+        → EachDelivery m objects es Sees c o from rid (reply y) → Good (step.feed m c o from rid (reply y))
+    feed_good c None is l stand up hears k f each = record { held = k; says = none_says }
+    feed_good c (Some w) is l stand up hears k f each = reply_good c w l stand up hears is k (reply y) refl (subst (WorkHeld c.next) is k) f.0 f.1 each
 
   -- Commands.
 

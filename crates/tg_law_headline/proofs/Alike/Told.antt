@@ -24,6 +24,7 @@ use Rattle.tg_law_layouts.specs.Moves.After.{after}
 use Rattle.tg_law_layouts.proofs.Moves.Lists.{contained}
 use Rattle.tg_law_layouts.proofs.Moves.Members.{has_contained}
 use Rattle.tg_law_replies.proofs.History.Members as history
+use Rattle.tg_law_replies.specs.History.Worlds.{entries_in}
 use Rattle.tg_law_replies.specs.Replies.Ended.{AppendsEnd}
 use Rattle.tg_law_replies.proofs.Books.Worlds.{run_book, start_book}
 use Rattle.tg_law_syncs.proofs.Follow.Says.{Other, NotSaved}
@@ -31,6 +32,8 @@ use Rattle.tg_law_syncs.proofs.Follow.Replies.{Fact, IsOther, IsOfTx, IsSaved, s
 use Rattle.tg_law_headline.specs.Alike.Rows.{AlikeRowsByRuns, InstallsAgree, OvertakesAgree, CopiesAgree, SavesAgree, SavesAgreeByRuns, MarksAgree, MarksAgreeByRuns}
 use Rattle.tg_law_headline.proofs.Alike.Reconfs.{TailOf, LatestPast, InstallTold, OvertakeTold}
 use Rattle.tg_law_headline.proofs.Alike.Since.{SayOk, CopyTold, SaveTold}
+use Rattle.tg_law_headline.proofs.Alike.Ends.{AnyFloor, any_floors}
+use Rattle.tg_law_headline.proofs.Alike.Trimmed.{trims_agree}
 use Rattle.tg_law_headline.proofs.Alike.Along.{Got, AskSent, Known, IsMark, all_say, all_marked}
 use Rattle.tg_law_headline.proofs.Alike.Marks.{MarkTold}
 use Rattle.tg_law_headline.proofs.Alike.Recording.{decisions_recorded, aborts_recorded, commits_recorded}
@@ -45,10 +48,10 @@ module _ (m : Meaning) (h : Header) (ms : Moves m) (r : Reaches m h ms (after m 
     k = t.mark.client
 
     abbrev say : WhatOf m → Type 0
-    say what = SayOk m (Got m h ms r k) (AskSent m h ms r k) t.noted.next t.noted.epoch k (Known m h ms r) what
+    say what = SayOk m (Got m h ms r k) (AskSent m h ms r k) t.noted.next t.noted.epoch k (Known m h ms r) AnyFloor h.objects (entries_in m end) what
 
     says : (what : WhatOf m) → (IsMark m h ms r what → ⊥) → t.mark.what ≡ what → say what
-    says what other is = by (all_say m h ms r t (has_contained end.told t i))
+    says what other is = by (all_say m h ms r AnyFloor (any_floors m h ms) t (has_contained end.told t i))
       where
         by : say t.mark.what ⊎ IsMark m h ms r t.mark.what → say what
         by (inl y) = subst (λ (z : WhatOf m). say z) is y
@@ -86,7 +89,7 @@ module _ (m : Meaning) (h : Header) (ms : Moves m) (r : Reaches m h ms (after m 
       other = x.other;
     }
 
-    copy : (u g s : ℕ) → CopyTold m (Got m h ms r k) (AskSent m h ms r k) t.noted.next t.noted.epoch k (Known m h ms r) u g s → CopiedBy m end t u g s
+    copy : (u g s : ℕ) → CopyTold m (Got m h ms r k) (AskSent m h ms r k) t.noted.next t.noted.epoch k (Known m h ms r) AnyFloor h.objects (entries_in m end) u g s → CopiedBy m end t u g s
     copy u g s x = record {
       epoch = x.layout.epoch;
       layout = x.layout;
@@ -102,7 +105,7 @@ module _ (m : Meaning) (h : Header) (ms : Moves m) (r : Reaches m h ms (after m 
       same_saved : (o o' : Oid) (p p' u u' : ℕ) → ◌≡◌ {A = WhatOf m} (told.Saved o p u) (told.Saved o' p' u') → (o' ≡ o) × (p' ≡ p) × (u' ≡ u)
       same_saved o o' p p' u u' e = (cc, cc, cc)
 
-      save : (o : Oid) (p u : ℕ) → t.mark.what ≡ told.Saved o p u → SaveTold m (Got m h ms r k) (AskSent m h ms r k) t.noted.next t.noted.epoch k (Known m h ms r) p u → Fact m h ms t.mark → SavedAt m end t o p u
+      save : (o : Oid) (p u : ℕ) → t.mark.what ≡ told.Saved o p u → SaveTold m (Got m h ms r k) (AskSent m h ms r k) t.noted.next t.noted.epoch k (Known m h ms r) AnyFloor h.objects (entries_in m end) p u → Fact m h ms t.mark → SavedAt m end t o p u
       save o p u is x (IsOther y) = absurd (subst (Other m) is y)
       save o p u is x (IsOfTx n y) = absurd (subst (NotSaved m) is y)
       save o p u is x (IsSaved before rest e split o' p' u' now what) =
@@ -188,7 +191,7 @@ module _ (m : Meaning) where
 
   pub marks_agree : MarksAgreeByRuns m
   marks_agree h ms w r legal = subst (λ (v : World m). Legal m v.cluster.objects (history m v) (trace m v) → MarksAgree m v) (sym r.goes.is)
-      (λ law before after t o n split is. mark m h ms at_end t (subst (λ (ts : List (Told m)). Contains ts t) (sym split) (history.contained_has _ t (history.has_right before (t ∷ after) t (inl refl)))) law before after o n split (all_marked m h ms at_end before after t o n split is)) legal
+      (λ law before after t o n split is. mark m h ms at_end t (subst (λ (ts : List (Told m)). Contains ts t) (sym split) (history.contained_has _ t (history.has_right before (t ∷ after) t (inl refl)))) law before after o n split (all_marked m h ms at_end AnyFloor (any_floors m h ms) before after t o n split is)) legal
     where
       at_end : Reaches m h ms (after m h ms)
       at_end = subst (Reaches m h ms) r.goes.is r
@@ -203,6 +206,7 @@ module _ (m : Meaning) where
     copies = copies_agree h ms w r;
     saves = saves_agree h ms w r ends;
     marks = marks_agree h ms w r legal;
+    trims = trims_agree m h ms w r finds ends;
     decisions_recorded = decisions_recorded m h ms w r finds ends;
     aborts_recorded = aborts_recorded m h ms w r finds ends;
     commits_recorded = commits_recorded m h ms w r trims finds ends;

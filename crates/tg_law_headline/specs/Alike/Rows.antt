@@ -12,7 +12,7 @@ use Rattle.tg_model.specs.Legal.{Legal}
 use Rattle.tg_protocol.specs.Logs.{outcome}
 use Rattle.tg_protocol.specs.Worlds.{World, Told, log, history, trace}
 use Rattle.tg_protocol.specs.Runs.{Moves, Reaches}
-use Rattle.tg_protocol.specs.Alike.{HasEntry, HasRecord, LogAgrees, OfTx, SavedAt, CopiedBy, MarkedBy, InstalledBy, OvertakenBy, Recorded, RecordedNow}
+use Rattle.tg_protocol.specs.Alike.{HasEntry, HasRecord, LogAgrees, OfTx, SavedAt, TrimmedTo, CopiedBy, MarkedBy, InstalledBy, OvertakenBy, Recorded, RecordedNow}
 use Rattle.tg_law_walks.specs.Lists.Spared.{TrimsWereSpare}
 use Rattle.tg_law_replies.specs.Replies.Ended.{AppendsEnd}
 use Rattle.tg_law_replies.specs.Replies.Laws.{ClientsFind}
@@ -101,6 +101,14 @@ module _ (m : Meaning) where
   abbrev pub CommitsRecordedByRuns : Type 0
   CommitsRecordedByRuns = (h : Header) (ms : Moves m) (w : World m) → Reaches m h ms w → TrimsWereSpare m h ms → ClientsFind m h ms w → AppendsEnd m h ms w → CommitsRecorded w
 
+  -- What is told of a trim: a tail was told since its command began, below which the directory has this floor, and each unit of
+  -- a layout that was decided for the epoch of its beginning, or a later one, has trimmed up to it.
+  abbrev pub TrimsAgree : World m → Type 0
+  TrimsAgree w = (t : Told m) (n : ℕ) → Contains w.told t → t.mark.what ≡ told.Trimmed n → TrimmedTo m w t n
+
+  abbrev pub TrimsAgreeByRuns : Type 0
+  TrimsAgreeByRuns = ByRunsThatFind TrimsAgree
+
   -- the rows of `Alike` that are had here
   pub record AlikeRows (w : World m) : Type 0 where
     pub aborts : AbortsAgree w
@@ -111,6 +119,7 @@ module _ (m : Meaning) where
     pub copies : CopiesAgree w
     pub saves : SavesAgree w
     pub marks : MarksAgree w
+    pub trims : TrimsAgree w
     pub decisions_recorded : DecisionsRecorded w
     pub aborts_recorded : AbortsRecorded w
     pub commits_recorded : CommitsRecorded w
