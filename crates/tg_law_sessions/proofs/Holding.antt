@@ -3,7 +3,7 @@ use Rattle.tg_kind.specs.Meaning.{Meaning}
 use Rattle.tg_protocol.specs.Runs.{Always}
 use Rattle.tg_protocol.specs.Worlds.{World, start}
 use Rattle.tg_any.specs.AllKinds.{all_kinds}
-use Rattle.tg_law_store.specs.Headline.Store.{StoreHolds}
+use Rattle.tg_law_headline.specs.Runs.Runs.{RunHolds}
 use Rattle.tg_law_headline.proofs.Runs.Holding.{runs_hold}
 use Rattle.tg_law_sessions.specs.Sessions.{run}
 use Rattle.tg_law_sessions.specs.Holding.{MakesARunWhere, EachOrder, moves_of, StoreSessionsHold}
@@ -17,7 +17,7 @@ always_meets m P each h sessions steps header are kept order =
     record { made = r; holds = each h (moves_of m r.events) (run m (start m h) r.events) r.reaches }
 
 pub store_sessions_hold : StoreSessionsHold
-store_sessions_hold = always_meets all_kinds StoreHolds runs_hold
+store_sessions_hold = always_meets all_kinds RunHolds runs_hold
 
 pub nodes_hold : NodesHold
 nodes_hold h deeds steps header are kept order = record {

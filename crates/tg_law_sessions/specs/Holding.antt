@@ -10,7 +10,7 @@ use Rattle.tg_protocol.specs.Worlds.{World, start}
 use Rattle.tg_protocol.specs.Runs.{LawfulCommand, Moves, Takes, Reaches}
 use Rattle.tg_protocol.specs.Headline.{Holds}
 use Rattle.tg_any.specs.AllKinds.{all_kinds}
-use Rattle.tg_law_store.specs.Headline.Store.{StoreHolds}
+use Rattle.tg_law_headline.specs.Runs.Runs.{RunHolds}
 use Rattle.tg_law_sessions.specs.Sessions.{Step, session, IsOrder, AreEventsOf, Shows, Keeps, run}
 
 module _ (m : Meaning) where
@@ -53,4 +53,4 @@ module _ (m : Meaning) where
 
 -- in the store
 abbrev pub StoreSessionsHold : Type 0
-StoreSessionsHold = EachOrder all_kinds (MakesARunWhere all_kinds StoreHolds)
+StoreSessionsHold = EachOrder all_kinds (MakesARunWhere all_kinds RunHolds)

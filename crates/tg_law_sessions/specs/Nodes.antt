@@ -4,7 +4,7 @@ use Rattle.tg_base.specs.Clusters.{Header, IsHeader}
 use Rattle.tg_base.specs.declared.ids.NodeId.{NodeId}
 use Rattle.tg_any.specs.AllKinds.{all_kinds}
 use Rattle.tg_node.specs.Sessions.{AnyInput, Deed}
-use Rattle.tg_law_store.specs.Headline.Store.{StoreHolds}
+use Rattle.tg_law_headline.specs.Runs.Runs.{RunHolds}
 use Rattle.tg_law_sessions.specs.Sessions.{Step, session, IsOrder}
 use Rattle.tg_law_sessions.specs.Holding.{AreSessions, MakesARunWhere}
 use Rattle.tg_law_sessions.specs.Whole.{inputs_in, IsSessionOf}
@@ -16,7 +16,7 @@ inputs_of_all deeds n = inputs_in n (deeds n)
 -- The steps of the nodes of a cluster, each of which does its own deeds, are those of a run that holds; and each node, the packets
 -- that it sent and its replies are those of its deeds.
 pub record NodesMake (h : Header) (deeds : NodeId → List Deed) (steps : List (Step all_kinds)) : Type 0 where
-  pub run : MakesARunWhere all_kinds StoreHolds h (inputs_of_all deeds) steps
+  pub run : MakesARunWhere all_kinds RunHolds h (inputs_of_all deeds) steps
   pub nodes : (n : NodeId) → IsSessionOf h n (deeds n)
 
 -- So it is in each order that keeps that of each node's own steps, and in which a packet is sent before it is taken.

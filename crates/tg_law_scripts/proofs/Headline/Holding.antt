@@ -2,7 +2,7 @@
 use Rattle.std.proofs.Common.{subst}
 use Rattle.tg_replay.specs.Runs.{world_of}
 use Rattle.tg_live.specs.Scripts.{recording}
-use Rattle.tg_law_store.specs.Headline.Store.{StoreHolds}
+use Rattle.tg_law_headline.specs.Runs.Runs.{RunHolds}
 use Rattle.tg_law_headline.proofs.Runs.Holding.{runs_hold}
 use Rattle.tg_law_scripts.specs.Headline.Headline.{EachScriptHolds, EachLiveHolds}
 use Rattle.tg_law_scripts.proofs.Scripts.Reaching.{each_script_reaches}
@@ -14,4 +14,4 @@ scripts_hold s is = let r = each_script_reaches s is in record { reached = r; ho
 pub lives_hold : EachLiveHolds
 lives_hold s answers end is lived =
     let r = each_live_reaches s answers end is lived in
-    record { recorded = r; holds = subst StoreHolds r.world (runs_hold s.header r.reached.moves (world_of (recording s.header end.live)) r.reached.reaches) }
+    record { recorded = r; holds = subst RunHolds r.world (runs_hold s.header r.reached.moves (world_of (recording s.header end.live)) r.reached.reaches) }

@@ -5,13 +5,13 @@ use Rattle.tg_replay.specs.Runs.{Script, IsScript, world_of}
 use Rattle.tg_replay.specs.Headline.{IsReached}
 use Rattle.tg_live.specs.Lives.{Answer, Live, LiveRan, IsLived, opened}
 use Rattle.tg_live.specs.Scripts.{IsLiveScript}
-use Rattle.tg_law_store.specs.Headline.Store.{StoreHolds}
+use Rattle.tg_law_headline.specs.Runs.Runs.{RunHolds}
 use Rattle.tg_law_scripts.specs.Lives.Lives.{RecordsScript}
 
 -- A run of lawful events comes to the script's world, and what is told there holds.
 pub record ScriptHolds (s : Script) : Type 0 where
   pub reached : IsReached s
-  pub holds : StoreHolds (world_of s)
+  pub holds : RunHolds (world_of s)
 
 abbrev pub EachScriptHolds : Type 0
 EachScriptHolds = (s : Script) → IsScript s → ScriptHolds s
@@ -20,7 +20,7 @@ EachScriptHolds = (s : Script) → IsScript s → ScriptHolds s
 -- holds.
 pub record LiveHolds (h : Header) (l : Live) : Type 0 where
   pub recorded : RecordsScript h l
-  pub holds : StoreHolds l.world
+  pub holds : RunHolds l.world
 
 -- whatever the link hands over, and wherever a limit stops the run
 abbrev pub EachLiveHolds : Type 0
