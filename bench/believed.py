@@ -7,7 +7,7 @@ import os
 import re
 
 TOP = os.path.dirname(os.path.dirname(os.path.abspath(__file__)))
-IMPORT = re.compile(r"^\s*(?:ghost )?(?:pub )?use Rattle\.(\w+)\.specs\.(\w+)", re.M)
+IMPORT = re.compile(r"^\s*(?:ghost )?(?:pub )?use Rattle\.(\w+)\.specs\.([\w.]+)", re.M)
 
 
 def modules():
@@ -15,7 +15,10 @@ def modules():
     found, left = set(), [os.path.join("crates", "tango", "src", "top.rt")]
     while left:
         with open(os.path.join(TOP, left.pop()), encoding="utf-8") as file:
-            paths = {os.path.join("crates", crate, "specs", f"{module}.antt") for crate, module in IMPORT.findall(file.read())}
+            found_in = IMPORT.findall(file.read())
+        # a module may lie in another, and what follows its name is a definition's
+        parts = [(crate, name.rstrip(".").split(".")) for crate, name in found_in]
+        paths = {os.path.join("crates", crate, "specs", *names[:depth]) + ".antt" for crate, names in parts for depth in range(1, len(names) + 1)}
         new = {path for path in paths - found if os.path.exists(os.path.join(TOP, path))}
         found |= new
         left += new

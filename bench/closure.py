@@ -21,7 +21,7 @@ class Module:
     def __init__(self, crate, name):
         self.blocks, self.names, self.wholes = {}, {}, {}
         last = None
-        for line in open(os.path.join('crates', crate, 'specs', name + '.antt')):
+        for line in open(os.path.join('crates', crate, 'specs', name.replace('.', os.sep) + '.antt')):
             line = line.split('--')[0].rstrip()
             use = USE.match(line)
             if use:

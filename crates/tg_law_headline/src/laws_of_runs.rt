@@ -1,10 +1,11 @@
 //! The headline of every run of the store: what holds in the world that it comes to.
 
-ghost use Rattle.tg_law_headline.specs.Runs.Runs.{EachLogHolds, EachRunHolds};
+ghost use Rattle.tg_law_headline.specs.Runs.Logs.{EachLogHolds};
+ghost use Rattle.tg_law_headline.specs.Runs.Runs.{EachRunHolds};
 
 /// Whatever losses, repeats, reorderings, stops and reconfigurations a run takes: the stamps of its history rise, its replies
-/// are those of the plain machine over that history and in order, and what it tells of outcomes, of past positions and of
-/// rescues is true of its log, as are the log's decision records and checkpoints.
+/// are those of the plain machine over that history and in order, and what it tells of the log, of past positions and of
+/// rescues is true, as are the log's decision records and checkpoints (`Holds` of `tg_protocol`).
 pub fn runs_hold()
     ensures { EachRunHolds }
 {}

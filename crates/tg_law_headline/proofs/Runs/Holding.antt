@@ -32,7 +32,8 @@ use Rattle.tg_law_store.specs.Headline.Store.{StoreHolds}
 use Rattle.tg_law_store.proofs.Headline.Store.{store_runs_hold}
 use Rattle.tg_law_store.proofs.Joint.Holding.{steps_hold}
 use Rattle.tg_law_headline.specs.Alike.Rows.{AlikeRows}
-use Rattle.tg_law_headline.specs.Runs.Runs.{EachRunHolds, EachLogHolds}
+use Rattle.tg_law_headline.specs.Runs.Logs.{EachLogHolds}
+use Rattle.tg_law_headline.specs.Runs.Runs.{EachRunHolds}
 use Rattle.tg_law_headline.proofs.Alike.Told.{alike_rows}
 
 store_holds : (h : Header) (ms : Moves all_kinds) (w : World all_kinds) → Reaches all_kinds h ms w → StoreHolds w
