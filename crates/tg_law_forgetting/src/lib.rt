@@ -1,0 +1,6 @@
+//! Forgetting: what of a log may be forgotten, and what stays, in every run of the store.
+#![tactic(auto)]
+
+mod laws;
+
+pub use laws::serial_first;
