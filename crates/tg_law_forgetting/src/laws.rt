@@ -1,11 +1,23 @@
 //! Each claim is of every run of the store, with no premise.
 
 ghost use Rattle.tg_any.specs.AllKinds.{all_kinds};
-ghost use Rattle.tg_protocol.specs.Holding.{SerialFirst};
+ghost use Rattle.tg_protocol.specs.Holding.{FloorsStay, SerialFirst, TrimsSpare};
 ghost use Rattle.tg_protocol.specs.Runs.{Always};
 
 /// Where each transaction of a run has only asks, or only puts, its answers, its commits and the entries of its history are right; so
 /// they are in the store wherever it has both, too.
 pub fn serial_first()
     ensures { Always all_kinds (SerialFirst all_kinds) }
+{}
+
+/// Below the floor of the directory that a client has played the log is whole. So it is below the floor at any position: whoever marked
+/// an object had found its stream settled up to the mark, and each position below was issued to some object's stream.
+pub fn floors_stay()
+    ensures { Always all_kinds (FloorsStay all_kinds) }
+{}
+
+/// What a unit has trimmed stays in the log, and each object with an entry there has a checkpoint that stands past what is trimmed and
+/// reaches it.
+pub fn trims_spare()
+    ensures { Always all_kinds (TrimsSpare all_kinds) }
 {}

@@ -3,4 +3,4 @@
 
 mod laws;
 
-pub use laws::serial_first;
+pub use laws::{floors_stay, serial_first, trims_spare};
