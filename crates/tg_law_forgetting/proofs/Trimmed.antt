@@ -91,7 +91,7 @@ module _ (h : Header) (ms : Moves all_kinds) (r : Reaches all_kinds h ms (after 
   w = after all_kinds h ms
 
   -- a checkpoint that saves an object by some epoch stands in the log
-  saved_here : (o : Oid) (epoch below n : ℕ) → n ≤ below → IsSaved all_kinds (after all_kinds h ms) o epoch below → HasBasePast all_kinds (after all_kinds h ms) o n
+  pub saved_here : (o : Oid) (epoch below n : ℕ) → n ≤ below → IsSaved all_kinds (after all_kinds h ms) o epoch below → HasBasePast all_kinds (after all_kinds h ms) o n
   saved_here o epoch below n le s = record {
     at = s.at;
     later = (let a = s.after in omega (arith, a, le));

@@ -1,7 +1,7 @@
 //! Each claim is of every run of the store, with no premise.
 
 ghost use Rattle.tg_any.specs.AllKinds.{all_kinds};
-ghost use Rattle.tg_protocol.specs.Holding.{FloorsStay, SerialFirst, TrimsSpare};
+ghost use Rattle.tg_protocol.specs.Holding.{FloorsStay, MarksRest, SerialFirst, TrimsSpare};
 ghost use Rattle.tg_protocol.specs.Runs.{Always};
 
 /// Where each transaction of a run has only asks, or only puts, its answers, its commits and the entries of its history are right; so
@@ -20,4 +20,10 @@ pub fn floors_stay()
 /// reaches it.
 pub fn trims_spare()
     ensures { Always all_kinds (TrimsSpare all_kinds) }
+{}
+
+/// An object is marked only where it has a checkpoint that stands past the mark and reaches it, and where each record of its stream below
+/// the mark that needs a decision record has one: whoever forgot had found both, or had met a trim, which came of an earlier mark.
+pub fn marks_rest()
+    ensures { Always all_kinds (MarksRest all_kinds) }
 {}
