@@ -12,7 +12,7 @@ use Rattle.tg_protocol.specs.Words.{directory}
 use Rattle.tg_protocol.specs.Chosen.{IsDecided}
 use Rattle.tg_protocol.specs.Holding.{HasCell, FloorsStay}
 use Rattle.tg_protocol.specs.Logs.{history_of}
-use Rattle.tg_protocol.specs.Worlds.{World, history}
+use Rattle.tg_protocol.specs.Worlds.{World, client, history}
 use Rattle.tg_protocol.specs.Runs.{Moves, Reaches, Passes, Always}
 use Rattle.tg_law_layouts.specs.Moves.After.{after}
 use Rattle.tg_law_layouts.proofs.Layouts.Deciding.{layouts_are_sound}
@@ -165,7 +165,7 @@ module _ (h : Header) (ms : Moves all_kinds) (r : Reaches all_kinds h ms (after 
   floor_is n = ap (λ (c : Header). all_kinds.floor (state_below all_kinds c.objects (entries_in all_kinds w) n directory)) (has_header all_kinds h ms)
 
   stay : FloorsStay all_kinds (after all_kinds h ms)
-  stay k p less = let n = (Rattle.tg_protocol.specs.Worlds.client all_kinds w k).played in let e = floor_is n in cell_below n p (omega (arith, less, e))
+  stay k p less = let n = (client all_kinds w k).played in let e = floor_is n in cell_below n p (omega (arith, less, e))
 
 pub floors_stay : Always all_kinds (FloorsStay all_kinds)
 floors_stay h ms w r = subst (FloorsStay all_kinds) (sym r.goes.is) (stay h ms (subst (Reaches all_kinds h ms) r.goes.is r))

@@ -1,7 +1,7 @@
 -- An object is marked only where it has a checkpoint that reaches the mark, and where each record of its stream below the mark that
 -- needs a decision record has one: whoever forgot had found both, or had met a trim that came of an earlier mark.
 use Rattle.std.proofs.Common.{◌≡◌, ◌⊎◌, ℕ, ◌<◌, ◌≤◌, List, [], ◌∷◌, ◌++◌, length, Bool, true, refl, sym, ap, ◌∙◌, subst, inl, inr, arith, Option, Some, None}
-use Rattle.std.specs.Prelude.{Contains, not, nat_le, ◌&&◌, ◌==◌}
+use Rattle.std.specs.Prelude.{Contains, not, nat_le, ◌==◌}
 use Rattle.tg_base.specs.Clusters.{Header}
 use Rattle.tg_base.specs.declared.ids.Oid.{Oid}
 use Rattle.tg_base.specs.declared.marks.ReadMark.{ReadMark}
@@ -20,7 +20,7 @@ use Rattle.tg_protocol.specs.Alike.{HasEntry, HasDecision, MarkedBy}
 use Rattle.tg_protocol.specs.Checkpoints.{trim_of}
 use Rattle.tg_protocol.specs.Entries.{body_commits, decides, is_commit, lists}
 use Rattle.tg_protocol.specs.Holding.{HasBasePast, MarksRest}
-use Rattle.tg_protocol.specs.Logs.{history_of, op_if, ops_of, done_at}
+use Rattle.tg_protocol.specs.Logs.{history_of, op_if, ops_of}
 use Rattle.tg_protocol.specs.Worlds.{World, Told, history}
 use Rattle.tg_protocol.specs.Runs.{Moves, Takes, Reaches, Always}
 use Rattle.tg_law_layouts.specs.Moves.After.{after}
@@ -130,11 +130,16 @@ module _ (h : Header) (ms : Moves all_kinds) (r : Reaches all_kinds h ms (after 
 
   record_of : (before : List (Told all_kinds)) (k : ℕ) (o : Oid) (n : ℕ) → MarkedBy all_kinds (after all_kinds h ms) before k o n → MarkRecord o n
   unfolding history history_of
-  record_of before k o n y = record { at = made.at; entry = made.entry; write = x.write; here = contained_has es (made.at, made.entry) made.here; writes = contained_has (writes_of made.entry) x.write x.here; to = x.to; reads = x.is }
+  record_of before k o n y = record {
+    at = made.at;
+    entry = made.entry;
+    write = x.write;
+    here = contained_has (entries_in all_kinds w) (made.at, made.entry) made.here;
+    writes = contained_has (writes_of made.entry) x.write x.here;
+    to = x.to;
+    reads = x.is;
+  }
     where
-      es : List (ℕ × Entry)
-      es = entries_in all_kinds (after all_kinds h ms)
-
       made : Made all_kinds [] (entries_in all_kinds (after all_kinds h ms)) y.done
       made = has_made all_kinds [] 0 (entries_in all_kinds (after all_kinds h ms)) y.done (logs_rise all_kinds (after all_kinds h ms)) (has_contained (history all_kinds w) y.done y.in_history)
 

@@ -1,29 +1,29 @@
--- A mark that is told is of an object of the format: the command that asked for it named one.
-use Rattle.std.proofs.Common.{true, ◌≡◌, ◌⊎◌, ℕ, ◌+◌, ◌<◌, ◌≤◌, List, [], ◌∷◌, ◌++◌, map, refl, sym, ap, ◌∙◌, subst, inl, inr, arith, Option, Some, None}
+-- A mark that is told is of an object of the format: the command that asked for it named one. A mark is told right after the commit of
+-- its own transaction, and in no other turn (as in `Alike.Along` of tg_law_headline); so its client had it in hand.
+use Rattle.std.proofs.Common.{◌≡◌, ◌⊎◌, ℕ, ◌+◌, ◌<◌, ◌≤◌, List, [], ◌∷◌, ◌++◌, map, true, refl, sym, ap, ◌∙◌, subst, inl, inr, arith, Option, Some, None}
 use Rattle.tg_base.specs.Layouts.{Layout}
 use Rattle.tg_base.specs.Clusters.{Header}
 use Rattle.tg_base.specs.declared.ids.NodeId.{NodeId}
+use Rattle.tg_base.specs.declared.ids.Oid.{Oid}
 use Rattle.tg_base.specs.declared.msg.Msg.{Msg}
 use Rattle.tg_base.specs.declared.msg.Msg.TheVariants as msg
 use Rattle.tg_base.specs.declared.packet.Out.{Out}
 use Rattle.tg_base.specs.declared.packet.Packet.{Packet}
+use Rattle.tg_entry.specs.Records.{is_object}
 use Rattle.tg_kind.specs.Meaning.{Meaning}
 use Rattle.tg_model.specs.declared.command.Command.TheVariants as cmd
 use Rattle.tg_model.specs.declared.command.Event.TheVariants.{Command as Commands}
 use Rattle.tg_model.specs.declared.trace.What.TheVariants as told
-use Rattle.tg_entry.specs.Records.{is_object}
 use Rattle.tg_model.specs.Kinds.{EventOf, WhatOf, NoteOf}
-use Rattle.tg_model.specs.Traces.{Trace, Tells}
-use Rattle.tg_protocol.specs.Words.{unit_id, client_id, numbers, directory}
+use Rattle.tg_protocol.specs.Words.{unit_id, client_id, numbers}
 use Rattle.tg_protocol.specs.Layouts.{first_layout}
 use Rattle.tg_protocol.specs.Requests.{Waits}
 use Rattle.tg_protocol.specs.Views.{Entries}
 use Rattle.tg_protocol.specs.Replies.{reply, IsLatest}
 use Rattle.tg_protocol.specs.Reconfiguring.{ReconfWork, Telling, Reconf}
 use Rattle.tg_protocol.specs.Clients.{Task, Syncing, Walking, Appending, Trimming, Copying', Reconfiguring, Hand, Doing, Work, Client, new_client, refusal}
-use Rattle.tg_protocol.specs.Answers.{note}
 use Rattle.tg_protocol.specs.ClientSteps.{ClientTurn, task_in, task_awaited, client_command, client_deliver, client_tick, tick_by}
-use Rattle.tg_protocol.specs.Worlds.{CommandStart, World, Told, start, client, noted_of, happens, trace}
+use Rattle.tg_protocol.specs.Worlds.{CommandStart, World, Told, start, client, noted_of, happens}
 use Rattle.tg_protocol.specs.Chosen.{IsDecided}
 use Rattle.tg_protocol.specs.Runs.{Moves, Next, Takes, Reaches, run}
 use Rattle.tg_law_layouts.specs.Moves.After.{after}
@@ -59,28 +59,26 @@ use Rattle.tg_law_headline.proofs.Alike.Since.{SeesFloor, SayOk, AllSay, Each, M
 use Rattle.tg_law_headline.proofs.Alike.Speaks.{Noted, Before, Anew, Delivered, From, Speaks, Silent, Speaks', Turns, told_of, speaks}
 use Rattle.tg_law_headline.proofs.Alike.Marks.{InHand, both, turned_hand}
 
-use Rattle.tg_base.specs.declared.ids.Oid.{Oid}
-
 is_latest : (y : Msg) (q : Layout) → reply y ≡ IsLatest q → y ≡ msg.Latest q
 unfolding reply
 is_latest y q h = grind arith
 
 module _ (m : Meaning) (h : Header) (ms : Moves m) (r : Reaches m h ms (after m h ms)) where
-  abbrev pub end : World m
+  abbrev end : World m
   end = after m h ms
 
   -- what a client got, and what it asked, by the end
-  abbrev pub Got : ℕ → NodeId → ℕ → Msg → Type 0
+  abbrev Got : ℕ → NodeId → ℕ → Msg → Type 0
   Got k from rid y = Has end.packets (record { from = from; to = client_id k; rid = rid; msg = y })
 
-  abbrev pub AskSent : ℕ → NodeId → ℕ → Msg → Type 0
+  abbrev AskSent : ℕ → NodeId → ℕ → Msg → Type 0
   AskSent k to rid y = Has end.packets (record { from = client_id k; to = to; rid = rid; msg = y })
 
-  abbrev pub Known : Layout → Type 0
+  abbrev Known : Layout → Type 0
   Known q = IsDecided m end q.epoch q
 
   -- the entries of the log to which the run comes
-  abbrev pub es : Entries
+  abbrev es : Entries
   es = entries_in m end
 
   -- Where walks end a client that trims sees a floor.

@@ -1,5 +1,5 @@
 -- In every run of the store the log's floors rest on checkpoints.
-use Rattle.std.proofs.Common.{◌≡◌, refl, sym, subst, true, arith}
+use Rattle.std.proofs.Common.{◌≡◌, true, arith}
 use Rattle.std.proofs.lemmas.Bool.Decides.{nat_tests}
 use Rattle.tg_base.specs.Clusters.{Header}
 use Rattle.tg_base.specs.declared.ids.Oid.{Oid}
@@ -7,7 +7,6 @@ use Rattle.tg_entry.specs.Records as records
 use Rattle.tg_dir.specs.Spellings.{is_number}
 use Rattle.tg_any.specs.Anys.{is_op}
 use Rattle.tg_any.specs.AllKinds.{all_kinds}
-use Rattle.tg_protocol.specs.Worlds.{World}
 use Rattle.tg_protocol.specs.Runs.{Moves, Reaches}
 use Rattle.tg_law_layouts.specs.Moves.After.{after}
 use Rattle.tg_law_replies.specs.Replies.Ended.{AppendsEnd}

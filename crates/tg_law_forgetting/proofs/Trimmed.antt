@@ -1,6 +1,5 @@
 -- What a unit has trimmed is in the log, and whatever stands there is saved past it.
-use Rattle.std.proofs.Common.{◌≡◌, ◌⊎◌, ℕ, zero, suc, ◌<◌, ◌≤◌, List, [], ◌∷◌, true, refl, sym, ap, ◌∙◌, subst, inl, inr, arith, Option, Some}
-use Rattle.std.specs.Prelude.{Contains, slice_index_or}
+use Rattle.std.proofs.Common.{◌≡◌, ◌⊎◌, ℕ, zero, suc, ◌<◌, ◌≤◌, List, [], ◌∷◌, true, refl, sym, ap, ◌∙◌, subst, inl, inr, arith, Option}
 use Rattle.tg_base.specs.Clusters.{Header}
 use Rattle.tg_base.specs.declared.cell.Cell.{Cell}
 use Rattle.tg_base.specs.declared.cell.Cell.TheVariants.{Data}
@@ -14,7 +13,7 @@ use Rattle.tg_any.specs.AllKinds.{all_kinds}
 use Rattle.tg_protocol.specs.Alike.{HasEntry}
 use Rattle.tg_protocol.specs.Entries.{lists}
 use Rattle.tg_protocol.specs.Holding.{HasBasePast, TrimsSpare}
-use Rattle.tg_protocol.specs.Logs.{entries_of, entry_at}
+use Rattle.tg_protocol.specs.Logs.{entries_of}
 use Rattle.tg_protocol.specs.Pages.{cell_entry}
 use Rattle.tg_protocol.specs.Units.{new_unit}
 use Rattle.tg_protocol.specs.Worlds.{World, start, unit, log, happens, next_event}

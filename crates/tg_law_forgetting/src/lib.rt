@@ -3,4 +3,4 @@
 
 mod laws;
 
-pub use laws::{floors_stay, marks_rest, serial_first, trims_spare};
+pub use laws::{floors_stay, forgetting_holds, marks_rest, serial_first, trims_spare};
