@@ -177,7 +177,7 @@ module _ (h : Header) (ms : Moves all_kinds) (r : Reaches all_kinds h ms (after 
       trimmed : (low : ℕ) → trim_of f.walk.end.work.trims o ≡ Some low → p < low → HasDecision all_kinds (after all_kinds h ms) p
       trimmed low is under =
           let d = told_decided all_kinds is_number is_op kinds_have_directory joints owns h ms r were steps p e o (commit_of e needs) needs stands here (length b) b on f.walk.came.split (omega arith) last low
-              (walks_meet_told_trims all_kinds h b (after all_kinds h b) (before_reached all_kinds h ms r b on f.walk.came.split) f.walk.came.event x.entry.head.client f.walk.end f.walk.came.walked o low is) under in
+          (walks_meet_told_trims all_kinds h b (after all_kinds h b) (before_reached all_kinds h ms r b on f.walk.came.split) f.walk.came.event x.entry.head.client f.walk.end f.walk.came.walked o low is) under in
           later d.0 d.1
 
       decided_by : HasDecision all_kinds (after all_kinds h ms) p
