@@ -1,0 +1,4 @@
+pub mod Past
+pub mod Turns
+pub mod Acts
+pub mod Steps
