@@ -1,4 +1,5 @@
 pub mod Past
+pub mod Quiet
 pub mod Turns
 pub mod Acts
 pub mod Steps

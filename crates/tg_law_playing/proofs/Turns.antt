@@ -35,6 +35,7 @@ use Rattle.tg_law_layouts.proofs.Moves.Turns.{Begins, begins_walk}
 use Rattle.tg_law_syncs.proofs.Known.Ways.{played_view}
 use Rattle.tg_law_trims.proofs.Leaves.Ways.{IsLast, Keeps, Came, Rests, Appends, Syncs, Trims as Trims', WalkedWay, Plays, LeavesView, walked_way}
 use Rattle.tg_law_trims.proofs.Leaves.Walks.{MetBy, goes_by, feed_by}
+use Rattle.tg_law_playing.proofs.Quiet.{SyncQuiet, SyncNext, sync_quiet, AppendQuiet, AppendNext, append_quiet, append_again_quiet}
 use Rattle.tg_law_playing.proofs.Past.{cell_gone, WalkPast, NextPast, goes_past, starts_past, feed_past, played_high}
 
 -- A command was given where the client's view stood at a position, and in this turn it stood at another; a unit has answered the
@@ -59,9 +60,9 @@ module _ (m : Meaning) (given : ℕ) (Met : Type 0) where
   PurposeAt v y = Unit {0}
 
   abbrev pub TaskAt : CommandOf m → ℕ → Option (View m) → Task m → Type 0
-  TaskAt x lo v (Syncing s) = AsGiven v
+  TaskAt x lo v (Syncing s) = AsGiven v × SyncQuiet s.work
   TaskAt x lo v (Walking k os) = AsGiven v × (ReadsForView m x → Past lo × Walks k)
-  TaskAt x lo v (Appending a y) = PurposeAt v y
+  TaskAt x lo v (Appending a y) = PurposeAt v y × AppendQuiet a.work
   TaskAt x lo v (Copying' y) = ReadsForView m x → ⊥
   TaskAt x lo v t = Unit {0}
 
@@ -91,9 +92,9 @@ module _ (m : Meaning) (given : ℕ) (Met Next' : Type 0) (later : Met → Next'
   purpose_later v (Marks n o u) k = tt
 
   task_later : (x : CommandOf m) (lo : ℕ) (v : Option (View m)) (t : Task m) → TaskAt m given Met x lo v t → TaskAt m given Next' x lo v t
-  task_later x lo v (Syncing s) k = as_later v k
+  task_later x lo v (Syncing s) k = (as_later v k.0, k.1)
   task_later x lo v (Walking w os) k = (as_later v k.0, λ r. let y = k.1 r in (past_later lo y.0, (past_later w.lo y.1.0, λ j is. past_later j.place.pos (y.1.1 j is))))
-  task_later x lo v (Appending a y) k = purpose_later v y k
+  task_later x lo v (Appending a y) k = (purpose_later v y k.0, k.1)
   task_later x lo v (Trimming t) k = tt
   task_later x lo v (Copying' y) k = k
   task_later x lo v (Reconfiguring r) k = tt
@@ -130,11 +131,11 @@ module _ (m : Meaning) (given top : ℕ) (Met : Type 0) where
 
   syncs_fine : (c : Client m) (w : Work m) (os : List Oid) → K c → J c → Fine (syncs m c w os)
   unfolding syncs sync_start
-  syncs_fine c w os k j = (k, j)
+  syncs_fine c w os k j = ((k, tt), j)
 
   appends_fine : (c : Client m) (w : Work m) (e : Entry) (y : Purpose m) (ns : List (NoteOf m)) → PurposeAt m given Met c.view y → J c → Fine (appends m c w e y ns)
   unfolding appends append_start
-  appends_fine c w e y ns k j = (k, j)
+  appends_fine c w e y ns k j = ((k, tt), j)
 
   trims_fine : (c : Client m) (w : Work m) (below : ℕ) → J c → Fine (trim_begun m c w below (trim_start c.stand below c.next))
   unfolding trim_start
@@ -204,13 +205,13 @@ module _ (m : Meaning) (given top : ℕ) (Met : Type 0) where
       by None = walks_fine w.oids c _ k j (lo_past c w.command k)
       by (Some s) = walks_fine w.oids (knows m c (Some s)) _ k j (lo_past c w.command k)
 
-  on_sync_fine : (c : Client m) (w : Work m) (t : Turn Sync Confirmed) → K c → J c → Fine (on_sync m c w t)
-  on_sync_fine c w t k j = by t.to
+  on_sync_fine : (c : Client m) (w : Work m) (t : Turn Sync Confirmed) → SyncNext t.to → K c → J c → Fine (on_sync m c w t)
+  on_sync_fine c w t q k j = by t.to q
     where
-      by : (to : Next Sync Confirmed) → Fine (sync_to m (after_turn m c t) (met m w t) t.besides to)
-      by (Goes s) = (k, j)
-      by (Learns s) = (k, j)
-      by (Ends x) = synced_fine (after_turn m c t) (met m w t) x k j
+      by : (to : Next Sync Confirmed) → SyncNext to → Fine (sync_to m (after_turn m c t) (met m w t) t.besides to)
+      by (Goes s) q = ((k, q), j)
+      by (Learns s) q = ((k, q), j)
+      by (Ends x) q = synced_fine (after_turn m c t) (met m w t) x k j
 
   -- Walks.
 
@@ -285,13 +286,13 @@ module _ (m : Meaning) (given top : ℕ) (Met : Type 0) where
   append_ended_fine c w (Marks n o u) (Full b) k j = (tt, j)
   append_ended_fine c w (Marks n o u) (Forgotten p b) k j = (tt, j)
 
-  on_append_fine : (c : Client m) (w : Work m) (x : Purpose m) (t : Turn Append AppendEnd) → PurposeAt m given Met c.view x → J c → Fine (on_append m c w x t)
-  on_append_fine c w x t k j = by t.to
+  on_append_fine : (c : Client m) (w : Work m) (x : Purpose m) (t : Turn Append AppendEnd) → AppendNext t.to → PurposeAt m given Met c.view x → J c → Fine (on_append m c w x t)
+  on_append_fine c w x t q k j = by t.to q
     where
-      by : (to : Next Append AppendEnd) → Fine (append_to m (after_turn m c t) (met m w t) x t.besides to)
-      by (Goes a) = (k, j)
-      by (Learns a) = (k, j)
-      by (Ends e) = append_ended_fine (after_turn m c t) (met m w t) x e k j
+      by : (to : Next Append AppendEnd) → AppendNext to → Fine (append_to m (after_turn m c t) (met m w t) x t.besides to)
+      by (Goes a) q = ((k, q), j)
+      by (Learns a) q = ((k, q), j)
+      by (Ends e) q = append_ended_fine (after_turn m c t) (met m w t) x e k j
 
   -- Others.
 
@@ -327,13 +328,17 @@ module _ (m : Meaning) (given top : ℕ) (Met : Type 0) where
 
   -- A newer layout.
 
+  again_quiet : (s : Sync) (next : ℕ) → SyncNext (sync_again s next).to
+  unfolding sync_start
+  again_quiet s next = tt
+
   newer_fine : (c : Client m) (w : Work m) (t : Task m) (n rid : ℕ) (q : Layout) → TaskAt m given Met w.command w.lo c.view t → J c → Fine (on_newer m c w t n rid q)
   unfolding task_again
   newer_fine c w (Reconfiguring r) n rid q k j = on_reconf_fine c w (reconf_latest r r.work n rid q c.next) j
-  newer_fine c w (Syncing s) n rid q k j = on_sync_fine (stands m c q) (record w { gone_before = w.gone }) (sync_again s c.next) k j
+  newer_fine c w (Syncing s) n rid q k j = on_sync_fine (stands m c q) (record w { gone_before = w.gone }) (sync_again s c.next) (again_quiet s c.next) k.0 j
   newer_fine c w (Walking v os) n rid q k j =
       on_walk_fine (stands m c q) w v.oid os (walk_again q v c.next) (goes_by Hears q c.next v) (λ r. let y = k.1 r in (y.0, goes_past (Past m given Met) (later_past m given Met) q c.next v y.1.0)) k.0 j
-  newer_fine c w (Appending a y) n rid q k j = on_append_fine (stands m c q) w y (append_again q a c.next) k j
+  newer_fine c w (Appending a y) n rid q k j = on_append_fine (stands m c q) w y (append_again q a c.next) (append_again_quiet q a c.next) k.0 j
   newer_fine c w (Trimming t) n rid q k j = on_trims_fine (stands m c q) w t.below (trim_start q t.below c.next) j
   newer_fine c w (Copying' x) n rid q k j = copies_fine (stands m c q) w x _ k j
 
@@ -345,11 +350,11 @@ module _ (m : Meaning) (given top : ℕ) (Met : Type 0) where
 
   fed_fine : (c : Client m) (w : Work m) (t : Task m) (n rid : ℕ) (x : Reply) → TaskHears t x → TaskAt m given Met w.command w.lo c.view t → J c → Fine (task_feed m c w t n rid x)
   unfolding task_feed
-  fed_fine c w (Syncing s) n rid x g k j = on_sync_fine c w (sync_feed c.stand s s.work n x c.next) k j
+  fed_fine c w (Syncing s) n rid x g k j = on_sync_fine c w (sync_feed c.stand s s.work n x c.next) (sync_quiet c.stand s n x c.next k.1) k.0 j
   fed_fine c w (Walking v os) n rid x g k j =
       on_walk_fine c w v.oid os (walk_feed c.stand v v.job n x c.next) (feed_by Hears c.stand v n x c.next (λ i b has ends. g b (cell_gone i n x c.next b ends)))
       (λ r. let y = k.1 r in (y.0, feed_past (Past m given Met) (later_past m given Met) c.stand v n x c.next y.1)) k.0 j
-  fed_fine c w (Appending a y) n rid x g k j = on_append_fine c w y (append_feed c.stand a a.work n x c.next) k j
+  fed_fine c w (Appending a y) n rid x g k j = on_append_fine c w y (append_feed c.stand a a.work n x c.next) (append_quiet c.stand a n x c.next k.1) k.0 j
   fed_fine c w (Trimming t) n rid x g k j = on_trims_fine c w t.below (trim_feed c.stand t n x c.next) j
   fed_fine c w (Copying' y) n rid x g k j = on_copy_fine c w y (copy_feed c.stand y y.work n x c.next) k j
   fed_fine c w (Reconfiguring r) n rid x g k j = on_reconf_fine c w (reconf_feed r r.work n rid x c.next) j
