@@ -3,3 +3,4 @@ pub mod Quiet
 pub mod Turns
 pub mod Acts
 pub mod Steps
+pub mod Reading

@@ -64,6 +64,7 @@ module _ (m : Meaning) (given : ℕ) (Met : Type 0) where
   TaskAt x lo v (Walking k os) = AsGiven v × (ReadsForView m x → Past lo × Walks k)
   TaskAt x lo v (Appending a y) = PurposeAt v y × AppendQuiet a.work
   TaskAt x lo v (Copying' y) = ReadsForView m x → ⊥
+  TaskAt x lo v (Reconfiguring r) = ReadsForView m x → ⊥
   TaskAt x lo v t = Unit {0}
 
   abbrev pub WorkAt : Option (View m) → Option (Work m) → Type 0
@@ -97,7 +98,7 @@ module _ (m : Meaning) (given : ℕ) (Met Next' : Type 0) (later : Met → Next'
   task_later x lo v (Appending a y) k = (purpose_later v y k.0, k.1)
   task_later x lo v (Trimming t) k = tt
   task_later x lo v (Copying' y) k = k
-  task_later x lo v (Reconfiguring r) k = tt
+  task_later x lo v (Reconfiguring r) k = k
 
   pub work_later : (v : Option (View m)) (w : Option (Work m)) → WorkAt m given Met v w → WorkAt m given Next' v w
   work_later v None k = tt
@@ -316,12 +317,12 @@ module _ (m : Meaning) (given top : ℕ) (Met : Type 0) where
   copies_fine c w x None n j = on_copy_fine c w x (copy_start x.unit x.range x.stripe c.next) n j
   copies_fine c w x (Some why) n j = (tt, j)
 
-  on_reconf_fine : (c : Client m) (w : Work m) (t : Turn Reconf ReconfEnd) → J c → Fine (on_reconf m c w t)
-  on_reconf_fine c w t j = by t.to
+  on_reconf_fine : (c : Client m) (w : Work m) (t : Turn Reconf ReconfEnd) → (ReadsForView m w.command → ⊥) → J c → Fine (on_reconf m c w t)
+  on_reconf_fine c w t n j = by t.to
     where
       by : (to : Next Reconf ReconfEnd) → Fine (reconf_to m (after_turn m c t) w to)
-      by (Goes r) = (tt, j)
-      by (Learns r) = (tt, j)
+      by (Goes r) = (n, j)
+      by (Learns r) = (n, j)
       by (Ends (Installed e p)) = (tt, j)
       by (Ends (Overtaken e p)) = (tt, j)
       by (Ends (NotWhole u q p)) = (tt, j)
@@ -334,7 +335,7 @@ module _ (m : Meaning) (given top : ℕ) (Met : Type 0) where
 
   newer_fine : (c : Client m) (w : Work m) (t : Task m) (n rid : ℕ) (q : Layout) → TaskAt m given Met w.command w.lo c.view t → J c → Fine (on_newer m c w t n rid q)
   unfolding task_again
-  newer_fine c w (Reconfiguring r) n rid q k j = on_reconf_fine c w (reconf_latest r r.work n rid q c.next) j
+  newer_fine c w (Reconfiguring r) n rid q k j = on_reconf_fine c w (reconf_latest r r.work n rid q c.next) k j
   newer_fine c w (Syncing s) n rid q k j = on_sync_fine (stands m c q) (record w { gone_before = w.gone }) (sync_again s c.next) (again_quiet s c.next) k.0 j
   newer_fine c w (Walking v os) n rid q k j =
       on_walk_fine (stands m c q) w v.oid os (walk_again q v c.next) (goes_by Hears q c.next v) (λ r. let y = k.1 r in (y.0, goes_past (Past m given Met) (later_past m given Met) q c.next v y.1.0)) k.0 j
@@ -357,7 +358,7 @@ module _ (m : Meaning) (given top : ℕ) (Met : Type 0) where
   fed_fine c w (Appending a y) n rid x g k j = on_append_fine c w y (append_feed c.stand a a.work n x c.next) (append_quiet c.stand a n x c.next k.1) k.0 j
   fed_fine c w (Trimming t) n rid x g k j = on_trims_fine c w t.below (trim_feed c.stand t n x c.next) j
   fed_fine c w (Copying' y) n rid x g k j = on_copy_fine c w y (copy_feed c.stand y y.work n x c.next) k j
-  fed_fine c w (Reconfiguring r) n rid x g k j = on_reconf_fine c w (reconf_feed r r.work n rid x c.next) j
+  fed_fine c w (Reconfiguring r) n rid x g k j = on_reconf_fine c w (reconf_feed r r.work n rid x c.next) k j
 
   -- what a unit answers to a walk in hand
   abbrev pub WalkHears : Client m → NodeId → ℕ → Reply → Type 0
@@ -446,7 +447,7 @@ module _ (m : Meaning) (given top : ℕ) (Met : Type 0) where
     accepts_fine (cmd.Ask o q) not = asks_fine _ o q c.tx
     accepts_fine cmd.End not = ends_fine _ c.tx
     accepts_fine cmd.Drop not = idle (closed m c) [] free j
-    accepts_fine (cmd.Reconf x) not = on_reconf_fine c (new_work m (cmd.Reconf x)) (reconf_start c.stand c.layouts x c.num c.next) j
+    accepts_fine (cmd.Reconf x) not = on_reconf_fine c (new_work m (cmd.Reconf x)) (reconf_start c.stand c.layouts x c.num c.next) (λ r. r) j
     accepts_fine (cmd.Copy u r s) not = copies_fine c (new_work m (cmd.Copy u r s)) (record { unit = u; range = r; stripe = s; work = copying.Sealing 0 }) None (λ r. r) j
     accepts_fine x not = syncs_fine c (new_work m x) c.hosted k j
 

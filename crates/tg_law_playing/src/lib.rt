@@ -3,4 +3,4 @@
 
 mod laws;
 
-pub use laws::views_fall_at_trims;
+pub use laws::{views_fall_at_trims, views_read_on};
