@@ -1,5 +1,5 @@
 -- Which client turns in a step of a world, by which turn, what is noted of its command, and what it sends.
-use Rattle.std.proofs.Common.{◌≡◌, ◌⊎◌, ℕ, zero, suc, ◌<◌, List, [], ◌∷◌, ◌++◌, map, length, Bool, true, false, refl, sym, ap, ◌∙◌, subst, inl, inr, arith, get_or, set, Option, Some, None, is_some}
+use Rattle.std.proofs.Common.{◌≡◌, ◌⊎◌, ℕ, zero, suc, ◌<◌, List, [], ◌∷◌, ◌++◌, map, length, Bool, true, false, refl, sym, ap, ◌∙◌, inl, inr, arith, get_or, Option, Some, None, is_some}
 use Rattle.std.specs.Prelude.{slice_get, slice_set, slice_index_or}
 use Rattle.tg_base.specs.declared.ids.NodeId.{NodeId}
 use Rattle.tg_base.specs.declared.ids.Role.{Role}
@@ -20,7 +20,7 @@ use Rattle.tg_protocol.specs.Worlds.{CommandStart, World, Told, client, unit, la
 use Rattle.tg_law_layouts.specs.Moves.Configs.{config}
 use Rattle.tg_law_layouts.proofs.Moves.Lists.{at_set}
 use Rattle.std.proofs.lemmas.List.{get_or-set_same}
-use Rattle.tg_law_layouts.proofs.Moves.Members.{Has, Image, has_got, has_map, set_long}
+use Rattle.tg_law_layouts.proofs.Moves.Members.{Has, has_got, has_map, set_long}
 use Rattle.tg_law_layouts.proofs.Moves.Moves.{ClientInput, Commanded, Hears', Ticks'}
 use Rattle.tg_law_replies.proofs.Books.Worlds.{declared, nil_right}
 

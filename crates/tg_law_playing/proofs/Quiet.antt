@@ -1,9 +1,8 @@
 -- Of all that a client does, only walks and copies read cells.
-use Rattle.std.proofs.Common.{◌≡◌, ℕ, List, [], ◌∷◌, Bool, true, false, refl, sym, ap, ◌∙◌, inl, inr, arith, Option, Some, None}
+use Rattle.std.proofs.Common.{◌≡◌, ℕ, List, [], ◌∷◌, Bool, true, false, sym, ap, ◌∙◌, inl, inr, arith, Option, Some, None}
 use Rattle.std.specs.Prelude.{nat_lt, nat_le}
 use Rattle.tg_base.specs.Layouts.{Layout}
 use Rattle.tg_base.specs.declared.ids.NodeId.{NodeId}
-use Rattle.tg_base.specs.declared.ids.Oid.{Oid}
 use Rattle.tg_base.specs.declared.marks.StreamLink.{StreamLink}
 use Rattle.tg_base.specs.declared.msg.Msg.{Msg}
 use Rattle.tg_base.specs.declared.msg.Msg.TheVariants as msg
@@ -12,9 +11,9 @@ use Rattle.tg_protocol.specs.Words.{unit_id}
 use Rattle.tg_protocol.specs.Requests.{out, Waits, asked_of, Next, Goes, Learns, Ends}
 use Rattle.tg_protocol.specs.Replies.{Reply}
 use Rattle.tg_protocol.specs.Replies as replied
-use Rattle.tg_protocol.specs.Cells.{Place, CellWork, Puts, Gets, Fills, Copies, Probes, CellJob, CellEnd, Done, Seen, Lost, Fenced, Gone, works, work_asks, cell_asks, work_feed, cell_feed, fill_cell, put_cell, probe, place_in}
-use Rattle.tg_protocol.specs.Appending.{Append, AppendWork, Asking, Putting, Judging, AppendEnd, Token, on_older, on_newer, put_end, put_next, own_or_not, judge_end, judge_next, on_issued, asking_feed, by_token, append_feed, dead_or_judged, again_with, append_again}
-use Rattle.tg_protocol.specs.Syncing.{Answer, SyncWork, Checking, Settling, Probing, Sync, Confirmed, probe_end, probe_next, settle_end, settle_next, confirm_by, on_tail, checking_feed, sync_feed}
+use Rattle.tg_protocol.specs.Cells.{Place, CellWork, Puts, Gets, Fills, Copies, Probes, CellJob, CellEnd, Done, Seen, Lost, Fenced, Gone, works, work_asks, cell_asks, work_feed, cell_feed, fill_cell, put_cell, probe}
+use Rattle.tg_protocol.specs.Appending.{Append, AppendWork, Asking, Putting, Judging, AppendEnd, Token, on_older, on_newer, put_next, own_or_not, judge_next, on_issued, asking_feed, by_token, append_feed, dead_or_judged, again_with, append_again}
+use Rattle.tg_protocol.specs.Syncing.{Answer, SyncWork, Checking, Settling, Probing, Sync, Confirmed, probe_next, settle_next, confirm_by, on_tail, checking_feed, sync_feed}
 use Rattle.tg_law_layouts.proofs.Moves.Members.{Has, has_map}
 
 -- no cell is read by these

@@ -1,12 +1,9 @@
 -- What a client reads in a step, where its command reads for the view alone.
-use Rattle.std.proofs.Common.{◌≡◌, ◌⊎◌, ℕ, ◌≤◌, List, [], ◌∷◌, ◌++◌, map, length, Bool, true, false, refl, sym, ap, ◌∙◌, subst, inl, inr, Option, Some, None}
-use Rattle.std.specs.Prelude.{◌&&◌, ◌==◌, nat_lt, Contains}
+use Rattle.std.proofs.Common.{◌≡◌, ◌⊎◌, ℕ, ◌≤◌, List, [], ◌∷◌, ◌++◌, Bool, true, false, refl, sym, ap, ◌∙◌, subst, inl, inr, Option, Some, None}
+use Rattle.std.specs.Prelude.{◌&&◌, ◌==◌, nat_lt}
 use Rattle.tg_base.specs.Layouts.{Layout}
-use Rattle.tg_base.specs.Clusters.{Header}
 use Rattle.tg_base.specs.Orders.{node_eq}
 use Rattle.tg_base.specs.declared.ids.NodeId.{NodeId}
-use Rattle.tg_base.specs.declared.ids.Oid.{Oid}
-use Rattle.tg_base.specs.declared.msg.Msg.{Msg}
 use Rattle.tg_base.specs.declared.msg.Msg.TheVariants as msg
 use Rattle.tg_base.specs.declared.packet.Out.{Out}
 use Rattle.tg_base.specs.declared.packet.Packet.{Packet}
@@ -21,18 +18,18 @@ use Rattle.tg_protocol.specs.Replies.{Reply, reply, IsLatest}
 use Rattle.tg_protocol.specs.Cells.{CellJob, cell_asks}
 use Rattle.tg_protocol.specs.Appending.{Append, AppendWork, Asking, Putting, Judging, append_work_asks, append_feed, append_again}
 use Rattle.tg_protocol.specs.Syncing.{Sync, SyncWork, Checking, Settling, Probing, sync_work_asks, sync_feed, sync_again}
-use Rattle.tg_protocol.specs.Walking.{Walk, job_asks, walk_feed, walk_again}
+use Rattle.tg_protocol.specs.Walking.{job_asks, walk_feed, walk_again}
 use Rattle.tg_protocol.specs.Trimming.{Copying, trim_feed, trim_start, copy_feed, copy_start}
 use Rattle.tg_protocol.specs.Trimming as copying
 use Rattle.tg_protocol.specs.Reconfiguring.{Reconf, ReconfEnd, Installed, Overtaken, NotWhole, reconf_start, reconf_feed, reconf_latest}
 use Rattle.tg_protocol.specs.Views.{View}
-use Rattle.tg_protocol.specs.Clients.{Task, Syncing, Walking, Appending, Trimming, Copying', Reconfiguring, Hand, Doing, Learning, Work, Client, refusal, hosts_oid, upto}
-use Rattle.tg_protocol.specs.Answers.{Moved, moved}
+use Rattle.tg_protocol.specs.Clients.{Task, Syncing, Walking, Appending, Trimming, Copying', Reconfiguring, Hand, Doing, Learning, Work, Client, refusal, upto}
+use Rattle.tg_protocol.specs.Answers.{Moved}
 use Rattle.tg_protocol.specs.ClientSteps as step
 use Rattle.tg_protocol.specs.ClientSteps.{ClientTurn, task_asks, task_awaited, hand_asks, hand_again_asks, client_asks, work_asks, asks_latest, task_in, after_turn, reconf_to, on_reconf, task_feed, task_again, on_newer, copies_again, stands, accepts, refused_or, new_work, client_command, client_deliver, client_tick}
-use Rattle.tg_protocol.specs.Worlds.{CommandStart, World, client, noted_of, packet_of, happens, start}
-use Rattle.tg_protocol.specs.Runs.{Moves, Reaches, EachStep, run}
-use Rattle.tg_protocol.specs.Playing.{MetTrimAbove, ReadsForView, ReadsNow}
+use Rattle.tg_protocol.specs.Worlds.{World, client, noted_of, packet_of, happens, start}
+use Rattle.tg_protocol.specs.Runs.{EachStep}
+use Rattle.tg_protocol.specs.Playing.{MetTrimAbove, ReadsForView}
 use Rattle.tg_law_layouts.specs.Moves.Configs.{config}
 use Rattle.tg_law_layouts.proofs.Moves.Members.{Has, Image, has_contained, has_either, has_filter, has_map}
 use Rattle.tg_law_layouts.proofs.Moves.Moves.{ClientInput, Commanded, Hears', Ticks'}
@@ -44,7 +41,7 @@ use Rattle.tg_law_playing.specs.Rules.{ViewsReadOn}
 use Rattle.tg_law_playing.proofs.Quiet.{SyncQuiet, AppendQuiet, Quiet, none_quiet, one_quiet, all_quiet, work_quiet, job_reads}
 use Rattle.tg_law_playing.proofs.Turns.{Past, TaskAt, WorkAt, At'}
 use Rattle.tg_law_playing.proofs.Acts.{Turns, Acts, Others, Acts', acts}
-use Rattle.tg_law_playing.proofs.Steps.{Kept, State, start_state, state_run, stepped}
+use Rattle.tg_law_playing.proofs.Steps.{State, start_state, state_run, stepped}
 
 learns_quiet : (p : Layout) (os : List Out) → OnlyLearns p os → Quiet os
 learns_quiet p os f o epoch q h is = no (sym (f o h) ∙ is)

@@ -16,13 +16,12 @@ use Rattle.tg_model.specs.declared.trace.What.TheVariants as told
 use Rattle.tg_model.specs.Kinds.{CommandOf, EventOf, NoteOf}
 use Rattle.tg_protocol.specs.Words.{client_id, numbers}
 use Rattle.tg_protocol.specs.Requests.{awaits}
-use Rattle.tg_protocol.specs.Replies.{Reply, reply, IsGone}
-use Rattle.tg_protocol.specs.Clients.{Task, Hand, Doing, Work, Client, new_client, refusal, upto_in, upto}
-use Rattle.tg_protocol.specs.Answers.{Moved, moved, note}
+use Rattle.tg_protocol.specs.Replies.{reply, IsGone}
+use Rattle.tg_protocol.specs.Clients.{Hand, Work, Client, new_client, refusal, upto}
+use Rattle.tg_protocol.specs.Answers.{Moved, note}
 use Rattle.tg_protocol.specs.ClientSteps.{ClientTurn, task_awaited, hosts_more, accepts, refused_or, client_command, client_deliver, client_tick}
-use Rattle.tg_protocol.specs.Worlds.{CommandStart, World, Told, start, client, noted_of, packet_of, happens, next_event}
-use Rattle.tg_protocol.specs.Alike.{SentTo}
-use Rattle.tg_protocol.specs.Runs.{Moves, Next, Takes, Reaches, EachStep, LawfulEvent, most_steps, run}
+use Rattle.tg_protocol.specs.Worlds.{CommandStart, World, start, client, noted_of, packet_of, happens, next_event}
+use Rattle.tg_protocol.specs.Runs.{Moves, Next, Takes, EachStep, run}
 use Rattle.tg_protocol.specs.Playing.{Answers, IsHosted, MetTrimAbove}
 use Rattle.tg_law_layouts.specs.Moves.Configs.{config}
 use Rattle.tg_law_layouts.proofs.Moves.Lists.{contained, at_map, at_replicate}
@@ -34,7 +33,7 @@ use Rattle.tg_law_layouts.proofs.Moves.Reconfs.{numbers_long}
 use Rattle.tg_law_replies.proofs.Books.Worlds.{nil_right}
 use Rattle.tg_law_playing.specs.Rules.{ViewsFallAtTrims}
 use Rattle.tg_law_playing.proofs.Turns.{AsGiven, WorkAt, At', work_later, Stays, Fine, WalkHears, feed_fine, tick_fine, accepts_fine}
-use Rattle.tg_law_playing.proofs.Acts.{as_given, IsCommanded, Noted, Before, Anew, IsEven, Turns, told_of, Acts, Others, Acts', acts}
+use Rattle.tg_law_playing.proofs.Acts.{IsCommanded, Noted, Before, Anew, IsEven, Turns, told_of, Acts, Others, Acts', acts}
 
 is_gone : (y : Msg) (b : ℕ) → reply y ≡ IsGone b → y ≡ msg.Gone b
 unfolding reply

@@ -1,23 +1,20 @@
 -- Through each of a client's turns: until its command plays, its view stands as it did when the command was given, or was given up
 -- at a trim above; what the command reads for the view lies past it; and nothing else takes a view back.
-use Rattle.std.proofs.Common.{◌≡◌, ◌⊎◌, ℕ, ◌<◌, ◌≤◌, List, [], ◌∷◌, length, Bool, true, false, refl, sym, ap, ◌∙◌, subst, inl, inr, arith, Option, Some, None}
+use Rattle.std.proofs.Common.{◌≡◌, ◌⊎◌, ℕ, ◌<◌, ◌≤◌, List, [], ◌∷◌, length, Bool, true, false, refl, sym, ◌∙◌, subst, inl, inr, arith, Option, Some, None}
 use Rattle.std.specs.Prelude.{not, ◌&&◌, ◌==◌, nat_lt, is_some}
 use Rattle.tg_base.specs.Layouts.{Layout}
 use Rattle.tg_base.specs.declared.cell.Cell.{Cell}
 use Rattle.tg_base.specs.declared.ids.NodeId.{NodeId}
 use Rattle.tg_base.specs.declared.ids.Oid.{Oid}
-use Rattle.tg_base.specs.declared.msg.Msg.{Msg}
-use Rattle.tg_base.specs.declared.packet.Out.{Out}
 use Rattle.tg_entry.specs.declared.entry.Entry.{Entry}
 use Rattle.tg_kind.specs.Meaning.{Meaning}
 use Rattle.tg_model.specs.declared.command.Command.TheVariants as cmd
 use Rattle.tg_model.specs.Kinds.{CommandOf, WhatOf, NoteOf}
 use Rattle.tg_model.specs.declared.refusal.Refusal.{Refusal}
-use Rattle.tg_base.specs.Orders.{node_eq, with_oid}
+use Rattle.tg_base.specs.Orders.{node_eq}
 use Rattle.tg_protocol.specs.Words.{layout_id}
 use Rattle.tg_protocol.specs.Requests.{awaits, Next, Goes, Learns, Ends, Turn}
-use Rattle.tg_protocol.specs.Replies.{Reply, reply, IsLatest, IsGone}
-use Rattle.tg_protocol.specs.Cells.{CellJob, Gone, cell_feed}
+use Rattle.tg_protocol.specs.Replies.{Reply, IsLatest, IsGone}
 use Rattle.tg_protocol.specs.Appending.{Append, AppendEnd, At, Full, Forgotten, append_start, append_feed, append_again}
 use Rattle.tg_protocol.specs.Syncing.{Sync, Confirmed, sync_start, sync_feed, sync_again}
 use Rattle.tg_protocol.specs.Walking.{Walk, Members, walk_feed, walk_again}
@@ -26,14 +23,14 @@ use Rattle.tg_protocol.specs.Trimming as copying
 use Rattle.tg_protocol.specs.Reconfiguring.{Reconf, ReconfEnd, Installed, Overtaken, NotWhole, reconf_feed, reconf_latest, reconf_start}
 use Rattle.tg_protocol.specs.Transactions.{Tx}
 use Rattle.tg_protocol.specs.Views.{View, state_of}
-use Rattle.tg_protocol.specs.Clients.{Purpose, Writes, Judged, Decides, Rescues, Saves, Marks, Task, Syncing, Walking, Appending, Trimming, Copying', Reconfiguring, Hand, Doing, Learning, Work, Client, refusal, upto_in, upto}
+use Rattle.tg_protocol.specs.Clients.{Purpose, Writes, Judged, Decides, Rescues, Saves, Marks, Task, Syncing, Walking, Appending, Trimming, Copying', Reconfiguring, Hand, Doing, Learning, Work, Client, upto_in, upto}
 use Rattle.tg_protocol.specs.Answers.{Moved, moved, pruned, took_over, answers, closed, appends, syncs, trim_begun, walked, with_view}
 use Rattle.tg_protocol.specs.ClientSteps as step
-use Rattle.tg_protocol.specs.ClientSteps.{plays_kept, after_turn, met, goes_on, start_walk, takes_back, found_by, lends, knows, synced, sync_to, on_sync, gives_up, given_up_if, starts_over, at_trim, walk_ended_by, walk_to, on_walk, decided_for, append_ended, append_to, on_append, page_known, owns, knows_page, trim_to, on_trims, copy_to, on_copy, stands, task_in, task_awaited, reconf_to, on_reconf, task_feed, task_again, copies_again, on_newer, accepts, refused_or, new_work, lo_for, lasts_of}
+use Rattle.tg_protocol.specs.ClientSteps.{plays_kept, after_turn, met, goes_on, start_walk, takes_back, found_by, lends, knows, synced, sync_to, on_sync, gives_up, given_up_if, starts_over, at_trim, walk_ended_by, walk_to, on_walk, decided_for, append_ended, append_to, on_append, page_known, owns, knows_page, trim_to, on_trims, copy_to, on_copy, stands, task_in, task_awaited, reconf_to, on_reconf, task_feed, task_again, copies_again, on_newer, accepts, new_work, lo_for, lasts_of}
 use Rattle.tg_protocol.specs.Playing.{ReadsForView}
 use Rattle.tg_law_layouts.proofs.Moves.Turns.{Begins, begins_walk}
 use Rattle.tg_law_syncs.proofs.Known.Ways.{played_view}
-use Rattle.tg_law_trims.proofs.Leaves.Ways.{IsLast, Keeps, Came, Rests, Appends, Syncs, Trims as Trims', WalkedWay, Plays, LeavesView, walked_way}
+use Rattle.tg_law_trims.proofs.Leaves.Ways.{IsLast, Came, Rests, Appends, Syncs, Trims as Trims', WalkedWay, Plays, LeavesView, walked_way}
 use Rattle.tg_law_trims.proofs.Leaves.Walks.{MetBy, goes_by, feed_by}
 use Rattle.tg_law_playing.proofs.Quiet.{SyncQuiet, SyncNext, sync_quiet, AppendQuiet, AppendNext, append_quiet, append_again_quiet}
 use Rattle.tg_law_playing.proofs.Past.{cell_gone, WalkPast, NextPast, goes_past, starts_past, feed_past, played_high}
