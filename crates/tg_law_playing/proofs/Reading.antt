@@ -1,0 +1,234 @@
+-- What a client reads in a step, where its command reads for the view alone.
+use Rattle.std.proofs.Common.{◌≡◌, ◌⊎◌, ℕ, ◌≤◌, List, [], ◌∷◌, ◌++◌, Bool, true, false, refl, sym, ap, ◌∙◌, subst, inl, inr, Option, Some, None}
+use Rattle.std.specs.Prelude.{◌&&◌, ◌==◌, nat_lt}
+use Rattle.tg_base.specs.Layouts.{Layout}
+use Rattle.tg_base.specs.Orders.{node_eq}
+use Rattle.tg_base.specs.declared.ids.NodeId.{NodeId}
+use Rattle.tg_base.specs.declared.msg.Msg.TheVariants as msg
+use Rattle.tg_base.specs.declared.packet.Out.{Out}
+use Rattle.tg_base.specs.declared.packet.Packet.{Packet}
+use Rattle.tg_kind.specs.Meaning.{Meaning}
+use Rattle.tg_model.specs.declared.command.Command.TheVariants as cmd
+use Rattle.tg_model.specs.declared.refusal.Refusal.{Refusal}
+use Rattle.tg_model.specs.Kinds.{CommandOf, EventOf}
+use Rattle.tg_protocol.specs.Words.{client_id, unit_id, layout_id, seqr_id, numbers}
+use Rattle.tg_protocol.specs.Entries.{streams_of}
+use Rattle.tg_protocol.specs.Requests.{out, Waits, asked_of, awaits, waits_for, drawn_from, Next, Goes, Learns, Ends, Turn}
+use Rattle.tg_protocol.specs.Replies.{Reply, reply, IsLatest}
+use Rattle.tg_protocol.specs.Cells.{CellJob, cell_asks}
+use Rattle.tg_protocol.specs.Appending.{Append, AppendWork, Asking, Putting, Judging, append_work_asks, append_feed, append_again}
+use Rattle.tg_protocol.specs.Syncing.{Sync, SyncWork, Checking, Settling, Probing, sync_work_asks, sync_feed, sync_again}
+use Rattle.tg_protocol.specs.Walking.{job_asks, walk_feed, walk_again}
+use Rattle.tg_protocol.specs.Trimming.{Copying, trim_feed, trim_start, copy_feed, copy_start}
+use Rattle.tg_protocol.specs.Trimming as copying
+use Rattle.tg_protocol.specs.Reconfiguring.{Reconf, ReconfEnd, Installed, Overtaken, NotWhole, reconf_start, reconf_feed, reconf_latest}
+use Rattle.tg_protocol.specs.Views.{View}
+use Rattle.tg_protocol.specs.Clients.{Task, Syncing, Walking, Appending, Trimming, Copying', Reconfiguring, Hand, Doing, Learning, Work, Client, refusal, upto}
+use Rattle.tg_protocol.specs.Answers.{Moved}
+use Rattle.tg_protocol.specs.ClientSteps as step
+use Rattle.tg_protocol.specs.ClientSteps.{ClientTurn, task_asks, task_awaited, hand_asks, hand_again_asks, client_asks, work_asks, asks_latest, task_in, after_turn, reconf_to, on_reconf, task_feed, task_again, on_newer, copies_again, stands, accepts, refused_or, new_work, client_command, client_deliver, client_tick}
+use Rattle.tg_protocol.specs.Worlds.{World, client, noted_of, packet_of, happens, start}
+use Rattle.tg_protocol.specs.Runs.{EachStep}
+use Rattle.tg_protocol.specs.Playing.{MetTrimAbove, ReadsForView}
+use Rattle.tg_law_layouts.specs.Moves.Configs.{config}
+use Rattle.tg_law_layouts.proofs.Moves.Members.{Has, Image, has_contained, has_either, has_filter, has_map}
+use Rattle.tg_law_layouts.proofs.Moves.Moves.{ClientInput, Commanded, Hears', Ticks'}
+use Rattle.tg_law_layouts.proofs.Moves.Turns.{not_busy}
+use Rattle.tg_law_layouts.proofs.Moves.Besides.{OnlyLearns, sync_besides, append_besides, append_again_besides, sync_again_besides}
+use Rattle.tg_law_layouts.proofs.Layouts.Plain.{on_sync_plain, on_walk_plain, on_append_plain, on_trims_plain, on_copy_plain, syncs_plain, host_plain, put_plain, asks_plain, ends_plain}
+use Rattle.tg_law_replies.proofs.Books.Worlds.{cancel}
+use Rattle.tg_law_playing.specs.Rules.{ViewsReadOn}
+use Rattle.tg_law_playing.proofs.Quiet.{SyncQuiet, AppendQuiet, Quiet, none_quiet, one_quiet, all_quiet, work_quiet, job_reads}
+use Rattle.tg_law_playing.proofs.Turns.{Past, TaskAt, WorkAt, At'}
+use Rattle.tg_law_playing.proofs.Acts.{Turns, Acts, Others, Acts', acts}
+use Rattle.tg_law_playing.proofs.Steps.{State, start_state, state_run, stepped}
+
+learns_quiet : (p : Layout) (os : List Out) → OnlyLearns p os → Quiet os
+learns_quiet p os f o epoch q h is = no (sym (f o h) ∙ is)
+  where
+    no : msg.Learn p ≡ msg.Read epoch q → ⊥
+    no e = cc
+
+module _ (m : Meaning) where
+  -- What goes besides a client's requests reads nothing.
+
+  reconf_quiet : (c : Client m) (w : Work m) (t : Turn Reconf ReconfEnd) → Quiet (on_reconf m c w t).besides
+  reconf_quiet c w t = by t.to
+    where
+      by : (to : Next Reconf ReconfEnd) → Quiet (reconf_to m (after_turn m c t) w to).besides
+      by (Goes r) = none_quiet
+      by (Learns r) = none_quiet
+      by (Ends (Installed e p)) = none_quiet
+      by (Ends (Overtaken e p)) = none_quiet
+      by (Ends (NotWhole u q p)) = none_quiet
+
+  copies_quiet : (c : Client m) (w : Work m) (x : Copying) (o : Option Refusal) → Quiet (copies_again m c w x o).besides
+  copies_quiet c w x None = learns_quiet _ _ (on_copy_plain m c w x (copy_start x.unit x.range x.stripe c.next)).quiet
+  copies_quiet c w x (Some why) = none_quiet
+
+  task_quiet : (c : Client m) (w : Work m) (t : Task m) (n rid : ℕ) (x : Reply) → Quiet (task_feed m c w t n rid x).besides
+  unfolding task_feed
+  task_quiet c w (Syncing s) n rid x = learns_quiet _ _ (on_sync_plain m c w (sync_feed c.stand s s.work n x c.next) (sync_besides c.stand s s.work n x c.next)).quiet
+  task_quiet c w (Walking k os) n rid x = learns_quiet _ _ (on_walk_plain m c w k.oid os (walk_feed c.stand k k.job n x c.next)).quiet
+  task_quiet c w (Appending a y) n rid x = learns_quiet _ _ (on_append_plain m c w y (append_feed c.stand a a.work n x c.next) (append_besides c.stand a a.token a.work n x c.next refl)).quiet
+  task_quiet c w (Trimming t) n rid x = learns_quiet _ _ (on_trims_plain m c w t.below (trim_feed c.stand t n x c.next)).quiet
+  task_quiet c w (Copying' y) n rid x = learns_quiet _ _ (on_copy_plain m c w y (copy_feed c.stand y y.work n x c.next)).quiet
+  task_quiet c w (Reconfiguring r) n rid x = reconf_quiet c w (reconf_feed r r.work n rid x c.next)
+
+  newer_quiet : (c : Client m) (w : Work m) (t : Task m) (n rid : ℕ) (q : Layout) → Quiet (on_newer m c w t n rid q).besides
+  unfolding task_again
+  newer_quiet c w (Syncing s) n rid q = learns_quiet _ _ (on_sync_plain m (stands m c q) (record w { gone_before = w.gone }) (sync_again s c.next) (sync_again_besides q s c.next)).quiet
+  newer_quiet c w (Walking k os) n rid q = learns_quiet _ _ (on_walk_plain m (stands m c q) w k.oid os (walk_again q k c.next)).quiet
+  newer_quiet c w (Appending a y) n rid q = learns_quiet _ _ (on_append_plain m (stands m c q) w y (append_again q a c.next) (append_again_besides q a c.next)).quiet
+  newer_quiet c w (Trimming t) n rid q = learns_quiet _ _ (on_trims_plain m (stands m c q) w t.below (trim_start q t.below c.next)).quiet
+  newer_quiet c w (Copying' x) n rid q = copies_quiet (stands m c q) w x _
+  newer_quiet c w (Reconfiguring r) n rid q = reconf_quiet c w (reconf_latest r r.work n rid q c.next)
+
+  fed_quiet : (b : Bool) (c : Client m) (w : Work m) (t : Task m) (from : NodeId) (rid : ℕ) (x : Reply) → Quiet (step.fed_if m b c w t from rid x).besides
+  fed_quiet true c w t from rid x = task_quiet c w t from.num rid x
+  fed_quiet false c w t from rid x = none_quiet
+
+  hand_quiet : (c : Client m) (w : Work m) (d : Hand m) (from : NodeId) (rid : ℕ) (x : Reply) → Quiet (step.hand_feed m c w d from rid x).besides
+  hand_quiet c w (Doing t) from rid x = fed_quiet (awaits (task_awaited m c.stand t) from rid) c w t from rid x
+  hand_quiet c w (Learning ws t) from rid x = none_quiet
+
+  latest_quiet : (b : Bool) (c : Client m) (w : Work m) (from : NodeId) (rid : ℕ) (q : Layout) → Quiet (step.latest_if m b c w from rid q).besides
+  latest_quiet true c w from rid q = newer_quiet c w (task_in m w.hand) from.num rid q
+  latest_quiet false c w from rid q = none_quiet
+
+  reply_quiet : (c : Client m) (w : Work m) (from : NodeId) (rid : ℕ) (x : Reply) → Quiet (step.reply_feed m c w from rid x).besides
+  reply_quiet c w from rid (IsLatest q) = latest_quiet (node_eq from (layout_id from.num) && nat_lt c.stand.epoch q.epoch) c w from rid q
+  reply_quiet c w from rid x = hand_quiet c w w.hand from rid x
+
+  feed_quiet : (c : Client m) (o : Option (Work m)) (from : NodeId) (rid : ℕ) (x : Reply) → Quiet (step.feed m c o from rid x).besides
+  feed_quiet c None from rid x = none_quiet
+  feed_quiet c (Some w) from rid x = reply_quiet c w from rid x
+
+  accepts_quiet : (c : Client m) (x : CommandOf m) → c.work ≡ None → Quiet (accepts m c x).besides
+  unfolding accepts
+  accepts_quiet c (cmd.Host o) e = learns_quiet _ _ (host_plain m c o e).quiet
+  accepts_quiet c cmd.Begin e = none_quiet
+  accepts_quiet c (cmd.Put o op) e = learns_quiet _ _ (put_plain m c o op e).quiet
+  accepts_quiet c (cmd.Ask o q) e = learns_quiet _ _ (asks_plain m c (cmd.Ask o q) o q c.tx e).quiet
+  accepts_quiet c cmd.End e = learns_quiet _ _ (ends_plain m c cmd.End c.tx e).quiet
+  accepts_quiet c cmd.Drop e = none_quiet
+  accepts_quiet c (cmd.Reconf x) e = reconf_quiet c (new_work m (cmd.Reconf x)) (reconf_start c.stand c.layouts x c.num c.next)
+  accepts_quiet c (cmd.Copy u r s) e = copies_quiet c (new_work m (cmd.Copy u r s)) (record { unit = u; range = r; stripe = s; work = copying.Sealing 0 }) None
+  accepts_quiet c x e = learns_quiet _ _ (syncs_plain m c (new_work m x) c.hosted).quiet
+
+  command_quiet : (c : Client m) (x : CommandOf m) (o : Option Refusal) → (o ≡ None → c.work ≡ None) → Quiet (refused_or m c x o).besides
+  command_quiet c x None free = accepts_quiet c x (free refl)
+  command_quiet c x (Some why) free = none_quiet
+
+  -- What is outstanding reads past where the view stood.
+  module _ (given : ℕ) (Met : Type 0) where
+    abbrev ReadsPast : List Out → Type 0
+    ReadsPast os = (o : Out) (epoch p : ℕ) → Has os o → o.msg ≡ msg.Read epoch p → Past m given Met p
+
+    quiet_past : (os : List Out) → Quiet os → ReadsPast os
+    quiet_past os f o epoch p h is = absurd (f o epoch p h is)
+
+    sync_past : (p : Layout) (s : Sync) (w : SyncWork) → SyncQuiet w → ReadsPast (sync_work_asks p s w)
+    unfolding sync_work_asks
+    sync_past p s (Checking r) k = quiet_past (out (seqr_id p.seq) r (msg.Check p.epoch s.oids) ∷ []) (one_quiet (seqr_id p.seq) r (msg.Check p.epoch s.oids) (λ e q h. cc))
+    sync_past p s (Settling a j) k = quiet_past (cell_asks j) (work_quiet j.place j.work k)
+    sync_past p s (Probing a j) k = quiet_past (cell_asks j) (work_quiet j.place j.work k)
+
+    append_past : (p : Layout) (a : Append) (w : AppendWork) → AppendQuiet w → ReadsPast (append_work_asks p a w)
+    unfolding append_work_asks
+    append_past p a (Asking r) k = quiet_past (out (seqr_id p.seq) r (msg.Token p.epoch (streams_of a.draft)) ∷ []) (one_quiet (seqr_id p.seq) r (msg.Token p.epoch (streams_of a.draft)) (λ e q h. cc))
+    append_past p a (Putting j) k = quiet_past (cell_asks j) (work_quiet j.place j.work k)
+    append_past p a (Judging j) k = quiet_past (cell_asks j) (work_quiet j.place j.work k)
+
+    walk_past : (o : Option CellJob) → ((j : CellJob) → o ≡ Some j → Past m given Met j.place.pos) → ReadsPast (job_asks o)
+    walk_past None f o epoch p h is = absurd h
+    walk_past (Some j) f o epoch p h is = subst (Past m given Met) (sym (job_reads j o epoch p h is)) (f j refl)
+
+    task_past : (x : CommandOf m) (lo : ℕ) (v : Option (View m)) (t : Task m) (p : Layout) → ReadsForView m x → TaskAt m given Met x lo v t → ReadsPast (task_asks m p t)
+    unfolding task_asks
+    task_past x lo v (Syncing s) p r k = sync_past p s s.work k.1
+    task_past x lo v (Walking w os) p r k = walk_past w.job (k.1 r).1.1
+    task_past x lo v (Appending a y) p r k = append_past p a a.work k.1
+    task_past x lo v (Trimming t) p r k = quiet_past (asked_of unit_id (msg.Trim p.epoch t.below) t.waits) (all_quiet unit_id (msg.Trim p.epoch t.below) t.waits (λ e q h. cc))
+    task_past x lo v (Copying' y) p r k = absurd (k r)
+    task_past x lo v (Reconfiguring y) p r k = absurd (k r)
+
+    latest_past : (ws : Waits) → ReadsPast (asks_latest m ws)
+    latest_past ws = quiet_past (asks_latest m ws) (all_quiet layout_id msg.AskLatest ws (λ e q h. cc))
+
+    hand_past : (x : CommandOf m) (lo : ℕ) (v : Option (View m)) (d : Hand m) (p : Layout) → ReadsForView m x → TaskAt m given Met x lo v (task_in m d) → ReadsPast (hand_asks m p d)
+    hand_past x lo v (Doing t) p r k = task_past x lo v t p r k
+    hand_past x lo v (Learning ws t) p r k = latest_past ws
+
+    again_past : (x : CommandOf m) (lo : ℕ) (v : Option (View m)) (d : Hand m) (p : Layout) → ReadsForView m x → TaskAt m given Met x lo v (task_in m d) → ReadsPast (hand_again_asks m p d)
+    again_past x lo v (Doing (Reconfiguring y)) p r k = absurd (k r)
+    again_past x lo v (Doing (Syncing s)) p r k = task_past x lo v (Syncing s) p r k
+    again_past x lo v (Doing (Walking w os)) p r k = task_past x lo v (Walking w os) p r k
+    again_past x lo v (Doing (Appending a y)) p r k = task_past x lo v (Appending a y) p r k
+    again_past x lo v (Doing (Trimming t)) p r k = task_past x lo v (Trimming t) p r k
+    again_past x lo v (Doing (Copying' y)) p r k = task_past x lo v (Copying' y) p r k
+    again_past x lo v (Learning ws t) p r k = latest_past ws
+
+    -- the command in hand reads for the view
+    abbrev ForView : Option (Work m) → Type 0
+    ForView None = ⊥
+    ForView (Some w) = ReadsForView m w.command
+
+    asks_past : (c : Client m) → At' m given Met c → ForView c.work → ReadsPast (client_asks m c)
+    unfolding client_asks
+    asks_past c h r = by c.work h r
+      where
+        by : (w : Option (Work m)) → WorkAt m given Met c.view w → ForView w → ReadsPast (work_asks m c.stand w)
+        by None h r = absurd r
+        by (Some w) h r = hand_past w.command w.lo c.view w.hand c.stand r h
+
+    given_past : (old : Client m) (x : Moved m) → Quiet x.besides → At' m given Met x.now → ForView x.now.work → ReadsPast (step.given m old x).sends
+    given_past old x q h r o epoch p i is = by (has_either x.besides (drawn_from old.next (client_asks m x.now)) o i)
+      where
+        by : Has x.besides o ⊎ Has (drawn_from old.next (client_asks m x.now)) o → Past m given Met p
+        by (inl j) = absurd (q o epoch p j is)
+        by (inr j) = asks_past x.now h r o epoch p (has_filter _ (client_asks m x.now) o j) is
+
+    tick_past : (c : Client m) (w : Option (Work m)) → c.work ≡ w → At' m given Met (step.tick_by m c w).now → ForView (step.tick_by m c w).now.work → ReadsPast (step.tick_by m c w).sends
+    tick_past c None e h r o epoch p i is = absurd i
+    tick_past c (Some w) e h r o epoch p i is = by (has_either (hand_again_asks m c.stand w.hand) (asks_latest m (waits_for (numbers c.layouts 0) c.next)) o i)
+      where
+        by : Has (hand_again_asks m c.stand w.hand) o ⊎ Has (asks_latest m (waits_for (numbers c.layouts 0) c.next)) o → Past m given Met p
+        by (inl j) = again_past w.command w.lo c.view w.hand c.stand (subst ForView e r) (subst (WorkAt m given Met c.view) e h) o epoch p j is
+        by (inr j) = latest_past _ o epoch p j is
+
+  -- A step.
+
+  module _ (w : World m) (n : ℕ) (given : ℕ) (Met : Type 0) where
+    turn_past : (t : ClientTurn m) → ClientInput m (config m w) n t → At' m given Met t.now → ForView given Met t.now.work → ReadsPast given Met t.sends
+    unfolding client_command client_deliver client_tick
+    turn_past t (Commanded x) h r = given_past given Met (client m w n) (refused_or m (client m w n) x (refusal m (client m w n) x)) (command_quiet (client m w n) x (refusal m (client m w n) x) (not_busy m (client m w n) x)) h r
+    turn_past t (Hears' p comes) h r = given_past given Met (client m w n) (step.feed m (client m w n) (client m w n).work p.from p.rid (reply p.msg)) (feed_quiet (client m w n) (client m w n).work p.from p.rid (reply p.msg)) h r
+    turn_past t Ticks' h r = tick_past given Met (client m w n) (client m w n).work refl h r
+
+  module _ (w : World m) (e : EventOf m) (st : State m w) where
+    abbrev v : World m
+    v = happens m w e
+
+    reads : Acts m w e v → State m v → ViewsReadOn m w e
+    reads (Others ps p others t c n even) after k q x = absurd (others x.packet k (subst (λ (zs : List Packet). Has zs x.packet) (cancel w.packets x.packets ps (sym x.are ∙ p)) (has_contained x.packets x.packet x.here)) x.from)
+    reads (Acts' n t s i noted p told turns even) after k q x = by (has_map (packet_of m (client_id n)) t.sends x.packet (subst (λ (zs : List Packet). Has zs x.packet) (cancel w.packets x.packets _ (sym x.are ∙ p)) (has_contained x.packets x.packet x.here)))
+      where
+        by : Image (packet_of m (client_id n)) t.sends x.packet → ((noted_of m v k).upto ≤ q) ⊎ MetTrimAbove m v k
+        by y = at (turns k)
+          where
+            is_k : k ≡ n
+            is_k = ap (λ (a : NodeId). a.num) (sym x.from ∙ ap (λ (z : Packet). z.from) y.is)
+
+            at : Turns m w v n t s k → ((noted_of m v k).upto ≤ q) ⊎ MetTrimAbove m v k
+            at (inr z) = absurd (z.2 is_k)
+            at (inl z) =
+                turn_past w n (noted_of m v k).upto (MetTrimAbove m v k) t i
+                (subst (At' m (noted_of m v k).upto (MetTrimAbove m v k)) z.1 (after.clients k).at)
+                (subst (ForView (noted_of m v k).upto (MetTrimAbove m v k)) (sym x.works ∙ ap (λ (c : Client m). c.work) z.1) x.for_view)
+                y.of x.epoch q y.has (sym (ap (λ (u : Packet). u.msg) y.is) ∙ x.reads)
+
+  pub views_read_on : EachStep m (ViewsReadOn m)
+  views_read_on h ms w e r lawful less =
+      let st = subst (State m) (sym r.goes.is) (state_run m ms (start m h) (start_state m h)) in
+      reads w e st (acts m w st.even e) (stepped m w e st (acts m w st.even e)).0
