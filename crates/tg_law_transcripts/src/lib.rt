@@ -1,0 +1,6 @@
+//! What is told in the world of a script keeps the grammar of transcripts.
+#![tactic(auto)]
+
+mod laws;
+
+pub use laws::{replies_are_numbered};
