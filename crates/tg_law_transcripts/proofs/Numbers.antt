@@ -127,6 +127,9 @@ module _ (m : Meaning) where
   state_in h ms w r =
       subst (State m h) (sym r.goes.is) (state_hold m h r.header ms (lawful_give m h ms (r.goes.lawful)) (let few = r.goes.few in let is = ap (λ (v : World m). v.steps) r.goes.is in omega (arith, few, is)))
 
+  pub cluster_is : (h : Header) (ms : Moves m) (w : World m) → Reaches m h ms w → w.cluster ≡ h
+  cluster_is h ms w r = (state_in h ms w r).cluster
+
   pub few_transactions : (h : Header) (ms : Moves m) (w : World m) → Reaches m h ms w → (u : MarkOf m) → Has (trace m w) u → u.client < length w.clients → (u.client < 2 ^ 16) × (u.tx < 2 ^ 32)
   few_transactions h ms w r u i less =
       let s = state_in h ms w r in

@@ -1,11 +1,16 @@
 -- The world of each script keeps the grammar of transcripts.
 use Rattle.std.specs.Prelude.{◌≡◌, ℕ, ◌<◌, ◌^◌, Bool, true, ◌&&◌, length}
 use Rattle.std.specs.List.{list_all}
-use Rattle.tg_protocol.specs.Worlds.{trace, history}
+use Rattle.tg_base.specs.Clusters.{Header}
+use Rattle.tg_base.specs.Units.{is_rising}
+use Rattle.tg_protocol.specs.Worlds.{World, trace, history}
+use Rattle.tg_protocol.specs.Runs.{Moves, Reaches}
 use Rattle.tg_any.specs.AllKinds.{all_kinds}
 use Rattle.tg_any.specs.Words.{number, index}
 use Rattle.tg_trace.specs.Fields.{client}
-use Rattle.tg_trace.specs.Transcripts.{Reply}
+use Rattle.tg_trace.specs.Replies.{what_fits}
+use Rattle.tg_trace.specs.Transcripts.{Reply, objects, count, entry, stamps, is_transcript}
+use Rattle.tg_replay.specs.Headline.{told_in}
 use Rattle.tg_replay.specs.Runs.{Script, IsScript, world_of}
 
 -- the numbers of a reply's event, its client and its transaction are within their types
@@ -14,3 +19,18 @@ is_numbered m = number.fits m.event && (client.fits m.client && index.fits m.tx)
 
 abbrev pub EachIsNumbered : Type 0
 EachIsNumbered = (s : Script) → IsScript s → length s.events < 2 ^ 64 → list_all is_numbered (trace all_kinds (world_of s)) ≡ true
+
+-- the objects and the transactions of a world are within their types, and the stamps of these rise
+abbrev pub is_history : Header → World all_kinds → Bool
+is_history h w = objects.fits h.objects && count.fits (length (history all_kinds w)) && list_all entry.fits (history all_kinds w) && is_rising (stamps (history all_kinds w))
+
+abbrev pub EachHistoryFits : Type 0
+EachHistoryFits = (h : Header) (ms : Moves all_kinds) (w : World all_kinds) → Reaches all_kinds h ms w → is_history h w ≡ true
+
+-- what a reply tells is within its type
+abbrev pub tells_within : Reply → Bool
+tells_within m = what_fits m.what
+
+-- where that holds of each reply, the whole is a transcript
+abbrev pub EachFitsByReplies : Type 0
+EachFitsByReplies = (s : Script) → IsScript s → length s.events < 2 ^ 64 → list_all tells_within (trace all_kinds (world_of s)) ≡ true → is_transcript (told_in s.header (world_of s)) ≡ true
