@@ -1,5 +1,5 @@
 -- Of a world's steps none changes the number of its event, and each line raises it by one.
-use Rattle.std.proofs.Common.{◌≡◌, ℕ, zero, suc, ◌+◌, ◌-◌, ◌≤◌, List, [], ◌∷◌, length, eqb, Bool, true, false, refl, ap, ◌∙◌, Some, None, Option, arith}
+use Rattle.std.proofs.Common.{◌≡◌, ℕ, zero, suc, ◌+◌, ◌-◌, ◌≤◌, List, [], ◌∷◌, length, eqb, Bool, true, false, refl, ◌∙◌, Some, None, Option, arith}
 use Rattle.std.specs.Prelude.{slice_get, is_some}
 use Rattle.tg_base.specs.declared.fault.Which.{Which}
 use Rattle.tg_base.specs.declared.ids.NodeId.{NodeId}

@@ -1,20 +1,18 @@
 -- The transactions of each run's history keep the grammar.
-use Rattle.std.proofs.Common.{◌≡◌, ◌⊎◌, ℕ, zero, suc, ◌+◌, ◌<◌, ◌≤◌, ◌^◌, List, [], ◌∷◌, ◌++◌, length, map, Bool, true, false, refl, sym, ap, ◌∙◌, subst, inl, inr, arith, Some, None, Option}
-use Rattle.std.specs.Prelude.{◌&&◌, ◌==◌, not, nat_lt, nat_le, Contains}
-use Rattle.std.specs.List.{list_all}
+use Rattle.std.proofs.Common.{◌≡◌, ℕ, suc, ◌+◌, ◌<◌, ◌≤◌, ◌^◌, List, [], ◌∷◌, length, map, Bool, true, false, refl, sym, ap, ◌∙◌, subst, inl, inr, arith, Some, None, Option}
+use Rattle.std.specs.Prelude.{◌==◌, not, nat_lt, nat_le}
 use Rattle.std.proofs.lemmas.Bool.Decides.{nat_tests}
 use Rattle.tg_base.specs.Clusters.{Header, IsHeader, are_objects, is_user_object}
 use Rattle.tg_base.specs.Units.{is_rising}
 use Rattle.tg_base.specs.declared.ids.Oid.{Oid}
 use Rattle.tg_codec.proofs.Laws.{and-left, and-right, both}
 use Rattle.tg_entry.specs.declared.entry.Body.{Body}
-use Rattle.tg_entry.specs.declared.entry.Body.TheVariants.{Commit}
 use Rattle.tg_entry.specs.declared.entry.Entry.{Entry}
 use Rattle.tg_entry.specs.declared.entry.WriteOp.{WriteOp}
 use Rattle.tg_entry.specs.Needs.{writes_of, writes_in}
 use Rattle.tg_model.specs.Kinds.{MarkOf, DoneOf}
-use Rattle.tg_model.specs.Stores.{History, AllAbove, Rises}
-use Rattle.tg_model.specs.Traces.{Tells, puts_of}
+use Rattle.tg_model.specs.Stores.{AllAbove, Rises}
+use Rattle.tg_model.specs.Traces.{puts_of}
 use Rattle.tg_model.specs.Legal.{Legal}
 use Rattle.tg_protocol.specs.Alike.{HasEntry}
 use Rattle.tg_protocol.specs.Appending.{Append}
@@ -22,7 +20,7 @@ use Rattle.tg_protocol.specs.Clients.{Purpose, Writes, Judged, Decides, Rescues,
 use Rattle.tg_protocol.specs.ClientSteps.{task_in}
 use Rattle.tg_protocol.specs.Entries.{is_commit}
 use Rattle.tg_protocol.specs.Holding.{WasBegun, EntriesOwn, RecordsOwn, append_of, append_by}
-use Rattle.tg_protocol.specs.Logs.{op_if, ops_of, done_at, history_of, commits_after}
+use Rattle.tg_protocol.specs.Logs.{op_if, ops_of, history_of}
 use Rattle.tg_protocol.specs.Transactions.{commit_record}
 use Rattle.tg_protocol.specs.Worlds.{World, Told, start, client, trace, history}
 use Rattle.tg_protocol.specs.Runs.{Moves, Reaches}

@@ -4,4 +4,5 @@ pub mod Numbers
 pub mod Places
 pub mod Ops
 pub mod Histories
+pub mod Told
 pub mod Replies

@@ -1,9 +1,7 @@
 -- The numbers of each reply: its event, its client, and its transaction.
-use Rattle.std.proofs.Common.{◌≡◌, ◌⊎◌, ℕ, ◌+◌, ◌<◌, ◌≤◌, ◌^◌, List, [], ◌∷◌, ◌++◌, length, map, Bool, true, false, refl, sym, ap, ◌∙◌, subst, inl, inr, arith, Some, None, Option}
-use Rattle.std.specs.Prelude.{slice_get, slice_index_or, is_some, Contains, nat_lt, ◌&&◌}
-use Rattle.std.specs.List.{list_all}
-use Rattle.std.proofs.lemmas.Bool.Decides.{nat_tests}
-use Rattle.tg_base.specs.Clusters.{Header, IsHeader}
+use Rattle.std.proofs.Common.{◌≡◌, ◌⊎◌, ℕ, ◌<◌, ◌≤◌, ◌^◌, List, [], ◌∷◌, length, map, Bool, true, false, refl, sym, ap, subst, inl, inr, arith, Some, None, Option}
+use Rattle.std.specs.Prelude.{slice_get, is_some}
+use Rattle.tg_base.specs.Clusters.{Header}
 use Rattle.tg_base.specs.declared.ids.NodeId.{NodeId}
 use Rattle.tg_base.specs.declared.ids.Role.{Role}
 use Rattle.tg_base.specs.declared.ids.Role.TheVariants as role
@@ -11,14 +9,12 @@ use Rattle.tg_base.specs.declared.packet.Packet.{Packet}
 use Rattle.tg_kind.specs.Meaning.{Meaning}
 use Rattle.tg_model.specs.declared.command.Event.TheVariants.{Command as Commands, Deliver, Lose, Tick, Stop}
 use Rattle.tg_model.specs.Kinds.{CommandOf, EventOf, MarkOf}
-use Rattle.tg_protocol.specs.Clients.{Client, new_client}
+use Rattle.tg_protocol.specs.Clients.{Client}
 use Rattle.tg_protocol.specs.ClientSteps.{ClientTurn, client_command, client_deliver, client_tick}
 use Rattle.tg_protocol.specs.Words.{client_id, numbers}
 use Rattle.tg_protocol.specs.Worlds.{World, Told, start, client, happens, runs, next_event, mark_of, trace, handed, noted_if, client_turned, unit_moves, layout_moves, seqr_moves, moves, comes, delivers, commands, ticks, ticks_if, stops_if, counted}
 use Rattle.tg_protocol.specs.Runs.{Moves, Next, Takes, Reaches, run}
 use Rattle.tg_law_layouts.proofs.Moves.Always.{lawful_give}
-use Rattle.tg_law_layouts.specs.Moves.After.{after}
-use Rattle.tg_law_layouts.proofs.Moves.Lists.{at_map}
 use Rattle.tg_law_layouts.proofs.Moves.Members.{Has, has_either, has_map, set_long}
 use Rattle.tg_law_replies.proofs.Books.Worlds.{declared}
 use Rattle.tg_law_walks.proofs.Drafts.Clients.{State, state_hold, few_in}

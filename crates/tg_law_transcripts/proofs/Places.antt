@@ -1,6 +1,6 @@
 -- A sequencer issues positions below the header's limit only, so a log has no others.
-use Rattle.std.proofs.Common.{◌≡◌, ◌⊎◌, ℕ, ◌+◌, ◌<◌, ◌≤◌, List, [], ◌∷◌, length, map, Bool, true, false, refl, sym, ap, ◌∙◌, subst, inl, inr, arith, Some, None, Option}
-use Rattle.std.specs.Prelude.{slice_index_or, min, nat_le, Contains}
+use Rattle.std.proofs.Common.{◌≡◌, ◌⊎◌, ℕ, ◌+◌, ◌<◌, List, [], ◌∷◌, length, map, Bool, true, false, refl, sym, ap, ◌∙◌, subst, inl, inr, arith, Some, None, Option}
+use Rattle.std.specs.Prelude.{slice_index_or, min, nat_le}
 use Rattle.std.proofs.lemmas.Bool.Decides.{nat_tests}
 use Rattle.tg_base.specs.Clusters.{Header}
 use Rattle.tg_base.specs.Layouts.{Layout}
@@ -20,7 +20,7 @@ use Rattle.tg_protocol.specs.Layouts.{first_layout}
 use Rattle.tg_protocol.specs.Replies.{reply}
 use Rattle.tg_protocol.specs.Requests.{out, Next, Goes, Learns, Ends}
 use Rattle.tg_protocol.specs.Runs.{Moves, Reaches}
-use Rattle.tg_protocol.specs.Sequencers.{SeqrState, SeqrTurn, new_seqr, links_of, with_positions, cell_streams, scan_asks, seqr_asks, scanning, scan_on, scan_ended, scan_next, scan_turn, fed_if, scan_fed, answers, begun, stand_answer, learns, issue, on_token, unfenced, own_epoch, on_learn, learn_or_old, seqr_step, seqr_tick}
+use Rattle.tg_protocol.specs.Sequencers.{SeqrState, SeqrTurn, new_seqr, links_of, with_positions, cell_streams, seqr_asks, scan_on, scan_ended, scan_next, scan_turn, fed_if, scan_fed, answers, begun, stand_answer, learns, issue, on_token, unfenced, own_epoch, on_learn, learn_or_old, seqr_step, seqr_tick}
 use Rattle.tg_protocol.specs.Words.{seqr_id, numbers}
 use Rattle.tg_protocol.specs.Worlds.{World, start, log, packet_of}
 use Rattle.tg_law_layouts.specs.Moves.After.{after}
@@ -28,13 +28,12 @@ use Rattle.tg_law_layouts.specs.Moves.Configs.{Config, config, seqr_in}
 use Rattle.tg_law_layouts.proofs.Moves.Growth.{IsCalm, by_seqr}
 use Rattle.tg_law_layouts.proofs.Moves.Lists.{at_map, at_set, contained}
 use Rattle.tg_law_layouts.proofs.Moves.Members.{Has, has_either, has_map, has_contained, has_filter}
-use Rattle.tg_law_layouts.proofs.Moves.Moves.{Cases, Keeps, SeqrInput, Hears, Ticks, seqr_turn, run_keeps}
+use Rattle.tg_law_layouts.proofs.Moves.Moves.{Keeps, SeqrInput, Hears, Ticks, seqr_turn, run_keeps}
 use Rattle.tg_law_cells.specs.Tokens.Issuing.{is_issued}
 use Rattle.tg_law_cells.proofs.Tokens.Archive.{log_has_own_pages}
 use Rattle.tg_law_cells.proofs.Tokens.Going.{scan_silent}
 use Rattle.tg_law_cells.proofs.Tokens.Issues.{not_issued, issued_pos}
 use Rattle.tg_law_cells.proofs.Tokens.Linked.{page_in}
-use Rattle.tg_law_cells.specs.Entries.Archive.{TrimsWereSafe}
 
 -- a sequencer keeps its limit, and issues below it
 pub record Fine (s : SeqrState) (t : SeqrTurn) : Type 0 where

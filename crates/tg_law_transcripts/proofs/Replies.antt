@@ -1,10 +1,9 @@
 -- Each reply of a script keeps the grammar.
-use Rattle.std.proofs.Common.{◌≡◌, ℕ, ◌+◌, ◌<◌, ◌≤◌, ◌^◌, List, [], ◌∷◌, length, Bool, true, refl, sym, subst, arith, inl, inr}
-use Rattle.std.specs.Prelude.{◌&&◌, nat_lt}
+use Rattle.std.proofs.Common.{◌≡◌, ◌<◌, ◌≤◌, ◌^◌, length, true, sym, subst, arith}
+use Rattle.std.specs.Prelude.{nat_lt}
 use Rattle.tg_codec.proofs.Laws.{both, and-left, and-right}
 use Rattle.tg_protocol.specs.Worlds.{Told, start, trace}
 use Rattle.tg_any.specs.AllKinds.{all_kinds}
-use Rattle.tg_trace.specs.Replies.{what_fits}
 use Rattle.tg_trace.specs.Transcripts.{Reply, reply, is_transcript}
 use Rattle.tg_replay.specs.Runs.{Script, IsScript, Worlds, world_of}
 use Rattle.tg_law_layouts.proofs.Moves.Members.{Has, has_map}

@@ -1,9 +1,12 @@
 -- The world of each script keeps the grammar of transcripts.
-use Rattle.std.specs.Prelude.{◌≡◌, ℕ, ◌<◌, ◌^◌, Bool, true, ◌&&◌, length}
+use Rattle.std.specs.Prelude.{◌≡◌, ◌≢◌, ℕ, ◌<◌, ◌^◌, Bool, true, ◌&&◌, [], length, Contains}
 use Rattle.std.specs.List.{list_all}
 use Rattle.tg_base.specs.Clusters.{Header}
 use Rattle.tg_base.specs.Units.{is_rising}
-use Rattle.tg_protocol.specs.Worlds.{World, trace, history}
+use Rattle.tg_model.specs.declared.trace.What.TheVariants as told
+use Rattle.tg_model.specs.Kinds.{WhatOf}
+use Rattle.tg_model.specs.Traces.{puts_of}
+use Rattle.tg_protocol.specs.Worlds.{World, Told, trace, history}
 use Rattle.tg_protocol.specs.Runs.{Moves, Reaches}
 use Rattle.tg_any.specs.AllKinds.{all_kinds}
 use Rattle.tg_any.specs.Words.{number, index}
@@ -26,6 +29,17 @@ is_history h w = objects.fits h.objects && count.fits (length (history all_kinds
 
 abbrev pub EachHistoryFits : Type 0
 EachHistoryFits = (h : Header) (ms : Moves all_kinds) (w : World all_kinds) → Reaches all_kinds h ms w → is_history h w ≡ true
+
+-- a commit record with writes, an aborted or unsure one, or a checkpoint stands below the header's limit, where a reply tells of it
+abbrev pub TellsBelow : World all_kinds → ℕ → ℕ → WhatOf all_kinds → Type 0
+TellsBelow w k x (told.Committed p) = puts_of all_kinds (trace all_kinds w) k x ≢ [] → p < w.cluster.limit
+TellsBelow w k x (told.Aborted p o part seen now) = p < w.cluster.limit
+TellsBelow w k x (told.Unsure p q) = p < w.cluster.limit
+TellsBelow w k x (told.Saved o p u) = p < w.cluster.limit
+TellsBelow w k x what = Unit {0}
+
+abbrev pub EachTellsBelow : Type 0
+EachTellsBelow = (h : Header) (ms : Moves all_kinds) (w : World all_kinds) → Reaches all_kinds h ms w → (t : Told all_kinds) → Contains w.told t → TellsBelow w t.mark.client t.mark.tx t.mark.what
 
 -- what a reply tells is within its type
 abbrev pub tells_within : Reply → Bool

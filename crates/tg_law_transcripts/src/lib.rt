@@ -3,4 +3,4 @@
 
 mod laws;
 
-pub use laws::{fit_by_replies, histories_fit, replies_are_numbered};
+pub use laws::{fit_by_replies, histories_fit, records_below, replies_are_numbered};
