@@ -11,7 +11,7 @@ use Rattle.tg_model.specs.declared.command.Event.TheVariants.{Command as Command
 use Rattle.tg_model.specs.Kinds.{CommandOf, EventOf, MarkOf}
 use Rattle.tg_protocol.specs.Clients.{Client}
 use Rattle.tg_protocol.specs.ClientSteps.{ClientTurn, client_command, client_deliver, client_tick}
-use Rattle.tg_protocol.specs.Words.{client_id, numbers}
+use Rattle.tg_protocol.specs.Words.{client_id}
 use Rattle.tg_protocol.specs.Worlds.{World, Told, start, client, happens, runs, next_event, mark_of, trace, handed, noted_if, client_turned, unit_moves, layout_moves, seqr_moves, moves, comes, delivers, commands, ticks, ticks_if, stops_if, counted}
 use Rattle.tg_protocol.specs.Runs.{Moves, Next, Takes, Reaches, run}
 use Rattle.tg_law_layouts.proofs.Moves.Always.{lawful_give}

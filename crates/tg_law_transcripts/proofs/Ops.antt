@@ -1,5 +1,5 @@
 -- Ops that have a spelling are within the types of their words, and their objects have names.
-use Rattle.std.proofs.Common.{◌≡◌, ℕ, Bool, true, false, List, length, Some, None, refl, sym, subst, ltb, eqb, arith}
+use Rattle.std.proofs.Common.{◌≡◌, ℕ, Bool, true, false, List, length, Some, None, refl, sym, subst, ltb, arith}
 use Rattle.std.specs.Prelude.{◌&&◌, ◌==◌, ◌^◌, nat_le, Ok, Err, if◌then◌else◌}
 use Rattle.std.proofs.lemmas.Bool.{eqb-true}
 use Rattle.std.proofs.lemmas.Bool.Decides.{nat_tests}
