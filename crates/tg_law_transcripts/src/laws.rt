@@ -1,0 +1,23 @@
+//! What is told in the world of a script keeps the grammar of transcripts.
+
+ghost use Rattle.tg_law_transcripts.specs.Fits.{EachFitsByReplies, EachHistoryFits, EachIsNumbered, EachTellsBelow};
+
+/// The numbers of a reply's event, its client and its transaction are within their types, in a script of fewer than 2^64 event lines.
+pub fn replies_are_numbered()
+    ensures { EachIsNumbered }
+{}
+
+/// The objects of each run, and the transactions of its history, are within their types, and the places of these rise.
+pub fn histories_fit()
+    ensures { EachHistoryFits }
+{}
+
+/// Where a reply tells that a commit record with writes, an aborted or unsure one, or a checkpoint stands is below the header's limit.
+pub fn records_below()
+    ensures { EachTellsBelow }
+{}
+
+/// So where what each reply tells is within its type, the objects, the replies and the history of a script are a transcript.
+pub fn fit_by_replies()
+    ensures { EachFitsByReplies }
+{}

@@ -1,0 +1,6 @@
+//! What is told in the world of a script keeps the grammar of transcripts.
+#![tactic(auto)]
+
+mod laws;
+
+pub use laws::{fit_by_replies, histories_fit, records_below, replies_are_numbered};
