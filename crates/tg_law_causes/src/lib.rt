@@ -1,0 +1,6 @@
+//! Refusals and their causes: laws over definitions, the contracts of empty functions.
+#![tactic(auto)]
+
+mod laws;
+
+pub use laws::refusals_keep;
