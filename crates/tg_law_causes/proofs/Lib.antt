@@ -1,2 +1,4 @@
+pub mod Directories
 pub mod Keeping
+pub mod Store
 pub mod Turns

@@ -1,8 +1,9 @@
 //! What a refusal keeps, and why a command is refused.
 
+ghost use Rattle.tg_any.specs.AllKinds.{all_kinds};
 ghost use Rattle.tg_kind.specs.Of.{meaning_of};
-ghost use Rattle.tg_protocol.specs.Causes.{RefusalsKeep};
-ghost use Rattle.tg_protocol.specs.Runs.{EachStep};
+ghost use Rattle.tg_protocol.specs.Causes.{DirectoryTrue, RefusalsKeep};
+ghost use Rattle.tg_protocol.specs.Runs.{Always, EachStep};
 
 use tg_kind::Registry;
 
@@ -11,4 +12,9 @@ use tg_kind::Registry;
 /// them changes.
 pub fn refusals_keep<K: Registry>()
     ensures { EachStep (meaning_of K.Registry) (RefusalsKeep (meaning_of K.Registry)) }
+{}
+
+/// The directory of each client of the store is that of the history, at the position to which the client has played it.
+pub fn directories_true()
+    ensures { Always all_kinds (DirectoryTrue all_kinds) }
 {}

@@ -3,4 +3,4 @@
 
 mod laws;
 
-pub use laws::refusals_keep;
+pub use laws::{directories_true, refusals_keep};
