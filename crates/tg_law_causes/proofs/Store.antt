@@ -1,12 +1,11 @@
 -- What clients of the store find of the log, and so what holds of every run of it.
-use Rattle.std.proofs.Common.{◌≡◌, sym, subst}
+use Rattle.std.proofs.Common.{sym, subst}
 use Rattle.tg_base.specs.Clusters.{Header}
 use Rattle.tg_any.specs.AllKinds.{all_kinds}
-use Rattle.tg_protocol.specs.Appending.{At}
 use Rattle.tg_protocol.specs.Worlds.{World}
 use Rattle.tg_protocol.specs.Runs.{Moves, Reaches, Always}
 use Rattle.tg_protocol.specs.Holding.{EntriesOwn}
-use Rattle.tg_protocol.specs.Causes.{DirectoryTrue}
+use Rattle.tg_protocol.specs.Causes.{AbortsLeast, DirectoryTrue}
 use Rattle.tg_law_layouts.specs.Moves.After.{after}
 use Rattle.tg_law_replies.specs.Replies.Ended.{AppendsEnd}
 use Rattle.tg_law_replies.specs.Replies.Laws.{ClientsFind}
@@ -20,6 +19,7 @@ use Rattle.tg_law_store.proofs.AllKinds.Touching.{kinds_touch_parts}
 use Rattle.tg_law_store.proofs.Store.States.{store_has_states}
 use Rattle.tg_law_store.proofs.Store.Steps.{store_trims_are_spare, views_here}
 use Rattle.tg_law_store.proofs.Joint.Holding.{steps_hold}
+use Rattle.tg_law_causes.proofs.Aborts.{aborts_least}
 use Rattle.tg_law_causes.proofs.Directories.{directory_is}
 
 module _ (h : Header) (ms : Moves all_kinds) (w : World all_kinds) (r : Reaches all_kinds h ms w) where
@@ -44,3 +44,6 @@ module _ (h : Header) (ms : Moves all_kinds) (w : World all_kinds) (r : Reaches 
 
 pub directories_true : Always all_kinds (DirectoryTrue all_kinds)
 directories_true h ms w r = directory_is all_kinds h ms w r (found h ms w r) (ends h ms w r)
+
+pub aborts_name_least : Always all_kinds (AbortsLeast all_kinds)
+aborts_name_least h ms w r = aborts_least all_kinds h ms w r (found h ms w r) (ends h ms w r)

@@ -2,7 +2,7 @@
 
 ghost use Rattle.tg_any.specs.AllKinds.{all_kinds};
 ghost use Rattle.tg_kind.specs.Of.{meaning_of};
-ghost use Rattle.tg_protocol.specs.Causes.{DirectoryTrue, RefusalsKeep};
+ghost use Rattle.tg_protocol.specs.Causes.{AbortsLeast, DirectoryTrue, RefusalsKeep};
 ghost use Rattle.tg_protocol.specs.Runs.{Always, EachStep};
 
 use tg_kind::Registry;
@@ -17,4 +17,9 @@ pub fn refusals_keep<K: Registry>()
 /// The directory of each client of the store is that of the history, at the position to which the client has played it.
 pub fn directories_true()
     ensures { Always all_kinds (DirectoryTrue all_kinds) }
+{}
+
+/// An abort names the least of the reads whose versions differ: of each read before it the record's version is that of the log.
+pub fn aborts_name_least()
+    ensures { Always all_kinds (AbortsLeast all_kinds) }
 {}

@@ -3,4 +3,4 @@
 
 mod laws;
 
-pub use laws::{directories_true, refusals_keep};
+pub use laws::{aborts_name_least, directories_true, refusals_keep};
