@@ -157,7 +157,7 @@ module _ (m : Meaning) (h : Header) (ms : Moves m) (r : Reaches m h ms (after m 
   unfolding run
   all_least t i = (state_on ms [] refl start_state).told t i
 
--- of a log
+-- So each abort that is told names the least: the reads of each commit record of the log rise.
 module _ (m : Meaning) (h : Header) (ms : Moves m) (r : Reaches m h ms (after m h ms)) (finds : ClientsFind m h ms (after m h ms)) (ends : AppendsEnd m h ms (after m h ms)) where
   -- what has a read is a commit record
   commits : (b : Body) (q : ReadMark) → Contains (reads_in b) q → body_commits b ≡ true

@@ -14,7 +14,6 @@ use Rattle.tg_protocol.specs.Runs.{Moves, EachStep, Reaches}
 use Rattle.tg_protocol.specs.Playing.{Replies, Answers}
 use Rattle.tg_protocol.specs.Causes.{IsRefused, IsSilent, KeepsHosts, KeepsTx, RefusalsKeep}
 use Rattle.tg_law_layouts.specs.Moves.Configs.{Config, config, client_in}
-use Rattle.tg_law_layouts.specs.Moves.After.{after}
 use Rattle.tg_law_layouts.proofs.Moves.Lists.{at_set, at_map, contained}
 use Rattle.tg_law_layouts.proofs.Moves.Members.{Has, has_contained, has_map}
 use Rattle.tg_law_layouts.proofs.Moves.Moves.{ClientInput, Commanded, Hears', Ticks', Cases, run_keeps}
