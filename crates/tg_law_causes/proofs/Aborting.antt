@@ -568,7 +568,6 @@ module _ (m : Meaning) (objects : List Oid) (es : Entries) (Ok : WhatOf m → Ty
     accept_takes (cmd.Copy u r s) = copy_takes u r s
     accept_takes x = synced c0 (new_work m x) c0.hosted h
 
-
   -- The turns.
 
   pub record GoodTurn (t : ClientTurn m) : Type 0 where

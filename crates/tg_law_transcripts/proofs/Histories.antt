@@ -176,7 +176,7 @@ module _ (h : Header) (ms : Moves all_kinds) (w : World all_kinds) (r : Reaches 
       let client = ap (λ (y : DoneOf all_kinds). y.client) k.is in
       let number = ap (λ (y : DoneOf all_kinds). y.number) k.is in
       let is : d.writes ≡ puts_of all_kinds (trace all_kinds w) k.entry.head.client k.entry.head.number = legal.entries.writes d (contained _ d i)
-          ∙ (ap (λ (n : ℕ). puts_of all_kinds (trace all_kinds w) n d.number) client ∙ ap (λ (n : ℕ). puts_of all_kinds (trace all_kinds w) k.entry.head.client n) number) in
+      ∙ (ap (λ (n : ℕ). puts_of all_kinds (trace all_kinds w) n d.number) client ∙ ap (λ (n : ℕ). puts_of all_kinds (trace all_kinds w) k.entry.head.client n) number) in
       ap (λ (ws : List (Oid × AnyOp)). not (length ws == 0)) is ∙ puts
 
   limit_few : w.cluster.limit ≤ 1000000
