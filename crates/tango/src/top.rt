@@ -141,7 +141,7 @@ pub fn tango<S: Source, K: Sink, L: Link>(
         nodes.Told (S.left source.old) (λ text. IfSome (L.handed link.old) (λ handed. (which : Which) → nodes.PassesLimit text id which (L.handed link.old) (L.handed link.new) → (result ≡ Limit which) ⊎ (result ≡ OutOfMemory))) }
     // Nodes that each do what their texts and links tell, as these clauses say of one, make a run that holds, in each order of their
     // steps that keeps each node's own and in which a packet is sent before it is taken.
-    ensures nodes_truly { (id : NodeId) → form_of (map string_bytes words.now) ≡ Some (Node id) → NodesHold }
+    ensures nodes_truly { (id : NodeId) → form_of (map string_bytes words.now) ≡ Some (Node id) → (result ≡ Done) ⊎ ((which : Which) × (result ≡ Limit which)) → NodesHold }
     // A made load: its run is a replay's, and what is written is the summary of the world that it comes to, or of the steps before a limit.
     ensures load_done { (start count : ℕ) → form_of (map string_bytes words.now) ≡ Some (Bench start count) → result ≡ Done → IsWithin (load start count) × Takes (K.written sink.old) (summary (load start count)) (K.written sink.new) }
     ensures load_limit { (start count : ℕ) → form_of (map string_bytes words.now) ≡ Some (Bench start count) → (which : Which) → result ≡ Limit which → ((run_of (load start count)).stopped ≡ Some which) × Takes (K.written sink.old) (summary (load start count)) (K.written sink.new) }

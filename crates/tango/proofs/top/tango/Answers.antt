@@ -143,7 +143,7 @@ returns-in-Ok-Some-Live-clause-live_limit_truly g c = λ named which is.
     live_limited_truly c.lives_hold.ensures (over (g.L.Link.handed c.args.link.now) (g.L.Link.handed c.run.new.link) (g.L.Link.sent c.args.link.now) (g.L.Link.sent c.run.new.link)) (g.S.Source.left c.args.source.now) (g.K.Sink.written c.args.sink.now) (g.K.Sink.written c.run.new.sink) which (c.run.ensures.limit which is)
 
 pub returns-in-Ok-Some-Node-clause-nodes_truly : goal.returns-in-Ok-Some-Node-clause-nodes_truly
-returns-in-Ok-Some-Node-clause-nodes_truly g c = λ id named. c.nodes_hold.ensures
+returns-in-Ok-Some-Node-clause-nodes_truly g c = λ id named came. c.nodes_hold.ensures
 
 pub returns-in-Ok-Some-Bench-clause-load_truly : goal.returns-in-Ok-Some-Bench-clause-load_truly
 returns-in-Ok-Some-Bench-clause-load_truly g c = λ start count named came. moved (map string_bytes c.args.words.now) c.in-Ok-Some-Bench.field-0 c.in-Ok-Some-Bench.field-0-0 c.in-Ok-Some-Bench.start c.in-Ok-Some-Bench.count start count
