@@ -51,7 +51,7 @@ use Rattle.tg_wire.specs.Packets.{packet}
 use Rattle.tg_wire.specs.Messages as wire
 use Rattle.tg_live.specs.Matching.{matched}
 use Rattle.tg_live.specs.Sends.{sending, spellings}
-use Rattle.tg_live.specs.Lives.{Answer, Live, LiveRan, IsLived, IsDrained, AreEventsOf, recorded, recorded_by, after_line, came, came_by, received, opened, goes}
+use Rattle.tg_live.specs.Lives.{Answer, Live, LiveRan, IsLived, IsDrained, Follows, recorded, recorded_by, after_line, came, came_by, received, opened, goes}
 use Rattle.tg_live.specs.Scripts.{IsLiveLine, IsLiveScript, IsRecorded, RunsOver, printed}
 use Rattle.tg_live.specs.Scripts as lives
 use Rattle.tg_live.specs.Headline.{TrueLive}
@@ -158,7 +158,7 @@ updated : recorded (opened cluster) (line.Update 0 counter five) ≡ goes l3
 updated = records (opened cluster) (line.Update 0 counter five) w3 way.limit_0 updates
 
 hands_on : (a : Arrival) (rest : List Answer) (l k : Live) (end : LiveRan) → l.received < 1000000 → came (received l) a.to a.datagram ≡ goes k → IsDrained rest k end → IsDrained (Some a ∷ rest) l end
-hands_on a rest l k end few h d = (few, subst (λ (r : LiveRan). AreEventsOf r.stopped r rest end (IsDrained rest r.live end)) (sym h) d)
+hands_on a rest l k end few h d = (few, subst (λ (r : LiveRan). Follows r.stopped r rest end (IsDrained rest r.live end)) (sym h) d)
 
 abbrev brought : ℕ → Arrival
 brought i = record { to = (nth i).to; datagram = packet.spell (nth i) }

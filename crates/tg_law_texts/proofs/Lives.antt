@@ -15,7 +15,7 @@ use Rattle.tg_script.specs.declared.line.Line.TheVariants as line
 use Rattle.tg_replay.specs.Runs.{Script, Worlds, IsScript, Tells, MayCome, front, lines_on, world_of}
 use Rattle.tg_replay.proofs.Exact.{told_once}
 use Rattle.tg_live.specs.Sends.{sending}
-use Rattle.tg_live.specs.Lives.{Answer, Live, LiveRan, IsLived, IsDrained, Makes, AreEventsOf, recorded, opened, goes}
+use Rattle.tg_live.specs.Lives.{Answer, Live, LiveRan, IsLived, IsDrained, Makes, Follows, recorded, opened, goes}
 use Rattle.tg_live.specs.Scripts.{IsLiveLine, IsLiveScript, IsRecorded, RunsOver, Replayed, is_delivery, printed}
 use Rattle.tg_live.specs.Headline.{IsScripted, TrueLive}
 use Rattle.tg_law_texts.specs.Texts.{cluster, begin, begins, drains, live_script, link, unasked, recording_text, drain_recorded, lived, unrecorded}
@@ -103,17 +103,17 @@ is_script s h = record {
 
 -- A line that takes no answer, and then a drain.
 module _ (x : Line) (l : Live) (first : l.received ≡ 0) (after : recorded (opened cluster) x ≡ goes l) where
-  drained_so : (taken rest : List Answer) (middle : LiveRan) (last : Live) → None ∷ [] ≡ taken ++ rest → IsDrained taken l middle → AreEventsOf middle.stopped middle rest (goes last) (Makes goes rest middle.live (goes last)) → last ≡ l
+  drained_so : (taken rest : List Answer) (middle : LiveRan) (last : Live) → None ∷ [] ≡ taken ++ rest → IsDrained taken l middle → Follows middle.stopped middle rest (goes last) (Makes goes rest middle.live (goes last)) → last ≡ l
   drained_so [] rest middle last e d f = let full : 1000000 ≤ l.received = d.0 in absurd (omega (arith, full, first))
   drained_so (Some a ∷ taken) rest middle last e d f = absurd cc
   drained_so (None ∷ taken) rest middle last e d f =
-      let then_so : AreEventsOf None (goes l) rest (goes last) (Makes goes rest l (goes last)) = subst (λ (r : LiveRan). AreEventsOf r.stopped r rest (goes last) (Makes goes rest r.live (goes last))) d.2 f in
+      let then_so : Follows None (goes l) rest (goes last) (Makes goes rest l (goes last)) = subst (λ (r : LiveRan). Follows r.stopped r rest (goes last) (Makes goes rest r.live (goes last))) d.2 f in
       ap (λ (r : LiveRan). r.live) then_so.1
 
   pub fed_so : (taken rest : List Answer) (middle : LiveRan) (last : Live) → None ∷ [] ≡ taken ++ rest → (taken ≡ []) × (middle ≡ recorded (opened cluster) x)
-      → AreEventsOf middle.stopped middle rest (goes last) (IsLived (line.Drain ∷ []) rest middle.live (goes last)) → last ≡ l
+      → Follows middle.stopped middle rest (goes last) (IsLived (line.Drain ∷ []) rest middle.live (goes last)) → last ≡ l
   fed_so [] rest middle last e m f =
-      let then_so : IsLived (line.Drain ∷ []) rest l (goes last) = subst (λ (r : LiveRan). AreEventsOf r.stopped r rest (goes last) (IsLived (line.Drain ∷ []) rest r.live (goes last))) (m.1 ∙ after) f in
+      let then_so : IsLived (line.Drain ∷ []) rest l (goes last) = subst (λ (r : LiveRan). Follows r.stopped r rest (goes last) (IsLived (line.Drain ∷ []) rest r.live (goes last))) (m.1 ∙ after) f in
       drained_so then_so.taken then_so.rest then_so.middle last (e ∙ then_so.dealt) then_so.before then_so.after
   fed_so (a ∷ taken) rest middle last e m f = absurd cc
 
@@ -138,9 +138,9 @@ not_drained [] rest middle e d = let full : 1000000 ≤ 0 = d.0 in absurd (omega
 not_drained (a ∷ taken) rest middle e d = absurd cc
 
 not_fed : (taken rest : List Answer) (middle : LiveRan) (last : Live) → [] ≡ taken ++ rest → (taken ≡ []) × (middle ≡ recorded (opened cluster) begin)
-    → AreEventsOf middle.stopped middle rest (goes last) (IsLived (line.Drain ∷ []) rest middle.live (goes last)) → ⊥
+    → Follows middle.stopped middle rest (goes last) (IsLived (line.Drain ∷ []) rest middle.live (goes last)) → ⊥
 not_fed [] rest middle last e m f =
-    let then_so : IsLived (line.Drain ∷ []) rest lived (goes last) = subst (λ (r : LiveRan). AreEventsOf r.stopped r rest (goes last) (IsLived (line.Drain ∷ []) rest r.live (goes last))) (m.1 ∙ recorded_begin) f in
+    let then_so : IsLived (line.Drain ∷ []) rest lived (goes last) = subst (λ (r : LiveRan). Follows r.stopped r rest (goes last) (IsLived (line.Drain ∷ []) rest r.live (goes last))) (m.1 ∙ recorded_begin) f in
     not_drained then_so.taken then_so.rest then_so.middle (e ∙ then_so.dealt) then_so.before
 not_fed (a ∷ taken) rest middle last e m f = absurd cc
 
