@@ -5,7 +5,7 @@
 //! The premise is that of `tg_law_walks::laws_of_lists`: `TrimsWereSpare`.
 
 ghost use Rattle.tg_kind.specs.Of.{meaning_of};
-ghost use Rattle.tg_law_order.specs.Decisions.Decisions.{DecidedStays, DecisionsFollowBySpareTrims, DecisionsHaveRecordsBySpareTrims};
+ghost use Rattle.tg_law_order.specs.Decisions.Decisions.{DecisionsStay, DecisionsFollowBySpareTrims, DecisionsHaveRecordsBySpareTrims};
 ghost use Rattle.tg_law_order.specs.Decisions.Forgetting.{ForgetsDecide, ForgetsWalkWhole};
 ghost use Rattle.tg_law_cells.specs.Entries.Archive.{EachLaterBySafeTrims};
 
@@ -23,7 +23,7 @@ pub fn decisions_follow<K: Registry>()
 
 /// What has its decision above it, in its streams, settled by an epoch, has it in each later world, and by each later epoch.
 pub fn decided_stays<K: Registry>()
-    ensures { EachLaterBySafeTrims (meaning_of K.Registry) (DecidedStays (meaning_of K.Registry)) }
+    ensures { EachLaterBySafeTrims (meaning_of K.Registry) (DecisionsStay (meaning_of K.Registry)) }
 {}
 
 /// The walks of a command that forgets begin at the log's beginning.

@@ -7,7 +7,7 @@
 
 ghost use Rattle.tg_kind.specs.Of.{meaning_of};
 ghost use Rattle.tg_law_cells.specs.Entries.Archive.{AlwaysBySafeTrims};
-ghost use Rattle.tg_law_walks.specs.Once.GivenUp.{LogKept, OnePosition, SettledKept};
+ghost use Rattle.tg_law_walks.specs.Once.GivenUp.{LogKept, OnePosition, PagesKept};
 ghost use Rattle.tg_law_walks.specs.Once.Records.{AppendsStand, BooksKeptBySafeTrims, RecordsKnownBySafeTrims, RecordsWereLeft, RepliesKnownBySafeTrims, RunsLegalBySafeTrims};
 ghost use Rattle.tg_law_walks.specs.Once.Worked.{WorkedOnce};
 ghost use Rattle.tg_protocol.specs.Holding.{EntriesOnce, RecordsOwn};
@@ -17,7 +17,7 @@ use tg_kind::Registry;
 
 /// A settled page is that of a token which its client didn't give up: so a token that was given up has no settled page.
 pub fn given_up_is_nowhere<K: Registry>()
-    ensures { Always (meaning_of K.Registry) (SettledKept (meaning_of K.Registry)) }
+    ensures { Always (meaning_of K.Registry) (PagesKept (meaning_of K.Registry)) }
 {}
 
 /// So is each page of the log, where trims were safe.

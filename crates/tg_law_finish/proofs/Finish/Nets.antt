@@ -10,7 +10,7 @@ use Rattle.tg_kind.specs.Meaning.{Meaning}
 use Rattle.tg_model.specs.declared.command.Event.TheVariants.{Deliver, Tick}
 use Rattle.std.specs.List.{list_any}
 use Rattle.tg_law_finish.specs.Finish.Laws.{TakesTurn}
-use Rattle.tg_law_finish.specs.Finish.Queues.{Rises, Carries, Queue}
+use Rattle.tg_law_finish.specs.Finish.Queues.{RisesWithin, Carries, Queue}
 use Rattle.tg_law_layouts.proofs.Moves.Members.{set_long}
 use Rattle.tg_base.specs.Orders.{node_eq}
 use Rattle.tg_protocol.specs.Words.{seqr_id, client_id, numbers}
@@ -24,26 +24,26 @@ use Rattle.tg_protocol.specs.Worlds.{World, packet_of, answer_to, moves, comes, 
 
 -- The packets of a world that wait, in their order.
 
-rises_within : (lo hi : ℕ) (is : List ℕ) → Rises lo is hi → lo ≤ hi
+rises_within : (lo hi : ℕ) (is : List ℕ) → RisesWithin lo is hi → lo ≤ hi
 rises_within lo hi [] h = h
 rises_within lo hi (i ∷ is) h = let a = h.0 in let b = rises_within (suc i) hi is h.1 in omega (arith, a, b)
 
-rises_more : (lo hi n : ℕ) (is : List ℕ) → Rises lo is hi → Rises lo (is ++ numbers n hi) (hi + n)
+rises_more : (lo hi n : ℕ) (is : List ℕ) → RisesWithin lo is hi → RisesWithin lo (is ++ numbers n hi) (hi + n)
 rises_more lo hi n [] h = from n lo hi h
   where
-    from : (n lo hi : ℕ) → lo ≤ hi → Rises lo (numbers n hi) (hi + n)
+    from : (n lo hi : ℕ) → lo ≤ hi → RisesWithin lo (numbers n hi) (hi + n)
     from zero lo hi le = omega (arith, le)
-    from (suc n) lo hi le = (le, subst (λ x. Rises (suc hi) (numbers n (hi + 1)) x) (omega arith) (from n (suc hi) (hi + 1) (omega arith)))
+    from (suc n) lo hi le = (le, subst (λ x. RisesWithin (suc hi) (numbers n (hi + 1)) x) (omega arith) (from n (suc hi) (hi + 1) (omega arith)))
 rises_more lo hi n (i ∷ is) h = (h.0, rises_more (suc i) hi n is h.1)
 
-rises_from : (lo low hi : ℕ) (is : List ℕ) → low ≤ lo → Rises lo is hi → Rises low is hi
+rises_from : (lo low hi : ℕ) (is : List ℕ) → low ≤ lo → RisesWithin lo is hi → RisesWithin low is hi
 rises_from lo low hi [] le h = omega (arith, le, h)
 rises_from lo low hi (i ∷ is) le h = ((let a = h.0 in omega (arith, le, a)), h.1)
 
 kept_rest : (i j : ℕ) (is js : List ℕ) → suc i ≤ j → filter (λ (x : ℕ). not (eqb i x)) is ≡ js → filter (λ (x : ℕ). not (eqb i x)) (j ∷ is) ≡ j ∷ js
 kept_rest i j is js le e = grind arith
 
-others_stay : (i lo hi : ℕ) (is : List ℕ) → suc i ≤ lo → Rises lo is hi → filter (λ (x : ℕ). not (eqb i x)) is ≡ is
+others_stay : (i lo hi : ℕ) (is : List ℕ) → suc i ≤ lo → RisesWithin lo is hi → filter (λ (x : ℕ). not (eqb i x)) is ≡ is
 others_stay i lo hi [] le h = refl
 others_stay i lo hi (j ∷ is) le h = kept_rest i j is is (let a = h.0 in omega (arith, le, a)) (others_stay i (suc j) hi is (let a = h.0 in omega (arith, le, a)) h.1)
 
@@ -168,15 +168,15 @@ module _ (m : Meaning) where
   unfolding happens
   first_delivered w i is p q e queue =
       let c = subst (λ js. Carries w.packets js (p ∷ q)) e queue.carries in
-      let r = subst (λ js. Rises 0 js (length w.packets)) e queue.rises in
+      let r = subst (λ js. RisesWithin 0 js (length w.packets)) e queue.rises in
       let l = got_delivered w i p (slice_get w.packets i) c.0 in
       counts_only w _ is (i ∷ []) _ _ (subst (λ js. Later w (delivers m w i (slice_get w.packets i)) js (i ∷ []) (net_if (runs m w p.to) w.cluster (net w) p) (sent_if (runs m w p.to) w.cluster (net w) p))
       (ap (λ js. without_num m i js) e ∙ first_goes i is (others_stay i (suc i) (length w.packets) is (omega arith) r.1)) l)
 
-  pub later_queue : (w v : World m) (is done : List ℕ) (s : Net) (sent q : List Packet) → Rises 0 is (length w.packets) → Carries w.packets is q → Later w v is done s sent → Queue m v (q ++ sent)
+  pub later_queue : (w v : World m) (is done : List ℕ) (s : Net) (sent q : List Packet) → RisesWithin 0 is (length w.packets) → Carries w.packets is q → Later w v is done s sent → Queue m v (q ++ sent)
   later_queue w v is done s sent q rises carries l = record {
-    rises = subst (λ js. Rises 0 js (length v.packets)) (sym l.waiting) (subst (λ ps. Rises 0 (is ++ numbers (length sent) (length w.packets)) (length ps)) (sym l.packets)
-        (subst (λ n. Rises 0 (is ++ numbers (length sent) (length w.packets)) n) (sym (length_both w.packets sent)) (rises_more 0 (length w.packets) (length sent) is rises)));
+    rises = subst (λ js. RisesWithin 0 js (length v.packets)) (sym l.waiting) (subst (λ ps. RisesWithin 0 (is ++ numbers (length sent) (length w.packets)) (length ps)) (sym l.packets)
+        (subst (λ n. RisesWithin 0 (is ++ numbers (length sent) (length w.packets)) n) (sym (length_both w.packets sent)) (rises_more 0 (length w.packets) (length sent) is rises)));
     carries = subst (λ js. Carries v.packets js (q ++ sent)) (sym l.waiting) (subst (λ ps. Carries ps (is ++ numbers (length sent) (length w.packets)) (q ++ sent)) (sym l.packets)
         (carries_both (w.packets ++ sent) is (numbers (length sent) (length w.packets)) q sent (carries_more w.packets sent is q carries) (carries_new w.packets sent)));
   }
@@ -318,11 +318,11 @@ module _ (m : Meaning) where
       here : (is : List ℕ) → w.waiting ≡ i ∷ is → (slice_get w.packets i ≡ Some p) × TakesTurn m w (happens m w (Deliver i)) q
       here is e =
           let c = subst (λ js. Carries w.packets js (p ∷ q)) e queue.carries in
-          let r = subst (λ js. Rises 0 js (length w.packets)) e queue.rises in
+          let r = subst (λ js. RisesWithin 0 js (length w.packets)) e queue.rises in
           let l = first_delivered w i is p q e queue in
           (c.0, record { sent = _; packets = l.packets; waiting = later_queue w _ is (i ∷ []) _ _ q (lower 0 i is _ r) c.1 l })
         where
-          lower : (lo i : ℕ) (is : List ℕ) (hi : ℕ) → (lo ≤ i) × Rises (suc i) is hi → Rises lo is hi
+          lower : (lo i : ℕ) (is : List ℕ) (hi : ℕ) → (lo ≤ i) × RisesWithin (suc i) is hi → RisesWithin lo is hi
           lower lo i [] hi h = let a = h.0 in let b = h.1 in omega (arith, a, b)
           lower lo i (j ∷ is) hi h = ((let a = h.0 in let b = h.1.0 in omega (arith, a, b)), h.1.1)
 

@@ -10,7 +10,7 @@ use Rattle.tg_model.specs.declared.command.Event.TheVariants.{Deliver, Tick}
 use Rattle.tg_protocol.specs.Worlds.{World, runs, happens, Ran, drain_on, drain, tick_all, nodes, unless_stopped, rounds, settle, limit_of, lowest}
 use Rattle.tg_law_finish.proofs.Finish.Counted.{cost, counted}
 use Rattle.tg_law_finish.proofs.Finish.Nets.{got_more, Net, net, net_if, sent_if, net_ticked, sent_ticked, on_in, runs_on, happens_counts, Later, first_delivered, later_queue, one_ticked}
-use Rattle.tg_law_finish.specs.Finish.Queues.{Rises, Carries, Queue}
+use Rattle.tg_law_finish.specs.Finish.Queues.{RisesWithin, Carries, Queue}
 
 -- deliveries of packets that are there
 abbrev pub Valid : List Packet → List ℕ → Type 0
@@ -126,7 +126,7 @@ module _ (m : Meaning) (k : ℕ) where
         (subst (λ (c : Bool). Later m w v is (i ∷ []) (net_if m c w.cluster (net m w) p) (sent_if m c w.cluster (net m w) p)) running (first_delivered m w i is p q e holds.queue)) in
         let one = keep (net m w) p q n holds.inv in
         let c = subst (λ js. Carries w.packets js (p ∷ q)) e holds.queue.carries in
-        let r = subst (λ js. Rises 0 js (length w.packets)) e holds.queue.rises in
+        let r = subst (λ js. RisesWithin 0 js (length w.packets)) e holds.queue.rises in
         let got = subst (λ ps. slice_get ps i ≡ Some p) (sym l.packets) (got_more w.packets _ i p c.0) in
         let pays = one.pays in
         let costs = ap (λ o. cost k o) got in
@@ -142,7 +142,7 @@ module _ (m : Meaning) (k : ℕ) where
           spent = later_spent w v is (i ∷ []) _ _ n one.left l ((p, got), tt) (omega (arith, pays, costs));
         }
       where
-        weaker : (lo hi : ℕ) (is : List ℕ) → Rises lo is hi → Rises 0 is hi
+        weaker : (lo hi : ℕ) (is : List ℕ) → RisesWithin lo is hi → RisesWithin 0 is hi
         weaker lo hi [] r = omega arith
         weaker lo hi (i ∷ is) r = (omega arith, r.1)
 
@@ -314,4 +314,4 @@ module _ (m : Meaning) (k : ℕ) where
       pub settles : Rounding → (w : World m) (n : ℕ) → w.waiting ≡ [] → Pre (nodes m w) (net m w) [] n → w.cluster ≡ h → w.stopped ≡ stopped → DrainsTo w n (settle m w)
       unfolding settle drain
       settles t w n e pre cluster stops = first_drain (200001 - w.steps) w (λ v. rounds m 8 v) n e (omega arith)
-          (round t 7 w n (record { queue = record { rises = subst (λ is. Rises 0 is (length w.packets)) (sym e) (omega arith); carries = subst (λ is. Carries w.packets is []) (sym e) tt }; pre = pre; cluster = cluster; stops = stops }) (λ u left holds. rounds_to t 7 u left holds))
+          (round t 7 w n (record { queue = record { rises = subst (λ is. RisesWithin 0 is (length w.packets)) (sym e) (omega arith); carries = subst (λ is. Carries w.packets is []) (sym e) tt }; pre = pre; cluster = cluster; stops = stops }) (λ u left holds. rounds_to t 7 u left holds))

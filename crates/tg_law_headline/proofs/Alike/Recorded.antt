@@ -47,7 +47,7 @@ use Rattle.tg_law_layouts.proofs.Moves.Draws.{NextDraws}
 use Rattle.tg_law_layouts.proofs.Moves.Machines.{sync_draws, sync_start_draws, walk_draws, walk_again_draws, walk_start_draws}
 use Rattle.tg_law_layouts.proofs.Moves.Turns.{Begins, begins_walk}
 use Rattle.tg_law_replies.specs.Plays.Sound.{IsRising}
-use Rattle.tg_law_replies.specs.Views.Exact.{IsDecided}
+use Rattle.tg_law_replies.specs.Views.Exact.{DecisionStands}
 use Rattle.tg_law_replies.specs.Replies.Found.{mine}
 use Rattle.tg_law_replies.specs.Replies.Steps.{EachWalk, EachSync, EachOver, EachTrim, EachEnd, EachWalked, EachFeed, EachNewer, EachAwaited, EachHand, EachLatest, EachReply, EachDelivery}
 use Rattle.tg_law_replies.specs.Replies.Ended.{end_of, task_ends, again_ends, awaited_ends, hand_ends, latest_ends, reply_ends, work_ends, EndsSo}
@@ -94,10 +94,10 @@ module _ (m : Meaning) (objects : List Oid) (es : Entries) (rising : IsRising es
     pub met : Met since
 
   abbrev pub DecideSaid : ℕ → Type 0
-  DecideSaid p = (e : Entry) → Contains es (p, e) → needs_decision e ≡ true → IsDecided es p ⊎ Met lo
+  DecideSaid p = (e : Entry) → Contains es (p, e) → needs_decision e ≡ true → DecisionStands es p ⊎ Met lo
 
   abbrev pub EndSaid : ℕ → Type 0
-  EndSaid p = (e : Entry) → Contains es (p, e) → needs_decision e ≡ true → IsDecided es p ⊎ MetSince p
+  EndSaid p = (e : Entry) → Contains es (p, e) → needs_decision e ≡ true → DecisionStands es p ⊎ MetSince p
 
   abbrev pub Say : ℕ → WhatOf m → Type 0
   Say x (told.Committed p) = Idle x ⊎ EndSaid p
@@ -265,7 +265,7 @@ module _ (m : Meaning) (objects : List Oid) (es : Entries) (rising : IsRising es
   abbrev pub Only : Entries → Type 0
   Only own = (p : ℕ) (e : Entry) → Contains own (p, e) → Contains es (p, e)
 
-  has_decision : (own : Entries) (p : ℕ) (e : Entry) → Only own → commit_at own p ≡ Some e → lacks_decision m own p e ≡ false → (d : Entry) → Contains es (p, d) → needs_decision d ≡ true → IsDecided es p
+  has_decision : (own : Entries) (p : ℕ) (e : Entry) → Only own → commit_at own p ≡ Some e → lacks_decision m own p e ≡ false → (d : Entry) → Contains es (p, d) → needs_decision d ≡ true → DecisionStands es p
   has_decision own p e only here lacks d i needs = by (decision_in own p) refl (lacks_none (needs_decision e) (is_some (decision_in own p)) (subst (λ (x : Entry). needs_decision x ≡ true) same needs) lacks)
     where
       same : d ≡ e
@@ -274,7 +274,7 @@ module _ (m : Meaning) (objects : List Oid) (es : Entries) (rising : IsRising es
       lacks_none : (a b : Bool) → a ≡ true → (a && not b) ≡ false → b ≡ true
       lacks_none a b x y = grind arith
 
-      by : (o : Option Bool) → decision_in own p ≡ o → is_some (decision_in own p) ≡ true → IsDecided es p
+      by : (o : Option Bool) → decision_in own p ≡ o → is_some (decision_in own p) ≡ true → DecisionStands es p
       by None k t = absurd (no (sym (ap (λ (o : Option Bool). is_some o) k) ∙ t))
         where
           no : false ≡ true → ⊥
@@ -552,7 +552,7 @@ module _ (m : Meaning) (objects : List Oid) (es : Entries) (rising : IsRising es
   Ends' next end a e = (s : ℕ) → s ≤ next → AppendOk Got s next a → EndOk Got s end e
 
   -- a decision record stands, or its append met the log's end, or a trim
-  stands_or_met : (d : Entry) (p s end : ℕ) (e : AppendEnd) → IsFor d p → EndOk Got s end e → EndsSo m es d e → IsDecided es p ⊎ Met s
+  stands_or_met : (d : Entry) (p s end : ℕ) (e : AppendEnd) → IsFor d p → EndOk Got s end e → EndsSo m es d e → DecisionStands es p ⊎ Met s
   stands_or_met d p s end (At q page) f ok so = inl (record { at = q; entry = linked d so.0; is_yes = f.is_yes; here = so.1; is = f.is })
   stands_or_met d p s end (Full l) f ok so = inr (MetFull l ok)
   stands_or_met d p s end (Forgotten q b) f ok so = inr (MetGone q b ok)
@@ -563,7 +563,7 @@ module _ (m : Meaning) (objects : List Oid) (es : Entries) (rising : IsRising es
       after : (p : ℕ) → AfterRecord next a p → EndSaid p
       after p r d i needs = since (stands_or_met a.draft p r.since end e r.decides (ends r.since r.le r.append) so)
         where
-          since : IsDecided es p ⊎ Met r.since → IsDecided es p ⊎ MetSince p
+          since : DecisionStands es p ⊎ Met r.since → DecisionStands es p ⊎ MetSince p
           since (inl y) = inl y
           since (inr y) = inr (record { since = r.since; issued = r.issued; met = y })
 

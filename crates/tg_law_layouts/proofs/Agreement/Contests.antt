@@ -21,8 +21,8 @@ use Rattle.tg_protocol.specs.Requests.{awaits, Next, Goes, Learns, Ends}
 use Rattle.tg_protocol.specs.Replies.{Reply, reply}
 use Rattle.tg_protocol.specs.Replies as replies
 use Rattle.tg_protocol.specs.Reconfiguring.{Before, SealingSpare, Reconf, ReconfEnd, ReconfTurn, reconf_start, first_step, later_asks, reconf_asks, reconf_awaited, reconf_feed, reconf_latest}
-use Rattle.tg_law_layouts.specs.Agreement.Contests.{Proposer, Contest, Event, Arrives, Answers, Ticks, packet_of, packets_of, goes_on, asks_of, resent, ClientTurn, rests, after, fed_if, hears_reply, hears_at, hears, client_turned, to_client, answer_to, to_server, comes, arrives, ticks, happens, run, Wish, begins_by, proposers_from, packets_from, contest}
-use Rattle.tg_law_layouts.specs.Agreement.Laws.{IsChosen, IsFresh, IsProposed, OneIsChosen, ChosenIsProposed}
+use Rattle.tg_law_layouts.specs.Agreement.Contests.{Proposer, Contest, Event, Arrives, Answers, Ticks, packet_of, packets_of, goes_on, asks_of, resent, ProposerTurn, rests, after, fed_if, hears_reply, hears_at, hears, client_turned, to_client, answer_to, to_server, comes, arrives, ticks, happens, run, Wish, begins_by, proposers_from, packets_from, contest}
+use Rattle.tg_law_layouts.specs.Agreement.Laws.{HasWon, IsFresh, IsProposed, OneIsChosen, ChosenIsProposed}
 use Rattle.tg_law_layouts.proofs.Moves.Members.{Has, has_left, has_either, has_got, has_contained, has_map, has_filter, placed, set_long, got_below}
 use Rattle.tg_law_layouts.proofs.Agreement.Counts.{majorities_meet}
 use Rattle.tg_law_layouts.proofs.Agreement.Ballots.{not_less_then}
@@ -530,11 +530,11 @@ module _ (p : Layout) (wishes : List Wish) (n : ℕ) where
           (vote_of s E) (vote_of (layout_step s x.msg).now E) (known.servers x.to.num s at) (layout_step s x.msg).says (server_moves E s x.msg)
           i (vote_of y E) z.0 (known.servers i y z.1)
 
-  pub record TurnFine (k : ℕ) (ps : List Packet) (t : ClientTurn) : Type 0 where
+  pub record TurnFine (k : ℕ) (ps : List Packet) (t : ProposerTurn) : Type 0 where
     pub ok : ClientOk k ps t.now.work
     pub sends : (o : Out) → Has t.sends o → Has (awaited_of t.now.work) o
 
-  client_step : (w : Contest) → Known w → (k : ℕ) (t : ClientTurn) → TurnFine k w.packets t → Known (client_turned w k t)
+  client_step : (w : Contest) → Known w → (k : ℕ) (t : ProposerTurn) → TurnFine k w.packets t → Known (client_turned w k t)
   client_step w known k t fine = record {
     truth = sent_truth w.packets known.truth k t.now.work fine.ok t.sends fine.sends;
     long = known.long;
@@ -803,10 +803,10 @@ known_after : (p : Layout) (servers : List LayoutState) (wishes : List Wish) (es
     → Known p wishes (length servers) (run (contest p servers wishes) es)
 known_after p servers wishes es fresh = run_keeps p wishes (length servers) es (contest p servers wishes) (start_known p servers wishes fresh)
 
-proposed_by : (w : Contest) (e : ℕ) (q : Layout) (x : IsChosen w e q) → Proposed e w.packets x.ballot q
+proposed_by : (w : Contest) (e : ℕ) (q : Layout) (x : HasWon w e q) → Proposed e w.packets x.ballot q
 proposed_by w e q x = record { packet = x.packet; sent = has_contained w.packets x.packet x.sent; is = x.proposes }
 
-most_by : (w : Contest) (e n : ℕ) (q : Layout) (x : IsChosen w e q) → length w.servers ≡ n → IsMost w.packets e n x.ballot
+most_by : (w : Contest) (e n : ℕ) (q : Layout) (x : HasWon w e q) → length w.servers ≡ n → IsMost w.packets e n x.ballot
 most_by w e n q x long = subst (λ (m : ℕ). IsMost w.packets e m x.ballot) long (majority (acceptances w.packets e x.ballot (length w.servers)) (length w.servers) x.accepted)
   where
     majority : (a m : ℕ) → nat_lt m (a + a) ≡ true → m < a + a

@@ -63,36 +63,36 @@ turned t = record { next = t.next; work = goes_on t.to }
 abbrev pub sent_by : ℕ → ReconfTurn → List Out
 sent_by next t = drawn_from next (asks_of (goes_on t.to))
 
-pub record ClientTurn : Type 0 where
+pub record ProposerTurn : Type 0 where
   pub now : Proposer
   pub sends : List Out
 
-abbrev pub rests : Proposer → ClientTurn
+abbrev pub rests : Proposer → ProposerTurn
 rests p = record { now = p; sends = [] }
 
-abbrev pub after : Proposer → ReconfTurn → ClientTurn
+abbrev pub after : Proposer → ReconfTurn → ProposerTurn
 after p t = record { now = turned t; sends = sent_by p.next t }
 
-abbrev pub fed_if : Bool → Proposer → ReconfTurn → ClientTurn
+abbrev pub fed_if : Bool → Proposer → ReconfTurn → ProposerTurn
 fed_if true p t = after p t
 fed_if false p t = rests p
 
 -- a newer layout is taken of any layout server, and else only an awaited answer
-abbrev pub hears_reply : Proposer → Reconf → NodeId → ℕ → Reply → ClientTurn
+abbrev pub hears_reply : Proposer → Reconf → NodeId → ℕ → Reply → ProposerTurn
 hears_reply p r from rid (IsLatest q) =
     fed_if (node_eq from (layout_id from.num) && nat_lt r.stand.epoch q.epoch) p (reconf_latest r r.work from.num rid q p.next)
 hears_reply p r from rid x = fed_if (awaits (reconf_awaited r) from rid) p (reconf_feed r r.work from.num rid x p.next)
 
-abbrev pub hears_at : Proposer → Option Reconf → NodeId → ℕ → Msg → ClientTurn
+abbrev pub hears_at : Proposer → Option Reconf → NodeId → ℕ → Msg → ProposerTurn
 hears_at p None from rid m = rests p
 hears_at p (Some r) from rid m = hears_reply p r from rid (reply m)
 
-unfoldable pub hears : Proposer → NodeId → ℕ → Msg → ClientTurn
+unfoldable pub hears : Proposer → NodeId → ℕ → Msg → ProposerTurn
 hears p from rid m = hears_at p p.work from rid m
 
 -- One step of a contest.
 
-abbrev pub client_turned : Contest → ℕ → ClientTurn → Contest
+abbrev pub client_turned : Contest → ℕ → ProposerTurn → Contest
 client_turned w k t = record w { proposers = slice_set w.proposers k t.now; packets = w.packets ++ packets_of (client_id k) t.sends }
 
 abbrev pub to_client : Contest → ℕ → NodeId → ℕ → Msg → Option Proposer → Contest
@@ -140,11 +140,11 @@ pub record Wish : Type 0 where
   pub change : Option Changed
   pub next : ℕ
 
-abbrev pub begins_by : Layout → ℕ → ℕ → ℕ → Option Changed → ClientTurn
+abbrev pub begins_by : Layout → ℕ → ℕ → ℕ → Option Changed → ProposerTurn
 begins_by p servers k next None = rests (record { next = next; work = None })
 begins_by p servers k next (Some c) = after (record { next = next; work = None }) (reconf_start p servers c k next)
 
-abbrev pub begins : Layout → ℕ → ℕ → Wish → ClientTurn
+abbrev pub begins : Layout → ℕ → ℕ → Wish → ProposerTurn
 begins p servers k x = begins_by p servers k x.next x.change
 
 -- the clients from number k on

@@ -12,7 +12,7 @@ use Rattle.tg_law_layouts.specs.Agreement.Contests.{Contest, Event, Wish, contes
 
 -- A layout is chosen for an epoch where it was proposed there with a ballot, and a majority of the servers has
 -- accepted that ballot.
-pub record IsChosen (w : Contest) (epoch : ℕ) (q : Layout) : Type 0 where
+pub record HasWon (w : Contest) (epoch : ℕ) (q : Layout) : Type 0 where
   pub ballot : Ballot
   pub packet : Packet
   pub sent : Contains w.packets packet
@@ -35,8 +35,8 @@ pub record IsProposed (p : Layout) (wishes : List Wish) (q : Layout) : Type 0 wh
 
 abbrev pub OneIsChosen : Type 0
 OneIsChosen = (p : Layout) (servers : List LayoutState) (wishes : List Wish) (es : List Event) (q r : Layout) → All (IsFresh p) servers →
-    IsChosen (run (contest p servers wishes) es) (p.epoch + 1) q → IsChosen (run (contest p servers wishes) es) (p.epoch + 1) r → q ≡ r
+    HasWon (run (contest p servers wishes) es) (p.epoch + 1) q → HasWon (run (contest p servers wishes) es) (p.epoch + 1) r → q ≡ r
 
 abbrev pub ChosenIsProposed : Type 0
 ChosenIsProposed = (p : Layout) (servers : List LayoutState) (wishes : List Wish) (es : List Event) (q : Layout) → All (IsFresh p) servers →
-    IsChosen (run (contest p servers wishes) es) (p.epoch + 1) q → IsProposed p wishes q
+    HasWon (run (contest p servers wishes) es) (p.epoch + 1) q → IsProposed p wishes q

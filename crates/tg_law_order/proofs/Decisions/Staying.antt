@@ -24,7 +24,7 @@ use Rattle.tg_law_walks.specs.Lists.Spared.{WasSettled}
 use Rattle.tg_law_walks.proofs.Lists.Ends.{cell_of}
 use Rattle.tg_law_walks.proofs.Lists.Reached.{before_reached}
 use Rattle.tg_law_syncs.proofs.Syncs.Later.{late}
-use Rattle.tg_law_order.specs.Decisions.Decisions.{DecidedStays}
+use Rattle.tg_law_order.specs.Decisions.Decisions.{DecisionsStay}
 
 module _ (m : Meaning) (h : Header) (xs ys : Moves m) (r : Reaches m h (xs ++ ys) (after m h (xs ++ ys))) (safe : TrimsWereSafe m h (xs ++ ys)) where
   early : TrimsWereSafe m h xs
@@ -43,7 +43,7 @@ module _ (m : Meaning) (h : Header) (xs ys : Moves m) (r : Reaches m h (xs ++ ys
   settled_stays : (last later p : ℕ) → last ≤ later → WasSettled m (after m h xs) last p → WasSettled m (after m h (xs ++ ys)) later p
   settled_stays last later p le s = record { cell = s.cell; settled = late m h (xs ++ ys) r xs ys refl p s.cell s.settled; in_time = (let a = s.in_time in omega (arith, a, le)) }
 
-  stays_here : DecidedStays m (after m h xs) (after m h (xs ++ ys))
+  stays_here : DecisionsStay m (after m h xs) (after m h (xs ++ ys))
   stays_here last later p e le d = record {
     at = d.at;
     decision = d.decision;
@@ -56,8 +56,8 @@ module _ (m : Meaning) (h : Header) (xs ys : Moves m) (r : Reaches m h (xs ++ ys
   }
 
 module _ (m : Meaning) where
-  pub decided_stays : EachLaterBySafeTrims m (DecidedStays m)
+  pub decided_stays : EachLaterBySafeTrims m (DecisionsStay m)
   decided_stays h ms w v r l safe =
       let on : Reaches m h (ms ++ l.0) v = reaches_later m h ms w v r l in
-      subst (λ (u : World m). DecidedStays m u v) (sym r.goes.is)
-      (subst (λ (u : World m). DecidedStays m (after m h ms) u) (sym on.goes.is) (stays_here m h ms l.0 (subst (Reaches m h (ms ++ l.0)) on.goes.is on) safe))
+      subst (λ (u : World m). DecisionsStay m u v) (sym r.goes.is)
+      (subst (λ (u : World m). DecisionsStay m (after m h ms) u) (sym on.goes.is) (stays_here m h ms l.0 (subst (Reaches m h (ms ++ l.0)) on.goes.is on) safe))

@@ -36,5 +36,5 @@ module _ (m : Meaning) where
     pub streams : (o : Oid) → lists e o ≡ true → lists decision o ≡ true
 
   -- It has it in each later world, and by each later epoch.
-  abbrev pub DecidedStays : World m → World m → Type 0
-  DecidedStays w v = (last later p : ℕ) (e : Entry) → last ≤ later → IsDecidedBy w last p e → IsDecidedBy v later p e
+  abbrev pub DecisionsStay : World m → World m → Type 0
+  DecisionsStay w v = (last later p : ℕ) (e : Entry) → last ≤ later → IsDecidedBy w last p e → IsDecidedBy v later p e

@@ -39,7 +39,7 @@ use Rattle.tg_law_replies.proofs.History.Cells.{logs_rise}
 use Rattle.tg_law_replies.proofs.History.States.{Apart}
 use Rattle.tg_law_replies.specs.Views.Exact.{AreWriting}
 use Rattle.tg_law_replies.proofs.Pages.Read.{logs_keep_grammar}
-use Rattle.tg_law_replies.specs.Replies.Told.{IsRecord, HasRecordOf, HasFailed, TellsTrue}
+use Rattle.tg_law_replies.specs.Replies.Told.{IsOfEnded, HasRecordOf, HasFailed, TellsTrue}
 use Rattle.tg_law_replies.specs.Replies.Laws.{ClientsFind}
 use Rattle.tg_law_replies.specs.Replies.Ended.{EndsSo, AppendsEnd}
 use Rattle.tg_law_replies.proofs.Replies.Along.{Along, passed, at_end}
@@ -245,7 +245,7 @@ module _ (m : Meaning) (apart : Apart m) (h : Header) (ms : Moves m) (r : Reache
     many = sym (ap length wrote ∙ map_many m (λ (y : Oid × m.op). write_of m y.0 y.1) (puts_of m (trace m end) k x))
 
     -- of a transaction
-    tx_record : (xs ys : Moves m) → ms ≡ xs ++ ys → AsTx m h k e (at xs) → IsRecord m h.objects (entries_in m end) (trace m end) p e
+    tx_record : (xs ys : Moves m) → ms ≡ xs ++ ys → AsTx m h k e (at xs) → IsOfEnded m h.objects (entries_in m end) (trace m end) p e
     tx_record xs ys split t = record {
       ended = its.ended;
       ops = ops;
@@ -284,7 +284,7 @@ module _ (m : Meaning) (apart : Apart m) (h : Header) (ms : Moves m) (r : Reache
             subst (λ (u : ReadMark). Contains (reads_of e) u) is y.here
 
     -- of a mark
-    mark_record : (xs ys : Moves m) → ms ≡ xs ++ ys → AsMark m h k e (at xs) → IsRecord m h.objects (entries_in m end) (trace m end) p e
+    mark_record : (xs ys : Moves m) → ms ≡ xs ++ ys → AsMark m h k e (at xs) → IsOfEnded m h.objects (entries_in m end) (trace m end) p e
     mark_record xs ys split t = record {
       ended = its.ended;
       ops = subst (λ (b : Body). AreOps m (writes_in b)) (sym t.body) ops;
@@ -313,7 +313,7 @@ module _ (m : Meaning) (apart : Apart m) (h : Header) (ms : Moves m) (r : Reache
         puts = one_put m (puts_of m (trace m end) k x) (directory, m.mark_op t.oid t.mark) (many ∙ ap (λ (b : Body). length (writes_in b)) t.body)
             (some_put m (trace m end) k x directory (m.mark_op t.oid t.mark) put.event (has_contained (trace m end) (record { event = put.event; client = k; tx = x; what = told.Put directory (m.mark_op t.oid t.mark) }) put.here))
 
-    is_record : IsRecord m h.objects (entries_in m end) (trace m end) p e
+    is_record : IsOfEnded m h.objects (entries_in m end) (trace m end) p e
     is_record = by (drafted_as m h e b.passed.before d)
       where
         b : holding.WasBegun m h ms e
@@ -322,7 +322,7 @@ module _ (m : Meaning) (apart : Apart m) (h : Header) (ms : Moves m) (r : Reache
         d : Drafted m h e b.passed.before
         d = drafted m h e b.passed.before b.append (ap (λ (v : World m). holding.append_by m (client m v e.head.client).work) (sym b.passed.is) ∙ b.begun) b.draft commit
 
-        by : AsTx m h k e (at b.passed.before) ⊎ AsMark m h k e (at b.passed.before) → IsRecord m h.objects (entries_in m end) (trace m end) p e
+        by : AsTx m h k e (at b.passed.before) ⊎ AsMark m h k e (at b.passed.before) → IsOfEnded m h.objects (entries_in m end) (trace m end) p e
         by (inl t) = tx_record b.passed.before b.passed.after b.passed.split t
         by (inr t) = mark_record b.passed.before b.passed.after b.passed.split t
 

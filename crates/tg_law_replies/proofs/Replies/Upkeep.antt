@@ -34,7 +34,7 @@ use Rattle.tg_law_replies.proofs.History.Members.{has_contained, contained_has, 
 use Rattle.tg_law_replies.proofs.History.Ledger.{one_entry}
 use Rattle.tg_law_replies.specs.Views.Views.{IsTrueBase}
 use Rattle.tg_law_replies.specs.Views.Looking.{IsTrueAt, IsSaver, rescuing, IsRescuer}
-use Rattle.tg_law_replies.specs.Views.Exact.{IsDecided, IsRecorded}
+use Rattle.tg_law_replies.specs.Views.Exact.{DecisionStands, IsRecorded}
 use Rattle.tg_law_replies.proofs.Views.Records.{decision_there, commit_there}
 use Rattle.tg_law_replies.proofs.Views.Saved.{saves_true}
 use Rattle.tg_law_replies.proofs.Views.Saves.{saves_lawful}
@@ -229,7 +229,7 @@ module _ (m : Meaning) (objects : List Oid) (es : Entries) (rising : IsRising es
           lacks_none : (a b : Bool) → a ≡ true → (a && not b) ≡ false → b ≡ true
           lacks_none a b x y = grind arith
 
-          decided_by : (o : Option Bool) → decision_in own p ≡ o → is_some (decision_in own p) ≡ true → IsDecided es p
+          decided_by : (o : Option Bool) → decision_in own p ≡ o → is_some (decision_in own p) ≡ true → DecisionStands es p
           decided_by None k t = absurd (no (sym (ap (λ (o : Option Bool). is_some o) k) ∙ t))
             where
               no : false ≡ true → ⊥

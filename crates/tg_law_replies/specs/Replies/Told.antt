@@ -36,7 +36,7 @@ module _ (m : Meaning) (objects : List Oid) (es : Entries) (trace : Trace m) whe
     pub seen : r.version ≡ version_below m objects es snapshot r.oid r.part
 
   -- a commit record is that of a transaction which was ended: it writes ops, those that were put, and reads what was asked
-  pub record IsRecord (p : ℕ) (e : Entry) : Type 0 where
+  pub record IsOfEnded (p : ℕ) (e : Entry) : Type 0 where
     pub ended : Tells m trace e.head.client e.head.number told.End
     pub ops : AreOps m (writes_of e)
     pub writes : ops_of m (writes_of e) ≡ puts_of m trace e.head.client e.head.number
@@ -55,7 +55,7 @@ module _ (m : Meaning) (objects : List Oid) (es : Entries) (trace : Trace m) whe
   pub record TellsTrue : Type 0 where
     pub answers : (k x : ℕ) (o : Oid) (q : m.ask) (t : ℕ) (a : m.answer) → Tells m trace k x (told.Asked o q t a) → a ≡ m.answers (state_below m objects es t o) q
     pub one_snapshot : (k x : ℕ) (o r : Oid) (q s : m.ask) (t u : ℕ) (a b : m.answer) → Tells m trace k x (told.Asked o q t a) → Tells m trace k x (told.Asked r s u b) → t ≡ u
-    pub records : (p : ℕ) (e : Entry) → Contains es (p, e) → is_commit e ≡ true → IsRecord p e
+    pub records : (p : ℕ) (e : Entry) → Contains es (p, e) → is_commit e ≡ true → IsOfEnded p e
     pub once : (p q k x : ℕ) → HasRecordOf es p k x → HasRecordOf es q k x → p ≡ q
     pub committed : (k x p : ℕ) → Tells m trace k x (told.Committed p) → puts_of m trace k x ≢ [] → (r : HasRecordOf es p k x) × (commits m objects es p r.entry ≡ true)
     pub only_read : (k x p : ℕ) (o : Oid) (q : m.ask) (t : ℕ) (a : m.answer) → Tells m trace k x (told.Committed p) → puts_of m trace k x ≡ [] → Tells m trace k x (told.Asked o q t a) → p ≡ t

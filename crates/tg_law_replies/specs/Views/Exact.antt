@@ -28,7 +28,7 @@ pub record AreExact (m : Meaning) (es own : Entries) (gone : TrimPoints) (oids :
   pub none_below : (o : Oid) (b p : ℕ) (e : Entry) → Contains oids o → trim_of gone o ≡ Some b → load_from m own o b ≡ None → Contains es (p, e) → lists e o ≡ true → b ≤ p
 
 -- a decision record of a position stands in the log
-pub record IsDecided (es : Entries) (p : ℕ) : Type 0 where
+pub record DecisionStands (es : Entries) (p : ℕ) : Type 0 where
   pub at : ℕ
   pub entry : Entry
   pub is_yes : Bool
@@ -37,7 +37,7 @@ pub record IsDecided (es : Entries) (p : ℕ) : Type 0 where
 
 -- where the record at a position needs one
 abbrev pub IsRecorded : Entries → ℕ → Type 0
-IsRecorded es p = (e : Entry) → Contains es (p, e) → needs_decision e ≡ true → IsDecided es p
+IsRecorded es p = (e : Entry) → Contains es (p, e) → needs_decision e ≡ true → DecisionStands es p
 
 -- a view hosts an object that a record reads, from the record's position or before
 pub record ReadsHosted (m : Meaning) (v : View m) (p : ℕ) (e : Entry) : Type 0 where

@@ -17,7 +17,7 @@ use Rattle.tg_law_replies.proofs.Replies.Carried.{both_more}
 use Rattle.tg_law_walks.specs.Lists.Spared.{TrimsWereSpare}
 use Rattle.tg_law_walks.proofs.Lists.Fits.{drafts_fit}
 use Rattle.tg_law_syncs.specs.Finds.Left.{IsBased, PlaysFor, SavesPrecede, RoundsFit}
-use Rattle.tg_law_syncs.specs.Exact.Finds.{ViewsBelow, ViewsFit, ViewsBelowBySpareTrims, ClientsFindBySpareTrims, LeavesFor, HasStates, ViewsFitWhere}
+use Rattle.tg_law_syncs.specs.Exact.Finds.{ViewsBelow, ViewsFit, ViewsBelowBySpareTrims, ClientsFindWhereOwn, LeavesFor, HasStates, ViewsFitWhere}
 use Rattle.tg_law_syncs.proofs.Exact.Topped.{event_at}
 use Rattle.tg_law_syncs.proofs.Exact.Finds.{event_more, at_end, rounds_exact, rounds_known}
 use Rattle.tg_law_syncs.proofs.Finds.Rounds.{clients_find}
@@ -39,7 +39,7 @@ module _ (m : Meaning) where
       both_more m h.objects (entries_in m w) (λ c x. IsBased m h (entries_in m w) before c x) (λ c x. PlaysFor m h (entries_in m w) before c x x.command) (λ c x. Fits m h (entries_in m w) before c x x.command)
       (λ c x b f. plays_for h (entries_in m w) before c x x.command b f refl) (after m h before) e (below before rest e split) (fit before rest e split)
 
-  pub finds : ClientsFindBySpareTrims m
+  pub finds : ClientsFindWhereOwn m
   finds h ms w r trims own precede fit =
       clients_find m h ms w r (rounds_exact m h ms w r trims) (rounds_known m h ms w r trims) own precede (rounds_fit h ms w (views_below h ms w r trims precede) fit)
 

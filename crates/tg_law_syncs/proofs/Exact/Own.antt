@@ -12,7 +12,7 @@ use Rattle.tg_protocol.specs.Runs.{Moves, Reaches}
 use Rattle.tg_law_layouts.specs.Moves.After.{after}
 use Rattle.tg_law_walks.proofs.Drafts.Drafts.{records_were_begun}
 use Rattle.tg_law_walks.proofs.Lists.Reached.{before_reached}
-use Rattle.tg_law_syncs.specs.Exact.Finds.{SavesOwn, PassesOwnWhere}
+use Rattle.tg_law_syncs.specs.Exact.Finds.{SavesWereOwn, PassesOwnWhere}
 
 -- a body saves an object, or doesn't
 saves_or_not : (b : Body) → (tag_of b ≡ 3) ⊎ (tag_of b ≡ 3 → ⊥)
@@ -21,7 +21,7 @@ saves_or_not (Decision at is_yes) = inr (λ i. omega (arith, i))
 saves_or_not (Checkpoint o upto version whole keys state) = inl refl
 
 module _ (m : Meaning) where
-  begun : (h : Header) (ms before rest : Moves m) → Reaches m h ms (after m h ms) → ms ≡ before ++ rest → SavesOwn m h ms → (p : ℕ) (e : Entry) → HasEntry m (after m h before) p e → WasBegun m h before e
+  begun : (h : Header) (ms before rest : Moves m) → Reaches m h ms (after m h ms) → ms ≡ before ++ rest → SavesWereOwn m h ms → (p : ℕ) (e : Entry) → HasEntry m (after m h before) p e → WasBegun m h before e
   begun h ms before rest r split saves p e has = by (saves_or_not e.body)
     where
       by : (tag_of e.body ≡ 3) ⊎ (tag_of e.body ≡ 3 → ⊥) → WasBegun m h before e

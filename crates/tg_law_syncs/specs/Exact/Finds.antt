@@ -43,8 +43,8 @@ module _ (m : Meaning) where
 
   -- So the clients of a run find what they need, where entries of each log on the way were begun by their clients, and no checkpoint
   -- saves more than what stands below it.
-  abbrev pub ClientsFindBySpareTrims : Type 0
-  ClientsFindBySpareTrims = ByRunsOfSpareTrims m (λ h ms w. PassesOwn m h ms w → SavesPrecede m (entries_in m w) → ViewsFit h ms w → ClientsFind m h ms w)
+  abbrev pub ClientsFindWhereOwn : Type 0
+  ClientsFindWhereOwn = ByRunsOfSpareTrims m (λ h ms w. PassesOwn m h ms w → SavesPrecede m (entries_in m w) → ViewsFit h ms w → ClientsFind m h ms w)
 
   -- What a kept view leaves for `fate` and `decide`: no record without a fate that the entries don't decide.
   abbrev pub LeavesFor : Client m → Work m → CommandOf m → Type 0
@@ -68,9 +68,9 @@ module _ (m : Meaning) where
   ViewsFitWhere = (h : Header) (ms : Moves m) (w : World m) → HasStates h w → ViewsLeaveNone h ms w → ViewsFit h ms w
 
   -- Checkpoints of the log of each world on the way were begun by their clients.
-  abbrev pub SavesOwn : Header → Moves m → Type 0
-  SavesOwn h ms = (before after : Moves m) → ms ≡ before ++ after → (p : ℕ) (e : Entry) → HasEntry m (run m before (start m h)) p e → tag_of e.body ≡ 3 → WasBegun m h before e
+  abbrev pub SavesWereOwn : Header → Moves m → Type 0
+  SavesWereOwn h ms = (before after : Moves m) → ms ≡ before ++ after → (p : ℕ) (e : Entry) → HasEntry m (run m before (start m h)) p e → tag_of e.body ≡ 3 → WasBegun m h before e
 
   -- Then all entries were.
   abbrev pub PassesOwnWhere : Type 0
-  PassesOwnWhere = (h : Header) (ms : Moves m) (w : World m) → Reaches m h ms w → SavesOwn h ms → PassesOwn m h ms w
+  PassesOwnWhere = (h : Header) (ms : Moves m) (w : World m) → Reaches m h ms w → SavesWereOwn h ms → PassesOwn m h ms w

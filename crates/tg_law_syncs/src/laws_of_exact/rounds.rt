@@ -1,7 +1,7 @@
 //! What exact syncs give of what clients find, in every run.
 
 ghost use Rattle.tg_kind.specs.Of.{meaning_of};
-ghost use Rattle.tg_law_syncs.specs.Exact.Finds.{ClientsFindBySpareTrims, PassesOwnWhere, RoundsExactBySpareTrims, RoundsKnownBySpareTrims, ViewsBelowBySpareTrims, ViewsFitWhere};
+ghost use Rattle.tg_law_syncs.specs.Exact.Finds.{ClientsFindWhereOwn, PassesOwnWhere, RoundsExactBySpareTrims, RoundsKnownBySpareTrims, ViewsBelowBySpareTrims, ViewsFitWhere};
 
 use tg_kind::Registry;
 
@@ -23,7 +23,7 @@ pub fn views_are_below<K: Registry>()
 /// So the clients of a run find what they need, where entries of each log on the way were begun by their clients, no checkpoint
 /// saves more than what stands below it, and what is left holds of what kept views have gone past and of states to be saved.
 pub fn clients_find<K: Registry>()
-    ensures { ClientsFindBySpareTrims (meaning_of K.Registry) }
+    ensures { ClientsFindWhereOwn (meaning_of K.Registry) }
 {}
 
 /// Of kinds whose states load from what is saved of them, it is left of kept views alone: that they leave `fate` and `decide` no

@@ -52,7 +52,7 @@ use Rattle.tg_law_cells.proofs.Tokens.Named.{naming_holds}
 use Rattle.tg_law_cells.specs.Homes.Homes.{TrimAsked, ToldGone, epoch_asked}
 use Rattle.tg_law_cells.proofs.Homes.Gones.{gone_is_asked}
 use Rattle.tg_law_cells.proofs.Entries.Lists.{joined}
-use Rattle.tg_law_walks.specs.Lists.Spared.{WasSettled, TrimsSpare, TrimsWereSpare}
+use Rattle.tg_law_walks.specs.Lists.Spared.{WasSettled, TrimsSaved, TrimsWereSpare}
 use Rattle.tg_law_walks.specs.Lists.Telling.{asks_links, tells_links}
 use Rattle.tg_law_walks.proofs.Lists.Reached.{before_reached, goes_later}
 use Rattle.tg_law_walks.proofs.Lists.Scanning.{AtTrim, at_trim, is_gone}
@@ -141,7 +141,7 @@ module _ (m : Meaning) (h : Header) (zs : Moves m) (r : Reaches m h zs (after m 
     give : AllGive m (LawfulCommand m) xs
     give = lawful_give m (start m h).cluster xs rw.goes.lawful
 
-    spare : TrimsSpare m (after m h xs)
+    spare : TrimsSaved m (after m h xs)
     spare = trims.spare (after m h xs) (record { before = xs; event = e; later = ys; split = split; is = refl })
 
     module _ (s : ℕ) where

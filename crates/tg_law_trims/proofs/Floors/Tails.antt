@@ -47,7 +47,7 @@ use Rattle.tg_law_cells.proofs.Entries.Lists.{joined}
 use Rattle.tg_law_replies.specs.History.Worlds.{entries_in}
 use Rattle.tg_law_replies.specs.Replies.Steps.{EachEvent}
 use Rattle.tg_law_walks.specs.Lists.Drafted.{DraftsFit}
-use Rattle.tg_law_walks.specs.Lists.Spared.{WasSettled, TrimsSpare, TrimsWereSpare}
+use Rattle.tg_law_walks.specs.Lists.Spared.{WasSettled, TrimsSaved, TrimsWereSpare}
 use Rattle.tg_law_walks.specs.Lists.Telling.{tells_links}
 use Rattle.tg_law_walks.proofs.Lists.Fits.{drafts_fit}
 use Rattle.tg_law_walks.proofs.Lists.Reached.{before_reached, goes_later}
@@ -110,7 +110,7 @@ module _ (m : Meaning) (h : Header) (zs : Moves m) (r : Reaches m h zs (after m 
 
   -- What a client hears, in a world in which trims are spare.
 
-  module _ (xs ys : Moves m) (split : zs ≡ xs ++ ys) (now : TrimsSpare m (after m h xs)) (k : ℕ) (x : Packet) (comes : Comes m (config m (after m h xs)) x (client_id k)) where
+  module _ (xs ys : Moves m) (split : zs ≡ xs ++ ys) (now : TrimsSaved m (after m h xs)) (k : ℕ) (x : Packet) (comes : Comes m (config m (after m h xs)) x (client_id k)) where
     abbrev cl : Client m
     cl = client_in m (config m (after m h xs)) k
 
@@ -258,7 +258,7 @@ module _ (m : Meaning) (h : Header) (zs : Moves m) (r : Reaches m h zs (after m 
   -- A step.
 
   module _ (xs : Moves m) (e : EventOf m) (ys : Moves m) (split : zs ≡ xs ++ Takes e ∷ ys) (held : Held (config m (after m h xs))) where
-    spare : TrimsSpare m (after m h xs)
+    spare : TrimsSaved m (after m h xs)
     spare = trims.spare (after m h xs) (record { before = xs; event = e; later = ys; split = split; is = refl })
 
     turned : (k : ℕ) (t : ClientTurn m) → ClientInput m (config m (after m h xs)) k t → Told t.now
@@ -313,7 +313,7 @@ module _ (m : Meaning) (h : Header) (zs : Moves m) (r : Reaches m h zs (after m 
   abbrev Ended : Client m → Work m → Type 0
   Ended c v = IsPast c.stand v.tail
 
-  ended : TrimsSpare m (after m h zs) → (e : EventOf m) → EachEvent m h.objects (entries_in m (after m h zs)) Ended (after m h zs) e
+  ended : TrimsSaved m (after m h zs) → (e : EventOf m) → EachEvent m h.objects (entries_in m (after m h zs)) Ended (after m h zs) e
   ended now (Deliver i) = λ x at is on.
       delivery_at m IsTold Settled IsPast low both onto h.objects (entries_in m (after m h zs)) (client_in m (config m (after m h zs)) x.to.num) x.from x.rid x.msg (held_now.clients x.to.num)
       (hears_all zs [] here now x.to.num x (record { sent = has_got (after m h zs).packets i x at; to_node = of_client x.to is }))
@@ -322,7 +322,7 @@ module _ (m : Meaning) (h : Header) (zs : Moves m) (r : Reaches m h zs (after m 
   ended now (Tick n) = tt
   ended now (Stop n) = tt
 
-  pub has_tails : TrimsSpare m (after m h zs) → (e : EventOf m) → EachEvent m h.objects (entries_in m (after m h zs)) (HasTail m (after m h zs)) (after m h zs) e
+  pub has_tails : TrimsSaved m (after m h zs) → (e : EventOf m) → EachEvent m h.objects (entries_in m (after m h zs)) (HasTail m (after m h zs)) (after m h zs) e
   has_tails now e = event_more m h.objects (entries_in m (after m h zs)) (entries_in m (after m h zs)) Ended (HasTail m (after m h zs)) (λ c v k. record { epoch = k.epoch; up_to = k.up_to; tail = k.tail }) (after m h zs) e (ended now e)
 
 module _ (m : Meaning) where

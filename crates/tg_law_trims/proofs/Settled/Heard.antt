@@ -33,7 +33,7 @@ use Rattle.tg_law_cells.proofs.Cells.Justified.{Awaited, awaited_ask}
 use Rattle.tg_law_cells.proofs.Cells.Stores.{cells_hold}
 use Rattle.tg_law_cells.specs.Homes.Homes.{TrimAsked, ToldGone, epoch_asked}
 use Rattle.tg_law_cells.proofs.Homes.Gones.{gone_is_asked}
-use Rattle.tg_law_walks.specs.Lists.Spared.{WasSettled, TrimsSpare}
+use Rattle.tg_law_walks.specs.Lists.Spared.{WasSettled, TrimsSaved}
 use Rattle.tg_law_walks.specs.Lists.Telling.{asks_links, tells_links, ToldLinks}
 use Rattle.tg_law_walks.proofs.Lists.Reached.{before_reached}
 use Rattle.tg_law_walks.proofs.Lists.Scanning.{AtTrim, OfUnit, at_trim, is_gone}
@@ -109,7 +109,7 @@ module _ (m : Meaning) (h : Header) (zs : Moves m) (r : Reaches m h zs (after m 
                 }
 
   -- a trim that a walk meets: all below it is settled
-  module _ (now : TrimsSpare m (after m h xs)) (work : Work m) (walk : Walk) (os : List Oid) (works : cl.work ≡ Some work) (hand : work.hand ≡ Doing (Walking walk os)) (awaited : awaits (task_awaited m p (Walking walk os)) x.from x.rid ≡ true) where
+  module _ (now : TrimsSaved m (after m h xs)) (work : Work m) (walk : Walk) (os : List Oid) (works : cl.work ≡ Some work) (hand : work.hand ≡ Doing (Walking walk os)) (awaited : awaits (task_awaited m p (Walking walk os)) x.from x.rid ≡ true) where
     walk_open : (o : Out) → Has (task_awaited m p (Walking walk os)) o → Has (reserved m cl) o
     walk_open o g = subst (λ (v : Option (Work m)). Has (work_reserved m p v) o) (sym works) (subst (λ (d : Hand m). Has (hand_reserved m p d) o) (sym hand) g)
 

@@ -39,7 +39,7 @@ use Rattle.tg_law_replies.specs.Replies.Steps.{EachDelivery, EachEvent}
 use Rattle.tg_law_walks.specs.Walks.Lists.{backs}
 use Rattle.tg_law_walks.specs.Walks.Laws.{IsFound}
 use Rattle.tg_law_walks.specs.Lists.Drafted.{DraftsFit}
-use Rattle.tg_law_walks.specs.Lists.Spared.{TrimsSpare, TrimsWereSpare}
+use Rattle.tg_law_walks.specs.Lists.Spared.{TrimsSaved, TrimsWereSpare}
 use Rattle.tg_law_walks.specs.Lists.Telling.{ToldLinks}
 use Rattle.tg_law_walks.proofs.Lists.Ends.{cell_of}
 use Rattle.tg_law_walks.proofs.Lists.Fits.{drafts_fit}
@@ -128,7 +128,7 @@ module _ (m : Meaning) (h : Header) (zs : Moves m) (r : Reaches m h zs (after m 
 
   -- What a client hears.
 
-  module _ (xs ys : Moves m) (split : zs ≡ xs ++ ys) (now : TrimsSpare m (after m h xs)) (k : ℕ) (x : Packet) (comes : Comes m (config m (after m h xs)) x (client_id k)) where
+  module _ (xs ys : Moves m) (split : zs ≡ xs ++ ys) (now : TrimsSaved m (after m h xs)) (k : ℕ) (x : Packet) (comes : Comes m (config m (after m h xs)) x (client_id k)) where
     abbrev cl : Client m
     cl = client_in m (config m (after m h xs)) k
 
@@ -185,7 +185,7 @@ module _ (m : Meaning) (h : Header) (zs : Moves m) (r : Reaches m h zs (after m 
   pax xs = run_keeps m (Pax m) (pax_keep m) xs (start m h) (start_pax m h)
 
   module _ (xs : Moves m) (e : EventOf m) (ys : Moves m) (split : zs ≡ xs ++ Takes e ∷ ys) (held : Held (config m (after m h xs))) where
-    spare : TrimsSpare m (after m h xs)
+    spare : TrimsSaved m (after m h xs)
     spare = trims.spare (after m h xs) (record { before = xs; event = e; later = ys; split = split; is = refl })
 
     known_at : (k : ℕ) → Timely m h zs r trims fit (client_in m (config m (after m h xs)) k)
@@ -255,7 +255,7 @@ module _ (m : Meaning) (h : Header) (zs : Moves m) (r : Reaches m h zs (after m 
 
   -- So wherever a further step comes to the end of a command's walks, each stream that was walked is settled up to the tail.
 
-  ended : TrimsSpare m (after m h zs) → (e : EventOf m) → EachEvent m h.objects (entries_in m (after m h zs)) (AtEnd m (after m h zs) Se Ta) (after m h zs) e
+  ended : TrimsSaved m (after m h zs) → (e : EventOf m) → EachEvent m h.objects (entries_in m (after m h zs)) (AtEnd m (after m h zs) Se Ta) (after m h zs) e
   ended now (Deliver i) = λ x has is on.
       let k = x.to.num in
       let comes : Comes m (config m (after m h zs)) x (client_id x.to.num) = record { sent = has_got (after m h zs).packets i x has; to_node = of_client x.to is } in
@@ -275,7 +275,7 @@ module _ (m : Meaning) (h : Header) (zs : Moves m) (r : Reaches m h zs (after m 
       let s = f o i in
       record { epoch = s.epoch; up_to = s.up_to; tail = s.confirmed; settled = λ j q os ls issued here' less. s.settled q (record { seqr = j; streams = os; links = ls; issued = issued; here = here' }) less }
 
-  pub settle : TrimsSpare m (after m h zs) → (e : EventOf m) → EachEvent m h.objects (entries_in m (after m h zs)) Settled' (after m h zs) e
+  pub settle : TrimsSaved m (after m h zs) → (e : EventOf m) → EachEvent m h.objects (entries_in m (after m h zs)) Settled' (after m h zs) e
   settle now e = event_more m h.objects (entries_in m (after m h zs)) (entries_in m (after m h zs)) (AtEnd m (after m h zs) Se Ta) Settled' settled_for (after m h zs) e (ended now e)
 
 module _ (m : Meaning) where

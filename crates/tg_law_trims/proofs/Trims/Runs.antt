@@ -37,7 +37,7 @@ use Rattle.tg_law_cells.proofs.Entries.Archive.{log_is_settled}
 use Rattle.tg_law_cells.proofs.Entries.Lists.{joined}
 use Rattle.tg_law_replies.specs.History.Worlds.{entries_in}
 use Rattle.tg_law_replies.specs.Replies.Steps.{EachEvent}
-use Rattle.tg_law_walks.specs.Lists.Spared.{TrimsSpare, TrimsWereSpare, GoesOn}
+use Rattle.tg_law_walks.specs.Lists.Spared.{TrimsSaved, TrimsWereSpare, GoesOn}
 use Rattle.tg_law_walks.proofs.Lists.Reached.{before_reached}
 use Rattle.tg_law_trims.specs.Trims.Spare.{IsSpare, TellsSpare, WereSpare, FloorsSpare, TrimsAre, TrimsAreSpare}
 use Rattle.tg_law_trims.proofs.Trims.Machines.{CopyOk, CopyHears}
@@ -119,7 +119,7 @@ module _ (m : Meaning) (h : Header) where
     all : All m (config m (after m h xs))
     all = all_hold m h xs
 
-    now : TrimsSpare m (after m h xs)
+    now : TrimsSaved m (after m h xs)
     now = record {
       whole = λ x e b q has is less. (held.sent x e b (has_contained _ x has) (trim_is x.msg e b is)).whole q less;
       saved = λ x e b q o has is less st. (held.sent x e b (has_contained _ x has) (trim_is x.msg e b is)).saved q o less st;
@@ -292,11 +292,11 @@ module _ (m : Meaning) (h : Header) where
         by (AtEnd i j) = subst (λ (ws : Moves m). TrimsSafely m (after m h ws) (happens m (after m h ws) y)) i (subst (λ (z : EventOf m). TrimsSafely m (after m h xs) (happens m (after m h xs) z)) (is_event e y j) (safely xs r held e done))
         by (Before rest i) = held.were.safe before y rest i
 
-    spare_then : (v : World m) → GoesOn m h (xs ++ Takes e ∷ []) v → TrimsSpare m v
+    spare_then : (v : World m) → GoesOn m h (xs ++ Takes e ∷ []) v → TrimsSaved m v
     spare_then v g = by (splits xs (Takes e) g.before (Takes g.event) g.later g.split)
       where
-        by : Splits xs (Takes e) g.before (Takes g.event) g.later → TrimsSpare m v
-        by (AtEnd i j) = subst (λ (w : World m). TrimsSpare m w) (ap (λ (ws : Moves m). after m h ws) i ∙ sym g.is) (now xs r held)
+        by : Splits xs (Takes e) g.before (Takes g.event) g.later → TrimsSaved m v
+        by (AtEnd i j) = subst (λ (w : World m). TrimsSaved m w) (ap (λ (ws : Moves m). after m h ws) i ∙ sym g.is) (now xs r held)
         by (Before rest i) = held.were.spare v (record { before = g.before; event = g.event; later = rest; split = i; is = g.is })
 
     late : (n b : ℕ) → Spare xs n b → Spare (xs ++ Takes e ∷ []) n b
@@ -320,10 +320,10 @@ module _ (m : Meaning) (h : Header) where
         by (AtEnd i j) = no_event y j
         by (Before rest i) = held.were.safe before y rest i
 
-    spare_next : (v : World m) → GoesOn m h (xs ++ Next ∷ []) v → TrimsSpare m v
+    spare_next : (v : World m) → GoesOn m h (xs ++ Next ∷ []) v → TrimsSaved m v
     spare_next v g = by (splits xs Next g.before (Takes g.event) g.later g.split)
       where
-        by : Splits xs Next g.before (Takes g.event) g.later → TrimsSpare m v
+        by : Splits xs Next g.before (Takes g.event) g.later → TrimsSaved m v
         by (AtEnd i j) = no_event g.event j
         by (Before rest i) = held.were.spare v (record { before = g.before; event = g.event; later = rest; split = i; is = g.is })
 

@@ -15,7 +15,7 @@ use Rattle.tg_law_replies.specs.History.Worlds.{entries_in}
 use Rattle.tg_law_replies.specs.Replies.Runs.{InEachStep}
 use Rattle.tg_law_replies.specs.Replies.Steps.{EachEvent}
 use Rattle.tg_law_walks.specs.Walks.Streams.{stands_in}
-use Rattle.tg_law_walks.specs.Lists.Spared.{IsSaved, WasSettled, TrimsSpare, TrimsWereSpare}
+use Rattle.tg_law_walks.specs.Lists.Spared.{IsSaved, WasSettled, TrimsSaved, TrimsWereSpare}
 use Rattle.tg_law_trims.specs.Issues.Issues.{TrimsInTime}
 
 module _ (m : Meaning) where
@@ -36,7 +36,7 @@ module _ (m : Meaning) where
   -- Before a step of a run trims were spare, and so is whatever units have been asked to trim.
   pub record WereSpare (h : Header) (before : Moves m) : Type 0 where
     pub were : TrimsWereSpare m h before
-    pub now : TrimsSpare m (run m before (start m h))
+    pub now : TrimsSaved m (run m before (start m h))
 
   -- Wherever a step comes to the end of the walks of a client that trims, the floor that it tells is spare, where trims were so
   -- before.
@@ -47,7 +47,7 @@ module _ (m : Meaning) where
   -- again, and those of copies, which ask a spare unit to trim what another unit has told as gone.
   pub record TrimsAre (h : Header) (ms : Moves m) (w : World m) : Type 0 where
     pub were : TrimsWereSpare m h ms
-    pub spare : TrimsSpare m w
+    pub spare : TrimsSaved m w
     pub in_time : TrimsInTime m w
 
   abbrev pub TrimsAreSpare : Type 0

@@ -25,13 +25,13 @@ use Rattle.tg_law_walks.proofs.Drafts.Drafts.{named, begun_of, Source, source, a
 use Rattle.tg_law_walks.proofs.Once.Nowhere.{reached}
 use Rattle.tg_law_walks.proofs.Once.Reached.{header, give, short}
 use Rattle.tg_law_walks.proofs.Once.Ending.{all_end_here}
-use Rattle.tg_law_walks.specs.Checkpoints.Checkpoints.{DraftsFit, DraftsFitByParts, EntriesOwnByParts, AppendsEndByParts}
+use Rattle.tg_law_walks.specs.Checkpoints.Checkpoints.{AppendsFit, DraftsFitByParts, EntriesOwnByParts, AppendsEndByParts}
 
 module _ (m : Meaning) (parts : TouchParts m) where
   held_fits : (h : Header) (zs : Moves m) (reach : Reaches m h zs (after m h zs)) (xs ys : Moves m) → zs ≡ xs ++ ys → (k : ℕ) (a : Append) → Holds m (client m (after m h xs) k) a → entry.fits a.draft ≡ true
   held_fits h zs reach xs ys split k a o = (draft_in m h zs (header m h zs reach) (give m h zs reach) (short m h zs reach) xs ys split k a o).spelled parts
 
-  fits_here : (h : Header) (zs : Moves m) → Reaches m h zs (after m h zs) → DraftsFit m (after m h zs)
+  fits_here : (h : Header) (zs : Moves m) → Reaches m h zs (after m h zs) → AppendsFit m (after m h zs)
   fits_here h zs reach k a has =
       let y = in_hand m (client m (after m h zs) k) a has in
       held_fits h zs reach zs [] (sym (append-nil zs)) k a (record { work = y.work; purpose = y.purpose; has = y.works; holds = y.task })
@@ -59,7 +59,7 @@ module _ (m : Meaning) (parts : TouchParts m) where
       same = some_entry e (linked x.append.draft x.links) (sym s.reads ∙ read_back (linked x.append.draft x.links) s.page (linked_fits x.append.draft x.links x.names (x.ok.spelled parts)) x.page)
 
 pub drafts_fit : (m : Meaning) → DraftsFitByParts m
-drafts_fit m parts h ms v r = subst (DraftsFit m) (sym r.goes.is) (fits_here m parts h ms (reached m h ms v r))
+drafts_fit m parts h ms v r = subst (AppendsFit m) (sym r.goes.is) (fits_here m parts h ms (reached m h ms v r))
 
 pub entries_own : (m : Meaning) → EntriesOwnByParts m
 entries_own m parts = always_short m (EntriesOwn m) (own_here m parts)

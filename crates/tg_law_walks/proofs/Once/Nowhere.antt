@@ -17,7 +17,7 @@ use Rattle.tg_law_cells.specs.Homes.Homes.{Home}
 use Rattle.tg_law_cells.proofs.Homes.Homes.{settled_has_home}
 use Rattle.tg_law_cells.specs.Entries.Archive.{AlwaysBySafeTrims}
 use Rattle.tg_law_cells.proofs.Entries.Archive.{log_is_settled}
-use Rattle.tg_law_walks.specs.Once.GivenUp.{IsLost, IsGivenUp, SettledKept, LogKept}
+use Rattle.tg_law_walks.specs.Once.GivenUp.{IsLost, IsGivenUp, PagesKept, LogKept}
 use Rattle.tg_law_walks.proofs.Once.Reached.{header, give}
 
 module _ (m : Meaning) where
@@ -44,7 +44,7 @@ module _ (m : Meaning) (h : Header) (xs : Moves m) (reach : Reaches m h xs (afte
       let b = told_by (after m h xs).packets (head q p) e p (Data d) told in
       l.other (sym a.cell ∙ (line.one (head q p) a.claim b.claim a.tells b.tells (a.pos ∙ sym b.pos) ∙ b.cell))
 
-  pub kept_here : SettledKept m (after m h xs)
+  pub kept_here : PagesKept m (after m h xs)
   kept_here p d s = record { home = home; kept = by }
     where
       home : Home m (after m h xs) p d s.layout.epoch
@@ -56,8 +56,8 @@ module _ (m : Meaning) (h : Header) (xs : Moves m) (reach : Reaches m h xs (afte
       by (inr (inr f)) = f.other (one_is_settled m h xs (after m h xs) (after m h xs) reach (itself m h xs (after m h xs) reach) p f.cell (Data d) f.settled s)
 
 module _ (m : Meaning) where
-  pub given_up_is_nowhere : Always m (SettledKept m)
-  given_up_is_nowhere h ms v r = subst (SettledKept m) (sym r.goes.is) (kept_here m h ms (reached m h ms v r))
+  pub given_up_is_nowhere : Always m (PagesKept m)
+  given_up_is_nowhere h ms v r = subst (PagesKept m) (sym r.goes.is) (kept_here m h ms (reached m h ms v r))
 
   pub log_has_no_given_up : AlwaysBySafeTrims m (LogKept m)
   log_has_no_given_up h ms v r safe p d i = let s = (log_is_settled m h ms v r safe).settled p (Data d) i in (s.layout.epoch, given_up_is_nowhere h ms v r p d s)

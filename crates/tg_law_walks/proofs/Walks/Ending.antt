@@ -25,7 +25,7 @@ use Rattle.tg_law_walks.specs.Walks.Streams.{IsByPosition, AreLinked}
 use Rattle.tg_law_walks.specs.Walks.Walks.{AreMore, IsExact, Walks, Begins}
 use Rattle.tg_law_walks.specs.Walks.Rounds.{Round, round, HasAll, IsRound, IsSyncing, IsAtTask, IsAtWork}
 use Rattle.tg_law_walks.specs.Walks.Laws.{SyncEndsAs}
-use Rattle.tg_law_walks.specs.Walks.Ends.{IsExactIn, RoundsExact, TaskEndsAs, HandEndsAs, WorkEndsAs, StepEndsAs, StepsExact, SyncsExactWhere}
+use Rattle.tg_law_walks.specs.Walks.Ends.{IsExactIn, WalksExact, TaskEndsAs, HandEndsAs, WorkEndsAs, StepEndsAs, StepsExact, SyncsExactWhere}
 use Rattle.tg_law_walks.proofs.Walks.Members.{Has, has_contained, contained_has, same_number, and_both, both_and, of_le, of_lt}
 use Rattle.tg_law_walks.proofs.Walks.Positions.{rises_filter, has_filter, filter_passes}
 use Rattle.tg_law_walks.proofs.Walks.Stretches.{has_stretch, stretch_has}
@@ -82,7 +82,7 @@ module _ (m : Meaning) (l : Log) (byp : IsByPosition l) where
     pub exact_in : IsExactIn m l x o
     exact_in = same_rising 0 (filter inside found) (members l o (walked_from m x o) tail) (rises_filter inside 0 found (h.each o)) (stretch_rises l o (walked_from m x o) tail byp) there here
 
-pub rounds_exact : (m : Meaning) → RoundsExact m
+pub rounds_exact : (m : Meaning) → WalksExact m
 rounds_exact m l x o byp h i = exact_in m l byp x o h i
 
 -- A step.

@@ -8,7 +8,7 @@ use Rattle.tg_protocol.specs.Words.{with_num, with_nums}
 use Rattle.tg_base.specs.Orders.{oid_eq, oid_lt}
 use Rattle.tg_protocol.specs.Clients.{positions_in, positions_of, with_positions}
 use Rattle.tg_law_walks.specs.Walks.Streams.{rises}
-use Rattle.tg_law_walks.specs.Walks.Rounds.{AllAbove, AreRising}
+use Rattle.tg_law_walks.specs.Walks.Rounds.{AreAbove, AreRising}
 use Rattle.tg_law_walks.proofs.Walks.Members.{Has, and_both, both_and, lt_of, of_le, same_oid, oid_itself, same_number}
 
 -- Two rising lists as one.
@@ -133,7 +133,7 @@ filter_passes f (x ∷ xs) q i = by (f x) refl i (λ j. filter_passes f xs q j)
 -- By stream.
 
 module _ (m : Meaning) where
-  pub none_above : (o p : Oid) (xs : List (Oid × List ℕ)) → o.0 ≤ p.0 → AllAbove m p xs → positions_in m xs o ≡ []
+  pub none_above : (o p : Oid) (xs : List (Oid × List ℕ)) → o.0 ≤ p.0 → AreAbove m p xs → positions_in m xs o ≡ []
   none_above o p [] le h = refl
   none_above o p (x ∷ xs) le h =
       let first = h.0 in
@@ -170,16 +170,16 @@ module _ (m : Meaning) where
       by false e true rest = ap (λ (d : Bool). if d then with_nums ps [] else positions_in m (x ∷ xs) p) a
       by false e false rest = ap (λ (ys : List ℕ). if oid_eq x.0 p then x.1 else ys) rest
 
-  above_more : (o p : Oid) (ps : List ℕ) (xs : List (Oid × List ℕ)) → p.0 < o.0 → AllAbove m p xs → AllAbove m p (with_positions m xs o ps)
+  above_more : (o p : Oid) (ps : List ℕ) (xs : List (Oid × List ℕ)) → p.0 < o.0 → AreAbove m p xs → AreAbove m p (with_positions m xs o ps)
   above_more o p ps [] less h = (less, tt)
   above_more o p ps (x ∷ xs) less h = by (oid_eq x.0 o) (oid_lt o x.0) (above_more o p ps xs less h.1)
     where
-      by : (b c : Bool) → AllAbove m p (with_positions m xs o ps) → AllAbove m p (if b then (x.0, with_nums ps x.1) ∷ xs else (if c then (o, with_nums ps []) ∷ x ∷ xs else x ∷ with_positions m xs o ps))
+      by : (b c : Bool) → AreAbove m p (with_positions m xs o ps) → AreAbove m p (if b then (x.0, with_nums ps x.1) ∷ xs else (if c then (o, with_nums ps []) ∷ x ∷ xs else x ∷ with_positions m xs o ps))
       by true c rest = (h.0, h.1)
       by false true rest = (less, (h.0, h.1))
       by false false rest = (h.0, rest)
 
-  above_less : (o p : Oid) (xs : List (Oid × List ℕ)) → p.0 ≤ o.0 → AllAbove m o xs → AllAbove m p xs
+  above_less : (o p : Oid) (xs : List (Oid × List ℕ)) → p.0 ≤ o.0 → AreAbove m o xs → AreAbove m p xs
   above_less o p [] le h = tt
   above_less o p (x ∷ xs) le h = let first = h.0 in (omega (arith, first, le), above_less o p xs le h.1)
 

@@ -12,11 +12,11 @@ use Rattle.tg_law_walks.specs.Once.Records.{ByRunsOfSafeTrims}
 
 module _ (m : Meaning) where
   -- what a client appends has a spelling
-  abbrev pub DraftsFit : World m → Type 0
-  DraftsFit w = (k : ℕ) (a : Append) → append_by m (client m w k).work ≡ Some a → entry.fits a.draft ≡ true
+  abbrev pub AppendsFit : World m → Type 0
+  AppendsFit w = (k : ℕ) (a : Append) → append_by m (client m w k).work ≡ Some a → entry.fits a.draft ≡ true
 
   abbrev pub DraftsFitByParts : Type 0
-  DraftsFitByParts = TouchParts m → Always m (DraftsFit)
+  DraftsFitByParts = TouchParts m → Always m (AppendsFit)
 
   -- so each entry of the log is, links aside, the draft of an append that its client began
   abbrev pub EntriesOwnByParts : Type 0

@@ -41,7 +41,7 @@ module _ (m : Meaning) where
 
   -- Whatever a unit was ever asked to trim was settled in the epoch of the trim or before, and each stream that stands
   -- below it is saved so.
-  pub record TrimsSpare (w : World m) : Type 0 where
+  pub record TrimsSaved (w : World m) : Type 0 where
     pub whole : (x : Packet) (epoch below q : ℕ) → Sent m w x → x.msg ≡ msg.Trim epoch below → q < below → WasSettled w epoch q
     pub saved : (x : Packet) (epoch below q : ℕ) (o : Oid) → Sent m w x → x.msg ≡ msg.Trim epoch below → q < below → stands_in (log m w) o q ≡ true → IsSaved w o epoch below
 
@@ -56,7 +56,7 @@ module _ (m : Meaning) where
   -- So it was in each world from which the run went on; and units were asked to trim only what was in the log.
   pub record TrimsWereSpare (h : Header) (ms : Moves m) : Type 0 where
     pub safe : TrimsWereSafe m h ms
-    pub spare : (u : World m) → GoesOn h ms u → TrimsSpare u
+    pub spare : (u : World m) → GoesOn h ms u → TrimsSaved u
 
   -- what holds of every run in which trims were spare
   abbrev pub ByRunsOfSpareTrims : (Header → Moves m → World m → Type 0) → Type 0

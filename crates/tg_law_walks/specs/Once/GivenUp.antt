@@ -49,8 +49,8 @@ module _ (m : Meaning) where
     pub home : Home m w pos page last
     pub kept : IsGivenUp w home.epoch pos page → ⊥
 
-  abbrev pub SettledKept : World m → Type 0
-  SettledKept w = (pos : ℕ) (page : List ℕ) → (s : IsSettled m w pos (Data page)) → IsKept w pos page s.layout.epoch
+  abbrev pub PagesKept : World m → Type 0
+  PagesKept w = (pos : ℕ) (page : List ℕ) → (s : IsSettled m w pos (Data page)) → IsKept w pos page s.layout.epoch
 
   -- So is each page of the log.
   abbrev pub LogKept : World m → Type 0

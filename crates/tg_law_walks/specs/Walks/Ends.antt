@@ -28,8 +28,8 @@ module _ (m : Meaning) where
   IsExactIn l x o = from_to m (walked_from m x o) x.work.tail (positions_found m x o) ≡ members l o (walked_from m x o) x.work.tail
 
   -- where all streams are walked, each of them is found so
-  abbrev pub RoundsExact : Type 0
-  RoundsExact = (l : Log) (x : Walked m) (o : Oid) → IsByPosition l → IsRound m l (round m x.client x.work x.client.cells) [] →
+  abbrev pub WalksExact : Type 0
+  WalksExact = (l : Log) (x : Walked m) (o : Oid) → IsByPosition l → IsRound m l (round m x.client x.work x.client.cells) [] →
       Contains x.work.oids o → IsExactIn l x o
 
   -- What an answer that is awaited ends is true of the log: a sync's tail with its lists, or a walk's cell.

@@ -60,13 +60,13 @@ module _ (m : Meaning) where
     pub is : base_at m o e ≡ Some base
     pub reaches : b ≤ base.upto
 
-  abbrev pub AllAbove : Oid → List (Oid × List ℕ) → Type 0
-  AllAbove o [] = Unit {0}
-  AllAbove o (x ∷ xs) = (o.0 < x.0.0) × AllAbove o xs
+  abbrev pub AreAbove : Oid → List (Oid × List ℕ) → Type 0
+  AreAbove o [] = Unit {0}
+  AreAbove o (x ∷ xs) = (o.0 < x.0.0) × AreAbove o xs
 
   abbrev pub AreRising : List (Oid × List ℕ) → Type 0
   AreRising [] = Unit {0}
-  AreRising (x ∷ xs) = AllAbove x.0 xs × AreRising xs
+  AreRising (x ∷ xs) = AreAbove x.0 xs × AreRising xs
 
   module _ (l : Log) where
     -- the log saves an object at or past a position, below a tail

@@ -1,14 +1,14 @@
 //! What holds where a step ends the walks of a command.
 
 ghost use Rattle.tg_kind.specs.Of.{meaning_of};
-ghost use Rattle.tg_law_walks.specs.Walks.Ends.{RoundsExact, StepsExact, SyncsExactWhere};
+ghost use Rattle.tg_law_walks.specs.Walks.Ends.{WalksExact, StepsExact, SyncsExactWhere};
 
 use tg_kind::Registry;
 
 /// Where all streams are walked, the positions found of each, from where its walk ended up to the tail, are exactly
 /// those of the log.
 pub fn rounds_are_exact<K: Registry>()
-    ensures { RoundsExact (meaning_of K.Registry) }
+    ensures { WalksExact (meaning_of K.Registry) }
 {}
 
 /// A client's walks so far are true of a log, and so is what the answer that it awaits ends in a step: a sync's tail
