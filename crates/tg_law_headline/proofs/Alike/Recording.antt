@@ -41,7 +41,7 @@ use Rattle.tg_law_layouts.proofs.Requests.Starts.{All, all_keeps, start_all}
 use Rattle.tg_law_layouts.proofs.Layouts.Layouts.{stays_sent}
 use Rattle.tg_law_replies.specs.Plays.Sound.{IsRising}
 use Rattle.tg_law_replies.specs.History.Worlds.{entries_in}
-use Rattle.tg_law_replies.specs.Views.Exact.{HasDecision}
+use Rattle.tg_law_replies.specs.Views.Exact.{DecisionStands}
 use Rattle.tg_law_replies.specs.Replies.Ended.{AppendsEnd, work_ends, ended_in}
 use Rattle.tg_law_replies.specs.Replies.Found.{HasFound, FindsFor, Finds, mine}
 use Rattle.tg_law_replies.specs.Replies.Laws.{ClientsFind}
@@ -331,7 +331,7 @@ module _ (m : Meaning) (h : Header) (ms : Moves m) (r : Reaches m h ms (after m 
     abbrev got_now : (from : NodeId) (rid : ℕ) (x : Msg) → t.noted.next ≤ rid → Got k from rid x → SentNow m end t x
     got_now from rid x le g = record { rid = rid; now = le; sent = got_to from rid x g }
 
-    decision_of : (p : ℕ) → HasDecision es p → HasDecision m end p
+    decision_of : (p : ℕ) → DecisionStands es p → HasDecision m end p
     decision_of p d = record { at = d.at; entry = d.entry; is_yes = d.is_yes; here = d.here; decides = d.is }
 
     -- in the same command
@@ -346,7 +346,7 @@ module _ (m : Meaning) (h : Header) (ms : Moves m) (r : Reaches m h ms (after m 
       order = g.issued.below;
     })
 
-    decided : (p : ℕ) → HasDecision es p ⊎ Met m h.objects es rising (Got k) (Idle k) t.noted.next t.noted.next → RecordedNow m end t p
+    decided : (p : ℕ) → DecisionStands es p ⊎ Met m h.objects es rising (Got k) (Idle k) t.noted.next t.noted.next → RecordedNow m end t p
     decided p (inl d) = inl (decision_of p d)
     decided p (inr y) = inr (met_now y)
 
@@ -378,7 +378,7 @@ module _ (m : Meaning) (h : Header) (ms : Moves m) (r : Reaches m h ms (after m 
           order = (let a = s.issued.below in let b = g.issued.now in omega (arith, a, b), g.issued.below);
         })
 
-    recorded : (p : ℕ) → HasDecision es p ⊎ MetSince m h.objects es rising (Got k) (Idle k) t.noted.next p → Recorded m end k p
+    recorded : (p : ℕ) → DecisionStands es p ⊎ MetSince m h.objects es rising (Got k) (Idle k) t.noted.next p → Recorded m end k p
     recorded p (inl d) = inl (decision_of p d)
     recorded p (inr y) = inr (met_since p y)
 
