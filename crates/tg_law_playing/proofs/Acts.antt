@@ -35,7 +35,7 @@ set_other (x ∷ xs) (suc i) y (suc k) d n = set_other xs i y k d (λ e. n (ap s
 abbrev pub OfOthers : List Packet → Type 0
 OfOthers ps = (p : Packet) (k : ℕ) → Has ps p → p.from ≡ client_id k → ⊥
 
-none_sent : OfOthers []
+pub none_sent : OfOthers []
 none_sent p k i e = absurd i
 
 module _ (m : Meaning) where
@@ -70,24 +70,24 @@ module _ (m : Meaning) where
     Acts' : (n : ℕ) (t : ClientTurn m) (s : CommandStart) → (i : ClientInput m (config m w) n t) → Noted w n s (IsCommanded w n t i) → v.packets ≡ w.packets ++ map (packet_of m (client_id n)) t.sends →
         v.told ≡ w.told ++ map (told_of w n s) t.notes → ((k : ℕ) → Turns w v n t s k) → IsEven v → Acts w e v
 
-  answers_others : (p : Packet) (x : Option Msg) → ((k : ℕ) → p.to ≡ client_id k → ⊥) → OfOthers (answer_to m p x)
+  pub answers_others : (p : Packet) (x : Option Msg) → ((k : ℕ) → p.to ≡ client_id k → ⊥) → OfOthers (answer_to m p x)
   answers_others p None other q k i e = absurd i
   answers_others p (Some x) other q k (inl is) e = other k (ap (λ (y : Packet). y.from) (sym is) ∙ e)
   answers_others p (Some x) other q k (inr i) e = absurd i
 
-  not_unit : (a : NodeId) (k : ℕ) → a.role ≡ role.Unit → a ≡ client_id k → ⊥
+  pub not_unit : (a : NodeId) (k : ℕ) → a.role ≡ role.Unit → a ≡ client_id k → ⊥
   not_unit a k is e = no (sym is ∙ ap (λ (z : NodeId). z.role) e)
     where
       no : ◌≡◌ {A = Role} role.Unit role.Client → ⊥
       no z = cc
 
-  not_layout : (a : NodeId) (k : ℕ) → a.role ≡ role.Layout → a ≡ client_id k → ⊥
+  pub not_layout : (a : NodeId) (k : ℕ) → a.role ≡ role.Layout → a ≡ client_id k → ⊥
   not_layout a k is e = no (sym is ∙ ap (λ (z : NodeId). z.role) e)
     where
       no : ◌≡◌ {A = Role} role.Layout role.Client → ⊥
       no z = cc
 
-  seqrs_others : (n : ℕ) (os : List Out) → OfOthers (map (packet_of m (seqr_id n)) os)
+  pub seqrs_others : (n : ℕ) (os : List Out) → OfOthers (map (packet_of m (seqr_id n)) os)
   seqrs_others n os p k i e = let y = has_map (packet_of m (seqr_id n)) os p i in no (ap (λ (z : NodeId). z.role) (ap (λ (z : Packet). z.from) (sym y.is) ∙ e))
     where
       no : ◌≡◌ {A = Role} role.Seqr role.Client → ⊥

@@ -4,3 +4,12 @@ pub mod Turns
 pub mod Acts
 pub mod Steps
 pub mod Reading
+pub mod Trails
+pub mod Treading
+pub mod Stripes
+pub mod Missing
+pub mod Moving
+pub mod Pathing
+pub mod Outstanding
+pub mod Heeding
+pub mod Roads

@@ -100,7 +100,7 @@ module _ (m : Meaning) where
   reply_quiet c w from rid (IsLatest q) = latest_quiet (node_eq from (layout_id from.num) && nat_lt c.stand.epoch q.epoch) c w from rid q
   reply_quiet c w from rid x = hand_quiet c w w.hand from rid x
 
-  feed_quiet : (c : Client m) (o : Option (Work m)) (from : NodeId) (rid : ℕ) (x : Reply) → Quiet (step.feed m c o from rid x).besides
+  pub feed_quiet : (c : Client m) (o : Option (Work m)) (from : NodeId) (rid : ℕ) (x : Reply) → Quiet (step.feed m c o from rid x).besides
   feed_quiet c None from rid x = none_quiet
   feed_quiet c (Some w) from rid x = reply_quiet c w from rid x
 
@@ -116,7 +116,7 @@ module _ (m : Meaning) where
   accepts_quiet c (cmd.Copy u r s) e = copies_quiet c (new_work m (cmd.Copy u r s)) (record { unit = u; range = r; stripe = s; work = copying.Sealing 0 }) None
   accepts_quiet c x e = learns_quiet _ _ (syncs_plain m c (new_work m x) c.hosted).quiet
 
-  command_quiet : (c : Client m) (x : CommandOf m) (o : Option Refusal) → (o ≡ None → c.work ≡ None) → Quiet (refused_or m c x o).besides
+  pub command_quiet : (c : Client m) (x : CommandOf m) (o : Option Refusal) → (o ≡ None → c.work ≡ None) → Quiet (refused_or m c x o).besides
   command_quiet c x None free = accepts_quiet c x (free refl)
   command_quiet c x (Some why) free = none_quiet
 

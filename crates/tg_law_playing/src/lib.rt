@@ -2,5 +2,7 @@
 #![tactic(auto)]
 
 mod laws;
+mod paths;
 
 pub use laws::{views_fall_at_trims, views_read_on};
+pub use paths::{reads_on_path, reads_on_path_where};
