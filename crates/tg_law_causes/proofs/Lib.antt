@@ -1,8 +1,16 @@
 pub mod Aborting
 pub mod Aborts
+pub mod AtOnce
+pub mod Causal
+pub mod Causing
 pub mod Directories
+pub mod Given
+pub mod Heard
+pub mod Jobs
 pub mod Keeping
 pub mod Least
+pub mod Reasons
 pub mod Rises
+pub mod Sights
 pub mod Store
 pub mod Turns

@@ -546,7 +546,7 @@ module _ (m : Meaning) (c0 : Client m) where
     unfolding copy_start
     copy_takes u r s = Silent refl (record { hosts = record { hosted = h.0; dir = h.1; played = h.2 }; tx = h.3 }) tt
 
-    accept_takes : (x : CommandOf m) → Takes (accepts m c0 x)
+    pub accept_takes : (x : CommandOf m) → Takes (accepts m c0 x)
     unfolding accepts
     accept_takes (cmd.Host o) = host_takes o (hosts_oid m c0 o)
     accept_takes cmd.Begin = says (record c0 { begun = c0.begun + 1; tx = Some (open_tx (c0.begun + 1)) }) _ [] refl (tt, tt)
