@@ -31,7 +31,7 @@ use Rattle.tg_law_headline.proofs.Alike.Speaks.{Noted, Before, Anew, Speaks, Sil
 use Rattle.tg_law_causes.proofs.Turns.{Fine}
 use Rattle.tg_law_causes.proofs.Keeping.{all_fine}
 use Rattle.tg_law_causes.proofs.Jobs.{Heard}
-use Rattle.tg_law_causes.proofs.Causing.{WorkHeld, Good, reply_good, command_held}
+use Rattle.tg_law_causes.proofs.Reasoning.{WorkHeld, Good, reply_good, command_held}
 
 module _ (m : Meaning) (h : Header) (ms : Moves m) (r : Reaches m h ms (after m h ms)) (P : List Packet) (within : (p : Packet) → Has (after m h ms).packets p → Has P p) where
   -- what a client got, and what it asked

@@ -38,7 +38,7 @@ use Rattle.tg_law_headline.proofs.Alike.Told.{overtakes_agree}
 use Rattle.tg_law_causes.specs.Sorts.{IsHeard, RefusedLaterTrue}
 use Rattle.tg_law_causes.proofs.Keeping.{refusals_keep}
 use Rattle.tg_law_causes.proofs.Jobs.{ToldNow, OwnGone}
-use Rattle.tg_law_causes.proofs.Causing.{NamedGone, AheadOf, LargeOf, Because, SayOk}
+use Rattle.tg_law_causes.proofs.Reasoning.{NamedGone, AheadOf, LargeOf, Because, SayOk}
 use Rattle.tg_law_causes.proofs.Causal.{Got, AskSent, State, FeedOk, feed_ok, end_state}
 
 module _ (m : Meaning) (w : World m) where

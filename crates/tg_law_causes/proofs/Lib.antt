@@ -2,7 +2,7 @@ pub mod Aborting
 pub mod Aborts
 pub mod AtOnce
 pub mod Causal
-pub mod Causing
+pub mod Reasoning
 pub mod Directories
 pub mod Given
 pub mod Heard
