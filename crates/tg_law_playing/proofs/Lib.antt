@@ -4,3 +4,6 @@ pub mod Turns
 pub mod Acts
 pub mod Steps
 pub mod Reading
+pub mod Pruning
+pub mod Ended
+pub mod OfStore

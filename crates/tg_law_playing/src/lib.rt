@@ -2,5 +2,7 @@
 #![tactic(auto)]
 
 mod laws;
+mod standing;
 
 pub use laws::{views_fall_at_trims, views_read_on};
+pub use standing::{asks_stand, pages_give_up, plays_on};
