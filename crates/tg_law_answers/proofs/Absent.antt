@@ -1,31 +1,27 @@
 -- Where a client's walks are over, and it finds no commit record at a position, there is none that is for it.
-use Rattle.std.proofs.Common.{◌≡◌, ◌⊎◌, ℕ, ◌+◌, ◌<◌, ◌≤◌, List, [], ◌∷◌, Bool, true, false, cond, refl, sym, ap, ◌∙◌, subst, inl, inr, arith, filter, Option, Some, None, is_some}
+use Rattle.std.proofs.Common.{◌≡◌, ℕ, ◌+◌, ◌<◌, ◌≤◌, List, [], ◌∷◌, Bool, true, false, cond, refl, sym, ap, ◌∙◌, subst, inl, inr, arith, filter, Option, Some, None, is_some}
 use Rattle.std.specs.Prelude.{not, length, nat_lt, nat_le, ◌==◌, ◌&&◌, ◌||◌, Contains, if◌then◌else◌}
-use Rattle.std.proofs.lemmas.Bool.Decides.{nat_tests}
 use Rattle.tg_base.specs.Orders.{oid_eq}
 use Rattle.tg_base.specs.declared.cell.Cell.{Cell}
 use Rattle.tg_base.specs.declared.ids.Oid.{Oid}
 use Rattle.tg_entry.specs.declared.entry.Entry.{Entry}
-use Rattle.tg_entry.specs.Needs.{needs_decision}
 use Rattle.tg_kind.specs.Meaning.{Meaning}
 use Rattle.tg_model.specs.Kinds.{CommandOf}
 use Rattle.tg_model.specs.declared.command.Command.TheVariants as cmd
-use Rattle.tg_model.specs.declared.play.PlayEnd.{PlayEnd}
-use Rattle.tg_model.specs.declared.play.PlayEnd.TheVariants.{Played, Blocked}
 use Rattle.tg_protocol.specs.Words.{cell_at, has_oid, with_nums}
 use Rattle.tg_protocol.specs.Entries.{is_commit, lists}
 use Rattle.tg_protocol.specs.Logs.{Log, entries_of}
 use Rattle.tg_protocol.specs.Checkpoints.{TrimPoints, trim_of, view_bases}
-use Rattle.tg_protocol.specs.Views.{Entries, View, Play, Verdict, Commits, Aborts, Unknown, fate_of, decision_in, view_outcome, view_start, play}
-use Rattle.tg_protocol.specs.Past.{commit_at, RescueTurn, Wider, Wide, Absent, StuckAt, Known, block_in, known_by, at_record, grows, rescue_by, rescue_turn}
-use Rattle.tg_protocol.specs.Clients.{Work, Client, upto_in, upto, hosts_oid, member_positions, all_entries}
+use Rattle.tg_protocol.specs.Views.{Entries, View, Play, Verdict, Commits, Aborts, Unknown, fate_of, view_outcome, view_start, play}
+use Rattle.tg_protocol.specs.Past.{commit_at, RescueTurn, Wider, Wide, Absent, Known, block_in, known_by, at_record, grows, rescue_by, rescue_turn}
+use Rattle.tg_protocol.specs.Clients.{Work, Client, upto_in, member_positions, all_entries}
 use Rattle.tg_protocol.specs.Answers.{trim_above}
 use Rattle.tg_protocol.specs.ClientSteps.{fate_missing, zero_if, lo_for}
 use Rattle.tg_protocol.specs.Causes.{IsFor}
 use Rattle.tg_law_replies.proofs.Views.Settled.{IsFated}
 use Rattle.tg_law_walks.specs.Walks.Streams.{IsByPosition}
 use Rattle.tg_law_walks.specs.Walks.Rounds.{round, IsRound}
-use Rattle.tg_law_walks.proofs.Walks.Members.{Has, has_contained, contained_has, lt_of, of_lt, not_lt, number_same, same_oid}
+use Rattle.tg_law_walks.proofs.Walks.Members.{Has, has_contained, contained_has, of_lt, not_lt, number_same, same_oid}
 use Rattle.tg_law_walks.proofs.Walks.Cells.{entry_there}
 use Rattle.tg_law_walks.proofs.Walks.Positions.{has_filter, nums_left}
 use Rattle.tg_law_walks.proofs.Walks.Plays.{ps, untrimmed, trimmed}

@@ -1,6 +1,6 @@
 -- Along a run: what each client's work has been told since its command began, and that it knows the pages of its own records; and so
 -- what a step tells where no record is there.
-use Rattle.std.proofs.Common.{◌≡◌, ◌⊎◌, ℕ, ◌+◌, ◌<◌, ◌≤◌, List, [], ◌∷◌, ◌++◌, map, Bool, true, false, refl, sym, ap, ◌∙◌, subst, inl, inr, arith, Option, Some, None, is_some}
+use Rattle.std.proofs.Common.{◌≡◌, ◌⊎◌, ℕ, ◌≤◌, List, [], ◌∷◌, ◌++◌, map, Bool, true, false, refl, sym, ap, ◌∙◌, subst, inl, inr, arith, Option, Some, None, is_some}
 use Rattle.std.specs.Prelude.{nat_lt, cond, ◌==◌, Contains}
 use Rattle.tg_base.specs.Clusters.{Header}
 use Rattle.tg_base.specs.declared.cell.Cell.{Cell}
@@ -9,21 +9,18 @@ use Rattle.tg_base.specs.declared.ids.Oid.{Oid}
 use Rattle.tg_base.specs.declared.msg.Msg.{Msg}
 use Rattle.tg_base.specs.declared.msg.Msg.TheVariants as msg
 use Rattle.tg_base.specs.declared.packet.Packet.{Packet}
-use Rattle.tg_entry.specs.declared.entry.Entry.{Entry}
 use Rattle.tg_kind.specs.Meaning.{Meaning}
 use Rattle.tg_model.specs.Kinds.{EventOf, WhatOf, NoteOf}
 use Rattle.tg_model.specs.declared.trace.What.TheVariants as told
 use Rattle.tg_protocol.specs.Words.{client_id, numbers, cell_at, with_cell, with_num}
 use Rattle.tg_protocol.specs.Logs.{Log, entries_of}
 use Rattle.tg_protocol.specs.Replies.{reply}
-use Rattle.tg_protocol.specs.Views.{Entries, View}
-use Rattle.tg_protocol.specs.Clients.{Work, Client, new_client, upto_in, refusal}
+use Rattle.tg_protocol.specs.Views.{View}
+use Rattle.tg_protocol.specs.Clients.{Work, Client, new_client, refusal}
 use Rattle.tg_protocol.specs.Answers.{Moved}
-use Rattle.tg_protocol.specs.ClientSteps.{ClientTurn, feed, refused_or, called, client_command, client_deliver, client_tick, tick_by}
+use Rattle.tg_protocol.specs.ClientSteps.{ClientTurn, feed, refused_or, client_command, client_deliver, client_tick, tick_by}
 use Rattle.tg_protocol.specs.Worlds.{CommandStart, World, Told, start, client, noted_of, log, happens}
-use Rattle.tg_protocol.specs.Runs.{Moves, Next, Takes, Reaches, LawfulEvent, Later, LawfulMove, most_steps, run}
-use Rattle.tg_protocol.specs.Walked.{Walked, walked_in}
-use Rattle.tg_protocol.specs.Playing.{Replies}
+use Rattle.tg_protocol.specs.Runs.{Moves, Next, Takes, Reaches, run}
 use Rattle.tg_protocol.specs.Causes.{IsFor, IsNone, SaysNone, NonesTrue}
 use Rattle.tg_law_layouts.specs.Moves.After.{after}
 use Rattle.tg_law_layouts.specs.Moves.Configs.{config}
@@ -38,21 +35,17 @@ use Rattle.tg_law_replies.proofs.Books.Worlds.{cancel, nil_right, regroup, run_b
 use Rattle.tg_law_walks.specs.Walks.Rounds.{round, IsRound}
 use Rattle.tg_law_walks.specs.Walks.Streams.{IsByPosition}
 use Rattle.tg_law_walks.specs.Lists.Spared.{TrimsWereSpare}
-use Rattle.tg_law_walks.proofs.Drafts.Clients.{happens_steps}
-use Rattle.tg_law_walks.proofs.Lists.Reached.{before_reached}
 use Rattle.tg_law_walks.proofs.Walks.Cells.{cell_here, more_some}
-use Rattle.tg_law_walks.proofs.Walks.Reading.{reaches_later}
 use Rattle.tg_law_walks.proofs.Walks.Syncs.{logs_by_position}
 use Rattle.tg_law_syncs.specs.Finds.Left.{RoundsExact}
 use Rattle.tg_law_syncs.proofs.Exact.Finds.{rounds_exact}
-use Rattle.tg_law_syncs.proofs.Known.Ways.{played_view}
 use Rattle.tg_law_trims.proofs.Leaves.Ends.{ends_have}
 use Rattle.tg_law_trims.proofs.Leaves.Landing.{LandInSteps, lands_in_steps}
 use Rattle.tg_law_trims.proofs.Leaves.Steps.{happens_hold}
 use Rattle.tg_law_trims.proofs.Leaves.Turns.{Lasts, AtWork, Holds, PlayHolds}
 use Rattle.tg_law_headline.proofs.Alike.Speaks.{Noted, Before, Anew, Delivered, From, Speaks, Silent, Speaks', Turns, told_of, speaks}
 use Rattle.tg_law_answers.proofs.Absent.{Owned}
-use Rattle.tg_law_answers.proofs.Nones.{NoneTold, Ok, EachOk, Held, WorkHeld, Good, Found, feed_turn, command_turn}
+use Rattle.tg_law_answers.proofs.Nones.{NoneTold, Ok, EachOk, Held, WorkHeld, Good, feed_turn, command_turn}
 
 -- what a reply says of a record that isn't there
 says_map : (m : Meaning) (what : WhatOf m) (P Q : ℕ → Type 0) → ((p : ℕ) → P p → Q p) → SaysNone m what P → SaysNone m what Q
@@ -117,12 +110,6 @@ module _ (m : Meaning) where
 
 -- By the world to which a run comes.
 module _ (m : Meaning) (h : Header) (ms : Moves m) (r : Reaches m h ms (after m h ms)) (trims : TrimsWereSpare m h ms) where
-  abbrev end : World m
-  end = after m h ms
-
-  abbrev l : Log
-  l = log m (after m h ms)
-
   byp : IsByPosition (log m (after m h ms))
   byp = logs_by_position m (after m h ms)
 

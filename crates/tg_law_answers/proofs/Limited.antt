@@ -1,11 +1,10 @@
 -- Through each of a client's turns: it hosts few objects, its transaction is within the limits, and of an ask that waits the read fits.
-use Rattle.std.proofs.Common.{◌≡◌, ℕ, ◌+◌, ◌<◌, ◌≤◌, List, [], ◌∷◌, Bool, true, false, refl, sym, ap, ◌∙◌, subst, arith, Option, Some, None}
-use Rattle.std.specs.Prelude.{not, nat_lt, nat_le, ◌&&◌, ◌==◌, length, is_some, if◌then◌else◌}
+use Rattle.std.proofs.Common.{◌≡◌, ℕ, ◌+◌, ◌<◌, List, [], ◌∷◌, Bool, true, false, refl, sym, ◌∙◌, subst, arith, Option, Some, None}
+use Rattle.std.specs.Prelude.{not, nat_lt, nat_le, ◌&&◌, ◌==◌, length}
 use Rattle.std.proofs.lemmas.Bool.Decides.{nat_tests}
 use Rattle.tg_base.specs.Layouts.{Layout}
 use Rattle.tg_base.specs.Changes.{Changed as Change}
 use Rattle.tg_base.specs.declared.cell.Cell.{Cell}
-use Rattle.tg_base.specs.declared.change.Join.{Join}
 use Rattle.tg_base.specs.declared.fault.Many.TheVariants as many
 use Rattle.tg_base.specs.declared.ids.NodeId.{NodeId}
 use Rattle.tg_base.specs.declared.ids.Oid.{Oid}
@@ -32,14 +31,14 @@ use Rattle.tg_protocol.specs.Syncing.{Sync, Confirmed, sync_start, sync_feed, sy
 use Rattle.tg_protocol.specs.Walking.{Walk, Members, walk_feed, walk_again}
 use Rattle.tg_protocol.specs.Trimming.{Trims, Trimmed, trim_start, trim_feed, Copying, CopyEnd, copy_start, copy_feed}
 use Rattle.tg_protocol.specs.Trimming as copying
-use Rattle.tg_protocol.specs.Reconfiguring.{Reconf, ReconfEnd, Installed, Overtaken, NotWhole, reconf_start, reconf_feed, reconf_latest, first_step, SealingSpare}
+use Rattle.tg_protocol.specs.Reconfiguring.{Reconf, ReconfEnd, Installed, Overtaken, NotWhole, reconf_start, reconf_feed, reconf_latest}
 use Rattle.tg_protocol.specs.Views.{Entries, View, Play, Verdict, Commits, Aborts, Unknown, state_of, view_version, changed_in, unknown_in, verdict, view_outcome, fate_of}
 use Rattle.tg_protocol.specs.Checkpoints.{ForgetFault, NoCheckpoint, OpenDecision, checkpoint, may_forget}
 use Rattle.tg_protocol.specs.Past.{commit_at, PastTurn, PastView, PastGone, RescueTurn, Wider, Wide, Absent, StuckAt, Known}
 use Rattle.tg_protocol.specs.Transactions.{Tx, TxFault, open_tx, tx_read, tx_put, read_fault, write_fault, commit_record}
 use Rattle.tg_protocol.specs.Clients.{Purpose, Writes, Judged, Decides, Rescues, Saves, Marks, Task, Syncing, Walking, Appending, Trimming, Copying', Reconfiguring, Hand, Doing, Learning, Work, Client, busy, no_tx, tx_open, wrong_kind, not_registered, not_hosted, too_many_hosted, put_fault, ask_fault, by_tx, tests, write_of, all_entries, hosts_oid, number_on, refusal}
-use Rattle.tg_protocol.specs.Answers.{holds, Moved, moved, note, mark_notes, mark_record, pruned, replies, refuses, took_over, answers, closed, appends, syncs, walked, walked_for, plays_own, played_on, answer_by, with_view, on_ask, ask_in, ask_answer, unsure, aborted, end_decided, end_aborted, end_no, end_by, end_record, on_end, lacks_decision, decides_if, decision, with_decision, forgotten_or, fate_verdict, fate_record, fate_known, fate_blocked, blocks, on_fate, decide_verdict, decide_record, decide_blocked, on_decide, save_if, on_checkpoint, forget_by, on_forget, trim_next, trim_begun, trims_if, on_trim, past_answer, past_played, past_turn, ahead_or, on_ask_at, rescue_decision, rescue_known, absent, rescue_by, trim_above}
-use Rattle.tg_protocol.specs.ClientSteps.{task_in, task_awaited, after_turn, met, goes_on, learns_for, lends, takes_back, found_by, start_walk, walks, lo_for, knows, sync_to, on_sync, stale, starts_over, gives_up, given_up_if, at_trim, walk_ended_by, walk_to, on_walk, knows_page, owns, record_lost, lost, page_known, decided_for, append_ended, append_to, on_append, trim_to, on_trims, copy_to, on_copy, stands, reconf_ended, reconf_to, on_reconf, task_feed, copies_again, task_again, on_newer, fed_if, hand_feed, latest_if, reply_feed, feed, new_work, hosts_more, puts, asked_of_state, asks_view, asks_by, asks, purpose_of, ends, accepts, refused_or, ClientTurn, client_command, client_deliver, client_tick, tick_by}
+use Rattle.tg_protocol.specs.Answers.{holds, Moved, moved, note, mark_notes, mark_record, pruned, took_over, closed, appends, syncs, walked, walked_for, played_on, answer_by, with_view, on_ask, ask_in, ask_answer, unsure, aborted, end_decided, end_aborted, end_no, end_by, end_record, on_end, lacks_decision, decides_if, decision, with_decision, forgotten_or, fate_verdict, fate_record, fate_known, fate_blocked, blocks, on_fate, decide_verdict, decide_record, decide_blocked, on_decide, save_if, on_checkpoint, forget_by, on_forget, trim_next, trim_begun, trims_if, on_trim, past_answer, past_played, past_turn, ahead_or, on_ask_at, rescue_decision, rescue_known, absent, rescue_by, trim_above}
+use Rattle.tg_protocol.specs.ClientSteps.{task_in, task_awaited, after_turn, met, goes_on, learns_for, lends, takes_back, found_by, start_walk, walks, lo_for, knows, sync_to, on_sync, stale, starts_over, gives_up, given_up_if, at_trim, walk_ended_by, walk_to, on_walk, knows_page, owns, record_lost, lost, page_known, decided_for, append_ended, append_to, on_append, trim_to, on_trims, copy_to, on_copy, stands, reconf_ended, reconf_to, on_reconf, task_feed, copies_again, task_again, on_newer, fed_if, hand_feed, latest_if, reply_feed, feed, new_work, hosts_more, puts, asked_of_state, asks_view, asks_by, asks, purpose_of, ends, accepts, refused_or, client_command, client_deliver, client_tick, tick_by}
 use Rattle.tg_protocol.specs.ClientSteps as step
 use Rattle.tg_law_answers.proofs.Limits.{IsLean, AreFew, first_none, untrue, open_lean, read_lean, put_lean, host_few}
 

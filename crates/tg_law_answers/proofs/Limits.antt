@@ -3,7 +3,6 @@ use Rattle.std.proofs.Common.{◌≡◌, ℕ, suc, ◌+◌, ◌<◌, ◌≤◌, 
 use Rattle.std.specs.Prelude.{nat_lt, nat_le, ◌||◌}
 use Rattle.std.specs.Cmp.{unsigned_ties}
 use Rattle.std.specs.Ordering.{is_eq}
-use Rattle.std.specs.BTreeSet.{insert_key}
 use Rattle.std.proofs.lemmas.Bool.Decides.{nat_tests}
 use Rattle.std.proofs.lemmas.List.{length-append}
 use Rattle.tg_base.specs.Orders.{oid_cmp, with_oid}
@@ -13,8 +12,8 @@ use Rattle.tg_base.specs.declared.marks.Part.{Part}
 use Rattle.tg_base.specs.declared.marks.ReadMark.{ReadMark}
 use Rattle.tg_entry.specs.declared.entry.WriteOp.{WriteOp}
 use Rattle.tg_protocol.specs.Words.{first_some, where_true, has_oid}
-use Rattle.tg_protocol.specs.Entries.{sum_of, read_size, write_size, head_size}
-use Rattle.tg_protocol.specs.Transactions.{Tx, TxFault, TooMany, TooLarge, open_tx, has_read, with_read, tx_streams, record_size, too_large, read_fault, write_fault, tx_read, tx_put}
+use Rattle.tg_protocol.specs.Entries.{sum_of, read_size}
+use Rattle.tg_protocol.specs.Transactions.{Tx, TooMany, TooLarge, open_tx, has_read, with_read, tx_streams, record_size, too_large, read_fault, write_fault, tx_read, tx_put}
 use Rattle.tg_tx.specs.Pendings.{read_cmp, Rising, has_key}
 use Rattle.tg_tx.proofs.Sets.{rising_put, put_same, length_put, sum_put}
 use Rattle.tg_tx.proofs.Orders.{oid_total, read_total, with_read_is, has_read_is, with_oid_is}

@@ -1,10 +1,8 @@
 -- Through each of a client's turns: where it tells that no record is there, its walks are over, and there is none that is for it.
 use Rattle.std.proofs.Common.{◌≡◌, ℕ, ◌+◌, ◌<◌, ◌≤◌, List, [], ◌∷◌, Bool, true, false, refl, sym, ap, ◌∙◌, subst, arith, Option, Some, None}
-use Rattle.std.specs.Prelude.{not, nat_lt, ◌&&◌, ◌==◌, length, Contains, if◌then◌else◌}
+use Rattle.std.specs.Prelude.{not, nat_lt, ◌&&◌, ◌==◌, length, if◌then◌else◌}
 use Rattle.tg_base.specs.Layouts.{Layout}
-use Rattle.tg_base.specs.Changes.{Changed as Change}
 use Rattle.tg_base.specs.declared.cell.Cell.{Cell}
-use Rattle.tg_base.specs.declared.change.Join.{Join}
 use Rattle.tg_base.specs.declared.ids.NodeId.{NodeId}
 use Rattle.tg_base.specs.declared.ids.Oid.{Oid}
 use Rattle.tg_base.specs.declared.msg.Msg.{Msg}
@@ -18,8 +16,7 @@ use Rattle.tg_model.specs.declared.refusal.Refusal.{Refusal}
 use Rattle.tg_model.specs.declared.refusal.Refusal.TheVariants as cause
 use Rattle.tg_model.specs.declared.trace.What.TheVariants as told
 use Rattle.tg_model.specs.Kinds.{CommandOf, WhatOf, NoteOf}
-use Rattle.tg_base.specs.Orders.{node_eq, with_oid}
-use Rattle.tg_protocol.specs.Words.{layout_id}
+use Rattle.tg_base.specs.Orders.{with_oid}
 use Rattle.tg_entry.specs.Needs.{reads_of}
 use Rattle.tg_protocol.specs.Entries.{entry_size}
 use Rattle.tg_protocol.specs.Logs.{Log, entries_of}
@@ -34,13 +31,13 @@ use Rattle.tg_protocol.specs.Trimming as copying
 use Rattle.tg_protocol.specs.Reconfiguring.{Reconf, ReconfEnd, Installed, Overtaken, NotWhole, reconf_start, reconf_feed, reconf_latest}
 use Rattle.tg_protocol.specs.Views.{Entries, View, Play, play, Verdict, Commits, Aborts, Unknown, state_of, view_version, changed_in, unknown_in, verdict, view_outcome, fate_of}
 use Rattle.tg_protocol.specs.Checkpoints.{ForgetFault, NoCheckpoint, OpenDecision, checkpoint, may_forget}
-use Rattle.tg_protocol.specs.Past.{commit_at, PastTurn, PastView, PastGone, RescueTurn, Wider, Wide, Absent, StuckAt, Known, rescue_turn}
+use Rattle.tg_protocol.specs.Past.{commit_at, PastTurn, PastView, PastGone, RescueTurn, Wider, Wide, Absent, StuckAt, Known}
 use Rattle.tg_protocol.specs.Transactions.{Tx, open_tx, tx_read, tx_put, commit_record}
-use Rattle.tg_protocol.specs.Clients.{Purpose, Writes, Judged, Decides, Rescues, Saves, Marks, Task, Syncing, Walking, Appending, Trimming, Copying', Reconfiguring, Hand, Doing, Learning, Work, Client, number_on, write_of, all_entries, hosts_oid, refusal}
-use Rattle.tg_protocol.specs.Answers.{holds, Moved, moved, note, mark_record, keeps, pruned, replies, refuses, took_over, answers, closed, appends, syncs, walked, walked_for, view_or_new, own_view, play_target, played_on, answer_by, with_view, on_ask, ask_in, ask_answer, unsure, aborted, end_decided, end_aborted, end_no, end_by, end_record, on_end, lacks_decision, decides_if, decision, with_decision, forgotten_or, fate_verdict, fate_record, fate_known, fate_blocked, blocks, on_fate, decide_verdict, decide_record, decide_blocked, decide_played, on_decide, save_if, on_checkpoint, forget_by, on_forget, trim_next, trim_begun, trims_if, on_trim, past_answer, past_played, past_turn, ahead_or, on_ask_at, rescue_decision, rescue_known, absent, rescue_by, trim_above}
-use Rattle.tg_protocol.specs.ClientSteps.{plays_kept, task_in, task_awaited, task_asks, after_turn, met, goes_on, learns_for, lends, takes_back, found_by, start_walk, walks, lo_for, knows, sync_to, on_sync, stale, starts_over, gives_up, given_up_if, at_trim, walk_ended_by, walk_to, on_walk, knows_page, owns, record_lost, lost, page_known, decided_for, append_ended, append_to, on_append, trim_to, on_trims, copy_to, on_copy, stands, reconf_ended, reconf_to, on_reconf, task_feed, copies_again, task_again, on_newer, fed_if, hand_feed, latest_if, reply_feed, feed, new_work, hosts_more, puts, asked_of_state, asks_view, asks_by, asks, purpose_of, ends, accepts, refused_or}
+use Rattle.tg_protocol.specs.Clients.{Purpose, Writes, Judged, Decides, Rescues, Saves, Marks, Task, Syncing, Walking, Appending, Trimming, Copying', Reconfiguring, Hand, Doing, Learning, Work, Client, write_of, all_entries, hosts_oid}
+use Rattle.tg_protocol.specs.Answers.{Moved, moved, note, mark_record, keeps, pruned, replies, refuses, took_over, answers, closed, appends, syncs, walked, walked_for, view_or_new, own_view, play_target, played_on, answer_by, with_view, on_ask, ask_in, ask_answer, unsure, aborted, end_decided, end_aborted, end_no, end_by, end_record, on_end, lacks_decision, decides_if, decision, with_decision, forgotten_or, fate_verdict, fate_record, fate_known, fate_blocked, blocks, on_fate, decide_verdict, decide_record, decide_blocked, on_decide, save_if, on_checkpoint, forget_by, on_forget, trim_next, trim_begun, trims_if, on_trim, past_answer, past_played, past_turn, ahead_or, on_ask_at, rescue_decision, rescue_known, absent, rescue_by, trim_above}
+use Rattle.tg_protocol.specs.ClientSteps.{plays_kept, task_in, task_awaited, task_asks, after_turn, met, goes_on, lends, takes_back, found_by, start_walk, walks, lo_for, knows, sync_to, on_sync, stale, starts_over, gives_up, given_up_if, at_trim, walk_ended_by, walk_to, on_walk, knows_page, owns, page_known, decided_for, append_ended, append_to, on_append, trim_to, on_trims, copy_to, on_copy, stands, reconf_ended, reconf_to, on_reconf, task_feed, copies_again, task_again, on_newer, fed_if, hand_feed, latest_if, reply_feed, feed, new_work, hosts_more, puts, asked_of_state, asks_view, asks_by, asks, purpose_of, ends, accepts, refused_or}
 use Rattle.tg_protocol.specs.ClientSteps as step
-use Rattle.tg_protocol.specs.Causes.{IsFor, SaysNone}
+use Rattle.tg_protocol.specs.Causes.{SaysNone}
 use Rattle.tg_law_layouts.proofs.Moves.Draws.{NextDraws}
 use Rattle.tg_law_layouts.proofs.Moves.Machines.{append_draws, append_again_draws, sync_draws, sync_start_draws, walk_draws, walk_again_draws}
 use Rattle.tg_law_layouts.proofs.Moves.Turns.{Begins, begins_walk}
@@ -73,10 +70,7 @@ module _ (m : Meaning) where
 
 -- By the entries of a log, what a client got, and the number with which its command began.
 module _ (m : Meaning) (objects : List Oid) (l : Log) (byp : IsByPosition l) (Got : NodeId → ℕ → Msg → Type 0) (lo : ℕ) where
-  abbrev es : Entries
-  es = entries_of l
-
-  -- a tail was heard, and below it no commit record is there that is for the client, where the pages of its own records are known
+  -- a tail was told, and below it no commit record is there that is for the client, where the pages of its own records are known
   pub record NoneTold (d : Client m) (p : ℕ) : Type 0 where
     pub idle : d.work ≡ None
     pub tail : ℕ

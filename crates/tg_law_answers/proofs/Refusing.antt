@@ -1,8 +1,7 @@
 -- A command for whose refusal there is a cause at once is refused.
-use Rattle.std.proofs.Common.{◌≡◌, ◌⊎◌, ℕ, zero, suc, ◌+◌, ◌<◌, ◌≤◌, List, [], ◌∷◌, ◌++◌, length, map, Bool, true, false, refl, sym, ap, ◌∙◌, subst, inl, arith, Option, Some, None, is_some}
-use Rattle.std.specs.Prelude.{not, nat_lt, nat_le, ◌&&◌, IfSome}
+use Rattle.std.proofs.Common.{◌≡◌, ℕ, zero, suc, ◌<◌, ◌≤◌, List, [], ◌∷◌, ◌++◌, length, map, Bool, true, false, refl, sym, ap, ◌∙◌, subst, inl, arith, Option, Some, None, is_some}
+use Rattle.std.specs.Prelude.{not, nat_le, ◌&&◌, IfSome}
 use Rattle.std.proofs.lemmas.Bool.Decides.{nat_tests}
-use Rattle.std.proofs.lemmas.List.{length-append}
 use Rattle.tg_base.specs.Changes.{Changed as Change}
 use Rattle.tg_base.specs.Clusters.{Header}
 use Rattle.tg_base.specs.Layouts.{Layout, IsLayout}
@@ -17,29 +16,28 @@ use Rattle.tg_model.specs.declared.command.Event.TheVariants.{Command as Command
 use Rattle.tg_model.specs.declared.refusal.Refusal.{Refusal}
 use Rattle.tg_model.specs.declared.refusal.Refusal.TheVariants as cause
 use Rattle.tg_model.specs.declared.trace.What.TheVariants as told
-use Rattle.tg_model.specs.Kinds.{CommandOf, EventOf, NoteOf}
-use Rattle.tg_model.specs.Stores.{state_at}
+use Rattle.tg_model.specs.Kinds.{CommandOf, EventOf}
 use Rattle.tg_proj.specs.Next.{next_layout, next_ranges, opened_at}
 use Rattle.tg_proj.specs.Places.{chain_at}
 use Rattle.tg_proj.specs.Follows.{IsJoined}
 use Rattle.tg_proj.specs.Refusals.{early_refusal}
 use Rattle.tg_proj.specs.declared.fault.ProjFault.{ProjFault}
 use Rattle.tg_proj.proofs.Following.{next_follows}
-use Rattle.tg_protocol.specs.Words.{client_id, directory, numbers, first_some, where_true}
+use Rattle.tg_protocol.specs.Words.{client_id, numbers, first_some, where_true}
 use Rattle.tg_protocol.specs.Layouts.{next_of, change_fault}
-use Rattle.tg_protocol.specs.Transactions.{Tx, read_fault, write_fault, tx_streams}
-use Rattle.tg_protocol.specs.Clients.{Work, Client, new_client, busy, no_tx, tx_open, wrong_kind, not_registered, not_hosted, too_many_hosted, put_fault, ask_fault, by_tx, by_layout, copy_fault, write_of, tests, refusal, hosts_oid, number_on}
+use Rattle.tg_protocol.specs.Transactions.{Tx, read_fault, write_fault}
+use Rattle.tg_protocol.specs.Clients.{Work, Client, new_client, busy, no_tx, tx_open, wrong_kind, not_registered, not_hosted, too_many_hosted, put_fault, ask_fault, by_layout, copy_fault, write_of, tests, refusal, hosts_oid, number_on}
 use Rattle.tg_protocol.specs.Answers.{note}
 use Rattle.tg_protocol.specs.ClientSteps.{ClientTurn, refused_or, client_command}
-use Rattle.tg_protocol.specs.Worlds.{World, Told, start, client, history, runs, mark_of, noted_if, commands, client_turned, happens}
-use Rattle.tg_protocol.specs.Runs.{Moves, Reaches, LawfulEvent}
+use Rattle.tg_protocol.specs.Worlds.{World, Told, start, client, runs, mark_of, noted_if, commands, client_turned, happens}
+use Rattle.tg_protocol.specs.Runs.{Moves, Reaches}
 use Rattle.tg_protocol.specs.Playing.{Answers}
 use Rattle.tg_protocol.specs.Causes.{most, tx_reads, tx_writes, joined_chain, DirectoryTrue, is_of_tx, IsWrong, Names, AsksOf, reads_with, writes_with, hosted_with, ranges_with, units_with, would_be, layout_cause, CauseAtOnce, CausesRefuse, IsRefused}
 use Rattle.tg_law_layouts.specs.Moves.Configs.{Config, config, client_in}
 use Rattle.tg_law_layouts.proofs.Moves.Lists.{at_set, at_map, contained}
 use Rattle.tg_law_layouts.proofs.Moves.Moves.{ClientInput, Commanded, Hears', Ticks', Cases, run_keeps}
 use Rattle.tg_law_layouts.proofs.Layouts.Deciding.{layouts_are_known, layouts_are_sound}
-use Rattle.tg_law_answers.proofs.Limits.{IsWithin, IsLean, AreFew, first_none, untrue, none_within, read_lean, put_lean, host_few}
+use Rattle.tg_law_answers.proofs.Limits.{IsWithin, first_none, untrue, none_within, read_lean, put_lean, host_few}
 use Rattle.tg_law_answers.proofs.Limited.{MaybeLean, Limited, no_fault, commanded, delivered, ticked}
 
 -- The layout after a change, whatever its start.
