@@ -1,11 +1,9 @@
 -- What stays undecided has its cause: a read that is unknown, and no decision among the entries.
-use Rattle.std.proofs.Common.{◌≡◌, ◌⊎◌, ℕ, ◌+◌, ◌<◌, ◌≤◌, List, [], ◌∷◌, ◌++◌, map, Bool, true, false, refl, sym, ap, ◌∙◌, subst, inl, inr, arith, Option, Some, None}
-use Rattle.std.specs.Prelude.{Contains, nat_lt, ◌||◌, if◌then◌else◌}
-use Rattle.std.proofs.lemmas.Bool.Decides.{nat_tests}
+use Rattle.std.proofs.Common.{◌≡◌, ◌⊎◌, ℕ, ◌+◌, ◌<◌, List, [], ◌∷◌, ◌++◌, map, Bool, true, false, refl, sym, ap, ◌∙◌, subst, inl, inr, arith, Option, Some, None}
+use Rattle.std.specs.Prelude.{Contains, nat_lt, ◌||◌}
 use Rattle.tg_base.specs.Clusters.{Header}
 use Rattle.tg_base.specs.Orders.{oid_eq}
 use Rattle.tg_base.specs.declared.ids.Oid.{Oid}
-use Rattle.tg_base.specs.declared.msg.Msg.TheVariants as msg
 use Rattle.tg_entry.specs.declared.entry.Body.{Body}
 use Rattle.tg_entry.specs.declared.entry.Body.TheVariants.{Commit, Decision, Checkpoint}
 use Rattle.tg_entry.specs.declared.entry.Entry.{Entry}
@@ -20,25 +18,25 @@ use Rattle.tg_model.specs.Kinds.{CommandOf, EventOf, WhatOf, NoteOf}
 use Rattle.tg_protocol.specs.Words.{has_oid, or_else, cell_at, with_nums}
 use Rattle.tg_protocol.specs.Pages.{cell_entry}
 use Rattle.tg_protocol.specs.Entries.{is_commit, body_commits, decides, lists}
-use Rattle.tg_protocol.specs.Logs.{Log, entry_at, entries_of}
-use Rattle.tg_protocol.specs.Views.{Entries, Base, View, Play, base_of, decision_in, view_start, play}
-use Rattle.tg_protocol.specs.Checkpoints.{TrimPoints, trim_of, load_from, base_or}
-use Rattle.tg_protocol.specs.Past.{PastTurn, PastView, PastGone, StuckAt, last_base, past_base_or, past_base_by, past_base, past_play, past_or_gone, past_by, past_at, rescue_turn}
+use Rattle.tg_protocol.specs.Logs.{Log, entries_of}
+use Rattle.tg_protocol.specs.Views.{Entries, Base, View, Play, Aborts, decision_in, unknown_in, changed_in, verdict, view_start, play}
+use Rattle.tg_protocol.specs.Checkpoints.{TrimPoints, trim_of}
+use Rattle.tg_protocol.specs.Past.{commit_at, PastTurn, PastView, PastGone, StuckAt, last_base, past_base, past_play, past_or_gone, past_by, past_at, rescue_turn}
 use Rattle.tg_protocol.specs.Clients.{Work, Client, entries_at, hosts_oid, all_entries, member_entries, member_positions, below}
 use Rattle.tg_protocol.specs.Answers.{walked}
-use Rattle.tg_protocol.specs.Walked.{Walked, walked_in, entries_had}
+use Rattle.tg_protocol.specs.Walked.{Walked, walked_in}
 use Rattle.tg_protocol.specs.Worlds.{World, Told, client, log, happens}
-use Rattle.tg_protocol.specs.Alike.{SentNow, HasEntry}
+use Rattle.tg_protocol.specs.Alike.{HasEntry}
 use Rattle.tg_protocol.specs.Playing.{Replies}
 use Rattle.tg_protocol.specs.Stuck.{WalkMetTrim, command_in}
-use Rattle.tg_protocol.specs.Causes.{HasReadOf, IsBelowTail, IsFor, IsUnknown, LacksDecision, IsOutOfReach, CantKnow, given_in, command_at, HasCause, IsUnsure}
+use Rattle.tg_protocol.specs.Causes.{HasReadOf, IsFor, IsUnknown, LacksDecision, IsOutOfReach, CantKnow, given_in, command_at, HasCause, IsUnsure}
 use Rattle.tg_protocol.specs.Runs.{Moves, Takes, Reaches, LawfulEvent, most_steps}
 use Rattle.tg_law_layouts.specs.Moves.After.{after}
 use Rattle.tg_law_replies.specs.History.Worlds.{entries_in}
 use Rattle.tg_law_replies.specs.Plays.Sound.{base_among}
 use Rattle.tg_law_replies.specs.Replies.Ended.{AppendsEnd}
+use Rattle.tg_law_replies.specs.Replies.Laws.{ClientsFind}
 use Rattle.tg_law_replies.proofs.History.Members.{Has, has_contained, contained_has, has_kept, oid_itself}
-use Rattle.tg_law_replies.proofs.Views.Bases.{oid_loaded}
 use Rattle.tg_law_replies.proofs.Views.Judges.{mine_below}
 use Rattle.tg_law_replies.proofs.Views.Settled.{plays_further}
 use Rattle.tg_law_walks.specs.Lists.Spared.{TrimsWereSpare}
@@ -51,13 +49,14 @@ use Rattle.tg_law_walks.proofs.Walks.Saves.{entries_have, have_entries}
 use Rattle.tg_law_walks.proofs.Walks.Syncs.{logs_by_position}
 use Rattle.tg_law_syncs.proofs.Exact.Finds.{rounds_exact}
 use Rattle.tg_law_trims.proofs.Leaves.Leaving.{mine_of}
-use Rattle.tg_law_causes.specs.Undecidings.{UndecidedTrue, UnsureBelowTrue}
+use Rattle.tg_law_causes.specs.Undecidings.{UndecidedTrue, LacksRecord, UnsureUnlessLacking}
 use Rattle.tg_law_causes.proofs.EndsGive.{ends_give}
-use Rattle.tg_law_causes.proofs.Stalling.{Plain, PlaysKept, widens, Unknowns, IsBlocked, blocked_there, EachOk, Cases, SeenBy, Said, hosted_entries, kept_play, walked_so}
-use Rattle.tg_law_causes.proofs.HeardAlong.{Met, linked, Tail}
+use Rattle.tg_law_causes.proofs.Judging.{never_unchanged}
+use Rattle.tg_law_causes.proofs.Stalling.{Plain, PlaysKept, widens, Unknowns, IsBlocked, blocked_there, EachOk, SeenBy, Said, hosted_entries, kept_play, walked_so}
+use Rattle.tg_law_causes.proofs.HeardAlong.{Met}
 use Rattle.tg_law_causes.proofs.OwnAlong.{owns_commit}
 use Rattle.tg_law_causes.proofs.PastBases.{past_oid, past_up}
-use Rattle.tg_law_causes.proofs.Rescuing.{has_oid_has, trim_has, reads_trimmed, none_among, playing, IsStuck, rescue_stuck, stuck_trimmed}
+use Rattle.tg_law_causes.proofs.Rescuing.{has_oid_has, trim_has, reads_trimmed, none_among, playing, rescue_stuck, stuck_trimmed}
 use Rattle.tg_law_causes.proofs.Stalled.{goes_reach, command_waits, AtWalksEnd, undecided_ends, met_of}
 
 has_has_oid : (o : Oid) (os : List Oid) → Has os o → has_oid o os ≡ true
@@ -222,7 +221,9 @@ module _ (m : Meaning) (h : Header) (ms : Moves m) (e : EventOf m) (r : Reaches 
     past_cant d now hosted narrow = (blocked.below, read_of _ (play m started (member_entries m k.end.client k.end.work k.end.work.oids) p).view q b blocked.unknowns, out_of_reach d now hosted narrow)
 
   -- The client's own records decide nothing.
-  module _ (owns : (q : ℕ) (d : Entry) → Contains k.end.client.own q → HasEntry m (after m h (ms ++ Takes e ∷ [])) q d → is_commit d ≡ true) where
+  module _ (owns : (q : ℕ) (d : Entry) → Contains k.end.client.own q → HasEntry m (after m h (ms ++ Takes e ∷ [])) q d → is_commit d ≡ true)
+      (changed : k.end.work.command ≡ cmd.End → (n : ℕ) (d : Entry) → (kept_play m k.end.client k.end.work).came ≡ Played n → commit_at (hosted_entries m k.end.client k.end.work) k.end.work.at ≡ Some d → verdict m (kept_play m k.end.client k.end.work).view (hosted_entries m k.end.client k.end.work) k.end.work.at d ≡ Aborts
+      → unknown_in m (kept_play m k.end.client k.end.work).view (reads_of d) k.end.work.at ≡ None → changed_in m (kept_play m k.end.client k.end.work).view (reads_of d) k.end.work.at ≡ None → ⊥) where
     none_decides : (es fs : Entries) (p : ℕ) → ((y : ℕ × Entry) → Has es y → Has fs y ⊎ (is_commit y.1 ≡ true)) → decision_in fs p ≡ None → decision_in es p ≡ None
     unfolding decision_in
     none_decides [] fs p f none = refl
@@ -267,7 +268,7 @@ module _ (m : Meaning) (h : Header) (ms : Moves m) (e : EventOf m) (r : Reaches 
 
     abbrev Ok : Client m → WhatOf m → Type 0
     Ok d (told.Refused (cause.Undecided p o)) = client m (after m h (ms ++ Takes e ∷ [])) t.mark.client ≡ record d { calls = d.calls + 1 } → Later p o
-    Ok d (told.Unsure a p) = p < a → client m (after m h (ms ++ Takes e ∷ [])) t.mark.client ≡ record d { calls = d.calls + 1 } → IsUnsure m (after m h ms) e t a p
+    Ok d (told.Unsure a p) = client m (after m h (ms ++ Takes e ∷ [])) t.mark.client ≡ record d { calls = d.calls + 1 } → IsUnsure m (after m h ms) e t a p ⊎ ((p ≡ a) × LacksRecord m (after m h ms) e t a)
     Ok d what = Unit {0}
 
     ok_plain : (d : Client m) (what : WhatOf m) → Plain m what → Ok d what
@@ -301,14 +302,21 @@ module _ (m : Meaning) (h : Header) (ms : Moves m) (e : EventOf m) (r : Reaches 
     said : Said m Ok ok_plain (walked m k.end.client k.end.work)
     said = walked_so m Ok ok_plain k.end.client k.end.work (record {
       undecided = λ d p o kept s n none now. kept_later d p o kept s n none now;
-      unsure = λ d q o ending s n le f less now. record {
+      unsure = λ d q o ending s n le f now. inl (record {
         upto = le;
         missing = o;
         unknown = subst (λ (u : World m). IsUnknown m u t q o) (then_takes m h ms e) (unknown_of d q o now s n);
         lacks = λ l. lacks_own q (ap (λ (y : CommandOf m). widens m y) ending) (f l);
-      };
-      none = λ d a ending came f less now. absurd (omega (arith, less));
-      same = λ d a y ending came at says known eq less now. absurd (omega (arith, less));
+      });
+      none = λ d a ending came none now. inr (
+        refl,
+        record {
+          had = k.end;
+          walked = k.ended;
+          none = subst (λ (os : List Oid). commit_at (all_entries m k.end.client k.end.work os) k.end.work.at ≡ None) (sym (k.heard.streams (ap (λ (y : CommandOf m). widens m y) ending))) none;
+        },
+      );
+      same = λ d a y ending came at says known eq now. absurd (changed ending a y came at says known eq);
       past = λ d p o z u q b is hosted view came now. past_later d p o z u q b is hosted view came now;
       rescue = λ d a q b is turn now. rescue_later a q b is turn;
     })
@@ -327,9 +335,9 @@ module _ (m : Meaning) (h : Header) (ms : Moves m) (e : EventOf m) (r : Reaches 
     now_at : client m (after m h (ms ++ Takes e ∷ [])) t.mark.client ≡ record (walked m k.end.client k.end.work).now { calls = (walked m k.end.client k.end.work).now.calls + 1 }
     now_at = subst (λ (u : World m). client m u t.mark.client ≡ record (walked m k.end.client k.end.work).now { calls = (walked m k.end.client k.end.work).now.calls + 1 }) (sym (then_takes m h ms e)) k.now
 
-    pub is_unsure : (a p : ℕ) → t.mark.what ≡ told.Unsure a p → p < a → IsUnsure m (after m h ms) e t a p
-    is_unsure a p what less = subst (λ (y : WhatOf m). Ok (walked m k.end.client k.end.work).now y) (sym k.is ∙ what)
-        (each_has (walked m k.end.client k.end.work).now (walked m k.end.client k.end.work).notes k.note said.notes k.here) less now_at
+    pub is_unsure : (a p : ℕ) → t.mark.what ≡ told.Unsure a p → IsUnsure m (after m h ms) e t a p ⊎ ((p ≡ a) × LacksRecord m (after m h ms) e t a)
+    is_unsure a p what = subst (λ (y : WhatOf m). Ok (walked m k.end.client k.end.work).now y) (sym k.is ∙ what)
+        (each_has (walked m k.end.client k.end.work).now (walked m k.end.client k.end.work).notes k.note said.notes k.here) now_at
 
     pub has_cause : (p : ℕ) (o : Oid) → t.mark.what ≡ told.Refused (cause.Undecided p o) → HasCause m (after m h ms) e t (cause.Undecided p o)
     has_cause p o what =
@@ -338,7 +346,7 @@ module _ (m : Meaning) (h : Header) (ms : Moves m) (e : EventOf m) (r : Reaches 
         record { command = k.end.work.command; answered = waited; because = inr (subst (λ (u : World m). CantKnow m k.end.work.command u t p o) (then_takes m h ms e) later.0, later.1) }
 
 -- Of a step of a run in which trims were spare and appends end where they say.
-module _ (m : Meaning) (h : Header) (ms : Moves m) (e : EventOf m) (r : Reaches m h (ms ++ Takes e ∷ []) (after m h (ms ++ Takes e ∷ []))) (trims : TrimsWereSpare m h (ms ++ Takes e ∷ [])) (ends : AppendsEnd m h (ms ++ Takes e ∷ []) (after m h (ms ++ Takes e ∷ []))) where
+module _ (m : Meaning) (h : Header) (ms : Moves m) (e : EventOf m) (r : Reaches m h (ms ++ Takes e ∷ []) (after m h (ms ++ Takes e ∷ []))) (trims : TrimsWereSpare m h (ms ++ Takes e ∷ [])) (ends : AppendsEnd m h (ms ++ Takes e ∷ []) (after m h (ms ++ Takes e ∷ []))) (finds : ClientsFind m h (ms ++ Takes e ∷ []) (after m h (ms ++ Takes e ∷ []))) where
   owns_of : (t : Told m) (k : AtWalksEnd m h ms e r trims t) (q : ℕ) (d : Entry) → Contains k.end.client.own q → HasEntry m (after m h (ms ++ Takes e ∷ [])) q d → is_commit d ≡ true
   owns_of t k q d i at = owns_commit m h (ms ++ Takes e ∷ []) r ends ms [] e refl t.mark.client k.end k.ended q d i at
 
@@ -346,20 +354,23 @@ module _ (m : Meaning) (h : Header) (ms : Moves m) (e : EventOf m) (r : Reaches 
   end_of t replies some = undecided_ends m h ms e r trims replies.replies t replies.are (has_contained replies.replies t replies.here) some
 
   undecided_there : UndecidedTrue m (after m h ms) e
-  undecided_there t p o replies what = let k = end_of t replies (λ plain. subst (Plain m) what plain) in has_cause m h ms e r trims t k (owns_of t k) p o what
+  undecided_there t p o replies what = let k = end_of t replies (λ plain. subst (Plain m) what plain) in has_cause m h ms e r trims t k (owns_of t k) (never_unchanged m h ms e r finds ends t.mark.client k.end k.ended) p o what
 
-  unsure_there : UnsureBelowTrue m (after m h ms) e
-  unsure_there t a p replies what less = let k = end_of t replies (λ plain. subst (Plain m) what plain) in is_unsure m h ms e r trims t k (owns_of t k) a p what less
+  unsure_there : UnsureUnlessLacking m (after m h ms) e
+  unsure_there t a p replies what = let k = end_of t replies (λ plain. subst (Plain m) what plain) in is_unsure m h ms e r trims t k (owns_of t k) (never_unchanged m h ms e r finds ends t.mark.client k.end k.ended) a p what
 
-module _ (m : Meaning) (h : Header) (ms : Moves m) (w : World m) (e : EventOf m) (r : Reaches m h ms w) (lawful : LawfulEvent m h e) (few : w.steps < most_steps) (trims : TrimsWereSpare m h (ms ++ Takes e ∷ [])) (ends : AppendsEnd m h (ms ++ Takes e ∷ []) (happens m w e)) where
+module _ (m : Meaning) (h : Header) (ms : Moves m) (w : World m) (e : EventOf m) (r : Reaches m h ms w) (lawful : LawfulEvent m h e) (few : w.steps < most_steps) (trims : TrimsWereSpare m h (ms ++ Takes e ∷ [])) (ends : AppendsEnd m h (ms ++ Takes e ∷ []) (happens m w e)) (finds : ClientsFind m h (ms ++ Takes e ∷ []) (happens m w e)) where
   reach : Reaches m h (ms ++ Takes e ∷ []) (after m h (ms ++ Takes e ∷ []))
   reach = let g = goes_reach m h ms w e r lawful few in subst (Reaches m h (ms ++ Takes e ∷ [])) g.goes.is g
 
   ends_there : AppendsEnd m h (ms ++ Takes e ∷ []) (after m h (ms ++ Takes e ∷ []))
   ends_there = let g = goes_reach m h ms w e r lawful few in subst (AppendsEnd m h (ms ++ Takes e ∷ [])) g.goes.is ends
 
-  pub undecided_true : UndecidedTrue m w e
-  undecided_true = subst (λ (u : World m). UndecidedTrue m u e) (sym r.goes.is) (undecided_there m h ms e reach trims ends_there)
+  finds_there : ClientsFind m h (ms ++ Takes e ∷ []) (after m h (ms ++ Takes e ∷ []))
+  finds_there = let g = goes_reach m h ms w e r lawful few in subst (ClientsFind m h (ms ++ Takes e ∷ [])) g.goes.is finds
 
-  pub unsure_below_true : UnsureBelowTrue m w e
-  unsure_below_true = subst (λ (u : World m). UnsureBelowTrue m u e) (sym r.goes.is) (unsure_there m h ms e reach trims ends_there)
+  pub undecided_true : UndecidedTrue m w e
+  undecided_true = subst (λ (u : World m). UndecidedTrue m u e) (sym r.goes.is) (undecided_there m h ms e reach trims ends_there finds_there)
+
+  pub unsure_unless_lacking : UnsureUnlessLacking m w e
+  unsure_unless_lacking = subst (λ (u : World m). UnsureUnlessLacking m u e) (sym r.goes.is) (unsure_there m h ms e reach trims ends_there finds_there)

@@ -1,7 +1,7 @@
 -- Along a run: the tail that each client's command was told since it began, and the trims that its walks have met, by the packets and
 -- the log of the world to which the run comes.
-use Rattle.std.proofs.Common.{◌≡◌, ◌⊎◌, ℕ, ◌+◌, ◌<◌, ◌≤◌, List, [], ◌∷◌, ◌++◌, map, Bool, true, false, refl, sym, ap, ◌∙◌, subst, inl, inr, arith, cond, Option, Some, None}
-use Rattle.std.specs.Prelude.{Contains, ◌==◌, if◌then◌else◌}
+use Rattle.std.proofs.Common.{◌≡◌, ℕ, ◌+◌, ◌≤◌, List, [], ◌∷◌, ◌++◌, Bool, true, false, refl, sym, ap, ◌∙◌, subst, inl, inr, arith, cond, Option, Some, None}
+use Rattle.std.specs.Prelude.{◌==◌, if◌then◌else◌}
 use Rattle.tg_base.specs.Clusters.{Header}
 use Rattle.tg_base.specs.Layouts.{Layout}
 use Rattle.tg_base.specs.Orders.{oid_eq, node_eq, role_number}
@@ -13,28 +13,26 @@ use Rattle.tg_base.specs.declared.msg.Msg.TheVariants as msg
 use Rattle.tg_base.specs.declared.packet.Out.{Out}
 use Rattle.tg_base.specs.declared.packet.Packet.{Packet}
 use Rattle.tg_kind.specs.Meaning.{Meaning}
-use Rattle.tg_model.specs.declared.command.Event.TheVariants.{Deliver}
 use Rattle.tg_model.specs.declared.trace.What.TheVariants as told
-use Rattle.tg_model.specs.Kinds.{EventOf, NoteOf}
+use Rattle.tg_model.specs.Kinds.{EventOf}
 use Rattle.tg_protocol.specs.Words.{client_id, unit_id, seqr_id, numbers}
-use Rattle.tg_protocol.specs.Requests.{out, awaits, Ends}
-use Rattle.tg_protocol.specs.Replies.{Reply, IsTail, reply}
-use Rattle.tg_protocol.specs.Cells.{CellJob, Gone, cell_asks, cell_feed}
+use Rattle.tg_protocol.specs.Requests.{out, awaits}
+use Rattle.tg_protocol.specs.Replies.{reply}
+use Rattle.tg_protocol.specs.Cells.{CellJob, cell_asks}
 use Rattle.tg_protocol.specs.Entries.{link_of, backs_of}
-use Rattle.tg_protocol.specs.Syncing.{SyncWork, Checking, Settling, Probing, Sync, sync_work_asks, sync_asks}
-use Rattle.tg_protocol.specs.Walking.{Walk, job_asks, trail, next_of_trail}
+use Rattle.tg_protocol.specs.Syncing.{SyncWork, Checking, Settling, Probing, Sync, sync_work_asks}
+use Rattle.tg_protocol.specs.Walking.{Walk, job_asks}
 use Rattle.tg_protocol.specs.Logs.{Log, path_on, path}
 use Rattle.tg_protocol.specs.Clients.{Task, Syncing, Walking, Appending, Trimming, Copying', Reconfiguring, Hand, Doing, Work, Client, new_client, refusal}
 use Rattle.tg_protocol.specs.Answers.{Moved, walked}
-use Rattle.tg_protocol.specs.ClientSteps.{ClientTurn, task_asks, task_awaited, task_in, lasts_of, feed, client_command, client_deliver, client_tick, tick_by}
+use Rattle.tg_protocol.specs.ClientSteps.{ClientTurn, task_asks, task_awaited, feed, client_command, client_deliver, client_tick, tick_by}
 use Rattle.tg_protocol.specs.Walked.{Walked, work_end, packet_end, walked_in}
 use Rattle.tg_protocol.specs.Worlds.{CommandStart, World, Told, start, client, noted_of, log, happens, runs}
-use Rattle.tg_protocol.specs.Chosen.{Sent}
 use Rattle.tg_protocol.specs.Alike.{SentNow}
 use Rattle.tg_protocol.specs.Stuck.{asks_for, WalkMetTrim}
 use Rattle.tg_protocol.specs.Runs.{Move, Moves, Next, Takes, Reaches, Later, run}
 use Rattle.tg_law_layouts.specs.Moves.After.{after}
-use Rattle.tg_law_layouts.specs.Moves.Configs.{config, client_in}
+use Rattle.tg_law_layouts.specs.Moves.Configs.{config}
 use Rattle.tg_law_layouts.proofs.Moves.Lists.{contained, at_map, at_replicate}
 use Rattle.tg_law_layouts.proofs.Moves.Members.{Has}
 use Rattle.tg_law_layouts.proofs.Moves.Moves.{ClientInput, Commanded, Hears', Ticks', run_keeps}
@@ -44,11 +42,11 @@ use Rattle.tg_law_layouts.proofs.Requests.Starts.{All, all_keeps, start_all}
 use Rattle.tg_law_layouts.proofs.Layouts.Layouts.{stays_sent}
 use Rattle.tg_law_cells.proofs.Cells.Justified.{Awaited, awaited_ask}
 use Rattle.tg_law_replies.proofs.History.Members.{same_oid, number_same, both_and}
-use Rattle.tg_law_replies.proofs.Books.Worlds.{nil_right, regroup, run_both}
+use Rattle.tg_law_replies.proofs.Books.Worlds.{run_both}
 use Rattle.tg_law_walks.specs.Lists.Spared.{TrimsWereSpare}
 use Rattle.tg_law_walks.specs.Walks.Rounds.{IsAtWork}
 use Rattle.tg_law_walks.specs.Walks.Streams.{AreLinked}
-use Rattle.tg_law_walks.specs.Walks.Ends.{TaskEndsAs, HandEndsAs, WorkEndsAs}
+use Rattle.tg_law_walks.specs.Walks.Ends.{TaskEndsAs, HandEndsAs}
 use Rattle.tg_law_walks.proofs.Drafts.Written.{then_next, then_takes}
 use Rattle.tg_law_walks.proofs.Once.Along.{on_moves}
 use Rattle.tg_law_walks.proofs.Lists.Reached.{before_reached}
@@ -57,11 +55,11 @@ use Rattle.tg_law_walks.proofs.Lists.Telling.{entries_are_good}
 use Rattle.tg_law_syncs.proofs.Exact.Exact.{work_ends}
 use Rattle.tg_law_syncs.proofs.Exact.Held.{goes_on, clients_work}
 use Rattle.tg_law_headline.proofs.Alike.Appends.{is_tail}
-use Rattle.tg_law_headline.proofs.Alike.Speaks.{Noted, Before, Anew, Delivered, From, Speaks, Silent, Speaks', Turns, told_of, speaks}
-use Rattle.tg_law_causes.proofs.OnPaths.{IsRead, AsksUnit, job_reads}
+use Rattle.tg_law_headline.proofs.Alike.Speaks.{Noted, Before, Anew, Delivered, From, Speaks, Silent, Speaks', Turns, speaks}
+use Rattle.tg_law_causes.proofs.OnPaths.{AsksUnit, job_reads}
 use Rattle.tg_law_causes.proofs.Refusing.{fine_refusal}
 use Rattle.tg_law_causes.proofs.Stalling.{PlainNotes}
-use Rattle.tg_law_causes.proofs.Hearing.{AnswerTells, WorkHeld, TaskHeld, Good, EndOk, Comes, Plainly, Ended, comes_held, MetsBy, TaskHears, feed_comes, command_good}
+use Rattle.tg_law_causes.proofs.Hearing.{AnswerTells, WorkHeld, EndOk, Comes, Plainly, Ended, comes_held, MetsBy, TaskHears, feed_comes, command_good}
 
 -- a stream's link is one of the links
 link_found : (o : Oid) (ls : List StreamLink) (x : StreamLink) → link_of o ls ≡ Some x → Has ls x × (x.oid ≡ o)

@@ -1,7 +1,7 @@
 -- Through each of a client's turns: the tail that its command was told, and the trims that its walks have met; and where it tells of
 -- something undecided, its walks are over.
-use Rattle.std.proofs.Common.{◌≡◌, ◌⊎◌, ℕ, ◌+◌, ◌-◌, ◌<◌, ◌≤◌, List, [], ◌∷◌, length, Bool, true, false, refl, sym, ap, ◌∙◌, subst, inl, inr, arith, Option, Some, None}
-use Rattle.std.specs.Prelude.{Contains, not, max, nat_lt, ◌&&◌, ◌==◌, if◌then◌else◌}
+use Rattle.std.proofs.Common.{◌≡◌, ◌⊎◌, ℕ, ◌+◌, ◌-◌, ◌≤◌, List, [], ◌∷◌, length, Bool, true, false, refl, sym, ◌∙◌, subst, inl, inr, arith, Option, Some, None}
+use Rattle.std.specs.Prelude.{Contains, not, nat_lt, ◌&&◌, ◌==◌, if◌then◌else◌}
 use Rattle.tg_base.specs.Layouts.{Layout}
 use Rattle.tg_base.specs.Changes.{Changed as Change}
 use Rattle.tg_base.specs.declared.cell.Cell.{Cell}
@@ -9,7 +9,6 @@ use Rattle.tg_base.specs.declared.change.Join.{Join}
 use Rattle.tg_base.specs.declared.ids.NodeId.{NodeId}
 use Rattle.tg_base.specs.declared.ids.Oid.{Oid}
 use Rattle.tg_base.specs.declared.marks.StreamLink.{StreamLink}
-use Rattle.tg_base.specs.declared.msg.Msg.{Msg}
 use Rattle.tg_base.specs.declared.packet.Out.{Out}
 use Rattle.tg_entry.specs.declared.entry.Entry.{Entry}
 use Rattle.tg_kind.specs.Meaning.{Meaning}
@@ -21,11 +20,11 @@ use Rattle.tg_model.specs.Kinds.{CommandOf, WhatOf, NoteOf}
 use Rattle.tg_base.specs.Orders.{node_eq, with_oid}
 use Rattle.tg_protocol.specs.Words.{layout_id, cell_at}
 use Rattle.tg_protocol.specs.Requests.{awaits, Next, Goes, Learns, Ends, Turn}
-use Rattle.tg_protocol.specs.Replies.{Reply, IsLatest, IsTail, reply}
+use Rattle.tg_protocol.specs.Replies.{Reply, IsLatest, IsTail}
 use Rattle.tg_protocol.specs.Replies as replied
 use Rattle.tg_protocol.specs.Cells.{CellJob, CellEnd, Done, Seen, Lost, Fenced, Gone, place_in, fill_cell, probe, cell_feed, cell_asks}
 use Rattle.tg_protocol.specs.Appending.{Append, AppendEnd, At, Full, Forgotten, names_all, on_older, on_newer as on_newer_epoch, append_start, append_feed, append_again}
-use Rattle.tg_protocol.specs.Syncing.{Answer, SyncWork, Checking, Settling, Probing, Sync, Confirmed, sync_start, sync_feed, sync_again, probe_next, settle_next, confirm_by, on_tail, checking_feed}
+use Rattle.tg_protocol.specs.Syncing.{Answer, SyncWork, Checking, Settling, Probing, Sync, Confirmed, sync_start, sync_feed, probe_next, settle_next, confirm_by, on_tail, checking_feed}
 use Rattle.tg_protocol.specs.Walking.{Walk, Members, walk_feed, walk_again}
 use Rattle.tg_protocol.specs.Trimming.{Trims, Trimmed, trim_start, trim_feed, Copying, CopyEnd, copy_start, copy_feed}
 use Rattle.tg_protocol.specs.Trimming as copying
@@ -34,9 +33,9 @@ use Rattle.tg_protocol.specs.Entries.{link_of, backs_of}
 use Rattle.tg_protocol.specs.Logs.{Log, path}
 use Rattle.tg_protocol.specs.Views.{View, state_of, view_version}
 use Rattle.tg_protocol.specs.Transactions.{Tx, open_tx, tx_read, tx_put, commit_record}
-use Rattle.tg_protocol.specs.Clients.{Purpose, Writes, Judged, Decides, Rescues, Saves, Marks, Task, Syncing, Walking, Appending, Trimming, Copying', Reconfiguring, Hand, Doing, Learning, Work, Client, number_on, write_of, hosts_oid, copy_fault, refusal}
+use Rattle.tg_protocol.specs.Clients.{Purpose, Writes, Judged, Decides, Rescues, Saves, Marks, Task, Syncing, Walking, Appending, Trimming, Copying', Reconfiguring, Hand, Doing, Learning, Work, Client, write_of, hosts_oid, copy_fault}
 use Rattle.tg_protocol.specs.Answers.{Moved, moved, note, replies, refuses, answers, took_over, closed, appends, syncs, trim_begun, walked, with_view}
-use Rattle.tg_protocol.specs.ClientSteps.{task_in, task_awaited, after_turn, met, goes_on, learns_for, lends, takes_back, found_by, start_walk, walks, lasts_of, trims_with, lo_for, knows, synced, sync_to, on_sync, stale, starts_over, gives_up, given_up_if, at_trim, walk_ended_by, walk_to, on_walk, knows_page, owns, tx_of, record_lost, lost, page_known, decided_for, append_ended, append_to, on_append, trim_to, on_trims, copy_to, on_copy, stands, reconf_ended, reconf_to, on_reconf, task_feed, copies_again, task_again, on_newer, fed_if, hand_feed, latest_if, reply_feed, feed, new_work, hosts_more, puts, asked_of_state, asks_view, asks_by, asks, purpose_of, ends, accepts, refused_or}
+use Rattle.tg_protocol.specs.ClientSteps.{task_in, task_awaited, after_turn, met, goes_on, learns_for, lends, takes_back, found_by, start_walk, walks, lasts_of, trims_with, lo_for, knows, sync_to, on_sync, stale, gives_up, given_up_if, at_trim, walk_ended_by, walk_to, on_walk, knows_page, owns, tx_of, page_known, decided_for, append_ended, append_to, on_append, trim_to, on_trims, copy_to, on_copy, stands, reconf_ended, reconf_to, on_reconf, task_feed, copies_again, task_again, on_newer, fed_if, hand_feed, latest_if, reply_feed, feed, new_work, hosts_more, puts, asked_of_state, asks_view, asks_by, asks, purpose_of, ends, accepts, refused_or}
 use Rattle.tg_protocol.specs.ClientSteps as step
 use Rattle.tg_protocol.specs.Walked.{Walked, walks_end, sync_end, trim_end, walked_end, walk_end, task_end, again_end, hand_end, reply_end, work_end}
 use Rattle.tg_law_layouts.proofs.Moves.Turns.{Begins, begins_walk}
@@ -44,15 +43,15 @@ use Rattle.tg_law_layouts.proofs.Moves.Machines.{append_draws, append_again_draw
 use Rattle.tg_law_layouts.proofs.Moves.Draws.{NextDraws}
 use Rattle.tg_law_layouts.proofs.Moves.Members.{Has, has_either}
 use Rattle.tg_law_replies.proofs.History.Members.{contained_has}
-use Rattle.tg_law_walks.specs.Walks.Streams.{AreFalling, AreKnown, AreLinked, IsGood}
+use Rattle.tg_law_walks.specs.Walks.Streams.{AreFalling, AreKnown, AreLinked}
 use Rattle.tg_law_walks.specs.Walks.Walks.{JobEndsAs}
 use Rattle.tg_law_walks.specs.Walks.Rounds.{round, IsAtWalk, IsAtTask, IsAtWork}
 use Rattle.tg_law_walks.specs.Walks.Laws.{SyncEndsAs}
 use Rattle.tg_law_walks.proofs.Walks.Cells.{more_known}
 use Rattle.tg_law_syncs.proofs.Known.Ways.{Came, Rests, Appends, Syncs, Trims as Trims', WalkedWay, Plays, LeavesView, played_view, walked_way}
-use Rattle.tg_law_causes.proofs.OnPaths.{IsRead, JobOn, IsOnPath, next_on_path, WalkSo, WalkOn, NextOn, start_on, again_on, feed_on}
+use Rattle.tg_law_causes.proofs.OnPaths.{IsRead, next_on_path, WalkOn, NextOn, start_on, again_on, feed_on}
 use Rattle.tg_law_causes.proofs.Refusing.{NotUndecided, Fine, fine_copy}
-use Rattle.tg_law_causes.proofs.Stalling.{Plain, PlainNotes, PlainPurpose, PlainTask, PlainWork, widens, StreamsFit, WorkStreams, Said, walked_so}
+use Rattle.tg_law_causes.proofs.Stalling.{Plain, PlainNotes, PlainPurpose, PlainWork, widens, StreamsFit, WorkStreams, Said, walked_so}
 
 -- a turn draws no number below its next
 up_of : {M E : Type 0} → (asks : M → List Out) (old : List Out) (next : ℕ) (bs : List Out) (end : ℕ) (to : Next M E) → NextDraws asks old next bs end to → next ≤ end

@@ -1,6 +1,5 @@
 -- Where a transaction's record is among its client's entries, and a decision record says no: a read has changed, or is unknown.
-use Rattle.std.proofs.Common.{◌≡◌, ◌⊎◌, ℕ, ◌≤◌, List, [], ◌∷◌, ◌++◌, Bool, true, false, refl, sym, ap, ◌∙◌, subst, inl, inr, Option, Some, None}
-use Rattle.std.specs.Prelude.{Contains}
+use Rattle.std.proofs.Common.{◌≡◌, ◌⊎◌, ℕ, [], ◌∷◌, ◌++◌, Bool, true, false, refl, sym, ap, ◌∙◌, subst, inl, inr, Option, Some, None}
 use Rattle.tg_base.specs.Clusters.{Header}
 use Rattle.tg_base.specs.declared.cell.Cell.{Cell}
 use Rattle.tg_base.specs.declared.ids.Oid.{Oid}
@@ -13,17 +12,16 @@ use Rattle.tg_model.specs.declared.command.Command.TheVariants as cmd
 use Rattle.tg_model.specs.declared.play.PlayEnd.TheVariants.{Played}
 use Rattle.tg_protocol.specs.Words.{client_id}
 use Rattle.tg_protocol.specs.Replies.{reply}
-use Rattle.tg_protocol.specs.Entries.{is_commit}
 use Rattle.tg_protocol.specs.Versions.{Changed}
-use Rattle.tg_protocol.specs.Views.{Entries, Base, View, Verdict, Commits, Aborts, base_of, decision_in, unknown_in, changed_in, by_changes, by_versions, verdict}
+use Rattle.tg_protocol.specs.Views.{Entries, View, Commits, Aborts, decision_in, unknown_in, changed_in, by_changes, by_versions, verdict}
 use Rattle.tg_protocol.specs.Checkpoints.{view_bases}
 use Rattle.tg_protocol.specs.Past.{commit_at}
-use Rattle.tg_protocol.specs.Clients.{Task, Syncing, Walking, Appending, Trimming, Copying', Reconfiguring, Doing, Work, Client}
+use Rattle.tg_protocol.specs.Clients.{Task, Syncing, Walking, Appending, Trimming, Copying', Reconfiguring, Work, Client}
 use Rattle.tg_protocol.specs.Answers.{play_target, view_or_new}
 use Rattle.tg_protocol.specs.ClientSteps.{task_in, knows, given_up_if}
 use Rattle.tg_protocol.specs.Walked.{Walked, walked_in}
 use Rattle.tg_protocol.specs.Worlds.{World, start, client}
-use Rattle.tg_protocol.specs.Runs.{Moves, Takes, Reaches, run}
+use Rattle.tg_protocol.specs.Runs.{Moves, Takes, Reaches}
 use Rattle.tg_law_layouts.specs.Moves.After.{after}
 use Rattle.tg_law_layouts.proofs.Moves.Members.{Has}
 use Rattle.tg_law_replies.specs.History.Logs.{commits, HasOutcome}

@@ -1,6 +1,6 @@
 -- A walk reads what is on the path of its stream.
-use Rattle.std.proofs.Common.{◌≡◌, ◌⊎◌, ℕ, zero, suc, ◌+◌, ◌-◌, ◌<◌, ◌≤◌, List, [], ◌∷◌, ◌++◌, length, Bool, true, false, refl, sym, ap, ◌∙◌, subst, inl, inr, arith, Option, Some, None}
-use Rattle.std.specs.Prelude.{nat_lt, nat_le, ◌==◌}
+use Rattle.std.proofs.Common.{◌≡◌, ◌⊎◌, ℕ, zero, suc, ◌+◌, ◌-◌, ◌<◌, ◌≤◌, List, [], ◌∷◌, Bool, true, false, refl, sym, ap, ◌∙◌, subst, inl, inr, arith, Option, Some, None}
+use Rattle.std.specs.Prelude.{nat_lt, nat_le}
 use Rattle.std.proofs.lemmas.Bool.Decides.{nat_tests}
 use Rattle.tg_base.specs.Layouts.{Layout}
 use Rattle.tg_base.specs.declared.cell.Cell.{Cell}
@@ -12,15 +12,15 @@ use Rattle.tg_protocol.specs.Words.{unit_id, cell_at, with_cell, where_true}
 use Rattle.tg_protocol.specs.Requests.{Next, Goes, Learns, Ends, ends}
 use Rattle.tg_protocol.specs.Replies.{Reply}
 use Rattle.tg_protocol.specs.Replies as replied
-use Rattle.tg_protocol.specs.Cells.{Place, CellWork, Puts, Gets, Fills, Copies, Probes, CellJob, CellEnd, Done, Seen, Lost, Fenced, Gone, CellTurn, works, work_asks, cell_asks, place_in, get_cell, fill_cell, copy_on, copies_on, end_if, copy_if_same, work_feed, cell_feed}
-use Rattle.tg_protocol.specs.Walking.{Trail, trail, next_on, go_down, next_of_trail, rest_of, pointers_at, trail_after, Walk, Members, WalkTurn, walk_asks, job_asks, visited, walk_members, with_job, reads_turn, next_visit, at_least, walk_on, walk_from, read_at, walk_end, walk_next, walk_start, walk_feed, walk_again}
+use Rattle.tg_protocol.specs.Cells.{Place, CellWork, Puts, Gets, Fills, Copies, Probes, CellJob, CellEnd, Done, Seen, Lost, Fenced, Gone, works, work_asks, cell_asks, place_in, get_cell, fill_cell, copy_on, end_if, copy_if_same, work_feed, cell_feed}
+use Rattle.tg_protocol.specs.Walking.{Trail, trail, next_on, go_down, next_of_trail, rest_of, pointers_at, trail_after, Walk, Members, WalkTurn, visited, walk_members, with_job, reads_turn, next_visit, at_least, walk_on, read_at, walk_end, walk_next, walk_start, walk_feed, walk_again}
 use Rattle.tg_protocol.specs.Logs.{Log, path_on, first_on, path}
 use Rattle.tg_protocol.specs.Stuck.{asks_for}
 use Rattle.tg_law_layouts.proofs.Moves.Members.{Has}
-use Rattle.tg_law_layouts.proofs.Moves.Draws.{NextDraws, Drawn, without}
+use Rattle.tg_law_layouts.proofs.Moves.Draws.{NextDraws, without}
 use Rattle.tg_law_layouts.proofs.Moves.Machines.{cell_feed_draws}
 use Rattle.tg_law_replies.proofs.History.Members.{number_same}
-use Rattle.tg_law_walks.specs.Walks.Streams.{AreFalling, AreKnown, AreLinked, IsGood}
+use Rattle.tg_law_walks.specs.Walks.Streams.{AreFalling, AreKnown, AreLinked}
 use Rattle.tg_law_walks.specs.Walks.Walks.{EndsAs, JobEndsAs}
 use Rattle.tg_law_walks.proofs.Walks.Cells.{more_known, known_at}
 

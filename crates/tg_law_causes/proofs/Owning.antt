@@ -1,6 +1,6 @@
 -- Through each of a client's turns: its own records are commit records of the log, where appends that end stand there.
-use Rattle.std.proofs.Common.{◌≡◌, ◌⊎◌, ℕ, ◌+◌, ◌<◌, List, [], ◌∷◌, length, Bool, true, false, refl, sym, ap, ◌∙◌, subst, inl, inr, arith, Option, Some, None}
-use Rattle.std.specs.Prelude.{Contains, not, nat_lt, ◌&&◌, ◌==◌, if◌then◌else◌}
+use Rattle.std.proofs.Common.{◌≡◌, ◌⊎◌, ℕ, ◌+◌, List, [], ◌∷◌, length, Bool, true, false, refl, sym, ◌∙◌, subst, inl, inr, Option, Some, None}
+use Rattle.std.specs.Prelude.{Contains, not, nat_lt, ◌&&◌, ◌==◌}
 use Rattle.tg_base.specs.Layouts.{Layout}
 use Rattle.tg_base.specs.Changes.{Changed as Change}
 use Rattle.tg_base.specs.declared.cell.Cell.{Cell}
@@ -31,8 +31,8 @@ use Rattle.tg_protocol.specs.Reconfiguring.{Reconf, ReconfEnd, Installed, Overta
 use Rattle.tg_protocol.specs.Views.{Entries, View, state_of, view_version}
 use Rattle.tg_protocol.specs.Transactions.{Tx, open_tx, tx_read, tx_put, commit_record}
 use Rattle.tg_protocol.specs.Clients.{Purpose, Writes, Judged, Decides, Rescues, Saves, Marks, Task, Syncing, Walking, Appending, Trimming, Copying', Reconfiguring, Hand, Doing, Learning, Work, Client, write_of, hosts_oid, copy_fault, refusal}
-use Rattle.tg_protocol.specs.Answers.{Moved, moved, note, pruned, replies, answers, took_over, closed, appends, syncs, trim_begun, walked, with_view}
-use Rattle.tg_protocol.specs.ClientSteps.{task_in, task_awaited, after_turn, met, goes_on, learns_for, lends, takes_back, found_by, start_walk, walks, lo_for, knows, synced, sync_to, on_sync, stale, starts_over, gives_up, given_up_if, at_trim, walk_ended_by, walk_to, on_walk, knows_page, owns, page_known, decided_for, append_ended, append_to, on_append, trim_to, on_trims, copy_to, on_copy, stands, reconf_ended, reconf_to, on_reconf, task_feed, copies_again, task_again, on_newer, fed_if, hand_feed, latest_if, reply_feed, feed, new_work, hosts_more, puts, asked_of_state, asks_view, asks_by, asks, purpose_of, ends, accepts, refused_or, client_command, client_deliver, client_tick, tick_by}
+use Rattle.tg_protocol.specs.Answers.{Moved, moved, note, replies, answers, took_over, closed, appends, syncs, trim_begun, walked, with_view}
+use Rattle.tg_protocol.specs.ClientSteps.{task_in, task_awaited, after_turn, met, goes_on, learns_for, lends, takes_back, found_by, start_walk, walks, lo_for, knows, sync_to, on_sync, stale, gives_up, given_up_if, at_trim, walk_ended_by, walk_to, on_walk, knows_page, owns, decided_for, append_ended, append_to, on_append, trim_to, on_trims, copy_to, on_copy, stands, reconf_ended, reconf_to, on_reconf, task_feed, copies_again, task_again, on_newer, fed_if, hand_feed, latest_if, reply_feed, feed, new_work, hosts_more, puts, asked_of_state, asks_view, asks_by, asks, purpose_of, ends, accepts, refused_or, client_command, client_deliver, client_tick, tick_by}
 use Rattle.tg_protocol.specs.ClientSteps as step
 use Rattle.tg_protocol.specs.Holding.{append_of, append_by}
 use Rattle.tg_law_layouts.proofs.Moves.Members.{Has}
@@ -43,7 +43,7 @@ use Rattle.tg_law_replies.proofs.Replies.Turns.{Keeps as KeepsDraft, LandsBy, fe
 use Rattle.tg_law_syncs.proofs.Known.Ways.{played_view}
 use Rattle.tg_law_walks.proofs.Walks.Positions.{nums_split}
 use Rattle.tg_law_trims.proofs.Leaves.Ways.{Keeps, Came, Rests, Appends, Syncs, Trims as Trims', WalkedWay, Plays, LeavesView, walked_way}
-use Rattle.tg_law_causes.proofs.Stalling.{IsRecord, DraftFits, TaskDrafts, WorkDrafts, Said, walked_so}
+use Rattle.tg_law_causes.proofs.Stalling.{DraftFits, TaskDrafts, WorkDrafts, walked_so}
 
 record_commits : (t : Tx) (n : ℕ) → is_commit (commit_record t n) ≡ true
 unfolding commit_record

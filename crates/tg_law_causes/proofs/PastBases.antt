@@ -1,5 +1,5 @@
 -- The bases of a past view: each is of its object, and past 0 only where the object's walk met a trim.
-use Rattle.std.proofs.Common.{◌≡◌, ◌⊎◌, ℕ, ◌<◌, List, [], ◌∷◌, filter, Bool, true, false, refl, sym, subst, inl, inr, arith, Option, Some, None}
+use Rattle.std.proofs.Common.{◌≡◌, ℕ, ◌<◌, List, [], ◌∷◌, filter, Bool, true, false, refl, sym, subst, inl, inr, arith, Option, Some, None}
 use Rattle.std.specs.Prelude.{nat_le, if◌then◌else◌}
 use Rattle.tg_base.specs.declared.ids.Oid.{Oid}
 use Rattle.tg_kind.specs.Meaning.{Meaning}

@@ -1,9 +1,6 @@
 -- A step that tells of something undecided, and what its client had at the end of its walks.
-use Rattle.std.proofs.Common.{◌≡◌, ◌⊎◌, ℕ, ◌+◌, ◌<◌, ◌≤◌, List, [], ◌∷◌, ◌++◌, map, Bool, true, false, refl, sym, ap, ◌∙◌, subst, inl, inr, arith, append-nil, Option, Some, None}
-use Rattle.std.specs.Prelude.{Contains}
+use Rattle.std.proofs.Common.{◌≡◌, ◌⊎◌, ℕ, ◌+◌, ◌<◌, List, [], ◌∷◌, ◌++◌, map, refl, sym, ap, ◌∙◌, subst, inl, inr, arith, Option, Some}
 use Rattle.tg_base.specs.Clusters.{Header}
-use Rattle.tg_base.specs.Layouts.{Layout}
-use Rattle.tg_base.specs.declared.ids.NodeId.{NodeId}
 use Rattle.tg_base.specs.declared.ids.Oid.{Oid}
 use Rattle.tg_base.specs.declared.packet.Packet.{Packet}
 use Rattle.tg_kind.specs.Meaning.{Meaning}
@@ -12,38 +9,32 @@ use Rattle.tg_model.specs.declared.refusal.Refusal.TheVariants as cause
 use Rattle.tg_model.specs.declared.trace.What.TheVariants as told
 use Rattle.tg_model.specs.Kinds.{CommandOf, EventOf, WhatOf, NoteOf}
 use Rattle.tg_protocol.specs.Words.{client_id}
-use Rattle.tg_protocol.specs.Requests.{awaits}
-use Rattle.tg_protocol.specs.Replies.{Reply, reply}
-use Rattle.tg_protocol.specs.Walking.{walk_feed}
-use Rattle.tg_protocol.specs.Logs.{Log}
+use Rattle.tg_protocol.specs.Replies.{reply}
 use Rattle.tg_protocol.specs.Past.{StuckAt, rescue_turn}
-use Rattle.tg_protocol.specs.Clients.{Task, Syncing, Walking, Appending, Trimming, Copying', Reconfiguring, Hand, Doing, Work, Client, all_entries}
+use Rattle.tg_protocol.specs.Clients.{Task, Syncing, Walking, Appending, Trimming, Copying', Reconfiguring, Work, Client, all_entries}
 use Rattle.tg_protocol.specs.Answers.{walked}
-use Rattle.tg_protocol.specs.ClientSteps.{ClientTurn, task_in, task_awaited}
+use Rattle.tg_protocol.specs.ClientSteps.{ClientTurn, task_in}
 use Rattle.tg_protocol.specs.Walked.{Walked, walked_in}
-use Rattle.tg_protocol.specs.Worlds.{CommandStart, World, Told, start, client, noted_of, log, happens}
-use Rattle.tg_protocol.specs.Alike.{SentNow}
+use Rattle.tg_protocol.specs.Worlds.{CommandStart, World, Told, start, client, log, happens}
 use Rattle.tg_protocol.specs.Stuck.{WalkMetTrim, command_in, StuckTrue}
-use Rattle.tg_protocol.specs.Runs.{Move, Moves, Next, Takes, Reaches, LawfulEvent, LawfulMove, most_steps, run}
+use Rattle.tg_protocol.specs.Runs.{Move, Moves, Takes, Reaches, LawfulEvent, LawfulMove, most_steps, run}
 use Rattle.tg_law_layouts.specs.Moves.After.{after}
-use Rattle.tg_law_layouts.specs.Moves.Configs.{config}
 use Rattle.tg_law_layouts.proofs.Layouts.Layouts.{has_header}
 use Rattle.tg_law_layouts.proofs.Moves.Lists.{contained}
 use Rattle.tg_law_layouts.proofs.Moves.Members.{Has, has_either, has_map}
-use Rattle.tg_law_layouts.proofs.Moves.Moves.{ClientInput}
 use Rattle.tg_law_replies.proofs.History.Members.{has_contained}
 use Rattle.tg_law_replies.proofs.Books.Worlds.{nil_right}
 use Rattle.tg_law_replies.proofs.Replies.Carried.{WalksBy}
 use Rattle.tg_law_walks.specs.Lists.Spared.{TrimsWereSpare}
 use Rattle.tg_law_walks.proofs.Drafts.Clients.{happens_steps}
 use Rattle.tg_law_walks.proofs.Drafts.Written.{then_takes}
-use Rattle.tg_law_trims.proofs.Leaves.Walks.{MetBy, feed_by}
+use Rattle.tg_law_trims.proofs.Leaves.Walks.{feed_by}
 use Rattle.tg_law_trims.proofs.Leaves.Ended.{Stays, Tells as Tellings, stays_there}
-use Rattle.tg_law_headline.proofs.Alike.Speaks.{Noted, From, Speaks, Silent, Speaks', Turns, told_of, speaks}
-use Rattle.tg_law_causes.proofs.Stalling.{Plain, PlainNotes, PlaysKept, Unknowns, EachOk, Cases, Said, walked_so}
+use Rattle.tg_law_headline.proofs.Alike.Speaks.{Speaks, Silent, Speaks', Turns, told_of, speaks}
+use Rattle.tg_law_causes.proofs.Stalling.{Plain, PlainNotes, PlaysKept, EachOk, walked_so}
 use Rattle.tg_law_causes.proofs.Hearing.{EndOk}
-use Rattle.tg_law_causes.proofs.HeardAlong.{reply_of, linked, Tail, Met, Kept, State, kept_of, Tells, Plain', AtEnd, tells, state_at}
-use Rattle.tg_law_causes.proofs.Rescuing.{trim_has, IsStuck, rescue_stuck, stuck_trimmed}
+use Rattle.tg_law_causes.proofs.HeardAlong.{linked, Tail, Met, State, kept_of, Tells, Plain', AtEnd, tells, state_at}
+use Rattle.tg_law_causes.proofs.Rescuing.{trim_has, rescue_stuck, stuck_trimmed}
 
 cancel : {X : Type 0} → (xs ys zs : List X) → xs ++ ys ≡ xs ++ zs → ys ≡ zs
 cancel [] ys zs e = e

@@ -1,5 +1,5 @@
 -- What a command tells whose streams are walked: where something stays undecided, the play was blocked, or a read is unknown.
-use Rattle.std.proofs.Common.{◌≡◌, ◌⊎◌, ℕ, ◌+◌, ◌<◌, ◌≤◌, List, [], ◌∷◌, Bool, true, false, refl, sym, ap, ◌∙◌, subst, inl, inr, arith, Option, Some, None}
+use Rattle.std.proofs.Common.{◌≡◌, ℕ, ◌+◌, ◌<◌, ◌≤◌, List, [], ◌∷◌, Bool, true, false, refl, sym, ap, subst, inl, inr, arith, Option, Some, None}
 use Rattle.std.specs.Prelude.{nat_lt, nat_le, ◌&&◌, ◌==◌, if◌then◌else◌}
 use Rattle.std.proofs.lemmas.Bool.Decides.{nat_tests}
 use Rattle.tg_base.specs.declared.ids.Oid.{Oid}
@@ -21,13 +21,13 @@ use Rattle.tg_protocol.specs.Versions.{Changed}
 use Rattle.tg_protocol.specs.Trimming.{trim_start}
 use Rattle.tg_protocol.specs.Appending.{append_start}
 use Rattle.tg_protocol.specs.Syncing.{sync_start}
-use Rattle.tg_protocol.specs.Views.{Entries, View, Play, Step, On, Stuck, Base, Verdict, Commits, Aborts, Unknown, base_of, state_of, view_version, changed_in, unknown_by, unknown_in, by_changes, by_versions, by_decision, said, fate_or_verdict, verdict, view_outcome, fate_of, decision_in, stands_at, decided_step, record_step, entry_step, step_at, between, play_on, play_from, play}
+use Rattle.tg_protocol.specs.Views.{Entries, View, Play, Step, On, Stuck, Verdict, Commits, Aborts, Unknown, base_of, state_of, view_version, changed_in, unknown_by, unknown_in, by_changes, by_versions, by_decision, said, fate_or_verdict, verdict, view_outcome, fate_of, decision_in, stands_at, decided_step, record_step, entry_step, step_at, between, play_on, play_from, play}
 use Rattle.tg_protocol.specs.Checkpoints.{ForgetFault, NoCheckpoint, OpenDecision, checkpoint, may_forget}
 use Rattle.tg_protocol.specs.Past.{commit_at, PastTurn, PastView, PastGone, past_at, RescueTurn, Wider, Wide, Absent, StuckAt, Known, rescue_turn}
 use Rattle.tg_protocol.specs.Transactions.{Tx, tx_read}
-use Rattle.tg_protocol.specs.Clients.{Purpose, Writes, Judged, Decides, Rescues, Saves, Marks, Task, Syncing, Walking, Appending, Trimming, Copying', Reconfiguring, Work, Client, all_entries, member_entries, tx_number}
+use Rattle.tg_protocol.specs.Clients.{Purpose, Writes, Judged, Decides, Rescues, Saves, Marks, Task, Syncing, Walking, Appending, Work, Client, all_entries, member_entries, tx_number}
 use Rattle.tg_protocol.specs.Answers as answer
-use Rattle.tg_protocol.specs.Answers.{Moved, note, replies, refuses, took_over, answers, closed, appends, syncs, with_decision, decision, decides_if, lacks_decision, ask_answer, ask_in, on_ask, unsure, aborted, end_decided, end_aborted, end_no, end_record, on_end, forgotten_or, trim_above, fate_verdict, fate_record, fate_known, blocks, fate_blocked, on_fate, decide_verdict, decide_record, decide_blocked, decide_played, on_decide, save_if, on_checkpoint, forget_by, mark_record, mark_notes, on_forget, floor_of, trim_begun, trims_if, on_trim, past_answer, past_played, past_turn, ahead_or, on_ask_at, rescue_decision, rescue_known, absent, on_rescue, play_target, own_view, with_view, answer_by, played_on, plays_own, walked_for, walked}
+use Rattle.tg_protocol.specs.Answers.{Moved, note, replies, refuses, answers, closed, appends, syncs, with_decision, decision, decides_if, lacks_decision, ask_answer, ask_in, on_ask, unsure, aborted, end_decided, end_aborted, end_no, end_record, on_end, forgotten_or, trim_above, fate_verdict, fate_record, fate_known, blocks, fate_blocked, on_fate, decide_verdict, decide_record, decide_blocked, on_decide, save_if, on_checkpoint, forget_by, mark_record, mark_notes, on_forget, floor_of, trim_begun, trims_if, on_trim, past_answer, past_played, past_turn, ahead_or, on_ask_at, rescue_decision, absent, play_target, own_view, with_view, answer_by, walked_for, walked}
 use Rattle.tg_protocol.specs.ClientSteps.{task_in}
 use Rattle.tg_law_replies.proofs.History.Members.{Has}
 use Rattle.tg_law_replies.proofs.Views.Records.{commit_there}

@@ -6,9 +6,9 @@ use Rattle.tg_protocol.specs.Worlds.{happens}
 use Rattle.tg_protocol.specs.Runs.{Takes, EachStep}
 use Rattle.tg_law_store.proofs.Store.Steps.{store_trims_are_spare}
 use Rattle.tg_law_store.proofs.Joint.Holding.{steps_hold}
-use Rattle.tg_law_causes.specs.Undecidings.{UndecidedTrue, UnsureBelowTrue}
-use Rattle.tg_law_causes.proofs.Causing.{undecided_true as undecided_where, unsure_below_true as unsure_below_where}
-use Rattle.tg_law_causes.proofs.Store.{ends}
+use Rattle.tg_law_causes.specs.Undecidings.{UndecidedTrue, UnsureUnlessLacking}
+use Rattle.tg_law_causes.proofs.Causing.{undecided_true as undecided_where, unsure_unless_lacking as unsure_where}
+use Rattle.tg_law_causes.proofs.Store.{ends, found}
 use Rattle.tg_law_causes.proofs.Stalled.{goes_reach, stuck_true as stuck_where}
 
 pub stuck_true : EachStep all_kinds (StuckTrue all_kinds)
@@ -19,9 +19,9 @@ stuck_true h ms w e r lawful few =
 pub undecided_true : EachStep all_kinds (UndecidedTrue all_kinds)
 undecided_true h ms w e r lawful few =
     let g = goes_reach all_kinds h ms w e r lawful few in
-    undecided_where all_kinds h ms w e r lawful few (store_trims_are_spare h (ms ++ Takes e ∷ []) (happens all_kinds w e) g (steps_hold h (ms ++ Takes e ∷ []) (happens all_kinds w e) g)).were (ends h (ms ++ Takes e ∷ []) (happens all_kinds w e) g)
+    undecided_where all_kinds h ms w e r lawful few (store_trims_are_spare h (ms ++ Takes e ∷ []) (happens all_kinds w e) g (steps_hold h (ms ++ Takes e ∷ []) (happens all_kinds w e) g)).were (ends h (ms ++ Takes e ∷ []) (happens all_kinds w e) g) (found h (ms ++ Takes e ∷ []) (happens all_kinds w e) g)
 
-pub unsure_below_true : EachStep all_kinds (UnsureBelowTrue all_kinds)
-unsure_below_true h ms w e r lawful few =
+pub unsure_unless_lacking : EachStep all_kinds (UnsureUnlessLacking all_kinds)
+unsure_unless_lacking h ms w e r lawful few =
     let g = goes_reach all_kinds h ms w e r lawful few in
-    unsure_below_where all_kinds h ms w e r lawful few (store_trims_are_spare h (ms ++ Takes e ∷ []) (happens all_kinds w e) g (steps_hold h (ms ++ Takes e ∷ []) (happens all_kinds w e) g)).were (ends h (ms ++ Takes e ∷ []) (happens all_kinds w e) g)
+    unsure_where all_kinds h ms w e r lawful few (store_trims_are_spare h (ms ++ Takes e ∷ []) (happens all_kinds w e) g (steps_hold h (ms ++ Takes e ∷ []) (happens all_kinds w e) g)).were (ends h (ms ++ Takes e ∷ []) (happens all_kinds w e) g) (found h (ms ++ Takes e ∷ []) (happens all_kinds w e) g)

@@ -1,7 +1,7 @@
 //! What stays undecided: a rescue, a command that is refused for it, and a transaction whose outcome is unsure.
 
 ghost use Rattle.tg_any.specs.AllKinds.{all_kinds};
-ghost use Rattle.tg_law_causes.specs.Undecidings.{UndecidedTrue, UnsureBelowTrue};
+ghost use Rattle.tg_law_causes.specs.Undecidings.{UndecidedTrue, UnsureUnlessLacking};
 ghost use Rattle.tg_protocol.specs.Runs.{EachStep};
 ghost use Rattle.tg_protocol.specs.Stuck.{StuckTrue};
 
@@ -16,7 +16,7 @@ pub fn undecided_true()
     ensures { EachStep all_kinds (UndecidedTrue all_kinds) }
 {}
 
-/// Where an outcome is unsure for a record below one's own, that record is undecided to the client.
-pub fn unsure_below_true()
-    ensures { EachStep all_kinds (UnsureBelowTrue all_kinds) }
+/// Where an outcome is unsure, the client doesn't know what a record reads, its own or one below, or its own isn't among its entries.
+pub fn unsure_unless_lacking()
+    ensures { EachStep all_kinds (UnsureUnlessLacking all_kinds) }
 {}
