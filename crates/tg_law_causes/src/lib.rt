@@ -2,5 +2,7 @@
 #![tactic(auto)]
 
 mod laws;
+mod undecided;
 
 pub use laws::{aborts_name_least, directories_true, refusals_keep};
+pub use undecided::{stuck_true, undecided_true, unsure_unless_lacking};
