@@ -3,4 +3,4 @@
 
 mod laws;
 
-pub use laws::one_log;
+pub use laws::{headline_holds, one_log};
