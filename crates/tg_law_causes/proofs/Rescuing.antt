@@ -11,7 +11,7 @@ use Rattle.tg_model.specs.declared.play.PlayEnd.{PlayEnd}
 use Rattle.tg_model.specs.declared.play.PlayEnd.TheVariants.{Played, Blocked}
 use Rattle.tg_protocol.specs.Words.{has_oid}
 use Rattle.tg_protocol.specs.Versions.{version_of}
-use Rattle.tg_protocol.specs.Views.{Entries, Base, View, Play, Verdict, Commits, Aborts, Unknown, base_of, past, unknown_by, view_start, view_outcome, decision_in, play}
+use Rattle.tg_protocol.specs.Views.{Entries, Base, View, Play, Verdict, Commits, Aborts, Unknown, base_of, unknown_by, view_start, view_outcome, decision_in, play}
 use Rattle.tg_protocol.specs.Checkpoints.{TrimPoints, trim_of, load_from, base_or, base_by, view_base, view_bases}
 use Rattle.tg_protocol.specs.Past.{RescueTurn, Wider, Wide, Absent, StuckAt, Known, commit_at, record_block, entry_block, block_in, known_by, at_record, grows, rescue_by, rescue_turn}
 use Rattle.tg_law_replies.specs.Plays.Sound.{base_among}
