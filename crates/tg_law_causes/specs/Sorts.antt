@@ -26,3 +26,14 @@ module _ (m : Meaning) where
   -- each such refusal of a command that waited has its cause
   abbrev pub RefusedLaterTrue : World m → EventOf m → Type 0
   RefusedLaterTrue w e = ((k : ℕ) (x : CommandOf m) → e ≡ Commands k x → ⊥) → (t : Told m) (why : Refusal) → Replies m w e t → t.mark.what ≡ told.Refused why → IsHeard why → HasCause m w e t why
+
+  -- all refusals but the two of a mark, and that an object isn't hosted
+  abbrev pub IsCaused : Refusal → Type 0
+  IsCaused (cause.NoCheckpoint o) = ⊥
+  IsCaused (cause.OpenDecision p) = ⊥
+  IsCaused (cause.NotHosted o) = ⊥
+  IsCaused why = Unit {0}
+
+  -- each of them has its cause, in whatever step
+  abbrev pub MostRefusalsTrue : World m → EventOf m → Type 0
+  MostRefusalsTrue w e = (t : Told m) (why : Refusal) → Replies m w e t → t.mark.what ≡ told.Refused why → IsCaused why → HasCause m w e t why

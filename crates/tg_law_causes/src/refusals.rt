@@ -2,7 +2,7 @@
 
 ghost use Rattle.tg_any.specs.AllKinds.{all_kinds};
 ghost use Rattle.tg_kind.specs.Of.{meaning_of};
-ghost use Rattle.tg_law_causes.specs.Sorts.{RefusedAtOnceTrue, RefusedLaterTrue};
+ghost use Rattle.tg_law_causes.specs.Sorts.{MostRefusalsTrue, RefusedAtOnceTrue, RefusedLaterTrue};
 ghost use Rattle.tg_protocol.specs.Runs.{EachStep};
 
 use tg_kind::Registry;
@@ -17,4 +17,10 @@ pub fn refused_at_once_true()
 /// `no-checkpoint`, `open-decision` and a late `not-hosted`.
 pub fn refused_later_true<K: Registry>()
     ensures { EachStep (meaning_of K.Registry) (RefusedLaterTrue (meaning_of K.Registry)) }
+{}
+
+/// So each refusal of a step has its cause, but for `no-checkpoint`, `open-decision` and `not-hosted`; of the last, where it is told in
+/// the step that gives the command, it is said above.
+pub fn most_refusals_true()
+    ensures { EachStep all_kinds (MostRefusalsTrue all_kinds) }
 {}

@@ -13,3 +13,6 @@ pub mod Pathing
 pub mod Outstanding
 pub mod Heeding
 pub mod Roads
+pub mod Pruning
+pub mod Ended
+pub mod OfStore

@@ -1,0 +1,46 @@
+-- What holds of each step of a run of the store.
+use Rattle.std.proofs.Common.{[], ◌∷◌, ◌++◌, refl, sym, ap, ◌∙◌, subst, inl, inr, arith}
+use Rattle.std.specs.Prelude.{◌≡◌, ◌<◌}
+use Rattle.tg_base.specs.Clusters.{Header}
+use Rattle.tg_any.specs.AllKinds.{all_kinds}
+use Rattle.tg_kind.specs.Meaning.{Meaning}
+use Rattle.tg_model.specs.Kinds.{EventOf}
+use Rattle.tg_protocol.specs.Causes.{CausesRefuse, NonesTrue}
+use Rattle.tg_protocol.specs.Worlds.{World, happens}
+use Rattle.tg_protocol.specs.Runs.{Moves, Move, Takes, Reaches, Later, LawfulEvent, LawfulMove, EachStep, most_steps, run}
+use Rattle.tg_law_layouts.specs.Moves.After.{after}
+use Rattle.tg_law_layouts.proofs.Layouts.Layouts.{has_header}
+use Rattle.tg_law_layouts.proofs.Moves.Members.{Has, has_contained}
+use Rattle.tg_law_walks.proofs.Drafts.Clients.{happens_steps}
+use Rattle.tg_law_walks.proofs.Walks.Reading.{reaches_later}
+use Rattle.tg_law_store.proofs.Store.Steps.{store_trims_are_spare}
+use Rattle.tg_law_store.proofs.Joint.Holding.{steps_hold}
+use Rattle.tg_law_causes.proofs.Store.{directories_true}
+use Rattle.tg_law_answers.proofs.Along.{nones_last}
+use Rattle.tg_law_answers.proofs.Refusing.{causes_refuse_here}
+
+pub causes_refuse : EachStep all_kinds (CausesRefuse all_kinds)
+causes_refuse h ms w e r lawful few = causes_refuse_here all_kinds h ms w e r (directories_true h ms w r)
+
+-- the run goes on with a step
+module _ (m : Meaning) (h : Header) (ms : Moves m) (w : World m) (e : EventOf m) (r : Reaches m h ms w) (lawful : LawfulEvent m h e) (few : w.steps < most_steps) where
+  cluster : w.cluster ≡ h
+  cluster = ap (λ (u : World m). u.cluster) r.goes.is ∙ has_header m h ms
+
+  lawful_move : (x : Move m) → Has (Takes e ∷ []) x → LawfulMove m w.cluster x
+  lawful_move x (inl is) = subst (LawfulMove m w.cluster) (sym is) (subst (λ (g : Header). LawfulEvent m g e) (sym cluster) lawful)
+  lawful_move x (inr i) = absurd i
+
+  on : Later m w (happens m w e)
+  unfolding run
+  on = (Takes e ∷ [], record { lawful = λ x i. lawful_move x (has_contained (Takes e ∷ []) x i); is = refl; few = let s = happens_steps m w e in omega (arith, s, few) })
+
+  reached : Reaches m h (ms ++ Takes e ∷ []) (after m h (ms ++ Takes e ∷ []))
+  unfolding on
+  reached = let z = reaches_later m h ms w (happens m w e) r on in subst (Reaches m h (ms ++ Takes e ∷ [])) z.goes.is z
+
+pub nones_true : EachStep all_kinds (NonesTrue all_kinds)
+nones_true h ms w e r lawful few =
+    let z = reached all_kinds h ms w e r lawful few in
+    let t = store_trims_are_spare h (ms ++ Takes e ∷ []) (after all_kinds h (ms ++ Takes e ∷ [])) z (steps_hold h (ms ++ Takes e ∷ []) (after all_kinds h (ms ++ Takes e ∷ [])) z) in
+    subst (λ (u : World all_kinds). NonesTrue all_kinds u e) (sym r.goes.is) (nones_last all_kinds h ms e z t.were)
