@@ -1,7 +1,13 @@
 pub mod Absent
 pub mod Along
+pub mod Caused
+pub mod Forgets
+pub mod Hosted
+pub mod Hosting
 pub mod Limited
 pub mod Limits
 pub mod Nones
+pub mod Refused
 pub mod Refusing
+pub mod States
 pub mod Store

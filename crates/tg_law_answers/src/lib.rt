@@ -1,6 +1,8 @@
 //! Answers and their causes: laws over definitions, the contracts of empty functions.
 #![tactic(auto)]
 
+mod causes;
 mod laws;
 
+pub use causes::refusals_true;
 pub use laws::{causes_refuse, nones_true};

@@ -52,14 +52,14 @@ use Rattle.tg_law_trims.proofs.Leaves.Leaving.{mine_of}
 use Rattle.tg_law_causes.specs.Undecidings.{UndecidedTrue, LacksRecord, UnsureUnlessLacking}
 use Rattle.tg_law_causes.proofs.EndsGive.{ends_give}
 use Rattle.tg_law_causes.proofs.Judging.{never_unchanged}
-use Rattle.tg_law_causes.proofs.Stalling.{Plain, PlaysKept, widens, Unknowns, IsBlocked, blocked_there, EachOk, SeenBy, Said, hosted_entries, kept_play, walked_so}
+use Rattle.tg_law_causes.proofs.Stalling.{Plain, Brief, PlaysKept, widens, Unknowns, IsBlocked, blocked_there, EachOk, SeenBy, Said, hosted_entries, kept_play, walked_so}
 use Rattle.tg_law_causes.proofs.HeardAlong.{Met}
 use Rattle.tg_law_causes.proofs.OwnAlong.{owns_commit}
 use Rattle.tg_law_causes.proofs.PastBases.{past_oid, past_up}
 use Rattle.tg_law_causes.proofs.Rescuing.{has_oid_has, trim_has, reads_trimmed, none_among, playing, rescue_stuck, stuck_trimmed}
 use Rattle.tg_law_causes.proofs.Stalled.{goes_reach, command_waits, AtWalksEnd, undecided_ends, met_of}
 
-has_has_oid : (o : Oid) (os : List Oid) → Has os o → has_oid o os ≡ true
+pub has_has_oid : (o : Oid) (os : List Oid) → Has os o → has_oid o os ≡ true
 has_has_oid o [] i = absurd i
 has_has_oid o (x ∷ os) (inl e) = first (oid_eq o x) (has_oid o os) (subst (λ (y : Oid). oid_eq o y ≡ true) e (oid_itself o))
   where
@@ -98,13 +98,13 @@ module _ (m : Meaning) (h : Header) (ms : Moves m) (e : EventOf m) (r : Reaches 
   abbrev l : Log
   l = log m (after m h (ms ++ Takes e ∷ []))
 
-  found : IsRound m (log m (after m h (ms ++ Takes e ∷ []))) (round m k.end.client k.end.work k.end.client.cells) []
+  pub found : IsRound m (log m (after m h (ms ++ Takes e ∷ []))) (round m k.end.client k.end.work k.end.client.cells) []
   found =
       ends_give m h.objects (entries_in m (after m h (ms ++ Takes e ∷ []))) (λ d y. IsRound m (log m (after m h (ms ++ Takes e ∷ []))) (round m d y d.cells) []) (after m h ms) t.mark.client e k.end
       (rounds_exact m h (ms ++ Takes e ∷ []) (after m h (ms ++ Takes e ∷ [])) r trims ms [] e refl) k.ended
 
   -- an entry that it has is the log's
-  entry_there : (ps : List ℕ) (p : ℕ) (d : Entry) → Has (entries_at m k.end.client.cells ps) (p, d) → HasEntry m (after m h (ms ++ Takes e ∷ [])) p d
+  pub entry_there : (ps : List ℕ) (p : ℕ) (d : Entry) → Has (entries_at m k.end.client.cells ps) (p, d) → HasEntry m (after m h (ms ++ Takes e ∷ [])) p d
   entry_there ps p d i =
       let g = entries_have m k.end.client.cells ps p d i in
       contained_has (entries_of (log m (after m h (ms ++ Takes e ∷ [])))) (p, d) (there_entry (log m (after m h (ms ++ Takes e ∷ []))) p d (read_entry m (log m (after m h (ms ++ Takes e ∷ []))) (logs_by_position m (after m h (ms ++ Takes e ∷ []))) k.end.client.cells p d found.known g.1))
@@ -166,7 +166,7 @@ module _ (m : Meaning) (h : Header) (ms : Moves m) (e : EventOf m) (r : Reaches 
   abbrev mine : Entries
   mine = member_entries m k.end.client k.end.work k.end.work.oids
 
-  past_view : (es : Entries) (gone : TrimPoints) (oids objects : List Oid) (o : Oid) (at : ℕ) (u : Play m) → past_at m es gone oids objects o at ≡ PastView u → u ≡ past_play m es gone oids objects at
+  pub past_view : (es : Entries) (gone : TrimPoints) (oids objects : List Oid) (o : Oid) (at : ℕ) (u : Play m) → past_at m es gone oids objects o at ≡ PastView u → u ≡ past_play m es gone oids objects at
   unfolding past_at
   past_view es gone oids objects o at u is = by (trim_of gone o) is
     where
@@ -219,6 +219,20 @@ module _ (m : Meaning) (h : Header) (ms : Moves m) (e : EventOf m) (r : Reaches 
     past_cant : (d : Client m) → client m (after m h (ms ++ Takes e ∷ [])) t.mark.client ≡ record d { calls = d.calls + 1 } → d.hosted ≡ k.end.client.hosted → widens m k.end.work.command ≡ false
         → (q < p) × HasReadOf m (after m h (ms ++ Takes e ∷ [])) q b × IsOutOfReach m (after m h (ms ++ Takes e ∷ [])) t b
     past_cant d now hosted narrow = (blocked.below, read_of _ (play m started (member_entries m k.end.client k.end.work k.end.work.oids) p).view q b blocked.unknowns, out_of_reach d now hosted narrow)
+
+  -- the command that waited, which a delivery ends
+  given_none : (x : EventOf m) (n : ℕ) (y : Walked m) → walked_in m (after m h ms) x n ≡ Some y → given_in m x n ≡ None
+  given_none (Deliver i) n y is = refl
+  given_none (Commands j z) n y is = absurd (cc)
+  given_none (Lose i) n y is = refl
+  given_none (Tick i) n y is = refl
+  given_none (Stop i) n y is = refl
+
+  pub waited : command_at m (after m h ms) e t.mark.client ≡ Some k.end.work.command
+  waited = ap (λ (o : Option (CommandOf m)). or_else o (command_in m (client m (after m h ms) t.mark.client).work)) (given_none e t.mark.client k.end k.ended) ∙ command_waits m (after m h ms) t.mark.client e k.end k.ended
+
+  now_at : client m (after m h (ms ++ Takes e ∷ [])) t.mark.client ≡ record (walked m k.end.client k.end.work).now { calls = (walked m k.end.client k.end.work).now.calls + 1 }
+  now_at = subst (λ (u : World m). client m u t.mark.client ≡ record (walked m k.end.client k.end.work).now { calls = (walked m k.end.client k.end.work).now.calls + 1 }) (sym (then_takes m h ms e)) k.now
 
   -- The client's own records decide nothing.
   module _ (owns : (q : ℕ) (d : Entry) → Contains k.end.client.own q → HasEntry m (after m h (ms ++ Takes e ∷ [])) q d → is_commit d ≡ true)
@@ -317,23 +331,13 @@ module _ (m : Meaning) (h : Header) (ms : Moves m) (e : EventOf m) (r : Reaches 
         },
       );
       same = λ d a y ending came at says known eq now. absurd (changed ending a y came at says known eq);
+      no_save = λ d o n is s none. tt;
+      is_open = λ d o n p is s some. tt;
+      no_state = λ d o z is s none. tt;
+      no_past = λ d p o z u is view none. tt;
       past = λ d p o z u q b is hosted view came now. past_later d p o z u q b is hosted view came now;
       rescue = λ d a q b is turn now. rescue_later a q b is turn;
     })
-
-    -- the command that waited, which a delivery ends
-    given_none : (x : EventOf m) (n : ℕ) (y : Walked m) → walked_in m (after m h ms) x n ≡ Some y → given_in m x n ≡ None
-    given_none (Deliver i) n y is = refl
-    given_none (Commands j z) n y is = absurd (cc)
-    given_none (Lose i) n y is = refl
-    given_none (Tick i) n y is = refl
-    given_none (Stop i) n y is = refl
-
-    waited : command_at m (after m h ms) e t.mark.client ≡ Some k.end.work.command
-    waited = ap (λ (o : Option (CommandOf m)). or_else o (command_in m (client m (after m h ms) t.mark.client).work)) (given_none e t.mark.client k.end k.ended) ∙ command_waits m (after m h ms) t.mark.client e k.end k.ended
-
-    now_at : client m (after m h (ms ++ Takes e ∷ [])) t.mark.client ≡ record (walked m k.end.client k.end.work).now { calls = (walked m k.end.client k.end.work).now.calls + 1 }
-    now_at = subst (λ (u : World m). client m u t.mark.client ≡ record (walked m k.end.client k.end.work).now { calls = (walked m k.end.client k.end.work).now.calls + 1 }) (sym (then_takes m h ms e)) k.now
 
     pub is_unsure : (a p : ℕ) → t.mark.what ≡ told.Unsure a p → IsUnsure m (after m h ms) e t a p ⊎ ((p ≡ a) × LacksRecord m (after m h ms) e t a)
     is_unsure a p what = subst (λ (y : WhatOf m). Ok (walked m k.end.client k.end.work).now y) (sym k.is ∙ what)
@@ -350,14 +354,14 @@ module _ (m : Meaning) (h : Header) (ms : Moves m) (e : EventOf m) (r : Reaches 
   owns_of : (t : Told m) (k : AtWalksEnd m h ms e r trims t) (q : ℕ) (d : Entry) → Contains k.end.client.own q → HasEntry m (after m h (ms ++ Takes e ∷ [])) q d → is_commit d ≡ true
   owns_of t k q d i at = owns_commit m h (ms ++ Takes e ∷ []) r ends ms [] e refl t.mark.client k.end k.ended q d i at
 
-  end_of : (t : Told m) → Replies m (after m h ms) e t → (Plain m t.mark.what → ⊥) → AtWalksEnd m h ms e r trims t
+  end_of : (t : Told m) → Replies m (after m h ms) e t → (Brief m t.mark.what → ⊥) → AtWalksEnd m h ms e r trims t
   end_of t replies some = undecided_ends m h ms e r trims replies.replies t replies.are (has_contained replies.replies t replies.here) some
 
   undecided_there : UndecidedTrue m (after m h ms) e
-  undecided_there t p o replies what = let k = end_of t replies (λ plain. subst (Plain m) what plain) in has_cause m h ms e r trims t k (owns_of t k) (never_unchanged m h ms e r finds ends t.mark.client k.end k.ended) p o what
+  undecided_there t p o replies what = let k = end_of t replies (λ brief. subst (Brief m) what brief) in has_cause m h ms e r trims t k (owns_of t k) (never_unchanged m h ms e r finds ends t.mark.client k.end k.ended) p o what
 
   unsure_there : UnsureUnlessLacking m (after m h ms) e
-  unsure_there t a p replies what = let k = end_of t replies (λ plain. subst (Plain m) what plain) in is_unsure m h ms e r trims t k (owns_of t k) (never_unchanged m h ms e r finds ends t.mark.client k.end k.ended) a p what
+  unsure_there t a p replies what = let k = end_of t replies (λ brief. subst (Brief m) what brief) in is_unsure m h ms e r trims t k (owns_of t k) (never_unchanged m h ms e r finds ends t.mark.client k.end k.ended) a p what
 
 module _ (m : Meaning) (h : Header) (ms : Moves m) (w : World m) (e : EventOf m) (r : Reaches m h ms w) (lawful : LawfulEvent m h e) (few : w.steps < most_steps) (trims : TrimsWereSpare m h (ms ++ Takes e ∷ [])) (ends : AppendsEnd m h (ms ++ Takes e ∷ []) (happens m w e)) (finds : ClientsFind m h (ms ++ Takes e ∷ []) (happens m w e)) where
   reach : Reaches m h (ms ++ Takes e ∷ []) (after m h (ms ++ Takes e ∷ []))

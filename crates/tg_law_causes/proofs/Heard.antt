@@ -44,16 +44,18 @@ use Rattle.tg_law_causes.proofs.Causal.{Got, AskSent, State, FeedOk, feed_ok, en
 module _ (m : Meaning) (w : World m) where
   -- What a step that gives no command tells.
 
-  abbrev turn : Packet → ClientTurn m
+  abbrev pub turn : Packet → ClientTurn m
   turn p = client_deliver m (client m w p.to.num) p.from p.rid p.msg
 
   -- a packet is handed to a client
-  record Handed (u : World m) : Type 0 where
-    packet : Packet
-    sent : Has w.packets packet
-    to : packet.to ≡ client_id packet.to.num
-    now : client m u packet.to.num ≡ (turn packet).now
-    grown : u.told ≡ w.told ++ map (told_of m w packet.to.num (noted_of m w packet.to.num)) (turn packet).notes
+  pub record Handed (i : ℕ) (u : World m) : Type 0 where
+    pub packet : Packet
+    pub sent : Has w.packets packet
+    pub to : packet.to ≡ client_id packet.to.num
+    pub got : slice_get w.packets i ≡ Some packet
+    pub on : runs m w packet.to ≡ true
+    pub now : client m u packet.to.num ≡ (turn packet).now
+    pub grown : u.told ≡ w.told ++ map (told_of m w packet.to.num (noted_of m w packet.to.num)) (turn packet).notes
 
   set_now : (u : World m) (n : ℕ) (x : Client m) → n < length u.clients → slice_index_or (slice_set u.clients n x) n (new_client m u.cluster n) ≡ x
   set_now u n x less = at_set u.clients n x (new_client m u.cluster) (λ k y. k ≡ n → y ≡ x) less (λ e. refl) (λ k other e. absurd (other e)) n refl
@@ -61,22 +63,22 @@ module _ (m : Meaning) (w : World m) where
   client_is : (a : NodeId) → a.role ≡ role.Client → a ≡ client_id a.num
   client_is a e = ap (λ (r : Role). record { role = r; num = a.num }) e
 
-  moves_hand : (i : ℕ) (p : Packet) (r : Role) → p.to.role ≡ r → slice_get w.packets i ≡ Some p → runs m w p.to ≡ true → Handed (counted m (moves m (handed m w i) p r)) ⊎ ((counted m (moves m (handed m w i) p r)).told ≡ w.told)
+  moves_hand : (i : ℕ) (p : Packet) (r : Role) → p.to.role ≡ r → slice_get w.packets i ≡ Some p → runs m w p.to ≡ true → Handed i (counted m (moves m (handed m w i) p r)) ⊎ ((counted m (moves m (handed m w i) p r)).told ≡ w.told)
   unfolding unit_moves layout_moves seqr_moves client_turned
   moves_hand i p role.Unit is got on = inr refl
   moves_hand i p role.Layout is got on = inr refl
   moves_hand i p role.Seqr is got on = inr refl
-  moves_hand i p role.Client is got on = inl (record { packet = p; sent = has_got w.packets i p got; to = client_is p.to is; now = set_now w p.to.num (turn p).now (declared m w p.to is on); grown = refl })
+  moves_hand i p role.Client is got on = inl (record { packet = p; sent = has_got w.packets i p got; to = client_is p.to is; got = got; on = on; now = set_now w p.to.num (turn p).now (declared m w p.to is on); grown = refl })
 
-  comes_hand : (i : ℕ) (p : Packet) → slice_get w.packets i ≡ Some p → (b : Bool) → runs m w p.to ≡ b → Handed (counted m (comes m b (handed m w i) p)) ⊎ ((counted m (comes m b (handed m w i) p)).told ≡ w.told)
+  comes_hand : (i : ℕ) (p : Packet) → slice_get w.packets i ≡ Some p → (b : Bool) → runs m w p.to ≡ b → Handed i (counted m (comes m b (handed m w i) p)) ⊎ ((counted m (comes m b (handed m w i) p)).told ≡ w.told)
   comes_hand i p is true on = moves_hand i p p.to.role refl is on
   comes_hand i p is false on = inr refl
 
-  delivers_hand : (i : ℕ) (o : Option Packet) → slice_get w.packets i ≡ o → Handed (counted m (delivers m w i o)) ⊎ ((counted m (delivers m w i o)).told ≡ w.told)
+  delivers_hand : (i : ℕ) (o : Option Packet) → slice_get w.packets i ≡ o → Handed i (counted m (delivers m w i o)) ⊎ ((counted m (delivers m w i o)).told ≡ w.told)
   delivers_hand i None is = inr refl
   delivers_hand i (Some p) is = comes_hand i p is (runs m w p.to) refl
 
-  deliver_hands : (i : ℕ) → Handed (happens m w (Deliver i)) ⊎ ((happens m w (Deliver i)).told ≡ w.told)
+  pub deliver_hands : (i : ℕ) → Handed i (happens m w (Deliver i)) ⊎ ((happens m w (Deliver i)).told ≡ w.told)
   unfolding happens
   deliver_hands i = delivers_hand i (slice_get w.packets i) refl
 
@@ -95,7 +97,7 @@ module _ (m : Meaning) (w : World m) where
   ticks_tell n role.Seqr = refl
   ticks_tell n role.Client = ap (λ (ns : List (NoteOf m)). w.told ++ map (told_of m w n (noted_of m w n)) ns) (ticks_quietly (client m w n)) ∙ nil_right w.told
 
-  tick_tells : (n : NodeId) → (happens m w (Tick n)).told ≡ w.told
+  pub tick_tells : (n : NodeId) → (happens m w (Tick n)).told ≡ w.told
   unfolding happens
   tick_tells n = by (runs m w n)
     where
@@ -103,7 +105,7 @@ module _ (m : Meaning) (w : World m) where
       by true = ticks_tell n.num n.role
       by false = refl
 
-  stop_tells : (n : NodeId) → (happens m w (Stop n)).told ≡ w.told
+  pub stop_tells : (n : NodeId) → (happens m w (Stop n)).told ≡ w.told
   unfolding happens
   stop_tells n = by (runs m w n)
     where
@@ -111,11 +113,11 @@ module _ (m : Meaning) (w : World m) where
       by true = refl
       by false = refl
 
-  lose_tells : (i : ℕ) → (happens m w (Lose i)).told ≡ w.told
+  pub lose_tells : (i : ℕ) → (happens m w (Lose i)).told ≡ w.told
   unfolding happens
   lose_tells i = refl
 
-  silent : (u : World m) → u.told ≡ w.told → (t : Told m) (r : List (Told m)) → u.told ≡ w.told ++ r → Has r t → ⊥
+  pub silent : (u : World m) → u.told ≡ w.told → (t : Told m) (r : List (Told m)) → u.told ≡ w.told ++ r → Has r t → ⊥
   silent u x t r are i = subst (λ (ys : List (Told m)). Has ys t) (cancel w.told r [] (sym are ∙ (x ∙ sym (nil_right w.told)))) i
 
 module _ (m : Meaning) (h : Header) (ms : Moves m) (r : Reaches m h ms (after m h ms)) (e : EventOf m) (lawful : LawfulEvent m h e) (few : (after m h ms).steps < most_steps) where
@@ -253,7 +255,7 @@ module _ (m : Meaning) (h : Header) (ms : Moves m) (r : Reaches m h ms (after m 
       over : (j : ℕ) → why ≡ cause.Overtaken j → OvertakenBy m v t j
       over j z = overtakes_agree m h (ms ++ Takes e ∷ []) v reached t j (contained v.told t (subst (λ (ts : List (Told m)). Has ts t) (sym rep.are) (has_right w.told rep.replies t here))) (is ∙ ap (λ (x : Refusal). told.Refused x) z)
 
-      hands : (i : ℕ) → e ≡ Deliver i → Handed m w v ⊎ (v.told ≡ w.told) → HasCause m w e t why
+      hands : (i : ℕ) → e ≡ Deliver i → Handed m w i v ⊎ (v.told ≡ w.told) → HasCause m w e t why
       hands i z (inr q) = absurd (silent m w v q t rep.replies rep.are here)
       hands i z (inl g) =
           let img = has_map (told_of m w g.packet.to.num (noted_of m w g.packet.to.num)) (turn m w g.packet).notes t
@@ -274,7 +276,7 @@ module _ (m : Meaning) (h : Header) (ms : Moves m) (r : Reaches m h ms (after m 
 
       by : (x : EventOf m) → e ≡ x → HasCause m w e t why
       by (Commands k x) z = absurd (not_given k x z)
-      by (Deliver i) z = hands i z (subst (λ (u : EventOf m). Handed m w (happens m w u) ⊎ ((happens m w u).told ≡ w.told)) (sym z) (deliver_hands m w i))
+      by (Deliver i) z = hands i z (subst (λ (u : EventOf m). Handed m w i (happens m w u) ⊎ ((happens m w u).told ≡ w.told)) (sym z) (deliver_hands m w i))
       by (Lose i) z = quiet (Lose i) z (lose_tells m w i)
       by (Tick n) z = quiet (Tick n) z (tick_tells m w n)
       by (Stop n) z = quiet (Stop n) z (stop_tells m w n)

@@ -1,6 +1,6 @@
 -- Along a run: the tail that each client's command was told since it began, and the trims that its walks have met, by the packets and
 -- the log of the world to which the run comes.
-use Rattle.std.proofs.Common.{◌≡◌, ℕ, ◌+◌, ◌≤◌, List, [], ◌∷◌, ◌++◌, Bool, true, false, refl, sym, ap, ◌∙◌, subst, inl, inr, arith, cond, Option, Some, None}
+use Rattle.std.proofs.Common.{◌≡◌, ◌⊎◌, ℕ, ◌+◌, ◌≤◌, List, [], ◌∷◌, ◌++◌, Bool, true, false, refl, sym, ap, ◌∙◌, subst, inl, inr, arith, cond, Option, Some, None}
 use Rattle.std.specs.Prelude.{◌==◌, if◌then◌else◌}
 use Rattle.tg_base.specs.Clusters.{Header}
 use Rattle.tg_base.specs.Layouts.{Layout}
@@ -58,7 +58,7 @@ use Rattle.tg_law_headline.proofs.Alike.Appends.{is_tail}
 use Rattle.tg_law_headline.proofs.Alike.Speaks.{Noted, Before, Anew, Delivered, From, Speaks, Silent, Speaks', Turns, speaks}
 use Rattle.tg_law_causes.proofs.OnPaths.{AsksUnit, job_reads}
 use Rattle.tg_law_causes.proofs.Refusing.{fine_refusal}
-use Rattle.tg_law_causes.proofs.Stalling.{PlainNotes}
+use Rattle.tg_law_causes.proofs.Stalling.{PlainNotes, BriefNotes, brief_notes}
 use Rattle.tg_law_causes.proofs.Hearing.{AnswerTells, WorkHeld, EndOk, Comes, Plainly, Ended, comes_held, MetsBy, TaskHears, feed_comes, command_good}
 
 -- a stream's link is one of the links
@@ -254,7 +254,7 @@ module _ (m : Meaning) (h : Header) (zs : Moves m) (r : Reaches m h zs (after m 
         comes : Comes m (log m (after m h zs)) linked s.next (Tail n s.next) (Met n s.next) (feed m (client m (after m h xs) n) (client m (after m h xs) n).work p.from p.rid (reply p.msg)) (work_end m (client m (after m h xs) n) (client m (after m h xs) n).work p.from p.rid (reply p.msg))
         comes = feed_comes m (log m (after m h zs)) linked s.next (Tail n s.next) (Met n s.next) (client m (after m h xs) n) p.from p.rid kept.next kept.held (client m (after m h xs) n).work (reply p.msg) hears refl kept.held (at_work n)
 
-      ticked : (o : Option (Work m)) → (client m (after m h xs) n).work ≡ o → HeldBy s n (tick_by m (client m (after m h xs) n) o).now × PlainNotes m (tick_by m (client m (after m h xs) n) o).notes
+      ticked : (o : Option (Work m)) → (client m (after m h xs) n).work ≡ o → HeldBy s n (tick_by m (client m (after m h xs) n) o).now × BriefNotes m (tick_by m (client m (after m h xs) n) o).notes
       ticked None is = (kept.held, tt)
       ticked (Some v) is = (kept.held, tt)
 
@@ -295,9 +295,17 @@ module _ (m : Meaning) (h : Header) (zs : Moves m) (r : Reaches m h zs (after m 
     -- What a client turns to, where it tells of something undecided.
 
     pub data Tells (n : ℕ) (s : CommandStart) (t : ClientTurn m) : Type 0 where
-      Plain' : PlainNotes m t.notes → Tells n s t
+      Plain' : BriefNotes m t.notes → Tells n s t
       AtEnd : (y : Walked m) → walked_in m (after m h xs) e n ≡ Some y → t.notes ≡ (walked m y.client y.work).notes → t.now ≡ record (walked m y.client y.work).now { calls = (walked m y.client y.work).now.calls + 1 }
           → EndOk m (log m (after m h zs)) linked s.next (Tail n s.next) (Met n s.next) y → Tells n s t
+
+    -- where its walks are over
+    pub record Over (n : ℕ) (s : CommandStart) (t : ClientTurn m) : Type 0 where
+      pub end : Walked m
+      pub ended : walked_in m (after m h xs) e n ≡ Some end
+      pub notes : t.notes ≡ (walked m end.client end.work).notes
+      pub now : t.now ≡ record (walked m end.client end.work).now { calls = (walked m end.client end.work).now.calls + 1 }
+      pub heard : EndOk m (log m (after m h zs)) linked s.next (Tail n s.next) (Met n s.next) end
 
     node_itself : (a : NodeId) → node_eq a a ≡ true
     unfolding node_eq
@@ -314,9 +322,25 @@ module _ (m : Meaning) (h : Header) (zs : Moves m) (r : Reaches m h zs (after m 
     module _ (n : ℕ) (s : CommandStart) (kept : Kept s n (client m (after m h xs) n)) where
       comes_tells : (x : Moved m) (o : Option (Walked m)) (t : ClientTurn m) → walked_in m (after m h xs) e n ≡ o → t.notes ≡ x.notes → t.now ≡ record x.now { calls = x.now.calls + 1 }
           → Comes m (log m (after m h zs)) linked s.next (Tail n s.next) (Met n s.next) x o → Tells n s t
-      comes_tells x o t is notes now (Plainly g) = Plain' (subst (PlainNotes m) (sym notes) g.notes)
+      comes_tells x o t is notes now (Plainly g) = Plain' (subst (BriefNotes m) (sym notes) (brief_notes m x.notes g.notes))
       comes_tells x o t is notes now (Ended y at same k) =
           AtEnd y (is ∙ at) (notes ∙ ap (λ (z : Moved m). z.notes) same) (now ∙ ap (λ (z : Moved m). record z.now { calls = z.now.calls + 1 }) same) k
+
+      -- of a packet that comes to the client: what it tells is plain, or its walks are over
+      pub hears_tells : (p : Packet) → Has (after m h xs).packets p → p.to ≡ client_id n → Delivered m (after m h xs) e n p → PlainNotes m (client_deliver m (client m (after m h xs) n) p.from p.rid p.msg).notes ⊎ Over n s (client_deliver m (client m (after m h xs) n) p.from p.rid p.msg)
+      unfolding client_deliver
+      hears_tells p i to d = by (comes n s kept p i to)
+        where
+          by : Comes m (log m (after m h zs)) linked s.next (Tail n s.next) (Met n s.next) (feed m (client m (after m h xs) n) (client m (after m h xs) n).work p.from p.rid (reply p.msg)) (work_end m (client m (after m h xs) n) (client m (after m h xs) n).work p.from p.rid (reply p.msg))
+              → PlainNotes m (feed m (client m (after m h xs) n) (client m (after m h xs) n).work p.from p.rid (reply p.msg)).notes ⊎ Over n s (client_deliver m (client m (after m h xs) n) p.from p.rid p.msg)
+          by (Plainly g) = inl g.notes
+          by (Ended y at same k) = inr (record {
+            end = y;
+            ended = ends_here n p to d ∙ at;
+            notes = ap (λ (z : Moved m). z.notes) same;
+            now = ap (λ (z : Moved m). record z.now { calls = z.now.calls + 1 }) same;
+            heard = k;
+          })
 
       pub tells : (t : ClientTurn m) → (i : ClientInput m (config m (after m h xs)) n t) → From m (after m h xs) e n t i → Tells n s t
       unfolding client_command client_deliver client_tick

@@ -50,8 +50,8 @@ use Rattle.tg_law_walks.specs.Walks.Laws.{SyncEndsAs}
 use Rattle.tg_law_walks.proofs.Walks.Cells.{more_known}
 use Rattle.tg_law_syncs.proofs.Known.Ways.{Came, Rests, Appends, Syncs, Trims as Trims', WalkedWay, Plays, LeavesView, played_view, walked_way}
 use Rattle.tg_law_causes.proofs.OnPaths.{IsRead, next_on_path, WalkOn, NextOn, start_on, again_on, feed_on}
-use Rattle.tg_law_causes.proofs.Refusing.{NotUndecided, Fine, fine_copy}
-use Rattle.tg_law_causes.proofs.Stalling.{Plain, PlainNotes, PlainPurpose, PlainWork, widens, StreamsFit, WorkStreams, Said, walked_so}
+use Rattle.tg_law_causes.proofs.Refusing.{NotUndecided, NotFound, Fine, FineCopy, fine_copy}
+use Rattle.tg_law_causes.proofs.Stalling.{Plain, PlainNotes, Brief, BriefNotes, brief_notes, PlainPurpose, PlainWork, widens, StreamsFit, WorkStreams, Said, walked_so}
 
 -- a turn draws no number below its next
 up_of : {M E : Type 0} → (asks : M → List Out) (old : List Out) (next : ℕ) (bs : List Out) (end : ℕ) (to : Next M E) → NextDraws asks old next bs end to → next ≤ end
@@ -209,9 +209,18 @@ module _ (m : Meaning) (l : Log) (linked : AreLinked l) (low : ℕ) (Tail : ℕ 
   unfolding trim_start
   trims_held c w below = tt
 
-  plain_refused : (why : Refusal) → NotUndecided why → Plain m (told.Refused why)
+  plain_refused : (why : Refusal) → NotFound why → Plain m (told.Refused why)
   plain_refused (cause.Undecided p o) k = absurd k
+  plain_refused (cause.NoCheckpoint o) k = absurd k
+  plain_refused (cause.OpenDecision p) k = absurd k
+  plain_refused (cause.NotHosted o) k = absurd k
   plain_refused why k = tt
+
+  brief_refused : (why : Refusal) → NotUndecided why → Brief m (told.Refused why)
+  brief_refused (cause.Undecided p o) k = absurd k
+  brief_refused (cause.NoCheckpoint o) k = absurd k
+  brief_refused (cause.OpenDecision p) k = absurd k
+  brief_refused why k = tt
 
   -- Where all streams are walked.
 
@@ -222,6 +231,10 @@ module _ (m : Meaning) (l : Log) (linked : AreLinked l) (low : ℕ) (Tail : ℕ 
     none = λ d t i j k. tt;
     same = λ d t e i j k a b f. tt;
     past = λ d p o q v r x i s j k. tt;
+    no_save = λ d o n i s f. tt;
+    is_open = λ d o n p i s f. tt;
+    no_state = λ d o q i s f. tt;
+    no_past = λ d p o q v i j f. tt;
     rescue = λ d p q x i j. tt;
   })
 
@@ -425,7 +438,7 @@ module _ (m : Meaning) (l : Log) (linked : AreLinked l) (low : ℕ) (Tail : ℕ 
       by (Learns r) = learns (after_turn m c t) w (Reconfiguring r) tt
       by (Ends e) = ended e
 
-  copies_good : (c : Client m) (w : Work m) (x : Copying) (f : Option Refusal) → Fine f → Good (copies_again m c w x f)
+  copies_good : (c : Client m) (w : Work m) (x : Copying) (f : Option Refusal) → FineCopy f → Good (copies_again m c w x f)
   copies_good c w x None k = copy_good c w x (copy_start x.unit x.range x.stripe c.next)
   copies_good c w x (Some why) k = refused c 0 why (plain_refused why k)
 
@@ -564,7 +577,7 @@ module _ (m : Meaning) (l : Log) (linked : AreLinked l) (low : ℕ) (Tail : ℕ 
     unfolding copy_start
     copy_starts u r s = record { held = tt; notes = tt }
 
-    pub accepts_good : (x : CommandOf m) → Good (accepts m c x)
+    accepts_good : (x : CommandOf m) → Good (accepts m c x)
     unfolding accepts
     accepts_good (cmd.Host o) = host_good o (hosts_oid m c o)
     accepts_good cmd.Begin = says (record c { begun = c.begun + 1; tx = Some (open_tx (c.begun + 1)) }) _ refl (tt, tt)
@@ -576,6 +589,10 @@ module _ (m : Meaning) (l : Log) (linked : AreLinked l) (low : ℕ) (Tail : ℕ 
     accepts_good (cmd.Copy u r s) = copy_starts u r s
     accepts_good x = synced' c (new_work m x) c.hosted le (λ i. refl)
 
-  pub command_good : (c : Client m) → low ≤ c.next → WorkHeld c.hosted c.work → (x : CommandOf m) (f : Option Refusal) → Fine f → (f ≡ None → c.work ≡ None) → Good (refused_or m c x f)
-  command_good c le held x None k free = accepts_good c le (free refl) x
-  command_good c le held x (Some why) k free = record { held = held; notes = (plain_refused why k, tt) }
+  pub record Given (x : Moved m) : Type 0 where
+    pub held : WorkHeld x.now.hosted x.now.work
+    pub notes : BriefNotes m x.notes
+
+  pub command_good : (c : Client m) → low ≤ c.next → WorkHeld c.hosted c.work → (x : CommandOf m) (f : Option Refusal) → Fine f → (f ≡ None → c.work ≡ None) → Given (refused_or m c x f)
+  command_good c le held x None k free = let g = accepts_good c le (free refl) x in record { held = g.held; notes = brief_notes m _ g.notes }
+  command_good c le held x (Some why) k free = record { held = held; notes = (brief_refused why k, tt) }

@@ -116,7 +116,7 @@ module _ (m : Meaning) (h : Header) (ms : Moves m) (e : EventOf m) (r : Reaches 
   prefix Q [] (x ∷ rest) w k = k.0
   prefix Q (x ∷ before) rest w k = (k.0, prefix Q before rest (moved_by m x w) k.1)
 
-  now : Right (after m h ms)
+  pub now : Right (after m h ms)
   now = passed m Right ms (Takes e ∷ []) (start m h) all_right
 
   each : EachEvent m h.objects (entries_in m (after m h (ms ++ Takes e ∷ []))) (Ready m h.objects (entries_in m (after m h (ms ++ Takes e ∷ [])))) (after m h ms) e

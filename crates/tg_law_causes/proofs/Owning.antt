@@ -101,6 +101,10 @@ module _ (m : Meaning) (es : Entries) (Mine : ℕ → Type 0) (mine : (p : ℕ) 
     none = λ d t i j k. tt;
     same = λ d t e i j k a b f. tt;
     past = λ d p o q v r x i s j k. tt;
+    no_save = λ d o n i s f. tt;
+    is_open = λ d o n p i s f. tt;
+    no_state = λ d o q i s f. tt;
+    no_past = λ d p o q v i j f. tt;
     rescue = λ d p q x i j. tt;
   })).drafts
 

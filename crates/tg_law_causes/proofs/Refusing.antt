@@ -1,4 +1,4 @@
--- No command is refused before any work because something is undecided.
+-- No command is refused before any work because something is undecided, or for what its walks find.
 use Rattle.std.proofs.Common.{ℕ, List, [], ◌∷◌, Bool, true, false, Option, Some, None}
 use Rattle.tg_base.specs.Layouts.{Layout}
 use Rattle.tg_base.specs.declared.ids.Oid.{Oid}
@@ -18,11 +18,25 @@ use Rattle.tg_protocol.specs.Clients.{Work, Client, by_layout, by_tx, busy, put_
 
 abbrev pub NotUndecided : Refusal → Type 0
 NotUndecided (cause.Undecided p o) = ⊥
+NotUndecided (cause.NoCheckpoint o) = ⊥
+NotUndecided (cause.OpenDecision p) = ⊥
 NotUndecided why = Unit {0}
 
 abbrev pub Fine : Option Refusal → Type 0
 Fine None = Unit {0}
 Fine (Some why) = NotUndecided why
+
+-- nor does the layout tell of that an object isn't hosted
+abbrev pub NotFound : Refusal → Type 0
+NotFound (cause.Undecided p o) = ⊥
+NotFound (cause.NoCheckpoint o) = ⊥
+NotFound (cause.OpenDecision p) = ⊥
+NotFound (cause.NotHosted o) = ⊥
+NotFound why = Unit {0}
+
+abbrev pub FineCopy : Option Refusal → Type 0
+FineCopy None = Unit {0}
+FineCopy (Some why) = NotFound why
 
 module _ (m : Meaning) where
   abbrev AllFine : List (Option Refusal) → Type 0
@@ -87,6 +101,16 @@ module _ (m : Meaning) where
   unfolding refusal
   fine_refusal c x = fine_first (busy m c.work ∷ tests m c x) (fine_busy c.work, fine_tests c x)
 
-  pub fine_copy : (p : Layout) (u r s : ℕ) → Fine (copy_fault m p u r s)
+  of_layout : (f : Option ProjFault) → FineCopy (by_layout m f)
+  of_layout None = tt
+  of_layout (Some (layout.TooMany x)) = tt
+  of_layout (Some (layout.NotClosed r)) = tt
+  of_layout (Some (layout.NoStripe r s)) = tt
+  of_layout (Some (layout.InChain u)) = tt
+  of_layout (Some (layout.Returned u)) = tt
+  of_layout (Some (layout.NoReplica r s)) = tt
+  of_layout (Some (layout.NotAcked u)) = tt
+
+  pub fine_copy : (p : Layout) (u r s : ℕ) → FineCopy (copy_fault m p u r s)
   unfolding copy_fault
-  fine_copy p u r s = fine_layout _
+  fine_copy p u r s = of_layout _

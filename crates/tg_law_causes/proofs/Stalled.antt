@@ -1,10 +1,12 @@
 -- A step that tells of something undecided, and what its client had at the end of its walks.
 use Rattle.std.proofs.Common.{◌≡◌, ◌⊎◌, ℕ, ◌+◌, ◌<◌, List, [], ◌∷◌, ◌++◌, map, refl, sym, ap, ◌∙◌, subst, inl, inr, arith, Option, Some}
 use Rattle.tg_base.specs.Clusters.{Header}
+use Rattle.tg_base.specs.declared.ids.NodeId.{NodeId}
 use Rattle.tg_base.specs.declared.ids.Oid.{Oid}
 use Rattle.tg_base.specs.declared.packet.Packet.{Packet}
 use Rattle.tg_kind.specs.Meaning.{Meaning}
 use Rattle.tg_model.specs.declared.command.Command.TheVariants as cmd
+use Rattle.tg_model.specs.declared.command.Event.TheVariants.{Deliver}
 use Rattle.tg_model.specs.declared.refusal.Refusal.TheVariants as cause
 use Rattle.tg_model.specs.declared.trace.What.TheVariants as told
 use Rattle.tg_model.specs.Kinds.{CommandOf, EventOf, WhatOf, NoteOf}
@@ -15,7 +17,7 @@ use Rattle.tg_protocol.specs.Clients.{Task, Syncing, Walking, Appending, Trimmin
 use Rattle.tg_protocol.specs.Answers.{walked}
 use Rattle.tg_protocol.specs.ClientSteps.{ClientTurn, task_in}
 use Rattle.tg_protocol.specs.Walked.{Walked, walked_in}
-use Rattle.tg_protocol.specs.Worlds.{CommandStart, World, Told, start, client, log, happens}
+use Rattle.tg_protocol.specs.Worlds.{CommandStart, World, Told, start, client, noted_of, log, happens}
 use Rattle.tg_protocol.specs.Stuck.{WalkMetTrim, command_in, StuckTrue}
 use Rattle.tg_protocol.specs.Runs.{Move, Moves, Takes, Reaches, LawfulEvent, LawfulMove, most_steps, run}
 use Rattle.tg_law_layouts.specs.Moves.After.{after}
@@ -31,9 +33,10 @@ use Rattle.tg_law_walks.proofs.Drafts.Written.{then_takes}
 use Rattle.tg_law_trims.proofs.Leaves.Walks.{feed_by}
 use Rattle.tg_law_trims.proofs.Leaves.Ended.{Stays, Tells as Tellings, stays_there}
 use Rattle.tg_law_headline.proofs.Alike.Speaks.{Speaks, Silent, Speaks', Turns, told_of, speaks}
-use Rattle.tg_law_causes.proofs.Stalling.{Plain, PlainNotes, PlaysKept, EachOk, walked_so}
+use Rattle.tg_law_causes.proofs.Stalling.{Plain, PlainNotes, Brief, BriefNotes, PlaysKept, EachOk, walked_so}
 use Rattle.tg_law_causes.proofs.Hearing.{EndOk}
-use Rattle.tg_law_causes.proofs.HeardAlong.{linked, Tail, Met, State, kept_of, Tells, Plain', AtEnd, tells, state_at}
+use Rattle.tg_law_causes.proofs.Heard.{turn, Handed, deliver_hands}
+use Rattle.tg_law_causes.proofs.HeardAlong.{linked, Tail, Met, State, kept_of, Tells, Plain', AtEnd, Over, hears_tells, tells, state_at}
 use Rattle.tg_law_causes.proofs.Rescuing.{trim_has, rescue_stuck, stuck_trimmed}
 
 cancel : {X : Type 0} → (xs ys zs : List X) → xs ++ ys ≡ xs ++ zs → ys ≡ zs
@@ -113,13 +116,18 @@ module _ (m : Meaning) where
   plain_has (x ∷ ns) n k (inl e) = subst (λ (y : NoteOf m). Plain m y.what) (sym e) k.0
   plain_has (x ∷ ns) n k (inr i) = plain_has ns n k.1 i
 
+  brief_has : (ns : List (NoteOf m)) (n : NoteOf m) → BriefNotes m ns → Has ns n → Brief m n.what
+  brief_has [] n k i = absurd i
+  brief_has (x ∷ ns) n k (inl e) = subst (λ (y : NoteOf m). Brief m y.what) (sym e) k.0
+  brief_has (x ∷ ns) n k (inr i) = brief_has ns n k.1 i
+
   module _ (h : Header) (ms : Moves m) (e : EventOf m) (r : Reaches m h (ms ++ Takes e ∷ []) (after m h (ms ++ Takes e ∷ []))) (trims : TrimsWereSpare m h (ms ++ Takes e ∷ [])) where
     abbrev w : World m
     w = after m h ms
 
-    told_there : (t : Told m) (n : ℕ) (x : ClientTurn m) (s : CommandStart) → (Plain m t.mark.what → ⊥) → (y : NoteOf m) → Has x.notes y → t ≡ told_of m (after m h ms) n s y → client m (happens m (after m h ms) e) n ≡ x.now
+    told_there : (t : Told m) (n : ℕ) (x : ClientTurn m) (s : CommandStart) → (Brief m t.mark.what → ⊥) → (y : NoteOf m) → Has x.notes y → t ≡ told_of m (after m h ms) n s y → client m (happens m (after m h ms) e) n ≡ x.now
         → Tells m h (ms ++ Takes e ∷ []) r trims ms e [] refl n s x → AtWalksEnd h ms e r trims t
-    told_there t n x s some y i same now (Plain' k) = absurd (some (subst (λ (z : Told m). Plain m z.mark.what) (sym same) (plain_has x.notes y k i)))
+    told_there t n x s some y i same now (Plain' k) = absurd (some (subst (λ (z : Told m). Brief m z.mark.what) (sym same) (brief_has x.notes y k i)))
     told_there t n x s some y i same now (AtEnd end is notes then ok) = subst (AtWalksEnd h ms e r trims) (sym same) (record {
       end = end;
       ended = is;
@@ -137,7 +145,7 @@ module _ (m : Meaning) where
     now_is n x s v (inl a) = a.1
     now_is n x s v (inr a) = absurd (a.2 refl)
 
-    pub undecided_ends : (added : List (Told m)) (t : Told m) → (happens m (after m h ms) e).told ≡ (after m h ms).told ++ added → Has added t → (Plain m t.mark.what → ⊥) → AtWalksEnd h ms e r trims t
+    pub undecided_ends : (added : List (Told m)) (t : Told m) → (happens m (after m h ms) e).told ≡ (after m h ms).told ++ added → Has added t → (Brief m t.mark.what → ⊥) → AtWalksEnd h ms e r trims t
     undecided_ends added t are i some = by (speaks m (after m h ms) e)
       where
         by : Speaks m (after m h ms) e (happens m (after m h ms) e) → AtWalksEnd h ms e r trims t
@@ -146,6 +154,32 @@ module _ (m : Meaning) where
             let z = has_map (told_of m (after m h ms) n s) x.notes t (subst (λ (ts : List (Told m)). Has ts t) (cancel (after m h ms).told added (map (told_of m (after m h ms) n s) x.notes) (sym are ∙ grown)) i) in
             told_there t n x s some z.of z.has z.is (now_is n x s (happens m (after m h ms) e) (f n))
             (tells m h (ms ++ Takes e ∷ []) r trims ms e [] refl n s (kept_of m h (ms ++ Takes e ∷ []) r trims ms e [] refl n s noted (state.clients n)) x j b)
+
+    -- and where no command was given, so is each reply that isn't plain
+    pub handed_ends : (i : ℕ) → e ≡ Deliver i → (added : List (Told m)) (t : Told m) → (happens m (after m h ms) e).told ≡ (after m h ms).told ++ added → Has added t → (Plain m t.mark.what → ⊥) → AtWalksEnd h ms e r trims t
+    handed_ends i event added t are has some = by (subst (λ (u : EventOf m). Handed m (after m h ms) i (happens m (after m h ms) u) ⊎ ((happens m (after m h ms) u).told ≡ (after m h ms).told)) (sym event) (deliver_hands m (after m h ms) i))
+      where
+        over : (g : Handed m (after m h ms) i (happens m (after m h ms) e)) → (y : NoteOf m) → Has (turn m (after m h ms) g.packet).notes y → t ≡ told_of m (after m h ms) g.packet.to.num (noted_of m (after m h ms) g.packet.to.num) y
+            → PlainNotes m (turn m (after m h ms) g.packet).notes ⊎ Over m h (ms ++ Takes e ∷ []) r trims ms e [] refl g.packet.to.num (noted_of m (after m h ms) g.packet.to.num) (turn m (after m h ms) g.packet) → AtWalksEnd h ms e r trims t
+        over g y j same (inl k) = absurd (some (subst (λ (z : Told m). Plain m z.mark.what) (sym same) (plain_has (turn m (after m h ms) g.packet).notes y k j)))
+        over g y j same (inr o) = subst (AtWalksEnd h ms e r trims) (sym same) (record {
+          end = o.end;
+          ended = o.ended;
+          heard = o.heard;
+          note = y;
+          here = subst (λ (ns : List (NoteOf m)). Has ns y) o.notes j;
+          is = refl;
+          now = g.now ∙ o.now;
+        })
+
+        by : Handed m (after m h ms) i (happens m (after m h ms) e) ⊎ ((happens m (after m h ms) e).told ≡ (after m h ms).told) → AtWalksEnd h ms e r trims t
+        by (inr x) = absurd (subst (λ (ts : List (Told m)). Has ts t) (cancel (after m h ms).told added [] (sym are ∙ (x ∙ sym (nil_right (after m h ms).told)))) has)
+        by (inl g) =
+            let z = has_map (told_of m (after m h ms) g.packet.to.num (noted_of m (after m h ms) g.packet.to.num)) (turn m (after m h ms) g.packet).notes t
+            (subst (λ (ts : List (Told m)). Has ts t) (cancel (after m h ms).told added (map (told_of m (after m h ms) g.packet.to.num (noted_of m (after m h ms) g.packet.to.num)) (turn m (after m h ms) g.packet).notes) (sym are ∙ g.grown)) has) in
+            over g z.of z.has z.is
+            (hears_tells m h (ms ++ Takes e ∷ []) r trims ms e [] refl g.packet.to.num (noted_of m (after m h ms) g.packet.to.num) (state.clients g.packet.to.num) g.packet g.sent g.to
+            (record { at = i; event = event; got = g.got; of_client = ap (λ (a : NodeId). a.role) g.to; num = refl; on = g.on }))
 
     -- what a client told that it met, by its reply
     pub met_of : (t : Told m) (o : Oid) → Met m h (ms ++ Takes e ∷ []) r trims t.mark.client t.noted.next o → WalkMetTrim m (after m h (ms ++ Takes e ∷ [])) t o
@@ -202,6 +236,10 @@ module _ (m : Meaning) where
           unsure = λ d a x ending s u le f. tt;
           none = λ d a ending came none. tt;
           same = λ d a y ending came at says known eq. tt;
+          no_save = λ d o n i s f. tt;
+          is_open = λ d o n p i s f. tt;
+          no_state = λ d o q i s f. tt;
+          no_past = λ d p o q v i j f. tt;
           past = λ d a x ask u b y is s view came. λ z other. absurd (asked_rescue v.command a z x ask is other);
           rescue = λ d a b x is turn. λ z other. met_of t x (trimmed k a b x turn);
         }) in
@@ -228,5 +266,5 @@ module _ (m : Meaning) where
       reach : Reaches m h (ms ++ Takes e ∷ []) (after m h (ms ++ Takes e ∷ []))
       reach = let g = goes_reach h ms w e r lawful few in subst (Reaches m h (ms ++ Takes e ∷ [])) g.goes.is g
 
-      not_plain : (t : Told m) (q : ℕ) (o : Oid) → t.mark.what ≡ told.Refused (cause.Undecided q o) → Plain m t.mark.what → ⊥
-      not_plain t q o is k = subst (Plain m) is k
+      not_plain : (t : Told m) (q : ℕ) (o : Oid) → t.mark.what ≡ told.Refused (cause.Undecided q o) → Brief m t.mark.what → ⊥
+      not_plain t q o is k = subst (Brief m) is k

@@ -1,4 +1,5 @@
--- What a command tells whose streams are walked: where something stays undecided, the play was blocked, or a read is unknown.
+-- What a command tells whose streams are walked: where something stays undecided, the play was blocked, or a read is unknown; and why
+-- it may not forget, or has no state of an object.
 use Rattle.std.proofs.Common.{◌≡◌, ℕ, ◌+◌, ◌<◌, ◌≤◌, List, [], ◌∷◌, Bool, true, false, refl, sym, ap, subst, inl, inr, arith, Option, Some, None}
 use Rattle.std.specs.Prelude.{nat_lt, nat_le, ◌&&◌, ◌==◌, if◌then◌else◌}
 use Rattle.std.proofs.lemmas.Bool.Decides.{nat_tests}
@@ -32,16 +33,42 @@ use Rattle.tg_protocol.specs.ClientSteps.{task_in}
 use Rattle.tg_law_replies.proofs.History.Members.{Has}
 use Rattle.tg_law_replies.proofs.Views.Records.{commit_there}
 
--- What isn't told of something undecided.
+-- What isn't told of what walks found: neither of something undecided, nor why nothing may be forgotten, nor that an object isn't hosted.
 module _ (m : Meaning) where
   abbrev pub Plain : WhatOf m → Type 0
   Plain (told.Refused (cause.Undecided p o)) = ⊥
+  Plain (told.Refused (cause.NoCheckpoint o)) = ⊥
+  Plain (told.Refused (cause.OpenDecision p)) = ⊥
+  Plain (told.Refused (cause.NotHosted o)) = ⊥
   Plain (told.Unsure p q) = ⊥
   Plain what = Unit {0}
+
+  -- what may be told in any step but at the end of walks: that an object isn't hosted is told at once, too
+  abbrev pub Brief : WhatOf m → Type 0
+  Brief (told.Refused (cause.Undecided p o)) = ⊥
+  Brief (told.Refused (cause.NoCheckpoint o)) = ⊥
+  Brief (told.Refused (cause.OpenDecision p)) = ⊥
+  Brief (told.Unsure p q) = ⊥
+  Brief what = Unit {0}
+
+  pub brief_of : (what : WhatOf m) → Plain what → Brief what
+  brief_of (told.Refused (cause.Undecided p o)) k = k
+  brief_of (told.Refused (cause.NoCheckpoint o)) k = k
+  brief_of (told.Refused (cause.OpenDecision p)) k = k
+  brief_of (told.Unsure p q) k = k
+  brief_of what k = tt
+
+  abbrev pub BriefNotes : List (NoteOf m) → Type 0
+  BriefNotes [] = Unit {0}
+  BriefNotes (n ∷ ns) = Brief n.what × BriefNotes ns
 
   abbrev pub PlainNotes : List (NoteOf m) → Type 0
   PlainNotes [] = Unit {0}
   PlainNotes (n ∷ ns) = Plain n.what × PlainNotes ns
+
+  pub brief_notes : (ns : List (NoteOf m)) → PlainNotes ns → BriefNotes ns
+  brief_notes [] k = tt
+  brief_notes (n ∷ ns) k = (brief_of n.what k.0, brief_notes ns k.1)
 
   -- an answer that waits for a decision record
   abbrev pub PlainPurpose : Purpose m → Type 0
@@ -334,6 +361,10 @@ module _ (m : Meaning) (Ok : Client m → WhatOf m → Type 0) (ok : (d : Client
           → changed_in m plays.view (reads_of e) w.at ≡ None → Ok d (told.Unsure w.at w.at)
       pub past : (d : Client m) (p : ℕ) (o : Oid) (q : m.ask) (v : Play m) (r : ℕ) (x : Oid) → w.command ≡ cmd.AskAt p o q → d.hosted ≡ c.hosted → past_at m (member_entries m c w w.oids) w.trims w.oids c.objects o p ≡ PastView v → v.came ≡ Blocked r x
           → Ok d (told.Refused (cause.Undecided r x))
+      pub no_save : (d : Client m) (o : Oid) (n : ℕ) → w.command ≡ cmd.Forget o n → Seen d → may_forget m own o n ≡ Some NoCheckpoint → Ok d (told.Refused (cause.NoCheckpoint o))
+      pub is_open : (d : Client m) (o : Oid) (n p : ℕ) → w.command ≡ cmd.Forget o n → Seen d → may_forget m own o n ≡ Some (OpenDecision p) → Ok d (told.Refused (cause.OpenDecision p))
+      pub no_state : (d : Client m) (o : Oid) (q : m.ask) → w.command ≡ cmd.Ask o q → Seen d → state_of m plays.view o ≡ None → Ok d (told.Refused (cause.NotHosted o))
+      pub no_past : (d : Client m) (p : ℕ) (o : Oid) (q : m.ask) (v : Play m) → w.command ≡ cmd.AskAt p o q → past_at m (member_entries m c w w.oids) w.trims w.oids c.objects o p ≡ PastView v → state_of m v.view o ≡ None → Ok d (told.Refused (cause.NotHosted o))
       pub rescue : (d : Client m) (p q : ℕ) (x : Oid) → w.command ≡ cmd.Rescue p → rescue_turn m (all_entries m c w w.oids) w.trims w.oids c.objects p ≡ StuckAt q x → Ok d (told.Refused (cause.Undecided q x))
 
     module _ (cases : Cases) where
@@ -352,17 +383,17 @@ module _ (m : Meaning) (Ok : Client m → WhatOf m → Type 0) (ok : (d : Client
 
         -- The answers.
 
-        ask_so : (o : Oid) (q : m.ask) (came : PlayEnd) → plays.came ≡ came → Said (on_ask m cv w o q v came)
-        ask_so o q (Blocked p x) is = stuck_so _ p x is
-        ask_so o q (Played t) is = by cv.tx
+        ask_so : (o : Oid) (q : m.ask) → w.command ≡ cmd.Ask o q → (came : PlayEnd) → plays.came ≡ came → Said (on_ask m cv w o q v came)
+        ask_so o q asks (Blocked p x) is = stuck_so _ p x is
+        ask_so o q asks (Played t) is = by cv.tx
           where
-            by_state : (t : Tx) (s : Option m.state) → Said (ask_answer m cv w t o q v s)
-            by_state t None = refused cv t.number (cause.NotHosted o) tt
-            by_state t (Some s) = answered (record cv { tx = Some (tx_read t (record { oid = o; part = m.look q; version = view_version m v o (m.look q) }) w.tail) }) t.number (told.Asked o q w.tail (m.answers s q)) tt
+            by_state : (t : Tx) (s : Option m.state) → state_of m v o ≡ s → Said (ask_answer m cv w t o q v s)
+            by_state t None none = record { notes = (cases.no_state _ o q asks (record { view = refl; own_same = refl; hosted = refl }) none, tt); work = tt; streams = tt; drafts = tt }
+            by_state t (Some s) some = answered (record cv { tx = Some (tx_read t (record { oid = o; part = m.look q; version = view_version m v o (m.look q) }) w.tail) }) t.number (told.Asked o q w.tail (m.answers s q)) tt
 
             by : (t : Option Tx) → Said (ask_in m cv w o q v t)
             by None = refused cv 0 cause.NoTx tt
-            by (Some t) = by_state t (state_of m v o)
+            by (Some t) = by_state t (state_of m v o) refl
 
         end_decided_so : (b : Bool) (e : Entry) (p : ℕ) (so : Bool) (what : WhatOf m) → Plain m what → Said (end_decided m b cv w e p so what)
         end_decided_so true e p so what k = appended (with_decision m cv) w (decision m cv e p so) (Decides what) [] (λ i. absurd i) k tt
@@ -453,14 +484,14 @@ module _ (m : Meaning) (Ok : Client m → WhatOf m → Type 0) (ok : (d : Client
         checkpoint_so o (Played t) is = save_so o (checkpoint m v o w.tail cv.num (cv.checkpoints + 1)) (nat_lt 4096 (entry_size (checkpoint m v o w.tail cv.num (cv.checkpoints + 1))))
         checkpoint_so o (Blocked q x) is = stuck_so 0 q x is
 
-        mark_so : (o : Oid) (n : ℕ) (f : Option (ForgetFault m)) → Said (forget_by m cv w o n f)
-        mark_so o n (Some NoCheckpoint) = refused cv 0 (cause.NoCheckpoint o) tt
-        mark_so o n (Some (OpenDecision p)) = refused cv 0 (cause.OpenDecision p) tt
-        mark_so o n None = appended (record cv { begun = cv.begun + 1 }) w (mark_record m cv o n) (Marks (cv.begun + 1) o n) (mark_notes m (cv.begun + 1) o n) (λ i. refl) tt (tt, (tt, (tt, tt)))
+        mark_so : (o : Oid) (n : ℕ) → w.command ≡ cmd.Forget o n → (f : Option (ForgetFault m)) → may_forget m own o n ≡ f → Said (forget_by m cv w o n f)
+        mark_so o n forgets (Some NoCheckpoint) is = record { notes = (cases.no_save _ o n forgets (record { view = refl; own_same = refl; hosted = refl }) is, tt); work = tt; streams = tt; drafts = tt }
+        mark_so o n forgets (Some (OpenDecision p)) is = record { notes = (cases.is_open _ o n p forgets (record { view = refl; own_same = refl; hosted = refl }) is, tt); work = tt; streams = tt; drafts = tt }
+        mark_so o n forgets None is = appended (record cv { begun = cv.begun + 1 }) w (mark_record m cv o n) (Marks (cv.begun + 1) o n) (mark_notes m (cv.begun + 1) o n) (λ i. refl) tt (tt, (tt, (tt, tt)))
 
-        forget_so : (o : Oid) (n : ℕ) (came : PlayEnd) → plays.came ≡ came → Said (on_forget m cv w own o n came)
-        forget_so o n (Played t) is = mark_so o n (may_forget m own o n)
-        forget_so o n (Blocked q x) is = stuck_so 0 q x is
+        forget_so : (o : Oid) (n : ℕ) → w.command ≡ cmd.Forget o n → (came : PlayEnd) → plays.came ≡ came → Said (on_forget m cv w own o n came)
+        forget_so o n forgets (Played t) is = mark_so o n forgets (may_forget m own o n) refl
+        forget_so o n forgets (Blocked q x) is = stuck_so 0 q x is
 
         trims_so : (below : ℕ) (b : Bool) → Said (trims_if m cv w below b)
         trims_so below true = answered cv 0 (told.Trimmed below) tt
@@ -471,27 +502,27 @@ module _ (m : Meaning) (Ok : Client m → WhatOf m → Type 0) (ok : (d : Client
         trim_so (Blocked q x) is = stuck_so 0 q x is
 
         answer_so : (x : CommandOf m) → w.command ≡ x → Said (answer_by m cv w own plays x)
-        answer_so (cmd.Ask o q) is = ask_so o q plays.came refl
+        answer_so (cmd.Ask o q) is = ask_so o q is plays.came refl
         answer_so cmd.End is = end_so is plays.came refl
         answer_so (cmd.Fate p) is = fate_so p plays.came refl
         answer_so (cmd.Decide p) is = decide_so p plays.came refl (trim_above m w.trims p)
         answer_so (cmd.Checkpoint o) is = checkpoint_so o plays.came refl
-        answer_so (cmd.Forget o n) is = forget_so o n plays.came refl
+        answer_so (cmd.Forget o n) is = forget_so o n is plays.came refl
         answer_so cmd.Trim is = trim_so plays.came refl
         answer_so x is = replied cv [] tt
 
       -- past views and rescues
 
-      past_answer_so : (p : ℕ) (o : Oid) (q : m.ask) (s : Option m.state) → Said (past_answer m c p o q s)
-      past_answer_so p o q None = refused c 0 (cause.NotHosted o) tt
-      past_answer_so p o q (Some s) = replied c (note m 0 (told.Past o q p (m.answers s q)) ∷ []) (tt, tt)
+      past_answer_so : (p : ℕ) (o : Oid) (q : m.ask) (s : Option m.state) → (s ≡ None → (d : Client m) → Ok d (told.Refused (cause.NotHosted o))) → Said (past_answer m c p o q s)
+      past_answer_so p o q None f = record { notes = (f refl _, tt); work = tt; streams = tt; drafts = tt }
+      past_answer_so p o q (Some s) f = replied c (note m 0 (told.Past o q p (m.answers s q)) ∷ []) (tt, tt)
 
       past_so : (p : ℕ) (o : Oid) (q : m.ask) → w.command ≡ cmd.AskAt p o q → (t : PastTurn m) → past_at m (member_entries m c w w.oids) w.trims w.oids c.objects o p ≡ t → Said (past_turn m c p o q t)
       past_so p o q is (PastGone b) t = refused c 0 (cause.Forgotten p b) tt
       past_so p o q is (PastView u) t = by u.came refl
         where
           by : (came : PlayEnd) → u.came ≡ came → Said (past_played m c p o q u came)
-          by (Played z) came = past_answer_so p o q (state_of m u.view o)
+          by (Played z) came = past_answer_so p o q (state_of m u.view o) (λ none d. cases.no_past d p o q u is t none)
           by (Blocked r x) came = record { notes = (cases.past _ p o q u r x is refl t came, tt); work = tt; streams = tt; drafts = tt }
 
       ask_at_so : (p : ℕ) (o : Oid) (q : m.ask) → w.command ≡ cmd.AskAt p o q → Said (on_ask_at m c w p o q)
