@@ -90,7 +90,7 @@ why_fits (cause.TooMany x) k n = refl
 why_fits (cause.NotClosed r) k n = near r k
 why_fits (cause.NoStripe r s) k n = both (nat_lt r (2 ^ 64)) (nat_lt s (2 ^ 64)) (near r k.0) (near s k.1)
 why_fits (cause.InChain u) k n = few u k
-why_fits (cause.NotWhole u p) k n = absurd cc
+why_fits (cause.NotWhole u p) k n = both (nat_lt u 65536) (nat_lt p (2 ^ 64)) (few u k.0) (near p k.1)
 why_fits (cause.Ahead t) k n = near t k
 
 -- what an ask looks at

@@ -45,7 +45,7 @@ module _ (m : Meaning) (Named : Oid → Type 0) (OpOk : m.op → Type 0) (AskOk 
   AllowedOk (cmd.AskAt at o q) = m.allows_ask o q ≡ true
   AllowedOk x = Unit {0}
 
-  -- why it is refused; how large an entry would be, how long the log is, and which unit isn't whole, aren't asked here
+  -- why it is refused; how large an entry would be, and how long the log is, aren't asked here
   abbrev pub WhyOk : Refusal → Type 0
   WhyOk (cause.NotHosted o) = Named o
   WhyOk (cause.NotRegistered o) = Named o
@@ -60,7 +60,7 @@ module _ (m : Meaning) (Named : Oid → Type 0) (OpOk : m.op → Type 0) (AskOk 
   WhyOk (cause.NotClosed r) = Near r
   WhyOk (cause.NoStripe r s) = Near r × Near s
   WhyOk (cause.InChain u) = Few u
-  WhyOk (cause.NotWhole u p) = Near p
+  WhyOk (cause.NotWhole u p) = Few u × Near p
   WhyOk (cause.Ahead t) = Near t
   WhyOk why = Unit {0}
 

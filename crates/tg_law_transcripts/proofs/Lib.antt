@@ -9,6 +9,7 @@ pub mod Near
 pub mod Votes
 pub mod Given
 pub mod Faults
+pub mod Posted
 pub mod Blocks
 pub mod Copied
 pub mod Spoken

@@ -17,7 +17,7 @@ use Rattle.tg_any.specs.AllKinds.{all_kinds}
 use Rattle.tg_law_layouts.specs.Moves.After.{after}
 use Rattle.tg_law_layouts.proofs.Layouts.Deciding.{layouts_are_known, layouts_are_sound}
 use Rattle.tg_law_layouts.proofs.Moves.Lists.{at_set, at_map}
-use Rattle.tg_law_layouts.proofs.Moves.Members.{Has, has_either, has_map, has_right}
+use Rattle.tg_law_layouts.proofs.Moves.Members.{Has, has_got, has_either, has_map, has_right}
 use Rattle.tg_law_replies.specs.History.Worlds.{entries_in}
 use Rattle.tg_law_replies.specs.Replies.Steps.{EachEvent}
 use Rattle.tg_law_replies.proofs.Books.Worlds.{declared, nil_right, regroup, run_both}
@@ -29,6 +29,7 @@ use Rattle.tg_law_syncs.proofs.Exact.Finds.{rounds_known}
 use Rattle.tg_law_headline.proofs.Runs.Holding.{logs_hold}
 use Rattle.tg_law_transcripts.proofs.Near.{reply_near}
 use Rattle.tg_law_transcripts.proofs.Given.{CommandOk}
+use Rattle.tg_law_transcripts.proofs.Posted.{posted}
 use Rattle.tg_law_transcripts.proofs.Spoken.{EndReads}
 use Rattle.tg_law_transcripts.proofs.Turned.{GoodTurn, commanded, delivered, ticked, up}
 use Rattle.tg_law_transcripts.proofs.Passed.{Named, OpOk, AskOk, own_directory, marks_ok, Says, Kept, small_of, end_reads, State, note_says, reads_named}
@@ -85,7 +86,7 @@ module _ (h : Header) (header : IsHeader h) (final : World all_kinds) (xs : Move
   moves_state i p role.Seqr is got on each s = silent _ refl refl refl s
   moves_state i p role.Client is got on each s =
       turned (handed all_kinds w i) p.to.num (client_deliver all_kinds (client all_kinds w p.to.num) p.from p.rid p.msg) refl refl refl (declared all_kinds w p.to is on)
-      (delivered all_kinds Named OpOk AskOk own_directory marks_ok h.objects (entries_in all_kinds final) top low high (client all_kinds w p.to.num) p.from p.rid p.msg (s.clients p.to.num) (reply_near p.msg) (each p got is on)) s
+      (delivered all_kinds Named OpOk AskOk own_directory marks_ok h.objects (entries_in all_kinds final) top low high (client all_kinds w p.to.num) p.from p.rid p.msg (s.clients p.to.num) (reply_near p.msg) ((posted all_kinds h header xs).from p (has_got w.packets i p got)) (each p got is on)) s
 
   ticks_state : (n : NodeId) (a : Role) → n.role ≡ a → runs all_kinds w n ≡ true → State top w → State (top + 1) (ticks all_kinds w n.num a)
   ticks_state n role.Unit is on s = silent _ refl refl refl s

@@ -34,7 +34,7 @@ use Rattle.tg_law_walks.proofs.Drafts.Tails.{TailNext, tail_feed_ok, tail_start_
 use Rattle.tg_law_transcripts.proofs.Near.{Near, ReplyNear, AppendNear, EndNear, MetNear, WalkNear, append_near, again_near, start_near, walk_again_near, walk_near}
 use Rattle.tg_law_transcripts.proofs.Votes.{ReconfNextOk, ReconfEndOk, reconf_started, reconf_fed, reconf_newer}
 use Rattle.tg_law_transcripts.proofs.Copied.{CopyOk, CopyNext, copy_begun, copy_fed}
-use Rattle.tg_law_transcripts.proofs.Given.{CommandOk, AllowedOk, SayOk, NotesOk, at_number}
+use Rattle.tg_law_transcripts.proofs.Given.{Few, CommandOk, AllowedOk, SayOk, NotesOk, at_number}
 use Rattle.tg_law_transcripts.proofs.Faults.{SmallLayout, OptOk, copying_ok, refusal_ok, allowed_of}
 use Rattle.tg_law_transcripts.proofs.Blocks.{TrimsNear}
 use Rattle.tg_law_transcripts.proofs.Spoken.{PurposeOk, TaskOk, Keeps, WorkOk, SnapshotNear, Standing, ClientOk, Good, EndReads, still, tells, refused, answered, marked, appended, synced, walked_turn}
@@ -215,7 +215,7 @@ module _ (m : Meaning) (Named : Oid → Type 0) (OpOk : m.op → Type 0) (AskOk 
         ended : (e : ReconfEnd) → ReconfEndOk top e → Fine (reconf_ended m (after_turn m c t) e)
         ended (Installed e p) z = tells m Named OpOk AskOk own_directory marks_ok top (stands m (after_turn m c t) p) 0 (told.Installed e) (z.1, h.stand.1) (let l = z.0 in omega (arith, l, high))
         ended (Overtaken e p) z = refused m Named OpOk AskOk own_directory marks_ok top (stands m (after_turn m c t) p) 0 (cause.Overtaken e) (z.1, h.stand.1) (let l = z.0 in omega (arith, l, high))
-        ended (NotWhole u q p) z = refused m Named OpOk AskOk own_directory marks_ok top (stands m (after_turn m c t) p) 0 (cause.NotWhole u q) (z.1, h.stand.1) z.0
+        ended (NotWhole u q p) z = refused m Named OpOk AskOk own_directory marks_ok top (stands m (after_turn m c t) p) 0 (cause.NotWhole u q) (z.2, h.stand.1) (z.1, z.0)
 
         by : (x : Next Reconf ReconfEnd) → ReconfNextOk top x → Fine (reconf_to m (after_turn m c t) w x)
         by (Goes r) n = goes (stands m (after_turn m c t) r.stand) w (Reconfiguring r) [] (n.0, h.stand.1) k n
@@ -245,14 +245,14 @@ module _ (m : Meaning) (Named : Oid → Type 0) (OpOk : m.op → Type 0) (AskOk 
     pub up : (c : Client m) → ClientOk m Named OpOk AskOk own_directory marks_ok top c → ClientOk m Named OpOk AskOk own_directory marks_ok (top + 1) c
     up c h = record { work = work_up c.work h.work; stand = (let l = h.stand.0 in omega (arith, l), h.stand.1) }
 
-    fed_turn : (c : Client m) (w : Work m) (t : Task m) (n rid : ℕ) (y : Msg) → In (top + 1) c → Kept' w → Old t → ReplyNear (reply y) → EachFeed m objects es P c w t n rid (reply y) → Fine' (task_feed m c w t n rid (reply y))
+    fed_turn : (c : Client m) (w : Work m) (t : Task m) (n rid : ℕ) (y : Msg) → In (top + 1) c → Kept' w → Old t → ReplyNear (reply y) → Few n → EachFeed m objects es P c w t n rid (reply y) → Fine' (task_feed m c w t n rid (reply y))
     unfolding task_feed
-    fed_turn c w (Syncing s) n rid y h k j l r = sync_turn (top + 1) c w (sync_feed c.stand s s.work n (reply y) c.next) h k (tail_feed_ok c.stand s n y c.next j) r
-    fed_turn c w (Walking v os) n rid y h k j l r = walk_turn (top + 1) c w v.oid os (walk_feed c.stand v v.job n (reply y) c.next) h k (walk_near c.stand v n (reply y) c.next l) r
-    fed_turn c w (Appending a z) n rid y h k j l r = append_turn (top + 1) c w z (append_feed c.stand a a.work n (reply y) c.next) h k j.1 (append_near c.stand a j.0 c.next n (reply y) l)
-    fed_turn c w (Trimming t) n rid y h k j l r = trims_task (top + 1) c w t.below (trim_feed c.stand t n (reply y) c.next) h k
-    fed_turn c w (Copying' x) n rid y h k j l r = copy_task (top + 1) c w x (copy_feed c.stand x x.work n (reply y) c.next) h k j (copy_fed c.stand x j n c.next (reply y))
-    fed_turn c w (Reconfiguring z) n rid y h k j l r = reconf_task (top + 1) c w (reconf_feed z z.work n rid (reply y) c.next) high h k (reconf_fed top z j c.next n rid (reply y) l)
+    fed_turn c w (Syncing s) n rid y h k j l f r = sync_turn (top + 1) c w (sync_feed c.stand s s.work n (reply y) c.next) h k (tail_feed_ok c.stand s n y c.next j) r
+    fed_turn c w (Walking v os) n rid y h k j l f r = walk_turn (top + 1) c w v.oid os (walk_feed c.stand v v.job n (reply y) c.next) h k (walk_near c.stand v n (reply y) c.next l) r
+    fed_turn c w (Appending a z) n rid y h k j l f r = append_turn (top + 1) c w z (append_feed c.stand a a.work n (reply y) c.next) h k j.1 (append_near c.stand a j.0 c.next n (reply y) l)
+    fed_turn c w (Trimming t) n rid y h k j l f r = trims_task (top + 1) c w t.below (trim_feed c.stand t n (reply y) c.next) h k
+    fed_turn c w (Copying' x) n rid y h k j l f r = copy_task (top + 1) c w x (copy_feed c.stand x x.work n (reply y) c.next) h k j (copy_fed c.stand x j n c.next (reply y))
+    fed_turn c w (Reconfiguring z) n rid y h k j l f r = reconf_task (top + 1) c w (reconf_feed z z.work n rid (reply y) c.next) high h k (reconf_fed top z j c.next n rid (reply y) l f)
 
     again_turn : (c : Client m) (w : Work m) (t : Task m) → In (top + 1) c → Kept' w → Old t → EachAgain m objects es P c w t → Fine' (task_again m c w t)
     unfolding task_again
@@ -271,30 +271,30 @@ module _ (m : Meaning) (Named : Oid → Type 0) (OpOk : m.op → Type 0) (AskOk 
     newer_turn c w (Trimming t) n rid q h k j l r = again_turn (stands m c q) w (Trimming t) (record { work = h.work; stand = (omega (arith, l, low), h.stand.1) }) k j r
     newer_turn c w (Copying' x) n rid q h k j l r = again_turn (stands m c q) w (Copying' x) (record { work = h.work; stand = (omega (arith, l, low), h.stand.1) }) k j r
 
-    fed_if_turn : (b : Bool) (c : Client m) (w : Work m) (t : Task m) (from : NodeId) (rid : ℕ) (y : Msg) → In (top + 1) c → Kept' w → Old t → ReplyNear (reply y) → EachAwaited m objects es P b c w t from rid (reply y) → Fine' (fed_if m b c w t from rid (reply y))
-    fed_if_turn true c w t from rid y h k j l r = fed_turn c w t from.num rid y h k j l r
-    fed_if_turn false c w t from rid y h k j l r = stays (top + 1) c h
+    fed_if_turn : (b : Bool) (c : Client m) (w : Work m) (t : Task m) (from : NodeId) (rid : ℕ) (y : Msg) → In (top + 1) c → Kept' w → Old t → ReplyNear (reply y) → Few from.num → EachAwaited m objects es P b c w t from rid (reply y) → Fine' (fed_if m b c w t from rid (reply y))
+    fed_if_turn true c w t from rid y h k j l f r = fed_turn c w t from.num rid y h k j l f r
+    fed_if_turn false c w t from rid y h k j l f r = stays (top + 1) c h
 
-    hand_turn : (c : Client m) (w : Work m) (d : Hand m) (from : NodeId) (rid : ℕ) (y : Msg) → In (top + 1) c → Kept' w → Old (task_in m d) → ReplyNear (reply y) → EachHand m objects es P c w d from rid (reply y) → Fine' (hand_feed m c w d from rid (reply y))
-    hand_turn c w (Doing t) from rid y h k j l r = fed_if_turn (awaits (task_awaited m c.stand t) from rid) c w t from rid y h k j l r
-    hand_turn c w (Learning waits t) from rid y h k j l r = stays (top + 1) c h
+    hand_turn : (c : Client m) (w : Work m) (d : Hand m) (from : NodeId) (rid : ℕ) (y : Msg) → In (top + 1) c → Kept' w → Old (task_in m d) → ReplyNear (reply y) → Few from.num → EachHand m objects es P c w d from rid (reply y) → Fine' (hand_feed m c w d from rid (reply y))
+    hand_turn c w (Doing t) from rid y h k j l f r = fed_if_turn (awaits (task_awaited m c.stand t) from rid) c w t from rid y h k j l f r
+    hand_turn c w (Learning waits t) from rid y h k j l f r = stays (top + 1) c h
 
     latest_turn : (b : Bool) (c : Client m) (w : Work m) (from : NodeId) (rid : ℕ) (q : Layout) → In (top + 1) c → Kept' w → Old (task_in m w.hand) → q.epoch < 2 ^ 32 → EachLatest m objects es P b c w q → Fine' (latest_if m b c w from rid q)
     latest_turn true c w from rid q h k j l r = newer_turn c w (task_in m w.hand) from.num rid q h k j l r
     latest_turn false c w from rid q h k j l r = stays (top + 1) c h
 
-    reply_turn : (c : Client m) (w : Work m) (from : NodeId) (rid : ℕ) (y : Msg) (x : Reply) → reply y ≡ x → In (top + 1) c → Kept' w → Old (task_in m w.hand) → ReplyNear x → EachReply m objects es P c w from rid x → Fine' (reply_feed m c w from rid x)
-    reply_turn c w from rid y (IsLatest q) is h k j l r = latest_turn (node_eq from (layout_id from.num) && nat_lt c.stand.epoch q.epoch) c w from rid q h k j l r
-    reply_turn c w from rid y x is h k j l r =
+    reply_turn : (c : Client m) (w : Work m) (from : NodeId) (rid : ℕ) (y : Msg) (x : Reply) → reply y ≡ x → In (top + 1) c → Kept' w → Old (task_in m w.hand) → ReplyNear x → Few from.num → EachReply m objects es P c w from rid x → Fine' (reply_feed m c w from rid x)
+    reply_turn c w from rid y (IsLatest q) is h k j l f r = latest_turn (node_eq from (layout_id from.num) && nat_lt c.stand.epoch q.epoch) c w from rid q h k j l r
+    reply_turn c w from rid y x is h k j l f r =
         subst (λ (z : Reply). Fine' (hand_feed m c w w.hand from rid z)) is
-        (hand_turn c w w.hand from rid y h k j (subst ReplyNear (sym is) l) (subst (λ (z : Reply). EachHand m objects es P c w w.hand from rid z) (sym is) r))
+        (hand_turn c w w.hand from rid y h k j (subst ReplyNear (sym is) l) f (subst (λ (z : Reply). EachHand m objects es P c w w.hand from rid z) (sym is) r))
 
-    feed_turn : (c : Client m) (from : NodeId) (rid : ℕ) (y : Msg) → ClientOk m Named OpOk AskOk own_directory marks_ok top c → ReplyNear (reply y) → EachDelivery m objects es P c c.work from rid (reply y) → Fine' (feed m c c.work from rid (reply y))
-    feed_turn c from rid y h l r = by c.work h.work r
+    feed_turn : (c : Client m) (from : NodeId) (rid : ℕ) (y : Msg) → ClientOk m Named OpOk AskOk own_directory marks_ok top c → ReplyNear (reply y) → Few from.num → EachDelivery m objects es P c c.work from rid (reply y) → Fine' (feed m c c.work from rid (reply y))
+    feed_turn c from rid y h l f r = by c.work h.work r
       where
         by : (w : Option (Work m)) → WorkOk m Named OpOk AskOk own_directory marks_ok top w → EachDelivery m objects es P c w from rid (reply y) → Fine' (feed m c w from rid (reply y))
         by None k r = stays (top + 1) c (up c h)
-        by (Some w) k r = reply_turn c w from rid y (reply y) refl (up c h) k.0 k.1 l r
+        by (Some w) k r = reply_turn c w from rid y (reply y) refl (up c h) k.0 k.1 l f r
 
     -- Commands.
 
@@ -383,9 +383,9 @@ module _ (m : Meaning) (Named : Oid → Type 0) (OpOk : m.op → Type 0) (AskOk 
         by None is k = of_moved c (accepts m c x) (accept_takes c h x g (allowed_of m Named OpOk AskOk c x is))
         by (Some why) is k = record { notes = (k, tt); now = record { work = (up c h).work; stand = (up c h).stand } }
 
-    pub delivered : (c : Client m) (from : NodeId) (rid : ℕ) (y : Msg) → ClientOk m Named OpOk AskOk own_directory marks_ok top c → ReplyNear (reply y) → EachDelivery m objects es P c c.work from rid (reply y) → GoodTurn (client_deliver m c from rid y)
+    pub delivered : (c : Client m) (from : NodeId) (rid : ℕ) (y : Msg) → ClientOk m Named OpOk AskOk own_directory marks_ok top c → ReplyNear (reply y) → Few from.num → EachDelivery m objects es P c c.work from rid (reply y) → GoodTurn (client_deliver m c from rid y)
     unfolding client_deliver
-    delivered c from rid y h l r = of_moved c (feed m c c.work from rid (reply y)) (feed_turn c from rid y h l r)
+    delivered c from rid y h l f r = of_moved c (feed m c c.work from rid (reply y)) (feed_turn c from rid y h l f r)
 
     pub ticked : (c : Client m) → ClientOk m Named OpOk AskOk own_directory marks_ok top c → GoodTurn (client_tick m c)
     unfolding client_tick

@@ -1,5 +1,5 @@
 -- How far a reconfiguration's layouts go: the next epoch, and no further, or one that was told.
-use Rattle.std.proofs.Common.{◌≡◌, ℕ, ◌+◌, ◌≤◌, List, [], ◌∷◌, Bool, true, false, cond, refl, arith, Some, None, Option}
+use Rattle.std.proofs.Common.{◌≡◌, ℕ, ◌+◌, ◌<◌, ◌≤◌, List, [], ◌∷◌, Bool, true, false, cond, refl, arith, Some, None, Option}
 use Rattle.std.specs.Prelude.{◌&&◌}
 use Rattle.tg_base.specs.Layouts.{Layout}
 use Rattle.tg_base.specs.Changes.{Changed}
@@ -40,7 +40,7 @@ ReconfOk top r = (r.stand.epoch ≤ top) × VotesOk (r.stand.epoch + 1) r.work
 abbrev pub ReconfEndOk : ℕ → ReconfEnd → Type 0
 ReconfEndOk top (Installed e p) = (e ≤ top) × (p.epoch ≤ top)
 ReconfEndOk top (Overtaken e p) = (e ≤ top) × (p.epoch ≤ top)
-ReconfEndOk top (NotWhole u pos p) = Near pos × (p.epoch ≤ top)
+ReconfEndOk top (NotWhole u pos p) = Near pos × (u < 65536) × (p.epoch ≤ top)
 
 abbrev pub ReconfNextOk : ℕ → Next Reconf ReconfEnd → Type 0
 ReconfNextOk top (Goes r) = ReconfOk top r
@@ -168,25 +168,25 @@ module _ (top : ℕ) where
     started_ok true = (stands, stands)
     started_ok false = same
 
-    fed_ok : (w : ReconfWork) (n rid : ℕ) (x : Reply) → VotesOk e w → ReplyNear x → Ok (reconf_feed r w n rid x next).to
+    fed_ok : (w : ReconfWork) (n rid : ℕ) (x : Reply) → VotesOk e w → ReplyNear x → n < 65536 → Ok (reconf_feed r w n rid x next).to
     unfolding reconf_feed
-    fed_ok (SealingSpare k) n rid (IsSealed f h) v l = looks_ok _
-    fed_ok (SealingSpare k) n rid (IsFenced f) v l = seals_ok _
-    fed_ok (LookingSpare k) n rid IsWhole v l = (stands, tt)
-    fed_ok (LookingSpare k) n rid (IsMissing pos) v l = (l, stands)
-    fed_ok (LookingSpare k) n rid (IsFenced f) v l = seals_ok _
-    fed_ok (Sealing ws acks) n rid (IsSealed f h) v l = sealed_ok n h ws acks _
-    fed_ok (Sealing ws acks) n rid (IsFenced f) v l = learns_ok _
-    fed_ok (LookingAgain k acks) n rid IsWhole v l = proposes_ok acks
-    fed_ok (LookingAgain k acks) n rid (IsMissing pos) v l = (l, stands)
-    fed_ok (LookingAgain k acks) n rid (IsFenced f) v l = learns_ok _
-    fed_ok (Agreeing y) n rid x v l = vote_ok y y.later n rid x v
-    fed_ok (Starting k) n rid (IsTail t ls) v l = started_ok _
-    fed_ok (Starting k) n rid (IsOldEpoch f) v l = learns_ok _
-    fed_ok w n rid x v l = same
+    fed_ok (SealingSpare k) n rid (IsSealed f h) v l s = looks_ok _
+    fed_ok (SealingSpare k) n rid (IsFenced f) v l s = seals_ok _
+    fed_ok (LookingSpare k) n rid IsWhole v l s = (stands, tt)
+    fed_ok (LookingSpare k) n rid (IsMissing pos) v l s = (l, s, stands)
+    fed_ok (LookingSpare k) n rid (IsFenced f) v l s = seals_ok _
+    fed_ok (Sealing ws acks) n rid (IsSealed f h) v l s = sealed_ok n h ws acks _
+    fed_ok (Sealing ws acks) n rid (IsFenced f) v l s = learns_ok _
+    fed_ok (LookingAgain k acks) n rid IsWhole v l s = proposes_ok acks
+    fed_ok (LookingAgain k acks) n rid (IsMissing pos) v l s = (l, s, stands)
+    fed_ok (LookingAgain k acks) n rid (IsFenced f) v l s = learns_ok _
+    fed_ok (Agreeing y) n rid x v l s = vote_ok y y.later n rid x v
+    fed_ok (Starting k) n rid (IsTail t ls) v l s = started_ok _
+    fed_ok (Starting k) n rid (IsOldEpoch f) v l s = learns_ok _
+    fed_ok w n rid x v l s = same
 
-    pub reconf_fed : (n rid : ℕ) (x : Reply) → ReplyNear x → ReconfNextOk (top + 1) (reconf_feed r r.work n rid x next).to
-    reconf_fed n rid x l = fed_ok r.work n rid x ok.1 l
+    pub reconf_fed : (n rid : ℕ) (x : Reply) → ReplyNear x → n < 65536 → ReconfNextOk (top + 1) (reconf_feed r r.work n rid x next).to
+    reconf_fed n rid x l s = fed_ok r.work n rid x ok.1 l s
 
     -- A newer layout.
 

@@ -42,11 +42,10 @@ TellsBelow w k x what = Unit {0}
 abbrev pub EachTellsBelow : Type 0
 EachTellsBelow = (h : Header) (ms : Moves all_kinds) (w : World all_kinds) → Reaches all_kinds h ms w → (t : Told all_kinds) → Contains w.told t → TellsBelow w t.mark.client t.mark.tx t.mark.what
 
--- what a refusal counts: how large an entry would be, how long the log may get, and which unit isn't whole
+-- what a refusal counts: how large an entry would be, and how long the log may get
 abbrev pub is_count : WhatOf all_kinds → Bool
 is_count (told.Refused (cause.TooLarge bytes)) = true
 is_count (told.Refused (cause.LogFull limit)) = true
-is_count (told.Refused (cause.NotWhole u pos)) = true
 is_count what = false
 
 -- what a reply tells is within its type, unless it is such a count

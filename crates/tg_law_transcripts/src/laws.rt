@@ -22,7 +22,7 @@ pub fn fit_by_replies()
     ensures { EachFitsByReplies }
 {}
 
-/// What each reply of a script tells is within its type, unless a refusal counts: how large an entry would be, how long the log may get, or which unit isn't whole.
+/// What each reply of a script tells is within its type, unless a refusal counts: how large an entry would be, or how long the log may get.
 pub fn replies_tell()
     ensures { EachTells }
 {}
