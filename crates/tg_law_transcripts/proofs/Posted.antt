@@ -1,5 +1,5 @@
 -- Each packet of a run is of a node whose number has 16 bits.
-use Rattle.std.proofs.Common.{◌≡◌, ◌⊎◌, ℕ, ◌<◌, List, [], ◌∷◌, ◌++◌, length, map, refl, sym, ap, ◌∙◌, subst, inl, inr, arith, Some, None, Option}
+use Rattle.std.proofs.Common.{◌≡◌, ◌⊎◌, ℕ, ◌<◌, List, ◌++◌, length, map, sym, ap, ◌∙◌, subst, inl, inr, arith, Some, None, Option}
 use Rattle.std.proofs.lemmas.List.{length-map, length-replicate}
 use Rattle.tg_base.specs.Clusters.{Header, IsHeader}
 use Rattle.tg_base.specs.declared.ids.NodeId.{NodeId}
@@ -8,7 +8,7 @@ use Rattle.tg_base.specs.declared.packet.Out.{Out}
 use Rattle.tg_base.specs.declared.packet.Packet.{Packet}
 use Rattle.tg_kind.specs.Meaning.{Meaning}
 use Rattle.tg_protocol.specs.Words.{numbers, seqr_id, client_id}
-use Rattle.tg_protocol.specs.Worlds.{World, start, packet_of, answer_to}
+use Rattle.tg_protocol.specs.Worlds.{start, packet_of, answer_to}
 use Rattle.tg_protocol.specs.Runs.{Moves}
 use Rattle.tg_law_layouts.specs.Moves.After.{after}
 use Rattle.tg_law_layouts.specs.Moves.Configs.{Config, config}
