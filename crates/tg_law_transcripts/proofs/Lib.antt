@@ -20,5 +20,6 @@ pub mod Commanded
 pub mod Stepped
 pub mod Answered
 pub mod Kept
+pub mod Limits
 pub mod Fitting
 pub mod Replies

@@ -3,10 +3,13 @@ use Rattle.std.specs.Prelude.{◌≡◌, ◌≢◌, ℕ, ◌<◌, ◌^◌, Bool,
 use Rattle.std.specs.List.{list_all}
 use Rattle.tg_base.specs.Clusters.{Header}
 use Rattle.tg_base.specs.Units.{is_rising}
+use Rattle.tg_base.specs.declared.msg.Msg.TheVariants as msg
+use Rattle.tg_base.specs.declared.packet.Packet.{Packet}
 use Rattle.tg_model.specs.declared.refusal.Refusal.TheVariants as cause
 use Rattle.tg_model.specs.declared.trace.What.TheVariants as told
 use Rattle.tg_model.specs.Kinds.{WhatOf}
 use Rattle.tg_model.specs.Traces.{puts_of}
+use Rattle.tg_protocol.specs.Words.{seqr_id}
 use Rattle.tg_protocol.specs.Worlds.{World, Told, trace, history}
 use Rattle.tg_protocol.specs.Runs.{Moves, Reaches}
 use Rattle.tg_any.specs.AllKinds.{all_kinds}
@@ -41,6 +44,10 @@ TellsBelow w k x what = Unit {0}
 
 abbrev pub EachTellsBelow : Type 0
 EachTellsBelow = (h : Header) (ms : Moves all_kinds) (w : World all_kinds) → Reaches all_kinds h ms w → (t : Told all_kinds) → Contains w.told t → TellsBelow w t.mark.client t.mark.tx t.mark.what
+
+-- a sequencer that says that the log is full tells the header's limit
+abbrev pub EachFullTells : Type 0
+EachFullTells = (h : Header) (ms : Moves all_kinds) (w : World all_kinds) → Reaches all_kinds h ms w → (s : ℕ) (a : Packet) (l : ℕ) → Contains w.packets a → a.from ≡ seqr_id s → a.msg ≡ msg.Full l → l ≡ w.cluster.limit
 
 -- what a refusal counts: how large an entry would be, and how long the log may get
 abbrev pub is_count : WhatOf all_kinds → Bool

@@ -1,6 +1,6 @@
 //! What is told in the world of a script keeps the grammar of transcripts.
 
-ghost use Rattle.tg_law_transcripts.specs.Fits.{EachFitsByCounts, EachFitsByReplies, EachHistoryFits, EachIsNumbered, EachTells, EachTellsBelow};
+ghost use Rattle.tg_law_transcripts.specs.Fits.{EachFitsByCounts, EachFitsByReplies, EachFullTells, EachHistoryFits, EachIsNumbered, EachTells, EachTellsBelow};
 
 /// The numbers of a reply's event, its client and its transaction are within their types, in a script of fewer than 2^64 event lines.
 pub fn replies_are_numbered()
@@ -30,4 +30,9 @@ pub fn replies_tell()
 /// So where such counts are within their types, the objects, the replies and the history of a script are a transcript.
 pub fn fit_by_counts()
     ensures { EachFitsByCounts }
+{}
+
+/// A sequencer of a run that says that the log is full tells the header's limit.
+pub fn full_tells()
+    ensures { EachFullTells }
 {}

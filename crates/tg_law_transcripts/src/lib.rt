@@ -4,5 +4,6 @@
 mod laws;
 
 pub use laws::{
-    fit_by_counts, fit_by_replies, histories_fit, records_below, replies_are_numbered, replies_tell,
+    fit_by_counts, fit_by_replies, full_tells, histories_fit, records_below, replies_are_numbered,
+    replies_tell,
 };
