@@ -26,6 +26,7 @@ use Rattle.tg_protocol.specs.Worlds.{World, Told, start, client, trace, history}
 use Rattle.tg_protocol.specs.Runs.{Moves, Reaches}
 use Rattle.tg_any.specs.declared.any.AnyOp.{AnyOp}
 use Rattle.tg_any.specs.AllKinds.{all_kinds}
+use Rattle.tg_any.specs.Anys as any
 use Rattle.tg_any.specs.Names.{is_named}
 use Rattle.tg_trace.specs.Transcripts.{Entry as Transaction, objects, entry, write, stamps}
 use Rattle.tg_law_layouts.proofs.Moves.Lists.{contained}
@@ -163,6 +164,13 @@ module _ (h : Header) (ms : Moves all_kinds) (w : World all_kinds) (r : Reaches 
       let op = store_reads_ops h ms w r trims.were.safe k.at k.entry z.from x.1 (contained _ (k.at, k.entry) k.here) (contained _ z.from z.has) (ap (λ (o : Oid). all_kinds.read o z.from.op) z.oid ∙ z.reads) in
       both (is_named x.0) _ (of_named x.0 x.1 (read_of x.0 z.from.op x.1 z.reads)) (op_within x.1 op)
 
+  -- what a transaction wrote are ops
+  pub writes_are_ops : (d : DoneOf all_kinds) → Has (history all_kinds w) d → (x : Oid × AnyOp) → Has d.writes x → any.is_op x.1 ≡ true
+  writes_are_ops d i x j =
+      let k = made d i in
+      let z = written (writes_of k.entry) x (subst (λ (y : DoneOf all_kinds). Has y.writes x) k.is j) in
+      store_reads_ops h ms w r trims.were.safe k.at k.entry z.from x.1 (contained _ (k.at, k.entry) k.here) (contained _ z.from z.has) (ap (λ (o : Oid). all_kinds.read o z.from.op) z.oid ∙ z.reads)
+
   commits : (d : DoneOf all_kinds) (k : Made all_kinds [] (entries_in all_kinds w) d) → is_commit k.entry ≡ true
   commits d k = and-left (is_commit k.entry) _ k.commit
 
@@ -179,7 +187,7 @@ module _ (h : Header) (ms : Moves all_kinds) (w : World all_kinds) (r : Reaches 
       ∙ (ap (λ (n : ℕ). puts_of all_kinds (trace all_kinds w) n d.number) client ∙ ap (λ (n : ℕ). puts_of all_kinds (trace all_kinds w) k.entry.head.client n) number) in
       ap (λ (ws : List (Oid × AnyOp)). not (length ws == 0)) is ∙ puts
 
-  limit_few : w.cluster.limit ≤ 1000000
+  pub limit_few : w.cluster.limit ≤ 1000000
   limit_few = header_limit w.cluster (subst (λ (g : Header). IsHeader g) (sym (cluster_is all_kinds h ms w r)) r.header)
 
   pub stamp_below : (d : DoneOf all_kinds) → Has (history all_kinds w) d → d.stamp < 1000000

@@ -164,10 +164,10 @@ module _ (m : Meaning) where
           let k = has_map (packet_of m (seqr_id s)) t.sends a x in
           subst (λ (n : ℕ). p < n) (h.limits s) (f.below k.of p ls k.has (sym (ap (λ (y : Packet). y.msg) k.is) ∙ is))
 
-  near_keeps : Keeps m Near
+  pub near_keeps : Keeps m Near
   near_keeps c h = by_seqr m Near c h (calm c h) (own_turn c h)
 
-  start_near : (h : Header) → Near (config m (start m h))
+  pub start_near : (h : Header) → Near (config m (start m h))
   unfolding start new_seqr
   start_near h = record {
     limits = λ s. at_map (λ n. new_seqr n h.limit (first_layout h)) (numbers h.seqs 0) s (new_seqr s h.limit (first_layout h)) (λ (x : SeqrState). x.limit ≡ h.limit) (λ j. refl) refl;

@@ -1,11 +1,15 @@
 -- The world of each script keeps the grammar of transcripts.
-use Rattle.std.specs.Prelude.{◌≡◌, ◌≢◌, ℕ, ◌<◌, ◌^◌, Bool, true, ◌&&◌, [], length, Contains}
+use Rattle.std.specs.Prelude.{◌≡◌, ◌≢◌, ℕ, ◌<◌, ◌^◌, Bool, true, false, not, ◌&&◌, ◌||◌, [], length, Contains}
 use Rattle.std.specs.List.{list_all}
 use Rattle.tg_base.specs.Clusters.{Header}
 use Rattle.tg_base.specs.Units.{is_rising}
+use Rattle.tg_base.specs.declared.msg.Msg.TheVariants as msg
+use Rattle.tg_base.specs.declared.packet.Packet.{Packet}
+use Rattle.tg_model.specs.declared.refusal.Refusal.TheVariants as cause
 use Rattle.tg_model.specs.declared.trace.What.TheVariants as told
 use Rattle.tg_model.specs.Kinds.{WhatOf}
 use Rattle.tg_model.specs.Traces.{puts_of}
+use Rattle.tg_protocol.specs.Words.{seqr_id}
 use Rattle.tg_protocol.specs.Worlds.{World, Told, trace, history}
 use Rattle.tg_protocol.specs.Runs.{Moves, Reaches}
 use Rattle.tg_any.specs.AllKinds.{all_kinds}
@@ -40,6 +44,31 @@ TellsBelow w k x what = Unit {0}
 
 abbrev pub EachTellsBelow : Type 0
 EachTellsBelow = (h : Header) (ms : Moves all_kinds) (w : World all_kinds) → Reaches all_kinds h ms w → (t : Told all_kinds) → Contains w.told t → TellsBelow w t.mark.client t.mark.tx t.mark.what
+
+-- a sequencer that says that the log is full tells the header's limit
+abbrev pub EachFullTells : Type 0
+EachFullTells = (h : Header) (ms : Moves all_kinds) (w : World all_kinds) → Reaches all_kinds h ms w → (s : ℕ) (a : Packet) (l : ℕ) → Contains w.packets a → a.from ≡ seqr_id s → a.msg ≡ msg.Full l → l ≡ w.cluster.limit
+
+-- what a refusal counts: how large an entry would be, and how long the log may get
+abbrev pub is_count : WhatOf all_kinds → Bool
+is_count (told.Refused (cause.TooLarge bytes)) = true
+is_count (told.Refused (cause.LogFull limit)) = true
+is_count what = false
+
+-- what a reply tells is within its type, unless it is such a count
+abbrev pub tells_or_counts : Reply → Bool
+tells_or_counts m = is_count m.what || what_fits m.what
+
+abbrev pub EachTells : Type 0
+EachTells = (s : Script) → IsScript s → list_all tells_or_counts (trace all_kinds (world_of s)) ≡ true
+
+-- a count is within its type
+abbrev pub counts_within : Reply → Bool
+counts_within m = not (is_count m.what) || what_fits m.what
+
+-- where that holds of each reply, the whole is a transcript
+abbrev pub EachFitsByCounts : Type 0
+EachFitsByCounts = (s : Script) → IsScript s → length s.events < 2 ^ 64 → list_all counts_within (trace all_kinds (world_of s)) ≡ true → is_transcript (told_in s.header (world_of s)) ≡ true
 
 -- what a reply tells is within its type
 abbrev pub tells_within : Reply → Bool

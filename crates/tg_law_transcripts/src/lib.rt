@@ -3,4 +3,7 @@
 
 mod laws;
 
-pub use laws::{fit_by_replies, histories_fit, records_below, replies_are_numbered};
+pub use laws::{
+    fit_by_counts, fit_by_replies, full_tells, histories_fit, records_below, replies_are_numbered,
+    replies_tell,
+};
