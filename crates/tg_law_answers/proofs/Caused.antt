@@ -1,5 +1,5 @@
 -- Each refusal has its cause: of what walks find, and of whether an object is hosted, by the end of the walks.
-use Rattle.std.proofs.Common.{◌≡◌, ◌⊎◌, ℕ, ◌<◌, List, [], ◌∷◌, ◌++◌, map, refl, sym, ap, ◌∙◌, subst, inl, inr, Option, Some, None}
+use Rattle.std.proofs.Common.{◌≡◌, ℕ, ◌<◌, List, [], ◌∷◌, ◌++◌, map, refl, sym, ap, ◌∙◌, subst, inl, inr, Some, None}
 use Rattle.tg_base.specs.Clusters.{Header}
 use Rattle.tg_base.specs.declared.ids.Oid.{Oid}
 use Rattle.tg_kind.specs.Meaning.{Meaning}
@@ -80,7 +80,7 @@ module _ (m : Meaning) (h : Header) (ms : Moves m) (e : EventOf m) (before : Rea
       because = inr (subst (λ (x : CommandOf m). IsForget m x (λ p j. (p ≡ o) × HasNoBase m (happens m (after m h ms) e) t o j)) (sym is) (
         refl,
         subst (λ (u : World m). HasNoBase m u t o n) (then_takes m h ms e)
-        (no_base m h ms e r trims before precede t k o n is (contained k.end.client.hosted o (hosted (cmd.Forget o n) o is refl)) none),
+            (no_base m h ms e r trims before precede t k o n is (contained k.end.client.hosted o (hosted (cmd.Forget o n) o is refl)) none),
       ));
     }
 

@@ -10,11 +10,9 @@ use Rattle.tg_entry.specs.declared.entry.Entry.{Entry}
 use Rattle.tg_entry.specs.Needs.{needs_decision}
 use Rattle.tg_kind.specs.Meaning.{Meaning}
 use Rattle.tg_model.specs.declared.command.Command.TheVariants as cmd
-use Rattle.tg_model.specs.declared.refusal.Refusal.TheVariants as cause
-use Rattle.tg_model.specs.declared.trace.What.TheVariants as told
-use Rattle.tg_model.specs.Kinds.{CommandOf, EventOf, WhatOf, NoteOf}
+use Rattle.tg_model.specs.Kinds.{CommandOf, EventOf}
 use Rattle.tg_protocol.specs.Alike.{HasEntry}
-use Rattle.tg_protocol.specs.Causes.{HasNoBase, IsOpen, IsForget, HasCause}
+use Rattle.tg_protocol.specs.Causes.{HasNoBase, IsOpen}
 use Rattle.tg_protocol.specs.Checkpoints.{trim_of, base_at, open_decision, open_fault, forget_fault, ForgetFault, NoCheckpoint, OpenDecision, may_forget, load_from}
 use Rattle.tg_protocol.specs.Clients.{Work, Client, all_entries}
 use Rattle.tg_protocol.specs.Entries.{lists}
@@ -23,18 +21,16 @@ use Rattle.tg_protocol.specs.Pages.{cell_entry}
 use Rattle.tg_protocol.specs.Runs.{Moves, Takes, Reaches}
 use Rattle.tg_protocol.specs.Views.{Entries, Base, decision_in}
 use Rattle.tg_protocol.specs.Words.{cell_at}
-use Rattle.tg_protocol.specs.Worlds.{World, Told, client, log, happens}
-use Rattle.tg_protocol.specs.Answers.{walked}
+use Rattle.tg_protocol.specs.Worlds.{World, Told, log}
 use Rattle.tg_law_layouts.specs.Moves.After.{after}
 use Rattle.tg_law_replies.specs.History.Worlds.{entries_in}
-use Rattle.tg_law_replies.specs.Plays.Sound.{IsRising, rise_from}
-use Rattle.tg_law_replies.specs.Replies.Steps.{EachEvent}
+use Rattle.tg_law_replies.specs.Plays.Sound.{rise_from}
 use Rattle.tg_law_walks.specs.Lists.Spared.{TrimsWereSpare}
-use Rattle.tg_law_walks.specs.Walks.Rounds.{round, IsRound, IsSaving}
+use Rattle.tg_law_walks.specs.Walks.Rounds.{round, IsRound}
 use Rattle.tg_law_walks.specs.Walks.Streams.{IsByPosition}
 use Rattle.tg_law_walks.proofs.Drafts.Written.{then_takes}
 use Rattle.tg_law_walks.proofs.Walks.Cells.{entry_there, rises_next, has_from}
-use Rattle.tg_law_walks.proofs.Walks.Members.{Has, has_contained, contained_has, of_lt}
+use Rattle.tg_law_walks.proofs.Walks.Members.{Has, has_contained, of_lt}
 use Rattle.tg_law_walks.proofs.Walks.Plays.{own_rising, untrimmed, trimmed, none_saved}
 use Rattle.tg_law_walks.proofs.Walks.Saves.{gives_load, load_gives}
 use Rattle.tg_law_walks.proofs.Walks.Syncs.{logs_by_position}

@@ -1,6 +1,6 @@
 -- Over a run: where a command's walks are over, the object of which it asks is hosted; so the view that was played has a state of it.
-use Rattle.std.proofs.Common.{◌≡◌, ◌⊎◌, ℕ, ◌<◌, List, [], ◌∷◌, ◌++◌, map, length, Bool, true, false, refl, sym, ap, ◌∙◌, subst, inl, inr, Option, Some, None}
-use Rattle.std.specs.Prelude.{slice_index_or, Contains}
+use Rattle.std.proofs.Common.{◌≡◌, ◌⊎◌, ℕ, ◌<◌, List, [], ◌∷◌, ◌++◌, length, Bool, true, false, refl, sym, ◌∙◌, subst, inl, inr, Option, Some, None}
+use Rattle.std.specs.Prelude.{slice_index_or}
 use Rattle.tg_base.specs.Clusters.{Header}
 use Rattle.tg_base.specs.declared.cell.Cell.{Cell}
 use Rattle.tg_base.specs.declared.ids.Oid.{Oid}
@@ -26,7 +26,6 @@ use Rattle.tg_law_layouts.proofs.Moves.Growth.{IsCalm, by_client}
 use Rattle.tg_law_layouts.proofs.Moves.Lists.{at_map, at_set, contained}
 use Rattle.tg_law_layouts.proofs.Moves.Members.{Has}
 use Rattle.tg_law_layouts.proofs.Moves.Moves.{ClientInput, Commanded, Hears', Ticks', Keeps, client_turn, run_keeps}
-use Rattle.tg_law_replies.specs.History.Worlds.{entries_in}
 use Rattle.tg_law_replies.specs.Replies.Ended.{AppendsEnd}
 use Rattle.tg_law_replies.specs.Replies.Laws.{ClientsFind}
 use Rattle.tg_law_replies.proofs.Replies.Carried.{WalksBy}

@@ -9,7 +9,7 @@ use Rattle.tg_entry.specs.Needs.{writes_of}
 use Rattle.tg_kind.specs.Meaning.{Meaning}
 use Rattle.tg_protocol.specs.Words.{has_oid}
 use Rattle.tg_protocol.specs.Entries.{is_commit}
-use Rattle.tg_protocol.specs.Views.{Entries, Verdict, Commits, Aborts, Unknown, Base, View, base_of, base_state, state_in, state_of, verdict, with_state, applied, set_state, touched, note, write_by, plays, write, write_all, passed_over, with_fate, with_open, Play, stands_at, Step, On, Stuck, decided_step, record_step, entry_step, step_at, between, view_start, play_on, play_from, play}
+use Rattle.tg_protocol.specs.Views.{Entries, Verdict, Commits, Aborts, Unknown, Base, View, base_of, base_state, state_in, state_of, verdict, with_state, applied, set_state, touched, note, write_by, plays, write, write_all, passed_over, with_fate, with_open, Play, Step, On, Stuck, decided_step, record_step, entry_step, step_at, between, view_start, play_on, play_from, play}
 use Rattle.tg_law_replies.proofs.Plays.Joins.{step_on, on_more}
 
 module _ (m : Meaning) where
