@@ -26,7 +26,7 @@ abbrev pub Fine : Option Refusal → Type 0
 Fine None = Unit {0}
 Fine (Some why) = NotUndecided why
 
--- nor does the layout tell of that an object isn't hosted
+-- and none of them, nor that an object isn't hosted, is why a stripe may not be copied
 abbrev pub NotFound : Refusal → Type 0
 NotFound (cause.Undecided p o) = ⊥
 NotFound (cause.NoCheckpoint o) = ⊥
