@@ -3,6 +3,8 @@
 
 mod causes;
 mod laws;
+mod unsure;
 
 pub use causes::refusals_true;
 pub use laws::{causes_refuse, nones_true};
+pub use unsure::unsure_true;

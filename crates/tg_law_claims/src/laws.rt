@@ -1,7 +1,7 @@
 //! Each group of claims is of every run of the store, with no premise.
 
 ghost use Rattle.tg_any.specs.AllKinds.{all_kinds};
-ghost use Rattle.tg_protocol.specs.Claims.{OneLog, RunsHold};
+ghost use Rattle.tg_protocol.specs.Claims.{CausesHold, OneLog, RunsHold};
 
 /// There is one log, over all reconfigurations: an epoch has at most one layout, which follows the one before it; a cell of the
 /// log stays; entries stand once, as they were issued and as their clients began them; records are of what was put and asked, and
@@ -14,4 +14,11 @@ pub fn one_log()
 /// The headline holds of every run; and a rescue stays undecided only where the walk of the object that it names met a trim.
 pub fn headline_holds()
     ensures { RunsHold all_kinds }
+{}
+
+/// Answers have their causes: each refusal and each unsure outcome has one, and what has a cause at once is refused; a refusal keeps what
+/// the client had, a client's directory is the history's, an abort names the first read that changed, and `none` is told only where no
+/// such record is for the client.
+pub fn causes_hold()
+    ensures { CausesHold all_kinds }
 {}

@@ -3,4 +3,4 @@
 
 mod laws;
 
-pub use laws::{headline_holds, one_log};
+pub use laws::{causes_hold, headline_holds, one_log};
