@@ -35,7 +35,7 @@ Owned own cells = (p : ℕ) → Contains own p → is_some (cell_at cells p) ≡
 never : {X : Type 0} → (x : X) → None ≡ Some x → ⊥
 never x e = cc
 
-commit_found : (es : Entries) (p : ℕ) (e : Entry) → Has es (p, e) → is_commit e ≡ true → commit_at es p ≡ None → ⊥
+pub commit_found : (es : Entries) (p : ℕ) (e : Entry) → Has es (p, e) → is_commit e ≡ true → commit_at es p ≡ None → ⊥
 unfolding commit_at
 commit_found [] p e i commit none = i
 commit_found (x ∷ xs) p e i commit none = by ((x.0 == p) && is_commit x.1) refl none i (λ j f. commit_found xs p e j commit f)
@@ -144,7 +144,7 @@ module _ (m : Meaning) where
 
   module _ (l : Log) (byp : IsByPosition l) (c : Client m) (w : Work m) (h : IsRound m l (round m c w c.cells) []) (os : List Oid)
       (sub : (o : Oid) → Contains os o → Contains w.oids o) (hosts : (o : Oid) → Contains c.hosted o → Contains os o) where
-    own_found : (p : ℕ) (e : Entry) → Owned c.own c.cells → Contains c.own p → Contains (entries_of l) (p, e) → p < w.tail → Has (all_entries m c w os) (p, e)
+    pub own_found : (p : ℕ) (e : Entry) → Owned c.own c.cells → Contains c.own p → Contains (entries_of l) (p, e) → p < w.tail → Has (all_entries m c w os) (p, e)
     own_found p e known i there less =
         have_entries m c.cells (ps m l byp c w h os c.own sub) p e
         (has_filter (λ q. nat_lt q w.tail) (with_nums c.own (member_positions m w os)) p

@@ -73,7 +73,7 @@ one_more p q (x ∷ xs) h = by (nat_lt p x) (p == x) h (one_more p q xs)
 module _ (m : Meaning) where
   -- The pages of a client's own records are known.
 
-  abbrev K : ℕ → List ℕ → List (ℕ × Cell) → List Oid → Option (View m) → Type 0
+  abbrev pub K : ℕ → List ℕ → List (ℕ × Cell) → List Oid → Option (View m) → Type 0
   K n own cells os v = Owned own cells
 
   owns_more : (own : List ℕ) (cells : List (ℕ × Cell)) (p : ℕ) (d : Cell) → Owned own cells → Owned (with_num p own) (with_cell cells p d)
@@ -90,7 +90,7 @@ module _ (m : Meaning) where
     owns = λ n own cells os v p d le k. owns_more own cells p d k;
   }
 
-  abbrev OwnsHold : Client m → Type 0
+  abbrev pub OwnsHold : Client m → Type 0
   OwnsHold c = Holds m K K c
 
   -- A record of a reply is the same with the count of steps.
@@ -129,9 +129,9 @@ module _ (m : Meaning) (h : Header) (ms : Moves m) (r : Reaches m h ms (after m 
     next : s.next ≤ c.next
     held : Held m h.objects (log m (after m h ms)) byp (Got k) s.next c
 
-  record State (w : World m) : Type 0 where
+  pub record State (w : World m) : Type 0 where
     clients : (k : ℕ) → Kept (noted_of m w k) k (client m w k)
-    owns : (k : ℕ) → OwnsHold m (client m w k)
+    pub owns : (k : ℕ) → OwnsHold m (client m w k)
 
   -- A step at a world of the run.
 
@@ -290,7 +290,7 @@ module _ (m : Meaning) (h : Header) (ms : Moves m) (r : Reaches m h ms (after m 
       (state_on (done ++ Takes x ∷ []) zs rest (e ∙ ap (λ (xs : Moves m). xs ++ rest) (sym (regroup done (Takes x ∷ []) zs)))
       (subst State (sym (run_both m done (Takes x ∷ []) (start m h))) (after_step done (zs ++ rest) x (e ∙ regroup done (Takes x ∷ zs) rest) st)))
 
-  state_at : (before rest : Moves m) → ms ≡ before ++ rest → State (after m h before)
+  pub state_at : (before rest : Moves m) → ms ≡ before ++ rest → State (after m h before)
   unfolding run
   state_at before rest e = state_on [] before rest e start_state
 

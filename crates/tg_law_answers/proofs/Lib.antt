@@ -1,7 +1,13 @@
 pub mod Absent
 pub mod Along
+pub mod EndsSettled
+pub mod Following
+pub mod Lacking
 pub mod Limited
 pub mod Limits
 pub mod Nones
+pub mod OwnRecords
+pub mod OwnSince
 pub mod Refusing
 pub mod Store
+pub mod WalksEnd

@@ -5,7 +5,7 @@ use Rattle.tg_base.specs.Clusters.{Header}
 use Rattle.tg_any.specs.AllKinds.{all_kinds}
 use Rattle.tg_kind.specs.Meaning.{Meaning}
 use Rattle.tg_model.specs.Kinds.{EventOf}
-use Rattle.tg_protocol.specs.Causes.{CausesRefuse, NonesTrue}
+use Rattle.tg_protocol.specs.Causes.{CausesRefuse, NonesTrue, UnsureTrue}
 use Rattle.tg_protocol.specs.Worlds.{World, happens}
 use Rattle.tg_protocol.specs.Runs.{Moves, Move, Takes, Reaches, Later, LawfulEvent, LawfulMove, EachStep, most_steps, run}
 use Rattle.tg_law_layouts.specs.Moves.After.{after}
@@ -15,8 +15,11 @@ use Rattle.tg_law_walks.proofs.Drafts.Clients.{happens_steps}
 use Rattle.tg_law_walks.proofs.Walks.Reading.{reaches_later}
 use Rattle.tg_law_store.proofs.Store.Steps.{store_trims_are_spare}
 use Rattle.tg_law_store.proofs.Joint.Holding.{steps_hold}
-use Rattle.tg_law_causes.proofs.Store.{directories_true}
+use Rattle.tg_law_causes.specs.Undecidings.{UnsureUnlessLacking}
+use Rattle.tg_law_causes.proofs.Store.{ends, directories_true}
+use Rattle.tg_law_causes.proofs.StoreStalled.{unsure_unless_lacking}
 use Rattle.tg_law_answers.proofs.Along.{nones_last}
+use Rattle.tg_law_answers.proofs.Lacking.{unsure_there}
 use Rattle.tg_law_answers.proofs.Refusing.{causes_refuse_here}
 
 pub causes_refuse : EachStep all_kinds (CausesRefuse all_kinds)
@@ -44,3 +47,11 @@ nones_true h ms w e r lawful few =
     let z = reached all_kinds h ms w e r lawful few in
     let t = store_trims_are_spare h (ms ++ Takes e ∷ []) (after all_kinds h (ms ++ Takes e ∷ [])) z (steps_hold h (ms ++ Takes e ∷ []) (after all_kinds h (ms ++ Takes e ∷ [])) z) in
     subst (λ (u : World all_kinds). NonesTrue all_kinds u e) (sym r.goes.is) (nones_last all_kinds h ms e z t.were)
+
+pub unsure_true : EachStep all_kinds (UnsureTrue all_kinds)
+unsure_true h ms w e r lawful few =
+    let z = reached all_kinds h ms w e r lawful few in
+    let t = store_trims_are_spare h (ms ++ Takes e ∷ []) (after all_kinds h (ms ++ Takes e ∷ [])) z (steps_hold h (ms ++ Takes e ∷ []) (after all_kinds h (ms ++ Takes e ∷ [])) z) in
+    subst (λ (u : World all_kinds). UnsureTrue all_kinds u e) (sym r.goes.is)
+    (unsure_there all_kinds h ms e (subst (Reaches all_kinds h ms) r.goes.is r) z t.were (ends h (ms ++ Takes e ∷ []) (after all_kinds h (ms ++ Takes e ∷ [])) z)
+    (subst (λ (u : World all_kinds). UnsureUnlessLacking all_kinds u e) r.goes.is (unsure_unless_lacking h ms w e r lawful few)))

@@ -2,5 +2,7 @@
 #![tactic(auto)]
 
 mod laws;
+mod unsure;
 
 pub use laws::{causes_refuse, nones_true};
+pub use unsure::unsure_true;
