@@ -110,9 +110,6 @@ module _ (m : Meaning) (h : Header) (zs : Moves m) (reach : Reaches m h zs (afte
         by o (inl i) = s.asks o i
         by o (inr le) = let a = s.next in omega (arith, a, le)
 
-    abbrev K : ℕ → ℕ → Type 0
-    K k p = Since k p (old k)
-
     abbrev Told : ℕ → List ℕ → Option (Work m) → Type 0
     Told k own o = WorkOk m (old k).next (λ p. Since k p (old k)) (λ p. HasPage m (after m h xs) p) own o
 
@@ -219,9 +216,6 @@ module _ (m : Meaning) (h : Header) (zs : Moves m) (reach : Reaches m h zs (afte
   -- Where a further step comes to the end of walks.
 
   module _ (k : ℕ) where
-    abbrev c : Client m
-    c = client m (after m h zs) k
-
     abbrev Kept : Client m → Work m → Type 0
     Kept d v = Keep m (λ p. Since k p (client m (after m h zs) k)) d.own v
 
