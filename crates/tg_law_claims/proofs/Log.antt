@@ -1,9 +1,8 @@
 -- There is one log in every run of the store.
 use Rattle.std.proofs.Common.{[], ◌∷◌, ◌++◌, subst, append_assoc}
-use Rattle.tg_base.specs.Clusters.{Header}
 use Rattle.tg_any.specs.AllKinds.{all_kinds}
-use Rattle.tg_protocol.specs.Worlds.{World, happens}
-use Rattle.tg_protocol.specs.Runs.{Moves, Takes, Reaches, Later, EachStep, EachLater}
+use Rattle.tg_protocol.specs.Worlds.{happens}
+use Rattle.tg_protocol.specs.Runs.{Moves, Takes, Reaches, EachStep, EachLater}
 use Rattle.tg_protocol.specs.Claims.{OneLog}
 use Rattle.tg_protocol.specs.Holding.{LogStays}
 use Rattle.tg_protocol.specs.Playing.{SyncsExact}
