@@ -1,87 +1,110 @@
 #!/usr/bin/env python3
-"""merge.py TOP INTO FROM..: moves the crates FROM into the crate INTO, with their names wherever they stand.
+"""merge.py TOP INTO FROM:Module..: merges crates of laws into one, a module for each.
 
-Modules whose names clash get the end of their crate's name. It stops at folders of proofs that clash.
-"""
-import os,re,subprocess,sys
-top,into,*frm=sys.argv[1:]
-C=f"{top}/crates"
-def rd(p): return open(p,encoding='utf-8').read()
-def wr(p,t):
-    os.makedirs(os.path.dirname(p),exist_ok=True); open(p,'w',encoding='utf-8').write(t)
-def git(*a): subprocess.run(("git","-C",top)+a,check=True)
-renames={}  # (crate, part, module) -> new module
-for b in frm:
-    for part,ext in (('src','.rt'),('specs','.antt'),('proofs','.antt')):
-        d=f"{C}/{b}/{part}"
-        if not os.path.isdir(d): continue
-        for name in sorted(os.listdir(d)):
-            if name in ('lib.rt','Lib.antt'): continue
-            to=f"{C}/{into}/{part}/{name}"
-            if os.path.exists(to):
-                if os.path.isdir(f"{d}/{name}"): 
-                    print("folder clash",b,part,name); sys.exit(1)
-                stem=name[:-len(ext)]
-                sfx=b.split('_')[-1]
-                new=(stem+sfx.capitalize()) if part!='src' else f"{stem}_{sfx}"
-                print("clash",b,part,name,'->',new+ext)
-                renames[(b,part,stem)]=new
-                to=f"{C}/{into}/{part}/{new}{ext}"
-            os.makedirs(os.path.dirname(to),exist_ok=True)
-            git("mv",f"{d}/{name}",to)
-    # libs
-    a=rd(f"{C}/{into}/src/lib.rt"); bl=rd(f"{C}/{b}/src/lib.rt")
-    body=[l for l in bl.splitlines() if l and not l.startswith('//!') and not l.startswith('#![')]
-    wr(f"{C}/{into}/src/lib.rt",a.rstrip()+"\n"+"\n".join(body)+"\n")
-    for part in ('specs','proofs'):
-        p=f"{C}/{b}/{part}/Lib.antt"
-        if os.path.exists(p):
-            q=f"{C}/{into}/{part}/Lib.antt"
-            t=rd(q) if os.path.exists(q) else ""
-            u=rd(p)
-            for (bb,pp,s),n in renames.items():
-                if bb==b and pp==part: u=re.sub(rf"\bmod {s}\b",f"mod {n}",u)
-            if not os.path.exists(q): 
-                wr(q,u)
+    python3 bench/merge.py . tg_law_claims tg_law_playing:Playing tg_law_causes:Causes
+
+A crate FROM whose module is left out has modules for its things already, and these move as they are (`tg_law_store:`).
+The crate INTO gets for each crate FROM a module of specs and one of proofs, with its modules in it as they are, and its files of
+src, of which `laws.rt` becomes `laws_of_module.rt`. Names follow in all crates, crates.txt and the documents. INTO may be one of
+FROM. No module of proofs may have a name that one of src has but for case: it stops there."""
+
+import glob
+import os
+import re
+import shutil
+import sys
+
+top, into, *pairs = sys.argv[1:]
+pairs = [pair.split(":") for pair in pairs]
+names = [name for name, _ in pairs]
+crates = os.path.join(top, "crates")
+room = os.path.join(crates, into + "_merged")
+
+
+def read(path):
+    with open(path, encoding="utf-8") as file:
+        return file.read()
+
+
+def write(path, text):
+    os.makedirs(os.path.dirname(path), exist_ok=True)
+    with open(path, "w", encoding="utf-8") as file:
+        file.write(text)
+
+
+renames, mods, uses, docs = [], [], [], []
+taken = {}
+for name, module in pairs:
+    old = os.path.join(crates, name)
+    stems = sorted({os.path.splitext(it)[0] for it in os.listdir(os.path.join(old, "src")) if it != "lib.rt"})
+    for stem in stems:
+        to = f"{stem}_of_{module.lower()}" if stem == "laws" or stem in [it.lower() for _, it in pairs] else stem
+        if to in taken:
+            sys.exit(f"{to} of {name} stands in {taken[to]}")
+        taken[to] = name
+        os.makedirs(os.path.join(room, "src"), exist_ok=True)
+        shutil.move(os.path.join(old, "src", stem + ".rt"), os.path.join(room, "src", to + ".rt"))
+        if os.path.isdir(os.path.join(old, "src", stem)):
+            shutil.move(os.path.join(old, "src", stem), os.path.join(room, "src", to))
+        if os.path.isdir(os.path.join(old, "proofs", stem)):
+            shutil.move(os.path.join(old, "proofs", stem), os.path.join(room, "proofs", to))
+        renames.append((rf"Rattle\.{name}\.proofs\.{stem}\b", f"Rattle.{into}.proofs.{to}"))
+        mods.append(f"mod {to};")
+        for use in re.findall(rf"pub use {stem}::[^;]*;", read(os.path.join(old, "src", "lib.rt"))):
+            uses.append(use.replace(f"pub use {stem}::", f"pub use {to}::"))
+    docs.append(f"//! - " + " ".join(line[4:] for line in read(os.path.join(old, "src", "lib.rt")).splitlines() if line.startswith("//! ")))
+    for part in ("proofs", "specs"):
+        if not os.path.isdir(os.path.join(old, part)):
+            continue
+        for it in os.listdir(os.path.join(old, part)):
+            lib = os.path.join(room, part, "Lib.antt")
+            if it == "Lib.antt" and not module:
+                write(lib, (read(lib) if os.path.exists(lib) else "") + read(os.path.join(old, part, it)))
+            elif it == "Lib.antt":
+                write(os.path.join(room, part, module + ".antt"), read(os.path.join(old, part, it)))
             else:
-                wr(q,t.rstrip()+"\n"+"\n".join(l for l in u.splitlines() if l.strip() and l not in t.splitlines())+"\n")
-            git("add",q)
-    for e in ('must-fail','edits'):
-        d=f"{C}/{b}/{e}"
-        if os.path.isdir(d):
-            for name in sorted(os.listdir(d)):
-                to=f"{C}/{into}/{e}/{name}"
-                if os.path.exists(to): to=f"{C}/{into}/{e}/{name[:-5]}_{b.split('_')[-1]}.edit"
-                os.makedirs(os.path.dirname(to),exist_ok=True); git("mv",f"{d}/{name}",to)
-    git("rm","-rqf",f"{C}/{b}")
-    subprocess.run(["rm","-rf",f"{C}/{b}"])
-names='|'.join(map(re.escape,frm))
-for at,ds,fs in os.walk(top):
-    ds[:]=[d for d in ds if d not in('.git','out')]
-    for f in fs:
-        p=os.path.join(at,f)
-        if os.path.islink(p) or not f.endswith(('.rt','.antt','.md','.edit','.py','.txt')): continue
-        try: t=rd(p)
-        except UnicodeDecodeError: continue
-        u=t
-        for (b,part,s),n in renames.items():
-            u=re.sub(rf"\b{b}\.{part}\.{s}\b",f"{b}.{part}.{n}",u)
-            u=re.sub(rf"\b{b}::{part}::{s}\b",f"{b}::{part}::{n}",u)
-        inside=os.path.abspath(p).startswith(os.path.abspath(f"{C}/{into}/"))
-        if inside and f.endswith('.rt'):
-            u=re.sub(rf"(?<![\w.])({names}|{into})::",r"crate::",u)
-        u=re.sub(rf"(?<![\w])({names})(?!\w)",into,u)
-        if u!=t: wr(p,u)
-# crates.txt: one line, no doubles
-ls=rd(f"{top}/crates.txt").splitlines(); out=[]; deps=[]; at=None
-for l in ls:
-    if ':' in l and not l.startswith('#'):
-        n,r=l.split(':',1); n=n.strip()
-        if n==into:
-            deps+=[d for d in r.split() if d!=into]
-            if at is not None: out[at]=None
-            at=len(out); out.append(l); continue
-        r=list(dict.fromkeys(r.split())); l=f"{n}: {' '.join(r)}"
-    out.append(l)
-out[at]=f"{into}: {' '.join(dict.fromkeys(deps))}"
-wr(f"{top}/crates.txt","\n".join(x for x in out if x is not None)+"\n")
+                os.makedirs(os.path.join(room, part, module), exist_ok=True)
+                shutil.move(os.path.join(old, part, it), os.path.join(room, part, module, it))
+        renames.append((rf"Rattle\.{name}\.{part}\.(?=[A-Z])", f"Rattle.{into}.{part}.{module}." if module else f"Rattle.{into}.{part}."))
+        lib = os.path.join(room, part, "Lib.antt")
+        if module:
+            write(lib, (read(lib) if os.path.exists(lib) else "") + f"pub mod {module}\n")
+    if os.path.isdir(os.path.join(old, "must-fail")):
+        shutil.copytree(os.path.join(old, "must-fail"), os.path.join(room, "must-fail"), dirs_exist_ok=True)
+    renames.append((rf"(?m)^(use|pub use) {name}::", rf"\1 {into}::"))
+    shutil.rmtree(old)
+for stem in taken:
+    for it in glob.glob(os.path.join(room, "proofs", "*.antt")):
+        if os.path.splitext(os.path.basename(it))[0].lower() == stem.lower():
+            sys.exit(f"{it} is {stem} but for case")
+write(os.path.join(room, "src", "lib.rt"), "\n".join(["//! Laws over definitions, the contracts of empty functions:", "//!", *docs, "#![tactic(auto)]", "", *sorted(mods), "", *sorted(uses)]) + "\n")
+shutil.move(room, os.path.join(crates, into))
+for path in glob.glob(os.path.join(crates, "**", "*"), recursive=True):
+    if path.endswith((".rt", ".antt", ".edit")):
+        text = read(path)
+        new = text
+        for old, to in renames:
+            new = re.sub(old, to, new)
+        if new != text:
+            write(path, new)
+rows = {}
+lines = read(os.path.join(top, "crates.txt")).split("\n")
+for line in lines:
+    found = re.match(r"(\w+):(.*)", line)
+    if found:
+        rows[found[1]] = found[2].split()
+under = []
+for name in names:
+    under += [it for it in rows[name] if it not in names and it not in under]
+order = [name for name in rows if name not in names]
+under.sort(key=lambda it: -list(rows).index(it) if it in rows else 0)
+out = []
+for line in lines:
+    found = re.match(r"(\w+):(.*)", line)
+    if not found:
+        out.append(line)
+    elif found[1] == names[-1]:
+        out.append(f"{into}: " + " ".join(under))
+    elif found[1] not in names:
+        out.append(f"{found[1]}: " + " ".join(dict.fromkeys(into if it in names else it for it in found[2].split())))
+write(os.path.join(top, "crates.txt"), "\n".join(out))
