@@ -5,7 +5,7 @@
 
 A crate FROM whose module is left out has modules for its things already, and these move as they are (`tg_law_store:`).
 The crate INTO gets for each crate FROM a module of specs and one of proofs, with its modules in it as they are, and its files of
-src, of which `laws.rt` becomes `laws_of_module.rt`. Names follow in all crates, crates.txt and the documents. INTO may be one of
+src, of which `laws.rt` becomes `laws_of_module.rt`. Names follow in all crates and in crates.txt. INTO may be one of
 FROM. No module of proofs may have a name that one of src has but for case: it stops there."""
 
 import glob
