@@ -25,3 +25,11 @@ pub mod Standing
 pub mod Answered
 pub mod Telling
 pub mod Replying
+pub mod Makers
+pub mod Both
+pub mod Below
+pub mod Named
+pub mod Shapes
+pub mod Shaped
+pub mod Hands
+pub mod Store

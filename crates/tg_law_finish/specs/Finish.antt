@@ -4,3 +4,5 @@ pub mod Appends
 pub mod Asks
 pub mod Queues
 pub mod Laws
+pub mod Store
+pub mod Makes

@@ -5,10 +5,10 @@
 //! Proved for a command that waits for an append after which nothing is left to do (of a transaction without reads, a
 //! decision record, a checkpoint or a mark), from wherever the append stands; and for `ask`, `fate` and `ask-at` whose
 //! sync waits for its first answer, where nothing is trimmed and the sequencer has issued a position since its layout's
-//! start (`NothingTrimmed`, `HasIssued` in specs/Finish/Asks.antt). Three conditions on a world are premises, two of which no
-//! other law gives: `Granted` in specs/Finish/Granted.antt. Where an append stands is a premise too: `AppendStands` in
-//! specs/Finish/Appends.antt. That the next position is unwritten, and that a sequencer names positions below it alone, is
-//! proved (`tg_law_trims::laws_of_issues`).
+//! start (`NothingTrimmed`, `HasIssued` in specs/Finish/Asks.antt). Three conditions on a world are premises: `Granted` in
+//! specs/Finish/Granted.antt. Where an append stands is a premise too: `AppendStands` in specs/Finish/Appends.antt. In the
+//! store all these hold (`laws_of_store`). That the next position is unwritten, and that a sequencer names positions below
+//! it alone, is proved (`tg_law_trims::laws_of_issues`).
 
 ghost use Rattle.tg_kind.specs.Of.{meaning_of};
 ghost use Rattle.tg_law_finish.specs.Finish.Laws.{AppendAnswered, AppendInTime, AskAnswered, AskInTime, DeliveriesTakeTurns, EndsAreTold};

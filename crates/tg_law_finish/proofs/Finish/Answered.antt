@@ -30,6 +30,7 @@ use Rattle.tg_law_finish.specs.Finish.Granted.{Granted}
 use Rattle.tg_law_finish.specs.Finish.Appends as appends
 use Rattle.tg_law_finish.specs.Finish.Appends.{WaitsForAppend, AppendStands, PuttingStands, JudgingStands}
 use Rattle.tg_law_finish.specs.Finish.Asks.{NothingTrimmed, HasIssued, WaitsForSync}
+use Rattle.tg_law_finish.specs.Finish.Makes.{makes, MakesSync, make_bound}
 use Rattle.tg_law_finish.specs.Finish.Laws.{IsAnswered, AppendAnswered, AppendInTime, AskAnswered, AskInTime, EndsAreTold}
 use Rattle.tg_law_finish.proofs.Finish.Asking.{Untrimmed, Asks}
 use Rattle.tg_law_finish.proofs.Finish.Counted.{is_of, one_if, cost, counted, Finishes as Counted}
@@ -37,6 +38,7 @@ use Rattle.tg_law_finish.proofs.Finish.Replying.{settle_replies}
 use Rattle.tg_law_finish.proofs.Finish.Telling.{CommandIs}
 use Rattle.tg_law_finish.specs.Finish.Commands.{is_ask, plays}
 use Rattle.tg_law_finish.proofs.Finish.Finishes.{writes_finish, asks_finish}
+use Rattle.tg_law_finish.proofs.Finish.Both.{Made, makes_finish}
 use Rattle.tg_law_finish.proofs.Finish.Standing.{numbers_hold, cells_always, pax_always, working, lawful, next_near, names_below, cluster_is, header_limits}
 use Rattle.tg_law_finish.proofs.Finish.Writing.{Writes, Stands, InHand, PutStands, JudgeStands}
 
@@ -90,6 +92,12 @@ rooms c t l one few = let e = mul-le (16 * c) 4 (16 * c) (t + 4) (omega arith) (
 
 each_room : (c t l : ℕ) → 1 ≤ c → l ≤ 7 → 2 * ((c + 1) * (t + 1)) + 2 * l ≤ 16 * c * (t + 4)
 each_room c t l one few =
+    let a = mul-le (c + 1) (t + 1) (2 * c) (t + 1) (omega (arith, one)) (omega arith) in
+    let b = mul-le (16 * c) (t + 1) (16 * c) (t + 1) (omega arith) (omega arith) in
+    omega (arith, one, few)
+
+made_room : (c t l : ℕ) → 1 ≤ c → l ≤ 7 → 2 * ((c + 1) * (t + 1)) + 2 * l + 2 * (c + 1) ≤ 16 * c * (t + 4)
+made_room c t l one few =
     let a = mul-le (c + 1) (t + 1) (2 * c) (t + 1) (omega (arith, one)) (omega arith) in
     let b = mul-le (16 * c) (t + 1) (16 * c) (t + 1) (omega arith) (omega arith) in
     omega (arith, one, few)
@@ -183,6 +191,27 @@ module _ (m : Meaning) (h : Header) (ms : Moves m) (w : World m) (r : Reaches m 
     asks = f.asks;
   }
 
+  -- Commands that make a record of their own.
+
+  made : (f : MakesSync m w k) → Made m w k
+  unfolding task_asks sync_work_asks
+  made f =
+      let o = out (seqr_id (client m w k).stand.seq) f.rid (msg.Check (client m w k).stand.epoch f.sync.oids) in
+      record {
+        work = f.work;
+        waits = f.waits;
+        sync = f.sync;
+        rid = f.rid;
+        hand = f.hand;
+        first = f.first;
+        below = below_next o (reserves (client m w k) f.work (Syncing f.sync) o f.waits f.hand (subst (λ (y : SyncWork). Has (sync_work_asks (client m w k).stand f.sync y) o) (sym f.first) (inl refl)));
+        makes_it = f.makes_it;
+      }
+
+  makes_play : (x : CommandOf m) → makes m x ≡ true → plays m x ≡ true
+  unfolding makes plays
+  makes_play x e = grind arith
+
   layouts_are : (client m w k).layouts ≡ w.cluster.layouts
   layouts_are = (pax_always m h ms w r).layouts k
 
@@ -214,6 +243,14 @@ module _ (m : Meaning) (h : Header) (ms : Moves m) (w : World m) (r : Reaches m 
 
   pub ask_in_time : (x : CommandOf m) → WaitsAlone m w k x → IsReadyFor m w k → Granted m w → NothingTrimmed m w → HasIssued m w → WaitsForSync m w k → IsAnswered m w k (most_deliveries_in m w x)
   ask_in_time x a b g u n f = within m k _ _ w _ (bounds m x _ _ _ _ (each_room _ _ _ (longest g x a b) few_layouts)) (ask_answered x a b g u n f)
+
+  pub make_answered : (x : CommandOf m) → WaitsAlone m w k x → IsReadyFor m w k → Granted m w → NothingTrimmed m w → HasIssued m w → MakesSync m w k → IsAnswered m w k (make_bound m w)
+  make_answered x a b g u n f =
+      let c = makes_finish m w k p (longest_chain p) (working m h ms w r k x a b) (lawful m h ms w r k x a b g) (untrimmed u n) (made f) a.within in
+      answered_of m k _ w _ (subst (λ l. Counted m k (2 * ((longest_chain p + 1) * ((seqr m w p.seq).next + 1)) + 2 * l + 2 * (longest_chain p + 1)) w (settle m w).world) layouts_are c) (settle_replies m k f.work.command (makes_play f.work.command f.makes_it) w (in_work f.work f.waits) c.answered)
+
+  pub make_in_time : (x : CommandOf m) → WaitsAlone m w k x → IsReadyFor m w k → Granted m w → NothingTrimmed m w → HasIssued m w → MakesSync m w k → IsAnswered m w k (most_deliveries_in m w x)
+  make_in_time x a b g u n f = within m k _ _ w _ (bounds m x _ _ _ _ (made_room _ _ _ (longest g x a b) few_layouts)) (make_answered x a b g u n f)
 
 pub appends_are_answered : (m : Meaning) → Always m (AppendAnswered m)
 appends_are_answered m h ms w r k x a b g f = append_answered m h ms w r k x a b g f

@@ -25,11 +25,10 @@ use Rattle.tg_protocol.specs.Answers.{Moved, moved}
 use Rattle.tg_protocol.specs.ClientSteps.{walks, goes_on, task_asks, task_awaited, task_again_asks, hand_again_asks, hand_asks, client_asks, given, called, client_deliver, feed, reply_feed, hand_feed, fed_if, task_feed, on_sync, on_walk, after_turn, met, ClientTurn, takes_back, found_by, walk_ended_by}
 use Rattle.tg_law_finish.proofs.Finish.Nets.{Net, unit_of, seqr_of, client_of, on_alike, seqr_alike}
 use Rattle.tg_law_finish.proofs.Finish.Others.{Keeps, Calm, Ready}
-use Rattle.tg_law_finish.proofs.Finish.Stores.{with_unit}
+use Rattle.tg_law_finish.proofs.Finish.Stores.{with_unit, Put}
 use Rattle.tg_law_finish.proofs.Finish.Readings.{CellAsk, cell_ask, cell_keeps}
 use Rattle.tg_law_finish.proofs.Finish.Trails.{unknown, unknown_fewer, Low, TrailLow, Walked, WalkReads, WalkEnds}
-use Rattle.tg_law_finish.specs.Finish.Commands.{is_ask}
-use Rattle.tg_law_finish.proofs.Finish.Readers.{Answers, Walks, WalksTo, ToOver, ToReads, walks_to}
+use Rattle.tg_law_finish.proofs.Finish.Readers.{Way, asking_way, Walks, WalksTo, ToOver, ToReads, walks_to}
 use Rattle.tg_base.specs.declared.marks.StreamLink.{StreamLink}
 use Rattle.tg_protocol.specs.Units.{unit_step}
 use Rattle.tg_protocol.specs.Layouts.{first_layout}
@@ -37,12 +36,14 @@ use Rattle.tg_protocol.specs.Worlds.{packet_of, answer_to}
 use Rattle.tg_protocol.specs.ClientSteps as steps
 use Rattle.tg_law_finish.proofs.Finish.Lists.{set_there, set_other}
 use Rattle.tg_law_finish.proofs.Finish.Strays.{Old}
-use Rattle.tg_law_finish.proofs.Finish.Talks.{Over, More, Asked, Machine}
+use Rattle.tg_law_finish.proofs.Finish.Talks.{Facts, Over, More, Asked, Machine}
 use Rattle.tg_law_finish.proofs.Finish.Appends.{is_latest}
 use Rattle.tg_law_finish.proofs.Finish.Writers.{over_asks, to_hand, none_drawn, none_awaited, other_latest, new_drawn, unit_away, awaited_itself, unit_no_client, seqr_no_client, below_count, same_out}
 use Rattle.tg_law_finish.proofs.Finish.Askers.{budget, Open, Reading, WalkStage, WalkWell, CellOn, WalkOn, Checks, Settles, SyncStage, SyncWell, SyncOn, SyncEnds, cell_walks, cell_settles, tail_well, readable_keeps}
 
-module _ (m : Meaning) (h : Header) (stopped : List NodeId) (k : ℕ) (p : Layout) (longest tail : ℕ) where
+-- Of commands that go on in such a way once all is walked, and a fact of the nodes that a store below the tail keeps, and so do other packets.
+module _ (m : Meaning) (h : Header) (stopped : List NodeId) (k : ℕ) (p : Layout) (longest tail : ℕ) (way : Way m) (Also : Net m → Type 0)
+    (also_put : (s t : Net m) (pos : ℕ) (c : Cell) → Put m stopped s t pos c → (0 < tail → pos < tail) → seqr_of m h t p.seq ≡ seqr_of m h s p.seq → Also s → Also t) (also_keeps : (s t : Net m) → Keeps m h stopped k p s t → Also s → Also t) where
   -- a client that does a task with one request outstanding
   pub record TaskShape (c : Client m) (t : Task m) (o : Out) : Type 0 where
     pub stand : c.stand ≡ p
@@ -83,19 +84,20 @@ module _ (m : Meaning) (h : Header) (stopped : List NodeId) (k : ℕ) (p : Layou
 
   -- Where its task stands.
   abbrev pub TaskStage : Net m → List (ℕ × Cell) → Work m → Task m → ℕ → Type 0
-  TaskStage s cells w (Syncing sy) n = SyncStage m h stopped k p longest tail s cells sy sy.work n × (is_ask m w.command ≡ true)
-  TaskStage s cells w (Walking wk os) n = WalkStage m h stopped k p longest tail s wk wk.job n × Walks m p tail w
+  TaskStage s cells w (Syncing sy) n = SyncStage m h stopped k p longest tail s cells sy sy.work n × way.Is w.command
+  TaskStage s cells w (Walking wk os) n = WalkStage m h stopped k p longest tail s wk wk.job n × Walks m way p tail w
   TaskStage s cells w _ n = ⊥
 
   pub record Asking' (s : Net m) (c : Client m) (o : Out) (n : ℕ) : Type 0 where
     pub task : Task m
     pub shape : TaskShape c task o
     pub stage : TaskStage s c.cells shape.work task n
+    pub also : Also s
 
   -- What it hears.
   abbrev pub TaskWell : Net m → List (ℕ × Cell) → Work m → Task m → Msg → ℕ → Type 0
-  TaskWell s cells w (Syncing sy) y n = ((u next : ℕ) → SyncWell m h stopped k p longest tail s cells n next (sync_feed p sy sy.work u (reply y) next)) × (is_ask m w.command ≡ true)
-  TaskWell s cells w (Walking wk os) y n = ((u next : ℕ) → WalkWell m h stopped k p longest tail s n next (walk_feed p wk wk.job u (reply y) next)) × Walks m p tail w
+  TaskWell s cells w (Syncing sy) y n = ((u next : ℕ) → SyncWell m h stopped k p longest tail s cells n next (sync_feed p sy sy.work u (reply y) next)) × way.Is w.command
+  TaskWell s cells w (Walking wk os) y n = ((u next : ℕ) → WalkWell m h stopped k p longest tail s n next (walk_feed p wk wk.job u (reply y) next)) × Walks m way p tail w
   TaskWell s cells w _ y n = ⊥
 
   pub record Hearing' (s : Net m) (c : Client m) (from : NodeId) (rid : ℕ) (y : Msg) (n : ℕ) : Type 0 where
@@ -105,22 +107,32 @@ module _ (m : Meaning) (h : Header) (stopped : List NodeId) (k : ℕ) (p : Layou
     pub awaited : awaits (o ∷ []) from rid ≡ true
     pub no_latest : is_latest (reply y) ≡ false
     pub well : TaskWell s c.cells shape.work task y n
+    pub also : Also s
 
   -- The answer comes to the client.
 
   data Fed (t : Net m) (n next : ℕ) : Moved m → Type 0 where
-    FedOver : (x : Moved m) → Answers m x → Fed t n next x
+    FedOver : (c : Client m) (x : Moved m) → c.next ≡ next → c.stand ≡ p → way.GoesOn c x → Fed t n next x
     FedOn : (c : Client m) (w : Work m) (task : Task m) (to : NodeId) (z : Msg) (left : ℕ) → c.next ≡ next + 1 → c.stand ≡ p → task_awaited m p task ≡ out to next z ∷ [] → task_again_asks m p task ≡ out to next z ∷ [] → task_asks m p task ≡ out to next z ∷ []
         → ((l : ℕ) → node_eq to (layout_id l) ≡ false) → ((v : Work m) → v.command ≡ w.command → v.lasts ≡ w.lasts → TaskStage t c.cells v task left) → left + 1 ≤ n → Fed t n next (goes_on m c w task [])
 
-  fed_turns : (t : Net m) (c : Client m) (n : ℕ) (x : Moved m) → Fed t n c.next x → Over m h stopped k p Asking' Hearing' (given m c x) ⊎ More m h stopped k p Asking' Hearing' t (given m c x) n
+  -- all is walked, and the command goes on
+  pub record EndsWalks (c : Client m) (t : ClientTurn m) : Type 0 where
+    pub at : Client m
+    pub next : at.next ≡ c.next
+    pub stand : at.stand ≡ p
+    pub moved : Moved m
+    pub goes : way.GoesOn at moved
+    pub turn : t ≡ given m c moved
+
+  fed_turns : (t : Net m) (c : Client m) (n : ℕ) (x : Moved m) → Also t → Fed t n c.next x → EndsWalks c (given m c x) ⊎ More m h stopped k p Asking' Hearing' t (given m c x) n
   unfolding client_asks
-  fed_turns t c n x (FedOver y a) = inl (record { none = a.none; sends = ap (λ os. os ++ drawn_from c.next (client_asks m y.now)) a.besides ∙ ap (λ os. drawn_from c.next os) (over_asks m y.now a.none) })
-  fed_turns t c n x (FedOn d w task to z left next stand awaited again asks away stage few) = inr (record {
+  fed_turns t c n x also (FedOver d y next stand goes) = inl (record { at = d; next = next; stand = stand; moved = y; goes = goes; turn = refl })
+  fed_turns t c n x also (FedOn d w task to z left next stand awaited again asks away stage few) = inr (record {
     o = out to c.next z;
     left = left;
     sends = ap (λ q. drawn_from c.next (task_asks m q task)) stand ∙ (ap (λ os. drawn_from c.next os) asks ∙ new_drawn m h stopped k p longest to c.next z);
-    stage = record { task = task; shape = record { stand = stand; work = _; waits = refl; hand = refl; awaited = awaited; again = again; asks = asks; below = omega (arith, next); away = away }; stage = stage _ refl refl };
+    stage = record { task = task; shape = record { stand = stand; work = _; waits = refl; hand = refl; awaited = awaited; again = again; asks = asks; below = omega (arith, next); away = away }; stage = stage _ refl refl; also = also };
     less = few;
   })
 
@@ -152,43 +164,43 @@ module _ (m : Meaning) (h : Header) (stopped : List NodeId) (k : ℕ) (p : Layou
   reads_room : (cells : List (ℕ × Cell)) (q n : ℕ) → cell_at cells q ≡ None → q < tail → budget m h stopped k p longest tail (unknown cells tail) ≤ n → longest + budget m h stopped k p longest tail (unknown cells tail - 1) + 1 ≤ n
   reads_room cells q n none less few = let a = budget_step (unknown cells tail) (unknown_some cells q none less) in omega (arith, a, few)
 
-  walks_fed : (t : Net m) (cells : List (ℕ × Cell)) (n next : ℕ) (x : Moved m) → WalksTo m p tail cells next x → Open m h stopped k p longest tail t cells → budget m h stopped k p longest tail (unknown cells tail) ≤ n → Fed t n next x
+  walks_fed : (t : Net m) (cells : List (ℕ × Cell)) (n next : ℕ) (x : Moved m) → WalksTo m way p tail cells next x → Open m h stopped k p longest tail t cells → budget m h stopped k p longest tail (unknown cells tail) ≤ n → Fed t n next x
   unfolding task_asks work_asks
-  walks_fed t cells n next x (ToOver y a) free few = FedOver y a
+  walks_fed t cells n next x (ToOver c y up stand goes) free few = FedOver c y up stand goes
   walks_fed t cells n next x (ToReads c w wk os q up stand less none same low ws) free few =
       FedOn c w (Walking (with_job wk (works (place_in p q) (Gets next))) os) (unit_id _) _ (longest + budget m h stopped k p longest tail (unknown cells tail - 1)) up stand refl refl refl (λ l. unit_away m h stopped k p longest _ l)
-      (λ v e f. (reads_stage t cells wk q next free less none same low, record { asks = ap (λ y. is_ask m y) e ∙ ws.asks; lasts = λ o. subst (λ ls. Low p tail (backs_of (link_of o ls))) (sym f) (ws.lasts o) })) (reads_room cells q n none less few)
+      (λ v e f. (reads_stage t cells wk q next free less none same low, record { asks = subst way.Is (sym e) ws.asks; lasts = λ o. subst (λ ls. Low p tail (backs_of (link_of o ls))) (sym f) (ws.lasts o) })) (reads_room cells q n none less few)
 
-  ended_fed : (t : Net m) (c : Client m) (w : Work m) (o : Oid) (os : List Oid) (x : Members) (cells : List (ℕ × Cell)) (n : ℕ) (gone : Option ℕ) → gone ≡ None → c.stand ≡ p → Walks m p tail w → x.cells ≡ cells → Open m h stopped k p longest tail t cells
+  ended_fed : (t : Net m) (c : Client m) (w : Work m) (o : Oid) (os : List Oid) (x : Members) (cells : List (ℕ × Cell)) (n : ℕ) (gone : Option ℕ) → gone ≡ None → c.stand ≡ p → Walks m way p tail w → x.cells ≡ cells → Open m h stopped k p longest tail t cells
       → budget m h stopped k p longest tail (unknown cells tail) ≤ n → Fed t n c.next (walk_ended_by m (takes_back m c x) (found_by m w o x) o os x gone)
   ended_fed t c w o os x cells n None e stand ws same free few =
       let d = takes_back m c x in
-      let r = walks_to m p tail os d (found_by m w o x) stand (record { asks = ws.asks; lasts = ws.lasts }) in
-      walks_fed t cells n c.next _ (subst (λ y. WalksTo m p tail y c.next (walks m os d (found_by m w o x))) same r) free few
+      let r = walks_to m way p tail os d (found_by m w o x) stand (record { asks = ws.asks; lasts = ws.lasts }) in
+      walks_fed t cells n c.next _ (subst (λ y. WalksTo m way p tail y c.next (walks m os d (found_by m w o x))) same r) free few
   ended_fed t c w o os x cells n (Some b) e stand ws same free few = absurd cc
 
-  walked_fed : (t : Net m) (c : Client m) (w : Work m) (o : Oid) (os : List Oid) (cells : List (ℕ × Cell)) (n : ℕ) (x : WalkTurn) → Walked p tail cells c.next x → c.stand ≡ p → Walks m p tail w → Open m h stopped k p longest tail t cells
+  walked_fed : (t : Net m) (c : Client m) (w : Work m) (o : Oid) (os : List Oid) (cells : List (ℕ × Cell)) (n : ℕ) (x : WalkTurn) → Walked p tail cells c.next x → c.stand ≡ p → Walks m way p tail w → Open m h stopped k p longest tail t cells
       → budget m h stopped k p longest tail (unknown cells tail) ≤ n → Fed t n c.next (on_walk m c w o os x)
   unfolding task_asks work_asks
   walked_fed t c w o os cells n x (WalkReads wk q less none same low) stand ws free few =
       FedOn (record c { next = c.next + 1 }) (record w { gone = max w.gone 0 }) (Walking (with_job wk (works (place_in p q) (Gets c.next))) os) (unit_id _) _ (longest + budget m h stopped k p longest tail (unknown cells tail - 1)) refl stand refl refl refl (λ l. unit_away m h stopped k p longest _ l)
-      (λ v e f. (reads_stage t cells wk q c.next free less none same low, record { asks = ap (λ y. is_ask m y) e ∙ ws.asks; lasts = λ i. subst (λ ls. Low p tail (backs_of (link_of i ls))) (sym f) (ws.lasts i) })) (reads_room cells q n none less few)
+      (λ v e f. (reads_stage t cells wk q c.next free less none same low, record { asks = subst way.Is (sym e) ws.asks; lasts = λ i. subst (λ ls. Low p tail (backs_of (link_of i ls))) (sym f) (ws.lasts i) })) (reads_room cells q n none less few)
   walked_fed t c w o os cells n x (WalkEnds y same gone) stand ws free few = ended_fed t c (record w { gone = max w.gone 0 }) o os y cells n y.gone gone stand (record { asks = ws.asks; lasts = ws.lasts }) same free few
 
-  walk_fed : (t : Net m) (c : Client m) (w : Work m) (o : Oid) (os : List Oid) (n : ℕ) (x : WalkTurn) → WalkWell m h stopped k p longest tail t n c.next x → c.stand ≡ p → Walks m p tail w → Fed t n c.next (on_walk m c w o os x)
+  walk_fed : (t : Net m) (c : Client m) (w : Work m) (o : Oid) (os : List Oid) (n : ℕ) (x : WalkTurn) → WalkWell m h stopped k p longest tail t n c.next x → c.stand ≡ p → Walks m way p tail w → Fed t n c.next (on_walk m c w o os x)
   unfolding task_asks
   walk_fed t c w o os n x (CellOn wk pl y u z left asks f few) stand ws =
       FedOn (record c { next = c.next + 1 }) (record w { gone = max w.gone 0 }) (Walking (with_job wk (works pl y)) os) (unit_id u) z left refl stand asks asks asks (λ l. unit_away m h stopped k p longest u l)
-      (λ v e g. (record { place = f.place; less = f.less; none = f.none; low = record { pointers = f.low.pointers; last = f.low.last }; free = f.free; cost = f.cost; cell = f.cell; left = f.left; fewer = f.fewer; few = f.few }, record { asks = ap (λ i. is_ask m i) e ∙ ws.asks; lasts = λ i. subst (λ ls. Low p tail (backs_of (link_of i ls))) (sym g) (ws.lasts i) })) few
+      (λ v e g. (record { place = f.place; less = f.less; none = f.none; low = record { pointers = f.low.pointers; last = f.low.last }; free = f.free; cost = f.cost; cell = f.cell; left = f.left; fewer = f.fewer; few = f.few }, record { asks = subst way.Is (sym e) ws.asks; lasts = λ i. subst (λ ls. Low p tail (backs_of (link_of i ls))) (sym g) (ws.lasts i) })) few
   walk_fed t c w o os n x (WalkOn cells y walked free few) stand ws = walked_fed t c w o os cells n y walked stand ws free few
 
-  sync_fed : (t : Net m) (c : Client m) (w : Work m) (n : ℕ) (x : SyncTurn) → SyncWell m h stopped k p longest tail t c.cells n c.next x → c.stand ≡ p → is_ask m w.command ≡ true → Fed t n c.next (on_sync m c w x)
+  sync_fed : (t : Net m) (c : Client m) (w : Work m) (n : ℕ) (x : SyncTurn) → SyncWell m h stopped k p longest tail t c.cells n c.next x → c.stand ≡ p → way.Is w.command → Fed t n c.next (on_sync m c w x)
   unfolding task_asks sync_work_asks
   sync_fed t c w n x (SyncOn oids a pl y u z left asks f few) stand ask =
       FedOn (record c { next = c.next + 1 }) (record w { gone = max w.gone 0 }) (Syncing (record { oids = oids; work = Settling a (works pl y) })) (unit_id u) z left refl stand asks asks asks (λ l. unit_away m h stopped k p longest u l)
-      (λ v e g. (f, ap (λ i. is_ask m i) e ∙ ask)) few
+      (λ v e g. (f, subst way.Is (sym e) ask)) few
   sync_fed t c w n x (SyncEnds a y lasts free few) stand ask =
-      walks_fed t (with_cell c.cells (a.tail - 1) y) n c.next _ (walks_to m p tail w.oids (record c { cells = with_cell c.cells (a.tail - 1) y }) (record w { gone = max w.gone 0; tail = a.tail; lasts = a.lasts; lo = steps.lo_for m (record c { cells = with_cell c.cells (a.tail - 1) y }) w.command }) stand (record { asks = ask; lasts = lasts })) free few
+      walks_fed t (with_cell c.cells (a.tail - 1) y) n c.next _ (walks_to m way p tail w.oids (record c { cells = with_cell c.cells (a.tail - 1) y }) (record w { gone = max w.gone 0; tail = a.tail; lasts = a.lasts; lo = steps.lo_for m (record c { cells = with_cell c.cells (a.tail - 1) y }) w.command }) stand (record { asks = ask; lasts = lasts })) free few
 
   task_fed : (t : Net m) (c : Client m) (w : Work m) (task : Task m) (num rid : ℕ) (y : Msg) (n : ℕ) → c.stand ≡ p → TaskWell t c.cells w task y n → Fed t n c.next (task_feed m c w task num rid (reply y))
   unfolding task_feed
@@ -199,13 +211,13 @@ module _ (m : Meaning) (h : Header) (stopped : List NodeId) (k : ℕ) (p : Layou
   task_fed t c w (Copying' z) num rid y n stand x = absurd x
   task_fed t c w (Reconfiguring z) num rid y n stand x = absurd x
 
-  answered : (s : Net m) (c : Client m) (from : NodeId) (rid : ℕ) (y : Msg) (n : ℕ) → Hearing' s c from rid y n
-      → Over m h stopped k p Asking' Hearing' (client_deliver m c from rid y) ⊎ More m h stopped k p Asking' Hearing' s (client_deliver m c from rid y) n
+  pub answered : (s : Net m) (c : Client m) (from : NodeId) (rid : ℕ) (y : Msg) (n : ℕ) → Hearing' s c from rid y n
+      → EndsWalks c (client_deliver m c from rid y) ⊎ More m h stopped k p Asking' Hearing' s (client_deliver m c from rid y) n
   unfolding client_deliver
   answered s c from rid y n g =
       let x = g.shape in
-      subst (λ (z : Moved m). Over m h stopped k p Asking' Hearing' (given m c z) ⊎ More m h stopped k p Asking' Hearing' s (given m c z) n) (sym (fed from rid (reply y) x g.awaited g.no_latest))
-      (fed_turns s c n _ (task_fed s c x.work g.task from.num rid y n x.stand g.well))
+      subst (λ (z : Moved m). EndsWalks c (given m c z) ⊎ More m h stopped k p Asking' Hearing' s (given m c z) n) (sym (fed from rid (reply y) x g.awaited g.no_latest))
+      (fed_turns s c n _ g.also (task_fed s c x.work g.task from.num rid y n x.stand g.well))
     where
       fed : {t : Task m} {o : Out} (from : NodeId) (rid : ℕ) (r : Reply) (x : TaskShape c t o) → awaits (o ∷ []) from rid ≡ true → is_latest r ≡ false → feed m c c.work from rid r ≡ task_feed m c x.work t from.num rid r
       fed {t} {o} from rid r x awaited plain = ap (λ w. feed m c w from rid r) x.waits ∙ (to_hand m c x.work from rid r plain ∙ (ap (λ z. hand_feed m c x.work z from rid r) x.hand
@@ -281,8 +293,8 @@ module _ (m : Meaning) (h : Header) (stopped : List NodeId) (k : ℕ) (p : Layou
       ap_below {next} {x} {o} e less = subst (λ (y : Out). y.rid < next) (sym e) less
 
   cell_asked : (s : Net m) (task : Task m) (o : Out) (pl : Place) (y : CellWork) (cost n : ℕ) → (a : CellAsk m h stopped k p longest s pl y cost) → Ready m h stopped k p s → (g : TaskShape (client_of m h s k) task o) → work_asks pl y ≡ o ∷ []
-      → TaskWell (with_unit m stopped s a.unit (unit_step (unit_of m s a.unit) a.says).now) (client_of m h s k).cells g.work task a.replies.says n → Asked m h stopped k p Asking' Hearing' s o n
-  cell_asked s task o pl y cost n a ready g e well =
+      → TaskWell (with_unit m stopped s a.unit (unit_step (unit_of m s a.unit) a.says).now) (client_of m h s k).cells g.work task a.replies.says n → Also (with_unit m stopped s a.unit (unit_step (unit_of m s a.unit) a.says).now) → Asked m h stopped k p Asking' Hearing' s o n
+  cell_asked s task o pl y cost n a ready g e well also =
       let x = out (unit_id a.unit) a.rid a.says in
       let is = same_out m h stopped k p longest x o (sym a.is ∙ e) in
       asked_at s x o n is (record {
@@ -294,7 +306,7 @@ module _ (m : Meaning) (h : Header) (stopped : List NodeId) (k : ℕ) (p : Layou
         no_client = unit_no_client m h stopped k p longest a.unit;
         ready = record { on = ready.on; rests = ready.rests; old = ready.old; layouts = ready.layouts; idle = ready.idle };
         client = refl;
-        hears = record { task = task; o = x; shape = shape_at _ task x o is g; awaited = awaited_itself m h stopped k p longest x; no_latest = a.replies.no_latest; well = well };
+        hears = record { task = task; o = x; shape = shape_at _ task x o is g; awaited = awaited_itself m h stopped k p longest x; no_latest = a.replies.no_latest; well = well; also = also };
       })
 
   check_step : (s : Net m) (x : SeqrState) (cells : List (ℕ × Cell)) (sy : Sync) (n : ℕ) (from : NodeId) (rid : ℕ) → Checks m h stopped k p longest tail s x cells sy n
@@ -321,8 +333,8 @@ module _ (m : Meaning) (h : Header) (stopped : List NodeId) (k : ℕ) (p : Layou
       (subst (λ b. SyncWell m h stopped k p longest tail s cells n next (on_tail p sy (record { tail = tail; lasts = links_of x.lists sy.oids }) next b)) (sym f.named) (tail_well m h stopped k p longest tail s x cells sy n u next f))
 
   check_asked : (s : Net m) (sy : Sync) (o : Out) (r n : ℕ) → sy.work ≡ Checking r → Ready m h stopped k p s → (g : TaskShape (client_of m h s k) (Syncing sy) o) → out (seqr_id p.seq) r (msg.Check p.epoch sy.oids) ∷ [] ≡ o ∷ []
-      → Checks m h stopped k p longest tail s (seqr_of m h s p.seq) (client_of m h s k).cells sy n → is_ask m g.work.command ≡ true → Asked m h stopped k p Asking' Hearing' s o n
-  check_asked s sy o r n is ready g e f ask =
+      → Checks m h stopped k p longest tail s (seqr_of m h s p.seq) (client_of m h s k).cells sy n → way.Is g.work.command → Also s → Asked m h stopped k p Asking' Hearing' s o n
+  check_asked s sy o r n is ready g e f ask also =
       let x = seqr_of m h s p.seq in
       let q = out (seqr_id p.seq) r (msg.Check p.epoch sy.oids) in
       let z = check_step s x (client_of m h s k).cells sy n (client_id k) r f in
@@ -348,6 +360,7 @@ module _ (m : Meaning) (h : Header) (stopped : List NodeId) (k : ℕ) (p : Layou
                 (subst (λ w. SyncWell m h stopped k p longest tail s (client_of m h s k).cells n next (sync_feed p sy w u (reply (msg.Tail tail (links_of x.lists sy.oids))) next)) (sym is) (checked_well s x (client_of m h s k).cells sy n u next r f))),
             ask,
           );
+          also = also_keeps s _ (record { units = λ v e. refl; seqr = after s x less (ap (λ t. t.now) z); alike = seqr_alike m s p.seq _ }) also;
         };
       })
     where
@@ -355,11 +368,12 @@ module _ (m : Meaning) (h : Header) (stopped : List NodeId) (k : ℕ) (p : Layou
       after s x {y} less e = set_there s.seqrs p.seq y (new_seqr p.seq h.limit (first_layout h)) less ∙ e
 
   settle_asked : (s : Net m) (sy : Sync) (o : Out) (a : Answer) (j : CellJob) (n : ℕ) → sy.work ≡ Settling a j → Ready m h stopped k p s → (g : TaskShape (client_of m h s k) (Syncing sy) o) → cell_asks j ≡ o ∷ []
-      → Settles m h stopped k p longest tail s (client_of m h s k).cells a j.place j.work n → is_ask m g.work.command ≡ true → Asked m h stopped k p Asking' Hearing' s o n
+      → Settles m h stopped k p longest tail s (client_of m h s k).cells a j.place j.work n → way.Is g.work.command → Also s → Asked m h stopped k p Asking' Hearing' s o n
   unfolding sync_feed cell_feed
-  settle_asked s sy o a j n is ready g e f ask =
+  settle_asked s sy o a j n is ready g e f ask also =
       let c = cell_ask m h stopped k p longest s j.place j.work f.cost f.cell in
       cell_asked s (Syncing sy) o j.place j.work f.cost n c ready g e ((λ u next. by_work sy is c u next (cell_settles m h stopped k p longest tail s _ (client_of m h s k).cells sy a j.place j.work n c.replies.stored f c.replies.put next _ (c.replies.well u next))), ask)
+      (also_put s _ j.place.pos c.replies.stored c.replies.put (λ some. let at = ap (λ (z : Place). z.pos) f.place in omega (arith, some, at)) refl also)
     where
       by_work : (sy : Sync) → sy.work ≡ Settling a j → {cost : ℕ} → (c : CellAsk m h stopped k p longest s j.place j.work cost) (u next : ℕ)
           → SyncWell m h stopped k p longest tail (with_unit m stopped s c.unit (unit_step (unit_of m s c.unit) c.says).now) (client_of m h s k).cells n next (settle_turn p sy a (cell_feed j u (reply c.replies.says) next))
@@ -367,11 +381,12 @@ module _ (m : Meaning) (h : Header) (stopped : List NodeId) (k : ℕ) (p : Layou
       by_work sy is c u next x = subst (λ (w : SyncWork). SyncWell m h stopped k p longest tail (with_unit m stopped s c.unit (unit_step (unit_of m s c.unit) c.says).now) (client_of m h s k).cells n next (sync_feed p sy w u (reply c.replies.says) next)) (sym is) x
 
   walk_asked : (s : Net m) (wk : Walk) (os : List Oid) (o : Out) (j : CellJob) (n : ℕ) → wk.job ≡ Some j → Ready m h stopped k p s → (g : TaskShape (client_of m h s k) (Walking wk os) o) → cell_asks j ≡ o ∷ []
-      → Reading m h stopped k p longest tail s wk j.place j.work n → Walks m p tail g.work → Asked m h stopped k p Asking' Hearing' s o n
+      → Reading m h stopped k p longest tail s wk j.place j.work n → Walks m way p tail g.work → Also s → Asked m h stopped k p Asking' Hearing' s o n
   unfolding walk_feed cell_feed
-  walk_asked s wk os o j n is ready g e f ws =
+  walk_asked s wk os o j n is ready g e f ws also =
       let c = cell_ask m h stopped k p longest s j.place j.work f.cost f.cell in
       cell_asked s (Walking wk os) o j.place j.work f.cost n c ready g e ((λ u next. by_work wk is c u next (cell_walks m h stopped k p longest tail s _ wk j.place j.work n c.replies.stored f c.replies.put next _ (c.replies.well u next))), ws)
+      (also_put s _ j.place.pos c.replies.stored c.replies.put (λ some. f.less) refl also)
     where
       by_work : (wk : Walk) → wk.job ≡ Some j → {cost : ℕ} → (c : CellAsk m h stopped k p longest s j.place j.work cost) (u next : ℕ)
           → WalkWell m h stopped k p longest tail (with_unit m stopped s c.unit (unit_step (unit_of m s c.unit) c.says).now) n next (walk_turn p wk j.place.pos (cell_feed j u (reply c.replies.says) next))
@@ -379,35 +394,90 @@ module _ (m : Meaning) (h : Header) (stopped : List NodeId) (k : ℕ) (p : Layou
       by_work wk is c u next x = subst (λ (w : Option CellJob). WalkWell m h stopped k p longest tail (with_unit m stopped s c.unit (unit_step (unit_of m s c.unit) c.says).now) n next (walk_feed p wk w u (reply c.replies.says) next)) (sym is) x
 
   sync_asked : (s : Net m) (sy : Sync) (o : Out) (w : SyncWork) (n : ℕ) → sy.work ≡ w → sync_work_asks p sy w ≡ o ∷ [] → Ready m h stopped k p s → (g : TaskShape (client_of m h s k) (Syncing sy) o) → SyncStage m h stopped k p longest tail s (client_of m h s k).cells sy w n
-      → is_ask m g.work.command ≡ true → Asked m h stopped k p Asking' Hearing' s o n
+      → way.Is g.work.command → Also s → Asked m h stopped k p Asking' Hearing' s o n
   unfolding sync_work_asks
-  sync_asked s sy o (Checking r) n is e ready g f ask = check_asked s sy o r n is ready g e f ask
-  sync_asked s sy o (Settling a j) n is e ready g f ask = settle_asked s sy o a j n is ready g e f ask
-  sync_asked s sy o (Probing a j) n is e ready g f ask = absurd f
+  sync_asked s sy o (Checking r) n is e ready g f ask also = check_asked s sy o r n is ready g e f ask also
+  sync_asked s sy o (Settling a j) n is e ready g f ask also = settle_asked s sy o a j n is ready g e f ask also
+  sync_asked s sy o (Probing a j) n is e ready g f ask also = absurd f
 
-  job_asked : (s : Net m) (wk : Walk) (os : List Oid) (o : Out) (j : Option CellJob) (n : ℕ) → wk.job ≡ j → job_asks j ≡ o ∷ [] → Ready m h stopped k p s → (g : TaskShape (client_of m h s k) (Walking wk os) o) → WalkStage m h stopped k p longest tail s wk j n → Walks m p tail g.work
+  job_asked : (s : Net m) (wk : Walk) (os : List Oid) (o : Out) (j : Option CellJob) (n : ℕ) → wk.job ≡ j → job_asks j ≡ o ∷ [] → Ready m h stopped k p s → (g : TaskShape (client_of m h s k) (Walking wk os) o) → WalkStage m h stopped k p longest tail s wk j n → Walks m way p tail g.work
+      → Also s → Asked m h stopped k p Asking' Hearing' s o n
+  job_asked s wk os o None n is e ready g f ws also = absurd f
+  job_asked s wk os o (Some j) n is e ready g f ws also = walk_asked s wk os o j n is ready g e f ws also
+
+  task_asked : (s : Net m) (task : Task m) (o : Out) (n : ℕ) → Ready m h stopped k p s → (g : TaskShape (client_of m h s k) task o) → task_asks m p task ≡ o ∷ [] → TaskStage s (client_of m h s k).cells g.work task n → Also s
       → Asked m h stopped k p Asking' Hearing' s o n
-  job_asked s wk os o None n is e ready g f ws = absurd f
-  job_asked s wk os o (Some j) n is e ready g f ws = walk_asked s wk os o j n is ready g e f ws
-
-  task_asked : (s : Net m) (task : Task m) (o : Out) (n : ℕ) → Ready m h stopped k p s → (g : TaskShape (client_of m h s k) task o) → task_asks m p task ≡ o ∷ [] → TaskStage s (client_of m h s k).cells g.work task n → Asked m h stopped k p Asking' Hearing' s o n
   unfolding task_asks
-  task_asked s (Syncing sy) o n ready g e x = sync_asked s sy o sy.work n refl e ready g x.0 x.1
-  task_asked s (Walking wk os) o n ready g e x = job_asked s wk os o wk.job n refl e ready g x.0 x.1
-  task_asked s (Appending a z) o n ready g e x = absurd x
-  task_asked s (Trimming z) o n ready g e x = absurd x
-  task_asked s (Copying' z) o n ready g e x = absurd x
-  task_asked s (Reconfiguring z) o n ready g e x = absurd x
+  task_asked s (Syncing sy) o n ready g e x also = sync_asked s sy o sy.work n refl e ready g x.0 x.1 also
+  task_asked s (Walking wk os) o n ready g e x also = job_asked s wk os o wk.job n refl e ready g x.0 x.1 also
+  task_asked s (Appending a z) o n ready g e x also = absurd x
+  task_asked s (Trimming z) o n ready g e x also = absurd x
+  task_asked s (Copying' z) o n ready g e x also = absurd x
+  task_asked s (Reconfiguring z) o n ready g e x also = absurd x
 
-  pub asks_machine : Machine m h stopped k p Asking' Hearing'
+  -- How it fares whatever comes.
+
+  pub facts : (s : Net m) (c : Client m) (o : Out) (n : ℕ) → Asking' s c o n → Facts m h stopped k p c o
+  facts s c o n x = record { work = x.shape.work; waits = x.shape.waits; again = again_is c x.task o x.shape; calm = calm_shape c x.task o x.shape }
+
+  pub hears_calm : (s : Net m) (c : Client m) (from : NodeId) (rid : ℕ) (y : Msg) (n : ℕ) → Hearing' s c from rid y n → Calm m h stopped k p c
+  hears_calm s c from rid y n x = calm_shape c x.task x.o x.shape
+
+  pub stage_stays : (s t : Net m) (c : Client m) (o : Out) (n : ℕ) → Keeps m h stopped k p s t → Asking' s c o n → Asking' t c o n
+  stage_stays s t c o n keep x = record { task = x.task; shape = x.shape; stage = task_keeps s t c.cells x.shape.work x.task n keep x.stage; also = also_keeps s t keep x.also }
+
+  pub hears_stays : (s t : Net m) (c : Client m) (from : NodeId) (rid : ℕ) (y : Msg) (n : ℕ) → Keeps m h stopped k p s t → Hearing' s c from rid y n → Hearing' t c from rid y n
+  hears_stays s t c from rid y n keep x = record { task = x.task; o = x.o; shape = x.shape; awaited = x.awaited; no_latest = x.no_latest; well = hears_keeps s t c.cells x.shape.work x.task y n keep x.well; also = also_keeps s t keep x.also }
+
+  pub stage_called : (s : Net m) (c : Client m) (o : Out) (n : ℕ) → Asking' s c o n → Asking' s (called m c) o n
+  stage_called s c o n x = record { task = x.task; shape = shape_called c x.task o x.shape; stage = x.stage; also = x.also }
+
+  pub hears_called : (s : Net m) (c : Client m) (from : NodeId) (rid : ℕ) (y : Msg) (n : ℕ) → Hearing' s c from rid y n → Hearing' s (called m c) from rid y n
+  hears_called s c from rid y n x = record { task = x.task; o = x.o; shape = shape_called c x.task x.o x.shape; awaited = x.awaited; no_latest = x.no_latest; well = x.well; also = x.also }
+
+  pub stage_ticked : (s : Net m) (c : Client m) (o : Out) (n : ℕ) → Asking' s c o n → Asking' s (called m (record c { next = c.next + c.layouts })) o n
+  stage_ticked s c o n x = record { task = x.task; shape = shape_ticked c x.task o x.shape; stage = x.stage; also = x.also }
+
+  pub asked : (s : Net m) (o : Out) (n : ℕ) → Ready m h stopped k p s → Asking' s (client_of m h s k) o n → Asked m h stopped k p Asking' Hearing' s o n
+  asked s o n ready x = task_asked s x.task o n ready x.shape x.shape.asks x.stage x.also
+
+-- A command that asks is answered once all is walked.
+module _ (m : Meaning) (h : Header) (stopped : List NodeId) (k : ℕ) (p : Layout) (longest tail : ℕ) where
+  abbrev pub Always : Net m → Type 0
+  Always s = Unit {0}
+
+  abbrev pub always_put : (s t : Net m) (pos : ℕ) (c : Cell) → Put m stopped s t pos c → (0 < tail → pos < tail) → seqr_of m h t p.seq ≡ seqr_of m h s p.seq → Always s → Always t
+  always_put s t pos c put less same also = tt
+
+  abbrev pub always_keeps : (s t : Net m) → Keeps m h stopped k p s t → Always s → Always t
+  always_keeps s t keep also = tt
+
+  abbrev pub AsksStage : Net m → Client m → Out → ℕ → Type 0
+  AsksStage = Asking' m h stopped k p longest tail (asking_way m) Always always_put always_keeps
+
+  abbrev pub AsksHears : Net m → Client m → NodeId → ℕ → Msg → ℕ → Type 0
+  AsksHears = Hearing' m h stopped k p longest tail (asking_way m) Always always_put always_keeps
+
+  over : (c : Client m) (t : ClientTurn m) → EndsWalks m h stopped k p longest tail (asking_way m) Always always_put always_keeps c t → Over m h stopped k p AsksStage AsksHears t
+  unfolding client_asks
+  over c t e = subst (λ (u : ClientTurn m). Over m h stopped k p AsksStage AsksHears u) (sym e.turn)
+      (record { none = e.goes.none; sends = ap (λ os. os ++ drawn_from c.next (client_asks m e.moved.now)) e.goes.besides ∙ ap (λ os. drawn_from c.next os) (over_asks m e.moved.now e.goes.none) })
+
+  pub asks_machine : Machine m h stopped k p AsksStage AsksHears
   asks_machine = record {
-    facts = λ s c o n x. record { work = x.shape.work; waits = x.shape.waits; again = again_is c x.task o x.shape; calm = calm_shape c x.task o x.shape };
-    hears_calm = λ s c from rid y n x. calm_shape c x.task x.o x.shape;
-    stage_stays = λ s t c o n keep x. record { task = x.task; shape = x.shape; stage = task_keeps s t c.cells x.shape.work x.task n keep x.stage };
-    hears_stays = λ s t c from rid y n keep x. record { task = x.task; o = x.o; shape = x.shape; awaited = x.awaited; no_latest = x.no_latest; well = hears_keeps s t c.cells x.shape.work x.task y n keep x.well };
-    stage_called = λ s c o n x. record { task = x.task; shape = shape_called c x.task o x.shape; stage = x.stage };
-    hears_called = λ s c from rid y n x. record { task = x.task; o = x.o; shape = shape_called c x.task x.o x.shape; awaited = x.awaited; no_latest = x.no_latest; well = x.well };
-    stage_ticked = λ s c o n x. record { task = x.task; shape = shape_ticked c x.task o x.shape; stage = x.stage };
-    asked = λ s o n ready x. task_asked s x.task o n ready x.shape x.shape.asks x.stage;
-    answered = λ s from rid y n ready x. answered s (client_of m h s k) from rid y n x;
+    facts = facts m h stopped k p longest tail (asking_way m) Always always_put always_keeps;
+    hears_calm = hears_calm m h stopped k p longest tail (asking_way m) Always always_put always_keeps;
+    stage_stays = stage_stays m h stopped k p longest tail (asking_way m) Always always_put always_keeps;
+    hears_stays = hears_stays m h stopped k p longest tail (asking_way m) Always always_put always_keeps;
+    stage_called = stage_called m h stopped k p longest tail (asking_way m) Always always_put always_keeps;
+    hears_called = hears_called m h stopped k p longest tail (asking_way m) Always always_put always_keeps;
+    stage_ticked = stage_ticked m h stopped k p longest tail (asking_way m) Always always_put always_keeps;
+    asked = asked m h stopped k p longest tail (asking_way m) Always always_put always_keeps;
+    answered = λ s from rid y n ready x. by s (client_of m h s k) from rid y n (answered m h stopped k p longest tail (asking_way m) Always always_put always_keeps s (client_of m h s k) from rid y n x);
   }
+    where
+      by : (s : Net m) (c : Client m) (from : NodeId) (rid : ℕ) (y : Msg) (n : ℕ)
+          → EndsWalks m h stopped k p longest tail (asking_way m) Always always_put always_keeps c (client_deliver m c from rid y) ⊎ More m h stopped k p AsksStage AsksHears s (client_deliver m c from rid y) n
+          → Over m h stopped k p AsksStage AsksHears (client_deliver m c from rid y) ⊎ More m h stopped k p AsksStage AsksHears s (client_deliver m c from rid y) n
+      by s c from rid y n (inl e) = inl (over c _ e)
+      by s c from rid y n (inr x) = inr x

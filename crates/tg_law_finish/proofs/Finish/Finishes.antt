@@ -26,7 +26,7 @@ use Rattle.tg_law_finish.proofs.Finish.Asking.{Untrimmed, Asks}
 use Rattle.tg_law_finish.proofs.Finish.Bounds.{WritesFinish, AsksFinish}
 use Rattle.tg_law_finish.proofs.Finish.Trails.{unknown, absent, Low}
 use Rattle.tg_law_finish.proofs.Finish.Askers.{Readable, Checks, budget, budget_less}
-use Rattle.tg_law_finish.proofs.Finish.Askings.{Asking', Hearing', asks_machine}
+use Rattle.tg_law_finish.proofs.Finish.Askings.{AsksStage, AsksHears, asks_machine}
 use Rattle.tg_law_finish.proofs.Finish.Writers.{seqr_away, Writing, Hearing, writes_machine, asks_away}
 use Rattle.tg_law_finish.proofs.Finish.Nets.{Net, net}
 use Rattle.tg_law_finish.proofs.Finish.Lists.{Each}
@@ -39,7 +39,7 @@ use Rattle.tg_law_finish.proofs.Finish.Appends.{AppendStage}
 
 -- A client stands once among the nodes.
 module _ (k : ℕ) where
-  abbrev Off : NodeId → Type 0
+  abbrev pub Off : NodeId → Type 0
   Off x = node_eq x (client_id k) ≡ false
 
   each_both : (xs ys : List NodeId) → Each Off xs → Each Off ys → Each Off (xs ++ ys)
@@ -69,12 +69,12 @@ module _ (k : ℕ) where
   later_off zero a less = tt
   later_off (suc n) a less = (differs a (grind arith), later_off n (a + 1) (omega (arith, less)))
 
-  record Once (xs : List NodeId) : Type 0 where
-    front : List NodeId
-    back : List NodeId
-    is : xs ≡ front ++ client_id k ∷ back
-    not_front : Each Off front
-    not_back : Each Off back
+  pub record Once (xs : List NodeId) : Type 0 where
+    pub front : List NodeId
+    pub back : List NodeId
+    pub is : xs ≡ front ++ client_id k ∷ back
+    pub not_front : Each Off front
+    pub not_back : Each Off back
 
   one_before : (x : NodeId) (xs : List NodeId) → Off x → Once xs → Once (x ∷ xs)
   one_before x xs off o = record { front = x ∷ o.front; back = o.back; is = ap (λ l. x ∷ l) o.is; not_front = (off, o.not_front); not_back = o.not_back }
@@ -108,14 +108,14 @@ module _ (k : ℕ) where
   many_before [] ys off o = o
   many_before (x ∷ xs) ys off o = one_before x (xs ++ ys) off.0 (many_before xs ys off.1 o)
 
-  nodes_once : (m : Meaning) (w : World m) → k < length w.clients → Once (nodes m w)
+  pub nodes_once : (m : Meaning) (w : World m) → k < length w.clients → Once (nodes m w)
   nodes_once m w less = many_before _ _ (each_both _ _ (each_both _ _ (units_off (length w.units) 0) (layouts_off (length w.layouts) 0)) (seqrs_off (length w.seqrs) 0)) (clients_once (length w.clients) 0 (omega arith) (omega (arith, less)))
 
 module _ (m : Meaning) (w : World m) (k : ℕ) (p : Layout) (longest : ℕ) (a : Working m w k p) (b : Lawful m w p longest) where
   abbrev Here : Net m → Place → Type 0
   Here s x = Serves m w.cluster w.stopped k p longest s x
 
-  ready : Ready m w.cluster w.stopped k p (net m w)
+  pub ready : Ready m w.cluster w.stopped k p (net m w)
   ready = record { on = a.client_runs; rests = b.rests; old = λ x off. record { scan = old (seqr m w x).proj (seqr m w x).scan (b.scans x off) }; layouts = b.layouts; idle = a.others }
     where
       old : (q : Layout) (o : Option CellJob) → Rattle.tg_law_finish.proofs.Finish.Working.JobOff m p.epoch q o → Rattle.tg_law_finish.proofs.Finish.Strays.JobOff p.epoch q o
@@ -125,7 +125,7 @@ module _ (m : Meaning) (w : World m) (k : ℕ) (p : Layout) (longest : ℕ) (a :
   serves : (pos : ℕ) → Here (net m w) (place_in p pos)
   serves pos = record { epoch = refl; some = b.some pos; short = b.short pos; unit = λ i less. record { on = a.units_run pos i less; epoch = a.units_stand pos i less; low = b.lows (at_chain m p pos i) } }
 
-  issues : (x : Append) → CanIssue m w.cluster w.stopped k p longest (net m w) x.draft
+  pub issues : (x : Append) → CanIssue m w.cluster w.stopped k p longest (net m w) x.draft
   issues x = record { on = a.seqr_runs; epoch = a.seqr_stands; unfenced = a.seqr_unfenced; ready = a.seqr_ready; rests = b.rests; limit = b.limit; named = b.named (streams_of x.draft); serves = serves (seqr m w p.seq).next; unwritten = b.unwritten }
 
   -- Where the append stands.
@@ -183,7 +183,7 @@ module _ (m : Meaning) (w : World m) (k : ℕ) (p : Layout) (longest : ℕ) (a :
   start c x (Putting j) f = put_start c x j.place j.work f.0 f.1
   start c x (Judging j) f = judge_start c x j.place j.work f.0 f.1
 
-  clients_long : k < length w.clients
+  pub clients_long : k < length w.clients
   clients_long = let r = a.client_runs in grind arith
 
   waits : (f : Writes m w k p) → Waiting m w.cluster w.stopped k p (Writing m w.cluster w.stopped k p longest) (Hearing m w.cluster w.stopped k p longest) (nodes m w) (net m w) [] (4 * longest + 2 * (client m w k).layouts + 2)
@@ -214,7 +214,7 @@ writes_finish m w k p c a b f none = finishes m w.cluster w.stopped k p _ _ (wri
 
 -- A command that syncs and walks.
 
-few_unknown : (cells : List (ℕ × Cell)) (t : ℕ) → unknown cells t ≤ t
+pub few_unknown : (cells : List (ℕ × Cell)) (t : ℕ) → unknown cells t ≤ t
 few_unknown cells zero = omega arith
 few_unknown cells (suc t) = let a = one_at (cell_at cells t) in let b = few_unknown cells t in omega (arith, a, b)
   where
@@ -226,18 +226,18 @@ module _ (m : Meaning) (w : World m) (k : ℕ) (p : Layout) (longest : ℕ) (a :
   abbrev tail : ℕ
   tail = (seqr m w p.seq).next
 
-  all_low : (qs : List ℕ) → AllBelow tail qs → Low p tail qs
+  pub all_low : (qs : List ℕ) → AllBelow tail qs → Low p tail qs
   all_low [] l = tt
   all_low (q ∷ qs) l = (l.0, all_low qs l.1)
 
-  readable : (pos : ℕ) → Readable m w.cluster w.stopped k p longest tail (net m w) pos
+  pub readable : (pos : ℕ) → Readable m w.cluster w.stopped k p longest tail (net m w) pos
   readable pos = (record { serves = serves m w k p longest a b pos; lows = λ j less. u.lows (at_chain m p pos j) }, λ i c less has low. b.heads pos i c less has low)
 
-  is_budget : (t : ℕ) → budget m w.cluster w.stopped k p longest tail t ≡ (longest + 1) * t
+  pub is_budget : (t : ℕ) → budget m w.cluster w.stopped k p longest tail t ≡ (longest + 1) * t
   is_budget zero = sym (mul-zero (longest + 1))
   is_budget (suc t) = let e = is_budget t in let f = mul-suc (longest + 1) t in omega (arith, e, f)
 
-  asks_waits : (f : Asks m w k) → Waiting m w.cluster w.stopped k p (Asking' m w.cluster w.stopped k p longest tail) (Hearing' m w.cluster w.stopped k p longest tail) (nodes m w) (net m w) [] (2 * ((longest + 1) * (tail + 1)) + 2 * (client m w k).layouts)
+  asks_waits : (f : Asks m w k) → Waiting m w.cluster w.stopped k p (AsksStage m w.cluster w.stopped k p longest tail) (AsksHears m w.cluster w.stopped k p longest tail) (nodes m w) (net m w) [] (2 * ((longest + 1) * (tail + 1)) + 2 * (client m w k).layouts)
   unfolding weigh task_asks sync_work_asks
   asks_waits f =
       let c = client m w k in
@@ -257,6 +257,7 @@ module _ (m : Meaning) (w : World m) (k : ℕ) (p : Layout) (longest : ℕ) (a :
                 (record { on = a.seqr_runs; epoch = a.seqr_stands; unfenced = a.seqr_unfenced; ready = a.seqr_ready; rests = b.rests; next = refl; near = u.near; named = b.named f.sync.oids; lasts = λ o. all_low _ (u.backs o f.sync.oids); past = u.past; free = λ n less none. readable n; last = readable (tail - 1); few = omega arith }),
             f.asks,
           );
+          also = tt;
         };
         strays = tt;
         layouts = c.layouts;

@@ -62,19 +62,29 @@ module _ (m : Meaning) where
   walked_over c w (cmd.Copy u r s) e t = absurd cc
   walked_over c w (cmd.Rescue p) e t = absurd cc
 
-  all_walked : (c : Client m) (w : Work m) → is_ask m w.command ≡ true → Answers (walked m c w)
+  pub all_walked : (c : Client m) (w : Work m) → is_ask m w.command ≡ true → Answers (walked m c w)
   unfolding walked
   all_walked c w t = walked_over c w w.command refl t
 
-module _ (m : Meaning) (p : Layout) (tail : ℕ) where
+-- such commands go on in such a way once all is walked
+pub record Way (m : Meaning) : Type 1 where
+  pub Is : CommandOf m → Type 0
+  pub GoesOn : Client m → Moved m → Type 0
+  pub on : (c : Client m) (w : Work m) → Is w.command → GoesOn c (walked m c w)
+
+-- an ask is answered
+abbrev pub asking_way : (m : Meaning) → Way m
+asking_way m = record { Is = λ x. is_ask m x ≡ true; GoesOn = λ c x. Answers m x; on = λ c w ask. all_walked m c w ask }
+
+module _ (m : Meaning) (way : Way m) (p : Layout) (tail : ℕ) where
   -- what a command walks by: the last positions are below the tail
   pub record Walks (w : Work m) : Type 0 where
-    pub asks : is_ask m w.command ≡ true
+    pub asks : way.Is w.command
     pub lasts : (o : Oid) → Low p tail (lasts_of m w o)
 
-  -- the walks come to an unknown position, or the command is answered
+  -- the walks come to an unknown position, or the command goes on
   pub data WalksTo (cells : List (ℕ × Cell)) (next : ℕ) : Moved m → Type 0 where
-    ToOver : (x : Moved m) → Answers m x → WalksTo cells next x
+    ToOver : (c : Client m) (x : Moved m) → c.next ≡ next → c.stand ≡ p → way.GoesOn c x → WalksTo cells next x
     ToReads : (c : Client m) (w : Work m) (wk : Walk) (os : List Oid) (q : ℕ) → c.next ≡ next + 1 → c.stand ≡ p → q < tail → cell_at cells q ≡ None → wk.cells ≡ cells → TrailLow p tail wk.trail → Walks w
         → WalksTo cells next (goes_on m c w (Walking (with_job wk (works (place_in p q) (Gets next))) os) [])
 
@@ -95,5 +105,5 @@ module _ (m : Meaning) (p : Layout) (tail : ℕ) where
 
   pub walks_to : (os : List Oid) (c : Client m) (w : Work m) → c.stand ≡ p → Walks w → WalksTo c.cells c.next (walks m os c w)
   unfolding walks
-  walks_to [] c w stand ws = ToOver _ (all_walked m c w ws.asks)
+  walks_to [] c w stand ws = ToOver c _ refl stand (way.on c w ws.asks)
   walks_to (o ∷ os) c w stand ws = by_walk c w o os (start_walk m c w o) stand ws (start_low c w o stand ws) (λ d v e f. walks_to os d v e f)

@@ -21,8 +21,8 @@ module _ (m : Meaning) where
   abbrev pub next_position : World m → ℕ
   next_position w = (seqr m w (latest m w).seq).next
 
-  -- Three conditions. The last is so in the store (`logs_hold` of tg_law_headline); the first wants facts of the kinds' floors, the
-  -- second that each token names its streams once, and no law gives these two.
+  -- Three conditions, which hold of each world of the store that is ready (`laws_of_store`). Of kinds whose floors lie past what is
+  -- committed the last is false.
   pub record Granted (w : World m) : Type 0 where
     -- no unit has trimmed as far as 2 ^ 62
     pub lows : (u : ℕ) → too_far (unit m w u).low ≡ false

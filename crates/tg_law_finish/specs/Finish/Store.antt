@@ -1,0 +1,32 @@
+-- In a world that is ready a settling answers the client that waits for its last append, or for its sync.
+use Rattle.std.specs.Prelude.{◌≡◌, ℕ, true, Some}
+use Rattle.tg_kind.specs.Meaning.{Meaning}
+use Rattle.tg_model.specs.Kinds.{CommandOf}
+use Rattle.tg_protocol.specs.Appending.{Append}
+use Rattle.tg_protocol.specs.Clients.{Purpose, Appending, Doing, Work}
+use Rattle.tg_protocol.specs.Worlds.{World, client}
+use Rattle.tg_protocol.specs.Finishing.{WaitsAlone, IsReadyFor, most_deliveries_in}
+use Rattle.tg_law_finish.specs.Finish.Appends.{is_last}
+use Rattle.tg_law_finish.specs.Finish.Asks.{NothingTrimmed, HasIssued, WaitsForSync}
+use Rattle.tg_law_finish.specs.Finish.Commands.{plays}
+use Rattle.tg_law_finish.specs.Finish.Laws.{IsAnswered, append_bound, ask_bound}
+
+module _ (m : Meaning) where
+  -- the client's command has an append in hand, and nothing is left to do after it
+  pub record AppendsLast (w : World m) (k : ℕ) : Type 0 where
+    pub work : Work m
+    pub waits : (client m w k).work ≡ Some work
+    pub append : Append
+    pub purpose : Purpose m
+    pub hand : work.hand ≡ Doing (Appending append purpose)
+    pub last : is_last m purpose ≡ true
+
+  -- within the deliveries of an append, and within the bound of the command
+  abbrev pub AppendFinishes : World m → Type 0
+  AppendFinishes w = (k : ℕ) (x : CommandOf m) → WaitsAlone m w k x → IsReadyFor m w k → plays m x ≡ true → AppendsLast w k →
+      IsAnswered m w k (append_bound m w) × IsAnswered m w k (most_deliveries_in m w x)
+
+  -- within the deliveries of an ask, and within the bound of the command
+  abbrev pub AskFinishes : World m → Type 0
+  AskFinishes w = (k : ℕ) (x : CommandOf m) → WaitsAlone m w k x → IsReadyFor m w k → NothingTrimmed m w → HasIssued m w → WaitsForSync m w k →
+      IsAnswered m w k (ask_bound m w) × IsAnswered m w k (most_deliveries_in m w x)

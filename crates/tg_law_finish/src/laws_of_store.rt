@@ -1,0 +1,30 @@
+//! Commands of the store finish, in every run over the store's own kinds. In a quiet world a client waits alone, and the
+//! latest layout's units and sequencer, and the client, run and stand in it. Then a settling ends the command, the client
+//! tells a reply, and at most so many packets with it are delivered as its bound says (`Finishes` of tg_protocol).
+//!
+//! Of the world it is asked that it is ready, and no more: what `Granted` asks (specs/Finish/Granted.antt), and where an
+//! append stands, is so in each run of the store. Commands that walk are answered where nothing is trimmed and the latest
+//! layout's sequencer has issued a position since that layout's start.
+
+ghost use Rattle.tg_any.specs.AllKinds.{all_kinds};
+ghost use Rattle.tg_law_finish.specs.Finish.Makes.{MakeFinishes};
+ghost use Rattle.tg_law_finish.specs.Finish.Store.{AppendFinishes, AskFinishes};
+ghost use Rattle.tg_protocol.specs.Runs.{Always};
+
+/// A client that waits for an append after which nothing is left to do is answered, wherever the append stands, and
+/// whatever is trimmed: of a transaction without reads, a decision record, a checkpoint or a mark.
+pub fn appends_finish()
+    ensures { Always all_kinds (AppendFinishes all_kinds) }
+{}
+
+/// A client whose `ask`, `fate` or `ask-at` still waits for its sync's first answer is answered, where nothing is trimmed
+/// and the latest layout's sequencer has issued a position since that layout's start.
+pub fn asks_finish()
+    ensures { Always all_kinds (AskFinishes all_kinds) }
+{}
+
+/// A client whose `decide`, `checkpoint` or `forget` still waits for its sync's first answer is answered, likewise: once all
+/// is walked it is refused, or appends a decision record, a checkpoint or a mark.
+pub fn makes_finish()
+    ensures { Always all_kinds (MakeFinishes all_kinds) }
+{}
