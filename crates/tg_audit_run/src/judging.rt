@@ -1,6 +1,6 @@
 //! A judge: a transcript is read from a source, and the verdict on it is written to a sink.
 
-ghost use Rattle.std.specs.Prelude.{◌≡◌, ◌≢◌, ◌⊎◌, ℕ, List, true, IfOk, IfSome};
+ghost use Rattle.std.specs.Prelude.{◌≡◌, ◌≤◌, ◌≢◌, ◌⊎◌, ℕ, List, true, IfOk, IfSome};
 ghost use Rattle.tg_base.specs.declared.fault.Clause.{Clause};
 ghost use Rattle.tg_io.specs.Bytes.{Takes};
 ghost use Rattle.tg_io.specs.Faults.{Rose, StaysSure};
@@ -42,6 +42,10 @@ pub fn judge<S: Source, K: Sink>(alloc: Global, source: &mut S, sink: &mut K) ->
         IfSome (S.left source.old) (λ text. (t : Transcript) → is_transcript t ≡ true → text ≡ rendered t → (result ≡ told_by (judged t)) ⊎ (result ≡ OutOfMemory)) }
     ensures refuses { (Rose (S.faults source.old) (S.faults source.new) → ⊥) → (Rose (K.faults sink.old) (K.faults sink.new) → ⊥) →
         IfSome (S.left source.old) (λ text. (line : ℕ) → IsFirstOutside text line → (result ≡ AtLine line) ⊎ (result ≡ OutOfMemory)) }
+    // No count of faults falls, and that of the sink rises only where its fault, or want of memory, is answered.
+    ensures read_later { S.faults source.old ≤ S.faults source.new }
+    ensures write_later { K.faults sink.old ≤ K.faults sink.new }
+    ensures write_still { result ≢ WriteFault → result ≢ OutOfMemory → K.faults sink.new ≡ K.faults sink.old }
     // What is sure never to fail stays so.
     ensures source { StaysSure (S.sure source.old) (S.sure source.new) (S.faults source.old) (S.faults source.new) }
     ensures sink { StaysSure (K.sure sink.old) (K.sure sink.new) (K.faults sink.old) (K.faults sink.new) }
@@ -56,6 +60,9 @@ fn read_and_tell<S: Source, K: Sink>(alloc: Global, source: &mut S, sink: &mut K
     ensures read_fault { result ≡ ReadFault → Rose (S.faults source.old) (S.faults source.new) }
     ensures write_fault { result ≡ WriteFault → Rose (K.faults sink.old) (K.faults sink.new) }
     ensures ways { IsOfJudge result }
+    ensures read_later { S.faults source.old ≤ S.faults source.new }
+    ensures write_later { K.faults sink.old ≤ K.faults sink.new }
+    ensures write_still { result ≢ WriteFault → result ≢ OutOfMemory → K.faults sink.new ≡ K.faults sink.old }
     ensures source { StaysSure (S.sure source.old) (S.sure source.new) (S.faults source.old) (S.faults source.new) }
     ensures sink { StaysSure (K.sure sink.old) (K.sure sink.new) (K.faults sink.old) (K.faults sink.new) }
 {
@@ -73,6 +80,8 @@ fn tell<K: Sink>(alloc: Global, text: &[u8], sink: &mut K) -> Status
     ensures write_fault { result ≡ WriteFault → Rose (K.faults sink.old) (K.faults sink.new) }
     ensures ways { IsOfJudge result }
     ensures no_read { result ≢ ReadFault }
+    ensures write_later { K.faults sink.old ≤ K.faults sink.new }
+    ensures write_still { result ≢ WriteFault → result ≢ OutOfMemory → K.faults sink.new ≡ K.faults sink.old }
     ensures sink { StaysSure (K.sure sink.old) (K.sure sink.new) (K.faults sink.old) (K.faults sink.new) }
 {
     match verdict_on(alloc, text) {
@@ -98,6 +107,8 @@ fn write_verdict<K: Sink>(alloc: Global, verdict: Verdict, sink: &mut K) -> Stat
     ensures write_fault { result ≡ WriteFault → Rose (K.faults sink.old) (K.faults sink.new) }
     ensures ways { IsOfJudge result }
     ensures no_read { result ≢ ReadFault }
+    ensures write_later { K.faults sink.old ≤ K.faults sink.new }
+    ensures write_still { result ≢ WriteFault → result ≢ OutOfMemory → K.faults sink.new ≡ K.faults sink.old }
     ensures sink { StaysSure (K.sure sink.old) (K.sure sink.new) (K.faults sink.old) (K.faults sink.new) }
 {
     let Ok(line) = line_of(alloc, verdict) else {

@@ -113,6 +113,10 @@ pub record FirstOutside (text : List ℕ) (n : ℕ) (before : Script) : Type 0 w
   pub begins : Begins text (n - 1) before
   pub outside : (s : Script) → IsScript s → Begins text n s → ⊥
 
+-- line n is the first outside, after some script
+abbrev pub IsOutsideAt : List ℕ → ℕ → Type 0
+IsOutsideAt text n = (before : Script) × FirstOutside text n before
+
 -- What is printed where line n is refused: nothing where it is of the header's three, else the transcript of the events before it.
 abbrev pub printed_before : Bool → Script → List ℕ
 printed_before true s = []

@@ -16,6 +16,7 @@ use Rattle.tg_replay.specs.declared.stages.Run.{Run}
 use Rattle.tg_replay.specs.declared.stages.Finish.{Finish}
 use Rattle.tg_replay.specs.declared.stages.Fed.{Fed}
 use Rattle.tg_replay.specs.declared.stages.Fed.TheVariants.{Goes, Stops}
+use Rattle.tg_lines.specs.Feeds.{TakesFeeds}
 use Rattle.tg_lines.specs.Lines.{lines}
 use Rattle.tg_replay.specs.Runs.{Script, IsScript, IsWithin, Tells, FirstOutside, PassesLimit, Outcome, Runs, Worlds, text_lines, world_of, transcript, front}
 
@@ -35,6 +36,7 @@ pub record Reads (text : List ℕ) (r : Run) (rest : List ℕ) : Type 0 where
   pub script : Script
   pub run : IsRunOf read r script
   pub cut : lines text ≡ read ++ lines rest
+  pub feeds : TakesFeeds (length read) (Some text) (Some rest)
 
 -- the status of a run that ends so
 abbrev pub status_of : End → Status

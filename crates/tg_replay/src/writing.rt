@@ -1,15 +1,16 @@
 //! A replay: a script is read from a source, and the transcript of its run is written to a sink.
 
-ghost use Rattle.std.specs.Prelude.{◌≡◌, ◌≢◌, ◌⊎◌, ℕ, List, IfOk, IfSome};
+ghost use Rattle.std.specs.Prelude.{◌≡◌, ◌≢◌, ◌≤◌, ◌⊎◌, ℕ, List, IfOk, IfSome};
 ghost use Rattle.tg_base.specs.declared.fault.Which.{Which};
 ghost use Rattle.tg_io.specs.Bytes.{Takes};
 ghost use Rattle.tg_io.specs.Faults.{Rose, StaysSure};
 ghost use Rattle.tg_io.specs.declared.status.Status as status;
 ghost use Rattle.tg_io.specs.declared.status.Status.TheVariants.{Done, Script as AtLine, ReadFault, WriteFault, Limit, NoMemory as OutOfMemory};
+ghost use Rattle.tg_lines.specs.Feeds.{NoneOutside};
 ghost use Rattle.tg_protocol.specs.Worlds as seen;
 ghost use Rattle.tg_world.specs.Kept.{KeepsWorld};
 ghost use Rattle.tg_any.specs.AllKinds.{all_kinds};
-ghost use Rattle.tg_replay.specs.Runs.{Script, IsScript, IsWithin, Tells, FirstOutside, PassesLimit, Replayed, Refused, Limited, Outcome, transcript};
+ghost use Rattle.tg_replay.specs.Runs.{IsOutsideAt, Script, IsScript, IsWithin, Tells, FirstOutside, PassesLimit, Replayed, Refused, Limited, Outcome, transcript};
 ghost use Rattle.tg_replay.specs.Stages.{Finished, Ends};
 ghost use Rattle.tg_replay.specs.Outcomes.{Told, Written, IsCutShort, IsOfReplay};
 
@@ -31,6 +32,13 @@ pub fn replay<S: Source, K: Sink>(alloc: Global, source: &mut S, sink: &mut K) -
     // A fault has its cause in a count that rose.
     ensures read_fault { result ≡ ReadFault → Rose (S.faults source.old) (S.faults source.new) }
     ensures write_fault { result ≡ WriteFault → Rose (K.faults sink.old) (K.faults sink.new) }
+    // A read fault is answered only where none of the lines that came whole before it is outside.
+    ensures first { result ≡ ReadFault → IfSome (S.left source.old) (λ text. NoneOutside text (S.left source.new) (IsOutsideAt text)) }
+    // No count of faults falls, and each rises only where its fault, or want of memory, is answered.
+    ensures read_later { S.faults source.old ≤ S.faults source.new }
+    ensures write_later { K.faults sink.old ≤ K.faults sink.new }
+    ensures read_still { result ≢ ReadFault → result ≢ OutOfMemory → S.faults source.new ≡ S.faults source.old }
+    ensures write_still { result ≢ WriteFault → result ≢ OutOfMemory → K.faults sink.new ≡ K.faults sink.old }
     // What is written then is a front of a transcript, or nothing.
     ensures cut_short { (result ≡ WriteFault) ⊎ (result ≡ OutOfMemory) → Told (S.left source.old) (K.written sink.old) (K.written sink.new) IsCutShort }
     ensures silent { result ≡ ReadFault → K.written sink.new ≡ K.written sink.old }
@@ -55,6 +63,11 @@ fn read_and_write<S: Source, K: Sink>(alloc: Global, source: &mut S, sink: &mut 
     ensures silent { result ≡ ReadFault → K.written sink.new ≡ K.written sink.old }
     ensures read_fault { result ≡ ReadFault → Rose (S.faults source.old) (S.faults source.new) }
     ensures write_fault { result ≡ WriteFault → Rose (K.faults sink.old) (K.faults sink.new) }
+    ensures first { result ≡ ReadFault → IfSome (S.left source.old) (λ text. NoneOutside text (S.left source.new) (IsOutsideAt text)) }
+    ensures read_later { S.faults source.old ≤ S.faults source.new }
+    ensures write_later { K.faults sink.old ≤ K.faults sink.new }
+    ensures read_still { result ≢ ReadFault → result ≢ OutOfMemory → S.faults source.new ≡ S.faults source.old }
+    ensures write_still { result ≢ WriteFault → result ≢ OutOfMemory → K.faults sink.new ≡ K.faults sink.old }
     ensures ways { IsOfReplay result }
     ensures source { StaysSure (S.sure source.old) (S.sure source.new) (S.faults source.old) (S.faults source.new) }
     ensures sink { StaysSure (K.sure sink.old) (K.sure sink.new) (K.faults sink.old) (K.faults sink.new) }
@@ -72,6 +85,8 @@ fn report<K: Sink>(alloc: Global, finish: Finish, sink: &mut K) -> Status
     ensures write_fault { result ≡ WriteFault → Rose (K.faults sink.old) (K.faults sink.new) }
     ensures ways { IsOfReplay result }
     ensures no_read { result ≢ ReadFault }
+    ensures write_later { K.faults sink.old ≤ K.faults sink.new }
+    ensures write_still { result ≢ WriteFault → result ≢ OutOfMemory → K.faults sink.new ≡ K.faults sink.old }
     ensures sink { StaysSure (K.sure sink.old) (K.sure sink.new) (K.faults sink.old) (K.faults sink.new) }
 {
     let Ok(text) = text_of(alloc, &finish.run) else {

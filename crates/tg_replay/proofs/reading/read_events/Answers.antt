@@ -1,10 +1,13 @@
-use Rattle.std.proofs.Common.{◌≤◌, ℕ, List, Option, Some, refl, subst, arith}
+use Rattle.std.proofs.Common.{◌≤◌, ℕ, List, Option, Some, refl, subst, arith, ◌∙◌, ◌≡◌, Err, ap}
 use Rattle.tg_io.proofs.Faults.{sure_since}
 use Rattle.tg_lines.specs.Lines.{ahead, TakesLine}
 use Rattle.tg_replay.specs.declared.stages.Fed.{Fed}
 use Rattle.tg_replay.specs.declared.stages.End.TheVariants.{Whole}
 use Rattle.tg_replay.specs.Stages.{GoesOnKept}
-use Rattle.tg_replay.proofs.Feeding.{Feeds, still_more, still_stops, still_ends}
+use Rattle.tg_replay.proofs.Feeding.{Feeds, still_more, still_first, still_stops, still_ends}
+use Rattle.std.proofs.lemmas.Result.{err_from_is_err_and}
+use Rattle.tg_io.specs.declared.fault.IoErr.TheVariants.{Failed}
+use Rattle.tg_lines.proofs.Feeding.{handed_on}
 use Rattle.tg_replay.proofs.reading.read_events.Goals as goal
 
 pub returns-in-Stops-clause-finished : goal.returns-in-Stops-clause-finished
@@ -29,9 +32,10 @@ loop-run-preserved g c =
     let later : g.S.Source.faults c.args.source.now ≤ g.S.Source.faults c.loop-run.source = i.later in
     let rose : g.S.Source.faults c.loop-run.source ≤ g.S.Source.faults c.next.new.source = c.in_ok-line.ensures.cause.later in
     record {
-      reads = still_more before rest after c.args.run c.loop-run.run c.in-Goes.next c.in-Some.line i.reads line feeds;
+      reads = still_more before rest after c.args.run c.loop-run.run c.in-Goes.next c.in-Some.line i.reads line c.in_ok-line.ensures.feeds feeds;
       kept = subst GoesOnKept c.in-Goes.is c.in_ok-next.ensures.kept;
       later = omega arith;
+      still = c.in_ok-line.ensures.still ∙ i.still;
       sure = sure_since _ _ _ _ _ _ i.sure c.in_ok-line.ensures.sure;
     }
 
@@ -42,3 +46,10 @@ returns-clause-finished g c =
     let after = ahead c.next.new.self (g.S.Source.left c.next.new.source) in
     let none = subst (λ (o : Option (List ℕ)). TakesLine rest after o) c.in_default.is c.in_ok-line.ensures.line in
     still_ends before rest after c.args.run c.loop-run.run (record { end = Whole; run = Some c.loop-run.run }) c.loop-run.invariant.reads none refl refl
+
+pub returns-in_err-line-clause-first : goal.returns-in_err-line-clause-first
+returns-in_err-line-clause-first g c = λ failed.
+    let p = err_from_is_err_and c.from_residual.result c.from_residual.ensures.1 in
+    let end : c.from_residual.result ≡ Err c.in_err-line.field-0.0 = p.1 ∙ ap Err p.2 in
+    still_first (ahead c.args.reader.now (g.S.Source.left c.args.source.now)) (ahead c.loop-run.reader (g.S.Source.left c.loop-run.source)) (g.S.Source.left c.next.new.source) c.args.run c.loop-run.run c.loop-run.invariant.reads
+    (c.in_err-line.ensures.first (handed_on c.from_residual.result c.in_err-line.field-0.0 Failed end failed))
