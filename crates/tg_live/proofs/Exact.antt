@@ -20,7 +20,7 @@ use Rattle.tg_script.specs.declared.line.Line.{Line}
 use Rattle.tg_script.specs.declared.line.Line.TheVariants as line
 use Rattle.tg_live.specs.Lives.{Answer, Live, LiveRan, goes, opened, came, received, ticked, Follows, IsDrained, Then, Makes, IsRounds, IsSettled, IsFed, IsLived}
 use Rattle.tg_live.specs.Scripts.{Over, IsLiveScript, Replayed, FirstOutside, PrintedBefore, Refused, Limited, PassesLimit, PassesNone}
-use Rattle.tg_live.specs.Outcomes.{Written, IsOfLive}
+use Rattle.tg_live.specs.Outcomes.{Written, IsOfLive, IsOrStops}
 use Rattle.tg_live.proofs.Promises.{IsUndisturbed, passes}
 
 -- Lists.
@@ -94,8 +94,8 @@ drained (Some a ∷ xs) (None ∷ ys) more other l end last p q e = absurd cc
 drained (Some a ∷ xs) (Some b ∷ ys) more other l end last p q e =
     let parts = head_same (Some a) (Some b) (xs ++ more) (ys ++ other) e in
     let same : a ≡ b = some_same a b parts.0 in
-    let after = subst (λ (x : Arrival). Follows (came (received l) x.to x.datagram).stopped (came (received l) x.to x.datagram) ys last (IsDrained ys (came (received l) x.to x.datagram).live last)) (sym same) q.1 in
-    let mid = came (received l) a.to a.datagram in
+    let after = subst (λ (x : Arrival). Follows (came (received l x) x.to x.datagram).stopped (came (received l x) x.to x.datagram) ys last (IsDrained ys (came (received l x) x.to x.datagram).live last)) (sym same) q.1 in
+    let mid = came (received l a) a.to a.datagram in
     let rest = follows_once mid.stopped mid xs ys end last (IsDrained xs mid.live end) (IsDrained ys mid.live last) (λ u v. drained xs ys more other mid.live end last u v parts.1) p.1 after in
     (cons_same (Some a) (Some b) xs ys parts.0 rest.0, rest.1)
 
@@ -277,3 +277,20 @@ pub refuses_told : (left before after : Option (List ℕ)) (o : Over) (status : 
     IfSome left (λ text. (line : ℕ) (b : Script) → FirstOutside text line b → PassesNone o text → (status ≡ AtLine line) ⊎ (status ≡ NoMemory))
 refuses_told None before after o status h ways u = tt
 refuses_told (Some text) before after o status h ways u = λ line b first within. refuses o text h.0 status line b h.2 ways u first within
+
+-- whatever the link tells, it is refused there or a limit stops it
+refuses_or : (o : Over) (text out : List ℕ) (status : Status) (n : ℕ) (b : Script) → Written o text status out → IsOfLive status → IsUndisturbed status → FirstOutside text n b → IsOrStops status (AtLine n)
+refuses_or o text out Done n b w ways u first = absurd (first.outside w.script w.lawful (tells_begins text n w.script w.tells))
+refuses_or o text out NoMemory n b w ways u first = inr (inr refl)
+refuses_or o text out Words n b w ways u first = absurd ways
+refuses_or o text out ReadFault n b w ways u first = absurd (u.reads refl)
+refuses_or o text out WriteFault n b w ways u first = absurd (u.writes refl)
+refuses_or o text out LinkFault n b w ways u first = absurd (u.carries refl)
+refuses_or o text out (Illegal line clause) n b w ways u first = absurd ways
+refuses_or o text out (AtLine m) n b w ways u first = inl (ap AtLine (first_once text m n w.before b w.first first))
+refuses_or o text out (Limit which) n b w ways u first = inr (inl (which, refl))
+
+pub refuses_or_told : (left before after : Option (List ℕ)) (o : Over) (status : Status) → Told left before after (λ text out. Written o text status out) → IsOfLive status → IsUndisturbed status →
+    IfSome left (λ text. (line : ℕ) (b : Script) → FirstOutside text line b → IsOrStops status (AtLine line))
+refuses_or_told None before after o status h ways u = tt
+refuses_or_told (Some text) before after o status h ways u = λ line b first. refuses_or o text h.0 status line b h.2 ways u first

@@ -1,7 +1,7 @@
 -- A step adds packets to those that were sent, and takes none away.
-use Rattle.std.proofs.Common.{◌≡◌, ◌∙◌, ℕ, Bool, true, false, List, [], ◌∷◌, ◌++◌, map, Some, None, refl, sym, ap, subst, append_assoc}
+use Rattle.std.proofs.Common.{◌≡◌, ◌∙◌, ℕ, Bool, true, false, List, [], ◌++◌, Some, None, refl, sym, ap, subst, append_assoc}
 use Rattle.std.proofs.lemmas.List.{append-nil}
-use Rattle.std.specs.Prelude.{slice_get, nat_lt, is_some}
+use Rattle.std.specs.Prelude.{slice_get}
 use Rattle.std.specs.declared.option.Option.{Option}
 use Rattle.tg_base.specs.declared.ids.NodeId.{NodeId}
 use Rattle.tg_base.specs.declared.ids.Role.{Role}
@@ -10,10 +10,9 @@ use Rattle.tg_base.specs.declared.packet.Packet.{Packet}
 use Rattle.tg_kind.specs.Meaning.{Meaning}
 use Rattle.tg_model.specs.Kinds.{EventOf, CommandOf}
 use Rattle.tg_model.specs.declared.command.Event.TheVariants.{Command as Commands, Deliver, Lose, Tick, Stop}
-use Rattle.tg_protocol.specs.Words.{client_id}
 use Rattle.tg_protocol.specs.Clients.{Client}
 use Rattle.tg_protocol.specs.ClientSteps.{ClientTurn}
-use Rattle.tg_protocol.specs.Worlds.{World, happens, effect, commands, noted_if, delivers, comes, moves, ticks, ticks_if, stops_if, unit_moves, layout_moves, seqr_moves, client_moves, client_turned, handed}
+use Rattle.tg_protocol.specs.Worlds.{World, happens, effect, commands, noted_if, delivers, comes, moves, ticks, ticks_if, stops_if, unit_moves, layout_moves, seqr_moves, client_turned, handed}
 
 -- these packets come first
 pub record Begins (ps qs : List Packet) : Type 0 where

@@ -1,36 +1,42 @@
 -- A live run that is kept, after a line and after a datagram.
-use Rattle.std.proofs.Common.{◌≡◌, ◌∙◌, ℕ, ◌+◌, List, [], ◌∷◌, ◌++◌, map, Option, Some, None, refl, sym, ap, subst, append_assoc}
+use Rattle.std.proofs.Common.{◌≡◌, ◌∙◌, ℕ, ◌+◌, List, [], ◌∷◌, ◌++◌, map, drop, length, Option, Some, None, refl, sym, ap, subst, append_assoc}
 use Rattle.std.proofs.lemmas.List.{map-append}
 use Rattle.tg_base.specs.Clusters.{Header}
 use Rattle.tg_base.specs.declared.fault.Which.{Which}
+use Rattle.tg_io.specs.Acts.{Comes}
+use Rattle.tg_io.specs.Bytes.{Grows}
+use Rattle.tg_io.specs.Links.{Adds}
+use Rattle.tg_io.specs.declared.link.Arrival.{Arrival}
 use Rattle.tg_io.specs.declared.link.Sent.{Sent}
 use Rattle.tg_io.proofs.Bytes.{grows_none}
 use Rattle.tg_live.specs.Books.{IsBook}
 use Rattle.tg_protocol.specs.Worlds.{limit_of, start}
 use Rattle.tg_any.specs.AllKinds.{all_kinds}
-use Rattle.tg_replay.specs.Runs.{Worlds, Runs, line_on, line_text}
+use Rattle.tg_replay.specs.Runs.{Runs, line_on, line_text}
 use Rattle.tg_script.specs.Headers.{lines_text}
 use Rattle.tg_script.specs.declared.line.Line.{Line}
 use Rattle.tg_world.specs.Kept.{KeepsWorld}
 use Rattle.tg_live.specs.declared.live.Live.{Live as Kept}
-use Rattle.tg_live.specs.Sends.{spellings, AreFit, IsMadeOver}
-use Rattle.tg_live.specs.Lives.{Live, LiveRan, goes, stops, opened, recorded, recorded_by, after_line, received}
+use Rattle.tg_live.specs.Sends.{Carried, all_gone, sending, spellings, AreFit, IsMadeOver}
+use Rattle.tg_live.specs.Lives.{Answer, Live, stops, opened, recorded, recorded_by, after_line, heard, received}
 use Rattle.tg_live.specs.Kept.{Keeps}
+use Rattle.tg_live.proofs.Packets.{grows_by}
 
 none_fit : AreFit []
 none_fit = record { each = λ i p e. absurd cc }
 
 -- before the first line
-pub opened_keeps : (h : Header) (k : Kept) (sent : Option (List Sent)) → k.cluster ≡ h → KeepsWorld all_kinds k.world (start all_kinds h) → IsBook k.book [] [] → k.recording ≡ [] → k.received ≡ 0 → Keeps h sent sent k (opened h)
+pub opened_keeps : (h : Header) (k : Kept) (before : Carried) → k.cluster ≡ h → KeepsWorld all_kinds k.world (start all_kinds h) → IsBook k.book [] [] → k.recording ≡ [] → k.received ≡ 0 → Keeps h before before k (opened h)
 unfolding start
-opened_keeps h k sent cluster world book recording received = record {
+opened_keeps h k before cluster world book recording received = record {
   cluster = cluster;
   world = world;
   fit = none_fit;
   book = book;
   recording = recording;
   received = received;
-  sent = grows_none sent;
+  sent = grows_none before.sent;
+  acts = grows_none before.acts;
 }
 
 -- a limit was reached already
@@ -49,7 +55,7 @@ lines_more (k ∷ ks) l = ap (λ (t : List ℕ). k ++ 10 ∷ t) (lines_more ks l
 pub text_more : (ls : List Line) (l : Line) → lines_text (map line_text (ls ++ l ∷ [])) ≡ lines_text (map line_text ls) ++ (line_text l ++ 10 ∷ [])
 text_more ls l = ap lines_text (map-append line_text ls (l ∷ [])) ∙ lines_more (map line_text ls) (line_text l)
 
-pub made_keeps : (h : Header) (first before after : Option (List Sent)) (k v : Kept) (l : Live) (x : Line) (r : Runs) → Keeps h first before k l → v.cluster ≡ k.cluster → KeepsWorld all_kinds v.world r.world
+pub made_keeps : (h : Header) (first before after : Carried) (k v : Kept) (l : Live) (x : Line) (r : Runs) → Keeps h first before k l → v.cluster ≡ k.cluster → KeepsWorld all_kinds v.world r.world
     → IsMadeOver l.world.packets r.world.packets k.book v.book before after → v.recording ≡ k.recording ++ (line_text x ++ 10 ∷ []) → v.received ≡ k.received → Keeps h first after v (after_line l x r).live
 made_keeps h first before after k v l x r keeps cluster world over recording received = record {
   cluster = cluster ∙ keeps.cluster;
@@ -58,11 +64,12 @@ made_keeps h first before after k v l x r keeps cluster world over recording rec
   book = over.noted l.delivered keeps.book;
   recording = recording ∙ ap (λ (t : List ℕ). t ++ (line_text x ++ 10 ∷ [])) keeps.recording ∙ sym (text_more l.lines x);
   received = received ∙ keeps.received;
-  sent = over.sent first keeps.sent;
+  sent = over.sent first.sent keeps.sent;
+  acts = grows_by first.acts before.acts after.acts l.acts (all_gone (drop (length l.world.packets) r.world.packets)) keeps.acts over.acts;
 }
 
 -- a packet more was delivered, and the book says so
-pub delivered_keeps : (h : Header) (first now : Option (List Sent)) (k v : Kept) (l : Live) (i : ℕ) → Keeps h first now k l → v.cluster ≡ k.cluster → v.world ≡ k.world → v.recording ≡ k.recording → v.received ≡ k.received
+pub delivered_keeps : (h : Header) (first now : Carried) (k v : Kept) (l : Live) (i : ℕ) → Keeps h first now k l → v.cluster ≡ k.cluster → v.world ≡ k.world → v.recording ≡ k.recording → v.received ≡ k.received
     → IsBook v.book (spellings l.world.packets) (i ∷ l.delivered) → Keeps h first now v (record l { delivered = i ∷ l.delivered })
 delivered_keeps h first now k v l i keeps cluster world recording received book = record {
   cluster = cluster ∙ keeps.cluster;
@@ -72,10 +79,11 @@ delivered_keeps h first now k v l i keeps cluster world recording received book 
   recording = recording ∙ keeps.recording;
   received = received ∙ keeps.received;
   sent = keeps.sent;
+  acts = keeps.acts;
 }
 
 -- a datagram was passed by
-pub passed_keeps : (h : Header) (first now : Option (List Sent)) (k v : Kept) (l : Live) → Keeps h first now k l → v.cluster ≡ k.cluster → v.world ≡ k.world → v.recording ≡ k.recording → v.received ≡ k.received
+pub passed_keeps : (h : Header) (first now : Carried) (k v : Kept) (l : Live) → Keeps h first now k l → v.cluster ≡ k.cluster → v.world ≡ k.world → v.recording ≡ k.recording → v.received ≡ k.received
     → IsBook v.book (spellings l.world.packets) l.delivered → Keeps h first now v l
 passed_keeps h first now k v l keeps cluster world recording received book = record {
   cluster = cluster ∙ keeps.cluster;
@@ -85,17 +93,34 @@ passed_keeps h first now k v l keeps cluster world recording received book = rec
   recording = recording ∙ keeps.recording;
   received = received ∙ keeps.received;
   sent = keeps.sent;
+  acts = keeps.acts;
 }
 
--- one datagram more was received
-pub received_keeps : (h : Header) (first now : Option (List Sent)) (k v : Kept) (l : Live) → Keeps h first now k l → v.cluster ≡ k.cluster → v.world ≡ k.world → v.recording ≡ k.recording → v.book ≡ k.book → v.received ≡ k.received + 1
-    → Keeps h first now v (received l)
-received_keeps h first now k v l keeps cluster world recording book count = record {
-  cluster = cluster ∙ keeps.cluster;
-  world = subst (λ x. KeepsWorld all_kinds x l.world) (sym world) keeps.world;
+-- an answer was taken
+pub heard_keeps : (h : Header) (first now later : Carried) (k : Kept) (l : Live) (a : Answer) → Keeps h first now k l → later.sent ≡ now.sent → Adds now.acts (Comes a) later.acts → Keeps h first later k (heard l a)
+heard_keeps h first now later k l a keeps same act = record {
+  cluster = keeps.cluster;
+  world = keeps.world;
   fit = keeps.fit;
-  book = subst (λ b. IsBook b (spellings l.world.packets) l.delivered) (sym book) keeps.book;
-  recording = recording ∙ keeps.recording;
-  received = count ∙ ap (λ n. n + 1) keeps.received;
-  sent = keeps.sent;
+  book = keeps.book;
+  recording = keeps.recording;
+  received = keeps.received;
+  sent = subst (λ (o : Option (List Sent)). Grows first.sent (map sending l.world.packets) o) (sym same) keeps.sent;
+  acts = grows_by first.acts now.acts later.acts l.acts (Comes a ∷ []) keeps.acts act;
 }
+
+-- and was one datagram more
+pub received_keeps : (h : Header) (first now later : Carried) (k v : Kept) (l : Live) (a : Arrival) → Keeps h first now k l → later.sent ≡ now.sent → Adds now.acts (Comes (Some a)) later.acts
+    → v.cluster ≡ k.cluster → v.world ≡ k.world → v.recording ≡ k.recording → v.book ≡ k.book → v.received ≡ k.received + 1 → Keeps h first later v (received l a)
+received_keeps h first now later k v l a keeps same act cluster world recording book count =
+    let on = heard_keeps h first now later k l (Some a) keeps same act in
+    record {
+      cluster = cluster ∙ on.cluster;
+      world = subst (λ x. KeepsWorld all_kinds x l.world) (sym world) on.world;
+      fit = on.fit;
+      book = subst (λ b. IsBook b (spellings l.world.packets) l.delivered) (sym book) on.book;
+      recording = recording ∙ on.recording;
+      received = count ∙ ap (λ n. n + 1) on.received;
+      sent = on.sent;
+      acts = on.acts;
+    }

@@ -5,9 +5,14 @@ pub mod Keeping
 pub mod Parts
 pub mod Playing
 pub mod Ticking
+pub mod Breaking
+pub mod Standing
+pub mod Grammar
+pub mod Delivered
 pub mod Recording
 pub mod Scripts
 pub mod Feeding
+pub mod Broken
 pub mod Promises
 pub mod Exact
 pub mod Options

@@ -7,6 +7,7 @@ use Rattle.std.proofs.lemmas.Option.{slice_get_within}
 use Rattle.std.specs.Prelude.{slice_get}
 use Rattle.tg_base.specs.declared.ids.NodeId.{NodeId}
 use Rattle.tg_base.specs.declared.packet.Packet.{Packet}
+use Rattle.tg_io.specs.Acts.{Goes}
 use Rattle.tg_io.specs.Bytes.{Grows}
 use Rattle.tg_io.specs.Links.{Adds}
 use Rattle.tg_io.specs.declared.link.Sent.{Sent}
@@ -15,7 +16,7 @@ use Rattle.tg_live.specs.Books.{GoesTo, IsBook}
 use Rattle.tg_live.specs.declared.book.Book.{Book}
 use Rattle.tg_wire.specs.Packets.{packet}
 use Rattle.tg_wire.specs.Answers.{IsPrefixFree}
-use Rattle.tg_live.specs.Sends.{sending, spellings, AreFit, AreSent, IsMadeOver}
+use Rattle.tg_live.specs.Sends.{Carried, all_gone, sending, spellings, AreFit, AreSent, IsMadeOver}
 use Rattle.tg_live.proofs.Growing.{Begins}
 
 pub on_ok_any : {X E P : Type 0} (r : Result X E) → P → OnOk r P
@@ -68,29 +69,38 @@ grows_by (Some xs) b c x y h k =
     let e : Grows (Some (xs ++ x)) y c = subst (λ (o : Option (List _)). Grows o y c) h k in
     e ∙ ap Some (append_assoc xs x y)
 
-pub sent_none : (ps : List Packet) (from : ℕ) (book : Book) (before : Option (List Sent)) → AreFit (take from ps) → AreSent ps from from book book before before
+-- what a list grows by that has the image of each packet
+grown_none : {X : Type 0} (f : Packet → X) (ps : List Packet) (from : ℕ) (before : Option (List X)) → Grows before (map f (drop from (take from ps))) before
+grown_none {X} f ps from before =
+    let few : length (take from ps) ≤ from = omega (arith, length-take from ps) in
+    subst (λ (qs : List Packet). Grows before (map f qs) before) (sym (drop_of_length-le (take from ps) few)) (grows_none before)
+
+grown_next : {X : Type 0} (f : Packet → X) (qs : List Packet) (from : ℕ) (p : Packet) (before now after : Option (List X)) → from ≤ length qs → Grows before (map f (drop from qs)) now → Adds now (f p) after
+    → Grows before (map f (drop from (qs ++ p ∷ []))) after
+grown_next {X} f qs from p before now after here grown adds =
+    subst (λ (xs : List X). Grows before xs after) (sym (ap (map f) (drop-append-le from qs (p ∷ []) here) ∙ map-append f (drop from qs) (p ∷ []))) (grows_by before now after (map f (drop from qs)) (f p ∷ []) grown adds)
+
+pub sent_none : (ps : List Packet) (from : ℕ) (book : Book) (before : Carried) → AreFit (take from ps) → AreSent ps from from book book before before
 sent_none ps from book before fit = record {
   fit = fit;
   noted = λ delivered h. h;
-  sent = (let few : length (take from ps) ≤ from = omega (arith, length-take from ps) in
-      subst (λ (qs : List Packet). Grows before (map sending qs) before) (sym (drop_of_length-le (take from ps) few)) (grows_none before));
+  sent = grown_none sending ps from before.sent;
+  acts = grown_none (λ p. Goes (sending p)) ps from before.acts;
 }
 
-pub sent_next : (ps : List Packet) (from n : ℕ) (p : Packet) (old book new : Book) (before now after : Option (List Sent)) → from ≤ n → slice_get ps n ≡ Some p
+pub sent_next : (ps : List Packet) (from n : ℕ) (p : Packet) (old book new : Book) (before now after : Carried) → from ≤ n → slice_get ps n ≡ Some p
     → AreSent ps from n old book before now → packet.fits p ≡ true
     → ((delivered : List ℕ) → IsBook book (spellings (take n ps)) delivered → IsBook new (spellings (take n ps ++ p ∷ [])) delivered)
-    → Adds now (sending p) after → AreSent ps from (n + 1) old new before after
-sent_next ps from n p old book new before now after le at s is noted adds =
+    → Adds now.sent (sending p) after.sent → Adds now.acts (Goes (sending p)) after.acts → AreSent ps from (n + 1) old new before after
+sent_next ps from n p old book new before now after le at s is noted adds act =
     let whole : take (n + 1) ps ≡ take n ps ++ p ∷ [] = (let one : n + 1 ≡ suc n = omega arith in ap (λ k. take k ps) one ∙ take_next ps n p at) in
     let long : length (take n ps) ≡ n = length-take-le n ps (let h : n < length ps = slice_get_within ps n p at in omega (arith, h)) in
     let here : from ≤ length (take n ps) = omega (arith, long, le) in
     record {
       fit = subst AreFit (sym whole) (fit_more (take n ps) p s.fit is);
       noted = λ delivered h. subst (λ (qs : List Packet). IsBook new (spellings qs) delivered) (sym whole) (noted delivered (s.noted delivered h));
-      sent = subst (λ (qs : List Packet). Grows before (map sending (drop from qs)) after) (sym whole)
-          (subst (λ (qs : List Sent). Grows before qs after)
-          (sym (ap (map sending) (drop-append-le from (take n ps) (p ∷ []) here) ∙ map-append sending (drop from (take n ps)) (p ∷ [])))
-          (grows_by before now after (map sending (drop from (take n ps))) (sending p ∷ []) s.sent adds));
+      sent = subst (λ (qs : List Packet). Grows before.sent (map sending (drop from qs)) after.sent) (sym whole) (grown_next sending (take n ps) from p before.sent now.sent after.sent here s.sent adds);
+      acts = subst (λ (qs : List Packet). Grows before.acts (all_gone (drop from qs)) after.acts) (sym whole) (grown_next (λ q. Goes (sending q)) (take n ps) from p before.acts now.acts after.acts here s.acts act);
     }
 
 -- ---- and those of a line after those before it
@@ -101,7 +111,7 @@ first_of ps qs b = ap (take (length ps)) b.whole ∙ take-append_seam ps b.more
 pub no_fewer : (ps qs : List Packet) → Begins ps qs → length ps ≤ length qs
 no_fewer ps qs b = omega (arith, length-append ps b.more, ap length b.whole)
 
-pub made_over : (ps qs : List Packet) (from : ℕ) (old new : Book) (before after : Option (List Sent)) → Begins ps qs → from ≡ length ps → AreFit ps
+pub made_over : (ps qs : List Packet) (from : ℕ) (old new : Book) (before after : Carried) → Begins ps qs → from ≡ length ps → AreFit ps
     → (from ≤ length qs → AreFit (take from qs) → AreSent qs from (length qs) old new before after) → IsMadeOver ps qs old new before after
 made_over ps qs from old new before after b at fit sent =
     let le : from ≤ length qs = omega (arith, no_fewer ps qs b, at) in
@@ -113,6 +123,7 @@ made_over ps qs from old new before after b at fit sent =
       fit = subst AreFit all t.fit;
       noted = λ delivered h. subst (λ (xs : List Packet). IsBook new (spellings xs) delivered) all (t.noted delivered (subst (λ (xs : List Packet). IsBook old (spellings xs) delivered) (sym (first_of ps qs b)) h));
       sent = λ first h.
-          let more : Grows before (map sending b.more) after = subst (λ (xs : List Packet). Grows before (map sending xs) after) left t.sent in
-          subst (λ (xs : List Sent). Grows first xs after) (sym (map-append sending ps b.more) ∙ ap (map sending) (sym b.whole)) (grows_by first before after (map sending ps) (map sending b.more) h more);
+          let more : Grows before.sent (map sending b.more) after.sent = subst (λ (xs : List Packet). Grows before.sent (map sending xs) after.sent) left t.sent in
+          subst (λ (xs : List Sent). Grows first xs after.sent) (sym (map-append sending ps b.more) ∙ ap (map sending) (sym b.whole)) (grows_by first before.sent after.sent (map sending ps) (map sending b.more) h more);
+      acts = subst (λ (xs : List Packet). Grows before.acts (all_gone (drop (length ps) xs)) after.acts) all t.acts;
     }

@@ -1,15 +1,15 @@
 -- What each line of a script comes to.
-use Rattle.std.proofs.Common.{◌≡◌, true, List, Option, refl, sym, subst}
+use Rattle.std.proofs.Common.{◌≡◌, true, List, Option, sym, subst}
 use Rattle.tg_base.specs.Clusters.{Header}
-use Rattle.tg_io.specs.declared.link.Sent.{Sent}
 use Rattle.tg_script.specs.declared.line.Line.{Line}
 use Rattle.tg_script.specs.declared.line.Line.TheVariants as line
 use Rattle.tg_live.specs.declared.live.Went.{Went}
 use Rattle.tg_live.specs.Lives.{Answer, Live, Makes, IsDrained, IsSettled, IsFed, is_steps, recorded}
 use Rattle.tg_live.specs.Kept.{Made, KeepsRan}
+use Rattle.tg_live.specs.Sends.{Carried}
 use Rattle.tg_live.proofs.Parts.{made_alone, made_as}
 
-module _ (h : Header) (first now : Option (List Sent)) (before after : Option (List Answer)) (l : Live) (w : Went) where
+module _ (h : Header) (first now : Carried) (before after : Option (List Answer)) (l : Live) (w : Went) where
   pub fed_drain : (x : Line) → x ≡ line.Drain → Made IsDrained h first now before after l w → Made (IsFed x) h first now before after l w
   fed_drain x e m = subst (λ (y : Line). Made (IsFed y) h first now before after l w) (sym e) (made_as h first IsDrained (IsFed line.Drain) now before after l w (λ ans end t. t) m)
 

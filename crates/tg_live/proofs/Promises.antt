@@ -1,14 +1,12 @@
 -- From what a live run writes to what is promised of it.
-use Rattle.std.proofs.Common.{◌≡◌, ◌⊎◌, ◌∙◌, ℕ, List, [], take, refl, sym, ap, subst, inl, inr, Option, Some, None, Result, Ok, Err, IfOk, IfSome}
+use Rattle.std.proofs.Common.{◌≡◌, ◌⊎◌, ℕ, List, [], take, refl, sym, ap, subst, inl, inr, Option, Some, None, Result, Ok, Err, IfOk, IfSome}
 use Rattle.tg_base.specs.Clusters.{Header}
 use Rattle.tg_base.specs.declared.fault.Which.{Which}
-use Rattle.tg_io.specs.declared.link.Sent.{Sent}
 use Rattle.tg_io.specs.Bytes.{Takes, TakesFront}
-use Rattle.tg_io.specs.Faults.{Rose}
 use Rattle.tg_io.specs.declared.status.Status.{Status}
 use Rattle.tg_io.specs.declared.status.Status.TheVariants.{Done, Illegal, Words, Script as AtLine, ReadFault, WriteFault, LinkFault, Limit, NoMemory}
 use Rattle.tg_io.proofs.Bytes.{grows_none}
-use Rattle.tg_replay.specs.Runs.{Script, Tells, Begins}
+use Rattle.tg_replay.specs.Runs.{Script, Tells}
 use Rattle.tg_replay.specs.Stages.{status_of}
 use Rattle.tg_replay.specs.Outcomes.{Told}
 use Rattle.tg_replay.specs.declared.stages.End.{End}
@@ -17,9 +15,10 @@ use Rattle.tg_live.specs.declared.live.Live.{Live as Kept}
 use Rattle.tg_live.specs.declared.stages.Finish.{Finish}
 use Rattle.tg_live.specs.Lives.{Live}
 use Rattle.tg_live.specs.Kept.{Keeps}
+use Rattle.tg_live.specs.Sends.{Carried}
 use Rattle.tg_live.specs.Scripts as scripts
 use Rattle.tg_live.specs.Scripts.{Over, IsLiveScript, FirstOutside, PassesLimit, PassesNone, Outcome, printed}
-use Rattle.tg_live.specs.Outcomes.{Written, IsOfLive, IsFront}
+use Rattle.tg_live.specs.Outcomes.{Written, IsOfLive, IsOrStops, IsFront}
 use Rattle.tg_live.specs.Stages.{Finished, Ends}
 
 -- what was written with a status
@@ -35,10 +34,10 @@ finish_told None before after o status finish h w = tt
 finish_told (Some text) before after o status finish h w = w o text h
 
 -- what is printed of a live run that is kept so
-pub printed_run : (o : Over) (text : List ℕ) (status : Status) (k : Kept) (out : List ℕ) → ((h : Header) (first now : Option (List Sent)) (l : Live) → Keeps h first now k l → out ≡ printed h l) → Ends o text status (Some k) → Outcome o text status out
-printed_run o text status k out f e = subst (λ (x : List ℕ). Outcome o text status x) (sym (f e.0 o.sent o.sent_after e.1 e.2)) e.3
+pub printed_run : (o : Over) (text : List ℕ) (status : Status) (k : Kept) (out : List ℕ) → ((h : Header) (first now : Carried) (l : Live) → Keeps h first now k l → out ≡ printed h l) → Ends o text status (Some k) → Outcome o text status out
+printed_run o text status k out f e = subst (λ (x : List ℕ). Outcome o text status x) (sym (f e.0 o.carried o.carried_after e.1 e.2)) e.3
 
-pub text_said : {E : Type 0} (r : Result (List ℕ) E) (k : Kept) → ((h : Header) (first now : Option (List Sent)) (l : Live) → Keeps h first now k l → IfOk r (λ out. out ≡ printed h l))
+pub text_said : {E : Type 0} (r : Result (List ℕ) E) (k : Kept) → ((h : Header) (first now : Carried) (l : Live) → Keeps h first now k l → IfOk r (λ out. out ≡ printed h l))
     → IfOk r (λ out. (o : Over) (text : List ℕ) (status : Status) → Ends o text status (Some k) → Outcome o text status out)
 text_said (Ok out) k f = λ o text status e. printed_run o text status k out f e
 text_said (Err e) k f = tt
@@ -112,3 +111,20 @@ pub complete_told : (left before after : Option (List ℕ)) (o : Over) (status :
     IfSome left (λ text. (s : Script) → IsLiveScript s → Tells text s → PassesNone o text → (status ≡ Done) ⊎ (status ≡ NoMemory))
 complete_told None before after o status h ways u = tt
 complete_told (Some text) before after o status h ways u = λ s lawful tells within. completes o text h.0 status s h.2 ways u lawful tells within
+
+-- whatever the link tells, it is run whole or a limit stops it
+ends : (o : Over) (text out : List ℕ) (status : Status) (s : Script) → Written o text status out → IsOfLive status → IsUndisturbed status → IsLiveScript s → Tells text s → IsOrStops status Done
+ends o text out Done s w ways u lawful tells = inl refl
+ends o text out NoMemory s w ways u lawful tells = inr (inr refl)
+ends o text out Words s w ways u lawful tells = absurd ways
+ends o text out ReadFault s w ways u lawful tells = absurd (u.reads refl)
+ends o text out WriteFault s w ways u lawful tells = absurd (u.writes refl)
+ends o text out LinkFault s w ways u lawful tells = absurd (u.carries refl)
+ends o text out (Illegal line clause) s w ways u lawful tells = absurd ways
+ends o text out (AtLine n) s w ways u lawful tells = absurd (w.first.outside s lawful (ap (λ (ls : List (List ℕ)). take n ls) tells))
+ends o text out (Limit which) s w ways u lawful tells = inr (inl (which, refl))
+
+pub ends_told : (left before after : Option (List ℕ)) (o : Over) (status : Status) → Told left before after (λ text out. Written o text status out) → IsOfLive status → IsUndisturbed status →
+    IfSome left (λ text. (s : Script) → IsLiveScript s → Tells text s → IsOrStops status Done)
+ends_told None before after o status h ways u = tt
+ends_told (Some text) before after o status h ways u = λ s lawful tells. ends o text h.0 status s h.2 ways u lawful tells

@@ -5,24 +5,23 @@ use Rattle.std.specs.Prelude.{slice_get, nat_le}
 use Rattle.tg_base.specs.Clusters.{Header, IsHeader}
 use Rattle.tg_base.specs.declared.fault.Which.{Which}
 use Rattle.tg_io.specs.Bytes.{Grows}
-use Rattle.tg_io.specs.declared.link.Sent.{Sent}
 use Rattle.tg_io.proofs.Bytes.{grows_none}
 use Rattle.tg_lines.specs.Lines.{lines}
-use Rattle.tg_any.specs.AllKinds.{all_kinds}
-use Rattle.tg_replay.specs.Runs.{Script, line_text, text_lines, front, Begins}
+use Rattle.tg_replay.specs.Runs.{Script, line_text, text_lines, front}
 use Rattle.tg_replay.proofs.Lists.{front_and_next, front_more, take_next, length_last, last_or_before, take_whole, take_within, take_self, image}
 use Rattle.tg_script.specs.Headers.{header_lines, IsFirstOutside}
 use Rattle.tg_script.specs.declared.line.Line.{Line}
 use Rattle.tg_script.proofs.Clusters.{same_header}
 use Rattle.tg_live.specs.declared.live.Went.{Went}
 use Rattle.tg_live.specs.declared.stages.Running.{Running}
-use Rattle.tg_live.specs.Lives.{Answer, Live, LiveRan, goes, opened, Follows, Then, Makes, IsFed, IsLived}
+use Rattle.tg_live.specs.Lives.{Answer, Live, LiveRan, goes, opened, Follows, Then, IsFed, IsLived}
 use Rattle.tg_live.specs.Kept.{Keeps, Made}
-use Rattle.tg_live.specs.Scripts.{IsLiveLine, IsLiveScript, Over, RunsOver, Replayed, FirstOutside, PrintedBefore, Refused, Limited, printed}
+use Rattle.tg_live.specs.Scripts.{IsLiveLine, IsLiveScript, Over, RunsOver, Replayed, PrintedBefore, Refused, Limited, printed}
+use Rattle.tg_live.specs.Sends.{Carried}
 use Rattle.tg_live.specs.Stages.{IsRunOf}
 use Rattle.tg_live.proofs.Packets.{grows_by}
 use Rattle.tg_live.proofs.Parts.{follows_on}
-use Rattle.tg_live.proofs.Recording.{run_recorded}
+use Rattle.tg_live.proofs.Recording.{run_recorded, run_recording}
 
 -- the script with one line more
 abbrev pub longer : Script → Line → Script
@@ -32,7 +31,7 @@ front_whole : (s : Script) → front (length s.events) s ≡ s
 front_whole s = ap (λ (ls : List Line). record { header = s.header; events = ls }) (take_self s.events)
 
 -- a script goes on by a line
-script_longer : (s : Script) (l : Line) → IsLiveScript s → IsLiveLine s.header l → IsLiveScript (longer s l)
+pub script_longer : (s : Script) (l : Line) → IsLiveScript s → IsLiveLine s.header l → IsLiveScript (longer s l)
 script_longer s l h is = record {
   header = h.header;
   each = λ k m e. ⊎_elim
@@ -41,7 +40,7 @@ script_longer s l h is = record {
       (last_or_before s.events l k m e);
 }
 
-text_longer : (s : Script) (l : Line) → text_lines (longer s l) ≡ text_lines s ++ line_text l ∷ []
+pub text_longer : (s : Script) (l : Line) → text_lines (longer s l) ≡ text_lines s ++ line_text l ∷ []
 text_longer s l = ap (λ (ls : List (List ℕ)). header_lines s.header ++ ls) (map-append line_text s.events (l ∷ []))
 
 -- ---- the live run of a script with one line more
@@ -84,7 +83,7 @@ pub record Next (t s : Script) (line : List ℕ) : Type 0 where
   pub same : front (length s.events) t ≡ s
   pub is : IsLiveLine s.header event
 
-many_lines : (o : Over) (read : List (List ℕ)) (r : Running) (s : Script) → IsRunOf o read r s → length read ≡ suc (suc (suc (length s.events)))
+pub many_lines : (o : Over) (read : List (List ℕ)) (r : Running) (s : Script) → IsRunOf o read r s → length read ≡ suc (suc (suc (length s.events)))
 many_lines o read r s h = ap length h.lines ∙ ap (λ n. suc (suc (suc n))) (length-map s.events line_text)
 
 next_line : (o : Over) (read : List (List ℕ)) (r : Running) (s : Script) → IsRunOf o read r s → (t : Script) → IsLiveScript t → (line : List ℕ) → take (suc (length read)) (text_lines t) ≡ read ++ line ∷ [] → Next t s line
@@ -102,14 +101,14 @@ next_line o read r s h t lawful line e =
     }
 
 -- what a link tells after a part more
-abbrev pub later : Over → Option (List Answer) → Option (List Sent) → Over
-later o handed sent = record o { handed_after = handed; sent_after = sent }
+abbrev pub later : Over → Option (List Answer) → Carried → Over
+later o handed now = record o { handed_after = handed; carried_after = now }
 
 -- a run goes on by a line
-pub run_goes_on : (o : Over) (read : List (List ℕ)) (r : Running) (s : Script) (line : List ℕ) (l : Line) (h : IsRunOf o read r s) → (handed : Option (List Answer)) (sent : Option (List Sent)) (w : Went)
+pub run_goes_on : (o : Over) (read : List (List ℕ)) (r : Running) (s : Script) (line : List ℕ) (l : Line) (h : IsRunOf o read r s) → (handed : Option (List Answer)) (now : Carried) (w : Went)
     → IsLiveLine s.header l → line ≡ line_text l → ((m : Line) → IsLiveLine s.header m → line ≡ line_text m → m ≡ l)
-    → Made (IsFed l) s.header o.sent sent o.handed_after handed h.live w → w.stopped ≡ None → IsRunOf (later o handed sent) (read ++ line ∷ []) (record { live = w.live; lines = r.lines + 1 }) (longer s l)
-run_goes_on o read r s line l h handed sent w is spelled one m none =
+    → Made (IsFed l) s.header o.carried now o.handed_after handed h.live w → w.stopped ≡ None → IsRunOf (later o handed now) (read ++ line ∷ []) (record { live = w.live; lines = r.lines + 1 }) (longer s l)
+run_goes_on o read r s line l h handed now w is spelled one m none =
     let on : m.end ≡ goes m.end.live = (let e : m.end.stopped ≡ None = sym m.kept.stopped ∙ none in λ i. record { live = m.end.live; stopped = e i }) in
     record {
       lawful = script_longer s l h.lawful is;
@@ -131,7 +130,7 @@ run_goes_on o read r s line l h handed sent w is spelled one m none =
     }
 
 runs_over : (o : Over) (read : List (List ℕ)) (r : Running) (s : Script) (h : IsRunOf o read r s) → RunsOver o s (goes h.live)
-runs_over o read r s h = record { answers = h.answers; lived = h.lived; took = h.took; sends = h.kept.sent }
+runs_over o read r s h = record { answers = h.answers; lived = h.lived; took = h.took; sends = h.kept.sent; acts = h.kept.acts }
 
 -- Where a line ends the script: each refusal, at its line.
 
@@ -156,14 +155,14 @@ refuses_event o text line read more r s h cut none n at =
             ap (λ k. take k (text_lines t)) (sym here) ∙ (sym b ∙ ap (λ k. take k (lines text)) here ∙ ap (λ (ls : List (List ℕ)). take (suc (length read)) ls) cut ∙ front_more read more line) in
             let m = next_line o read r s h t lawful line e in none m.event m.is m.spelled;
       };
-      printed = subst (λ (b : Bool). PrintedBefore b o s (printed s.header h.live)) (sym past) (h.live, runs_over o read r s h, refl);
+      printed = subst (λ (b : Bool). PrintedBefore b o s (printed s.header h.live)) (sym past) (h.live, runs_over o read r s h, run_recorded s h.answers h.live h.lawful h.lived, refl);
     }
 
 -- the script of a header alone
 abbrev pub opening : Header → Script
 opening h = record { header = h; events = [] }
 
-opening_lawful : (h : Header) → IsHeader h → IsLiveScript (opening h)
+pub opening_lawful : (h : Header) → IsHeader h → IsLiveScript (opening h)
 opening_lawful h e = record { header = e; each = λ k l f. absurd cc }
 
 -- no line stands before the first
@@ -174,9 +173,9 @@ begins_header : (h : Header) (xs : List (List ℕ)) (n : ℕ) → n ≤ 3 → ta
 begins_header h xs n le = take_within (header_lines h) xs n le
 
 -- a line of the header that is refused
-pub refuses_header : (o : Over) (text : List ℕ) (n : ℕ) → n ≤ 3 → IsFirstOutside (lines text) n → o.handed_after ≡ o.handed → o.sent_after ≡ o.sent → Refused o text n []
-refuses_header o text zero le h took sends = absurd (not_at_none (lines text) h)
-refuses_header o text (suc n) le h took sends =
+pub refuses_header : (o : Over) (text : List ℕ) (n : ℕ) → n ≤ 3 → IsFirstOutside (lines text) n → o.handed_after ≡ o.handed → o.carried_after ≡ o.carried → Refused o text n []
+refuses_header o text zero le h took none = absurd (not_at_none (lines text) h)
+refuses_header o text (suc n) le h took none =
     let few : n ≤ 3 = omega arith in
     let f = h.before n (omega arith) in
     let early : nat_le (suc n) 3 ≡ true = grind arith in
@@ -190,12 +189,16 @@ refuses_header o text (suc n) le h took sends =
         begins = ap (λ k. take k (lines text)) less ∙ f.same ∙ sym (begins_header f.header [] n few) ∙ sym (ap (λ k. take k (text_lines (opening f.header))) less);
         outside = λ t lawful b. h.outside (record { header = t.header; lawful = lawful.header; same = b ∙ begins_header t.header (map line_text t.events) (suc n) le });
       };
-      printed = subst (λ (b : Bool). PrintedBefore b o (opening f.header) []) (sym early)
-          (refl, subst (λ (x : Option (List Sent)). Grows o.sent [] x) (sym sends) (grows_none o.sent), subst (λ (x : Option (List Answer)). Grows o.handed [] x) (sym took) (grows_none o.handed));
+      printed = subst (λ (b : Bool). PrintedBefore b o (opening f.header) []) (sym early) (
+        refl,
+        subst (λ (x : Carried). Grows o.carried.sent [] x.sent) (sym none) (grows_none o.carried.sent),
+        subst (λ (x : Option (List Answer)). Grows o.handed [] x) (sym took) (grows_none o.handed),
+        subst (λ (x : Carried). Grows o.carried.acts [] x.acts) (sym none) (grows_none o.carried.acts),
+      );
     }
 
 -- the run of a header alone
-pub run_opens : (o : Over) (h : Header) (r : Running) → IsHeader h → o.handed_after ≡ o.handed → Keeps h o.sent o.sent_after r.live (opened h) → r.lines ≡ 0 → IsRunOf o (header_lines h) r (opening h)
+pub run_opens : (o : Over) (h : Header) (r : Running) → IsHeader h → o.handed_after ≡ o.handed → Keeps h o.carried o.carried_after r.live (opened h) → r.lines ≡ 0 → IsRunOf o (header_lines h) r (opening h)
 run_opens o h r lawful took kept count = record {
   lawful = opening_lawful h lawful;
   lines = refl;
@@ -218,31 +221,35 @@ run_ends o text read r s h cut = record {
   tells = cut ∙ h.lines;
   end = h.live;
   run = runs_over o read r s h;
-  recorded = run_recorded s.header s.events h.answers h.live h.lived;
+  recorded = run_recorded s h.answers h.live h.lawful h.lived;
   printed = refl;
 }
 
 -- a limit
-pub run_limited : (o : Over) (text line : List ℕ) (read more : List (List ℕ)) (r : Running) (s : Script) (l : Line) (which : Which) (h : IsRunOf o read r s) → (handed : Option (List Answer)) (sent : Option (List Sent)) (w : Went)
-    → lines text ≡ read ++ line ∷ more → IsLiveLine s.header l → line ≡ line_text l → (m : Made (IsFed l) s.header o.sent sent o.handed_after handed h.live w) → w.stopped ≡ Some which
-    → Limited (later o handed sent) text which (printed s.header m.end.live)
-run_limited o text line read more r s l which h handed sent w cut is spelled m over =
+pub run_limited : (o : Over) (text line : List ℕ) (read more : List (List ℕ)) (r : Running) (s : Script) (l : Line) (which : Which) (h : IsRunOf o read r s) → (handed : Option (List Answer)) (now : Carried) (w : Went)
+    → lines text ≡ read ++ line ∷ more → IsLiveLine s.header l → line ≡ line_text l → (m : Made (IsFed l) s.header o.carried now o.handed_after handed h.live w) → w.stopped ≡ Some which
+    → Limited (later o handed now) text which (printed s.header m.end.live)
+run_limited o text line read more r s l which h handed now w cut is spelled m over =
     let long = many_lines o read r s h in
     let count : 3 + length (s.events ++ l ∷ []) ≡ suc (length read) = let e = length_last s.events l in omega arith in
     let same : read ++ line ∷ [] ≡ text_lines (longer s l) = ap (λ (x : List (List ℕ)). x ++ line ∷ []) h.lines ∙ ap (λ (x : List ℕ). text_lines s ++ x ∷ []) spelled ∙ sym (text_longer s l) in
     let whole : take (3 + length (s.events ++ l ∷ [])) (text_lines (longer s l)) ≡ text_lines (longer s l) =
     ap (λ n. take n (text_lines (longer s l))) (count ∙ sym (length_last read line) ∙ ap length same) ∙ take_self (text_lines (longer s l)) in
+    let lawful = script_longer s l h.lawful is in
+    let lived : IsLived (s.events ++ l ∷ []) (h.answers ++ m.answers) (opened s.header) m.end = lived_longer s.events l h.answers m.answers (opened s.header) h.live m.end h.lived m.is in
     record {
       script = longer s l;
-      lawful = script_longer s l h.lawful is;
+      lawful = lawful;
       begins = ap (λ n. take n (lines text)) count ∙ ap (λ (ls : List (List ℕ)). take (suc (length read)) ls) cut ∙ front_more read more line ∙ same ∙ sym whole;
       end = m.end;
       over = sym m.kept.stopped ∙ over;
       run = record {
         answers = h.answers ++ m.answers;
-        lived = lived_longer s.events l h.answers m.answers (opened s.header) h.live m.end h.lived m.is;
+        lived = lived;
         took = grows_by o.handed o.handed_after handed h.answers m.answers h.took m.handed;
         sends = m.kept.live.sent;
+        acts = m.kept.live.acts;
       };
+      recorded = run_recording (longer s l) (h.answers ++ m.answers) m.end lawful lived;
       printed = refl;
     }

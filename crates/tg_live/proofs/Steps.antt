@@ -1,15 +1,14 @@
 -- A line's steps send packets after those that were sent.
-use Rattle.std.proofs.Common.{◌≡◌, ℕ, true, Some, None, refl, ap, sym, subst}
+use Rattle.std.proofs.Common.{◌≡◌, ℕ, true, Some, None, refl, sym, subst}
 use Rattle.std.specs.declared.option.Option.{Option}
 use Rattle.tg_base.specs.declared.fault.Which.{Which}
-use Rattle.tg_base.specs.declared.packet.Packet.{Packet}
 use Rattle.tg_base.specs.declared.ids.Oid.{Oid}
 use Rattle.tg_any.specs.declared.any.AnyOp.{AnyOp}
 use Rattle.tg_model.specs.Kinds.{EventOf}
 use Rattle.tg_model.specs.declared.command.Command.TheVariants as cmd
 use Rattle.tg_model.specs.declared.command.Event.TheVariants as event
 use Rattle.tg_protocol.specs.Worlds.{next_event, limit_of, unless_stopped}
-use Rattle.tg_world.specs.Runs.{happens_by, happens_on, puts_on, updates_on}
+use Rattle.tg_world.specs.Runs.{happens_by, happens_on, puts_on}
 use Rattle.tg_any.specs.AllKinds.{all_kinds}
 use Rattle.tg_replay.specs.Runs.{Worlds, Runs, line_on}
 use Rattle.tg_replay.proofs.Making.{goes_on, stops}

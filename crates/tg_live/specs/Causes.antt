@@ -1,5 +1,5 @@
 -- Why a live run gives nothing: its source, or its link.
-use Rattle.std.specs.Prelude.{◌≡◌, ◌≤◌, ℕ, Bool, Result, IsErrOf}
+use Rattle.std.specs.Prelude.{◌≤◌, ℕ, Result, IsErrOf}
 use Rattle.tg_io.specs.Faults.{Rose}
 use Rattle.tg_io.specs.declared.fault.IoErr.{IoErr}
 use Rattle.tg_io.specs.declared.fault.IoErr.TheVariants as io

@@ -1,5 +1,5 @@
 -- The headline of a live run: its recording is a script, whose run reaches a world that holds.
-use Rattle.std.specs.Prelude.{◌≡◌, List, ℕ}
+use Rattle.std.specs.Prelude.{List, ℕ}
 use Rattle.tg_base.specs.Clusters.{Header}
 use Rattle.tg_replay.specs.Runs.{Script, IsScript}
 use Rattle.tg_replay.specs.Headline.{IsReached, IsTrueRun}

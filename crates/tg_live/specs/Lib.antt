@@ -8,3 +8,4 @@ pub mod Causes
 pub mod Headline
 pub mod Matching
 pub mod Books
+pub mod Breaks

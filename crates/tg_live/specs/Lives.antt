@@ -1,9 +1,10 @@
 -- A live run: each packet goes over a link, and what the link hands over is recorded as deliveries.
-use Rattle.std.specs.Prelude.{◌≡◌, ℕ, zero, suc, ◌+◌, ◌<◌, ◌≤◌, ◌==◌, Bool, true, false, List, [], ◌∷◌, ◌++◌, map, length, Option, Some, None}
+use Rattle.std.specs.Prelude.{◌≡◌, ℕ, zero, suc, ◌+◌, ◌<◌, ◌≤◌, ◌==◌, Bool, true, false, List, [], ◌∷◌, ◌++◌, length, drop, Option, Some, None}
 use Rattle.tg_base.specs.declared.fault.Which.{Which}
 use Rattle.tg_base.specs.declared.fault.Which.TheVariants as which
 use Rattle.tg_base.specs.declared.ids.NodeId.{NodeId}
 use Rattle.tg_base.specs.Clusters.{Header}
+use Rattle.tg_io.specs.Acts.{Act, Comes}
 use Rattle.tg_io.specs.declared.link.Arrival.{Arrival}
 use Rattle.tg_live.specs.Matching.{matched}
 use Rattle.tg_model.specs.declared.command.Event.TheVariants as event
@@ -12,7 +13,7 @@ use Rattle.tg_any.specs.AllKinds.{all_kinds}
 use Rattle.tg_replay.specs.Runs.{Worlds, Runs, line_on}
 use Rattle.tg_script.specs.declared.line.Line.{Line}
 use Rattle.tg_script.specs.declared.line.Line.TheVariants as line
-use Rattle.tg_live.specs.Sends.{spellings}
+use Rattle.tg_live.specs.Sends.{all_gone, spellings}
 
 -- what a call of `recv` gave
 abbrev pub Answer : Type 0
@@ -23,6 +24,7 @@ pub record Live : Type 0 where
   pub lines : List Line  -- the event lines that were recorded
   pub delivered : List ℕ  -- the packets that were delivered, the last one first
   pub received : ℕ  -- how many datagrams the link has handed over
+  pub acts : List Act  -- what was done with the link
 
 -- a live run after several steps, and the limit that stopped them
 pub record LiveRan : Type 0 where
@@ -37,7 +39,7 @@ stops l x = record { live = l; stopped = Some x }
 
 -- before the first line
 abbrev pub opened : Header → Live
-opened h = record { world = start all_kinds h; lines = []; delivered = []; received = 0 }
+opened h = record { world = start all_kinds h; lines = []; delivered = []; received = 0; acts = [] }
 
 -- Lines.
 
@@ -47,8 +49,12 @@ is_steps line.Drain = false
 is_steps line.Settle = false
 is_steps l = true
 
+-- the packets that its steps have sent go out when they are made
 abbrev pub after_line : Live → Line → Runs → LiveRan
-after_line l x r = record { live = record l { world = r.world; lines = l.lines ++ x ∷ [] }; stopped = r.stopped }
+after_line l x r = record {
+  live = record l { world = r.world; lines = l.lines ++ x ∷ []; acts = l.acts ++ all_gone (drop (length l.world.packets) r.world.packets) };
+  stopped = r.stopped;
+}
 
 abbrev pub recorded_by : Option Which → Live → Line → LiveRan
 recorded_by (Some x) l line = stops l x
@@ -68,8 +74,13 @@ came_by (Some i) l = recorded (record l { delivered = i ∷ l.delivered }) (line
 abbrev pub came : Live → NodeId → List ℕ → LiveRan
 came l node datagram = came_by (matched (spellings l.world.packets) l.delivered node datagram) l
 
-abbrev pub received : Live → Live
-received l = record l { received = l.received + 1 }
+-- an answer of `recv` is taken
+abbrev pub heard : Live → Answer → Live
+heard l a = record l { acts = l.acts ++ Comes a ∷ [] }
+
+-- and one that is a datagram
+abbrev pub received : Live → Arrival → Live
+received l a = record (heard l (Some a)) { received = l.received + 1 }
 
 -- What follows a part of a run, which takes the answers that are left: nothing where a limit stopped the part.
 abbrev pub Follows : Option Which → LiveRan → List Answer → LiveRan → Type 0 → Type 0
@@ -79,9 +90,9 @@ Follows None middle rest end then_so = then_so
 -- A drain takes the answers up to and with the first None. No datagram is asked for after the millionth.
 abbrev pub IsDrained : List Answer → Live → LiveRan → Type 0
 IsDrained [] l end = (1000000 ≤ l.received) × (end ≡ stops l which.Datagrams)
-IsDrained (None ∷ rest) l end = (l.received < 1000000) × (rest ≡ []) × (end ≡ goes l)
+IsDrained (None ∷ rest) l end = (l.received < 1000000) × (rest ≡ []) × (end ≡ goes (heard l None))
 IsDrained (Some a ∷ rest) l end = (l.received < 1000000)
-    × Follows (came (received l) a.to a.datagram).stopped (came (received l) a.to a.datagram) rest end (IsDrained rest (came (received l) a.to a.datagram).live end)
+    × Follows (came (received l a) a.to a.datagram).stopped (came (received l a) a.to a.datagram) rest end (IsDrained rest (came (received l a) a.to a.datagram).live end)
 
 -- Ticks.
 

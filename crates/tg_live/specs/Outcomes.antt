@@ -1,7 +1,8 @@
 -- What is promised of a live run.
-use Rattle.std.specs.Prelude.{◌≡◌, ◌⊎◌, ℕ, ◌++◌, List, [], Option, Some, None}
+use Rattle.std.specs.Prelude.{◌≡◌, ◌⊎◌, ℕ, ◌++◌, List, []}
+use Rattle.tg_base.specs.declared.fault.Which.{Which}
 use Rattle.tg_io.specs.declared.status.Status.{Status}
-use Rattle.tg_io.specs.declared.status.Status.TheVariants.{Done, Limit, Illegal, Words, ReadFault, WriteFault, LinkFault, NoMemory}
+use Rattle.tg_io.specs.declared.status.Status.TheVariants.{Limit, Illegal, Words, ReadFault, WriteFault, LinkFault, NoMemory}
 use Rattle.tg_live.specs.Scripts.{Over, Outcome}
 
 -- a front of what one of the statuses 0, 3 and 7 asks for
@@ -20,6 +21,10 @@ Written o text LinkFault out = out ≡ []
 Written o text WriteFault out = IsFront o text out
 Written o text NoMemory out = IsCutShort o text out
 Written o text status out = Outcome o text status out
+
+-- a run ends so, unless a limit stops it or memory runs out
+abbrev pub IsOrStops : Status → Status → Type 0
+IsOrStops status is = (status ≡ is) ⊎ (((which : Which) × (status ≡ Limit which)) ⊎ (status ≡ NoMemory))
 
 -- A live run ends by neither of the others.
 abbrev pub IsOfLive : Status → Type 0

@@ -1,19 +1,16 @@
 -- Scripts of a live run: what a text says, and what a run of it comes to.
-use Rattle.std.specs.Prelude.{◌≡◌, ℕ, ◌+◌, ◌-◌, ◌<◌, ◌≤◌, ◌++◌, codes, List, [], ◌∷◌, length, map, take, nat_le, Bool, true, false, slice_get, Option, Some, None}
+use Rattle.std.specs.Prelude.{◌≡◌, ℕ, ◌+◌, ◌-◌, ◌≤◌, ◌++◌, codes, List, [], ◌∷◌, length, map, nat_le, Bool, true, false, slice_get, Option, Some}
 use Rattle.tg_base.specs.Clusters.{Header, IsHeader}
 use Rattle.tg_base.specs.declared.fault.Which.{Which}
 use Rattle.tg_io.specs.Bytes.{Grows}
-use Rattle.tg_io.specs.declared.link.Sent.{Sent}
 use Rattle.tg_io.specs.declared.status.Status.{Status}
 use Rattle.tg_io.specs.declared.status.Status.TheVariants.{Done, Script as AtLine, Limit}
 use Rattle.tg_model.specs.declared.command.Event.TheVariants as event
-use Rattle.tg_lines.specs.Lines.{lines}
-use Rattle.tg_any.specs.AllKinds.{all_kinds}
-use Rattle.tg_replay.specs.Runs.{Script, IsLine, IsWithin, Tells, Begins, front, line_text, text_lines, transcript, world_of}
+use Rattle.tg_replay.specs.Runs.{Script, IsLine, IsScript, IsWithin, Tells, Begins, text_lines, transcript, world_of}
 use Rattle.tg_script.specs.Headers.{lines_text}
 use Rattle.tg_script.specs.declared.line.Line.{Line}
 use Rattle.tg_script.specs.declared.line.Line.TheVariants as line
-use Rattle.tg_live.specs.Sends.{sending}
+use Rattle.tg_live.specs.Sends.{Carried, sending}
 use Rattle.tg_live.specs.Lives.{Answer, Live, LiveRan, IsLived, opened, goes}
 
 -- it delivers or loses a packet by number
@@ -39,27 +36,36 @@ recording h l = record { header = h; events = l.lines }
 abbrev pub printed : Header → Live → List ℕ
 printed h l = lines_text (text_lines (recording h l)) ++ (codes "transcript" ++ 10 ∷ []) ++ transcript h l.world
 
--- A live run of a script over a link: it takes the answers by which what the link handed over has grown, in order, and
--- what the link was sent has grown by the packets of its world. Its recording is a script whose world is the run's.
-pub record IsRunOver (s : Script) (end : LiveRan) (handed handed_after : Option (List Answer)) (sent sent_after : Option (List Sent)) : Type 0 where
+-- A live run of a script over a link: it takes the answers by which what the link handed over has grown, in order; what
+-- the link was sent has grown by the packets of its world; and sends and answers lie in the order of the run, in which a
+-- packet goes out when its step is made.
+pub record IsRunOver (s : Script) (end : LiveRan) (handed handed_after : Option (List Answer)) (before after : Carried) : Type 0 where
   pub answers : List Answer
   pub lived : IsLived s.events answers (opened s.header) end
   pub took : Grows handed answers handed_after
-  pub sends : Grows sent (map sending end.live.world.packets) sent_after
+  pub sends : Grows before.sent (map sending end.live.world.packets) after.sent
+  pub acts : Grows before.acts end.live.acts after.acts
 
+-- The recording is a script, whose world is the live run's.
+pub record IsRecording (h : Header) (l : Live) : Type 0 where
+  pub script : IsScript (recording h l)
+  pub world : world_of (recording h l) ≡ l.world
+
+-- And no limit stops it, so a replay of it prints the same transcript.
 pub record IsRecorded (h : Header) (l : Live) : Type 0 where
+  pub script : IsScript (recording h l)
   pub world : world_of (recording h l) ≡ l.world
   pub within : IsWithin (recording h l)
 
--- What a link tells before a run and after it.
+-- What a link tells before a run and after it: the answers that it handed, and what was done with it.
 pub record Over : Type 0 where
   pub handed : Option (List Answer)
   pub handed_after : Option (List Answer)
-  pub sent : Option (List Sent)
-  pub sent_after : Option (List Sent)
+  pub carried : Carried
+  pub carried_after : Carried
 
 abbrev pub RunsOver : Over → Script → LiveRan → Type 0
-RunsOver o s end = IsRunOver s end o.handed o.handed_after o.sent o.sent_after
+RunsOver o s end = IsRunOver s end o.handed o.handed_after o.carried o.carried_after
 
 -- A text that is read to its end: a live run of its script that no limit stops, whose recording is printed.
 pub record Replayed (o : Over) (text out : List ℕ) : Type 0 where
@@ -79,10 +85,14 @@ pub record FirstOutside (text : List ℕ) (n : ℕ) (before : Script) : Type 0 w
   pub begins : Begins text (n - 1) before
   pub outside : (s : Script) → IsLiveScript s → Begins text n s → ⊥
 
+-- line n is the first outside, after some script
+abbrev pub IsOutsideAt : List ℕ → ℕ → Type 0
+IsOutsideAt text n = (before : Script) × FirstOutside text n before
+
 -- What is printed where line n is refused: nothing where it is of the header's three, else the live run of the lines before it.
 abbrev pub PrintedBefore : Bool → Over → Script → List ℕ → Type 0
-PrintedBefore true o s out = (out ≡ []) × Grows o.sent [] o.sent_after × Grows o.handed [] o.handed_after
-PrintedBefore false o s out = (end : Live) × RunsOver o s (goes end) × (out ≡ printed s.header end)
+PrintedBefore true o s out = (out ≡ []) × Grows o.carried.sent [] o.carried_after.sent × Grows o.handed [] o.handed_after × Grows o.carried.acts [] o.carried_after.acts
+PrintedBefore false o s out = (end : Live) × RunsOver o s (goes end) × IsRecorded s.header end × (out ≡ printed s.header end)
 
 pub record Refused (o : Over) (text : List ℕ) (n : ℕ) (out : List ℕ) : Type 0 where
   pub before : Script
@@ -98,6 +108,7 @@ pub record Limited (o : Over) (text : List ℕ) (which : Which) (out : List ℕ)
   pub end : LiveRan
   pub over : end.stopped ≡ Some which
   pub run : RunsOver o script end
+  pub recorded : IsRecording script.header end.live
   pub printed : out ≡ printed script.header end.live
 
 -- A text passes a limit, with the answers that the link handed over: it begins with a script in whose last line, by a live

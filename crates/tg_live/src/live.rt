@@ -1,19 +1,19 @@
 //! A live run, and one line of it.
 
-ghost use Rattle.std.specs.Prelude.{◌≡◌, ◌≤◌, ◌++◌, ◌∷◌, [], ℕ, true, List, Option, length, map, drop, take, slice_get, Some, IfOk, OnOk};
+ghost use Rattle.std.specs.Prelude.{◌≡◌, ◌≤◌, ◌++◌, ◌∷◌, [], ℕ, true, List, Option, length, map, drop, take, slice_get, Some, IfOk, OnOk, OnErr};
 ghost use Rattle.tg_base.specs.Clusters.{Header, IsHeader};
 ghost use Rattle.tg_base.specs.declared.packet.Packet.{Packet};
 ghost use Rattle.tg_io.specs.Bytes.{Grows};
 ghost use Rattle.tg_io.specs.Faults.{HasCause, StaysSure};
-ghost use Rattle.tg_io.specs.declared.link.Sent.{Sent};
 ghost use Rattle.tg_live.specs.Books.{IsBook};
 ghost use Rattle.tg_protocol.specs.Worlds as seen;
 ghost use Rattle.tg_world.specs.Kept.{IsWorld, KeepsWorld};
 ghost use Rattle.tg_any.specs.AllKinds.{all_kinds};
 ghost use Rattle.tg_replay.specs.Runs.{line_in, line_on, line_text};
-ghost use Rattle.tg_live.specs.Sends.{AreFit, AreSent, IsMadeOver, spellings, sending};
+ghost use Rattle.tg_live.specs.Sends.{Carried, carried, all_gone, AreFit, AreSent, IsMadeOver, spellings, sending};
 ghost use Rattle.tg_live.specs.Lives.{Live as live, is_steps, recorded, after_line, opened, came};
 ghost use Rattle.tg_live.specs.Kept.{Keeps, KeepsRan};
+ghost use Rattle.tg_live.specs.Breaks.{GrowsFront};
 
 use crate::Book;
 use crate::sending::send;
@@ -65,10 +65,13 @@ fn send_from<L: Link>(
     world: &World<AnyKind>,
     from: u64,
 ) -> Result<(), IoErr>
-    ensures sent { (w : seen.World all_kinds) → KeepsWorld all_kinds world.now w → from ≤ length w.packets → AreFit (take from w.packets) → OnOk result (AreSent w.packets from (length w.packets) book.old book.new (L.sent link.old) (L.sent link.new)) }
+    ensures sent { (w : seen.World all_kinds) → KeepsWorld all_kinds world.now w → from ≤ length w.packets → AreFit (take from w.packets) → OnOk result (AreSent w.packets from (length w.packets) book.old book.new (carried (L.sent link.old) (L.acts link.old)) (carried (L.sent link.new) (L.acts link.new))) }
+    // Of the packets those before the one that failed have gone.
+    ensures broken { (w : seen.World all_kinds) → KeepsWorld all_kinds world.now w → from ≤ length w.packets → AreFit (take from w.packets) → OnErr result (GrowsFront (L.acts link.old) (all_gone (drop from w.packets)) (L.acts link.new)) }
     ensures handed { L.handed link.new ≡ L.handed link.old }
     ensures cause { HasCause (L.faults link.old) (L.faults link.new) result }
     ensures sure { StaysSure (L.sure link.old) (L.sure link.new) (L.faults link.old) (L.faults link.new) }
+    ensures still { OnOk result (L.faults link.new ≡ L.faults link.old) }
 {
     for number in from..world.sent() {
         let Some(packet) = world.packet(number) else {
@@ -115,10 +118,12 @@ fn make_over<L: Link>(
     ensures kept { IfOk result (λ r. IsWorld all_kinds r.world) }
     ensures world { (w : seen.World all_kinds) → KeepsWorld all_kinds world w → IfOk result (λ r. KeepsWorld all_kinds r.world (line_on w line).world) }
     ensures stopped { (w : seen.World all_kinds) → KeepsWorld all_kinds world w → IfOk result (λ r. r.stopped ≡ (line_on w line).stopped) }
-    ensures sent { (w : seen.World all_kinds) → KeepsWorld all_kinds world w → AreFit w.packets → OnOk result (IsMadeOver w.packets (line_on w line).world.packets book.old book.new (L.sent link.old) (L.sent link.new)) }
+    ensures sent { (w : seen.World all_kinds) → KeepsWorld all_kinds world w → AreFit w.packets → OnOk result (IsMadeOver w.packets (line_on w line).world.packets book.old book.new (carried (L.sent link.old) (L.acts link.old)) (carried (L.sent link.new) (L.acts link.new))) }
+    ensures broken { (w : seen.World all_kinds) → KeepsWorld all_kinds world w → AreFit w.packets → OnErr result (GrowsFront (L.acts link.old) (all_gone (drop (length w.packets) (line_on w line).world.packets)) (L.acts link.new)) }
     ensures handed { L.handed link.new ≡ L.handed link.old }
     ensures cause { HasCause (L.faults link.old) (L.faults link.new) result }
     ensures sure { StaysSure (L.sure link.old) (L.sure link.new) (L.faults link.old) (L.faults link.new) }
+    ensures still { OnOk result (L.faults link.new ≡ L.faults link.old) }
 {
     let from = world.sent();
     let ran = make(alloc, world, line)?;
@@ -140,7 +145,7 @@ impl Live {
     pub(crate) fn start(alloc: Global, cluster: Cluster) -> Result<Live, NoMemory>
         ensures lawful { IsHeader cluster }
         ensures kept { IfOk result (λ k. IsWorld all_kinds k.world) }
-        ensures opened { (sent : Option (List Sent)) → IfOk result (λ k. Keeps cluster sent sent k (opened cluster)) }
+        ensures opened { (before : Carried) → IfOk result (λ k. Keeps cluster before before k (opened cluster)) }
     {
         cluster.rules();
         let world = World::start(alloc, &cluster)?;
@@ -165,10 +170,12 @@ impl Live {
         requires steps { is_steps line ≡ true }
         ensures kept { IfOk result (λ w. IsWorld all_kinds w.live.world) }
         ensures received { IfOk result (λ w. w.live.received ≡ self.received) }
-        ensures recorded { (h : Header) (first : Option (List Sent)) (l : live) → Keeps h first (L.sent link.old) self l → IfOk result (λ w. KeepsRan h first (L.sent link.new) w (recorded l line)) }
+        ensures recorded { (h : Header) (first : Carried) (l : live) → Keeps h first (carried (L.sent link.old) (L.acts link.old)) self l → IfOk result (λ w. KeepsRan h first (carried (L.sent link.new) (L.acts link.new)) w (recorded l line)) }
+        ensures broken { (h : Header) (first : Carried) (l : live) → Keeps h first (carried (L.sent link.old) (L.acts link.old)) self l → OnErr result (GrowsFront first.acts (recorded l line).live.acts (L.acts link.new)) }
         ensures handed { L.handed link.new ≡ L.handed link.old }
         ensures cause { HasCause (L.faults link.old) (L.faults link.new) result }
         ensures sure { StaysSure (L.sure link.old) (L.sure link.new) (L.faults link.old) (L.faults link.new) }
+        ensures still { OnOk result (L.faults link.new ≡ L.faults link.old) }
     {
         match self.world.limit() {
             Some(which) => Ok(Went {
@@ -185,10 +192,12 @@ impl Live {
         requires steps { is_steps line ≡ true }
         ensures kept { IfOk result (λ w. IsWorld all_kinds w.live.world) }
         ensures received { IfOk result (λ w. w.live.received ≡ self.received) }
-        ensures made { (h : Header) (first : Option (List Sent)) (l : live) → Keeps h first (L.sent link.old) self l → IfOk result (λ w. KeepsRan h first (L.sent link.new) w (after_line l line (line_on l.world line))) }
+        ensures made { (h : Header) (first : Carried) (l : live) → Keeps h first (carried (L.sent link.old) (L.acts link.old)) self l → IfOk result (λ w. KeepsRan h first (carried (L.sent link.new) (L.acts link.new)) w (after_line l line (line_on l.world line))) }
+        ensures broken { (h : Header) (first : Carried) (l : live) → Keeps h first (carried (L.sent link.old) (L.acts link.old)) self l → OnErr result (GrowsFront first.acts (after_line l line (line_on l.world line)).live.acts (L.acts link.new)) }
         ensures handed { L.handed link.new ≡ L.handed link.old }
         ensures cause { HasCause (L.faults link.old) (L.faults link.new) result }
         ensures sure { StaysSure (L.sure link.old) (L.sure link.new) (L.faults link.old) (L.faults link.new) }
+        ensures still { OnOk result (L.faults link.new ≡ L.faults link.old) }
     {
         let Live {
             cluster,
@@ -223,10 +232,12 @@ impl Live {
         requires { IsWorld all_kinds self.world }
         ensures kept { IfOk result (λ w. IsWorld all_kinds w.live.world) }
         ensures received { IfOk result (λ w. w.live.received ≡ self.received) }
-        ensures came { (h : Header) (first : Option (List Sent)) (l : live) → Keeps h first (L.sent link.old) self l → IfOk result (λ w. KeepsRan h first (L.sent link.new) w (came l node datagram.now)) }
+        ensures came { (h : Header) (first : Carried) (l : live) → Keeps h first (carried (L.sent link.old) (L.acts link.old)) self l → IfOk result (λ w. KeepsRan h first (carried (L.sent link.new) (L.acts link.new)) w (came l node datagram.now)) }
+        ensures broken { (h : Header) (first : Carried) (l : live) → Keeps h first (carried (L.sent link.old) (L.acts link.old)) self l → OnErr result (GrowsFront first.acts (came l node datagram.now).live.acts (L.acts link.new)) }
         ensures handed { L.handed link.new ≡ L.handed link.old }
         ensures cause { HasCause (L.faults link.old) (L.faults link.new) result }
         ensures sure { StaysSure (L.sure link.old) (L.sure link.new) (L.faults link.old) (L.faults link.new) }
+        ensures still { OnOk result (L.faults link.new ≡ L.faults link.old) }
     {
         let mut live = self;
         match live.book.arrived(node, datagram) {

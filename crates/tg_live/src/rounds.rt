@@ -1,13 +1,14 @@
 //! Deliveries over the link, and rounds of ticks.
 
-ghost use Rattle.std.specs.Prelude.{◌≡◌, ◌≤◌, List, Option, length, IfOk};
+ghost use Rattle.std.specs.Prelude.{◌≡◌, ◌≤◌, List, Option, length, IfOk, OnOk, OnErr};
 ghost use Rattle.tg_base.specs.Clusters.{Header};
 ghost use Rattle.tg_io.specs.Faults.{HasCause, StaysSure};
-ghost use Rattle.tg_io.specs.declared.link.Sent.{Sent};
 ghost use Rattle.tg_world.specs.Kept.{IsWorld};
 ghost use Rattle.tg_any.specs.AllKinds.{all_kinds};
 ghost use Rattle.tg_live.specs.Lives.{Live as live, ticked, IsDrained, IsRounds, IsSettled};
 ghost use Rattle.tg_live.specs.Kept.{Keeps, KeepsRan, Made};
+ghost use Rattle.tg_live.specs.Sends.{Carried, carried};
+ghost use Rattle.tg_live.specs.Breaks.{GrowsFront, Broken};
 
 use crate::live::{Live, Went};
 use std::alloc::Global;
@@ -28,9 +29,11 @@ impl Live {
     pub(crate) fn drain<L: Link>(self, alloc: Global, link: &mut L) -> Result<Went, IoErr>
         requires { IsWorld all_kinds self.world }
         ensures kept { IfOk result (λ w. IsWorld all_kinds w.live.world) }
-        ensures drained { (h : Header) (first : Option (List Sent)) (l : live) → Keeps h first (L.sent link.old) self l → IfOk result (Made IsDrained h first (L.sent link.new) (L.handed link.old) (L.handed link.new) l) }
+        ensures drained { (h : Header) (first : Carried) (l : live) → Keeps h first (carried (L.sent link.old) (L.acts link.old)) self l → IfOk result (Made IsDrained h first (carried (L.sent link.new) (L.acts link.new)) (L.handed link.old) (L.handed link.new) l) }
+        ensures broken { (h : Header) (first : Carried) (l : live) → Keeps h first (carried (L.sent link.old) (L.acts link.old)) self l → OnErr result (Broken IsDrained first.acts (L.acts link.new) l) }
         ensures cause { HasCause (L.faults link.old) (L.faults link.new) result }
         ensures sure { StaysSure (L.sure link.old) (L.sure link.new) (L.faults link.old) (L.faults link.new) }
+        ensures still { OnOk result (L.faults link.new ≡ L.faults link.old) }
     {
         let mut live = self;
         let mut buffer = [0; Datagram::MAX];
@@ -63,9 +66,11 @@ impl Live {
     pub(crate) fn settle<L: Link>(self, alloc: Global, link: &mut L) -> Result<Went, IoErr>
         requires { IsWorld all_kinds self.world }
         ensures kept { IfOk result (λ w. IsWorld all_kinds w.live.world) }
-        ensures settled { (h : Header) (first : Option (List Sent)) (l : live) → Keeps h first (L.sent link.old) self l → IfOk result (Made IsSettled h first (L.sent link.new) (L.handed link.old) (L.handed link.new) l) }
+        ensures settled { (h : Header) (first : Carried) (l : live) → Keeps h first (carried (L.sent link.old) (L.acts link.old)) self l → IfOk result (Made IsSettled h first (carried (L.sent link.new) (L.acts link.new)) (L.handed link.old) (L.handed link.new) l) }
+        ensures broken { (h : Header) (first : Carried) (l : live) → Keeps h first (carried (L.sent link.old) (L.acts link.old)) self l → OnErr result (Broken IsSettled first.acts (L.acts link.new) l) }
         ensures cause { HasCause (L.faults link.old) (L.faults link.new) result }
         ensures sure { StaysSure (L.sure link.old) (L.sure link.new) (L.faults link.old) (L.faults link.new) }
+        ensures still { OnOk result (L.faults link.new ≡ L.faults link.old) }
     {
         let went = self.drain(alloc, link)?;
         if went.stopped.is_some() {
@@ -78,9 +83,11 @@ impl Live {
     fn rounds<L: Link>(self, alloc: Global, link: &mut L, left: u8) -> Result<Went, IoErr>
         requires { IsWorld all_kinds self.world }
         ensures kept { IfOk result (λ w. IsWorld all_kinds w.live.world) }
-        ensures settled { (h : Header) (first : Option (List Sent)) (l : live) → Keeps h first (L.sent link.old) self l → IfOk result (Made (IsRounds left) h first (L.sent link.new) (L.handed link.old) (L.handed link.new) l) }
+        ensures settled { (h : Header) (first : Carried) (l : live) → Keeps h first (carried (L.sent link.old) (L.acts link.old)) self l → IfOk result (Made (IsRounds left) h first (carried (L.sent link.new) (L.acts link.new)) (L.handed link.old) (L.handed link.new) l) }
+        ensures broken { (h : Header) (first : Carried) (l : live) → Keeps h first (carried (L.sent link.old) (L.acts link.old)) self l → OnErr result (Broken (IsRounds left) first.acts (L.acts link.new) l) }
         ensures cause { HasCause (L.faults link.old) (L.faults link.new) result }
         ensures sure { StaysSure (L.sure link.old) (L.sure link.new) (L.faults link.old) (L.faults link.new) }
+        ensures still { OnOk result (L.faults link.new ≡ L.faults link.old) }
     {
         if left == 0 {
             return Ok(Went {
@@ -109,10 +116,12 @@ impl Live {
     fn tick_all<L: Link>(self, alloc: Global, link: &mut L, nodes: &[NodeId]) -> Result<Went, IoErr>
         requires { IsWorld all_kinds self.world }
         ensures kept { IfOk result (λ w. IsWorld all_kinds w.live.world) }
-        ensures ticked { (h : Header) (first : Option (List Sent)) (l : live) → Keeps h first (L.sent link.old) self l → IfOk result (λ w. KeepsRan h first (L.sent link.new) w (ticked nodes.now l)) }
+        ensures ticked { (h : Header) (first : Carried) (l : live) → Keeps h first (carried (L.sent link.old) (L.acts link.old)) self l → IfOk result (λ w. KeepsRan h first (carried (L.sent link.new) (L.acts link.new)) w (ticked nodes.now l)) }
+        ensures broken { (h : Header) (first : Carried) (l : live) → Keeps h first (carried (L.sent link.old) (L.acts link.old)) self l → OnErr result (GrowsFront first.acts (ticked nodes.now l).live.acts (L.acts link.new)) }
         ensures handed { L.handed link.new ≡ L.handed link.old }
         ensures cause { HasCause (L.faults link.old) (L.faults link.new) result }
         ensures sure { StaysSure (L.sure link.old) (L.sure link.new) (L.faults link.old) (L.faults link.new) }
+        ensures still { OnOk result (L.faults link.new ≡ L.faults link.old) }
     {
         match nodes {
             [] => Ok(Went {

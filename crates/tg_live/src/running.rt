@@ -1,22 +1,25 @@
 //! A live run, line by line of its script.
 
-ghost use Rattle.std.specs.Prelude.{◌≡◌, ◌+◌, ◌<◌, ℕ, false, List, Option, Some, length, IfOk, IfSome};
+ghost use Rattle.std.specs.Prelude.{◌≡◌, ◌+◌, ◌<◌, ℕ, false, List, Option, Some, length, IfOk, IfSome, IsErrOf, OnOk, OnErr};
 ghost use Rattle.tg_base.specs.Clusters.{Header};
 ghost use Rattle.tg_io.specs.Faults.{HasCause, StaysSure};
-ghost use Rattle.tg_io.specs.declared.link.Sent.{Sent};
-ghost use Rattle.tg_lines.specs.Lines.{ahead, TakesLine};
-ghost use Rattle.tg_lines.specs.Openings.{Opened};
+ghost use Rattle.tg_lines.specs.Feeds.{NoneOutside, TakesFeeds};
+ghost use Rattle.tg_lines.specs.Lines.{ahead, lines, TakesLine};
+ghost use Rattle.tg_lines.specs.Openings.{Opened, IsNoLine};
 ghost use Rattle.tg_any.specs.AllKinds.{all_kinds};
 ghost use Rattle.tg_script.specs.Lines.{IsLine};
 ghost use Rattle.tg_script.specs.declared.line.Line.{Line as event_line};
 ghost use Rattle.tg_world.specs.Kept.{IsWorld};
 ghost use Rattle.tg_live.specs.Causes.{of_source, of_link, HasCauses, HasReadCause, HasLinkCause};
 ghost use Rattle.tg_live.specs.Kept.{Keeps, Made};
+ghost use Rattle.tg_live.specs.Breaks.{Broken, BreaksOff, BrokenOff, IsDone};
+ghost use Rattle.tg_live.specs.Sends.{Carried, carried};
 ghost use Rattle.tg_live.specs.Lives.{Live as live, IsFed};
-ghost use Rattle.tg_live.specs.Scripts.{is_delivery};
+ghost use Rattle.tg_live.specs.Scripts.{IsOutsideAt, is_delivery};
 ghost use Rattle.tg_live.specs.declared.live.Went.{Went as went_so};
+ghost use Rattle.tg_live.specs.declared.stages.Stop.TheVariants.{Read, Carry};
 ghost use Rattle.tg_live.specs.declared.stages.Running.{Running as running};
-ghost use Rattle.tg_live.specs.Stages.{Finished, Reads, IsOutside, IsAfter, GoesOnKept, Handed, Carried, over, Feeds};
+ghost use Rattle.tg_live.specs.Stages.{Finished, Reads, IsOutside, IsAfter, GoesOnKept, Handed, over, Feeds};
 
 use crate::live::{Live, Went};
 use crate::stages::{Fed, Finish, Running, Stop};
@@ -34,10 +37,19 @@ pub(crate) fn run_script<S: Source, L: Link>(
     source: &mut S,
     link: &mut L,
 ) -> Result<Finish, Stop>
-    ensures finished { IfSome (S.left source.old) (λ text. IfOk result (Finished (over (L.handed link.old) (L.handed link.new) (L.sent link.old) (L.sent link.new)) text)) }
+    ensures finished { IfSome (S.left source.old) (λ text. IfOk result (Finished (over (L.handed link.old) (L.handed link.new) (carried (L.sent link.old) (L.acts link.old)) (carried (L.sent link.new) (L.acts link.new))) text)) }
+    // Where it is broken off, a front was done of what a live run does of lines with which the text begins, or nothing.
+    ensures broken { OnErr result (IfSome (S.left source.old) (λ text. IsDone text (L.acts link.old) (L.acts link.new))) }
     ensures causes { HasCauses (S.faults source.old) (S.faults source.new) (L.faults link.old) (L.faults link.new) result }
     ensures source { StaysSure (S.sure source.old) (S.sure source.new) (S.faults source.old) (S.faults source.new) }
+    // Neither count rises where no fault or want of memory ends it, nor that of the one where the other fails.
+    ensures still { IfOk result (λ finish. S.faults source.new ≡ S.faults source.old) }
+    ensures link_still { OnOk result (L.faults link.new ≡ L.faults link.old) }
+    ensures read_alone { IsErrOf result Read → L.faults link.new ≡ L.faults link.old }
+    ensures carry_alone { IsErrOf result Carry → S.faults source.new ≡ S.faults source.old }
     ensures link { StaysSure (L.sure link.old) (L.sure link.new) (L.faults link.old) (L.faults link.new) }
+    // Where the source fails, none of the lines that came whole is outside.
+    ensures first { IsErrOf result Read → IfSome (S.left source.old) (λ text. NoneOutside text (S.left source.new) (IsOutsideAt text)) }
 {
     let mut reader = LineReader::new();
     match open(alloc, &mut reader, source)? {
@@ -61,10 +73,16 @@ fn run_lines<S: Source, L: Link>(
     link: &mut L,
 ) -> Result<Finish, Stop>
     requires { IsWorld all_kinds running.live.world }
-    ensures finished { IfSome (ahead reader.old (S.left source.old)) (λ rest. (handed : Handed) (sent : Carried) (text : List ℕ) → Reads (over handed (L.handed link.old) sent (L.sent link.old)) text running rest → IfOk result (Finished (over handed (L.handed link.new) sent (L.sent link.new)) text)) }
+    ensures finished { IfSome (ahead reader.old (S.left source.old)) (λ rest. (handed : Handed) (before : Carried) (text : List ℕ) → Reads (over handed (L.handed link.old) before (carried (L.sent link.old) (L.acts link.old))) text running rest → IfOk result (Finished (over handed (L.handed link.new) before (carried (L.sent link.new) (L.acts link.new))) text)) }
+    ensures broken { OnErr result (IfSome (ahead reader.old (S.left source.old)) (λ rest. (handed : Handed) (first : Carried) (text : List ℕ) → Reads (over handed (L.handed link.old) first (carried (L.sent link.old) (L.acts link.old))) text running rest → BrokenOff text first.acts (L.acts link.new))) }
     ensures causes { HasCauses (S.faults source.old) (S.faults source.new) (L.faults link.old) (L.faults link.new) result }
     ensures source { StaysSure (S.sure source.old) (S.sure source.new) (S.faults source.old) (S.faults source.new) }
+    ensures still { IfOk result (λ finish. S.faults source.new ≡ S.faults source.old) }
+    ensures link_still { OnOk result (L.faults link.new ≡ L.faults link.old) }
+    ensures read_alone { IsErrOf result Read → L.faults link.new ≡ L.faults link.old }
+    ensures carry_alone { IsErrOf result Carry → S.faults source.new ≡ S.faults source.old }
     ensures link { StaysSure (L.sure link.old) (L.sure link.new) (L.faults link.old) (L.faults link.new) }
+    ensures first { IsErrOf result Read → IfSome (ahead reader.old (S.left source.old)) (λ rest. (handed : Handed) (before : Carried) (text : List ℕ) → Reads (over handed (L.handed link.old) before (carried (L.sent link.old) (L.acts link.old))) text running rest → NoneOutside text (S.left source.new) (IsOutsideAt text)) }
 {
     let mut running = running;
     while let Some(line) = next_line(alloc, reader, source)? {
@@ -83,7 +101,10 @@ fn run_lines<S: Source, L: Link>(
 fn open<S: Source>(alloc: Global, reader: &mut LineReader, source: &mut S) -> Result<Opening, Stop>
     ensures opened { IfOk result (Opened (ahead reader.old (S.left source.old)) (ahead reader.new (S.left source.new))) }
     ensures cause { HasReadCause (S.faults source.old) (S.faults source.new) result }
+    ensures still { IfOk result (λ opening. S.faults source.new ≡ S.faults source.old) }
     ensures sure { StaysSure (S.sure source.old) (S.sure source.new) (S.faults source.old) (S.faults source.new) }
+    ensures feeds { IfOk result (λ opening. TakesFeeds 3 (ahead reader.old (S.left source.old)) (ahead reader.new (S.left source.new))) }
+    ensures first { IsErrOf result Read → IfSome (ahead reader.old (S.left source.old)) (λ text. NoneOutside text (S.left source.new) (IsNoLine (lines text))) }
 {
     match read_header(alloc, reader, source) {
         Ok(opening) => Ok(opening),
@@ -100,7 +121,10 @@ fn next_line<S: Source>(
     ensures line { IfOk result (TakesLine (ahead reader.old (S.left source.old)) (ahead reader.new (S.left source.new))) }
     ensures less { IfOk result (λ line. IfSome line (λ l. length reader.new + S.room source.new < length reader.old + S.room source.old)) }
     ensures cause { HasReadCause (S.faults source.old) (S.faults source.new) result }
+    ensures still { IfOk result (λ line. S.faults source.new ≡ S.faults source.old) }
     ensures sure { StaysSure (S.sure source.old) (S.sure source.new) (S.faults source.old) (S.faults source.new) }
+    ensures feeds { IfOk result (λ line. TakesFeeds 1 (ahead reader.old (S.left source.old)) (ahead reader.new (S.left source.new))) }
+    ensures first { IsErrOf result Read → TakesFeeds 0 (ahead reader.old (S.left source.old)) (S.left source.new) }
 {
     match reader.next(alloc, source) {
         Ok(line) => Ok(line),
@@ -133,9 +157,11 @@ impl Running {
     fn fed<L: Link>(self, alloc: Global, link: &mut L, line: &[u8]) -> Result<Fed, Stop>
         requires { IsWorld all_kinds self.live.world }
         ensures kept { IfOk result GoesOnKept }
-        ensures took { IfOk result (Feeds self line.now (L.handed link.old) (L.handed link.new) (L.sent link.old) (L.sent link.new)) }
+        ensures took { IfOk result (Feeds self line.now (L.handed link.old) (L.handed link.new) (carried (L.sent link.old) (L.acts link.old)) (carried (L.sent link.new) (L.acts link.new))) }
+        ensures broken { OnErr result (BreaksOff self line.now (L.handed link.old) (carried (L.sent link.old) (L.acts link.old)) (L.acts link.new)) }
         ensures cause { HasLinkCause (L.faults link.old) (L.faults link.new) result }
         ensures sure { StaysSure (L.sure link.old) (L.sure link.new) (L.faults link.old) (L.faults link.new) }
+        ensures still { OnOk result (L.faults link.new ≡ L.faults link.old) }
     {
         match self.feed(alloc, link, line) {
             Ok(fed) => Ok(fed),
@@ -147,9 +173,11 @@ impl Running {
     fn feed<L: Link>(self, alloc: Global, link: &mut L, line: &[u8]) -> Result<Fed, IoErr>
         requires { IsWorld all_kinds self.live.world }
         ensures kept { IfOk result GoesOnKept }
-        ensures took { IfOk result (Feeds self line.now (L.handed link.old) (L.handed link.new) (L.sent link.old) (L.sent link.new)) }
+        ensures took { IfOk result (Feeds self line.now (L.handed link.old) (L.handed link.new) (carried (L.sent link.old) (L.acts link.old)) (carried (L.sent link.new) (L.acts link.new))) }
+        ensures broken { OnErr result (BreaksOff self line.now (L.handed link.old) (carried (L.sent link.old) (L.acts link.old)) (L.acts link.new)) }
         ensures cause { HasCause (L.faults link.old) (L.faults link.new) result }
         ensures sure { StaysSure (L.sure link.old) (L.sure link.new) (L.faults link.old) (L.faults link.new) }
+        ensures still { OnOk result (L.faults link.new ≡ L.faults link.old) }
     {
         let Some(event) = live_line(alloc, &self.live.cluster, line)? else {
             return Ok(self.outside()?);
@@ -161,9 +189,11 @@ impl Running {
     fn take<L: Link>(self, alloc: Global, link: &mut L, line: Line) -> Result<Fed, IoErr>
         requires { IsWorld all_kinds self.live.world }
         ensures kept { IfOk result GoesOnKept }
-        ensures made { IfOk result (λ f. (h : Header) (first : Option (List Sent)) (l : live) → Keeps h first (L.sent link.old) self.live l → (w : went_so) × Made (IsFed line) h first (L.sent link.new) (L.handed link.old) (L.handed link.new) l w × IsAfter self w f) }
+        ensures made { IfOk result (λ f. (h : Header) (first : Carried) (l : live) → Keeps h first (carried (L.sent link.old) (L.acts link.old)) self.live l → (w : went_so) × Made (IsFed line) h first (carried (L.sent link.new) (L.acts link.new)) (L.handed link.old) (L.handed link.new) l w × IsAfter self w f) }
+        ensures broken { OnErr result ((h : Header) (first : Carried) (l : live) → Keeps h first (carried (L.sent link.old) (L.acts link.old)) self.live l → Broken (IsFed line) first.acts (L.acts link.new) l) }
         ensures cause { HasCause (L.faults link.old) (L.faults link.new) result }
         ensures sure { StaysSure (L.sure link.old) (L.sure link.new) (L.faults link.old) (L.faults link.new) }
+        ensures still { OnOk result (L.faults link.new ≡ L.faults link.old) }
     {
         let Running { live, lines } = self;
         let lines = lines.checked_add(1).ok_or(NoMemory)?;
@@ -203,9 +233,11 @@ impl Live {
     fn play<L: Link>(self, alloc: Global, link: &mut L, line: Line) -> Result<Went, IoErr>
         requires { IsWorld all_kinds self.world }
         ensures kept { IfOk result (λ w. IsWorld all_kinds w.live.world) }
-        ensures fed { (h : Header) (first : Option (List Sent)) (l : live) → Keeps h first (L.sent link.old) self l → IfOk result (Made (IsFed line) h first (L.sent link.new) (L.handed link.old) (L.handed link.new) l) }
+        ensures fed { (h : Header) (first : Carried) (l : live) → Keeps h first (carried (L.sent link.old) (L.acts link.old)) self l → IfOk result (Made (IsFed line) h first (carried (L.sent link.new) (L.acts link.new)) (L.handed link.old) (L.handed link.new) l) }
+        ensures broken { (h : Header) (first : Carried) (l : live) → Keeps h first (carried (L.sent link.old) (L.acts link.old)) self l → OnErr result (Broken (IsFed line) first.acts (L.acts link.new) l) }
         ensures cause { HasCause (L.faults link.old) (L.faults link.new) result }
         ensures sure { StaysSure (L.sure link.old) (L.sure link.new) (L.faults link.old) (L.faults link.new) }
+        ensures still { OnOk result (L.faults link.new ≡ L.faults link.old) }
     {
         match line {
             Line::Drain => self.drain(alloc, link),

@@ -1,7 +1,8 @@
 //! Packets that go over a link.
 
-ghost use Rattle.std.specs.Prelude.{◌≡◌, ◌≤◌, ◌++◌, ◌∷◌, [], ℕ, List, true, length, IfOk, OnOk};
+ghost use Rattle.std.specs.Prelude.{◌≡◌, ◌≤◌, ◌++◌, ◌∷◌, [], ℕ, List, true, length, IfOk, OnOk, OnErr};
 ghost use Rattle.tg_base.specs.declared.packet.Packet.{Packet};
+ghost use Rattle.tg_io.specs.Acts.{Goes};
 ghost use Rattle.tg_io.specs.Faults.{HasCause, StaysSure};
 ghost use Rattle.tg_io.specs.Links.{Adds};
 ghost use Rattle.tg_live.specs.Books.{IsBook};
@@ -40,9 +41,12 @@ pub(crate) fn send<L: Link>(
     ensures fits { OnOk result (packet.fits value.now ≡ true) }
     ensures noted { (ps : List Packet) (delivered : List ℕ) → AreFit ps → IsBook book.old (spellings ps) delivered → OnOk result (IsBook book.new (spellings (ps ++ value.now ∷ [])) delivered) }
     ensures sent { OnOk result (Adds (L.sent link.old) (sending value.now) (L.sent link.new)) }
+    ensures act { OnOk result (Adds (L.acts link.old) (Goes (sending value.now)) (L.acts link.new)) }
+    ensures no_act { OnErr result (L.acts link.new ≡ L.acts link.old) }
     ensures handed { L.handed link.new ≡ L.handed link.old }
     ensures cause { HasCause (L.faults link.old) (L.faults link.new) result }
     ensures sure { StaysSure (L.sure link.old) (L.sure link.new) (L.faults link.old) (L.faults link.new) }
+    ensures still { OnOk result (L.faults link.new ≡ L.faults link.old) }
 {
     let datagram = spelled(alloc, value)?;
     no_spelling_begins_another();

@@ -1,5 +1,4 @@
-use Rattle.std.proofs.Common.{◌≡◌, ◌∙◌, true, false, Some, None, sym, ap}
-use Rattle.tg_script.specs.declared.line.Line.{Line}
+use Rattle.std.proofs.Common.{◌≡◌, ◌∙◌, true, Some, sym, ap}
 use Rattle.tg_live.specs.Scripts.{is_delivery}
 use Rattle.tg_live.proofs.running.live_line.Goals as goal
 

@@ -1,10 +1,9 @@
 use Rattle.std.proofs.Common.{◌≡◌, ◌∙◌, ℕ, List, [], ◌∷◌, ◌++◌, sym, subst}
-use Rattle.tg_base.specs.declared.ids.NodeId.{NodeId}
 use Rattle.tg_live.specs.Books.{IsBook, GoesTo}
 use Rattle.tg_live.specs.Matching.{Sent as Datagrams}
 use Rattle.tg_wire.specs.Packets.{packet}
 use Rattle.tg_live.specs.Sends.{spellings}
-use Rattle.tg_live.proofs.Packets.{goes_to, spellings_more, on_ok_any, sent_next, made_over}
+use Rattle.tg_live.proofs.Packets.{goes_to, spellings_more, on_ok_any}
 use Rattle.tg_live.proofs.sending.send.Goals as goal
 
 pub returns-clause-noted : goal.returns-clause-noted
