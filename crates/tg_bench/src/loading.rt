@@ -1,6 +1,6 @@
 //! A made load is run as a replay runs its script, and the summary of its run is written.
 
-ghost use Rattle.std.specs.Prelude.{◌≡◌, ◌⊎◌, ℕ, List, Some, IfOk, IsErrOf};
+ghost use Rattle.std.specs.Prelude.{◌≡◌, ◌≢◌, ◌≤◌, ◌⊎◌, ℕ, List, Some, IfOk, IsErrOf};
 ghost use Rattle.tg_base.specs.declared.fault.Which.{Which};
 ghost use Rattle.tg_io.specs.Bytes.{Takes};
 ghost use Rattle.tg_io.specs.Faults.{Rose, StaysSure};
@@ -39,6 +39,9 @@ pub fn bench<K: Sink>(alloc: Global, start: u64, count: u32, sink: &mut K) -> St
     // Without a fault each load has its status, unless memory runs out.
     ensures complete { (Rose (K.faults sink.old) (K.faults sink.new) → ⊥) → IsWithin (load start count) → (result ≡ Done) ⊎ (result ≡ OutOfMemory) }
     ensures limits { (Rose (K.faults sink.old) (K.faults sink.new) → ⊥) → (which : Which) → (run_of (load start count)).stopped ≡ Some which → (result ≡ Limit which) ⊎ (result ≡ OutOfMemory) }
+    // The count of faults doesn't fall, and rises only where a fault, or want of memory, is answered.
+    ensures write_later { K.faults sink.old ≤ K.faults sink.new }
+    ensures write_still { result ≢ WriteFault → result ≢ OutOfMemory → K.faults sink.new ≡ K.faults sink.old }
     // What is sure never to fail stays so.
     ensures sink { StaysSure (K.sure sink.old) (K.sure sink.new) (K.faults sink.old) (K.faults sink.new) }
 {
@@ -49,6 +52,8 @@ pub fn bench<K: Sink>(alloc: Global, start: u64, count: u32, sink: &mut K) -> St
 fn run_and_write<K: Sink>(alloc: Global, start: u64, count: u32, sink: &mut K) -> Status
     ensures written { Written (load start count) result (K.written sink.old) (K.written sink.new) }
     ensures write_fault { result ≡ WriteFault → Rose (K.faults sink.old) (K.faults sink.new) }
+    ensures write_later { K.faults sink.old ≤ K.faults sink.new }
+    ensures write_still { result ≢ WriteFault → result ≢ OutOfMemory → K.faults sink.new ≡ K.faults sink.old }
     ensures sink { StaysSure (K.sure sink.old) (K.sure sink.new) (K.faults sink.old) (K.faults sink.new) }
 {
     match run_load(alloc, start, count) {
@@ -72,6 +77,8 @@ fn run_load(alloc: Global, start: u64, count: u32) -> Result<Finish, IoErr>
 fn report<K: Sink>(alloc: Global, finish: Finish, sink: &mut K) -> Status
     ensures written { (s : Script) (text : List ℕ) → IsScript s → Tells text s → Finished text finish → Written s result (K.written sink.old) (K.written sink.new) }
     ensures write_fault { result ≡ WriteFault → Rose (K.faults sink.old) (K.faults sink.new) }
+    ensures write_later { K.faults sink.old ≤ K.faults sink.new }
+    ensures write_still { result ≢ WriteFault → result ≢ OutOfMemory → K.faults sink.new ≡ K.faults sink.old }
     ensures sink { StaysSure (K.sure sink.old) (K.sure sink.new) (K.faults sink.old) (K.faults sink.new) }
 {
     let Ok(text) = text_of(alloc, &finish.run) else {
