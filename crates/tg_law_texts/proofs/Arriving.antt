@@ -1,5 +1,5 @@
 -- The live run of a script in which a transaction commits, over a link that hands each packet over once.
-use Rattle.std.proofs.Common.{◌≡◌, ℕ, zero, suc, ◌<◌, List, [], ◌∷◌, ◌++◌, length, map, Option, Some, None, refl, sym, ap, ◌∙◌, subst, arith}
+use Rattle.std.proofs.Common.{◌≡◌, ℕ, zero, suc, ◌<◌, List, [], ◌∷◌, ◌++◌, length, map, drop, Option, Some, None, refl, sym, ap, ◌∙◌, subst, arith}
 use Rattle.std.specs.Prelude.{true, slice_get, slice_index_or}
 use Rattle.std.specs.Fmt.{digits}
 use Rattle.tg_base.specs.declared.fault.Which.{Which}
@@ -46,16 +46,17 @@ use Rattle.std.proofs.lemmas.List.{append-nil}
 use Rattle.tg_base.specs.declared.ids.NodeId.{NodeId}
 use Rattle.tg_base.specs.declared.msg.Msg.TheVariants as msg
 use Rattle.tg_base.specs.declared.packet.Packet.{Packet}
+use Rattle.tg_io.specs.Acts.{Act, Comes}
 use Rattle.tg_io.specs.declared.link.Arrival.{Arrival}
 use Rattle.tg_wire.specs.Packets.{packet}
 use Rattle.tg_wire.specs.Messages as wire
 use Rattle.tg_live.specs.Matching.{matched}
-use Rattle.tg_live.specs.Sends.{sending, spellings}
-use Rattle.tg_live.specs.Lives.{Answer, Live, LiveRan, IsLived, IsDrained, Follows, recorded, recorded_by, after_line, came, came_by, received, opened, goes}
+use Rattle.tg_live.specs.Sends.{all_gone, sending, spellings}
+use Rattle.tg_live.specs.Lives.{Answer, Live, LiveRan, IsLived, IsDrained, Follows, recorded, recorded_by, after_line, came, came_by, heard, received, opened, goes}
 use Rattle.tg_live.specs.Scripts.{IsLiveLine, IsLiveScript, IsRecorded, RunsOver, printed}
 use Rattle.tg_live.specs.Scripts as lives
 use Rattle.tg_live.specs.Headline.{TrueLive}
-use Rattle.tg_law_texts.specs.Texts.{cluster, counter, five, adds, adding_script, deliver, adds_recorded, brings, link, busy_link, adding_recording}
+use Rattle.tg_law_texts.specs.Texts.{cluster, counter, five, adds, adding_script, deliver, adds_recorded, brings, by_turns, link, busy_link, adding_recording}
 use Rattle.tg_law_texts.proofs.Small.{some_same}
 use Rattle.tg_law_texts.proofs.Committed.{IsDone, replies, done, noted, record_of, done_holds}
 use Rattle.tg_law_texts.proofs.Replays.{header}
@@ -109,6 +110,11 @@ record Way : Type 0 where
   second : matched (spellings x4.packets) (0 ∷ []) (nth 1).to (packet.spell (nth 1)) ≡ Some 1
   third : matched (spellings x5.packets) (1 ∷ 0 ∷ []) (nth 2).to (packet.spell (nth 2)) ≡ Some 2
   fourth : matched (spellings x6.packets) (2 ∷ 1 ∷ 0 ∷ []) (nth 3).to (packet.spell (nth 3)) ≡ Some 3
+  gone_3 : drop (length (start all_kinds cluster).packets) w3.packets ≡ nth 0 ∷ []
+  gone_4 : drop (length w3.packets) x4.packets ≡ nth 1 ∷ []
+  gone_5 : drop (length x4.packets) x5.packets ≡ nth 2 ∷ []
+  gone_6 : drop (length x5.packets) x6.packets ≡ nth 3 ∷ []
+  gone_7 : drop (length x6.packets) x7.packets ≡ []
 
 way : Way
 unfolding u8_at u16_at u32_at u64_at raw_at fixed_at read_many spell_many fit_many marks reads writes keys new_fields old_fields body entry node_eq bytes_eq bytes_lt part_lt cell_eq chain_of units_of new_unit unit_ask first_missing on_ask unit_step new_layout reply work_asks put_cell work_feed cell_feed entry_size needs_decision page_of entry_of new_seqr seqr_step append_work_asks append_start append_feed verdict read_fault write_fault commit_record new_client entries_at tests refusal appends task_asks client_asks task_feed accepts client_command client_deliver fields_size decided newest log_of entries_of changes_below outcome history_of start latest log history unit_moves seqr_moves client_turned happens limit_of drain_on drain run lines_on first spelled read touched packet wire.message wire.token wire.issued wire.write wire.held
@@ -127,54 +133,70 @@ way = record {
   second = refl;
   third = refl;
   fourth = refl;
+  gone_3 = refl;
+  gone_4 = refl;
+  gone_5 = refl;
+  gone_6 = refl;
+  gone_7 = refl;
 }
 
 -- Steps of a live run.
 
-records : (l : Live) (x : Line) (w : Worlds) → limit_of all_kinds l.world ≡ None → line_on l.world x ≡ ran all_kinds w None → recorded l x ≡ goes (record l { world = w; lines = l.lines ++ x ∷ [] })
+-- after a line's steps
+abbrev goes_on : Live → Line → Worlds → Live
+goes_on l x w = record l { world = w; lines = l.lines ++ x ∷ []; acts = l.acts ++ all_gone (drop (length l.world.packets) w.packets) }
+
+records : (l : Live) (x : Line) (w : Worlds) → limit_of all_kinds l.world ≡ None → line_on l.world x ≡ ran all_kinds w None → recorded l x ≡ goes (goes_on l x w)
 unfolding recorded
 records l x w h g = ap (λ (o : Option Which). recorded_by o l x) h ∙ ap (λ (r : Runs). after_line l x r) g
 
 arrives : (l : Live) (to : NodeId) (d : List ℕ) (i : ℕ) (w : Worlds) → matched (spellings l.world.packets) l.delivered to d ≡ Some i → limit_of all_kinds l.world ≡ None
-    → happens_on all_kinds (next_event all_kinds l.world) (event.Deliver i) ≡ ran all_kinds w None → came l to d ≡ goes (record l { world = w; lines = l.lines ++ deliver i ∷ []; delivered = i ∷ l.delivered })
+    → happens_on all_kinds (next_event all_kinds l.world) (event.Deliver i) ≡ ran all_kinds w None → came l to d ≡ goes (goes_on (record l { delivered = i ∷ l.delivered }) (deliver i) w)
 arrives l to d i w m h g = ap (λ (o : Option ℕ). came_by o l) m ∙ records (record l { delivered = i ∷ l.delivered }) (deliver i) w h g
-
-abbrev l3 : Live
-l3 = record { world = w3; lines = line.Update 0 counter five ∷ []; delivered = []; received = 0 }
-
-abbrev l4 : Live
-l4 = record { world = x4; lines = l3.lines ++ deliver 0 ∷ []; delivered = 0 ∷ []; received = 1 }
-
-abbrev l5 : Live
-l5 = record { world = x5; lines = l4.lines ++ deliver 1 ∷ []; delivered = 1 ∷ 0 ∷ []; received = 2 }
-
-abbrev l6 : Live
-l6 = record { world = x6; lines = l5.lines ++ deliver 2 ∷ []; delivered = 2 ∷ 1 ∷ 0 ∷ []; received = 3 }
-
-abbrev l7 : Live
-l7 = record { world = x7; lines = l6.lines ++ deliver 3 ∷ []; delivered = 3 ∷ 2 ∷ 1 ∷ 0 ∷ []; received = 4 }
-
-updated : recorded (opened cluster) (line.Update 0 counter five) ≡ goes l3
-updated = records (opened cluster) (line.Update 0 counter five) w3 way.limit_0 updates
-
-hands_on : (a : Arrival) (rest : List Answer) (l k : Live) (end : LiveRan) → l.received < 1000000 → came (received l) a.to a.datagram ≡ goes k → IsDrained rest k end → IsDrained (Some a ∷ rest) l end
-hands_on a rest l k end few h d = (few, subst (λ (r : LiveRan). Follows r.stopped r rest end (IsDrained rest r.live end)) (sym h) d)
 
 abbrev brought : ℕ → Arrival
 brought i = record { to = (nth i).to; datagram = packet.spell (nth i) }
 
-drained : IsDrained (brings (nth 0) ∷ brings (nth 1) ∷ brings (nth 2) ∷ brings (nth 3) ∷ None ∷ []) l3 (goes l7)
+-- after the packet with this number has come
+abbrev on : ℕ → Live → Worlds → Live
+on i l w = goes_on (record (received l (brought i)) { delivered = i ∷ l.delivered }) (deliver i) w
+
+abbrev l3 : Live
+l3 = goes_on (opened cluster) (line.Update 0 counter five) w3
+
+abbrev l4 : Live
+l4 = on 0 l3 x4
+
+abbrev l5 : Live
+l5 = on 1 l4 x5
+
+abbrev l6 : Live
+l6 = on 2 l5 x6
+
+abbrev l7 : Live
+l7 = on 3 l6 x7
+
+abbrev l8 : Live
+l8 = heard l7 None
+
+updated : recorded (opened cluster) (line.Update 0 counter five) ≡ goes l3
+updated = records (opened cluster) (line.Update 0 counter five) w3 way.limit_0 updates
+
+hands_on : (a : Arrival) (rest : List Answer) (l k : Live) (end : LiveRan) → l.received < 1000000 → came (received l a) a.to a.datagram ≡ goes k → IsDrained rest k end → IsDrained (Some a ∷ rest) l end
+hands_on a rest l k end few h d = (few, subst (λ (r : LiveRan). Follows r.stopped r rest end (IsDrained rest r.live end)) (sym h) d)
+
+drained : IsDrained (brings (nth 0) ∷ brings (nth 1) ∷ brings (nth 2) ∷ brings (nth 3) ∷ None ∷ []) l3 (goes l8)
 drained =
-    hands_on (brought 0) (brings (nth 1) ∷ brings (nth 2) ∷ brings (nth 3) ∷ None ∷ []) l3 l4 (goes l7) (omega arith) (arrives (received l3) (nth 0).to (packet.spell (nth 0)) 0 x4 way.first way.limit_3 (steps v4 (event.Deliver 0) way.next_3))
-    (hands_on (brought 1) (brings (nth 2) ∷ brings (nth 3) ∷ None ∷ []) l4 l5 (goes l7) (omega arith) (arrives (received l4) (nth 1).to (packet.spell (nth 1)) 1 x5 way.second way.limit_4 (steps v5 (event.Deliver 1) way.next_4))
-    (hands_on (brought 2) (brings (nth 3) ∷ None ∷ []) l5 l6 (goes l7) (omega arith) (arrives (received l5) (nth 2).to (packet.spell (nth 2)) 2 x6 way.third way.limit_5 (steps v6 (event.Deliver 2) way.next_5))
-    (hands_on (brought 3) (None ∷ []) l6 l7 (goes l7) (omega arith) (arrives (received l6) (nth 3).to (packet.spell (nth 3)) 3 x7 way.fourth way.limit_6 (steps v7 (event.Deliver 3) way.next_6))
+    hands_on (brought 0) (brings (nth 1) ∷ brings (nth 2) ∷ brings (nth 3) ∷ None ∷ []) l3 l4 (goes l8) (omega arith) (arrives (received l3 (brought 0)) (nth 0).to (packet.spell (nth 0)) 0 x4 way.first way.limit_3 (steps v4 (event.Deliver 0) way.next_3))
+    (hands_on (brought 1) (brings (nth 2) ∷ brings (nth 3) ∷ None ∷ []) l4 l5 (goes l8) (omega arith) (arrives (received l4 (brought 1)) (nth 1).to (packet.spell (nth 1)) 1 x5 way.second way.limit_4 (steps v5 (event.Deliver 1) way.next_4))
+    (hands_on (brought 2) (brings (nth 3) ∷ None ∷ []) l5 l6 (goes l8) (omega arith) (arrives (received l5 (brought 2)) (nth 2).to (packet.spell (nth 2)) 2 x6 way.third way.limit_5 (steps v6 (event.Deliver 2) way.next_5))
+    (hands_on (brought 3) (None ∷ []) l6 l7 (goes l8) (omega arith) (arrives (received l6 (brought 3)) (nth 3).to (packet.spell (nth 3)) 3 x7 way.fourth way.limit_6 (steps v7 (event.Deliver 3) way.next_6))
     (omega arith, refl, refl))))
 
 answers : List Answer
 answers = map brings x7.packets ++ None ∷ []
 
-lived_over : IsLived adds.events answers (opened cluster) (goes l7)
+lived_over : IsLived adds.events answers (opened cluster) (goes l8)
 unfolding answers
 lived_over = record {
   taken = [];
@@ -182,7 +204,7 @@ lived_over = record {
   dealt = refl;
   middle = goes l3;
   before = (refl, sym updated);
-  after = record { taken = answers; rest = []; dealt = sym (append-nil answers); middle = goes l7; before = subst (λ (ps : List Packet). IsDrained (map brings ps ++ None ∷ []) l3 (goes l7)) (sym way.packets) drained; after = (refl, refl) };
+  after = record { taken = answers; rest = []; dealt = sym (append-nil answers); middle = goes l8; before = subst (λ (ps : List Packet). IsDrained (map brings ps ++ None ∷ []) l3 (goes l8)) (sym way.packets) drained; after = (refl, refl) };
 }
 
 -- Its recording.
@@ -202,35 +224,6 @@ runs_so =
 
 world_is : world_of adds_recorded ≡ x7
 world_is = ap (λ (r : Runs). r.world) runs_so
-
-recorded_so : IsRecorded cluster l7
-recorded_so = record { world = world_is; within = ap (λ (r : Runs). r.stopped) runs_so }
-
-live_each : (P : Line → Type 0) → P (line.Update 0 counter five) → P line.Drain → (k : ℕ) (l : Line) → slice_get adds.events k ≡ Some l → P l
-live_each P h g zero l e = subst P (some_same (line.Update 0 counter five) l e) h
-live_each P h g (suc zero) l e = subst P (some_same line.Drain l e) g
-live_each P h g (suc (suc k)) l e = absurd cc
-
-live_lawful : IsLiveScript adds
-live_lawful = record { header = header; each = λ k l e. live_each (IsLiveLine cluster) (record { line = update_fits; free = refl }) (record { line = drain_fits; free = refl }) k l e }
-
-runs_over : RunsOver busy_link adds (goes l7)
-unfolding answers
-runs_over = record {
-  answers = map brings (world_of adds_recorded).packets ++ None ∷ [];
-  lived = subst (λ (w : Worlds). IsLived adds.events (map brings w.packets ++ None ∷ []) (opened cluster) (goes l7)) (sym world_is) lived_over;
-  took = refl;
-  sends = ap (λ (w : Worlds). Some (map sending w.packets)) world_is;
-}
-
-live_printed : adding_recording ≡ printed cluster l7
-unfolding u8_at u16_at u32_at u64_at raw_at fixed_at read_many spell_many fit_many marks reads writes keys new_fields old_fields body entry node_eq bytes_eq bytes_lt part_lt cell_eq chain_of units_of new_unit unit_ask first_missing on_ask unit_step new_layout reply work_asks put_cell work_feed cell_feed entry_size needs_decision page_of entry_of new_seqr seqr_step append_work_asks append_start append_feed verdict read_fault write_fault commit_record new_client entries_at tests refusal appends task_asks client_asks task_feed accepts client_command client_deliver fields_size decided newest log_of entries_of changes_below outcome history_of start latest log history unit_moves seqr_moves client_turned happens limit_of drain_on drain run lines_on first spelled read touched rendered digits
-live_printed = refl
-
-live_replayed : lives.Replayed busy_link adding_script adding_recording
-live_replayed = record { script = adds; lawful = live_lawful; tells = adding_tells; end = l7; run = runs_over; recorded = recorded_so; printed = live_printed }
-
--- Its run.
 
 fits_0 : IsLine cluster (deliver 0)
 unfolding digits
@@ -297,6 +290,43 @@ comes (suc (suc (suc (suc (suc k))))) l e = absurd cc
 
 lawful_recorded : IsScript adds_recorded
 lawful_recorded = record { header = header; each = each_line; comes = comes }
+
+recorded_so : IsRecorded cluster l8
+recorded_so = record { script = lawful_recorded; world = world_is; within = ap (λ (r : Runs). r.stopped) runs_so }
+
+live_each : (P : Line → Type 0) → P (line.Update 0 counter five) → P line.Drain → (k : ℕ) (l : Line) → slice_get adds.events k ≡ Some l → P l
+live_each P h g zero l e = subst P (some_same (line.Update 0 counter five) l e) h
+live_each P h g (suc zero) l e = subst P (some_same line.Drain l e) g
+live_each P h g (suc (suc k)) l e = absurd cc
+
+live_lawful : IsLiveScript adds
+live_lawful = record { header = header; each = λ k l e. live_each (IsLiveLine cluster) (record { line = update_fits; free = refl }) (record { line = drain_fits; free = refl }) k l e }
+
+-- what was done with the link, by what each step has sent
+abbrev acts_by : List Packet → List Packet → List Packet → List Packet → List Packet → List Act
+acts_by a b c d e = (((((((((all_gone a ++ Comes (Some (brought 0)) ∷ []) ++ all_gone b) ++ Comes (Some (brought 1)) ∷ []) ++ all_gone c) ++ Comes (Some (brought 2)) ∷ []) ++ all_gone d) ++ Comes (Some (brought 3)) ∷ []) ++ all_gone e) ++ Comes None ∷ [])
+
+done_so : l8.acts ≡ by_turns x7.packets
+done_so = (λ i. acts_by (way.gone_3 i) (way.gone_4 i) (way.gone_5 i) (way.gone_6 i) (way.gone_7 i)) ∙ ap by_turns (sym way.packets)
+
+runs_over : RunsOver busy_link adds (goes l8)
+unfolding answers
+runs_over = record {
+  answers = map brings (world_of adds_recorded).packets ++ None ∷ [];
+  lived = subst (λ (w : Worlds). IsLived adds.events (map brings w.packets ++ None ∷ []) (opened cluster) (goes l8)) (sym world_is) lived_over;
+  took = refl;
+  sends = ap (λ (w : Worlds). Some (map sending w.packets)) world_is;
+  acts = ap (λ (w : Worlds). Some (by_turns w.packets)) world_is ∙ ap Some (sym done_so);
+}
+
+live_printed : adding_recording ≡ printed cluster l7
+unfolding u8_at u16_at u32_at u64_at raw_at fixed_at read_many spell_many fit_many marks reads writes keys new_fields old_fields body entry node_eq bytes_eq bytes_lt part_lt cell_eq chain_of units_of new_unit unit_ask first_missing on_ask unit_step new_layout reply work_asks put_cell work_feed cell_feed entry_size needs_decision page_of entry_of new_seqr seqr_step append_work_asks append_start append_feed verdict read_fault write_fault commit_record new_client entries_at tests refusal appends task_asks client_asks task_feed accepts client_command client_deliver fields_size decided newest log_of entries_of changes_below outcome history_of start latest log history unit_moves seqr_moves client_turned happens limit_of drain_on drain run lines_on first spelled read touched rendered digits
+live_printed = refl
+
+live_replayed : lives.Replayed busy_link adding_script adding_recording
+live_replayed = record { script = adds; lawful = live_lawful; tells = adding_tells; end = l8; run = runs_over; recorded = recorded_so; printed = live_printed }
+
+-- Its run.
 
 abbrev moves : Moves all_kinds
 moves = Next ∷ Takes (event.Command 0 cmd.Begin) ∷ Takes (event.Command 0 (cmd.Put counter five)) ∷ Takes (event.Command 0 cmd.End)
@@ -373,6 +403,6 @@ unhanded_isnt h =
     let same : r.script ≡ adds = told_once adding_script r.script adds (is_script r.script r.lawful) adding_lawful r.tells adding_tells in
     let run : RunsOver link adds (goes r.end) = subst (λ (s : Script). RunsOver link s (goes r.end)) same r.run in
     let handed : run.answers ≡ None ∷ [] = some_same run.answers (None ∷ []) (sym run.took) in
-    let end : r.end ≡ l3 = fed_so (line.Update 0 counter five) l3 refl updated run.lived.taken run.lived.rest run.lived.middle r.end (sym handed ∙ run.lived.dealt) run.lived.before run.lived.after in
+    let end : r.end ≡ heard l3 None = fed_so (line.Update 0 counter five) l3 refl updated run.lived.taken run.lived.rest run.lived.middle r.end (sym handed ∙ run.lived.dealt) run.lived.before run.lived.after in
     let e : 254 ≡ length (printed cluster l3) = ap length (r.printed ∙ ap (λ (s : Script). printed s.header r.end) same ∙ ap (λ (l : Live). printed cluster l) end) in
     absurd (omega (arith, e, unhanded))

@@ -15,7 +15,7 @@ use Rattle.tg_script.specs.declared.line.Line.TheVariants as line
 use Rattle.tg_replay.specs.Runs.{Script, Worlds, IsScript, Tells, MayCome, front, lines_on, world_of}
 use Rattle.tg_replay.proofs.Exact.{told_once}
 use Rattle.tg_live.specs.Sends.{sending}
-use Rattle.tg_live.specs.Lives.{Answer, Live, LiveRan, IsLived, IsDrained, Makes, Follows, recorded, opened, goes}
+use Rattle.tg_live.specs.Lives.{Answer, Live, LiveRan, IsLived, IsDrained, Makes, Follows, heard, recorded, opened, goes}
 use Rattle.tg_live.specs.Scripts.{IsLiveLine, IsLiveScript, IsRecorded, RunsOver, Replayed, is_delivery, printed}
 use Rattle.tg_live.specs.Headline.{IsScripted, TrueLive}
 use Rattle.tg_law_texts.specs.Texts.{cluster, begin, begins, drains, live_script, link, unasked, recording_text, drain_recorded, lived, unrecorded}
@@ -39,8 +39,12 @@ live_tells = refl
 
 -- Its run.
 
-recorded_begin : recorded (opened cluster) begin ≡ goes lived
-unfolding recorded lines_on limit_of start happens client_turned
+-- before the drain
+abbrev begun : Live
+begun = record lived { acts = [] }
+
+recorded_begin : recorded (opened cluster) begin ≡ goes begun
+unfolding recorded lines_on limit_of start happens client_turned client_command refusal tests accepts new_client client_asks
 recorded_begin = refl
 
 is_lived : IsLived (begin ∷ line.Drain ∷ []) (None ∷ []) (opened cluster) (goes lived)
@@ -48,7 +52,7 @@ is_lived = record {
   taken = [];
   rest = None ∷ [];
   dealt = refl;
-  middle = goes lived;
+  middle = goes begun;
   before = (refl, sym recorded_begin);
   after = record { taken = None ∷ []; rest = []; dealt = refl; middle = goes lived; before = (omega arith, refl, refl); after = (refl, refl) };
 }
@@ -63,10 +67,11 @@ runs_over = record {
   lived = is_lived;
   took = refl;
   sends = ap (λ ps. Some (map sending ps)) (sym no_packets);
+  acts = refl;
 }
 
 is_recorded : IsRecorded cluster lived
-is_recorded = record { world = refl; within = within }
+is_recorded = record { script = lawful; world = refl; within = within }
 
 live_printed : recording_text ≡ printed cluster lived
 unfolding digits rendered lines_on limit_of start happens client_turned client_command refusal tests accepts new_client client_asks history log latest newest log_of entries_of history_of new_unit node_eq
@@ -103,22 +108,22 @@ is_script s h = record {
 
 -- A line that takes no answer, and then a drain.
 module _ (x : Line) (l : Live) (first : l.received ≡ 0) (after : recorded (opened cluster) x ≡ goes l) where
-  drained_so : (taken rest : List Answer) (middle : LiveRan) (last : Live) → None ∷ [] ≡ taken ++ rest → IsDrained taken l middle → Follows middle.stopped middle rest (goes last) (Makes goes rest middle.live (goes last)) → last ≡ l
+  drained_so : (taken rest : List Answer) (middle : LiveRan) (last : Live) → None ∷ [] ≡ taken ++ rest → IsDrained taken l middle → Follows middle.stopped middle rest (goes last) (Makes goes rest middle.live (goes last)) → last ≡ heard l None
   drained_so [] rest middle last e d f = let full : 1000000 ≤ l.received = d.0 in absurd (omega (arith, full, first))
   drained_so (Some a ∷ taken) rest middle last e d f = absurd cc
   drained_so (None ∷ taken) rest middle last e d f =
-      let then_so : Follows None (goes l) rest (goes last) (Makes goes rest l (goes last)) = subst (λ (r : LiveRan). Follows r.stopped r rest (goes last) (Makes goes rest r.live (goes last))) d.2 f in
+      let then_so : Follows None (goes (heard l None)) rest (goes last) (Makes goes rest (heard l None) (goes last)) = subst (λ (r : LiveRan). Follows r.stopped r rest (goes last) (Makes goes rest r.live (goes last))) d.2 f in
       ap (λ (r : LiveRan). r.live) then_so.1
 
   pub fed_so : (taken rest : List Answer) (middle : LiveRan) (last : Live) → None ∷ [] ≡ taken ++ rest → (taken ≡ []) × (middle ≡ recorded (opened cluster) x)
-      → Follows middle.stopped middle rest (goes last) (IsLived (line.Drain ∷ []) rest middle.live (goes last)) → last ≡ l
+      → Follows middle.stopped middle rest (goes last) (IsLived (line.Drain ∷ []) rest middle.live (goes last)) → last ≡ heard l None
   fed_so [] rest middle last e m f =
       let then_so : IsLived (line.Drain ∷ []) rest l (goes last) = subst (λ (r : LiveRan). Follows r.stopped r rest (goes last) (IsLived (line.Drain ∷ []) rest r.live (goes last))) (m.1 ∙ after) f in
       drained_so then_so.taken then_so.rest then_so.middle last (e ∙ then_so.dealt) then_so.before then_so.after
   fed_so (a ∷ taken) rest middle last e m f = absurd cc
 
 lived_so : (answers : List Answer) (last : Live) → answers ≡ None ∷ [] → IsLived (begin ∷ line.Drain ∷ []) answers (opened cluster) (goes last) → last ≡ lived
-lived_so answers last e h = fed_so begin lived refl recorded_begin h.taken h.rest h.middle last (sym e ∙ h.dealt) h.before h.after
+lived_so answers last e h = fed_so begin begun refl recorded_begin h.taken h.rest h.middle last (sym e ∙ h.dealt) h.before h.after
 
 only_recording : (out : List ℕ) → TrueLive link live_script out → out ≡ recording_text
 only_recording out h =
@@ -133,14 +138,14 @@ drain_isnt h =
     let e = ap length (only_recording drain_recorded h) in
     absurd (omega (arith, e))
 
-not_drained : (taken rest : List Answer) (middle : LiveRan) → [] ≡ taken ++ rest → IsDrained taken lived middle → ⊥
+not_drained : (taken rest : List Answer) (middle : LiveRan) → [] ≡ taken ++ rest → IsDrained taken begun middle → ⊥
 not_drained [] rest middle e d = let full : 1000000 ≤ 0 = d.0 in absurd (omega (arith, full))
 not_drained (a ∷ taken) rest middle e d = absurd cc
 
 not_fed : (taken rest : List Answer) (middle : LiveRan) (last : Live) → [] ≡ taken ++ rest → (taken ≡ []) × (middle ≡ recorded (opened cluster) begin)
     → Follows middle.stopped middle rest (goes last) (IsLived (line.Drain ∷ []) rest middle.live (goes last)) → ⊥
 not_fed [] rest middle last e m f =
-    let then_so : IsLived (line.Drain ∷ []) rest lived (goes last) = subst (λ (r : LiveRan). Follows r.stopped r rest (goes last) (IsLived (line.Drain ∷ []) rest r.live (goes last))) (m.1 ∙ recorded_begin) f in
+    let then_so : IsLived (line.Drain ∷ []) rest begun (goes last) = subst (λ (r : LiveRan). Follows r.stopped r rest (goes last) (IsLived (line.Drain ∷ []) rest r.live (goes last))) (m.1 ∙ recorded_begin) f in
     not_drained then_so.taken then_so.rest then_so.middle (e ∙ then_so.dealt) then_so.before
 not_fed (a ∷ taken) rest middle last e m f = absurd cc
 

@@ -3,6 +3,7 @@ use Rattle.std.specs.Prelude.{◌≡◌, true, ℕ, List, [], ◌∷◌, ◌++�
 use Rattle.tg_base.specs.Clusters.{Header}
 use Rattle.tg_base.specs.declared.ids.Oid.{Oid}
 use Rattle.tg_base.specs.declared.packet.Packet.{Packet}
+use Rattle.tg_io.specs.Acts.{Act, Comes, Goes}
 use Rattle.tg_wire.specs.Packets.{packet}
 use Rattle.tg_model.specs.declared.command.Command.TheVariants as cmd
 use Rattle.tg_model.specs.declared.command.Event.TheVariants as event
@@ -18,7 +19,7 @@ use Rattle.tg_trace.specs.Transcripts.{is_transcript}
 use Rattle.tg_replay.specs.Runs.{Script, Worlds, IsScript, IsWithin, world_of}
 use Rattle.tg_replay.specs.Headline.{told_in}
 use Rattle.tg_live.specs.Lives.{Answer, Live}
-use Rattle.tg_live.specs.Sends.{sending}
+use Rattle.tg_live.specs.Sends.{carried, sending}
 use Rattle.tg_live.specs.Scripts.{Over}
 
 -- one node of each role, and a counter
@@ -108,7 +109,7 @@ live_script = lines_text (cluster_lines ++ codes "c0 begin" ∷ codes "drain" �
 
 -- a link that is asked once, and hands nothing over; nothing is sent
 abbrev pub link : Over
-link = record { handed = Some []; handed_after = Some (None ∷ []); sent = Some []; sent_after = Some [] }
+link = record { handed = Some []; handed_after = Some (None ∷ []); carried = carried (Some []) (Some []); carried_after = carried (Some []) (Some (Comes None ∷ [])) }
 
 -- the recording of the run, which has no drain, and its transcript
 abbrev pub recording_text : List ℕ
@@ -120,11 +121,11 @@ drain_recorded = lines_text (cluster_lines ++ codes "c0 begin" ∷ codes "drain"
 
 -- a link that isn't asked
 abbrev pub unasked : Over
-unasked = record link { handed_after = Some [] }
+unasked = record link { handed_after = Some []; carried_after = carried (Some []) (Some []) }
 
 -- the live run at its end
 abbrev pub lived : Live
-lived = record { world = world_of begins; lines = begin ∷ []; delivered = []; received = 0 }
+lived = record { world = world_of begins; lines = begin ∷ []; delivered = []; received = 0; acts = Comes None ∷ [] }
 
 -- with nothing recorded
 abbrev pub unrecorded : Live
@@ -143,13 +144,18 @@ adds_recorded = record { header = cluster; events = line.Update 0 counter five �
 abbrev pub brings : Packet → Answer
 brings p = Some (record { to = p.to; datagram = packet.spell p })
 
+-- each packet is sent, and comes before the next is; and then none comes
+abbrev pub by_turns : List Packet → List Act
+by_turns [] = Comes None ∷ []
+by_turns (p ∷ ps) = Goes (sending p) ∷ Comes (brings p) ∷ by_turns ps
+
 -- a link that is sent the packets of that world, and hands each over, and then none
 abbrev pub busy_link : Over
 busy_link = record {
   handed = Some [];
   handed_after = Some (map brings (world_of adds_recorded).packets ++ None ∷ []);
-  sent = Some [];
-  sent_after = Some (map sending (world_of adds_recorded).packets);
+  carried = carried (Some []) (Some []);
+  carried_after = carried (Some (map sending (world_of adds_recorded).packets)) (Some (by_turns (world_of adds_recorded).packets));
 }
 
 abbrev pub adding_recording : List ℕ
