@@ -1,6 +1,6 @@
 //! The top call: what the program does with words, a source, a sink and a link.
 
-ghost use Rattle.std.specs.Prelude.{◌≡◌, ◌⊎◌, ℕ, List, true, false, None, Some, map, IfSome, string_bytes};
+ghost use Rattle.std.specs.Prelude.{◌≡◌, ◌≤◌, ◌⊎◌, ℕ, List, true, false, None, Some, map, IfSome, string_bytes};
 ghost use Rattle.tg_base.specs.declared.fault.Clause.{Clause};
 ghost use Rattle.tg_base.specs.declared.fault.Which.{Which};
 ghost use Rattle.tg_base.specs.declared.ids.NodeId.{NodeId};
@@ -9,14 +9,16 @@ ghost use Rattle.tg_io.specs.Faults.{Rose, StaysSure};
 ghost use Rattle.tg_io.specs.declared.status.Status.TheVariants.{Done, Illegal, Words, Script as AtLine, ReadFault, WriteFault, LinkFault, Limit, NoMemory as OutOfMemory};
 ghost use Rattle.tango_words.specs.Forms.{form_of};
 ghost use Rattle.tango_words.specs.declared.forms.Form.TheVariants.{Replay, Live, Node, Bench, Audit};
-ghost use Rattle.tg_replay.specs.Runs.{Script, IsScript, IsWithin, Tells, FirstOutside, PassesLimit, Replayed, Refused, Limited, run_of};
+ghost use Rattle.tg_replay.specs.Runs.{IsOutsideAt, Script, IsScript, IsWithin, Tells, FirstOutside, PassesLimit, Replayed, Refused, Limited, run_of};
 ghost use Rattle.tg_replay.specs.Outcomes.{Told, IsCutShort, IsOfReplay};
 ghost use Rattle.tg_lines.specs.Feeds.{NoneOutside};
 ghost use Rattle.tg_lines.specs.Lines.{lines};
+ghost use Rattle.tg_live.specs.Breaks.{IsDone};
 ghost use Rattle.tg_live.specs.Outcomes as lives;
 ghost use Rattle.tg_live.specs.Outcomes.{IsOfLive};
 ghost use Rattle.tg_live.specs.Scripts as recordings;
 ghost use Rattle.tg_live.specs.Scripts.{IsLiveScript, PassesNone};
+ghost use Rattle.tg_live.specs.Sends.{carried};
 ghost use Rattle.tg_live.specs.Stages.{over};
 ghost use Rattle.tg_node.specs.Stages.{seen};
 ghost use Rattle.tg_node.specs.Texts as nodes;
@@ -62,6 +64,10 @@ pub fn tango<S: Source, K: Sink, L: Link>(
     ensures words { result ≡ Words → form_of (map string_bytes words.now) ≡ None }
     ensures no_form { form_of (map string_bytes words.now) ≡ None → (result ≡ Words) ⊎ (result ≡ OutOfMemory) }
     ensures no_output { form_of (map string_bytes words.now) ≡ None → K.written sink.new ≡ K.written sink.old }
+    // No count of faults falls.
+    ensures read_later { S.faults source.old ≤ S.faults source.new }
+    ensures write_later { K.faults sink.old ≤ K.faults sink.new }
+    ensures link_later { L.faults link.old ≤ L.faults link.new }
     // A replay: at `Done` the text was read to its end, and what was written is the transcript of the world of its steps.
     ensures done { form_of (map string_bytes words.now) ≡ Some Replay → result ≡ Done → Told (S.left source.old) (K.written sink.old) (K.written sink.new) Replayed }
     // A line is refused that is the first outside, after the transcript of the events before it.
@@ -85,29 +91,41 @@ pub fn tango<S: Source, K: Sink, L: Link>(
         IfSome (S.left source.old) (λ text. (line : ℕ) (s : Script) → FirstOutside text line s → (result ≡ AtLine line) ⊎ (result ≡ OutOfMemory)) }
     ensures limits { form_of (map string_bytes words.now) ≡ Some Replay → (Rose (S.faults source.old) (S.faults source.new) → ⊥) → (Rose (K.faults sink.old) (K.faults sink.new) → ⊥) →
         IfSome (S.left source.old) (λ text. (which : Which) (s : Script) → PassesLimit text which s → (result ≡ Limit which) ⊎ (result ≡ OutOfMemory)) }
+    // A read fault is answered only where none of the lines that came whole before it is outside.
+    ensures first { form_of (map string_bytes words.now) ≡ Some Replay → result ≡ ReadFault → IfSome (S.left source.old) (λ text. NoneOutside text (S.left source.new) (IsOutsideAt text)) }
     // A live run: at `Done` the text was read to its end, and a live run of its script took the answers that the link
-    // handed over, sent the packets of its world, and was printed: its recording, whose world is the run's, and its transcript.
-    ensures live_done { form_of (map string_bytes words.now) ≡ Some Live → result ≡ Done → Told (S.left source.old) (K.written sink.old) (K.written sink.new) (recordings.Replayed (over (L.handed link.old) (L.handed link.new) (L.sent link.old) (L.sent link.new))) }
+    // handed over and sent the packets of its world, in the order of one list in which a packet goes out when its step is
+    // made; and it was printed: its recording, whose world is the run's, and its transcript.
+    ensures live_done { form_of (map string_bytes words.now) ≡ Some Live → result ≡ Done → Told (S.left source.old) (K.written sink.old) (K.written sink.new) (recordings.Replayed (over (L.handed link.old) (L.handed link.new) (carried (L.sent link.old) (L.acts link.old)) (carried (L.sent link.new) (L.acts link.new)))) }
     // A line is refused that is the first outside, after the live run of the lines before it.
-    ensures live_script { form_of (map string_bytes words.now) ≡ Some Live → (line : ℕ) → result ≡ AtLine line → Told (S.left source.old) (K.written sink.old) (K.written sink.new) (λ text out. recordings.Refused (over (L.handed link.old) (L.handed link.new) (L.sent link.old) (L.sent link.new)) text line out) }
+    ensures live_script { form_of (map string_bytes words.now) ≡ Some Live → (line : ℕ) → result ≡ AtLine line → Told (S.left source.old) (K.written sink.old) (K.written sink.new) (λ text out. recordings.Refused (over (L.handed link.old) (L.handed link.new) (carried (L.sent link.old) (L.acts link.old)) (carried (L.sent link.new) (L.acts link.new))) text line out) }
     // A limit stops a run, which is printed as far as it came.
-    ensures live_limit { form_of (map string_bytes words.now) ≡ Some Live → (which : Which) → result ≡ Limit which → Told (S.left source.old) (K.written sink.old) (K.written sink.new) (λ text out. recordings.Limited (over (L.handed link.old) (L.handed link.new) (L.sent link.old) (L.sent link.new)) text which out) }
+    ensures live_limit { form_of (map string_bytes words.now) ≡ Some Live → (which : Which) → result ≡ Limit which → Told (S.left source.old) (K.written sink.old) (K.written sink.new) (λ text out. recordings.Limited (over (L.handed link.old) (L.handed link.new) (carried (L.sent link.old) (L.acts link.old)) (carried (L.sent link.new) (L.acts link.new))) text which out) }
     // So is what a live run prints, whatever the link hands over: its recording is a script, whose world is the run's.
-    ensures live_done_truly { form_of (map string_bytes words.now) ≡ Some Live → result ≡ Done → Told (S.left source.old) (K.written sink.old) (K.written sink.new) (LivedTruly (over (L.handed link.old) (L.handed link.new) (L.sent link.old) (L.sent link.new))) }
-    ensures live_script_truly { form_of (map string_bytes words.now) ≡ Some Live → (line : ℕ) → result ≡ AtLine line → Told (S.left source.old) (K.written sink.old) (K.written sink.new) (λ text out. LiveRefusedTruly (over (L.handed link.old) (L.handed link.new) (L.sent link.old) (L.sent link.new)) text line out) }
-    ensures live_limit_truly { form_of (map string_bytes words.now) ≡ Some Live → (which : Which) → result ≡ Limit which → Told (S.left source.old) (K.written sink.old) (K.written sink.new) (λ text out. LiveLimitedTruly (over (L.handed link.old) (L.handed link.new) (L.sent link.old) (L.sent link.new)) text which out) }
+    ensures live_done_truly { form_of (map string_bytes words.now) ≡ Some Live → result ≡ Done → Told (S.left source.old) (K.written sink.old) (K.written sink.new) (LivedTruly (over (L.handed link.old) (L.handed link.new) (carried (L.sent link.old) (L.acts link.old)) (carried (L.sent link.new) (L.acts link.new)))) }
+    ensures live_script_truly { form_of (map string_bytes words.now) ≡ Some Live → (line : ℕ) → result ≡ AtLine line → Told (S.left source.old) (K.written sink.old) (K.written sink.new) (λ text out. LiveRefusedTruly (over (L.handed link.old) (L.handed link.new) (carried (L.sent link.old) (L.acts link.old)) (carried (L.sent link.new) (L.acts link.new))) text line out) }
+    ensures live_limit_truly { form_of (map string_bytes words.now) ≡ Some Live → (which : Which) → result ≡ Limit which → Told (S.left source.old) (K.written sink.old) (K.written sink.new) (λ text out. LiveLimitedTruly (over (L.handed link.old) (L.handed link.new) (carried (L.sent link.old) (L.acts link.old)) (carried (L.sent link.new) (L.acts link.new))) text which out) }
     // What is written at a fault is a front of what a run prints, or nothing.
-    ensures live_cut_short { form_of (map string_bytes words.now) ≡ Some Live → (result ≡ WriteFault) ⊎ (result ≡ OutOfMemory) → Told (S.left source.old) (K.written sink.old) (K.written sink.new) (lives.IsCutShort (over (L.handed link.old) (L.handed link.new) (L.sent link.old) (L.sent link.new))) }
+    ensures live_cut_short { form_of (map string_bytes words.now) ≡ Some Live → (result ≡ WriteFault) ⊎ (result ≡ OutOfMemory) → Told (S.left source.old) (K.written sink.old) (K.written sink.new) (lives.IsCutShort (over (L.handed link.old) (L.handed link.new) (carried (L.sent link.old) (L.acts link.old)) (carried (L.sent link.new) (L.acts link.new)))) }
     ensures live_silent { form_of (map string_bytes words.now) ≡ Some Live → (result ≡ ReadFault) ⊎ (result ≡ LinkFault) → K.written sink.new ≡ K.written sink.old }
+    // Whatever the status, a front was done with the link of what a live run does of lines with which the text begins, or
+    // nothing.
+    ensures live_acts { form_of (map string_bytes words.now) ≡ Some Live → IfSome (S.left source.old) (λ text. IsDone text (L.acts link.old) (L.acts link.new)) }
     ensures live_ways { form_of (map string_bytes words.now) ≡ Some Live → IsOfLive result }
-    // Without a fault each text has its status, unless memory runs out. Whether a limit is passed depends on the answers
-    // that the link hands.
+    // A read fault is answered only where none of the lines that came whole before it is outside.
+    ensures live_first { form_of (map string_bytes words.now) ≡ Some Live → result ≡ ReadFault → IfSome (S.left source.old) (λ text. NoneOutside text (S.left source.new) (recordings.IsOutsideAt text)) }
+    // Without a fault the run of a text ends by it or by a limit, whatever the link tells, unless memory runs out.
+    ensures live_ends { form_of (map string_bytes words.now) ≡ Some Live → (Rose (S.faults source.old) (S.faults source.new) → ⊥) → (Rose (K.faults sink.old) (K.faults sink.new) → ⊥) → (Rose (L.faults link.old) (L.faults link.new) → ⊥) →
+        IfSome (S.left source.old) (λ text. (s : Script) → IsLiveScript s → Tells text s → lives.IsOrStops result Done) }
+    ensures live_refuses_or_ends { form_of (map string_bytes words.now) ≡ Some Live → (Rose (S.faults source.old) (S.faults source.new) → ⊥) → (Rose (K.faults sink.old) (K.faults sink.new) → ⊥) → (Rose (L.faults link.old) (L.faults link.new) → ⊥) →
+        IfSome (S.left source.old) (λ text. (line : ℕ) (before : Script) → recordings.FirstOutside text line before → lives.IsOrStops result (AtLine line)) }
+    // Of a link that tells what it handed: each text has its status, since the answers say whether a limit is passed.
     ensures live_complete { form_of (map string_bytes words.now) ≡ Some Live → (Rose (S.faults source.old) (S.faults source.new) → ⊥) → (Rose (K.faults sink.old) (K.faults sink.new) → ⊥) → (Rose (L.faults link.old) (L.faults link.new) → ⊥) →
-        IfSome (S.left source.old) (λ text. (s : Script) → IsLiveScript s → Tells text s → PassesNone (over (L.handed link.old) (L.handed link.new) (L.sent link.old) (L.sent link.new)) text → (result ≡ Done) ⊎ (result ≡ OutOfMemory)) }
+        IfSome (S.left source.old) (λ text. (s : Script) → IsLiveScript s → Tells text s → PassesNone (over (L.handed link.old) (L.handed link.new) (carried (L.sent link.old) (L.acts link.old)) (carried (L.sent link.new) (L.acts link.new))) text → (result ≡ Done) ⊎ (result ≡ OutOfMemory)) }
     ensures live_refuses { form_of (map string_bytes words.now) ≡ Some Live → (Rose (S.faults source.old) (S.faults source.new) → ⊥) → (Rose (K.faults sink.old) (K.faults sink.new) → ⊥) → (Rose (L.faults link.old) (L.faults link.new) → ⊥) →
-        IfSome (S.left source.old) (λ text. (line : ℕ) (before : Script) → recordings.FirstOutside text line before → PassesNone (over (L.handed link.old) (L.handed link.new) (L.sent link.old) (L.sent link.new)) text → (result ≡ AtLine line) ⊎ (result ≡ OutOfMemory)) }
+        IfSome (S.left source.old) (λ text. (line : ℕ) (before : Script) → recordings.FirstOutside text line before → PassesNone (over (L.handed link.old) (L.handed link.new) (carried (L.sent link.old) (L.acts link.old)) (carried (L.sent link.new) (L.acts link.new))) text → (result ≡ AtLine line) ⊎ (result ≡ OutOfMemory)) }
     ensures live_limits { form_of (map string_bytes words.now) ≡ Some Live → (Rose (S.faults source.old) (S.faults source.new) → ⊥) → (Rose (K.faults sink.old) (K.faults sink.new) → ⊥) → (Rose (L.faults link.old) (L.faults link.new) → ⊥) →
-        IfSome (S.left source.old) (λ text. IfSome (L.handed link.old) (λ handed. (which : Which) → recordings.PassesLimit (over (L.handed link.old) (L.handed link.new) (L.sent link.old) (L.sent link.new)) text which → (result ≡ Limit which) ⊎ (result ≡ OutOfMemory))) }
+        IfSome (S.left source.old) (λ text. IfSome (L.handed link.old) (λ handed. (which : Which) → recordings.PassesLimit (over (L.handed link.old) (L.handed link.new) (carried (L.sent link.old) (L.acts link.old)) (carried (L.sent link.new) (L.acts link.new))) text which → (result ≡ Limit which) ⊎ (result ≡ OutOfMemory))) }
     // A node: at `Done` the text was followed to its end: the packets of its session were sent, its waits took the answers
     // that were handed, in the order of one list in which a packet goes out when its step is made, and its replies were
     // written.

@@ -12,6 +12,7 @@ use Rattle.tg_lines.specs.Lines.{lines}
 use Rattle.tg_node.specs.Texts.{Told, Followed, FirstOutside, Refused, PassesLimit, IsWithin as WithNoLimit, Limited, IsCutBetween, IsCutInLine, IsCutInReplies, IsCutShort, IsText, IsOrStops}
 use Rattle.tango.proofs.Holding.{replayed_truly, refused_truly, limited_truly, lived_truly, live_refused_truly, live_limited_truly}
 use Rattle.tg_law_scripts.specs.Headline.Headline.{ScriptHolds}
+use Rattle.tg_live.specs.Sends.{carried}
 use Rattle.tg_live.specs.Stages.{over}
 use Rattle.tango.proofs.Lawful.{legal_told, illegal_told}
 use Rattle.tango.proofs.Loads.{moved}
@@ -132,15 +133,15 @@ returns-in-Ok-Some-Replay-clause-limit_truly g c = λ named which is.
 
 pub returns-in-Ok-Some-Live-clause-live_done_truly : goal.returns-in-Ok-Some-Live-clause-live_done_truly
 returns-in-Ok-Some-Live-clause-live_done_truly g c = λ named done.
-    lived_truly c.lives_hold.ensures (over (g.L.Link.handed c.args.link.now) (g.L.Link.handed c.run.new.link) (g.L.Link.sent c.args.link.now) (g.L.Link.sent c.run.new.link)) (g.S.Source.left c.args.source.now) (g.K.Sink.written c.args.sink.now) (g.K.Sink.written c.run.new.sink) (c.run.ensures.done done)
+    lived_truly c.lives_hold.ensures (over (g.L.Link.handed c.args.link.now) (g.L.Link.handed c.run.new.link) (carried (g.L.Link.sent c.args.link.now) (g.L.Link.acts c.args.link.now)) (carried (g.L.Link.sent c.run.new.link) (g.L.Link.acts c.run.new.link))) (g.S.Source.left c.args.source.now) (g.K.Sink.written c.args.sink.now) (g.K.Sink.written c.run.new.sink) (c.run.ensures.done done)
 
 pub returns-in-Ok-Some-Live-clause-live_script_truly : goal.returns-in-Ok-Some-Live-clause-live_script_truly
 returns-in-Ok-Some-Live-clause-live_script_truly g c = λ named line is.
-    live_refused_truly c.lives_hold.ensures (over (g.L.Link.handed c.args.link.now) (g.L.Link.handed c.run.new.link) (g.L.Link.sent c.args.link.now) (g.L.Link.sent c.run.new.link)) (g.S.Source.left c.args.source.now) (g.K.Sink.written c.args.sink.now) (g.K.Sink.written c.run.new.sink) line (c.run.ensures.script line is)
+    live_refused_truly c.lives_hold.ensures (over (g.L.Link.handed c.args.link.now) (g.L.Link.handed c.run.new.link) (carried (g.L.Link.sent c.args.link.now) (g.L.Link.acts c.args.link.now)) (carried (g.L.Link.sent c.run.new.link) (g.L.Link.acts c.run.new.link))) (g.S.Source.left c.args.source.now) (g.K.Sink.written c.args.sink.now) (g.K.Sink.written c.run.new.sink) line (c.run.ensures.script line is)
 
 pub returns-in-Ok-Some-Live-clause-live_limit_truly : goal.returns-in-Ok-Some-Live-clause-live_limit_truly
 returns-in-Ok-Some-Live-clause-live_limit_truly g c = λ named which is.
-    live_limited_truly c.lives_hold.ensures (over (g.L.Link.handed c.args.link.now) (g.L.Link.handed c.run.new.link) (g.L.Link.sent c.args.link.now) (g.L.Link.sent c.run.new.link)) (g.S.Source.left c.args.source.now) (g.K.Sink.written c.args.sink.now) (g.K.Sink.written c.run.new.sink) which (c.run.ensures.limit which is)
+    live_limited_truly c.lives_hold.ensures (over (g.L.Link.handed c.args.link.now) (g.L.Link.handed c.run.new.link) (carried (g.L.Link.sent c.args.link.now) (g.L.Link.acts c.args.link.now)) (carried (g.L.Link.sent c.run.new.link) (g.L.Link.acts c.run.new.link))) (g.S.Source.left c.args.source.now) (g.K.Sink.written c.args.sink.now) (g.K.Sink.written c.run.new.sink) which (c.run.ensures.limit which is)
 
 pub returns-in-Ok-Some-Node-clause-nodes_truly : goal.returns-in-Ok-Some-Node-clause-nodes_truly
 returns-in-Ok-Some-Node-clause-nodes_truly g c = λ id named came. c.nodes_hold.ensures
