@@ -4,6 +4,7 @@ use Rattle.std.proofs.Common.{sym, ap, subst, ◌∙◌}
 use Rattle.tg_base.specs.Clusters.{Header, IsHeader}
 use Rattle.tg_base.specs.declared.fault.Which.{Which}
 use Rattle.tg_io.specs.declared.fault.IoErr.{IoErr}
+use Rattle.tg_lines.specs.Feeds.{TakesFeeds}
 use Rattle.tg_lines.specs.Lines.{ahead}
 use Rattle.tg_lines.specs.Openings.{Opened}
 use Rattle.tg_lines.specs.declared.header.Opening.TheVariants.{Opens}
@@ -57,11 +58,12 @@ made r b q f l begins makes a w k = by q.stopped refl
     })
 
 -- the header of a text, as a replay has it
-pub header_opens : (none : List ℕ) (left rest : Option (List ℕ)) (h : Header) (r : Run) (result : Result Recorded IoErr) → none ≡ [] → Opened (ahead none left) rest (Opens h)
+pub header_opens : (none : List ℕ) (left rest : Option (List ℕ)) (h : Header) (r : Run) (result : Result Recorded IoErr) → none ≡ [] → Opened (ahead none left) rest (Opens h) → TakesFeeds 3 (ahead none left) rest
     → IsHeader h → r.cluster ≡ h → KeepsWorld all_kinds r.world (start all_kinds h) → r.events ≡ 0
     → IfSome rest (λ rest. (text : List ℕ) → Reads text r rest → IfOk result (λ f. Finished text (finish_in f))) → IfSome left (λ text. IfOk result (λ f. Finished text (finish_in f)))
-header_opens none None rest h r result e is lawful cluster world events ends = tt
-header_opens none (Some text) None h r result e is lawful cluster world events ends = absurd is
-header_opens none (Some text) (Some rest) h r result e is lawful cluster world events ends =
+header_opens none None rest h r result e is took lawful cluster world events ends = tt
+header_opens none (Some text) None h r result e is took lawful cluster world events ends = absurd is
+header_opens none (Some text) (Some rest) h r result e is took lawful cluster world events ends =
     let cut = subst (λ (bs : List ℕ). Opened (Some (bs ++ text)) (Some rest) (Opens h)) e is in
-    ends text (record { read = header_lines h; script = opening h; run = run_opens h r lawful cluster world events; cut = cut })
+    let feeds = subst (λ (bs : List ℕ). TakesFeeds 3 (Some (bs ++ text)) (Some rest)) e took in
+    ends text (record { read = header_lines h; script = opening h; run = run_opens h r lawful cluster world events; cut = cut; feeds = feeds })

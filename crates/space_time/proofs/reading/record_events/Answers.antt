@@ -33,7 +33,7 @@ loop-line-preserved g c =
     let later : g.S.Source.faults c.args.source.now ≤ g.S.Source.faults c.loop-line.source = i.later in
     let rose : g.S.Source.faults c.loop-line.source ≤ g.S.Source.faults c.next.new.source = c.in_ok-line.ensures.cause.later in
     record {
-      reads = still_more before rest after c.args.recording.run c.loop-line.recording.run c.in-Goes.next.run c.in-Some.line i.reads line feeds;
+      reads = still_more before rest after c.args.recording.run c.loop-line.recording.run c.in-Goes.next.run c.in-Some.line i.reads line c.in_ok-line.ensures.feeds feeds;
       kept = subst GoesOnRecorded c.in-Goes.is c.in_ok-next.ensures.kept;
       later = omega arith;
       sure = sure_since _ _ _ _ _ _ i.sure c.in_ok-line.ensures.sure;

@@ -21,5 +21,5 @@ returns-in_ok-recording-in-Opens-clause-finished g c =
     let rest = ahead c.read_header.new.reader (g.S.Source.left c.read_header.new.source) in
     let opened = subst (λ (o : Opening). Opened (ahead c.new-reader.result left) rest o) c.in-Opens.is c.in_ok-line.ensures.opened in
     let r = c.in_ok-recording-in-Opens in
-    header_opens c.new-reader.result left rest c.in-Opens.cluster r.recording.run c.record_events.result c.new-reader.ensures opened
+    header_opens c.new-reader.result left rest c.in-Opens.cluster r.recording.run c.record_events.result c.new-reader.ensures opened c.in_ok-line.ensures.feeds
     r.ensures.lawful r.ensures.cluster r.ensures.world r.ensures.events c.record_events.ensures.finished
