@@ -21,19 +21,20 @@ RUNS = {
     'past_answers': 'Farther', 'past_trimmed': 'Farther', 'rescue_by_part': 'Farther', 'open_record': 'Farther',
     'rescue_and_trim': 'Farther',
     'view_plays_on': 'PlayingOn',
+    'fenced_trim': 'Fenced',
 }
 # runs at each step and line of which each claim holds
 HOLD = ['crossed_reads', 'orphan_decided', 'unsure_then_fate', 'refusals', 'full_log', 'new_sequencer', 'carried_by_scan',
         'unit_joins', 'overtaken_and_refused', 'checkpoints_and_trim', 'past_answers', 'past_trimmed', 'rescue_by_part',
-        'rescue_and_trim', 'open_record', 'view_plays_on']
+        'rescue_and_trim', 'open_record', 'view_plays_on', 'fenced_trim']
 # how many walks each of these ends, all of them exact in its last world
-WALKS = {'crossed_reads': 4, 'unit_joins': 1, 'checkpoints_and_trim': 6, 'rescue_by_part': 5}
-PATHS = ['crossed_reads', 'checkpoints_and_trim', 'view_plays_on']
+WALKS = {'crossed_reads': 4, 'unit_joins': 1, 'checkpoints_and_trim': 6, 'rescue_by_part': 5, 'fenced_trim': 5}
+PATHS = ['crossed_reads', 'checkpoints_and_trim', 'view_plays_on', 'fenced_trim']
 # the run of which claims are proved as they stand
 PROVED = 'checkpoints_and_trim'
 # runs of which it is proved that they reach their worlds, and that each entry was begun; and runs whose layouts follow one another
-OWN = ['crossed_reads', 'checkpoints_and_trim', 'carried_by_scan']
-FOLLOW = ['new_sequencer', 'carried_by_scan', 'unit_joins', 'overtaken_and_refused']
+OWN = ['crossed_reads', 'checkpoints_and_trim', 'carried_by_scan', 'fenced_trim']
+FOLLOW = ['new_sequencer', 'carried_by_scan', 'unit_joins', 'overtaken_and_refused', 'fenced_trim']
 # settlings that begin with all packets lost: whether they answer the one that waits in time, and whether it was answered before
 SETTLINGS = {'past_answers': ' ∷ '.join(['(true, false)'] * 5 + ['[]']), 'overtaken_and_refused': '(true, false) ∷ []'}
 # a changed world of a run, and the claims that fail of it

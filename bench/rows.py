@@ -15,7 +15,7 @@ import sys
 
 KINDS = {'dir': 0, 'ctr': 1, 'reg': 2, 'map': 3, 'list': 4, 'tree': 5, 'set': 6}
 # the crates whose definitions the runs open
-CRATES = ('tg_codec', 'tg_entry', 'tg_protocol')
+CRATES = ('tg_base', 'tg_codec', 'tg_entry', 'tg_protocol')
 
 
 def oid(word):

@@ -17,3 +17,4 @@ mod Judged
 mod Random
 mod RandomMoves
 pub mod PlayingOn
+pub mod Fenced

@@ -41,6 +41,7 @@ use Rattle.tg_protocol.specs.Runs.{run, Reaches}
 use Rattle.tg_protocol.specs.Walked.{walks_end}
 use Rattle.tg_law_examples.proofs.SevenKinds.{kinds}
 use Rattle.tg_law_examples.proofs.Farther.{past_answers_header, past_answers_script}
+use Rattle.tg_law_examples.proofs.Fenced.{fenced_trim_header, fenced_trim_script}
 use Rattle.tg_law_examples.proofs.First.{crossed_reads_header, crossed_reads_script}
 use Rattle.tg_law_examples.proofs.Moves.{carried_by_scan_header, carried_by_scan_script, checkpoints_and_trim_header, checkpoints_and_trim_script, new_sequencer_header, new_sequencer_script, overtaken_and_refused_header, overtaken_and_refused_script, unit_joins_header, unit_joins_script}
 use Rattle.tg_base.specs.Clusters.{IsHeader}
@@ -49,7 +50,7 @@ use Rattle.tg_protocol.specs.Holding.{EntriesOwn}
 use Rattle.tg_law_instances.proofs.StepTests.{drain_ev, tick_ev, round_ev}
 use Rattle.tg_law_instances.proofs.FollowSound.{changes_in, all_follow, follow_sound}
 use Rattle.tg_law_instances.proofs.Reaching.{script_moves, script_world, lawful_lines, reaches_sound, last_holds, drafts_in, are_own, own_sound}
-use Rattle.tg_law_instances.proofs.Stepping.{crossed_reads_steps, checkpoints_and_trim_steps, carried_by_scan_steps}
+use Rattle.tg_law_instances.proofs.Stepping.{crossed_reads_steps, checkpoints_and_trim_steps, carried_by_scan_steps, fenced_trim_steps}
 use Rattle.tg_protocol.specs.Headline.{Holds}
 use Rattle.tg_law_instances.proofs.FinishSound.{settlings_finish, SettlingsHold, settlings_sound}
 
@@ -154,3 +155,30 @@ answers_of_overtaken_and_refused = refl
 
 overtaken_and_refused_settles : SettlingsHold overtaken_and_refused_script (start kinds overtaken_and_refused_header)
 overtaken_and_refused_settles = settlings_sound overtaken_and_refused_script (start kinds overtaken_and_refused_header) answers_of_overtaken_and_refused
+
+lawful_fenced_trim : lawful_lines fenced_trim_header fenced_trim_script (start kinds fenced_trim_header) ≡ true
+unfolding u8_at u16_at u32_at u64_at raw_at fixed_at read_many spell_many fit_many marks reads writes keys new_fields old_fields body entry node_eq bytes_eq bytes_lt part_lt cell_eq chain_of units_of next_of change_fault new_unit unit_ask first_missing on_ask unit_step new_layout layout_ask on_layout_ask layout_step reply work_asks put_cell get_cell fill_cell probe work_feed cell_feed entry_size needs_decision page_of entry_of new_seqr seqr_step seqr_tick append_work_asks append_start append_feed append_again sync_work_asks sync_start sync_feed walk_on walk_start walk_feed no_versions based version_of with_change parts_of decision_in view_start view_version view_parts unknown_in changed_in verdict view_outcome step_at play_on play read_fault write_fault commit_record open_decision checkpoint bases_in load_from view_base view_bases may_forget commit_at past_at rescue_turn trim_start trim_feed copy_work_asks copy_start copy_feed reconf_work_asks reconf_start reconf_feed reconf_latest new_client entries_at copy_fault tests refusal appends syncs walked task_asks client_asks walks task_feed task_again accepts client_command client_deliver client_tick fields_size decided newest log_of entries_of members path_on path changes_below version outcome history_of start latest log history unit_moves layout_moves seqr_moves client_turned happens limit_of drain_on drain tick_all rounds settle line lines run walks_end store_after changed puts_of asks_in bound_in entries_fault replies_fault fault drain_ev tick_ev round_ev lawful_lines drafts_in settlings_finish
+lawful_fenced_trim = refl
+
+header_of_fenced_trim : IsHeader fenced_trim_header
+header_of_fenced_trim = refl
+
+fenced_trim_reaches : Reaches kinds fenced_trim_header (script_moves fenced_trim_script (start kinds fenced_trim_header)) (script_world fenced_trim_script (start kinds fenced_trim_header))
+fenced_trim_reaches = reaches_sound fenced_trim_header fenced_trim_script header_of_fenced_trim lawful_fenced_trim
+
+fenced_trim_ends : Holds kinds (script_world fenced_trim_script (start kinds fenced_trim_header))
+fenced_trim_ends = last_holds fenced_trim_script (start kinds fenced_trim_header) refl fenced_trim_steps
+
+own_of_fenced_trim : are_own (drafts_in fenced_trim_script (start kinds fenced_trim_header)) (script_world fenced_trim_script (start kinds fenced_trim_header)) ≡ true
+unfolding u8_at u16_at u32_at u64_at raw_at fixed_at read_many spell_many fit_many marks reads writes keys new_fields old_fields body entry node_eq bytes_eq bytes_lt part_lt cell_eq chain_of units_of next_of change_fault new_unit unit_ask first_missing on_ask unit_step new_layout layout_ask on_layout_ask layout_step reply work_asks put_cell get_cell fill_cell probe work_feed cell_feed entry_size needs_decision page_of entry_of new_seqr seqr_step seqr_tick append_work_asks append_start append_feed append_again sync_work_asks sync_start sync_feed walk_on walk_start walk_feed no_versions based version_of with_change parts_of decision_in view_start view_version view_parts unknown_in changed_in verdict view_outcome step_at play_on play read_fault write_fault commit_record open_decision checkpoint bases_in load_from view_base view_bases may_forget commit_at past_at rescue_turn trim_start trim_feed copy_work_asks copy_start copy_feed reconf_work_asks reconf_start reconf_feed reconf_latest new_client entries_at copy_fault tests refusal appends syncs walked task_asks client_asks walks task_feed task_again accepts client_command client_deliver client_tick fields_size decided newest log_of entries_of members path_on path changes_below version outcome history_of start latest log history unit_moves layout_moves seqr_moves client_turned happens limit_of drain_on drain tick_all rounds settle line lines run walks_end store_after changed puts_of asks_in bound_in entries_fault replies_fault fault drain_ev tick_ev round_ev lawful_lines drafts_in settlings_finish
+own_of_fenced_trim = refl
+
+fenced_trim_own : EntriesOwn kinds fenced_trim_header (script_moves fenced_trim_script (start kinds fenced_trim_header)) (script_world fenced_trim_script (start kinds fenced_trim_header))
+fenced_trim_own = own_sound fenced_trim_header fenced_trim_script own_of_fenced_trim
+
+layouts_of_fenced_trim : all_follow (replay kinds fenced_trim_header fenced_trim_script) (changes_in fenced_trim_script) ≡ true
+unfolding u8_at u16_at u32_at u64_at raw_at fixed_at read_many spell_many fit_many marks reads writes keys new_fields old_fields body entry node_eq bytes_eq bytes_lt part_lt cell_eq chain_of units_of next_of change_fault new_unit unit_ask first_missing on_ask unit_step new_layout layout_ask on_layout_ask layout_step reply work_asks put_cell get_cell fill_cell probe work_feed cell_feed entry_size needs_decision page_of entry_of new_seqr seqr_step seqr_tick append_work_asks append_start append_feed append_again sync_work_asks sync_start sync_feed walk_on walk_start walk_feed no_versions based version_of with_change parts_of decision_in view_start view_version view_parts unknown_in changed_in verdict view_outcome step_at play_on play read_fault write_fault commit_record open_decision checkpoint bases_in load_from view_base view_bases may_forget commit_at past_at rescue_turn trim_start trim_feed copy_work_asks copy_start copy_feed reconf_work_asks reconf_start reconf_feed reconf_latest new_client entries_at copy_fault tests refusal appends syncs walked task_asks client_asks walks task_feed task_again accepts client_command client_deliver client_tick fields_size decided newest log_of entries_of members path_on path changes_below version outcome history_of start latest log history unit_moves layout_moves seqr_moves client_turned happens limit_of drain_on drain tick_all rounds settle line lines run walks_end store_after changed puts_of asks_in bound_in entries_fault replies_fault fault drain_ev tick_ev round_ev lawful_lines drafts_in settlings_finish
+layouts_of_fenced_trim = refl
+
+fenced_trim_follows : LayoutsFollow kinds (replay kinds fenced_trim_header fenced_trim_script)
+fenced_trim_follows = follow_sound (replay kinds fenced_trim_header fenced_trim_script) (changes_in fenced_trim_script) layouts_of_fenced_trim

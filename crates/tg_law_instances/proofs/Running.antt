@@ -41,6 +41,7 @@ use Rattle.tg_protocol.specs.Runs.{run, Moves}
 use Rattle.tg_protocol.specs.Walked.{walks_end}
 use Rattle.tg_law_examples.proofs.SevenKinds.{kinds}
 use Rattle.tg_law_examples.proofs.Farther.{open_record_header, open_record_script, past_answers_header, past_answers_script, past_trimmed_header, past_trimmed_script, rescue_and_trim_header, rescue_and_trim_script, rescue_by_part_header, rescue_by_part_script}
+use Rattle.tg_law_examples.proofs.Fenced.{fenced_trim_header, fenced_trim_script}
 use Rattle.tg_law_examples.proofs.First.{crossed_reads_header, crossed_reads_script, full_log_header, full_log_script, orphan_decided_header, orphan_decided_script, refusals_header, refusals_script, unsure_then_fate_header, unsure_then_fate_script}
 use Rattle.tg_law_examples.proofs.Moves.{carried_by_scan_header, carried_by_scan_script, checkpoints_and_trim_header, checkpoints_and_trim_script, new_sequencer_header, new_sequencer_script, overtaken_and_refused_header, overtaken_and_refused_script, unit_joins_header, unit_joins_script}
 use Rattle.tg_law_examples.proofs.PlayingOn.{view_plays_on_header, view_plays_on_script}
@@ -336,3 +337,28 @@ staying_test = refl
 
 staying : LogStays kinds front whole
 staying = stays_sound front whole staying_test
+
+pub holds_of_fenced_trim : failures fenced_trim_header fenced_trim_script ≡ []
+unfolding u8_at u16_at u32_at u64_at raw_at fixed_at read_many spell_many fit_many marks reads writes keys new_fields old_fields body entry node_eq bytes_eq bytes_lt part_lt cell_eq chain_of units_of next_of change_fault new_unit unit_ask first_missing on_ask unit_step new_layout layout_ask on_layout_ask layout_step reply work_asks put_cell get_cell fill_cell probe work_feed cell_feed entry_size needs_decision page_of entry_of new_seqr seqr_step seqr_tick append_work_asks append_start append_feed append_again sync_work_asks sync_start sync_feed walk_on walk_start walk_feed no_versions based version_of with_change parts_of decision_in view_start view_version view_parts unknown_in changed_in verdict view_outcome step_at play_on play read_fault write_fault commit_record open_decision checkpoint bases_in load_from view_base view_bases may_forget commit_at past_at rescue_turn trim_start trim_feed copy_work_asks copy_start copy_feed reconf_work_asks reconf_start reconf_feed reconf_latest new_client entries_at copy_fault tests refusal appends syncs walked task_asks client_asks walks task_feed task_again accepts client_command client_deliver client_tick fields_size decided newest log_of entries_of members path_on path changes_below version outcome history_of start latest log history unit_moves layout_moves seqr_moves client_turned happens limit_of drain_on drain tick_all rounds settle line lines run walks_end store_after changed puts_of asks_in bound_in entries_fault replies_fault fault world_fails path_fails drain_ev tick_ev round_ev step_fails run_fails
+holds_of_fenced_trim = refl
+
+end_of_fenced_trim : world_fails (replay kinds fenced_trim_header fenced_trim_script) ≡ []
+unfolding u8_at u16_at u32_at u64_at raw_at fixed_at read_many spell_many fit_many marks reads writes keys new_fields old_fields body entry node_eq bytes_eq bytes_lt part_lt cell_eq chain_of units_of next_of change_fault new_unit unit_ask first_missing on_ask unit_step new_layout layout_ask on_layout_ask layout_step reply work_asks put_cell get_cell fill_cell probe work_feed cell_feed entry_size needs_decision page_of entry_of new_seqr seqr_step seqr_tick append_work_asks append_start append_feed append_again sync_work_asks sync_start sync_feed walk_on walk_start walk_feed no_versions based version_of with_change parts_of decision_in view_start view_version view_parts unknown_in changed_in verdict view_outcome step_at play_on play read_fault write_fault commit_record open_decision checkpoint bases_in load_from view_base view_bases may_forget commit_at past_at rescue_turn trim_start trim_feed copy_work_asks copy_start copy_feed reconf_work_asks reconf_start reconf_feed reconf_latest new_client entries_at copy_fault tests refusal appends syncs walked task_asks client_asks walks task_feed task_again accepts client_command client_deliver client_tick fields_size decided newest log_of entries_of members path_on path changes_below version outcome history_of start latest log history unit_moves layout_moves seqr_moves client_turned happens limit_of drain_on drain tick_all rounds settle line lines run walks_end store_after changed puts_of asks_in bound_in entries_fault replies_fault fault world_fails path_fails drain_ev tick_ev round_ev step_fails run_fails
+end_of_fenced_trim = refl
+
+fenced_trim_holds : Holds kinds (replay kinds fenced_trim_header fenced_trim_script)
+fenced_trim_holds = holds_sound (replay kinds fenced_trim_header fenced_trim_script) end_of_fenced_trim
+
+fenced_trim_log : LogHolds (replay kinds fenced_trim_header fenced_trim_script)
+fenced_trim_log = log_sound (replay kinds fenced_trim_header fenced_trim_script) end_of_fenced_trim
+
+walks_of_fenced_trim : exact_at_end fenced_trim_header fenced_trim_script ≡ (5, true)
+unfolding u8_at u16_at u32_at u64_at raw_at fixed_at read_many spell_many fit_many marks reads writes keys new_fields old_fields body entry node_eq bytes_eq bytes_lt part_lt cell_eq chain_of units_of next_of change_fault new_unit unit_ask first_missing on_ask unit_step new_layout layout_ask on_layout_ask layout_step reply work_asks put_cell get_cell fill_cell probe work_feed cell_feed entry_size needs_decision page_of entry_of new_seqr seqr_step seqr_tick append_work_asks append_start append_feed append_again sync_work_asks sync_start sync_feed walk_on walk_start walk_feed no_versions based version_of with_change parts_of decision_in view_start view_version view_parts unknown_in changed_in verdict view_outcome step_at play_on play read_fault write_fault commit_record open_decision checkpoint bases_in load_from view_base view_bases may_forget commit_at past_at rescue_turn trim_start trim_feed copy_work_asks copy_start copy_feed reconf_work_asks reconf_start reconf_feed reconf_latest new_client entries_at copy_fault tests refusal appends syncs walked task_asks client_asks walks task_feed task_again accepts client_command client_deliver client_tick fields_size decided newest log_of entries_of members path_on path changes_below version outcome history_of start latest log history unit_moves layout_moves seqr_moves client_turned happens limit_of drain_on drain tick_all rounds settle line lines run walks_end store_after changed puts_of asks_in bound_in entries_fault replies_fault fault world_fails path_fails drain_ev tick_ev round_ev step_fails run_fails
+walks_of_fenced_trim = refl
+
+paths_of_fenced_trim : path_fails (replay kinds fenced_trim_header fenced_trim_script) ≡ []
+unfolding u8_at u16_at u32_at u64_at raw_at fixed_at read_many spell_many fit_many marks reads writes keys new_fields old_fields body entry node_eq bytes_eq bytes_lt part_lt cell_eq chain_of units_of next_of change_fault new_unit unit_ask first_missing on_ask unit_step new_layout layout_ask on_layout_ask layout_step reply work_asks put_cell get_cell fill_cell probe work_feed cell_feed entry_size needs_decision page_of entry_of new_seqr seqr_step seqr_tick append_work_asks append_start append_feed append_again sync_work_asks sync_start sync_feed walk_on walk_start walk_feed no_versions based version_of with_change parts_of decision_in view_start view_version view_parts unknown_in changed_in verdict view_outcome step_at play_on play read_fault write_fault commit_record open_decision checkpoint bases_in load_from view_base view_bases may_forget commit_at past_at rescue_turn trim_start trim_feed copy_work_asks copy_start copy_feed reconf_work_asks reconf_start reconf_feed reconf_latest new_client entries_at copy_fault tests refusal appends syncs walked task_asks client_asks walks task_feed task_again accepts client_command client_deliver client_tick fields_size decided newest log_of entries_of members path_on path changes_below version outcome history_of start latest log history unit_moves layout_moves seqr_moves client_turned happens limit_of drain_on drain tick_all rounds settle line lines run walks_end store_after changed puts_of asks_in bound_in entries_fault replies_fault fault world_fails path_fails drain_ev tick_ev round_ev step_fails run_fails
+paths_of_fenced_trim = refl
+
+fenced_trim_reads : (ms : Moves kinds) → ReadsOnPath kinds ms (replay kinds fenced_trim_header fenced_trim_script)
+fenced_trim_reads = reads_sound (replay kinds fenced_trim_header fenced_trim_script) paths_of_fenced_trim
