@@ -1,13 +1,9 @@
 -- Worked runs: the marks and the history that each gives.
-use Rattle.std.proofs.Common.{◌≡◌, ℕ, List, [], ◌∷◌, refl, Some, None}
-use Rattle.std.specs.Prelude.{true, false, pos, negsuc}
-use Rattle.tg_base.specs.declared.fault.Many.TheVariants as many
-use Rattle.tg_base.specs.declared.marks.Part.TheVariants.{All, Text, Num}
+use Rattle.std.proofs.Common.{◌≡◌, List, [], ◌∷◌, refl, None}
+use Rattle.std.specs.Prelude.{pos}
 use Rattle.tg_base.specs.Clusters.{Header}
 use Rattle.tg_model.specs.declared.command.Command.TheVariants as cmd
-use Rattle.tg_model.specs.declared.command.Event.TheVariants.{Command as Commands, Deliver, Lose, Tick, Stop}
-use Rattle.tg_model.specs.declared.command.Word.TheVariants as word
-use Rattle.tg_model.specs.declared.refusal.Refusal.TheVariants as cause
+use Rattle.tg_model.specs.declared.command.Event.TheVariants.{Command as Commands, Deliver, Lose, Tick}
 use Rattle.tg_model.specs.declared.trace.What.TheVariants as told
 use Rattle.tg_base.specs.Orders.{node_eq}
 use Rattle.tg_codec.specs.Reading.{u8_at, u16_at, u32_at, u64_at, raw_at, fixed_at}
@@ -17,7 +13,7 @@ use Rattle.tg_entry.specs.Writes.{writes}
 use Rattle.tg_entry.specs.Checkpoints.{keys, new_fields, old_fields}
 use Rattle.tg_entry.specs.Format.{body, entry}
 use Rattle.tg_entry.specs.Needs.{needs_decision}
-use Rattle.tg_protocol.specs.Words.{bytes_eq, bytes_lt, part_lt, cell_eq, unit_id, layout_id, seqr_id, client_id}
+use Rattle.tg_protocol.specs.Words.{bytes_eq, bytes_lt, part_lt, cell_eq, client_id}
 use Rattle.tg_protocol.specs.Layouts.{chain_of, units_of, next_of, change_fault}
 use Rattle.tg_protocol.specs.Units.{new_unit, unit_ask, first_missing, on_ask, unit_step}
 use Rattle.tg_protocol.specs.LayoutServers.{new_layout, layout_ask, on_layout_ask, layout_step}
@@ -46,7 +42,7 @@ use Rattle.tg_protocol.specs.Runs.{run}
 use Rattle.tg_protocol.specs.Walked.{walks_end}
 use Rattle.tg_law_examples.proofs.SevenKinds.{kinds}
 use Rattle.tg_law_examples.proofs.SevenKinds as kind
-use Rattle.tg_law_examples.proofs.Shown.{Shown, shown, obj, mark, done}
+use Rattle.tg_law_examples.proofs.Shown.{shown, obj, mark, done}
 
 abbrev pub fenced_trim_header : Header
 fenced_trim_header = record { units = 2; layouts = 1; seqs = 2; clients = 3; limit = 100; chains = (0 ∷ 1 ∷ []) ∷ []; objects = obj 16777216 ∷ [] }
