@@ -8,15 +8,13 @@
 A law is worth something only where a wrong definition breaks it. An edit names a file of `tg_protocol` (`file:`), the law
 crate that has to refuse it (`law:`), and what stands in place of what (`old:`, `new:`, one line each, in pairs). This copies
 the repository to a folder of its own, makes the edit there, and checks that law crate with `tg_protocol` and all crates
-between as source, over the libraries below that earlier runs of `rt ci` keep (without them these are source too, and it takes
-longer). What the check finds wrong first is what refuses.
+between as source, over the libraries below that the last `rt ci` in this checkout left (without them these are source too,
+and it takes longer). What the check finds wrong first is what refuses.
 
 What came of each edit is a line of bench/definitions.txt: the edit, the crate that refused it (or `none`, where the law is
 still proved, or `not read`, where the edit is no definition), and the commit that was checked out. The status is 1 where an
 edit that was tried now isn't refused by a law crate."""
 
-import glob
-import json
 import os
 import re
 import shutil
@@ -24,7 +22,9 @@ import subprocess
 import sys
 import tempfile
 
-TOP = os.path.dirname(os.path.dirname(os.path.abspath(__file__)))
+import libraries
+from libraries import TOP
+
 EDITS = os.path.join(TOP, "bench", "definitions")
 KEPT = os.path.join(TOP, "bench", "definitions.txt")
 
@@ -46,52 +46,12 @@ def read_kept():
     return {name: (crate, commit) for name, crate, commit in rows}
 
 
-def lines_of(copy):
-    """What each crate names, by crates.txt."""
-    with open(os.path.join(copy, "crates.txt"), encoding="utf-8") as file:
-        rows = [line.split("#")[0].split(":") for line in file if ":" in line.split("#")[0]]
-    return {row[0].strip(): row[1].split() for row in rows}
-
-
-def below(name, named):
-    """The crates below one, each after those that it names."""
-    found = {}
-    for it in named.get(name, []):
-        found.update(dict.fromkeys([*below(it, named), it]))
-    return list(found)
-
-
-def kept(kit, name, room):
-    """Where the library of a crate lies that an earlier `rt ci` on this machine keeps, the newest; laid out in a folder."""
-    made = sorted(glob.glob(f"{os.path.dirname(kit)}/rattle-kept/proof-{name}-*/made.json"), key=os.path.getmtime)
-    if not made:
-        return None
-    with open(made[-1], encoding="utf-8") as file:
-        files = json.load(file)["files"]
-    for at, (path, _) in enumerate(files):
-        to = os.path.join(room, name, path)
-        os.makedirs(os.path.dirname(to), exist_ok=True)
-        shutil.copy(os.path.join(os.path.dirname(made[-1]), str(at)), to)
-    return os.path.join(room, name, "rlib")
-
-
-def checked(room, copy, law):
+def checked(copy, law):
     """What a check of a law crate says, with all from `tg_protocol` on as source."""
-    named = lines_of(copy)
-    kit = os.path.dirname(os.path.dirname(os.path.realpath(shutil.which("rt"))))
-    told = ["--extern", f"std={kit}/rlibs/std.rlib", "-L", f"dependency={kit}/rlibs"]
-    for it in below(law, named):
-        turned = it == "tg_protocol" or "tg_protocol" in below(it, named)
-        out = kept(kit, it, room) if it in named and not turned else None
-        if it not in named:
-            told += ["--extern", f"{it}={kit}/rlibs/{it}.rlib"]
-        elif out:
-            told += ["--extern", f"{it}={out}/{it}.rlib", "-L", f"dependency={out}"]
-        else:
-            told += ["--lib", f"{it}:{','.join(['std', *named[it]])}={copy}/crates/{it}/src/lib.rt"]
-    told += ["--antt-project", f"{kit}/rattle/logic/antt-project.json", "--logic-built", f"{kit}/logic_built"]
-    check = [f"{kit}/bin/rattle", "check", "--crate-name", law, f"{copy}/crates/{law}/src/lib.rt", *told]
-    return subprocess.run(check, cwd=copy, stdout=subprocess.PIPE, stderr=subprocess.STDOUT, text=True)
+    named = libraries.names_of(copy)
+    is_turned = lambda it: it == "tg_protocol" or "tg_protocol" in libraries.below(it, named)
+    told = libraries.words(law, f"{copy}/crates/{law}/src/lib.rt", named, is_turned, copy)
+    return subprocess.run([f"{libraries.kit()}/bin/rattle", "check", *told], cwd=copy, stdout=subprocess.PIPE, stderr=subprocess.STDOUT, text=True)
 
 
 def tried(name):
@@ -108,7 +68,7 @@ def tried(name):
             text = text.replace(old, new)
         with open(os.path.join(copy, path), "w", encoding="utf-8") as file:
             file.write(text)
-        ran = checked(room, copy, law)
+        ran = checked(copy, law)
     if ran.returncode == 0:
         return "none"
     first = re.search(r"crates/(\w+)/\S+: error", ran.stdout)
