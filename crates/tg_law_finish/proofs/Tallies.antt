@@ -4,3 +4,5 @@ pub mod Commit
 pub mod Books
 pub mod Legal
 pub mod Settling
+pub mod Closing
+pub mod Saving

@@ -6,3 +6,6 @@ pub mod Queues
 pub mod Laws
 pub mod Store
 pub mod Makes
+pub mod Walks
+pub mod Rescues
+pub mod Ends

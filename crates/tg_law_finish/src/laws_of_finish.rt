@@ -12,6 +12,7 @@
 
 ghost use Rattle.tg_kind.specs.Of.{meaning_of};
 ghost use Rattle.tg_law_finish.specs.Finish.Laws.{AppendAnswered, AppendInTime, AskAnswered, AskInTime, DeliveriesTakeTurns, EndsAreTold};
+ghost use Rattle.tg_law_finish.specs.Finish.Walks.{StreamsFew};
 ghost use Rattle.tg_protocol.specs.Runs.{Always};
 
 use tg_kind::Registry;
@@ -49,4 +50,9 @@ pub fn ends_are_told<K: Registry>()
 /// In any world the delivery of the oldest packet takes it out, and puts what a node sends then behind the others.
 pub fn deliveries_take_turns<K: Registry>()
     ensures { DeliveriesTakeTurns (meaning_of K.Registry) }
+{}
+
+/// A command walks 128 streams at most.
+pub fn streams_are_few<K: Registry>()
+    ensures { Always (meaning_of K.Registry) (StreamsFew (meaning_of K.Registry)) }
 {}

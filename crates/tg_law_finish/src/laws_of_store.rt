@@ -3,12 +3,15 @@
 //! tells a reply, and at most so many packets with it are delivered as its bound says (`Finishes` of tg_protocol).
 //!
 //! Of the world it is asked that it is ready, and no more: what `Granted` asks (specs/Finish/Granted.antt), and where an
-//! append stands, is so in each run of the store. Commands that walk are answered where nothing is trimmed and the latest
-//! layout's sequencer has issued a position since that layout's start.
+//! append stands, is so in each run of the store. Commands that walk take fewer deliveries where nothing is trimmed and the
+//! latest layout's sequencer has issued a position since that layout's start (`asks_finish`, `makes_finish`).
 
 ghost use Rattle.tg_any.specs.AllKinds.{all_kinds};
+ghost use Rattle.tg_law_finish.specs.Finish.Ends.{EndFinishes};
 ghost use Rattle.tg_law_finish.specs.Finish.Makes.{MakeFinishes};
+ghost use Rattle.tg_law_finish.specs.Finish.Rescues.{RescueWalks};
 ghost use Rattle.tg_law_finish.specs.Finish.Store.{AppendFinishes, AskFinishes};
+ghost use Rattle.tg_law_finish.specs.Finish.Walks.{AskWalks, MakeWalks};
 ghost use Rattle.tg_protocol.specs.Runs.{Always};
 
 /// A client that waits for an append after which nothing is left to do is answered, wherever the append stands, and
@@ -24,7 +27,32 @@ pub fn asks_finish()
 {}
 
 /// A client whose `decide`, `checkpoint` or `forget` still waits for its sync's first answer is answered, likewise: once all
-/// is walked it is refused, or appends a decision record, a checkpoint or a mark.
+/// is walked it is refused, or appends a decision record, a checkpoint or a mark. So is one whose `end` has appended its
+/// record, and syncs to judge it.
 pub fn makes_finish()
     ensures { Always all_kinds (MakeFinishes all_kinds) }
+{}
+
+/// An `ask`, `fate` or `ask-at` whose sync still waits for its first answer is answered whatever is trimmed, and whether or
+/// not the sequencer has issued a position since its layout's start. Its walks may meet trims, find the tail stale and sync
+/// again, and give up the kept view and start over: in so many passes more as there are units, and two.
+pub fn asks_finish_anyway()
+    ensures { Always all_kinds (AskWalks all_kinds) }
+{}
+
+/// So is a `decide`, `checkpoint` or `forget`, and an `end` whose record is appended.
+pub fn makes_finish_anyway()
+    ensures { Always all_kinds (MakeWalks all_kinds) }
+{}
+
+/// So is a `rescue`, however many streams join those that it walks: within the bound of its command too, and 129 times what trims may
+/// cost.
+pub fn rescues_finish()
+    ensures { Always all_kinds (RescueWalks all_kinds) }
+{}
+
+/// So is an `end` whose record still asks for its token: the record goes down its chain, or the log is full; then the client
+/// syncs, walks what it hosts, and tells the outcome, or appends a decision record first.
+pub fn ends_finish()
+    ensures { Always all_kinds (EndFinishes all_kinds) }
 {}

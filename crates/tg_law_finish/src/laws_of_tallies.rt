@@ -1,6 +1,6 @@
 //! Runs for which the premises of the laws hold, computed by the definitions.
 
-ghost use Rattle.tg_law_finish.specs.Tallies.Settled.{AppendIsAnswered, AskIsAnswered};
+ghost use Rattle.tg_law_finish.specs.Tallies.Settled.{AppendIsAnswered, AskIsAnswered, EndIsAnswered, FateIsAnswered, RescueIsAnswered, SaveIsAnswered};
 ghost use Rattle.tg_law_finish.specs.Tallies.Books.{CommitIsBooked};
 ghost use Rattle.tg_law_finish.specs.Tallies.Tallies.{PastIsTold, CommitIsTold};
 
@@ -29,4 +29,29 @@ pub fn append_is_answered()
 /// A settling of it takes six deliveries with the client, where ten are allowed.
 pub fn ask_is_answered()
     ensures { AskIsAnswered }
+{}
+
+/// A run in which nothing was issued, and a client's request for a tail is lost, is one for which `asks_finish_anyway` asks
+/// no more than it has: the sync probes the chain of position 0. A settling of it takes six deliveries with the client, where 26
+/// are allowed.
+pub fn fate_is_answered()
+    ensures { FateIsAnswered }
+{}
+
+/// A run in which a client asks within a transaction and ends it, and its record's request for a token is lost, is one for which
+/// `ends_finish` asks no more than it has. A settling of it takes ten deliveries with the client, where 800 are allowed.
+pub fn end_is_answered()
+    ensures { EndIsAnswered }
+{}
+
+/// A run in which a client saves a tally while nothing was issued, and its request for a tail is lost, is one for which
+/// `makes_finish_anyway` asks no more than it has. A settling of it takes ten deliveries with the client, where 36 are allowed.
+pub fn save_is_answered()
+    ensures { SaveIsAnswered }
+{}
+
+/// A run in which a client rescues while nothing was issued, and its request for a tail is lost, is one for which `rescues_finish` asks
+/// no more than it has. A settling of it takes six deliveries with the client.
+pub fn rescue_is_answered()
+    ensures { RescueIsAnswered }
 {}

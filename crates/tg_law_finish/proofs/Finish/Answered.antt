@@ -16,8 +16,11 @@ use Rattle.tg_protocol.specs.Requests.{out}
 use Rattle.tg_base.specs.declared.msg.Msg.TheVariants as msg
 use Rattle.tg_protocol.specs.Cells.{CellWork, Puts, Gets, Fills, Copies, Probes, place_in, work_asks, Place}
 use Rattle.tg_protocol.specs.Appending.{Append, AppendWork, Asking, Putting, Judging, append_work_asks, append_asks}
-use Rattle.tg_protocol.specs.Syncing.{sync_work_asks, SyncWork}
-use Rattle.tg_protocol.specs.Clients.{Appending, Syncing, Doing, Work, Client, Hand, Task}
+use Rattle.tg_protocol.specs.Syncing.{Sync, SyncWork, Checking, sync_work_asks}
+use Rattle.tg_base.specs.declared.ids.Oid.{Oid}
+use Rattle.tg_protocol.specs.Entries.{streams_of}
+use Rattle.tg_model.specs.declared.command.Command.TheVariants as cmd
+use Rattle.tg_protocol.specs.Clients.{Judged, Appending, Syncing, Doing, Work, Client, Hand, Task}
 use Rattle.tg_protocol.specs.ClientSteps.{task_asks}
 use Rattle.tg_protocol.specs.Worlds.{World, seqr, client, latest, settle}
 use Rattle.tg_protocol.specs.Runs.{Moves, Reaches, Always}
@@ -31,15 +34,19 @@ use Rattle.tg_law_finish.specs.Finish.Appends as appends
 use Rattle.tg_law_finish.specs.Finish.Appends.{WaitsForAppend, AppendStands, PuttingStands, JudgingStands}
 use Rattle.tg_law_finish.specs.Finish.Asks.{NothingTrimmed, HasIssued, WaitsForSync}
 use Rattle.tg_law_finish.specs.Finish.Makes.{makes, MakesSync, make_bound}
+use Rattle.tg_law_finish.specs.Finish.Ends.{EndsAppend, end_bound}
+use Rattle.tg_law_finish.specs.Finish.Rescues.{is_rescue, RescuesSync, rescue_bound}
+use Rattle.tg_law_finish.specs.Finish.Walks.{StreamsFew, passes_bound, walk_bound, streams}
 use Rattle.tg_law_finish.specs.Finish.Laws.{IsAnswered, AppendAnswered, AppendInTime, AskAnswered, AskInTime, EndsAreTold}
-use Rattle.tg_law_finish.proofs.Finish.Asking.{Untrimmed, Asks}
+use Rattle.tg_law_finish.proofs.Finish.Asking.{HeldWhereTrimmed, Walkable, Untrimmed, Owns, Syncs}
 use Rattle.tg_law_finish.proofs.Finish.Counted.{is_of, one_if, cost, counted, Finishes as Counted}
 use Rattle.tg_law_finish.proofs.Finish.Replying.{settle_replies}
 use Rattle.tg_law_finish.proofs.Finish.Telling.{CommandIs}
 use Rattle.tg_law_finish.specs.Finish.Commands.{is_ask, plays}
-use Rattle.tg_law_finish.proofs.Finish.Finishes.{writes_finish, asks_finish}
-use Rattle.tg_law_finish.proofs.Finish.Both.{Made, makes_finish}
-use Rattle.tg_law_finish.proofs.Finish.Standing.{numbers_hold, cells_always, pax_always, working, lawful, next_near, names_below, cluster_is, header_limits}
+use Rattle.tg_law_finish.proofs.Finish.Finishes.{writes_finish}
+use Rattle.tg_law_finish.proofs.Finish.Waits.{asks_finish, makes_finish, asks_finish_by, makes_finish_by, rescues_finish_by, ends_finish_by}
+use Rattle.tg_law_finish.proofs.Finish.Hosting.{WorkFew, hosting}
+use Rattle.tg_law_finish.proofs.Finish.Standing.{numbers_hold, cells_always, pax_always, working, lawful, next_near, names_below, once_there, units_are, cluster_is, header_limits}
 use Rattle.tg_law_finish.proofs.Finish.Writing.{Writes, Stands, InHand, PutStands, JudgeStands}
 
 -- Counting.
@@ -101,6 +108,30 @@ made_room c t l one few =
     let a = mul-le (c + 1) (t + 1) (2 * c) (t + 1) (omega (arith, one)) (omega arith) in
     let b = mul-le (16 * c) (t + 1) (16 * c) (t + 1) (omega arith) (omega arith) in
     omega (arith, one, few)
+
+walks_room : (c t l : ℕ) → 1 ≤ c → l ≤ 7 → 2 * ((c + 1) * t) + 2 * l + 2 * (c + 1) ≤ 16 * c * (t + 4)
+walks_room c t l one few =
+    let a = mul-le (c + 1) t (2 * c) t (omega (arith, one)) (omega arith) in
+    let b = mul-le (16 * c) t (16 * c) t (omega arith) (omega arith) in
+    omega (arith, one, few, a, b)
+
+ends_room : (c t l : ℕ) → 1 ≤ c → l ≤ 7 → 2 * ((c + 1) * t) + 2 * l + 6 * (c + 1) ≤ 16 * c * (t + 4)
+ends_room c t l one few =
+    let a = mul-le (c + 1) t (2 * c) t (omega (arith, one)) (omega arith) in
+    let b = mul-le (16 * c) t (16 * c) t (omega arith) (omega arith) in
+    omega (arith, one, few, a, b)
+
+-- a walk's bound taken j + 1 times
+rescues_room : (c t l z j : ℕ) → 1 ≤ c → l ≤ 7 → j ≤ 128 → (2 * ((c + 1) * t) + 2 * l + z) * (j + 1) + 2 * (c + 1) ≤ 128 * (16 * c * (t + 4)) + 129 * z
+rescues_room c t l z j one few le =
+    let a = mul-le (c + 1) t (2 * c) t (omega (arith, one)) (omega arith) in
+    let b = mul-le (16 * c) t (16 * c) t (omega arith) (omega arith) in
+    let e = mul-le (2 * ((c + 1) * t) + 2 * l + z) (j + 1) (2 * ((c + 1) * t) + 2 * l + z) 129 (omega arith) (omega (arith, le)) in
+    omega (arith, one, few, a, b, e)
+
+rescues_most : (m : Meaning) (x : CommandOf m) (c t n : ℕ) → is_rescue m x ≡ true → most_deliveries m x c t n ≡ 128 * (16 * c * (t + 4))
+unfolding is_rescue
+rescues_most m x c t n e = grind arith
 
 bounds : (m : Meaning) (x : CommandOf m) (c t n a : ℕ) → a ≤ 16 * c * (t + 4) → a ≤ most_deliveries m x c t n
 bounds m x c t n a le = grind arith
@@ -169,44 +200,62 @@ module _ (m : Meaning) (h : Header) (ms : Moves m) (w : World m) (r : Reaches m 
   -- Asks.
 
   untrimmed : NothingTrimmed m w → HasIssued m w → Untrimmed m w p
-  untrimmed u n = record { lows = u; past = is_less _ _ n; near = next_near m h ms w r; backs = λ o os. names_below m h ms w r o os }
+  untrimmed u n = record { lows = u; past = is_less _ _ n }
     where
       is_less : (a b : ℕ) → a < b → nat_lt a b ≡ true
       is_less a b less = grind arith
 
-  abbrev asked : WaitsForSync m w k → Out
-  asked f = out (seqr_id (client m w k).stand.seq) f.rid (msg.Check (client m w k).stand.epoch f.sync.oids)
+  walkable : HeldWhereTrimmed m w p → Walkable m w p
+  walkable held = record { near = next_near m h ms w r; backs = λ o os. names_below m h ms w r o os; once = λ pos. once_there m h ms w r pos; held = held }
 
-  asks : (f : WaitsForSync m w k) → Asks m w k
+  none_trimmed : NothingTrimmed m w → HeldWhereTrimmed m w p
+  none_trimmed u pos j less e = absurd (never pos _ (u _) e)
+    where
+      never : (n low : ℕ) → low ≡ 0 → nat_lt n low ≡ true → ⊥
+      never n low e less = grind arith
+
+  abbrev asked : ℕ → List Oid → Out
+  asked rid oids = out (seqr_id (client m w k).stand.seq) rid (msg.Check (client m w k).stand.epoch oids)
+
+  synced : (work : Work m) (sync : Sync) (rid : ℕ) → (client m w k).work ≡ Some work → work.hand ≡ Doing (Syncing sync) → sync.work ≡ Checking rid → Syncs m w k
   unfolding task_asks sync_work_asks
-  asks f = record {
-    work = f.work;
-    waits = f.waits;
-    sync = f.sync;
-    rid = f.rid;
-    hand = f.hand;
-    first = f.first;
-    below = below_next (asked f) (reserves (client m w k) f.work (Syncing f.sync) (asked f) f.waits f.hand
-        (subst (λ (y : SyncWork). Has (sync_work_asks (client m w k).stand f.sync y) (asked f)) (sym f.first) (inl refl)));
-    asks = f.asks;
+  synced work sync rid waits hand first = record {
+    work = work;
+    waits = waits;
+    sync = sync;
+    rid = rid;
+    hand = hand;
+    first = first;
+    below = below_next (asked rid sync.oids) (reserves (client m w k) work (Syncing sync) (asked rid sync.oids) waits hand
+        (subst (λ (y : SyncWork). Has (sync_work_asks (client m w k).stand sync y) (asked rid sync.oids)) (sym first) (inl refl)));
   }
 
-  -- Commands that make a record of their own.
+  abbrev token_of : ℕ → Append → Out
+  token_of rid x = out (seqr_id (client m w k).stand.seq) rid (msg.Token (client m w k).stand.epoch (streams_of x.draft))
 
-  made : (f : MakesSync m w k) → Made m w k
-  unfolding task_asks sync_work_asks
-  made f =
-      let o = out (seqr_id (client m w k).stand.seq) f.rid (msg.Check (client m w k).stand.epoch f.sync.oids) in
-      record {
-        work = f.work;
-        waits = f.waits;
-        sync = f.sync;
-        rid = f.rid;
-        hand = f.hand;
-        first = f.first;
-        below = below_next o (reserves (client m w k) f.work (Syncing f.sync) o f.waits f.hand (subst (λ (y : SyncWork). Has (sync_work_asks (client m w k).stand f.sync y) o) (sym f.first) (inl refl)));
-        makes_it = f.makes_it;
-      }
+  pub token_below : (f : EndsAppend m w k) → f.rid < (client m w k).next
+  unfolding task_asks append_work_asks
+  token_below f = below_next (token_of f.rid f.append) (reserves (client m w k) f.work (Appending f.append Judged) (token_of f.rid f.append) f.waits f.hand
+      (subst (λ (y : AppendWork). Has (append_work_asks (client m w k).stand f.append y) (token_of f.rid f.append)) (sym f.first) (inl refl)))
+
+  ends_play : (x : CommandOf m) → x ≡ cmd.End → plays m x ≡ true
+  unfolding plays
+  ends_play x e = ap (λ y. plays m y) e
+
+  asks : WaitsForSync m w k → Syncs m w k
+  asks f = synced f.work f.sync f.rid f.waits f.hand f.first
+
+  made : MakesSync m w k → Syncs m w k
+  made f = synced f.work f.sync f.rid f.waits f.hand f.first
+
+  rescued : RescuesSync m w k → Syncs m w k
+  rescued f = synced f.work f.sync f.rid f.waits f.hand f.first
+
+  rescues_play : (x : CommandOf m) → is_rescue m x ≡ true → plays m x ≡ true
+  unfolding is_rescue plays
+  rescues_play x e = grind arith
+
+  -- Commands that make a record of their own.
 
   makes_play : (x : CommandOf m) → makes m x ≡ true → plays m x ≡ true
   unfolding makes plays
@@ -237,20 +286,97 @@ module _ (m : Meaning) (h : Header) (ms : Moves m) (w : World m) (r : Reaches m 
   append_in_time x a b g f = within m k _ _ w _ (bounds m x _ _ _ _ (rooms _ _ _ (longest g x a b) few_layouts)) (append_answered x a b g f)
 
   pub ask_answered : (x : CommandOf m) → WaitsAlone m w k x → IsReadyFor m w k → Granted m w → NothingTrimmed m w → HasIssued m w → WaitsForSync m w k → IsAnswered m w k (2 * ((longest_chain p + 1) * ((seqr m w p.seq).next + 1)) + 2 * w.cluster.layouts)
+  unfolding asks synced
   ask_answered x a b g u n f =
-      let c = asks_finish m w k p (longest_chain p) (working m h ms w r k x a b) (lawful m h ms w r k x a b g) (untrimmed u n) (asks f) a.within in
+      let c = asks_finish m w k p (longest_chain p) (working m h ms w r k x a b) (lawful m h ms w r k x a b g) (walkable (none_trimmed u)) (untrimmed u n) (asks f) f.asks a.within in
       answered_of m k _ w _ (subst (λ l. Counted m k (2 * ((longest_chain p + 1) * ((seqr m w p.seq).next + 1)) + 2 * l) w (settle m w).world) layouts_are c) (settle_replies m k f.work.command (asks_play f.work.command f.asks) w (in_work f.work f.waits) c.answered)
 
   pub ask_in_time : (x : CommandOf m) → WaitsAlone m w k x → IsReadyFor m w k → Granted m w → NothingTrimmed m w → HasIssued m w → WaitsForSync m w k → IsAnswered m w k (most_deliveries_in m w x)
   ask_in_time x a b g u n f = within m k _ _ w _ (bounds m x _ _ _ _ (each_room _ _ _ (longest g x a b) few_layouts)) (ask_answered x a b g u n f)
 
   pub make_answered : (x : CommandOf m) → WaitsAlone m w k x → IsReadyFor m w k → Granted m w → NothingTrimmed m w → HasIssued m w → MakesSync m w k → IsAnswered m w k (make_bound m w)
+  unfolding made synced
   make_answered x a b g u n f =
-      let c = makes_finish m w k p (longest_chain p) (working m h ms w r k x a b) (lawful m h ms w r k x a b g) (untrimmed u n) (made f) a.within in
+      let c = makes_finish m w k p (longest_chain p) (working m h ms w r k x a b) (lawful m h ms w r k x a b g) (walkable (none_trimmed u)) (untrimmed u n) (made f) f.makes_it a.within in
       answered_of m k _ w _ (subst (λ l. Counted m k (2 * ((longest_chain p + 1) * ((seqr m w p.seq).next + 1)) + 2 * l + 2 * (longest_chain p + 1)) w (settle m w).world) layouts_are c) (settle_replies m k f.work.command (makes_play f.work.command f.makes_it) w (in_work f.work f.waits) c.answered)
 
   pub make_in_time : (x : CommandOf m) → WaitsAlone m w k x → IsReadyFor m w k → Granted m w → NothingTrimmed m w → HasIssued m w → MakesSync m w k → IsAnswered m w k (most_deliveries_in m w x)
   make_in_time x a b g u n f = within m k _ _ w _ (bounds m x _ _ _ _ (made_room _ _ _ (longest g x a b) few_layouts)) (make_answered x a b g u n f)
+
+  -- Whatever is trimmed.
+
+  few_streams : (v : Work m) → (client m w k).work ≡ Some v → length v.oids ≤ 128
+  few_streams v e = subst (λ (o : Option (Work m)). WorkFew m o) e (hosting m h ms w r k).work
+
+  passes_few : (c s n : ℕ) → s ≤ 128 → 2 * ((2 * c + 1 + s) * (n + 2)) ≤ 2 * ((2 * c + 1 + 128) * (n + 2))
+  passes_few c s n le = let a = mul-le (2 * c + 1 + s) (n + 2) (2 * c + 1 + 128) (n + 2) (omega (arith, le)) (omega arith) in omega (arith, a)
+
+  ask_by : (x : CommandOf m) → WaitsAlone m w k x → IsReadyFor m w k → Granted m w → HeldWhereTrimmed m w p → (f : WaitsForSync m w k) → IsAnswered m w k (walk_bound m w (streams m f.work))
+  unfolding asks synced
+  ask_by x a b g held f =
+      let c = asks_finish_by m w k p (longest_chain p) (working m h ms w r k x a b) (lawful m h ms w r k x a b g) (walkable held) (asks f) f.asks a.within in
+      answered_of m k _ w _ (subst (λ n. Counted m k (2 * ((longest_chain p + 1) * (seqr m w p.seq).next) + 2 * w.cluster.layouts + 2 * ((2 * longest_chain p + 1 + length f.work.oids) * (n + 2))) w (settle m w).world) (units_are m h ms w r)
+      (subst (λ l. Counted m k (2 * ((longest_chain p + 1) * (seqr m w p.seq).next) + 2 * l + 2 * ((2 * longest_chain p + 1 + length f.work.oids) * (length w.units + 2))) w (settle m w).world) layouts_are c))
+      (settle_replies m k f.work.command (asks_play f.work.command f.asks) w (in_work f.work f.waits) c.answered)
+
+  make_by : (x : CommandOf m) → WaitsAlone m w k x → IsReadyFor m w k → Granted m w → HeldWhereTrimmed m w p → (f : MakesSync m w k) → IsAnswered m w k (walk_bound m w (streams m f.work) + 2 * (longest_chain p + 1))
+  unfolding made synced
+  make_by x a b g held f =
+      let c = makes_finish_by m w k p (longest_chain p) (working m h ms w r k x a b) (lawful m h ms w r k x a b g) (walkable held) (made f) f.makes_it a.within in
+      answered_of m k _ w _ (subst (λ n. Counted m k (2 * ((longest_chain p + 1) * (seqr m w p.seq).next) + 2 * w.cluster.layouts + 2 * ((2 * longest_chain p + 1 + length f.work.oids) * (n + 2)) + 2 * (longest_chain p + 1)) w (settle m w).world) (units_are m h ms w r)
+      (subst (λ l. Counted m k (2 * ((longest_chain p + 1) * (seqr m w p.seq).next) + 2 * l + 2 * ((2 * longest_chain p + 1 + length f.work.oids) * (length w.units + 2)) + 2 * (longest_chain p + 1)) w (settle m w).world) layouts_are c))
+      (settle_replies m k f.work.command (makes_play f.work.command f.makes_it) w (in_work f.work f.waits) c.answered)
+
+  pub ask_walks : (x : CommandOf m) → WaitsAlone m w k x → IsReadyFor m w k → Granted m w → HeldWhereTrimmed m w p → (f : WaitsForSync m w k)
+      → IsAnswered m w k (walk_bound m w (streams m f.work)) × IsAnswered m w k (most_deliveries_in m w x + passes_bound m w 128)
+  ask_walks x a b g held f =
+      let y = ask_by x a b g held f in
+      let few = passes_few (longest_chain p) (length f.work.oids) w.cluster.units (few_streams f.work f.waits) in
+      let room = bounds m x (longest_chain p) (seqr m w p.seq).next w.cluster.units _ (walks_room (longest_chain p) (seqr m w p.seq).next w.cluster.layouts (longest g x a b) few_layouts) in
+      (y, within m k _ _ w _ (omega (arith, room, few)) y)
+
+  pub make_walks : (x : CommandOf m) → WaitsAlone m w k x → IsReadyFor m w k → Granted m w → HeldWhereTrimmed m w p → (f : MakesSync m w k)
+      → IsAnswered m w k (walk_bound m w (streams m f.work) + 2 * (longest_chain p + 1)) × IsAnswered m w k (most_deliveries_in m w x + passes_bound m w 128)
+  make_walks x a b g held f =
+      let y = make_by x a b g held f in
+      let few = passes_few (longest_chain p) (length f.work.oids) w.cluster.units (few_streams f.work f.waits) in
+      let room = bounds m x (longest_chain p) (seqr m w p.seq).next w.cluster.units _ (walks_room (longest_chain p) (seqr m w p.seq).next w.cluster.layouts (longest g x a b) few_layouts) in
+      (y, within m k _ _ w _ (omega (arith, room, few)) y)
+
+  rescue_by : (x : CommandOf m) → WaitsAlone m w k x → IsReadyFor m w k → Granted m w → HeldWhereTrimmed m w p → (f : RescuesSync m w k) → IsAnswered m w k (rescue_bound m w (streams m f.work))
+  unfolding rescued synced
+  rescue_by x a b g held f =
+      let c = rescues_finish_by m w k p (longest_chain p) (working m h ms w r k x a b) (lawful m h ms w r k x a b g) (walkable held) (rescued f) f.rescues (few_streams f.work f.waits) a.within in
+      answered_of m k _ w _
+      (subst (λ n. Counted m k ((2 * ((longest_chain p + 1) * (seqr m w p.seq).next) + 2 * w.cluster.layouts + 2 * ((2 * longest_chain p + 1 + 128) * (n + 2))) * ((128 - length f.work.oids) + 1) + 2 * (longest_chain p + 1)) w (settle m w).world) (units_are m h ms w r)
+      (subst (λ l. Counted m k ((2 * ((longest_chain p + 1) * (seqr m w p.seq).next) + 2 * l + 2 * ((2 * longest_chain p + 1 + 128) * (length w.units + 2))) * ((128 - length f.work.oids) + 1) + 2 * (longest_chain p + 1)) w (settle m w).world) layouts_are c))
+      (settle_replies m k f.work.command (rescues_play f.work.command f.rescues) w (in_work f.work f.waits) c.answered)
+
+  one_work : (v u : Work m) → Some v ≡ Some u → v ≡ u
+  one_work v u e = cc
+
+  pub rescue_walks : (x : CommandOf m) → WaitsAlone m w k x → IsReadyFor m w k → Granted m w → HeldWhereTrimmed m w p → (f : RescuesSync m w k)
+      → IsAnswered m w k (rescue_bound m w (streams m f.work)) × IsAnswered m w k (most_deliveries_in m w x + 129 * passes_bound m w 128)
+  rescue_walks x a b g held f =
+      let y = rescue_by x a b g held f in
+      let same = ap (λ (v : Work m). v.command) (one_work f.work a.work (sym f.waits ∙ a.waits)) ∙ a.command in
+      let most = rescues_most m x (longest_chain p) (seqr m w p.seq).next w.cluster.units (subst (λ (z : CommandOf m). is_rescue m z ≡ true) same f.rescues) in
+      let room = rescues_room (longest_chain p) (seqr m w p.seq).next w.cluster.layouts (passes_bound m w 128) (128 - length f.work.oids) (longest g x a b) few_layouts (omega arith) in
+      (y, within m k _ _ w _ (omega (arith, room, most)) y)
+
+  end_by : (x : CommandOf m) → WaitsAlone m w k x → IsReadyFor m w k → Granted m w → HeldWhereTrimmed m w p → Owns m w k p → IsAnswered m w k (end_bound m w)
+  end_by x a b g held f =
+      let c = ends_finish_by m w k p (longest_chain p) (working m h ms w r k x a b) (lawful m h ms w r k x a b g) (walkable held) f a.within in
+      answered_of m k _ w _
+      (subst (λ n. Counted m k (2 * ((longest_chain p + 1) * (seqr m w p.seq).next) + 2 * w.cluster.layouts + 2 * ((2 * longest_chain p + 1 + 128) * (n + 2)) + 6 * (longest_chain p + 1)) w (settle m w).world) (units_are m h ms w r)
+      (subst (λ l. Counted m k (2 * ((longest_chain p + 1) * (seqr m w p.seq).next) + 2 * l + 2 * ((2 * longest_chain p + 1 + 128) * (length w.units + 2)) + 6 * (longest_chain p + 1)) w (settle m w).world) layouts_are c))
+      (settle_replies m k f.work.command (ends_play f.work.command f.command) w (in_work f.work f.waits) c.answered)
+
+  pub end_walks : (x : CommandOf m) → WaitsAlone m w k x → IsReadyFor m w k → Granted m w → HeldWhereTrimmed m w p → Owns m w k p → IsAnswered m w k (end_bound m w) × IsAnswered m w k (most_deliveries_in m w x + passes_bound m w 128)
+  end_walks x a b g held f =
+      let y = end_by x a b g held f in
+      let room = bounds m x (longest_chain p) (seqr m w p.seq).next w.cluster.units _ (ends_room (longest_chain p) (seqr m w p.seq).next w.cluster.layouts (longest g x a b) few_layouts) in
+      (y, within m k _ _ w _ (omega (arith, room)) y)
 
 pub appends_are_answered : (m : Meaning) → Always m (AppendAnswered m)
 appends_are_answered m h ms w r k x a b g f = append_answered m h ms w r k x a b g f
@@ -266,3 +392,6 @@ asks_in_time m h ms w r k x a b g u n f = ask_in_time m h ms w r k x a b g u n f
 
 pub ends_are_told : (m : Meaning) → EndsAreTold m
 ends_are_told m w k work e g idle = settle_replies m k work.command g w (subst (λ (o : Option (Work m)). CommandIs m work.command o) (sym e) refl) idle
+
+pub streams_are_few : (m : Meaning) → Always m (StreamsFew m)
+streams_are_few m h ms w r k v e = few_streams m h ms w r k v e

@@ -139,7 +139,7 @@ module _ (m : Meaning) (h : Header) (stopped : List NodeId) (k : ℕ) (p : Layou
     pub no_latest : is_latest (reply y) ≡ false
     pub well : (u next : ℕ) → Well t n next (feeds u (reply y) next)
 
-  gone_near : (b : ℕ) → too_far b ≡ false → reply (msg.Gone b) ≡ IsGone b
+  pub gone_near : (b : ℕ) → too_far b ≡ false → reply (msg.Gone b) ≡ IsGone b
   unfolding reply
   gone_near b e = ap (λ x. cond x IsOther (IsGone b)) e
 
@@ -208,7 +208,7 @@ module _ (m : Meaning) (h : Header) (stopped : List NodeId) (k : ℕ) (p : Layou
   pub put_fresh_replies : (s : Net m) (a : Append) (pl : Place) (r : ℕ) (d : List ℕ) (i n : ℕ) (f : PutFresh s a pl d i n) (tu : UnitTurn) → Outcome (unit_of m s (unit_at pl i)) pl.pos (Data d) tu
       → Replies s (unit_at pl i) tu n (λ u x next. put_turn a f.token (work_feed (works pl (Puts r d i)) (Puts r d i) u x next))
   put_fresh_replies s a pl r d i n f tu (IsGone' trimmed) = record { says = _; is = refl; heard = put_gone _ a f.token pl r d i n _ (f.serves.unit i f.less).low trimmed }
-  put_fresh_replies s a pl r d i n f tu (IsHeld' t kept here low) =
+  put_fresh_replies s a pl r d i n f tu (IsHeld' t kept here low same) =
       let put = held_put s (unit_at pl i) t pl.pos (Data d) kept here in
       let few = f.few in
       record { says = _; is = refl; heard = put_held _ a f.token pl r d i n (puts_serves m h stopped k p longest s _ pl.pos (Data d) pl put f.serves) (puts_clear m h stopped k p longest s _ pl (Data d) i (i + 1) put (omega arith) f.clear) (omega (arith, few)) }
@@ -220,7 +220,7 @@ module _ (m : Meaning) (h : Header) (stopped : List NodeId) (k : ℕ) (p : Layou
   pub put_old_replies : (s : Net m) (a : Append) (pl : Place) (r : ℕ) (d : List ℕ) (n : ℕ) (f : PutOld s a pl 0 n) (tu : UnitTurn) → Outcome (unit_of m s (unit_at pl 0)) pl.pos (Data d) tu
       → Replies s (unit_at pl 0) tu n (λ u x next. put_turn a f.token (work_feed (works pl (Puts r d 0)) (Puts r d 0) u x next))
   put_old_replies s a pl r d n f tu (IsGone' trimmed) = record { says = _; is = refl; heard = put_gone _ a f.token pl r d 0 n _ (f.serves.unit 0 f.serves.some).low trimmed }
-  put_old_replies s a pl r d n f tu (IsHeld' t kept here low) =
+  put_old_replies s a pl r d n f tu (IsHeld' t kept here low same) =
       let put = held_put s (unit_at pl 0) t pl.pos (Data d) kept here in
       let few = f.few in
       let short = f.serves.short in
@@ -231,7 +231,7 @@ module _ (m : Meaning) (h : Header) (stopped : List NodeId) (k : ℕ) (p : Layou
   pub fill_replies : (s : Net m) (a : Append) (pl : Place) (r n : ℕ) (f : Filling s a pl n) (tu : UnitTurn) → Outcome (unit_of m s (unit_at pl 0)) pl.pos Junk tu
       → Replies s (unit_at pl 0) tu n (λ u x next. judge_turn a f.token (work_feed (works pl (Fills r)) (Fills r) u x next))
   fill_replies s a pl r n f tu (IsGone' trimmed) = record { says = _; is = refl; heard = fill_gone _ a f.token pl r n _ (f.serves.unit 0 f.serves.some).low trimmed }
-  fill_replies s a pl r n f tu (IsHeld' t kept here low) =
+  fill_replies s a pl r n f tu (IsHeld' t kept here low same) =
       let put = held_put s (unit_at pl 0) t pl.pos Junk kept here in
       record {
         says = _;
@@ -253,7 +253,7 @@ module _ (m : Meaning) (h : Header) (stopped : List NodeId) (k : ℕ) (p : Layou
   pub copy_replies : (s : Net m) (a : Append) (pl : Place) (r : ℕ) (c : Cell) (i n : ℕ) (f : Copying s a pl c i n) (tu : UnitTurn) → Outcome (unit_of m s (unit_at pl i)) pl.pos c tu
       → Replies s (unit_at pl i) tu n (λ u x next. judge_turn a f.token (work_feed (works pl (Copies r c i)) (Copies r c i) u x next))
   copy_replies s a pl r c i n f tu (IsGone' trimmed) = record { says = _; is = refl; heard = copy_gone _ a f.token pl r c i n _ (f.serves.unit i f.less).low trimmed }
-  copy_replies s a pl r c i n f tu (IsHeld' t kept here low) =
+  copy_replies s a pl r c i n f tu (IsHeld' t kept here low same) =
       let put = held_put s (unit_at pl i) t pl.pos c kept here in
       record {
         says = _;

@@ -1,144 +1,166 @@
--- A client whose command syncs and walks is answered.
-use Rattle.std.proofs.Common.{◌≡◌, ◌⊎◌, ℕ, zero, suc, ◌+◌, ◌-◌, ◌^◌, ◌<◌, ◌≤◌, List, [], ◌∷◌, ◌++◌, length, map, cond, Bool, true, false, refl, ap, ◌∙◌, sym, subst, inl, inr, arith, Some, None, Option, eqb}
-use Rattle.std.specs.Prelude.{slice_set, slice_index_or, nat_le, max}
+-- A client whose command syncs and walks comes to where all is walked.
+use Rattle.std.proofs.Common.{◌≡◌, ◌⊎◌, ℕ, zero, suc, ◌+◌, ◌-◌, ◌/◌, ◌<◌, ◌≤◌, List, [], ◌∷◌, ◌++◌, length, map, cond, Bool, true, false, not, ◌&&◌, refl, ap, ◌∙◌, sym, subst, inl, inr, arith, Some, None, Option, eqb, append-nil}
+use Rattle.std.specs.Prelude.{slice_set, slice_index, slice_index_or, nat_lt, max, is_some, ⊤}
 use Rattle.tg_base.specs.Layouts.{Layout}
 use Rattle.tg_base.specs.Clusters.{Header}
 use Rattle.tg_base.specs.declared.cell.Cell.{Cell}
 use Rattle.tg_base.specs.declared.cell.Cell.TheVariants.{Junk}
 use Rattle.tg_base.specs.declared.ids.NodeId.{NodeId}
 use Rattle.tg_base.specs.declared.ids.Oid.{Oid}
+use Rattle.tg_base.specs.declared.marks.StreamLink.{StreamLink}
 use Rattle.tg_base.specs.declared.msg.Msg.{Msg}
 use Rattle.tg_base.specs.declared.msg.Msg.TheVariants as msg
 use Rattle.tg_base.specs.declared.packet.Out.{Out}
-use Rattle.tg_kind.specs.Meaning.{Meaning}
 use Rattle.tg_base.specs.Orders.{node_eq}
-use Rattle.tg_protocol.specs.Words.{cell_at, with_cell, too_far, unit_id, seqr_id, layout_id, client_id}
+use Rattle.tg_kind.specs.Meaning.{Meaning}
+use Rattle.tg_protocol.specs.Words.{cell_at, with_cell, unit_id, seqr_id, layout_id, client_id}
 use Rattle.tg_protocol.specs.Entries.{link_of, backs_of}
+use Rattle.tg_protocol.specs.Units.{UnitState, new_unit, says, in_epoch, on_has, first_missing, how_many, unit_step, unit_ask, on_ask}
 use Rattle.tg_protocol.specs.Sequencers.{SeqrState, scanning, links_of, new_seqr, seqr_step, own_epoch, unfenced, stand_answer, answers as seqr_answers}
-use Rattle.tg_protocol.specs.Requests.{out, awaits, drawn_from}
-use Rattle.tg_protocol.specs.Replies.{Reply, IsLatest, IsOther, IsTail, reply}
-use Rattle.tg_protocol.specs.Cells.{CellWork, Gets, CellJob, Place, place_in, works, work_asks, cell_asks, cell_feed}
-use Rattle.tg_protocol.specs.Walking.{Walk, Members, WalkTurn, with_job, walk_feed, walk_turn, job_asks}
-use Rattle.tg_protocol.specs.Syncing.{Answer, Sync, SyncWork, Checking, Settling, Probing, SyncTurn, sync_work_asks, sync_feed, settle_turn, on_tail, checking_feed}
-use Rattle.tg_protocol.specs.Clients.{Task, Walking, Syncing, Appending, Trimming, Copying', Reconfiguring, Doing, Work, Client}
-use Rattle.tg_protocol.specs.Answers.{Moved, moved}
-use Rattle.tg_protocol.specs.ClientSteps.{walks, goes_on, task_asks, task_awaited, task_again_asks, hand_again_asks, hand_asks, client_asks, given, called, client_deliver, feed, reply_feed, hand_feed, fed_if, task_feed, on_sync, on_walk, after_turn, met, ClientTurn, takes_back, found_by, walk_ended_by}
-use Rattle.tg_law_finish.proofs.Finish.Nets.{Net, unit_of, seqr_of, client_of, on_alike, seqr_alike}
-use Rattle.tg_law_finish.proofs.Finish.Others.{Keeps, Calm, Ready}
-use Rattle.tg_law_finish.proofs.Finish.Stores.{with_unit, Put}
-use Rattle.tg_law_finish.proofs.Finish.Readings.{CellAsk, cell_ask, cell_keeps}
-use Rattle.tg_law_finish.proofs.Finish.Trails.{unknown, unknown_fewer, Low, TrailLow, Walked, WalkReads, WalkEnds}
-use Rattle.tg_law_finish.proofs.Finish.Readers.{Way, asking_way, Walks, WalksTo, ToOver, ToReads, walks_to}
-use Rattle.tg_base.specs.declared.marks.StreamLink.{StreamLink}
-use Rattle.tg_protocol.specs.Units.{unit_step}
 use Rattle.tg_protocol.specs.Layouts.{first_layout}
-use Rattle.tg_protocol.specs.Worlds.{packet_of, answer_to}
+use Rattle.tg_protocol.specs.Requests.{out, awaits, drawn_from, Waits, waits_for, asked_of, without_wait, Ends}
+use Rattle.tg_protocol.specs.Replies.{IsTail, IsOther, IsWhole, reply}
+use Rattle.tg_protocol.specs.Cells.{CellWork, Gets, Probes, CellJob, Place, place_in, works, work_asks, cell_asks, cell_feed, work_feed, probe_on}
+use Rattle.tg_protocol.specs.Walking.{Walk, Members, WalkTurn, walk_members, with_job, walk_feed, job_asks}
+use Rattle.tg_protocol.specs.Syncing.{Answer, Sync, SyncWork, Checking, Settling, Probing, SyncTurn, sync_work_asks, sync_feed, sync_start, probe_turn, on_tail, checking_feed}
+use Rattle.tg_protocol.specs.Views.{View}
+use Rattle.tg_protocol.specs.Clients.{Task, Walking, Syncing, Appending, Trimming, Copying', Reconfiguring, Doing, Work, Client}
+use Rattle.tg_protocol.specs.Answers.{Moved, syncs}
+use Rattle.tg_protocol.specs.ClientSteps.{walks, goes_on, task_asks, task_awaited, task_again_asks, client_asks, given, called, client_deliver, feed, task_feed, on_sync, on_walk, after_turn, met, ClientTurn, takes_back, found_by, walk_ended_by, given_up_if, gives_up, stale, at_trim}
 use Rattle.tg_protocol.specs.ClientSteps as steps
-use Rattle.tg_law_finish.proofs.Finish.Lists.{set_there, set_other}
+use Rattle.tg_protocol.specs.Worlds.{packet_of, answer_to}
+use Rattle.tg_law_finish.proofs.Finish.Nets.{Net, unit_of, seqr_of, client_of, seqr_alike, unit_alike}
+use Rattle.tg_law_finish.proofs.Finish.Lists.{Each, set_there, set_index, set_other}
 use Rattle.tg_law_finish.proofs.Finish.Strays.{Old}
-use Rattle.tg_law_finish.proofs.Finish.Talks.{Facts, Over, More, Asked, Machine}
+use Rattle.tg_law_finish.proofs.Finish.Others.{Keeps, Ready}
+use Rattle.tg_law_finish.proofs.Finish.Stores.{with_unit}
+use Rattle.tg_law_finish.proofs.Finish.Places.{UnitServes, keeps_unit}
 use Rattle.tg_law_finish.proofs.Finish.Appends.{is_latest}
-use Rattle.tg_law_finish.proofs.Finish.Writers.{over_asks, to_hand, none_drawn, none_awaited, other_latest, new_drawn, unit_away, awaited_itself, unit_no_client, seqr_no_client, below_count, same_out}
-use Rattle.tg_law_finish.proofs.Finish.Askers.{budget, Open, Reading, WalkStage, WalkWell, CellOn, WalkOn, Checks, Settles, SyncStage, SyncWell, SyncOn, SyncEnds, cell_walks, cell_settles, tail_well, readable_keeps}
+use Rattle.tg_law_finish.proofs.Finish.Lines.{Item, Ask, Tell, asks, Busied, Again, Talk, Told, Goes}
+use Rattle.tg_law_finish.proofs.Finish.Talks.{no_asks}
+use Rattle.tg_law_finish.proofs.Finish.Writers.{new_drawn, unit_away, seqr_away, awaited_itself, unit_no_client, seqr_no_client, below_count, same_out}
+use Rattle.tg_law_finish.proofs.Finish.Readings.{Sort, CellAsk, cell_ask, cell_keeps}
+use Rattle.tg_law_finish.proofs.Finish.Trails.{unknown, unknown_fewer, Low, TrailLow, Walked, WalkReads, WalkEnds}
+use Rattle.tg_law_finish.proofs.Finish.Readers.{Way, Walks, WalksTo, ToOver, ToReads, walks_to, seen}
+use Rattle.tg_law_finish.proofs.Finish.Tasks.{TaskShape, Below, Away, none_drawn, shape_called, shape_ticked, again_is, busied, task_fed}
+use Rattle.tg_law_finish.proofs.Finish.Askers.{Distinct, Kind, extra, extra_less, extra_is, above, above_fewer, budget, passes, passes_less, passes_fewer, rest, Here, here_keeps, here_put, stable_at, sort_of, Reading, WalkStage, WalkWell, CellOn, WalkOn, WalkGone, cell_walks, Settles, SyncStage, SyncWell, SyncOn, SyncEnds, SyncProbes, cell_settles, tail_well}
 
--- Of commands that go on in such a way once all is walked, and a fact of the nodes that a store below the tail keeps, and so do other packets.
-module _ (m : Meaning) (h : Header) (stopped : List NodeId) (k : ℕ) (p : Layout) (longest tail : ℕ) (way : Way m) (Also : Net m → Type 0)
-    (also_put : (s t : Net m) (pos : ℕ) (c : Cell) → Put m stopped s t pos c → (0 < tail → pos < tail) → seqr_of m h t p.seq ≡ seqr_of m h s p.seq → Also s → Also t) (also_keeps : (s t : Net m) → Keeps m h stopped k p s t → Also s → Also t) where
-  -- a client that does a task with one request outstanding
-  pub record TaskShape (c : Client m) (t : Task m) (o : Out) : Type 0 where
-    pub stand : c.stand ≡ p
-    pub work : Work m
-    pub waits : c.work ≡ Some work
-    pub hand : work.hand ≡ Doing t
-    pub awaited : task_awaited m p t ≡ o ∷ []
-    pub again : task_again_asks m p t ≡ o ∷ []
-    pub asks : task_asks m p t ≡ o ∷ []
-    pub below : o.rid < c.next
-    pub away : (l : ℕ) → node_eq o.to (layout_id l) ≡ false
+-- Of commands that go on in such a way once all is walked.
+module _ (m : Meaning) (h : Header) (stopped : List NodeId) (k : ℕ) (p : Layout) (longest : ℕ) (low_at : ℕ → ℕ) (many tail most : ℕ) (kind : Kind low_at p tail) (way : Way m) where
+  abbrev HereIn : Net m → Type 0
+  HereIn s = Here m h stopped k p longest low_at many tail most kind s
 
-  abbrev shape_called : (c : Client m) (t : Task m) (o : Out) → TaskShape c t o → TaskShape (called m c) t o
-  shape_called c t o x = record { stand = x.stand; work = x.work; waits = x.waits; hand = x.hand; awaited = x.awaited; again = x.again; asks = x.asks; below = x.below; away = x.away }
+  abbrev Budget : ℕ → ℕ
+  Budget n = budget m h stopped k p longest low_at many tail most kind n
 
-  abbrev shape_ticked : (c : Client m) (t : Task m) (o : Out) → TaskShape c t o → TaskShape (called m (record c { next = c.next + c.layouts })) t o
-  shape_ticked c t o x = let b = x.below in record { stand = x.stand; work = x.work; waits = x.waits; hand = x.hand; awaited = x.awaited; again = x.again; asks = x.asks; below = omega (arith, b); away = x.away }
+  abbrev Rest : ℕ → ℕ → ℕ → ℕ
+  Rest os g v = rest m h stopped k p longest low_at many tail most kind os g v
 
-  asks_is : (c : Client m) (t : Task m) (o : Out) → TaskShape c t o → client_asks m c ≡ o ∷ []
-  unfolding client_asks
-  asks_is c t o x = ap (λ w. steps.work_asks m c.stand w) x.waits ∙ (ap (λ y. hand_asks m c.stand y) x.hand ∙ (ap (λ q. task_asks m q t) x.stand ∙ x.asks))
+  -- what is left after a sync
+  abbrev after_of : Work m → ℕ → ℕ
+  after_of w v = Rest (length w.oids) w.gone_before v
 
-  awaited_is : (c : Client m) (t : Task m) (o : Out) → TaskShape c t o → task_awaited m c.stand t ≡ o ∷ []
-  awaited_is c t o x = ap (λ q. task_awaited m q t) x.stand ∙ x.awaited
+  abbrev IsSuch : Work m → Type 0
+  IsSuch w = way.Is w.command (length w.oids) × (length w.oids ≤ most)
 
-  again_is : (c : Client m) (t : Task m) (o : Out) (x : TaskShape c t o) → hand_again_asks m c.stand x.work.hand ≡ o ∷ []
-  again_is c t o x = ap (λ y. hand_again_asks m c.stand y) x.hand ∙ (ap (λ q. task_again_asks m q t) x.stand ∙ x.again)
+  abbrev LastsLow : List StreamLink → Type 0
+  LastsLow ls = (o : Oid) → Low p tail (backs_of (link_of o ls))
 
-  calm_fed : (c : Client m) (t : Task m) (o : Out) (l rid : ℕ) (q : Layout) (b : Bool) (x : TaskShape c t o) → q.epoch ≤ p.epoch → reply_feed m c x.work (layout_id l) rid (cond b IsOther (IsLatest q)) ≡ moved m c []
-  calm_fed c t o l rid q true x le = ap (λ y. hand_feed m c x.work y (layout_id l) rid IsOther) x.hand ∙ ap (λ b. fed_if m b c x.work t (layout_id l) rid IsOther) (ap (λ os. awaits os (layout_id l) rid) (awaited_is c t o x) ∙ none_awaited m h stopped k p longest o (layout_id l) rid (x.away l))
-  calm_fed c t o l rid q false x le = other_latest m h stopped k p longest c x.work (layout_id l) rid q (subst (λ y. q.epoch ≤ y.epoch) (sym x.stand) le)
-
-  calm_shape : (c : Client m) (t : Task m) (o : Out) → TaskShape c t o → Calm m h stopped k p c
-  unfolding client_deliver reply
-  calm_shape c t o x = λ l rid q le.
-      ap (λ y. given m c y) (ap (λ w. feed m c w (layout_id l) rid (reply (msg.Latest q))) x.waits ∙ calm_fed c t o l rid q (nat_le (2 ^ 32) q.epoch) x le)
-      ∙ ap (λ os. record { now = called m c; sends = os; notes = [] }) (ap (λ os. drawn_from c.next os) (asks_is c t o x) ∙ none_drawn m h stopped k p longest o c.next x.below)
-
-  -- Where its task stands.
-  abbrev pub TaskStage : Net m → List (ℕ × Cell) → Work m → Task m → ℕ → Type 0
-  TaskStage s cells w (Syncing sy) n = SyncStage m h stopped k p longest tail s cells sy sy.work n × way.Is w.command
-  TaskStage s cells w (Walking wk os) n = WalkStage m h stopped k p longest tail s wk wk.job n × Walks m way p tail w
-  TaskStage s cells w _ n = ⊥
+  -- Where its task stands, with one request on its way; v tells whether a view is kept.
+  abbrev pub TaskStage : Net m → List (ℕ × Cell) → ℕ → Work m → Task m → ℕ → Type 0
+  TaskStage s cells v w (Syncing sy) n = SyncStage m h stopped k p longest low_at many tail most kind s cells (after_of w v) sy sy.work n × IsSuch w
+  TaskStage s cells v w (Walking wk os) n = WalkStage m h stopped k p longest low_at many tail most kind s wk (length os) w.gone_before v wk.job n × Walks m way p tail most w
+  TaskStage s cells v w _ n = ⊥
 
   pub record Asking' (s : Net m) (c : Client m) (o : Out) (n : ℕ) : Type 0 where
     pub task : Task m
-    pub shape : TaskShape c task o
-    pub stage : TaskStage s c.cells shape.work task n
-    pub also : Also s
+    pub shape : TaskShape m h stopped k p longest c task (o ∷ [])
+    pub stage : TaskStage s c.cells (seen c.view) shape.work task n
 
   -- What it hears.
-  abbrev pub TaskWell : Net m → List (ℕ × Cell) → Work m → Task m → Msg → ℕ → Type 0
-  TaskWell s cells w (Syncing sy) y n = ((u next : ℕ) → SyncWell m h stopped k p longest tail s cells n next (sync_feed p sy sy.work u (reply y) next)) × way.Is w.command
-  TaskWell s cells w (Walking wk os) y n = ((u next : ℕ) → WalkWell m h stopped k p longest tail s n next (walk_feed p wk wk.job u (reply y) next)) × Walks m way p tail w
-  TaskWell s cells w _ y n = ⊥
+  abbrev pub TaskWell : Net m → List (ℕ × Cell) → ℕ → Work m → Task m → Msg → ℕ → Type 0
+  TaskWell s cells v w (Syncing sy) y n = ((u next : ℕ) → SyncWell m h stopped k p longest low_at many tail most kind s cells (after_of w v) n next (sync_feed p sy sy.work u (reply y) next)) × IsSuch w
+  TaskWell s cells v w (Walking wk os) y n = ((u next : ℕ) → WalkWell m h stopped k p longest low_at many tail most kind s (length os) w.gone_before v n next (walk_feed p wk wk.job u (reply y) next)) × Walks m way p tail most w
+  TaskWell s cells v w _ y n = ⊥
 
   pub record Hearing' (s : Net m) (c : Client m) (from : NodeId) (rid : ℕ) (y : Msg) (n : ℕ) : Type 0 where
     pub task : Task m
     pub o : Out
-    pub shape : TaskShape c task o
+    pub shape : TaskShape m h stopped k p longest c task (o ∷ [])
     pub awaited : awaits (o ∷ []) from rid ≡ true
     pub no_latest : is_latest (reply y) ≡ false
-    pub well : TaskWell s c.cells shape.work task y n
-    pub also : Also s
+    pub well : TaskWell s c.cells (seen c.view) shape.work task y n
 
-  -- The answer comes to the client.
+  -- A probe: the units of a chain are asked at once.
 
-  data Fed (t : Net m) (n next : ℕ) : Moved m → Type 0 where
-    FedOver : (c : Client m) (x : Moved m) → c.next ≡ next → c.stand ≡ p → way.GoesOn c x → Fed t n next x
-    FedOn : (c : Client m) (w : Work m) (task : Task m) (to : NodeId) (z : Msg) (left : ℕ) → c.next ≡ next + 1 → c.stand ≡ p → task_awaited m p task ≡ out to next z ∷ [] → task_again_asks m p task ≡ out to next z ∷ [] → task_asks m p task ≡ out to next z ∷ []
-        → ((l : ℕ) → node_eq to (layout_id l) ≡ false) → ((v : Work m) → v.command ≡ w.command → v.lasts ≡ w.lasts → TaskStage t c.cells v task left) → left + 1 ≤ n → Fed t n next (goes_on m c w task [])
+  abbrev look : Place → Msg
+  look pl = msg.Has pl.epoch pl.pos pl.pos 1
+
+  abbrev looks : Place → Waits → List Out
+  looks pl ws = asked_of unit_id (look pl) ws
+
+  abbrev wholes : Waits → List Item
+  wholes ws = map (λ (w : ℕ × ℕ). Tell (unit_id w.0) w.1 msg.Whole) ws
+
+  -- no unit is asked twice
+  abbrev pub AskedOnce : Waits → Type 0
+  AskedOnce [] = ⊤
+  AskedOnce (w ∷ ws) = Each (λ (v : ℕ × ℕ). eqb v.0 w.0 ≡ false) ws × AskedOnce ws
+
+  abbrev Answering : Net m → ℕ × ℕ → Type 0
+  Answering s w = UnitServes m h stopped k p longest s w.0
+
+  -- of those that are waited for these have answered, and these haven't been asked yet
+  pub record Probing' (s : Net m) (c : Client m) (is : List Item) (n : ℕ) : Type 0 where
+    pub sync : Sync
+    pub answer : Answer
+    pub pl : Place
+    pub epoch : pl.epoch ≡ p.epoch
+    pub waits : Waits
+    pub told : Waits
+    pub asked : Waits
+    pub split : waits ≡ told ++ asked
+    pub work : sync.work ≡ Probing answer (works pl (Probes waits))
+    pub shape : TaskShape m h stopped k p longest c (Syncing sync) (looks pl waits)
+    pub items : is ≡ asks (looks pl asked) ++ wholes told
+    pub some : waits ≡ [] → ⊥
+    pub units : Each (Answering s) waits
+    pub once : AskedOnce waits
+    pub tail_is : answer.tail ≡ tail
+    pub lasts : LastsLow answer.lasts
+    pub here : HereIn s
+    pub such : IsSuch shape.work
+    pub few : Budget (unknown c.cells tail) + extra kind.trims (after_of shape.work (seen c.view)) ≤ n
+
+  pub data Reads (s : Net m) (c : Client m) : List Item → ℕ → Type 0 where
+    AsksOne : (o : Out) (n : ℕ) → Asking' s c o n → Reads s c (Ask o ∷ []) n
+    HearsOne : (from : NodeId) (rid : ℕ) (y : Msg) (n : ℕ) → Hearing' s c from rid y n → Reads s c (Tell from rid y ∷ []) n
+    ProbesAll : (is : List Item) (n : ℕ) → Probing' s c is n → Reads s c is n
 
   -- all is walked, and the command goes on
-  pub record EndsWalks (c : Client m) (t : ClientTurn m) : Type 0 where
+  pub record EndsWalks (s : Net m) (c : Client m) (t : ClientTurn m) (n : ℕ) : Type 0 where
     pub at : Client m
     pub next : at.next ≡ c.next
     pub stand : at.stand ≡ p
+    pub here : HereIn s
     pub moved : Moved m
     pub goes : way.GoesOn at moved
     pub turn : t ≡ given m c moved
 
-  fed_turns : (t : Net m) (c : Client m) (n : ℕ) (x : Moved m) → Also t → Fed t n c.next x → EndsWalks c (given m c x) ⊎ More m h stopped k p Asking' Hearing' t (given m c x) n
-  unfolding client_asks
-  fed_turns t c n x also (FedOver d y next stand goes) = inl (record { at = d; next = next; stand = stand; moved = y; goes = goes; turn = refl })
-  fed_turns t c n x also (FedOn d w task to z left next stand awaited again asks away stage few) = inr (record {
-    o = out to c.next z;
-    left = left;
-    sends = ap (λ q. drawn_from c.next (task_asks m q task)) stand ∙ (ap (λ os. drawn_from c.next os) asks ∙ new_drawn m h stopped k p longest to c.next z);
-    stage = record { task = task; shape = record { stand = stand; work = _; waits = refl; hand = refl; awaited = awaited; again = again; asks = asks; below = omega (arith, next); away = away }; stage = stage _ refl refl; also = also };
-    less = few;
-  })
+  -- What an answer makes of the client.
+  data Fed (t : Net m) (n next : ℕ) : Moved m → Type 0 where
+    FedOver : (c : Client m) (x : Moved m) → c.next ≡ next → c.stand ≡ p → HereIn t → way.GoesOn c x → Fed t n next x
+    FedOn : (c : Client m) (w : Work m) (task : Task m) (to : NodeId) (z : Msg) (left : ℕ) → c.next ≡ next + 1 → c.stand ≡ p → task_awaited m p task ≡ out to next z ∷ [] → task_again_asks m p task ≡ out to next z ∷ [] → task_asks m p task ≡ out to next z ∷ []
+        → ((l : ℕ) → node_eq to (layout_id l) ≡ false) → TaskStage t c.cells (seen c.view) (record w { hand = Doing task }) task left → left + 1 ≤ n → Fed t n next (goes_on m c w task [])
+    FedProbes : (c : Client m) (w : Work m) (oids : List Oid) (a : Answer) (left : ℕ) → c.next ≡ next + length (place_in p (a.tail - 1)).chain → c.stand ≡ p → a.tail ≡ tail → LastsLow a.lasts → HereIn t → IsSuch w
+        → Budget (unknown c.cells tail) + extra kind.trims (after_of w (seen c.view)) ≤ left → left + length (place_in p (a.tail - 1)).chain ≤ n
+        → Fed t n next (goes_on m c w (Syncing (record { oids = oids; work = Probing a (works (place_in p (a.tail - 1)) (Probes (waits_for (place_in p (a.tail - 1)).chain next))) })) [])
 
-  budget_step : (u : ℕ) → 1 ≤ u → budget m h stopped k p longest tail u ≡ suc longest + budget m h stopped k p longest tail (u - 1)
+  -- Walks begin, or go on.
+
+  budget_step : (u : ℕ) → 1 ≤ u → Budget u ≡ suc longest + Budget (u - 1)
   budget_step zero le = absurd (omega (arith, le))
-  budget_step (suc u) le = let e = one u in ap (λ n. suc longest + budget m h stopped k p longest tail n) (sym e)
+  budget_step (suc u) le = let e = one u in ap (λ n. suc longest + Budget n) (sym e)
     where
       one : (u : ℕ) → suc u - 1 ≡ u
       one u = omega arith
@@ -146,158 +168,392 @@ module _ (m : Meaning) (h : Header) (stopped : List NodeId) (k : ℕ) (p : Layou
   unknown_some : (cells : List (ℕ × Cell)) (q : ℕ) → cell_at cells q ≡ None → q < tail → 1 ≤ unknown cells tail
   unknown_some cells q none less = let a = unknown_fewer cells q Junk tail none less in omega (arith, a)
 
-  reads_stage : (t : Net m) (cells : List (ℕ × Cell)) (wk : Walk) (q next : ℕ) → Open m h stopped k p longest tail t cells → q < tail → cell_at cells q ≡ None → wk.cells ≡ cells → TrailLow p tail wk.trail
-      → Reading m h stopped k p longest tail t (with_job wk (works (place_in p q) (Gets next))) (place_in p q) (Gets next) (longest + budget m h stopped k p longest tail (unknown cells tail - 1))
-  reads_stage t cells wk q next free less none same low = record {
-    place = refl;
-    less = less;
-    none = ap (λ x. cell_at x q) same ∙ none;
-    low = record { pointers = low.pointers; last = low.last };
-    free = λ i l off n. free i l (ap (λ x. cell_at x i) (sym same) ∙ n);
-    cost = longest;
-    cell = ((free q less none).0, (free q less none).1, (free q less none).0.serves.short);
-    left = unknown cells tail - 1;
-    fewer = let e = ap (λ x. unknown x tail) same in omega (arith, e);
-    few = omega arith;
-  }
+  fewer_of : (cells : List (ℕ × Cell)) (q : ℕ) (c : Cell) → cell_at cells q ≡ None → q < tail → unknown (with_cell cells q c) tail ≤ unknown cells tail - 1
+  fewer_of cells q c none less = let a = unknown_fewer cells q c tail none less in omega (arith, a)
 
-  reads_room : (cells : List (ℕ × Cell)) (q n : ℕ) → cell_at cells q ≡ None → q < tail → budget m h stopped k p longest tail (unknown cells tail) ≤ n → longest + budget m h stopped k p longest tail (unknown cells tail - 1) + 1 ≤ n
-  reads_room cells q n none less few = let a = budget_step (unknown cells tail) (unknown_some cells q none less) in omega (arith, a, few)
+  reads_stage : (t : Net m) (wk : Walk) (os g v q next n : ℕ) → HereIn t → q < tail → cell_at wk.cells q ≡ None → TrailLow p tail wk.trail → Budget (unknown wk.cells tail) + extra kind.trims (Rest (suc os) g v) ≤ n
+      → Reading m h stopped k p longest low_at many tail most kind t (with_job wk (works (place_in p q) (Gets next))) os g v (place_in p q) (Gets next) (n - 1)
+  reads_stage t wk os g v q next n here less none low few =
+      let good = here.good q in
+      let step = budget_step (unknown wk.cells tail) (unknown_some wk.cells q none less) in
+      by (sort_of m h stopped k p longest low_at many tail most kind t (place_in p q) good) good.stable.serves.short step
+    where
+      by : (s : (b : Bool) × Sort m h stopped k p longest low_at many t (place_in p q) b) → length (place_in p q).chain ≤ longest → Budget (unknown wk.cells tail) ≡ suc longest + Budget (unknown wk.cells tail - 1)
+          → Reading m h stopped k p longest low_at many tail most kind t (with_job wk (works (place_in p q) (Gets next))) os g v (place_in p q) (Gets next) (n - 1)
+      by (true, c) short step = record {
+        place = refl;
+        less = less;
+        low = record { pointers = low.pointers; last = low.last };
+        here = here;
+        sort = true;
+        cost = longest;
+        cell = (c, short);
+        left = unknown wk.cells tail - 1;
+        fewer = λ c. fewer_of wk.cells q c none less;
+        few = omega (arith, step, few);
+        gone = λ e. absurd cc;
+      }
+      by (false, c) short step = record {
+        place = refl;
+        less = less;
+        low = record { pointers = low.pointers; last = low.last };
+        here = here;
+        sort = false;
+        cost = 0;
+        cell = (c, tt);
+        left = unknown wk.cells tail - 1;
+        fewer = λ c. fewer_of wk.cells q c none less;
+        few = omega (arith, step, few);
+        gone = λ e trims. let one = extra_is kind.trims (Rest (suc os) g v) trims in omega (arith, step, few, one);
+      }
 
-  walks_fed : (t : Net m) (cells : List (ℕ × Cell)) (n next : ℕ) (x : Moved m) → WalksTo m way p tail cells next x → Open m h stopped k p longest tail t cells → budget m h stopped k p longest tail (unknown cells tail) ≤ n → Fed t n next x
+  reads_room : (cells : List (ℕ × Cell)) (q n x : ℕ) → cell_at cells q ≡ None → q < tail → Budget (unknown cells tail) + x ≤ n → (n - 1) + 1 ≤ n
+  reads_room cells q n x none less few = let a = budget_step (unknown cells tail) (unknown_some cells q none less) in omega (arith, a, few)
+
+  reads_fed : (t : Net m) (c : Client m) (w : Work m) (wk : Walk) (os : List Oid) (q n next : ℕ) (cells : List (ℕ × Cell)) → c.next ≡ next + 1 → c.stand ≡ p → q < tail → cell_at cells q ≡ None → wk.cells ≡ cells → TrailLow p tail wk.trail → Walks m way p tail most w → HereIn t
+      → Budget (unknown cells tail) + extra kind.trims (Rest (suc (length os)) w.gone_before (seen c.view)) ≤ n → Fed t n next (goes_on m c w (Walking (with_job wk (works (place_in p q) (Gets next))) os) [])
   unfolding task_asks work_asks
-  walks_fed t cells n next x (ToOver c y up stand goes) free few = FedOver c y up stand goes
-  walks_fed t cells n next x (ToReads c w wk os q up stand less none same low ws) free few =
-      FedOn c w (Walking (with_job wk (works (place_in p q) (Gets next))) os) (unit_id _) _ (longest + budget m h stopped k p longest tail (unknown cells tail - 1)) up stand refl refl refl (λ l. unit_away m h stopped k p longest _ l)
-      (λ v e f. (reads_stage t cells wk q next free less none same low, record { asks = subst way.Is (sym e) ws.asks; lasts = λ o. subst (λ ls. Low p tail (backs_of (link_of o ls))) (sym f) (ws.lasts o) })) (reads_room cells q n none less few)
+  reads_fed t c w wk os q n next cells up stand less none same low ws here few =
+      let none' = ap (λ x. cell_at x q) same ∙ none in
+      let few' = subst (λ x. Budget (unknown x tail) + extra kind.trims (Rest (suc (length os)) w.gone_before (seen c.view)) ≤ n) (sym same) few in
+      FedOn c w (Walking (with_job wk (works (place_in p q) (Gets next))) os) (unit_id _) _ (n - 1) up stand refl refl refl (λ l. unit_away m h stopped k p longest _ l)
+      (reads_stage t wk (length os) w.gone_before (seen c.view) q next n here less none' low few', record { asks = ws.asks; lasts = ws.lasts; few = ws.few })
+      (reads_room cells q n _ none less few)
 
-  ended_fed : (t : Net m) (c : Client m) (w : Work m) (o : Oid) (os : List Oid) (x : Members) (cells : List (ℕ × Cell)) (n : ℕ) (gone : Option ℕ) → gone ≡ None → c.stand ≡ p → Walks m way p tail w → x.cells ≡ cells → Open m h stopped k p longest tail t cells
-      → budget m h stopped k p longest tail (unknown cells tail) ≤ n → Fed t n c.next (walk_ended_by m (takes_back m c x) (found_by m w o x) o os x gone)
-  ended_fed t c w o os x cells n None e stand ws same free few =
+  rest_less : (a b g v : ℕ) → a ≤ b → Rest a g v ≤ Rest b g v
+  rest_less a b g v le = omega (arith, le)
+
+  walks_fed : (t : Net m) (cells : List (ℕ × Cell)) (n next g v streams os : ℕ) (x : Moved m) → WalksTo m way p tail most cells next g v streams os x → HereIn t → Budget (unknown cells tail) + extra kind.trims (Rest os g v) ≤ n → Fed t n next x
+  walks_fed t cells n next g v streams os x (ToOver c y up stand goes) here few = FedOver c y up stand here goes
+  walks_fed t cells n next g v streams os x (ToReads c w wk ys q up stand view gone oids less none same low ws fewer) here few =
+      let le = extra_less kind.trims (Rest (suc (length ys)) g v) (Rest os g v) (rest_less (suc (length ys)) os g v fewer) in
+      reads_fed t c w wk ys q n next cells up stand less none same low ws here
+      (subst (λ i. Budget (unknown cells tail) + extra kind.trims (Rest (suc (length ys)) i (seen c.view)) ≤ n) (sym gone) (subst (λ i. Budget (unknown cells tail) + extra kind.trims (Rest (suc (length ys)) g i) ≤ n) (sym view) (omega (arith, le, few))))
+
+  -- A walk that has ended, without a trim.
+
+  ended_fed : (t : Net m) (c : Client m) (w : Work m) (o : Oid) (os : List Oid) (x : Members) (cells : List (ℕ × Cell)) (n : ℕ) (gone : Option ℕ) → gone ≡ None → c.stand ≡ p → Walks m way p tail most w → x.cells ≡ cells → HereIn t
+      → Budget (unknown cells tail) + extra kind.trims (Rest (length os) w.gone_before (seen c.view)) ≤ n → Fed t n c.next (walk_ended_by m (takes_back m c x) (found_by m w o x) o os x gone)
+  ended_fed t c w o os x cells n None e stand ws same here few =
       let d = takes_back m c x in
-      let r = walks_to m way p tail os d (found_by m w o x) stand (record { asks = ws.asks; lasts = ws.lasts }) in
-      walks_fed t cells n c.next _ (subst (λ y. WalksTo m way p tail y c.next (walks m os d (found_by m w o x))) same r) free few
-  ended_fed t c w o os x cells n (Some b) e stand ws same free few = absurd cc
+      let r = walks_to m way p tail most os d (found_by m w o x) stand (record { asks = ws.asks; lasts = ws.lasts; few = ws.few }) in
+      walks_fed t cells n c.next w.gone_before (seen c.view) (length w.oids) (length os) _ (subst (λ y. WalksTo m way p tail most y c.next w.gone_before (seen c.view) (length w.oids) (length os) (walks m os d (found_by m w o x))) same r) here few
+  ended_fed t c w o os x cells n (Some b) e stand ws same here few = absurd cc
 
-  walked_fed : (t : Net m) (c : Client m) (w : Work m) (o : Oid) (os : List Oid) (cells : List (ℕ × Cell)) (n : ℕ) (x : WalkTurn) → Walked p tail cells c.next x → c.stand ≡ p → Walks m way p tail w → Open m h stopped k p longest tail t cells
-      → budget m h stopped k p longest tail (unknown cells tail) ≤ n → Fed t n c.next (on_walk m c w o os x)
-  unfolding task_asks work_asks
-  walked_fed t c w o os cells n x (WalkReads wk q less none same low) stand ws free few =
-      FedOn (record c { next = c.next + 1 }) (record w { gone = max w.gone 0 }) (Walking (with_job wk (works (place_in p q) (Gets c.next))) os) (unit_id _) _ (longest + budget m h stopped k p longest tail (unknown cells tail - 1)) refl stand refl refl refl (λ l. unit_away m h stopped k p longest _ l)
-      (λ v e f. (reads_stage t cells wk q c.next free less none same low, record { asks = subst way.Is (sym e) ws.asks; lasts = λ i. subst (λ ls. Low p tail (backs_of (link_of i ls))) (sym f) (ws.lasts i) })) (reads_room cells q n none less few)
-  walked_fed t c w o os cells n x (WalkEnds y same gone) stand ws free few = ended_fed t c (record w { gone = max w.gone 0 }) o os y cells n y.gone gone stand (record { asks = ws.asks; lasts = ws.lasts }) same free few
+  walked_fed : (t : Net m) (c : Client m) (w : Work m) (o : Oid) (os : List Oid) (cells : List (ℕ × Cell)) (n : ℕ) (x : WalkTurn) → Walked p tail cells c.next x → c.stand ≡ p → Walks m way p tail most w → HereIn t
+      → Budget (unknown cells tail) + extra kind.trims (Rest (suc (length os)) w.gone_before (seen c.view)) ≤ n → Fed t n c.next (on_walk m c w o os x)
+  walked_fed t c w o os cells n x (WalkReads wk q less none same low) stand ws here few =
+      reads_fed t (record c { next = c.next + 1 }) (record w { gone = max w.gone 0 }) wk os q n c.next cells refl stand less none same low (record { asks = ws.asks; lasts = ws.lasts; few = ws.few }) here few
+  walked_fed t c w o os cells n x (WalkEnds y same gone) stand ws here few =
+      let le = extra_less kind.trims (Rest (length os) w.gone_before (seen c.view)) (Rest (suc (length os)) w.gone_before (seen c.view)) (rest_less (length os) (suc (length os)) w.gone_before (seen c.view) (omega arith)) in
+      ended_fed t c (record w { gone = max w.gone 0 }) o os y cells n y.gone gone stand (record { asks = ws.asks; lasts = ws.lasts; few = ws.few }) same here (omega (arith, le, few))
 
-  walk_fed : (t : Net m) (c : Client m) (w : Work m) (o : Oid) (os : List Oid) (n : ℕ) (x : WalkTurn) → WalkWell m h stopped k p longest tail t n c.next x → c.stand ≡ p → Walks m way p tail w → Fed t n c.next (on_walk m c w o os x)
+  -- A walk that has met a trim.
+
+  -- a new sync over the same streams, where fewer passes are left
+  syncs_fed : (t : Net m) (c : Client m) (w : Work m) (n turns : ℕ) → c.stand ≡ p → Walks m way p tail most w → HereIn t → above low_at w.gone many + seen c.view + 1 ≤ turns
+      → Budget (unknown c.cells tail) + passes m h stopped k p longest low_at many tail most kind turns ≤ n → Fed t n c.next (syncs m c w w.oids)
+  unfolding syncs sync_start task_asks sync_work_asks
+  syncs_fed t c w n turns stand ws here less few =
+      let a = passes_fewer m h stopped k p longest low_at many tail most kind (above low_at w.gone many + seen c.view) turns less in
+      let after = Rest (length w.oids) w.gone (seen c.view) in
+      let short = ws.few in
+      let most_extra = at_most kind.trims (longest + after) in
+      let left = longest + Budget (unknown c.cells tail) + extra kind.trims (longest + after) in
+      FedOn (record c { next = c.next + 1 }) (record w { oids = w.oids; gone_before = w.gone; trims = []; found = [] }) (Syncing (record { oids = w.oids; work = Checking c.next })) (seqr_id p.seq) (msg.Check p.epoch w.oids) left refl stand refl refl refl (λ l. seqr_away m h stopped k p longest p.seq l)
+      ((here, omega arith), (ws.asks, ws.few)) (omega (arith, a, short, few, most_extra))
+    where
+      at_most : (b : Bool) (n : ℕ) → extra b n ≤ n
+      at_most true n = omega arith
+      at_most false n = omega arith
+
+  -- the walks go on, or start over, with these passes
+  goes_fed : (t : Net m) (c : Client m) (w : Work m) (os : List Oid) (n : ℕ) → c.stand ≡ p → Walks m way p tail most w → HereIn t → kind.trims ≡ true
+      → Budget (unknown c.cells tail) + Rest (length os) w.gone_before (seen c.view) ≤ n → Fed t n c.next (walks m os c w)
+  goes_fed t c w os n stand ws here trims few =
+      let is = extra_is kind.trims (Rest (length os) w.gone_before (seen c.view)) trims in
+      walks_fed t c.cells n c.next w.gone_before (seen c.view) (length w.oids) (length os) _ (walks_to m way p tail most os c w stand ws) here (omega (arith, is, few))
+
+  past : (g b h : ℕ) → nat_lt g b ≡ true → b ≤ h → g ≤ h
+  past g b h e le = grind (arith, e, le)
+
+  stale_fewer : (g b h u : ℕ) → nat_lt g b ≡ true → b ≤ h → u < many → b ≡ low_at u → above low_at h many + 1 ≤ above low_at g many
+  stale_fewer g b h u e le less is = above_fewer low_at g h u many (past g b h e le) less (subst (λ i. nat_lt g i ≡ true) is e) (subst (λ i. i ≤ h) is le)
+
+  trim_fed : (t : Net m) (c : Client m) (w : Work m) (os : List Oid) (n b u : ℕ) (gives stale whole : Bool) → (stale ≡ true → nat_lt w.gone_before b ≡ true) → (gives ≡ true → seen c.view ≡ 1) → b ≤ w.gone → u < many → b ≡ low_at u → c.stand ≡ p → Walks m way p tail most w → HereIn t
+      → kind.trims ≡ true → Budget (unknown c.cells tail) + Rest (length os) w.gone_before (seen c.view) ≤ n → Fed t n c.next (at_trim m (given_up_if m gives c) w os stale (gives && not whole))
+  trim_fed t c w os n b u true true whole st gv more less is stand ws here trims few =
+      let newer = stale_fewer w.gone_before b w.gone u (st refl) more less is in
+      let one = gv refl in
+      syncs_fed t (record c { view = None }) w n (above low_at w.gone_before many + seen c.view) stand ws here (omega (arith, newer, one)) (omega (arith, few))
+  trim_fed t c w os n b u false true whole st gv more less is stand ws here trims few =
+      let newer = stale_fewer w.gone_before b w.gone u (st refl) more less is in
+      syncs_fed t c w n (above low_at w.gone_before many + seen c.view) stand ws here (omega (arith, newer)) (omega (arith, few))
+  trim_fed t c w os n b u true false false st gv more less is stand ws here trims few =
+      let one = gv refl in
+      let a = passes_fewer m h stopped k p longest low_at many tail most kind (above low_at w.gone_before many + 0) (above low_at w.gone_before many + seen c.view) (omega (arith, one)) in
+      let short = ws.few in
+      goes_fed t (record c { view = None }) (record w { lo = 0; found = []; trims = [] }) w.oids n stand (record { asks = ws.asks; lasts = ws.lasts; few = ws.few }) here trims (omega (arith, a, short, few))
+  trim_fed t c w os n b u true false true st gv more less is stand ws here trims few =
+      let a = passes_less m h stopped k p longest low_at many tail most kind (above low_at w.gone_before many + 0) (above low_at w.gone_before many + seen c.view) (omega arith) in
+      goes_fed t (record c { view = None }) w os n stand ws here trims (omega (arith, a, few))
+  trim_fed t c w os n b u false false whole st gv more less is stand ws here trims few = goes_fed t c w os n stand ws here trims few
+
+  gone_fed : (t : Net m) (c : Client m) (w : Work m) (o : Oid) (os : List Oid) (n b u : ℕ) (wk : Walk) → u < many → b ≡ low_at u → c.stand ≡ p → Walks m way p tail most w → HereIn t
+      → kind.trims ≡ true → Budget (unknown wk.cells tail) + Rest (length os) w.gone_before (seen c.view) ≤ n → Fed t n c.next (on_walk m c w o os (record { next = c.next; besides = []; gone = b; to = Ends (walk_members wk (Some b)) }))
+  gone_fed t c w o os n b u wk less is stand ws here trims few =
+      let x = walk_members wk (Some b) in
+      let d = takes_back m c x in
+      let v = found_by m (record w { gone = max w.gone b }) o x in
+      trim_fed t d v os n b u (gives_up m d v b) (stale m d v o x b) (eqb v.lo 0) (λ e. right _ _ e) (λ e. one_seen d v b e) (met_it w.gone b) less is stand (record { asks = ws.asks; lasts = ws.lasts; few = ws.few }) here trims few
+    where
+      right : (a b : Bool) → (a && b) ≡ true → b ≡ true
+      right a b e = grind arith
+
+      met_it : (a b : ℕ) → b ≤ max a b
+      met_it a b = grind arith
+
+      one_of : (a c : Bool) (o : Option (View m)) → (a && is_some o && c) ≡ true → seen o ≡ 1
+      one_of a c None e = absurd (grind arith)
+      one_of a c (Some v) e = refl
+
+      one_seen : (d : Client m) (v : Work m) (b : ℕ) → gives_up m d v b ≡ true → seen d.view ≡ 1
+      one_seen d v b e = one_of _ _ d.view e
+
+  -- What a walk's answer and a sync's make of the client.
+
+  walk_fed : (t : Net m) (c : Client m) (w : Work m) (o : Oid) (os : List Oid) (n : ℕ) (x : WalkTurn) → WalkWell m h stopped k p longest low_at many tail most kind t (length os) w.gone_before (seen c.view) n c.next x → c.stand ≡ p → Walks m way p tail most w → Fed t n c.next (on_walk m c w o os x)
   unfolding task_asks
   walk_fed t c w o os n x (CellOn wk pl y u z left asks f few) stand ws =
       FedOn (record c { next = c.next + 1 }) (record w { gone = max w.gone 0 }) (Walking (with_job wk (works pl y)) os) (unit_id u) z left refl stand asks asks asks (λ l. unit_away m h stopped k p longest u l)
-      (λ v e g. (record { place = f.place; less = f.less; none = f.none; low = record { pointers = f.low.pointers; last = f.low.last }; free = f.free; cost = f.cost; cell = f.cell; left = f.left; fewer = f.fewer; few = f.few }, record { asks = subst way.Is (sym e) ws.asks; lasts = λ i. subst (λ ls. Low p tail (backs_of (link_of i ls))) (sym g) (ws.lasts i) })) few
-  walk_fed t c w o os n x (WalkOn cells y walked free few) stand ws = walked_fed t c w o os cells n y walked stand ws free few
+      (record { place = f.place; less = f.less; low = record { pointers = f.low.pointers; last = f.low.last }; here = f.here; sort = f.sort; cost = f.cost; cell = f.cell; left = f.left; fewer = f.fewer; few = f.few; gone = f.gone }, record { asks = ws.asks; lasts = ws.lasts; few = ws.few }) few
+  walk_fed t c w o os n x (WalkOn cells y walked here few) stand ws = walked_fed t c w o os cells n y walked stand ws here few
+  walk_fed t c w o os n x (WalkGone wk u b less is trims here few) stand ws = gone_fed t c w o os n b u wk less is stand ws here trims few
 
-  sync_fed : (t : Net m) (c : Client m) (w : Work m) (n : ℕ) (x : SyncTurn) → SyncWell m h stopped k p longest tail t c.cells n c.next x → c.stand ≡ p → way.Is w.command → Fed t n c.next (on_sync m c w x)
+  sync_fed : (t : Net m) (c : Client m) (w : Work m) (n : ℕ) (x : SyncTurn) → SyncWell m h stopped k p longest low_at many tail most kind t c.cells (after_of w (seen c.view)) n c.next x → c.stand ≡ p → IsSuch w → Fed t n c.next (on_sync m c w x)
   unfolding task_asks sync_work_asks
-  sync_fed t c w n x (SyncOn oids a pl y u z left asks f few) stand ask =
-      FedOn (record c { next = c.next + 1 }) (record w { gone = max w.gone 0 }) (Syncing (record { oids = oids; work = Settling a (works pl y) })) (unit_id u) z left refl stand asks asks asks (λ l. unit_away m h stopped k p longest u l)
-      (λ v e g. (f, subst way.Is (sym e) ask)) few
-  sync_fed t c w n x (SyncEnds a y lasts free few) stand ask =
-      walks_fed t (with_cell c.cells (a.tail - 1) y) n c.next _ (walks_to m way p tail w.oids (record c { cells = with_cell c.cells (a.tail - 1) y }) (record w { gone = max w.gone 0; tail = a.tail; lasts = a.lasts; lo = steps.lo_for m (record c { cells = with_cell c.cells (a.tail - 1) y }) w.command }) stand (record { asks = ask; lasts = lasts })) free few
+  sync_fed t c w n x (SyncOn oids a pl y u z left asks f few) stand such =
+      FedOn (record c { next = c.next + 1 }) (record w { gone = max w.gone 0 }) (Syncing (record { oids = oids; work = Settling a (works pl y) })) (unit_id u) z left refl stand asks asks asks (λ l. unit_away m h stopped k p longest u l) (f, such) few
+  sync_fed t c w n x (SyncEnds a y is lasts here few) stand such =
+      let d = record c { cells = with_cell c.cells (a.tail - 1) y } in
+      walks_fed t (with_cell c.cells (a.tail - 1) y) n c.next w.gone_before (seen c.view) (length w.oids) (length w.oids) _
+      (walks_to m way p tail most w.oids d (record w { gone = max w.gone 0; tail = a.tail; lasts = a.lasts; lo = steps.lo_for m d w.command }) stand (record { asks = such.0; lasts = lasts; few = such.1 })) here few
+  sync_fed t c w n x (SyncProbes oids a gone is lasts here few) stand such =
+      FedProbes (record c { next = c.next + length (place_in p (a.tail - 1)).chain }) (record w { gone = max w.gone gone }) oids a (n - length (place_in p (a.tail - 1)).chain) refl stand is lasts here such (omega (arith, few)) (omega (arith, few))
 
-  task_fed : (t : Net m) (c : Client m) (w : Work m) (task : Task m) (num rid : ℕ) (y : Msg) (n : ℕ) → c.stand ≡ p → TaskWell t c.cells w task y n → Fed t n c.next (task_feed m c w task num rid (reply y))
+  task_well : (t : Net m) (c : Client m) (w : Work m) (task : Task m) (num rid : ℕ) (y : Msg) (n : ℕ) → c.stand ≡ p → TaskWell t c.cells (seen c.view) w task y n → Fed t n c.next (task_feed m c w task num rid (reply y))
   unfolding task_feed
-  task_fed t c w (Syncing sy) num rid y n stand x = subst (λ q. Fed t n c.next (on_sync m c w (sync_feed q sy sy.work num (reply y) c.next))) (sym stand) (sync_fed t c w n _ (x.0 num c.next) stand x.1)
-  task_fed t c w (Walking wk os) num rid y n stand x = subst (λ q. Fed t n c.next (on_walk m c w wk.oid os (walk_feed q wk wk.job num (reply y) c.next))) (sym stand) (walk_fed t c w wk.oid os n _ (x.0 num c.next) stand x.1)
-  task_fed t c w (Appending a z) num rid y n stand x = absurd x
-  task_fed t c w (Trimming z) num rid y n stand x = absurd x
-  task_fed t c w (Copying' z) num rid y n stand x = absurd x
-  task_fed t c w (Reconfiguring z) num rid y n stand x = absurd x
+  task_well t c w (Syncing sy) num rid y n stand x = subst (λ q. Fed t n c.next (on_sync m c w (sync_feed q sy sy.work num (reply y) c.next))) (sym stand) (sync_fed t c w n _ (x.0 num c.next) stand x.1)
+  task_well t c w (Walking wk os) num rid y n stand x = subst (λ q. Fed t n c.next (on_walk m c w wk.oid os (walk_feed q wk wk.job num (reply y) c.next))) (sym stand) (walk_fed t c w wk.oid os n _ (x.0 num c.next) stand x.1)
+  task_well t c w (Appending a z) num rid y n stand x = absurd x
+  task_well t c w (Trimming z) num rid y n stand x = absurd x
+  task_well t c w (Copying' z) num rid y n stand x = absurd x
+  task_well t c w (Reconfiguring z) num rid y n stand x = absurd x
 
-  pub answered : (s : Net m) (c : Client m) (from : NodeId) (rid : ℕ) (y : Msg) (n : ℕ) → Hearing' s c from rid y n
-      → EndsWalks c (client_deliver m c from rid y) ⊎ More m h stopped k p Asking' Hearing' s (client_deliver m c from rid y) n
+  -- Units that are asked at once.
+
+  one_drawn : (o : Out) (os : List Out) (low : ℕ) → low ≤ o.rid → drawn_from low os ≡ os → drawn_from low (o ∷ os) ≡ o ∷ os
+  one_drawn o os low le e = grind (arith, le, e)
+
+  all_drawn : (pl : Place) (us : List ℕ) (rid low : ℕ) → low ≤ rid → drawn_from low (looks pl (waits_for us rid)) ≡ looks pl (waits_for us rid)
+  all_drawn pl [] rid low le = refl
+  all_drawn pl (u ∷ us) rid low le = one_drawn (out (unit_id u) rid (look pl)) (looks pl (waits_for us (rid + 1))) low le (all_drawn pl us (rid + 1) low (omega (arith, le)))
+
+  all_below : (pl : Place) (us : List ℕ) (rid n : ℕ) → rid + length us ≤ n → Each (Below n) (looks pl (waits_for us rid))
+  all_below pl [] rid n le = tt
+  all_below pl (u ∷ us) rid n le = (omega (arith, le), all_below pl us (rid + 1) n (omega (arith, le)))
+
+  all_away : (pl : Place) (ws : Waits) → Each Away (looks pl ws)
+  all_away pl [] = tt
+  all_away pl (w ∷ ws) = ((λ l. unit_away m h stopped k p longest w.0 l), all_away pl ws)
+
+  each_at : (P : ℕ → Type 0) (xs : List ℕ) → ((j : ℕ) → j < length xs → P (slice_index xs j)) → Each P xs
+  each_at P [] f = tt
+  each_at P (x ∷ xs) f = (f 0 (omega arith), each_at P xs (λ j less. f (suc j) (omega (arith, less))))
+
+  all_answer : (s : Net m) (us : List ℕ) (rid : ℕ) → Each (λ u. UnitServes m h stopped k p longest s u) us → Each (Answering s) (waits_for us rid)
+  all_answer s [] rid a = tt
+  all_answer s (u ∷ us) rid a = (a.0, all_answer s us (rid + 1) a.1)
+
+  none_again : (us : List ℕ) (rid u : ℕ) → Each (λ y. eqb y u ≡ false) us → Each (λ (v : ℕ × ℕ). eqb v.0 u ≡ false) (waits_for us rid)
+  none_again [] rid u a = tt
+  none_again (x ∷ us) rid u a = (a.0, none_again us (rid + 1) u a.1)
+
+  all_once : (us : List ℕ) (rid : ℕ) → Distinct us → AskedOnce (waits_for us rid)
+  all_once [] rid d = tt
+  all_once (u ∷ us) rid d = (none_again us (rid + 1) u d.0, all_once us (rid + 1) d.1)
+
+  waits_some : (us : List ℕ) (rid : ℕ) → 0 < length us → waits_for us rid ≡ [] → ⊥
+  waits_some [] rid less e = absurd (omega (arith, less))
+  waits_some (u ∷ us) rid less e = absurd cc
+
+  looks_long : (pl : Place) (us : List ℕ) (rid : ℕ) → length (looks pl (waits_for us rid)) ≡ length us
+  looks_long pl [] rid = refl
+  looks_long pl (u ∷ us) rid = ap suc (looks_long pl us (rid + 1))
+
+  -- The client's turn.
+
+  fed_turns : (s : Net m) (c : Client m) (n : ℕ) (x : Moved m) → Fed s n c.next x → (EndsWalks s c (given m c x) n × (◌≡◌ {A = List Item} [] [])) ⊎ Goes m h stopped k p Reads s (given m c x) [] n
+  unfolding client_asks task_asks sync_work_asks work_asks
+  fed_turns s c n x (FedOver d y next stand here goes) = inl (record { at = d; next = next; stand = stand; here = here; moved = y; goes = goes; turn = refl }, refl)
+  fed_turns s c n x (FedOn d w task to z left next stand awaited again asks away stage few) = inr (record {
+    os = out to c.next z ∷ [];
+    left = left;
+    sends = ap (λ q. drawn_from c.next (task_asks m q task)) stand ∙ (ap (λ ys. drawn_from c.next ys) asks ∙ new_drawn m h stopped k p longest to c.next z);
+    stage = AsksOne (out to c.next z) left (record { task = task; shape = record { stand = stand; work = record w { hand = Doing task }; waits = refl; hand = refl; awaited = awaited; again = again; asks = asks; below = (omega (arith, next), tt); away = (away, tt) }; stage = stage });
+    less = few;
+  })
+  fed_turns s c n x (FedProbes d w oids a left next stand is lasts here such few less) =
+      let pl = place_in p (a.tail - 1) in
+      let waits = waits_for pl.chain c.next in
+      let stable = (here.good (a.tail - 1)).stable in
+      let task : Task m = Syncing (record { oids = oids; work = Probing a (works pl (Probes waits)) }) in
+      let long = looks_long pl pl.chain c.next in
+      inr (record {
+        os = looks pl waits;
+        left = left;
+        sends = all_drawn pl pl.chain c.next c.next (omega arith);
+        stage = ProbesAll (asks (looks pl waits)) left (record {
+          sync = record { oids = oids; work = Probing a (works pl (Probes waits)) };
+          answer = a;
+          pl = pl;
+          epoch = refl;
+          waits = waits;
+          told = [];
+          asked = waits;
+          split = refl;
+          work = refl;
+          shape = record { stand = stand; work = record w { hand = Doing task }; waits = refl; hand = refl; awaited = refl; again = refl; asks = refl; below = all_below pl pl.chain c.next _ (omega (arith, next)); away = all_away pl waits };
+          items = sym (append-nil _);
+          some = λ e. waits_some pl.chain c.next stable.serves.some e;
+          units = all_answer s pl.chain c.next (each_at (λ u. UnitServes m h stopped k p longest s u) pl.chain (λ j l. stable.serves.unit j l));
+          once = all_once pl.chain c.next (kind.once (a.tail - 1));
+          tail_is = is;
+          lasts = lasts;
+          here = here;
+          such = such;
+          few = few;
+        });
+        less = omega (arith, less, long);
+      })
+
+  -- The answer to one request.
+
+  one_answered : (s : Net m) (c : Client m) (from : NodeId) (rid : ℕ) (y : Msg) (n : ℕ) → Hearing' s c from rid y n
+      → (EndsWalks s c (client_deliver m c from rid y) n × (◌≡◌ {A = List Item} [] [])) ⊎ Goes m h stopped k p Reads s (client_deliver m c from rid y) [] n
   unfolding client_deliver
-  answered s c from rid y n g =
-      let x = g.shape in
-      subst (λ (z : Moved m). EndsWalks c (given m c z) ⊎ More m h stopped k p Asking' Hearing' s (given m c z) n) (sym (fed from rid (reply y) x g.awaited g.no_latest))
-      (fed_turns s c n _ g.also (task_fed s c x.work g.task from.num rid y n x.stand g.well))
+  one_answered s c from rid y n g =
+      subst (λ (z : Moved m). (EndsWalks s c (given m c z) n × (◌≡◌ {A = List Item} [] [])) ⊎ Goes m h stopped k p Reads s (given m c z) [] n) (sym (task_fed m h stopped k p longest c g.task (g.o ∷ []) from rid (reply y) g.shape g.awaited g.no_latest))
+      (fed_turns s c n _ (task_well s c g.shape.work g.task from.num rid y n g.shape.stand g.well))
+
+  -- An answer to a probe.
+
+  first_awaited : (o : Out) (os : List Out) → awaits (o ∷ os) o.to o.rid ≡ true
+  first_awaited o os = let e = awaited_itself m h stopped k p longest o in grind (arith, e)
+
+  without_none : (u : ℕ) (ws : Waits) → Each (λ (v : ℕ × ℕ). eqb v.0 u ≡ false) ws → without_wait u ws ≡ ws
+  without_none u [] a = refl
+  without_none u (w ∷ ws) a = one u w ws a.0 (without_none u ws a.1)
     where
-      fed : {t : Task m} {o : Out} (from : NodeId) (rid : ℕ) (r : Reply) (x : TaskShape c t o) → awaits (o ∷ []) from rid ≡ true → is_latest r ≡ false → feed m c c.work from rid r ≡ task_feed m c x.work t from.num rid r
-      fed {t} {o} from rid r x awaited plain = ap (λ w. feed m c w from rid r) x.waits ∙ (to_hand m c x.work from rid r plain ∙ (ap (λ z. hand_feed m c x.work z from rid r) x.hand
-          ∙ ap (λ b. fed_if m b c x.work t from rid r) (ap (λ os. awaits os from rid) (awaited_is c t o x) ∙ awaited)))
+      one : (u : ℕ) (w : ℕ × ℕ) (ws : Waits) → eqb w.0 u ≡ false → without_wait u ws ≡ ws → without_wait u (w ∷ ws) ≡ w ∷ ws
+      one u w ws e f = grind (arith, e, f)
 
-  -- It stays so whatever other packets do.
-
-  reading_keeps : (s t : Net m) (wk : Walk) (pl : Place) (y : CellWork) (n : ℕ) → Keeps m h stopped k p s t → Reading m h stopped k p longest tail s wk pl y n → Reading m h stopped k p longest tail t wk pl y n
-  reading_keeps s t wk pl y n keep f = record { place = f.place; less = f.less; none = f.none; low = f.low; free = λ i l off none. readable_keeps m h stopped k p longest tail s t i keep (f.free i l off none); cost = f.cost; cell = cell_keeps m h stopped k p longest s t pl y f.cost keep f.cell; left = f.left; fewer = f.fewer; few = f.few }
-
-  settles_keeps : (s t : Net m) (cells : List (ℕ × Cell)) (a : Answer) (pl : Place) (y : CellWork) (n : ℕ) → Keeps m h stopped k p s t → Settles m h stopped k p longest tail s cells a pl y n → Settles m h stopped k p longest tail t cells a pl y n
-  settles_keeps s t cells a pl y n keep f = record { tail_is = f.tail_is; place = f.place; lasts = f.lasts; free = λ i l off none. readable_keeps m h stopped k p longest tail s t i keep (f.free i l off none); cost = f.cost; cell = cell_keeps m h stopped k p longest s t pl y f.cost keep f.cell; few = f.few }
-
-  checks_keeps : (s t : Net m) (x : SeqrState) (cells : List (ℕ × Cell)) (sy : Sync) (n : ℕ) → Keeps m h stopped k p s t → Checks m h stopped k p longest tail s x cells sy n → Checks m h stopped k p longest tail t x cells sy n
-  checks_keeps s t x cells sy n keep f = record {
-    on = on_alike m stopped s t keep.alike (seqr_id p.seq) ∙ f.on;
-    epoch = f.epoch;
-    unfenced = f.unfenced;
-    ready = f.ready;
-    rests = f.rests;
-    next = f.next;
-    near = f.near;
-    named = f.named;
-    lasts = f.lasts;
-    past = f.past;
-    free = λ i l none. readable_keeps m h stopped k p longest tail s t i keep (f.free i l none);
-    last = readable_keeps m h stopped k p longest tail s t (tail - 1) keep f.last;
-    few = f.few;
-  }
-
-  sync_keeps : (s t : Net m) (cells : List (ℕ × Cell)) (sy : Sync) (w : SyncWork) (n : ℕ) → Keeps m h stopped k p s t → SyncStage m h stopped k p longest tail s cells sy w n → SyncStage m h stopped k p longest tail t cells sy w n
-  sync_keeps s t cells sy (Checking r) n keep f = subst (λ (x : SeqrState). Checks m h stopped k p longest tail t x cells sy n) (sym keep.seqr) (checks_keeps s t _ cells sy n keep f)
-  sync_keeps s t cells sy (Settling a j) n keep f = settles_keeps s t cells a j.place j.work n keep f
-  sync_keeps s t cells sy (Probing a j) n keep f = absurd f
-
-  walk_keeps : (s t : Net m) (wk : Walk) (j : Option CellJob) (n : ℕ) → Keeps m h stopped k p s t → WalkStage m h stopped k p longest tail s wk j n → WalkStage m h stopped k p longest tail t wk j n
-  walk_keeps s t wk None n keep f = absurd f
-  walk_keeps s t wk (Some j) n keep f = reading_keeps s t wk j.place j.work n keep f
-
-  task_keeps : (s t : Net m) (cells : List (ℕ × Cell)) (w : Work m) (task : Task m) (n : ℕ) → Keeps m h stopped k p s t → TaskStage s cells w task n → TaskStage t cells w task n
-  task_keeps s t cells w (Syncing sy) n keep x = (sync_keeps s t cells sy sy.work n keep x.0, x.1)
-  task_keeps s t cells w (Walking wk os) n keep x = (walk_keeps s t wk wk.job n keep x.0, x.1)
-  task_keeps s t cells w (Appending a z) n keep x = absurd x
-  task_keeps s t cells w (Trimming z) n keep x = absurd x
-  task_keeps s t cells w (Copying' z) n keep x = absurd x
-  task_keeps s t cells w (Reconfiguring z) n keep x = absurd x
-
-  sync_well_keeps : (s t : Net m) (cells : List (ℕ × Cell)) (n next : ℕ) (x : SyncTurn) → Keeps m h stopped k p s t → SyncWell m h stopped k p longest tail s cells n next x → SyncWell m h stopped k p longest tail t cells n next x
-  sync_well_keeps s t cells n next x keep (SyncOn oids a pl y u z left asks f few) = SyncOn oids a pl y u z left asks (settles_keeps s t cells a pl y left keep f) few
-  sync_well_keeps s t cells n next x keep (SyncEnds a c lasts free few) = SyncEnds a c lasts (λ i l none. readable_keeps m h stopped k p longest tail s t i keep (free i l none)) few
-
-  walk_well_keeps : (s t : Net m) (n next : ℕ) (x : WalkTurn) → Keeps m h stopped k p s t → WalkWell m h stopped k p longest tail s n next x → WalkWell m h stopped k p longest tail t n next x
-  walk_well_keeps s t n next x keep (CellOn wk pl y u z left asks f few) = CellOn wk pl y u z left asks (reading_keeps s t wk pl y left keep f) few
-  walk_well_keeps s t n next x keep (WalkOn cells y w free few) = WalkOn cells y w (λ i l none. readable_keeps m h stopped k p longest tail s t i keep (free i l none)) few
-
-  hears_keeps : (s t : Net m) (cells : List (ℕ × Cell)) (w : Work m) (task : Task m) (y : Msg) (n : ℕ) → Keeps m h stopped k p s t → TaskWell s cells w task y n → TaskWell t cells w task y n
-  hears_keeps s t cells w (Syncing sy) y n keep x = ((λ u next. sync_well_keeps s t cells n next _ keep (x.0 u next)), x.1)
-  hears_keeps s t cells w (Walking wk os) y n keep x = ((λ u next. walk_well_keeps s t n next _ keep (x.0 u next)), x.1)
-  hears_keeps s t cells w (Appending a z) y n keep x = absurd x
-  hears_keeps s t cells w (Trimming z) y n keep x = absurd x
-  hears_keeps s t cells w (Copying' z) y n keep x = absurd x
-  hears_keeps s t cells w (Reconfiguring z) y n keep x = absurd x
-
-  -- The request comes to its node.
-
-  asked_at : (s : Net m) (x o : Out) (n : ℕ) → x ≡ o → Asked m h stopped k p Asking' Hearing' s x n → Asked m h stopped k p Asking' Hearing' s o n
-  asked_at s x o n e a = subst (λ (y : Out). Asked m h stopped k p Asking' Hearing' s y n) e a
-
-  abbrev shape_at : (c : Client m) (t : Task m) (x o : Out) (e : x ≡ o) (g : TaskShape c t o) → TaskShape c t x
-  shape_at c t x o e g = record { stand = g.stand; work = g.work; waits = g.waits; hand = g.hand; awaited = g.awaited ∙ ap (λ y. y ∷ []) (sym e); again = g.again ∙ ap (λ y. y ∷ []) (sym e); asks = g.asks ∙ ap (λ y. y ∷ []) (sym e); below = ap_below e g.below; away = λ l. ap (λ (y : Out). node_eq y.to (layout_id l)) e ∙ g.away l }
+  without_first : (w : ℕ × ℕ) (ws : Waits) → Each (λ (v : ℕ × ℕ). eqb v.0 w.0 ≡ false) ws → without_wait w.0 (w ∷ ws) ≡ ws
+  without_first w ws a = one w ws (without_none w.0 ws a)
     where
-      ap_below : {next : ℕ} {x o : Out} → x ≡ o → o.rid < next → x.rid < next
-      ap_below {next} {x} {o} e less = subst (λ (y : Out). y.rid < next) (sym e) less
+      one : (w : ℕ × ℕ) (ws : Waits) → without_wait w.0 ws ≡ ws → without_wait w.0 (w ∷ ws) ≡ ws
+      one w ws f = grind (arith, f)
 
-  cell_asked : (s : Net m) (task : Task m) (o : Out) (pl : Place) (y : CellWork) (cost n : ℕ) → (a : CellAsk m h stopped k p longest s pl y cost) → Ready m h stopped k p s → (g : TaskShape (client_of m h s k) task o) → work_asks pl y ≡ o ∷ []
-      → TaskWell (with_unit m stopped s a.unit (unit_step (unit_of m s a.unit) a.says).now) (client_of m h s k).cells g.work task a.replies.says n → Also (with_unit m stopped s a.unit (unit_step (unit_of m s a.unit) a.says).now) → Asked m h stopped k p Asking' Hearing' s o n
-  cell_asked s task o pl y cost n a ready g e well also =
+  abbrev probed : Client m → Work m → Sync → Answer → Place → Waits → Moved m
+  probed c w sy a pl ws = on_sync m c w (probe_turn sy a (probe_on pl ws c.next))
+
+  probe_fed : (c : Client m) (w : Work m) (sy : Sync) (a : Answer) (pl : Place) (x : ℕ × ℕ) (ws : Waits) → c.stand ≡ p → sy.work ≡ Probing a (works pl (Probes (x ∷ ws))) → Each (λ (v : ℕ × ℕ). eqb v.0 x.0 ≡ false) ws
+      → task_feed m c w (Syncing sy) x.0 x.1 (reply msg.Whole) ≡ probed c w sy a pl ws
+  unfolding task_feed sync_feed cell_feed work_feed reply
+  probe_fed c w sy a pl x ws stand is once = ap (λ (y : SyncWork). on_sync m c w (sync_feed c.stand sy y x.0 IsWhole c.next)) is ∙ ap (λ ys. on_sync m c w (probe_turn sy a (probe_on pl ys c.next))) (without_first x ws once)
+
+  probe_goes : (s : Net m) (c : Client m) (n : ℕ) (sy : Sync) (a : Answer) (pl : Place) (x : ℕ × ℕ) (ws : Waits) (g : TaskShape m h stopped k p longest c (Syncing sy) (looks pl (x ∷ ws))) → pl.epoch ≡ p.epoch → Each (Answering s) ws → AskedOnce ws → a.tail ≡ tail → LastsLow a.lasts → HereIn s → IsSuch g.work
+      → Budget (unknown c.cells tail) + extra kind.trims (after_of g.work (seen c.view)) ≤ n
+      → (EndsWalks s c (given m c (probed c g.work sy a pl ws)) n × (wholes ws ≡ [])) ⊎ Goes m h stopped k p Reads s (given m c (probed c g.work sy a pl ws)) (wholes ws) n
+  unfolding client_asks task_asks sync_work_asks work_asks
+  probe_goes s c n sy a pl x [] g epoch units once is lasts here such few =
+      fed_turns s c n _ (walks_fed s c.cells n c.next g.work.gone_before (seen c.view) (length g.work.oids) (length g.work.oids) _
+      (walks_to m way p tail most g.work.oids c (record (g.work) { gone = max g.work.gone 0; tail = a.tail; lasts = a.lasts; lo = steps.lo_for m c g.work.command }) g.stand (record { asks = such.0; lasts = lasts; few = such.1 })) here few)
+  probe_goes s c n sy a pl x (w ∷ ws) g epoch units once is lasts here such few =
+      let task : Task m = Syncing (record { oids = sy.oids; work = Probing a (works pl (Probes (w ∷ ws))) }) in
+      inr (record {
+        os = [];
+        left = n;
+        sends = none_drawn (looks pl (w ∷ ws)) c.next g.below.1;
+        stage = ProbesAll (wholes (w ∷ ws) ++ []) n (record {
+          sync = record { oids = sy.oids; work = Probing a (works pl (Probes (w ∷ ws))) };
+          answer = a;
+          pl = pl;
+          epoch = epoch;
+          waits = w ∷ ws;
+          told = w ∷ ws;
+          asked = [];
+          split = sym (append-nil (w ∷ ws));
+          work = refl;
+          shape = record { stand = g.stand; work = record (g.work) { gone = max g.work.gone 0; hand = Doing task }; waits = refl; hand = refl; awaited = refl; again = refl; asks = refl; below = g.below.1; away = g.away.1 };
+          items = append-nil (wholes (w ∷ ws));
+          some = λ e. absurd cc;
+          units = units;
+          once = once;
+          tail_is = is;
+          lasts = lasts;
+          here = here;
+          such = such;
+          few = few;
+        });
+        less = omega arith;
+      })
+
+  -- the items that are left tell which answer it is
+  tells_first : (pl : Place) (asked told : Waits) (from : NodeId) (rid : ℕ) (y : Msg) (is : List Item) → Tell from rid y ∷ is ≡ asks (looks pl asked) ++ wholes told
+      → (w : ℕ × ℕ) × (ws : Waits) × (asked ≡ []) × (told ≡ w ∷ ws) × (from ≡ unit_id w.0) × (rid ≡ w.1) × (y ≡ msg.Whole) × (is ≡ wholes ws)
+  tells_first pl (a ∷ asked) told from rid y is e = absurd cc
+  tells_first pl [] [] from rid y is e = absurd cc
+  tells_first pl [] (w ∷ ws) from rid y is e = (w, ws, refl, refl, cc, cc, cc, cc)
+
+  probe_answered : (s : Net m) (c : Client m) (from : NodeId) (rid : ℕ) (y : Msg) (is js : List Item) (n : ℕ) (x : Probing' s c js n) → js ≡ Tell from rid y ∷ is
+      → (EndsWalks s c (client_deliver m c from rid y) n × (is ≡ [])) ⊎ Goes m h stopped k p Reads s (client_deliver m c from rid y) is n
+  unfolding client_deliver reply is_latest
+  probe_answered s c from rid y is js n x e =
+      let f = tells_first x.pl x.asked x.told from rid y is (sym e ∙ x.items) in
+      let waits = x.split ∙ (ap (λ (ys : Waits). ys ++ x.asked) f.3 ∙ (ap (λ (ys : Waits). (f.0 ∷ f.1) ++ ys) f.2 ∙ append-nil (f.0 ∷ f.1))) in
+      by f.0 f.1 (x.work ∙ ap (λ (ys : Waits). Probing x.answer (works x.pl (Probes ys))) waits) (subst (λ (ys : Waits). TaskShape m h stopped k p longest c (Syncing x.sync) (looks x.pl ys)) waits x.shape) f.4 f.5 f.6 f.7 (subst (λ (ys : Waits). Each (Answering s) ys) waits x.units).1 (subst AskedOnce waits x.once)
+    where
+      by : (w : ℕ × ℕ) (ws : Waits) → x.sync.work ≡ Probing x.answer (works x.pl (Probes (w ∷ ws))) → TaskShape m h stopped k p longest c (Syncing x.sync) (looks x.pl (w ∷ ws)) → from ≡ unit_id w.0 → rid ≡ w.1 → y ≡ msg.Whole → is ≡ wholes ws → Each (Answering s) ws → AskedOnce (w ∷ ws)
+          → (EndsWalks s c (client_deliver m c from rid y) n × (is ≡ [])) ⊎ Goes m h stopped k p Reads s (client_deliver m c from rid y) is n
+      by w ws work shape a b d i units once =
+          subst (λ (f : NodeId). (EndsWalks s c (client_deliver m c f rid y) n × (is ≡ [])) ⊎ Goes m h stopped k p Reads s (client_deliver m c f rid y) is n) (sym a)
+          (subst (λ (r : ℕ). (EndsWalks s c (client_deliver m c (unit_id w.0) r y) n × (is ≡ [])) ⊎ Goes m h stopped k p Reads s (client_deliver m c (unit_id w.0) r y) is n) (sym b)
+          (subst (λ (z : Msg). (EndsWalks s c (client_deliver m c (unit_id w.0) w.1 z) n × (is ≡ [])) ⊎ Goes m h stopped k p Reads s (client_deliver m c (unit_id w.0) w.1 z) is n) (sym d)
+          (subst (λ (js : List Item). (EndsWalks s c (client_deliver m c (unit_id w.0) w.1 msg.Whole) n × (js ≡ [])) ⊎ Goes m h stopped k p Reads s (client_deliver m c (unit_id w.0) w.1 msg.Whole) js n) (sym i) (heard w ws work shape units once))))
+        where
+          same_work : (u v : Work m) → Some u ≡ Some v → u ≡ v
+          same_work u v e = cc
+
+          heard : (w : ℕ × ℕ) (ws : Waits) → x.sync.work ≡ Probing x.answer (works x.pl (Probes (w ∷ ws))) → (g : TaskShape m h stopped k p longest c (Syncing x.sync) (looks x.pl (w ∷ ws))) → Each (Answering s) ws → AskedOnce (w ∷ ws)
+              → (EndsWalks s c (client_deliver m c (unit_id w.0) w.1 msg.Whole) n × (wholes ws ≡ [])) ⊎ Goes m h stopped k p Reads s (client_deliver m c (unit_id w.0) w.1 msg.Whole) (wholes ws) n
+          heard w ws work g units once =
+              let same = same_work x.shape.work g.work (sym x.shape.waits ∙ g.waits) in
+              subst (λ (z : Moved m). (EndsWalks s c (given m c z) n × (wholes ws ≡ [])) ⊎ Goes m h stopped k p Reads s (given m c z) (wholes ws) n)
+              (sym (task_fed m h stopped k p longest c (Syncing x.sync) (looks x.pl (w ∷ ws)) (unit_id w.0) w.1 (reply msg.Whole) g (first_awaited (out (unit_id w.0) w.1 (look x.pl)) (looks x.pl ws)) refl ∙ probe_fed c g.work x.sync x.answer x.pl w ws g.stand work once.0))
+              (probe_goes s c n x.sync x.answer x.pl w ws g x.epoch units once.1 x.tail_is x.lasts x.here (subst IsSuch same x.such) (subst (λ (v : Work m). Budget (unknown c.cells tail) + extra kind.trims (after_of v (seen c.view)) ≤ n) same x.few))
+
+  -- A request comes to its node.
+
+  abbrev ToldOne : Net m → Out → ℕ → Type 0
+  ToldOne s o n = Told m h stopped k p Reads s o [] n
+
+  cell_told : (s : Net m) (task : Task m) (o : Out) (pl : Place) (b : Bool) (y : CellWork) (cost n : ℕ) → (a : CellAsk m h stopped k p longest low_at many s pl b y cost) → Ready m h stopped k p s → (g : TaskShape m h stopped k p longest (client_of m h s k) task (o ∷ [])) → work_asks pl y ≡ o ∷ []
+      → TaskWell (with_unit m stopped s a.unit (unit_step (unit_of m s a.unit) a.says).now) (client_of m h s k).cells (seen (client_of m h s k).view) g.work task a.replies.says n → ToldOne s o n
+  cell_told s task o pl b y cost n a ready g e well =
       let x = out (unit_id a.unit) a.rid a.says in
       let is = same_out m h stopped k p longest x o (sym a.is ∙ e) in
-      asked_at s x o n is (record {
+      subst (λ (z : Out). ToldOne s z n) is (record {
         running = a.on;
         from = unit_id a.unit;
         rid = a.rid;
@@ -306,178 +562,367 @@ module _ (m : Meaning) (h : Header) (stopped : List NodeId) (k : ℕ) (p : Layou
         no_client = unit_no_client m h stopped k p longest a.unit;
         ready = record { on = ready.on; rests = ready.rests; old = ready.old; layouts = ready.layouts; idle = ready.idle };
         client = refl;
-        hears = record { task = task; o = x; shape = shape_at _ task x o is g; awaited = awaited_itself m h stopped k p longest x; no_latest = a.replies.no_latest; well = well; also = also };
+        stage = HearsOne (unit_id a.unit) a.rid a.replies.says n (record { task = task; o = o; shape = g; awaited = subst (λ (z : Out). awaits (z ∷ []) (unit_id a.unit) a.rid ≡ true) is (awaited_itself m h stopped k p longest x); no_latest = a.replies.no_latest; well = well });
       })
 
-  check_step : (s : Net m) (x : SeqrState) (cells : List (ℕ × Cell)) (sy : Sync) (n : ℕ) (from : NodeId) (rid : ℕ) → Checks m h stopped k p longest tail s x cells sy n
-      → seqr_step x from rid (msg.Check p.epoch sy.oids) ≡ record { now = x; sends = out from rid (msg.Tail tail (links_of x.lists sy.oids)) ∷ [] }
+  check_step : (s : Net m) (oids : List Oid) (from : NodeId) (rid : ℕ) → HereIn s → seqr_step (seqr_of m h s p.seq) from rid (msg.Check p.epoch oids) ≡ record { now = seqr_of m h s p.seq; sends = out from rid (msg.Tail tail (links_of (seqr_of m h s p.seq).lists oids)) ∷ [] }
   unfolding seqr_step
-  check_step s x cells sy n from rid f = ap (λ b. own_epoch b x from rid (seqr_answers x from rid (stand_answer x (links_of x.lists sy.oids) (scanning x)))) (tested p.epoch x.epoch (sym f.epoch))
-      ∙ (ap (λ y. unfenced y x from rid (seqr_answers x from rid (stand_answer x (links_of x.lists sy.oids) (scanning x)))) f.unfenced
-      ∙ (ap (λ b. seqr_answers x from rid (stand_answer x (links_of x.lists sy.oids) b)) f.ready ∙ ap (λ t. record { now = x; sends = out from rid (msg.Tail t (links_of x.lists sy.oids)) ∷ [] }) f.next))
+  check_step s oids from rid f =
+      let x = seqr_of m h s p.seq in
+      ap (λ b. own_epoch b x from rid (seqr_answers x from rid (stand_answer x (links_of x.lists oids) (scanning x)))) (tested p.epoch x.epoch (sym f.epoch))
+      ∙ (ap (λ y. unfenced y x from rid (seqr_answers x from rid (stand_answer x (links_of x.lists oids) (scanning x)))) f.unfenced
+      ∙ (ap (λ b. seqr_answers x from rid (stand_answer x (links_of x.lists oids) b)) f.ready ∙ ap (λ t. record { now = x; sends = out from rid (msg.Tail t (links_of x.lists oids)) ∷ [] }) f.next))
     where
       tested : (a b : ℕ) → a ≡ b → eqb a b ≡ true
       tested a b e = grind arith
 
-  tail_near : (ls : List StreamLink) → too_far tail ≡ false → reply (msg.Tail tail ls) ≡ IsTail tail ls
+  tail_near : (s : Net m) (ls : List StreamLink) → HereIn s → reply (msg.Tail tail ls) ≡ IsTail tail ls
   unfolding reply
-  tail_near ls e = ap (λ x. cond x IsOther (IsTail tail ls)) e
+  tail_near s ls f = ap (λ x. cond x IsOther (IsTail tail ls)) f.near
 
   plain_tail : (ls : List StreamLink) → is_latest (IsTail tail ls) ≡ false
   unfolding is_latest
   plain_tail ls = refl
 
-  checked_well : (s : Net m) (x : SeqrState) (cells : List (ℕ × Cell)) (sy : Sync) (n u next r : ℕ) → Checks m h stopped k p longest tail s x cells sy n → SyncWell m h stopped k p longest tail s cells n next (sync_feed p sy (Checking r) u (reply (msg.Tail tail (links_of x.lists sy.oids))) next)
+  checked_well : (s t : Net m) (cells : List (ℕ × Cell)) (after : ℕ) (sy : Sync) (n u next r : ℕ) → HereIn s → HereIn t → longest + Budget (unknown cells tail) + extra kind.trims (longest + after) ≤ n
+      → SyncWell m h stopped k p longest low_at many tail most kind t cells after n next (sync_feed p sy (Checking r) u (reply (msg.Tail tail (links_of (seqr_of m h s p.seq).lists sy.oids))) next)
   unfolding sync_feed
-  checked_well s x cells sy n u next r f = subst (λ y. SyncWell m h stopped k p longest tail s cells n next (checking_feed p sy y next)) (sym (tail_near (links_of x.lists sy.oids) f.near))
-      (subst (λ b. SyncWell m h stopped k p longest tail s cells n next (on_tail p sy (record { tail = tail; lasts = links_of x.lists sy.oids }) next b)) (sym f.named) (tail_well m h stopped k p longest tail s x cells sy n u next f))
+  checked_well s t cells after sy n u next r f g few =
+      let ls = links_of (seqr_of m h s p.seq).lists sy.oids in
+      subst (λ y. SyncWell m h stopped k p longest low_at many tail most kind t cells after n next (checking_feed p sy y next)) (sym (tail_near s ls f))
+      (subst (λ b. SyncWell m h stopped k p longest low_at many tail most kind t cells after n next (on_tail p sy (record { tail = tail; lasts = ls }) next b)) (sym (f.named sy.oids))
+      (tail_well m h stopped k p longest low_at many tail most kind t cells after sy (record { tail = tail; lasts = ls }) n next refl (λ o. f.lasts o sy.oids) g few))
 
-  check_asked : (s : Net m) (sy : Sync) (o : Out) (r n : ℕ) → sy.work ≡ Checking r → Ready m h stopped k p s → (g : TaskShape (client_of m h s k) (Syncing sy) o) → out (seqr_id p.seq) r (msg.Check p.epoch sy.oids) ∷ [] ≡ o ∷ []
-      → Checks m h stopped k p longest tail s (seqr_of m h s p.seq) (client_of m h s k).cells sy n → way.Is g.work.command → Also s → Asked m h stopped k p Asking' Hearing' s o n
-  check_asked s sy o r n is ready g e f ask also =
+  check_told : (s : Net m) (sy : Sync) (o : Out) (r n : ℕ) → sy.work ≡ Checking r → Ready m h stopped k p s → (g : TaskShape m h stopped k p longest (client_of m h s k) (Syncing sy) (o ∷ [])) → out (seqr_id p.seq) r (msg.Check p.epoch sy.oids) ∷ [] ≡ o ∷ []
+      → HereIn s → longest + Budget (unknown (client_of m h s k).cells tail) + extra kind.trims (longest + after_of g.work (seen (client_of m h s k).view)) ≤ n → IsSuch g.work → ToldOne s o n
+  check_told s sy o r n is ready g e f few such =
       let x = seqr_of m h s p.seq in
       let q = out (seqr_id p.seq) r (msg.Check p.epoch sy.oids) in
-      let z = check_step s x (client_of m h s k).cells sy n (client_id k) r f in
+      let z = check_step s sy.oids (client_id k) r f in
       let less = below_count m h stopped k p longest s p.seq f.on in
       let kept = same_out m h stopped k p longest q o e in
-      asked_at s q o n kept (record {
+      let now = (seqr_step x (client_id k) r (msg.Check p.epoch sy.oids)).now in
+      let t : Net m = record s { seqrs = slice_set s.seqrs p.seq now } in
+      let same = set_there s.seqrs p.seq now (new_seqr p.seq h.limit (first_layout h)) less ∙ ap (λ t. t.now) z in
+      let keep : Keeps m h stopped k p s t = record { units = λ v e. refl; seqr = same; alike = seqr_alike m s p.seq now } in
+      subst (λ (y : Out). ToldOne s y n) kept (record {
         running = f.on;
         from = seqr_id p.seq;
         rid = r;
         says = msg.Tail tail (links_of x.lists sy.oids);
         sent = ap (λ t. map (packet_of m (seqr_id p.seq)) t.sends) z;
         no_client = seqr_no_client m h stopped k p longest p.seq;
-        ready = record { on = ready.on; rests = ap (λ (y : SeqrState). y.scan) (after s x less (ap (λ t. t.now) z)) ∙ f.rests; old = λ j off. subst (λ (y : SeqrState). Old p.epoch y) (sym (set_other s.seqrs p.seq _ j (new_seqr j h.limit (first_layout h)) off)) (ready.old j off); layouts = ready.layouts; idle = ready.idle };
+        ready = record { on = ready.on; rests = ap (λ (y : SeqrState). y.scan) same ∙ f.rests; old = λ j off. subst (λ (y : SeqrState). Old p.epoch y) (sym (set_other s.seqrs p.seq _ j (new_seqr j h.limit (first_layout h)) off)) (ready.old j off); layouts = ready.layouts; idle = ready.idle };
         client = refl;
-        hears = record {
+        stage = HearsOne (seqr_id p.seq) r (msg.Tail tail (links_of x.lists sy.oids)) n (record {
           task = Syncing sy;
-          o = q;
-          shape = shape_at _ (Syncing sy) q o kept g;
-          awaited = awaited_itself m h stopped k p longest q;
-          no_latest = ap is_latest (tail_near (links_of x.lists sy.oids) f.near) ∙ plain_tail (links_of x.lists sy.oids);
+          o = o;
+          shape = g;
+          awaited = subst (λ (z : Out). awaits (z ∷ []) (seqr_id p.seq) r ≡ true) kept (awaited_itself m h stopped k p longest q);
+          no_latest = ap is_latest (tail_near s (links_of x.lists sy.oids) f) ∙ plain_tail (links_of x.lists sy.oids);
           well = (
-            (λ u next. sync_well_keeps s _ _ n next _ (record { units = λ v e. refl; seqr = after s x less (ap (λ t. t.now) z); alike = seqr_alike m s p.seq _ })
-                (subst (λ w. SyncWell m h stopped k p longest tail s (client_of m h s k).cells n next (sync_feed p sy w u (reply (msg.Tail tail (links_of x.lists sy.oids))) next)) (sym is) (checked_well s x (client_of m h s k).cells sy n u next r f))),
-            ask,
+            (λ u next.
+                subst (λ w. SyncWell m h stopped k p longest low_at many tail most kind t (client_of m h s k).cells (after_of g.work (seen (client_of m h s k).view)) n next (sync_feed p sy w u (reply (msg.Tail tail (links_of x.lists sy.oids))) next)) (sym is)
+                (checked_well s t (client_of m h s k).cells (after_of g.work (seen (client_of m h s k).view)) sy n u next r f (here_keeps m h stopped k p longest low_at many tail most kind s t keep f) few)),
+            such,
           );
-          also = also_keeps s _ (record { units = λ v e. refl; seqr = after s x less (ap (λ t. t.now) z); alike = seqr_alike m s p.seq _ }) also;
-        };
+        });
       })
-    where
-      after : (s : Net m) (x : SeqrState) {y : SeqrState} → p.seq < length s.seqrs → y ≡ x → slice_index_or (slice_set s.seqrs p.seq y) p.seq (new_seqr p.seq h.limit (first_layout h)) ≡ x
-      after s x {y} less e = set_there s.seqrs p.seq y (new_seqr p.seq h.limit (first_layout h)) less ∙ e
 
-  settle_asked : (s : Net m) (sy : Sync) (o : Out) (a : Answer) (j : CellJob) (n : ℕ) → sy.work ≡ Settling a j → Ready m h stopped k p s → (g : TaskShape (client_of m h s k) (Syncing sy) o) → cell_asks j ≡ o ∷ []
-      → Settles m h stopped k p longest tail s (client_of m h s k).cells a j.place j.work n → way.Is g.work.command → Also s → Asked m h stopped k p Asking' Hearing' s o n
+  settle_told : (s : Net m) (sy : Sync) (o : Out) (a : Answer) (j : CellJob) (n : ℕ) → sy.work ≡ Settling a j → Ready m h stopped k p s → (g : TaskShape m h stopped k p longest (client_of m h s k) (Syncing sy) (o ∷ [])) → cell_asks j ≡ o ∷ []
+      → Settles m h stopped k p longest low_at many tail most kind s (client_of m h s k).cells (after_of g.work (seen (client_of m h s k).view)) a j.place j.work n → IsSuch g.work → ToldOne s o n
   unfolding sync_feed cell_feed
-  settle_asked s sy o a j n is ready g e f ask also =
-      let c = cell_ask m h stopped k p longest s j.place j.work f.cost f.cell in
-      cell_asked s (Syncing sy) o j.place j.work f.cost n c ready g e ((λ u next. by_work sy is c u next (cell_settles m h stopped k p longest tail s _ (client_of m h s k).cells sy a j.place j.work n c.replies.stored f c.replies.put next _ (c.replies.well u next))), ask)
-      (also_put s _ j.place.pos c.replies.stored c.replies.put (λ some. let at = ap (λ (z : Place). z.pos) f.place in omega (arith, some, at)) refl also)
-    where
-      by_work : (sy : Sync) → sy.work ≡ Settling a j → {cost : ℕ} → (c : CellAsk m h stopped k p longest s j.place j.work cost) (u next : ℕ)
-          → SyncWell m h stopped k p longest tail (with_unit m stopped s c.unit (unit_step (unit_of m s c.unit) c.says).now) (client_of m h s k).cells n next (settle_turn p sy a (cell_feed j u (reply c.replies.says) next))
-          → SyncWell m h stopped k p longest tail (with_unit m stopped s c.unit (unit_step (unit_of m s c.unit) c.says).now) (client_of m h s k).cells n next (sync_feed p sy sy.work u (reply c.replies.says) next)
-      by_work sy is c u next x = subst (λ (w : SyncWork). SyncWell m h stopped k p longest tail (with_unit m stopped s c.unit (unit_step (unit_of m s c.unit) c.says).now) (client_of m h s k).cells n next (sync_feed p sy w u (reply c.replies.says) next)) (sym is) x
+  settle_told s sy o a j n is ready g e f such =
+      let after = after_of g.work (seen (client_of m h s k).view) in
+      let cells = (client_of m h s k).cells in
+      let st = stable_at m h stopped k p longest low_at many tail most kind s j.place f.place f.here in
+      let c = cell_ask m h stopped k p longest low_at many s j.place f.sort j.work f.cost st f.cell in
+      let t = with_unit m stopped s c.unit (unit_step (unit_of m s c.unit) c.says).now in
+      let here = here_put m h stopped k p longest low_at many tail most kind s t j.place c.replies.stored f.place f.less c.replies.put c.replies.good refl f.here in
+      cell_told s (Syncing sy) o j.place f.sort j.work f.cost n c ready g e (
+        (λ u next.
+            subst (λ (w : SyncWork). SyncWell m h stopped k p longest low_at many tail most kind t cells after n next (sync_feed p sy w u (reply c.replies.says) next)) (sym is)
+            (cell_settles m h stopped k p longest low_at many tail most kind s t cells after sy a j.place j.work n f here next _ (c.replies.well u next))),
+        such,
+      )
 
-  walk_asked : (s : Net m) (wk : Walk) (os : List Oid) (o : Out) (j : CellJob) (n : ℕ) → wk.job ≡ Some j → Ready m h stopped k p s → (g : TaskShape (client_of m h s k) (Walking wk os) o) → cell_asks j ≡ o ∷ []
-      → Reading m h stopped k p longest tail s wk j.place j.work n → Walks m way p tail g.work → Also s → Asked m h stopped k p Asking' Hearing' s o n
+  walk_told : (s : Net m) (wk : Walk) (os : List Oid) (o : Out) (j : CellJob) (n : ℕ) → wk.job ≡ Some j → Ready m h stopped k p s → (g : TaskShape m h stopped k p longest (client_of m h s k) (Walking wk os) (o ∷ [])) → cell_asks j ≡ o ∷ []
+      → Reading m h stopped k p longest low_at many tail most kind s wk (length os) g.work.gone_before (seen (client_of m h s k).view) j.place j.work n → Walks m way p tail most g.work → ToldOne s o n
   unfolding walk_feed cell_feed
-  walk_asked s wk os o j n is ready g e f ws also =
-      let c = cell_ask m h stopped k p longest s j.place j.work f.cost f.cell in
-      cell_asked s (Walking wk os) o j.place j.work f.cost n c ready g e ((λ u next. by_work wk is c u next (cell_walks m h stopped k p longest tail s _ wk j.place j.work n c.replies.stored f c.replies.put next _ (c.replies.well u next))), ws)
-      (also_put s _ j.place.pos c.replies.stored c.replies.put (λ some. f.less) refl also)
-    where
-      by_work : (wk : Walk) → wk.job ≡ Some j → {cost : ℕ} → (c : CellAsk m h stopped k p longest s j.place j.work cost) (u next : ℕ)
-          → WalkWell m h stopped k p longest tail (with_unit m stopped s c.unit (unit_step (unit_of m s c.unit) c.says).now) n next (walk_turn p wk j.place.pos (cell_feed j u (reply c.replies.says) next))
-          → WalkWell m h stopped k p longest tail (with_unit m stopped s c.unit (unit_step (unit_of m s c.unit) c.says).now) n next (walk_feed p wk wk.job u (reply c.replies.says) next)
-      by_work wk is c u next x = subst (λ (w : Option CellJob). WalkWell m h stopped k p longest tail (with_unit m stopped s c.unit (unit_step (unit_of m s c.unit) c.says).now) n next (walk_feed p wk w u (reply c.replies.says) next)) (sym is) x
+  walk_told s wk os o j n is ready g e f ws =
+      let v = seen (client_of m h s k).view in
+      let st = stable_at m h stopped k p longest low_at many tail most kind s j.place f.place f.here in
+      let c = cell_ask m h stopped k p longest low_at many s j.place f.sort j.work f.cost st f.cell in
+      let t = with_unit m stopped s c.unit (unit_step (unit_of m s c.unit) c.says).now in
+      let here = here_put m h stopped k p longest low_at many tail most kind s t j.place c.replies.stored f.place f.less c.replies.put c.replies.good refl f.here in
+      cell_told s (Walking wk os) o j.place f.sort j.work f.cost n c ready g e (
+        (λ u next.
+            subst (λ (w : Option CellJob). WalkWell m h stopped k p longest low_at many tail most kind t (length os) g.work.gone_before v n next (walk_feed p wk w u (reply c.replies.says) next)) (sym is)
+            (cell_walks m h stopped k p longest low_at many tail most kind s t wk (length os) g.work.gone_before v j.place j.work n f here next _ (c.replies.well u next))),
+        ws,
+      )
 
-  sync_asked : (s : Net m) (sy : Sync) (o : Out) (w : SyncWork) (n : ℕ) → sy.work ≡ w → sync_work_asks p sy w ≡ o ∷ [] → Ready m h stopped k p s → (g : TaskShape (client_of m h s k) (Syncing sy) o) → SyncStage m h stopped k p longest tail s (client_of m h s k).cells sy w n
-      → way.Is g.work.command → Also s → Asked m h stopped k p Asking' Hearing' s o n
+  sync_told : (s : Net m) (sy : Sync) (o : Out) (w : SyncWork) (n : ℕ) → sy.work ≡ w → sync_work_asks p sy w ≡ o ∷ [] → Ready m h stopped k p s → (g : TaskShape m h stopped k p longest (client_of m h s k) (Syncing sy) (o ∷ []))
+      → SyncStage m h stopped k p longest low_at many tail most kind s (client_of m h s k).cells (after_of g.work (seen (client_of m h s k).view)) sy w n → IsSuch g.work → ToldOne s o n
   unfolding sync_work_asks
-  sync_asked s sy o (Checking r) n is e ready g f ask also = check_asked s sy o r n is ready g e f ask also
-  sync_asked s sy o (Settling a j) n is e ready g f ask also = settle_asked s sy o a j n is ready g e f ask also
-  sync_asked s sy o (Probing a j) n is e ready g f ask also = absurd f
+  sync_told s sy o (Checking r) n is e ready g f such = check_told s sy o r n is ready g e f.0 f.1 such
+  sync_told s sy o (Settling a j) n is e ready g f such = settle_told s sy o a j n is ready g e f such
+  sync_told s sy o (Probing a j) n is e ready g f such = absurd f
 
-  job_asked : (s : Net m) (wk : Walk) (os : List Oid) (o : Out) (j : Option CellJob) (n : ℕ) → wk.job ≡ j → job_asks j ≡ o ∷ [] → Ready m h stopped k p s → (g : TaskShape (client_of m h s k) (Walking wk os) o) → WalkStage m h stopped k p longest tail s wk j n → Walks m way p tail g.work
-      → Also s → Asked m h stopped k p Asking' Hearing' s o n
-  job_asked s wk os o None n is e ready g f ws also = absurd f
-  job_asked s wk os o (Some j) n is e ready g f ws also = walk_asked s wk os o j n is ready g e f ws also
+  job_told : (s : Net m) (wk : Walk) (os : List Oid) (o : Out) (j : Option CellJob) (n : ℕ) → wk.job ≡ j → job_asks j ≡ o ∷ [] → Ready m h stopped k p s → (g : TaskShape m h stopped k p longest (client_of m h s k) (Walking wk os) (o ∷ []))
+      → WalkStage m h stopped k p longest low_at many tail most kind s wk (length os) g.work.gone_before (seen (client_of m h s k).view) j n → Walks m way p tail most g.work → ToldOne s o n
+  job_told s wk os o None n is e ready g f ws = absurd f
+  job_told s wk os o (Some j) n is e ready g f ws = walk_told s wk os o j n is ready g e f ws
 
-  task_asked : (s : Net m) (task : Task m) (o : Out) (n : ℕ) → Ready m h stopped k p s → (g : TaskShape (client_of m h s k) task o) → task_asks m p task ≡ o ∷ [] → TaskStage s (client_of m h s k).cells g.work task n → Also s
-      → Asked m h stopped k p Asking' Hearing' s o n
+  task_told : (s : Net m) (task : Task m) (o : Out) (n : ℕ) → Ready m h stopped k p s → (g : TaskShape m h stopped k p longest (client_of m h s k) task (o ∷ [])) → task_asks m p task ≡ o ∷ [] → TaskStage s (client_of m h s k).cells (seen (client_of m h s k).view) g.work task n → ToldOne s o n
   unfolding task_asks
-  task_asked s (Syncing sy) o n ready g e x also = sync_asked s sy o sy.work n refl e ready g x.0 x.1 also
-  task_asked s (Walking wk os) o n ready g e x also = job_asked s wk os o wk.job n refl e ready g x.0 x.1 also
-  task_asked s (Appending a z) o n ready g e x also = absurd x
-  task_asked s (Trimming z) o n ready g e x also = absurd x
-  task_asked s (Copying' z) o n ready g e x also = absurd x
-  task_asked s (Reconfiguring z) o n ready g e x also = absurd x
+  task_told s (Syncing sy) o n ready g e x = sync_told s sy o sy.work n refl e ready g x.0 x.1
+  task_told s (Walking wk os) o n ready g e x = job_told s wk os o wk.job n refl e ready g x.0 x.1
+  task_told s (Appending a z) o n ready g e x = absurd x
+  task_told s (Trimming z) o n ready g e x = absurd x
+  task_told s (Copying' z) o n ready g e x = absurd x
+  task_told s (Reconfiguring z) o n ready g e x = absurd x
+
+  -- A unit of a chain is asked whether it is there.
+
+  looked : (u : UnitState) (pl : Place) → u.epoch ≡ pl.epoch → unit_step u (look pl) ≡ says u msg.Whole
+  unfolding unit_step unit_ask on_ask first_missing
+  looked u pl e = ap (λ b. in_epoch b u (on_has u (first_missing u 1 (how_many pl.pos pl.pos 1) pl.pos))) (tested u.epoch pl.epoch e) ∙ ap (λ n. on_has u (first_missing u 1 n pl.pos)) (none pl.pos)
+    where
+      tested : (a b : ℕ) → a ≡ b → eqb a b ≡ true
+      tested a b e = grind arith
+
+      none : (n : ℕ) → how_many n n 1 ≡ 0
+      none n = ap (λ (i : ℕ). (i + (1 - 1)) / 1) (zero_left n)
+        where
+          zero_left : (n : ℕ) → n - n ≡ 0
+          zero_left n = omega arith
+
+  -- a unit that stays as it is
+  same_keeps : (s : Net m) (u : ℕ) (x : UnitState) → x ≡ unit_of m s u → Keeps m h stopped k p s (with_unit m stopped s u x)
+  same_keeps s u x e = record { units = λ v at. by v (set_index s.units u x v new_unit); seqr = refl; alike = unit_alike m s u x }
+    where
+      by : (v : ℕ) → ((v ≡ u) × (slice_index_or (slice_set s.units u x) v new_unit ≡ x)) ⊎ (slice_index_or (slice_set s.units u x) v new_unit ≡ unit_of m s v) → slice_index_or (slice_set s.units u x) v new_unit ≡ unit_of m s v
+      by v (inl c) = c.1 ∙ (e ∙ ap (λ n. unit_of m s n) (sym c.0))
+      by v (inr c) = c
+
+  each_keeps : (s t : Net m) (ws : Waits) → Keeps m h stopped k p s t → Each (Answering s) ws → Each (Answering t) ws
+  each_keeps s t [] keep a = tt
+  each_keeps s t (w ∷ ws) keep a = (keeps_unit m h stopped k p longest s t w.0 keep a.0, each_keeps s t ws keep a.1)
+
+  each_mid : (s : Net m) (xs : Waits) (w : ℕ × ℕ) (ys : Waits) → Each (Answering s) (xs ++ w ∷ ys) → Answering s w
+  each_mid s [] w ys a = a.0
+  each_mid s (x ∷ xs) w ys a = each_mid s xs w ys a.1
+
+  nest : (xs : Waits) (w : ℕ × ℕ) (ys : Waits) → xs ++ w ∷ ys ≡ (xs ++ w ∷ []) ++ ys
+  nest [] w ys = refl
+  nest (x ∷ xs) w ys = ap (λ (l : Waits). x ∷ l) (nest xs w ys)
+
+  -- its answer comes behind
+  told_behind : (xs : List Item) (ws : Waits) (w : ℕ × ℕ) → (xs ++ wholes ws) ++ Tell (unit_id w.0) w.1 msg.Whole ∷ [] ≡ xs ++ wholes (ws ++ w ∷ [])
+  told_behind [] [] w = refl
+  told_behind [] (x ∷ ws) w = ap (λ (l : List Item). Tell (unit_id x.0) x.1 msg.Whole ∷ l) (told_behind [] ws w)
+  told_behind (x ∷ xs) ws w = ap (λ (l : List Item). x ∷ l) (told_behind xs ws w)
+
+  asks_first : (pl : Place) (asked told : Waits) (o : Out) (is : List Item) → Ask o ∷ is ≡ asks (looks pl asked) ++ wholes told → (w : ℕ × ℕ) × (ws : Waits) × (asked ≡ w ∷ ws) × (o ≡ out (unit_id w.0) w.1 (look pl)) × (is ≡ asks (looks pl ws) ++ wholes told)
+  asks_first pl [] [] o is e = absurd cc
+  asks_first pl [] (w ∷ ws) o is e = absurd cc
+  asks_first pl (w ∷ ws) told o is e = (w, ws, refl, cc, cc)
+
+  probe_told : (s : Net m) (o : Out) (is js : List Item) (n : ℕ) → Ready m h stopped k p s → (x : Probing' s (client_of m h s k) js n) → js ≡ Ask o ∷ is → Told m h stopped k p Reads s o is n
+  probe_told s o is js n ready x e =
+      let f = asks_first x.pl x.asked x.told o is (sym e ∙ x.items) in
+      let w = f.0 in
+      let q = out (unit_id w.0) w.1 (look x.pl) in
+      let split = x.split ∙ ap (λ (ys : Waits). x.told ++ ys) f.2 in
+      let serves = each_mid s x.told w f.1 (subst (λ (ys : Waits). Each (Answering s) ys) split x.units) in
+      let step = looked (unit_of m s w.0) x.pl (serves.epoch ∙ sym x.epoch) in
+      let t = with_unit m stopped s w.0 (unit_step (unit_of m s w.0) (look x.pl)).now in
+      let keep = same_keeps s w.0 (unit_step (unit_of m s w.0) (look x.pl)).now (ap (λ y. y.now) step) in
+      subst (λ (y : Out). Told m h stopped k p Reads s y is n) (sym f.3) (record {
+        running = serves.on;
+        from = unit_id w.0;
+        rid = w.1;
+        says = msg.Whole;
+        sent = ap (λ y. answer_to m (packet_of m (client_id k) q) y.says) step;
+        no_client = unit_no_client m h stopped k p longest w.0;
+        ready = record { on = ready.on; rests = ready.rests; old = ready.old; layouts = ready.layouts; idle = ready.idle };
+        client = refl;
+        stage = ProbesAll (is ++ Tell (unit_id w.0) w.1 msg.Whole ∷ []) n (record {
+          sync = x.sync;
+          answer = x.answer;
+          pl = x.pl;
+          epoch = x.epoch;
+          waits = x.waits;
+          told = x.told ++ w ∷ [];
+          asked = f.1;
+          split = split ∙ nest x.told w f.1;
+          work = x.work;
+          shape = x.shape;
+          items = ap (λ (l : List Item). l ++ Tell (unit_id w.0) w.1 msg.Whole ∷ []) f.4 ∙ told_behind (asks (looks x.pl f.1)) x.told w;
+          some = x.some;
+          units = each_keeps s t x.waits keep x.units;
+          once = x.once;
+          tail_is = x.tail_is;
+          lasts = x.lasts;
+          here = here_keeps m h stopped k p longest low_at many tail most kind s t keep x.here;
+          such = x.such;
+          few = x.few;
+        });
+      })
+
+  -- Whatever other packets do, it stays so.
+
+  reading_keeps : (s t : Net m) (wk : Walk) (os g v : ℕ) (pl : Place) (y : CellWork) (n : ℕ) → Keeps m h stopped k p s t → Reading m h stopped k p longest low_at many tail most kind s wk os g v pl y n → Reading m h stopped k p longest low_at many tail most kind t wk os g v pl y n
+  reading_keeps s t wk os g v pl y n keep f = record { place = f.place; less = f.less; low = f.low; here = here_keeps m h stopped k p longest low_at many tail most kind s t keep f.here; sort = f.sort; cost = f.cost; cell = cell_keeps m h stopped k p longest low_at many s t pl f.sort y f.cost keep (stable_at m h stopped k p longest low_at many tail most kind s pl f.place f.here) f.cell; left = f.left; fewer = f.fewer; few = f.few; gone = f.gone }
+
+  settles_keeps : (s t : Net m) (cells : List (ℕ × Cell)) (after : ℕ) (a : Answer) (pl : Place) (y : CellWork) (n : ℕ) → Keeps m h stopped k p s t → Settles m h stopped k p longest low_at many tail most kind s cells after a pl y n → Settles m h stopped k p longest low_at many tail most kind t cells after a pl y n
+  settles_keeps s t cells after a pl y n keep f = record { tail_is = f.tail_is; place = f.place; less = f.less; lasts = f.lasts; here = here_keeps m h stopped k p longest low_at many tail most kind s t keep f.here; sort = f.sort; cost = f.cost; cell = cell_keeps m h stopped k p longest low_at many s t pl f.sort y f.cost keep (stable_at m h stopped k p longest low_at many tail most kind s pl f.place f.here) f.cell; few = f.few }
+
+  sync_keeps : (s t : Net m) (cells : List (ℕ × Cell)) (after : ℕ) (sy : Sync) (w : SyncWork) (n : ℕ) → Keeps m h stopped k p s t → SyncStage m h stopped k p longest low_at many tail most kind s cells after sy w n → SyncStage m h stopped k p longest low_at many tail most kind t cells after sy w n
+  sync_keeps s t cells after sy (Checking r) n keep f = (here_keeps m h stopped k p longest low_at many tail most kind s t keep f.0, f.1)
+  sync_keeps s t cells after sy (Settling a j) n keep f = settles_keeps s t cells after a j.place j.work n keep f
+  sync_keeps s t cells after sy (Probing a j) n keep f = absurd f
+
+  walk_keeps : (s t : Net m) (wk : Walk) (os g v : ℕ) (j : Option CellJob) (n : ℕ) → Keeps m h stopped k p s t → WalkStage m h stopped k p longest low_at many tail most kind s wk os g v j n → WalkStage m h stopped k p longest low_at many tail most kind t wk os g v j n
+  walk_keeps s t wk os g v None n keep f = absurd f
+  walk_keeps s t wk os g v (Some j) n keep f = reading_keeps s t wk os g v j.place j.work n keep f
+
+  task_keeps : (s t : Net m) (cells : List (ℕ × Cell)) (v : ℕ) (w : Work m) (task : Task m) (n : ℕ) → Keeps m h stopped k p s t → TaskStage s cells v w task n → TaskStage t cells v w task n
+  task_keeps s t cells v w (Syncing sy) n keep x = (sync_keeps s t cells (after_of w v) sy sy.work n keep x.0, x.1)
+  task_keeps s t cells v w (Walking wk os) n keep x = (walk_keeps s t wk (length os) w.gone_before v wk.job n keep x.0, x.1)
+  task_keeps s t cells v w (Appending a z) n keep x = absurd x
+  task_keeps s t cells v w (Trimming z) n keep x = absurd x
+  task_keeps s t cells v w (Copying' z) n keep x = absurd x
+  task_keeps s t cells v w (Reconfiguring z) n keep x = absurd x
+
+  sync_well_keeps : (s t : Net m) (cells : List (ℕ × Cell)) (after n next : ℕ) (x : SyncTurn) → Keeps m h stopped k p s t → SyncWell m h stopped k p longest low_at many tail most kind s cells after n next x → SyncWell m h stopped k p longest low_at many tail most kind t cells after n next x
+  sync_well_keeps s t cells after n next x keep (SyncOn oids a pl y u z left asks f few) = SyncOn oids a pl y u z left asks (settles_keeps s t cells after a pl y left keep f) few
+  sync_well_keeps s t cells after n next x keep (SyncEnds a c is lasts here few) = SyncEnds a c is lasts (here_keeps m h stopped k p longest low_at many tail most kind s t keep here) few
+  sync_well_keeps s t cells after n next x keep (SyncProbes oids a gone is lasts here few) = SyncProbes oids a gone is lasts (here_keeps m h stopped k p longest low_at many tail most kind s t keep here) few
+
+  walk_well_keeps : (s t : Net m) (os g v n next : ℕ) (x : WalkTurn) → Keeps m h stopped k p s t → WalkWell m h stopped k p longest low_at many tail most kind s os g v n next x → WalkWell m h stopped k p longest low_at many tail most kind t os g v n next x
+  walk_well_keeps s t os g v n next x keep (CellOn wk pl y u z left asks f few) = CellOn wk pl y u z left asks (reading_keeps s t wk os g v pl y left keep f) few
+  walk_well_keeps s t os g v n next x keep (WalkOn cells y w here few) = WalkOn cells y w (here_keeps m h stopped k p longest low_at many tail most kind s t keep here) few
+  walk_well_keeps s t os g v n next x keep (WalkGone wk u b less is trims here few) = WalkGone wk u b less is trims (here_keeps m h stopped k p longest low_at many tail most kind s t keep here) few
+
+  hears_keeps : (s t : Net m) (cells : List (ℕ × Cell)) (v : ℕ) (w : Work m) (task : Task m) (y : Msg) (n : ℕ) → Keeps m h stopped k p s t → TaskWell s cells v w task y n → TaskWell t cells v w task y n
+  hears_keeps s t cells v w (Syncing sy) y n keep x = ((λ u next. sync_well_keeps s t cells (after_of w v) n next _ keep (x.0 u next)), x.1)
+  hears_keeps s t cells v w (Walking wk os) y n keep x = ((λ u next. walk_well_keeps s t (length os) w.gone_before v n next _ keep (x.0 u next)), x.1)
+  hears_keeps s t cells v w (Appending a z) y n keep x = absurd x
+  hears_keeps s t cells v w (Trimming z) y n keep x = absurd x
+  hears_keeps s t cells v w (Copying' z) y n keep x = absurd x
+  hears_keeps s t cells v w (Reconfiguring z) y n keep x = absurd x
 
   -- How it fares whatever comes.
 
-  pub facts : (s : Net m) (c : Client m) (o : Out) (n : ℕ) → Asking' s c o n → Facts m h stopped k p c o
-  facts s c o n x = record { work = x.shape.work; waits = x.shape.waits; again = again_is c x.task o x.shape; calm = calm_shape c x.task o x.shape }
+  reads_facts : (s : Net m) (c : Client m) (is : List Item) (n : ℕ) → Reads s c is n → Busied m h stopped k p c
+  reads_facts s c is n (AsksOne o l x) = busied m h stopped k p longest c x.task (o ∷ []) x.shape
+  reads_facts s c is n (HearsOne from rid y l x) = busied m h stopped k p longest c x.task (x.o ∷ []) x.shape
+  reads_facts s c is n (ProbesAll js l x) = busied m h stopped k p longest c (Syncing x.sync) (looks x.pl x.waits) x.shape
 
-  pub hears_calm : (s : Net m) (c : Client m) (from : NodeId) (rid : ℕ) (y : Msg) (n : ℕ) → Hearing' s c from rid y n → Calm m h stopped k p c
-  hears_calm s c from rid y n x = calm_shape c x.task x.o x.shape
+  empty : (pl : Place) (asked told : Waits) → [] ≡ asks (looks pl asked) ++ wholes told → told ++ asked ≡ []
+  empty pl [] [] e = refl
+  empty pl [] (w ∷ ws) e = absurd cc
+  empty pl (w ∷ ws) told e = absurd cc
 
-  pub stage_stays : (s t : Net m) (c : Client m) (o : Out) (n : ℕ) → Keeps m h stopped k p s t → Asking' s c o n → Asking' t c o n
-  stage_stays s t c o n keep x = record { task = x.task; shape = x.shape; stage = task_keeps s t c.cells x.shape.work x.task n keep x.stage; also = also_keeps s t keep x.also }
+  reads_some : (s : Net m) (c : Client m) (is : List Item) (n : ℕ) → Reads s c is n → is ≡ [] → ⊥
+  reads_some s c is n (AsksOne o l x) e = absurd cc
+  reads_some s c is n (HearsOne from rid y l x) e = absurd cc
+  reads_some s c is n (ProbesAll js l x) e = x.some (x.split ∙ empty x.pl x.asked x.told (sym e ∙ x.items))
 
-  pub hears_stays : (s t : Net m) (c : Client m) (from : NodeId) (rid : ℕ) (y : Msg) (n : ℕ) → Keeps m h stopped k p s t → Hearing' s c from rid y n → Hearing' t c from rid y n
-  hears_stays s t c from rid y n keep x = record { task = x.task; o = x.o; shape = x.shape; awaited = x.awaited; no_latest = x.no_latest; well = hears_keeps s t c.cells x.shape.work x.task y n keep x.well; also = also_keeps s t keep x.also }
+  reads_stays : (s t : Net m) (c : Client m) (is : List Item) (n : ℕ) → Keeps m h stopped k p s t → Reads s c is n → Reads t c is n
+  reads_stays s t c is n keep (AsksOne o l x) = AsksOne o l (record { task = x.task; shape = x.shape; stage = task_keeps s t c.cells (seen c.view) x.shape.work x.task l keep x.stage })
+  reads_stays s t c is n keep (HearsOne from rid y l x) = HearsOne from rid y l (record { task = x.task; o = x.o; shape = x.shape; awaited = x.awaited; no_latest = x.no_latest; well = hears_keeps s t c.cells (seen c.view) x.shape.work x.task y l keep x.well })
+  reads_stays s t c is n keep (ProbesAll js l x) = ProbesAll js l (record { sync = x.sync; answer = x.answer; pl = x.pl; epoch = x.epoch; waits = x.waits; told = x.told; asked = x.asked; split = x.split; work = x.work; shape = x.shape; items = x.items; some = x.some; units = each_keeps s t x.waits keep x.units; once = x.once; tail_is = x.tail_is; lasts = x.lasts; here = here_keeps m h stopped k p longest low_at many tail most kind s t keep x.here; such = x.such; few = x.few })
 
-  pub stage_called : (s : Net m) (c : Client m) (o : Out) (n : ℕ) → Asking' s c o n → Asking' s (called m c) o n
-  stage_called s c o n x = record { task = x.task; shape = shape_called c x.task o x.shape; stage = x.stage; also = x.also }
+  reads_called : (s : Net m) (c : Client m) (is : List Item) (n : ℕ) → Reads s c is n → Reads s (called m c) is n
+  reads_called s c is n (AsksOne o l x) = AsksOne o l (record { task = x.task; shape = shape_called m h stopped k p longest c x.task (o ∷ []) x.shape; stage = x.stage })
+  reads_called s c is n (HearsOne from rid y l x) = HearsOne from rid y l (record { task = x.task; o = x.o; shape = shape_called m h stopped k p longest c x.task (x.o ∷ []) x.shape; awaited = x.awaited; no_latest = x.no_latest; well = x.well })
+  reads_called s c is n (ProbesAll js l x) = ProbesAll js l (record { sync = x.sync; answer = x.answer; pl = x.pl; epoch = x.epoch; waits = x.waits; told = x.told; asked = x.asked; split = x.split; work = x.work; shape = shape_called m h stopped k p longest c (Syncing x.sync) (looks x.pl x.waits) x.shape; items = x.items; some = x.some; units = x.units; once = x.once; tail_is = x.tail_is; lasts = x.lasts; here = x.here; such = x.such; few = x.few })
 
-  pub hears_called : (s : Net m) (c : Client m) (from : NodeId) (rid : ℕ) (y : Msg) (n : ℕ) → Hearing' s c from rid y n → Hearing' s (called m c) from rid y n
-  hears_called s c from rid y n x = record { task = x.task; o = x.o; shape = shape_called c x.task x.o x.shape; awaited = x.awaited; no_latest = x.no_latest; well = x.well; also = x.also }
+  reads_ticked : (s : Net m) (c : Client m) (is : List Item) (os : List Out) (n : ℕ) → Reads s c is n → is ≡ asks os → Reads s (called m (record c { next = c.next + c.layouts })) is n
+  reads_ticked s c is os n (AsksOne o l x) e = AsksOne o l (record { task = x.task; shape = shape_ticked m h stopped k p longest c x.task (o ∷ []) x.shape; stage = x.stage })
+  reads_ticked s c is os n (HearsOne from rid y l x) e = HearsOne from rid y l (record { task = x.task; o = x.o; shape = shape_ticked m h stopped k p longest c x.task (x.o ∷ []) x.shape; awaited = x.awaited; no_latest = x.no_latest; well = x.well })
+  reads_ticked s c is os n (ProbesAll js l x) e = ProbesAll js l (record { sync = x.sync; answer = x.answer; pl = x.pl; epoch = x.epoch; waits = x.waits; told = x.told; asked = x.asked; split = x.split; work = x.work; shape = shape_ticked m h stopped k p longest c (Syncing x.sync) (looks x.pl x.waits) x.shape; items = x.items; some = x.some; units = x.units; once = x.once; tail_is = x.tail_is; lasts = x.lasts; here = x.here; such = x.such; few = x.few })
 
-  pub stage_ticked : (s : Net m) (c : Client m) (o : Out) (n : ℕ) → Asking' s c o n → Asking' s (called m (record c { next = c.next + c.layouts })) o n
-  stage_ticked s c o n x = record { task = x.task; shape = shape_ticked c x.task o x.shape; stage = x.stage; also = x.also }
-
-  pub asked : (s : Net m) (o : Out) (n : ℕ) → Ready m h stopped k p s → Asking' s (client_of m h s k) o n → Asked m h stopped k p Asking' Hearing' s o n
-  asked s o n ready x = task_asked s x.task o n ready x.shape x.shape.asks x.stage x.also
-
--- A command that asks is answered once all is walked.
-module _ (m : Meaning) (h : Header) (stopped : List NodeId) (k : ℕ) (p : Layout) (longest tail : ℕ) where
-  abbrev pub Always : Net m → Type 0
-  Always s = Unit {0}
-
-  abbrev pub always_put : (s t : Net m) (pos : ℕ) (c : Cell) → Put m stopped s t pos c → (0 < tail → pos < tail) → seqr_of m h t p.seq ≡ seqr_of m h s p.seq → Always s → Always t
-  always_put s t pos c put less same also = tt
-
-  abbrev pub always_keeps : (s t : Net m) → Keeps m h stopped k p s t → Always s → Always t
-  always_keeps s t keep also = tt
-
-  abbrev pub AsksStage : Net m → Client m → Out → ℕ → Type 0
-  AsksStage = Asking' m h stopped k p longest tail (asking_way m) Always always_put always_keeps
-
-  abbrev pub AsksHears : Net m → Client m → NodeId → ℕ → Msg → ℕ → Type 0
-  AsksHears = Hearing' m h stopped k p longest tail (asking_way m) Always always_put always_keeps
-
-  over : (c : Client m) (t : ClientTurn m) → EndsWalks m h stopped k p longest tail (asking_way m) Always always_put always_keeps c t → Over m h stopped k p AsksStage AsksHears t
-  unfolding client_asks
-  over c t e = subst (λ (u : ClientTurn m). Over m h stopped k p AsksStage AsksHears u) (sym e.turn)
-      (record { none = e.goes.none; sends = ap (λ os. os ++ drawn_from c.next (client_asks m e.moved.now)) e.goes.besides ∙ ap (λ os. drawn_from c.next os) (over_asks m e.moved.now e.goes.none) })
-
-  pub asks_machine : Machine m h stopped k p AsksStage AsksHears
-  asks_machine = record {
-    facts = facts m h stopped k p longest tail (asking_way m) Always always_put always_keeps;
-    hears_calm = hears_calm m h stopped k p longest tail (asking_way m) Always always_put always_keeps;
-    stage_stays = stage_stays m h stopped k p longest tail (asking_way m) Always always_put always_keeps;
-    hears_stays = hears_stays m h stopped k p longest tail (asking_way m) Always always_put always_keeps;
-    stage_called = stage_called m h stopped k p longest tail (asking_way m) Always always_put always_keeps;
-    hears_called = hears_called m h stopped k p longest tail (asking_way m) Always always_put always_keeps;
-    stage_ticked = stage_ticked m h stopped k p longest tail (asking_way m) Always always_put always_keeps;
-    asked = asked m h stopped k p longest tail (asking_way m) Always always_put always_keeps;
-    answered = λ s from rid y n ready x. by s (client_of m h s k) from rid y n (answered m h stopped k p longest tail (asking_way m) Always always_put always_keeps s (client_of m h s k) from rid y n x);
-  }
+  only_asks : (xs os : List Out) (ws : Waits) → asks xs ++ wholes ws ≡ asks os → (ws ≡ []) × (xs ≡ os)
+  only_asks [] [] [] e = (refl, refl)
+  only_asks [] [] (w ∷ ws) e = absurd cc
+  only_asks [] (o ∷ os) [] e = absurd cc
+  only_asks [] (o ∷ os) (w ∷ ws) e = absurd cc
+  only_asks (x ∷ xs) [] ws e = absurd cc
+  only_asks (x ∷ xs) (o ∷ os) ws e = let r = only_asks xs os ws cc in let a : x ≡ o = cc in (r.0, both x o xs os a r.1)
     where
-      by : (s : Net m) (c : Client m) (from : NodeId) (rid : ℕ) (y : Msg) (n : ℕ)
-          → EndsWalks m h stopped k p longest tail (asking_way m) Always always_put always_keeps c (client_deliver m c from rid y) ⊎ More m h stopped k p AsksStage AsksHears s (client_deliver m c from rid y) n
-          → Over m h stopped k p AsksStage AsksHears (client_deliver m c from rid y) ⊎ More m h stopped k p AsksStage AsksHears s (client_deliver m c from rid y) n
-      by s c from rid y n (inl e) = inl (over c _ e)
-      by s c from rid y n (inr x) = inr x
+      both : (x o : Out) (xs os : List Out) → x ≡ o → xs ≡ os → x ∷ xs ≡ o ∷ os
+      both x o xs os e f = cc
+
+  reads_again : (s : Net m) (c : Client m) (is : List Item) (os : List Out) (n : ℕ) → Reads s c is n → is ≡ asks os → Again m h stopped k p c os
+  reads_again s c is os n (AsksOne o l x) e = subst (λ (ys : List Out). Again m h stopped k p c ys) (only_asks (o ∷ []) os [] e).1 (again_is m h stopped k p longest c x.task (o ∷ []) x.shape)
+  reads_again s c is os n (HearsOne from rid y l x) e = absurd (no_asks from rid y os e)
+  reads_again s c is os n (ProbesAll js l x) e =
+      let r = only_asks (looks x.pl x.asked) os x.told (sym x.items ∙ e) in
+      let all = x.split ∙ ap (λ (ys : Waits). ys ++ x.asked) r.0 in
+      subst (λ (ys : List Out). Again m h stopped k p c ys) (ap (λ (ys : Waits). looks x.pl ys) all ∙ r.1) (again_is m h stopped k p longest c (Syncing x.sync) (looks x.pl x.waits) x.shape)
+
+  one_told : (s : Net m) (o : Out) (is js : List Item) (n : ℕ) → Ready m h stopped k p s → Reads s (client_of m h s k) js n → js ≡ Ask o ∷ is → Told m h stopped k p Reads s o is n
+  one_told s o is js n ready (AsksOne q l x) e = subst (λ (y : Out). Told m h stopped k p Reads s y is l) (same q o is e) (subst (λ (ys : List Item). Told m h stopped k p Reads s q ys l) (none q o is e) (task_told s x.task q l ready x.shape x.shape.asks x.stage))
+    where
+      same : (q o : Out) (is : List Item) → Ask q ∷ [] ≡ Ask o ∷ is → q ≡ o
+      same q o is e = cc
+
+      none : (q o : Out) (is : List Item) → Ask q ∷ [] ≡ Ask o ∷ is → [] ≡ is
+      none q o is e = cc
+  one_told s o is js n ready (HearsOne from rid y l x) e = absurd cc
+  one_told s o is js n ready (ProbesAll ys l x) e = probe_told s o is ys l ready x e
+
+  any_answered : (s : Net m) (from : NodeId) (rid : ℕ) (y : Msg) (is js : List Item) (n : ℕ) → Ready m h stopped k p s → Reads s (client_of m h s k) js n → js ≡ Tell from rid y ∷ is
+      → (EndsWalks s (client_of m h s k) (client_deliver m (client_of m h s k) from rid y) n × (is ≡ [])) ⊎ Goes m h stopped k p Reads s (client_deliver m (client_of m h s k) from rid y) is n
+  any_answered s from rid y is js n ready (AsksOne q l x) e = absurd cc
+  any_answered s from rid y is js n ready (HearsOne f r z l x) e =
+      subst (λ (i : List Item). (EndsWalks s (client_of m h s k) (client_deliver m (client_of m h s k) from rid y) l × (i ≡ [])) ⊎ Goes m h stopped k p Reads s (client_deliver m (client_of m h s k) from rid y) i l) (none f r z from rid y is e)
+      (one_answered s (client_of m h s k) from rid y l (subst (λ (i : Item). Heard i) (same f r z from rid y is e) x))
+    where
+      Heard : Item → Type 0
+      Heard (Ask o) = ⊥
+      Heard (Tell f r z) = Hearing' s (client_of m h s k) f r z l
+
+      same : (f : NodeId) (r : ℕ) (z : Msg) (from : NodeId) (rid : ℕ) (y : Msg) (is : List Item) → Tell f r z ∷ [] ≡ Tell from rid y ∷ is → Tell f r z ≡ Tell from rid y
+      same f r z from rid y is e = cc
+
+      none : (f : NodeId) (r : ℕ) (z : Msg) (from : NodeId) (rid : ℕ) (y : Msg) (is : List Item) → Tell f r z ∷ [] ≡ Tell from rid y ∷ is → [] ≡ is
+      none f r z from rid y is e = cc
+  any_answered s from rid y is js n ready (ProbesAll ys l x) e = probe_answered s (client_of m h s k) from rid y is ys l x e
+
+  -- it reads until all is walked
+  pub reads_talk : Talk m h stopped k p Reads EndsWalks
+  reads_talk = record {
+    facts = reads_facts;
+    some = reads_some;
+    stays = reads_stays;
+    calls = reads_called;
+    again = reads_again;
+    ticked = reads_ticked;
+    asked = λ s o is n ready x. one_told s o is (Ask o ∷ is) n ready x refl;
+    answered = λ s from rid y is n ready x. any_answered s from rid y is (Tell from rid y ∷ is) n ready x refl;
+  }
+
+  -- A sync begins.
+  pub sync_begins : (s : Net m) (c d : Client m) (w : Work m) (os : List Oid) (n : ℕ) → d.next ≡ c.next → d.stand ≡ p → way.Is w.command (length os) → length os ≤ most → HereIn s
+      → longest + Budget (unknown d.cells tail) + extra kind.trims (longest + Rest (length os) w.gone (seen d.view)) + 1 ≤ n → Goes m h stopped k p Reads s (given m c (syncs m d w os)) [] n
+  unfolding syncs sync_start client_asks task_asks sync_work_asks
+  sync_begins s c d w os n up stand such short here few =
+      let left = longest + Budget (unknown d.cells tail) + extra kind.trims (longest + Rest (length os) w.gone (seen d.view)) in
+      let o = out (seqr_id p.seq) d.next (msg.Check p.epoch os) in
+      record {
+        os = o ∷ [];
+        left = left;
+        sends = ap (λ (q : Layout). drawn_from c.next (out (seqr_id q.seq) d.next (msg.Check q.epoch os) ∷ [])) stand
+            ∙ subst (λ (i : ℕ). drawn_from i (o ∷ []) ≡ o ∷ []) up (new_drawn m h stopped k p longest (seqr_id p.seq) d.next (msg.Check p.epoch os));
+        stage = AsksOne o left (record {
+          task = Syncing (record { oids = os; work = Checking d.next });
+          shape = record { stand = stand; work = _; waits = refl; hand = refl; awaited = refl; again = refl; asks = refl; below = (omega arith, tt); away = ((λ l. seqr_away m h stopped k p longest p.seq l), tt) };
+          stage = ((here, omega arith), (such, short));
+        });
+        less = few;
+      }

@@ -1,6 +1,6 @@
 -- What is settled lies below what a serving sequencer issues next, and so does all that units have trimmed.
 use Rattle.std.proofs.Common.{◌≡◌, ◌⊎◌, ℕ, ◌<◌, ◌≤◌, List, Bool, true, false, refl, sym, ap, ◌∙◌, subst, inl, inr, arith, Some, None, Option}
-use Rattle.std.specs.Prelude.{Contains, nat_lt, slice_index}
+use Rattle.std.specs.Prelude.{nat_lt, Contains}
 use Rattle.tg_base.specs.Clusters.{Header}
 use Rattle.tg_base.specs.Layouts.{Layout}
 use Rattle.tg_base.specs.declared.cell.Cell.{Cell}
@@ -10,19 +10,21 @@ use Rattle.tg_base.specs.declared.msg.Msg.{Msg}
 use Rattle.tg_base.specs.declared.msg.Msg.TheVariants as msg
 use Rattle.tg_base.proofs.Rules.{layout_rules}
 use Rattle.tg_kind.specs.Meaning.{Meaning}
+use Rattle.tg_protocol.specs.Words.{cell_at}
 use Rattle.tg_protocol.specs.Layouts.{chain_of}
 use Rattle.tg_protocol.specs.Cells.{place_in, unit_at}
 use Rattle.tg_protocol.specs.Units.{unit_ask}
 use Rattle.tg_protocol.specs.Sequencers.{SeqrState}
-use Rattle.tg_protocol.specs.Worlds.{World, start, unit, seqr, latest}
+use Rattle.tg_protocol.specs.Worlds.{start, unit, seqr, latest}
 use Rattle.tg_protocol.specs.Chosen.{IsDecided}
 use Rattle.tg_protocol.specs.Runs.{Moves, Reaches, LawfulCommand}
 use Rattle.tg_protocol.specs.Finishing.{IsServing}
 use Rattle.tg_protocol.specs.Holding.{HasCell}
 use Rattle.tg_law_layouts.specs.Moves.After.{after}
 use Rattle.tg_law_layouts.specs.Moves.Configs.{config}
-use Rattle.tg_law_layouts.specs.Moves.Telling.{Claim, claimed, claim, is_request}
+use Rattle.tg_law_layouts.specs.Moves.Telling.{claimed, claim, is_request}
 use Rattle.tg_law_layouts.proofs.Moves.Always.{lawful_give}
+use Rattle.tg_law_layouts.proofs.Moves.Lists.{contained}
 use Rattle.tg_law_layouts.proofs.Moves.Members.{has_contained}
 use Rattle.tg_law_layouts.proofs.Moves.Moves.{AllGive}
 use Rattle.tg_law_layouts.proofs.Requests.Numbers.{numbers_once}
@@ -46,6 +48,7 @@ use Rattle.tg_law_walks.specs.Lists.Telling.{asks_links, tells_links}
 use Rattle.tg_law_trims.specs.Issues.Issues.{position_named, TailTold, IsBelow, BelowStart, WasIssued, BelowTail, TrimsInTime}
 use Rattle.tg_law_trims.proofs.Issues.Sent.{named_pair}
 use Rattle.tg_law_trims.proofs.Issues.Tails.{asked_pair, told_pair, tails_hold}
+use Rattle.tg_law_trims.proofs.Issues.Stored.{StoredBy, stored_hold}
 use Rattle.tg_law_trims.proofs.Issues.Positions.{below_here}
 
 -- a request on whose answer a unit tells a cell names its position
@@ -155,6 +158,32 @@ module _ (m : Meaning) (h : Header) (zs : Moves m) (r : Reaches m h zs (after m 
               tells_it : (x : ToldUpTo (after m h zs).packets (unit_at (place_in q pos) 0) q.epoch pos c) → Tells (after m h zs).packets (unit_at (place_in q pos) 0) x.claim
               tells_it x = record { ask = x.told.ask; answer = x.told.answer; asked = has_contained _ x.told.ask x.told.asked; answered = has_contained _ x.told.answer x.told.answered; to_unit = x.told.to_unit; from_unit = x.told.from_unit; back = x.told.back; number = x.told.number; tells = x.told.tells }
           by (inr same) = let a = none_below t.claim.epoch t.claim.pos named same in let at = t.at in omega (arith, a, at)
+
+      -- what a unit of the latest layout holds lies below
+      pub unwritten_past : (u pos : ℕ) → s.next ≤ pos → Contains (chain_of q pos) u → (unit m (after m h zs) u).epoch ≡ q.epoch → cell_at (unit m (after m h zs) u).cells pos ≡ None
+      unwritten_past u pos from there stands = by (cell_at (unit m (after m h zs) u).cells pos) refl
+        where
+          stored : (c : Cell) → StoredBy (after m h zs).packets u (unit m (after m h zs) u).epoch pos c → ⊥
+          stored c k = of (which k.of q.epoch (let a = k.up_to in omega (arith, a, stands)))
+            where
+              tells : Tells (after m h zs).packets u (record { epoch = k.of; pos = pos; cell = c })
+              tells = record { ask = k.ask; answer = k.answer; asked = k.asked; answered = k.answered; to_unit = k.to_unit; from_unit = k.from_unit; back = k.back; number = k.number; tells = ap (λ (y : Msg). claimed (unit_ask k.ask.msg) y) k.held ∙ k.tells }
+
+              of : (k.of < q.epoch) ⊎ (k.of ≡ q.epoch) → ⊥
+              of (inl less) =
+                  let line = facts m h zs r.header give (told_here m h zs r.header give) in
+                  let kq = (known m h zs q.epoch q decided).0 in
+                  let a = k.some in
+                  let below = line.sealed q u (record { epoch = k.of; pos = pos; cell = c }) kq (omega (arith, a, less)) (line.stands q pos u kq (has_contained _ u there)) tells less in
+                  let b = past in
+                  omega (arith, below, b, from)
+              of (inr same) =
+                  let a = none_below k.of pos (below_here m h zs r trims k.ask k.of pos (contained (after m h zs).packets k.ask k.asked) (claim_names k.ask.msg msg.Held k.of pos c k.tells)) same in
+                  omega (arith, a, from)
+
+          by : (o : Option Cell) → cell_at (unit m (after m h zs) u).cells pos ≡ o → o ≡ None
+          by None e = refl
+          by (Some c) e = absurd (stored c (((stored_hold m h zs) u).1 pos c e))
 
       pub settled_below : (pos : ℕ) (c : Cell) → IsSettled m (after m h zs) pos c → pos < s.next
       settled_below pos c g = by (which g.layout.epoch q.epoch (greatest g.layout g.decided))

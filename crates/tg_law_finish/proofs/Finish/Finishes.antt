@@ -1,33 +1,24 @@
 -- A command that waits for an append alone is answered.
-use Rattle.std.proofs.Common.{◌≡◌, ◌⊎◌, ℕ, zero, suc, ◌+◌, ◌-◌, ◌*◌, ◌<◌, ◌≤◌, List, [], ◌∷◌, ◌++◌, length, map, false, refl, ap, sym, subst, inl, inr, arith, Some, None, Option, eqb}
-use Rattle.std.proofs.Math.Nat.{mul-suc, mul-zero}
+use Rattle.std.proofs.Common.{◌≡◌, ◌⊎◌, ℕ, zero, suc, ◌+◌, ◌*◌, ◌<◌, ◌≤◌, List, [], ◌∷◌, ◌++◌, length, map, false, refl, ap, sym, subst, inl, inr, arith, Some, None, Option, eqb}
 use Rattle.tg_base.specs.Layouts.{Layout}
 use Rattle.tg_base.specs.declared.cell.Cell.{Cell}
 use Rattle.tg_base.specs.declared.cell.Cell.TheVariants.{Data}
 use Rattle.tg_base.specs.declared.ids.NodeId.{NodeId}
 use Rattle.tg_base.specs.declared.packet.Out.{Out}
-use Rattle.tg_base.specs.declared.msg.Msg.TheVariants as msg
 use Rattle.tg_kind.specs.Meaning.{Meaning}
 use Rattle.tg_base.specs.Orders.{node_eq}
-use Rattle.tg_protocol.specs.Words.{cell_at, unit_id, layout_id, seqr_id, client_id, numbers}
+use Rattle.tg_protocol.specs.Words.{unit_id, layout_id, seqr_id, client_id, numbers}
 use Rattle.tg_protocol.specs.Entries.{streams_of}
 use Rattle.tg_protocol.specs.Layouts.{chain_of}
-use Rattle.tg_protocol.specs.Requests.{out}
 use Rattle.tg_protocol.specs.Cells.{CellWork, Puts, Gets, Fills, Copies, Probes, CellJob, Place, place_in, works, work_asks}
 use Rattle.tg_protocol.specs.Appending.{Append, AppendWork, Asking, Putting, Judging, append_work_asks, append_asks}
-use Rattle.tg_protocol.specs.Clients.{Client, Syncing}
+use Rattle.tg_protocol.specs.Clients.{Client}
 use Rattle.tg_protocol.specs.Worlds.{World, nodes, seqr, client}
 use Rattle.tg_law_finish.proofs.Finish.Working.{Working, Lawful, at_chain}
 use Rattle.tg_law_finish.proofs.Finish.Writing.{Writes, Stands, PutStands, JudgeStands, Clear}
-use Rattle.tg_protocol.specs.Syncing.{sync_work_asks}
-use Rattle.tg_protocol.specs.ClientSteps.{task_asks}
-use Rattle.tg_law_trims.proofs.Issues.Bounds.{AllBelow}
-use Rattle.tg_law_finish.proofs.Finish.Asking.{Untrimmed, Asks}
-use Rattle.tg_law_finish.proofs.Finish.Bounds.{WritesFinish, AsksFinish}
-use Rattle.tg_law_finish.proofs.Finish.Trails.{unknown, absent, Low}
-use Rattle.tg_law_finish.proofs.Finish.Askers.{Readable, Checks, budget, budget_less}
-use Rattle.tg_law_finish.proofs.Finish.Askings.{AsksStage, AsksHears, asks_machine}
-use Rattle.tg_law_finish.proofs.Finish.Writers.{seqr_away, Writing, Hearing, writes_machine, asks_away}
+use Rattle.tg_law_finish.proofs.Finish.Bounds.{WritesFinish}
+use Rattle.tg_law_finish.proofs.Finish.Talks.{One, Request, one_talk}
+use Rattle.tg_law_finish.proofs.Finish.Writers.{Writing, Hearing, writes_machine, asks_away}
 use Rattle.tg_law_finish.proofs.Finish.Nets.{Net, net}
 use Rattle.tg_law_finish.proofs.Finish.Lists.{Each}
 use Rattle.tg_law_finish.proofs.Finish.Strays.{Old}
@@ -122,7 +113,7 @@ module _ (m : Meaning) (w : World m) (k : ℕ) (p : Layout) (longest : ℕ) (a :
       old q None e = tt
       old q (Some j) e = e
 
-  serves : (pos : ℕ) → Here (net m w) (place_in p pos)
+  pub serves : (pos : ℕ) → Here (net m w) (place_in p pos)
   serves pos = record { epoch = refl; some = b.some pos; short = b.short pos; unit = λ i less. record { on = a.units_run pos i less; epoch = a.units_stand pos i less; low = b.lows (at_chain m p pos i) } }
 
   pub issues : (x : Append) → CanIssue m w.cluster w.stopped k p longest (net m w) x.draft
@@ -186,7 +177,7 @@ module _ (m : Meaning) (w : World m) (k : ℕ) (p : Layout) (longest : ℕ) (a :
   pub clients_long : k < length w.clients
   clients_long = let r = a.client_runs in grind arith
 
-  waits : (f : Writes m w k p) → Waiting m w.cluster w.stopped k p (Writing m w.cluster w.stopped k p longest) (Hearing m w.cluster w.stopped k p longest) (nodes m w) (net m w) [] (4 * longest + 2 * (client m w k).layouts + 2)
+  waits : (f : Writes m w k p) → Waiting m w.cluster w.stopped k p (One m w.cluster w.stopped k p (Writing m w.cluster w.stopped k p longest) (Hearing m w.cluster w.stopped k p longest)) (nodes m w) (net m w) [] (4 * longest + 2 * (client m w k).layouts + 2)
   unfolding weigh
   waits f =
       let c = client m w k in
@@ -195,9 +186,9 @@ module _ (m : Meaning) (w : World m) (k : ℕ) (p : Layout) (longest : ℕ) (a :
       let few = x.5 in
       record {
         ready = ready;
-        o = x.0;
+        os = x.0 ∷ [];
         left = x.1;
-        stage = record { append = f.append; shape = record { stand = a.client_stands; work = f.work; waits = f.waits; purpose = f.purpose; hand = f.hand; last = f.last; asks = x.2; below = x.3; away = λ l. asks_away m w.cluster w.stopped k p longest (net m w) f.append f.append.work x.1 x.0 l x.4 x.2 }; stage = x.4 };
+        stage = Request x.0 x.1 (record { append = f.append; shape = record { stand = a.client_stands; work = f.work; waits = f.waits; purpose = f.purpose; hand = f.hand; asks = x.2; below = x.3; away = λ l. asks_away m w.cluster w.stopped k p longest (net m w) f.append f.append.work x.1 x.0 l x.4 x.2 }; last = f.last; stage = x.4 });
         strays = tt;
         layouts = c.layouts;
         same = refl;
@@ -210,71 +201,4 @@ module _ (m : Meaning) (w : World m) (k : ℕ) (p : Layout) (longest : ℕ) (a :
       }
 
 pub writes_finish : (m : Meaning) → WritesFinish m
-writes_finish m w k p c a b f none = finishes m w.cluster w.stopped k p _ _ (writes_machine m w.cluster w.stopped k p c) w _ a.quiet refl refl (waits m w k p c a b f) none
-
--- A command that syncs and walks.
-
-pub few_unknown : (cells : List (ℕ × Cell)) (t : ℕ) → unknown cells t ≤ t
-few_unknown cells zero = omega arith
-few_unknown cells (suc t) = let a = one_at (cell_at cells t) in let b = few_unknown cells t in omega (arith, a, b)
-  where
-    one_at : (o : Option Cell) → absent o ≤ 1
-    one_at None = omega arith
-    one_at (Some c) = omega arith
-
-module _ (m : Meaning) (w : World m) (k : ℕ) (p : Layout) (longest : ℕ) (a : Working m w k p) (b : Lawful m w p longest) (u : Untrimmed m w p) where
-  abbrev tail : ℕ
-  tail = (seqr m w p.seq).next
-
-  pub all_low : (qs : List ℕ) → AllBelow tail qs → Low p tail qs
-  all_low [] l = tt
-  all_low (q ∷ qs) l = (l.0, all_low qs l.1)
-
-  pub readable : (pos : ℕ) → Readable m w.cluster w.stopped k p longest tail (net m w) pos
-  readable pos = (record { serves = serves m w k p longest a b pos; lows = λ j less. u.lows (at_chain m p pos j) }, λ i c less has low. b.heads pos i c less has low)
-
-  pub is_budget : (t : ℕ) → budget m w.cluster w.stopped k p longest tail t ≡ (longest + 1) * t
-  is_budget zero = sym (mul-zero (longest + 1))
-  is_budget (suc t) = let e = is_budget t in let f = mul-suc (longest + 1) t in omega (arith, e, f)
-
-  asks_waits : (f : Asks m w k) → Waiting m w.cluster w.stopped k p (AsksStage m w.cluster w.stopped k p longest tail) (AsksHears m w.cluster w.stopped k p longest tail) (nodes m w) (net m w) [] (2 * ((longest + 1) * (tail + 1)) + 2 * (client m w k).layouts)
-  unfolding weigh task_asks sync_work_asks
-  asks_waits f =
-      let c = client m w k in
-      let once = nodes_once k m w (clients_long m w k p longest a b) in
-      let x = seqr m w p.seq in
-      let o = out (seqr_id p.seq) f.rid (msg.Check p.epoch f.sync.oids) in
-      let asks = ap (λ y. sync_work_asks p f.sync y) f.first in
-      record {
-        ready = ready m w k p longest a b;
-        o = o;
-        left = longest + budget m w.cluster w.stopped k p longest tail (unknown c.cells tail);
-        stage = record {
-          task = Syncing f.sync;
-          shape = record { stand = a.client_stands; work = f.work; waits = f.waits; hand = f.hand; awaited = asks; again = asks; asks = asks; below = f.below; away = λ l. seqr_away m w.cluster w.stopped k p longest p.seq l };
-          stage = (
-            subst (λ y. Rattle.tg_law_finish.proofs.Finish.Askers.SyncStage m w.cluster w.stopped k p longest tail (net m w) c.cells f.sync y (longest + budget m w.cluster w.stopped k p longest tail (unknown c.cells tail))) (sym f.first)
-                (record { on = a.seqr_runs; epoch = a.seqr_stands; unfenced = a.seqr_unfenced; ready = a.seqr_ready; rests = b.rests; next = refl; near = u.near; named = b.named f.sync.oids; lasts = λ o. all_low _ (u.backs o f.sync.oids); past = u.past; free = λ n less none. readable n; last = readable (tail - 1); few = omega arith }),
-            f.asks,
-          );
-          also = tt;
-        };
-        strays = tt;
-        layouts = c.layouts;
-        same = refl;
-        few = let e = is_budget tail in let g = budget_less m w.cluster w.stopped k p longest tail (unknown c.cells tail) tail (few_unknown c.cells tail) in all_few c.layouts (budget m w.cluster w.stopped k p longest tail (unknown c.cells tail)) (omega (arith, e, g));
-        front = once.front;
-        back = once.back;
-        is = once.is;
-        not_front = once.not_front;
-        not_back = once.not_back;
-      }
-    where
-      all_few : (l x : ℕ) → x ≤ (longest + 1) * tail → 0 + ((2 + (l + l)) + ((longest + x) + (longest + x))) ≤ 2 * ((longest + 1) * (tail + 1)) + 2 * l
-      all_few l x le = let e = mul-suc (longest + 1) tail in let g = ap (λ n. (longest + 1) * n) (plus tail) in omega (arith, e, g, le)
-        where
-          plus : (n : ℕ) → n + 1 ≡ suc n
-          plus n = omega arith
-
-pub asks_finish : (m : Meaning) → AsksFinish m
-asks_finish m w k p c a b u f none = finishes m w.cluster w.stopped k p _ _ (asks_machine m w.cluster w.stopped k p c (seqr m w p.seq).next) w _ a.quiet refl refl (asks_waits m w k p c a b u f) none
+writes_finish m w k p c a b f none = finishes m w.cluster w.stopped k p _ (one_talk m w.cluster w.stopped k p _ _ _ (writes_machine m w.cluster w.stopped k p c)) w _ a.quiet refl refl (waits m w k p c a b f) none

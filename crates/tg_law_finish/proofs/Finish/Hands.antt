@@ -1,12 +1,10 @@
 -- Where the append stands that a client has in hand, in a world that is ready.
-use Rattle.std.proofs.Common.{◌≡◌, ◌⊎◌, ℕ, zero, suc, ◌<◌, ◌≤◌, List, [], ◌∷◌, length, true, refl, sym, ap, ◌∙◌, subst, inl, inr, arith, Some, Option}
+use Rattle.std.proofs.Common.{◌≡◌, ◌⊎◌, ℕ, zero, suc, ◌<◌, List, [], length, true, refl, sym, ap, ◌∙◌, subst, inl, inr, arith, Some, Option}
 use Rattle.std.specs.Prelude.{Contains, slice_index}
 use Rattle.tg_base.specs.Clusters.{Header}
 use Rattle.tg_base.specs.Layouts.{Layout}
 use Rattle.tg_base.specs.declared.cell.Cell.{Cell}
 use Rattle.tg_base.specs.declared.cell.Cell.TheVariants.{Data}
-use Rattle.tg_base.specs.declared.ids.Oid.{Oid}
-use Rattle.tg_base.specs.declared.marks.StreamLink.{StreamLink}
 use Rattle.tg_kind.specs.Meaning.{Meaning}
 use Rattle.tg_protocol.specs.Words.{cell_at, cell_eq, client_id}
 use Rattle.tg_protocol.specs.Layouts.{chain_of}
@@ -16,7 +14,7 @@ use Rattle.tg_protocol.specs.Sequencers.{SeqrState}
 use Rattle.tg_protocol.specs.Appending.{Append, AppendWork, Asking, Putting, Judging, Token}
 use Rattle.tg_protocol.specs.Clients.{Purpose, Appending, Hand, Doing, Work}
 use Rattle.tg_protocol.specs.ClientSteps.{task_in}
-use Rattle.tg_protocol.specs.Worlds.{World, start, unit, seqr, client, latest}
+use Rattle.tg_protocol.specs.Worlds.{World, unit, seqr, client, latest}
 use Rattle.tg_protocol.specs.Runs.{Moves, Reaches, Later, run}
 use Rattle.tg_protocol.specs.Finishing.{IsServing}
 use Rattle.tg_law_layouts.specs.Moves.After.{after}
@@ -29,7 +27,7 @@ use Rattle.tg_law_layouts.proofs.Requests.Starts.{told_is_so}
 use Rattle.tg_law_layouts.proofs.Layouts.Deciding.{latest_decided, layouts_are_sound}
 use Rattle.tg_law_cells.specs.Cells.Chains.{ToldUpTo}
 use Rattle.tg_law_cells.specs.Cells.Settled.{IsSettled, StandsLater, head}
-use Rattle.tg_law_cells.specs.Tokens.Issuing.{Issued, IsNamed, IsOwnPage}
+use Rattle.tg_law_cells.specs.Tokens.Issuing.{Issued, IsOwnPage}
 use Rattle.tg_law_cells.proofs.Cells.Befores.{has_at}
 use Rattle.tg_law_cells.proofs.Cells.Hands as hands
 use Rattle.tg_law_cells.proofs.Cells.Heads.{heads_have_cells}
@@ -46,7 +44,7 @@ use Rattle.tg_law_cells.proofs.Tokens.Own.{pages_hold, own_page}
 use Rattle.tg_law_cells.proofs.Tokens.Owning as owning
 use Rattle.tg_law_walks.proofs.Drafts.Became.{Holds}
 use Rattle.tg_law_walks.proofs.Once.Along.{spent}
-use Rattle.tg_law_walks.proofs.Once.Feeding.{TokenOk, WorkToken}
+use Rattle.tg_law_walks.proofs.Once.Feeding.{WorkToken}
 use Rattle.tg_law_trims.specs.Trims.Spare.{TrimsAre}
 use Rattle.tg_law_finish.specs.Finish.Appends.{InHand, NoOther, AppendStands, PuttingStands, JudgingStands}
 use Rattle.tg_law_finish.proofs.Finish.Working.{Working}

@@ -1,5 +1,6 @@
--- A command that makes a decision record, a checkpoint or a mark appends it once all is walked, or is answered then.
-use Rattle.std.proofs.Common.{◌≡◌, ℕ, ◌+◌, List, [], ◌∷◌, Bool, true, false, refl, ◌∙◌, sym, subst, arith, Some, None, Option}
+-- A command that makes a decision record, a checkpoint or a mark appends it once all is walked, or is answered then; and so does an `end`
+-- whose record is appended.
+use Rattle.std.proofs.Common.{◌≡◌, ℕ, ◌+◌, List, [], Bool, true, false, refl, sym, subst, arith, Some, None, Option}
 use Rattle.tg_base.specs.declared.ids.Oid.{Oid}
 use Rattle.tg_entry.specs.declared.entry.Entry.{Entry}
 use Rattle.tg_kind.specs.Meaning.{Meaning}
@@ -7,10 +8,11 @@ use Rattle.tg_model.specs.declared.command.Command.TheVariants as cmd
 use Rattle.tg_model.specs.declared.play.PlayEnd.{PlayEnd}
 use Rattle.tg_model.specs.declared.play.PlayEnd.TheVariants.{Played, Blocked}
 use Rattle.tg_model.specs.Kinds.{CommandOf, WhatOf, NoteOf}
+use Rattle.tg_protocol.specs.Versions.{Changed}
 use Rattle.tg_protocol.specs.Checkpoints.{ForgetFault, NoCheckpoint, OpenDecision}
 use Rattle.tg_protocol.specs.Views.{View, Entries, Verdict, Commits, Aborts, Unknown, Play, play}
 use Rattle.tg_protocol.specs.Clients.{Purpose, Work, Client, all_entries}
-use Rattle.tg_protocol.specs.Answers.{Moved, with_decision, appends, decides_if, decide_verdict, decide_record, decide_blocked, decide_played, save_if, forget_by, with_view, own_view, play_target, on_decide, on_checkpoint, on_forget, answer_by, played_on, walked_for, walked}
+use Rattle.tg_protocol.specs.Answers.{Moved, with_decision, appends, unsure, end_decided, end_aborted, end_no, end_by, end_record, on_end, decides_if, decide_verdict, decide_record, decide_blocked, decide_played, save_if, forget_by, with_view, own_view, play_target, on_decide, on_checkpoint, on_forget, answer_by, played_on, walked_for, walked}
 use Rattle.tg_law_finish.specs.Finish.Appends.{is_last}
 use Rattle.tg_law_finish.specs.Finish.Makes.{makes}
 use Rattle.tg_law_finish.proofs.Finish.Readers.{Answers, Way}
@@ -48,6 +50,37 @@ module _ (m : Meaning) where
   decide_case : (c : Client m) (w : Work m) (es : Entries) (v : View m) (p : ℕ) (came : PlayEnd) (b : Option ℕ) → Makes' c (on_decide m c w es v p came b)
   decide_case c w es v p came None = played_case c w es v p came
   decide_case c w es v p came (Some b) = over c _ refl refl
+
+  -- `end`, whose record is there
+
+  unsure_case : (c : Client m) (p q : ℕ) → Makes' c (unsure m c p q)
+  unsure_case c p q = over c _ refl refl
+
+  ended_case : (b : Bool) (c : Client m) (w : Work m) (e : Entry) (p : ℕ) (is_yes : Bool) (what : WhatOf m) → Makes' c (end_decided m b c w e p is_yes what)
+  unfolding is_last
+  ended_case true c w e p is_yes what = Appends' (with_decision m c) w _ _ [] refl refl refl
+  ended_case false c w e p is_yes what = over c _ refl refl
+
+  aborted_case : (c : Client m) (w : Work m) (es : Entries) (e : Entry) (p : ℕ) (x : Option Changed) → Makes' c (end_aborted m c w es e p x)
+  aborted_case c w es e p None = unsure_case c p p
+  aborted_case c w es e p (Some x) = ended_case _ c w e p false _
+
+  no_case : (c : Client m) (w : Work m) (es : Entries) (v : View m) (e : Entry) (p : ℕ) (o : Option Oid) → Makes' c (end_no m c w es v e p o)
+  no_case c w es v e p None = aborted_case c w es e p _
+  no_case c w es v e p (Some o) = unsure_case c p p
+
+  end_verdict : (c : Client m) (w : Work m) (es : Entries) (v : View m) (e : Entry) (p : ℕ) (x : Verdict) → Makes' c (end_by m c w es v e p x)
+  end_verdict c w es v e p Commits = ended_case _ c w e p true _
+  end_verdict c w es v e p Aborts = no_case c w es v e p _
+  end_verdict c w es v e p (Unknown o) = unsure_case c p p
+
+  end_entry : (c : Client m) (w : Work m) (es : Entries) (v : View m) (p : ℕ) (e : Option Entry) → Makes' c (end_record m c w es v p e)
+  end_entry c w es v p None = unsure_case c p p
+  end_entry c w es v p (Some e) = end_verdict c w es v e p _
+
+  end_case : (c : Client m) (w : Work m) (es : Entries) (v : View m) (came : PlayEnd) → Makes' c (on_end m c w es v came)
+  end_case c w es v (Played t) = end_entry c w es v w.at _
+  end_case c w es v (Blocked q x) = unsure_case c w.at q
 
   save_case : (c : Client m) (w : Work m) (o : Oid) (e : Entry) (b : Bool) → Makes' c (save_if m b c w o e)
   unfolding is_last
@@ -93,7 +126,7 @@ module _ (m : Meaning) where
   walked_by c w (cmd.Host o) e t = absurd cc
   walked_by c w cmd.Begin e t = absurd cc
   walked_by c w (cmd.Put o op) e t = absurd cc
-  walked_by c w cmd.End e t = absurd cc
+  walked_by c w cmd.End e t = let y = own_play c w in played c w (entries c w) y cmd.End e (end_case (with_view m c y.view) w (entries c w) y.view y.came)
   walked_by c w cmd.Drop e t = absurd cc
   walked_by c w cmd.Trim e t = absurd cc
   walked_by c w (cmd.Reconf x) e t = absurd cc
@@ -105,4 +138,4 @@ module _ (m : Meaning) where
   walked_makes c w t = walked_by c w w.command refl t
 
   abbrev pub making_way : Way m
-  making_way = record { Is = λ x. makes m x ≡ true; GoesOn = λ c x. Makes' c x; on = λ c w t. walked_makes c w t }
+  making_way = record { Is = λ x n. makes m x ≡ true; GoesOn = λ c x. Makes' c x; on = λ c w t. walked_makes c w t }

@@ -1,6 +1,6 @@
 -- The positions that a serving sequencer names of a stream fall, are four at most, and aren't far.
-use Rattle.std.proofs.Common.{◌≡◌, ℕ, ◌+◌, ◌<◌, ◌≤◌, List, [], ◌∷◌, length, map, Bool, true, false, refl, sym, ap, ◌∙◌, subst, arith, Some, None, Option, append-nil}
-use Rattle.std.specs.Prelude.{Contains, nat_lt, nat_le, not, ◌&&◌, if◌then◌else◌}
+use Rattle.std.proofs.Common.{◌≡◌, ℕ, ◌+◌, ◌<◌, ◌≤◌, List, [], ◌∷◌, length, Bool, true, false, refl, sym, subst, arith, Some, None, Option, append-nil}
+use Rattle.std.specs.Prelude.{nat_lt, nat_le, not, ◌&&◌, if◌then◌else◌}
 use Rattle.std.specs.List.{list_all}
 use Rattle.std.proofs.lemmas.Bool.Decides.{nat_tests}
 use Rattle.tg_base.specs.Clusters.{Header}
@@ -11,18 +11,20 @@ use Rattle.tg_base.specs.Orders.{oid_eq}
 use Rattle.tg_kind.specs.Meaning.{Meaning}
 use Rattle.tg_entry.specs.Records.{is_falling}
 use Rattle.tg_protocol.specs.Words.{too_far}
-use Rattle.tg_protocol.specs.Entries.{link_of, backs_of, unlinked}
-use Rattle.tg_protocol.specs.Sequencers.{SeqrState, link_or_new, links_of, scanning}
+use Rattle.tg_protocol.specs.Entries.{link_of, backs_of}
+use Rattle.tg_protocol.specs.Sequencers.{SeqrState, link_or_new, links_of, with_positions}
 use Rattle.tg_protocol.specs.Appending.{is_link, names_all}
-use Rattle.tg_protocol.specs.Worlds.{World, start, seqr, latest, log}
-use Rattle.tg_protocol.specs.Chosen.{IsDecided}
+use Rattle.tg_protocol.specs.Worlds.{seqr, latest, log}
 use Rattle.tg_protocol.specs.Runs.{Moves, Goes, Reaches, Later, run}
 use Rattle.tg_protocol.specs.Finishing.{IsServing}
 use Rattle.tg_law_layouts.specs.Moves.After.{after}
 use Rattle.tg_law_layouts.proofs.Moves.Members.{has_contained}
 use Rattle.tg_law_layouts.proofs.Layouts.Deciding.{latest_decided}
-use Rattle.tg_law_walks.specs.Walks.Streams.{AreFalling}
-use Rattle.tg_law_walks.specs.Walks.Lists.{backs, AreGoodLists}
+use Rattle.tg_law_walks.specs.Walks.Streams.{stands_in, AreFalling, IsGood}
+use Rattle.tg_law_walks.specs.Walks.Lists.{backs, AreGoodLists, AreOnce}
+use Rattle.tg_law_walks.proofs.Walks.Listing.{lists_grow}
+use Rattle.tg_law_trims.proofs.Issues.Bounds.{AllBelow, lasts_below}
+use Rattle.tg_law_trims.proofs.Issues.Tails.{links_below}
 use Rattle.tg_law_walks.specs.Lists.Lists.{Counts}
 use Rattle.tg_law_walks.specs.Lists.Spared.{TrimsWereSpare}
 use Rattle.tg_law_walks.proofs.Lists.Runs.{lists_are_known}
@@ -109,8 +111,33 @@ module _ (m : Meaning) (h : Header) (zs : Moves m) (r : Reaches m h zs (after m 
   not_below : (a b : ℕ) → a ≤ b → nat_lt b a ≡ false
   not_below a b le = grind arith
 
+  pub good_lists : (were : TrimsWereSpare m h zs) → IsServing s q.epoch → AreGoodLists (log m (after m h zs)) s.next s.lists
+  good_lists were serves = lists_are_known m h zs (after m h zs) (after m h zs) r now (subst (λ (xs : Moves m). TrimsWereSpare m h xs) (sym (append-nil zs)) were) q.seq (not_below s.proj.start s.next serves.scanned) (counts serves)
+
   pub named : (were : TrimsWereSpare m h zs) → IsServing s q.epoch → too_far s.next ≡ false → (os : List Oid) → names_all os (links_of s.lists os) ≡ true
-  named were serves near os = links_kept s.next s.lists os near (λ o. ((good o).0.falling, (good o).1))
+  named were serves near os = links_kept s.next s.lists os near (λ o. ((good_lists were serves o).0.falling, (good_lists were serves o).1))
+
+  -- One more position is issued to streams of which none stands twice.
+
+  no_entry : (o : Oid) (q : ℕ) → stands_in [] o q ≡ true → ⊥
+  no_entry o q e = absurd cc
+
+  bare : (o : Oid) (x : ℕ) (ps : List ℕ) → IsGood (log m (after m h zs)) o x ps → IsGood [] o x ps
+  bare o x ps g = record { falling = g.falling; all = λ q from less e. absurd (no_entry o q e) }
+
+  grown : (were : TrimsWereSpare m h zs) → IsServing s q.epoch → (os : List Oid) → AreOnce os → AreGoodLists [] (s.next + 1) (with_positions s.next os s.lists)
+  grown were serves os once = lists_grow [] s.next os s.lists once (λ o e. absurd (no_entry o s.next e)) (λ o. (bare o s.next _ (good_lists were serves o).0, (good_lists were serves o).1))
+
+  pub grown_named : (were : TrimsWereSpare m h zs) → IsServing s q.epoch → (os : List Oid) → AreOnce os → too_far (s.next + 1) ≡ false → (ts : List Oid) → names_all ts (links_of (with_positions s.next os s.lists) ts) ≡ true
+  grown_named were serves os once near ts = links_kept (s.next + 1) (with_positions s.next os s.lists) ts near (λ o. ((grown were serves os once o).0.falling, (grown were serves os once o).1))
+
+  falling_below : (x : ℕ) (ps : List ℕ) → AreFalling x ps → AllBelow x ps
+  falling_below x [] f = tt
+  falling_below x (y ∷ ps) f = (f.0, below_less y x ps f.0 (falling_below y ps f.1))
     where
-      good : AreGoodLists (log m (after m h zs)) s.next s.lists
-      good = lists_are_known m h zs (after m h zs) (after m h zs) r now (subst (λ (xs : Moves m). TrimsWereSpare m h xs) (sym (append-nil zs)) were) q.seq (not_below s.proj.start s.next serves.scanned) (counts serves)
+      below_less : (y x : ℕ) (ps : List ℕ) → y < x → AllBelow y ps → AllBelow x ps
+      below_less y x [] less a = tt
+      below_less y x (z ∷ ps) less a = let b = a.0 in (omega (arith, less, b), below_less y x ps less a.1)
+
+  pub grown_below : (were : TrimsWereSpare m h zs) → IsServing s q.epoch → (os : List Oid) → AreOnce os → (o : Oid) (ts : List Oid) → AllBelow (s.next + 1) (backs_of (link_of o (links_of (with_positions s.next os s.lists) ts)))
+  grown_below were serves os once o ts = lasts_below (s.next + 1) o _ (links_below (s.next + 1) (with_positions s.next os s.lists) ts (λ n. subst (λ ps. AllBelow (s.next + 1) ps) (sym (link_backs n (link_of n (with_positions s.next os s.lists)))) (falling_below (s.next + 1) _ (grown were serves os once n).0.falling)))

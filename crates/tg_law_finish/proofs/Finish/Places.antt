@@ -55,7 +55,7 @@ module _ (m : Meaning) (h : Header) (stopped : List NodeId) (k : ℕ) (p : Layou
 
   -- Other packets.
 
-  keeps_unit : (s t : Net m) (u : ℕ) → Keeps m h stopped k p s t → UnitServes s u → UnitServes t u
+  pub keeps_unit : (s t : Net m) (u : ℕ) → Keeps m h stopped k p s t → UnitServes s u → UnitServes t u
   keeps_unit s t u keep a = let e = keep.units u a.epoch in record {
     on = on_alike m stopped s t keep.alike (unit_id u) ∙ a.on;
     epoch = ap (λ x. x.epoch) e ∙ a.epoch;

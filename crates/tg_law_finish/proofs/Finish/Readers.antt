@@ -1,5 +1,5 @@
 -- A client whose command reads: a sync, the walks, and its answer.
-use Rattle.std.proofs.Common.{◌≡◌, ℕ, ◌+◌, ◌<◌, List, [], ◌∷◌, true, refl, sym, subst, arith, None}
+use Rattle.std.proofs.Common.{◌≡◌, ℕ, suc, ◌+◌, ◌<◌, ◌≤◌, List, [], ◌∷◌, length, true, refl, sym, subst, arith, Some, None, Option}
 use Rattle.tg_base.specs.Layouts.{Layout}
 use Rattle.tg_base.specs.declared.cell.Cell.{Cell}
 use Rattle.tg_base.specs.declared.ids.Oid.{Oid}
@@ -66,44 +66,56 @@ module _ (m : Meaning) where
   unfolding walked
   all_walked c w t = walked_over c w w.command refl t
 
--- such commands go on in such a way once all is walked
+-- such commands, with so many streams, go on in such a way once all is walked
 pub record Way (m : Meaning) : Type 1 where
-  pub Is : CommandOf m → Type 0
+  pub Is : CommandOf m → ℕ → Type 0
   pub GoesOn : Client m → Moved m → Type 0
-  pub on : (c : Client m) (w : Work m) → Is w.command → GoesOn c (walked m c w)
+  pub on : (c : Client m) (w : Work m) → Is w.command (length w.oids) → GoesOn c (walked m c w)
 
 -- an ask is answered
 abbrev pub asking_way : (m : Meaning) → Way m
-asking_way m = record { Is = λ x. is_ask m x ≡ true; GoesOn = λ c x. Answers m x; on = λ c w ask. all_walked m c w ask }
+asking_way m = record { Is = λ x n. is_ask m x ≡ true; GoesOn = λ c x. Answers m x; on = λ c w ask. all_walked m c w ask }
 
-module _ (m : Meaning) (way : Way m) (p : Layout) (tail : ℕ) where
-  -- what a command walks by: the last positions are below the tail
+-- whether a view is kept
+abbrev pub seen : {m : Meaning} → Option (View m) → ℕ
+seen None = 0
+seen (Some v) = 1
+
+module _ (m : Meaning) (way : Way m) (p : Layout) (tail most : ℕ) where
+  -- what a command walks by: the last positions are below the tail, of so many streams at most
   pub record Walks (w : Work m) : Type 0 where
-    pub asks : way.Is w.command
+    pub asks : way.Is w.command (length w.oids)
     pub lasts : (o : Oid) → Low p tail (lasts_of m w o)
+    pub few : length w.oids ≤ most
 
-  -- the walks come to an unknown position, or the command goes on
-  pub data WalksTo (cells : List (ℕ × Cell)) (next : ℕ) : Moved m → Type 0 where
-    ToOver : (c : Client m) (x : Moved m) → c.next ≡ next → c.stand ≡ p → way.GoesOn c x → WalksTo cells next x
-    ToReads : (c : Client m) (w : Work m) (wk : Walk) (os : List Oid) (q : ℕ) → c.next ≡ next + 1 → c.stand ≡ p → q < tail → cell_at cells q ≡ None → wk.cells ≡ cells → TrailLow p tail wk.trail → Walks w
-        → WalksTo cells next (goes_on m c w (Walking (with_job wk (works (place_in p q) (Gets next))) os) [])
+  -- the walks come to an unknown position, with fewer streams left, or the command goes on; g is the trim that was known before the sync, and v tells whether a view is kept
+  pub data WalksTo (cells : List (ℕ × Cell)) (next g v streams n : ℕ) : Moved m → Type 0 where
+    ToOver : (c : Client m) (x : Moved m) → c.next ≡ next → c.stand ≡ p → way.GoesOn c x → WalksTo cells next g v streams n x
+    ToReads : (c : Client m) (w : Work m) (wk : Walk) (os : List Oid) (q : ℕ) → c.next ≡ next + 1 → c.stand ≡ p → seen c.view ≡ v → w.gone_before ≡ g → length w.oids ≡ streams → q < tail → cell_at cells q ≡ None → wk.cells ≡ cells → TrailLow p tail wk.trail → Walks w
+        → suc (length os) ≤ n → WalksTo cells next g v streams n (goes_on m c w (Walking (with_job wk (works (place_in p q) (Gets next))) os) [])
 
-  by_walk : (c : Client m) (w : Work m) (o : Oid) (os : List Oid) (t : WalkTurn) → c.stand ≡ p → Walks w → Walked p tail c.cells c.next t
-      → ((d : Client m) (v : Work m) → d.stand ≡ p → Walks v → WalksTo d.cells d.next (walks m os d v)) → WalksTo c.cells c.next (elim (t.to) as (λ _. Moved m) [
+  by_walk : (c : Client m) (w : Work m) (o : Oid) (os : List Oid) (t : WalkTurn) (n : ℕ) → c.stand ≡ p → Walks w → suc (length os) ≤ n → Walked p tail c.cells c.next t
+      → ((d : Client m) (v : Work m) → d.stand ≡ p → seen d.view ≡ seen c.view → v.gone_before ≡ w.gone_before → length v.oids ≡ length w.oids → Walks v → WalksTo d.cells d.next (w.gone_before) (seen c.view) (length w.oids) n (walks m os d v))
+      → WalksTo c.cells c.next (w.gone_before) (seen c.view) (length w.oids) n (elim (t.to) as (λ _. Moved m) [
         | Goes x ↦ goes_on m (lends m (after_turn m c t)) w (Walking x os) []
         | Learns x ↦ moved m c []
         | Ends x ↦ walks m os (takes_back m c x) (found_by m w o x)
       ])
-  by_walk c w o os t stand ws (WalkReads wk q less none same low) rest = ToReads (lends m (record c { next = c.next + 1 })) w wk os q refl stand less none same low ws
-  by_walk c w o os t stand ws (WalkEnds x same gone) rest =
+  by_walk c w o os t n stand ws few (WalkReads wk q less none same low) rest = ToReads (lends m (record c { next = c.next + 1 })) w wk os q refl stand refl refl refl less none same low ws few
+  by_walk c w o os t n stand ws few (WalkEnds x same gone) rest =
       let d = takes_back m c x in
-      subst (λ cells. WalksTo cells c.next (walks m os d (found_by m w o x))) same (rest d (found_by m w o x) stand (record { asks = ws.asks; lasts = ws.lasts }))
+      subst (λ cells. WalksTo cells c.next (w.gone_before) (seen c.view) (length w.oids) n (walks m os d (found_by m w o x))) same (rest d (found_by m w o x) stand refl refl refl (record { asks = ws.asks; lasts = ws.lasts; few = ws.few }))
 
   start_low : (c : Client m) (w : Work m) (o : Oid) → c.stand ≡ p → Walks w → Walked p tail c.cells c.next (start_walk m c w o)
   unfolding walk_start
   start_low c w o stand ws = subst (λ q. Walked p tail c.cells c.next (walk_start q o (lasts_of m w o) w.lo c.cells c.next)) (sym stand) (walk_goes p tail _ c.next _ c.cells refl (record { pointers = ws.lasts o; last = omega arith }))
 
-  pub walks_to : (os : List Oid) (c : Client m) (w : Work m) → c.stand ≡ p → Walks w → WalksTo c.cells c.next (walks m os c w)
+  walks_from : (os : List Oid) (c : Client m) (w : Work m) (g v streams n : ℕ) → c.stand ≡ p → w.gone_before ≡ g → seen c.view ≡ v → length w.oids ≡ streams → Walks w → length os ≤ n → WalksTo c.cells c.next g v streams n (walks m os c w)
   unfolding walks
-  walks_to [] c w stand ws = ToOver c _ refl stand (way.on c w ws.asks)
-  walks_to (o ∷ os) c w stand ws = by_walk c w o os (start_walk m c w o) stand ws (start_low c w o stand ws) (λ d v e f. walks_to os d v e f)
+  walks_from [] c w g v streams n stand gone view many ws few = ToOver c _ refl stand (way.on c w ws.asks)
+  walks_from (o ∷ os) c w g v streams n stand gone view many ws few =
+      subst (λ s. WalksTo c.cells c.next g v s n (walks m (o ∷ os) c w)) many (subst (λ y. WalksTo c.cells c.next g y (length w.oids) n (walks m (o ∷ os) c w)) view (subst (λ y. WalksTo c.cells c.next y (seen c.view) (length w.oids) n (walks m (o ∷ os) c w)) gone
+      (by_walk c w o os (start_walk m c w o) n stand ws few (start_low c w o stand ws) (λ d x e f y z k. walks_from os d x (w.gone_before) (seen c.view) (length w.oids) n e y f z k (omega (arith, few))))))
+
+  pub walks_to : (os : List Oid) (c : Client m) (w : Work m) → c.stand ≡ p → Walks w → WalksTo c.cells c.next w.gone_before (seen c.view) (length w.oids) (length os) (walks m os c w)
+  walks_to os c w stand ws = walks_from os c w w.gone_before (seen c.view) (length w.oids) (length os) stand refl refl refl ws (omega arith)

@@ -1,4 +1,4 @@
--- A settling of a quiet world in which one client waits: the first round of ticks sends its request again.
+-- A settling of a quiet world in which one client waits: the first round of ticks sends its requests again.
 use Rattle.std.proofs.Common.{◌≡◌, ◌⊎◌, ℕ, zero, suc, ◌+◌, ◌≤◌, List, [], ◌∷◌, ◌++◌, length, map, Bool, true, false, refl, ap, ◌∙◌, sym, subst, inl, inr, arith, Some, None, eqb}
 use Rattle.std.specs.Prelude.{slice_set}
 use Rattle.tg_base.specs.Layouts.{Layout}
@@ -6,7 +6,6 @@ use Rattle.tg_base.specs.Clusters.{Header}
 use Rattle.tg_base.specs.declared.ids.NodeId.{NodeId}
 use Rattle.tg_base.specs.declared.ids.Role.{Role}
 use Rattle.tg_base.specs.declared.ids.Role.TheVariants as role
-use Rattle.tg_base.specs.declared.msg.Msg.{Msg}
 use Rattle.tg_base.specs.declared.msg.Msg.TheVariants as msg
 use Rattle.tg_base.specs.declared.packet.Out.{Out}
 use Rattle.tg_base.specs.declared.packet.Packet.{Packet}
@@ -20,9 +19,9 @@ use Rattle.tg_protocol.specs.Worlds.{packet_of, World, nodes, settle}
 use Rattle.tg_law_finish.proofs.Finish.Counted.{Finishes}
 use Rattle.tg_law_finish.proofs.Finish.Nets.{Net, net, net_ticked, sent_ticked, on_in, client_alike, client_of}
 use Rattle.tg_law_finish.proofs.Finish.Lists.{Each, each_both}
-use Rattle.tg_law_finish.proofs.Finish.Others.{Stray, AsksLatest, weight, weigh, weigh_both, Ready, Passes, from_weighs, other_ticks, client_turns, idle_ticks, nothing_sent, keeps_same}
+use Rattle.tg_law_finish.proofs.Finish.Others.{Stray, AsksLatest, weigh, weigh_both, Ready, Passes, from_weighs, other_ticks, client_turns, idle_ticks, nothing_sent, keeps_same}
 use Rattle.tg_law_finish.proofs.Finish.Settles.{Rounding, settles}
-use Rattle.tg_law_finish.proofs.Finish.Talks.{Machine, Live, Request, Busy, Idle, Inv, live_passes, idle_passes, any_step}
+use Rattle.tg_law_finish.proofs.Finish.Lines.{Item, asks, Talk, Over, Busy, Idle, Inv, line_more, line_behind, line_strays, line_asks, weigh_asks, idle_passes, stage_passes, any_step, is_idle}
 
 code_client : (r : Role) (n k : ℕ) → node_eq (record { role = r; num = n }) (client_id k) ≡ true → record { role = r; num = n } ≡ client_id k
 unfolding node_eq
@@ -67,20 +66,20 @@ module _ (m : Meaning) (h : Header) (stopped : List NodeId) (k : ℕ) (p : Layou
       let w = (from_weighs m h stopped k p (record { to = layout_id l; rid = rid; msg = msg.AskLatest })).0 in
       ((AsksLatest l rid, rest.0), omega (arith, e, w))
 
-  module _ (Stage : Net m → Client m → Out → ℕ → Type 0) (Hears : Net m → Client m → NodeId → ℕ → Msg → ℕ → Type 0) where
+  module _ (Stage : Net m → Client m → List Item → ℕ → Type 0) where
     pub record After (xs : List NodeId) (s : Net m) (q : List Packet) (n : ℕ) : Type 0 where
       pub rest : Each NotIt xs
-      pub busy : Busy m h stopped k p Stage Hears s q n
+      pub busy : Busy m h stopped k p Stage s q n
 
     pub record Waiting (xs : List NodeId) (s : Net m) (q : List Packet) (n : ℕ) : Type 0 where
       pub ready : Ready m h stopped k p s
-      pub o : Out
+      pub os : List Out
       pub left : ℕ
-      pub stage : Stage s (client_of m h s k) o left
+      pub stage : Stage s (client_of m h s k) (asks os) left
       pub strays : Each (Stray m h stopped k p) q
       pub layouts : ℕ
       pub same : (client_of m h s k).layouts ≡ layouts
-      pub few : weigh m h stopped k p q + ((2 + (layouts + layouts)) + (left + left)) ≤ n
+      pub few : weigh m h stopped k p q + (((length os + length os) + (layouts + layouts)) + (left + left)) ≤ n
       pub front : List NodeId
       pub back : List NodeId
       pub is : xs ≡ front ++ client_id k ∷ back
@@ -88,44 +87,29 @@ module _ (m : Meaning) (h : Header) (stopped : List NodeId) (k : ℕ) (p : Layou
       pub not_back : Each NotIt back
 
     abbrev pub Pre : List NodeId → Net m → List Packet → ℕ → Type 0
-    Pre xs s q n = Idle m h stopped k p Stage Hears s q n ⊎ (After xs s q n ⊎ Waiting xs s q n)
+    Pre xs s q n = Idle m h stopped k p Stage s q n ⊎ (After xs s q n ⊎ Waiting xs s q n)
 
-    module _ (machine : Machine m h stopped k p Stage Hears) where
-      idle_other : (s t : Net m) (q sent : List Packet) (n : ℕ) → Passes m h stopped k p s t sent 0 0 → Idle m h stopped k p Stage Hears s q n → Idle m h stopped k p Stage Hears t (q ++ sent) n
+    module _ (talk : Talk m h stopped k p Stage (Over m h stopped k p)) where
+      idle_other : (s t : Net m) (q sent : List Packet) (n : ℕ) → Passes m h stopped k p s t sent 0 0 → Idle m h stopped k p Stage s q n → Idle m h stopped k p Stage t (q ++ sent) n
       idle_other s t q sent n pass i =
           let both = weigh_both m h stopped k p q sent in
           let w = pass.weighs in
           let few = i.few in
-          record { ready = pass.ready; none = idle_passes m h stopped k p Stage Hears machine s t sent 0 0 pass i.none; strays = each_both (Stray m h stopped k p) q sent i.strays pass.strays; few = omega (arith, both, w, few) }
+          record { ready = pass.ready; none = idle_passes m h stopped k p Stage s t sent 0 0 pass i.none; strays = each_both (Stray m h stopped k p) q sent i.strays pass.strays; few = omega (arith, both, w, few) }
 
-      nested : (xs : List Packet) (y : Packet) (ys zs : List Packet) → (xs ++ y ∷ ys) ++ zs ≡ xs ++ y ∷ (ys ++ zs)
-      nested [] y ys zs = refl
-      nested (x ∷ xs) y ys zs = ap (λ l. x ∷ l) (nested xs y ys zs)
-
-      busy_other : (s t : Net m) (q sent : List Packet) (n : ℕ) → Passes m h stopped k p s t sent 0 0 → Busy m h stopped k p Stage Hears s q n → Busy m h stopped k p Stage Hears t (q ++ sent) n
+      busy_other : (s t : Net m) (q sent : List Packet) (n : ℕ) → Passes m h stopped k p s t sent 0 0 → Busy m h stopped k p Stage s q n → Busy m h stopped k p Stage t (q ++ sent) n
       busy_other s t q sent n pass b =
           let both = weigh_both m h stopped k p q sent in
           let w = pass.weighs in
           let few = b.few in
           record {
             ready = pass.ready;
-            before = b.before;
-            after = b.after ++ sent;
-            x = b.x;
+            items = b.items;
             left = b.left;
-            is = ap (λ l. l ++ sent) b.is ∙ nested b.before b.x b.after sent;
-            live = live_passes m h stopped k p Stage Hears machine s t sent 0 0 b.x b.left pass b.live;
-            strays = b.strays;
-            others = each_both (Stray m h stopped k p) b.after sent b.others pass.strays;
+            line = line_behind m h stopped k p q sent b.items b.line pass.strays;
+            stage = stage_passes m h stopped k p Stage talk s t sent b.items 0 0 b.left pass b.stage;
             few = omega (arith, both, w, few);
           }
-
-      stage_passes : (s t : Net m) (sent : List Packet) (o : Out) (left : ℕ) → Passes m h stopped k p s t sent 0 0 → Stage s (client_of m h s k) o left → Stage t (client_of m h t k) o left
-      stage_passes s t sent o left pass stage = by pass.client
-        where
-          by : (client_of m h t k ≡ client_of m h s k) ⊎ (client_of m h t k ≡ called m (client_of m h s k)) → Stage t (client_of m h t k) o left
-          by (inl e) = subst (λ (c : Client m). Stage t c o left) (sym e) (machine.stage_stays s t (client_of m h s k) o left pass.keeps stage)
-          by (inr e) = subst (λ (c : Client m). Stage t c o left) (sym e) (machine.stage_stays s t (called m (client_of m h s k)) o left pass.keeps (machine.stage_called s (client_of m h s k) o left stage))
 
       layouts_pass : (s t : Net m) (sent : List Packet) → Passes m h stopped k p s t sent 0 0 → (client_of m h t k).layouts ≡ (client_of m h s k).layouts
       layouts_pass s t sent pass = by pass.client
@@ -142,9 +126,9 @@ module _ (m : Meaning) (h : Header) (stopped : List NodeId) (k : ℕ) (p : Layou
           let few = w.few in
           record {
             ready = pass.ready;
-            o = w.o;
+            os = w.os;
             left = w.left;
-            stage = stage_passes s t sent w.o w.left pass w.stage;
+            stage = stage_passes m h stopped k p Stage talk s t sent (asks w.os) 0 0 w.left pass w.stage;
             strays = each_both (Stray m h stopped k p) q sent w.strays pass.strays;
             layouts = w.layouts;
             same = layouts_pass s t sent pass ∙ w.same;
@@ -156,55 +140,49 @@ module _ (m : Meaning) (h : Header) (stopped : List NodeId) (k : ℕ) (p : Layou
             not_back = w.not_back;
           }
 
-      tick_is : (c : Client m) (work : Work m) (o : Out) → c.work ≡ Some work → hand_again_asks m c.stand work.hand ≡ o ∷ []
-          → client_tick m c ≡ record { now = called m (record c { next = c.next + c.layouts }); sends = o ∷ asks_latest m (waits_for (numbers c.layouts 0) c.next); notes = [] }
+      tick_is : (c : Client m) (work : Work m) (os : List Out) → c.work ≡ Some work → hand_again_asks m c.stand work.hand ≡ os
+          → client_tick m c ≡ record { now = called m (record c { next = c.next + c.layouts }); sends = os ++ asks_latest m (waits_for (numbers c.layouts 0) c.next); notes = [] }
       unfolding client_tick
-      tick_is c work o e f = ap (λ x. tick_by m c x) e ∙ ap (λ os. record { now = called m (record c { next = c.next + c.layouts }); sends = os ++ asks_latest m (waits_for (numbers c.layouts 0) c.next); notes = [] }) f
+      tick_is c work os e f = ap (λ x. tick_by m c x) e ∙ ap (λ os. record { now = called m (record c { next = c.next + c.layouts }); sends = os ++ asks_latest m (waits_for (numbers c.layouts 0) c.next); notes = [] }) f
 
-      weighs : (o : Out) (q : List Packet) (latest : List Out) (n left l : ℕ) → weigh m h stopped k p (q ++ packet_of m (client_id k) o ∷ map (packet_of m (client_id k)) latest) ≡ weigh m h stopped k p q + weigh m h stopped k p (packet_of m (client_id k) o ∷ map (packet_of m (client_id k)) latest)
-          → weight m h stopped k p (packet_of m (client_id k) o) ≡ 2 → weigh m h stopped k p (map (packet_of m (client_id k)) latest) ≡ l + l → weigh m h stopped k p q + ((2 + (l + l)) + (left + left)) ≤ n
-          → weigh m h stopped k p (q ++ packet_of m (client_id k) o ∷ map (packet_of m (client_id k)) latest) + (left + left) ≤ n
-      unfolding weigh
-      weighs o q latest n left l both heavy light few = omega (arith, both, heavy, light, few)
+      mapped : (xs ys : List Out) → map (packet_of m (client_id k)) (xs ++ ys) ≡ map (packet_of m (client_id k)) xs ++ map (packet_of m (client_id k)) ys
+      mapped [] ys = refl
+      mapped (x ∷ xs) ys = ap (λ l. packet_of m (client_id k) x ∷ l) (mapped xs ys)
 
       -- the client itself ticks
       self_waits : (s : Net m) (q : List Packet) (n : ℕ) (xs : List NodeId) (w : Waiting (client_id k ∷ xs) s q n) → Each NotIt xs → After xs (net_ticked m h s k role.Client) (q ++ sent_ticked m h s k role.Client) n
       self_waits s q n xs w rest =
           let c = client_of m h s k in
-          let f = machine.facts s c w.o w.left w.stage in
+          let f = talk.again s c (asks w.os) w.os w.left w.stage refl in
           let now = called m (record c { next = c.next + c.layouts }) in
           let latest = asks_latest m (waits_for (numbers c.layouts 0) c.next) in
-          subst (λ (t : ClientTurn m). After xs (record s { clients = slice_set s.clients k t.now }) (q ++ map (packet_of m (client_id k)) t.sends) n) (sym (tick_is c f.work w.o f.waits f.again))
-          (let t = client_turns m h stopped k p s now w.ready in
-          let x = packet_of m (client_id k) w.o in
-          let others = latest_asks (numbers c.layouts 0) c.next in
-          let both = weigh_both m h stopped k p q (x ∷ map (packet_of m (client_id k)) latest) in
-          let heavy = (from_weighs m h stopped k p w.o).0 in
-          let light = others.1 in
-          let long = long_numbers c.layouts 0 in
-          let same = w.same in
+          let news = map (packet_of m (client_id k)) w.os in
+          let others = map (packet_of m (client_id k)) latest in
+          let about = latest_asks (numbers c.layouts 0) c.next in
+          let t = client_turns m h stopped k p s now w.ready in
+          let both = weigh_both m h stopped k p q (news ++ others) in
+          let two = weigh_both m h stopped k p news others in
+          let heavy = weigh_asks m h stopped k p w.os in
+          let light = about.1 ∙ ap (λ i. i + i) (long_numbers c.layouts 0 ∙ w.same) in
           let few = w.few in
-          record {
+          subst (λ (t : ClientTurn m). After xs (record s { clients = slice_set s.clients k t.now }) (q ++ map (packet_of m (client_id k)) t.sends) n) (sym (tick_is c f.work w.os f.waits f.again))
+          (subst (λ (r : List Packet). After xs (record s { clients = slice_set s.clients k now }) (q ++ r) n) (sym (mapped w.os latest)) (record {
             rest = rest;
             busy = record {
               ready = t.1;
-              before = q;
-              after = map (packet_of m (client_id k)) latest;
-              x = x;
+              items = asks w.os;
               left = w.left;
-              is = refl;
-              live = subst (λ (d : Client m). Live m h stopped k p Stage Hears (record s { clients = slice_set s.clients k now }) d x w.left) (sym t.0)
-                  (Request w.o w.left (machine.stage_stays s (record s { clients = slice_set s.clients k now }) now w.o w.left (record { units = λ u e. refl; seqr = refl; alike = client_alike m s k now }) (machine.stage_ticked s c w.o w.left w.stage)));
-              strays = w.strays;
-              others = others.0;
-              few = weighs w.o q latest n w.left c.layouts both heavy (light ∙ ap (λ i. i + i) long) (subst (λ i. weigh m h stopped k p q + ((2 + (i + i)) + (w.left + w.left)) ≤ n) (sym same) few);
+              line = line_more m h stopped k p q (news ++ others) [] (asks w.os) (line_strays m h stopped k p q w.strays) (line_behind m h stopped k p news others (asks w.os) (line_asks m h stopped k p w.os) about.0);
+              stage = subst (λ (d : Client m). Stage (record s { clients = slice_set s.clients k now }) d (asks w.os) w.left) (sym t.0)
+                  (talk.stays s (record s { clients = slice_set s.clients k now }) now (asks w.os) w.left (record { units = λ u e. refl; seqr = refl; alike = client_alike m s k now }) (talk.ticked s c (asks w.os) w.os w.left w.stage refl));
+              few = omega (arith, both, two, heavy, light, few);
             };
-          })
+          }))
 
-      idle_self : (s : Net m) (q : List Packet) (n : ℕ) → Idle m h stopped k p Stage Hears s q n → Idle m h stopped k p Stage Hears (net_ticked m h s k role.Client) (q ++ sent_ticked m h s k role.Client) n
-      idle_self s q n i = subst (λ (t : ClientTurn m). Idle m h stopped k p Stage Hears (record s { clients = slice_set s.clients k t.now }) (q ++ map (packet_of m (client_id k)) t.sends) n) (sym (idle_ticks m h stopped k p c i.none))
+      idle_self : (s : Net m) (q : List Packet) (n : ℕ) → Idle m h stopped k p Stage s q n → Idle m h stopped k p Stage (net_ticked m h s k role.Client) (q ++ sent_ticked m h s k role.Client) n
+      idle_self s q n i = subst (λ (t : ClientTurn m). Idle m h stopped k p Stage (record s { clients = slice_set s.clients k t.now }) (q ++ map (packet_of m (client_id k)) t.sends) n) (sym (idle_ticks m h stopped k p c i.none))
           (let t = client_turns m h stopped k p s (called m c) i.ready in
-          subst (λ r. Idle m h stopped k p Stage Hears (record s { clients = slice_set s.clients k (called m c) }) r n) (whole q)
+          subst (λ r. Idle m h stopped k p Stage (record s { clients = slice_set s.clients k (called m c) }) r n) (whole q)
           (record { ready = t.1; none = subst (λ (d : Client m). d.work ≡ None) (sym t.0) i.none; strays = i.strays; few = i.few }))
         where
           c : Client m
@@ -261,30 +239,22 @@ module _ (m : Meaning) (h : Header) (stopped : List NodeId) (k : ℕ) (p : Layou
       no_middle [] y ys e = absurd cc
       no_middle (f ∷ fs) y ys e = absurd cc
 
-      all_ticked : (s : Net m) (q : List Packet) (n : ℕ) → Pre [] s q n → Inv m h stopped k p Stage Hears s q n
+      all_ticked : (s : Net m) (q : List Packet) (n : ℕ) → Pre [] s q n → Inv m h stopped k p Stage s q n
       all_ticked s q n (inl i) = inl i
       all_ticked s q n (inr (inl a)) = inr a.busy
       all_ticked s q n (inr (inr w)) = absurd (no_middle w.front (client_id k) w.back w.is)
 
-      no_packet : (bs : List Packet) (y : Packet) (ys : List Packet) → [] ≡ bs ++ y ∷ ys → ⊥
-      no_packet [] y ys e = absurd cc
-      no_packet (b ∷ bs) y ys e = absurd cc
-
-      is_idle : (s : Net m) (n : ℕ) → Inv m h stopped k p Stage Hears s [] n → Idle m h stopped k p Stage Hears s [] n
-      is_idle s n (inl i) = i
-      is_idle s n (inr b) = absurd (no_packet b.before b.x b.after b.is)
-
-      rounding : Rounding m k h stopped (Inv m h stopped k p Stage Hears) Pre
+      rounding : Rounding m k h stopped (Inv m h stopped k p Stage) Pre
       rounding = record {
-        keeps = λ s x q n i. any_step m h stopped k p Stage Hears machine s x q n i;
+        keeps = λ s x q n i. any_step m h stopped k p Stage talk s x q n i;
         ticking = record { one = one_ticks; other = off_ticks; all = all_ticked };
-        again = λ w n i. inl (is_idle (net m w) n i);
+        again = λ w n i. inl (is_idle m h stopped k p Stage talk (net m w) n i);
       }
 
       -- the client has its answer
       pub finishes : (w : World m) (n : ℕ) → w.waiting ≡ [] → w.cluster ≡ h → w.stopped ≡ stopped → Waiting (nodes m w) (net m w) [] n → (settle m w).stopped ≡ None → Finishes m k n w (settle m w).world
       finishes w n quiet cluster stops waits none =
-          let d = settles m k h stopped (Inv m h stopped k p Stage Hears) Pre rounding w n quiet (inr (inr waits)) cluster stops none in
-          let i = is_idle (net m (settle m w).world) d.left d.holds.inv in
+          let d = settles m k h stopped (Inv m h stopped k p Stage) Pre rounding w n quiet (inr (inr waits)) cluster stops none in
+          let i = is_idle m h stopped k p Stage talk (net m (settle m w).world) d.left d.holds.inv in
           let few = d.spent.few in
           record { done = d.spent.done; since = d.spent.since; few = omega (arith, few); answered = subst (λ (x : Header). (client_of m x (net m (settle m w).world) k).work ≡ None) (sym d.holds.cluster) i.none }

@@ -178,7 +178,7 @@ module _ (m : Meaning) (k : ℕ) where
         steps_up : (w : World m) (i : ℕ) → 200001 ≤ suc fuel + w.steps → 200001 ≤ fuel + (happens m w (Deliver i)).steps
         steps_up w i le = let e = happens_counts m w i in omega (arith, le, e)
 
-    drain_to : Keeps → (w : World m) (n : ℕ) (q : List Packet) → Holds w q n → DrainsTo w n (drain m w)
+    pub drain_to : Keeps → (w : World m) (n : ℕ) (q : List Packet) → Holds w q n → DrainsTo w n (drain m w)
     unfolding drain
     drain_to keep w n q holds = drains_on keep (200001 - w.steps) w n q (omega arith) holds
 
@@ -239,7 +239,7 @@ module _ (m : Meaning) (k : ℕ) where
           let one = tick_on t w x xs q n e b in
           ticked_later w _ _ n one.1 (rest _ _ one.0 none))
 
-      ticks_all : Ticking → (xs : List NodeId) (w : World m) (q : List Packet) (n : ℕ) → Before xs w q n → TicksTo w n (tick_all m xs w)
+      pub ticks_all : Ticking → (xs : List NodeId) (w : World m) (q : List Packet) (n : ℕ) → Before xs w q n → TicksTo w n (tick_all m xs w)
       unfolding tick_all
       ticks_all t [] w q n b = λ none. record { q = q; holds = record { queue = b.queue; inv = t.all (net m w) q n b.pre; cluster = b.cluster; stops = b.stops }; spent = spent_none w n }
       ticks_all t (x ∷ xs) w q n b = if_runs w x xs q n (runs m w x) refl t b (λ v r. ticks_all t xs v r n)

@@ -1,14 +1,14 @@
 -- The shape of an append's machine: what it asks of a unit of the chain, and where its position lies.
-use Rattle.std.proofs.Common.{◌≡◌, ◌⊎◌, ℕ, zero, suc, ◌+◌, ◌<◌, ◌≤◌, List, length, Bool, true, false, refl, sym, ap, ◌∙◌, subst, inl, inr, arith, Some, None, Option}
+use Rattle.std.proofs.Common.{◌≡◌, ℕ, zero, suc, ◌+◌, ◌<◌, List, length, Bool, true, false, refl, arith, Some, None, Option}
 use Rattle.std.specs.Prelude.{nat_lt, nat_le}
 use Rattle.tg_base.specs.Layouts.{Layout}
 use Rattle.tg_base.specs.declared.cell.Cell.{Cell}
-use Rattle.tg_base.specs.declared.cell.Cell.TheVariants.{Junk, Data}
+use Rattle.tg_base.specs.declared.cell.Cell.TheVariants.{Junk}
 use Rattle.tg_base.specs.declared.marks.StreamLink.{StreamLink}
 use Rattle.tg_protocol.specs.Requests.{Next, Goes, Learns, Ends}
 use Rattle.tg_protocol.specs.Replies.{Reply}
 use Rattle.tg_protocol.specs.Replies as replied
-use Rattle.tg_protocol.specs.Cells.{Place, place_in, CellWork, Puts, Gets, Fills, Copies, Probes, CellJob, CellEnd, Done, Seen, Lost, Fenced, Gone, works, put_on, copy_on, end_if, copy_if_same, put_cell, fill_cell, work_feed, cell_feed}
+use Rattle.tg_protocol.specs.Cells.{Place, CellWork, Puts, Gets, Fills, Copies, Probes, CellJob, CellEnd, Done, Seen, Lost, Fenced, Gone, works, put_on, copy_on, end_if, copy_if_same, put_cell, fill_cell, work_feed, cell_feed}
 use Rattle.tg_protocol.specs.Appending.{Append, AppendWork, Asking, Putting, Judging, AppendEnd, Token, on_older, on_newer, put_next, own_or_not, judge_next, on_issued, asking_feed, by_token, append_feed, dead_or_judged, again_with, append_again}
 
 less_of : (a b : ℕ) → nat_lt a b ≡ true → a < b

@@ -23,24 +23,27 @@ use Rattle.tg_protocol.specs.Runs.{Moves, Reaches, Always}
 use Rattle.tg_protocol.specs.Finishing.{stripes_of, longest_chain, WaitsAlone, IsReadyFor}
 use Rattle.tg_law_layouts.specs.Moves.Configs.{config}
 use Rattle.tg_law_layouts.proofs.Moves.Always.{always}
-use Rattle.tg_law_layouts.proofs.Moves.Moves.{run_keeps}
+use Rattle.tg_law_layouts.proofs.Moves.Moves.{Keeps, run_keeps}
 use Rattle.tg_law_layouts.proofs.Moves.Lists.{contained}
-use Rattle.tg_law_layouts.proofs.Moves.Members.{Has, has_left, has_right}
+use Rattle.tg_law_layouts.proofs.Moves.Members.{Has, has_left, has_right, set_long}
 use Rattle.tg_law_layouts.proofs.Requests.Numbers.{Numbers}
 use Rattle.tg_law_layouts.proofs.Requests.Starts.{all_hold}
 use Rattle.tg_law_layouts.proofs.Layouts.Decisions.{Pax, pax_keep}
 use Rattle.tg_law_layouts.proofs.Layouts.Layouts.{start_pax, has_header}
 use Rattle.tg_law_layouts.proofs.Layouts.Deciding.{one_layout, latest_decided, layouts_are_known, layouts_are_sound}
-use Rattle.tg_law_cells.proofs.Cells.Befores.{has_at}
+use Rattle.tg_law_cells.proofs.Cells.Befores.{Before, has_at}
 use Rattle.tg_law_cells.proofs.Cells.Chains.{Cells}
 use Rattle.tg_law_cells.proofs.Cells.Heads.{heads_have_cells}
 use Rattle.tg_law_cells.proofs.Cells.Jobs.{MaybeOk}
 use Rattle.tg_law_cells.proofs.Cells.Stores.{cells_hold}
-use Rattle.tg_law_cells.proofs.Cells.Successors.{place_of, stands_there, some_there}
+use Rattle.tg_law_cells.proofs.Cells.Successors.{place_of, stands_there, some_there, single_there}
 use Rattle.tg_law_trims.proofs.Issues.Bounds.{AllBelow, lasts_below}
 use Rattle.tg_law_trims.proofs.Issues.Tails.{Tails, tails_hold, links_below}
 use Rattle.tg_law_trims.proofs.Issues.Unwritten.{next_is_unwritten}
 use Rattle.tg_law_finish.specs.Finish.Granted.{Granted}
+use Rattle.std.proofs.lemmas.List.{length-replicate}
+use Rattle.tg_law_finish.proofs.Finish.Askers.{Distinct}
+use Rattle.tg_law_finish.proofs.Finish.Lists.{Each}
 use Rattle.tg_law_finish.proofs.Finish.Scans.{Seqrs, seqrs_hold}
 use Rattle.tg_law_finish.proofs.Finish.Working.{Working, Lawful, JobOff}
 use Rattle.tg_protocol.specs.Chosen.{IsDecided}
@@ -136,6 +139,14 @@ header_limits h i =
 chain_short : (p : Layout) (pos : ℕ) → IsLayout p → length (chain_of p pos) ≤ longest_chain p
 chain_short p pos rules = let a = place_of p pos rules in subst (λ (c : List ℕ). length c ≤ longest_chain p) (sym a.chain) (at_most 0 (flat_map stripes_of p.ranges) _ (ranges_have p.ranges a.range a.stripe a.is.there a.less))
 
+none_first : (x : ℕ) (xs : List ℕ) → (Has xs x → ⊥) → Each (λ y. eqb y x ≡ false) xs
+none_first x [] f = tt
+none_first x (y ∷ ys) f = (unequal y x (λ e. f (inl (sym e))), none_first x ys (λ g. f (inr g)))
+
+distinct_of : (xs : List ℕ) → ((u : ℕ) → Before xs u u → ⊥) → Distinct xs
+distinct_of [] f = tt
+distinct_of (x ∷ xs) f = (none_first x xs (λ g. f x (inl (refl, g))), distinct_of xs (λ u b. f u (inr b)))
+
 module _ (m : Meaning) where
   pub numbers_hold : Always m (λ w. Numbers m (config m w))
   numbers_hold = always m (λ w. Numbers m (config m w)) (λ h ms. (all_hold m h ms).0.0)
@@ -155,6 +166,18 @@ module _ (m : Meaning) where
   tails_always : Always m (λ w. Tails m (config m w))
   tails_always = always m (λ w. Tails m (config m w)) (λ h ms. tails_hold m h ms)
 
+  -- units stay as many as the header declares
+
+  units_stay : (n : ℕ) → Keeps m (λ c. length c.units ≡ n)
+  units_stay n c s = record { idle = s; unit = λ u p a less. set_long c.units u _ ∙ s; layout = λ l p a less. s; seqr = λ k t i less. s; client = λ k t i less. s }
+
+  units_start : (h : Header) → length (start m h).units ≡ h.units
+  unfolding start
+  units_start h = length-replicate h.units _
+
+  pub units_are : (h : Header) (ms : Moves m) (w : World m) → Reaches m h ms w → length w.units ≡ w.cluster.units
+  units_are h ms w r = (subst (λ (v : World m). length v.units ≡ h.units) (sym r.goes.is) (run_keeps m (λ c. length c.units ≡ h.units) (units_stay h.units) ms (start m h) (units_start h))) ∙ ap (λ (y : Header). y.units) (sym (cluster_is h ms w r))
+
   module _ (h : Header) (ms : Moves m) (w : World m) (r : Reaches m h ms w) where
     abbrev p : Layout
     p = latest m w
@@ -166,8 +189,15 @@ module _ (m : Meaning) where
     unfolding units_of
     in_units pos i less = nums_have (units_in p.ranges) _ (stands_there p pos _ rules (has_at (chain_of p pos) i less))
 
+    -- no unit stands twice in a chain
+    pub once_there : (pos : ℕ) → Distinct (chain_of p pos)
+    once_there pos = distinct_of (chain_of p pos) (λ u. single_there p pos u rules)
+
     limit_near : w.cluster.limit < 2 ^ 62
     limit_near = subst (λ (y : Header). y.limit < 2 ^ 62) (sym (cluster_is h ms w r)) (header_limits h r.header).1
+
+    pub limit_below : (seqr m w p.seq).limit < 2 ^ 62
+    limit_below = subst (λ n. n < 2 ^ 62) (sym (((seqrs_always h ms w r).fine p.seq).limit)) limit_near
 
     -- What the sequencer issues next, and what it names.
 

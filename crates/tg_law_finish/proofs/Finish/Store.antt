@@ -1,34 +1,54 @@
 -- Commands of the store finish: all that the laws of settlings ask of a world is so in each run of the store.
-use Rattle.std.proofs.Common.{◌≡◌, ℕ, ◌<◌, ◌≤◌, true, false, sym, ap, ◌∙◌, subst, arith, Some}
+use Rattle.std.proofs.Common.{◌≡◌, ◌⊎◌, ℕ, ◌<◌, ◌≤◌, [], length, true, false, refl, sym, ap, ◌∙◌, subst, inl, inr, arith, Some}
+use Rattle.std.specs.Prelude.{nat_lt}
 use Rattle.std.proofs.lemmas.Bool.Decides.{nat_tests}
 use Rattle.tg_base.specs.Clusters.{Header}
 use Rattle.tg_any.specs.AllKinds.{all_kinds}
 use Rattle.tg_kind.specs.Meaning.{Meaning}
 use Rattle.tg_model.specs.Kinds.{CommandOf}
-use Rattle.tg_protocol.specs.Words.{too_far}
-use Rattle.tg_protocol.specs.Clients.{Work}
-use Rattle.tg_protocol.specs.Worlds.{World, start, unit, latest}
-use Rattle.tg_protocol.specs.Runs.{Moves, Reaches, Always}
-use Rattle.tg_protocol.specs.Finishing.{WaitsAlone, IsReadyFor, most_deliveries_in}
+use Rattle.tg_base.specs.declared.cell.Cell.{Cell}
+use Rattle.tg_protocol.specs.Words.{cell_at, too_far}
+use Rattle.tg_protocol.specs.Layouts.{chain_of}
+use Rattle.tg_protocol.specs.Entries.{streams_of}
+use Rattle.tg_protocol.specs.Clients.{Judged, Work}
+use Rattle.tg_protocol.specs.Worlds.{World, unit, seqr, latest}
+use Rattle.tg_protocol.specs.Runs.{Moves, Goes, Reaches, Always, run}
+use Rattle.tg_protocol.specs.Finishing.{IsServing, WaitsAlone, IsReadyFor}
 use Rattle.tg_law_layouts.specs.Moves.After.{after}
+use Rattle.tg_law_layouts.proofs.Moves.Lists.{contained}
+use Rattle.tg_law_layouts.proofs.Moves.Members.{has_contained}
+use Rattle.tg_law_layouts.proofs.Layouts.Deciding.{latest_decided}
+use Rattle.tg_law_cells.specs.Cells.Settled.{IsSettled}
+use Rattle.tg_law_cells.proofs.Cells.Befores.{has_at}
+use Rattle.tg_law_cells.proofs.Cells.Settling.{settled_is_held}
 use Rattle.tg_law_trims.specs.Trims.Spare.{TrimsAre}
 use Rattle.tg_law_headline.proofs.Runs.Holding.{logs_hold}
 use Rattle.tg_law_finish.specs.Finish.Appends.{WaitsForAppend}
-use Rattle.tg_law_finish.specs.Finish.Asks.{NothingTrimmed, HasIssued, WaitsForSync}
 use Rattle.tg_law_finish.specs.Finish.Commands.{plays}
 use Rattle.tg_law_finish.specs.Finish.Granted.{Granted}
-use Rattle.tg_law_finish.proofs.Finish.Answered.{append_answered, append_in_time, ask_answered, ask_in_time, make_answered, make_in_time}
-use Rattle.tg_law_finish.proofs.Finish.Standing.{next_near, working}
-use Rattle.tg_law_finish.specs.Finish.Makes.{MakesSync, MakeFinishes}
+use Rattle.tg_law_finish.proofs.Finish.Answered.{append_answered, append_in_time, ask_answered, ask_in_time, make_answered, make_in_time, ask_walks, make_walks, rescue_walks, token_below, end_walks}
+use Rattle.tg_law_finish.proofs.Finish.Standing.{next_near, limit_below, working}
+use Rattle.tg_law_finish.specs.Finish.Makes.{MakeFinishes}
 use Rattle.tg_law_finish.specs.Finish.Store.{AppendsLast, AppendFinishes, AskFinishes}
-use Rattle.tg_law_finish.proofs.Finish.Below.{lows_below}
-use Rattle.tg_law_finish.proofs.Finish.Named.{named}
+use Rattle.tg_law_finish.specs.Finish.Ends.{EndsAppend, EndFinishes}
+use Rattle.tg_law_finish.specs.Finish.Rescues.{RescueWalks}
+use Rattle.tg_law_finish.specs.Finish.Walks.{AskWalks, MakeWalks}
+use Rattle.tg_law_finish.proofs.Finish.Asking.{HeldWhereTrimmed, Owns}
+use Rattle.tg_law_finish.proofs.Finish.Below.{greatest, trimmed_settled, lows_below, unwritten_past}
+use Rattle.tg_law_finish.proofs.Finish.Working.{at_chain}
+use Rattle.tg_law_finish.proofs.Finish.Named.{named, grown_named, grown_below}
+use Rattle.tg_law_finish.proofs.Finish.Drafted.{drafted}
+use Rattle.tg_law_finish.proofs.Finish.Hosting.{hosting}
 use Rattle.tg_law_finish.proofs.Finish.Hands.{append_stands}
 
 nearer : (a b : ℕ) → a ≤ b → too_far b ≡ false → too_far a ≡ false
 nearer a b le e = grind (arith, nat_tests, le, e)
 
 module _ (m : Meaning) where
+  nothing_more : (h : Header) (zs : Moves m) → Reaches m h zs (after m h zs) → Goes m (after m h zs) [] (after m h zs)
+  unfolding run
+  nothing_more h zs r = record { lawful = λ x c. absurd (has_contained [] x c); is = refl; few = r.goes.few }
+
   module _ (h : Header) (zs : Moves m) (r : Reaches m h zs (after m h zs)) (trims : TrimsAre m h zs (after m h zs)) (k : ℕ) (x : CommandOf m) (a : WaitsAlone m (after m h zs) k x) (b : IsReadyFor m (after m h zs) k) where
     abbrev w : World m
     w = after m h zs
@@ -71,6 +91,67 @@ module _ (m : Meaning) where
       let g = granted h zs r trims k x a b in
       (make_answered m h zs (after m h zs) r k x a b g u n f, make_in_time m h zs (after m h zs) r k x a b g u n f)
 
+  -- what a unit of the latest layout's chains has trimmed is settled, so the others have it, or have trimmed it
+  held_here : (h : Header) (zs : Moves m) (r : Reaches m h zs (after m h zs)) → TrimsAre m h zs (after m h zs) → IsServing (seqr m (after m h zs) (latest m (after m h zs)).seq) (latest m (after m h zs)).epoch
+      → HeldWhereTrimmed m (after m h zs) (latest m (after m h zs))
+  held_here h zs r trims serves pos j less low = by (trimmed_settled m h zs r serves trims.in_time trims.were.safe (at_chain m (latest m (after m h zs)) pos j) pos (is_below _ _ low))
+    where
+      is_below : (a b : ℕ) → nat_lt a b ≡ true → a < b
+      is_below a b e = grind arith
+
+      is_less : (a b : ℕ) → a < b → nat_lt a b ≡ true
+      is_less a b less = grind arith
+
+      no_more : Goes m (after m h zs) [] (after m h zs)
+      no_more = nothing_more h zs r
+
+      by : (c : Cell) × IsSettled m (after m h zs) pos c
+          → (c : Cell) × ((i : ℕ) → i < length (chain_of (latest m (after m h zs)) pos) → (cell_at (unit m (after m h zs) (at_chain m (latest m (after m h zs)) pos i)).cells pos ≡ Some c) ⊎ (nat_lt pos (unit m (after m h zs) (at_chain m (latest m (after m h zs)) pos i)).low ≡ true))
+      by g = (
+        g.0,
+        λ i here. of i (settled_is_held m h zs (after m h zs) (after m h zs) r ([], no_more) pos g.0 g.1 (latest m (after m h zs)) (at_chain m (latest m (after m h zs)) pos i)
+            (record { decided = (latest_decided m h zs (after m h zs) r).decided; later = greatest m h zs r g.1.layout g.1.decided; here = contained (chain_of (latest m (after m h zs)) pos) _ (has_at (chain_of (latest m (after m h zs)) pos) i here) })),
+      )
+        where
+          of : (i : ℕ) → (cell_at (unit m (after m h zs) (at_chain m (latest m (after m h zs)) pos i)).cells pos ≡ Some g.0) ⊎ (pos < (unit m (after m h zs) (at_chain m (latest m (after m h zs)) pos i)).low)
+              → (cell_at (unit m (after m h zs) (at_chain m (latest m (after m h zs)) pos i)).cells pos ≡ Some g.0) ⊎ (nat_lt pos (unit m (after m h zs) (at_chain m (latest m (after m h zs)) pos i)).low ≡ true)
+          of i (inl e) = inl e
+          of i (inr e) = inr (is_less _ _ e)
+
+  ask_walks_here : (h : Header) (zs : Moves m) → Reaches m h zs (after m h zs) → TrimsAre m h zs (after m h zs) → AskWalks m (after m h zs)
+  ask_walks_here h zs r trims k x a b f = ask_walks m h zs (after m h zs) r k x a b (granted h zs r trims k x a b) (held_here h zs r trims b.serves) f
+
+  make_walks_here : (h : Header) (zs : Moves m) → Reaches m h zs (after m h zs) → TrimsAre m h zs (after m h zs) → MakeWalks m (after m h zs)
+  make_walks_here h zs r trims k x a b f = make_walks m h zs (after m h zs) r k x a b (granted h zs r trims k x a b) (held_here h zs r trims b.serves) f
+
+  rescue_walks_here : (h : Header) (zs : Moves m) → Reaches m h zs (after m h zs) → TrimsAre m h zs (after m h zs) → RescueWalks m (after m h zs)
+  rescue_walks_here h zs r trims k x a b f = rescue_walks m h zs (after m h zs) r k x a b (granted h zs r trims k x a b) (held_here h zs r trims b.serves) f
+
+  -- the record of a transaction that is ended asks for its token
+  owns_here : (h : Header) (zs : Moves m) (r : Reaches m h zs (after m h zs)) → TrimsAre m h zs (after m h zs) → (k : ℕ) (x : CommandOf m) → WaitsAlone m (after m h zs) k x → IsReadyFor m (after m h zs) k → EndsAppend m (after m h zs) k
+      → Owns m (after m h zs) k (latest m (after m h zs))
+  owns_here h zs r trims k x a b f =
+      let q = latest m (after m h zs) in
+      let once = drafted m h zs r k f.work f.append Judged f.waits f.hand in
+      record {
+        work = f.work;
+        waits = f.waits;
+        command = f.command;
+        append = f.append;
+        rid = f.rid;
+        hand = f.hand;
+        first = f.first;
+        below = token_below m h zs (after m h zs) r k f;
+        hosted = (hosting m h zs (after m h zs) r k).hosted;
+        limit = limit_below m h zs (after m h zs) r;
+        ahead = λ pos j from less. unwritten_past m h zs r b.serves trims.in_time (at_chain m q pos j) pos from (contained (chain_of q pos) _ (has_at (chain_of q pos) j less)) ((working m h zs (after m h zs) r k x a b).units_stand pos j less);
+        named = λ near ts. grown_named m h zs r trims.were b.serves (streams_of f.append.draft) once near ts;
+        lasts = λ o ts. grown_below m h zs r trims.were b.serves (streams_of f.append.draft) once o ts;
+      }
+
+  end_here : (h : Header) (zs : Moves m) → Reaches m h zs (after m h zs) → TrimsAre m h zs (after m h zs) → EndFinishes m (after m h zs)
+  end_here h zs r trims k x a b f = end_walks m h zs (after m h zs) r k x a b (granted h zs r trims k x a b) (held_here h zs r trims b.serves) (owns_here h zs r trims k x a b f)
+
   -- over any kinds, where trims left what is needed
   pub append_where : (h : Header) (zs : Moves m) (w : World m) → Reaches m h zs w → TrimsAre m h zs w → AppendFinishes m w
   append_where h zs w r trims = subst (λ (v : World m). Reaches m h zs v → TrimsAre m h zs v → AppendFinishes m v) (sym r.goes.is) (append_here h zs) r trims
@@ -81,6 +162,18 @@ module _ (m : Meaning) where
   pub make_where : (h : Header) (zs : Moves m) (w : World m) → Reaches m h zs w → TrimsAre m h zs w → MakeFinishes m w
   make_where h zs w r trims = subst (λ (v : World m). Reaches m h zs v → TrimsAre m h zs v → MakeFinishes m v) (sym r.goes.is) (make_here h zs) r trims
 
+  pub ask_walks_where : (h : Header) (zs : Moves m) (w : World m) → Reaches m h zs w → TrimsAre m h zs w → AskWalks m w
+  ask_walks_where h zs w r trims = subst (λ (v : World m). Reaches m h zs v → TrimsAre m h zs v → AskWalks m v) (sym r.goes.is) (ask_walks_here h zs) r trims
+
+  pub make_walks_where : (h : Header) (zs : Moves m) (w : World m) → Reaches m h zs w → TrimsAre m h zs w → MakeWalks m w
+  make_walks_where h zs w r trims = subst (λ (v : World m). Reaches m h zs v → TrimsAre m h zs v → MakeWalks m v) (sym r.goes.is) (make_walks_here h zs) r trims
+
+  pub rescue_walks_where : (h : Header) (zs : Moves m) (w : World m) → Reaches m h zs w → TrimsAre m h zs w → RescueWalks m w
+  rescue_walks_where h zs w r trims = subst (λ (v : World m). Reaches m h zs v → TrimsAre m h zs v → RescueWalks m v) (sym r.goes.is) (rescue_walks_here h zs) r trims
+
+  pub end_where : (h : Header) (zs : Moves m) (w : World m) → Reaches m h zs w → TrimsAre m h zs w → EndFinishes m w
+  end_where h zs w r trims = subst (λ (v : World m). Reaches m h zs v → TrimsAre m h zs v → EndFinishes m v) (sym r.goes.is) (end_here h zs) r trims
+
 pub appends_finish : Always all_kinds (AppendFinishes all_kinds)
 appends_finish h zs w r = append_where all_kinds h zs w r (logs_hold h zs w r).trims
 
@@ -89,3 +182,15 @@ asks_finish h zs w r = ask_where all_kinds h zs w r (logs_hold h zs w r).trims
 
 pub makes_finish : Always all_kinds (MakeFinishes all_kinds)
 makes_finish h zs w r = make_where all_kinds h zs w r (logs_hold h zs w r).trims
+
+pub asks_finish_anyway : Always all_kinds (AskWalks all_kinds)
+asks_finish_anyway h zs w r = ask_walks_where all_kinds h zs w r (logs_hold h zs w r).trims
+
+pub makes_finish_anyway : Always all_kinds (MakeWalks all_kinds)
+makes_finish_anyway h zs w r = make_walks_where all_kinds h zs w r (logs_hold h zs w r).trims
+
+pub rescues_finish : Always all_kinds (RescueWalks all_kinds)
+rescues_finish h zs w r = rescue_walks_where all_kinds h zs w r (logs_hold h zs w r).trims
+
+pub ends_finish : Always all_kinds (EndFinishes all_kinds)
+ends_finish h zs w r = end_where all_kinds h zs w r (logs_hold h zs w r).trims

@@ -8,6 +8,7 @@ use Rattle.tg_base.specs.declared.msg.Msg.TheVariants as msg
 use Rattle.tg_kind.specs.Meaning.{Meaning}
 use Rattle.tg_protocol.specs.Words.{cell_at, with_cell, cell_eq, bytes_eq}
 use Rattle.tg_protocol.specs.Units.{UnitState, UnitTurn, new_unit, says, stored, at_cell, in_epoch, not_gone, on_store, on_same}
+use Rattle.tg_law_layouts.proofs.Moves.Units.{cell_same}
 use Rattle.tg_law_layouts.proofs.Steps.Units.{cell_stored}
 use Rattle.tg_law_finish.proofs.Finish.Nets.{Net, unit_of, on_in, on_alike, unit_alike}
 use Rattle.tg_law_finish.proofs.Finish.Lists.{set_index}
@@ -22,6 +23,17 @@ unfolding cell_eq
 cell_itself Junk = refl
 cell_itself (Data d) = bytes_itself d
 
+-- equal cells are the same
+pub equal_cell : (a b : Cell) → cell_eq a b ≡ true → a ≡ b
+equal_cell a b e = by (cell_same a b)
+  where
+    by : (cell_eq a b ≡ false) ⊎ (a ≡ b) → a ≡ b
+    by (inl f) = absurd (two (cell_eq a b) e f)
+      where
+        two : (c : Bool) → c ≡ true → c ≡ false → ⊥
+        two c e f = grind arith
+    by (inr f) = f
+
 -- what a unit is after a store of a cell at a position
 pub record Kept (s t : UnitState) (pos : ℕ) (c : Cell) : Type 0 where
   pub epoch : t.epoch ≡ s.epoch
@@ -32,7 +44,7 @@ pub record Kept (s t : UnitState) (pos : ℕ) (c : Cell) : Type 0 where
 -- how a store is answered
 pub data Outcome (s : UnitState) (pos : ℕ) (c : Cell) : UnitTurn → Type 0 where
   IsGone' : nat_lt pos s.low ≡ true → Outcome s pos c (says s (msg.Gone s.low))
-  IsHeld' : (t : UnitState) → Kept s t pos c → ((x : Cell) → cell_at t.cells pos ≡ Some x → cell_eq x c ≡ true) → nat_lt pos s.low ≡ false → Outcome s pos c (record { now = t; says = Some msg.Held })
+  IsHeld' : (t : UnitState) → Kept s t pos c → ((x : Cell) → cell_at t.cells pos ≡ Some x → cell_eq x c ≡ true) → nat_lt pos s.low ≡ false → cell_at t.cells pos ≡ Some c → Outcome s pos c (record { now = t; says = Some msg.Held })
   IsTaken' : (x : Cell) → cell_at s.cells pos ≡ Some x → cell_eq x c ≡ false → nat_lt pos s.low ≡ false → Outcome s pos c (says s (msg.Taken x))
 
 kept_same : (s : UnitState) (pos : ℕ) (c : Cell) → Kept s s pos c
@@ -60,11 +72,11 @@ equal_here : (s : UnitState) (pos : ℕ) (c x : Cell) → cell_at s.cells pos �
 equal_here s pos c x e f y g = subst (λ z. cell_eq z c ≡ true) (some_one x y (sym e ∙ g)) f
 
 same_outcome : (s : UnitState) (pos : ℕ) (c x : Cell) (b : Bool) → cell_at s.cells pos ≡ Some x → cell_eq x c ≡ b → nat_lt pos s.low ≡ false → Outcome s pos c (on_same s x b)
-same_outcome s pos c x true e f low = IsHeld' s (kept_same s pos c) (equal_here s pos c x e f) low
+same_outcome s pos c x true e f low = IsHeld' s (kept_same s pos c) (equal_here s pos c x e f) low (e ∙ ap (λ y. Some y) (equal_cell x c f))
 same_outcome s pos c x false e f low = IsTaken' x e f low
 
 store_outcome : (s : UnitState) (pos : ℕ) (c : Cell) (o : Option Cell) → cell_at s.cells pos ≡ o → nat_lt pos s.low ≡ false → Outcome s pos c (on_store s pos c o)
-store_outcome s pos c None e low = IsHeld' (stored s pos c) (kept_stored s pos c e) (λ x f. subst (λ z. cell_eq z c ≡ true) (some_one c x (sym (here_stored s pos c) ∙ f)) (cell_itself c)) low
+store_outcome s pos c None e low = IsHeld' (stored s pos c) (kept_stored s pos c e) (λ x f. subst (λ z. cell_eq z c ≡ true) (some_one c x (sym (here_stored s pos c) ∙ f)) (cell_itself c)) low (here_stored s pos c)
 store_outcome s pos c (Some x) e low = same_outcome s pos c x (cell_eq x c) e refl low
 
 gone_outcome : (s : UnitState) (pos : ℕ) (c : Cell) (b : Bool) → nat_lt pos s.low ≡ b → Outcome s pos c (not_gone b s (on_store s pos c (cell_at s.cells pos)))

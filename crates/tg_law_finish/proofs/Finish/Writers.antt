@@ -23,7 +23,8 @@ use Rattle.tg_law_finish.specs.Finish.Appends.{is_last}
 use Rattle.tg_law_finish.proofs.Finish.Nets.{Net, unit_of, seqr_of, client_of, on_in, on_alike, seqr_alike}
 use Rattle.tg_law_finish.proofs.Finish.Others.{Keeps, Calm, Ready}
 use Rattle.tg_protocol.specs.Worlds.{packet_of, answer_to}
-use Rattle.tg_law_finish.proofs.Finish.Talks.{Over, More, Asked, Machine}
+use Rattle.tg_law_finish.proofs.Finish.Lines.{IsOver, Over}
+use Rattle.tg_law_finish.proofs.Finish.Talks.{More, Asked, Machine}
 use Rattle.tg_law_finish.proofs.Finish.Places.{keeps_serves, keeps_clear, keeps_below, keeps_issue}
 use Rattle.tg_protocol.specs.Entries.{streams_of}
 use Rattle.tg_protocol.specs.Units.{UnitTurn, unit_step, unit_ask, on_ask}
@@ -72,22 +73,21 @@ module _ (m : Meaning) (h : Header) (stopped : List NodeId) (k : ℕ) (p : Layou
     pub waits : c.work ≡ Some work
     pub purpose : Purpose m
     pub hand : work.hand ≡ Doing (Appending a purpose)
-    pub last : is_last m purpose ≡ true
     pub asks : append_asks p a ≡ o ∷ []
     pub below : o.rid < c.next
     pub away : (l : ℕ) → node_eq o.to (layout_id l) ≡ false
 
-  shape_called : (c : Client m) (a : Append) (o : Out) → Shape c a o → Shape (called m c) a o
-  shape_called c a o x = record { stand = x.stand; work = x.work; waits = x.waits; purpose = x.purpose; hand = x.hand; last = x.last; asks = x.asks; below = x.below; away = x.away }
+  abbrev pub shape_called : (c : Client m) (a : Append) (o : Out) → Shape c a o → Shape (called m c) a o
+  shape_called c a o x = record { stand = x.stand; work = x.work; waits = x.waits; purpose = x.purpose; hand = x.hand; asks = x.asks; below = x.below; away = x.away }
 
-  shape_ticked : (c : Client m) (a : Append) (o : Out) → Shape c a o → Shape (called m (record c { next = c.next + c.layouts })) a o
-  shape_ticked c a o x = let b = x.below in record { stand = x.stand; work = x.work; waits = x.waits; purpose = x.purpose; hand = x.hand; last = x.last; asks = x.asks; below = omega (arith, b); away = x.away }
+  abbrev pub shape_ticked : (c : Client m) (a : Append) (o : Out) → Shape c a o → Shape (called m (record c { next = c.next + c.layouts })) a o
+  shape_ticked c a o x = let b = x.below in record { stand = x.stand; work = x.work; waits = x.waits; purpose = x.purpose; hand = x.hand; asks = x.asks; below = omega (arith, b); away = x.away }
 
   asks_is : (c : Client m) (a : Append) (o : Out) → Shape c a o → client_asks m c ≡ o ∷ []
   unfolding client_asks task_asks
   asks_is c a o x = ap (λ w. steps.work_asks m c.stand w) x.waits ∙ (ap (λ y. steps.hand_asks m c.stand y) x.hand ∙ (ap (λ q. append_asks q a) x.stand ∙ x.asks))
 
-  awaited_is : (c : Client m) (a : Append) (o : Out) (x : Shape c a o) → task_awaited m c.stand (Appending a x.purpose) ≡ o ∷ []
+  pub awaited_is : (c : Client m) (a : Append) (o : Out) (x : Shape c a o) → task_awaited m c.stand (Appending a x.purpose) ≡ o ∷ []
   unfolding task_asks
   awaited_is c a o x = ap (λ q. append_asks q a) x.stand ∙ x.asks
 
@@ -108,7 +108,7 @@ module _ (m : Meaning) (h : Header) (stopped : List NodeId) (k : ℕ) (p : Layou
   calm_fed c a o l rid q true x le = ap (λ y. hand_feed m c x.work y (layout_id l) rid IsOther) x.hand ∙ ap (λ b. fed_if m b c x.work (Appending a x.purpose) (layout_id l) rid IsOther) (ap (λ os. awaits os (layout_id l) rid) (awaited_is c a o x) ∙ none_awaited o (layout_id l) rid (x.away l))
   calm_fed c a o l rid q false x le = other_latest c x.work (layout_id l) rid q (subst (λ y. q.epoch ≤ y.epoch) (sym x.stand) le)
 
-  calm_shape : (c : Client m) (a : Append) (o : Out) → Shape c a o → Calm m h stopped k p c
+  pub calm_shape : (c : Client m) (a : Append) (o : Out) → Shape c a o → Calm m h stopped k p c
   unfolding client_deliver reply
   calm_shape c a o x = λ l rid q le.
       ap (λ y. given m c y) (ap (λ w. feed m c w (layout_id l) rid (reply (msg.Latest q))) x.waits ∙ calm_fed c a o l rid q (nat_le (2 ^ 32) q.epoch) x le)
@@ -118,6 +118,7 @@ module _ (m : Meaning) (h : Header) (stopped : List NodeId) (k : ℕ) (p : Layou
   pub record Writing (s : Net m) (c : Client m) (o : Out) (n : ℕ) : Type 0 where
     pub append : Append
     pub shape : Shape c append o
+    pub last : is_last m shape.purpose ≡ true
     pub stage : AppendStage m h stopped k p longest s append append.work n
 
   -- An answer comes that makes it go on.
@@ -125,6 +126,7 @@ module _ (m : Meaning) (h : Header) (stopped : List NodeId) (k : ℕ) (p : Layou
     pub append : Append
     pub o : Out
     pub shape : Shape c append o
+    pub last : is_last m shape.purpose ≡ true
     pub awaited : awaits (o ∷ []) from rid ≡ true
     pub no_latest : is_latest (reply y) ≡ false
     pub well : (u next : ℕ) → Well m h stopped k p longest s n next (append_feed p append append.work u (reply y) next)
@@ -157,7 +159,7 @@ module _ (m : Meaning) (h : Header) (stopped : List NodeId) (k : ℕ) (p : Layou
 
   -- The answer comes to the client.
 
-  now_over : (c : Client m) (x : Moved m) → x.now.work ≡ None → x.besides ≡ [] → Over m h stopped k p Writing Hearing (given m c x)
+  now_over : (c : Client m) (x : Moved m) → x.now.work ≡ None → x.besides ≡ [] → IsOver m h stopped k p (given m c x)
   now_over c x e f = record { none = e; sends = ap (λ os. os ++ drawn_from c.next (client_asks m x.now)) f ∙ ap (λ os. drawn_from c.next os) (over_asks m x.now e) }
 
   pub new_drawn : (to : NodeId) (next : ℕ) (y : Msg) → drawn_from next (out to next y ∷ []) ≡ out to next y ∷ []
@@ -200,29 +202,29 @@ module _ (m : Meaning) (h : Header) (stopped : List NodeId) (k : ℕ) (p : Layou
   asks_away s a (Judging j) n o l stage e = judge_away s a j j.work n o l stage e
 
   -- it goes on
-  goes_more : (s : Net m) (c : Client m) (a : Append) (o : Out) (x : Shape c a o) (b : Append) (to : NodeId) (y : Msg) (left n : ℕ) → append_asks p b ≡ out to c.next y ∷ [] → AppendStage m h stopped k p longest s b b.work left → left + 1 ≤ n
+  goes_more : (s : Net m) (c : Client m) (a : Append) (o : Out) (x : Shape c a o) (last : is_last m x.purpose ≡ true) (b : Append) (to : NodeId) (y : Msg) (left n : ℕ) → append_asks p b ≡ out to c.next y ∷ [] → AppendStage m h stopped k p longest s b b.work left → left + 1 ≤ n
       → More m h stopped k p Writing Hearing s (given m c (on_append m c x.work x.purpose (record { next = c.next + 1; besides = []; gone = 0; to = Goes b }))) n
   unfolding client_asks task_asks
-  goes_more s c a o x b to y left n asks stage few = record {
+  goes_more s c a o x last b to y left n asks stage few = record {
     o = out to c.next y;
     left = left;
     sends = ap (λ q. drawn_from c.next (append_asks q b)) x.stand ∙ (ap (λ os. drawn_from c.next os) asks ∙ new_drawn to c.next y);
-    stage = record { append = b; shape = record { stand = x.stand; work = _; waits = refl; purpose = x.purpose; hand = refl; last = x.last; asks = asks; below = omega arith; away = λ l. asks_away s b b.work left (out to c.next y) l stage asks }; stage = stage };
+    stage = record { append = b; shape = record { stand = x.stand; work = _; waits = refl; purpose = x.purpose; hand = refl; asks = asks; below = omega arith; away = λ l. asks_away s b b.work left (out to c.next y) l stage asks }; last = last; stage = stage };
     less = few;
   }
 
-  turned : (s : Net m) (c : Client m) (a : Append) (o : Out) (x : Shape c a o) (t : AppendTurn) (n : ℕ) → Well m h stopped k p longest s n c.next t
-      → Over m h stopped k p Writing Hearing (given m c (on_append m c x.work x.purpose t)) ⊎ More m h stopped k p Writing Hearing s (given m c (on_append m c x.work x.purpose t)) n
-  turned s c a o x t n (Ended end gone e) = let f = ended_over m (record c { next = end }) (record x.work { gone = max x.work.gone gone }) x.purpose e x.last in inl (now_over c _ f.0 f.1)
-  turned s c a o x t n (Going b to y left asks stage few) = inr (goes_more s c a o x b to y left n asks stage few)
+  turned : (s : Net m) (c : Client m) (a : Append) (o : Out) (x : Shape c a o) (last : is_last m x.purpose ≡ true) (t : AppendTurn) (n : ℕ) → Well m h stopped k p longest s n c.next t
+      → IsOver m h stopped k p (given m c (on_append m c x.work x.purpose t)) ⊎ More m h stopped k p Writing Hearing s (given m c (on_append m c x.work x.purpose t)) n
+  turned s c a o x last t n (Ended end gone e) = let f = ended_over m (record c { next = end }) (record x.work { gone = max x.work.gone gone }) x.purpose e last in inl (now_over c _ f.0 f.1)
+  turned s c a o x last t n (Going b to y left asks stage few) = inr (goes_more s c a o x last b to y left n asks stage few)
 
   answered : (s : Net m) (c : Client m) (from : NodeId) (rid : ℕ) (y : Msg) (n : ℕ) → Hearing s c from rid y n
-      → Over m h stopped k p Writing Hearing (client_deliver m c from rid y) ⊎ More m h stopped k p Writing Hearing s (client_deliver m c from rid y) n
+      → IsOver m h stopped k p (client_deliver m c from rid y) ⊎ More m h stopped k p Writing Hearing s (client_deliver m c from rid y) n
   unfolding client_deliver task_feed
   answered s c from rid y n g =
       let x = g.shape in
-      subst (λ (z : Moved m). Over m h stopped k p Writing Hearing (given m c z) ⊎ More m h stopped k p Writing Hearing s (given m c z) n) (sym (fed from rid (reply y) x g.awaited g.no_latest))
-      (turned s c g.append g.o x (append_feed p g.append g.append.work from.num (reply y) c.next) n (g.well from.num c.next))
+      subst (λ (z : Moved m). IsOver m h stopped k p (given m c z) ⊎ More m h stopped k p Writing Hearing s (given m c z) n) (sym (fed from rid (reply y) x g.awaited g.no_latest))
+      (turned s c g.append g.o x g.last (append_feed p g.append g.append.work from.num (reply y) c.next) n (g.well from.num c.next))
     where
       fed : {a : Append} {o : Out} (from : NodeId) (rid : ℕ) (r : Reply) (x : Shape c a o) → awaits (o ∷ []) from rid ≡ true → is_latest r ≡ false → feed m c c.work from rid r ≡ on_append m c x.work x.purpose (append_feed p a a.work from.num r c.next)
       fed {a} {o} from rid r x awaited plain = ap (λ w. feed m c w from rid r) x.waits ∙ (to_hand m c x.work from rid r plain ∙ (ap (λ z. hand_feed m c x.work z from rid r) x.hand
@@ -245,9 +247,9 @@ module _ (m : Meaning) (h : Header) (stopped : List NodeId) (k : ℕ) (p : Layou
   unfolding node_eq
   seqr_no_client u = refl
 
-  unit_asked : (s : Net m) (a : Append) (u r : ℕ) (y : Msg) (n : ℕ) → Ready m h stopped k p s → Shape (client_of m h s k) a (out (unit_id u) r y) → on_in m stopped s (unit_id u) ≡ true
+  unit_asked : (s : Net m) (a : Append) (u r : ℕ) (y : Msg) (n : ℕ) → Ready m h stopped k p s → (shape : Shape (client_of m h s k) a (out (unit_id u) r y)) → is_last m shape.purpose ≡ true → on_in m stopped s (unit_id u) ≡ true
       → Replies m h stopped k p longest s u (unit_step (unit_of m s u) y) n (λ v x next. append_feed p a a.work v x next) → Asked m h stopped k p Writing Hearing s (out (unit_id u) r y) n
-  unit_asked s a u r y n ready shape on rep = record {
+  unit_asked s a u r y n ready shape last on rep = record {
     running = on;
     from = unit_id u;
     rid = r;
@@ -256,7 +258,7 @@ module _ (m : Meaning) (h : Header) (stopped : List NodeId) (k : ℕ) (p : Layou
     no_client = unit_no_client u;
     ready = record { on = ready.on; rests = ready.rests; old = ready.old; layouts = ready.layouts; idle = ready.idle };
     client = refl;
-    hears = record { append = a; o = out (unit_id u) r y; shape = shape; awaited = awaited_itself (out (unit_id u) r y); no_latest = rep.heard.no_latest; well = rep.heard.well };
+    hears = record { append = a; o = out (unit_id u) r y; shape = shape; last = last; awaited = awaited_itself (out (unit_id u) r y); no_latest = rep.heard.no_latest; well = rep.heard.well };
   }
 
   pub below_count : (s : Net m) (j : ℕ) → on_in m stopped s (seqr_id j) ≡ true → j < length s.seqrs
@@ -265,9 +267,9 @@ module _ (m : Meaning) (h : Header) (stopped : List NodeId) (k : ℕ) (p : Layou
   flip : (a b : ℕ) → eqb a b ≡ false → eqb b a ≡ false
   flip a b e = grind arith
 
-  seqr_asked : (s : Net m) (a : Append) (r n : ℕ) → a.work ≡ Asking r → Ready m h stopped k p s → Shape (client_of m h s k) a (out (seqr_id p.seq) r (msg.Token p.epoch (streams_of a.draft))) → AppendStage m h stopped k p longest s a (Asking r) n
+  seqr_asked : (s : Net m) (a : Append) (r n : ℕ) → a.work ≡ Asking r → Ready m h stopped k p s → (shape : Shape (client_of m h s k) a (out (seqr_id p.seq) r (msg.Token p.epoch (streams_of a.draft)))) → is_last m shape.purpose ≡ true → AppendStage m h stopped k p longest s a (Asking r) n
       → Asked m h stopped k p Writing Hearing s (out (seqr_id p.seq) r (msg.Token p.epoch (streams_of a.draft))) n
-  seqr_asked s a r n is ready shape stage =
+  seqr_asked s a r n is ready shape last stage =
       let x = seqr_of m h s p.seq in
       let t = token_turn m h stopped k p longest s x a (client_id k) r r n stage.0 stage.1 in
       let now = (seqr_step x (client_id k) r (msg.Token p.epoch (streams_of a.draft))).now in
@@ -290,6 +292,7 @@ module _ (m : Meaning) (h : Header) (stopped : List NodeId) (k : ℕ) (p : Layou
           append = a;
           o = out (seqr_id p.seq) r (msg.Token p.epoch (streams_of a.draft));
           shape = shape;
+          last = last;
           awaited = awaited_itself (out (seqr_id p.seq) r (msg.Token p.epoch (streams_of a.draft)));
           no_latest = t.no_latest;
           well = λ u next. subst (λ w. Well m h stopped k p longest (record s { seqrs = slice_set s.seqrs p.seq now }) n next (append_feed p a w u (reply t.says) next)) (sym is) (t.well (record s { seqrs = slice_set s.seqrs p.seq now }) refl (λ y. on_alike m stopped s _ (seqr_alike m s p.seq now) y) u next);
@@ -329,67 +332,76 @@ module _ (m : Meaning) (h : Header) (stopped : List NodeId) (k : ℕ) (p : Layou
   asked_at : (s : Net m) (x o : Out) (n : ℕ) → x ∷ [] ≡ o ∷ [] → (x ≡ o → Asked m h stopped k p Writing Hearing s x n) → Asked m h stopped k p Writing Hearing s o n
   asked_at s x o n e f = let is = same_out x o e in subst (λ (y : Out). Asked m h stopped k p Writing Hearing s y n) is (f is)
 
-  shape_at : (c : Client m) (a : Append) (x o : Out) → x ≡ o → Shape c a o → Shape c a x
-  shape_at c a x o e shape = subst (λ (y : Out). Shape c a y) (sym e) shape
+  abbrev pub shape_at : (c : Client m) (a : Append) (x o : Out) → x ≡ o → Shape c a o → Shape c a x
+  shape_at c a x o e shape = record {
+    stand = shape.stand;
+    work = shape.work;
+    waits = shape.waits;
+    purpose = shape.purpose;
+    hand = shape.hand;
+    asks = shape.asks ∙ ap (λ (y : Out). y ∷ []) (sym e);
+    below = subst (λ (y : Out). y.rid < c.next) (sym e) shape.below;
+    away = λ l. subst (λ (y : Out). node_eq y.to (layout_id l) ≡ false) (sym e) (shape.away l);
+  }
 
-  put_asked : (s : Net m) (a : Append) (o : Out) (j : CellJob) (w : CellWork) (n : ℕ) → a.work ≡ Putting (works j.place w) → work_asks j.place w ≡ o ∷ [] → Ready m h stopped k p s → Shape (client_of m h s k) a o
+  put_asked : (s : Net m) (a : Append) (o : Out) (j : CellJob) (w : CellWork) (n : ℕ) → a.work ≡ Putting (works j.place w) → work_asks j.place w ≡ o ∷ [] → Ready m h stopped k p s → (shape : Shape (client_of m h s k) a o) → is_last m shape.purpose ≡ true
       → PutsStage m h stopped k p longest s a j.place w n → Asked m h stopped k p Writing Hearing s o n
   unfolding work_asks cell_feed unit_step unit_ask on_ask
-  put_asked s a o j (Puts r d i) n is asks ready shape (inl f) =
+  put_asked s a o j (Puts r d i) n is asks ready shape last (inl f) =
       let pl = j.place in
       let u = unit_at pl i in
       let serves = f.serves.unit i f.less in
       let rep = put_fresh_replies m h stopped k p longest s a pl r d i n f _ (stores (unit_of m s u) pl.epoch pl.pos (Data d) (serves.epoch ∙ sym f.serves.epoch)) in
-      asked_at s (out (unit_id u) r (msg.Write pl.epoch pl.pos d)) o n asks (λ e. unit_asked s a u r (msg.Write pl.epoch pl.pos d) n ready (shape_at _ a _ o e shape) serves.on (by_put s a (works pl (Puts r d i)) f.token u _ n is f.has rep))
-  put_asked s a o j (Puts r d i) n is asks ready shape (inr f) = put_first s a o j.place r d n i f.first is asks ready shape f
+      asked_at s (out (unit_id u) r (msg.Write pl.epoch pl.pos d)) o n asks (λ e. unit_asked s a u r (msg.Write pl.epoch pl.pos d) n ready (shape_at _ a _ o e shape) last serves.on (by_put s a (works pl (Puts r d i)) f.token u _ n is f.has rep))
+  put_asked s a o j (Puts r d i) n is asks ready shape last (inr f) = put_first s a o j.place r d n i f.first is asks ready shape last f
     where
-      put_first : (s : Net m) (a : Append) (o : Out) (pl : Place) (r : ℕ) (d : List ℕ) (n i : ℕ) → i ≡ 0 → a.work ≡ Putting (works pl (Puts r d i)) → out (unit_id (unit_at pl i)) r (msg.Write pl.epoch pl.pos d) ∷ [] ≡ o ∷ [] → Ready m h stopped k p s → Shape (client_of m h s k) a o
+      put_first : (s : Net m) (a : Append) (o : Out) (pl : Place) (r : ℕ) (d : List ℕ) (n i : ℕ) → i ≡ 0 → a.work ≡ Putting (works pl (Puts r d i)) → out (unit_id (unit_at pl i)) r (msg.Write pl.epoch pl.pos d) ∷ [] ≡ o ∷ [] → Ready m h stopped k p s → (shape : Shape (client_of m h s k) a o) → is_last m shape.purpose ≡ true
           → PutOld m h stopped k p longest s a pl i n → Asked m h stopped k p Writing Hearing s o n
-      put_first s a o pl r d n zero z is asks ready shape f =
+      put_first s a o pl r d n zero z is asks ready shape last f =
           let u = unit_at pl 0 in
           let serves = f.serves.unit 0 f.serves.some in
           let rep = put_old_replies m h stopped k p longest s a pl r d n f _ (stores (unit_of m s u) pl.epoch pl.pos (Data d) (serves.epoch ∙ sym f.serves.epoch)) in
-          asked_at s (out (unit_id u) r (msg.Write pl.epoch pl.pos d)) o n asks (λ e. unit_asked s a u r (msg.Write pl.epoch pl.pos d) n ready (shape_at _ a _ o e shape) serves.on (by_put s a (works pl (Puts r d 0)) f.token u _ n is f.has rep))
-      put_first s a o pl r d n (suc i) z is asks ready shape f = absurd (omega (arith, z))
-  put_asked s a o j (Gets r) n is asks ready shape f = absurd f
-  put_asked s a o j (Fills r) n is asks ready shape f = absurd f
-  put_asked s a o j (Copies r c i) n is asks ready shape f = absurd f
-  put_asked s a o j (Probes ws) n is asks ready shape f = absurd f
+          asked_at s (out (unit_id u) r (msg.Write pl.epoch pl.pos d)) o n asks (λ e. unit_asked s a u r (msg.Write pl.epoch pl.pos d) n ready (shape_at _ a _ o e shape) last serves.on (by_put s a (works pl (Puts r d 0)) f.token u _ n is f.has rep))
+      put_first s a o pl r d n (suc i) z is asks ready shape last f = absurd (omega (arith, z))
+  put_asked s a o j (Gets r) n is asks ready shape last f = absurd f
+  put_asked s a o j (Fills r) n is asks ready shape last f = absurd f
+  put_asked s a o j (Copies r c i) n is asks ready shape last f = absurd f
+  put_asked s a o j (Probes ws) n is asks ready shape last f = absurd f
 
-  judge_asked : (s : Net m) (a : Append) (o : Out) (j : CellJob) (w : CellWork) (n : ℕ) → a.work ≡ Judging (works j.place w) → work_asks j.place w ≡ o ∷ [] → Ready m h stopped k p s → Shape (client_of m h s k) a o
+  judge_asked : (s : Net m) (a : Append) (o : Out) (j : CellJob) (w : CellWork) (n : ℕ) → a.work ≡ Judging (works j.place w) → work_asks j.place w ≡ o ∷ [] → Ready m h stopped k p s → (shape : Shape (client_of m h s k) a o) → is_last m shape.purpose ≡ true
       → JudgeStage m h stopped k p longest s a j.place w n → Asked m h stopped k p Writing Hearing s o n
   unfolding work_asks cell_feed unit_step unit_ask on_ask
-  judge_asked s a o j (Puts r d i) n is asks ready shape f = absurd f
-  judge_asked s a o j (Gets r) n is asks ready shape f = absurd f
-  judge_asked s a o j (Fills r) n is asks ready shape f =
+  judge_asked s a o j (Puts r d i) n is asks ready shape last f = absurd f
+  judge_asked s a o j (Gets r) n is asks ready shape last f = absurd f
+  judge_asked s a o j (Fills r) n is asks ready shape last f =
       let pl = j.place in
       let u = unit_at pl 0 in
       let serves = f.serves.unit 0 f.serves.some in
       let rep = fill_replies m h stopped k p longest s a pl r n f _ (stores (unit_of m s u) pl.epoch pl.pos Junk (serves.epoch ∙ sym f.serves.epoch)) in
-      asked_at s (out (unit_id u) r (msg.Fill pl.epoch pl.pos)) o n asks (λ e. unit_asked s a u r (msg.Fill pl.epoch pl.pos) n ready (shape_at _ a _ o e shape) serves.on (by_judge s a (works pl (Fills r)) f.token u _ n is f.has rep))
-  judge_asked s a o j (Copies r c i) n is asks ready shape f =
+      asked_at s (out (unit_id u) r (msg.Fill pl.epoch pl.pos)) o n asks (λ e. unit_asked s a u r (msg.Fill pl.epoch pl.pos) n ready (shape_at _ a _ o e shape) last serves.on (by_judge s a (works pl (Fills r)) f.token u _ n is f.has rep))
+  judge_asked s a o j (Copies r c i) n is asks ready shape last f =
       let pl = j.place in
       let u = unit_at pl i in
       let serves = f.serves.unit i f.less in
       let rep = copy_replies m h stopped k p longest s a pl r c i n f _ (stores (unit_of m s u) pl.epoch pl.pos c (serves.epoch ∙ sym f.serves.epoch)) in
-      asked_at s (out (unit_id u) r (msg.Copy pl.epoch pl.pos c)) o n asks (λ e. unit_asked s a u r (msg.Copy pl.epoch pl.pos c) n ready (shape_at _ a _ o e shape) serves.on (by_judge s a (works pl (Copies r c i)) f.token u _ n is f.has rep))
-  judge_asked s a o j (Probes ws) n is asks ready shape f = absurd f
+      asked_at s (out (unit_id u) r (msg.Copy pl.epoch pl.pos c)) o n asks (λ e. unit_asked s a u r (msg.Copy pl.epoch pl.pos c) n ready (shape_at _ a _ o e shape) last serves.on (by_judge s a (works pl (Copies r c i)) f.token u _ n is f.has rep))
+  judge_asked s a o j (Probes ws) n is asks ready shape last f = absurd f
 
-  append_asked : (s : Net m) (a : Append) (o : Out) (w : AppendWork) (n : ℕ) → a.work ≡ w → append_work_asks p a w ≡ o ∷ [] → Ready m h stopped k p s → Shape (client_of m h s k) a o → AppendStage m h stopped k p longest s a w n → Asked m h stopped k p Writing Hearing s o n
+  append_asked : (s : Net m) (a : Append) (o : Out) (w : AppendWork) (n : ℕ) → a.work ≡ w → append_work_asks p a w ≡ o ∷ [] → Ready m h stopped k p s → (shape : Shape (client_of m h s k) a o) → is_last m shape.purpose ≡ true → AppendStage m h stopped k p longest s a w n → Asked m h stopped k p Writing Hearing s o n
   unfolding append_work_asks
-  append_asked s a o (Asking r) n is asks ready shape stage = asked_at s (out (seqr_id p.seq) r (msg.Token p.epoch (streams_of a.draft))) o n asks (λ e. seqr_asked s a r n is ready (shape_at _ a _ o e shape) stage)
-  append_asked s a o (Putting j) n is asks ready shape stage = put_asked s a o j j.work n is asks ready shape stage
-  append_asked s a o (Judging j) n is asks ready shape stage = judge_asked s a o j j.work n is asks ready shape stage
+  append_asked s a o (Asking r) n is asks ready shape last stage = asked_at s (out (seqr_id p.seq) r (msg.Token p.epoch (streams_of a.draft))) o n asks (λ e. seqr_asked s a r n is ready (shape_at _ a _ o e shape) last stage)
+  append_asked s a o (Putting j) n is asks ready shape last stage = put_asked s a o j j.work n is asks ready shape last stage
+  append_asked s a o (Judging j) n is asks ready shape last stage = judge_asked s a o j j.work n is asks ready shape last stage
 
-  pub writes_machine : Machine m h stopped k p Writing Hearing
+  pub writes_machine : Machine m h stopped k p Writing Hearing (Over m h stopped k p)
   writes_machine = record {
     facts = λ s c o n x. record { work = x.shape.work; waits = x.shape.waits; again = again_is c x.append o x.shape; calm = calm_shape c x.append o x.shape };
-    hears_calm = λ s c from rid y n x. calm_shape c x.append x.o x.shape;
-    stage_stays = λ s t c o n keep x. record { append = x.append; shape = x.shape; stage = stage_keeps s t x.append x.append.work n keep x.stage };
-    hears_stays = λ s t c from rid y n keep x. record { append = x.append; o = x.o; shape = x.shape; awaited = x.awaited; no_latest = x.no_latest; well = λ u next. well_keeps s t n next _ keep (x.well u next) };
-    stage_called = λ s c o n x. record { append = x.append; shape = shape_called c x.append o x.shape; stage = x.stage };
-    hears_called = λ s c from rid y n x. record { append = x.append; o = x.o; shape = shape_called c x.append x.o x.shape; awaited = x.awaited; no_latest = x.no_latest; well = x.well };
-    stage_ticked = λ s c o n x. record { append = x.append; shape = shape_ticked c x.append o x.shape; stage = x.stage };
-    asked = λ s o n ready x. append_asked s x.append o x.append.work n refl x.shape.asks ready x.shape x.stage;
+    hears_calm = λ s c from rid y n x. record { work = x.shape.work; waits = x.shape.waits; calm = calm_shape c x.append x.o x.shape };
+    stage_stays = λ s t c o n keep x. record { append = x.append; shape = x.shape; last = x.last; stage = stage_keeps s t x.append x.append.work n keep x.stage };
+    hears_stays = λ s t c from rid y n keep x. record { append = x.append; o = x.o; shape = x.shape; last = x.last; awaited = x.awaited; no_latest = x.no_latest; well = λ u next. well_keeps s t n next _ keep (x.well u next) };
+    stage_called = λ s c o n x. record { append = x.append; shape = shape_called c x.append o x.shape; last = x.last; stage = x.stage };
+    hears_called = λ s c from rid y n x. record { append = x.append; o = x.o; shape = shape_called c x.append x.o x.shape; last = x.last; awaited = x.awaited; no_latest = x.no_latest; well = x.well };
+    stage_ticked = λ s c o n x. record { append = x.append; shape = shape_ticked c x.append o x.shape; last = x.last; stage = x.stage };
+    asked = λ s o n ready x. append_asked s x.append o x.append.work n refl x.shape.asks ready x.shape x.last x.stage;
     answered = λ s from rid y n ready x. answered s (client_of m h s k) from rid y n x;
   }

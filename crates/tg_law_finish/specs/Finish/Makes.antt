@@ -1,4 +1,4 @@
--- A client that waits for a sync, walks and then an append: of `decide`, `checkpoint` and `forget`.
+-- A client that waits for a sync, walks and then an append: of `decide`, `checkpoint` and `forget`, and of `end` whose record is appended.
 use Rattle.std.specs.Prelude.{◌≡◌, ℕ, ◌+◌, ◌*◌, Bool, true, false, Some}
 use Rattle.tg_kind.specs.Meaning.{Meaning}
 use Rattle.tg_model.specs.declared.command.Command.TheVariants as cmd
@@ -11,8 +11,9 @@ use Rattle.tg_law_finish.specs.Finish.Asks.{NothingTrimmed, HasIssued}
 use Rattle.tg_law_finish.specs.Finish.Laws.{IsAnswered, ask_bound}
 
 module _ (m : Meaning) where
-  -- commands that append once, when all is walked, or are answered then
+  -- commands that append once, when all is walked, or are answered then (`end` syncs once its record is appended)
   unfoldable pub makes : CommandOf m → Bool
+  makes cmd.End = true
   makes (cmd.Decide p) = true
   makes (cmd.Checkpoint o) = true
   makes (cmd.Forget o n) = true

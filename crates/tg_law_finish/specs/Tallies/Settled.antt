@@ -1,15 +1,19 @@
 -- Runs that leave a client waiting, and what a settling makes of them.
-use Rattle.std.specs.Prelude.{◌≡◌, ℕ, [], ◌∷◌}
+use Rattle.std.specs.Prelude.{◌≡◌, ℕ, ◌+◌, ◌*◌, [], ◌∷◌}
 use Rattle.tg_model.specs.declared.command.Command.TheVariants as cmd
 use Rattle.tg_model.specs.declared.command.Event.TheVariants.{Command as Commands, Deliver, Lose}
 use Rattle.tg_model.specs.Kinds.{CommandOf}
-use Rattle.tg_protocol.specs.Worlds.{World, start, settle}
+use Rattle.tg_protocol.specs.Worlds.{World, start, latest, settle}
 use Rattle.tg_protocol.specs.Runs.{Moves, Takes, Reaches, run}
-use Rattle.tg_protocol.specs.Finishing.{deliveries, is_with_client, most_deliveries_in, WaitsAlone, IsReadyFor}
-use Rattle.tg_law_finish.specs.Finish.Granted.{Granted}
+use Rattle.tg_protocol.specs.Finishing.{longest_chain, deliveries, is_with_client, most_deliveries_in, WaitsAlone, IsReadyFor}
+use Rattle.tg_law_finish.specs.Finish.Granted.{Granted, next_position}
 use Rattle.tg_law_finish.specs.Finish.Appends.{WaitsForAppend}
 use Rattle.tg_law_finish.specs.Finish.Asks.{NothingTrimmed, HasIssued, WaitsForSync}
+use Rattle.tg_law_finish.specs.Finish.Ends.{EndsAppend, end_bound}
 use Rattle.tg_law_finish.specs.Finish.Laws.{append_bound, ask_bound}
+use Rattle.tg_law_finish.specs.Finish.Makes.{MakesSync}
+use Rattle.tg_law_finish.specs.Finish.Rescues.{RescuesSync, rescue_bound}
+use Rattle.tg_law_finish.specs.Finish.Walks.{streams, walk_bound}
 use Rattle.tg_law_finish.specs.Tallies.Tallies.{tallies, tally, with_tally}
 
 -- how many deliveries with the client a settling takes, and how many each bound allows
@@ -45,8 +49,66 @@ pub record AskSettles (w : World tallies) : Type 0 where
   pub waits : WaitsForSync tallies w 0
   pub counts : Counted w 6 10 80 (ask_bound tallies) (cmd.Fate 0)
 
+-- a client asks for a fate while nothing has been issued, and its request for a tail is lost
+abbrev pub fate_lost : Moves tallies
+fate_lost = Takes (Commands 0 (cmd.Fate 0)) ∷ Takes (Lose 0) ∷ []
+
+pub record FateSettles (w : World tallies) : Type 0 where
+  pub reached : Reaches tallies with_tally fate_lost w
+  pub alone : WaitsAlone tallies w 0 (cmd.Fate 0)
+  pub ready : IsReadyFor tallies w 0
+  pub none_issued : next_position tallies w ≡ (latest tallies w).start
+  pub waits : WaitsForSync tallies w 0
+  pub counts : Counted w 6 26 64 (λ v. walk_bound tallies v (streams tallies waits.work)) (cmd.Fate 0)
+
+-- a client asks for a tally and adds to it, and its record's request for a token is lost
+abbrev pub end_lost : Moves tallies
+end_lost = Takes (Commands 0 (cmd.Host tally)) ∷ Takes (Commands 0 cmd.Begin) ∷ Takes (Commands 0 (cmd.Ask tally 0)) ∷ Takes (Deliver 0) ∷ Takes (Deliver 1) ∷ Takes (Deliver 2) ∷ Takes (Deliver 3)
+    ∷ Takes (Commands 0 (cmd.Put tally 5)) ∷ Takes (Commands 0 cmd.End) ∷ Takes (Lose 4) ∷ []
+
+pub record EndSettles (w : World tallies) : Type 0 where
+  pub reached : Reaches tallies with_tally end_lost w
+  pub alone : WaitsAlone tallies w 0 cmd.End
+  pub ready : IsReadyFor tallies w 0
+  pub waits : EndsAppend tallies w 0
+  pub counts : Counted w 10 800 64 (end_bound tallies) cmd.End
+
+-- a client saves a tally of which nothing was written, and its request for a tail is lost
+abbrev pub save_lost : Moves tallies
+save_lost = Takes (Commands 0 (cmd.Host tally)) ∷ Takes (Commands 0 (cmd.Checkpoint tally)) ∷ Takes (Lose 0) ∷ []
+
+pub record SaveSettles (w : World tallies) : Type 0 where
+  pub reached : Reaches tallies with_tally save_lost w
+  pub alone : WaitsAlone tallies w 0 (cmd.Checkpoint tally)
+  pub ready : IsReadyFor tallies w 0
+  pub waits : MakesSync tallies w 0
+  pub counts : Counted w 10 36 64 (λ v. walk_bound tallies v (streams tallies waits.work) + 2 * (longest_chain (latest tallies v) + 1)) (cmd.Checkpoint tally)
+
+-- a client rescues where nothing was issued, and its request for a tail is lost
+abbrev pub rescue_lost : Moves tallies
+rescue_lost = Takes (Commands 0 (cmd.Rescue 0)) ∷ Takes (Lose 0) ∷ []
+
+pub record RescueSettles (w : World tallies) : Type 0 where
+  pub reached : Reaches tallies with_tally rescue_lost w
+  pub alone : WaitsAlone tallies w 0 (cmd.Rescue 0)
+  pub ready : IsReadyFor tallies w 0
+  pub waits : RescuesSync tallies w 0
+  pub counts : Counted w 6 100868 8192 (λ v. rescue_bound tallies v (streams tallies waits.work)) (cmd.Rescue 0)
+
 abbrev pub AppendIsAnswered : Type 0
 AppendIsAnswered = AppendSettles (run tallies append_lost (start tallies with_tally))
 
 abbrev pub AskIsAnswered : Type 0
 AskIsAnswered = AskSettles (run tallies ask_lost (start tallies with_tally))
+
+abbrev pub FateIsAnswered : Type 0
+FateIsAnswered = FateSettles (run tallies fate_lost (start tallies with_tally))
+
+abbrev pub EndIsAnswered : Type 0
+EndIsAnswered = EndSettles (run tallies end_lost (start tallies with_tally))
+
+abbrev pub SaveIsAnswered : Type 0
+SaveIsAnswered = SaveSettles (run tallies save_lost (start tallies with_tally))
+
+abbrev pub RescueIsAnswered : Type 0
+RescueIsAnswered = RescueSettles (run tallies rescue_lost (start tallies with_tally))

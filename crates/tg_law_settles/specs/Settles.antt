@@ -1,0 +1,46 @@
+-- A script's `settle` line, as a replay runs it: it answers the client that waits alone.
+use Rattle.std.specs.Prelude.{◌≡◌, ℕ, ◌+◌, ◌*◌, true, slice_get, Some}
+use Rattle.tg_model.specs.Kinds.{CommandOf}
+use Rattle.tg_protocol.specs.Worlds.{latest, next_event}
+use Rattle.tg_protocol.specs.Finishing.{longest_chain, WaitsAlone, IsReadyFor, Finishes}
+use Rattle.tg_any.specs.AllKinds.{all_kinds}
+use Rattle.tg_script.specs.declared.line.Line.TheVariants as line
+use Rattle.tg_replay.specs.Runs.{Script, Worlds, IsScript, IsWithin, world_of, front}
+use Rattle.tg_law_finish.specs.Finish.Commands.{plays}
+use Rattle.tg_law_finish.specs.Finish.Laws.{append_bound}
+use Rattle.tg_law_finish.specs.Finish.Store.{AppendsLast}
+use Rattle.tg_law_finish.specs.Finish.Asks.{WaitsForSync}
+use Rattle.tg_law_finish.specs.Finish.Makes.{MakesSync}
+use Rattle.tg_law_finish.specs.Finish.Ends.{EndsAppend, end_bound}
+use Rattle.tg_law_finish.specs.Finish.Rescues.{RescuesSync, rescue_bound}
+use Rattle.tg_law_finish.specs.Finish.Walks.{streams, walk_bound}
+
+-- event line n, counted from 0, settles, and no limit stops the script before it
+pub record IsSettleLine (s : Script) (n : ℕ) : Type 0 where
+  pub script : IsScript s
+  pub here : slice_get s.events n ≡ Some line.Settle
+  pub within : IsWithin (front n s)
+
+-- the world in which the line settles, and the one that it makes
+abbrev pub world_before : Script → ℕ → Worlds
+world_before s n = next_event all_kinds (world_of (front n s))
+
+abbrev pub world_after : Script → ℕ → Worlds
+world_after s n = world_of (front (n + 1) s)
+
+-- a client waits with a command that is proved to finish, within so many deliveries
+pub data Waits (w : Worlds) (k : ℕ) (x : CommandOf all_kinds) : ℕ → Type 0 where
+  -- for an append after which nothing is left to do
+  ForAppend : plays all_kinds x ≡ true → AppendsLast all_kinds w k → Waits w k x (append_bound all_kinds w)
+  -- for a sync's first answer: of `ask`, `fate` and `ask-at`
+  ForAsk : (f : WaitsForSync all_kinds w k) → Waits w k x (walk_bound all_kinds w (streams all_kinds f.work))
+  -- and of `decide`, `checkpoint`, `forget`, and `end` whose record is appended
+  ForMake : (f : MakesSync all_kinds w k) → Waits w k x (walk_bound all_kinds w (streams all_kinds f.work) + 2 * (longest_chain (latest all_kinds w) + 1))
+  -- and of `rescue`
+  ForRescue : (f : RescuesSync all_kinds w k) → Waits w k x (rescue_bound all_kinds w (streams all_kinds f.work))
+  -- for the token of the record of a transaction with reads
+  ForEnd : EndsAppend all_kinds w k → Waits w k x (end_bound all_kinds w)
+
+abbrev pub SettleLinesFinish : Type 0
+SettleLinesFinish = (s : Script) (n k most : ℕ) (x : CommandOf all_kinds) → IsSettleLine s n → WaitsAlone all_kinds (world_before s n) k x → IsReadyFor all_kinds (world_before s n) k →
+    Waits (world_before s n) k x most → Finishes all_kinds (world_before s n) (world_after s n) k most (λ what. Unit {0})
