@@ -1,0 +1,13 @@
+pub mod Answering
+pub mod Between
+pub mod Counts
+pub mod Drains
+pub mod Ends
+pub mod Nodes
+pub mod Rounds
+pub mod Starts
+pub mod Steps
+pub mod Ticks
+pub mod Turns
+pub mod Votes
+pub mod Waits

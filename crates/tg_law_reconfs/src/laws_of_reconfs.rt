@@ -1,0 +1,20 @@
+//! Reconfigurations finish: what is proved of it.
+
+ghost use Rattle.tg_any.specs.AllKinds.{all_kinds};
+ghost use Rattle.tg_kind.specs.Of.{meaning_of};
+ghost use Rattle.tg_law_reconfs.specs.Reconfs.{ReconfEndsAreTold, StartedFinishes};
+ghost use Rattle.tg_protocol.specs.Runs.{Always};
+
+use tg_kind::Registry;
+
+/// In any world, where a settling ends a client's reconfiguration, the client has told how it ended: a layout is
+/// installed, another's was decided, or the spare unit isn't whole.
+pub fn reconf_ends_are_told<K: Registry>()
+    ensures { ReconfEndsAreTold (meaning_of K.Registry) }
+{}
+
+/// A client that stands at its new layout, and waits for that layout's sequencer, which serves, is told that it does:
+/// within two deliveries for each layout server, and two more.
+pub fn started_reconfs_finish()
+    ensures { Always all_kinds (StartedFinishes all_kinds) }
+{}

@@ -1,0 +1,4 @@
+//! Reconfigurations finish.
+#![tactic(auto)]
+
+pub mod laws_of_reconfs;
