@@ -20,22 +20,24 @@ use Rattle.tg_protocol.specs.Clients.{Work, Client, new_client, refusal}
 use Rattle.tg_protocol.specs.Answers.{Moved}
 use Rattle.tg_protocol.specs.ClientSteps.{ClientTurn, feed, refused_or, client_command, client_deliver, client_tick, tick_by}
 use Rattle.tg_protocol.specs.Worlds.{CommandStart, World, Told, start, client, noted_of, log, happens}
-use Rattle.tg_protocol.specs.Runs.{Moves, Next, Takes, Reaches, run}
+use Rattle.tg_protocol.specs.Runs.{Move, Moves, Next, Takes, Reaches, run}
 use Rattle.tg_protocol.specs.Causes.{IsFor, IsNone, SaysNone, NonesTrue}
 use Rattle.tg_law_layouts.specs.Moves.After.{after}
 use Rattle.tg_law_layouts.specs.Moves.Configs.{config}
-use Rattle.tg_law_layouts.proofs.Moves.Lists.{contained, at_map, at_replicate}
+use Rattle.tg_law_layouts.proofs.Moves.Lists.{contained, at_map}
 use Rattle.tg_law_layouts.proofs.Moves.Members.{Has, has_contained, has_map}
 use Rattle.tg_law_layouts.proofs.Moves.Moves.{ClientInput, Commanded, Hears', Ticks'}
 use Rattle.tg_law_layouts.proofs.Moves.Turns.{not_busy, command_draws, deliver_draws, tick_draws}
 use Rattle.tg_law_layouts.proofs.Layouts.Layouts.{stays_sent}
 use Rattle.tg_law_replies.specs.History.Worlds.{entries_in}
 use Rattle.tg_law_replies.specs.Replies.Steps.{EachDelivery, EachEvent}
-use Rattle.tg_law_replies.proofs.Books.Worlds.{cancel, nil_right, regroup, run_both}
+use Rattle.tg_law_replies.proofs.Books.Worlds.{cancel, nil_right, run_both}
 use Rattle.tg_law_walks.specs.Walks.Rounds.{round, IsRound}
 use Rattle.tg_law_walks.specs.Walks.Streams.{IsByPosition}
 use Rattle.tg_law_walks.specs.Lists.Spared.{TrimsWereSpare}
 use Rattle.tg_law_walks.proofs.Walks.Cells.{cell_here, more_some}
+use Rattle.tg_law_walks.proofs.Drafts.Written.{then_next, then_takes}
+use Rattle.tg_law_walks.proofs.Once.Along.{on_moves}
 use Rattle.tg_law_walks.proofs.Walks.Syncs.{logs_by_position}
 use Rattle.tg_law_syncs.specs.Finds.Left.{RoundsExact}
 use Rattle.tg_law_syncs.proofs.Exact.Finds.{rounds_exact}
@@ -43,6 +45,7 @@ use Rattle.tg_law_trims.proofs.Leaves.Ends.{ends_have}
 use Rattle.tg_law_trims.proofs.Leaves.Landing.{LandInSteps, lands_in_steps}
 use Rattle.tg_law_trims.proofs.Leaves.Steps.{happens_hold}
 use Rattle.tg_law_trims.proofs.Leaves.Turns.{Lasts, AtWork, Holds, PlayHolds}
+use Rattle.tg_law_headline.proofs.Alike.Running.{starts_at, state_at as run_at}
 use Rattle.tg_law_headline.proofs.Alike.Speaks.{Noted, Before, Anew, Delivered, From, Speaks, Silent, Speaks', Turns, told_of, speaks}
 use Rattle.tg_law_answers.proofs.Absent.{Owned}
 use Rattle.tg_law_answers.proofs.Nones.{NoneTold, Ok, EachOk, Held, WorkHeld, Good, feed_turn, command_turn}
@@ -129,9 +132,14 @@ module _ (m : Meaning) (h : Header) (ms : Moves m) (r : Reaches m h ms (after m 
     next : s.next ≤ c.next
     held : Held m h.objects (log m (after m h ms)) byp (Got k) s.next c
 
-  pub record State (w : World m) : Type 0 where
-    clients : (k : ℕ) → Kept (noted_of m w k) k (client m w k)
-    pub owns : (k : ℕ) → OwnsHold m (client m w k)
+  begins : (s : CommandStart) (k : ℕ) (c : Client m) → c.work ≡ None → Kept s k c → Kept (starts_at m c) k c
+  begins s k c idle kept = record {
+    next = omega arith;
+    held = subst (WorkHeld m h.objects (log m (after m h ms)) byp (Got k) c.next c.view) (sym idle) tt;
+  }
+
+  abbrev AllOwn : World m → Type 0
+  AllOwn w = (k : ℕ) → OwnsHold m (client m w k)
 
   -- A step at a world of the run.
 
@@ -187,76 +195,56 @@ module _ (m : Meaning) (h : Header) (ms : Moves m) (r : Reaches m h ms (after m 
 
     kept_of : (n : ℕ) (s : CommandStart) → Noted m w n s → Kept (noted_of m w n) n (client m w n) → Kept s n (client m w n)
     kept_of n s (Before is) k = subst (λ (z : CommandStart). Kept z n (client m w n)) (sym is) k
-    kept_of n s (Anew idle is) k = record {
-      next = let a = ap (λ (z : CommandStart). z.next) is in omega (arith, a);
-      held = subst (WorkHeld m h.objects (log m (after m h ms)) byp (Got n) s.next (client m w n).view) (sym idle) tt;
-    }
+    kept_of n s (Anew idle is) k = subst (λ (z : CommandStart). Kept z n (client m w n)) (sym is) (begins (noted_of m w n) n (client m w n) idle k)
 
-    module _ (st : State (after m h xs)) where
+    module _ (owns : AllOwn (after m h xs)) where
       rests : (k : ℕ) → (client m w k).work ≡ None → Owned (client m w k).own (client m w k).cells
-      rests k is = subst (λ (o : Option (Work m)). AtWork m (K m) (K m) (client m w k).num (client m w k).own (client m w k).cells (client m w k).hosted (client m w k).view o) is (st.owns k)
+      rests k is = subst (λ (o : Option (Work m)). AtWork m (K m) (K m) (client m w k).num (client m w k).own (client m w k).cells (client m w k).hosted (client m w k).view o) is (owns k)
 
-      owned : (k : ℕ) → OwnsHold m (client m v k)
-      owned = happens_hold m h.objects (entries_in m (after m h ms)) (K m) (K m) (lasts m) (lasts m) (λ n own cells os u k. k) w e rests st.owns
+      owned : AllOwn (happens m (after m h xs) e)
+      owned = happens_hold m h.objects (entries_in m (after m h ms)) (K m) (K m) (lasts m) (lasts m) (λ n own cells os u k. k) w e rests owns
           (ends_have m h.objects (entries_in m (after m h ms)) (PlayHolds m (K m) (K m)) w e (λ k y is. λ b z. z)) (lands xs ys e split)
 
-      stepped : (u : World m) → ((k : ℕ) → OwnsHold m (client m u k)) → Speaks m w e u → State u
-      stepped u o (Silent t cc nn) = record {
-        clients = λ k. subst (λ (z : CommandStart). Kept z k (client m u k)) (sym (nn k)) (subst (λ (z : Client m). Kept (noted_of m w k) k z) (sym (cc k)) (st.clients k));
-        owns = o;
-      }
-      stepped u o (Speaks' n t s i noted x f b) = record { clients = λ k. by k (f k); owns = o }
-        where
-          kept : Kept s n (client m w n)
-          kept = kept_of n s noted (st.clients n)
+    -- What the step tells, where it is the last.
 
-          by : (k : ℕ) → Turns m w u n t s k → Kept (noted_of m u k) k (client m u k)
-          by k (inl a) = subst (λ (z : CommandStart). Kept z k (client m u k)) (sym a.2) (subst (λ (z : Client m). Kept s k z) (sym a.1) (subst (λ (z : ℕ). Kept s z t.now) (sym a.0) (now_kept n s kept t i b)))
-          by k (inr a) = subst (λ (z : CommandStart). Kept z k (client m u k)) (sym a.1) (subst (λ (z : Client m). Kept (noted_of m w k) k z) (sym a.0) (st.clients k))
-
-      after_step : State v
-      after_step = stepped v owned (speaks m w e)
-
-      -- What the step tells, where it is the last.
-
-      module _ (last : happens m (after m h xs) e ≡ after m h ms) where
-        sent_now : (t : Told m) (n : ℕ) (s : CommandStart) (p : ℕ) → t.mark.client ≡ n → t.noted ≡ s → NoneTold m h.objects (log m (after m h ms)) byp (Got n) s.next (client m v n) p → IsNone m (after m h ms) t p
-        sent_now t n s p of noted x = subst (λ (u : World m). IsNone m u t p) last (record {
-          tail = x.tail;
-          links = x.synced.links;
-          synced = record {
-            rid = x.synced.rid;
-            now = subst (λ (z : CommandStart). z.next ≤ x.synced.rid) (sym noted) x.synced.now;
-            sent = record {
-              packet = record { from = x.synced.from; to = client_id n; rid = x.synced.rid; msg = msg.Tail x.tail x.synced.links };
-              sent = subst (λ (u : World m). Contains u.packets (record { from = x.synced.from; to = client_id n; rid = x.synced.rid; msg = msg.Tail x.tail x.synced.links })) (sym last) (contained (after m h ms).packets _ x.synced.got);
-              to = ap (λ (k : ℕ). client_id k) (sym of);
-              number = refl;
-              says = refl;
-            };
+    module _ (owns : AllOwn (after m h xs)) (kept : (k : ℕ) → Kept (noted_of m (after m h xs) k) k (client m (after m h xs) k)) (last : happens m (after m h xs) e ≡ after m h ms) where
+      sent_now : (t : Told m) (n : ℕ) (s : CommandStart) (p : ℕ) → t.mark.client ≡ n → t.noted ≡ s → NoneTold m h.objects (log m (after m h ms)) byp (Got n) s.next (client m v n) p → IsNone m (after m h ms) t p
+      sent_now t n s p of noted x = subst (λ (u : World m). IsNone m u t p) last (record {
+        tail = x.tail;
+        links = x.synced.links;
+        synced = record {
+          rid = x.synced.rid;
+          now = subst (λ (z : CommandStart). z.next ≤ x.synced.rid) (sym noted) x.synced.now;
+          sent = record {
+            packet = record { from = x.synced.from; to = client_id n; rid = x.synced.rid; msg = msg.Tail x.tail x.synced.links };
+            sent = subst (λ (u : World m). Contains u.packets (record { from = x.synced.from; to = client_id n; rid = x.synced.rid; msg = msg.Tail x.tail x.synced.links })) (sym last) (contained (after m h ms).packets _ x.synced.got);
+            to = ap (λ (k : ℕ). client_id k) (sym of);
+            number = refl;
+            says = refl;
           };
-          none = λ d there commit less for. x.none known d (subst (λ (u : World m). Contains (entries_of (log m u)) (p, d)) last there) commit less (subst (λ (k : ℕ). IsFor m (client m v k) p d) of for);
-        })
-          where
-            known : Owned (client m v n).own (client m v n).cells
-            known = subst (λ (o : Option (Work m)). AtWork m (K m) (K m) (client m v n).num (client m v n).own (client m v n).cells (client m v n).hosted (client m v n).view o) x.idle (owned n)
+        };
+        none = λ d there commit less for. x.none known d (subst (λ (u : World m). Contains (entries_of (log m u)) (p, d)) last there) commit less (subst (λ (k : ℕ). IsFor m (client m v k) p d) of for);
+      })
+        where
+          known : Owned (client m v n).own (client m v n).cells
+          known = subst (λ (o : Option (Work m)). AtWork m (K m) (K m) (client m v n).num (client m v n).own (client m v n).cells (client m v n).hosted (client m v n).view o) x.idle (owned owns n)
 
-        silent_none : (u : World m) → u.told ≡ w.told → (y : Told m) (q : List (Told m)) → u.told ≡ w.told ++ q → Has q y → ⊥
-        silent_none u x y q are i = subst (λ (zs : List (Told m)). Has zs y) (cancel w.told q [] (sym are ∙ (x ∙ sym (nil_right w.told)))) i
+      silent_none : (u : World m) → u.told ≡ w.told → (y : Told m) (q : List (Told m)) → u.told ≡ w.told ++ q → Has q y → ⊥
+      silent_none u x y q are i = subst (λ (zs : List (Told m)). Has zs y) (cancel w.told q [] (sym are ∙ (x ∙ sym (nil_right w.told)))) i
 
-        tells : (u : World m) → u ≡ v → Speaks m w e u → (y : Told m) (q : List (Told m)) → u.told ≡ w.told ++ q → Has q y → SaysNone m y.mark.what (λ p. IsNone m (after m h ms) y p)
-        tells u same (Silent t cc nn) y q are i = absurd (silent_none u t y q are i)
-        tells u same (Speaks' n t s i noted x f b) y q are j =
-            let z = has_map (told_of m w n s) t.notes y (subst (λ (zs : List (Told m)). Has zs y) (cancel w.told q (map (told_of m w n s) t.notes) (sym are ∙ x)) j) in
-            let good = (turn_good n s (kept_of n s noted (st.clients n)) t i b).1 in
-            let ok = each_has m h.objects (log m (after m h ms)) byp (Got n) s.next t.now t.notes z.of good z.has in
-            subst (λ (k : WhatOf m). SaysNone m k (λ p. IsNone m (after m h ms) y p)) (sym (ap (λ (k : Told m). k.mark.what) z.is))
-            (says_map m z.of.what (λ p. NoneTold m h.objects (log m (after m h ms)) byp (Got n) s.next t.now p) (λ p. IsNone m (after m h ms) y p)
-            (λ p k. sent_now y n s p (ap (λ (g : Told m). g.mark.client) z.is) (ap (λ (g : Told m). g.noted) z.is) (subst (λ (d : Client m). NoneTold m h.objects (log m (after m h ms)) byp (Got n) s.next d p) (sym (now (f n))) k)) ok)
-          where
-            now : Turns m w u n t s n → client m v n ≡ t.now
-            now (inl a) = subst (λ (g : World m). client m g n ≡ t.now) same a.1
-            now (inr a) = absurd (a.2 refl)
+      tells : (u : World m) → u ≡ v → Speaks m w e u → (y : Told m) (q : List (Told m)) → u.told ≡ w.told ++ q → Has q y → SaysNone m y.mark.what (λ p. IsNone m (after m h ms) y p)
+      tells u same (Silent t cc nn) y q are i = absurd (silent_none u t y q are i)
+      tells u same (Speaks' n t s i noted x f b) y q are j =
+          let z = has_map (told_of m w n s) t.notes y (subst (λ (zs : List (Told m)). Has zs y) (cancel w.told q (map (told_of m w n s) t.notes) (sym are ∙ x)) j) in
+          let good = (turn_good n s (kept_of n s noted (kept n)) t i b).1 in
+          let ok = each_has m h.objects (log m (after m h ms)) byp (Got n) s.next t.now t.notes z.of good z.has in
+          subst (λ (k : WhatOf m). SaysNone m k (λ p. IsNone m (after m h ms) y p)) (sym (ap (λ (k : Told m). k.mark.what) z.is))
+          (says_map m z.of.what (λ p. NoneTold m h.objects (log m (after m h ms)) byp (Got n) s.next t.now p) (λ p. IsNone m (after m h ms) y p)
+          (λ p k. sent_now y n s p (ap (λ (g : Told m). g.mark.client) z.is) (ap (λ (g : Told m). g.noted) z.is) (subst (λ (d : Client m). NoneTold m h.objects (log m (after m h ms)) byp (Got n) s.next d p) (sym (now (f n))) k)) ok)
+        where
+          now : Turns m w u n t s n → client m v n ≡ t.now
+          now (inl a) = subst (λ (g : World m). client m g n ≡ t.now) same a.1
+          now (inr a) = absurd (a.2 refl)
 
   -- The start.
 
@@ -268,31 +256,21 @@ module _ (m : Meaning) (h : Header) (ms : Moves m) (r : Reaches m h ms (after m 
   unfolding new_client
   new_owns j = λ p i. absurd (has_contained [] p i)
 
-  start_state : State (start m h)
-  unfolding start
-  start_state = record {
-    clients = λ k. at_replicate h.clients (record { next = 1; epoch = 1; upto = 0 }) k (record { next = 1; epoch = 1; upto = 0 }) (λ (z : CommandStart). Kept z k (client m (start m h) k)) (here k) (here k);
-    owns = λ k. at_map (new_client m h) (numbers h.clients 0) k (new_client m h k) (λ (c : Client m). OwnsHold m c) new_owns (new_owns k);
-  }
-    where
-      here : (k : ℕ) → Kept (record { next = 1; epoch = 1; upto = 0 }) k (client m (start m h) k)
-      here k = at_map (new_client m h) (numbers h.clients 0) k (new_client m h k) (λ (c : Client m). Kept (record { next = 1; epoch = 1; upto = 0 }) k c) (λ j. new_kept k j) (new_kept k k)
+  start_owns : AllOwn (after m h [])
+  unfolding run start
+  start_owns k = at_map (new_client m h) (numbers h.clients 0) k (new_client m h k) (λ (c : Client m). OwnsHold m c) new_owns (new_owns k)
 
-  -- in the world after some of these moves, by those before it
-  state_on : (done zs rest : Moves m) → ms ≡ (done ++ zs) ++ rest → State (after m h done) → State (after m h (done ++ zs))
-  unfolding run
-  state_on done [] rest e st = subst (λ (xs : Moves m). State (after m h xs)) (sym (nil_right done)) st
-  state_on done (Next ∷ zs) rest e st =
-      subst (λ (xs : Moves m). State (after m h xs)) (regroup done (Next ∷ []) zs)
-      (state_on (done ++ Next ∷ []) zs rest (e ∙ ap (λ (xs : Moves m). xs ++ rest) (sym (regroup done (Next ∷ []) zs))) (subst State (sym (run_both m done (Next ∷ []) (start m h))) (record { clients = st.clients; owns = st.owns })))
-  state_on done (Takes x ∷ zs) rest e st =
-      subst (λ (xs : Moves m). State (after m h xs)) (regroup done (Takes x ∷ []) zs)
-      (state_on (done ++ Takes x ∷ []) zs rest (e ∙ ap (λ (xs : Moves m). xs ++ rest) (sym (regroup done (Takes x ∷ []) zs)))
-      (subst State (sym (run_both m done (Takes x ∷ []) (start m h))) (after_step done (zs ++ rest) x (e ∙ regroup done (Takes x ∷ zs) rest) st)))
+  -- in each world of the run
 
-  pub state_at : (before rest : Moves m) → ms ≡ before ++ rest → State (after m h before)
-  unfolding run
-  state_at before rest e = state_on [] before rest e start_state
+  kept_at : (xs ys : Moves m) → ms ≡ xs ++ ys → (k : ℕ) → Kept (noted_of m (after m h xs) k) k (client m (after m h xs) k)
+  kept_at xs ys split = (run_at m h ms Kept (λ ts. Unit {0}) tt (λ ts us a b. tt) new_kept begins (λ xs e ys split n s kept t i b told now. (now_kept xs ys e split n s kept t i b, tt)) xs ys split).clients
+
+  owns_on : (xs : Moves m) (x : Move m) (rest : Moves m) → ms ≡ xs ++ x ∷ rest → AllOwn (after m h xs) → AllOwn (after m h (xs ++ x ∷ []))
+  owns_on xs Next rest split o = subst AllOwn (sym (then_next m h xs)) o
+  owns_on xs (Takes e) rest split o = subst AllOwn (sym (then_takes m h xs e)) (owned xs rest e split o)
+
+  pub owns_at : (xs ys : Moves m) → ms ≡ xs ++ ys → (k : ℕ) → OwnsHold m (client m (after m h xs) k)
+  owns_at xs ys split = on_moves m h ms r (λ (zs : Moves m). AllOwn (after m h zs)) owns_on [] xs ys split start_owns
 
 last_is : (m : Meaning) (h : Header) (xs : Moves m) (e : EventOf m) → happens m (after m h xs) e ≡ after m h (xs ++ Takes e ∷ [])
 unfolding run
@@ -302,4 +280,4 @@ last_is m h xs e = sym (run_both m xs (Takes e ∷ []) (start m h))
 pub nones_last : (m : Meaning) (h : Header) (xs : Moves m) (e : EventOf m) → Reaches m h (xs ++ Takes e ∷ []) (after m h (xs ++ Takes e ∷ [])) → TrimsWereSpare m h (xs ++ Takes e ∷ []) → NonesTrue m (after m h xs) e
 nones_last m h xs e r trims t replies =
     subst (λ (u : World m). SaysNone m t.mark.what (λ p. IsNone m u t p)) (sym (last_is m h xs e))
-    (tells m h (xs ++ Takes e ∷ []) r trims xs [] e refl (state_at m h (xs ++ Takes e ∷ []) r trims xs (Takes e ∷ []) refl) (last_is m h xs e) (happens m (after m h xs) e) refl (speaks m (after m h xs) e) t replies.replies replies.are (has_contained replies.replies t replies.here))
+    (tells m h (xs ++ Takes e ∷ []) r trims xs [] e refl (owns_at m h (xs ++ Takes e ∷ []) r trims xs (Takes e ∷ []) refl) (kept_at m h (xs ++ Takes e ∷ []) r trims xs (Takes e ∷ []) refl) (last_is m h xs e) (happens m (after m h xs) e) refl (speaks m (after m h xs) e) t replies.replies replies.are (has_contained replies.replies t replies.here))

@@ -27,8 +27,8 @@ use Rattle.tg_law_causes.proofs.EndsGive.{ends_give}
 use Rattle.tg_law_causes.proofs.Stalling.{Plain, Brief, EachOk, Said, walked_so}
 use Rattle.tg_law_causes.proofs.Stalled.{AtWalksEnd, undecided_ends}
 use Rattle.tg_law_answers.proofs.Absent.{Owned, commit_found, own_found}
-use Rattle.tg_law_answers.proofs.Along.{K, state_at}
-use Rattle.tg_law_answers.proofs.OwnRecords.{own_record}
+use Rattle.tg_law_answers.proofs.Along.{K, owns_at}
+use Rattle.tg_law_causes.proofs.OwnAlong.{own_record}
 use Rattle.tg_law_answers.proofs.OwnSince.{own_past}
 use Rattle.tg_law_answers.proofs.WalksEnd.{TaskOwned, owned_there}
 
@@ -54,7 +54,7 @@ module _ (m : Meaning) (h : Header) (ms : Moves m) (e : EventOf m) (before : Rea
 
     owned : Owned k.end.client.own k.end.client.cells
     owned = owned_there m (after m h ms) t.mark.client (λ v works. task_owned (task_in m v.hand)
-        (subst (λ (o : Option (Work m)). AtWork m (K m) (K m) c.num c.own c.cells c.hosted c.view o) works ((state_at m h (ms ++ Takes e ∷ []) reach trims ms (Takes e ∷ []) refl).owns t.mark.client))) e k.end k.ended
+        (subst (λ (o : Option (Work m)). AtWork m (K m) (K m) c.num c.own c.cells c.hosted c.view o) works (owns_at m h (ms ++ Takes e ∷ []) reach trims ms (Takes e ∷ []) refl t.mark.client))) e k.end k.ended
 
     -- What is told unsure is the outcome of an `end`, of the record that it has appended.
 

@@ -10,7 +10,6 @@ pub mod Lacking
 pub mod Limited
 pub mod Limits
 pub mod Nones
-pub mod OwnRecords
 pub mod OwnSince
 pub mod Refused
 pub mod Refusing

@@ -12,7 +12,7 @@ use Rattle.tg_kind.specs.Meaning.{Meaning}
 use Rattle.tg_model.specs.Kinds.{EventOf}
 use Rattle.tg_model.specs.declared.command.Command.TheVariants as cmd
 use Rattle.tg_model.specs.declared.command.Event.TheVariants.{Command as Commands, Deliver, Lose, Tick, Stop}
-use Rattle.tg_protocol.specs.Words.{client_id, numbers}
+use Rattle.tg_protocol.specs.Words.{client_id}
 use Rattle.tg_protocol.specs.Replies.{reply}
 use Rattle.tg_protocol.specs.Appending.{AppendEnd, At, Full, Forgotten}
 use Rattle.tg_protocol.specs.Syncing.{SyncWork, Checking, Settling, Probing, Sync, sync_work_asks}
@@ -20,12 +20,11 @@ use Rattle.tg_protocol.specs.Clients.{Task, Syncing, Walking, Appending, Trimmin
 use Rattle.tg_protocol.specs.ClientSteps.{ClientTurn, task_asks, task_in, knows, given_up_if}
 use Rattle.tg_protocol.specs.Holding.{append_by}
 use Rattle.tg_protocol.specs.Walked.{Walked, work_end, packet_end, walked_in}
-use Rattle.tg_protocol.specs.Worlds.{World, start, client, happens, runs}
-use Rattle.tg_protocol.specs.Runs.{Move, Moves, Next as Counts, Takes, Reaches, run}
+use Rattle.tg_protocol.specs.Worlds.{client, happens, runs}
+use Rattle.tg_protocol.specs.Runs.{Moves, Takes, Reaches}
 use Rattle.tg_law_layouts.specs.Moves.After.{after}
 use Rattle.tg_law_layouts.specs.Moves.Configs.{config}
 use Rattle.tg_law_layouts.proofs.Moves.Clients.{reserved, work_reserved, hand_reserved}
-use Rattle.tg_law_layouts.proofs.Moves.Lists.{at_map}
 use Rattle.tg_law_layouts.proofs.Moves.Members.{Has, has_got}
 use Rattle.tg_law_layouts.proofs.Moves.Moves.{ClientInput, Commanded, Hears', Ticks'}
 use Rattle.tg_law_cells.specs.Places.Order.{IsPlace, PastPage}
@@ -33,15 +32,14 @@ use Rattle.tg_law_cells.proofs.Places.Order.{points_precede_places}
 use Rattle.tg_law_replies.specs.Replies.Ended.{work_ends, handed_ends, packet_ends, ended_in}
 use Rattle.tg_law_replies.proofs.History.Members.{and_both, both_and, number_same}
 use Rattle.tg_law_replies.proofs.Replies.Carried.{WalksBy}
-use Rattle.tg_law_walks.proofs.Drafts.Written.{then_next, then_takes}
-use Rattle.tg_law_walks.proofs.Once.Along.{on_moves}
 use Rattle.tg_law_walks.proofs.Once.Reached.{reach_at}
 use Rattle.tg_law_trims.proofs.Leaves.Walks.{feed_by}
 use Rattle.tg_law_trims.proofs.Leaves.Ended.{Stays, Tells, stays_there}
 use Rattle.tg_law_order.proofs.Spans.Turns as turns
 use Rattle.tg_law_order.proofs.Spans.Snapshots as spans
 use Rattle.tg_law_order.proofs.Decided.Ending.{AtTail, deliver_tail}
-use Rattle.tg_law_headline.proofs.Alike.Speaks.{Delivered, From, Speaks, Silent, Speaks', Turns, speaks}
+use Rattle.tg_law_headline.proofs.Alike.Speaks.{Delivered, From}
+use Rattle.tg_law_headline.proofs.Alike.Running.{end_state}
 use Rattle.tg_law_answers.proofs.EndsSettled.{HasPage, ends_settled}
 use Rattle.tg_law_answers.proofs.Following.{Keep, LearnOk, WorkKept, Fresh, TaskOk, HandOk, WorkOk, EndOk', Lands, command_ok, deliver_ok, tick_ok}
 
@@ -78,10 +76,7 @@ module _ (m : Meaning) (h : Header) (zs : Moves m) (reach : Reaches m h zs (afte
   abbrev Waits : ℕ → Client m → Type 0
   Waits k c = WorkKept m (λ p. Since k p c) c.own c.work
 
-  pub record State (w : World m) : Type 0 where
-    pub clients : (k : ℕ) → Waits k (client m w k)
-
-  module _ (xs : Moves m) (e : EventOf m) (ys : Moves m) (split : zs ≡ xs ++ Takes e ∷ ys) (st : State (after m h xs)) where
+  module _ (xs : Moves m) (e : EventOf m) (ys : Moves m) (split : zs ≡ xs ++ Takes e ∷ ys) where
     abbrev old : ℕ → Client m
     old k = client m (after m h xs) k
 
@@ -158,9 +153,6 @@ module _ (m : Meaning) (h : Header) (zs : Moves m) (reach : Reaches m h zs (afte
     kept_work k None works f = tt
     kept_work k (Some w) works f = kept_hand k w w.hand works refl f
 
-    kept_same : (k : ℕ) → new k ≡ old k → Waits k (new k)
-    kept_same k same = subst (Waits k) (sym same) (st.clients k)
-
     -- A turn.
 
     node_itself : (a : NodeId) → node_eq a a ≡ true
@@ -183,35 +175,22 @@ module _ (m : Meaning) (h : Header) (zs : Moves m) (reach : Reaches m h zs (afte
         by (Full g) f = tt
         by (Forgotten q g) f = tt
 
-    turned : (n : ℕ) (t : ClientTurn m) → (i : ClientInput m (config m (after m h xs)) n t) → From m (after m h xs) e n t i → Told n t.now.own t.now.work
-    turned n t (Commanded x) b = command_ok m (old n).next (λ p. Since n p (old n)) (λ p. HasPage m (after m h xs) p) (old n) x (st.clients n)
-    turned n t (Hears' p i) b = deliver_ok m (old n).next (λ q. Since n q (old n)) (λ q. HasPage m (after m h xs) q) (old n) p.from p.rid p.msg (omega arith) (st.clients n) (lands n p i.to_node b)
-    turned n t Ticks' b = tick_ok m (old n).next (λ p. Since n p (old n)) (λ p. HasPage m (after m h xs) p) (old n) (st.clients n)
+    turned : (n : ℕ) → Waits n (old n) → (t : ClientTurn m) → (i : ClientInput m (config m (after m h xs)) n t) → From m (after m h xs) e n t i → Told n t.now.own t.now.work
+    turned n waits t (Commanded x) b = command_ok m (old n).next (λ p. Since n p (old n)) (λ p. HasPage m (after m h xs) p) (old n) x waits
+    turned n waits t (Hears' p i) b = deliver_ok m (old n).next (λ q. Since n q (old n)) (λ q. HasPage m (after m h xs) q) (old n) p.from p.rid p.msg (omega arith) waits (lands n p i.to_node b)
+    turned n waits t Ticks' b = tick_ok m (old n).next (λ p. Since n p (old n)) (λ p. HasPage m (after m h xs) p) (old n) waits
 
-    stepped : Speaks m (after m h xs) e (happens m (after m h xs) e) → State (happens m (after m h xs) e)
-    stepped (Silent t c nn) = record { clients = λ k. kept_same k (c k) }
-    stepped (Speaks' n t s i noted x f b) = record { clients = λ k. by k (f k) }
-      where
-        by : (k : ℕ) → Turns m (after m h xs) (happens m (after m h xs) e) n t s k → Waits k (new k)
-        by k (inl a) = kept_work k (new k).work refl (subst (λ (d : Client m). Told k d.own d.work) (sym a.1) (subst (λ (j : ℕ). Told j t.now.own t.now.work) (sym a.0) (turned n t i b)))
-        by k (inr a) = kept_same k a.0
+    kept_turn : (n : ℕ) → Waits n (old n) → (t : ClientTurn m) → (i : ClientInput m (config m (after m h xs)) n t) → From m (after m h xs) e n t i → new n ≡ t.now → Waits n t.now
+    kept_turn n waits t i b now = subst (Waits n) now (kept_work n (new n).work refl (subst (λ (d : Client m). Told n d.own d.work) (sym now) (turned n waits t i b)))
 
   -- Along the run.
-
-  on_move : (xs : Moves m) (x : Move m) (rest : Moves m) → zs ≡ xs ++ x ∷ rest → State (after m h xs) → State (after m h (xs ++ x ∷ []))
-  on_move xs Counts rest split k = subst State (sym (then_next m h xs)) (record { clients = k.clients })
-  on_move xs (Takes e) rest split k = subst State (sym (then_takes m h xs e)) (stepped xs e rest split k (speaks m (after m h xs) e))
 
   new_waits : (k j : ℕ) → Waits k (new_client m h j)
   unfolding new_client
   new_waits k j = tt
 
-  start_state : State (after m h [])
-  unfolding run start
-  start_state = record { clients = λ k. at_map (new_client m h) (numbers h.clients 0) k (new_client m h k) (λ (c : Client m). Waits k c) (λ j. new_waits k j) (new_waits k k) }
-
-  state : State (after m h zs)
-  state = on_moves m h zs reach (λ (ms : Moves m). State (after m h ms)) on_move [] zs [] (sym (append-nil zs)) start_state
+  waits_at_end : (k : ℕ) → Waits k (client m (after m h zs) k)
+  waits_at_end = (end_state m h zs (λ s k c. Waits k c) (λ ts. Unit {0}) tt (λ ts us a b. tt) new_waits (λ s k c idle waits. waits) (λ xs e ys split n s waits t i b told now. (kept_turn xs e ys split n waits t i b now, tt))).clients
 
   -- Where a further step comes to the end of walks.
 
@@ -254,7 +233,7 @@ module _ (m : Meaning) (h : Header) (zs : Moves m) (reach : Reaches m h zs (afte
     hears x sent to v (Reconfiguring r) is doing a = tt
 
     kept_there : (e : EventOf m) (y : Walked m) → walked_in m (after m h zs) e k ≡ Some y → Kept y.client y.work
-    kept_there e y is = stays_there m (λ q b. Unit {0}) Kept stays (after m h zs) k (λ v works. walks v (task_in m v.hand) (subst (λ (o : Option (Work m)). WorkKept m (λ p. Since k p (client m (after m h zs) k)) (client m (after m h zs) k).own o) works (state.clients k))) hears e y is
+    kept_there e y is = stays_there m (λ q b. Unit {0}) Kept stays (after m h zs) k (λ v works. walks v (task_in m v.hand) (subst (λ (o : Option (Work m)). WorkKept m (λ p. Since k p (client m (after m h zs) k)) (client m (after m h zs) k).own o) works (waits_at_end k))) hears e y is
 
     module _ (p : ℕ) (s : Since k p (client m (after m h zs) k)) where
       abbrev Tailed : Option (Walked m) → Type 0

@@ -18,7 +18,7 @@ use Rattle.tg_law_store.proofs.Store.Steps.{store_trims_are_spare}
 use Rattle.tg_law_causes.specs.Sorts.{RefusedAtOnceTrue, MostRefusalsTrue}
 use Rattle.tg_law_causes.proofs.Reasons.{refused_at_once_true, most_refusals_true}
 use Rattle.tg_law_causes.proofs.Stalled.{goes_reach}
-use Rattle.tg_law_causes.proofs.Store.{ends, found}
+use Rattle.tg_law_headline.proofs.Runs.Finding.{ends, found}
 use Rattle.tg_law_answers.proofs.Caused.{IsFound, FoundTrue, found_true}
 
 module _ (w : World all_kinds) (e : EventOf all_kinds) (now : RefusedAtOnceTrue all_kinds w e) (most : MostRefusalsTrue all_kinds w e) (later : FoundTrue all_kinds w e) where

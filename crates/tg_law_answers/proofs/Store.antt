@@ -16,7 +16,8 @@ use Rattle.tg_law_walks.proofs.Walks.Reading.{reaches_later}
 use Rattle.tg_law_store.proofs.Store.Steps.{store_trims_are_spare}
 use Rattle.tg_law_store.proofs.Joint.Holding.{steps_hold}
 use Rattle.tg_law_causes.specs.Undecidings.{UnsureUnlessLacking}
-use Rattle.tg_law_causes.proofs.Store.{ends, directories_true}
+use Rattle.tg_law_headline.proofs.Runs.Finding.{ends}
+use Rattle.tg_law_causes.proofs.Store.{directories_true}
 use Rattle.tg_law_causes.proofs.StoreStalled.{unsure_unless_lacking}
 use Rattle.tg_law_answers.proofs.Along.{nones_last}
 use Rattle.tg_law_answers.proofs.Lacking.{unsure_there}

@@ -1,5 +1,5 @@
 -- What each reply of a run tells of an abort.
-use Rattle.std.proofs.Common.{◌≡◌, ◌⊎◌, ℕ, List, [], ◌∷◌, ◌++◌, map, true, refl, sym, ◌∙◌, subst, inl, inr}
+use Rattle.std.proofs.Common.{◌≡◌, ℕ, List, [], ◌∷◌, ◌++◌, true, refl, sym, subst, inl, inr}
 use Rattle.std.specs.Prelude.{Contains}
 use Rattle.tg_base.specs.Clusters.{Header}
 use Rattle.tg_base.specs.declared.packet.Packet.{Packet}
@@ -12,24 +12,21 @@ use Rattle.tg_protocol.specs.Logs.{version}
 use Rattle.tg_protocol.specs.Causes.{AbortsLeast}
 use Rattle.tg_kind.specs.Meaning.{Meaning}
 use Rattle.tg_model.specs.Kinds.{EventOf, NoteOf, WhatOf}
-use Rattle.tg_protocol.specs.Words.{numbers}
 use Rattle.tg_protocol.specs.Replies.{reply}
 use Rattle.tg_protocol.specs.Views.{Entries}
 use Rattle.tg_protocol.specs.Clients.{Client, Work, new_client}
 use Rattle.tg_protocol.specs.ClientSteps.{ClientTurn}
-use Rattle.tg_protocol.specs.Worlds.{World, Told, start, client, happens}
-use Rattle.tg_protocol.specs.Runs.{Moves, Next, Takes, Reaches, run}
+use Rattle.tg_protocol.specs.Worlds.{World, Told, start, client}
+use Rattle.tg_protocol.specs.Runs.{Moves, Takes, Reaches}
 use Rattle.tg_law_layouts.specs.Moves.After.{after}
 use Rattle.tg_law_layouts.specs.Moves.Configs.{config}
-use Rattle.tg_law_layouts.proofs.Moves.Lists.{at_map}
-use Rattle.tg_law_layouts.proofs.Moves.Members.{Has, has_contained, has_either, has_map}
+use Rattle.tg_law_layouts.proofs.Moves.Members.{Has, has_contained}
 use Rattle.tg_law_layouts.proofs.Moves.Moves.{ClientInput, Commanded, Hears', Ticks'}
 use Rattle.tg_law_replies.specs.Plays.Sound.{IsRising}
 use Rattle.tg_law_replies.specs.History.Worlds.{entries_in}
 use Rattle.tg_law_replies.specs.Replies.Ended.{AppendsEnd}
 use Rattle.tg_law_replies.specs.Replies.Laws.{ClientsFind}
 use Rattle.tg_law_replies.specs.Replies.Steps.{EachDelivery, EachEvent}
-use Rattle.tg_law_replies.proofs.Books.Worlds.{nil_right, regroup, run_both}
 use Rattle.tg_law_replies.proofs.History.Cells.{logs_rise}
 use Rattle.tg_law_replies.proofs.Pages.Read.{logs_keep_grammar}
 use Rattle.tg_law_replies.proofs.Replies.Along.{Along, moved_by, passed}
@@ -37,10 +34,11 @@ use Rattle.tg_law_replies.proofs.Replies.Carried.{event_more}
 use Rattle.tg_law_replies.proofs.Replies.Found.{each_ready}
 use Rattle.tg_law_replies.proofs.Replies.Ready.{Ready}
 use Rattle.tg_law_replies.proofs.Replies.Telling.{RightAndKept, of_right, found_kept}
-use Rattle.tg_law_headline.proofs.Alike.Speaks.{Delivered, From, Speaks, Silent, Speaks', Turns, told_of, speaks}
+use Rattle.tg_law_headline.proofs.Alike.Speaks.{Delivered, From, told_of}
 use Rattle.tg_law_causes.proofs.Aborting.{EachOk, WorkOk, Ends', GoodTurn, commanded, delivered, ticked}
 use Rattle.tg_law_causes.proofs.Rises.{log_rises}
 use Rattle.tg_law_causes.proofs.Least.{SaysLeast, plain_least, TrueViewed, none_viewed, least_end}
+use Rattle.tg_law_headline.proofs.Alike.Running.{AllSay, none_say, both_say, notes_say, end_state as run_end}
 
 module _ (m : Meaning) (h : Header) (ms : Moves m) (r : Reaches m h ms (after m h ms)) (finds : ClientsFind m h ms (after m h ms)) (ends : AppendsEnd m h ms (after m h ms)) where
   abbrev end : World m
@@ -75,10 +73,6 @@ module _ (m : Meaning) (h : Header) (ms : Moves m) (r : Reaches m h ms (after m 
   prefix Q [] (x ∷ rest) w k = k.0
   prefix Q (x ∷ before) rest w k = (k.0, prefix Q before rest (moved_by m x w) k.1)
 
-  record State (w : World m) : Type 0 where
-    clients : (k : ℕ) → Fits (client m w k)
-    told : (t : Told m) → Has w.told t → Says t.mark.what
-
   each_says : (ns : List (NoteOf m)) → Each ns → (y : NoteOf m) → Has ns y → Says y.what
   each_says [] k y i = absurd i
   each_says (n ∷ ns) k y (inl e) = subst (λ (z : NoteOf m). Says z.what) (sym e) k.0
@@ -104,58 +98,24 @@ module _ (m : Meaning) (h : Header) (ms : Moves m) (r : Reaches m h ms (after m 
     viewed : (n : ℕ) → TrueViewed m h.objects es (client m w n).view
     viewed n v is = ((now.0.clients n).view v is).so
 
-    module _ (st : State w) where
-      brought : (n : ℕ) (p : Packet) → Delivered m w e n p → EachDelivery m h.objects es End (client m w n) (client m w n).work p.from p.rid (reply p.msg)
-      brought n p b =
-          subst (λ (k : ℕ). EachDelivery m h.objects es End (client m w k) (client m w k).work p.from p.rid (reply p.msg)) b.num
-          (subst (λ (y : EventOf m). EachEvent m h.objects es End w y) b.event each p b.got b.of_client b.on)
+    brought : (n : ℕ) (p : Packet) → Delivered m w e n p → EachDelivery m h.objects es End (client m w n) (client m w n).work p.from p.rid (reply p.msg)
+    brought n p b =
+        subst (λ (k : ℕ). EachDelivery m h.objects es End (client m w k) (client m w k).work p.from p.rid (reply p.msg)) b.num
+        (subst (λ (y : EventOf m). EachEvent m h.objects es End w y) b.event each p b.got b.of_client b.on)
 
-      turn_good : (n : ℕ) (t : ClientTurn m) → (i : ClientInput m (config m w) n t) → From m w e n t i → Good t
-      turn_good n t (Commanded x) b = commanded m h.objects es (SaysLeast m h.objects es) (plain_least m h.objects es) (TrueViewed m h.objects es) (none_viewed m h.objects es) (client m w n) x (st.clients n)
-      turn_good n t (Hears' p comes) b =
-          delivered m h.objects es (SaysLeast m h.objects es) (plain_least m h.objects es) (TrueViewed m h.objects es) (none_viewed m h.objects es) (client m w n) p.from p.rid p.msg (viewed n, st.clients n) (brought n p b)
-      turn_good n t Ticks' b = ticked m h.objects es (SaysLeast m h.objects es) (plain_least m h.objects es) (TrueViewed m h.objects es) (none_viewed m h.objects es) (client m w n) (st.clients n)
-
-      stepped : (v : World m) → Speaks m w e v → State v
-      stepped v (Silent t c nn) = record {
-        clients = λ k. subst Fits (sym (c k)) (st.clients k);
-        told = λ x i. st.told x (subst (λ (zs : List (Told m)). Has zs x) t i);
-      }
-      stepped v (Speaks' n t s i noted x f b) = record {
-        clients = λ k. by k (f k);
-        told = λ y j. tells y (has_either w.told (map (told_of m w n s) t.notes) y (subst (λ (zs : List (Told m)). Has zs y) x j));
-      }
-        where
-          good : Good t
-          good = turn_good n t i b
-
-          by : (k : ℕ) → Turns m w v n t s k → Fits (client m v k)
-          by k (inl a) = subst Fits (sym a.1) good.work
-          by k (inr a) = subst Fits (sym a.0) (st.clients k)
-
-          tells : (y : Told m) → Has w.told y ⊎ Has (map (told_of m w n s) t.notes) y → Says y.mark.what
-          tells y (inl j) = st.told y j
-          tells y (inr j) = let z = has_map (told_of m w n s) t.notes y j in subst (λ (u : Told m). Says u.mark.what) (sym z.is) (each_says t.notes good.notes z.of z.has)
+    turn_good : (n : ℕ) → Fits (client m w n) → (t : ClientTurn m) → (i : ClientInput m (config m w) n t) → From m w e n t i → Good t
+    turn_good n fits t (Commanded x) b = commanded m h.objects es (SaysLeast m h.objects es) (plain_least m h.objects es) (TrueViewed m h.objects es) (none_viewed m h.objects es) (client m w n) x fits
+    turn_good n fits t (Hears' p comes) b =
+        delivered m h.objects es (SaysLeast m h.objects es) (plain_least m h.objects es) (TrueViewed m h.objects es) (none_viewed m h.objects es) (client m w n) p.from p.rid p.msg (viewed n, fits) (brought n p b)
+    turn_good n fits t Ticks' b = ticked m h.objects es (SaysLeast m h.objects es) (plain_least m h.objects es) (TrueViewed m h.objects es) (none_viewed m h.objects es) (client m w n) fits
 
   new_fits : (j : ℕ) → Fits (new_client m h j)
   unfolding new_client
   new_fits j = tt
 
-  start_state : State (start m h)
-  unfolding start
-  start_state = record { clients = λ k. at_map (new_client m h) (numbers h.clients 0) k (new_client m h k) Fits new_fits (new_fits k); told = λ t i. absurd i }
-
-  state_on : (zs done : Moves m) → ms ≡ done ++ zs → State (after m h done) → State end
-  unfolding run
-  state_on [] done e st = subst (λ (xs : Moves m). State (after m h xs)) (sym (e ∙ nil_right done)) st
-  state_on (Next ∷ zs) done e st = state_on zs (done ++ Next ∷ []) (e ∙ sym (regroup done (Next ∷ []) zs))
-      (subst State (sym (run_both m done (Next ∷ []) (start m h))) (record { clients = st.clients; told = st.told }))
-  state_on (Takes x ∷ zs) done e st = state_on zs (done ++ Takes x ∷ []) (e ∙ sym (regroup done (Takes x ∷ []) zs))
-      (subst State (sym (run_both m done (Takes x ∷ []) (start m h))) (stepped done zs x e st (happens m (after m h done) x) (speaks m (after m h done) x)))
-
   pub all_least : (t : Told m) → Has end.told t → Says t.mark.what
-  unfolding run
-  all_least t i = (state_on ms [] refl start_state).told t i
+  all_least = (run_end m h ms (λ s k c. Fits c) (AllSay m (λ t. Says t.mark.what)) (none_say m (λ t. Says t.mark.what)) (both_say m (λ t. Says t.mark.what)) (λ k j. new_fits j) (λ s k c idle fits. fits)
+      (λ xs e ys split n s fits t i f told now. let good = turn_good xs ys e split n fits t i f in (good.work, notes_say m (λ t. Says t.mark.what) (told_of m (after m h xs) n s) t.notes (each_says t.notes good.notes)))).told
 
 -- So each abort that is told names the least: the reads of each commit record of the log rise.
 module _ (m : Meaning) (h : Header) (ms : Moves m) (r : Reaches m h ms (after m h ms)) (finds : ClientsFind m h ms (after m h ms)) (ends : AppendsEnd m h ms (after m h ms)) where

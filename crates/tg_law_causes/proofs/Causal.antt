@@ -6,18 +6,16 @@ use Rattle.tg_base.specs.declared.msg.Msg.{Msg}
 use Rattle.tg_base.specs.declared.packet.Out.{Out}
 use Rattle.tg_base.specs.declared.packet.Packet.{Packet}
 use Rattle.tg_kind.specs.Meaning.{Meaning}
-use Rattle.tg_model.specs.Kinds.{EventOf}
-use Rattle.tg_protocol.specs.Words.{unit_id, client_id, numbers}
+use Rattle.tg_protocol.specs.Words.{unit_id, client_id}
 use Rattle.tg_protocol.specs.Requests.{awaits}
 use Rattle.tg_protocol.specs.Replies.{reply}
 use Rattle.tg_protocol.specs.Clients.{Task, Hand, Doing, Work, Client, new_client, refusal}
 use Rattle.tg_protocol.specs.Answers.{Moved}
 use Rattle.tg_protocol.specs.ClientSteps.{ClientTurn, task_awaited, feed, client_command, client_deliver, client_tick, tick_by}
-use Rattle.tg_protocol.specs.Worlds.{CommandStart, World, start, client, noted_of, happens}
-use Rattle.tg_protocol.specs.Runs.{Moves, Next, Takes, Reaches, run}
+use Rattle.tg_protocol.specs.Worlds.{CommandStart, World, start, client, noted_of}
+use Rattle.tg_protocol.specs.Runs.{Moves, Takes, Reaches}
 use Rattle.tg_law_layouts.specs.Moves.After.{after}
 use Rattle.tg_law_layouts.specs.Moves.Configs.{config}
-use Rattle.tg_law_layouts.proofs.Moves.Lists.{at_map, at_replicate}
 use Rattle.tg_law_layouts.proofs.Moves.Members.{Has, has_right}
 use Rattle.tg_law_layouts.proofs.Moves.Moves.{ClientInput, Commanded, Hears', Ticks', run_keeps}
 use Rattle.tg_law_layouts.proofs.Moves.Clients.{reserved, hand_reserved, work_reserved}
@@ -25,13 +23,13 @@ use Rattle.tg_law_layouts.proofs.Moves.Turns.{TurnDraws', not_busy, command_draw
 use Rattle.tg_law_layouts.proofs.Requests.Starts.{All, all_keeps, start_all}
 use Rattle.tg_law_layouts.proofs.Layouts.Layouts.{stays_sent}
 use Rattle.tg_law_walks.proofs.Lists.Reached.{before_reached}
-use Rattle.tg_law_replies.proofs.Books.Worlds.{nil_right, regroup, run_both}
+use Rattle.tg_law_replies.proofs.Books.Worlds.{run_both}
 use Rattle.tg_law_headline.proofs.Alike.Appends.{asked}
-use Rattle.tg_law_headline.proofs.Alike.Speaks.{Noted, Before, Anew, Speaks, Silent, Speaks', Turns, speaks}
 use Rattle.tg_law_causes.proofs.Turns.{Fine}
 use Rattle.tg_law_causes.proofs.Keeping.{all_fine}
 use Rattle.tg_law_causes.proofs.Jobs.{Heard}
-use Rattle.tg_law_causes.proofs.Reasoning.{WorkHeld, Good, reply_good, command_held}
+use Rattle.tg_law_causes.proofs.Reasoning.{WorkHeld, Good, feed_good, command_held}
+use Rattle.tg_law_headline.proofs.Alike.Running.{starts_at, end_state as run_end}
 
 module _ (m : Meaning) (h : Header) (ms : Moves m) (r : Reaches m h ms (after m h ms)) (P : List Packet) (within : (p : Packet) → Has (after m h ms).packets p → Has P p) where
   -- what a client got, and what it asked
@@ -106,8 +104,8 @@ module _ (m : Meaning) (h : Header) (ms : Moves m) (r : Reaches m h ms (after m 
         pub feed_ok : (o : Option (Work m)) → c.work ≡ o → FeedOk o (feed m c o p.from p.rid (reply p.msg))
         feed_ok None is = (kept.held, refl)
         feed_ok (Some v) is =
-            let k = subst (WorkHeld m (Got n) (AskSent n) s.next) is kept.held in
-            reply_good m (Got n) (AskSent n) s.next v.command v.oids p.from p.rid p.msg c v refl refl k.0 kept.held (reply p.msg) refl k.1 (subst (Fine m) is (fine n)) (λ t e a. heard v t is e a)
+            subst (λ (o : Option (Work m)). Good m (Got n) (AskSent n) s.next v.command v.oids (feed m c o p.from p.rid (reply p.msg))) is
+            (feed_good m (Got n) (AskSent n) s.next v.command v.oids p.from p.rid p.msg c v is refl refl kept.held (subst (Fine m) is (fine n)) (λ t e a. heard v t is e a))
 
       feed_held : (o : Option (Work m)) (x : Moved m) → (p : Packet) (i : Has w.packets p) (to : p.to ≡ client_id n) → FeedOk p i to o x → WorkHeld m (Got n) (AskSent n) s.next x.now.work
       feed_held None x p i to k = k.0
@@ -142,43 +140,18 @@ module _ (m : Meaning) (h : Header) (ms : Moves m) (r : Reaches m h ms (after m 
         held = turn_held t i;
       }
 
-    kept_of : (n : ℕ) (s : CommandStart) → Noted m w n s → Kept (noted_of m w n) n (client m w n) → Kept s n (client m w n)
-    kept_of n s (Before e) k = subst (λ (z : CommandStart). Kept z n (client m w n)) (sym e) k
-    kept_of n s (Anew idle e) k = record {
-      next = let a = ap (λ (z : CommandStart). z.next) e in omega (arith, a);
-      since = λ o i. absurd (subst (λ (z : Option (Work m)). Has (work_reserved m (client m w n).stand z) o) idle i);
-      held = subst (WorkHeld m (Got n) (AskSent n) s.next) (sym idle) tt;
-    }
-
-    stepped : (v : World m) (e : EventOf m) → Speaks m w e v → State w → State v
-    stepped v e (Silent t c nn) st = λ k. subst (λ (z : CommandStart). Kept z k (client m v k)) (sym (nn k)) (subst (λ (z : Client m). Kept (noted_of m w k) k z) (sym (c k)) (st k))
-    stepped v e (Speaks' n t s i noted x f b) st = λ k. by k (f k)
-      where
-        by : (k : ℕ) → Turns m w v n t s k → Kept (noted_of m v k) k (client m v k)
-        by k (inl e) = subst (λ (z : CommandStart). Kept z k (client m v k)) (sym e.2) (subst (λ (z : Client m). Kept s k z) (sym e.1) (subst (λ (z : ℕ). Kept s z t.now) (sym e.0) (now_kept n s (kept_of n s noted (st n)) t i)))
-        by k (inr e) = subst (λ (z : CommandStart). Kept z k (client m v k)) (sym e.1) (subst (λ (z : Client m). Kept (noted_of m w k) k z) (sym e.0) (st k))
-
   -- The start.
 
   new_kept : (k j : ℕ) → Kept (record { next = 1; epoch = 1; upto = 0 }) k (new_client m h j)
   unfolding new_client
   new_kept k j = record { next = omega arith; since = λ o i. absurd i; held = tt }
 
-  start_state : State (start m h)
-  unfolding start
-  start_state k = at_replicate h.clients (record { next = 1; epoch = 1; upto = 0 }) k (record { next = 1; epoch = 1; upto = 0 }) (λ (z : CommandStart). Kept z k (client m (start m h) k)) (here k) (here k)
-    where
-      here : (k : ℕ) → Kept (record { next = 1; epoch = 1; upto = 0 }) k (client m (start m h) k)
-      here k = at_map (new_client m h) (numbers h.clients 0) k (new_client m h k) (λ (c : Client m). Kept (record { next = 1; epoch = 1; upto = 0 }) k c) (λ j. new_kept k j) (new_kept k k)
-
-  state_on : (zs done : Moves m) → ms ≡ done ++ zs → State (after m h done) → State (after m h ms)
-  unfolding run
-  state_on [] done e st = subst (λ (xs : Moves m). State (after m h xs)) (sym (e ∙ nil_right done)) st
-  state_on (Next ∷ zs) done e st = state_on zs (done ++ Next ∷ []) (e ∙ sym (regroup done (Next ∷ []) zs))
-      (subst State (sym (run_both m done (Next ∷ []) (start m h))) (λ k. st k))
-  state_on (Takes x ∷ zs) done e st = state_on zs (done ++ Takes x ∷ []) (e ∙ sym (regroup done (Takes x ∷ []) zs))
-      (subst State (sym (run_both m done (Takes x ∷ []) (start m h))) (stepped done (Takes x ∷ zs) e (happens m (after m h done) x) x (speaks m (after m h done) x) st))
+  begins : (s : CommandStart) (k : ℕ) (c : Client m) → c.work ≡ None → Kept s k c → Kept (starts_at m c) k c
+  begins s k c idle kept = record {
+    next = omega arith;
+    since = λ o i. absurd (subst (λ (z : Option (Work m)). Has (work_reserved m c.stand z) o) idle i);
+    held = subst (WorkHeld m (Got k) (AskSent k) c.next) (sym idle) tt;
+  }
 
   pub end_state : State (after m h ms)
-  unfolding run
-  end_state = state_on ms [] refl start_state
+  end_state = (run_end m h ms Kept (λ ts. Unit {0}) tt (λ ts us a b. tt) new_kept begins (λ xs e ys split n s kept t i f told now. (now_kept xs (Takes e ∷ ys) split n s kept t i, tt))).clients

@@ -15,7 +15,7 @@ use Rattle.tg_base.specs.declared.packet.Packet.{Packet}
 use Rattle.tg_kind.specs.Meaning.{Meaning}
 use Rattle.tg_model.specs.declared.trace.What.TheVariants as told
 use Rattle.tg_model.specs.Kinds.{EventOf}
-use Rattle.tg_protocol.specs.Words.{client_id, unit_id, seqr_id, numbers}
+use Rattle.tg_protocol.specs.Words.{client_id, unit_id, seqr_id}
 use Rattle.tg_protocol.specs.Requests.{out, awaits}
 use Rattle.tg_protocol.specs.Replies.{reply}
 use Rattle.tg_protocol.specs.Cells.{CellJob, cell_asks}
@@ -27,13 +27,13 @@ use Rattle.tg_protocol.specs.Clients.{Task, Syncing, Walking, Appending, Trimmin
 use Rattle.tg_protocol.specs.Answers.{Moved, walked}
 use Rattle.tg_protocol.specs.ClientSteps.{ClientTurn, task_asks, task_awaited, feed, client_command, client_deliver, client_tick, tick_by}
 use Rattle.tg_protocol.specs.Walked.{Walked, work_end, packet_end, walked_in}
-use Rattle.tg_protocol.specs.Worlds.{CommandStart, World, Told, start, client, noted_of, log, happens, runs}
+use Rattle.tg_protocol.specs.Worlds.{CommandStart, World, Told, start, client, noted_of, log, runs}
 use Rattle.tg_protocol.specs.Alike.{SentNow}
 use Rattle.tg_protocol.specs.Stuck.{asks_for, WalkMetTrim}
-use Rattle.tg_protocol.specs.Runs.{Move, Moves, Next, Takes, Reaches, Later, run}
+use Rattle.tg_protocol.specs.Runs.{Moves, Takes, Reaches, Later}
 use Rattle.tg_law_layouts.specs.Moves.After.{after}
 use Rattle.tg_law_layouts.specs.Moves.Configs.{config}
-use Rattle.tg_law_layouts.proofs.Moves.Lists.{contained, at_map, at_replicate}
+use Rattle.tg_law_layouts.proofs.Moves.Lists.{contained}
 use Rattle.tg_law_layouts.proofs.Moves.Members.{Has}
 use Rattle.tg_law_layouts.proofs.Moves.Moves.{ClientInput, Commanded, Hears', Ticks', run_keeps}
 use Rattle.tg_law_layouts.proofs.Moves.Clients.{reserved, hand_reserved, work_reserved}
@@ -47,19 +47,18 @@ use Rattle.tg_law_walks.specs.Lists.Spared.{TrimsWereSpare}
 use Rattle.tg_law_walks.specs.Walks.Rounds.{IsAtWork}
 use Rattle.tg_law_walks.specs.Walks.Streams.{AreLinked}
 use Rattle.tg_law_walks.specs.Walks.Ends.{TaskEndsAs, HandEndsAs}
-use Rattle.tg_law_walks.proofs.Drafts.Written.{then_next, then_takes}
-use Rattle.tg_law_walks.proofs.Once.Along.{on_moves}
 use Rattle.tg_law_walks.proofs.Lists.Reached.{before_reached}
 use Rattle.tg_law_walks.proofs.Lists.Scanning.{at_trim, is_gone}
 use Rattle.tg_law_walks.proofs.Lists.Telling.{entries_are_good}
 use Rattle.tg_law_syncs.proofs.Exact.Exact.{work_ends}
 use Rattle.tg_law_syncs.proofs.Exact.Held.{goes_on, clients_work}
 use Rattle.tg_law_headline.proofs.Alike.Appends.{is_tail}
-use Rattle.tg_law_headline.proofs.Alike.Speaks.{Noted, Before, Anew, Delivered, From, Speaks, Silent, Speaks', Turns, speaks}
+use Rattle.tg_law_headline.proofs.Alike.Speaks.{Noted, Before, Anew, Delivered, From}
 use Rattle.tg_law_causes.proofs.OnPaths.{AsksUnit, job_reads}
 use Rattle.tg_law_causes.proofs.Refusing.{fine_refusal}
 use Rattle.tg_law_causes.proofs.Stalling.{PlainNotes, BriefNotes, brief_notes}
 use Rattle.tg_law_causes.proofs.Hearing.{AnswerTells, WorkHeld, EndOk, Comes, Plainly, Ended, comes_held, MetsBy, TaskHears, feed_comes, command_good}
+use Rattle.tg_law_headline.proofs.Alike.Running.{starts_at, state_at as run_at}
 
 -- a stream's link is one of the links
 link_found : (o : Oid) (ls : List StreamLink) (x : StreamLink) → link_of o ls ≡ Some x → Has ls x × (x.oid ≡ o)
@@ -124,8 +123,8 @@ module _ (m : Meaning) (h : Header) (zs : Moves m) (r : Reaches m h zs (after m 
     pub next : s.next ≤ c.next
     pub held : HeldBy s k c
 
-  pub record State (w : World m) : Type 0 where
-    pub clients : (k : ℕ) → Kept (noted_of m w k) k (client m w k)
+  abbrev pub State : World m → Type 0
+  State w = (k : ℕ) → Kept (noted_of m w k) k (client m w k)
 
   -- A step at a world of the run.
 
@@ -252,7 +251,7 @@ module _ (m : Meaning) (h : Header) (zs : Moves m) (r : Reaches m h zs (after m 
         End o = Comes m (log m (after m h zs)) linked s.next (Tail n s.next) (Met n s.next) (feed m (client m (after m h xs) n) (client m (after m h xs) n).work p.from p.rid (reply p.msg)) o
 
         comes : Comes m (log m (after m h zs)) linked s.next (Tail n s.next) (Met n s.next) (feed m (client m (after m h xs) n) (client m (after m h xs) n).work p.from p.rid (reply p.msg)) (work_end m (client m (after m h xs) n) (client m (after m h xs) n).work p.from p.rid (reply p.msg))
-        comes = feed_comes m (log m (after m h zs)) linked s.next (Tail n s.next) (Met n s.next) (client m (after m h xs) n) p.from p.rid kept.next kept.held (client m (after m h xs) n).work (reply p.msg) hears refl kept.held (at_work n)
+        comes = feed_comes m (log m (after m h zs)) linked s.next (Tail n s.next) (Met n s.next) (client m (after m h xs) n) p.from p.rid kept.next kept.held (reply p.msg) hears (at_work n)
 
       ticked : (o : Option (Work m)) → (client m (after m h xs) n).work ≡ o → HeldBy s n (tick_by m (client m (after m h xs) n) o).now × BriefNotes m (tick_by m (client m (after m h xs) n) o).notes
       ticked None is = (kept.held, tt)
@@ -271,26 +270,6 @@ module _ (m : Meaning) (h : Header) (zs : Moves m) (r : Reaches m h zs (after m 
 
       now_kept : (t : ClientTurn m) → ClientInput m (config m (after m h xs)) n t → Kept s n t.now
       now_kept t i = record { next = (let a = kept.next in let y = up t i in omega (arith, a, y)); held = turn_held t i }
-
-    pub kept_of : (n : ℕ) (s : CommandStart) → Noted m (after m h xs) n s → Kept (noted_of m (after m h xs) n) n (client m (after m h xs) n) → Kept s n (client m (after m h xs) n)
-    kept_of n s (Before e) k = subst (λ (z : CommandStart). Kept z n (client m (after m h xs) n)) (sym e) k
-    kept_of n s (Anew idle e) k = record {
-      next = (let a = ap (λ (z : CommandStart). z.next) e in omega (arith, a));
-      held = subst (λ (o : Option (Work m)). WorkHeld m (log m (after m h zs)) linked s.next (Tail n s.next) (Met n s.next) (client m (after m h xs) n).hosted o) (sym idle) tt;
-    }
-
-    stepped : (v : World m) → Speaks m (after m h xs) e v → State (after m h xs) → State v
-    stepped v (Silent t c nn) st = record {
-      clients = λ k. subst (λ (z : CommandStart). Kept z k (client m v k)) (sym (nn k)) (subst (λ (z : Client m). Kept (noted_of m (after m h xs) k) k z) (sym (c k)) (st.clients k));
-    }
-    stepped v (Speaks' n t s i noted x f b) st = record { clients = λ k. by k (f k) }
-      where
-        kept : Kept s n (client m (after m h xs) n)
-        kept = kept_of n s noted (st.clients n)
-
-        by : (k : ℕ) → Turns m (after m h xs) v n t s k → Kept (noted_of m v k) k (client m v k)
-        by k (inl a) = subst (λ (z : CommandStart). Kept z k (client m v k)) (sym a.2) (subst (λ (z : Client m). Kept s k z) (sym a.1) (subst (λ (z : ℕ). Kept s z t.now) (sym a.0) (now_kept n s kept t i)))
-        by k (inr a) = subst (λ (z : CommandStart). Kept z k (client m v k)) (sym a.1) (subst (λ (z : Client m). Kept (noted_of m (after m h xs) k) k z) (sym a.0) (st.clients k))
 
     -- What a client turns to, where it tells of something undecided.
 
@@ -352,22 +331,19 @@ module _ (m : Meaning) (h : Header) (zs : Moves m) (r : Reaches m h zs (after m 
 
   -- Along the run.
 
-  on_move : (xs : Moves m) (x : Move m) (rest : Moves m) → zs ≡ xs ++ x ∷ rest → State (after m h xs) → State (after m h (xs ++ x ∷ []))
-  on_move xs Next rest split k = subst State (sym (then_next m h xs)) (record { clients = k.clients })
-  on_move xs (Takes e) rest split k = subst State (sym (then_takes m h xs e)) (stepped xs e rest split (happens m (after m h xs) e) (speaks m (after m h xs) e) k)
-
   new_kept : (k j : ℕ) → Kept (record { next = 1; epoch = 1; upto = 0 }) k (new_client m h j)
   unfolding new_client
   new_kept k j = record { next = omega arith; held = tt }
 
-  start_state : State (after m h [])
-  unfolding run start
-  start_state = record {
-    clients = λ k. at_replicate h.clients (record { next = 1; epoch = 1; upto = 0 }) k (record { next = 1; epoch = 1; upto = 0 }) (λ (z : CommandStart). Kept z k (client m (start m h) k)) (here k) (here k);
+  begins : (s : CommandStart) (k : ℕ) (c : Client m) → c.work ≡ None → Kept s k c → Kept (starts_at m c) k c
+  begins s k c idle kept = record {
+    next = omega arith;
+    held = subst (λ (o : Option (Work m)). WorkHeld m (log m (after m h zs)) linked c.next (Tail k c.next) (Met k c.next) c.hosted o) (sym idle) tt;
   }
-    where
-      here : (k : ℕ) → Kept (record { next = 1; epoch = 1; upto = 0 }) k (client m (start m h) k)
-      here k = at_map (new_client m h) (numbers h.clients 0) k (new_client m h k) (λ (c : Client m). Kept (record { next = 1; epoch = 1; upto = 0 }) k c) (λ j. new_kept k j) (new_kept k k)
+
+  pub kept_of : (w : World m) (n : ℕ) (s : CommandStart) → Noted m w n s → Kept (noted_of m w n) n (client m w n) → Kept s n (client m w n)
+  kept_of w n s (Before e) k = subst (λ (z : CommandStart). Kept z n (client m w n)) (sym e) k
+  kept_of w n s (Anew idle e) k = subst (λ (z : CommandStart). Kept z n (client m w n)) (sym e) (begins (noted_of m w n) n (client m w n) idle k)
 
   pub state_at : (xs ys : Moves m) → zs ≡ xs ++ ys → State (after m h xs)
-  state_at xs ys split = on_moves m h zs r (λ (ms : Moves m). State (after m h ms)) on_move [] xs ys split start_state
+  state_at xs ys split = (run_at m h zs Kept (λ ts. Unit {0}) tt (λ ts us a b. tt) new_kept begins (λ xs e ys split n s kept t i f told now. (now_kept xs e ys split n s kept t i, tt)) xs ys split).clients

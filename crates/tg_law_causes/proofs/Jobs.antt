@@ -1,25 +1,24 @@
 -- What a cell's job, an append and a walk were told where they end, by an answer that was awaited.
-use Rattle.std.proofs.Common.{◌≡◌, ℕ, zero, suc, ◌<◌, ◌≤◌, List, Bool, true, false, refl, sym, ap, ◌∙◌, subst, inl, inr, arith, Option, Some, None}
-use Rattle.std.specs.Prelude.{nat_le, nat_lt, ◌==◌}
+use Rattle.std.proofs.Common.{◌≡◌, ℕ, ◌<◌, ◌≤◌, List, true, refl, sym, ap, ◌∙◌, subst, inl, inr, arith, Option, Some, None}
+use Rattle.std.specs.Prelude.{◌==◌}
 use Rattle.tg_base.specs.Layouts.{Layout}
 use Rattle.tg_base.specs.declared.cell.Cell.{Cell}
-use Rattle.tg_base.specs.declared.cell.Cell.TheVariants.{Data}
 use Rattle.tg_base.specs.declared.ids.NodeId.{NodeId}
 use Rattle.tg_base.specs.declared.ids.Oid.{Oid}
-use Rattle.tg_base.specs.declared.marks.StreamLink.{StreamLink}
 use Rattle.tg_base.specs.declared.msg.Msg.{Msg}
 use Rattle.tg_base.specs.declared.msg.Msg.TheVariants as msg
 use Rattle.tg_base.specs.declared.packet.Out.{Out}
-use Rattle.tg_protocol.specs.Words.{unit_id, cell_at, cell_eq}
-use Rattle.tg_protocol.specs.Entries.{streams_of}
-use Rattle.tg_protocol.specs.Requests.{Waits, Next, Goes, Learns, Ends, ends}
-use Rattle.tg_protocol.specs.Replies.{Reply, reply, IsGone, IsFull, IsIssued, IsOldEpoch}
-use Rattle.tg_protocol.specs.Cells.{Place, CellWork, CellJob, CellEnd, Puts, Gets, Fills, Copies, Probes, Done, Seen, Lost, Fenced, Gone, unit_at, last_unit, place_in, put_cell, get_cell, fill_cell, work_asks, cell_asks, work_feed, cell_feed}
-use Rattle.tg_protocol.specs.Appending.{Token, Append, AppendWork, Asking, Putting, Judging, AppendEnd, At, Full, Forgotten, names_all, on_older, on_newer, put_next, put_turn, own_or_not, judge_next, judge_turn, on_issued, asking_feed, append_work_asks, append_asks, by_token, append_feed, dead_or_judged, again_with, append_again}
-use Rattle.tg_protocol.specs.Walking.{Walk, WalkTurn, Members, walk_members, walk_on, walk_from, walk_start, walk_end, walk_next, walk_feed, walk_again, walk_asks, read_at, reads_turn, next_visit, visited}
+use Rattle.tg_protocol.specs.Words.{unit_id}
+use Rattle.tg_protocol.specs.Requests.{Waits, Next, Goes, Learns, Ends}
+use Rattle.tg_protocol.specs.Replies.{Reply, reply, IsGone}
+use Rattle.tg_protocol.specs.Cells.{Place, CellWork, CellJob, Puts, Gets, Fills, Copies, Probes, Gone, unit_at, last_unit, fill_cell, work_asks, cell_asks, work_feed, cell_feed}
+use Rattle.tg_protocol.specs.Appending.{AppendTurn, Token, Append, AppendWork, Asking, Putting, Judging, AppendEnd, At, Full, Forgotten, append_work_asks, append_asks, append_feed, append_again}
+use Rattle.tg_protocol.specs.Walking.{Walk, WalkTurn, Members, walk_on, walk_start, walk_feed, walk_again, walk_asks}
 use Rattle.tg_protocol.specs.Causes.{is_at}
 use Rattle.tg_law_layouts.proofs.Moves.Members.{Has}
 use Rattle.tg_law_headline.proofs.Alike.Appends.{Asked, is_gone, is_full}
+use Rattle.tg_law_steps.proofs.Machines.Appends.{Fed as AppendFed, Issues, IsFilled, PutGoes, PutDone, PutLost, PutGone, JudgeGoes, JudgeOwn, JudgeOther, JudgeGone, append_fed, Anew, HasNone, IsDead, Settles, append_anew as append_renewed}
+use Rattle.tg_law_steps.proofs.Machines.Walks.{goes_on, Fed as WalkFed, ReadDone, ReadGone, walk_fed}
 
 -- A cell's job.
 
@@ -124,142 +123,59 @@ module _ (Got AskSent : NodeId → ℕ → Msg → Type 0) (lo : ℕ) where
   AppendNext (Ends (Full l)) = ToldNow (msg.Full l)
   AppendNext (Ends (Forgotten p b)) = OwnGone p b
 
-  module _ (a : Append) (ok : Places a) where
-    put_ok : (t : Token) (next : ℕ) (to : Next CellJob CellEnd) → ((k : CellJob) → to ≡ Goes k → k.place.pos ≡ t.pos) → ((b : ℕ) → to ≡ Ends (Gone b) → OwnGone t.pos b) → AppendNext (put_next a t to next).to
-    put_ok t next (Goes j) here gone = here j refl
-    put_ok t next (Learns j) here gone = ok
-    put_ok t next (Ends (Done c)) here gone = tt
-    put_ok t next (Ends (Lost c)) here gone = tt
-    put_ok t next (Ends (Gone b)) here gone = gone b refl
-    put_ok t next (Ends (Fenced u e)) here gone = ok
-    put_ok t next (Ends Seen) here gone = ok
+  module _ (p : Layout) (n next : ℕ) (from : NodeId) (rid : ℕ) (y : Msg) where
+    told_so : (a : Append) (t : AppendTurn) → AppendFed p n (reply y) next a t → Places a → Heard (append_asks p a) from rid y → AppendNext t.to
+    unfolding append_work_asks
+    told_so _ _ (Issues d o r pos ls is named) ok h = refl
+    told_so _ _ (IsFilled d o r l is) ok h = record { from = from; rid = rid; now = h.now; got = subst (Got from rid) (is_full y l is) h.got }
+    told_so _ _ (PutGoes d t j k e) ok h = ap (λ (z : Place). z.pos) (cell_stays j k n (reply y) next e) ∙ ok
+    told_so _ _ (PutDone d t j c e) ok h = tt
+    told_so _ _ (PutLost d t j c e) ok h = tt
+    told_so _ _ (PutGone d t j b e) ok h = own_gone j n next b t.pos from rid y ok h e
+    told_so _ _ (JudgeGoes d t j k e) ok h = ap (λ (z : Place). z.pos) (cell_stays j k n (reply y) next e) ∙ ok
+    told_so _ _ (JudgeOwn d t j c e f) ok h = tt
+    told_so _ _ (JudgeOther d t j c e f) ok h = tt
+    told_so _ _ (JudgeGone d t j b e) ok h = own_gone j n next b t.pos from rid y ok h e
+    told_so _ _ x ok h = ok
 
-    own_ok : (t : Token) (next : ℕ) (b : Bool) → AppendNext (own_or_not a t next b).to
-    own_ok t next true = tt
-    own_ok t next false = tt
+  pub append_told : (a : Append) → Places a → (from : NodeId) (rid : ℕ) (y : Msg) (p : Layout) (n next : ℕ) → Heard (append_asks p a) from rid y → AppendNext (append_feed p a a.work n (reply y) next).to
+  append_told a ok from rid y p n next h = told_so p n next from rid y a _ (append_fed p n (reply y) next a) ok h
 
-    judge_ok : (t : Token) (next : ℕ) (to : Next CellJob CellEnd) → ((k : CellJob) → to ≡ Goes k → k.place.pos ≡ t.pos) → ((b : ℕ) → to ≡ Ends (Gone b) → OwnGone t.pos b) → AppendNext (judge_next a t to next).to
-    judge_ok t next (Goes j) here gone = here j refl
-    judge_ok t next (Learns j) here gone = ok
-    judge_ok t next (Ends (Done c)) here gone = own_ok t next (cell_eq c (Data t.page))
-    judge_ok t next (Ends (Gone b)) here gone = gone b refl
-    judge_ok t next (Ends (Fenced u e)) here gone = ok
-    judge_ok t next (Ends (Lost c)) here gone = ok
-    judge_ok t next (Ends Seen) here gone = ok
-
-    older_ok : (p : Layout) (next : ℕ) (b : Bool) → AppendNext (on_older p next a b).to
-    older_ok p next true = ok
-    older_ok p next false = ok
-
-    newer_ok : (p : Layout) (e next : ℕ) (b : Bool) → AppendNext (on_newer p e next a b).to
-    newer_ok p e next true = ok
-    newer_ok p e next false = older_ok p next (nat_lt e p.epoch)
-
-    issued_ok : (p : Layout) (pos : ℕ) (ls : List StreamLink) (next : ℕ) (b : Bool) → AppendNext (on_issued p a pos ls next b).to
-    unfolding put_cell
-    issued_ok p pos ls next true = refl
-    issued_ok p pos ls next false = ok
-
-    module _ (from : NodeId) (rid : ℕ) (y : Msg) where
-      asking_ok : (p : Layout) (next : ℕ) (x : Reply) → reply y ≡ x → lo ≤ rid → Got from rid y → AppendNext (asking_feed p a x next).to
-      asking_ok p next (IsIssued pos ls) is le got = issued_ok p pos ls next (names_all (streams_of a.draft) ls)
-      asking_ok p next (IsFull l) is le got = record { from = from; rid = rid; now = le; got = subst (Got from rid) (is_full y l is) got }
-      asking_ok p next (IsOldEpoch e) is le got = newer_ok p e next (nat_lt p.epoch e)
-      asking_ok p next x is le got = ok
-
-      putting_ok : (j : CellJob) (n next : ℕ) (o : Option Token) → JobAt o j → Heard (cell_asks j) from rid y → AppendNext (by_token a next o (λ t. put_turn a t (cell_feed j n (reply y) next))).to
-      putting_ok j n next None at h = ok
-      putting_ok j n next (Some t) at h = put_ok t (cell_feed j n (reply y) next).next (cell_feed j n (reply y) next).to
-          (λ k e. ap (λ (z : Place). z.pos) (cell_stays j k n (reply y) next e) ∙ at) (λ b e. own_gone j n next b t.pos from rid y at h e)
-
-      judging_ok : (j : CellJob) (n next : ℕ) (o : Option Token) → JobAt o j → Heard (cell_asks j) from rid y → AppendNext (by_token a next o (λ t. judge_turn a t (cell_feed j n (reply y) next))).to
-      judging_ok j n next None at h = ok
-      judging_ok j n next (Some t) at h = judge_ok t (cell_feed j n (reply y) next).next (cell_feed j n (reply y) next).to
-          (λ k e. ap (λ (z : Place). z.pos) (cell_stays j k n (reply y) next e) ∙ at) (λ b e. own_gone j n next b t.pos from rid y at h e)
-
-      work_ok : (p : Layout) (w : AppendWork) (n next : ℕ) → PlaceOk a.token w → Heard (append_work_asks p a w) from rid y → AppendNext (append_feed p a w n (reply y) next).to
-      unfolding append_feed append_work_asks
-      work_ok p (Asking r) n next k h = asking_ok p next (reply y) refl h.now h.got
-      work_ok p (Putting j) n next k h = putting_ok j n next a.token k h
-      work_ok p (Judging j) n next k h = judging_ok j n next a.token k h
-
-      pub append_told : (p : Layout) (n next : ℕ) → Heard (append_asks p a) from rid y → AppendNext (append_feed p a a.work n (reply y) next).to
-      append_told p n next h = work_ok p a.work n next ok h
-
-    pub append_anew : (p : Layout) (next : ℕ) → AppendNext (append_again p a next).to
-    unfolding append_again fill_cell
-    append_anew p next = by a.token
-      where
-        with' : (t : Token) (b : Bool) → AppendNext (dead_or_judged p a t next b).to
-        with' t true = tt
-        with' t false = refl
-
-        by : (o : Option Token) → AppendNext (again_with p a next o).to
-        by None = tt
-        by (Some t) = with' t (nat_le p.start t.pos)
+  pub append_anew : (a : Append) → Places a → (p : Layout) (next : ℕ) → AppendNext (append_again p a next).to
+  append_anew a ok p next = by a _ (append_renewed p next a)
+    where
+      by : (a : Append) (t : AppendTurn) → Anew p next a t → AppendNext t.to
+      by _ _ (HasNone d w) = tt
+      by _ _ (IsDead d t w e) = tt
+      by _ _ (Settles d t w e) = refl
 
   -- Walks: where one ends at a trim, that was told.
-
-  abbrev NoGone : Next Walk Members → Type 0
-  NoGone (Ends x) = x.gone ≡ None
-  NoGone to = Unit {0}
 
   abbrev pub WalkNext : Next Walk Members → Type 0
   WalkNext (Ends x) = (b : ℕ) → x.gone ≡ Some b → ToldNow (msg.Gone b)
   WalkNext to = Unit {0}
 
-  cell_none : (p : Layout) (next n : ℕ) (w : Walk) (q : ℕ) (o : Option Cell) → ((v : Walk) → NoGone (walk_on p next n v).to)
-      → NoGone (elim o as (λ _. WalkTurn) [ Some c ↦ walk_on p next n (visited w q c) | None ↦ reads_turn w (get_cell (place_in p q) next) ]).to
-  unfolding get_cell
-  cell_none p next n w q None ih = tt
-  cell_none p next n w q (Some c) ih = ih (visited w q c)
-
-  visit_none : (p : Layout) (next n : ℕ) (w : Walk) (o : Option ℕ) → ((v : Walk) → NoGone (walk_on p next n v).to) → NoGone (elim o as (λ _. WalkTurn) [
-    | None ↦ ends next (walk_members w None)
-    | Some q ↦ elim (cell_at w.cells q) as (λ _. WalkTurn) [ Some c ↦ walk_on p next n (visited w q c) | None ↦ reads_turn w (get_cell (place_in p q) next) ]
-  ]).to
-  visit_none p next n w None ih = refl
-  visit_none p next n w (Some q) ih = cell_none p next n w q (cell_at w.cells q) ih
-
-  on_none : (p : Layout) (next n : ℕ) (w : Walk) → NoGone (walk_on p next n w).to
-  unfolding walk_on
-  on_none p next zero w = refl
-  on_none p next (suc n) w = visit_none p next n w (next_visit w) (λ v. on_none p next n v)
-
-  none_told : (to : Next Walk Members) → NoGone to → WalkNext to
-  none_told (Goes x) h = tt
-  none_told (Learns x) h = tt
-  none_told (Ends x) h = λ b is. absurd (differ b (sym h ∙ is))
+  -- over known cells it meets none
+  on_told : (p : Layout) (next n : ℕ) (w : Walk) → WalkNext (walk_on p next n w).to
+  on_told p next n w = goes_on p next (λ v. Unit {0}) (λ t. WalkNext t.to) (λ v q c is e k. tt) (λ v k b is. absurd (differ b is)) (λ v q is e k. tt) n w tt
     where
       differ : (b : ℕ) → None ≡ Some b → ⊥
       differ b z = cc
 
   pub walk_begun : (p : Layout) (o : Oid) (ls : List ℕ) (low : ℕ) (cells : List (ℕ × Cell)) (next : ℕ) → WalkNext (walk_start p o ls low cells next).to
   unfolding walk_start
-  walk_begun p o ls low cells next = none_told (walk_on p next _ _).to (on_none p next _ _)
+  walk_begun p o ls low cells next = on_told p next _ _
 
   pub walk_anew : (p : Layout) (w : Walk) (next : ℕ) → WalkNext (walk_again p w next).to
-  walk_anew p w next = none_told (walk_from p next w).to (on_none p next _ w)
+  walk_anew p w next = on_told p next _ w
 
   pub walk_told : (p : Layout) (w : Walk) (n next : ℕ) (from : NodeId) (rid : ℕ) (y : Msg) → Heard (walk_asks w) from rid y → WalkNext (walk_feed p w w.job n (reply y) next).to
-  unfolding walk_feed
-  walk_told p w n next from rid y h = by w.job
+  walk_told p w n next from rid y h = by w _ (walk_fed p n (reply y) next w) h
     where
-      end_by : (j : CellJob) (e : CellEnd) → (cell_feed j n (reply y) next).to ≡ Ends e → (q k : ℕ) → WalkNext (walk_end p w q e k).to
-      end_by j (Done c) is q k = none_told (walk_from p k (read_at w q c)).to (on_none p k _ (read_at w q c))
-      end_by j (Gone b) is q k = λ d e. subst (λ (z : ℕ). ToldNow (msg.Gone z)) (same b d e) (told_gone (walk_asks w) from rid y b h (cell_gone j n (reply y) next b is))
-        where
-          same : (a c : ℕ) → Some a ≡ Some c → a ≡ c
-          same a c z = cc
-      end_by j (Fenced u e) is q k = tt
-      end_by j Seen is q k = tt
-      end_by j (Lost c) is q k = tt
+      same : (a c : ℕ) → Some a ≡ Some c → a ≡ c
+      same a c z = cc
 
-      next_by : (j : CellJob) (to : Next CellJob CellEnd) → (cell_feed j n (reply y) next).to ≡ to → (q k : ℕ) → WalkNext (walk_next p w q to k).to
-      next_by j (Goes i) is q k = tt
-      next_by j (Learns i) is q k = tt
-      next_by j (Ends e) is q k = end_by j e is q k
-
-      by : (o : Option CellJob) → WalkNext (walk_feed p w o n (reply y) next).to
-      by None = tt
-      by (Some j) = next_by j (cell_feed j n (reply y) next).to refl j.place.pos (cell_feed j n (reply y) next).next
+      by : (v : Walk) (t : WalkTurn) → WalkFed p n (reply y) next v t → Heard (walk_asks v) from rid y → WalkNext t.to
+      by _ _ (ReadDone v j c e) h = on_told p (cell_feed j n (reply y) next).next _ _
+      by _ _ (ReadGone v j b e) h = λ d f. subst (λ (z : ℕ). ToldNow (msg.Gone z)) (same b d f) (told_gone (cell_asks j) from rid y b h (cell_gone j n (reply y) next b e))
+      by _ _ x h = tt

@@ -4,16 +4,14 @@ use Rattle.std.specs.Prelude.{nat_lt, nat_le}
 use Rattle.std.proofs.lemmas.Bool.Decides.{nat_tests}
 use Rattle.tg_base.specs.Layouts.{Layout}
 use Rattle.tg_base.specs.declared.cell.Cell.{Cell}
-use Rattle.tg_base.specs.declared.cell.Cell.TheVariants.{Junk}
 use Rattle.tg_base.specs.declared.ids.Oid.{Oid}
 use Rattle.tg_base.specs.declared.msg.Msg.{Msg}
 use Rattle.tg_base.specs.declared.packet.Out.{Out}
 use Rattle.tg_protocol.specs.Words.{unit_id, cell_at, with_cell, where_true}
-use Rattle.tg_protocol.specs.Requests.{Next, Goes, Learns, Ends, ends}
+use Rattle.tg_protocol.specs.Requests.{Next, Goes, Learns, Ends}
 use Rattle.tg_protocol.specs.Replies.{Reply}
-use Rattle.tg_protocol.specs.Replies as replied
-use Rattle.tg_protocol.specs.Cells.{Place, CellWork, Puts, Gets, Fills, Copies, Probes, CellJob, CellEnd, Done, Seen, Lost, Fenced, Gone, works, work_asks, cell_asks, place_in, get_cell, fill_cell, copy_on, end_if, copy_if_same, work_feed, cell_feed}
-use Rattle.tg_protocol.specs.Walking.{Trail, trail, next_on, go_down, next_of_trail, rest_of, pointers_at, trail_after, Walk, Members, WalkTurn, visited, walk_members, with_job, reads_turn, next_visit, at_least, walk_on, read_at, walk_end, walk_next, walk_start, walk_feed, walk_again}
+use Rattle.tg_protocol.specs.Cells.{CellTurn, Place, CellWork, Puts, Gets, Fills, Copies, Probes, CellJob, CellEnd, Gone, works, work_asks, cell_asks, place_in, get_cell, cell_feed}
+use Rattle.tg_protocol.specs.Walking.{Trail, trail, next_on, go_down, next_of_trail, rest_of, pointers_at, trail_after, Walk, Members, WalkTurn, visited, with_job, reads_turn, at_least, walk_on, read_at, walk_start, walk_feed, walk_again}
 use Rattle.tg_protocol.specs.Logs.{Log, path_on, first_on, path}
 use Rattle.tg_protocol.specs.Stuck.{asks_for}
 use Rattle.tg_law_layouts.proofs.Moves.Members.{Has}
@@ -23,6 +21,8 @@ use Rattle.tg_law_replies.proofs.History.Members.{number_same}
 use Rattle.tg_law_walks.specs.Walks.Streams.{AreFalling, AreKnown, AreLinked}
 use Rattle.tg_law_walks.specs.Walks.Walks.{EndsAs, JobEndsAs}
 use Rattle.tg_law_walks.proofs.Walks.Cells.{more_known, known_at}
+use Rattle.tg_law_steps.proofs.Machines.Cells.{Fed as CellFed, PutsOn, ReadsNone, CopiesOn, ProbesOn, Nothing, cell_fed}
+use Rattle.tg_law_steps.proofs.Machines.Walks.{goes_on, Fed as WalkFed, ReadGoes as Goes', ReadDone, ReadGone, walk_fed}
 
 less_of : (a b : ℕ) → nat_lt a b ≡ true → a < b
 less_of a b e = grind (arith, nat_tests)
@@ -101,37 +101,16 @@ abbrev Stays : Place → Next CellJob CellEnd → Type 0
 Stays a (Goes j) = (j.place ≡ a) × IsRead j.work
 Stays a x = Unit {0}
 
-copy_stays : (a : Place) (c : Cell) (i next : ℕ) (b : Bool) → Stays a (copy_on a c i next b).to
-copy_stays a c i next true = (refl, tt)
-copy_stays a c i next false = tt
-
-end_stays : (b : Bool) (j : CellJob) (next : ℕ) (e : CellEnd) → IsRead j.work → Stays j.place (end_if b j next e).to
-end_stays true j next e read = tt
-end_stays false j next e read = (refl, read)
-
-same_stays : (j : CellJob) (c : Cell) (i next : ℕ) (b : Bool) → IsRead j.work → Stays j.place (copy_if_same j c i next b).to
-same_stays j c i next true read = copy_stays j.place c (i + 1) next _
-same_stays j c i next false read = (refl, read)
-
-work_stays : (a : Place) (w : CellWork) (u : ℕ) (x : Reply) (next : ℕ) → IsRead w → Stays a (work_feed (works a w) w u x next).to
-unfolding work_feed fill_cell
-work_stays a w u (replied.IsFenced e) next read = end_stays _ (works a w) next _ read
-work_stays a (Puts r d i) u x next read = absurd read
-work_stays a (Probes ws) u x next read = absurd read
-work_stays a (Gets r) u (replied.IsTaken c) next read = tt
-work_stays a (Gets r) u replied.IsUnwritten next read = (refl, tt)
-work_stays a (Gets r) u (replied.IsGone b) next read = end_stays _ (works a (Gets r)) next _ read
-work_stays a (Fills r) u replied.IsHeld next read = copy_stays a Junk 1 next _
-work_stays a (Fills r) u (replied.IsTaken c) next read = copy_stays a c 1 next _
-work_stays a (Fills r) u (replied.IsGone b) next read = end_stays _ (works a (Fills r)) next _ read
-work_stays a (Copies r c i) u replied.IsHeld next read = copy_stays a c (i + 1) next _
-work_stays a (Copies r c i) u (replied.IsTaken y) next read = same_stays (works a (Copies r c i)) c i next _ read
-work_stays a (Copies r c i) u (replied.IsGone b) next read = end_stays _ (works a (Copies r c i)) next _ read
-work_stays a w u x next read = (refl, read)
+fed_stays : (u : ℕ) (x : Reply) (next : ℕ) (j : CellJob) (t : CellTurn) → CellFed u x next j t → IsRead j.work → Stays j.place t.to
+fed_stays u x next _ _ (PutsOn a r d i is e) read = absurd read
+fed_stays u x next _ _ (ReadsNone a r is) read = (refl, tt)
+fed_stays u x next _ _ (CopiesOn a w c i is e) read = (refl, tt)
+fed_stays u x next _ _ (ProbesOn a ws v vs is e) read = absurd read
+fed_stays u x next _ _ (Nothing j) read = (refl, read)
+fed_stays u x next _ _ z read = tt
 
 feed_stays : (j : CellJob) (u : ℕ) (x : Reply) (next : ℕ) → IsRead j.work → Stays j.place (cell_feed j u x next).to
-unfolding cell_feed
-feed_stays j u x next read = work_stays j.place j.work u x next read
+feed_stays j u x next read = fed_stays u x next j _ (cell_fed u x next j) read
 
 -- Over a log, from numbers on.
 module _ (l : Log) (linked : AreLinked l) (low : ℕ) where
@@ -253,22 +232,6 @@ module _ (l : Log) (linked : AreLinked l) (low : ℕ) where
       no_gone b e = absurd (cc)
 
       module _ (p : Layout) where
-        at_cell : ℕ → ℕ → Walk → ℕ → Option Cell → WalkTurn
-        at_cell next n w q x = elim x as (λ _. WalkTurn) [
-          | Some c ↦ walk_on p next n (visited w q c)
-          | None ↦ reads_turn w (get_cell (place_in p q) next)
-        ]
-
-        at_visit : ℕ → ℕ → Walk → Option ℕ → WalkTurn
-        at_visit next n w x = elim x as (λ _. WalkTurn) [
-          | None ↦ ends next (walk_members w None)
-          | Some q ↦ at_cell next n w q (cell_at w.cells q)
-        ]
-
-        walk_on_is : (next n : ℕ) (w : Walk) → walk_on p next (suc n) w ≡ at_visit next n w (next_visit w)
-        unfolding walk_on at_visit at_cell
-        walk_on_is next n w = refl
-
         got_asks : (a : Place) (next : ℕ) → low ≤ next → (x : Out) → Has (cell_asks (works a (Gets next))) x → low ≤ x.rid
         unfolding work_asks
         got_asks a next le x (inl e) = let r = ap (λ (y : Out). y.rid) e in omega (arith, le, r)
@@ -285,22 +248,10 @@ module _ (l : Log) (linked : AreLinked l) (low : ℕ) where
           path = subst (λ (s : Oid). IsOnPath (trail_after w.trail q (pointers_at s q c))) (sym k.oid) (visits_on w.trail q c k.path known is);
         }
 
-        step_on : (next n : ℕ) (w : Walk) → low ≤ next → ((v : Walk) → WalkSo v → NextOn Met (walk_on p next n v).to) → WalkSo w → (x : Option ℕ) → next_visit w ≡ x → NextOn Met (at_visit next n w x).to
-        unfolding at_visit at_cell
-        step_on next n w le rest k None at = (k.known, λ b e. no_gone b e)
-        step_on next n w le rest k (Some q) at = by (cell_at w.cells q) refl
-          where
-            is : next_of_trail w.trail ≡ Some q
-            is = at_least_next w.lo q (next_of_trail w.trail) at
-
-            by : (x : Option Cell) → cell_at w.cells q ≡ x → NextOn Met (at_cell next n w q x).to
-            by None e = reads_on w q next le k is
-            by (Some c) e = rest (visited w q c) (visited_so w q c k (known_at l w.cells k.known q c e) is)
-
         on_on : (next n : ℕ) (w : Walk) → low ≤ next → WalkSo w → NextOn Met (walk_on p next n w).to
-        unfolding walk_on
-        on_on next zero w le k = (k.known, λ b e. no_gone b e)
-        on_on next (suc n) w le k = subst (λ (t : WalkTurn). NextOn Met t.to) (sym (walk_on_is next n w)) (step_on next n w le (λ v i. on_on next n v le i) k (next_visit w) refl)
+        unfolding get_cell
+        on_on next n w le k = goes_on p next WalkSo (λ t. NextOn Met t.to) (λ v q c is e k. visited_so v q c k (known_at l v.cells k.known q c e) (at_least_next v.lo q (next_of_trail v.trail) is))
+            (λ v k. (k.known, λ b e. no_gone b e)) (λ v q is e k. reads_on v q next le k (at_least_next v.lo q (next_of_trail v.trail) is)) n w k
 
         -- a walk begins, and goes on in a newer layout
 
@@ -313,36 +264,37 @@ module _ (l : Log) (linked : AreLinked l) (low : ℕ) where
 
         -- an awaited answer
 
-        end_on : (w : Walk) (q : ℕ) (e : CellEnd) (next : ℕ) → low ≤ next → WalkOn w → next_of_trail w.trail ≡ Some q → EndsAs l q (Ends e) → ((b : ℕ) → e ≡ Gone b → Met b) → NextOn Met (walk_end p w q e next).to
-        end_on w q (Done c) next le k is here met =
-            again_on (read_at w q c) next le (visited_so (record w { cells = with_cell w.cells q c }) q c (record { oid = k.so.oid; known = more_known l w.cells q c k.so.known here; path = k.so.path }) here is)
-        end_on w q (Gone b) next le k is here met = (k.so.known, λ c e. subst Met (one_number b c e) (met b refl))
-        end_on w q (Fenced u e) next le k is here met = k
-        end_on w q Seen next le k is here met = k
-        end_on w q (Lost c) next le k is here met = k
-
-        next_job : (w : Walk) (i : CellJob) (to : Next CellJob CellEnd) (end next : ℕ) (bs : List Out) → low ≤ next → WalkOn w → JobOn w.trail i → Stays i.place to → NextDraws cell_asks (cell_asks i) next bs end to → EndsAs l i.place.pos to
-            → ((b : ℕ) → to ≡ Ends (Gone b) → Met b) → NextOn Met (walk_next p w i.place.pos to end).to
-        next_job w i (Goes j) end next bs le k at stays draws here met = with_job_on w j k.so (record {
+        goes_so : (n : ℕ) (y : Reply) (next : ℕ) (w : Walk) (i j : CellJob) → low ≤ next → WalkOn (with_job w i) → (cell_feed i n y next).to ≡ Goes j → WalkOn (with_job w j)
+        goes_so n y next w i j le k e = with_job_on w j (record { oid = k.so.oid; known = k.so.known; path = k.so.path }) (record {
           next = at.next ∙ ap (λ (a : Place). Some a.pos) (sym stays.0);
           read = stays.1;
-          now = λ x has. by x ((without (cell_asks i) next bs (cell_asks j) end draws).either x has);
+          now = λ x has. by x ((without (cell_asks i) next (cell_feed i n y next).besides (cell_asks j) (cell_feed i n y next).next draws).either x has);
         })
           where
-            by : (x : Out) → Has (cell_asks i) x ⊎ Has (without (cell_asks i) next bs (cell_asks j) end draws).new x → low ≤ x.rid
-            by x (inl h) = at.now x h
-            by x (inr h) = let a = (without (cell_asks i) next bs (cell_asks j) end draws).is_new.from x h in omega (arith, le, a)
-        next_job w i (Learns j) end next bs le k at stays draws here met = k
-        next_job w i (Ends e) end next bs le k at stays draws here met = end_on w i.place.pos e end (omega (arith, le, draws)) k at.next here (λ b is. met b (ap (λ (x : CellEnd). Ends x) is))
+            at : JobOn w.trail i
+            at = k.job i refl
 
-        feed_at : (w : Walk) (x : Option CellJob) → w.job ≡ x → (n : ℕ) (y : Reply) (next : ℕ) → low ≤ next → WalkOn w → JobEndsAs l x n y next → ((j : CellJob) (b : ℕ) → x ≡ Some j → JobOn w.trail j → (cell_feed j n y next).to ≡ Ends (Gone b) → Met b)
-            → NextOn Met (walk_feed p w x n y next).to
-        unfolding walk_feed
-        feed_at w None is n y next le k here met = k
-        feed_at w (Some j) is n y next le k here met =
-            let at = k.job j is in
-            next_job w j (cell_feed j n y next).to (cell_feed j n y next).next next (cell_feed j n y next).besides le k at (feed_stays j n y next at.read) (cell_feed_draws j n y next) here (λ b e. met j b refl at e)
+            stays : (j.place ≡ i.place) × IsRead j.work
+            stays = subst (Stays i.place) e (feed_stays i n y next at.read)
+
+            draws : NextDraws {E = CellEnd} cell_asks (cell_asks i) next (cell_feed i n y next).besides (cell_feed i n y next).next (Goes j)
+            draws = subst (NextDraws cell_asks (cell_asks i) next (cell_feed i n y next).besides (cell_feed i n y next).next) e (cell_feed_draws i n y next)
+
+            by : (x : Out) → Has (cell_asks i) x ⊎ Has (without (cell_asks i) next (cell_feed i n y next).besides (cell_asks j) (cell_feed i n y next).next draws).new x → low ≤ x.rid
+            by x (inl h) = at.now x h
+            by x (inr h) = let a = (without (cell_asks i) next (cell_feed i n y next).besides (cell_asks j) (cell_feed i n y next).next draws).is_new.from x h in omega (arith, le, a)
+
+        fed_on : (n : ℕ) (y : Reply) (next : ℕ) → low ≤ next → (w : Walk) (t : WalkTurn) → WalkFed p n y next w t → WalkOn w → JobEndsAs l w.job n y next
+            → ((j : CellJob) (b : ℕ) → w.job ≡ Some j → JobOn w.trail j → (cell_feed j n y next).to ≡ Ends (Gone b) → Met b) → NextOn Met t.to
+        fed_on n y next le _ _ (Goes' w j i e) k here met = goes_so n y next w j i le k e
+        fed_on n y next le _ _ (ReadDone w j c e) k here met =
+            let up = subst (NextDraws cell_asks (cell_asks j) next (cell_feed j n y next).besides (cell_feed j n y next).next) e (cell_feed_draws j n y next) in
+            let there = subst (EndsAs l j.place.pos) e here in
+            again_on (read_at (with_job w j) j.place.pos c) _ (omega (arith, le, up)) (visited_so (record (with_job w j) { cells = with_cell w.cells j.place.pos c }) j.place.pos c
+            (record { oid = k.so.oid; known = more_known l w.cells j.place.pos c k.so.known there; path = k.so.path }) there (k.job j refl).next)
+        fed_on n y next le _ _ (ReadGone w j b e) k here met = (k.so.known, λ d f. subst Met (one_number b d f) (met j b refl (k.job j refl) e))
+        fed_on n y next le _ _ x k here met = k
 
         pub feed_on : (w : Walk) (n : ℕ) (y : Reply) (next : ℕ) → low ≤ next → WalkOn w → JobEndsAs l w.job n y next → ((j : CellJob) (b : ℕ) → w.job ≡ Some j → JobOn w.trail j → (cell_feed j n y next).to ≡ Ends (Gone b) → Met b)
             → NextOn Met (walk_feed p w w.job n y next).to
-        feed_on w n y next le k here met = feed_at w w.job refl n y next le k here met
+        feed_on w n y next le k here met = fed_on n y next le w _ (walk_fed p n y next w) k here met

@@ -1,5 +1,5 @@
--- Along a run: what a client has as its own are commit records of the log.
-use Rattle.std.proofs.Common.{◌≡◌, ℕ, List, [], ◌∷◌, ◌++◌, Bool, true, false, refl, sym, ap, ◌∙◌, subst, inl, inr, Option, Some, None}
+-- Along a run: at each position that a client has as its own stands a commit record of the log.
+use Rattle.std.proofs.Common.{◌≡◌, ℕ, List, [], ◌∷◌, ◌++◌, Bool, true, false, refl, sym, ap, ◌∙◌, subst, Option, Some, None}
 use Rattle.std.specs.Prelude.{Contains, ◌==◌}
 use Rattle.tg_base.specs.Clusters.{Header}
 use Rattle.tg_base.specs.Orders.{node_eq, role_number}
@@ -11,18 +11,17 @@ use Rattle.tg_entry.specs.Records.{linked}
 use Rattle.tg_entry.specs.declared.entry.Entry.{Entry}
 use Rattle.tg_kind.specs.Meaning.{Meaning}
 use Rattle.tg_model.specs.Kinds.{EventOf}
-use Rattle.tg_protocol.specs.Words.{client_id, numbers}
+use Rattle.tg_protocol.specs.Words.{client_id}
 use Rattle.tg_protocol.specs.Entries.{is_commit}
 use Rattle.tg_protocol.specs.Replies.{reply}
 use Rattle.tg_protocol.specs.Clients.{Task, Syncing, Walking, Appending, Trimming, Copying', Reconfiguring, Work, Client, new_client}
 use Rattle.tg_protocol.specs.ClientSteps.{ClientTurn, task_in, knows, given_up_if}
 use Rattle.tg_protocol.specs.Holding.{append_by}
 use Rattle.tg_protocol.specs.Walked.{Walked, walked_in}
-use Rattle.tg_protocol.specs.Worlds.{World, start, client, happens, runs}
-use Rattle.tg_protocol.specs.Runs.{Move, Moves, Next, Takes, Reaches, run}
+use Rattle.tg_protocol.specs.Worlds.{World, client, runs}
+use Rattle.tg_protocol.specs.Runs.{Moves, Takes, Reaches}
 use Rattle.tg_law_layouts.specs.Moves.After.{after}
 use Rattle.tg_law_layouts.specs.Moves.Configs.{config}
-use Rattle.tg_law_layouts.proofs.Moves.Lists.{at_map}
 use Rattle.tg_law_layouts.proofs.Moves.Members.{Has}
 use Rattle.tg_law_layouts.proofs.Moves.Moves.{ClientInput, Commanded, Hears', Ticks'}
 use Rattle.tg_law_replies.specs.History.Worlds.{entries_in}
@@ -32,12 +31,11 @@ use Rattle.tg_law_replies.proofs.History.Ledger.{one_entry}
 use Rattle.tg_law_replies.proofs.History.Members.{has_contained, number_same, both_and}
 use Rattle.tg_law_replies.proofs.Replies.Carried.{WalksBy}
 use Rattle.tg_law_replies.proofs.Replies.Turns.{LandsBy}
-use Rattle.tg_law_walks.proofs.Drafts.Written.{then_next, then_takes}
-use Rattle.tg_law_walks.proofs.Once.Along.{on_moves}
 use Rattle.tg_law_trims.proofs.Leaves.Walks.{feed_by}
 use Rattle.tg_law_trims.proofs.Leaves.Ended.{Stays, Tells, stays_there}
-use Rattle.tg_law_headline.proofs.Alike.Speaks.{Delivered, From, Speaks, Silent, Speaks', Turns, speaks}
+use Rattle.tg_law_headline.proofs.Alike.Speaks.{Delivered, From}
 use Rattle.tg_law_causes.proofs.Owning.{Fits, command_fits, deliver_fits, tick_fits}
+use Rattle.tg_law_headline.proofs.Alike.Running.{state_at as run_at}
 
 -- What is a client's own stays so through the walks of a step.
 module _ (m : Meaning) (w : World m) (k : ℕ) where
@@ -82,22 +80,17 @@ module _ (m : Meaning) (w : World m) (k : ℕ) where
   own_waits e y is = stays_there m (λ q b. Unit {0}) SameOwn own_stays w k (λ v works. own_walks v (task_in m v.hand)) own_hears e y is
 
 module _ (m : Meaning) (h : Header) (zs : Moves m) (r : Reaches m h zs (after m h zs)) (ends : AppendsEnd m h zs (after m h zs)) where
-  -- what stands there is a commit record
+  -- a commit record stands there
   abbrev pub Mine : ℕ → Type 0
-  Mine p = (d : Entry) → Contains (entries_in m (after m h zs)) (p, d) → is_commit d ≡ true
+  Mine p = (d : Entry) × Contains (entries_in m (after m h zs)) (p, d) × (is_commit d ≡ true)
 
   pub mine : (p : ℕ) (d : Entry) (links : List StreamLink) → is_commit d ≡ true → Contains (entries_in m (after m h zs)) (p, linked d links) → Mine p
-  mine p d links commit at f i =
-      let same : f ≡ linked d links = one_entry 0 (entries_in m (after m h zs)) p f (linked d links) (logs_rise m (after m h zs)) (has_contained (entries_in m (after m h zs)) (p, f) i) (has_contained (entries_in m (after m h zs)) (p, linked d links) at) in
-      subst (λ (z : Entry). is_commit z ≡ true) (sym same) commit
+  mine p d links commit at = (linked d links, at, commit)
 
   abbrev FitsAt : Client m → Type 0
   FitsAt c = Fits m (entries_in m (after m h zs)) Mine mine c
 
-  pub record State (w : World m) : Type 0 where
-    pub clients : (k : ℕ) → FitsAt (client m w k)
-
-  module _ (xs : Moves m) (e : EventOf m) (ys : Moves m) (split : zs ≡ xs ++ Takes e ∷ ys) (st : State (after m h xs)) where
+  module _ (xs : Moves m) (e : EventOf m) (ys : Moves m) (split : zs ≡ xs ++ Takes e ∷ ys) where
     node_itself : (a : NodeId) → node_eq a a ≡ true
     unfolding node_eq
     node_itself a = both_and (role_number a.role == role_number a.role) (a.num == a.num) (number_same (role_number a.role) (role_number a.role) refl) (number_same a.num a.num refl)
@@ -113,34 +106,25 @@ module _ (m : Meaning) (h : Header) (zs : Moves m) (r : Reaches m h zs (after m 
         → LandsBy m (entries_in m (after m h zs)) (append_by m (client m (after m h xs) n).work) (work_ends m (client m (after m h xs) n) (client m (after m h xs) n).work p.from p.rid (reply p.msg))
     lands n p to d a x is at = ends xs ys e split n a x is (ended_here n p to d ∙ at)
 
-    turned : (n : ℕ) (t : ClientTurn m) → (i : ClientInput m (config m (after m h xs)) n t) → From m (after m h xs) e n t i → FitsAt t.now
-    turned n t (Commanded x) b = command_fits m (entries_in m (after m h zs)) Mine mine (client m (after m h xs) n) x (st.clients n)
-    turned n t (Hears' p i) b = deliver_fits m (entries_in m (after m h zs)) Mine mine (client m (after m h xs) n) p.from p.rid p.msg (st.clients n) (lands n p i.to_node b)
-    turned n t Ticks' b = tick_fits m (entries_in m (after m h zs)) Mine mine (client m (after m h xs) n) (st.clients n)
-
-    stepped : (v : World m) → Speaks m (after m h xs) e v → State v
-    stepped v (Silent t c nn) = record { clients = λ k. subst FitsAt (sym (c k)) (st.clients k) }
-    stepped v (Speaks' n t s i noted x f b) = record { clients = λ k. by k (f k) }
-      where
-        by : (k : ℕ) → Turns m (after m h xs) v n t s k → FitsAt (client m v k)
-        by k (inl a) = subst FitsAt (sym a.1) (turned n t i b)
-        by k (inr a) = subst FitsAt (sym a.0) (st.clients k)
-
-  on_move : (xs : Moves m) (x : Move m) (rest : Moves m) → zs ≡ xs ++ x ∷ rest → State (after m h xs) → State (after m h (xs ++ x ∷ []))
-  on_move xs Next rest split k = subst State (sym (then_next m h xs)) (record { clients = k.clients })
-  on_move xs (Takes e) rest split k = subst State (sym (then_takes m h xs e)) (stepped xs e rest split k (happens m (after m h xs) e) (speaks m (after m h xs) e))
+    turned : (n : ℕ) → FitsAt (client m (after m h xs) n) → (t : ClientTurn m) → (i : ClientInput m (config m (after m h xs)) n t) → From m (after m h xs) e n t i → FitsAt t.now
+    turned n fits t (Commanded x) b = command_fits m (entries_in m (after m h zs)) Mine mine (client m (after m h xs) n) x fits
+    turned n fits t (Hears' p i) b = deliver_fits m (entries_in m (after m h zs)) Mine mine (client m (after m h xs) n) p.from p.rid p.msg fits (lands n p i.to_node b)
+    turned n fits t Ticks' b = tick_fits m (entries_in m (after m h zs)) Mine mine (client m (after m h xs) n) fits
 
   new_fits : (j : ℕ) → FitsAt (new_client m h j)
   unfolding new_client
   new_fits j = record { own = λ p i. absurd (has_contained [] p i); work = tt }
 
-  start_state : State (after m h [])
-  unfolding run start
-  start_state = record { clients = λ k. at_map (new_client m h) (numbers h.clients 0) k (new_client m h k) FitsAt new_fits (new_fits k) }
-
-  pub state_at : (xs ys : Moves m) → zs ≡ xs ++ ys → State (after m h xs)
-  state_at xs ys split = on_moves m h zs r (λ (ms : Moves m). State (after m h ms)) on_move [] xs ys split start_state
+  fits_at : (xs ys : Moves m) → zs ≡ xs ++ ys → (k : ℕ) → FitsAt (client m (after m h xs) k)
+  fits_at xs ys split = (run_at m h zs (λ s k c. FitsAt c) (λ ts. Unit {0}) tt (λ ts us a b. tt) (λ k j. new_fits j) (λ s k c idle fits. fits) (λ xs e ys split n s fits t i f told now. (turned xs e ys split n fits t i f, tt)) xs ys split).clients
 
   -- the client's own records, where it has walked
+  pub own_record : (xs ys : Moves m) (e : EventOf m) → zs ≡ xs ++ Takes e ∷ ys → (k : ℕ) (y : Walked m) → walked_in m (after m h xs) e k ≡ Some y → (q : ℕ) → Contains y.client.own q → Mine q
+  own_record xs ys e split k y is q i = (fits_at xs (Takes e ∷ ys) split k).own q (subst (λ (ps : List ℕ). Contains ps q) (own_waits m (after m h xs) k e y is) i)
+
+  -- .. and what stands there is one
   pub owns_commit : (xs ys : Moves m) (e : EventOf m) → zs ≡ xs ++ Takes e ∷ ys → (k : ℕ) (y : Walked m) → walked_in m (after m h xs) e k ≡ Some y → (q : ℕ) (d : Entry) → Contains y.client.own q → Contains (entries_in m (after m h zs)) (q, d) → is_commit d ≡ true
-  owns_commit xs ys e split k y is q d i at = ((state_at xs (Takes e ∷ ys) split).clients k).own q (subst (λ (ps : List ℕ). Contains ps q) (own_waits m (after m h xs) k e y is) i) d at
+  owns_commit xs ys e split k y is q d i at =
+      let has : Mine q = own_record xs ys e split k y is q i in
+      let same : d ≡ has.0 = one_entry 0 (entries_in m (after m h zs)) q d has.0 (logs_rise m (after m h zs)) (has_contained (entries_in m (after m h zs)) (q, d) at) (has_contained (entries_in m (after m h zs)) (q, has.0) has.1) in
+      subst (λ (z : Entry). is_commit z ≡ true) (sym same) has.2

@@ -153,7 +153,7 @@ module _ (m : Meaning) where
         by (Speaks' n x s j noted grown f b) =
             let z = has_map (told_of m (after m h ms) n s) x.notes t (subst (λ (ts : List (Told m)). Has ts t) (cancel (after m h ms).told added (map (told_of m (after m h ms) n s) x.notes) (sym are ∙ grown)) i) in
             told_there t n x s some z.of z.has z.is (now_is n x s (happens m (after m h ms) e) (f n))
-            (tells m h (ms ++ Takes e ∷ []) r trims ms e [] refl n s (kept_of m h (ms ++ Takes e ∷ []) r trims ms e [] refl n s noted (state.clients n)) x j b)
+            (tells m h (ms ++ Takes e ∷ []) r trims ms e [] refl n s (kept_of m h (ms ++ Takes e ∷ []) r trims (after m h ms) n s noted (state n)) x j b)
 
     -- and where no command was given, so is each reply that isn't plain
     pub handed_ends : (i : ℕ) → e ≡ Deliver i → (added : List (Told m)) (t : Told m) → (happens m (after m h ms) e).told ≡ (after m h ms).told ++ added → Has added t → (Plain m t.mark.what → ⊥) → AtWalksEnd h ms e r trims t
@@ -178,7 +178,7 @@ module _ (m : Meaning) where
             let z = has_map (told_of m (after m h ms) g.packet.to.num (noted_of m (after m h ms) g.packet.to.num)) (turn m (after m h ms) g.packet).notes t
             (subst (λ (ts : List (Told m)). Has ts t) (cancel (after m h ms).told added (map (told_of m (after m h ms) g.packet.to.num (noted_of m (after m h ms) g.packet.to.num)) (turn m (after m h ms) g.packet).notes) (sym are ∙ g.grown)) has) in
             over g z.of z.has z.is
-            (hears_tells m h (ms ++ Takes e ∷ []) r trims ms e [] refl g.packet.to.num (noted_of m (after m h ms) g.packet.to.num) (state.clients g.packet.to.num) g.packet g.sent g.to
+            (hears_tells m h (ms ++ Takes e ∷ []) r trims ms e [] refl g.packet.to.num (noted_of m (after m h ms) g.packet.to.num) (state g.packet.to.num) g.packet g.sent g.to
             (record { at = i; event = event; got = g.got; of_client = ap (λ (a : NodeId). a.role) g.to; num = refl; on = g.on }))
 
     -- what a client told that it met, by its reply

@@ -1,9 +1,10 @@
 -- What a command tells whose streams are walked: where something stays undecided, the play was blocked, or a read is unknown; and why
 -- it may not forget, or has no state of an object.
-use Rattle.std.proofs.Common.{◌≡◌, ℕ, ◌+◌, ◌<◌, ◌≤◌, List, [], ◌∷◌, Bool, true, false, refl, sym, ap, subst, inl, inr, arith, Option, Some, None}
-use Rattle.std.specs.Prelude.{nat_lt, nat_le, ◌&&◌, ◌==◌, if◌then◌else◌}
+use Rattle.std.proofs.Common.{◌≡◌, ℕ, ◌<◌, ◌≤◌, List, [], ◌∷◌, Bool, true, false, refl, sym, ap, subst, inl, inr, arith, Option, Some, None}
+use Rattle.std.specs.Prelude.{nat_lt, nat_le, ◌&&◌, if◌then◌else◌}
 use Rattle.std.proofs.lemmas.Bool.Decides.{nat_tests}
 use Rattle.tg_base.specs.declared.ids.Oid.{Oid}
+use Rattle.tg_base.specs.declared.packet.Out.{Out}
 use Rattle.tg_base.specs.declared.marks.ReadMark.{ReadMark}
 use Rattle.tg_entry.specs.declared.entry.Entry.{Entry}
 use Rattle.tg_entry.specs.Needs.{reads_of}
@@ -16,22 +17,22 @@ use Rattle.tg_model.specs.declared.refusal.Refusal.TheVariants as cause
 use Rattle.tg_model.specs.declared.trace.What.TheVariants as told
 use Rattle.tg_model.specs.Kinds.{CommandOf, WhatOf, NoteOf}
 use Rattle.tg_base.specs.Orders.{with_oid}
-use Rattle.tg_protocol.specs.Words.{directory}
-use Rattle.tg_protocol.specs.Entries.{is_commit, entry_size}
+use Rattle.tg_protocol.specs.Entries.{is_commit}
 use Rattle.tg_protocol.specs.Versions.{Changed}
-use Rattle.tg_protocol.specs.Trimming.{trim_start}
 use Rattle.tg_protocol.specs.Appending.{append_start}
 use Rattle.tg_protocol.specs.Syncing.{sync_start}
-use Rattle.tg_protocol.specs.Views.{Entries, View, Play, Step, On, Stuck, Verdict, Commits, Aborts, Unknown, base_of, state_of, view_version, changed_in, unknown_by, unknown_in, by_changes, by_versions, by_decision, said, fate_or_verdict, verdict, view_outcome, fate_of, decision_in, stands_at, decided_step, record_step, entry_step, step_at, between, play_on, play_from, play}
-use Rattle.tg_protocol.specs.Checkpoints.{ForgetFault, NoCheckpoint, OpenDecision, checkpoint, may_forget}
-use Rattle.tg_protocol.specs.Past.{commit_at, PastTurn, PastView, PastGone, past_at, RescueTurn, Wider, Wide, Absent, StuckAt, Known, rescue_turn}
-use Rattle.tg_protocol.specs.Transactions.{Tx, tx_read}
-use Rattle.tg_protocol.specs.Clients.{Purpose, Writes, Judged, Decides, Rescues, Saves, Marks, Task, Syncing, Walking, Appending, Work, Client, all_entries, member_entries, tx_number}
-use Rattle.tg_protocol.specs.Answers as answer
-use Rattle.tg_protocol.specs.Answers.{Moved, note, replies, refuses, answers, closed, appends, syncs, with_decision, decision, decides_if, lacks_decision, ask_answer, ask_in, on_ask, unsure, aborted, end_decided, end_aborted, end_no, end_record, on_end, forgotten_or, trim_above, fate_verdict, fate_record, fate_known, blocks, fate_blocked, on_fate, decide_verdict, decide_record, decide_blocked, on_decide, save_if, on_checkpoint, forget_by, mark_record, mark_notes, on_forget, floor_of, trim_begun, trims_if, on_trim, past_answer, past_played, past_turn, ahead_or, on_ask_at, rescue_decision, absent, play_target, own_view, with_view, answer_by, walked_for, walked}
-use Rattle.tg_protocol.specs.ClientSteps.{task_in}
+use Rattle.tg_protocol.specs.Views.{Entries, View, Play, Step, On, Stuck, Verdict, Commits, Aborts, Unknown, base_of, state_of, changed_in, unknown_by, unknown_in, by_changes, by_versions, by_decision, said, fate_or_verdict, verdict, view_outcome, fate_of, decision_in, stands_at, decided_step, record_step, entry_step, step_at, between, play_on, play_from, play}
+use Rattle.tg_protocol.specs.Checkpoints.{NoCheckpoint, OpenDecision, may_forget}
+use Rattle.tg_protocol.specs.Past.{commit_at, PastView, past_at, StuckAt, rescue_turn}
+use Rattle.tg_protocol.specs.Clients.{Purpose, Writes, Judged, Decides, Rescues, Marks, Task, Syncing, Walking, Appending, Work, Client, all_entries, member_entries, tx_number}
+use Rattle.tg_protocol.specs.Answers.{Moved, replies, refuses, answers, closed, appends, syncs, play_target, own_view, with_view, walked}
+use Rattle.tg_protocol.specs.ClientSteps.{plays_kept, goes_on, learns_for, task_in}
 use Rattle.tg_law_replies.proofs.History.Members.{Has}
 use Rattle.tg_law_replies.proofs.Views.Records.{commit_there}
+use Rattle.tg_law_steps.proofs.Places.{Place}
+use Rattle.tg_law_steps.proofs.Ways.{AllWalked, HasPlayed, LooksBack, IsRescue}
+use Rattle.tg_law_steps.proofs.Ends.{Judges, Commit', Abort', CannotJudge, NoRecord, NoVerdict, NoVersion, NoChange, End, GoesOn, LearnsNewer, Syncs, Appends, Refuses, Answers, Tells, IsGoing, TrimsBegin, IsLearning, SyncLearns, IsSynced, Widens, IsAppended, EndDecides, MarkBegins, IsRefused, CopyFault, AskBlocked, AskMissing, FateBlocked, FateUnknown, DecideBlocked, DecideUnknown, SaveBlocked, ForgetBlocked, ForgetUnsaved, ForgetOpen, TrimBlocked, LooksBlocked, LooksMissing, RescueStuck, IsAnswered, DecidedAt, DecidedLost, JudgedSo, JudgedLost, EndBlocked, EndUnsure, EndJudged, IsTold, IsRescued, IsMarked, PlaysOther}
+use Rattle.tg_law_steps.proofs.Along.{Answered, AnsweredBy, walked_is}
 
 -- What isn't told of what walks found: neither of something undecided, nor why nothing may be forgotten, nor that an object isn't hosted.
 module _ (m : Meaning) where
@@ -313,33 +314,12 @@ module _ (m : Meaning) (Ok : Client m → WhatOf m → Type 0) (ok : (d : Client
     pub streams : WorkStreams m x.now.hosted x.now.work
     pub drafts : WorkDrafts m x.now.work
 
-  each_ok : (d : Client m) (ns : List (NoteOf m)) → PlainNotes m ns → EachOk d ns
-  each_ok d [] k = tt
-  each_ok d (n ∷ ns) k = (ok d n.what k.0, each_ok d ns k.1)
-
-  replied : (c : Client m) (ns : List (NoteOf m)) → PlainNotes m ns → Said (replies m c ns)
-  replied c ns k = record { notes = each_ok _ ns k; work = tt; streams = tt; drafts = tt }
-
-  refused : (c : Client m) (n : ℕ) (why : Refusal) → Plain m (told.Refused why) → Said (refuses m c n why)
-  refused c n why k = record { notes = (ok _ (told.Refused why) k, tt); work = tt; streams = tt; drafts = tt }
-
-  answered : (c : Client m) (n : ℕ) (what : WhatOf m) → Plain m what → Said (answers m c n what)
-  answered c n what k = record { notes = (ok _ what k, tt); work = tt; streams = tt; drafts = tt }
-
-  appended : (c : Client m) (w : Work m) (e : Entry) (y : Purpose m) (ns : List (NoteOf m)) → DraftFits m e y → PlainPurpose m y → PlainNotes m ns → Said (appends m c w e y ns)
-  unfolding appends append_start
-  appended c w e y ns d k f = record { notes = each_ok _ ns f; work = k; streams = tt; drafts = d }
-
   synced : (c : Client m) (w : Work m) (os : List Oid) → widens m w.command ≡ true → Said (syncs m c w os)
   unfolding syncs sync_start
   synced c w os wide = record { notes = tt; work = tt; streams = λ narrow. absurd (both (widens m w.command) wide narrow); drafts = tt }
     where
       both : (b : Bool) → b ≡ true → b ≡ false → ⊥
       both b x y = cc
-
-  trimmed : (c : Client m) (w : Work m) (below : ℕ) → Said (trim_begun m c w below (trim_start c.stand below c.next))
-  unfolding trim_start
-  trimmed c w below = record { notes = tt; work = tt; streams = tt; drafts = tt }
 
   -- A client that has played.
   module _ (c : Client m) (w : Work m) where
@@ -368,191 +348,102 @@ module _ (m : Meaning) (Ok : Client m → WhatOf m → Type 0) (ok : (d : Client
       pub rescue : (d : Client m) (p q : ℕ) (x : Oid) → w.command ≡ cmd.Rescue p → rescue_turn m (all_entries m c w w.oids) w.trims w.oids c.objects p ≡ StuckAt q x → Ok d (told.Refused (cause.Undecided q x))
 
     module _ (cases : Cases) where
-      module _ (kept : PlaysKept m w.command) where
-        abbrev cv : Client m
-        cv = with_view m c plays.view
+      abbrev cv : Client m
+      cv = with_view m c plays.view
 
-        abbrev v : View m
-        v = plays.view
+      kept_of : (x : CommandOf m) → plays_kept m x ≡ true → PlaysKept m x
+      kept_of (cmd.AskAt p o q) e = absurd cc
+      kept_of (cmd.Rescue p) e = absurd cc
+      kept_of x e = tt
 
-        undecided_so : (n p : ℕ) (o : Oid) → Unknowns m own plays.view p o → decision_in own p ≡ None → Said (refuses m cv n (cause.Undecided p o))
-        undecided_so n p o u d = record { notes = (cases.undecided _ p o kept (record { view = refl; own_same = refl; hosted = refl }) u d, tt); work = tt; streams = tt; drafts = tt }
+      undecided_so : (n p : ℕ) (o : Oid) → PlaysKept m w.command → Unknowns m own plays.view p o → decision_in own p ≡ None → Said (refuses m cv n (cause.Undecided p o))
+      undecided_so n p o kept u d = record { notes = (cases.undecided _ p o kept (record { view = refl; own_same = refl; hosted = refl }) u d, tt); work = tt; streams = tt; drafts = tt }
 
-        stuck_so : (n q : ℕ) (x : Oid) → plays.came ≡ Blocked q x → Said (refuses m cv n (cause.Undecided q x))
-        stuck_so n q x is = let g = blocked_there m own (own_view m c w own) (play_target m w w.command) q x is in undecided_so n q x g.unknowns g.undecided
+      stuck_so : (n q : ℕ) (x : Oid) → PlaysKept m w.command → plays.came ≡ Blocked q x → Said (refuses m cv n (cause.Undecided q x))
+      stuck_so n q x kept is = let g = blocked_there m own (own_view m c w own) (play_target m w w.command) q x is in undecided_so n q x kept g.unknowns g.undecided
 
-        -- The answers.
+      unsure_so : (n q : ℕ) → ((d : Client m) → Seen d → Ok d (told.Unsure w.at q)) → Said (answers m (closed m cv) n (told.Unsure w.at q))
+      unsure_so n q f = record { notes = (f _ (record { view = refl; own_same = refl; hosted = refl }), tt); work = tt; streams = tt; drafts = tt }
 
-        ask_so : (o : Oid) (q : m.ask) → w.command ≡ cmd.Ask o q → (came : PlayEnd) → plays.came ≡ came → Said (on_ask m cv w o q v came)
-        ask_so o q asks (Blocked p x) is = stuck_so _ p x is
-        ask_so o q asks (Played t) is = by cv.tx
-          where
-            by_state : (t : Tx) (s : Option m.state) → state_of m v o ≡ s → Said (ask_answer m cv w t o q v s)
-            by_state t None none = record { notes = (cases.no_state _ o q asks (record { view = refl; own_same = refl; hosted = refl }) none, tt); work = tt; streams = tt; drafts = tt }
-            by_state t (Some s) some = answered (record cv { tx = Some (tx_read t (record { oid = o; part = m.look q; version = view_version m v o (m.look q) }) w.tail) }) t.number (told.Asked o q w.tail (m.answers s q)) tt
+      unclear : (n t : ℕ) → w.command ≡ cmd.End → plays.came ≡ Played t → CannotJudge m own plays.view w.at → Said (answers m (closed m cv) n (told.Unsure w.at w.at))
+      unclear n t ending is (NoRecord at) = unsure_so n w.at (λ d s. cases.none d t ending is at)
+      unclear n t ending is (NoVerdict e o at d) = let g = verdict_there m own plays.view w.at e o at d in unsure_so n w.at (λ y s. cases.unsure y w.at o ending s g.0 (omega arith) (λ l. g.1))
+      unclear n t ending is (NoVersion e o at says known) = unsure_so n w.at (λ d s. cases.unsure d w.at o ending s (unknown_there m own plays.view w.at e o at known) (omega arith) (λ l. absurd (omega (arith, l))))
+      unclear n t ending is (NoChange e at says known same) = unsure_so n w.at (λ d s. cases.same d t e ending is at says known same)
 
-            by : (t : Option Tx) → Said (ask_in m cv w o q v t)
-            by None = refused cv 0 cause.NoTx tt
-            by (Some t) = by_state t (state_of m v o) refl
+      judges_plain : (es : Entries) (v : View m) (p : ℕ) (e : Entry) (so : Bool) (what : WhatOf m) → Judges m es v p e so what → Plain m what
+      judges_plain es v p e _ _ (Commit' k) = tt
+      judges_plain es v p e _ _ (Abort' x k u i) = tt
 
-        end_decided_so : (b : Bool) (e : Entry) (p : ℕ) (so : Bool) (what : WhatOf m) → Plain m what → Said (end_decided m b cv w e p so what)
-        end_decided_so true e p so what k = appended (with_decision m cv) w (decision m cv e p so) (Decides what) [] (λ i. absurd i) k tt
-        end_decided_so false e p so what k = answered (closed m cv) (tx_number m cv.tx) what k
+      goes_so : (d : Client m) (p : Place m) (f : Client m) (t : Task m) (bs : List Out) → IsGoing m d w p f t bs → AllWalked m c w d p → Said (goes_on m f w t bs)
+      goes_so d _ _ _ _ (TrimsBegin es p t of is z) h = record { notes = tt; work = tt; streams = tt; drafts = tt }
+      goes_so d _ _ _ _ x h = elim h [ ]
 
-        unsure_so : (q : ℕ) → ((d : Client m) → Seen d → Ok d (told.Unsure w.at q)) → Said (unsure m cv w.at q)
-        unsure_so q f = record { notes = (f _ (record { view = refl; own_same = refl; hosted = refl }), tt); work = tt; streams = tt; drafts = tt }
+      learns_so : (d : Client m) (p : Place m) (t : Task m) → IsLearning m d w p t → AllWalked m c w d p → Said (learns_for m d w t)
+      learns_so d _ _ (SyncLearns bs s) h = elim h [ ]
+      learns_so d _ _ x h = elim h [ ]
 
-        end_so : w.command ≡ cmd.End → (came : PlayEnd) → plays.came ≡ came → Said (on_end m cv w own v came)
-        end_so ending (Blocked q x) is =
-            let g = blocked_there m own (own_view m c w own) (play_target m w w.command) q x is in
-            let less = subst (λ (y : CommandOf m). q < play_target m w y) ending g.below in
-            unsure_so q (λ d s. cases.unsure d q x ending s g.unknowns (omega (arith, less)) (λ l. g.undecided))
-        end_so ending (Played t) is = by (commit_at own w.at) refl
-          where
-            unknown : (e : Entry) (o : Oid) → commit_at own w.at ≡ Some e → unknown_in m v (reads_of e) w.at ≡ Some o → Said (unsure m cv w.at w.at)
-            unknown e o at known = unsure_so w.at (λ d s. cases.unsure d w.at o ending s (unknown_there m own v w.at e o at known) (omega arith) (λ l. absurd (omega (arith, l))))
+      synced_so : (d : Client m) (p : Place m) (f : Client m) (u : Work m) (os : List Oid) → IsSynced m d w p f u os → AllWalked m c w d p → Said (syncs m f u os)
+      synced_so _ _ _ _ _ (Widens at o is) (IsRescue _ of) = synced c w (with_oid o w.oids) (ap (λ (x : CommandOf m). widens m x) of)
+      synced_so _ _ _ _ _ x h = elim h [ ]
 
-            changed : (e : Entry) → commit_at own w.at ≡ Some e → verdict m v own w.at e ≡ Aborts → unknown_in m v (reads_of e) w.at ≡ None → (x : Option Changed) → changed_in m v (reads_of e) w.at ≡ x → Said (end_aborted m cv w own e w.at x)
-            changed e at says known None same = unsure_so w.at (λ d s. cases.same d t e ending is at says known same)
-            changed e at says known (Some x) same = end_decided_so (lacks_decision m own w.at e) e w.at false (aborted m w.at x) tt
+      appended_so : (d : Client m) (p : Place m) (f : Client m) (e : Entry) (y : Purpose m) (ns : List (NoteOf m)) → IsAppended m d w p f e y ns → AllWalked m c w d p → Said (appends m f w e y ns)
+      unfolding appends append_start
+      appended_so d _ _ _ _ _ (EndDecides es p t e so what of is at k l) h = record { notes = tt; work = judges_plain es p.view w.at e so what k; streams = tt; drafts = λ i. absurd i }
+      appended_so d _ _ _ _ _ (MarkBegins es p t o n of is f) h = record { notes = (ok _ _ tt, (ok _ _ tt, (ok _ _ tt, tt))); work = tt; streams = tt; drafts = λ i. refl }
+      appended_so d _ _ _ _ _ x h = record { notes = tt; work = tt; streams = tt; drafts = λ i. absurd i }
 
-            noes : (e : Entry) → commit_at own w.at ≡ Some e → verdict m v own w.at e ≡ Aborts → (o : Option Oid) → unknown_in m v (reads_of e) w.at ≡ o → Said (end_no m cv w own v e w.at o)
-            noes e at says None known = changed e at says known (changed_in m v (reads_of e) w.at) refl
-            noes e at says (Some o) known = unknown e o at known
+      refused_so : (d : Client m) (p : Place m) (f : Client m) (n : ℕ) (why : Refusal) → IsRefused m d w p f n why → AllWalked m c w d p → Said (refuses m f n why)
+      refused_so _ _ _ _ _ (AskBlocked es p o q r x of is) (HasPlayed k) = stuck_so (tx_number m cv.tx) r x (kept_of w.command k) is
+      refused_so _ _ _ _ _ (AskMissing es p o q t tx of came open' none) (HasPlayed k) =
+          record { notes = (cases.no_state _ o q of (record { view = refl; own_same = refl; hosted = refl }) none, tt); work = tt; streams = tt; drafts = tt }
+      refused_so _ _ _ _ _ (FateBlocked es p at q x of is b) (HasPlayed k) = stuck_so 0 q x (kept_of w.command k) is
+      refused_so _ _ _ _ _ (FateUnknown es p at e o of j f is d) (HasPlayed k) = let g = verdict_there m own plays.view at e o is d in undecided_so 0 at o (kept_of w.command k) g.0 g.1
+      refused_so _ _ _ _ _ (DecideBlocked es p at q x of t is b) (HasPlayed k) = stuck_so 0 q x (kept_of w.command k) is
+      refused_so _ _ _ _ _ (DecideUnknown es p at e o of t j is d) (HasPlayed k) = let g = outcome_there m own plays.view at e o is d in undecided_so 0 at o (kept_of w.command k) g.0 g.1
+      refused_so _ _ _ _ _ (SaveBlocked es p o q x of is) (HasPlayed k) = stuck_so 0 q x (kept_of w.command k) is
+      refused_so _ _ _ _ _ (ForgetBlocked es p o n q x of is) (HasPlayed k) = stuck_so 0 q x (kept_of w.command k) is
+      refused_so _ _ _ _ _ (ForgetUnsaved es p t o n of is f) (HasPlayed k) =
+          record { notes = (cases.no_save _ o n of (record { view = refl; own_same = refl; hosted = refl }) f, tt); work = tt; streams = tt; drafts = tt }
+      refused_so _ _ _ _ _ (ForgetOpen es p t o n at of is f) (HasPlayed k) =
+          record { notes = (cases.is_open _ o n at of (record { view = refl; own_same = refl; hosted = refl }) f, tt); work = tt; streams = tt; drafts = tt }
+      refused_so _ _ _ _ _ (TrimBlocked es p q x of is) (HasPlayed k) = stuck_so 0 q x (kept_of w.command k) is
+      refused_so _ _ _ _ _ (LooksBlocked at o q p r x l view came) (LooksBack _ _ _ of) = record { notes = (cases.past _ at o q p r x of refl view came, tt); work = tt; streams = tt; drafts = tt }
+      refused_so _ _ _ _ _ (LooksMissing at o q p t l view came none) (LooksBack _ _ _ of) = record { notes = (cases.no_past _ at o q p of view none, tt); work = tt; streams = tt; drafts = tt }
+      refused_so _ _ _ _ _ (RescueStuck at q x is) (IsRescue _ of) = record { notes = (cases.rescue _ at q x of is, tt); work = tt; streams = tt; drafts = tt }
+      refused_so _ _ _ _ _ (CopyFault x n rid q why e) h = elim h [ ]
+      refused_so _ _ _ _ _ x h = record { notes = (ok _ _ tt, tt); work = tt; streams = tt; drafts = tt }
 
-            verdicts : (e : Entry) → commit_at own w.at ≡ Some e → (d : Verdict) → verdict m v own w.at e ≡ d → Said (answer.end_by m cv w own v e w.at d)
-            verdicts e at Commits d = end_decided_so (lacks_decision m own w.at e) e w.at true (told.Committed w.at) tt
-            verdicts e at Aborts d = noes e at d (unknown_in m v (reads_of e) w.at) refl
-            verdicts e at (Unknown o) d = let g = verdict_there m own v w.at e o at d in unsure_so w.at (λ y s. cases.unsure y w.at o ending s g.0 (omega arith) (λ l. g.1))
+      answered_so : (d : Client m) (p : Place m) (f : Client m) (n : ℕ) (what : WhatOf m) → IsAnswered m d w p f n what → AllWalked m c w d p → Said (answers m f n what)
+      answered_so _ _ _ _ _ (EndBlocked es p q x ending is) (HasPlayed k) =
+          let g = blocked_there m own (own_view m c w own) (play_target m w w.command) q x is in
+          let less = subst (λ (y : CommandOf m). q < play_target m w y) ending g.below in
+          unsure_so (tx_number m cv.tx) q (λ d s. cases.unsure d q x ending s g.unknowns (omega (arith, less)) (λ l. g.undecided))
+      answered_so _ _ _ _ _ (EndUnsure es p t ending is j) (HasPlayed k) = unclear (tx_number m cv.tx) t ending is j
+      answered_so d _ _ _ _ (EndJudged es p t e so what ending is at k l) h = record { notes = (ok _ what (judges_plain es p.view w.at e so what k), tt); work = tt; streams = tt; drafts = tt }
+      answered_so _ _ _ _ _ (DecidedAt x bs p page other) h = elim h [ ]
+      answered_so _ _ _ _ _ (DecidedLost x bs e l other) h = elim h [ ]
+      answered_so _ _ _ _ _ (JudgedSo x bs p page of) h = elim h [ ]
+      answered_so _ _ _ _ _ (JudgedLost x bs e l of) h = elim h [ ]
+      answered_so _ _ _ _ _ x h = record { notes = (ok _ _ tt, tt); work = tt; streams = tt; drafts = tt }
 
-            by : (e : Option Entry) → commit_at own w.at ≡ e → Said (end_record m cv w own v w.at e)
-            by None at = unsure_so w.at (λ d s. cases.none d t ending is at)
-            by (Some e) at = verdicts e at (verdict m v own w.at e) refl
+      told_so : (d : Client m) (p : Place m) (f : Client m) (ns : List (NoteOf m)) → IsTold m d w p f ns → AllWalked m c w d p → Said (replies m f ns)
+      told_so _ _ _ _ (IsRescued x bs p page) h = elim h [ ]
+      told_so _ _ _ _ (IsMarked n o mark bs p page) h = elim h [ ]
+      told_so _ _ _ _ (PlaysOther es p k) h = record { notes = tt; work = tt; streams = tt; drafts = tt }
+      told_so _ _ _ _ x h = record { notes = (ok _ _ tt, tt); work = tt; streams = tt; drafts = tt }
 
-        forgotten_so : (p : ℕ) (what : WhatOf m) (b : Option ℕ) → Plain m what → Said (forgotten_or m cv w p what b)
-        forgotten_so p what None k = answered cv 0 what k
-        forgotten_so p what (Some b) k = refused cv 0 (cause.Forgotten p b) tt
-
-        fate_verdict_so : (p : ℕ) (e : Entry) → commit_at own p ≡ Some e → (d : Verdict) → verdict m v own p e ≡ d → Said (fate_verdict m cv w p d)
-        fate_verdict_so p e at Commits d = forgotten_so p _ (trim_above m w.trims p) tt
-        fate_verdict_so p e at Aborts d = forgotten_so p _ (trim_above m w.trims p) tt
-        fate_verdict_so p e at (Unknown o) d = let g = verdict_there m own v p e o at d in undecided_so 0 p o g.0 g.1
-
-        fate_record_so : (p : ℕ) (e : Option Entry) → commit_at own p ≡ e → Said (fate_record m cv w own v p e)
-        fate_record_so p None at = forgotten_so p _ (trim_above m w.trims p) tt
-        fate_record_so p (Some e) at = fate_verdict_so p e at (verdict m v own p e) refl
-
-        fate_known_so : (p : ℕ) (b : Option Bool) → Said (fate_known m cv w own v p b)
-        fate_known_so p (Some b) = answered cv 0 (told.Fate p (Some b)) tt
-        fate_known_so p None = fate_record_so p (commit_at own p) refl
-
-        fate_so : (p : ℕ) (came : PlayEnd) → plays.came ≡ came → Said (on_fate m cv w own v p came)
-        fate_so p (Played t) is = fate_known_so p (fate_of m v p)
-        fate_so p (Blocked q x) is = by (blocks m own p q)
-          where
-            by : (b : Bool) → Said (fate_blocked m cv w own v p q x b)
-            by true = stuck_so 0 q x is
-            by false = fate_known_so p (fate_of m v p)
-
-        decides_so : (b : Bool) (e : Entry) (p : ℕ) (so : Bool) (n : ℕ) (what : WhatOf m) → Plain m what → Said (decides_if m b cv w e p so n what)
-        decides_so true e p so n what k = appended (with_decision m cv) w (decision m cv e p so) (Decides what) [] (λ i. absurd i) k tt
-        decides_so false e p so n what k = answered cv n what k
-
-        decide_verdict_so : (p : ℕ) (e : Entry) → commit_at own p ≡ Some e → (d : Verdict) → view_outcome m v own p e ≡ d → Said (decide_verdict m cv w own p e d)
-        decide_verdict_so p e at (Unknown o) d = let g = outcome_there m own v p e o at d in undecided_so 0 p o g.0 g.1
-        decide_verdict_so p e at Commits d = decides_so (lacks_decision m own p e) e p true 0 _ tt
-        decide_verdict_so p e at Aborts d = decides_so (lacks_decision m own p e) e p false 0 _ tt
-
-        decide_record_so : (p : ℕ) (e : Option Entry) → commit_at own p ≡ e → Said (decide_record m cv w own v p e)
-        decide_record_so p None at = answered cv 0 (told.Decided p None) tt
-        decide_record_so p (Some e) at = decide_verdict_so p e at (view_outcome m v own p e) refl
-
-        decide_so : (p : ℕ) (came : PlayEnd) → plays.came ≡ came → (b : Option ℕ) → Said (on_decide m cv w own v p came b)
-        decide_so p came is (Some b) = refused cv 0 (cause.Forgotten p b) tt
-        decide_so p (Played t) is None = decide_record_so p (commit_at own p) refl
-        decide_so p (Blocked q x) is None = by (blocks m own p q)
-          where
-            by : (b : Bool) → Said (decide_blocked m cv w own v p q x b)
-            by true = stuck_so 0 q x is
-            by false = decide_record_so p (commit_at own p) refl
-
-        save_so : (o : Oid) (e : Entry) (b : Bool) → Said (save_if m b cv w o e)
-        save_so o e true = refused cv 0 (cause.TooLarge (entry_size e)) tt
-        save_so o e false = appended (record cv { checkpoints = cv.checkpoints + 1 }) w e (Saves o w.tail) [] (λ i. absurd i) tt tt
-
-        checkpoint_so : (o : Oid) (came : PlayEnd) → plays.came ≡ came → Said (on_checkpoint m cv w v o came)
-        checkpoint_so o (Played t) is = save_so o (checkpoint m v o w.tail cv.num (cv.checkpoints + 1)) (nat_lt 4096 (entry_size (checkpoint m v o w.tail cv.num (cv.checkpoints + 1))))
-        checkpoint_so o (Blocked q x) is = stuck_so 0 q x is
-
-        mark_so : (o : Oid) (n : ℕ) → w.command ≡ cmd.Forget o n → (f : Option (ForgetFault m)) → may_forget m own o n ≡ f → Said (forget_by m cv w o n f)
-        mark_so o n forgets (Some NoCheckpoint) is = record { notes = (cases.no_save _ o n forgets (record { view = refl; own_same = refl; hosted = refl }) is, tt); work = tt; streams = tt; drafts = tt }
-        mark_so o n forgets (Some (OpenDecision p)) is = record { notes = (cases.is_open _ o n p forgets (record { view = refl; own_same = refl; hosted = refl }) is, tt); work = tt; streams = tt; drafts = tt }
-        mark_so o n forgets None is = appended (record cv { begun = cv.begun + 1 }) w (mark_record m cv o n) (Marks (cv.begun + 1) o n) (mark_notes m (cv.begun + 1) o n) (λ i. refl) tt (tt, (tt, (tt, tt)))
-
-        forget_so : (o : Oid) (n : ℕ) → w.command ≡ cmd.Forget o n → (came : PlayEnd) → plays.came ≡ came → Said (on_forget m cv w own o n came)
-        forget_so o n forgets (Played t) is = mark_so o n forgets (may_forget m own o n) refl
-        forget_so o n forgets (Blocked q x) is = stuck_so 0 q x is
-
-        trims_so : (below : ℕ) (b : Bool) → Said (trims_if m cv w below b)
-        trims_so below true = answered cv 0 (told.Trimmed below) tt
-        trims_so below false = trimmed cv w below
-
-        trim_so : (came : PlayEnd) → plays.came ≡ came → Said (on_trim m cv w v came)
-        trim_so (Played t) is = trims_so (floor_of m (state_of m v directory)) (floor_of m (state_of m v directory) == 0)
-        trim_so (Blocked q x) is = stuck_so 0 q x is
-
-        answer_so : (x : CommandOf m) → w.command ≡ x → Said (answer_by m cv w own plays x)
-        answer_so (cmd.Ask o q) is = ask_so o q is plays.came refl
-        answer_so cmd.End is = end_so is plays.came refl
-        answer_so (cmd.Fate p) is = fate_so p plays.came refl
-        answer_so (cmd.Decide p) is = decide_so p plays.came refl (trim_above m w.trims p)
-        answer_so (cmd.Checkpoint o) is = checkpoint_so o plays.came refl
-        answer_so (cmd.Forget o n) is = forget_so o n is plays.came refl
-        answer_so cmd.Trim is = trim_so plays.came refl
-        answer_so x is = replied cv [] tt
-
-      -- past views and rescues
-
-      past_answer_so : (p : ℕ) (o : Oid) (q : m.ask) (s : Option m.state) → (s ≡ None → (d : Client m) → Ok d (told.Refused (cause.NotHosted o))) → Said (past_answer m c p o q s)
-      past_answer_so p o q None f = record { notes = (f refl _, tt); work = tt; streams = tt; drafts = tt }
-      past_answer_so p o q (Some s) f = replied c (note m 0 (told.Past o q p (m.answers s q)) ∷ []) (tt, tt)
-
-      past_so : (p : ℕ) (o : Oid) (q : m.ask) → w.command ≡ cmd.AskAt p o q → (t : PastTurn m) → past_at m (member_entries m c w w.oids) w.trims w.oids c.objects o p ≡ t → Said (past_turn m c p o q t)
-      past_so p o q is (PastGone b) t = refused c 0 (cause.Forgotten p b) tt
-      past_so p o q is (PastView u) t = by u.came refl
-        where
-          by : (came : PlayEnd) → u.came ≡ came → Said (past_played m c p o q u came)
-          by (Played z) came = past_answer_so p o q (state_of m u.view o) (λ none d. cases.no_past d p o q u is t none)
-          by (Blocked r x) came = record { notes = (cases.past _ p o q u r x is refl t came, tt); work = tt; streams = tt; drafts = tt }
-
-      ask_at_so : (p : ℕ) (o : Oid) (q : m.ask) → w.command ≡ cmd.AskAt p o q → Said (on_ask_at m c w p o q)
-      ask_at_so p o q is = by (nat_lt w.tail p)
-        where
-          by : (b : Bool) → Said (ahead_or m c w p o q b)
-          by true = refused c 0 (cause.Ahead w.tail) tt
-          by false = past_so p o q is (past_at m (member_entries m c w w.oids) w.trims w.oids c.objects o p) refl
-
-      rescue_decision_so : (es : Entries) (p : ℕ) (so : Bool) (e : Option Entry) → Said (rescue_decision m c w es p so e)
-      rescue_decision_so es p so None = replied c (note m 0 (told.Rescued p None) ∷ []) (tt, tt)
-      rescue_decision_so es p so (Some e) = appended (with_decision m c) w (decision m c e p so) (Rescues (told.Rescued p (Some so))) [] (λ i. absurd i) tt tt
-
-      absent_so : (p : ℕ) (b : Option ℕ) → Said (absent m c p b)
-      absent_so p None = replied c (note m 0 (told.Rescued p None) ∷ []) (tt, tt)
-      absent_so p (Some b) = refused c 0 (cause.Forgotten p b) tt
-
-      rescue_so : (p : ℕ) → w.command ≡ cmd.Rescue p → (t : RescueTurn m) → rescue_turn m (all_entries m c w w.oids) w.trims w.oids c.objects p ≡ t → Said (answer.rescue_by m c w (all_entries m c w w.oids) p t)
-      rescue_so p is (Wider o) t = synced c w (with_oid o w.oids) (ap (λ (x : CommandOf m). widens m x) is)
-      rescue_so p is Wide t = refused c 0 (cause.TooMany _) tt
-      rescue_so p is Absent t = absent_so p (trim_above m w.trims p)
-      rescue_so p is (StuckAt q x) t = record { notes = (cases.rescue _ p q x is t, tt); work = tt; streams = tt; drafts = tt }
-      rescue_so p is (Known so true) t = rescue_decision_so (all_entries m c w w.oids) p so (commit_at (all_entries m c w w.oids) p)
-      rescue_so p is (Known so false) t = replied c (note m 0 (told.Rescued p (Some so)) ∷ []) (tt, tt)
+      ends_so : (d : Client m) (p : Place m) (x : Moved m) → End m d w p x → AllWalked m c w d p → Said x
+      ends_so d p _ (GoesOn f t bs x) h = goes_so d p f t bs x h
+      ends_so d p _ (LearnsNewer t x) h = learns_so d p t x h
+      ends_so d p _ (Syncs f u os x) h = synced_so d p f u os x h
+      ends_so d p _ (Appends f e y ns x) h = appended_so d p f e y ns x h
+      ends_so d p _ (Refuses f n why x) h = refused_so d p f n why x h
+      ends_so d p _ (Answers f n what x) h = answered_so d p f n what x h
+      ends_so d p _ (Tells f ns x) h = told_so d p f ns x h
 
       pub walked_so : Said (walked m c w)
-      unfolding walked
-      walked_so = by w.command refl
+      walked_so = by (walked m c w) (walked_is m c w)
         where
-          by : (x : CommandOf m) → w.command ≡ x → Said (walked_for m c w x)
-          by (cmd.AskAt p o q) is = ask_at_so p o q is
-          by (cmd.Rescue p) is = rescue_so p is (rescue_turn m (all_entries m c w w.oids) w.trims w.oids c.objects p) refl
-          by x is = answer_so (subst (PlaysKept m) (sym is) tt) w.command refl
+          by : (x : Moved m) → Answered m c w x → Said x
+          by _ (AnsweredBy d p x at e) = ends_so d p x e at

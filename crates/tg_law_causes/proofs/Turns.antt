@@ -1,10 +1,5 @@
 -- What a client's turn makes of its host list, its directory as played and its transaction, and whether it refuses.
-use Rattle.std.proofs.Common.{◌≡◌, ℕ, ◌+◌, List, [], ◌∷◌, Bool, true, false, refl, sym, subst, inl, inr, Option, Some, None}
-use Rattle.std.specs.Prelude.{not, nat_lt, ◌&&◌, ◌==◌, length, if◌then◌else◌}
-use Rattle.tg_base.specs.Layouts.{Layout}
-use Rattle.tg_base.specs.Changes.{Changed as Change}
-use Rattle.tg_base.specs.declared.cell.Cell.{Cell}
-use Rattle.tg_base.specs.declared.change.Join.{Join}
+use Rattle.std.proofs.Common.{◌≡◌, ℕ, ◌+◌, List, [], ◌∷◌, refl, sym, subst, inl, inr, Option, Some, None}
 use Rattle.tg_base.specs.declared.ids.NodeId.{NodeId}
 use Rattle.tg_base.specs.declared.ids.Oid.{Oid}
 use Rattle.tg_base.specs.declared.msg.Msg.{Msg}
@@ -12,34 +7,23 @@ use Rattle.tg_base.specs.declared.packet.Out.{Out}
 use Rattle.tg_entry.specs.declared.entry.Entry.{Entry}
 use Rattle.tg_kind.specs.Meaning.{Meaning}
 use Rattle.tg_model.specs.declared.command.Command.TheVariants as cmd
-use Rattle.tg_model.specs.declared.play.PlayEnd.{PlayEnd}
-use Rattle.tg_model.specs.declared.play.PlayEnd.TheVariants.{Played, Blocked}
 use Rattle.tg_model.specs.declared.refusal.Refusal.{Refusal}
 use Rattle.tg_model.specs.declared.refusal.Refusal.TheVariants as cause
 use Rattle.tg_model.specs.declared.trace.What.TheVariants as told
 use Rattle.tg_model.specs.Kinds.{CommandOf, WhatOf, NoteOf}
-use Rattle.tg_base.specs.Orders.{node_eq, with_oid}
-use Rattle.tg_protocol.specs.Words.{layout_id}
-use Rattle.tg_entry.specs.Needs.{reads_of}
-use Rattle.tg_protocol.specs.Entries.{entry_size}
-use Rattle.tg_protocol.specs.Versions.{Changed}
-use Rattle.tg_protocol.specs.Requests.{awaits, Next, Goes, Learns, Ends, Turn}
-use Rattle.tg_protocol.specs.Replies.{Reply, IsLatest, reply}
-use Rattle.tg_protocol.specs.Appending.{Append, AppendEnd, At, Full, Forgotten, append_start, append_feed, append_again}
-use Rattle.tg_protocol.specs.Syncing.{Sync, Confirmed, sync_start, sync_feed, sync_again}
-use Rattle.tg_protocol.specs.Walking.{Walk, Members, walk_feed, walk_again}
-use Rattle.tg_protocol.specs.Trimming.{Trims, Trimmed, trim_start, trim_feed, Copying, CopyEnd, copy_start, copy_feed}
-use Rattle.tg_protocol.specs.Trimming as copying
-use Rattle.tg_protocol.specs.Reconfiguring.{Reconf, ReconfEnd, Installed, Overtaken, NotWhole, reconf_start, reconf_feed, reconf_latest, first_step, SealingSpare}
-use Rattle.tg_protocol.specs.Views.{Entries, View, Play, Verdict, Commits, Aborts, Unknown, state_of, view_version, changed_in, unknown_in, verdict, view_outcome, fate_of}
-use Rattle.tg_protocol.specs.Checkpoints.{ForgetFault, NoCheckpoint, OpenDecision, checkpoint, may_forget}
-use Rattle.tg_protocol.specs.Past.{commit_at, PastTurn, PastView, PastGone, RescueTurn, Wider, Wide, Absent, StuckAt, Known}
-use Rattle.tg_protocol.specs.Transactions.{Tx, open_tx, tx_read, tx_put, commit_record}
-use Rattle.tg_protocol.specs.Clients.{Purpose, Writes, Judged, Decides, Rescues, Saves, Marks, Task, Syncing, Walking, Appending, Trimming, Copying', Reconfiguring, Hand, Doing, Learning, Work, Client, number_on, write_of, all_entries, hosts_oid, refusal}
-use Rattle.tg_protocol.specs.Answers.{holds, Moved, moved, note, mark_record, replies, refuses, took_over, answers, closed, appends, syncs, walked, walked_for, plays_own, played_on, answer_by, with_view, on_ask, ask_in, ask_answer, unsure, aborted, end_decided, end_aborted, end_no, end_by, end_record, on_end, lacks_decision, decides_if, decision, with_decision, forgotten_or, fate_verdict, fate_record, fate_known, fate_blocked, blocks, on_fate, decide_verdict, decide_record, decide_blocked, on_decide, save_if, on_checkpoint, forget_by, on_forget, trim_next, trim_begun, trims_if, on_trim, past_answer, past_played, past_turn, ahead_or, on_ask_at, rescue_decision, rescue_known, absent, rescue_by, trim_above}
-use Rattle.tg_protocol.specs.ClientSteps.{task_in, task_awaited, after_turn, met, goes_on, learns_for, lends, takes_back, found_by, start_walk, walks, lo_for, knows, sync_to, on_sync, stale, starts_over, gives_up, given_up_if, at_trim, walk_ended_by, walk_to, on_walk, knows_page, owns, record_lost, lost, page_known, decided_for, append_ended, append_to, on_append, trim_to, on_trims, copy_to, on_copy, stands, reconf_ended, reconf_to, on_reconf, task_feed, copies_again, task_again, on_newer, fed_if, hand_feed, latest_if, reply_feed, feed, new_work, hosts_more, puts, asked_of_state, asks_view, asks_by, asks, purpose_of, ends, accepts, refused_or, given, ClientTurn, client_command, client_deliver, client_tick, tick_by}
-use Rattle.tg_protocol.specs.ClientSteps as step
+use Rattle.tg_protocol.specs.Replies.{Reply, reply}
+use Rattle.tg_protocol.specs.Appending.{append_start}
+use Rattle.tg_protocol.specs.Syncing.{sync_start}
+use Rattle.tg_protocol.specs.Transactions.{commit_record}
+use Rattle.tg_protocol.specs.Clients.{Purpose, Writes, Decides, Rescues, Task, Appending, Hand, Work, Client, number_on, refusal}
+use Rattle.tg_protocol.specs.Answers.{holds, Moved, moved, note, replies, refuses, took_over, answers, closed, appends, syncs, with_decision}
+use Rattle.tg_protocol.specs.ClientSteps.{task_in, goes_on, learns_for, owns, lost, feed, new_work, accepts, refused_or, given, ClientTurn, client_command, client_deliver, client_tick, tick_by}
 use Rattle.tg_protocol.specs.Causes.{KeepsHosts, KeepsTx}
+use Rattle.tg_law_steps.proofs.Places.{Place, Feeds, Newer, OnAppend, Walks}
+use Rattle.tg_law_steps.proofs.Ways.{Way, FeedsAppend, NewerAppend, AllWalked, HasPlayed}
+use Rattle.tg_law_steps.proofs.Ends.{End, GoesOn, LearnsNewer, Syncs, Appends, Refuses as Refuses', Answers, Tells, IsGoing, AppendGoes, IsLearning, AppendLearns, IsSynced, JudgedAt, IsAppended, MarkBegins, EndDecides, Commit', IsRefused, RecordForgotten, IsAnswered, DecidedAt, DecidedLost, JudgedSo, JudgedLost, EndJudged, IsTold, IsRescued, IsMarked, PlaysOther}
+use Rattle.tg_law_steps.proofs.Takes.{IsSaid, NoTxOpen, NoViewKept, NoStateKept, ReadsOnly, Taken as Taken', SaidAtOnce, SyncsFirst, AppendsRecord, ForWrites, taken}
+use Rattle.tg_law_steps.proofs.Along.{delivered as delivered', over_walks}
 
 module _ (m : Meaning) where
   abbrev pub NotRefused : WhatOf m → Type 0
@@ -64,6 +48,27 @@ module _ (m : Meaning) where
   Fine None = Unit {0}
   Fine (Some w) = TaskFine (task_in m w.hand)
 
+  -- the answer that waits for an append, at a place within a turn
+  abbrev pub Aims : Place m → Type 0
+  Aims (OnAppend y bs to) = PurposeFine y
+  Aims p = Unit {0}
+
+  -- what is answered or told is no refusal
+  pub answer_fine : (c : Client m) (w : Work m) (p : Place m) (d : Client m) (n : ℕ) (what : WhatOf m) → IsAnswered m c w p d n what → Aims p → NotRefused what
+  answer_fine c w _ _ _ _ (DecidedAt x bs p d no_end) k = k
+  answer_fine c w _ _ _ _ (DecidedLost x bs e lost no_end) k = k
+  answer_fine c w _ _ _ _ (JudgedSo x bs p d of) k = k
+  answer_fine c w _ _ _ _ (JudgedLost x bs e lost of) k = k
+  answer_fine c w _ _ _ _ (EndJudged es p upto e _ _ of came i (Commit' v) l) k = tt
+  answer_fine c w _ _ _ _ (EndJudged es p upto e _ _ of came i j l) k = tt
+  answer_fine c w _ _ _ _ x k = tt
+
+  pub told_fine : (c : Client m) (w : Work m) (p : Place m) (d : Client m) (ns : List (NoteOf m)) → IsTold m c w p d ns → Aims p → NoneRefused ns
+  told_fine c w _ _ _ (IsRescued x bs p d) k = (k, tt)
+  told_fine c w _ _ _ (IsMarked n o mark bs p d) k = (tt, (tt, tt))
+  told_fine c w _ _ _ (PlaysOther es p is) k = tt
+  told_fine c w _ _ _ x k = (tt, tt)
+
 -- The client before the step.
 module _ (m : Meaning) (c0 : Client m) where
   pub record Kept (d : Client m) : Type 0 where
@@ -83,9 +88,6 @@ module _ (m : Meaning) (c0 : Client m) where
   -- a client within the step
   abbrev pub In : Client m → Type 0
   In c = (c.hosted ≡ c0.hosted) × (c.dir ≡ c0.dir) × (c.played ≡ c0.played) × (c.tx ≡ c0.tx) × Fine m c.work
-
-  hosts : (c : Client m) → In c → KeepsHosts m c0 c
-  hosts c h = record { hosted = h.0; dir = h.1; played = h.2 }
 
   still : (c : Client m) → In c → Takes (moved m c [])
   still c h = Silent refl (record { hosts = record { hosted = h.0; dir = h.1; played = h.2 }; tx = h.3 }) h.4
@@ -123,374 +125,72 @@ module _ (m : Meaning) (c0 : Client m) where
   unfolding syncs sync_start
   synced c w os h = Silent refl (record { hosts = record { hosted = h.0; dir = h.1; played = h.2 }; tx = h.3 }) tt
 
-  -- The answers of commands that have played.
+  -- Along a turn.
 
-  ask_turn : (c : Client m) (w : Work m) (o : Oid) (q : m.ask) (v : View m) (came : PlayEnd) → In c → Turned (on_ask m c w o q v came)
-  ask_turn c w o q v (Blocked p x) h = refused c _ (cause.Undecided p x) h
-  ask_turn c w o q v (Played t) h = by c.tx
-    where
-      answer : (t : Tx) (s : Option m.state) → Turned (ask_answer m c w t o q v s)
-      answer t None = refused c t.number (cause.NotHosted o) h
-      answer t (Some s) = answered (record c { tx = Some (tx_read t (record { oid = o; part = m.look q; version = view_version m v o (m.look q) }) w.tail) }) t.number (told.Asked o q w.tail (m.answers s q)) tt
+  -- the answer that waits for an append there is no refusal
+  abbrev Aim : Place m → Type 0
+  Aim (Feeds t n rid x) = TaskFine m t
+  Aim (Newer t n rid q) = TaskFine m t
+  Aim p = Aims m p
 
-      by : (t : Option Tx) → Turned (ask_in m c w o q v t)
-      by None = refused c 0 cause.NoTx h
-      by (Some t) = answer t (state_of m v o)
+  aims : (p : Place m) → Aim p → Aims m p
+  aims (OnAppend y bs to) k = k
+  aims p k = tt
 
-  unsure_turn : (c : Client m) (p q : ℕ) → Turned (unsure m c p q)
-  unsure_turn c p q = answered (closed m c) _ (told.Unsure p q) tt
+  abbrev At' : Client m → Work m → Place m → Type 0
+  At' c w p = In c × Aim p
 
-  end_decided_turn : (b : Bool) (c : Client m) (w : Work m) (e : Entry) (p : ℕ) (so : Bool) (what : WhatOf m) → In c → NotRefused m what → Turned (end_decided m b c w e p so what)
-  end_decided_turn true c w e p so what h k = On (appended (with_decision m c) w (decision m c e p so) (Decides what) h k)
-  end_decided_turn false c w e p so what h k = answered (closed m c) _ what k
+  way : (c : Client m) (w : Work m) (p : Place m) (d : Client m) (v : Work m) (q : Place m) → Way m c w p d v q → At' c w p → At' d v q
+  way c w _ _ _ _ (FeedsAppend a y n rid x) h = h
+  way c w _ _ _ _ (NewerAppend a y n rid q) h = h
+  way c w _ _ _ _ x h = (h.0, tt)
 
-  end_aborted_turn : (c : Client m) (w : Work m) (es : Entries) (e : Entry) (p : ℕ) (x : Option Changed) → In c → Turned (end_aborted m c w es e p x)
-  end_aborted_turn c w es e p None h = unsure_turn c p p
-  end_aborted_turn c w es e p (Some x) h = end_decided_turn (lacks_decision m es p e) c w e p false (aborted m p x) h tt
+  walked_way : (c : Client m) (w : Work m) (d : Client m) (q : Place m) → AllWalked m c w d q → At' c w (Walks []) → At' d w q
+  walked_way c w _ _ (HasPlayed k) h = h
+  walked_way c w _ _ x h = h
 
-  end_no_turn : (c : Client m) (w : Work m) (es : Entries) (v : View m) (e : Entry) (p : ℕ) (o : Option Oid) → In c → Turned (end_no m c w es v e p o)
-  end_no_turn c w es v e p None h = end_aborted_turn c w es e p (changed_in m v (reads_of e) p) h
-  end_no_turn c w es v e p (Some o) h = unsure_turn c p p
+  in_going : (c : Client m) (w : Work m) (p : Place m) (d : Client m) (t : Task m) (bs : List Out) → IsGoing m c w p d t bs → At' c w p → In d × TaskFine m t
+  in_going c w _ _ _ _ (AppendGoes y bs a) h = h
+  in_going c w _ _ _ _ x h = (h.0, tt)
 
-  end_by_turn : (c : Client m) (w : Work m) (es : Entries) (v : View m) (e : Entry) (p : ℕ) (d : Verdict) → In c → Turned (end_by m c w es v e p d)
-  end_by_turn c w es v e p Commits h = end_decided_turn (lacks_decision m es p e) c w e p true (told.Committed p) h tt
-  end_by_turn c w es v e p Aborts h = end_no_turn c w es v e p (unknown_in m v (reads_of e) p) h
-  end_by_turn c w es v e p (Unknown o) h = unsure_turn c p p
+  in_learning : (c : Client m) (w : Work m) (p : Place m) (t : Task m) → IsLearning m c w p t → At' c w p → TaskFine m t
+  in_learning c w _ _ (AppendLearns y bs a) h = h.1
+  in_learning c w _ _ x h = tt
 
-  end_record_turn : (c : Client m) (w : Work m) (es : Entries) (v : View m) (p : ℕ) (e : Option Entry) → In c → Turned (end_record m c w es v p e)
-  end_record_turn c w es v p None h = unsure_turn c p p
-  end_record_turn c w es v p (Some e) h = end_by_turn c w es v e p (verdict m v es p e) h
+  in_synced : (c : Client m) (w : Work m) (p : Place m) (d : Client m) (v : Work m) (os : List Oid) → IsSynced m c w p d v os → In c → In d
+  in_synced c w _ _ _ _ (JudgedAt bs p d) h = h
+  in_synced c w _ _ _ _ x h = h
 
-  end_turn : (c : Client m) (w : Work m) (es : Entries) (v : View m) (came : PlayEnd) → In c → Turned (on_end m c w es v came)
-  end_turn c w es v (Played t) h = end_record_turn c w es v w.at (commit_at es w.at) h
-  end_turn c w es v (Blocked q x) h = unsure_turn c w.at q
+  appends_takes : (c : Client m) (w : Work m) (p : Place m) (d : Client m) (e : Entry) (y : Purpose m) (ns : List (NoteOf m)) → IsAppended m c w p d e y ns → In c → Takes (appends m d w e y ns)
+  appends_takes c w _ _ _ _ _ (MarkBegins es p upto o n of came may) h = appended_so (record c { begun = c.begun + 1 }) w _ _ _ _ tt (tt, (tt, (tt, tt)))
+  appends_takes c w _ _ _ _ _ (EndDecides es p upto e _ _ of came i (Commit' v) l) h = appended (with_decision m c) w _ _ h tt
+  appends_takes c w _ _ _ _ _ (EndDecides es p upto e _ _ of came i j l) h = appended (with_decision m c) w _ _ h tt
+  appends_takes c w _ d e y _ x h = appended d w e y h tt
 
-  forgotten_turn : (c : Client m) (w : Work m) (p : ℕ) (what : WhatOf m) (b : Option ℕ) → In c → NotRefused m what → Turned (forgotten_or m c w p what b)
-  forgotten_turn c w p what None h k = answered c 0 what k
-  forgotten_turn c w p what (Some b) h k = refused c 0 (cause.Forgotten p b) h
+  refuses_turned : (c : Client m) (w : Work m) (p : Place m) (d : Client m) (n : ℕ) (why : Refusal) → IsRefused m c w p d n why → In c → Turned (refuses m d n why)
+  refuses_turned c w _ _ _ _ (RecordForgotten y bs p b of) h = Refuses _ (cause.Forgotten p b) refl (record { hosted = h.0; dir = h.1; played = h.2 }) (inr (tt, refl)) tt
+  refuses_turned c w _ d n why x h = refused d n why h
 
-  fate_verdict_turn : (c : Client m) (w : Work m) (p : ℕ) (d : Verdict) → In c → Turned (fate_verdict m c w p d)
-  fate_verdict_turn c w p Commits h = forgotten_turn c w p _ (trim_above m w.trims p) h tt
-  fate_verdict_turn c w p Aborts h = forgotten_turn c w p _ (trim_above m w.trims p) h tt
-  fate_verdict_turn c w p (Unknown o) h = refused c 0 (cause.Undecided p o) h
+  tells_takes : (c : Client m) (w : Work m) (p : Place m) (d : Client m) (ns : List (NoteOf m)) → IsTold m c w p d ns → In c → NoneRefused m ns → Takes (replies m d ns)
+  tells_takes c w _ _ _ (PlaysOther es p k) h f = Silent refl (record { hosts = record { hosted = h.0; dir = h.1; played = h.2 }; tx = h.3 }) tt
+  tells_takes c w _ _ _ (IsMarked n o mark bs p d) h f = replied (took_over m (owns m c p d) c.view) _ _ f
+  tells_takes c w _ d _ x h f = replied d _ [] f
 
-  fate_record_turn : (c : Client m) (w : Work m) (es : Entries) (v : View m) (p : ℕ) (e : Option Entry) → In c → Turned (fate_record m c w es v p e)
-  fate_record_turn c w es v p None h = forgotten_turn c w p _ (trim_above m w.trims p) h tt
-  fate_record_turn c w es v p (Some e) h = fate_verdict_turn c w p (verdict m v es p e) h
-
-  fate_known_turn : (c : Client m) (w : Work m) (es : Entries) (v : View m) (p : ℕ) (b : Option Bool) → In c → Turned (fate_known m c w es v p b)
-  fate_known_turn c w es v p (Some b) h = answered c 0 _ tt
-  fate_known_turn c w es v p None h = fate_record_turn c w es v p (commit_at es p) h
-
-  fate_turn : (c : Client m) (w : Work m) (es : Entries) (v : View m) (p : ℕ) (came : PlayEnd) → In c → Turned (on_fate m c w es v p came)
-  fate_turn c w es v p (Played t) h = fate_known_turn c w es v p (fate_of m v p) h
-  fate_turn c w es v p (Blocked q x) h = by (blocks m es p q)
-    where
-      by : (b : Bool) → Turned (fate_blocked m c w es v p q x b)
-      by true = refused c 0 (cause.Undecided q x) h
-      by false = fate_known_turn c w es v p (fate_of m v p) h
-
-  decides_turn : (b : Bool) (c : Client m) (w : Work m) (e : Entry) (p : ℕ) (so : Bool) (what : WhatOf m) → In c → NotRefused m what → Turned (decides_if m b c w e p so 0 what)
-  decides_turn true c w e p so what h k = On (appended (with_decision m c) w (decision m c e p so) (Decides what) h k)
-  decides_turn false c w e p so what h k = answered c 0 what k
-
-  decide_verdict_turn : (c : Client m) (w : Work m) (es : Entries) (p : ℕ) (e : Entry) (d : Verdict) → In c → Turned (decide_verdict m c w es p e d)
-  decide_verdict_turn c w es p e (Unknown o) h = refused c 0 (cause.Undecided p o) h
-  decide_verdict_turn c w es p e Commits h = decides_turn (lacks_decision m es p e) c w e p true (told.Decided p (Some true)) h tt
-  decide_verdict_turn c w es p e Aborts h = decides_turn (lacks_decision m es p e) c w e p false (told.Decided p (Some false)) h tt
-
-  decide_record_turn : (c : Client m) (w : Work m) (es : Entries) (v : View m) (p : ℕ) (e : Option Entry) → In c → Turned (decide_record m c w es v p e)
-  decide_record_turn c w es v p None h = answered c 0 _ tt
-  decide_record_turn c w es v p (Some e) h = decide_verdict_turn c w es p e (view_outcome m v es p e) h
-
-  decide_turn : (c : Client m) (w : Work m) (es : Entries) (v : View m) (p : ℕ) (came : PlayEnd) (b : Option ℕ) → In c → Turned (on_decide m c w es v p came b)
-  decide_turn c w es v p came (Some b) h = refused c 0 (cause.Forgotten p b) h
-  decide_turn c w es v p (Played t) None h = decide_record_turn c w es v p (commit_at es p) h
-  decide_turn c w es v p (Blocked q x) None h = by (blocks m es p q)
-    where
-      by : (b : Bool) → Turned (decide_blocked m c w es v p q x b)
-      by true = refused c 0 (cause.Undecided q x) h
-      by false = decide_record_turn c w es v p (commit_at es p) h
-
-  checkpoint_turn : (c : Client m) (w : Work m) (v : View m) (o : Oid) (came : PlayEnd) → In c → Turned (on_checkpoint m c w v o came)
-  checkpoint_turn c w v o (Blocked q x) h = refused c 0 (cause.Undecided q x) h
-  checkpoint_turn c w v o (Played t) h = by (checkpoint m v o w.tail c.num (c.checkpoints + 1)) (nat_lt 4096 (entry_size (checkpoint m v o w.tail c.num (c.checkpoints + 1))))
-    where
-      by : (e : Entry) (b : Bool) → Turned (save_if m b c w o e)
-      by e true = refused c 0 _ h
-      by e false = On (appended (record c { checkpoints = c.checkpoints + 1 }) w e (Saves o w.tail) h tt)
-
-  forget_by_turn : (c : Client m) (w : Work m) (o : Oid) (n : ℕ) (f : Option (ForgetFault m)) → In c → Turned (forget_by m c w o n f)
-  forget_by_turn c w o n (Some NoCheckpoint) h = refused c 0 _ h
-  forget_by_turn c w o n (Some (OpenDecision p)) h = refused c 0 _ h
-  forget_by_turn c w o n None h = On (appended_so (record c { begun = c.begun + 1 }) w (mark_record m c o n) (Marks (c.begun + 1) o n) _ _ tt (tt, (tt, (tt, tt))))
-
-  forget_turn : (c : Client m) (w : Work m) (es : Entries) (o : Oid) (n : ℕ) (came : PlayEnd) → In c → Turned (on_forget m c w es o n came)
-  forget_turn c w es o n (Played t) h = forget_by_turn c w o n (may_forget m es o n) h
-  forget_turn c w es o n (Blocked q x) h = refused c 0 (cause.Undecided q x) h
-
-  trims_turn : (c : Client m) (w : Work m) (b : ℕ) (zero : Bool) → In c → Turned (trims_if m c w b zero)
-  trims_turn c w b true h = answered c 0 _ tt
-  trims_turn c w b false h = by (trim_start c.stand b c.next)
-    where
-      next : (n : ℕ) (to : Next Trims Trimmed) → Turned (trim_next m c w b n to)
-      next n (Goes t) = On (held c w (Trimming t) n h tt)
-      next n (Learns t) = answered (record c { next = n }) 0 _ tt
-      next n (Ends t) = answered (record c { next = n }) 0 _ tt
-
-      by : (t : Turn Trims Trimmed) → Turned (trim_begun m c w b t)
-      by t = next t.next t.to
-
-  trim_turn : (c : Client m) (w : Work m) (v : View m) (came : PlayEnd) → In c → Turned (on_trim m c w v came)
-  trim_turn c w v (Played t) h = trims_turn c w _ _ h
-  trim_turn c w v (Blocked q x) h = refused c 0 (cause.Undecided q x) h
-
-  past_turned : (c : Client m) (p : ℕ) (o : Oid) (q : m.ask) (x : PastTurn m) → In c → Turned (past_turn m c p o q x)
-  past_turned c p o q (PastGone b) h = refused c 0 (cause.Forgotten p b) h
-  past_turned c p o q (PastView v) h = by v.came
-    where
-      answer : (s : Option m.state) → Turned (past_answer m c p o q s)
-      answer None = refused c 0 (cause.NotHosted o) h
-      answer (Some s) = tells c 0 (told.Past o q p (m.answers s q)) tt
-
-      by : (came : PlayEnd) → Turned (past_played m c p o q v came)
-      by (Played t) = answer (state_of m v.view o)
-      by (Blocked r x) = refused c 0 (cause.Undecided r x) h
-
-  ask_at_turn : (c : Client m) (w : Work m) (p : ℕ) (o : Oid) (q : m.ask) → In c → Turned (on_ask_at m c w p o q)
-  ask_at_turn c w p o q h = by (nat_lt w.tail p)
-    where
-      by : (b : Bool) → Turned (ahead_or m c w p o q b)
-      by true = refused c 0 (cause.Ahead w.tail) h
-      by false = past_turned c p o q _ h
-
-  rescue_known_turn : (c : Client m) (w : Work m) (es : Entries) (p : ℕ) (so needs : Bool) → In c → Turned (rescue_known m c w es p so needs)
-  rescue_known_turn c w es p so false h = tells c 0 (told.Rescued p (Some so)) tt
-  rescue_known_turn c w es p so true h = by (commit_at es p)
-    where
-      by : (e : Option Entry) → Turned (rescue_decision m c w es p so e)
-      by None = tells c 0 (told.Rescued p None) tt
-      by (Some e) = On (appended (with_decision m c) w (decision m c e p so) (Rescues (told.Rescued p (Some so))) h tt)
-
-  rescue_turned : (c : Client m) (w : Work m) (es : Entries) (p : ℕ) (t : RescueTurn m) → In c → Turned (rescue_by m c w es p t)
-  rescue_turned c w es p (Wider o) h = On (synced c w (with_oid o w.oids) h)
-  rescue_turned c w es p Wide h = refused c 0 _ h
-  rescue_turned c w es p Absent h = by (trim_above m w.trims p)
-    where
-      by : (b : Option ℕ) → Turned (absent m c p b)
-      by None = tells c 0 (told.Rescued p None) tt
-      by (Some b) = refused c 0 (cause.Forgotten p b) h
-  rescue_turned c w es p (StuckAt q x) h = refused c 0 (cause.Undecided q x) h
-  rescue_turned c w es p (Known so needs) h = rescue_known_turn c w es p so needs h
-
-  answer_turn : (c : Client m) (w : Work m) (es : Entries) (p : Play m) (x : CommandOf m) → In c → Turned (answer_by m c w es p x)
-  answer_turn c w es p (cmd.Ask o q) h = ask_turn c w o q p.view p.came h
-  answer_turn c w es p cmd.End h = end_turn c w es p.view p.came h
-  answer_turn c w es p (cmd.Fate at) h = fate_turn c w es p.view at p.came h
-  answer_turn c w es p (cmd.Decide at) h = decide_turn c w es p.view at p.came _ h
-  answer_turn c w es p (cmd.Checkpoint o) h = checkpoint_turn c w p.view o p.came h
-  answer_turn c w es p (cmd.Forget o n) h = forget_turn c w es o n p.came h
-  answer_turn c w es p cmd.Trim h = trim_turn c w p.view p.came h
-  answer_turn c w es p x h = On (Silent refl (record { hosts = record { hosted = h.0; dir = h.1; played = h.2 }; tx = h.3 }) tt)
-
-  played_turn : (c : Client m) (w : Work m) (es : Entries) (p : Play m) → In c → Turned (played_on m c w es p)
-  played_turn c w es p h = answer_turn (with_view m c p.view) w es p w.command h
-
-  walked_turn : (c : Client m) (w : Work m) → In c → Turned (walked m c w)
-  unfolding walked
-  walked_turn c w h = by w.command
-    where
-      own : (es : Entries) → Turned (plays_own m c w es)
-      own es = played_turn c w es _ h
-
-      by : (x : CommandOf m) → Turned (walked_for m c w x)
-      by (cmd.AskAt p o q) = ask_at_turn c w p o q h
-      by (cmd.Rescue p) = rescue_turned c w _ p _ h
-      by x = own (all_entries m c w c.hosted)
-
-  -- Walks and syncs.
-
-  walks_turn : (os : List Oid) (c : Client m) (w : Work m) → In c → Turned (walks m os c w)
-  unfolding walks
-  walks_turn [] c w h = walked_turn c w h
-  walks_turn (o ∷ os) c w h = by ((start_walk m c w o).to) (λ x. walks_turn os (takes_back m c x) (found_by m w o x) h)
-    where
-      by : (n : Next Walk Members) → ((x : Members) → Turned (walks m os (takes_back m c x) (found_by m w o x)))
-          → Turned (elim n as (λ _. Moved m) [
-            | Goes x ↦ goes_on m (lends m (after_turn m c (start_walk m c w o))) w (Walking x os) []
-            | Learns x ↦ moved m c []
-            | Ends x ↦ walks m os (takes_back m c x) (found_by m w o x)
-          ])
-      by (Goes x) rest = On (goes (lends m (after_turn m c (start_walk m c w o))) w (Walking x os) [] h tt)
-      by (Learns x) rest = On (still c h)
-      by (Ends x) rest = rest x
-
-  sync_turn : (c : Client m) (w : Work m) (t : Turn Sync Confirmed) → In c → Turned (on_sync m c w t)
-  sync_turn c w t h = by t.to
-    where
-      known : (s : Option (ℕ × Cell)) → In (knows m (after_turn m c t) s)
-      known None = h
-      known (Some s) = h
-
-      by : (x : Next Sync Confirmed) → Turned (sync_to m (after_turn m c t) (met m w t) t.besides x)
-      by (Goes s) = On (goes (after_turn m c t) (met m w t) (Syncing s) t.besides h tt)
-      by (Learns s) = On (learns (after_turn m c t) (met m w t) (Syncing s) h tt)
-      by (Ends x) = walks_turn w.oids (knows m (after_turn m c t) x.settled) (record (met m w t) { tail = x.tail; lasts = x.lasts; lo = lo_for m (after_turn m c t) w.command }) (known x.settled)
-
-  walk_end_turn : (c : Client m) (w : Work m) (o : Oid) (os : List Oid) (x : Members) (g : Option ℕ) → In c → Turned (walk_ended_by m c w o os x g)
-  walk_end_turn c w o os x None h = walks_turn os c w h
-  walk_end_turn c w o os x (Some b) h = by (given_up_if m (gives_up m c w b) c) (gives (gives_up m c w b)) (stale m c w o x b) (gives_up m c w b && not (w.lo == 0))
-    where
-      gives : (t : Bool) → In (given_up_if m t c)
-      gives true = h
-      gives false = h
-
-      over : (d : Client m) (t : Bool) → In d → Turned (starts_over m d w os t)
-      over d true k = walks_turn w.oids d (record w { lo = 0; found = []; trims = [] }) k
-      over d false k = walks_turn os d w k
-
-      by : (d : Client m) → In d → (s t : Bool) → Turned (at_trim m d w os s t)
-      by d k true t = On (synced d w w.oids k)
-      by d k false t = over d t k
-
-  walk_turn : (c : Client m) (w : Work m) (o : Oid) (os : List Oid) (t : Turn Walk Members) → In c → Turned (on_walk m c w o os t)
-  walk_turn c w o os t h = by t.to
-    where
-      by : (x : Next Walk Members) → Turned (walk_to m (after_turn m c t) (met m w t) o os x)
-      by (Goes x) = On (goes (after_turn m c t) (met m w t) (Walking x os) [] h tt)
-      by (Learns x) = On (learns (after_turn m c t) (met m w t) (Walking x os) h tt)
-      by (Ends x) = walk_end_turn (takes_back m (after_turn m c t) x) (found_by m (met m w t) o x) o os x x.gone h
-
-  -- Appends.
-
-  record_turn : (c : Client m) (e : AppendEnd) → In c → Turned (record_lost m c e)
-  record_turn c (Full l) h = refused c _ (cause.LogFull l) h
-  record_turn c (Forgotten p b) h = Refuses _ (cause.Forgotten p b) refl (record { hosted = h.0; dir = h.1; played = h.2 }) (inr (tt, refl)) tt
-  record_turn c (At p d) h = On (still c h)
-
-  decided_turn : (c : Client m) (x : CommandOf m) (what : WhatOf m) → NotRefused m what → Turned (decided_for m c x what)
-  decided_turn c cmd.End what k = answered (closed m c) _ what k
-  decided_turn c x what k = answered c 0 what k
-
-  lost_turn : (c : Client m) (n : ℕ) (e : AppendEnd) → In c → Turned (lost m c n e)
-  lost_turn c n (Full l) h = refused c n (cause.LogFull l) h
-  lost_turn c n (Forgotten p b) h = refused c n (cause.Forgotten p b) h
-  lost_turn c n (At p d) h = On (still c h)
-
-  ended_turn : (c : Client m) (w : Work m) (y : Purpose m) (e : AppendEnd) → In c → PurposeFine m y → Turned (append_ended m c w y e)
-  ended_turn c w Writes (At p d) h k = tells (closed m (owns m c p d)) _ (told.Committed p) tt
-  ended_turn c w Writes (Full l) h k = record_turn c (Full l) h
-  ended_turn c w Writes (Forgotten p b) h k = record_turn c (Forgotten p b) h
-  ended_turn c w Judged (At p d) h k = On (synced (owns m c p d) (record w { at = p }) c.hosted h)
-  ended_turn c w Judged (Full l) h k = record_turn c (Full l) h
-  ended_turn c w Judged (Forgotten p b) h k = record_turn c (Forgotten p b) h
-  ended_turn c w (Decides what) e h k = decided_turn (page_known m c e) w.command what k
-  ended_turn c w (Rescues what) (At p d) h k = tells (knows_page m c p d) 0 what k
-  ended_turn c w (Rescues what) (Full l) h k = lost_turn c 0 (Full l) h
-  ended_turn c w (Rescues what) (Forgotten p b) h k = lost_turn c 0 (Forgotten p b) h
-  ended_turn c w (Saves o u) (At p d) h k = answered (knows_page m c p d) 0 (told.Saved o p u) tt
-  ended_turn c w (Saves o u) (Full l) h k = lost_turn c 0 (Full l) h
-  ended_turn c w (Saves o u) (Forgotten p b) h k = lost_turn c 0 (Forgotten p b) h
-  ended_turn c w (Marks n o j) (At p d) h k = On (replied (took_over m (owns m c p d) c.view) (note m n (told.Committed p)) (note m 0 (told.Marked o j) ∷ []) (tt, (tt, tt)))
-  ended_turn c w (Marks n o j) (Full l) h k = lost_turn c n (Full l) h
-  ended_turn c w (Marks n o j) (Forgotten p b) h k = lost_turn c n (Forgotten p b) h
-
-  append_turn : (c : Client m) (w : Work m) (y : Purpose m) (t : Turn Append AppendEnd) → In c → PurposeFine m y → Turned (on_append m c w y t)
-  append_turn c w y t h k = by t.to
-    where
-      by : (x : Next Append AppendEnd) → Turned (append_to m (after_turn m c t) (met m w t) y t.besides x)
-      by (Goes a) = On (goes (after_turn m c t) (met m w t) (Appending a y) t.besides h k)
-      by (Learns a) = On (learns (after_turn m c t) (met m w t) (Appending a y) h k)
-      by (Ends e) = ended_turn (after_turn m c t) (met m w t) y e h k
-
-  -- Trims, copies, reconfigurations.
-
-  trims_task : (c : Client m) (w : Work m) (b : ℕ) (t : Turn Trims Trimmed) → In c → Turned (on_trims m c w b t)
-  trims_task c w b t h = by t.to
-    where
-      by : (x : Next Trims Trimmed) → Turned (trim_to m (after_turn m c t) (met m w t) b x)
-      by (Goes x) = On (goes (after_turn m c t) (met m w t) (Trimming x) [] h tt)
-      by (Learns x) = On (learns (after_turn m c t) (met m w t) (Trimming x) h tt)
-      by (Ends e) = answered (after_turn m c t) 0 (told.Trimmed b) tt
-
-  copy_task : (c : Client m) (w : Work m) (x : Copying) (t : Turn Copying CopyEnd) → In c → Turned (on_copy m c w x t)
-  copy_task c w x t h = by t.to
-    where
-      by : (y : Next Copying CopyEnd) → Turned (copy_to m (after_turn m c t) (met m w t) x y)
-      by (Goes y) = On (goes (after_turn m c t) (met m w t) (Copying' y) [] h tt)
-      by (Learns y) = On (learns (after_turn m c t) (met m w t) (Copying' y) h tt)
-      by (Ends e) = tells (after_turn m c t) 0 (told.Copied x.unit x.range x.stripe) tt
-
-  reconf_task : (c : Client m) (w : Work m) (t : Turn Reconf ReconfEnd) → In c → Turned (on_reconf m c w t)
-  reconf_task c w t h = by t.to
-    where
-      ended : (e : ReconfEnd) → Turned (reconf_ended m (after_turn m c t) e)
-      ended (Installed e p) = tells (stands m (after_turn m c t) p) 0 (told.Installed e) tt
-      ended (Overtaken e p) = refused (stands m (after_turn m c t) p) 0 (cause.Overtaken e) h
-      ended (NotWhole u q p) = refused (stands m (after_turn m c t) p) 0 (cause.NotWhole u q) h
-
-      by : (x : Next Reconf ReconfEnd) → Turned (reconf_to m (after_turn m c t) w x)
-      by (Goes r) = On (goes (stands m (after_turn m c t) r.stand) w (Reconfiguring r) [] h tt)
-      by (Learns r) = On (learns (after_turn m c t) w (Reconfiguring r) h tt)
-      by (Ends e) = ended e
-
-  copies_task : (c : Client m) (w : Work m) (x : Copying) (o : Option Refusal) → In c → Turned (copies_again m c w x o)
-  copies_task c w x None h = copy_task c w x (copy_start x.unit x.range x.stripe c.next) h
-  copies_task c w x (Some why) h = refused c 0 why h
-
-  -- An awaited answer, and a newer layout.
-
-  fed_turn : (c : Client m) (w : Work m) (t : Task m) (n rid : ℕ) (x : Reply) → In c → TaskFine m t → Turned (task_feed m c w t n rid x)
-  unfolding task_feed
-  fed_turn c w (Syncing s) n rid x h k = sync_turn c w (sync_feed c.stand s s.work n x c.next) h
-  fed_turn c w (Walking j os) n rid x h k = walk_turn c w j.oid os (walk_feed c.stand j j.job n x c.next) h
-  fed_turn c w (Appending a y) n rid x h k = append_turn c w y (append_feed c.stand a a.work n x c.next) h k
-  fed_turn c w (Trimming t) n rid x h k = trims_task c w t.below (trim_feed c.stand t n x c.next) h
-  fed_turn c w (Copying' y) n rid x h k = copy_task c w y (copy_feed c.stand y y.work n x c.next) h
-  fed_turn c w (Reconfiguring r) n rid x h k = reconf_task c w (reconf_feed r r.work n rid x c.next) h
-
-  again_turn : (c : Client m) (w : Work m) (t : Task m) → In c → TaskFine m t → Turned (task_again m c w t)
-  unfolding task_again
-  again_turn c w (Syncing s) h k = sync_turn c (record w { gone_before = w.gone }) (sync_again s c.next) h
-  again_turn c w (Walking j os) h k = walk_turn c w j.oid os (walk_again c.stand j c.next) h
-  again_turn c w (Appending a y) h k = append_turn c w y (append_again c.stand a c.next) h k
-  again_turn c w (Trimming t) h k = trims_task c w t.below (trim_start c.stand t.below c.next) h
-  again_turn c w (Copying' x) h k = copies_task c w x _ h
-  again_turn c w (Reconfiguring r) h k = On (goes c w (Reconfiguring r) [] h tt)
-
-  newer_turn : (c : Client m) (w : Work m) (t : Task m) (n rid : ℕ) (q : Layout) → In c → TaskFine m t → Turned (on_newer m c w t n rid q)
-  newer_turn c w (Reconfiguring y) n rid q h k = reconf_task c w (reconf_latest y y.work n rid q c.next) h
-  newer_turn c w (Syncing s) n rid q h k = again_turn (stands m c q) w (Syncing s) h k
-  newer_turn c w (Walking j os) n rid q h k = again_turn (stands m c q) w (Walking j os) h k
-  newer_turn c w (Appending a y) n rid q h k = again_turn (stands m c q) w (Appending a y) h k
-  newer_turn c w (Trimming t) n rid q h k = again_turn (stands m c q) w (Trimming t) h k
-  newer_turn c w (Copying' x) n rid q h k = again_turn (stands m c q) w (Copying' x) h k
-
-  fed_if_turn : (b : Bool) (c : Client m) (w : Work m) (t : Task m) (from : NodeId) (rid : ℕ) (x : Reply) → In c → TaskFine m t → Turned (fed_if m b c w t from rid x)
-  fed_if_turn true c w t from rid x h k = fed_turn c w t from.num rid x h k
-  fed_if_turn false c w t from rid x h k = On (still c h)
-
-  hand_turn : (c : Client m) (w : Work m) (d : Hand m) (from : NodeId) (rid : ℕ) (x : Reply) → In c → TaskFine m (task_in m d) → Turned (hand_feed m c w d from rid x)
-  hand_turn c w (Doing t) from rid x h k = fed_if_turn (awaits (task_awaited m c.stand t) from rid) c w t from rid x h k
-  hand_turn c w (Learning waits t) from rid x h k = On (still c h)
-
-  latest_turn : (b : Bool) (c : Client m) (w : Work m) (from : NodeId) (rid : ℕ) (q : Layout) → In c → TaskFine m (task_in m w.hand) → Turned (latest_if m b c w from rid q)
-  latest_turn true c w from rid q h k = newer_turn c w (task_in m w.hand) from.num rid q h k
-  latest_turn false c w from rid q h k = On (still c h)
-
-  reply_turn : (c : Client m) (w : Work m) (from : NodeId) (rid : ℕ) (x : Reply) → In c → TaskFine m (task_in m w.hand) → Turned (reply_feed m c w from rid x)
-  reply_turn c w from rid (IsLatest q) h k = latest_turn (node_eq from (layout_id from.num) && nat_lt c.stand.epoch q.epoch) c w from rid q h k
-  reply_turn c w from rid x h k = hand_turn c w w.hand from rid x h k
+  ends_turned : (c : Client m) (w : Work m) (p : Place m) (x : Moved m) → End m c w p x → At' c w p → Turned x
+  ends_turned c w p _ (GoesOn d t bs x) h = let k = in_going c w p d t bs x h in On (goes d w t bs k.0 k.1)
+  ends_turned c w p _ (LearnsNewer t x) h = On (learns c w t h.0 (in_learning c w p t x h))
+  ends_turned c w p _ (Syncs d v os x) h = On (synced d v os (in_synced c w p d v os x h.0))
+  ends_turned c w p _ (Appends d e y ns x) h = On (appends_takes c w p d e y ns x h.0)
+  ends_turned c w p _ (Refuses' d n why x) h = refuses_turned c w p d n why x h.0
+  ends_turned c w p _ (Answers d n what x) h = answered d n what (answer_fine m c w p d n what x (aims p h.1))
+  ends_turned c w p _ (Tells d ns x) h = On (tells_takes c w p d ns x h.0 (told_fine m c w p d ns x (aims p h.1)))
 
   feed_turn : (from : NodeId) (rid : ℕ) (x : Reply) → Fine m c0.work → Turned (feed m c0 c0.work from rid x)
-  feed_turn from rid x k = by c0.work refl
+  feed_turn from rid x k = delivered' m At' Turned ends_turned way (over_walks m At' Turned ends_turned walked_way) c0 from rid x (On (still c0 here))
+      (λ w t has doing a other. (here, subst (λ (d : Hand m). TaskFine m (task_in m d)) doing (subst (Fine m) has k))) (λ w q has is e. (here, subst (Fine m) has k))
     where
       here : In c0
       here = (refl, refl, refl, refl, k)
-
-      by : (w : Option (Work m)) → c0.work ≡ w → Turned (feed m c0 w from rid x)
-      by None is = On (still c0 here)
-      by (Some w) is = reply_turn c0 w from rid x here (subst (Fine m) is k)
 
   -- Commands.
 
@@ -498,65 +198,22 @@ module _ (m : Meaning) (c0 : Client m) where
     says : (d : Client m) (n : NoteOf m) (ns : List (NoteOf m)) → d.work ≡ c0.work → NoneRefused m (n ∷ ns) → Takes (moved m d (n ∷ ns))
     says d n ns same k = Says n ns refl k (subst (Fine m) (sym same) h.4)
 
-    host_takes : (o : Oid) (b : Bool) → Takes (hosts_more m c0 o b)
-    host_takes o true = says c0 _ [] refl (tt, tt)
-    host_takes o false = says (record c0 { hosted = with_oid o c0.hosted; view = None }) _ [] refl (tt, tt)
+    said_takes : (x : CommandOf m) (d : Client m) (ns : List (NoteOf m)) → IsSaid m c0 x d ns → Takes (moved m d ns)
+    said_takes _ _ _ (NoTxOpen x is) = still c0 h
+    said_takes _ _ _ (NoViewKept o q t at is at' none) = still c0 h
+    said_takes _ _ _ (NoStateKept o q t at v is at' has none) = still c0 h
+    said_takes _ _ _ (ReadsOnly t is none) = says (closed m c0) _ _ refl (tt, (tt, tt))
+    said_takes _ d _ s = says d _ [] refl (tt, tt)
 
-    put_takes : (o : Oid) (op : m.op) (t : Option Tx) → Takes (puts m c0 o op t)
-    put_takes o op None = still c0 h
-    put_takes o op (Some t) = says (record c0 { tx = Some (tx_put t (write_of m o op)) }) _ [] refl (tt, tt)
-
-    ask_takes : (x : CommandOf m) (o : Oid) (q : m.ask) (t : Option Tx) → Takes (asks m c0 x o q t)
-    ask_takes x o q None = still c0 h
-    ask_takes x o q (Some t) = by t.snapshot
-      where
-        of_state : (at : ℕ) (v : View m) (s : Option m.state) → Takes (asked_of_state m c0 t at o q v s)
-        of_state at v None = still c0 h
-        of_state at v (Some s) = says (record c0 { tx = Some (tx_read t (record { oid = o; part = m.look q; version = view_version m v o (m.look q) }) at) }) _ [] refl (tt, tt)
-
-        views : (at : ℕ) (v : Option (View m)) → Takes (asks_view m c0 t at o q v)
-        views at None = still c0 h
-        views at (Some v) = of_state at v (state_of m v o)
-
-        by : (s : Option ℕ) → Takes (asks_by m c0 x o q t s)
-        by None = synced c0 (new_work m x) c0.hosted h
-        by (Some at) = views at c0.view
-
-    purpose_fine : (b : Bool) (y z : Purpose m) → PurposeFine m y → PurposeFine m z → PurposeFine m (if b then y else z)
-    purpose_fine true y z a b = a
-    purpose_fine false y z a b = b
-
-    end_takes : (x : CommandOf m) (t : Option Tx) → Takes (ends m c0 x t)
-    end_takes x None = still c0 h
-    end_takes x (Some t) = by (length t.writes == 0)
-      where
-        by : (b : Bool) → Takes (step.end_by m c0 x t b)
-        by true = says (closed m c0) _ _ refl (tt, (tt, tt))
-        by false = appended_so c0 (new_work m x) (commit_record t c0.num) (purpose_of m t) _ _ (purpose_fine (length t.reads == 0) Writes Judged tt tt) (tt, tt)
-
-    reconf_takes : (x : Change) → Takes (on_reconf m c0 (new_work m (cmd.Reconf x)) (reconf_start c0.stand c0.layouts x c0.num c0.next))
-    unfolding reconf_start
-    reconf_takes x = by x.join
-      where
-        by : (j : Option Join) → Takes (on_reconf m c0 (new_work m (cmd.Reconf x)) (first_step (record { change = x; me = c0.num; layouts = c0.layouts; stand = c0.stand; work = SealingSpare 0 }) c0.next j))
-        by None = goes (stands m (record c0 { next = _ }) c0.stand) (new_work m (cmd.Reconf x)) (Reconfiguring _) [] h tt
-        by (Some j) = goes (stands m (record c0 { next = _ }) c0.stand) (new_work m (cmd.Reconf x)) (Reconfiguring _) [] h tt
-
-    copy_takes : (u r s : ℕ) → Takes (copies_again m c0 (new_work m (cmd.Copy u r s)) (record { unit = u; range = r; stripe = s; work = copying.Sealing 0 }) None)
-    unfolding copy_start
-    copy_takes u r s = Silent refl (record { hosts = record { hosted = h.0; dir = h.1; played = h.2 }; tx = h.3 }) tt
+    taken_takes : (x : CommandOf m) (y : Moved m) → Taken' m c0 x y → Takes y
+    taken_takes _ _ (SaidAtOnce x d ns s) = said_takes x d ns s
+    taken_takes _ _ (SyncsFirst x k) = synced c0 (new_work m x) c0.hosted h
+    taken_takes _ _ (AppendsRecord t _ has some (ForWrites e)) = appended_so c0 (new_work m cmd.End) (commit_record t c0.num) Writes _ _ tt (tt, tt)
+    taken_takes _ _ (AppendsRecord t y has some k) = appended_so c0 (new_work m cmd.End) (commit_record t c0.num) y _ _ tt (tt, tt)
+    taken_takes _ _ x = Silent refl (record { hosts = record { hosted = h.0; dir = h.1; played = h.2 }; tx = h.3 }) tt
 
     pub accept_takes : (x : CommandOf m) → Takes (accepts m c0 x)
-    unfolding accepts
-    accept_takes (cmd.Host o) = host_takes o (hosts_oid m c0 o)
-    accept_takes cmd.Begin = says (record c0 { begun = c0.begun + 1; tx = Some (open_tx (c0.begun + 1)) }) _ [] refl (tt, tt)
-    accept_takes (cmd.Put o op) = put_takes o op c0.tx
-    accept_takes (cmd.Ask o q) = ask_takes (cmd.Ask o q) o q c0.tx
-    accept_takes cmd.End = end_takes cmd.End c0.tx
-    accept_takes cmd.Drop = says (closed m c0) _ [] refl (tt, tt)
-    accept_takes (cmd.Reconf x) = reconf_takes x
-    accept_takes (cmd.Copy u r s) = copy_takes u r s
-    accept_takes x = synced c0 (new_work m x) c0.hosted h
+    accept_takes x = taken_takes x (accepts m c0 x) (taken m c0 x)
 
 -- The turns of a client.
 module _ (m : Meaning) (c : Client m) (fine : Fine m c.work) where

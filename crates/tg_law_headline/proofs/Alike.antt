@@ -8,6 +8,7 @@ pub mod Trims
 pub mod Since
 pub mod Ends
 pub mod Speaks
+pub mod Running
 pub mod Marks
 pub mod Along
 pub mod Sights

@@ -13,3 +13,4 @@ pub mod Turns
 pub mod Seqrs
 pub mod Besides
 pub mod Puts
+pub mod Ways

@@ -1,4 +1,5 @@
 pub mod Putting
+pub mod Later
 pub mod Records
 pub mod Serving
 pub mod Confirming

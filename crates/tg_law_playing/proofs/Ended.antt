@@ -11,7 +11,7 @@ use Rattle.tg_entry.specs.Records.{linked}
 use Rattle.tg_kind.specs.Meaning.{Meaning}
 use Rattle.tg_model.specs.declared.trace.What.TheVariants as told
 use Rattle.tg_model.specs.Kinds.{EventOf, NoteOf}
-use Rattle.tg_protocol.specs.Words.{cell_at, directory, has_num, numbers}
+use Rattle.tg_protocol.specs.Words.{cell_at, directory, has_num}
 use Rattle.tg_protocol.specs.Entries.{is_commit, body_commits}
 use Rattle.tg_protocol.specs.Pages.{cell_entry}
 use Rattle.tg_protocol.specs.Replies.{reply}
@@ -21,12 +21,12 @@ use Rattle.tg_protocol.specs.Views.{Entries, View}
 use Rattle.tg_protocol.specs.Clients.{Purpose, Writes, Judged, Decides, Rescues, Saves, Marks, Task, Appending, Work, Client, new_client, upto_in, upto, known, work_cells}
 use Rattle.tg_protocol.specs.ClientSteps.{ClientTurn, task_in}
 use Rattle.tg_protocol.specs.Worlds.{World, Told, start, client, trace, log, happens}
-use Rattle.tg_protocol.specs.Runs.{Move, Moves, Next, Takes, LawfulEvent, LawfulMove, Reaches, most_steps, run}
+use Rattle.tg_protocol.specs.Runs.{Move, Moves, Takes, LawfulEvent, LawfulMove, Reaches, most_steps}
 use Rattle.tg_protocol.specs.Holding.{append_of, append_by}
 use Rattle.tg_protocol.specs.Playing.{IsOwn}
 use Rattle.tg_law_layouts.specs.Moves.After.{after}
 use Rattle.tg_law_layouts.specs.Moves.Configs.{config}
-use Rattle.tg_law_layouts.proofs.Moves.Lists.{contained, at_map}
+use Rattle.tg_law_layouts.proofs.Moves.Lists.{contained}
 use Rattle.tg_law_layouts.proofs.Moves.Members as members
 use Rattle.tg_law_layouts.proofs.Moves.Moves.{ClientInput, Commanded, Hears', Ticks'}
 use Rattle.tg_law_replies.specs.History.Worlds.{entries_in}
@@ -37,7 +37,7 @@ use Rattle.tg_law_replies.proofs.Books.Worlds.{WorldBook, nil_right, cancel, run
 use Rattle.tg_law_replies.proofs.History.Members.{Has, found, same_number}
 use Rattle.tg_law_replies.proofs.History.Cells.{logs_rise}
 use Rattle.tg_law_replies.proofs.Pages.Read.{logs_keep_grammar}
-use Rattle.tg_law_replies.proofs.Replies.Along.{Along, moved_by, run_on, passed, at_end, along}
+use Rattle.tg_law_replies.proofs.Replies.Along.{run_on, at_end}
 use Rattle.tg_law_replies.proofs.Replies.Shape.{idle_stands}
 use Rattle.tg_law_replies.proofs.Replies.Shaping.{AllShaped}
 use Rattle.tg_law_replies.proofs.Replies.Steps.{ended_here}
@@ -48,6 +48,7 @@ use Rattle.tg_law_walks.proofs.Walks.Members.{has_contained}
 use Rattle.tg_law_walks.proofs.Walks.Syncs.{logs_by_position}
 use Rattle.tg_law_syncs.specs.Known.Known.{KnownIsTheLogs}
 use Rattle.tg_law_syncs.proofs.Follow.Snapshots.{snap_run, start_snap}
+use Rattle.tg_law_headline.proofs.Alike.Running.{state_at as run_at}
 use Rattle.tg_law_headline.proofs.Alike.Speaks.{Delivered, From, Speaks, Silent, Speaks', Turns, told_of, speaks}
 use Rattle.tg_law_playing.specs.Rules.{AsksStand}
 use Rattle.tg_law_playing.proofs.Pruning.{Snapped, Says, SaysAll, LandsFor, TaskLands, WorkLands, Fits, GoodTurn, commanded, delivered, ticked}
@@ -145,20 +146,12 @@ module _ (m : Meaning) (h : Header) (ms : Moves m) (r : Reaches m h ms (after m 
         (subst (λ (y : EventOf m). ended_in m w y p.to.num ≡ work_ends m (client m w p.to.num) (client m w p.to.num).work p.from p.rid (reply p.msg)) (sym b.event)
         (ended_here m w b.at p b.got b.of_client b.on))
 
+    turned : (n : ℕ) → FitsOf n (client m w n) → (t : ClientTurn m) → (i : ClientInput m (config m w) n t) → From m w e n t i → GoodTurn m (IsRecordOf n) t
+    turned n fit t (Commanded x) b = commanded m (IsRecordOf n) (client m w n) x fit
+    turned n fit t (Hears' p comes) b = delivered m (IsRecordOf n) (client m w n) p.from p.rid p.msg fit (λ x is. lands n x (ended n p b ∙ is))
+    turned n fit t Ticks' b = ticked m (IsRecordOf n) (client m w n) fit
+
     module _ (fit : AllFit w) where
-      turned : (n : ℕ) (t : ClientTurn m) → (i : ClientInput m (config m w) n t) → From m w e n t i → GoodTurn m (IsRecordOf n) t
-      turned n t (Commanded x) b = commanded m (IsRecordOf n) (client m w n) x (fit n)
-      turned n t (Hears' p comes) b = delivered m (IsRecordOf n) (client m w n) p.from p.rid p.msg (fit n) (λ x is. lands n x (ended n p b ∙ is))
-      turned n t Ticks' b = ticked m (IsRecordOf n) (client m w n) (fit n)
-
-      fit_on : (v : World m) → Speaks m w e v → AllFit v
-      fit_on v (Silent t c nn) k = subst (FitsOf k) (sym (c k)) (fit k)
-      fit_on v (Speaks' n t s i noted x f b) k = by (f k)
-        where
-          by : Turns m w v n t s k → FitsOf k (client m v k)
-          by (inl a) = subst (FitsOf k) (sym a.1) (subst (λ (j : ℕ). FitsOf j t.now) (sym a.0) (turned n t i b).fits)
-          by (inr a) = subst (FitsOf k) (sym a.0) (fit k)
-
       said : (c : Client m) (ns : List (NoteOf m)) (y : NoteOf m) → SaysAll m c ns → members.Has ns y → Says m c y.what
       said c [] y k i = absurd i
       said c (n ∷ ns) y k (inl is) = subst (λ (z : NoteOf m). Says m c z.what) (sym is) k.0
@@ -176,31 +169,20 @@ module _ (m : Meaning) (h : Header) (ms : Moves m) (r : Reaches m h ms (after m 
             by : Turns m w v n t s x.mark.client → Says m (client m v x.mark.client) (told.Asked o q at a)
             by (inl z) =
                 subst (λ (c : Client m). Says m c (told.Asked o q at a)) (sym z.1)
-                (subst (Says m t.now) (sym (ap (λ (u : Told m). u.mark.what) y.is) ∙ is) (said t.now t.notes y.of (turned n t i b).notes y.has))
+                (subst (Says m t.now) (sym (ap (λ (u : Told m). u.mark.what) y.is) ∙ is) (said t.now t.notes y.of (turned n (fit n) t i b).notes y.has))
             by (inr z) = absurd (z.2 (ap (λ (u : Told m). u.mark.client) y.is))
 
   new_fits : (k j : ℕ) → FitsOf k (new_client m h j)
   unfolding new_client
   new_fits k j = (λ e p page is less. absurd (no_some (Data page) is), λ p i. absurd i, tt)
 
-  start_fit : AllFit (start m h)
-  unfolding start
-  start_fit k = at_map (new_client m h) (numbers h.clients 0) k (new_client m h k) (FitsOf k) (new_fits k) (new_fits k k)
-
-  all_fit : Along m AllFit ms (start m h)
-  all_fit = along m AllFit h ms start_fit next
-    where
-      next : (before rest : Moves m) (x : Move m) → ms ≡ before ++ x ∷ rest → Along m AllFit before (start m h) → AllFit (moved_by m x (run m before (start m h)))
-      next before rest Next split k = at_end m AllFit before (start m h) k
-      next before rest (Takes e) split k = fit_on before rest e split (at_end m AllFit before (start m h) k) (happens m (after m h before) e) (speaks m (after m h before) e)
-
-  fit_before : (xs ys : Moves m) → ms ≡ xs ++ ys → AllFit (after m h xs)
-  fit_before xs ys split = passed m AllFit xs ys (start m h) (subst (λ (zs : Moves m). Along m AllFit zs (start m h)) split all_fit)
+  fit_at : (xs ys : Moves m) → ms ≡ xs ++ ys → AllFit (after m h xs)
+  fit_at xs ys split = (run_at m h ms (λ s k c. FitsOf k c) (λ ts. Unit {0}) tt (λ ts us a b. tt) new_fits (λ s k c idle fits. fits) (λ xs e ys split n s fits t i b told now. ((turned xs ys e split n fits t i b).fits, tt)) xs ys split).clients
 
   -- what a client without work knows of a page below its view
   pub gives_up : KnownIsTheLogs m (after m h ms) (after m h ms) → (k p : ℕ) (page : List ℕ) → (client m end k).work ≡ None → p < upto m (client m end k) → known m (client m end k) p ≡ Some (Data page) → IsOwn m k page
   gives_up logs k p page free less is =
-      let f = at_end m AllFit ms (start m h) all_fit k in
+      let f = fit_at ms [] (sym (nil_right ms)) k in
       let c = client m end k in
       let own = num_in p c.own (f.0 free p page (ap (λ (o : Option (Work m)). cell_at (work_cells m o c.cells) p) (sym free) ∙ is) less) in
       let z = f.1 p own in
@@ -230,6 +212,6 @@ module _ (m : Meaning) (h : Header) (ms : Moves m) (r : Reaches m h ms (after m 
     -- the last step of the run
     pub asks_stand_at : (xs : Moves m) (e : EventOf m) → ms ≡ xs ++ Takes e ∷ [] → AsksStand m (after m h xs) e
     asks_stand_at xs e split k o q at a x =
-        let y = snapped xs [] e split (fit_before xs (Takes e ∷ []) split) (happens m (after m h xs) e) x.says.replies x.says.are x.told (members.has_contained x.says.replies x.told x.says.here) o q at a x.holds (speaks m (after m h xs) e) in
+        let y = snapped xs [] e split (fit_at xs (Takes e ∷ []) split) (happens m (after m h xs) e) x.says.replies x.says.are x.told (members.has_contained x.says.replies x.told x.says.here) o q at a x.holds (speaks m (after m h xs) e) in
         let z = subst (λ (j : ℕ). Says m (client m (happens m (after m h xs) e) j) (told.Asked o q at a)) x.client y in
         subst (λ (u : World m). Says m (client m u k) (told.Asked o q at a) → upto m (client m u k) ≡ at) (ap (λ (zs : Moves m). after m h zs) split ∙ run_on m xs (Takes e) (start m h)) (λ s. stands_at k at s.0 s.1) z

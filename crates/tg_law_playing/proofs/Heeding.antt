@@ -262,10 +262,10 @@ module _ (m : Meaning) (h : Header) (ms : Moves m) (r : Reaches m h ms (after m 
       unfolding client_command client_deliver client_tick
       turn_on e i t (Commanded x is) =
           let f = command_fine m (Heard n) (Given n) c x (refusal m c x) refl (not_busy m c x) (gives x (subst (λ (y : EventOf m). Contains ms (Takes y)) is i)) on in
-          (f, given_read m (Heard n) (Given n) c (refused_or m c x (refusal m c x)) (command_quiet m c x (refusal m c x) (not_busy m c x)) f)
+          (f, given_read m (Heard n) (Given n) c (refused_or m c x (refusal m c x)) (command_quiet m c x) f)
       turn_on e i t (Handed p has to) =
-          let f = feed_fine m (Heard n) (Given n) c c.work p.from p.rid (reply p.msg) refl (tells p has to) (λ v t a b d. task_misses p has to v t a b d) on in
-          (f, given_read m (Heard n) (Given n) c (step.feed m c c.work p.from p.rid (reply p.msg)) (feed_quiet m c c.work p.from p.rid (reply p.msg)) f)
+          let f = feed_fine m (Heard n) (Given n) c p.from p.rid (reply p.msg) (tells p has to) (λ v t a b d. task_misses p has to v t a b d) on in
+          (f, given_read m (Heard n) (Given n) c (step.feed m c c.work p.from p.rid (reply p.msg)) (feed_quiet m c p.from p.rid (reply p.msg)) f)
       turn_on e i t Ticked = (tick_fine m (Heard n) (Given n) c c.work refl on, tick_read m (Heard n) (Given n) c c.work refl on)
 
   -- Along the run.

@@ -10,50 +10,25 @@ use Rattle.tg_protocol.specs.Runs.{Moves, Takes, Reaches, EachStep, run}
 use Rattle.tg_protocol.specs.Playing.{IsOwn, PlaysOn}
 use Rattle.tg_law_layouts.specs.Moves.After.{after}
 use Rattle.tg_law_layouts.proofs.Moves.Members.{has_contained}
-use Rattle.tg_law_replies.specs.Replies.Ended.{AppendsEnd}
-use Rattle.tg_law_replies.specs.Replies.Laws.{ClientsFind}
 use Rattle.tg_law_replies.proofs.Books.Worlds.{nil_right}
 use Rattle.tg_law_replies.proofs.Replies.Along.{run_on}
-use Rattle.tg_law_trims.specs.Trims.Spare.{TrimsAre}
 use Rattle.tg_law_walks.specs.Lists.Spared.{TrimsWereSpare}
-use Rattle.tg_law_walks.proofs.Lists.Reached.{before_reached}
-use Rattle.tg_law_walks.proofs.Checkpoints.Checkpoints.{entries_own, appends_end}
-use Rattle.tg_law_syncs.specs.Exact.Finds.{ViewsLeaveNone}
 use Rattle.tg_law_syncs.specs.Known.Known.{KnownIsTheLogs}
 use Rattle.tg_law_syncs.proofs.Known.Held.{known_is_the_logs}
-use Rattle.tg_law_syncs.proofs.Exact.Fits.{finds, views_fit}
-use Rattle.tg_law_syncs.proofs.Follow.Saves.{saves_precede}
-use Rattle.tg_law_store.proofs.AllKinds.Touching.{kinds_touch_parts}
-use Rattle.tg_law_store.proofs.Store.States.{store_has_states}
-use Rattle.tg_law_store.proofs.Store.Steps.{store_trims_are_spare, views_here}
-use Rattle.tg_law_store.proofs.Joint.Holding.{steps_hold}
 use Rattle.tg_law_playing.specs.Rules.{AsksStand, PagesGiveUp}
 use Rattle.tg_law_playing.proofs.Ended.{reaches_on, gives_up, asks_stand_at}
 use Rattle.tg_law_playing.proofs.Steps.{views_fall_at_trims}
 use Rattle.tg_law_playing.proofs.Reading.{views_read_on}
+use Rattle.tg_law_headline.proofs.Runs.Finding.{trims, ends, found}
 
 module _ (h : Header) (ms : Moves all_kinds) (r : Reaches all_kinds h ms (after all_kinds h ms)) where
   abbrev w : World all_kinds
   w = after all_kinds h ms
 
-  trims : TrimsAre all_kinds h ms (after all_kinds h ms)
-  trims = store_trims_are_spare h ms w r (steps_hold h ms w r)
-
-  ends : AppendsEnd all_kinds h ms (after all_kinds h ms)
-  ends = appends_end all_kinds kinds_touch_parts h ms w r trims.were.safe
-
-  views : ViewsLeaveNone all_kinds h ms (after all_kinds h ms)
-  views = views_here h ms r (steps_hold h ms w r) trims.were
-
-  -- what its clients find of the log
-  found : ClientsFind all_kinds h ms (after all_kinds h ms)
-  found = finds all_kinds h ms w r trims.were (λ before rest split. entries_own all_kinds kinds_touch_parts h before (after all_kinds h before) (before_reached all_kinds h ms r before rest split))
-      (saves_precede all_kinds h ms w r trims.were (entries_own all_kinds kinds_touch_parts h ms w r)) (views_fit all_kinds h ms w (store_has_states h ms w r trims.were.safe) views)
-
-  -- what they know of it
+  -- what its clients know of the log
   logs : KnownIsTheLogs all_kinds (after all_kinds h ms) (after all_kinds h ms)
   unfolding run
-  logs = known_is_the_logs all_kinds h ms w w r ([], record { lawful = λ x i. absurd (has_contained [] x i); is = refl; few = r.goes.few }) (subst (TrimsWereSpare all_kinds h) (sym (nil_right ms)) trims.were)
+  logs = known_is_the_logs all_kinds h ms w w r ([], record { lawful = λ x i. absurd (has_contained [] x i); is = refl; few = r.goes.few }) (subst (TrimsWereSpare all_kinds h) (sym (nil_right ms)) (trims h ms w r).were)
 
 -- A step, as the last of its run.
 module _ (h : Header) (ms : Moves all_kinds) (e : EventOf all_kinds) (r : Reaches all_kinds h (ms ++ Takes e ∷ []) (happens all_kinds (after all_kinds h ms) e)) where
@@ -67,12 +42,12 @@ module _ (h : Header) (ms : Moves all_kinds) (e : EventOf all_kinds) (r : Reache
   at_end = subst (Reaches all_kinds h (ms ++ Takes e ∷ [])) (sym is_end) r
 
   asks_here : AsksStand all_kinds (after all_kinds h ms) e
-  asks_here = asks_stand_at all_kinds h (ms ++ Takes e ∷ []) at_end (ends h (ms ++ Takes e ∷ []) at_end) (found h (ms ++ Takes e ∷ []) at_end) ms e refl
+  asks_here = asks_stand_at all_kinds h (ms ++ Takes e ∷ []) at_end (ends h (ms ++ Takes e ∷ []) (after all_kinds h (ms ++ Takes e ∷ [])) at_end) (found h (ms ++ Takes e ∷ []) (after all_kinds h (ms ++ Takes e ∷ [])) at_end) ms e refl
 
   pages_here : PagesGiveUp all_kinds (after all_kinds h ms) e
   pages_here k p page =
       subst (λ (u : World all_kinds). (client all_kinds u k).work ≡ None → p < upto all_kinds (client all_kinds u k) → known all_kinds (client all_kinds u k) p ≡ Some (Data page) → IsOwn all_kinds k page) is_end
-      (gives_up all_kinds h (ms ++ Takes e ∷ []) at_end (ends h (ms ++ Takes e ∷ []) at_end) (logs h (ms ++ Takes e ∷ []) at_end) k p page)
+      (gives_up all_kinds h (ms ++ Takes e ∷ []) at_end (ends h (ms ++ Takes e ∷ []) (after all_kinds h (ms ++ Takes e ∷ [])) at_end) (logs h (ms ++ Takes e ∷ []) at_end) k p page)
 
 pub asks_stand : EachStep all_kinds (AsksStand all_kinds)
 asks_stand h ms w e r lawful less =

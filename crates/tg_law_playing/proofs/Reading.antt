@@ -1,30 +1,23 @@
 -- What a client reads in a step, where its command reads for the view alone.
-use Rattle.std.proofs.Common.{◌≡◌, ◌⊎◌, ℕ, ◌≤◌, List, [], ◌∷◌, ◌++◌, Bool, true, false, refl, sym, ap, ◌∙◌, subst, inl, inr, Option, Some, None}
-use Rattle.std.specs.Prelude.{◌&&◌, ◌==◌, nat_lt}
+use Rattle.std.proofs.Common.{◌≡◌, ◌⊎◌, ℕ, ◌≤◌, List, [], ◌∷◌, refl, sym, ap, ◌∙◌, subst, inl, inr, Option, Some, None}
 use Rattle.tg_base.specs.Layouts.{Layout}
-use Rattle.tg_base.specs.Orders.{node_eq}
 use Rattle.tg_base.specs.declared.ids.NodeId.{NodeId}
 use Rattle.tg_base.specs.declared.msg.Msg.TheVariants as msg
 use Rattle.tg_base.specs.declared.packet.Out.{Out}
 use Rattle.tg_base.specs.declared.packet.Packet.{Packet}
 use Rattle.tg_kind.specs.Meaning.{Meaning}
-use Rattle.tg_model.specs.declared.command.Command.TheVariants as cmd
-use Rattle.tg_model.specs.declared.refusal.Refusal.{Refusal}
 use Rattle.tg_model.specs.Kinds.{CommandOf, EventOf}
 use Rattle.tg_protocol.specs.Words.{client_id, unit_id, layout_id, seqr_id, numbers}
 use Rattle.tg_protocol.specs.Entries.{streams_of}
-use Rattle.tg_protocol.specs.Requests.{out, Waits, asked_of, awaits, waits_for, drawn_from, Next, Goes, Learns, Ends, Turn}
-use Rattle.tg_protocol.specs.Replies.{Reply, reply, IsLatest}
+use Rattle.tg_protocol.specs.Requests.{out, Waits, asked_of, waits_for, drawn_from}
+use Rattle.tg_protocol.specs.Replies.{Reply, reply}
 use Rattle.tg_protocol.specs.Cells.{CellJob, cell_asks}
-use Rattle.tg_protocol.specs.Appending.{Append, AppendWork, Asking, Putting, Judging, append_work_asks, append_feed, append_again}
-use Rattle.tg_protocol.specs.Syncing.{Sync, SyncWork, Checking, Settling, Probing, sync_work_asks, sync_feed, sync_again}
-use Rattle.tg_protocol.specs.Walking.{job_asks, walk_feed, walk_again}
-use Rattle.tg_protocol.specs.Trimming.{Copying, trim_feed, trim_start, copy_feed, copy_start}
-use Rattle.tg_protocol.specs.Trimming as copying
-use Rattle.tg_protocol.specs.Reconfiguring.{Reconf, ReconfEnd, Installed, Overtaken, NotWhole, reconf_start, reconf_feed, reconf_latest}
+use Rattle.tg_protocol.specs.Appending.{Append, AppendWork, Asking, Putting, Judging, append_work_asks, append_start}
+use Rattle.tg_protocol.specs.Syncing.{Sync, SyncWork, Checking, Settling, Probing, sync_work_asks, sync_start}
+use Rattle.tg_protocol.specs.Walking.{job_asks}
 use Rattle.tg_protocol.specs.Views.{View}
-use Rattle.tg_protocol.specs.Clients.{Task, Syncing, Walking, Appending, Trimming, Copying', Reconfiguring, Hand, Doing, Learning, Work, Client, refusal, upto}
-use Rattle.tg_protocol.specs.Answers.{Moved}
+use Rattle.tg_protocol.specs.Clients.{Task, Syncing, Walking, Appending, Trimming, Copying', Reconfiguring, Hand, Doing, Learning, Work, Client, refusal}
+use Rattle.tg_protocol.specs.Answers.{Moved, appends, syncs}
 use Rattle.tg_protocol.specs.ClientSteps as step
 use Rattle.tg_protocol.specs.ClientSteps.{ClientTurn, task_asks, task_awaited, hand_asks, hand_again_asks, client_asks, work_asks, asks_latest, task_in, after_turn, reconf_to, on_reconf, task_feed, task_again, on_newer, copies_again, stands, accepts, refused_or, new_work, client_command, client_deliver, client_tick}
 use Rattle.tg_protocol.specs.Worlds.{World, client, noted_of, packet_of, happens, start}
@@ -33,9 +26,12 @@ use Rattle.tg_protocol.specs.Playing.{MetTrimAbove, ReadsForView}
 use Rattle.tg_law_layouts.specs.Moves.Configs.{config}
 use Rattle.tg_law_layouts.proofs.Moves.Members.{Has, Image, has_contained, has_either, has_filter, has_map}
 use Rattle.tg_law_layouts.proofs.Moves.Moves.{ClientInput, Commanded, Hears', Ticks'}
-use Rattle.tg_law_layouts.proofs.Moves.Turns.{not_busy}
 use Rattle.tg_law_layouts.proofs.Moves.Besides.{OnlyLearns, sync_besides, append_besides, append_again_besides, sync_again_besides}
-use Rattle.tg_law_layouts.proofs.Layouts.Plain.{on_sync_plain, on_walk_plain, on_append_plain, on_trims_plain, on_copy_plain, syncs_plain, host_plain, put_plain, asks_plain, ends_plain}
+use Rattle.tg_law_steps.proofs.Places.{Place, OnSync, OnAppend, Walks}
+use Rattle.tg_law_steps.proofs.Ways.{Way, FeedsSync, FeedsAppend, NewerSync, NewerAppend, AllWalked, HasPlayed, LooksBack, IsRescue}
+use Rattle.tg_law_steps.proofs.Ends.{End, GoesOn, IsGoing, SyncGoes, AppendGoes}
+use Rattle.tg_law_steps.proofs.Takes.{Taken, SaidAtOnce}
+use Rattle.tg_law_steps.proofs.Along.{delivered, over_walks, commanded}
 use Rattle.tg_law_replies.proofs.Books.Worlds.{cancel}
 use Rattle.tg_law_playing.specs.Rules.{ViewsReadOn}
 use Rattle.tg_law_playing.proofs.Quiet.{SyncQuiet, AppendQuiet, Quiet, none_quiet, one_quiet, all_quiet, work_quiet, job_reads}
@@ -52,73 +48,43 @@ learns_quiet p os f o epoch q h is = no (sym (f o h) ∙ is)
 module _ (m : Meaning) where
   -- What goes besides a client's requests reads nothing.
 
-  reconf_quiet : (c : Client m) (w : Work m) (t : Turn Reconf ReconfEnd) → Quiet (on_reconf m c w t).besides
-  reconf_quiet c w t = by t.to
+  abbrev QuietAt : Client m → Work m → Place m → Type 0
+  QuietAt c w (OnSync bs to) = Quiet bs
+  QuietAt c w (OnAppend y bs to) = Quiet bs
+  QuietAt c w p = Unit {0}
+
+  way_quiet : (c : Client m) (w : Work m) (p : Place m) (d : Client m) (v : Work m) (q : Place m) → Way m c w p d v q → QuietAt c w p → QuietAt d v q
+  way_quiet c w _ _ _ _ (FeedsSync s n rid x) h = learns_quiet c.stand _ (sync_besides c.stand s s.work n x c.next)
+  way_quiet c w _ _ _ _ (FeedsAppend a y n rid x) h = learns_quiet c.stand _ (append_besides c.stand a a.token a.work n x c.next refl)
+  way_quiet c w _ _ _ _ (NewerSync s n rid q) h = learns_quiet q _ (sync_again_besides q s c.next)
+  way_quiet c w _ _ _ _ (NewerAppend a y n rid q) h = learns_quiet q _ (append_again_besides q a c.next)
+  way_quiet c w _ _ _ _ x h = tt
+
+  walked_quiet : (c : Client m) (w : Work m) (d : Client m) (q : Place m) → AllWalked m c w d q → QuietAt c w (Walks []) → QuietAt d w q
+  walked_quiet c w _ _ (HasPlayed of) h = tt
+  walked_quiet c w _ _ (LooksBack at o q of) h = tt
+  walked_quiet c w _ _ (IsRescue at of) h = tt
+
+  goes_quiet : (c : Client m) (w : Work m) (p : Place m) (d : Client m) (t : Task m) (bs : List Out) → IsGoing m c w p d t bs → QuietAt c w p → Quiet bs
+  goes_quiet c w _ _ _ _ (SyncGoes bs s) h = h
+  goes_quiet c w _ _ _ _ (AppendGoes y bs a) h = h
+  goes_quiet c w _ _ _ _ x h = none_quiet
+
+  ends_quiet : (c : Client m) (w : Work m) (p : Place m) (x : Moved m) → End m c w p x → QuietAt c w p → Quiet x.besides
+  unfolding appends append_start syncs sync_start
+  ends_quiet c w p _ (GoesOn d t bs x) h = goes_quiet c w p d t bs x h
+  ends_quiet c w p _ x h = none_quiet
+
+  pub feed_quiet : (c : Client m) (from : NodeId) (rid : ℕ) (x : Reply) → Quiet (step.feed m c c.work from rid x).besides
+  feed_quiet c from rid x = delivered m QuietAt (λ y. Quiet y.besides) ends_quiet way_quiet (over_walks m QuietAt (λ y. Quiet y.besides) ends_quiet walked_quiet) c from rid x none_quiet (λ w t has doing a other. tt) (λ w q has is e. tt)
+
+  pub command_quiet : (c : Client m) (x : CommandOf m) → Quiet (refused_or m c x (refusal m c x)).besides
+  unfolding appends append_start syncs sync_start
+  command_quiet c x = commanded m (λ y. Quiet y.besides) c x (λ why e. none_quiet) (λ e. takes c x)
     where
-      by : (to : Next Reconf ReconfEnd) → Quiet (reconf_to m (after_turn m c t) w to).besides
-      by (Goes r) = none_quiet
-      by (Learns r) = none_quiet
-      by (Ends (Installed e p)) = none_quiet
-      by (Ends (Overtaken e p)) = none_quiet
-      by (Ends (NotWhole u q p)) = none_quiet
-
-  copies_quiet : (c : Client m) (w : Work m) (x : Copying) (o : Option Refusal) → Quiet (copies_again m c w x o).besides
-  copies_quiet c w x None = learns_quiet _ _ (on_copy_plain m c w x (copy_start x.unit x.range x.stripe c.next)).quiet
-  copies_quiet c w x (Some why) = none_quiet
-
-  task_quiet : (c : Client m) (w : Work m) (t : Task m) (n rid : ℕ) (x : Reply) → Quiet (task_feed m c w t n rid x).besides
-  unfolding task_feed
-  task_quiet c w (Syncing s) n rid x = learns_quiet _ _ (on_sync_plain m c w (sync_feed c.stand s s.work n x c.next) (sync_besides c.stand s s.work n x c.next)).quiet
-  task_quiet c w (Walking k os) n rid x = learns_quiet _ _ (on_walk_plain m c w k.oid os (walk_feed c.stand k k.job n x c.next)).quiet
-  task_quiet c w (Appending a y) n rid x = learns_quiet _ _ (on_append_plain m c w y (append_feed c.stand a a.work n x c.next) (append_besides c.stand a a.token a.work n x c.next refl)).quiet
-  task_quiet c w (Trimming t) n rid x = learns_quiet _ _ (on_trims_plain m c w t.below (trim_feed c.stand t n x c.next)).quiet
-  task_quiet c w (Copying' y) n rid x = learns_quiet _ _ (on_copy_plain m c w y (copy_feed c.stand y y.work n x c.next)).quiet
-  task_quiet c w (Reconfiguring r) n rid x = reconf_quiet c w (reconf_feed r r.work n rid x c.next)
-
-  newer_quiet : (c : Client m) (w : Work m) (t : Task m) (n rid : ℕ) (q : Layout) → Quiet (on_newer m c w t n rid q).besides
-  unfolding task_again
-  newer_quiet c w (Syncing s) n rid q = learns_quiet _ _ (on_sync_plain m (stands m c q) (record w { gone_before = w.gone }) (sync_again s c.next) (sync_again_besides q s c.next)).quiet
-  newer_quiet c w (Walking k os) n rid q = learns_quiet _ _ (on_walk_plain m (stands m c q) w k.oid os (walk_again q k c.next)).quiet
-  newer_quiet c w (Appending a y) n rid q = learns_quiet _ _ (on_append_plain m (stands m c q) w y (append_again q a c.next) (append_again_besides q a c.next)).quiet
-  newer_quiet c w (Trimming t) n rid q = learns_quiet _ _ (on_trims_plain m (stands m c q) w t.below (trim_start q t.below c.next)).quiet
-  newer_quiet c w (Copying' x) n rid q = copies_quiet (stands m c q) w x _
-  newer_quiet c w (Reconfiguring r) n rid q = reconf_quiet c w (reconf_latest r r.work n rid q c.next)
-
-  fed_quiet : (b : Bool) (c : Client m) (w : Work m) (t : Task m) (from : NodeId) (rid : ℕ) (x : Reply) → Quiet (step.fed_if m b c w t from rid x).besides
-  fed_quiet true c w t from rid x = task_quiet c w t from.num rid x
-  fed_quiet false c w t from rid x = none_quiet
-
-  hand_quiet : (c : Client m) (w : Work m) (d : Hand m) (from : NodeId) (rid : ℕ) (x : Reply) → Quiet (step.hand_feed m c w d from rid x).besides
-  hand_quiet c w (Doing t) from rid x = fed_quiet (awaits (task_awaited m c.stand t) from rid) c w t from rid x
-  hand_quiet c w (Learning ws t) from rid x = none_quiet
-
-  latest_quiet : (b : Bool) (c : Client m) (w : Work m) (from : NodeId) (rid : ℕ) (q : Layout) → Quiet (step.latest_if m b c w from rid q).besides
-  latest_quiet true c w from rid q = newer_quiet c w (task_in m w.hand) from.num rid q
-  latest_quiet false c w from rid q = none_quiet
-
-  reply_quiet : (c : Client m) (w : Work m) (from : NodeId) (rid : ℕ) (x : Reply) → Quiet (step.reply_feed m c w from rid x).besides
-  reply_quiet c w from rid (IsLatest q) = latest_quiet (node_eq from (layout_id from.num) && nat_lt c.stand.epoch q.epoch) c w from rid q
-  reply_quiet c w from rid x = hand_quiet c w w.hand from rid x
-
-  pub feed_quiet : (c : Client m) (o : Option (Work m)) (from : NodeId) (rid : ℕ) (x : Reply) → Quiet (step.feed m c o from rid x).besides
-  feed_quiet c None from rid x = none_quiet
-  feed_quiet c (Some w) from rid x = reply_quiet c w from rid x
-
-  accepts_quiet : (c : Client m) (x : CommandOf m) → c.work ≡ None → Quiet (accepts m c x).besides
-  unfolding accepts
-  accepts_quiet c (cmd.Host o) e = learns_quiet _ _ (host_plain m c o e).quiet
-  accepts_quiet c cmd.Begin e = none_quiet
-  accepts_quiet c (cmd.Put o op) e = learns_quiet _ _ (put_plain m c o op e).quiet
-  accepts_quiet c (cmd.Ask o q) e = learns_quiet _ _ (asks_plain m c (cmd.Ask o q) o q c.tx e).quiet
-  accepts_quiet c cmd.End e = learns_quiet _ _ (ends_plain m c cmd.End c.tx e).quiet
-  accepts_quiet c cmd.Drop e = none_quiet
-  accepts_quiet c (cmd.Reconf x) e = reconf_quiet c (new_work m (cmd.Reconf x)) (reconf_start c.stand c.layouts x c.num c.next)
-  accepts_quiet c (cmd.Copy u r s) e = copies_quiet c (new_work m (cmd.Copy u r s)) (record { unit = u; range = r; stripe = s; work = copying.Sealing 0 }) None
-  accepts_quiet c x e = learns_quiet _ _ (syncs_plain m c (new_work m x) c.hosted).quiet
-
-  pub command_quiet : (c : Client m) (x : CommandOf m) (o : Option Refusal) → (o ≡ None → c.work ≡ None) → Quiet (refused_or m c x o).besides
-  command_quiet c x None free = accepts_quiet c x (free refl)
-  command_quiet c x (Some why) free = none_quiet
+      takes : (c : Client m) (x : CommandOf m) (y : Moved m) → Taken m c x y → Quiet y.besides
+      takes c _ _ (SaidAtOnce x d ns s) = none_quiet
+      takes c _ _ x = none_quiet
 
   -- What is outstanding reads past where the view stood.
   module _ (given : ℕ) (Met : Type 0) where
@@ -202,8 +168,8 @@ module _ (m : Meaning) where
   module _ (w : World m) (n : ℕ) (given : ℕ) (Met : Type 0) where
     turn_past : (t : ClientTurn m) → ClientInput m (config m w) n t → At' m given Met t.now → ForView given Met t.now.work → ReadsPast given Met t.sends
     unfolding client_command client_deliver client_tick
-    turn_past t (Commanded x) h r = given_past given Met (client m w n) (refused_or m (client m w n) x (refusal m (client m w n) x)) (command_quiet (client m w n) x (refusal m (client m w n) x) (not_busy m (client m w n) x)) h r
-    turn_past t (Hears' p comes) h r = given_past given Met (client m w n) (step.feed m (client m w n) (client m w n).work p.from p.rid (reply p.msg)) (feed_quiet (client m w n) (client m w n).work p.from p.rid (reply p.msg)) h r
+    turn_past t (Commanded x) h r = given_past given Met (client m w n) (refused_or m (client m w n) x (refusal m (client m w n) x)) (command_quiet (client m w n) x) h r
+    turn_past t (Hears' p comes) h r = given_past given Met (client m w n) (step.feed m (client m w n) (client m w n).work p.from p.rid (reply p.msg)) (feed_quiet (client m w n) p.from p.rid (reply p.msg)) h r
     turn_past t Ticks' h r = tick_past given Met (client m w n) (client m w n).work refl h r
 
   module _ (w : World m) (e : EventOf m) (st : State m w) where

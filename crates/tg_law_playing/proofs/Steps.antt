@@ -183,7 +183,7 @@ module _ (m : Meaning) where
       turn_ok : (u : ClientTurn m) → (y : ClientInput m (config m w) n u) → (IsCommanded m w n u y → c.work ≡ None → AsGiven m s.upto Met c.view) → TurnOk s.upto (upto m c) Met u.now u.notes
       unfolding client_command client_deliver client_tick
       turn_ok u (Commanded x) g = command_ok s.upto (upto m c) Met c x (refusal m c x) (not_busy m c x) (g tt) at_before stays
-      turn_ok u (Hears' p comes) g = let f = feed_fine m s.upto (upto m c) Met c c.work p.from p.rid (reply p.msg) refl (hears p comes.sent comes.to_node) at_before stays in (f.0, inl f.1)
+      turn_ok u (Hears' p comes) g = let f = feed_fine m s.upto (upto m c) Met c p.from p.rid (reply p.msg) (hears p comes.sent comes.to_node) at_before stays in (f.0, inl f.1)
       turn_ok u Ticks' g = let f = tick_fine m s.upto (upto m c) Met c c.work refl at_before stays in (f.0, inl f.1)
 
       draws : (u : ClientTurn m) → ClientInput m (config m w) n u → TurnDraws' m c u

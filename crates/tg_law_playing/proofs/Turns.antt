@@ -1,39 +1,30 @@
 -- Through each of a client's turns: until its command plays, its view stands as it did when the command was given, or was given up
 -- at a trim above; what the command reads for the view lies past it; and nothing else takes a view back.
-use Rattle.std.proofs.Common.{◌≡◌, ◌⊎◌, ℕ, ◌<◌, ◌≤◌, List, [], ◌∷◌, length, Bool, true, false, refl, sym, ◌∙◌, subst, inl, inr, arith, Option, Some, None}
-use Rattle.std.specs.Prelude.{not, ◌&&◌, ◌==◌, nat_lt, is_some}
-use Rattle.tg_base.specs.Layouts.{Layout}
-use Rattle.tg_base.specs.declared.cell.Cell.{Cell}
+use Rattle.std.proofs.Common.{◌≡◌, ◌⊎◌, ℕ, ◌<◌, ◌≤◌, List, [], Bool, true, refl, sym, subst, inl, inr, arith, Option, Some, None}
+use Rattle.std.specs.Prelude.{◌&&◌, nat_lt, is_some}
 use Rattle.tg_base.specs.declared.ids.NodeId.{NodeId}
-use Rattle.tg_base.specs.declared.ids.Oid.{Oid}
-use Rattle.tg_entry.specs.declared.entry.Entry.{Entry}
 use Rattle.tg_kind.specs.Meaning.{Meaning}
 use Rattle.tg_model.specs.declared.command.Command.TheVariants as cmd
 use Rattle.tg_model.specs.Kinds.{CommandOf, WhatOf, NoteOf}
-use Rattle.tg_model.specs.declared.refusal.Refusal.{Refusal}
-use Rattle.tg_base.specs.Orders.{node_eq}
-use Rattle.tg_protocol.specs.Words.{layout_id}
-use Rattle.tg_protocol.specs.Requests.{awaits, Next, Goes, Learns, Ends, Turn}
-use Rattle.tg_protocol.specs.Replies.{Reply, IsLatest, IsGone}
-use Rattle.tg_protocol.specs.Appending.{Append, AppendEnd, At, Full, Forgotten, append_start, append_feed, append_again}
-use Rattle.tg_protocol.specs.Syncing.{Sync, Confirmed, sync_start, sync_feed, sync_again}
-use Rattle.tg_protocol.specs.Walking.{Walk, Members, walk_feed, walk_again}
-use Rattle.tg_protocol.specs.Trimming.{Trims, Trimmed, trim_start, trim_feed, Copying, CopyEnd, copy_feed, copy_start}
-use Rattle.tg_protocol.specs.Trimming as copying
-use Rattle.tg_protocol.specs.Reconfiguring.{Reconf, ReconfEnd, Installed, Overtaken, NotWhole, reconf_feed, reconf_latest, reconf_start}
-use Rattle.tg_protocol.specs.Transactions.{Tx}
-use Rattle.tg_protocol.specs.Views.{View, state_of}
-use Rattle.tg_protocol.specs.Clients.{Purpose, Writes, Judged, Decides, Rescues, Saves, Marks, Task, Syncing, Walking, Appending, Trimming, Copying', Reconfiguring, Hand, Doing, Learning, Work, Client, upto_in, upto}
-use Rattle.tg_protocol.specs.Answers.{Moved, moved, pruned, took_over, answers, closed, appends, syncs, trim_begun, walked, with_view}
+use Rattle.tg_protocol.specs.Requests.{awaits, Next}
+use Rattle.tg_protocol.specs.Replies.{Reply, IsGone}
+use Rattle.tg_protocol.specs.Appending.{append_start}
+use Rattle.tg_protocol.specs.Syncing.{sync_start}
+use Rattle.tg_protocol.specs.Walking.{Walk, Members}
+use Rattle.tg_protocol.specs.Views.{View}
+use Rattle.tg_protocol.specs.Clients.{Purpose, Writes, Judged, Decides, Rescues, Saves, Marks, Task, Syncing, Walking, Appending, Trimming, Copying', Reconfiguring, Hand, Doing, Work, Client, upto_in, upto}
+use Rattle.tg_protocol.specs.Answers.{Moved, moved, pruned, took_over, appends, syncs}
 use Rattle.tg_protocol.specs.ClientSteps as step
 use Rattle.tg_protocol.specs.ClientSteps.{plays_kept, after_turn, met, goes_on, start_walk, takes_back, found_by, lends, knows, synced, sync_to, on_sync, gives_up, given_up_if, starts_over, at_trim, walk_ended_by, walk_to, on_walk, decided_for, append_ended, append_to, on_append, page_known, owns, knows_page, trim_to, on_trims, copy_to, on_copy, stands, task_in, task_awaited, reconf_to, on_reconf, task_feed, task_again, copies_again, on_newer, accepts, new_work, lo_for, lasts_of}
 use Rattle.tg_protocol.specs.Playing.{ReadsForView}
-use Rattle.tg_law_layouts.proofs.Moves.Turns.{Begins, begins_walk}
-use Rattle.tg_law_syncs.proofs.Known.Ways.{played_view}
-use Rattle.tg_law_trims.proofs.Leaves.Ways.{IsLast, Came, Rests, Appends, Syncs, Trims as Trims', WalkedWay, Plays, LeavesView, walked_way}
 use Rattle.tg_law_trims.proofs.Leaves.Walks.{MetBy, goes_by, feed_by}
 use Rattle.tg_law_playing.proofs.Quiet.{SyncQuiet, SyncNext, sync_quiet, AppendQuiet, AppendNext, append_quiet, append_again_quiet}
 use Rattle.tg_law_playing.proofs.Past.{cell_gone, WalkPast, NextPast, goes_past, starts_past, feed_past, played_high}
+use Rattle.tg_law_steps.proofs.Places.{Place, Feeds, Newer, OnSync, OnWalk, OnAppend, OnCopy, OnReconf, Over, Walks as Walks', Rescues as Rescues'}
+use Rattle.tg_law_steps.proofs.Ways.{Way, FeedsSync, FeedsWalk, FeedsAppend, FeedsCopy, FeedsReconf, NewerSync, NewerWalk, NewerAppend, NewerCopy, NewerReconf, Confirms, Settles, EndsAtOnce, WalkEnds, MetNone, MetLow, MetHigh, StartsOver, own_play, AllWalked, HasPlayed, LooksBack, IsRescue}
+use Rattle.tg_law_steps.proofs.Ends.{End, GoesOn, LearnsNewer, Syncs as Syncs', Appends as Appends', Refuses, Answers, Tells, WalkGoes, WalkBegins, TrimsBegin, WalkLearns, StaleHigh, Widens, MarkBegins, RecordForgotten, IsAnswered, DecidedAt, IsMarked}
+use Rattle.tg_law_steps.proofs.Takes.{IsSaid, HostsAlready, Hosts, Taken, SaidAtOnce, SyncsFirst, AppendsRecord, ForWrites, ForJudged, ReconfBegins, CopyBegins, taken}
+use Rattle.tg_law_steps.proofs.Along.{delivered, over_walks}
 
 -- A command was given where the client's view stood at a position, and in this turn it stood at another; a unit has answered the
 -- command that all is trimmed below a position above the first, where `Met` is had.
@@ -119,71 +110,18 @@ module _ (m : Meaning) (given top : ℕ) (Met : Type 0) where
   stays_on a b le (inl k) = inl (omega (arith, le, k))
   stays_on a b le (inr k) = inr k
 
-  last_at : (v : Option (View m)) (y : Purpose m) → IsLast m y → PurposeAt m given Met v y
-  last_at v Judged i = absurd i
-  last_at v Writes i = tt
-  last_at v (Decides x) i = tt
-  last_at v (Rescues x) i = tt
-  last_at v (Saves o u) i = tt
-  last_at v (Marks n o u) i = tt
-
-  syncs_fine : (c : Client m) (w : Work m) (os : List Oid) → K c → J c → Fine (syncs m c w os)
-  unfolding syncs sync_start
-  syncs_fine c w os k j = ((k, tt), j)
-
-  appends_fine : (c : Client m) (w : Work m) (e : Entry) (y : Purpose m) (ns : List (NoteOf m)) → PurposeAt m given Met c.view y → J c → Fine (appends m c w e y ns)
-  unfolding appends append_start
-  appends_fine c w e y ns k j = ((k, tt), j)
-
-  trims_fine : (c : Client m) (w : Work m) (below : ℕ) → J c → Fine (trim_begun m c w below (trim_start c.stand below c.next))
-  unfolding trim_start
-  trims_fine c w below j = (tt, j)
-
-  -- Where all streams are walked.
-
   idle : (d : Client m) (ns : List (NoteOf m)) → d.work ≡ None → J d → Fine (moved m d ns)
   idle d ns e j = (subst (WorkAt m given Met d.view) (sym e) tt, j)
 
-  same_view : (c d : Client m) → d.view ≡ c.view → J c → J d
-  same_view c d e j = subst (λ (v : Option (View m)). Stays (upto_in m v)) (sym e) j
+  -- a unit answered a walk of the command so
+  abbrev Hears : ℕ → Type 0
+  Hears b = given < b → Met
 
-  came_fine : (c : Client m) (w : Work m) (x : Moved m) → J c → (plays_kept m w.command ≡ false → K c) → Came m c w x → Fine x
-  came_fine c w x j k (Rests s i) = idle x.now [] i (same_view c x.now s.view j)
-  came_fine c w x j k (Appends d s en y ns i is) = subst Fine (sym is) (appends_fine d w en y ns (last_at d.view y i) (same_view c d s.view j))
-  came_fine c w x j k (Syncs left o is) = subst Fine (sym is) (syncs_fine c w _ (k left) j)
-  came_fine c w x j k (Trims' below is) = subst Fine (sym is) (trims_fine c w below j)
-
-  no_play : {X : Type 0} (b : Bool) → b ≡ true → b ≡ false → X
-  no_play b e f = absurd (cc)
-
-  walked_fine : (c : Client m) (w : Work m) → K c → J c → Fine (walked m c w)
-  walked_fine c w k j = by (walked_way m c w)
-    where
-      by : WalkedWay m c w (walked m c w) → Fine (walked m c w)
-      by (Plays p x) = came_fine (with_view m c (played_view m c w)) w (walked m c w) (stays_on (upto m c) (played_view m c w).upto (played_high m c w) j) (λ q. no_play (plays_kept m w.command) p q) x
-      by (LeavesView x) = came_fine c w (walked m c w) j (λ q. k) x
+  above : (a b : Bool) (u n : ℕ) → (a && b && nat_lt u n) ≡ true → u < n
+  above a b u n e = grind arith
 
   abbrev Lo : Work m → Type 0
   Lo w = ReadsForView m w.command → Past m given Met w.lo
-
-  walks_at : (c : Client m) (w : Work m) (o : Oid) (os : List Oid) (to : Next Walk Members) → Begins to → (ReadsForView m w.command → NextPast (Past m given Met) (later_past m given Met) to) → K c → J c → Lo w
-      → ((d : Client m) (v : Work m) → K d → J d → Lo v → Fine (step.walks m os d v))
-      → Fine (elim to as (λ _. Moved m) [
-        | Goes x ↦ goes_on m (lends m (after_turn m c (start_walk m c w o))) w (Walking x os) []
-        | Learns x ↦ moved m c []
-        | Ends x ↦ step.walks m os (takes_back m c x) (found_by m w o x)
-      ])
-  walks_at c w o os (Goes x) b g k j lo ih = ((k, λ r. (lo r, g r)), j)
-  walks_at c w o os (Learns x) b g k j lo ih = absurd b
-  walks_at c w o os (Ends x) b g k j lo ih = ih (takes_back m c x) (found_by m w o x) k j lo
-
-  walks_fine : (os : List Oid) (c : Client m) (w : Work m) → K c → J c → Lo w → Fine (step.walks m os c w)
-  unfolding step.walks
-  walks_fine [] c w k j lo = walked_fine c w k j
-  walks_fine (o ∷ os) c w k j lo =
-      walks_at c w o os (start_walk m c w o).to (begins_walk c.stand o _ w.lo c.cells c.next) (λ r. starts_past (Past m given Met) (later_past m given Met) c.stand o (lasts_of m w o) w.lo c.cells c.next (lo r)) k j lo (λ d v a b l. walks_fine os d v a b l)
-
-  -- Syncs.
 
   given_past : (v : Option (View m)) → AsGiven m given Met v → Past m given Met (upto_in m v)
   given_past v (inl e) = inl (omega (arith, e))
@@ -196,166 +134,97 @@ module _ (m : Meaning) (given top : ℕ) (Met : Type 0) where
   lo_past c cmd.Trim k r = given_past c.view k
   lo_past c x k r = absurd r
 
-  synced_fine : (c : Client m) (w : Work m) (x : Confirmed) → K c → J c → Fine (synced m c w x)
-  synced_fine c w x k j = by x.settled
-    where
-      by : (s : Option (ℕ × Cell)) → Fine (step.walks m w.oids (knows m c s) (record w { tail = x.tail; lasts = x.lasts; lo = lo_for m c w.command }))
-      by None = walks_fine w.oids c _ k j (lo_past c w.command k)
-      by (Some s) = walks_fine w.oids (knows m c (Some s)) _ k j (lo_past c w.command k)
-
-  on_sync_fine : (c : Client m) (w : Work m) (t : Turn Sync Confirmed) → SyncNext t.to → K c → J c → Fine (on_sync m c w t)
-  on_sync_fine c w t q k j = by t.to q
-    where
-      by : (to : Next Sync Confirmed) → SyncNext to → Fine (sync_to m (after_turn m c t) (met m w t) t.besides to)
-      by (Goes s) q = ((k, q), j)
-      by (Learns s) q = ((k, q), j)
-      by (Ends x) q = synced_fine (after_turn m c t) (met m w t) x k j
-
-  -- Walks.
-
-  over_fine : (c : Client m) (w : Work m) (os : List Oid) (over : Bool) → K c → J c → Lo w → (over ≡ true → Met) → Fine (starts_over m c w os over)
-  over_fine c w os true k j lo g = walks_fine w.oids c _ k j (λ r. inr (g refl))
-  over_fine c w os false k j lo g = walks_fine os c w k j lo
-
-  at_trim_fine : (c : Client m) (w : Work m) (os : List Oid) (s over : Bool) → K c → J c → Lo w → (over ≡ true → Met) → Fine (at_trim m c w os s over)
-  at_trim_fine c w os true over k j lo g = syncs_fine c w w.oids k j
-  at_trim_fine c w os false over k j lo g = over_fine c w os over k j lo g
-
-  -- a unit answered a walk of the command so
-  abbrev Hears : ℕ → Type 0
-  Hears b = given < b → Met
-
-  above : (a b : Bool) (u n : ℕ) → (a && b && nat_lt u n) ≡ true → u < n
-  above a b u n e = grind arith
-
-  never : false ≡ true → Met
-  never e = absurd (cc)
-
-  ended_fine : (c : Client m) (w : Work m) (o : Oid) (os : List Oid) (x : Members) (g : Option ℕ) → ((b : ℕ) → g ≡ Some b → Hears b) → K c → J c → Lo w → Fine (walk_ended_by m c w o os x g)
-  ended_fine c w o os x None f k j lo = walks_fine os c w k j lo
-  ended_fine c w o os x (Some b) f k j lo = by (gives_up m c w b) refl
-    where
-      told : gives_up m c w b ≡ true → AsGiven m given Met c.view → Met
-      told e (inl same) = let a = above (plays_kept m w.command) (is_some c.view) (upto m c) b e in f b refl (omega (arith, a, same))
-      told e (inr y) = y.1
-
-      by : (z : Bool) → gives_up m c w b ≡ z → Fine (at_trim m (given_up_if m z c) w os (step.stale m c w o x b) (z && not (w.lo == 0)))
-      by true e = let y = told e k in at_trim_fine (record c { view = None }) w os _ _ (inr (refl, y)) (inr y) (λ r. inr y) (λ i. y)
-      by false e = at_trim_fine c w os _ _ k j lo never
-
-  on_walk_fine : (c : Client m) (w : Work m) (o : Oid) (os : List Oid) (t : Turn Walk Members) → MetBy Hears t.to → (ReadsForView m w.command → Past m given Met w.lo × NextPast (Past m given Met) (later_past m given Met) t.to) → K c → J c → Fine (on_walk m c w o os t)
-  on_walk_fine c w o os t f n k j = by t.to f n
-    where
-      by : (to : Next Walk Members) → MetBy Hears to → (ReadsForView m w.command → Past m given Met w.lo × NextPast (Past m given Met) (later_past m given Met) to) → Fine (walk_to m (after_turn m c t) (met m w t) o os to)
-      by (Goes x) f n = ((k, n), j)
-      by (Learns x) f n = ((k, n), j)
-      by (Ends x) f n = ended_fine (takes_back m (after_turn m c t) x) (found_by m (met m w t) o x) o os x x.gone f k j (λ r. (n r).0)
-
-  -- Appends.
-
   took_fine : (c : Client m) (v : Option (View m)) (ns : List (NoteOf m)) → J c → Fine (moved m (pruned m (took_over m c v)) ns)
   took_fine c None ns j = (tt, j)
   took_fine c (Some v) ns j = (tt, j)
-
-  decided_fine : (c : Client m) (x : CommandOf m) (what : WhatOf m) → J c → Fine (decided_for m c x what)
-  decided_fine c cmd.End what j = took_fine (closed m c) c.view [] j
-  decided_fine c x what j = took_fine c c.view [] j
-
-  page_fine : (c : Client m) (e : AppendEnd) (x : CommandOf m) (what : WhatOf m) → J c → Fine (decided_for m (page_known m c e) x what)
-  page_fine c (At p d) x what j = decided_fine (knows_page m c p d) x what j
-  page_fine c (Full b) x what j = decided_fine c x what j
-  page_fine c (Forgotten p b) x what j = decided_fine c x what j
-
-  append_ended_fine : (c : Client m) (w : Work m) (x : Purpose m) (e : AppendEnd) → PurposeAt m given Met c.view x → J c → Fine (append_ended m c w x e)
-  append_ended_fine c w Writes (At p d) k j = (tt, j)
-  append_ended_fine c w Writes (Full b) k j = (tt, j)
-  append_ended_fine c w Writes (Forgotten p b) k j = (tt, j)
-  append_ended_fine c w Judged (At p d) k j = syncs_fine (owns m c p d) (record w { at = p }) c.hosted k j
-  append_ended_fine c w Judged (Full b) k j = (tt, j)
-  append_ended_fine c w Judged (Forgotten p b) k j = (tt, j)
-  append_ended_fine c w (Decides x) e k j = page_fine c e w.command x j
-  append_ended_fine c w (Rescues x) (At p d) k j = (tt, j)
-  append_ended_fine c w (Rescues x) (Full b) k j = (tt, j)
-  append_ended_fine c w (Rescues x) (Forgotten p b) k j = (tt, j)
-  append_ended_fine c w (Saves o u) (At p d) k j = took_fine (knows_page m c p d) c.view [] j
-  append_ended_fine c w (Saves o u) (Full b) k j = (tt, j)
-  append_ended_fine c w (Saves o u) (Forgotten p b) k j = (tt, j)
-  append_ended_fine c w (Marks n o u) (At p d) k j = took_fine (owns m c p d) c.view [] j
-  append_ended_fine c w (Marks n o u) (Full b) k j = (tt, j)
-  append_ended_fine c w (Marks n o u) (Forgotten p b) k j = (tt, j)
-
-  on_append_fine : (c : Client m) (w : Work m) (x : Purpose m) (t : Turn Append AppendEnd) → AppendNext t.to → PurposeAt m given Met c.view x → J c → Fine (on_append m c w x t)
-  on_append_fine c w x t q k j = by t.to q
-    where
-      by : (to : Next Append AppendEnd) → AppendNext to → Fine (append_to m (after_turn m c t) (met m w t) x t.besides to)
-      by (Goes a) q = ((k, q), j)
-      by (Learns a) q = ((k, q), j)
-      by (Ends e) q = append_ended_fine (after_turn m c t) (met m w t) x e k j
-
-  -- Others.
-
-  on_trims_fine : (c : Client m) (w : Work m) (b : ℕ) (t : Turn Trims Trimmed) → J c → Fine (on_trims m c w b t)
-  on_trims_fine c w b t j = by t.to
-    where
-      by : (to : Next Trims Trimmed) → Fine (trim_to m (after_turn m c t) (met m w t) b to)
-      by (Goes y) = (tt, j)
-      by (Learns y) = (tt, j)
-      by (Ends e) = took_fine (after_turn m c t) c.view [] j
-
-  on_copy_fine : (c : Client m) (w : Work m) (x : Copying) (t : Turn Copying CopyEnd) → (ReadsForView m w.command → ⊥) → J c → Fine (on_copy m c w x t)
-  on_copy_fine c w x t n j = by t.to
-    where
-      by : (to : Next Copying CopyEnd) → Fine (copy_to m (after_turn m c t) (met m w t) x to)
-      by (Goes y) = (n, j)
-      by (Learns y) = (n, j)
-      by (Ends e) = (tt, j)
-
-  copies_fine : (c : Client m) (w : Work m) (x : Copying) (f : Option Refusal) → (ReadsForView m w.command → ⊥) → J c → Fine (copies_again m c w x f)
-  copies_fine c w x None n j = on_copy_fine c w x (copy_start x.unit x.range x.stripe c.next) n j
-  copies_fine c w x (Some why) n j = (tt, j)
-
-  on_reconf_fine : (c : Client m) (w : Work m) (t : Turn Reconf ReconfEnd) → (ReadsForView m w.command → ⊥) → J c → Fine (on_reconf m c w t)
-  on_reconf_fine c w t n j = by t.to
-    where
-      by : (to : Next Reconf ReconfEnd) → Fine (reconf_to m (after_turn m c t) w to)
-      by (Goes r) = (n, j)
-      by (Learns r) = (n, j)
-      by (Ends (Installed e p)) = (tt, j)
-      by (Ends (Overtaken e p)) = (tt, j)
-      by (Ends (NotWhole u q p)) = (tt, j)
-
-  -- A newer layout.
-
-  again_quiet : (s : Sync) (next : ℕ) → SyncNext (sync_again s next).to
-  unfolding sync_start
-  again_quiet s next = tt
-
-  newer_fine : (c : Client m) (w : Work m) (t : Task m) (n rid : ℕ) (q : Layout) → TaskAt m given Met w.command w.lo c.view t → J c → Fine (on_newer m c w t n rid q)
-  unfolding task_again
-  newer_fine c w (Reconfiguring r) n rid q k j = on_reconf_fine c w (reconf_latest r r.work n rid q c.next) k j
-  newer_fine c w (Syncing s) n rid q k j = on_sync_fine (stands m c q) (record w { gone_before = w.gone }) (sync_again s c.next) (again_quiet s c.next) k.0 j
-  newer_fine c w (Walking v os) n rid q k j =
-      on_walk_fine (stands m c q) w v.oid os (walk_again q v c.next) (goes_by Hears q c.next v) (λ r. let y = k.1 r in (y.0, goes_past (Past m given Met) (later_past m given Met) q c.next v y.1.0)) k.0 j
-  newer_fine c w (Appending a y) n rid q k j = on_append_fine (stands m c q) w y (append_again q a c.next) (append_again_quiet q a c.next) k.0 j
-  newer_fine c w (Trimming t) n rid q k j = on_trims_fine (stands m c q) w t.below (trim_start q t.below c.next) j
-  newer_fine c w (Copying' x) n rid q k j = copies_fine (stands m c q) w x _ k j
-
-  -- An awaited answer.
 
   abbrev TaskHears : Task m → Reply → Type 0
   TaskHears (Walking v os) x = (b : ℕ) → x ≡ IsGone b → Hears b
   TaskHears t x = Unit {0}
 
-  fed_fine : (c : Client m) (w : Work m) (t : Task m) (n rid : ℕ) (x : Reply) → TaskHears t x → TaskAt m given Met w.command w.lo c.view t → J c → Fine (task_feed m c w t n rid x)
-  unfolding task_feed
-  fed_fine c w (Syncing s) n rid x g k j = on_sync_fine c w (sync_feed c.stand s s.work n x c.next) (sync_quiet c.stand s n x c.next k.1) k.0 j
-  fed_fine c w (Walking v os) n rid x g k j =
-      on_walk_fine c w v.oid os (walk_feed c.stand v v.job n x c.next) (feed_by Hears c.stand v n x c.next (λ i b has ends. g b (cell_gone i n x c.next b ends)))
-      (λ r. let y = k.1 r in (y.0, feed_past (Past m given Met) (later_past m given Met) c.stand v n x c.next y.1)) k.0 j
-  fed_fine c w (Appending a y) n rid x g k j = on_append_fine c w y (append_feed c.stand a a.work n x c.next) (append_quiet c.stand a n x c.next k.1) k.0 j
-  fed_fine c w (Trimming t) n rid x g k j = on_trims_fine c w t.below (trim_feed c.stand t n x c.next) j
-  fed_fine c w (Copying' y) n rid x g k j = on_copy_fine c w y (copy_feed c.stand y y.work n x c.next) k j
-  fed_fine c w (Reconfiguring r) n rid x g k j = on_reconf_fine c w (reconf_feed r r.work n rid x c.next) k j
+  -- Along a turn.
+
+  abbrev WalkNext : Work m → Next Walk Members → Type 0
+  WalkNext w to = ReadsForView m w.command → Past m given Met w.lo × NextPast (Past m given Met) (later_past m given Met) to
+
+  abbrev Here : Client m → Work m → Place m → Type 0
+  Here c w (Feeds t n rid x) = TaskAt m given Met w.command w.lo c.view t × TaskHears t x
+  Here c w (Newer t n rid q) = TaskAt m given Met w.command w.lo c.view t
+  Here c w (OnSync bs to) = K c × SyncNext to
+  Here c w (OnWalk o os to) = K c × WalkNext w to × MetBy Hears to
+  Here c w (OnAppend y bs to) = PurposeAt m given Met c.view y × AppendNext to
+  Here c w (OnCopy x to) = ReadsForView m w.command → ⊥
+  Here c w (OnReconf to) = ReadsForView m w.command → ⊥
+  Here c w (Over o os x g) = K c × Lo w × ((b : ℕ) → g ≡ Some b → Hears b)
+  Here c w (Walks' os) = K c × Lo w
+  Here c w (Rescues' at) = K c
+  Here c w p = Unit {0}
+
+  abbrev Stands : Client m → Work m → Place m → Type 0
+  Stands c w p = J c × Here c w p
+
+  -- a trim above the view was told
+  told : (c : Client m) (w : Work m) (b : ℕ) → gives_up m c w b ≡ true → K c → Hears b → Met
+  told c w b e (inl same) f = let a = above (plays_kept m w.command) (is_some c.view) (upto m c) b e in f (omega (arith, a, same))
+  told c w b e (inr y) f = y.1
+
+  way : (c : Client m) (w : Work m) (p : Place m) (d : Client m) (v : Work m) (q : Place m) → Way m c w p d v q → Stands c w p → Stands d v q
+  unfolding sync_start
+  way c w _ _ _ _ (FeedsSync s n rid x) h = (h.0, (h.1.0.0, sync_quiet c.stand s n x c.next h.1.0.1))
+  way c w _ _ _ _ (FeedsWalk k os n rid x) h = (
+    h.0,
+    (
+      h.1.0.0,
+      (λ r. let y = h.1.0.1 r in (y.0, feed_past (Past m given Met) (later_past m given Met) c.stand k n x c.next y.1)),
+      feed_by Hears c.stand k n x c.next (λ i b has ends. h.1.1 b (cell_gone i n x c.next b ends)),
+    ),
+  )
+  way c w _ _ _ _ (FeedsAppend a y n rid x) h = (h.0, (h.1.0.0, append_quiet c.stand a n x c.next h.1.0.1))
+  way c w _ _ _ _ (FeedsCopy y n rid x) h = (h.0, h.1.0)
+  way c w _ _ _ _ (FeedsReconf r n rid x) h = (h.0, h.1.0)
+  way c w _ _ _ _ (NewerSync s n rid q) h = (h.0, (h.1.0, tt))
+  way c w _ _ _ _ (NewerWalk k os n rid q) h = (h.0, (h.1.0, (λ r. let y = h.1.1 r in (y.0, goes_past (Past m given Met) (later_past m given Met) q c.next k y.1.0)), goes_by Hears q c.next k))
+  way c w _ _ _ _ (NewerAppend a y n rid q) h = (h.0, (h.1.0, append_again_quiet q a c.next))
+  way c w _ _ _ _ (NewerCopy x n rid q fine) h = h
+  way c w _ _ _ _ (NewerReconf r n rid q) h = h
+  way c w _ _ _ _ (Confirms bs t ls) h = (h.0, (h.1.0, lo_past c w.command h.1.0))
+  way c w _ _ _ _ (Settles bs t ls s) h = (h.0, (h.1.0, lo_past c w.command h.1.0))
+  way c w _ _ _ _ (EndsAtOnce o os x e) h = h
+  way c w _ _ _ _ (WalkEnds o os x) h = (h.0, (h.1.0, (λ r. (h.1.1 r).0), h.1.2))
+  way c w _ _ _ _ (MetNone o os x) h = (h.0, (h.1.0, h.1.1))
+  way c w _ _ _ _ (MetLow o os x b e f) h = (h.0, (h.1.0, h.1.1))
+  way c w _ _ _ _ (MetHigh o os x b e f k) h = let y = told c w b e h.1.0 (h.1.2 b refl) in (inr y, (inr (refl, y), λ r. inr y))
+  way c w _ _ _ _ (StartsOver o os x b e f k) h = let y = told c w b e h.1.0 (h.1.2 b refl) in (inr y, (inr (refl, y), λ r. inr y))
+  way c w _ _ _ _ x h = (h.0, tt)
+
+  walked_way : (c : Client m) (w : Work m) (d : Client m) (q : Place m) → AllWalked m c w d q → Stands c w (Walks' []) → Stands d w q
+  walked_way c w _ _ (HasPlayed k) h = (stays_on (upto m c) (own_play m c w).view.upto (played_high m c w) h.0, tt)
+  walked_way c w _ _ (LooksBack at o q of) h = (h.0, tt)
+  walked_way c w _ _ (IsRescue at of) h = (h.0, h.1.0)
+
+  answers_fine : (c : Client m) (w : Work m) (p : Place m) (d : Client m) (n : ℕ) (what : WhatOf m) → IsAnswered m c w p d n what → J c → J d
+  answers_fine c w _ _ _ _ (DecidedAt x bs p d no_end) j = j
+  answers_fine c w _ _ _ _ x j = j
+
+  ends_fine : (c : Client m) (w : Work m) (p : Place m) (x : Moved m) → End m c w p x → Stands c w p → Fine x
+  unfolding appends append_start syncs sync_start
+  ends_fine c w _ _ (GoesOn _ _ _ (WalkGoes o os x)) h = ((h.1.0, h.1.1), h.0)
+  ends_fine c w _ _ (GoesOn _ _ _ (WalkBegins o os x e)) h =
+      ((h.1.0, λ r. (h.1.1 r, subst (NextPast (Past m given Met) (later_past m given Met)) e (starts_past (Past m given Met) (later_past m given Met) c.stand o (lasts_of m w o) w.lo c.cells c.next (h.1.1 r)))), h.0)
+  ends_fine c w _ _ (GoesOn _ _ _ (TrimsBegin es p came_to of came some)) h = (tt, h.0)
+  ends_fine c w _ _ (GoesOn _ _ _ x) h = (h.1, h.0)
+  ends_fine c w _ _ (LearnsNewer _ (WalkLearns o os x)) h = ((h.1.0, h.1.1), h.0)
+  ends_fine c w _ _ (LearnsNewer _ x) h = (h.1, h.0)
+  ends_fine c w _ _ (Syncs' _ _ _ (StaleHigh o os x b e f)) h = let y = told c w b e h.1.0 (h.1.2 b refl) in ((inr (refl, y), tt), inr y)
+  ends_fine c w _ _ (Syncs' _ _ _ (Widens at o is)) h = ((h.1, tt), h.0)
+  ends_fine c w _ _ (Syncs' _ _ _ x) h = ((h.1.0, tt), h.0)
+  ends_fine c w _ _ (Appends' _ _ _ _ (MarkBegins es p came_to o n of came may)) h = ((tt, tt), h.0)
+  ends_fine c w _ _ (Appends' _ _ _ _ x) h = ((tt, tt), h.0)
+  ends_fine c w _ _ (Refuses _ _ _ (RecordForgotten y bs p b of)) h = (tt, h.0)
+  ends_fine c w _ _ (Refuses _ _ _ x) h = (tt, h.0)
+  ends_fine c w p _ (Answers d n what x) h = took_fine d d.view [] (answers_fine c w p d n what x h.0)
+  ends_fine c w _ _ (Tells _ _ (IsMarked n o mark bs p d)) h = took_fine (owns m c p d) c.view [] h.0
+  ends_fine c w _ _ (Tells _ _ x) h = (tt, h.0)
 
   -- what a unit answers to a walk in hand
   abbrev pub WalkHears : Client m → NodeId → ℕ → Reply → Type 0
@@ -369,38 +238,11 @@ module _ (m : Meaning) (given top : ℕ) (Met : Type 0) where
   hears_of (Copying' y) x f = tt
   hears_of (Reconfiguring r) x f = tt
 
-  fed_if_fine : (b : Bool) (c : Client m) (w : Work m) (t : Task m) (from : NodeId) (rid : ℕ) (x : Reply) → (b ≡ true → TaskHears t x) → At' m given Met c → TaskAt m given Met w.command w.lo c.view t → J c → Fine (step.fed_if m b c w t from rid x)
-  fed_if_fine true c w t from rid x g h k j = fed_fine c w t from.num rid x (g refl) k j
-  fed_if_fine false c w t from rid x g h k j = (h, j)
-
-  hand_fine : (c : Client m) (w : Work m) (d : Hand m) (from : NodeId) (rid : ℕ) (x : Reply) → c.work ≡ Some w → w.hand ≡ d → WalkHears c from rid x → At' m given Met c → TaskAt m given Met w.command w.lo c.view (task_in m d) → J c → Fine (step.hand_feed m c w d from rid x)
-  hand_fine c w (Doing t) from rid x e i g h k j = fed_if_fine (awaits (task_awaited m c.stand t) from rid) c w t from rid x (λ b. hears_of t x (g w t e i b)) h k j
-  hand_fine c w (Learning ws t) from rid x e i g h k j = (h, j)
-
-  latest_fine : (b : Bool) (c : Client m) (w : Work m) (from : NodeId) (rid : ℕ) (q : Layout) → At' m given Met c → TaskAt m given Met w.command w.lo c.view (task_in m w.hand) → J c → Fine (step.latest_if m b c w from rid q)
-  latest_fine true c w from rid q h k j = newer_fine c w (task_in m w.hand) from.num rid q k j
-  latest_fine false c w from rid q h k j = (h, j)
-
-  in_hand : (c : Client m) (w : Work m) → c.work ≡ Some w → At' m given Met c → TaskAt m given Met w.command w.lo c.view (task_in m w.hand)
-  in_hand c w e h = subst (WorkAt m given Met c.view) e h
-
-  reply_fine : (c : Client m) (w : Work m) (from : NodeId) (rid : ℕ) (x : Reply) → c.work ≡ Some w → WalkHears c from rid x → At' m given Met c → J c → Fine (step.reply_feed m c w from rid x)
-  reply_fine c w from rid (IsLatest q) e g h j = latest_fine (node_eq from (layout_id from.num) && nat_lt c.stand.epoch q.epoch) c w from rid q h (in_hand c w e h) j
-  reply_fine c w from rid x e g h j = hand_fine c w w.hand from rid x e refl g h (in_hand c w e h) j
-
-  pub feed_fine : (c : Client m) (o : Option (Work m)) (from : NodeId) (rid : ℕ) (x : Reply) → c.work ≡ o → WalkHears c from rid x → At' m given Met c → J c → Fine (step.feed m c o from rid x)
-  feed_fine c None from rid x e g h j = (h, j)
-  feed_fine c (Some w) from rid x e g h j = reply_fine c w from rid x e g h j
+  pub feed_fine : (c : Client m) (from : NodeId) (rid : ℕ) (x : Reply) → WalkHears c from rid x → At' m given Met c → J c → Fine (step.feed m c c.work from rid x)
+  feed_fine c from rid x g h j = delivered m Stands Fine ends_fine way (over_walks m Stands Fine ends_fine walked_way) c from rid x (h, j)
+      (λ w t has doing a other. (j, (subst (λ (d : Hand m). TaskAt m given Met w.command w.lo c.view (task_in m d)) doing (subst (WorkAt m given Met c.view) has h), hears_of t x (g w t has doing a)))) (λ w q has is e. (j, subst (WorkAt m given Met c.view) has h))
 
   -- Commands.
-
-  purpose_at : (v : Option (View m)) (y : Purpose m) → AsGiven m given Met v → PurposeAt m given Met v y
-  purpose_at v Judged k = k
-  purpose_at v Writes k = tt
-  purpose_at v (Decides x) k = tt
-  purpose_at v (Rescues x) k = tt
-  purpose_at v (Saves o u) k = tt
-  purpose_at v (Marks n o u) k = tt
 
   -- all but the hosting of an object
   abbrev pub IsHost : CommandOf m → Type 0
@@ -408,45 +250,22 @@ module _ (m : Meaning) (given top : ℕ) (Met : Type 0) where
   IsHost x = ⊥
 
   module _ (c : Client m) (free : c.work ≡ None) (k : K c) (j : J c) where
-    puts_fine : (o : Oid) (op : m.op) (t : Option Tx) → Fine (step.puts m c o op t)
-    puts_fine o op None = idle c [] free j
-    puts_fine o op (Some t) = idle (step.puts m c o op (Some t)).now [] free j
+    said_fine : (x : CommandOf m) (d : Client m) (ns : List (NoteOf m)) → IsSaid m c x d ns → (IsHost x → ⊥) → Fine (moved m d ns)
+    said_fine _ d ns (HostsAlready o is) not_host = absurd (not_host tt)
+    said_fine _ d ns (Hosts o is) not_host = absurd (not_host tt)
+    said_fine _ d ns s not_host = idle d ns free j
 
-    asks_fine : (x : CommandOf m) (o : Oid) (q : m.ask) (t : Option Tx) → Fine (step.asks m c x o q t)
-    asks_fine x o q None = idle c [] free j
-    asks_fine x o q (Some t) = by t.snapshot
-      where
-        state : (at : ℕ) (v : View m) (s : Option m.state) → Fine (step.asked_of_state m c t at o q v s)
-        state at v None = idle c [] free j
-        state at v (Some s) = idle (step.asked_of_state m c t at o q v (Some s)).now [] free j
-
-        view : (at : ℕ) (v : Option (View m)) → Fine (step.asks_view m c t at o q v)
-        view at None = idle c [] free j
-        view at (Some v) = state at v (state_of m v o)
-
-        by : (s : Option ℕ) → Fine (step.asks_by m c x o q t s)
-        by None = syncs_fine c (new_work m x) c.hosted k j
-        by (Some at) = view at c.view
-
-    ends_fine : (x : CommandOf m) (t : Option Tx) → Fine (step.ends m c x t)
-    ends_fine x None = idle c [] free j
-    ends_fine x (Some t) = by (length t.writes == 0)
-      where
-        by : (b : Bool) → Fine (step.end_by m c x t b)
-        by true = idle (closed m c) [] free j
-        by false = appends_fine c _ _ (step.purpose_of m t) _ (purpose_at c.view (step.purpose_of m t) k) j
+    takes_fine : (x : CommandOf m) → (IsHost x → ⊥) → (y : Moved m) → Taken m c x y → Fine y
+    unfolding appends append_start syncs sync_start
+    takes_fine _ not_host _ (SaidAtOnce x d ns s) = said_fine x d ns s not_host
+    takes_fine _ not_host _ (SyncsFirst x i) = ((k, tt), j)
+    takes_fine _ not_host _ (AppendsRecord t _ has some (ForWrites e)) = ((tt, tt), j)
+    takes_fine _ not_host _ (AppendsRecord t _ has some (ForJudged e)) = ((k, tt), j)
+    takes_fine _ not_host _ (ReconfBegins x n r e) = ((λ i. i), j)
+    takes_fine _ not_host _ (CopyBegins u r s) = ((λ i. i), j)
 
     pub accepts_fine : (x : CommandOf m) → (IsHost x → ⊥) → Fine (accepts m c x)
-    unfolding accepts
-    accepts_fine (cmd.Host o) not = absurd (not tt)
-    accepts_fine cmd.Begin not = idle (step.begins m c).now [] free j
-    accepts_fine (cmd.Put o op) not = puts_fine o op c.tx
-    accepts_fine (cmd.Ask o q) not = asks_fine _ o q c.tx
-    accepts_fine cmd.End not = ends_fine _ c.tx
-    accepts_fine cmd.Drop not = idle (closed m c) [] free j
-    accepts_fine (cmd.Reconf x) not = on_reconf_fine c (new_work m (cmd.Reconf x)) (reconf_start c.stand c.layouts x c.num c.next) (λ r. r) j
-    accepts_fine (cmd.Copy u r s) not = copies_fine c (new_work m (cmd.Copy u r s)) (record { unit = u; range = r; stripe = s; work = copying.Sealing 0 }) None (λ r. r) j
-    accepts_fine x not = syncs_fine c (new_work m x) c.hosted k j
+    accepts_fine x not_host = takes_fine x not_host (accepts m c x) (taken m c x)
 
   pub tick_fine : (c : Client m) (o : Option (Work m)) → c.work ≡ o → At' m given Met c → J c → At' m given Met (step.tick_by m c o).now × Stays (upto m (step.tick_by m c o).now)
   tick_fine c None e h j = (h, j)

@@ -6,6 +6,9 @@ pub mod Books
 pub mod Closed
 pub mod Shape
 pub mod Answering
+pub mod Ways
+pub mod Reached
+pub mod Each
 pub mod Shaping
 pub mod Carried
 pub mod Moves

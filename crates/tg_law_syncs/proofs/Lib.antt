@@ -1,3 +1,4 @@
+pub mod Each
 pub mod Syncs
 pub mod Known
 pub mod Timely

@@ -1,7 +1,6 @@
 pub mod Rounds
 pub mod Checks
 pub mod Meets
-pub mod Widens
 pub mod Turns
 pub mod Steps
 pub mod Ends

@@ -1,5 +1,4 @@
 pub mod Machines
-pub mod Walked
 pub mod Hands
 pub mod Sent
 pub mod Growing

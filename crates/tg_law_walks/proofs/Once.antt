@@ -1,5 +1,6 @@
 pub mod Nowhere
 pub mod Feeding
+pub mod Awaited
 pub mod Filling
 pub mod Turning
 pub mod Reached

@@ -1,5 +1,5 @@
 -- An answer in hand is true of the request that is awaited, and what a cell's machine knows by its answers.
-use Rattle.std.proofs.Common.{◌≡◌, ◌⊎◌, ℕ, ◌+◌, ◌<◌, ◌≤◌, List, [], ◌∷◌, length, Bool, true, false, not, ◌&&◌, refl, sym, ap, ◌∙◌, subst, inl, inr, arith, Some}
+use Rattle.std.proofs.Common.{◌≡◌, ◌⊎◌, ℕ, ◌+◌, ◌<◌, ◌≤◌, List, length, Bool, true, false, not, ◌&&◌, refl, sym, ap, ◌∙◌, subst, inl, inr, arith, Some}
 use Rattle.std.specs.Prelude.{nat_lt, ◌==◌}
 use Rattle.tg_base.specs.declared.cell.Cell.{Cell}
 use Rattle.tg_base.specs.declared.cell.Cell.TheVariants.{Junk, Data}
@@ -12,11 +12,12 @@ use Rattle.tg_kind.specs.Meaning.{Meaning}
 use Rattle.tg_base.specs.Orders.{node_eq}
 use Rattle.tg_protocol.specs.Words.{unit_id, client_id, seqr_id, cell_eq}
 use Rattle.tg_protocol.specs.Units.{unit_ask}
-use Rattle.tg_protocol.specs.Requests.{Waits, awaits, Next, Goes, Learns, Ends}
-use Rattle.tg_protocol.specs.Replies.{Reply, reply}
+use Rattle.tg_protocol.specs.Requests.{awaits, Next, Goes, Learns, Ends}
+use Rattle.tg_protocol.specs.Replies.{reply}
 use Rattle.tg_protocol.specs.Replies as replied
-use Rattle.tg_protocol.specs.Cells.{Place, CellWork, Puts, Gets, Fills, Copies, Probes, CellJob, CellEnd, Done, Lost, Fenced, Gone, unit_at, last_unit, works, work_asks, put_on, copy_on, end_if, copy_if_same, probe_on, fill_cell, work_feed}
+use Rattle.tg_protocol.specs.Cells.{Place, CellWork, Puts, Gets, Fills, Copies, Probes, CellJob, CellEnd, CellTurn, Done, Lost, unit_at, last_unit}
 use Rattle.tg_protocol.specs.Sequencers.{seqr_asks}
+use Rattle.tg_law_steps.proofs.Machines.Cells as cells
 use Rattle.tg_law_layouts.proofs.Moves.Members.{Has, found}
 use Rattle.tg_law_layouts.specs.Moves.Configs.{Config, unit_in, client_in, seqr_in}
 use Rattle.tg_law_layouts.specs.Moves.Telling.{Claim, claimed}
@@ -140,23 +141,6 @@ module _ (ps : List Packet) where
   upto_less : (a : Place) (c : Cell) (i n : ℕ) → n ≤ i → Upto a c i → Upto a c n
   upto_less a c i n le u k less = u k (omega (arith, le, less))
 
-  put_ok : (a : Place) (d : List ℕ) (i next : ℕ) (b : Bool) → nat_lt i (length a.chain) ≡ b → Upto a (Data d) i → NextOk a (put_on a d i next b).to
-  put_ok a d i next true e u = (refl, u)
-  put_ok a d i next false e u = inl (upto_less a (Data d) i (length a.chain) (not_less i (length a.chain) e) u)
-
-  copy_ok : (a : Place) (c : Cell) (i next : ℕ) (b : Bool) → nat_lt i (length a.chain) ≡ b → 0 < i → Upto a c i → NextOk a (copy_on a c i next b).to
-  copy_ok a c i next true e past u = (refl, (past, u))
-  copy_ok a c i next false e past u = inl (upto_less a c i (length a.chain) (not_less i (length a.chain) e) u)
-
-  -- an end that claims nothing of cells, or no change
-  end_ok : (b : Bool) (a : Place) (w : CellWork) (next : ℕ) (e : CellEnd) → WorkOk a w → EndOk a e → NextOk a (end_if b (works a w) next e).to
-  end_ok true a w next e ok f = f
-  end_ok false a w next e ok f = (refl, ok)
-
-  probe_ok : (a : Place) (ws : Waits) (next : ℕ) → NextOk a (probe_on a ws next).to
-  probe_ok a [] next = tt
-  probe_ok a (w ∷ ws) next = (refl, tt)
-
   -- what an answer y to a request x of unit v claims
   abbrev pub ClaimsOf : ℕ → Msg → Msg → Type 0
   ClaimsOf v x y = (k : Claim) → claimed (unit_ask x) y ≡ Some k → Tells ps v k
@@ -180,11 +164,6 @@ module _ (ps : List Packet) where
   told : (v e p : ℕ) (c : Cell) (x y : Msg) → ClaimsOf v x y → claimed (unit_ask x) y ≡ Some (record { epoch = e; pos = p; cell = c }) → ToldBy v e p c
   told v e p c x y tells is = record { claim = record { epoch = e; pos = p; cell = c }; tells = tells _ is; epoch = omega arith; pos = refl; cell = refl }
 
-  lost_ok : (a : Place) (r : ℕ) (d : List ℕ) (i : ℕ) (c : Cell) (next : ℕ) (b : Bool) → ((i == 0) && not (cell_eq c (Data d))) ≡ b → WorkOk a (Puts r d i) → ToldBy (unit_at a i) a.epoch a.pos c
-      → NextOk a (end_if b (works a (Puts r d i)) next (Lost c)).to
-  lost_ok a r d i c next true e ok t = subst (λ (j : ℕ). ToldBy (unit_at a j) a.epoch a.pos c) (same_number i 0 (both (i == 0) (not (cell_eq c (Data d))) e).0) t
-  lost_ok a r d i c next false e ok t = (refl, ok)
-
   equal_cells : (x c : Cell) → cell_eq x c ≡ true → x ≡ c
   equal_cells x c e = by (cell_same x c)
     where
@@ -195,33 +174,33 @@ module _ (ps : List Packet) where
           contrary b e f = cc
       by (inr s) = s
 
-  same_ok : (a : Place) (r : ℕ) (c : Cell) (i : ℕ) (x : Cell) (next : ℕ) (b : Bool) → cell_eq x c ≡ b → WorkOk a (Copies r c i) → ToldBy (unit_at a i) a.epoch a.pos x
-      → NextOk a (copy_if_same (works a (Copies r c i)) c i next b).to
-  same_ok a r c i x next true e ok t = copy_ok a c (i + 1) next _ refl (omega arith) (upto_more a c i ok.1 (subst (λ (z : Cell). ToldBy (unit_at a i) a.epoch a.pos z) (equal_cells x c e) t))
-  same_ok a r c i x next false e ok t = (refl, ok)
+  -- the units up to that to which a cell is copied next have told it
+  copied : (u : ℕ) (y : Msg) (next : ℕ) (a : Place) (w : CellWork) (c : Cell) (i : ℕ) → cells.IsCopied u (reply y) next w c i → WorkOk a w → Claims a w y → (0 < i) × Upto a c i
+  unfolding claimed unit_ask
+  copied u y next a _ _ _ (cells.FillHeld r is) ok h =
+      (omega arith, upto_more a Junk 0 (λ k less. absurd (omega (arith, less))) (told (unit_at a 0) a.epoch a.pos Junk (msg.Fill a.epoch a.pos) y h (ap (λ (z : Msg). claimed (unit_ask (msg.Fill a.epoch a.pos)) z) (is_held y is))))
+  copied u y next a _ _ _ (cells.FillTaken r c is) ok h =
+      (omega arith, upto_more a c 0 (λ k less. absurd (omega (arith, less))) (told (unit_at a 0) a.epoch a.pos c (msg.Fill a.epoch a.pos) y h (ap (λ (z : Msg). claimed (unit_ask (msg.Fill a.epoch a.pos)) z) (is_taken y c is))))
+  copied u y next a _ _ _ (cells.CopyHeld r c i is) ok h =
+      (omega arith, upto_more a c i ok.1 (told (unit_at a i) a.epoch a.pos c (msg.Copy a.epoch a.pos c) y h (ap (λ (z : Msg). claimed (unit_ask (msg.Copy a.epoch a.pos c)) z) (is_held y is))))
+  copied u y next a _ _ _ (cells.CopySame r c i x is e) ok h =
+      let t = told (unit_at a i) a.epoch a.pos x (msg.Copy a.epoch a.pos c) y h (ap (λ (z : Msg). claimed (unit_ask (msg.Copy a.epoch a.pos c)) z) (is_taken y x is)) in
+      (omega arith, upto_more a c i ok.1 (subst (λ (z : Cell). ToldBy (unit_at a i) a.epoch a.pos z) (equal_cells x c e) t))
 
-  pub work_ok : (a : Place) (w : CellWork) (u : ℕ) (y : Msg) (x : Reply) (next : ℕ) → reply y ≡ x → WorkOk a w → Claims a w y → NextOk a (work_feed (works a w) w u x next).to
-  unfolding work_feed work_asks claimed unit_ask fill_cell
-  work_ok a w u y (replied.IsFenced e) next is ok h = end_ok _ a w next (Fenced u e) ok tt
-  work_ok a (Puts r d i) u y replied.IsHeld next is ok h =
-      put_ok a d (i + 1) next _ refl (upto_more a (Data d) i ok (told (unit_at a i) a.epoch a.pos (Data d) (msg.Write a.epoch a.pos d) y h (ap (λ (z : Msg). claimed (unit_ask (msg.Write a.epoch a.pos d)) z) (is_held y is))))
-  work_ok a (Puts r d i) u y (replied.IsTaken c) next is ok h =
-      lost_ok a r d i c next _ refl ok (told (unit_at a i) a.epoch a.pos c (msg.Write a.epoch a.pos d) y h (ap (λ (z : Msg). claimed (unit_ask (msg.Write a.epoch a.pos d)) z) (is_taken y c is)))
-  work_ok a (Puts r d i) u y (replied.IsGone b) next is ok h = end_ok _ a (Puts r d i) next (Gone b) ok tt
-  work_ok a (Gets r) u y (replied.IsTaken c) next is ok h =
-      inr (told (last_unit a) a.epoch a.pos c (msg.Read a.epoch a.pos) y h (ap (λ (z : Msg). claimed (unit_ask (msg.Read a.epoch a.pos)) z) (is_taken y c is)))
-  work_ok a (Gets r) u y replied.IsUnwritten next is ok h = (refl, ok)
-  work_ok a (Gets r) u y (replied.IsGone b) next is ok h = end_ok _ a (Gets r) next (Gone b) ok tt
-  work_ok a (Fills r) u y replied.IsHeld next is ok h =
-      copy_ok a Junk 1 next _ refl (omega arith) (upto_more a Junk 0 (λ k less. absurd (omega (arith, less))) (told (unit_at a 0) a.epoch a.pos Junk (msg.Fill a.epoch a.pos) y h (ap (λ (z : Msg). claimed (unit_ask (msg.Fill a.epoch a.pos)) z) (is_held y is))))
-  work_ok a (Fills r) u y (replied.IsTaken c) next is ok h =
-      copy_ok a c 1 next _ refl (omega arith) (upto_more a c 0 (λ k less. absurd (omega (arith, less))) (told (unit_at a 0) a.epoch a.pos c (msg.Fill a.epoch a.pos) y h (ap (λ (z : Msg). claimed (unit_ask (msg.Fill a.epoch a.pos)) z) (is_taken y c is))))
-  work_ok a (Fills r) u y (replied.IsGone b) next is ok h = end_ok _ a (Fills r) next (Gone b) ok tt
-  work_ok a (Copies r c i) u y replied.IsHeld next is ok h =
-      copy_ok a c (i + 1) next _ refl (omega arith) (upto_more a c i ok.1 (told (unit_at a i) a.epoch a.pos c (msg.Copy a.epoch a.pos c) y h (ap (λ (z : Msg). claimed (unit_ask (msg.Copy a.epoch a.pos c)) z) (is_held y is))))
-  work_ok a (Copies r c i) u y (replied.IsTaken x) next is ok h =
-      same_ok a r c i x next _ refl ok (told (unit_at a i) a.epoch a.pos x (msg.Copy a.epoch a.pos c) y h (ap (λ (z : Msg). claimed (unit_ask (msg.Copy a.epoch a.pos c)) z) (is_taken y x is)))
-  work_ok a (Copies r c i) u y (replied.IsGone b) next is ok h = end_ok _ a (Copies r c i) next (Gone b) ok tt
-  work_ok a (Probes ws) u y replied.IsWhole next is ok h = probe_ok a _ next
-  work_ok a (Probes ws) u y (replied.IsMissing p) next is ok h = probe_ok a _ next
-  work_ok a w u y x next is ok h = (refl, ok)
+  put_told : (y : Msg) (a : Place) (d : List ℕ) (i : ℕ) → reply y ≡ replied.IsHeld → Upto a (Data d) i → ClaimsOf (unit_at a i) (msg.Write a.epoch a.pos d) y → Upto a (Data d) (i + 1)
+  unfolding claimed unit_ask
+  put_told y a d i is ok h = upto_more a (Data d) i ok (told (unit_at a i) a.epoch a.pos (Data d) (msg.Write a.epoch a.pos d) y h (ap (λ (z : Msg). claimed (unit_ask (msg.Write a.epoch a.pos d)) z) (is_held y is)))
+
+  pub turn_ok : (u : ℕ) (y : Msg) (next : ℕ) (j : CellJob) (t : CellTurn) → cells.Fed u (reply y) next j t → WorkOk j.place j.work → Claims j.place j.work y → NextOk j.place t.to
+  unfolding claimed unit_ask
+  turn_ok u y next _ _ (cells.PutsOn a r d i is f) ok h = (refl, put_told y a d i is ok h)
+  turn_ok u y next _ _ (cells.PutsLast a r d i is f) ok h = inl (upto_less a (Data d) (i + 1) (length a.chain) (not_less (i + 1) (length a.chain) f) (put_told y a d i is ok h))
+  turn_ok u y next _ _ (cells.PutRefused a r d i c is f) ok h = subst (λ (k : ℕ). ToldBy (unit_at a k) a.epoch a.pos c) (same_number i 0 (both (i == 0) (not (cell_eq c (Data d))) f).0)
+      (told (unit_at a i) a.epoch a.pos c (msg.Write a.epoch a.pos d) y h (ap (λ (z : Msg). claimed (unit_ask (msg.Write a.epoch a.pos d)) z) (is_taken y c is)))
+  turn_ok u y next _ _ (cells.ReadsCell a r c is) ok h = inr (told (last_unit a) a.epoch a.pos c (msg.Read a.epoch a.pos) y h (ap (λ (z : Msg). claimed (unit_ask (msg.Read a.epoch a.pos)) z) (is_taken y c is)))
+  turn_ok u y next _ _ (cells.ReadsNone a r is) ok h = (refl, tt)
+  turn_ok u y next _ _ (cells.CopiesOn a w c i k f) ok h = (refl, copied u y next a w c i k ok h)
+  turn_ok u y next _ _ (cells.CopiesLast a w c i k f) ok h = inl (upto_less a c i (length a.chain) (not_less i (length a.chain) f) (copied u y next a w c i k ok h).1)
+  turn_ok u y next _ _ (cells.ProbesOn a ws v vs k e) ok h = (refl, tt)
+  turn_ok u y next _ _ (cells.Nothing j) ok h = (refl, ok)
+  turn_ok u y next _ _ x ok h = tt

@@ -37,17 +37,14 @@ use Rattle.tg_protocol.specs.Logs.{decided, newest, log_of, entries_of, members,
 use Rattle.tg_base.specs.Clusters.{Header}
 use Rattle.tg_base.specs.declared.cell.Cell.{Cell}
 use Rattle.tg_base.specs.declared.cell.Cell.TheVariants.{Data}
-use Rattle.tg_base.specs.declared.ids.Oid.{Oid}
-use Rattle.tg_entry.specs.declared.entry.Body.TheVariants.{Commit}
 use Rattle.tg_entry.specs.declared.entry.Entry.{Entry}
-use Rattle.tg_base.specs.declared.packet.Packet.{Packet}
 use Rattle.tg_model.specs.declared.command.Command.TheVariants as cmd
 use Rattle.tg_model.specs.declared.command.Event.TheVariants.{Command as Commands, Deliver, Lose, Tick}
 use Rattle.tg_protocol.specs.Worlds.{World, start, latest, log, history, unit_moves, layout_moves, seqr_moves, client_turned, happens, limit_of, drain_on, drain, tick_all, rounds, settle, line, lines, lowest, next_event}
 use Rattle.tg_protocol.specs.Runs.{Move, Moves, Takes, LawfulMove, Reaches, Later, run}
 use Rattle.tg_law_layouts.proofs.Layouts.Layouts.{has_header}
 use Rattle.tg_law_layouts.proofs.Moves.Lists.{contained}
-use Rattle.tg_law_layouts.proofs.Moves.Members.{Has, has_contained, passes_somewhere}
+use Rattle.tg_law_layouts.proofs.Moves.Members.{Has, has_contained}
 use Rattle.tg_law_cells.specs.Entries.Worked.{tallies, two_units, drained}
 use Rattle.tg_law_cells.specs.Entries.Refuted.{floor_two, half_written, until_trimmed, half_trimmed, then_drains, rest, CellsWantSafeTrims}
 use Rattle.tg_law_cells.proofs.Entries.Worked.{LawfulAll, lawful_both, is_lawful, lawful_none, all_drained, and_lawful}

@@ -1,5 +1,5 @@
 -- No lower tail is told after a confirmed one.
-use Rattle.std.proofs.Common.{◌≡◌, ◌≢◌, ◌⊎◌, ℕ, ◌<◌, ◌≤◌, List, [], length, map, true, refl, sym, ap, ◌∙◌, subst, inl, inr, arith}
+use Rattle.std.proofs.Common.{◌≡◌, ◌⊎◌, ℕ, ◌<◌, ◌≤◌, List, [], length, map, true, refl, sym, ap, ◌∙◌, subst, inl, inr, arith}
 use Rattle.std.specs.Prelude.{slice_index_or}
 use Rattle.tg_base.specs.Clusters.{Header}
 use Rattle.tg_base.specs.Layouts.{Layout}
@@ -33,7 +33,7 @@ use Rattle.tg_law_layouts.proofs.Layouts.Deciding.{one_layout, layouts_are_known
 use Rattle.tg_law_cells.proofs.Tokens.Issues.{Low, turned}
 use Rattle.tg_law_cells.proofs.Tokens.Naming.{Keeps', AsBefore, Learnt, step_keeps}
 use Rattle.tg_law_cells.proofs.Tokens.Named.{Known, Seq, naming_holds}
-use Rattle.tg_law_cells.specs.Order.Tails.{ToldTail, ConfirmedTail, EachPassed}
+use Rattle.tg_law_cells.specs.Order.Tails.{ToldTail, EachPassed}
 use Rattle.tg_law_cells.specs.Order.Later.{ToldSince, TailsRise}
 use Rattle.tg_law_cells.proofs.Order.Tails.{Passed, passed_on, not_scanning, IsAnswer, step_answers, scan_quiet, check_asks, same_seqr, Tails, both_keeps, both_hold, told_passed, starts_past}
 

@@ -1,5 +1,5 @@
 -- A page goes to the position of its own token: what a cell's machine that puts a page knows of it.
-use Rattle.std.proofs.Common.{◌≡◌, ℕ, ◌+◌, List, [], ◌∷◌, Bool, true, false, refl, arith}
+use Rattle.std.proofs.Common.{◌≡◌, ℕ, List, true, refl, arith}
 use Rattle.tg_base.specs.declared.cell.Cell.{Cell}
 use Rattle.tg_base.specs.declared.cell.Cell.TheVariants.{Junk, Data}
 use Rattle.tg_base.specs.declared.ids.NodeId.{NodeId}
@@ -13,10 +13,11 @@ use Rattle.tg_protocol.specs.Entries.{streams_of}
 use Rattle.tg_entry.specs.Records.{linked}
 use Rattle.tg_protocol.specs.Pages.{page_of}
 use Rattle.tg_protocol.specs.Appending.{names_all}
-use Rattle.tg_protocol.specs.Requests.{Waits, Next, Goes, Learns, Ends}
-use Rattle.tg_protocol.specs.Replies.{Reply, reply}
+use Rattle.tg_protocol.specs.Requests.{Next, Goes, Learns, Ends}
+use Rattle.tg_protocol.specs.Replies.{reply}
 use Rattle.tg_protocol.specs.Replies as replied
-use Rattle.tg_protocol.specs.Cells.{Place, CellWork, Puts, Gets, Fills, Copies, Probes, CellJob, CellEnd, Done, Fenced, Gone, Lost, works, put_on, copy_on, end_if, copy_if_same, probe_on, fill_cell, work_feed}
+use Rattle.tg_protocol.specs.Cells.{Place, CellWork, Puts, Copies, Probes, CellJob, CellEnd, CellTurn, Done}
+use Rattle.tg_law_steps.proofs.Machines.Cells as cells
 use Rattle.tg_law_layouts.proofs.Moves.Members.{Has}
 
 -- this node has asked a sequencer, which has issued
@@ -84,26 +85,6 @@ module _ (ps : List Packet) (P : MayPut) where
   NextOk a (Learns j) = (j.place ≡ a) × WorkOk a j.work
   NextOk a (Ends e) = EndOk ps a e
 
-  put_ok : (a : Place) (d : List ℕ) (i next : ℕ) (b : Bool) → P a.epoch a.pos d → Wrote ps a.pos d → NextOk a (put_on a d i next b).to
-  put_ok a d i next true k w = (refl, k)
-  put_ok a d i next false k w = w
-
-  copied_ok : (a : Place) (c : Cell) (i next : ℕ) (b : Bool) → OwnCell ps a.pos c → NextOk a (copy_on a c i next b).to
-  copied_ok a c i next true k = (refl, k)
-  copied_ok a c i next false k = k
-
-  end_ok : (b : Bool) (a : Place) (w : CellWork) (next : ℕ) (e : CellEnd) → WorkOk a w → EndOk ps a e → NextOk a (end_if b (works a w) next e).to
-  end_ok true a w next e ok f = f
-  end_ok false a w next e ok f = (refl, ok)
-
-  probe_ok : (a : Place) (ws : Waits) (next : ℕ) → NextOk a (probe_on a ws next).to
-  probe_ok a [] next = tt
-  probe_ok a (w ∷ ws) next = (refl, tt)
-
-  same_ok : (a : Place) (r : ℕ) (c : Cell) (i next : ℕ) (b : Bool) → OwnCell ps a.pos c → NextOk a (copy_if_same (works a (Copies r c i)) c i next b).to
-  same_ok a r c i next true k = copied_ok a c (i + 1) next _ k
-  same_ok a r c i next false k = (refl, k)
-
   is_taken : (y : Msg) (c : Cell) → reply y ≡ replied.IsTaken c → y ≡ msg.Taken c
   unfolding reply
   is_taken y c h = grind arith
@@ -112,21 +93,19 @@ module _ (ps : List Packet) (P : MayPut) where
   unfolding reply
   is_held y h = grind arith
 
-  pub work_ok : (a : Place) (w : CellWork) (u : ℕ) (y : Msg) (x : Reply) (next : ℕ) → reply y ≡ x → WorkOk a w → Claims ps a w y → NextOk a (work_feed (works a w) w u x next).to
-  unfolding work_feed fill_cell
-  work_ok a w u y (replied.IsFenced e) next is ok h = end_ok _ a w next (Fenced u e) ok tt
-  work_ok a (Puts r d i) u y replied.IsHeld next is ok h = put_ok a d (i + 1) next _ ok (h (is_held y is))
-  work_ok a (Puts r d i) u y (replied.IsTaken c) next is ok h = end_ok _ a (Puts r d i) next (Lost c) ok tt
-  work_ok a (Puts r d i) u y (replied.IsGone b) next is ok h = end_ok _ a (Puts r d i) next (Gone b) ok tt
-  work_ok a (Gets r) u y (replied.IsTaken c) next is ok h = h c (is_taken y c is)
-  work_ok a (Gets r) u y replied.IsUnwritten next is ok h = (refl, tt)
-  work_ok a (Gets r) u y (replied.IsGone b) next is ok h = end_ok _ a (Gets r) next (Gone b) tt tt
-  work_ok a (Fills r) u y replied.IsHeld next is ok h = copied_ok a Junk 1 next _ tt
-  work_ok a (Fills r) u y (replied.IsTaken c) next is ok h = copied_ok a c 1 next _ (h c (is_taken y c is))
-  work_ok a (Fills r) u y (replied.IsGone b) next is ok h = end_ok _ a (Fills r) next (Gone b) tt tt
-  work_ok a (Copies r c i) u y replied.IsHeld next is ok h = copied_ok a c (i + 1) next _ ok
-  work_ok a (Copies r c i) u y (replied.IsTaken x) next is ok h = same_ok a r c i next _ ok
-  work_ok a (Copies r c i) u y (replied.IsGone b) next is ok h = end_ok _ a (Copies r c i) next (Gone b) ok tt
-  work_ok a (Probes ws) u y replied.IsWhole next is ok h = probe_ok a _ next
-  work_ok a (Probes ws) u y (replied.IsMissing p) next is ok h = probe_ok a _ next
-  work_ok a w u y x next is ok h = (refl, ok)
+  -- a cell that is copied on is junk, or was sent
+  copied : (u : ℕ) (y : Msg) (next : ℕ) (a : Place) (w : CellWork) (c : Cell) (i : ℕ) → cells.IsCopied u (reply y) next w c i → WorkOk a w → Claims ps a w y → OwnCell ps a.pos c
+  copied u y next a _ _ _ (cells.FillHeld r is) ok h = tt
+  copied u y next a _ _ _ (cells.FillTaken r c is) ok h = h c (is_taken y c is)
+  copied u y next a _ _ _ x ok h = ok
+
+  pub turn_ok : (u : ℕ) (y : Msg) (next : ℕ) (j : CellJob) (t : CellTurn) → cells.Fed u (reply y) next j t → WorkOk j.place j.work → Claims ps j.place j.work y → NextOk j.place t.to
+  turn_ok u y next _ _ (cells.PutsOn a r d i is f) ok h = (refl, ok)
+  turn_ok u y next _ _ (cells.PutsLast a r d i is f) ok h = h (is_held y is)
+  turn_ok u y next _ _ (cells.ReadsCell a r c is) ok h = h c (is_taken y c is)
+  turn_ok u y next _ _ (cells.ReadsNone a r is) ok h = (refl, tt)
+  turn_ok u y next _ _ (cells.CopiesOn a w c i k f) ok h = (refl, copied u y next a w c i k ok h)
+  turn_ok u y next _ _ (cells.CopiesLast a w c i k f) ok h = copied u y next a w c i k ok h
+  turn_ok u y next _ _ (cells.ProbesOn a ws v vs k e) ok h = (refl, tt)
+  turn_ok u y next _ _ (cells.Nothing j) ok h = (refl, ok)
+  turn_ok u y next _ _ x ok h = tt

@@ -14,13 +14,12 @@ use Rattle.tg_model.specs.Kinds.{CommandOf}
 use Rattle.tg_protocol.specs.Words.{unit_id, layout_id, seqr_id, client_id, numbers}
 use Rattle.tg_protocol.specs.Layouts.{first_layout}
 use Rattle.tg_protocol.specs.Requests.{awaits, out, Waits, waits_for, drawn_from, Next, Goes, Learns, Ends}
-use Rattle.tg_protocol.specs.Replies.{Reply, reply}
-use Rattle.tg_protocol.specs.Replies as replied
+use Rattle.tg_protocol.specs.Replies.{reply}
 use Rattle.tg_protocol.specs.Cells.{CellJob, CellEnd, Done, Fenced, Gone, get_cell, cell_feed}
 use Rattle.tg_protocol.specs.Sequencers.{SeqrState, SeqrTurn, new_seqr, with_positions, cell_streams, scan_asks, seqr_asks, scanning, scan_on, scan_ended, scan_next, scan_turn, fed_if, scan_fed, begun, stand_answer, issue, on_token, issued, links_of, learns, unfenced, own_epoch, on_learn, learn_or_old, seqr_step, seqr_tick}
 use Rattle.tg_protocol.specs.Clients.{Task, Hand, Doing, Learning, Work, Client, new_client, refusal}
 use Rattle.tg_protocol.specs.Answers.{Moved, moved}
-use Rattle.tg_protocol.specs.ClientSteps.{task_asks, task_awaited, task_again_asks, hand_asks, hand_again_asks, client_asks, asks_latest, task_in, ClientTurn, given, client_command, client_deliver, client_tick}
+use Rattle.tg_protocol.specs.ClientSteps.{task_awaited, hand_asks, hand_again_asks, client_asks, asks_latest, task_in, ClientTurn, given, client_command, client_deliver, client_tick}
 use Rattle.tg_protocol.specs.ClientSteps as step
 use Rattle.tg_protocol.specs.Worlds.{packet_of, answer_to}
 use Rattle.tg_law_layouts.proofs.Moves.Members.{Has, has_left, has_either, has_map, has_filter}
@@ -29,7 +28,8 @@ use Rattle.tg_law_layouts.proofs.Moves.Units.{says_answer}
 use Rattle.tg_law_layouts.specs.Moves.Configs.{Config, client_in, seqr_in, layout_in}
 use Rattle.tg_law_layouts.specs.Moves.Telling.{is_request, Claim, claimed}
 use Rattle.tg_law_layouts.proofs.Moves.Lists.{at_set}
-use Rattle.tg_law_layouts.proofs.Moves.Clients.{reserved, work_reserved}
+use Rattle.tg_law_layouts.proofs.Moves.Clients.{reserved, work_reserved, hand_reserved}
+use Rattle.tg_law_steps.proofs.Along.{NoLatest, handed}
 use Rattle.tg_law_layouts.proofs.Moves.Turns.{not_busy, task_again_reserved, asked_awaited}
 use Rattle.tg_law_layouts.proofs.Moves.Moves.{Cases, Comes, seqr_turn, client_turn, SeqrInput, Hears, Ticks, ClientInput, Commanded, Hears', Ticks'}
 use Rattle.tg_law_layouts.proofs.Requests.Answered.{turn_on}
@@ -45,7 +45,7 @@ use Rattle.tg_law_cells.proofs.Tokens.Issues.{Issuing, token_asks}
 use Rattle.tg_law_cells.proofs.Tokens.Jobs.{JobOk, job_of, cell_ok, MaybeOk}
 use Rattle.tg_law_cells.proofs.Tokens.Puts.{HandPuts, task_puts, learn_none}
 use Rattle.tg_law_cells.proofs.Tokens.Hands as hands
-use Rattle.tg_law_cells.proofs.Tokens.Hands.{TaskOk, HandOk, Fine, newer_fine, task_fine, refused_fine}
+use Rattle.tg_law_cells.proofs.Tokens.Hands.{HandOk, Fine, newer_fine, task_fine, refused_fine}
 use Rattle.tg_law_layouts.proofs.Moves.Besides.{none_learns}
 use Rattle.tg_law_cells.proofs.Tokens.Sent.{Justified, AllJust, none_just, both_just, asked_just, maybe_just, one_just, just_grows, maybe_grows, task_just, task_grows, Heard, HeardUnit, task_claims, maybe_claims}
 
@@ -183,36 +183,16 @@ module _ (m : Meaning) where
     rests : (c : Client m) → hands.WorkOk m ps me c.stand c.work → Fine m ps me (moved m c [])
     rests c k = record { ok = k; besides = none_learns _ }
 
-    fed_if_fine : (b : Bool) (c : Client m) (w : Work m) (t : Task m) (x : Packet) → awaits (task_awaited m c.stand t) x.from x.rid ≡ b → hands.WorkOk m ps me c.stand c.work → TaskOk m ps me c.stand t
-        → Heard ps me x.from x.rid x.msg (task_awaited m c.stand t) → Fine m ps me (step.fed_if m b c w t x.from x.rid (reply x.msg))
-    fed_if_fine true c w t x a k h g = task_fine m ps me c w t x.from.num x.rid x.msg h (task_claims ps me x.from x.rid x.msg m c.stand t a g)
-    fed_if_fine false c w t x a k h g = rests c k
-
-    hand_fine : (c : Client m) (w : Work m) (d : Hand m) (x : Packet) → hands.WorkOk m ps me c.stand c.work → HandOk m ps me c.stand d → ((t : Task m) → d ≡ Doing t → Heard ps me x.from x.rid x.msg (task_awaited m c.stand t))
-        → Fine m ps me (step.hand_feed m c w d x.from x.rid (reply x.msg))
-    hand_fine c w (Doing t) x k h g = fed_if_fine _ c w t x refl k h (g t refl)
-    hand_fine c w (Learning ws t) x k h g = rests c k
-
-    latest_fine : (b : Bool) (c : Client m) (w : Work m) (x : Packet) (q : Layout) → hands.WorkOk m ps me c.stand c.work → Fine m ps me (step.latest_if m b c w x.from x.rid q)
-    latest_fine true c w x q k = newer_fine m ps me c w (task_in m w.hand) x.from.num x.rid q
-    latest_fine false c w x q k = rests c k
-
-    reply_fine : (c : Client m) (w : Work m) (x : Packet) (y : Reply) → reply x.msg ≡ y → hands.WorkOk m ps me c.stand c.work → HandOk m ps me c.stand w.hand
-        → ((t : Task m) → w.hand ≡ Doing t → Heard ps me x.from x.rid x.msg (task_awaited m c.stand t)) → Fine m ps me (step.reply_feed m c w x.from x.rid y)
-    reply_fine c w x (replied.IsLatest q) is k h g = latest_fine _ c w x q k
-    reply_fine c w x y is k h g = subst (λ (z : Reply). Fine m ps me (step.hand_feed m c w w.hand x.from x.rid z)) is (hand_fine c w w.hand x k h g)
-
-    feed_fine : (c : Client m) (o : Option (Work m)) (x : Packet) → c.work ≡ o → hands.WorkOk m ps me c.stand c.work → Heard ps me x.from x.rid x.msg (reserved m c) → Fine m ps me (step.feed m c o x.from x.rid (reply x.msg))
-    feed_fine c None x e k g = rests c k
-    feed_fine c (Some w) x e k g = reply_fine c w x (reply x.msg) refl k (subst (λ (o : Option (Work m)). hands.WorkOk m ps me c.stand o) e k) (λ t i. held t i)
+    feed_fine : (c : Client m) (x : Packet) → hands.WorkOk m ps me c.stand c.work → Heard ps me x.from x.rid x.msg (reserved m c) → Fine m ps me (step.feed m c c.work x.from x.rid (reply x.msg))
+    feed_fine c x k g = handed m (Fine m ps me) c x.from x.rid (reply x.msg) (rests c k) awaited (λ w q has is e. newer_fine m ps me c w (task_in m w.hand) x.from.num x.rid q)
       where
-        held : (t : Task m) → w.hand ≡ Doing t → Heard ps me x.from x.rid x.msg (task_awaited m c.stand t)
-        held t i = subst (λ (d : Hand m). Heard ps me x.from x.rid x.msg (Rattle.tg_law_layouts.proofs.Moves.Clients.hand_reserved m c.stand d)) i
-            (subst (λ (o : Option (Work m)). Heard ps me x.from x.rid x.msg (work_reserved m c.stand o)) e g)
+        awaited : (w : Work m) (t : Task m) → c.work ≡ Some w → w.hand ≡ Doing t → awaits (task_awaited m c.stand t) x.from x.rid ≡ true → NoLatest (reply x.msg) → Fine m ps me (step.task_feed m c w t x.from.num x.rid (reply x.msg))
+        awaited w t has doing a other = task_fine m ps me c w t x.from.num x.rid x.msg (subst (HandOk m ps me c.stand) doing (subst (hands.WorkOk m ps me c.stand) has k))
+            (task_claims ps me x.from x.rid x.msg m c.stand t a (subst (λ (d : Hand m). Heard ps me x.from x.rid x.msg (hand_reserved m c.stand d)) doing (subst (λ (o : Option (Work m)). Heard ps me x.from x.rid x.msg (work_reserved m c.stand o)) has g)))
 
     pub deliver_fine : (c : Client m) (x : Packet) → hands.WorkOk m ps me c.stand c.work → Heard ps me x.from x.rid x.msg (reserved m c) → TurnFine (client_deliver m c x.from x.rid x.msg)
     unfolding client_deliver
-    deliver_fine c x k g = given_fine c _ (feed_fine c c.work x refl k g)
+    deliver_fine c x k g = given_fine c _ (feed_fine c x k g)
 
     -- A sequencer's scan.
 

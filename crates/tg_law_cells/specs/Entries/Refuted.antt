@@ -1,12 +1,11 @@
 -- A run over kinds that break what the kinds of this store keep, in which the log doesn't keep its cells: so that claim
 -- wants a premise.
-use Rattle.std.specs.Prelude.{ℕ, zero, suc, ◌^◌, ◌++◌, nat_lt, true, false, [], ◌∷◌, map, Some, None}
-use Rattle.tg_base.specs.declared.ids.Oid.{Oid}
+use Rattle.std.specs.Prelude.{ℕ, zero, suc, ◌++◌, nat_lt, true, false, [], ◌∷◌, map, Some, None}
 use Rattle.tg_model.specs.declared.command.Command.TheVariants as cmd
 use Rattle.tg_model.specs.declared.command.Event.TheVariants.{Command as Commands, Deliver, Lose, Tick}
 use Rattle.tg_protocol.specs.Words.{directory, client_id}
 use Rattle.tg_protocol.specs.Worlds.{World, start, unit, happens, lowest}
-use Rattle.tg_protocol.specs.Runs.{Moves, Takes, Always, EachLater, run}
+use Rattle.tg_protocol.specs.Runs.{Moves, Takes, EachLater, run}
 use Rattle.tg_protocol.specs.Holding.{LogStays}
 use Rattle.tg_law_cells.specs.Entries.Worked.{tallies, two_units, drained, and_drains}
 

@@ -1,5 +1,5 @@
 -- Tails that are told afterwards.
-use Rattle.std.specs.Prelude.{◌≡◌, ℕ, ◌≤◌}
+use Rattle.std.specs.Prelude.{ℕ, ◌≤◌}
 use Rattle.tg_kind.specs.Meaning.{Meaning}
 use Rattle.tg_protocol.specs.Chosen.{Sent}
 use Rattle.tg_protocol.specs.Worlds.{World}

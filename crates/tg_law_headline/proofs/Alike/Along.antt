@@ -1,6 +1,6 @@
 -- Along a run: what each client's work has been told since its command began, and so what each reply speaks of, by the packets
 -- of the world to which the run comes.
-use Rattle.std.proofs.Common.{◌≡◌, ◌⊎◌, ℕ, ◌+◌, ◌<◌, ◌≤◌, List, [], ◌∷◌, ◌++◌, map, refl, sym, ap, ◌∙◌, subst, inl, inr, arith, Option, Some, None}
+use Rattle.std.proofs.Common.{[], ◌≡◌, ◌⊎◌, ℕ, ◌+◌, ◌<◌, ◌≤◌, List, ◌∷◌, ◌++◌, map, refl, sym, ap, ◌∙◌, subst, inl, inr, arith, Option, Some, None}
 use Rattle.tg_base.specs.Layouts.{Layout}
 use Rattle.tg_base.specs.Clusters.{Header}
 use Rattle.tg_base.specs.declared.ids.NodeId.{NodeId}
@@ -13,7 +13,7 @@ use Rattle.tg_kind.specs.Meaning.{Meaning}
 use Rattle.tg_model.specs.declared.trace.What.TheVariants as told
 use Rattle.tg_model.specs.Kinds.{EventOf, WhatOf, NoteOf}
 use Rattle.tg_model.specs.Traces.{Trace, Tells}
-use Rattle.tg_protocol.specs.Words.{unit_id, client_id, numbers, directory}
+use Rattle.tg_protocol.specs.Words.{unit_id, client_id, directory}
 use Rattle.tg_protocol.specs.Layouts.{first_layout}
 use Rattle.tg_protocol.specs.Requests.{Waits}
 use Rattle.tg_protocol.specs.Views.{Entries}
@@ -22,13 +22,13 @@ use Rattle.tg_protocol.specs.Reconfiguring.{ReconfWork, Telling, Reconf}
 use Rattle.tg_protocol.specs.Clients.{Task, Syncing, Walking, Appending, Trimming, Copying', Reconfiguring, Hand, Doing, Work, Client, new_client, refusal}
 use Rattle.tg_protocol.specs.Answers.{note}
 use Rattle.tg_protocol.specs.ClientSteps.{ClientTurn, task_in, task_awaited, client_command, client_deliver, client_tick, tick_by}
-use Rattle.tg_protocol.specs.Worlds.{CommandStart, World, Told, start, client, noted_of, happens, trace}
+use Rattle.tg_protocol.specs.Worlds.{CommandStart, World, Told, start, client, trace}
 use Rattle.tg_protocol.specs.Chosen.{IsDecided}
-use Rattle.tg_protocol.specs.Runs.{Moves, Next, Takes, Reaches, run}
+use Rattle.tg_protocol.specs.Runs.{Moves, Takes, Reaches}
 use Rattle.tg_law_layouts.specs.Moves.After.{after}
 use Rattle.tg_law_layouts.specs.Moves.Configs.{config}
-use Rattle.tg_law_layouts.proofs.Moves.Lists.{contained, at_map, at_replicate}
-use Rattle.tg_law_layouts.proofs.Moves.Members.{Has, has_either, has_map}
+use Rattle.tg_law_layouts.proofs.Moves.Lists.{contained}
+use Rattle.tg_law_layouts.proofs.Moves.Members.{Has, has_map}
 use Rattle.tg_law_layouts.proofs.Moves.Moves.{ClientInput, Commanded, Hears', Ticks', run_keeps}
 use Rattle.tg_law_layouts.proofs.Moves.Clients.{reserved, hand_reserved, work_reserved}
 use Rattle.tg_law_layouts.proofs.Moves.Turns.{not_busy, command_draws, deliver_draws, tick_draws}
@@ -49,13 +49,14 @@ use Rattle.tg_law_replies.specs.History.Worlds.{entries_in}
 use Rattle.tg_law_replies.specs.Replies.Runs.{InEachStep}
 use Rattle.tg_law_replies.specs.Replies.Steps.{EachDelivery, EachEvent}
 use Rattle.tg_law_replies.proofs.Books.Turns.{tells_on}
-use Rattle.tg_law_replies.proofs.Books.Worlds.{nil_right, regroup, run_both, WorldBook, run_book, start_book, run_grows}
+use Rattle.tg_law_replies.proofs.Books.Worlds.{run_both, WorldBook, run_book, start_book, run_grows}
 use Rattle.tg_law_headline.proofs.Alike.Refusals.{fine_refusal}
 use Rattle.tg_law_headline.proofs.Alike.Reconfs.{News}
 use Rattle.tg_law_headline.proofs.Alike.Bounds.{decided_near}
 use Rattle.tg_law_headline.proofs.Alike.Since.{SeesFloor, SayOk, AllSay, Each, Marking, Held, WorkHeld, TaskFits, WorkFits, feed_good, command_good, work_on}
-use Rattle.tg_law_headline.proofs.Alike.Speaks.{Noted, Before, Anew, Delivered, From, Speaks, Silent, Speaks', Turns, told_of, speaks}
+use Rattle.tg_law_headline.proofs.Alike.Speaks.{Delivered, From, told_of}
 use Rattle.tg_law_headline.proofs.Alike.Marks.{MarksTold, none_marked, more_marked, un_marked, pair_marked, put_told}
+use Rattle.tg_law_headline.proofs.Alike.Running.{AllSay as EachSay, none_say, both_say, notes_say, starts_at, end_state as run_end}
 
 is_latest : (y : Msg) (q : Layout) → reply y ≡ IsLatest q → y ≡ msg.Latest q
 unfolding reply
@@ -96,11 +97,6 @@ module _ (m : Meaning) (h : Header) (ms : Moves m) (r : Reaches m h ms (after m 
       next : s.next ≤ c.next
       epoch : s.epoch ≤ c.stand.epoch
       held : HeldBy s k c
-
-    record State (w : World m) : Type 0 where
-      clients : (k : ℕ) → Kept (noted_of m w k) k (client m w k)
-      told : (t : Told m) → Has w.told t → Says t
-      marks : MarksTold m (trace m end) w.told
 
     -- A step at a world of the run.
 
@@ -245,51 +241,20 @@ module _ (m : Meaning) (h : Header) (ms : Moves m) (r : Reaches m h ms (after m 
           held = (turn_good x each t i b).0;
         }
 
-      kept_of : (n : ℕ) (s : CommandStart) → Noted m w n s → Kept (noted_of m w n) n (client m w n) → Kept s n (client m w n)
-      kept_of n s (Before e) k = subst (λ (z : CommandStart). Kept z n (client m w n)) (sym e) k
-      kept_of n s (Anew idle e) k = record {
-        next = let a = ap (λ (z : CommandStart). z.next) e in omega (arith, a);
-        epoch = let a = ap (λ (z : CommandStart). z.epoch) e in omega (arith, a);
-        held = subst (WorkHeld m (Got n) (AskSent n) s.next s.epoch n Known Floor h.objects es (client m w n).next) (sym idle) tt;
-      }
+      note_says : (n : ℕ) (s : CommandStart) (ns : List (NoteOf m)) → AllSay m (Got n) (AskSent n) s.next s.epoch n Known Floor h.objects es ns → (y : NoteOf m) → Has ns y → Says (told_of m w n s y)
+      note_says n s ns (Each each) y j = inl (each y j)
+      note_says n s ns (Marking z o k p positive) y (inl e) = subst (λ (u : NoteOf m). Says (told_of m w n s u)) (sym e) (inl tt)
+      note_says n s ns (Marking z o k p positive) y (inr (inl e)) = subst (λ (u : NoteOf m). Says (told_of m w n s u)) (sym e) (inr tt)
+      note_says n s ns (Marking z o k p positive) y (inr (inr j)) = absurd j
 
-      stepped : (e : EventOf m) → EachEvent m h.objects es (SeesFloor m Floor) w e → (v : World m) → Speaks m w e v → State w → State v
-      stepped event each v (Silent t c nn) st = record {
-        clients = λ k. subst (λ (z : CommandStart). Kept z k (client m v k)) (sym (nn k)) (subst (λ (z : Client m). Kept (noted_of m w k) k z) (sym (c k)) (st.clients k));
-        told = λ x i. st.told x (subst (λ (xs : List (Told m)). Has xs x) t i);
-        marks = subst (MarksTold m (trace m end)) (sym t) st.marks;
-      }
-      stepped event each v (Speaks' n t s i noted x f b) st = record {
-        clients = λ k. by k (f k);
-        told = λ y j. tells y (has_either w.told (map (told_of m w n s) t.notes) y (subst (λ (zs : List (Told m)). Has zs y) x j));
-        marks = subst (MarksTold m (trace m end)) (sym x) (more_marked m (trace m end) w.told (map (told_of m w n s) t.notes) st.marks (marks_of t.notes refl (turn_good n s kept event each t i b).1));
-      }
+      marks_of : (n : ℕ) (s : CommandStart) (t : ClientTurn m) → ClientInput m (config m w) n t → (ns : List (NoteOf m)) → t.notes ≡ ns → AllSay m (Got n) (AskSent n) s.next s.epoch n Known Floor h.objects es ns → MarksTold m (trace m end) (map (told_of m w n s) ns)
+      marks_of n s t i ns is (Each each) = un_marked m (trace m end) (map (told_of m w n s) ns) none
         where
-          kept : Kept s n (client m w n)
-          kept = kept_of n s noted (st.clients n)
-
-          by : (k : ℕ) → Turns m w v n t s k → Kept (noted_of m v k) k (client m v k)
-          by k (inl e) = subst (λ (z : CommandStart). Kept z k (client m v k)) (sym e.2) (subst (λ (z : Client m). Kept s k z) (sym e.1) (subst (λ (z : ℕ). Kept s z t.now) (sym e.0) (now_kept n s kept event each t i b)))
-          by k (inr e) = subst (λ (z : CommandStart). Kept z k (client m v k)) (sym e.1) (subst (λ (z : Client m). Kept (noted_of m w k) k z) (sym e.0) (st.clients k))
-
-          note_says : (ns : List (NoteOf m)) → AllSay m (Got n) (AskSent n) s.next s.epoch n Known Floor h.objects es ns → (y : NoteOf m) → Has ns y → Says (told_of m w n s y)
-          note_says ns (Each each) y j = inl (each y j)
-          note_says ns (Marking z o k p positive) y (inl e) = subst (λ (u : NoteOf m). Says (told_of m w n s u)) (sym e) (inl tt)
-          note_says ns (Marking z o k p positive) y (inr (inl e)) = subst (λ (u : NoteOf m). Says (told_of m w n s u)) (sym e) (inr tt)
-          note_says ns (Marking z o k p positive) y (inr (inr j)) = absurd j
-
-          tells : (y : Told m) → Has w.told y ⊎ Has (map (told_of m w n s) t.notes) y → Says y
-          tells y (inl j) = st.told y j
-          tells y (inr j) = let z = has_map (told_of m w n s) t.notes y j in subst Says (sym z.is) (note_says t.notes (turn_good n s kept event each t i b).1 z.of z.has)
-
-          marks_of : (ns : List (NoteOf m)) → t.notes ≡ ns → AllSay m (Got n) (AskSent n) s.next s.epoch n Known Floor h.objects es ns → MarksTold m (trace m end) (map (told_of m w n s) ns)
-          marks_of ns is (Each each) = un_marked m (trace m end) (map (told_of m w n s) ns) none
-            where
-              none : (y : Told m) (o : Oid) (k : ℕ) → Has (map (told_of m w n s) ns) y → y.mark.what ≡ told.Marked o k → ⊥
-              none y o k j e = let z = has_map (told_of m w n s) ns y j in
-                  subst (SayOk m (Got n) (AskSent n) s.next s.epoch n Known Floor h.objects es) (sym (ap (λ (u : Told m). u.mark.what) z.is) ∙ e) (each z.of z.has)
-          marks_of ns is (Marking z o k p positive) =
-              pair_marked m (trace m end) (told_of m w n s (note m z (told.Committed p))) (told_of m w n s (note m 0 (told.Marked o k))) p o k refl refl refl (at_end n z (told.Put directory (m.mark_op o k)) (put_told m w books n z o k p positive t i is))
+          none : (y : Told m) (o : Oid) (k : ℕ) → Has (map (told_of m w n s) ns) y → y.mark.what ≡ told.Marked o k → ⊥
+          none y o k j e = let z = has_map (told_of m w n s) ns y j in
+              subst (SayOk m (Got n) (AskSent n) s.next s.epoch n Known Floor h.objects es) (sym (ap (λ (u : Told m). u.mark.what) z.is) ∙ e) (each z.of z.has)
+      marks_of n s t i ns is (Marking z o k p positive) =
+          pair_marked m (trace m end) (told_of m w n s (note m z (told.Committed p))) (told_of m w n s (note m 0 (told.Marked o k))) p o k refl refl refl (at_end n z (told.Put directory (m.mark_op o k)) (put_told m w books n z o k p positive t i is))
 
     -- The start.
 
@@ -297,31 +262,23 @@ module _ (m : Meaning) (h : Header) (ms : Moves m) (r : Reaches m h ms (after m 
     unfolding new_client
     new_kept k j = record { next = omega arith; epoch = omega arith; held = tt }
 
-    start_state : State (start m h)
-    unfolding start
-    start_state = record {
-      clients = λ k. at_replicate h.clients (record { next = 1; epoch = 1; upto = 0 }) k (record { next = 1; epoch = 1; upto = 0 }) (λ (z : CommandStart). Kept z k (client m (start m h) k)) (here k) (here k);
-      told = λ t i. absurd i;
-      marks = none_marked m (trace m end);
+    begins : (s : CommandStart) (k : ℕ) (c : Client m) → c.work ≡ None → Kept s k c → Kept (starts_at m c) k c
+    begins s k c idle kept = record {
+      next = omega arith;
+      epoch = omega arith;
+      held = subst (WorkHeld m (Got k) (AskSent k) c.next c.stand.epoch k Known Floor h.objects es c.next) (sym idle) tt;
     }
-      where
-        here : (k : ℕ) → Kept (record { next = 1; epoch = 1; upto = 0 }) k (client m (start m h) k)
-        here k = at_map (new_client m h) (numbers h.clients 0) k (new_client m h k) (λ (c : Client m). Kept (record { next = 1; epoch = 1; upto = 0 }) k c) (λ j. new_kept k j) (new_kept k k)
 
-    state_on : (zs done : Moves m) → ms ≡ done ++ zs → State (after m h done) → State end
-    unfolding run
-    state_on [] done e st = subst (λ (xs : Moves m). State (after m h xs)) (sym (e ∙ nil_right done)) st
-    state_on (Next ∷ zs) done e st = state_on zs (done ++ Next ∷ []) (e ∙ sym (regroup done (Next ∷ []) zs))
-        (subst State (sym (run_both m done (Next ∷ []) (start m h))) (record { clients = st.clients; told = st.told; marks = st.marks }))
-    state_on (Takes x ∷ zs) done e st = state_on zs (done ++ Takes x ∷ []) (e ∙ sym (regroup done (Takes x ∷ []) zs))
-        (subst State (sym (run_both m done (Takes x ∷ []) (start m h))) (stepped done (Takes x ∷ zs) e x (sees done zs x e) (happens m (after m h done) x) (speaks m (after m h done) x) st))
-
-    end_state : State end
-    unfolding run
-    end_state = state_on ms [] refl start_state
+    -- what is so of each turn whose replies say so is of all that is told
+    pub all_by : (Tells : List (Told m) → Type 0) → Tells [] → ((ts us : List (Told m)) → Tells ts → Tells us → Tells (ts ++ us))
+        → ((xs : Moves m) (e : EventOf m) (ys : Moves m) → ms ≡ xs ++ Takes e ∷ ys → (n : ℕ) (s : CommandStart) (t : ClientTurn m) → ClientInput m (config m (after m h xs)) n t
+        → AllSay m (Got n) (AskSent n) s.next s.epoch n Known Floor h.objects es t.notes → Tells (map (told_of m (after m h xs) n s) t.notes)) → Tells end.told
+    all_by Tells none both turns = (run_end m h ms Kept Tells none both new_kept begins (λ xs e ys split n s kept t i f told' now.
+        let each = sees xs ys e split in
+        (now_kept xs (Takes e ∷ ys) split n s kept e each t i f, turns xs e ys split n s t i (turn_good xs (Takes e ∷ ys) split n s kept e each t i f).1))).told
 
     pub all_say : (t : Told m) → Has end.told t → Says t
-    all_say t i = end_state.told t i
+    all_say = all_by (EachSay m Says) (none_say m Says) (both_say m Says) (λ xs e ys split n s t i says. notes_say m Says (told_of m (after m h xs) n s) t.notes (note_says xs (Takes e ∷ ys) split n s t.notes says))
 
     pub all_marked : MarksTold m (trace m end) end.told
-    all_marked = end_state.marks
+    all_marked = all_by (MarksTold m (trace m end)) (none_marked m (trace m end)) (λ ts us a b. more_marked m (trace m end) ts us a b) (λ xs e ys split n s t i says. marks_of xs (Takes e ∷ ys) split n s t i t.notes refl says)

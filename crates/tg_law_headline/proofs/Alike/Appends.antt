@@ -1,9 +1,8 @@
 -- What an append has been told since its command began, or since a number in it: of its token, and how it ended.
-use Rattle.std.proofs.Common.{◌≡◌, ℕ, ◌+◌, ◌<◌, ◌≤◌, List, [], ◌∷◌, Bool, true, false, refl, sym, ap, ◌∙◌, subst, inl, inr, ◌⊎◌, arith, Some, None, Option}
-use Rattle.std.specs.Prelude.{nat_le, nat_lt, ◌==◌, ◌&&◌}
+use Rattle.std.proofs.Common.{◌≡◌, ℕ, ◌+◌, ◌<◌, ◌≤◌, List, [], ◌∷◌, Bool, true, refl, sym, ap, ◌∙◌, subst, inl, inr, ◌⊎◌, arith, Some, None, Option}
+use Rattle.std.specs.Prelude.{◌==◌, ◌&&◌}
 use Rattle.tg_base.specs.Layouts.{Layout}
 use Rattle.tg_base.specs.Orders.{node_eq}
-use Rattle.tg_base.specs.declared.cell.Cell.TheVariants.{Data}
 use Rattle.tg_base.specs.declared.ids.NodeId.{NodeId}
 use Rattle.tg_base.specs.declared.marks.StreamLink.{StreamLink}
 use Rattle.tg_base.specs.declared.msg.Msg.{Msg}
@@ -11,16 +10,17 @@ use Rattle.tg_base.specs.declared.msg.Msg.TheVariants as msg
 use Rattle.tg_base.specs.declared.packet.Out.{Out}
 use Rattle.tg_entry.specs.declared.entry.Entry.{Entry}
 use Rattle.tg_entry.specs.Records.{linked}
-use Rattle.tg_protocol.specs.Words.{seqr_id, cell_eq}
+use Rattle.tg_protocol.specs.Words.{seqr_id}
 use Rattle.tg_protocol.specs.Entries.{streams_of}
 use Rattle.tg_protocol.specs.Pages.{page_of}
 use Rattle.tg_protocol.specs.Requests.{out, awaits, Next, Goes, Learns, Ends}
-use Rattle.tg_protocol.specs.Replies.{Reply, reply, IsIssued, IsTail, IsGone, IsFull, IsOldEpoch, IsWhole}
-use Rattle.tg_protocol.specs.Cells.{CellJob, CellEnd, Puts, Fills, Done, Seen, Lost, Fenced, Gone, place_in, put_cell, fill_cell, work_asks, cell_asks, work_feed, cell_feed}
-use Rattle.tg_protocol.specs.Appending.{Token, Append, AppendWork, Asking, Putting, Judging, AppendEnd, At, Full, Forgotten, AppendTurn, names_all, on_older, on_newer, asks_token, put_next, put_turn, own_or_not, judge_next, judge_turn, on_issued, asking_feed, append_work_asks, append_asks, append_start, by_token, append_feed, dead_or_judged, again_with, append_again}
+use Rattle.tg_protocol.specs.Replies.{Reply, reply, IsIssued, IsTail, IsGone, IsFull, IsWhole}
+use Rattle.tg_protocol.specs.Cells.{works, CellJob, CellEnd, Puts, Fills, Gone, place_in, fill_cell, work_asks, cell_asks, work_feed, cell_feed}
+use Rattle.tg_protocol.specs.Appending.{Token, Append, AppendWork, Asking, Putting, Judging, AppendEnd, At, Full, Forgotten, AppendTurn, asks_token, append_work_asks, append_asks, append_start, append_feed, append_again}
 use Rattle.tg_law_layouts.proofs.Moves.Members.{Has, has_right, found}
 use Rattle.tg_law_layouts.proofs.Moves.Draws.{NextDraws}
 use Rattle.tg_law_layouts.proofs.Moves.Machines.{cell_feed_draws}
+use Rattle.tg_law_steps.proofs.Machines.Appends.{Fed as Turned, Issues, IsFilled, TellsLayout, LearnsEpoch, Nothing, PutGoes, PutDone, PutLost, PutGone, JudgeGoes, JudgeOwn, JudgeOther, JudgeGone, JobLearns, JobFenced, JobPasses, append_fed, Anew, HasNone, IsDead, Settles, append_anew}
 
 -- Messages, by what they say.
 
@@ -99,6 +99,18 @@ fed n j u x next less past = by (cell_feed j u x next).to refl (cell_feed_draws 
         later i e = subst (Past n) (same k i e) (λ o h. here o (d.either o (has_right (cell_feed j u x next).besides (cell_asks k) o h)))
     by (Learns k) is d = record { up = d.0; goes = λ i e. absurd (cc); gone = λ b e. absurd (cc) }
     by (Ends y) is d = record { up = d; goes = λ i e. absurd (cc); gone = λ b e. cell_gone j u x next b (is ∙ e) }
+
+cell_up : (j : CellJob) (u : ℕ) (x : Reply) (next : ℕ) → next ≤ (cell_feed j u x next).next
+cell_up j u x next = by (cell_feed j u x next).to (cell_feed_draws j u x next)
+  where
+    by : (to : Next CellJob CellEnd) → NextDraws cell_asks (cell_asks j) next (cell_feed j u x next).besides (cell_feed j u x next).next to → next ≤ (cell_feed j u x next).next
+    by (Goes k) d = d.up
+    by (Learns k) d = d.0
+    by (Ends e) d = d
+
+-- an append that waits for a token
+abbrev asking : Entry → Option Token → ℕ → Append
+asking d o r = record { draft = d; token = o; work = Asking r }
 
 module _ (Got : NodeId → ℕ → Msg → Type 0) where
   -- a position was issued by an answer with a number from b on and below an end
@@ -182,72 +194,6 @@ module _ (Got : NodeId → ℕ → Msg → Type 0) where
 
   -- An awaited answer.
 
-  module _ (b : ℕ) (a : Append) (next : ℕ) (ok : AppendOk b next a) (from : NodeId) (rid : ℕ) (y : Msg) (got : Got from rid y) where
-    module _ (t : Token) (i : Issued b next t.pos) (after : i.rid < rid) where
-      gone_told : (g : ℕ) → reply y ≡ IsGone g → GoneTold b t.pos g
-      gone_told g is = record {
-        from = from;
-        rid = rid;
-        issued = record { from = i.from; rid = i.rid; links = i.links; now = i.now; below = after; got = i.got };
-        got = subst (Got from rid) (is_gone y g is) got;
-      }
-
-      past_b : (end : ℕ) → next ≤ end → b ≤ end
-      past_b end le = let x = i.now in let z = i.below in omega (arith, x, z, le)
-
-      put_ok : (end : ℕ) (to : Next CellJob CellEnd) → Fed i.rid next (reply y) end to → TurnOk b next (put_next a t to end)
-      put_ok end (Goes j) f = (f.up, record { issued = issued_on b next end t.pos f.up i; later = f.goes j refl })
-      put_ok end (Learns j) f = (f.up, append_on b next end a f.up ok)
-      put_ok end (Ends (Done c)) f = (f.up, issued_on b next end t.pos f.up i)
-      put_ok end (Ends (Lost c)) f = let t = asks_ok b a.draft end (past_b end f.up) in let u = f.up in let v = t.0 in (omega (arith, u, v), t.1)
-      put_ok end (Ends (Gone g)) f = (f.up, gone_told g (f.gone g refl))
-      put_ok end (Ends (Fenced u e)) f = (f.up, append_on b next end a f.up ok)
-      put_ok end (Ends Seen) f = (f.up, append_on b next end a f.up ok)
-
-      own_ok : (end : ℕ) (s : Bool) → next ≤ end → TurnOk b next (own_or_not a t end s)
-      own_ok end true le = (le, issued_on b next end t.pos le i)
-      own_ok end false le = let t = asks_ok b a.draft end (past_b end le) in let v = t.0 in (omega (arith, le, v), t.1)
-
-      judge_ok : (end : ℕ) (to : Next CellJob CellEnd) → Fed i.rid next (reply y) end to → TurnOk b next (judge_next a t to end)
-      judge_ok end (Goes j) f = (f.up, record { issued = issued_on b next end t.pos f.up i; later = f.goes j refl })
-      judge_ok end (Learns j) f = (f.up, append_on b next end a f.up ok)
-      judge_ok end (Ends (Done c)) f = own_ok end (cell_eq c (Data t.page)) f.up
-      judge_ok end (Ends (Lost c)) f = (f.up, append_on b next end a f.up ok)
-      judge_ok end (Ends (Gone g)) f = (f.up, gone_told g (f.gone g refl))
-      judge_ok end (Ends (Fenced u e)) f = (f.up, append_on b next end a f.up ok)
-      judge_ok end (Ends Seen) f = (f.up, append_on b next end a f.up ok)
-
-    -- the token
-
-    issue_ok : (p : Layout) (pos : ℕ) (ls : List StreamLink) (s : Bool) → b ≤ rid → rid < next → y ≡ msg.Issued pos ls → TurnOk b next (on_issued p a pos ls next s)
-    unfolding put_cell work_asks
-    issue_ok p pos ls false le less is = (omega arith, ok)
-    issue_ok p pos ls true le less is = (
-      omega arith,
-      record {
-        issued = record { from = from; rid = rid; links = ls; now = le; below = omega (arith, less); got = subst (Got from rid) is got };
-        later = λ o h. later o h;
-      },
-    )
-      where
-        later : (o : Out) → Has (cell_asks (record { place = place_in p pos; work = Puts next (page_of (linked a.draft ls)) 0 })) o → rid < o.rid
-        later o (inl e) = let n = ap (λ (z : Out). z.rid) e in omega (arith, n, less)
-        later o (inr h) = absurd h
-
-    older_ok : (p : Layout) (s : Bool) → TurnOk b next (on_older p next a s)
-    older_ok p true = (omega arith, append_on b next (next + 1) a (omega arith) ok)
-    older_ok p false = (omega arith, ok)
-
-    newer_ok : (p : Layout) (e : ℕ) (s : Bool) → TurnOk b next (on_newer p e next a s)
-    newer_ok p e true = (omega arith, ok)
-    newer_ok p e false = older_ok p (nat_lt e p.epoch)
-
-    asking_ok : (p : Layout) (x : Reply) → reply y ≡ x → b ≤ rid → rid < next → TurnOk b next (asking_feed p a x next)
-    asking_ok p (IsIssued pos ls) is le less = issue_ok p pos ls (names_all (streams_of a.draft) ls) le less (is_issued y pos ls is)
-    asking_ok p (IsFull l) is le less = (omega arith, record { from = from; rid = rid; now = le; got = subst (Got from rid) (is_full y l is) got })
-    asking_ok p (IsOldEpoch e) is le less = newer_ok p e (nat_lt p.epoch e)
-    asking_ok p x is le less = (omega arith, ok)
-
   by_rid : (n rid : ℕ) (j : CellJob) → Past n j → (from : NodeId) → Asked (cell_asks j) from rid → n < rid
   by_rid n rid j past from k = let l = past k.of k.has in let e = k.number in omega (arith, l, e)
 
@@ -259,31 +205,62 @@ module _ (Got : NodeId → ℕ → Msg → Type 0) where
       by o (inl e) n = sym n ∙ ap (λ (z : Out). z.rid) e
       by o (inr h) n = absurd h
 
-  job_asks : (p : Layout) (a : Append) (j : CellJob) (from : NodeId) (rid : ℕ) → Asked (append_work_asks p a (Putting j)) from rid → Asked (cell_asks j) from rid
-  unfolding append_work_asks
-  job_asks p a j from rid k = k
+  put_later : (p : Layout) (rid next pos : ℕ) (page : List ℕ) → rid < next → Past rid (works (place_in p pos) (Puts next page 0))
+  unfolding work_asks
+  put_later p rid next pos page less o (inl e) = let n = ap (λ (z : Out). z.rid) e in omega (arith, n, less)
+  put_later p rid next pos page less o (inr h) = absurd h
 
-  judge_asks : (p : Layout) (a : Append) (j : CellJob) (from : NodeId) (rid : ℕ) → Asked (append_work_asks p a (Judging j)) from rid → Asked (cell_asks j) from rid
-  unfolding append_work_asks
-  judge_asks p a j from rid k = k
+  module _ (p : Layout) (b n next : ℕ) (from : NodeId) (rid : ℕ) (y : Msg) (got : Got from rid y) (less : rid < next) where
+    -- a job on a token's position
+    module _ (t : Token) (j : CellJob) (k : TokenOk b next t.pos j) (a : Asked (cell_asks j) from rid) where
+      abbrev end : ℕ
+      end = (cell_feed j n (reply y) next).next
 
-  module _ (p : Layout) (b : ℕ) (a : Append) (n next : ℕ) (from : NodeId) (rid : ℕ) (y : Msg) (ok : AppendOk b next a) (got : Got from rid y) (less : rid < next) where
-    put_fed : (j : CellJob) (o : Option Token) → JobOk b next o j → Asked (cell_asks j) from rid → TurnOk b next (by_token a next o (λ t. put_turn a t (cell_feed j n (reply y) next)))
-    put_fed j None w k = (omega arith, ok)
-    put_fed j (Some t) w k = put_ok b a next ok from rid y got t w.issued (by_rid w.issued.rid rid j w.later from k) (cell_feed j n (reply y) next).next (cell_feed j n (reply y) next).to (fed w.issued.rid j n (reply y) next w.issued.below w.later)
+      job : Fed k.issued.rid next (reply y) (cell_feed j n (reply y) next).next (cell_feed j n (reply y) next).to
+      job = fed k.issued.rid j n (reply y) next k.issued.below k.later
 
-    judge_fed : (j : CellJob) (o : Option Token) → JobOk b next o j → Asked (cell_asks j) from rid → TurnOk b next (by_token a next o (λ t. judge_turn a t (cell_feed j n (reply y) next)))
-    judge_fed j None w k = (omega arith, ok)
-    judge_fed j (Some t) w k = judge_ok b a next ok from rid y got t w.issued (by_rid w.issued.rid rid j w.later from k) (cell_feed j n (reply y) next).next (cell_feed j n (reply y) next).to (fed w.issued.rid j n (reply y) next w.issued.below w.later)
+      still : Issued b (cell_feed j n (reply y) next).next t.pos
+      still = issued_on b next end t.pos job.up k.issued
 
-    work_fed : (w : AppendWork) → WorkOk b next a.token w → Asked (append_work_asks p a w) from rid → TurnOk b next (append_feed p a w n (reply y) next)
-    unfolding append_feed
-    work_fed (Asking r) w k = asking_ok b a next ok from rid y got p (reply y) refl (let l = w.0 in let e = asking_rid p a r from rid k in omega (arith, l, e)) less
-    work_fed (Putting j) w k = put_fed j a.token w (job_asks p a j from rid k)
-    work_fed (Judging j) w k = judge_fed j a.token w (judge_asks p a j from rid k)
+      asks : (d : Entry) → TurnOk b next (asks_token d (cell_feed j n (reply y) next).next)
+      asks d = let u = job.up in let x = k.issued.now in let z = k.issued.below in (omega (arith, u), (omega (arith, u, x, z), tt))
 
-    pub feed_ok : Asked (append_asks p a) from rid → TurnOk b next (append_feed p a a.work n (reply y) next)
-    feed_ok k = work_fed a.work ok k
+      gone : (g : ℕ) → (cell_feed j n (reply y) next).to ≡ Ends (Gone g) → GoneTold b t.pos g
+      gone g e = record {
+        from = from;
+        rid = rid;
+        issued = record { from = k.issued.from; rid = k.issued.rid; links = k.issued.links; now = k.issued.now; below = by_rid k.issued.rid rid j k.later from a; got = k.issued.got };
+        got = subst (Got from rid) (is_gone y g (job.gone g e)) got;
+      }
+
+    turn_ok : (a : Append) (t : AppendTurn) → Turned p n (reply y) next a t → AppendOk b next a → Asked (append_asks p a) from rid → TurnOk b next t
+    unfolding append_work_asks still
+    turn_ok _ _ (Issues d o r pos ls is named) ok k = (
+      omega arith,
+      record {
+        issued = record { from = from; rid = rid; links = ls; now = (let l = ok.0 in let e = asking_rid p (asking d o r) r from rid k in omega (arith, l, e)); below = omega (arith, less); got = subst (Got from rid) (is_issued y pos ls is) got };
+        later = put_later p rid next pos (page_of (linked d ls)) less;
+      },
+    )
+    turn_ok _ _ (IsFilled d o r l is) ok k =
+        (omega arith, record { from = from; rid = rid; now = (let l = ok.0 in let e = asking_rid p (asking d o r) r from rid k in omega (arith, l, e)); got = subst (Got from rid) (is_full y l is) got })
+    turn_ok _ _ (TellsLayout d o r e is f g) ok k = (omega arith, append_on b next (next + 1) (asking d o r) (omega arith) ok)
+    turn_ok _ _ (LearnsEpoch d o r e is f) ok k = (omega arith, ok)
+    turn_ok _ _ (Nothing a) ok k = (omega arith, ok)
+    turn_ok _ _ (PutGoes d t j i e) ok k = ((job t j ok k).up, record { issued = still t j ok k; later = (job t j ok k).goes i e })
+    turn_ok _ _ (PutDone d t j c e) ok k = ((job t j ok k).up, still t j ok k)
+    turn_ok _ _ (PutLost d t j c e) ok k = asks t j ok k d
+    turn_ok _ _ (PutGone d t j g e) ok k = ((job t j ok k).up, gone t j ok k g e)
+    turn_ok _ _ (JudgeGoes d t j i e) ok k = ((job t j ok k).up, record { issued = still t j ok k; later = (job t j ok k).goes i e })
+    turn_ok _ _ (JudgeOwn d t j c e f) ok k = ((job t j ok k).up, still t j ok k)
+    turn_ok _ _ (JudgeOther d t j c e f) ok k = asks t j ok k d
+    turn_ok _ _ (JudgeGone d t j g e) ok k = ((job t j ok k).up, gone t j ok k g e)
+    turn_ok _ _ (JobLearns d t w j i of e) ok k = let u = cell_up j n (reply y) next in (u, append_on b next _ (record { draft = d; token = Some t; work = w }) u ok)
+    turn_ok _ _ (JobFenced d t w j u f of e) ok k = let u = cell_up j n (reply y) next in (u, append_on b next _ (record { draft = d; token = Some t; work = w }) u ok)
+    turn_ok _ _ (JobPasses d t w j f of e) ok k = let u = cell_up j n (reply y) next in (u, append_on b next _ (record { draft = d; token = Some t; work = w }) u ok)
+
+  pub feed_ok : (p : Layout) (b : ℕ) (a : Append) (n next : ℕ) (from : NodeId) (rid : ℕ) (y : Msg) → AppendOk b next a → Got from rid y → rid < next → Asked (append_asks p a) from rid → TurnOk b next (append_feed p a a.work n (reply y) next)
+  feed_ok p b a n next from rid y ok got less k = turn_ok p b n next from rid y got less a _ (append_fed p n (reply y) next a) ok k
 
   -- In a newer layout.
 
@@ -292,22 +269,15 @@ module _ (Got : NodeId → ℕ → Msg → Type 0) where
   token_issued b next t (Putting j) k = k.issued
   token_issued b next t (Judging j) k = k.issued
 
-  judged_ok : (p : Layout) (b : ℕ) (a : Append) (t : Token) (next : ℕ) → Issued b next t.pos → TurnOk b next (judge_turn a t (fill_cell (place_in p t.pos) next))
-  unfolding fill_cell work_asks
-  judged_ok p b a t next i = (omega arith, record { issued = issued_on b next (next + 1) t.pos (omega arith) i; later = λ o h. later o h })
-    where
-      later : (o : Out) → Has (cell_asks (record { place = place_in p t.pos; work = Fills next })) o → i.rid < o.rid
-      later o (inl e) = let n = ap (λ (z : Out). z.rid) e in let l = i.below in omega (arith, n, l)
-      later o (inr h) = absurd h
+  fill_later : (p : Layout) (rid next pos : ℕ) → rid < next → Past rid (works (place_in p pos) (Fills next))
+  unfolding work_asks
+  fill_later p rid next pos less o (inl e) = let n = ap (λ (z : Out). z.rid) e in omega (arith, n, less)
+  fill_later p rid next pos less o (inr h) = absurd h
 
   pub again_ok : (p : Layout) (b : ℕ) (a : Append) (next : ℕ) → b ≤ next → AppendOk b next a → TurnOk b next (append_again p a next)
-  unfolding append_again
-  again_ok p b a next le ok = by a.token ok
+  again_ok p b a next le ok = by a _ (append_anew p next a) ok
     where
-      with' : (t : Token) (s : Bool) → Issued b next t.pos → TurnOk b next (dead_or_judged p a t next s)
-      with' t true i = asks_ok b a.draft next le
-      with' t false i = judged_ok p b a t next i
-
-      by : (o : Option Token) → WorkOk b next o a.work → TurnOk b next (again_with p a next o)
-      by None k = asks_ok b a.draft next le
-      by (Some t) k = with' t (nat_le p.start t.pos) (token_issued b next t a.work k)
+      by : (a : Append) (t : AppendTurn) → Anew p next a t → AppendOk b next a → TurnOk b next t
+      by _ _ (HasNone d w) ok = asks_ok b d next le
+      by _ _ (IsDead d t w e) ok = asks_ok b d next le
+      by _ _ (Settles d t w e) ok = let i = token_issued b next t w ok in (omega arith, record { issued = issued_on b next (next + 1) t.pos (omega arith) i; later = fill_later p i.rid next t.pos i.below })

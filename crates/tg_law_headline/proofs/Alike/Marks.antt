@@ -1,25 +1,23 @@
 -- A mark is told right after the commit of its own transaction, whose put was told before.
-use Rattle.std.proofs.Common.{◌≡◌, ◌⊎◌, ℕ, ◌<◌, List, [], ◌∷◌, ◌++◌, map, refl, sym, ap, ◌∙◌, subst, inl, inr, arith, Some, None}
+use Rattle.std.proofs.Common.{◌≡◌, ℕ, ◌<◌, List, [], ◌∷◌, ◌++◌, refl, sym, ap, ◌∙◌, subst, inl, inr, arith, Some}
 use Rattle.tg_base.specs.declared.ids.Oid.{Oid}
 use Rattle.tg_kind.specs.Meaning.{Meaning}
-use Rattle.tg_model.specs.declared.refusal.Refusal.TheVariants as cause
 use Rattle.tg_model.specs.declared.trace.What.TheVariants as told
 use Rattle.tg_model.specs.Kinds.{WhatOf, NoteOf}
 use Rattle.tg_model.specs.Traces.{Trace, Tells}
 use Rattle.tg_protocol.specs.Words.{directory}
-use Rattle.tg_protocol.specs.Appending.{Append, AppendEnd}
-use Rattle.tg_protocol.specs.Clients.{Task, Appending, Marks, Work, Client}
+use Rattle.tg_protocol.specs.Appending.{Append}
+use Rattle.tg_protocol.specs.Clients.{Appending, Marks, Work, Client}
 use Rattle.tg_protocol.specs.Answers.{Moved, note}
 use Rattle.tg_protocol.specs.ClientSteps.{ClientTurn, task_in}
-use Rattle.tg_protocol.specs.Worlds.{CommandStart, World, Told, client, trace}
+use Rattle.tg_protocol.specs.Worlds.{World, Told, client, trace}
 use Rattle.tg_law_layouts.specs.Moves.Configs.{config}
-use Rattle.tg_law_layouts.proofs.Moves.Members.{Has, has_right, has_map}
+use Rattle.tg_law_layouts.proofs.Moves.Members.{Has, has_right}
 use Rattle.tg_law_layouts.proofs.Moves.Moves.{ClientInput, Commanded, Hears', Ticks'}
 use Rattle.tg_law_replies.proofs.Books.Effects.{AllZero, Quit, Zeros, AskFails, Filled, Marked, MarkFilled, MarkLost, On, Quits, Closes, Asks, Marks'}
 use Rattle.tg_law_replies.proofs.Books.Commands.{Turned, Idles, Works, Takes, Refuses, Takes', Nothing, Opening, Putting, Answering, Ending, EndingLater, Dropping, Beginning, commanding, delivered}
 use Rattle.tg_law_replies.proofs.Books.Turns.{DraftOf}
 use Rattle.tg_law_replies.proofs.Books.Worlds.{WorldBook, regroup, cancel, compare, Compared, commanded_notes, delivered_notes, tick_of}
-use Rattle.tg_law_headline.proofs.Alike.Speaks.{told_of}
 
 module _ (m : Meaning) where
   -- what is told where a mark's record stands
@@ -107,7 +105,7 @@ module _ (m : Meaning) where
   -- In a turn of a world's client.
 
   module _ (w : World m) (books : WorldBook m w) (n : ℕ) (x : ℕ) (o : Oid) (j p : ℕ) (positive : 0 < x) where
-    hand_of : (t : ClientTurn m) → ClientInput m (config m w) n t → t.notes ≡ both x o j p → InHand (client m w n) x o j
+    pub hand_of : (t : ClientTurn m) → ClientInput m (config m w) n t → t.notes ≡ both x o j p → InHand (client m w n) x o j
     hand_of t (Commanded y) is = turned_hand (client m w n) x o j p positive _ (Takes y (commanding m (client m w n) y)) (sym (commanded_notes m (client m w n) y) ∙ is)
     hand_of t (Hears' q comes) is = turned_hand (client m w n) x o j p positive _ (delivered m (client m w n) q.from q.rid q.msg (λ v has. (books n).suits v has)).turned (sym (delivered_notes m (client m w n) q) ∙ is)
     hand_of t Ticks' is = let y = tick_of m (client m w n) in turned_hand (client m w n) x o j p positive y.makes y.turned (sym y.notes ∙ is)

@@ -1,9 +1,7 @@
 -- Through each of a client's turns: a record that it tells decided has its decision record, or what the client was told since
 -- says why there is none.
 use Rattle.std.proofs.Common.{◌≡◌, ◌⊎◌, ℕ, suc, ◌+◌, ◌<◌, ◌≤◌, List, [], ◌∷◌, length, Bool, true, false, refl, sym, ap, ◌∙◌, subst, inl, inr, arith, Option, Some, None, is_some, Contains}
-use Rattle.std.specs.Prelude.{if◌then◌else◌, not, nat_lt, nat_le, ◌==◌, ◌&&◌}
-use Rattle.tg_base.specs.Orders.{node_eq}
-use Rattle.tg_base.specs.declared.cell.Cell.{Cell}
+use Rattle.std.specs.Prelude.{not, nat_le, ◌==◌, ◌&&◌}
 use Rattle.tg_base.specs.declared.ids.NodeId.{NodeId}
 use Rattle.tg_base.specs.declared.ids.Oid.{Oid}
 use Rattle.tg_base.specs.declared.marks.ReadMark.{ReadMark}
@@ -16,46 +14,43 @@ use Rattle.tg_entry.specs.Needs.{reads_of, objects_of, needs_decision}
 use Rattle.tg_entry.specs.Records.{linked}
 use Rattle.tg_kind.specs.Meaning.{Meaning}
 use Rattle.tg_model.specs.declared.command.Command.TheVariants as cmd
-use Rattle.tg_model.specs.declared.play.PlayEnd.{PlayEnd}
-use Rattle.tg_model.specs.declared.play.PlayEnd.TheVariants.{Played, Blocked}
 use Rattle.tg_model.specs.declared.refusal.Refusal.{Refusal}
-use Rattle.tg_model.specs.declared.refusal.Refusal.TheVariants as cause
 use Rattle.tg_model.specs.declared.trace.What.TheVariants as told
 use Rattle.tg_model.specs.Kinds.{CommandOf, WhatOf, NoteOf}
-use Rattle.tg_protocol.specs.Words.{directory, layout_id}
-use Rattle.tg_protocol.specs.Versions.{Changed}
-use Rattle.tg_protocol.specs.Requests.{awaits, Next, Goes, Learns, Ends, Turn}
-use Rattle.tg_protocol.specs.Replies.{Reply, reply, IsLatest}
-use Rattle.tg_protocol.specs.Appending.{Asking, Append, AppendEnd, At, Full, Forgotten, append_start, append_feed, append_again}
-use Rattle.tg_protocol.specs.Syncing.{Sync, Confirmed, sync_asks, sync_start, sync_feed, sync_again}
-use Rattle.tg_protocol.specs.Walking.{Walk, Members, walk_asks, walk_feed, walk_again}
-use Rattle.tg_protocol.specs.Trimming.{Trims, Trimmed, trim_start, trim_feed, Copying, CopyEnd, copy_start, copy_feed}
-use Rattle.tg_protocol.specs.Trimming as copying
-use Rattle.tg_protocol.specs.Reconfiguring.{Reconf, ReconfEnd, Installed, Overtaken, NotWhole, reconf_start, reconf_feed, reconf_latest}
-use Rattle.tg_protocol.specs.Transactions.{Tx, tx_read, commit_record}
-use Rattle.tg_protocol.specs.Views.{Entries, View, Play, Verdict, Commits, Aborts, Unknown, decision_in, state_of, view_version, changed_in, unknown_in, verdict, view_outcome, fate_of, play}
-use Rattle.tg_protocol.specs.Checkpoints.{ForgetFault, NoCheckpoint, OpenDecision, may_forget}
-use Rattle.tg_protocol.specs.Past.{commit_at, PastTurn, PastView, PastGone, RescueTurn, Wider, Wide, Absent, StuckAt}
-use Rattle.tg_protocol.specs.Past as past
-use Rattle.tg_protocol.specs.Clients.{Purpose, Writes, Judged, Decides, Rescues, Saves, Marks, Task, Syncing, Walking, Appending, Trimming, Copying', Reconfiguring, Hand, Doing, Learning, Work, Client, tx_number}
-use Rattle.tg_protocol.specs.Answers.{Moved, note, replies, refuses, took_over, answers, closed, appends, syncs, walked, walked_for, plays_own, own_view, play_target, answer_by, with_view, on_ask, ask_in, ask_answer, aborted, end_decided, end_aborted, end_no, end_by, end_record, on_end, lacks_decision, with_decision, forgotten_or, fate_verdict, fate_record, fate_known, fate_blocked, blocks, on_fate, trim_above, decides_if, decide_verdict, decide_record, decide_blocked, on_decide, save_if, on_checkpoint, mark_record, mark_notes, decision, forget_by, on_forget, floor_of, trim_begun, trims_if, on_trim, past_answer, past_played, past_turn, ahead_or, on_ask_at, rescue_decision, rescue_known, absent, rescue_by}
+use Rattle.tg_protocol.specs.Words.{directory}
+use Rattle.tg_protocol.specs.Requests.{Next, Goes, Learns, Ends}
+use Rattle.tg_protocol.specs.Replies.{reply}
+use Rattle.tg_protocol.specs.Appending.{Asking, Append, AppendEnd, At, Full, Forgotten, append_start, append_again}
+use Rattle.tg_protocol.specs.Syncing.{sync_start}
+use Rattle.tg_protocol.specs.Walking.{walk_asks}
+use Rattle.tg_protocol.specs.Transactions.{Tx, commit_record}
+use Rattle.tg_protocol.specs.Views.{Entries, View, decision_in}
+use Rattle.tg_protocol.specs.Past.{commit_at}
+use Rattle.tg_protocol.specs.Clients.{Purpose, Writes, Judged, Decides, Rescues, Saves, Marks, Task, Syncing, Walking, Appending, Trimming, Copying', Reconfiguring, Hand, Doing, Work, Client}
+use Rattle.tg_protocol.specs.Answers.{Moved, note, appends, syncs, lacks_decision, mark_notes, decision}
 use Rattle.tg_protocol.specs.ClientSteps as step
-use Rattle.tg_protocol.specs.ClientSteps.{task_in, task_asks, task_awaited, after_turn, met, goes_on, lends, takes_back, found_by, start_walk, walks, sync_to, on_sync, stale, starts_over, gives_up, given_up_if, at_trim, walk_ended_by, walk_to, on_walk, owns, knows_page, page_known, decided_for, append_ended, append_to, on_append, trim_to, on_trims, copy_to, on_copy, stands, reconf_to, on_reconf, task_feed, copies_again, task_again, hosts_more, accepts, refused_or, new_work}
+use Rattle.tg_protocol.specs.ClientSteps.{task_in, tx_of, task_asks, task_awaited, met, start_walk, walks, stands, accepts, refused_or}
 use Rattle.tg_protocol.specs.Holding.{append_of, append_by}
 use Rattle.tg_law_layouts.proofs.Moves.Members.{Has}
 use Rattle.tg_law_layouts.proofs.Moves.Draws.{NextDraws}
-use Rattle.tg_law_layouts.proofs.Moves.Machines.{sync_draws, sync_start_draws, walk_draws, walk_again_draws, walk_start_draws}
-use Rattle.tg_law_layouts.proofs.Moves.Turns.{Begins, begins_walk}
+use Rattle.tg_law_layouts.proofs.Moves.Machines.{walk_start_draws}
 use Rattle.tg_law_replies.specs.Plays.Sound.{IsRising}
 use Rattle.tg_law_replies.specs.Views.Exact.{DecisionStands}
 use Rattle.tg_law_replies.specs.Replies.Found.{mine}
-use Rattle.tg_law_replies.specs.Replies.Steps.{EachWalk, EachSync, EachOver, EachTrim, EachEnd, EachWalked, EachFeed, EachNewer, EachAwaited, EachHand, EachLatest, EachReply, EachDelivery}
-use Rattle.tg_law_replies.specs.Replies.Ended.{end_of, task_ends, again_ends, awaited_ends, hand_ends, latest_ends, reply_ends, work_ends, EndsSo}
+use Rattle.tg_law_replies.specs.Replies.Steps.{EachDelivery}
+use Rattle.tg_law_replies.specs.Replies.Ended.{end_of, task_ends, again_ends, work_ends, EndsSo}
 use Rattle.tg_law_replies.proofs.History.Members.{has_contained, contained_has}
 use Rattle.tg_law_replies.proofs.History.Ledger.{one_entry}
 use Rattle.tg_law_replies.proofs.Views.Records.{decision_there, commit_there}
 use Rattle.tg_law_replies.proofs.Replies.Turns.{Keeps, feed_keeps, again_keeps, LandsBy}
-use Rattle.tg_law_headline.proofs.Alike.Appends.{Asked, asked, Issued, FullTold, GoneTold, AppendOk, NextOk, TurnOk, append_on, EndOk, feed_ok, again_ok}
+use Rattle.tg_law_headline.proofs.Alike.Appends.{Asked, asked, Issued, FullTold, GoneTold, AppendOk, NextOk, append_on, EndOk, feed_ok, again_ok}
+use Rattle.tg_law_layouts.proofs.Moves.Ways.{way_up}
+use Rattle.tg_law_replies.proofs.Replies.Ways.{EachAt, each_way, each_fed, each_newer, end_fed, end_newer}
+use Rattle.tg_law_steps.proofs.Places.{Place, Feeds, Newer, OnAppend, OnTrims, OnCopy, OnReconf, Walks, Plays, Looks}
+use Rattle.tg_law_steps.proofs.Ways.{append_fed, Way, FeedsSync, FeedsWalk, NewerSync, NewerWalk, AllWalked, HasPlayed, LooksBack, IsRescue}
+use Rattle.tg_law_steps.proofs.Ends.{Judges, Commit', Abort', End, GoesOn, LearnsNewer, Syncs, Appends, Refuses, Answers, Tells, IsGoing, SyncGoes, WalkGoes, WalkBegins, AppendGoes, IsLearning, SyncLearns, WalkLearns, AppendLearns, IsSynced, JudgedAt, IsAppended, EndDecides, DecideDecides, SaveBegins, MarkBegins, RescueDecides, IsAnswered, DecidedAt, DecidedLost, JudgedSo, JudgedLost, EndJudged, DecideJudged, IsTold, IsCommitted, IsRescued, IsMarked, PlaysOther}
+use Rattle.tg_law_steps.proofs.Takes.{IsFor as IsFor', ForWrites, ForJudged, IsSaid, NoTxOpen, NoViewKept, NoStateKept, ReadsOnly, IsWalked, WalksFate, Taken, SaidAtOnce, SyncsFirst, AppendsRecord, ReconfBegins, CopyBegins, said_work, taken}
+use Rattle.tg_law_steps.proofs.Along.{delivered, over_walks}
 
 -- a turn draws no number below its next
 up_of : {M E : Type 0} → (asks : M → List Out) (old : List Out) (next : ℕ) (bs : List Out) (end : ℕ) (to : Next M E) → NextDraws asks old next bs end to → next ≤ end
@@ -235,30 +230,9 @@ module _ (m : Meaning) (objects : List Oid) (es : Entries) (rising : IsRising es
   one_says : (k : NoteOf m) → Say k.tx k.what → EachSays (k ∷ [])
   one_says k s = and_says k [] s none_says
 
-  replied : (c : Client m) (ns : List (NoteOf m)) → EachSays ns → Good (replies m c ns)
-  replied c ns s = record { held = tt; says = s }
-
-  refused : (c : Client m) (n : ℕ) (why : Refusal) → Good (refuses m c n why)
-  refused c n why = replied c _ (one_says (note m n (told.Refused why)) tt)
-
-  answered : (c : Client m) (n : ℕ) (what : WhatOf m) → Say n what → Good (answers m c n what)
-  answered c n what s = replied (took_over m c c.view) _ (one_says (note m n what) s)
-
   -- an append that was just begun
   abbrev begun : ℕ → Entry → Append
   begun next d = record { draft = d; token = None; work = Asking next }
-
-  appended : (c : Client m) (w : Work m) (e : Entry) (y : Purpose m) (ns : List (NoteOf m)) → Fits (c.next + 1) (begun c.next e) y → EachSays ns → Good (appends m c w e y ns)
-  unfolding appends append_start
-  appended c w e y ns k s = record { held = k; says = s }
-
-  synced' : (c : Client m) (w : Work m) (os : List Oid) → EndsAt c.next w.at w.command → Good (syncs m c w os)
-  unfolding syncs sync_start
-  synced' c w os k = record { held = ends_on c.next (c.next + 1) w.at w.command (omega arith) k; says = none_says }
-
-  trims_begin : (c : Client m) (w : Work m) (below : ℕ) → Good (trim_begun m c w below (trim_start c.stand below c.next))
-  unfolding trim_start
-  trims_begin c w below = record { held = tt; says = none_says }
 
   -- A record that has its decision among the entries of a client.
 
@@ -283,271 +257,28 @@ module _ (m : Meaning) (objects : List Oid) (es : Entries) (rising : IsRising es
           let f = decision_there own p c k in
           record { at = f.at; entry = f.entry; is_yes = c; here = only f.at f.entry (contained_has own (f.at, f.entry) f.here); is = f.is }
 
-  -- The answers of commands that have played.
-
-  ask_good : (c : Client m) (w : Work m) (o : Oid) (q : m.ask) (v : View m) (came : PlayEnd) → Good (on_ask m c w o q v came)
-  ask_good c w o q v (Blocked p x) = refused c _ _
-  ask_good c w o q v (Played t) = by c.tx
-    where
-      answer : (t : Tx) (s : Option m.state) → Good (ask_answer m c w t o q v s)
-      answer t None = refused c _ _
-      answer t (Some s) = answered (record c { tx = Some (tx_read t (record { oid = o; part = m.look q; version = view_version m v o (m.look q) }) w.tail) }) t.number (told.Asked o q w.tail (m.answers s q)) tt
-
-      by : (t : Option Tx) → Good (ask_in m c w o q v t)
-      by None = refused c _ _
-      by (Some t) = answer t (state_of m v o)
-
-  after_record : (next p : ℕ) (d : Entry) → Since next p → IsFor d p → AfterRecord (next + 1) (begun next d) p
-  after_record next p d s f = record { since = s.since; issued = s.issued; le = let i = s.le in omega (arith, i); append = (s.le, tt); decides = f }
-
-  module _ (c : Client m) (w : Work m) (es' : Entries) (only : Only es') where
-    end_decided_good : (b : Bool) (e : Entry) (p : ℕ) (so : Bool) (what : WhatOf m) → lacks_decision m es' p e ≡ b → DecidesFits (c.next + 1) (begun c.next (decision m c e p so)) what → (lacks_decision m es' p e ≡ false → Say (tx_number m c.tx) what)
-        → Good (end_decided m b c w e p so what)
-    end_decided_good true e p so what is fits says = appended (with_decision m c) w (decision m c e p so) (Decides what) [] fits none_says
-    end_decided_good false e p so what is fits says = answered (closed m c) _ _ (says is)
-
-    end_aborted_good : (e : Entry) (p : ℕ) (x : Option Changed) → commit_at es' p ≡ Some e → Since c.next p → Good (end_aborted m c w es' e p x)
-    end_aborted_good e p None here s = answered (closed m c) _ _ tt
-    end_aborted_good e p (Some x) here s = end_decided_good (lacks_decision m es' p e) e p false (aborted m p x) refl (after_record c.next p (decision m c e p false) s (record { is_yes = false; is = refl })) (λ lacks d i needs. inl (has_decision es' p e only here lacks d i needs))
-
-    end_no_good : (v : View m) (e : Entry) (p : ℕ) (o : Option Oid) → commit_at es' p ≡ Some e → Since c.next p → Good (end_no m c w es' v e p o)
-    end_no_good v e p None here s = end_aborted_good e p (changed_in m v (reads_of e) p) here s
-    end_no_good v e p (Some o) here s = answered (closed m c) _ _ tt
-
-    end_by_good : (v : View m) (e : Entry) (p : ℕ) (d : Verdict) → commit_at es' p ≡ Some e → Since c.next p → Good (end_by m c w es' v e p d)
-    end_by_good v e p Commits here s = end_decided_good (lacks_decision m es' p e) e p true (told.Committed p) refl (after_record c.next p (decision m c e p true) s (record { is_yes = true; is = refl })) (λ lacks. inr (λ d i needs. inl (has_decision es' p e only here lacks d i needs)))
-    end_by_good v e p Aborts here s = end_no_good v e p (unknown_in m v (reads_of e) p) here s
-    end_by_good v e p (Unknown o) here s = answered (closed m c) _ _ tt
-
-    end_record_good : (v : View m) (p : ℕ) (e : Option Entry) → commit_at es' p ≡ e → Since c.next p → Good (end_record m c w es' v p e)
-    end_record_good v p None here s = answered (closed m c) _ _ tt
-    end_record_good v p (Some e) here s = end_by_good v e p (verdict m v es' p e) here s
-
-    end_good : (v : View m) (came : PlayEnd) → Since c.next w.at → Good (on_end m c w es' v came)
-    end_good v (Played t) s = end_record_good v w.at (commit_at es' w.at) refl s
-    end_good v (Blocked q x) s = answered (closed m c) _ _ tt
-
-    decides_good : (b : Bool) (e : Entry) (p : ℕ) (so z : Bool) → commit_at es' p ≡ Some e → lacks_decision m es' p e ≡ b → Le c → Good (decides_if m b c w e p so 0 (told.Decided p (Some z)))
-    decides_good true e p so z here is l = appended (with_decision m c) w (decision m c e p so) (Decides (told.Decided p (Some z))) [] ((l, tt), record { is_yes = so; is = refl }) none_says
-    decides_good false e p so z here is l = answered c 0 (told.Decided p (Some z)) (λ d i needs. inl (has_decision es' p e only here is d i needs))
-
-    decide_verdict_good : (p : ℕ) (e : Entry) (d : Verdict) → commit_at es' p ≡ Some e → Le c → Good (decide_verdict m c w es' p e d)
-    decide_verdict_good p e (Unknown o) here l = refused c _ _
-    decide_verdict_good p e Commits here l = decides_good (lacks_decision m es' p e) e p true true here refl l
-    decide_verdict_good p e Aborts here l = decides_good (lacks_decision m es' p e) e p false false here refl l
-
-    decide_record_good : (v : View m) (p : ℕ) (e : Option Entry) → commit_at es' p ≡ e → Le c → Good (decide_record m c w es' v p e)
-    decide_record_good v p None here l = answered c _ _ tt
-    decide_record_good v p (Some e) here l = decide_verdict_good p e (view_outcome m v es' p e) here l
-
-    decide_good : (v : View m) (p : ℕ) (came : PlayEnd) (b : Option ℕ) → Le c → Good (on_decide m c w es' v p came b)
-    decide_good v p came (Some b) l = refused c _ _
-    decide_good v p (Played t) None l = decide_record_good v p (commit_at es' p) refl l
-    decide_good v p (Blocked q x) None l = by (blocks m es' p q)
-      where
-        by : (b : Bool) → Good (decide_blocked m c w es' v p q x b)
-        by true = refused c _ _
-        by false = decide_record_good v p (commit_at es' p) refl l
-
-  forgotten_good : (c : Client m) (w : Work m) (p : ℕ) (what : WhatOf m) (b : Option ℕ) → Free what → Good (forgotten_or m c w p what b)
-  forgotten_good c w p what None o = answered c _ _ (free_say 0 what o)
-  forgotten_good c w p what (Some b) o = refused c _ _
-
-  fate_verdict_good : (c : Client m) (w : Work m) (p : ℕ) (d : Verdict) → Good (fate_verdict m c w p d)
-  fate_verdict_good c w p Commits = forgotten_good c w p _ (trim_above m w.trims p) tt
-  fate_verdict_good c w p Aborts = forgotten_good c w p _ (trim_above m w.trims p) tt
-  fate_verdict_good c w p (Unknown o) = refused c _ _
-
-  fate_record_good : (c : Client m) (w : Work m) (es' : Entries) (v : View m) (p : ℕ) (e : Option Entry) → Good (fate_record m c w es' v p e)
-  fate_record_good c w es' v p None = forgotten_good c w p _ (trim_above m w.trims p) tt
-  fate_record_good c w es' v p (Some e) = fate_verdict_good c w p (verdict m v es' p e)
-
-  fate_known_good : (c : Client m) (w : Work m) (es' : Entries) (v : View m) (p : ℕ) (b : Option Bool) → Good (fate_known m c w es' v p b)
-  fate_known_good c w es' v p (Some b) = answered c _ _ tt
-  fate_known_good c w es' v p None = fate_record_good c w es' v p (commit_at es' p)
-
-  fate_good : (c : Client m) (w : Work m) (es' : Entries) (v : View m) (p : ℕ) (came : PlayEnd) → Good (on_fate m c w es' v p came)
-  fate_good c w es' v p (Played t) = fate_known_good c w es' v p (fate_of m v p)
-  fate_good c w es' v p (Blocked q x) = by (blocks m es' p q)
-    where
-      by : (b : Bool) → Good (fate_blocked m c w es' v p q x b)
-      by true = refused c _ _
-      by false = fate_known_good c w es' v p (fate_of m v p)
-
-  save_good : (b : Bool) (c : Client m) (w : Work m) (o : Oid) (e : Entry) → Good (save_if m b c w o e)
-  save_good true c w o e = refused c _ _
-  save_good false c w o e = appended (record c { checkpoints = c.checkpoints + 1 }) w e (Saves o w.tail) [] tt none_says
-
-  checkpoint_good : (c : Client m) (w : Work m) (v : View m) (o : Oid) (came : PlayEnd) → Good (on_checkpoint m c w v o came)
-  checkpoint_good c w v o (Blocked q x) = refused c _ _
-  checkpoint_good c w v o (Played t) = save_good _ c w o _
-
   marks_say : (x : ℕ) (o : Oid) (n : ℕ) → EachSays (mark_notes m x o n)
   marks_say x o n = and_says (note m x told.Begin) (note m x (told.Put directory (m.mark_op o n)) ∷ note m x told.End ∷ []) tt
       (and_says (note m x (told.Put directory (m.mark_op o n))) (note m x told.End ∷ []) tt (one_says (note m x told.End) tt))
 
-  forget_by_good : (c : Client m) (w : Work m) (o : Oid) (n : ℕ) (f : Option (ForgetFault m)) → Good (forget_by m c w o n f)
-  forget_by_good c w o n (Some NoCheckpoint) = refused c _ _
-  forget_by_good c w o n (Some (OpenDecision p)) = refused c _ _
-  forget_by_good c w o n None = appended (record c { begun = c.begun + 1 }) w (mark_record m c o n) (Marks (c.begun + 1) o n) (mark_notes m (c.begun + 1) o n) refl (marks_say (c.begun + 1) o n)
-
-  forget_good : (c : Client m) (w : Work m) (es' : Entries) (o : Oid) (n : ℕ) (came : PlayEnd) → Good (on_forget m c w es' o n came)
-  forget_good c w es' o n (Played t) = forget_by_good c w o n (may_forget m es' o n)
-  forget_good c w es' o n (Blocked q x) = refused c _ _
-
-  trims_good : (c : Client m) (w : Work m) (b : ℕ) (zero : Bool) → Good (trims_if m c w b zero)
-  trims_good c w b true = answered c _ _ tt
-  trims_good c w b false = trims_begin c w b
-
-  trim_good : (c : Client m) (w : Work m) (v : View m) (came : PlayEnd) → Good (on_trim m c w v came)
-  trim_good c w v (Played t) = trims_good c w (floor_of m (state_of m v directory)) _
-  trim_good c w v (Blocked q x) = refused c _ _
-
-  past_good : (c : Client m) (w : Work m) (p : ℕ) (o : Oid) (q : m.ask) (x : PastTurn m) → Good (past_turn m c p o q x)
-  past_good c w p o q (PastGone b) = refused c _ _
-  past_good c w p o q (PastView v) = by v.came
-    where
-      answer : (s : Option m.state) → Good (past_answer m c p o q s)
-      answer None = refused c _ _
-      answer (Some s) = replied c _ (one_says _ tt)
-
-      by : (came : PlayEnd) → Good (past_played m c p o q v came)
-      by (Played t) = answer (state_of m v.view o)
-      by (Blocked r x) = refused c _ _
-
-  ask_at_good : (c : Client m) (w : Work m) (p : ℕ) (o : Oid) (q : m.ask) → Good (on_ask_at m c w p o q)
-  ask_at_good c w p o q = by (nat_lt w.tail p)
-    where
-      by : (b : Bool) → Good (ahead_or m c w p o q b)
-      by true = refused c _ _
-      by false = past_good c w p o q _
-
-  rescue_known_good : (c : Client m) (w : Work m) (es' : Entries) (p : ℕ) (so needs : Bool) → Good (rescue_known m c w es' p so needs)
-  rescue_known_good c w es' p so false = replied c _ (one_says _ tt)
-  rescue_known_good c w es' p so true = by (commit_at es' p)
-    where
-      by : (e : Option Entry) → Good (rescue_decision m c w es' p so e)
-      by None = replied c _ (one_says _ tt)
-      by (Some e) = appended (with_decision m c) w (decision m c e p so) (Rescues (told.Rescued p (Some so))) [] tt none_says
-
-  rescue_good : (c : Client m) (w : Work m) (es' : Entries) (p : ℕ) (t : RescueTurn m) → EndsAt c.next w.at w.command → Good (rescue_by m c w es' p t)
-  rescue_good c w es' p (Wider o) k = synced' c w _ k
-  rescue_good c w es' p Wide k = refused c _ _
-  rescue_good c w es' p Absent k = by (trim_above m w.trims p)
-    where
-      by : (b : Option ℕ) → Good (absent m c p b)
-      by None = replied c _ (one_says _ tt)
-      by (Some b) = refused c _ _
-  rescue_good c w es' p (StuckAt q x) k = refused c _ _
-  rescue_good c w es' p (past.Known so needs) k = rescue_known_good c w es' p so needs
+  after_record : (next p : ℕ) (d : Entry) → Since next p → IsFor d p → AfterRecord (next + 1) (begun next d) p
+  after_record next p d s f = record { since = s.since; issued = s.issued; le = let i = s.le in omega (arith, i); append = (s.le, tt); decides = f }
 
   -- what a client that ends or decides has found is of the log
+  abbrev SeesIn : Entries → CommandOf m → Type 0
+  SeesIn own cmd.End = Only own
+  SeesIn own (cmd.Decide p) = Only own
+  SeesIn own x = Unit {0}
+
   abbrev pub SeesFor : Client m → Work m → CommandOf m → Type 0
-  SeesFor c w cmd.End = Only (mine m c w)
-  SeesFor c w (cmd.Decide p) = Only (mine m c w)
-  SeesFor c w x = Unit {0}
+  SeesFor c w x = SeesIn (mine m c w) x
 
   abbrev pub Sees : Client m → Work m → Type 0
   Sees c w = SeesFor c w w.command
 
-  answer_good : (c : Client m) (d : Client m) (w : Work m) (p : Play m) (x : CommandOf m) → Le c → EndsAt c.next w.at x → SeesFor d w x → Good (answer_by m c w (mine m d w) p x)
-  answer_good c d w p (cmd.Ask o q) l k s = ask_good c w o q p.view p.came
-  answer_good c d w p cmd.End l k s = end_good c w (mine m d w) s p.view p.came k
-  answer_good c d w p (cmd.Fate at) l k s = fate_good c w (mine m d w) p.view at p.came
-  answer_good c d w p (cmd.Decide at) l k s = decide_good c w (mine m d w) s p.view at p.came _ l
-  answer_good c d w p (cmd.Checkpoint o) l k s = checkpoint_good c w p.view o p.came
-  answer_good c d w p (cmd.Forget o j) l k s = forget_good c w (mine m d w) o j p.came
-  answer_good c d w p cmd.Trim l k s = trim_good c w p.view p.came
-  answer_good c d w p x l k s = replied c _ none_says
-
-  -- Where all streams are walked.
-
-  abbrev own_play : Client m → Work m → Play m
-  own_play c w = play m (own_view m c w (mine m c w)) (mine m c w) (play_target m w w.command)
-
-  walked_good : (c : Client m) (w : Work m) → Le c → EndsAt c.next w.at w.command → Sees c w → Good (walked m c w)
-  unfolding walked
-  walked_good c w l k s = by w.command
-    where
-      plays : Good (plays_own m c w (mine m c w))
-      plays = answer_good (with_view m c (own_play c w).view) c w (own_play c w) w.command l k s
-
-      by : (x : CommandOf m) → Good (walked_for m c w x)
-      by (cmd.AskAt p o q) = ask_at_good c w p o q
-      by (cmd.Rescue p) = rescue_good c w _ p _ k
-      by x = plays
-
-  abbrev Each : List Oid → Client m → Work m → Type 0
-  Each os c w = EachWalk m objects es Sees os c w
-
-  walks_good : (os : List Oid) (c : Client m) (w : Work m) → Le c → EndsAt c.next w.at w.command → Each os c w → Good (walks m os c w)
-  unfolding walks
-  walks_good [] c w l k s = walked_good c w l k s
-  walks_good (o ∷ os) c w l k s = by (start_walk m c w o).to refl (λ x is. walks_good os (takes_back m c x) (found_by m w o x) l k (s x is))
-    where
-      up : c.next ≤ (start_walk m c w o).next
-      up = up_of walk_asks [] c.next (start_walk m c w o).besides (start_walk m c w o).next (start_walk m c w o).to (walk_start_draws c.stand o _ w.lo c.cells c.next)
-
-      by : (to : Next Walk Members) → (start_walk m c w o).to ≡ to → ((x : Members) → (start_walk m c w o).to ≡ Ends x → Good (walks m os (takes_back m c x) (found_by m w o x)))
-          → Good (elim to as (λ _. Moved m) [
-            | Goes x ↦ goes_on m (lends m (after_turn m c (start_walk m c w o))) w (Walking x os) []
-            | Learns x ↦ record { now = c; besides = []; notes = [] }
-            | Ends x ↦ walks m os (takes_back m c x) (found_by m w o x)
-          ])
-      by (Goes x) is rest = record { held = ends_on c.next (start_walk m c w o).next w.at w.command up k; says = none_says }
-      by (Learns x) is rest = absurd (subst Begins is (begins_walk c.stand o _ w.lo c.cells c.next))
-      by (Ends x) is rest = rest x is
-
-  knows_le : (c : Client m) (s : Option (ℕ × Cell)) → (step.knows m c s).next ≡ c.next
-  knows_le c None = refl
-  knows_le c (Some s) = refl
-
-  sync_good : (c : Client m) (w : Work m) (t : Turn Sync Confirmed) → Le c → c.next ≤ t.next → EndsAt c.next w.at w.command → EachSync m objects es Sees (after_turn m c t) (met m w t) t.to → Good (on_sync m c w t)
-  sync_good c w t l up k each = by t.to each
-    where
-      now : EndsAt t.next w.at w.command
-      now = ends_on c.next t.next w.at w.command up k
-
-      by : (to : Next Sync Confirmed) → EachSync m objects es Sees (after_turn m c t) (met m w t) to → Good (sync_to m (after_turn m c t) (met m w t) t.besides to)
-      by (Goes s) e = record { held = now; says = none_says }
-      by (Learns s) e = record { held = ends_on t.next (t.next + c.layouts) w.at w.command (omega arith) now; says = none_says }
-      by (Ends x) e =
-          let same = knows_le (after_turn m c t) x.settled in
-          walks_good w.oids (step.knows m (after_turn m c t) x.settled) (record (met m w t) { tail = x.tail; lasts = x.lasts; lo = step.lo_for m (after_turn m c t) w.command })
-          (omega (arith, l, up, same)) (subst (λ (n : ℕ). EndsAt n w.at w.command) (sym same) now) e
-
-  given_up_next : (b : Bool) (c : Client m) → (given_up_if m b c).next ≡ c.next
-  given_up_next true c = refl
-  given_up_next false c = refl
-
-  over_good : (c : Client m) (w : Work m) (os : List Oid) (over : Bool) → Le c → EndsAt c.next w.at w.command → EachOver m objects es Sees c w os over → Good (starts_over m c w os over)
-  over_good c w os true l k each = walks_good w.oids c _ l k each
-  over_good c w os false l k each = walks_good os c w l k each
-
-  trim_met : (c : Client m) (w : Work m) (os : List Oid) (old over : Bool) → Le c → EndsAt c.next w.at w.command → EachTrim m objects es Sees c w os old over → Good (at_trim m c w os old over)
-  trim_met c w os true over l k each = synced' c w w.oids k
-  trim_met c w os false over l k each = over_good c w os over l k each
-
-  walk_good : (c : Client m) (w : Work m) (o : Oid) (os : List Oid) (t : Turn Walk Members) → Le c → c.next ≤ t.next → EndsAt c.next w.at w.command → EachWalked m objects es Sees (after_turn m c t) (met m w t) o os t.to → Good (on_walk m c w o os t)
-  walk_good c w o os t l up k each = by t.to each
-    where
-      now : EndsAt t.next w.at w.command
-      now = ends_on c.next t.next w.at w.command up k
-
-      ended : (d : Client m) (v : Work m) (x : Members) (g : Option ℕ) → Le d → EndsAt d.next v.at v.command → EachEnd m objects es Sees d v o os x g → Good (walk_ended_by m d v o os x g)
-      ended d v x None i j e = walks_good os d v i j e
-      ended d v x (Some b) i j e =
-          let same = given_up_next (gives_up m d v b) d in
-          trim_met (given_up_if m (gives_up m d v b) d) v os _ _ (omega (arith, i, same)) (subst (λ (n : ℕ). EndsAt n v.at v.command) (sym same) j) e
-
-      by : (to : Next Walk Members) → EachWalked m objects es Sees (after_turn m c t) (met m w t) o os to → Good (walk_to m (after_turn m c t) (met m w t) o os to)
-      by (Goes x) e = record { held = now; says = none_says }
-      by (Learns x) e = record { held = ends_on t.next (t.next + c.layouts) w.at w.command (omega arith) now; says = none_says }
-      by (Ends x) e = ended (takes_back m (after_turn m c t) x) (found_by m (met m w t) o x) x x.gone (omega (arith, l, up)) now e
-
   -- Appends.
 
-  -- likewise one that ends
+  -- from whatever number on an append's answers were told, it ends as told
   abbrev Ends' : ℕ → ℕ → Append → AppendEnd → Type 0
   Ends' next end a e = (s : ℕ) → s ≤ next → AppendOk Got s next a → EndOk Got s end e
 
@@ -583,76 +314,126 @@ module _ (m : Meaning) (objects : List Oid) (es : Entries) (rising : IsRising es
       no : false ≡ true → ⊥
       no z = cc
 
-  decided_good : (c : Client m) (x : CommandOf m) (what : WhatOf m) → ((n : ℕ) → Say n what) → Good (decided_for m c x what)
-  decided_good c cmd.End what k = answered (closed m c) _ what (k _)
-  decided_good c x what k = answered c 0 what (k 0)
-
   since_at : (next at : ℕ) (x : CommandOf m) → Issued Got lo next at → EndsAt next at x
   since_at next at cmd.End i = record { since = next; issued = i; le = omega arith }
   since_at next at x i = tt
 
-  -- the first number is the next one before the turn
-  ended_good : (next : ℕ) (c : Client m) (w : Work m) (y : Purpose m) (a : Append) (e : AppendEnd) → lo ≤ next → Fits next a y → Ends' next c.next a e → EndsSo m es a.draft e → Good (append_ended m c w y e)
-  ended_good next c w Writes a (At p d) l k ends so = replied (closed m (owns m c p d)) _ (one_says _ (inr (blind_say a.draft p d k so)))
-  ended_good next c w Writes a (Full i) l k ends so = refused c _ _
-  ended_good next c w Writes a (Forgotten p b) l k ends so = refused (closed m c) _ _
-  ended_good next c w Judged a (At p d) l k ends so = synced' (owns m c p d) (record w { at = p }) c.hosted (since_at c.next p w.command (ends lo l k))
-  ended_good next c w Judged a (Full i) l k ends so = refused c _ _
-  ended_good next c w Judged a (Forgotten p b) l k ends so = refused (closed m c) _ _
-  ended_good next c w (Decides z) a e l k ends so = decided_good (page_known m c e) w.command z (decides_say next c.next a e z l k ends so)
-  ended_good next c w (Rescues z) a (At p d) l k ends so = replied (knows_page m c p d) _ (one_says (note m 0 z) (free_say 0 z k))
-  ended_good next c w (Rescues z) a (Full i) l k ends so = refused c _ _
-  ended_good next c w (Rescues z) a (Forgotten p b) l k ends so = refused c _ _
-  ended_good next c w (Saves o u) a (At p d) l k ends so = answered (knows_page m c p d) 0 (told.Saved o p u) tt
-  ended_good next c w (Saves o u) a (Full i) l k ends so = refused c _ _
-  ended_good next c w (Saves o u) a (Forgotten p b) l k ends so = refused c _ _
-  ended_good next c w (Marks n o j) a (At p d) l k ends so =
-      replied (took_over m (owns m c p d) c.view) _ (and_says (note m n (told.Committed p)) (note m 0 (told.Marked o j) ∷ []) (inr (blind_say a.draft p d k so)) (one_says (note m 0 (told.Marked o j)) tt))
-  ended_good next c w (Marks n o j) a (Full i) l k ends so = refused c _ _
-  ended_good next c w (Marks n o j) a (Forgotten p b) l k ends so = refused c _ _
+  -- Along a turn.
 
-  append_good : (c : Client m) (w : Work m) (y : Purpose m) (a : Append) (t : Turn Append AppendEnd) → Le c → ((s : ℕ) → s ≤ c.next → AppendOk Got s c.next a → TurnOk Got s c.next t) → Keeps a.draft t.to
-      → ((e : AppendEnd) → end_of t.to ≡ Some e → EndsSo m es a.draft e) → Fits c.next a y → Good (on_append m c w y t)
-  append_good c w y a t l ok keeps lands f = by t.to keeps lands (λ s le k. ok s le k)
-    where
-      by : (to : Next Append AppendEnd) → Keeps a.draft to → ((e : AppendEnd) → end_of to ≡ Some e → EndsSo m es a.draft e) → ((s : ℕ) → s ≤ c.next → AppendOk Got s c.next a → (c.next ≤ t.next) × NextOk Got s t.next to)
-          → Good (append_to m (after_turn m c t) (met m w t) y t.besides to)
-      by (Goes b) same so go = record { held = fits_goes c.next t.next a b y l same go f; says = none_says }
-      by (Learns b) same so go = record {
-        held = fits_goes c.next (t.next + c.layouts) a b y l same (λ s le k. let g = go s le k in let u = g.0 in (omega (arith, u), append_on Got s t.next (t.next + c.layouts) b (omega arith) g.1)) f;
-        says = none_says;
-      }
-      by (Ends e) same so go = ended_good c.next (after_turn m c t) (met m w t) y a e l f (λ s le k. (go s le k).1) (so e refl)
+  -- an append, with the next number before the turn that went on with it, and after
+  record Fed (y : Purpose m) (now : ℕ) (to : Next Append AppendEnd) : Type 0 where
+    next : ℕ
+    append : Append
+    low : lo ≤ next
+    fits : Fits next append y
+    keeps : Keeps append.draft to
+    lands : (e : AppendEnd) → end_of to ≡ Some e → EndsSo m es append.draft e
+    goes : (s : ℕ) → s ≤ next → AppendOk Got s next append → (next ≤ now) × NextOk Got s now to
 
-  trims_turn : (c : Client m) (w : Work m) (b : ℕ) (t : Turn Trims Trimmed) → Good (on_trims m c w b t)
-  trims_turn c w b t = by t.to
-    where
-      by : (to : Next Trims Trimmed) → Good (trim_to m (after_turn m c t) (met m w t) b to)
-      by (Goes a) = record { held = tt; says = none_says }
-      by (Learns a) = record { held = tt; says = none_says }
-      by (Ends e) = answered (after_turn m c t) 0 _ tt
+  abbrev Here : Client m → Work m → Place m → Type 0
+  Here c w (Feeds (Syncing s) n rid x) = EndsAt c.next w.at w.command
+  Here c w (Feeds (Walking v os) n rid x) = EndsAt c.next w.at w.command
+  Here c w (Feeds (Appending a y) n rid x) = Fed y (append_fed m c a n x).next (append_fed m c a n x).to
+  Here c w (Feeds t n rid x) = Unit {0}
+  Here c w (Newer (Syncing s) n rid q) = EndsAt c.next w.at w.command
+  Here c w (Newer (Walking v os) n rid q) = EndsAt c.next w.at w.command
+  Here c w (Newer (Appending a y) n rid q) = Fed y (append_again q a c.next).next (append_again q a c.next).to
+  Here c w (Newer t n rid q) = Unit {0}
+  Here c w (OnAppend y bs to) = Fed y c.next to
+  Here c w (OnTrims b to) = Unit {0}
+  Here c w (OnCopy x to) = Unit {0}
+  Here c w (OnReconf to) = Unit {0}
+  Here c w (Plays own p) = EndsAt c.next w.at w.command × SeesIn own w.command
+  Here c w (Looks at o q) = Unit {0}
+  Here c w p = EndsAt c.next w.at w.command
 
-  copy_good : (c : Client m) (w : Work m) (x : Copying) (t : Turn Copying CopyEnd) → Good (on_copy m c w x t)
-  copy_good c w x t = by t.to
-    where
-      by : (to : Next Copying CopyEnd) → Good (copy_to m (after_turn m c t) (met m w t) x to)
-      by (Goes a) = record { held = tt; says = none_says }
-      by (Learns a) = record { held = tt; says = none_says }
-      by (Ends e) = replied (after_turn m c t) _ (one_says (note m 0 (told.Copied x.unit x.range x.stripe)) tt)
+  abbrev At' : Client m → Work m → Place m → Type 0
+  At' c w p = Le c × Here c w p × EachAt m objects es Sees c w p
 
-  copies_good : (c : Client m) (w : Work m) (x : Copying) (o : Option Refusal) → Good (copies_again m c w x o)
-  copies_good c w x None = copy_good c w x (copy_start x.unit x.range x.stripe c.next)
-  copies_good c w x (Some why) = refused c 0 why
+  here_way : (c : Client m) (w : Work m) (p : Place m) (d : Client m) (v : Work m) (q : Place m) → Way m c w p d v q → c.next ≤ d.next → Here c w p → Here d v q
+  here_way c w _ _ _ _ (FeedsSync s n rid x) up h = ends_on c.next _ w.at w.command up h
+  here_way c w _ _ _ _ (FeedsWalk v os n rid x) up h = ends_on c.next _ w.at w.command up h
+  here_way c w _ _ _ _ (NewerSync s n rid q) up h = ends_on c.next _ w.at w.command up h
+  here_way c w _ _ _ _ (NewerWalk v os n rid q) up h = ends_on c.next _ w.at w.command up h
+  here_way c w _ _ _ _ x up h = h
 
-  reconf_good : (c : Client m) (w : Work m) (t : Turn Reconf ReconfEnd) → Good (on_reconf m c w t)
-  reconf_good c w t = by t.to
-    where
-      by : (to : Next Reconf ReconfEnd) → Good (reconf_to m (after_turn m c t) w to)
-      by (Goes r) = record { held = tt; says = none_says }
-      by (Learns r) = record { held = tt; says = none_says }
-      by (Ends (Installed e p)) = replied (stands m (after_turn m c t) p) _ (one_says (note m 0 (told.Installed e)) tt)
-      by (Ends (Overtaken e p)) = refused (stands m (after_turn m c t) p) 0 (cause.Overtaken e)
-      by (Ends (NotWhole u q p)) = refused (stands m (after_turn m c t) p) 0 (cause.NotWhole u q)
+  way : (c : Client m) (w : Work m) (p : Place m) (d : Client m) (v : Work m) (q : Place m) → Way m c w p d v q → At' c w p → At' d v q
+  way c w p d v q x h =
+      let up = way_up m c w p d v q x in
+      (let l = h.0 in omega (arith, l, up), here_way c w p d v q x up h.1, each_way m objects es Sees c w p d v q x h.2)
+
+  walked_way : (c : Client m) (w : Work m) (d : Client m) (q : Place m) → AllWalked m c w d q → At' c w (Walks []) → At' d w q
+  walked_way c w _ _ (HasPlayed k) h = (h.0, (h.1, h.2), tt)
+  walked_way c w _ _ (LooksBack at o q of) h = (h.0, tt, tt)
+  walked_way c w _ _ (IsRescue at of) h = (h.0, h.1, tt)
+
+  begins_up : (c : Client m) (w : Work m) (o : Oid) → c.next ≤ (start_walk m c w o).next
+  begins_up c w o = up_of walk_asks [] c.next (start_walk m c w o).besides (start_walk m c w o).next (start_walk m c w o).to (walk_start_draws c.stand o _ w.lo c.cells c.next)
+
+  goes_held : (c : Client m) (w : Work m) (p : Place m) (d : Client m) (t : Task m) (bs : List Out) → IsGoing m c w p d t bs → Here c w p → TaskHeld d.next w.at w.command t
+  goes_held c w _ _ _ _ (SyncGoes bs s) h = h
+  goes_held c w _ _ _ _ (WalkGoes o os x) h = h
+  goes_held c w _ _ _ _ (WalkBegins o os x is) h = ends_on c.next (start_walk m c w o).next w.at w.command (begins_up c w o) h
+  goes_held c w _ _ _ _ (AppendGoes y bs b) h = fits_goes h.next c.next h.append b y h.low h.keeps (λ s le k. h.goes s le k) h.fits
+  goes_held c w _ _ _ _ x h = tt
+
+  learns_held : (c : Client m) (w : Work m) (p : Place m) (t : Task m) → IsLearning m c w p t → Here c w p → TaskHeld (c.next + c.layouts) w.at w.command t
+  learns_held c w _ _ (SyncLearns bs s) h = ends_on c.next (c.next + c.layouts) w.at w.command (omega arith) h
+  learns_held c w _ _ (WalkLearns o os x) h = ends_on c.next (c.next + c.layouts) w.at w.command (omega arith) h
+  learns_held c w _ _ (AppendLearns y bs b) h = fits_goes h.next (c.next + c.layouts) h.append b y h.low h.keeps
+      (λ s le k. let g = h.goes s le k in let u = g.0 in (omega (arith, u), append_on Got s c.next (c.next + c.layouts) b (omega arith) g.1)) h.fits
+  learns_held c w _ _ x h = tt
+
+  syncs_on : (c : Client m) (w : Work m) (os : List Oid) → EndsAt c.next w.at w.command → Good (syncs m c w os)
+  unfolding syncs sync_start
+  syncs_on c w os k = record { held = ends_on c.next (c.next + 1) w.at w.command (omega arith) k; says = none_says }
+
+  synced : (c : Client m) (w : Work m) (p : Place m) (d : Client m) (v : Work m) (os : List Oid) → IsSynced m c w p d v os → Here c w p → EndsAt d.next v.at v.command
+  synced c w _ _ _ _ (JudgedAt bs p d) h = since_at c.next p w.command (h.goes lo h.low h.fits).1
+  synced c w _ _ _ _ x h = h
+
+  -- the record that `end` judges, and the command's own decision
+  judges_fit : (c : Client m) (at : ℕ) (own : Entries) (v : View m) (e : Entry) (so : Bool) (what : WhatOf m) → Judges m own v at e so what → Since c.next at → DecidesFits (c.next + 1) (begun c.next (decision m c e at so)) what
+  judges_fit c at own v e _ _ (Commit' k) s = after_record c.next at (decision m c e at true) s (record { is_yes = true; is = refl })
+  judges_fit c at own v e _ _ (Abort' x k u i) s = after_record c.next at (decision m c e at false) s (record { is_yes = false; is = refl })
+
+  judges_say : (own : Entries) (v : View m) (at : ℕ) (e : Entry) (so : Bool) (what : WhatOf m) → Judges m own v at e so what → ((d : Entry) → Contains es (at, d) → needs_decision d ≡ true → DecisionStands es at) → (x : ℕ) → Say x what
+  judges_say own v at e _ _ (Commit' k) stands x = inr (λ d i needs. inl (stands d i needs))
+  judges_say own v at e _ _ (Abort' y k u i) stands x = λ d i needs. inl (stands d i needs)
+
+  appended : (c : Client m) (w : Work m) (p : Place m) (d : Client m) (e : Entry) (y : Purpose m) (ns : List (NoteOf m)) → IsAppended m c w p d e y ns → Le c → Here c w p → Good (appends m d w e y ns)
+  unfolding appends append_start
+  appended c w _ _ _ _ _ (EndDecides own p t e so what of came is k x) l h = record { held = judges_fit c w.at own p.view e so what k (subst (EndsAt c.next w.at) of h.0); says = none_says }
+  appended c w _ _ _ _ _ (DecideDecides own p at e d so of t k is v s x) l h = record { held = ((l, tt), record { is_yes = so; is = refl }); says = none_says }
+  appended c w _ _ _ _ _ (SaveBegins own p t o of came small) l h = record { held = tt; says = none_says }
+  appended c w _ _ _ _ _ (MarkBegins own p t o n of came may) l h = record { held = refl; says = marks_say (c.begun + 1) o n }
+  appended c w _ _ _ _ _ (RescueDecides at so e is k) l h = record { held = tt; says = none_says }
+
+  answered : (c : Client m) (w : Work m) (p : Place m) (d : Client m) (n : ℕ) (what : WhatOf m) → IsAnswered m c w p d n what → Here c w p → Say n what
+  answered c w _ _ _ _ (DecidedAt x bs p d other) h = decides_say h.next c.next h.append (At p d) x h.low h.fits (λ s le k. (h.goes s le k).1) (h.lands (At p d) refl) 0
+  answered c w _ _ _ _ (DecidedLost x bs e lost other) h = decides_say h.next c.next h.append e x h.low h.fits (λ s le k. (h.goes s le k).1) (h.lands e refl) 0
+  answered c w _ _ _ _ (JudgedSo x bs p d of) h = decides_say h.next c.next h.append (At p d) x h.low h.fits (λ s le k. (h.goes s le k).1) (h.lands (At p d) refl) (tx_of m c)
+  answered c w _ _ _ _ (JudgedLost x bs e lost of) h = decides_say h.next c.next h.append e x h.low h.fits (λ s le k. (h.goes s le k).1) (h.lands e refl) (tx_of m c)
+  answered c w _ _ _ _ (EndJudged own p t e so what of came is k lacks) h = judges_say own p.view w.at e so what k (λ d i needs. has_decision own w.at e (subst (SeesIn own) of h.1) is lacks d i needs) (tx_of m c)
+  answered c w _ _ _ _ (DecideJudged own p at e d so of t k is v s lacks) h = λ d i needs. inl (has_decision own at e (subst (SeesIn own) of h.1) is lacks d i needs)
+  answered c w _ _ _ _ x h = tt
+
+  tells : (c : Client m) (w : Work m) (p : Place m) (d : Client m) (ns : List (NoteOf m)) → IsTold m c w p d ns → Here c w p → EachSays ns
+  tells c w _ _ _ (IsCommitted bs p d) h = one_says _ (inr (blind_say h.append.draft p d h.fits (h.lands (At p d) refl)))
+  tells c w _ _ _ (IsRescued x bs p d) h = one_says (note m 0 x) (free_say 0 x h.fits)
+  tells c w _ _ _ (IsMarked n o mark bs p d) h =
+      and_says (note m n (told.Committed p)) (note m 0 (told.Marked o mark) ∷ []) (inr (blind_say h.append.draft p d h.fits (h.lands (At p d) refl))) (one_says (note m 0 (told.Marked o mark)) tt)
+  tells c w _ _ _ (PlaysOther own p k) h = none_says
+  tells c w _ _ _ x h = one_says _ tt
+
+  ends_good : (c : Client m) (w : Work m) (p : Place m) (x : Moved m) → End m c w p x → At' c w p → Good x
+  ends_good c w p _ (GoesOn d t bs x) h = record { held = goes_held c w p d t bs x h.1; says = none_says }
+  ends_good c w p _ (LearnsNewer t x) h = record { held = learns_held c w p t x h.1; says = none_says }
+  ends_good c w p _ (Syncs d v os x) h = syncs_on d v os (synced c w p d v os x h.1)
+  ends_good c w p _ (Appends d e y ns x) h = appended c w p d e y ns x h.0 h.1
+  ends_good c w p _ (Refuses d n why x) h = record { held = tt; says = one_says (note m n (told.Refused why)) tt }
+  ends_good c w p _ (Answers d n what x) h = record { held = tt; says = one_says (note m n what) (answered c w p d n what x h.1) }
+  ends_good c w p _ (Tells d ns x) h = record { held = tt; says = tells c w p d ns x h.1 }
 
   -- Deliveries.
 
@@ -665,66 +446,56 @@ module _ (m : Meaning) (objects : List Oid) (es : Entries) (rising : IsRising es
     abbrev pub Below : Client m → Task m → Type 0
     Below c t = (o : Out) → Has (task_awaited m c.stand t) o → o.rid < c.next
 
-    module _ (c : Client m) (w : Work m) (l : Le c) where
-      task_good : (t : Task m) → TaskHeld c.next w.at w.command t → Asked (task_awaited m c.stand t) from rid → Below c t → LandsTask t (task_ends m c t from.num (reply y)) → EachFeed m objects es Sees c w t from.num rid (reply y)
-          → Good (task_feed m c w t from.num rid (reply y))
-      unfolding task_feed task_asks
-      task_good (Syncing s) k a below lands each = sync_good c w (sync_feed c.stand s s.work from.num (reply y) c.next) l
-          (up_of (sync_asks c.stand) (sync_asks c.stand s) c.next (sync_feed c.stand s s.work from.num (reply y) c.next).besides (sync_feed c.stand s s.work from.num (reply y) c.next).next (sync_feed c.stand s s.work from.num (reply y) c.next).to (sync_draws c.stand s from.num (reply y) c.next)) k each
-      task_good (Walking v os) k a below lands each = walk_good c w v.oid os (walk_feed c.stand v v.job from.num (reply y) c.next) l
-          (up_of walk_asks (walk_asks v) c.next (walk_feed c.stand v v.job from.num (reply y) c.next).besides (walk_feed c.stand v v.job from.num (reply y) c.next).next (walk_feed c.stand v v.job from.num (reply y) c.next).to (walk_draws c.stand v from.num (reply y) c.next)) k each
-      task_good (Appending b z) k a below lands each =
-          append_good c w z b (append_feed c.stand b b.work from.num (reply y) c.next) l
-          (λ s le ok. feed_ok Got c.stand s b from.num c.next from rid y ok got (let u = below a.of a.has in let e = a.number in omega (arith, u, e)) a)
-          (feed_keeps c.stand b b.work from.num (reply y) c.next) (λ e is. lands b e refl is) k
-      task_good (Trimming t) k a below lands each = trims_turn c w t.below (trim_feed c.stand t from.num (reply y) c.next)
-      task_good (Copying' x) k a below lands each = copy_good c w x (copy_feed c.stand x x.work from.num (reply y) c.next)
-      task_good (Reconfiguring r) k a below lands each = reconf_good c w (reconf_feed r r.work from.num rid (reply y) c.next)
-
-      newer_good : (t : Task m) (q : Layout) → TaskHeld c.next w.at w.command t → LandsTask t (again_ends m (stands m c q) t) → EachNewer m objects es Sees c w t q → Good (step.on_newer m c w t from.num rid q)
-      unfolding task_again
-      newer_good (Reconfiguring r) q k lands each = reconf_good c w (reconf_latest r r.work from.num rid q c.next)
-      newer_good (Syncing s) q k lands each = sync_good (stands m c q) (record w { gone_before = w.gone }) (sync_again s c.next) l
-          (up_of (sync_asks q) [] c.next (sync_again s c.next).besides (sync_again s c.next).next (sync_again s c.next).to (sync_start_draws q s.oids c.next)) k each
-      newer_good (Walking v os) q k lands each = walk_good (stands m c q) w v.oid os (walk_again q v c.next) l
-          (up_of walk_asks [] c.next (walk_again q v c.next).besides (walk_again q v c.next).next (walk_again q v c.next).to (walk_again_draws q v c.next)) k each
-      newer_good (Appending a z) q k lands each = append_good (stands m c q) w z a (append_again q a c.next) l (λ s le ok. again_ok Got q s a c.next le ok) (again_keeps q a c.next) (λ e is. lands a e refl is) k
-      newer_good (Trimming t) q k lands each = trims_turn (stands m c q) w t.below (trim_start q t.below c.next)
-      newer_good (Copying' x) q k lands each = copies_good (stands m c q) w x _
-
-      module _ (held : Held c) where
-        still : Good (record { now = c; besides = []; notes = [] })
-        still = record { held = held; says = none_says }
-
-        fed_good : (b : Bool) (t : Task m) → awaits (task_awaited m c.stand t) from rid ≡ b → TaskHeld c.next w.at w.command t → Below c t → LandsTask t (awaited_ends m b c t from (reply y)) → EachAwaited m objects es Sees b c w t from rid (reply y)
-            → Good (step.fed_if m b c w t from rid (reply y))
-        fed_good true t a k below lands each = task_good t k (asked (task_awaited m c.stand t) from rid a) below lands each
-        fed_good false t a k below lands each = still
-
-        hand_good : (d : Hand m) → TaskHeld c.next w.at w.command (task_in m d) → ((t : Task m) → d ≡ Doing t → Below c t) → LandsTask (task_in m d) (hand_ends m c d from rid (reply y)) → EachHand m objects es Sees c w d from rid (reply y)
-            → Good (step.hand_feed m c w d from rid (reply y))
-        hand_good (Doing t) k below lands each = fed_good _ t refl k (below t refl) lands each
-        hand_good (Learning ws t) k below lands each = still
-
-        latest_good : (b : Bool) (q : Layout) → TaskHeld c.next w.at w.command (task_in m w.hand) → LandsTask (task_in m w.hand) (latest_ends m b (stands m c q) (task_in m w.hand)) → EachLatest m objects es Sees b c w q
-            → Good (step.latest_if m b c w from rid q)
-        latest_good true q k lands each = newer_good (task_in m w.hand) q k lands each
-        latest_good false q k lands each = still
-
-        reply_good : (x : Reply) → reply y ≡ x → TaskHeld c.next w.at w.command (task_in m w.hand) → ((t : Task m) → w.hand ≡ Doing t → Below c t) → LandsTask (task_in m w.hand) (reply_ends m c w from rid x) → EachReply m objects es Sees c w from rid x
-            → Good (step.reply_feed m c w from rid x)
-        reply_good (IsLatest q) is k below lands each = latest_good (node_eq from (layout_id from.num) && nat_lt c.stand.epoch q.epoch) q k lands each
-        reply_good x is k below lands each = subst (λ (z : Reply). LandsTask (task_in m w.hand) (hand_ends m c w.hand from rid z) → EachHand m objects es Sees c w w.hand from rid z → Good (step.hand_feed m c w w.hand from rid z)) is (λ a b. hand_good w.hand k below a b) lands each
-
     -- of work that may be none
     abbrev pub BelowIn : Client m → Option (Work m) → Type 0
     BelowIn c None = Unit {0}
     BelowIn c (Some w) = (t : Task m) → w.hand ≡ Doing t → Below c t
 
+    module _ (c : Client m) (w : Work m) (l : Le c) where
+      fed_here : (t : Task m) → TaskHeld c.next w.at w.command t → Asked (task_awaited m c.stand t) from rid → Below c t → LandsTask t (task_ends m c t from.num (reply y)) → Here c w (Feeds t from.num rid (reply y))
+      unfolding task_asks
+      fed_here (Appending b z) k a below lands = record {
+        next = c.next;
+        append = b;
+        low = l;
+        fits = k;
+        keeps = feed_keeps c.stand b b.work from.num (reply y) c.next;
+        lands = λ e is. lands b e refl is;
+        goes = λ s le ok. feed_ok Got c.stand s b from.num c.next from rid y ok got (let u = below a.of a.has in let e = a.number in omega (arith, u, e)) a;
+      }
+      fed_here (Syncing s) k a below lands = k
+      fed_here (Walking v os) k a below lands = k
+      fed_here t k a below lands = tt
+
+      newer_here : (t : Task m) (q : Layout) → TaskHeld c.next w.at w.command t → LandsTask t (again_ends m (stands m c q) t) → Here c w (Newer t from.num rid q)
+      newer_here (Appending a z) q k lands = record {
+        next = c.next;
+        append = a;
+        low = l;
+        fits = k;
+        keeps = again_keeps q a c.next;
+        lands = λ e is. lands a e refl is;
+        goes = λ s le ok. again_ok Got q s a c.next le ok;
+      }
+      newer_here (Syncing s) q k lands = k
+      newer_here (Walking v os) q k lands = k
+      newer_here t q k lands = tt
+
+    fed_good : (c : Client m) → Le c → Held c → BelowIn c c.work → LandsBy m es (append_by m c.work) (work_ends m c c.work from rid (reply y)) → EachDelivery m objects es Sees c c.work from rid (reply y) → Good (step.feed m c c.work from rid (reply y))
+    fed_good c l k below lands each = delivered m At' Good ends_good way (over_walks m At' Good ends_good walked_way) c from rid (reply y) (record { held = k; says = none_says })
+        (λ w t has doing a other. (
+          l,
+          fed_here c w l t (subst (λ (d : Hand m). TaskHeld c.next w.at w.command (task_in m d)) doing (subst (WorkHeld c.next) has k)) (asked (task_awaited m c.stand t) from rid a) (subst (BelowIn c) has below t doing)
+              (λ b e is k. lands b e (ap (append_by m) has ∙ (ap (λ (d : Hand m). append_of m (task_in m d)) doing ∙ is)) (end_fed m c from rid (reply y) w t has doing a other ∙ k)),
+          each_fed m objects es Sees c from rid (reply y) each w t has doing a other,
+        ))
+        (λ w q has is e. (l, newer_here c w l (task_in m w.hand) q (subst (WorkHeld c.next) has k) (λ b z of k. lands b z (ap (append_by m) has ∙ of) (end_newer m c from rid (reply y) w q has is e ∙ k)), each_newer m objects es Sees c from rid (reply y) each w q has is e))
+
     pub feed_good : (c : Client m) (o : Option (Work m)) → c.work ≡ o → lo ≤ c.next → Held c → BelowIn c o → LandsBy m es (append_by m o) (work_ends m c o from rid (reply y)) → EachDelivery m objects es Sees c o from rid (reply y)
         → Good (step.feed m c o from rid (reply y))
-    feed_good c None is l k below lands each = record { held = k; says = none_says }
-    feed_good c (Some w) is l k below lands each = reply_good c w l k (reply y) refl (subst (WorkHeld c.next) is k) below lands each
+    feed_good c o is l k below lands each =
+        subst (λ (z : Option (Work m)). BelowIn c z → LandsBy m es (append_by m z) (work_ends m c z from rid (reply y)) → EachDelivery m objects es Sees c z from rid (reply y) → Good (step.feed m c z from rid (reply y))) is
+        (λ below lands each. fed_good c l k below lands each) below lands each
 
   -- Commands.
 
@@ -733,59 +504,31 @@ module _ (m : Meaning) (objects : List Oid) (es : Entries) (rising : IsRising es
   EndsIdle c cmd.End = (t : Tx) → c.tx ≡ Some t → (length t.writes == 0) ≡ true → Idle t.number
   EndsIdle c x = Unit {0}
 
-  module _ (c : Client m) (free : c.work ≡ None) (l : Le c) where
-    moves : (d : Client m) (ns : List (NoteOf m)) → d.work ≡ c.work → EachSays ns → Good (record { now = d; besides = []; notes = ns })
-    moves d ns e s = record { held = subst (WorkHeld d.next) (sym (e ∙ free)) tt; says = s }
+  -- a command that walks isn't `end`
+  ends_none : (c : Client m) (next at : ℕ) (x : CommandOf m) → IsWalked m c x → EndsAt next at x
+  ends_none c next at _ (WalksFate p) = tt
+  ends_none c next at _ k = tt
 
-    host_good : (o : Oid) (b : Bool) → Good (hosts_more m c o b)
-    host_good o true = moves _ _ refl (one_says _ tt)
-    host_good o false = moves _ _ refl (one_says _ tt)
-
-    puts_good : (o : Oid) (op : m.op) (t : Option Tx) → Good (step.puts m c o op t)
-    puts_good o op None = moves _ _ refl none_says
-    puts_good o op (Some t) = moves _ _ refl (one_says _ tt)
-
-    asks_good : (o : Oid) (q : m.ask) (t : Option Tx) → Good (step.asks m c (cmd.Ask o q) o q t)
-    asks_good o q None = moves _ _ refl none_says
-    asks_good o q (Some t) = by t.snapshot
-      where
-        state : (at : ℕ) (v : View m) (s : Option m.state) → Good (step.asked_of_state m c t at o q v s)
-        state at v None = moves _ _ refl none_says
-        state at v (Some s) = moves _ _ refl (one_says _ tt)
-
-        view : (at : ℕ) (v : Option (View m)) → Good (step.asks_view m c t at o q v)
-        view at None = moves _ _ refl none_says
-        view at (Some v) = state at v (state_of m v o)
-
-        by : (s : Option ℕ) → Good (step.asks_by m c (cmd.Ask o q) o q t s)
-        by None = synced' c _ _ tt
-        by (Some at) = view at c.view
-
-    purpose_fits : (t : Tx) (b : Bool) → (length t.reads == 0) ≡ b → Fits (c.next + 1) (begun c.next (commit_record t c.num)) (if b then Writes else Judged)
-    unfolding commit_record
-    purpose_fits t true e = no_reads t.reads e
-    purpose_fits t false e = (l, tt)
-
-    ends_good : (t : Option Tx) → c.tx ≡ t → EndsIdle c cmd.End → Good (step.ends m c cmd.End t)
-    ends_good None is idle = moves _ _ refl none_says
-    ends_good (Some t) is idle = by (length t.writes == 0) refl
-      where
-        by : (b : Bool) → (length t.writes == 0) ≡ b → Good (step.end_by m c cmd.End t b)
-        by true e = moves _ _ refl (and_says (note m t.number told.End) (note m t.number (told.Committed (step.snapshot_or m t.snapshot)) ∷ []) tt (one_says (note m t.number (told.Committed (step.snapshot_or m t.snapshot))) (inl (idle t is e))))
-        by false e = appended c (new_work m cmd.End) _ _ _ (purpose_fits t (length t.reads == 0) refl) (one_says (note m t.number told.End) tt)
-
-    accepts_good : (x : CommandOf m) → EndsIdle c x → Good (accepts m c x)
-    unfolding accepts
-    accepts_good (cmd.Host o) idle = host_good o _
-    accepts_good cmd.Begin idle = moves _ _ refl (one_says _ tt)
-    accepts_good (cmd.Put o op) idle = puts_good o op c.tx
-    accepts_good (cmd.Ask o q) idle = asks_good o q c.tx
-    accepts_good cmd.End idle = ends_good c.tx refl idle
-    accepts_good cmd.Drop idle = moves _ _ refl (one_says _ tt)
-    accepts_good (cmd.Reconf y) idle = reconf_good c (new_work m (cmd.Reconf y)) (reconf_start c.stand c.layouts y c.num c.next)
-    accepts_good (cmd.Copy u r s) idle = copies_good c (new_work m (cmd.Copy u r s)) (record { unit = u; range = r; stripe = s; work = copying.Sealing 0 }) None
-    accepts_good x idle = synced' c _ _ tt
+  takes_good : (c : Client m) (x : CommandOf m) → c.work ≡ None → Le c → EndsIdle c x → (y : Moved m) → Taken m c x y → Good y
+  unfolding appends append_start commit_record
+  takes_good c _ free l idle _ (SaidAtOnce x d ns s) = record { held = subst (WorkHeld d.next) (sym (said_work m c x d ns s ∙ free)) tt; says = said x d ns idle s }
+    where
+      said : (x : CommandOf m) (d : Client m) (ns : List (NoteOf m)) → EndsIdle c x → IsSaid m c x d ns → EachSays ns
+      said _ _ _ idle (NoTxOpen x is) = none_says
+      said _ _ _ idle (NoViewKept o q t at is a b) = none_says
+      said _ _ _ idle (NoStateKept o q t at v is a b e) = none_says
+      said _ _ _ idle (ReadsOnly t is e) =
+          and_says (note m t.number told.End) (note m t.number (told.Committed (step.snapshot_or m t.snapshot)) ∷ []) tt (one_says (note m t.number (told.Committed (step.snapshot_or m t.snapshot))) (inl (idle t is e)))
+      said _ _ _ idle s = one_says _ tt
+  takes_good c _ free l idle _ (SyncsFirst x k) = syncs_on c _ c.hosted (ends_none c c.next 0 x k)
+  takes_good c _ free l idle _ (AppendsRecord t y is e k) = record { held = purpose y k; says = one_says (note m t.number told.End) tt }
+    where
+      purpose : (y : Purpose m) → IsFor' m t y → Fits (c.next + 1) (begun c.next (commit_record t c.num)) y
+      purpose _ (ForWrites e) = no_reads t.reads e
+      purpose _ (ForJudged e) = (l, tt)
+  takes_good c _ free l idle _ (ReconfBegins x n r e) = record { held = tt; says = none_says }
+  takes_good c _ free l idle _ (CopyBegins u r s) = record { held = tt; says = none_says }
 
   pub command_good : (c : Client m) (x : CommandOf m) (o : Option Refusal) → (o ≡ None → c.work ≡ None) → lo ≤ c.next → (o ≡ None → EndsIdle c x) → Held c → Good (refused_or m c x o)
-  command_good c x None free l idle k = accepts_good c (free refl) l x (idle refl)
+  command_good c x None free l idle k = takes_good c x (free refl) l (idle refl) (accepts m c x) (taken m c x)
   command_good c x (Some why) free l idle k = record { held = k; says = one_says _ tt }

@@ -18,22 +18,22 @@ use Rattle.tg_model.specs.declared.refusal.Refusal.{Refusal}
 use Rattle.tg_model.specs.declared.trace.What.TheVariants as told
 use Rattle.tg_model.specs.Kinds.{CommandOf, EventOf, MarkOf, NoteOf, WhatOf}
 use Rattle.tg_model.specs.Traces.{Trace, puts_of}
-use Rattle.tg_protocol.specs.Words.{client_id, numbers}
+use Rattle.tg_protocol.specs.Words.{client_id}
 use Rattle.tg_protocol.specs.Replies.{reply}
 use Rattle.tg_protocol.specs.Views.{Entries, View}
 use Rattle.tg_protocol.specs.Transactions.{Tx}
 use Rattle.tg_protocol.specs.Clients.{Task, Hand, Doing, Work, Client, new_client, refusal, write_of}
 use Rattle.tg_protocol.specs.Answers.{note}
 use Rattle.tg_protocol.specs.ClientSteps as step
-use Rattle.tg_protocol.specs.ClientSteps.{ClientTurn, task_in, task_awaited, snapshot_or, end_by, accepts, refused_or, given, client_command, client_deliver, client_tick, tick_by}
-use Rattle.tg_protocol.specs.Worlds.{CommandStart, World, Told, start, client, noted_of, happens, trace}
-use Rattle.tg_protocol.specs.Runs.{Moves, Next, Takes, Reaches, run}
+use Rattle.tg_protocol.specs.ClientSteps.{ClientTurn, task_awaited, snapshot_or, end_by, accepts, refused_or, given, client_command, client_deliver, client_tick, tick_by}
+use Rattle.tg_protocol.specs.Worlds.{CommandStart, World, Told, start, client, happens, trace}
+use Rattle.tg_protocol.specs.Runs.{Moves, Takes, Reaches, run}
 use Rattle.tg_protocol.specs.Holding.{append_by, RecordsOwn}
 use Rattle.tg_protocol.specs.Alike.{SentTo, SentNow, HasDecision, MetEnd, MetTrim, Recorded, MetEndNow, MetTrimNow, RecordedNow}
 use Rattle.tg_law_layouts.specs.Moves.After.{after}
 use Rattle.tg_law_layouts.specs.Moves.Configs.{config}
-use Rattle.tg_law_layouts.proofs.Moves.Lists.{contained, at_map, at_replicate}
-use Rattle.tg_law_layouts.proofs.Moves.Members.{Has, has_contained, has_either, has_map}
+use Rattle.tg_law_layouts.proofs.Moves.Lists.{contained}
+use Rattle.tg_law_layouts.proofs.Moves.Members.{Has, has_contained}
 use Rattle.tg_law_layouts.proofs.Moves.Moves.{ClientInput, Commanded, Hears', Ticks', run_keeps}
 use Rattle.tg_law_layouts.proofs.Moves.Clients.{reserved, hand_reserved, work_reserved}
 use Rattle.tg_law_layouts.proofs.Moves.Turns.{not_busy, command_draws, deliver_draws, tick_draws}
@@ -46,7 +46,7 @@ use Rattle.tg_law_replies.specs.Replies.Ended.{AppendsEnd, work_ends, ended_in}
 use Rattle.tg_law_replies.specs.Replies.Found.{HasFound, FindsFor, Finds, mine}
 use Rattle.tg_law_replies.specs.Replies.Laws.{ClientsFind}
 use Rattle.tg_law_replies.specs.Replies.Steps.{EachEvent, EachDelivery}
-use Rattle.tg_law_replies.proofs.Books.Worlds.{nil_right, regroup, run_both, run_next, WorldBook, run_book, start_book, step_book}
+use Rattle.tg_law_replies.proofs.Books.Worlds.{run_both, run_next, WorldBook, run_book, start_book, step_book}
 use Rattle.tg_law_replies.proofs.History.Cells.{logs_rise}
 use Rattle.tg_law_replies.proofs.Pages.Read.{logs_keep_grammar}
 use Rattle.tg_law_replies.proofs.Replies.Along.{Along, passed}
@@ -61,7 +61,8 @@ use Rattle.tg_law_walks.proofs.Once.Owning.{records_own}
 use Rattle.tg_law_syncs.proofs.Follow.Shut.{Shut, Adds, adds_run}
 use Rattle.tg_law_headline.specs.Alike.Rows.{DecisionsRecorded, AbortsRecorded, CommitsRecorded, DecisionsRecordedByRuns, AbortsRecordedByRuns, CommitsRecordedByRuns}
 use Rattle.tg_law_headline.proofs.Alike.Recorded.{Met, MetFull, MetGone, MetSince, EndSaid, Say, EachSays, Held, WorkHeld, work_on, SeesFor, Sees, BelowIn, feed_good, EndsIdle, command_good}
-use Rattle.tg_law_headline.proofs.Alike.Speaks.{Noted, Before, Anew, Speaks, Silent, Speaks', Turns, Delivered, From, told_of, speaks}
+use Rattle.tg_law_headline.proofs.Alike.Speaks.{Delivered, From, told_of}
+use Rattle.tg_law_headline.proofs.Alike.Running.{AllSay, none_say, both_say, notes_say, starts_at, end_state as run_end}
 
 module _ (m : Meaning) where
   nothing_written : (ws : List WriteOp) → (length ws == 0) ≡ true → ws ≡ []
@@ -112,10 +113,6 @@ module _ (m : Meaning) (h : Header) (ms : Moves m) (r : Reaches m h ms (after m 
   record Kept (s : CommandStart) (k : ℕ) (c : Client m) : Type 0 where
     next : s.next ≤ c.next
     held : HeldBy s k c
-
-  record State (w : World m) : Type 0 where
-    clients : (k : ℕ) → Kept (noted_of m w k) k (client m w k)
-    told : (t : Told m) → Has w.told t → Says t
 
   -- what a client has found that ends, or decides, is of the log
   abbrev SeesBy : ℕ → ℕ → Client m → Work m → Type 0
@@ -253,68 +250,19 @@ module _ (m : Meaning) (h : Header) (ms : Moves m) (r : Reaches m h ms (after m 
       now_kept : (t : ClientTurn m) (i : ClientInput m (config m w) n t) → From m w e n t i → IdleBy t i → Kept s n t.now
       now_kept t i d idle = record { next = let a = kept.next in let b = up t i in omega (arith, a, b); held = (turn_good t i d idle).0 }
 
-    kept_of : (n : ℕ) (s : CommandStart) → Noted m w n s → Kept (noted_of m w n) n (client m w n) → Kept s n (client m w n)
-    kept_of n s (Before f) k = subst (λ (z : CommandStart). Kept z n (client m w n)) (sym f) k
-    kept_of n s (Anew idle f) k = record {
-      next = let a = ap (λ (z : CommandStart). z.next) f in omega (arith, a);
-      held = subst (WorkHeld m h.objects es rising (Got n) (Idle n) s.next (client m w n).next) (sym idle) tt;
-    }
-
-    stepped : (v : World m) → v ≡ happens m w e → Speaks m w e v → State w → State v
-    stepped v same (Silent t c nn) st = record {
-      clients = λ k. subst (λ (z : CommandStart). Kept z k (client m v k)) (sym (nn k)) (subst (λ (z : Client m). Kept (noted_of m w k) k z) (sym (c k)) (st.clients k));
-      told = λ x i. st.told x (subst (λ (zs : List (Told m)). Has zs x) t i);
-    }
-    stepped v same (Speaks' n t s i noted x f d) st = record {
-      clients = λ k. by k (f k);
-      told = λ y j. tells y (has_either w.told (map (told_of m w n s) t.notes) y (subst (λ (zs : List (Told m)). Has zs y) x j));
-    }
-      where
-        kept : Kept s n (client m w n)
-        kept = kept_of n s noted (st.clients n)
-
-        turned : Turns m w v n t s n → client m v n ≡ t.now
-        turned (inl g) = g.1
-        turned (inr g) = absurd (g.2 refl)
-
-        idle : IdleBy n s kept t i
-        idle = idle_by n s kept t i (subst (λ (z : World m). z.told ≡ w.told ++ map (told_of m w n s) t.notes) same x) (subst (λ (z : World m). client m z n ≡ t.now) same (turned (f n)))
-
-        by : (k : ℕ) → Turns m w v n t s k → Kept (noted_of m v k) k (client m v k)
-        by k (inl g) = subst (λ (z : CommandStart). Kept z k (client m v k)) (sym g.2) (subst (λ (z : Client m). Kept s k z) (sym g.1) (subst (λ (z : ℕ). Kept s z t.now) (sym g.0) (now_kept n s kept t i d idle)))
-        by k (inr g) = subst (λ (z : CommandStart). Kept z k (client m v k)) (sym g.1) (subst (λ (z : Client m). Kept (noted_of m w k) k z) (sym g.0) (st.clients k))
-
-        tells : (y : Told m) → Has w.told y ⊎ Has (map (told_of m w n s) t.notes) y → Says y
-        tells y (inl j) = st.told y j
-        tells y (inr j) = let z = has_map (told_of m w n s) t.notes y j in subst Says (sym z.is) ((turn_good n s kept t i d idle).1 z.of z.has)
-
   -- The start.
 
   new_kept : (k j : ℕ) → Kept (record { next = 1; epoch = 1; upto = 0 }) k (new_client m h j)
   unfolding new_client
   new_kept k j = record { next = omega arith; held = tt }
 
-  start_state : State (start m h)
-  unfolding start
-  start_state = record {
-    clients = λ k. at_replicate h.clients (record { next = 1; epoch = 1; upto = 0 }) k (record { next = 1; epoch = 1; upto = 0 }) (λ (z : CommandStart). Kept z k (client m (start m h) k)) (here k) (here k);
-    told = λ t i. absurd i;
-  }
-    where
-      here : (k : ℕ) → Kept (record { next = 1; epoch = 1; upto = 0 }) k (client m (start m h) k)
-      here k = at_map (new_client m h) (numbers h.clients 0) k (new_client m h k) (λ (c : Client m). Kept (record { next = 1; epoch = 1; upto = 0 }) k c) (λ j. new_kept k j) (new_kept k k)
+  begins : (s : CommandStart) (k : ℕ) (c : Client m) → c.work ≡ None → Kept s k c → Kept (starts_at m c) k c
+  begins s k c idle kept = record { next = omega arith; held = subst (WorkHeld m h.objects es rising (Got k) (Idle k) c.next c.next) (sym idle) tt }
 
-  state_on : (zs done : Moves m) → ms ≡ done ++ zs → State (after m h done) → State end
-  unfolding run
-  state_on [] done e st = subst (λ (xs : Moves m). State (after m h xs)) (sym (e ∙ nil_right done)) st
-  state_on (Next ∷ zs) done e st = state_on zs (done ++ Next ∷ []) (e ∙ sym (regroup done (Next ∷ []) zs))
-      (subst State (sym (run_both m done (Next ∷ []) (start m h))) (record { clients = st.clients; told = st.told }))
-  state_on (Takes x ∷ zs) done e st = state_on zs (done ++ Takes x ∷ []) (e ∙ sym (regroup done (Takes x ∷ []) zs))
-      (subst State (sym (run_both m done (Takes x ∷ []) (start m h))) (stepped done zs x e (happens m (after m h done) x) refl (speaks m (after m h done) x) st))
-
-  end_state : State end
-  unfolding run
-  end_state = state_on ms [] refl start_state
+  all_say : AllSay m Says end.told
+  all_say = (run_end m h ms Kept (AllSay m Says) (none_say m Says) (both_say m Says) new_kept begins (λ xs e ys split n s kept t i f told' now.
+      let idle = idle_by xs ys e split n s kept t i told' now in
+      (now_kept xs ys e split n s kept t i f idle, notes_say m Says (told_of m (after m h xs) n s) t.notes (turn_good xs ys e split n s kept t i f idle).1))).told
 
   -- What the replies say.
 
@@ -323,7 +271,7 @@ module _ (m : Meaning) (h : Header) (ms : Moves m) (r : Reaches m h ms (after m 
     k = t.mark.client
 
     says : (what : WhatOf m) → t.mark.what ≡ what → Say m h.objects es rising (Got k) (Idle k) t.noted.next t.mark.tx what
-    says what is = subst (λ (z : WhatOf m). Say m h.objects es rising (Got k) (Idle k) t.noted.next t.mark.tx z) is (end_state.told t (has_contained end.told t i))
+    says what is = subst (λ (z : WhatOf m). Say m h.objects es rising (Got k) (Idle k) t.noted.next t.mark.tx z) is (all_say t (has_contained end.told t i))
 
     got_to : (from : NodeId) (rid : ℕ) (x : Msg) → Got k from rid x → SentTo m end k rid x
     got_to from rid x g = record { packet = record { from = from; to = client_id k; rid = rid; msg = x }; sent = contained end.packets _ g; to = refl; number = refl; says = refl }

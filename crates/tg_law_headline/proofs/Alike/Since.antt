@@ -1,8 +1,7 @@
 -- Through each of a client's turns: what its work has been told since its command began, and so what its replies speak of.
-use Rattle.std.proofs.Common.{◌≡◌, ℕ, ◌+◌, ◌<◌, ◌≤◌, List, [], ◌∷◌, length, Bool, true, false, refl, sym, ap, ◌∙◌, subst, inl, inr, arith, Option, Some, None}
-use Rattle.std.specs.Prelude.{if◌then◌else◌, nat_lt, ◌==◌, ◌&&◌}
+use Rattle.std.proofs.Common.{◌≡◌, ℕ, ◌+◌, ◌<◌, ◌≤◌, List, [], ◌∷◌, Bool, true, refl, sym, ap, ◌∙◌, subst, inl, inr, arith, Option, Some, None}
+use Rattle.std.specs.Prelude.{nat_lt, ◌==◌, ◌&&◌}
 use Rattle.tg_base.specs.Orders.{node_eq}
-use Rattle.tg_base.specs.declared.cell.Cell.{Cell}
 use Rattle.tg_base.specs.declared.msg.Msg.{Msg}
 use Rattle.tg_base.specs.declared.msg.Msg.TheVariants as msg
 use Rattle.tg_base.specs.declared.packet.Out.{Out}
@@ -12,48 +11,37 @@ use Rattle.tg_base.specs.declared.ids.Oid.{Oid}
 use Rattle.tg_entry.specs.declared.entry.Entry.{Entry}
 use Rattle.tg_kind.specs.Meaning.{Meaning}
 use Rattle.tg_model.specs.declared.command.Command.TheVariants as cmd
-use Rattle.tg_model.specs.declared.play.PlayEnd.{PlayEnd}
-use Rattle.tg_model.specs.declared.play.PlayEnd.TheVariants.{Played, Blocked}
+use Rattle.tg_model.specs.declared.play.PlayEnd.TheVariants.{Played}
 use Rattle.tg_model.specs.declared.refusal.Refusal.{Refusal}
 use Rattle.tg_model.specs.declared.refusal.Refusal.TheVariants as cause
 use Rattle.tg_model.specs.declared.trace.What.TheVariants as told
 use Rattle.tg_model.specs.Kinds.{CommandOf, WhatOf, NoteOf}
 use Rattle.tg_protocol.specs.Words.{directory, unit_id, layout_id}
-use Rattle.tg_entry.specs.Needs.{reads_of}
-use Rattle.tg_protocol.specs.Versions.{Changed}
-use Rattle.tg_protocol.specs.Requests.{out, awaits, Next, Goes, Learns, Ends, Turn}
+use Rattle.tg_protocol.specs.Requests.{out, awaits, Turn}
 use Rattle.tg_protocol.specs.Replies.{Reply, reply, IsLatest, IsWhole}
-use Rattle.tg_protocol.specs.Appending.{Append, AppendEnd, At, Full, Forgotten, append_start, append_feed, append_again}
-use Rattle.tg_protocol.specs.Syncing.{Sync, Confirmed, sync_asks, sync_start, sync_feed, sync_again}
-use Rattle.tg_protocol.specs.Walking.{Walk, Members, walk_asks, walk_feed, walk_again}
-use Rattle.tg_protocol.specs.Trimming.{Trims, Trimmed, trim_start, trim_feed, has_stripe, CopyWork, Looking, Copying, CopyEnd, copy_work_asks, copy_asks, copy_start, copy_feed}
-use Rattle.tg_protocol.specs.Trimming as copying
-use Rattle.tg_protocol.specs.Reconfiguring.{Reconf, ReconfEnd, Installed, Overtaken, NotWhole, reconf_start, reconf_feed, reconf_latest}
-use Rattle.tg_protocol.specs.Transactions.{Tx, tx_read}
-use Rattle.tg_protocol.specs.Views.{Entries, View, Play, Verdict, Commits, Aborts, Unknown, state_of, view_version, changed_in, unknown_in, verdict, view_outcome, fate_of, play}
-use Rattle.tg_protocol.specs.Checkpoints.{ForgetFault, NoCheckpoint, OpenDecision, may_forget}
-use Rattle.tg_protocol.specs.Past.{commit_at, PastTurn, PastView, PastGone, RescueTurn, Wider, Wide, Absent, StuckAt}
-use Rattle.tg_protocol.specs.Past as past
-use Rattle.tg_protocol.specs.Clients.{Purpose, Writes, Judged, Decides, Rescues, Saves, Marks, Task, Syncing, Walking, Appending, Trimming, Copying', Reconfiguring, Hand, Doing, Learning, Work, Client, all_entries}
-use Rattle.tg_protocol.specs.Answers.{Moved, note, replies, refuses, took_over, answers, closed, appends, syncs, walked, walked_for, plays_own, own_view, play_target, answer_by, with_view, on_ask, ask_in, ask_answer, aborted, end_decided, end_aborted, end_no, end_by, end_record, on_end, lacks_decision, with_decision, forgotten_or, fate_verdict, fate_record, fate_known, fate_blocked, blocks, on_fate, trim_above, decides_if, decide_verdict, decide_record, decide_blocked, on_decide, save_if, on_checkpoint, mark_record, mark_notes, decision, forget_by, on_forget, floor_of, trim_begun, trims_if, on_trim, past_answer, past_played, past_turn, ahead_or, on_ask_at, rescue_decision, rescue_known, absent, rescue_by}
+use Rattle.tg_protocol.specs.Appending.{append_start}
+use Rattle.tg_protocol.specs.Syncing.{sync_start}
+use Rattle.tg_protocol.specs.Trimming.{trim_start, has_stripe, CopyWork, Looking, Copying, copy_work_asks, copy_asks, copy_start}
+use Rattle.tg_protocol.specs.Reconfiguring.{Reconf, ReconfEnd}
+use Rattle.tg_protocol.specs.Views.{Entries, View, Play, state_of, play}
+use Rattle.tg_protocol.specs.Clients.{Purpose, Decides, Rescues, Saves, Marks, Task, Syncing, Walking, Appending, Trimming, Copying', Reconfiguring, Hand, Doing, Learning, Work, Client, all_entries}
+use Rattle.tg_protocol.specs.Answers.{Moved, note, appends, syncs, own_view, play_target, mark_notes, floor_of}
 use Rattle.tg_protocol.specs.ClientSteps as step
-use Rattle.tg_protocol.specs.ClientSteps.{task_in, task_asks, task_awaited, after_turn, met, goes_on, lends, takes_back, found_by, start_walk, walks, sync_to, on_sync, starts_over, gives_up, given_up_if, at_trim, walk_ended_by, walk_to, on_walk, owns, knows_page, page_known, decided_for, append_ended, append_to, on_append, trim_to, on_trims, copy_to, on_copy, stands, reconf_to, on_reconf, task_feed, copies_again, task_again, hosts_more, accepts, refused_or, new_work, purpose_of}
+use Rattle.tg_protocol.specs.ClientSteps.{task_in, task_asks, task_awaited, stands, accepts, refused_or}
 use Rattle.tg_law_layouts.proofs.Moves.Members.{Has}
-use Rattle.tg_law_layouts.proofs.Moves.Draws.{NextDraws}
-use Rattle.tg_law_layouts.proofs.Moves.Machines.{sync_draws, sync_start_draws, walk_draws, walk_again_draws}
-use Rattle.tg_law_layouts.proofs.Moves.Turns.{Begins, begins_walk}
-use Rattle.tg_law_replies.specs.Replies.Steps.{EachWalk, EachSync, EachOver, EachTrim, EachEnd, EachWalked, EachFeed, EachNewer, EachAwaited, EachHand, EachLatest, EachReply, EachDelivery}
-use Rattle.tg_law_headline.proofs.Alike.Appends.{is_whole, Asked, asked, Issued, AppendOk, NextOk, TurnOk, append_on, EndOk, feed_ok, again_ok}
+use Rattle.tg_law_replies.specs.Replies.Steps.{EachDelivery}
+use Rattle.tg_law_headline.proofs.Alike.Appends.{is_whole, Asked, asked, Issued, AppendOk, NextOk, append_on, feed_ok, again_ok}
 use Rattle.tg_law_headline.proofs.Alike.Machines.{TailTold, SyncOk, SyncNext, sync_ok, sync_start_ok, CopyOk, CopyNext, copy_fed, copy_start_ok}
 use Rattle.tg_law_headline.proofs.Alike.Refusals.{NotOvertaken, Fine, fine_copy}
 use Rattle.tg_law_headline.proofs.Alike.Trims.{TrimsOk, AllTold, TrimNext, trim_start_ok, trim_fed}
 use Rattle.tg_law_headline.proofs.Alike.Reconfs.{InstallTold, OvertakeTold, News, StartOk, ReconfNext, ReconfFits, reconf_ok, latest_ok, reconf_start_ok}
-
--- a turn draws no number below its next
-up_of : {M E : Type 0} → (asks : M → List Out) (old : List Out) (next : ℕ) (bs : List Out) (end : ℕ) (to : Next M E) → NextDraws asks old next bs end to → next ≤ end
-up_of asks old next bs end (Goes x) d = d.up
-up_of asks old next bs end (Learns x) d = d.0
-up_of asks old next bs end (Ends e) d = d
+use Rattle.tg_law_layouts.proofs.Moves.Ways.{way_up}
+use Rattle.tg_law_replies.proofs.Replies.Ways.{EachAt, each_way, each_fed, each_newer}
+use Rattle.tg_law_steps.proofs.Places.{Place, Feeds, Newer, OnSync, OnWalk, OnAppend, OnTrims, OnCopy, OnReconf, Over, Walks, Plays, Looks as LooksAt, Rescues as Rescues'}
+use Rattle.tg_law_steps.proofs.Ways.{sync_fed, append_fed, trims_fed, copy_fed as copy_fed', reconf_fed, reconf_newer, Way, NewerSync, NewerWalk, NewerAppend, NewerTrims, NewerCopy, NewerReconf, AllWalked, HasPlayed, LooksBack, IsRescue}
+use Rattle.tg_law_steps.proofs.Ends.{Judges, Commit', Abort', End, GoesOn, LearnsNewer, Syncs, Appends, Refuses, Answers, Tells, IsGoing, TrimsGo, TrimsBegin, IsLearning, SyncLearns, AppendLearns, TrimsLearn, CopyLearns, IsSynced, JudgedAt, IsAppended, EndDecides, SaveBegins, MarkBegins, IsRefused, ReconfOvertaken, CopyFault, IsAnswered, DecidedAt, DecidedLost, JudgedSo, JudgedLost, IsSaved, AreTrimmed, EndJudged, TrimZero, IsTold, IsRescued, IsMarked, IsCopied, IsInstalled, PlaysOther}
+use Rattle.tg_law_steps.proofs.Takes.{IsFor, ForWrites, ForJudged, IsSaid, NoTxOpen, NoViewKept, NoStateKept, ReadsOnly, Taken, SaidAtOnce, SyncsFirst, AppendsRecord, ReconfBegins, CopyBegins, said_work, taken}
+use Rattle.tg_law_steps.proofs.Along.{NoLatest, delivered, over_walks}
 
 -- how a client plays its own view, once its streams are walked
 abbrev pub own_play : (m : Meaning) → Client m → Work m → Play m
@@ -209,347 +197,146 @@ module _ (m : Meaning) (Got AskSent : NodeId → ℕ → Msg → Type 0) (lo e0 
   one_says : (k : NoteOf m) → SayOk k.what → AllSay (k ∷ [])
   one_says k s = Each (each_one k s)
 
-  replied : (c : Client m) (ns : List (NoteOf m)) → AllSay ns → Good (replies m c ns)
-  replied c ns s = record { held = tt; says = s }
-
-  refused : (c : Client m) (n : ℕ) (why : Refusal) → SayOk (told.Refused why) → Good (refuses m c n why)
-  refused c n why k = replied c _ (one_says (note m n (told.Refused why)) k)
-
-  answered : (c : Client m) (n : ℕ) (what : WhatOf m) → SayOk what → Good (answers m c n what)
-  answered c n what s = replied (took_over m c c.view) _ (one_says (note m n what) s)
-
-  appended : (c : Client m) (w : Work m) (e : Entry) (y : Purpose m) (ns : List (NoteOf m)) → Le c → Fits y → AllSay ns → Good (appends m c w e y ns)
-  unfolding appends append_start
-  appended c w e y ns l k s = record { held = ((l, tt), k); says = s }
-
-  synced' : (c : Client m) (w : Work m) (os : List Oid) → Le c → Good (syncs m c w os)
-  unfolding syncs sync_start
-  synced' c w os l = record { held = l; says = none_says }
-
-  trims_begin : (c : Client m) (w : Work m) (below : ℕ) → Stands c → TrimHeld w.tail below → Good (trim_begun m c w below (trim_start c.stand below c.next))
-  unfolding trim_start
-  trims_begin c w below s k = record { held = (k, (trim_start_ok Got AskSent e0 Known c.stand below c.next s.0 s.1).1); says = none_says }
-
-  -- The answers of commands that have played.
-
-  ask_good : (c : Client m) (w : Work m) (o : Oid) (q : m.ask) (v : View m) (came : PlayEnd) → Good (on_ask m c w o q v came)
-  ask_good c w o q v (Blocked p x) = refused c _ _ tt
-  ask_good c w o q v (Played t) = by c.tx
-    where
-      answer : (t : Tx) (s : Option m.state) → Good (ask_answer m c w t o q v s)
-      answer t None = refused c _ _ tt
-      answer t (Some s) = answered (record c { tx = Some (tx_read t (record { oid = o; part = m.look q; version = view_version m v o (m.look q) }) w.tail) }) t.number (told.Asked o q w.tail (m.answers s q)) tt
-
-      by : (t : Option Tx) → Good (ask_in m c w o q v t)
-      by None = refused c _ _ tt
-      by (Some t) = answer t (state_of m v o)
-
-  end_decided_good : (b : Bool) (c : Client m) (w : Work m) (e : Entry) (p : ℕ) (so : Bool) (what : WhatOf m) → Le c → SayOk what → Good (end_decided m b c w e p so what)
-  end_decided_good true c w e p so what i s = appended (with_decision m c) w (decision m c e p so) (Decides what) [] i s none_says
-  end_decided_good false c w e p so what i s = answered (closed m c) _ _ s
-
-  end_aborted_good : (c : Client m) (w : Work m) (es : Entries) (e : Entry) (p : ℕ) (x : Option Changed) → Le c → Good (end_aborted m c w es e p x)
-  end_aborted_good c w es e p None i = answered (closed m c) _ _ tt
-  end_aborted_good c w es e p (Some x) i = end_decided_good (lacks_decision m es p e) c w e p false (aborted m p x) i tt
-
-  end_no_good : (c : Client m) (w : Work m) (es : Entries) (v : View m) (e : Entry) (p : ℕ) (o : Option Oid) → Le c → Good (end_no m c w es v e p o)
-  end_no_good c w es v e p None i = end_aborted_good c w es e p (changed_in m v (reads_of e) p) i
-  end_no_good c w es v e p (Some o) i = answered (closed m c) _ _ tt
-
-  end_by_good : (c : Client m) (w : Work m) (es : Entries) (v : View m) (e : Entry) (p : ℕ) (d : Verdict) → Le c → Good (end_by m c w es v e p d)
-  end_by_good c w es v e p Commits i = end_decided_good (lacks_decision m es p e) c w e p true _ i tt
-  end_by_good c w es v e p Aborts i = end_no_good c w es v e p (unknown_in m v (reads_of e) p) i
-  end_by_good c w es v e p (Unknown o) i = answered (closed m c) _ _ tt
-
-  end_record_good : (c : Client m) (w : Work m) (es : Entries) (v : View m) (p : ℕ) (e : Option Entry) → Le c → Good (end_record m c w es v p e)
-  end_record_good c w es v p None i = answered (closed m c) _ _ tt
-  end_record_good c w es v p (Some e) i = end_by_good c w es v e p (verdict m v es p e) i
-
-  end_good : (c : Client m) (w : Work m) (es : Entries) (v : View m) (came : PlayEnd) → Le c → Good (on_end m c w es v came)
-  end_good c w es v (Played t) i = end_record_good c w es v w.at (commit_at es w.at) i
-  end_good c w es v (Blocked q x) i = answered (closed m c) _ _ tt
-
-  forgotten_good : (c : Client m) (w : Work m) (p : ℕ) (what : WhatOf m) (b : Option ℕ) → SayOk what → Good (forgotten_or m c w p what b)
-  forgotten_good c w p what None o = answered c _ _ o
-  forgotten_good c w p what (Some b) o = refused c _ _ tt
-
-  fate_verdict_good : (c : Client m) (w : Work m) (p : ℕ) (d : Verdict) → Good (fate_verdict m c w p d)
-  fate_verdict_good c w p Commits = forgotten_good c w p _ (trim_above m w.trims p) tt
-  fate_verdict_good c w p Aborts = forgotten_good c w p _ (trim_above m w.trims p) tt
-  fate_verdict_good c w p (Unknown o) = refused c _ _ tt
-
-  fate_record_good : (c : Client m) (w : Work m) (es : Entries) (v : View m) (p : ℕ) (e : Option Entry) → Good (fate_record m c w es v p e)
-  fate_record_good c w es v p None = forgotten_good c w p _ (trim_above m w.trims p) tt
-  fate_record_good c w es v p (Some e) = fate_verdict_good c w p (verdict m v es p e)
-
-  fate_known_good : (c : Client m) (w : Work m) (es : Entries) (v : View m) (p : ℕ) (b : Option Bool) → Good (fate_known m c w es v p b)
-  fate_known_good c w es v p (Some b) = answered c _ _ tt
-  fate_known_good c w es v p None = fate_record_good c w es v p (commit_at es p)
-
-  fate_good : (c : Client m) (w : Work m) (es : Entries) (v : View m) (p : ℕ) (came : PlayEnd) → Good (on_fate m c w es v p came)
-  fate_good c w es v p (Played t) = fate_known_good c w es v p (fate_of m v p)
-  fate_good c w es v p (Blocked q x) = by (blocks m es p q)
-    where
-      by : (b : Bool) → Good (fate_blocked m c w es v p q x b)
-      by true = refused c _ _ tt
-      by false = fate_known_good c w es v p (fate_of m v p)
-
-  decides_good : (b : Bool) (c : Client m) (w : Work m) (e : Entry) (p : ℕ) (so : Bool) (n : ℕ) (what : WhatOf m) → Le c → SayOk what → Good (decides_if m b c w e p so n what)
-  decides_good true c w e p so n what l o = appended (with_decision m c) w (decision m c e p so) (Decides what) [] l o none_says
-  decides_good false c w e p so n what l o = answered c _ _ o
-
-  decide_verdict_good : (c : Client m) (w : Work m) (es : Entries) (p : ℕ) (e : Entry) (d : Verdict) → Le c → Good (decide_verdict m c w es p e d)
-  decide_verdict_good c w es p e (Unknown o) l = refused c _ _ tt
-  decide_verdict_good c w es p e Commits l = decides_good (lacks_decision m es p e) c w e p true 0 _ l tt
-  decide_verdict_good c w es p e Aborts l = decides_good (lacks_decision m es p e) c w e p false 0 _ l tt
-
-  decide_record_good : (c : Client m) (w : Work m) (es : Entries) (v : View m) (p : ℕ) (e : Option Entry) → Le c → Good (decide_record m c w es v p e)
-  decide_record_good c w es v p None l = answered c _ _ tt
-  decide_record_good c w es v p (Some e) l = decide_verdict_good c w es p e (view_outcome m v es p e) l
-
-  decide_good : (c : Client m) (w : Work m) (es : Entries) (v : View m) (p : ℕ) (came : PlayEnd) (b : Option ℕ) → Le c → Good (on_decide m c w es v p came b)
-  decide_good c w es v p came (Some b) l = refused c _ _ tt
-  decide_good c w es v p (Played t) None l = decide_record_good c w es v p (commit_at es p) l
-  decide_good c w es v p (Blocked q x) None l = by (blocks m es p q)
-    where
-      by : (b : Bool) → Good (decide_blocked m c w es v p q x b)
-      by true = refused c _ _ tt
-      by false = decide_record_good c w es v p (commit_at es p) l
-
-  save_good : (b : Bool) (c : Client m) (w : Work m) (o : Oid) (e : Entry) → Le c → TailTold Got lo w.tail → Good (save_if m b c w o e)
-  save_good true c w o e l k = refused c _ _ tt
-  save_good false c w o e l k = appended (record c { checkpoints = c.checkpoints + 1 }) w e (Saves o w.tail) [] l k none_says
-
-  checkpoint_good : (c : Client m) (w : Work m) (v : View m) (o : Oid) (came : PlayEnd) → Le c → TailTold Got lo w.tail → Good (on_checkpoint m c w v o came)
-  checkpoint_good c w v o (Blocked q x) l k = refused c _ _ tt
-  checkpoint_good c w v o (Played t) l k = save_good _ c w o _ l k
-
-  marks_say : (x : ℕ) (o : Oid) (n : ℕ) → AllSay (mark_notes m x o n)
-  marks_say x o n = Each (each_and (note m x told.Begin) (note m x (told.Put directory (m.mark_op o n)) ∷ note m x told.End ∷ []) tt
-      (each_and (note m x (told.Put directory (m.mark_op o n))) (note m x told.End ∷ []) tt (each_one (note m x told.End) tt)))
-
-  forget_by_good : (c : Client m) (w : Work m) (o : Oid) (n : ℕ) (f : Option (ForgetFault m)) → Le c → Good (forget_by m c w o n f)
-  forget_by_good c w o n (Some NoCheckpoint) l = refused c _ _ tt
-  forget_by_good c w o n (Some (OpenDecision p)) l = refused c _ _ tt
-  forget_by_good c w o n None l = appended (record c { begun = c.begun + 1 }) w (mark_record m c o n) (Marks (c.begun + 1) o n) (mark_notes m (c.begun + 1) o n) l (omega arith) (marks_say (c.begun + 1) o n)
-
-  forget_good : (c : Client m) (w : Work m) (es : Entries) (o : Oid) (n : ℕ) (came : PlayEnd) → Le c → Good (on_forget m c w es o n came)
-  forget_good c w es o n (Played t) l = forget_by_good c w o n (may_forget m es o n) l
-  forget_good c w es o n (Blocked q x) l = refused c _ _ tt
-
-  trims_good : (c : Client m) (w : Work m) (b : ℕ) (zero : Bool) → (zero ≡ true → b ≡ 0) → Stands c → TrimHeld w.tail b → Good (trims_if m c w b zero)
-  trims_good c w b true none s k = answered c 0 (told.Trimmed b) (record { tail = w.tail; held = k; all = record { layout = c.stand; known = s.0; later = s.1; units = λ u h. inl (none refl) } })
-  trims_good c w b false none s k = trims_begin c w b s k
-
-  is_zero : (n : ℕ) → (n == 0) ≡ true → n ≡ 0
-  is_zero n e = grind arith
-
-  trim_good : (c : Client m) (w : Work m) (v : View m) (came : PlayEnd) → Stands c → TailTold Got lo w.tail → ((t : ℕ) → came ≡ Played t → Floor w.tail (floor_of m (state_of m v directory))) → Good (on_trim m c w v came)
-  trim_good c w v (Played t) s k sees = trims_good c w (floor_of m (state_of m v directory)) (floor_of m (state_of m v directory) == 0) (is_zero (floor_of m (state_of m v directory))) s (record { told = k; floor = sees t refl })
-  trim_good c w v (Blocked q x) s k sees = refused c _ _ tt
-
-  past_good : (c : Client m) (w : Work m) (p : ℕ) (o : Oid) (q : m.ask) (x : PastTurn m) → Good (past_turn m c p o q x)
-  past_good c w p o q (PastGone b) = refused c _ _ tt
-  past_good c w p o q (PastView v) = by v.came
-    where
-      answer : (s : Option m.state) → Good (past_answer m c p o q s)
-      answer None = refused c _ _ tt
-      answer (Some s) = replied c _ (one_says _ tt)
-
-      by : (came : PlayEnd) → Good (past_played m c p o q v came)
-      by (Played t) = answer (state_of m v.view o)
-      by (Blocked r x) = refused c _ _ tt
-
-  ask_at_good : (c : Client m) (w : Work m) (p : ℕ) (o : Oid) (q : m.ask) → Good (on_ask_at m c w p o q)
-  ask_at_good c w p o q = by (nat_lt w.tail p)
-    where
-      by : (b : Bool) → Good (ahead_or m c w p o q b)
-      by true = refused c _ _ tt
-      by false = past_good c w p o q _
-
-  rescue_known_good : (c : Client m) (w : Work m) (es : Entries) (p : ℕ) (so needs : Bool) → Le c → Good (rescue_known m c w es p so needs)
-  rescue_known_good c w es p so false l = replied c _ (one_says _ tt)
-  rescue_known_good c w es p so true l = by (commit_at es p)
-    where
-      by : (e : Option Entry) → Good (rescue_decision m c w es p so e)
-      by None = replied c _ (one_says _ tt)
-      by (Some e) = appended (with_decision m c) w (decision m c e p so) (Rescues (told.Rescued p (Some so))) [] l tt none_says
-
-  rescue_good : (c : Client m) (w : Work m) (es : Entries) (p : ℕ) (t : RescueTurn m) → Le c → Good (rescue_by m c w es p t)
-  rescue_good c w es p (Wider o) l = synced' c w _ l
-  rescue_good c w es p Wide l = refused c _ _ tt
-  rescue_good c w es p Absent l = by (trim_above m w.trims p)
-    where
-      by : (b : Option ℕ) → Good (absent m c p b)
-      by None = replied c _ (one_says _ tt)
-      by (Some b) = refused c _ _ tt
-  rescue_good c w es p (StuckAt q x) l = refused c _ _ tt
-  rescue_good c w es p (past.Known so needs) l = rescue_known_good c w es p so needs l
-
-  answer_good : (c : Client m) (w : Work m) (es : Entries) (p : Play m) (x : CommandOf m) → Le c → Stands c → TailTold Got lo w.tail
-      → ((t : ℕ) → x ≡ cmd.Trim → p.came ≡ Played t → Floor w.tail (floor_of m (state_of m p.view directory))) → Good (answer_by m c w es p x)
-  answer_good c w es p (cmd.Ask o q) l s k sees = ask_good c w o q p.view p.came
-  answer_good c w es p cmd.End l s k sees = end_good c w es p.view p.came l
-  answer_good c w es p (cmd.Fate at) l s k sees = fate_good c w es p.view at p.came
-  answer_good c w es p (cmd.Decide at) l s k sees = decide_good c w es p.view at p.came _ l
-  answer_good c w es p (cmd.Checkpoint o) l s k sees = checkpoint_good c w p.view o p.came l k
-  answer_good c w es p (cmd.Forget o j) l s k sees = forget_good c w es o j p.came l
-  answer_good c w es p cmd.Trim l s k sees = trim_good c w p.view p.came s k (λ t came. sees t refl came)
-  answer_good c w es p x l s k sees = replied c _ none_says
-
-  -- Where all streams are walked.
-
-  abbrev own_entries : Client m → Work m → Entries
-  own_entries c w = all_entries m c w c.hosted
-
-  walked_good : (c : Client m) (w : Work m) → Le c → Stands c → TailTold Got lo w.tail → Sees c w → Good (walked m c w)
-  unfolding walked
-  walked_good c w l s k sees = by w.command
-    where
-      plays : Good (plays_own m c w (own_entries c w))
-      plays = answer_good (with_view m c (own_play m c w).view) w (own_entries c w) (own_play m c w) w.command l s k sees
-
-      by : (x : CommandOf m) → Good (walked_for m c w x)
-      by (cmd.AskAt p o q) = ask_at_good c w p o q
-      by (cmd.Rescue p) = rescue_good c w _ p _ l
-      by x = plays
-
-  abbrev Walks : List Oid → Client m → Work m → Type 0
-  Walks os c w = EachWalk m objects es Sees os c w
-
-  walks_at : (c : Client m) (w : Work m) (o : Oid) (os : List Oid) (to : Next Walk Members) → (start_walk m c w o).to ≡ to → Begins to → TailTold Got lo w.tail
-      → ((x : Members) → (start_walk m c w o).to ≡ Ends x → Good (walks m os (takes_back m c x) (found_by m w o x)))
-      → Good (elim to as (λ _. Moved m) [
-        | Goes x ↦ goes_on m (lends m (after_turn m c (start_walk m c w o))) w (Walking x os) []
-        | Learns x ↦ record { now = c; besides = []; notes = [] }
-        | Ends x ↦ walks m os (takes_back m c x) (found_by m w o x)
-      ])
-  walks_at c w o os (Goes x) e b k rest = record { held = k; says = none_says }
-  walks_at c w o os (Learns x) e b k rest = absurd b
-  walks_at c w o os (Ends x) e b k rest = rest x e
-
-  walks_good : (os : List Oid) (c : Client m) (w : Work m) → Le c → Stands c → TailTold Got lo w.tail → Walks os c w → Good (walks m os c w)
-  unfolding walks
-  walks_good [] c w l s k each = walked_good c w l s k each
-  walks_good (o ∷ os) c w l s k each = walks_at c w o os (start_walk m c w o).to refl (begins_walk c.stand o _ w.lo c.cells c.next) k (λ x e. walks_good os (takes_back m c x) (found_by m w o x) l s k (each x e))
-
-  knows_le : (c : Client m) (s : Option (ℕ × Cell)) → Le c → Le (step.knows m c s)
-  knows_le c None l = l
-  knows_le c (Some s) l = l
-
-  knows_stands : (c : Client m) (s : Option (ℕ × Cell)) → Stands c → Stands (step.knows m c s)
-  knows_stands c None l = l
-  knows_stands c (Some s) l = l
-
-  sync_good : (c : Client m) (w : Work m) (t : Turn Sync Confirmed) → lo ≤ t.next → Stands c → SyncNext Got lo t.to → EachSync m objects es Sees (after_turn m c t) (met m w t) t.to → Good (on_sync m c w t)
-  sync_good c w t l s k each = by t.to k each
-    where
-      by : (to : Next Sync Confirmed) → SyncNext Got lo to → EachSync m objects es Sees (after_turn m c t) (met m w t) to → Good (sync_to m (after_turn m c t) (met m w t) t.besides to)
-      by (Goes s) k each = record { held = k; says = none_says }
-      by (Learns s) k each = record { held = tt; says = none_says }
-      by (Ends x) k each =
-          walks_good w.oids (step.knows m (after_turn m c t) x.settled) (record (met m w t) { tail = x.tail; lasts = x.lasts; lo = step.lo_for m (after_turn m c t) w.command })
-          (knows_le (after_turn m c t) x.settled l) (knows_stands (after_turn m c t) x.settled s) k each
-
-  given_up_le : (b : Bool) (c : Client m) → Le c → Le (given_up_if m b c)
-  given_up_le true c l = l
-  given_up_le false c l = l
-
-  given_up_stands : (b : Bool) (c : Client m) → Stands c → Stands (given_up_if m b c)
-  given_up_stands true c l = l
-  given_up_stands false c l = l
-
-  over_good : (c : Client m) (w : Work m) (os : List Oid) (over : Bool) → Le c → Stands c → TailTold Got lo w.tail → EachOver m objects es Sees c w os over → Good (starts_over m c w os over)
-  over_good c w os true l s k each = walks_good w.oids c _ l s k each
-  over_good c w os false l s k each = walks_good os c w l s k each
-
-  trim_met : (c : Client m) (w : Work m) (os : List Oid) (old over : Bool) → Le c → Stands c → TailTold Got lo w.tail → EachTrim m objects es Sees c w os old over → Good (at_trim m c w os old over)
-  trim_met c w os true over l s k each = synced' c w w.oids l
-  trim_met c w os false over l s k each = over_good c w os over l s k each
-
-  walk_good : (c : Client m) (w : Work m) (o : Oid) (os : List Oid) (t : Turn Walk Members) → lo ≤ t.next → Stands c → TailTold Got lo w.tail → EachWalked m objects es Sees (after_turn m c t) (met m w t) o os t.to → Good (on_walk m c w o os t)
-  walk_good c w o os t l s k each = by t.to each
-    where
-      ended : (d : Client m) (v : Work m) (x : Members) (g : Option ℕ) → Le d → Stands d → TailTold Got lo v.tail → EachEnd m objects es Sees d v o os x g → Good (walk_ended_by m d v o os x g)
-      ended d v x None i a j each = walks_good os d v i a j each
-      ended d v x (Some b) i a j each = trim_met (given_up_if m (gives_up m d v b) d) v os _ _ (given_up_le (gives_up m d v b) d i) (given_up_stands (gives_up m d v b) d a) j each
-
-      by : (to : Next Walk Members) → EachWalked m objects es Sees (after_turn m c t) (met m w t) o os to → Good (walk_to m (after_turn m c t) (met m w t) o os to)
-      by (Goes x) each = record { held = k; says = none_says }
-      by (Learns x) each = record { held = k; says = none_says }
-      by (Ends x) each = ended (takes_back m (after_turn m c t) x) (found_by m (met m w t) o x) x x.gone l s k each
-
-  -- Appends.
-
-  decided_good : (c : Client m) (x : CommandOf m) (what : WhatOf m) → SayOk what → Good (decided_for m c x what)
-  decided_good c cmd.End what k = answered (closed m c) _ what k
-  decided_good c x what k = answered c 0 what k
-
-  ended_good : (c : Client m) (w : Work m) (y : Purpose m) (e : AppendEnd) (end : ℕ) → Le c → Fits y → EndOk Got lo end e → Good (append_ended m c w y e)
-  ended_good c w Writes (At p d) end l k x = replied (closed m (owns m c p d)) _ (one_says _ tt)
-  ended_good c w Writes (Full i) end l k x = refused c _ _ tt
-  ended_good c w Writes (Forgotten p b) end l k x = refused (closed m c) _ _ tt
-  ended_good c w Judged (At p d) end l k x = synced' (owns m c p d) (record w { at = p }) c.hosted l
-  ended_good c w Judged (Full i) end l k x = refused c _ _ tt
-  ended_good c w Judged (Forgotten p b) end l k x = refused (closed m c) _ _ tt
-  ended_good c w (Decides z) (At p d) end l k x = decided_good (knows_page m c p d) w.command z k
-  ended_good c w (Decides z) (Full i) end l k x = decided_good c w.command z k
-  ended_good c w (Decides z) (Forgotten p b) end l k x = decided_good c w.command z k
-  ended_good c w (Rescues z) (At p d) end l k x = replied (knows_page m c p d) _ (one_says (note m 0 z) k)
-  ended_good c w (Rescues z) (Full i) end l k x = refused c _ _ tt
-  ended_good c w (Rescues z) (Forgotten p b) end l k x = refused c _ _ tt
-  ended_good c w (Saves o u) (At p d) end l k x = answered (knows_page m c p d) 0 (told.Saved o p u) (record { end = end; issued = x; tail = k })
-  ended_good c w (Saves o u) (Full i) end l k x = refused c _ _ tt
-  ended_good c w (Saves o u) (Forgotten p b) end l k x = refused c _ _ tt
-  ended_good c w (Marks n o j) (At p d) end l k x = replied (took_over m (owns m c p d) c.view) _ (Marking n o j p k)
-  ended_good c w (Marks n o j) (Full i) end l k x = refused c _ _ tt
-  ended_good c w (Marks n o j) (Forgotten p b) end l k x = refused c _ _ tt
-
-  append_good : (c : Client m) (w : Work m) (y : Purpose m) (t : Turn Append AppendEnd) → Le c → TurnOk Got lo c.next t → Fits y → Good (on_append m c w y t)
-  append_good c w y t l k f = by t.to k.1
-    where
-      le : lo ≤ t.next
-      le = let u = k.0 in omega (arith, l, u)
-
-      by : (to : Next Append AppendEnd) → NextOk Got lo t.next to → Good (append_to m (after_turn m c t) (met m w t) y t.besides to)
-      by (Goes b) k = record { held = (k, f); says = none_says }
-      by (Learns b) k = record { held = (append_on Got lo t.next (t.next + c.layouts) b (omega arith) k, f); says = none_says }
-      by (Ends e) k = ended_good (after_turn m c t) (met m w t) y e t.next le f k
-
-  trims_turn : (c : Client m) (w : Work m) (b : ℕ) (t : Turn Trims Trimmed) → TrimHeld w.tail b → TrimNext Got AskSent e0 Known b t.to → Good (on_trims m c w b t)
-  trims_turn c w b t k h = by t.to h
-    where
-      by : (to : Next Trims Trimmed) → TrimNext Got AskSent e0 Known b to → Good (trim_to m (after_turn m c t) (met m w t) b to)
-      by (Goes a) h = record { held = (subst (TrimHeld w.tail) (sym h.0) k, subst (λ (n : ℕ). TrimsOk Got AskSent e0 Known n a.waits) (sym h.0) h.1); says = none_says }
-      by (Learns a) h = record { held = subst (TrimHeld w.tail) (sym h) k; says = none_says }
-      by (Ends e) h = answered (after_turn m c t) 0 (told.Trimmed b) (record { tail = w.tail; held = k; all = h })
-
-  copy_good : (c : Client m) (w : Work m) (x : Copying) (t : Turn Copying CopyEnd) → CopyNext lo (CopyTold x.unit x.range x.stripe) t.to → Good (on_copy m c w x t)
-  copy_good c w x t k = by t.to k
-    where
-      by : (to : Next Copying CopyEnd) → CopyNext lo (CopyTold x.unit x.range x.stripe) to → Good (copy_to m (after_turn m c t) (met m w t) x to)
-      by (Goes a) k = record { held = k; says = none_says }
-      by (Learns a) k = record { held = tt; says = none_says }
-      by (Ends e) k = replied (after_turn m c t) _ (one_says (note m 0 (told.Copied x.unit x.range x.stripe)) k)
-
   -- a refusal other than that
   say_refused : (why : Refusal) → NotOvertaken why → SayOk (told.Refused why)
   say_refused (cause.Overtaken e) n = absurd n
   say_refused why n = tt
 
-  copies_good : (c : Client m) (w : Work m) (x : Copying) (o : Option Refusal) → Fine o → Good (copies_again m c w x o)
-  copies_good c w x None f = copy_good c w x (copy_start x.unit x.range x.stripe c.next) (copy_start_ok lo (CopyTold x.unit x.range x.stripe) x.unit x.range x.stripe c.next)
-  copies_good c w x (Some why) f = refused c 0 why (say_refused why f)
+  -- Along a turn.
 
-  reconf_good : (c : Client m) (w : Work m) (t : Turn Reconf ReconfEnd) → ReconfNext Got lo e0 me Known t.to → Good (on_reconf m c w t)
-  reconf_good c w t k = by t.to k
-    where
-      by : (to : Next Reconf ReconfEnd) → ReconfNext Got lo e0 me Known to → Good (reconf_to m (after_turn m c t) w to)
-      by (Goes r) k = record { held = k; says = none_says }
-      by (Learns r) k = record { held = k; says = none_says }
-      by (Ends (Installed e p)) k = replied (stands m (after_turn m c t) p) _ (one_says (note m 0 (told.Installed e)) k)
-      by (Ends (Overtaken e p)) k = refused (stands m (after_turn m c t) p) 0 (cause.Overtaken e) k
-      by (Ends (NotWhole u q p)) k = refused (stands m (after_turn m c t) p) 0 (cause.NotWhole u q) tt
+  abbrev HereFed : Client m → Work m → ℕ → ℕ → Reply → Task m → Type 0
+  HereFed c w n rid x (Syncing s) = SyncNext Got lo (sync_fed m c s n x).to
+  HereFed c w n rid x (Walking v os) = TailTold Got lo w.tail
+  HereFed c w n rid x (Appending a y) = NextOk Got lo (append_fed m c a n x).next (append_fed m c a n x).to × Fits y
+  HereFed c w n rid x (Trimming t) = TrimHeld w.tail t.below × TrimNext Got AskSent e0 Known t.below (trims_fed m c t n x).to
+  HereFed c w n rid x (Copying' y) = CopyNext lo (CopyTold y.unit y.range y.stripe) (copy_fed' m c y n x).to
+  HereFed c w n rid x (Reconfiguring r) = ReconfNext Got lo e0 me Known (reconf_fed m c r n rid x).to
+
+  abbrev HereNewer : Client m → Work m → ℕ → ℕ → Layout → Task m → Type 0
+  HereNewer c w n rid q (Syncing s) = Unit {0}
+  HereNewer c w n rid q (Walking v os) = TailTold Got lo w.tail
+  HereNewer c w n rid q (Appending a y) = AppendOk Got lo c.next a × Fits y
+  HereNewer c w n rid q (Trimming t) = TrimHeld w.tail t.below
+  HereNewer c w n rid q (Copying' y) = Unit {0}
+  HereNewer c w n rid q (Reconfiguring r) = ReconfNext Got lo e0 me Known (reconf_newer m c r n rid q).to
+
+  abbrev Here : Client m → Work m → Place m → Type 0
+  Here c w (Feeds t n rid x) = HereFed c w n rid x t
+  Here c w (Newer t n rid q) = (Known q × (e0 ≤ q.epoch)) × HereNewer c w n rid q t
+  Here c w (OnSync bs to) = SyncNext Got lo to
+  Here c w (OnWalk o os to) = TailTold Got lo w.tail
+  Here c w (OnAppend y bs to) = NextOk Got lo c.next to × Fits y
+  Here c w (OnTrims b to) = TrimHeld w.tail b × TrimNext Got AskSent e0 Known b to
+  Here c w (OnCopy y to) = CopyNext lo (CopyTold y.unit y.range y.stripe) to
+  Here c w (OnReconf to) = ReconfNext Got lo e0 me Known to
+  Here c w (Over o os x g) = TailTold Got lo w.tail
+  Here c w (Walks os) = TailTold Got lo w.tail
+  Here c w (Plays own p) = TailTold Got lo w.tail × ((t : ℕ) → w.command ≡ cmd.Trim → p.came ≡ Played t → Floor w.tail (floor_of m (state_of m p.view directory)))
+  Here c w (LooksAt at o q) = Unit {0}
+  Here c w (Rescues' at) = Unit {0}
+
+  abbrev At' : Client m → Work m → Place m → Type 0
+  At' c w p = Le c × Stands c × Here c w p × EachAt m objects es Sees c w p
+
+  stands_way : (c : Client m) (w : Work m) (p : Place m) (d : Client m) (v : Work m) (q : Place m) → Way m c w p d v q → Stands c → Here c w p → Stands d
+  stands_way c w _ _ _ _ (NewerSync s n rid q) s' h = h.0
+  stands_way c w _ _ _ _ (NewerWalk v os n rid q) s' h = h.0
+  stands_way c w _ _ _ _ (NewerAppend a y n rid q) s' h = h.0
+  stands_way c w _ _ _ _ (NewerTrims t n rid q) s' h = h.0
+  stands_way c w _ _ _ _ (NewerCopy y n rid q e) s' h = h.0
+  stands_way c w _ _ _ _ x s' h = s'
+
+  here_way : (c : Client m) (w : Work m) (p : Place m) (d : Client m) (v : Work m) (q : Place m) → Way m c w p d v q → Le c → Here c w p → Here d v q
+  here_way c w _ _ _ _ (NewerSync s n rid q) l h = sync_start_ok Got lo s.oids c.next l
+  here_way c w _ _ _ _ (NewerWalk v os n rid q) l h = h.1
+  here_way c w _ _ _ _ (NewerAppend a y n rid q) l h = ((again_ok Got q lo a c.next l h.1.0).1, h.1.1)
+  here_way c w _ _ _ _ (NewerTrims t n rid q) l h = (h.1, trim_start_ok Got AskSent e0 Known q t.below c.next h.0.0 h.0.1)
+  here_way c w _ _ _ _ (NewerCopy y n rid q e) l h = copy_start_ok lo (CopyTold y.unit y.range y.stripe) y.unit y.range y.stripe c.next
+  here_way c w _ _ _ _ (NewerReconf r n rid q) l h = h.1
+  here_way c w _ _ _ _ x l h = h
+
+  way : (c : Client m) (w : Work m) (p : Place m) (d : Client m) (v : Work m) (q : Place m) → Way m c w p d v q → At' c w p → At' d v q
+  way c w p d v q x h = (let l = h.0 in let u = way_up m c w p d v q x in omega (arith, l, u), stands_way c w p d v q x h.1 h.2, here_way c w p d v q x h.0 h.2, each_way m objects es Sees c w p d v q x h.3)
+
+  walked_way : (c : Client m) (w : Work m) (d : Client m) (q : Place m) → AllWalked m c w d q → At' c w (Walks []) → At' d w q
+  walked_way c w _ _ (HasPlayed k) h = (h.0, h.1, (h.2, h.3), tt)
+  walked_way c w _ _ (LooksBack at o q of) h = (h.0, h.1, tt, tt)
+  walked_way c w _ _ (IsRescue at of) h = (h.0, h.1, tt, tt)
+
+  judges_say : (own : Entries) (v : View m) (p : ℕ) (e : Entry) (so : Bool) (what : WhatOf m) → Judges m own v p e so what → SayOk what
+  judges_say own v p e _ _ (Commit' k) = tt
+  judges_say own v p e _ _ (Abort' x k u i) = tt
+
+  marks_say : (x : ℕ) (o : Oid) (n : ℕ) → AllSay (mark_notes m x o n)
+  marks_say x o n = Each (each_and (note m x told.Begin) (note m x (told.Put directory (m.mark_op o n)) ∷ note m x told.End ∷ []) tt
+      (each_and (note m x (told.Put directory (m.mark_op o n))) (note m x told.End ∷ []) tt (each_one (note m x told.End) tt)))
+
+  goes_held : (c : Client m) (w : Work m) (p : Place m) (d : Client m) (t : Task m) (bs : List Out) → IsGoing m c w p d t bs → Stands c → Here c w p → TaskHeld d.next w.tail t
+  unfolding trim_start
+  goes_held c w _ _ _ _ (TrimsGo b t) s h = (subst (TrimHeld w.tail) (sym h.1.0) h.0, subst (λ (n : ℕ). TrimsOk Got AskSent e0 Known n t.waits) (sym h.1.0) h.1.1)
+  goes_held c w _ _ _ _ (TrimsBegin own p t of came z) s h =
+      let floor = floor_of m (state_of m p.view directory) in
+      (record { told = h.0; floor = h.1 t of came }, (trim_start_ok Got AskSent e0 Known c.stand floor c.next s.0 s.1).1)
+  goes_held c w _ _ _ _ x s h = h
+
+  learns_held : (c : Client m) (w : Work m) (p : Place m) (t : Task m) → IsLearning m c w p t → Here c w p → LearnHeld (c.next + c.layouts) w.tail t
+  learns_held c w _ _ (SyncLearns bs s) h = tt
+  learns_held c w _ _ (AppendLearns y bs a) h = (append_on Got lo c.next (c.next + c.layouts) a (omega arith) h.0, h.1)
+  learns_held c w _ _ (TrimsLearn b t) h = subst (TrimHeld w.tail) (sym h.1) h.0
+  learns_held c w _ _ (CopyLearns x y) h = tt
+  learns_held c w _ _ x h = h
+
+  synced' : (c : Client m) (w : Work m) (p : Place m) (d : Client m) (v : Work m) (os : List Oid) → IsSynced m c w p d v os → Le c → Good (syncs m d v os)
+  unfolding syncs sync_start
+  synced' c w _ _ _ _ (JudgedAt bs p d) l = record { held = l; says = none_says }
+  synced' c w _ _ _ _ x l = record { held = l; says = none_says }
+
+  appended : (c : Client m) (w : Work m) (p : Place m) (d : Client m) (e : Entry) (y : Purpose m) (ns : List (NoteOf m)) → IsAppended m c w p d e y ns → Le c → Here c w p → Good (appends m d w e y ns)
+  unfolding appends append_start
+  appended c w _ _ _ _ _ (EndDecides own p t e so what of came is k x) l h = record { held = ((l, tt), judges_say own p.view w.at e so what k); says = none_says }
+  appended c w _ _ _ _ _ (SaveBegins own p t o of came small) l h = record { held = ((l, tt), h.0); says = none_says }
+  appended c w _ _ _ _ _ (MarkBegins own p t o n of came may) l h = record { held = ((l, tt), omega arith); says = marks_say (c.begun + 1) o n }
+  appended c w _ _ _ _ _ x l h = record { held = ((l, tt), tt); says = none_says }
+
+  refused : (c : Client m) (w : Work m) (p : Place m) (d : Client m) (n : ℕ) (why : Refusal) → IsRefused m c w p d n why → Here c w p → SayOk (told.Refused why)
+  refused c w _ _ _ _ (ReconfOvertaken e p) h = h
+  refused c w _ _ _ _ (CopyFault x n rid q why e) h = say_refused why (subst Fine e (fine_copy m q x.unit x.range x.stripe))
+  refused c w _ _ _ _ x h = tt
+
+  is_zero : (n : ℕ) → (n == 0) ≡ true → n ≡ 0
+  is_zero n e = grind arith
+
+  answered : (c : Client m) (w : Work m) (p : Place m) (d : Client m) (n : ℕ) (what : WhatOf m) → IsAnswered m c w p d n what → Stands c → Here c w p → SayOk what
+  answered c w _ _ _ _ (DecidedAt x bs p d other) s h = h.1
+  answered c w _ _ _ _ (DecidedLost x bs e lost other) s h = h.1
+  answered c w _ _ _ _ (JudgedSo x bs p d of) s h = h.1
+  answered c w _ _ _ _ (JudgedLost x bs e lost of) s h = h.1
+  answered c w _ _ _ _ (IsSaved o upto bs p d) s h = record { end = c.next; issued = h.0; tail = h.1 }
+  answered c w _ _ _ _ (AreTrimmed b e) s h = record { tail = w.tail; held = h.0; all = h.1 }
+  answered c w _ _ _ _ (EndJudged own p t e so what of came is k x) s h = judges_say own p.view w.at e so what k
+  answered c w _ _ _ _ (TrimZero own p t of came z) s h = record {
+    tail = w.tail;
+    held = record { told = h.0; floor = h.1 t of came };
+    all = record { layout = c.stand; known = s.0; later = s.1; units = λ u i. inl (is_zero (floor_of m (state_of m p.view directory)) z) };
+  }
+  answered c w _ _ _ _ x s h = tt
+
+  tells : (c : Client m) (w : Work m) (p : Place m) (d : Client m) (ns : List (NoteOf m)) → IsTold m c w p d ns → Here c w p → AllSay ns
+  tells c w _ _ _ (IsRescued x bs p d) h = one_says (note m 0 x) h.1
+  tells c w _ _ _ (IsMarked n o mark bs p d) h = Marking n o mark p h.1
+  tells c w _ _ _ (IsCopied x e) h = one_says _ h
+  tells c w _ _ _ (IsInstalled e p) h = one_says _ h
+  tells c w _ _ _ (PlaysOther own p k) h = none_says
+  tells c w _ _ _ x h = one_says _ tt
+
+  ends_good : (c : Client m) (w : Work m) (p : Place m) (x : Moved m) → End m c w p x → At' c w p → Good x
+  ends_good c w p _ (GoesOn d t bs x) h = record { held = goes_held c w p d t bs x h.1 h.2; says = none_says }
+  ends_good c w p _ (LearnsNewer t x) h = record { held = learns_held c w p t x h.2; says = none_says }
+  ends_good c w p _ (Syncs d v os x) h = synced' c w p d v os x h.0
+  ends_good c w p _ (Appends d e y ns x) h = appended c w p d e y ns x h.0 h.2
+  ends_good c w p _ (Refuses d n why x) h = record { held = tt; says = one_says (note m n (told.Refused why)) (refused c w p d n why x h.2) }
+  ends_good c w p _ (Answers d n what x) h = record { held = tt; says = one_says (note m n what) (answered c w p d n what x h.1 h.2) }
+  ends_good c w p _ (Tells d ns x) h = record { held = tt; says = tells c w p d ns x h.2 }
 
   -- Deliveries.
 
@@ -595,122 +382,81 @@ module _ (m : Meaning) (Got AskSent : NodeId → ℕ → Msg → Type 0) (lo e0 
             whole = subst (λ (n : ℕ). Got (unit_id x.unit) n msg.Whole) (sym at.1) (subst (λ (z : NodeId). Got z rid msg.Whole) (sym at.0) (subst (Got from rid) (is_whole y whole) got));
           }
 
-      task_good : (t : Task m) → TaskHeld c.next w.tail t → Asked (task_awaited m c.stand t) from rid → TaskFits c.stand t → Looks c t → EachFeed m objects es Sees c w t from.num rid (reply y) → Good (task_feed m c w t from.num rid (reply y))
-      unfolding task_feed task_asks
-      task_good (Syncing s) k a f looks each = sync_good c w (sync_feed c.stand s s.work from.num (reply y) c.next)
-          (let u = up_of (sync_asks c.stand) (sync_asks c.stand s) c.next (sync_feed c.stand s s.work from.num (reply y) c.next).besides (sync_feed c.stand s s.work from.num (reply y) c.next).next (sync_feed c.stand s s.work from.num (reply y) c.next).to (sync_draws c.stand s from.num (reply y) c.next) in omega (arith, l, u))
-          (stand, up) (sync_ok Got lo c.stand s k from rid y got from.num c.next a) each
-      task_good (Walking v os) k a f looks each = walk_good c w v.oid os (walk_feed c.stand v v.job from.num (reply y) c.next)
-          (let u = up_of walk_asks (walk_asks v) c.next (walk_feed c.stand v v.job from.num (reply y) c.next).besides (walk_feed c.stand v v.job from.num (reply y) c.next).next (walk_feed c.stand v v.job from.num (reply y) c.next).to (walk_draws c.stand v from.num (reply y) c.next) in omega (arith, l, u)) (stand, up) k each
-      task_good (Appending a' z) k a f looks each = append_good c w z (append_feed c.stand a' a'.work from.num (reply y) c.next) l (feed_ok Got c.stand lo a' from.num c.next from rid y k.0 got (let b = looks.below a.of a.has in let e = a.number in omega (arith, b, e)) a) k.1
-      task_good (Trimming t) k a f looks each = trims_turn c w t.below (trim_feed c.stand t from.num (reply y) c.next) k.0 (trim_fed Got AskSent e0 Known c.stand t k.1 from rid y got c.next a looks.looks)
-      task_good (Copying' x) k a f looks each = copy_good c w x (copy_feed c.stand x x.work from.num (reply y) c.next) (copy_fed lo (CopyTold x.unit x.range x.stripe) c.stand x k from.num c.next (reply y) (copied x k a looks.looks) l)
-      task_good (Reconfiguring r) k a f looks each = reconf_good c w (reconf_feed r r.work from.num rid (reply y) c.next) (reconf_ok Got lo e0 me Known r k f.0 from.num from rid y c.next got a)
+      fed_here : (t : Task m) → TaskHeld c.next w.tail t → Asked (task_awaited m c.stand t) from rid → TaskFits c.stand t → Looks c t → HereFed c w from.num rid (reply y) t
+      unfolding task_asks
+      fed_here (Syncing s) k a f looks = sync_ok Got lo c.stand s k from rid y got from.num c.next a
+      fed_here (Walking v os) k a f looks = k
+      fed_here (Appending a' z) k a f looks = ((feed_ok Got c.stand lo a' from.num c.next from rid y k.0 got (let b = looks.below a.of a.has in let e = a.number in omega (arith, b, e)) a).1, k.1)
+      fed_here (Trimming t) k a f looks = (k.0, trim_fed Got AskSent e0 Known c.stand t k.1 from rid y got c.next a looks.looks)
+      fed_here (Copying' x) k a f looks = copy_fed lo (CopyTold x.unit x.range x.stripe) c.stand x k from.num c.next (reply y) (copied x k a looks.looks) l
+      fed_here (Reconfiguring r) k a f looks = reconf_ok Got lo e0 me Known r k f.0 from.num from rid y c.next got a
 
       -- a newer layout that is told
       newly : (q : Layout) → reply y ≡ IsLatest q → c.stand.epoch < q.epoch → Known q × (e0 ≤ q.epoch)
       newly q is newer = ((hears q (latest q is)).known, omega (arith, newer, up))
 
-      newer_good : (t : Task m) (q : Layout) → reply y ≡ IsLatest q → c.stand.epoch < q.epoch → LearnHeld c.next w.tail t → TaskFits c.stand t → EachNewer m objects es Sees c w t q → Good (step.on_newer m c w t from.num rid q)
-      unfolding task_again
-      newer_good (Reconfiguring r) q is newer k f each =
+      newer_here : (t : Task m) (q : Layout) → reply y ≡ IsLatest q → c.stand.epoch < q.epoch → LearnHeld c.next w.tail t → TaskFits c.stand t → HereNewer c w from.num rid q t
+      newer_here (Syncing s) q is newer k f = tt
+      newer_here (Walking v os) q is newer k f = k
+      newer_here (Appending a z) q is newer k f = k
+      newer_here (Trimming t) q is newer k f = k
+      newer_here (Copying' x) q is newer k f = tt
+      newer_here (Reconfiguring r) q is newer k f =
           let e = ap (λ (p : Layout). p.epoch) f.1 in
-          reconf_good c w (reconf_latest r r.work from.num rid q c.next) (latest_ok Got lo e0 me Known r k f.0 from.num rid q c.next l (omega (arith, newer, e)) (subst (λ (p : Layout). News Got lo e0 me Known p q) (sym f.1) (hears q (latest q is))) from (subst (Got from rid) (latest q is) got))
-      newer_good (Syncing s) q is newer k f each = sync_good (stands m c q) (record w { gone_before = w.gone }) (sync_again s c.next)
-          (let u = up_of (sync_asks q) [] c.next (sync_again s c.next).besides (sync_again s c.next).next (sync_again s c.next).to (sync_start_draws q s.oids c.next) in omega (arith, l, u)) (newly q is newer) (sync_start_ok Got lo s.oids c.next l) each
-      newer_good (Walking v os) q is newer k f each = walk_good (stands m c q) w v.oid os (walk_again q v c.next)
-          (let u = up_of walk_asks [] c.next (walk_again q v c.next).besides (walk_again q v c.next).next (walk_again q v c.next).to (walk_again_draws q v c.next) in omega (arith, l, u)) (newly q is newer) k each
-      newer_good (Appending a z) q is newer k f each = append_good (stands m c q) w z (append_again q a c.next) l (again_ok Got q lo a c.next l k.0) k.1
-      newer_good (Trimming t) q is newer k f each = trims_turn (stands m c q) w t.below (trim_start q t.below c.next) k (let s = newly q is newer in trim_start_ok Got AskSent e0 Known q t.below c.next s.0 s.1)
-      newer_good (Copying' x) q is newer k f each = copies_good (stands m c q) w x _ (fine_copy m q x.unit x.range x.stripe)
-
-      module _ (has : c.work ≡ Some w) (held : Held c) where
-        still : Good (record { now = c; besides = []; notes = [] })
-        still = record { held = held; says = none_says }
-
-        fed_good : (b : Bool) (t : Task m) → awaits (task_awaited m c.stand t) from rid ≡ b → TaskHeld c.next w.tail t → TaskFits c.stand t → Looks c t → EachAwaited m objects es Sees b c w t from rid (reply y) → Good (step.fed_if m b c w t from rid (reply y))
-        fed_good true t a k f looks each = task_good t k (asked (task_awaited m c.stand t) from rid a) f looks each
-        fed_good false t a k f looks each = still
-
-        hand_good : (d : Hand m) → w.hand ≡ d → HandHeld c.next w.tail d → TaskFits c.stand (task_in m d) → ((t : Task m) → w.hand ≡ Doing t → Looks c t) → EachHand m objects es Sees c w d from rid (reply y) → Good (step.hand_feed m c w d from rid (reply y))
-        hand_good (Doing t) e k f looks each = fed_good _ t refl k f (looks t e) each
-        hand_good (Learning ws t) e k f looks each = still
-
-        latest_good : (b : Bool) (q : Layout) → (node_eq from (layout_id from.num) && nat_lt c.stand.epoch q.epoch) ≡ b → reply y ≡ IsLatest q → LearnHeld c.next w.tail (task_in m w.hand) → TaskFits c.stand (task_in m w.hand) → EachLatest m objects es Sees b c w q → Good (step.latest_if m b c w from rid q)
-        latest_good true q e is k f each = newer_good (task_in m w.hand) q is (less_of (node_eq from (layout_id from.num)) c.stand.epoch q.epoch e) k f each
-          where
-            less_of : (b : Bool) (i j : ℕ) → (b && nat_lt i j) ≡ true → i < j
-            less_of b i j h = grind arith
-        latest_good false q e is k f each = still
-
-        reply_good : (x : Reply) → reply y ≡ x → HandHeld c.next w.tail w.hand → TaskFits c.stand (task_in m w.hand) → ((t : Task m) → w.hand ≡ Doing t → Looks c t) → EachReply m objects es Sees c w from rid x → Good (step.reply_feed m c w from rid x)
-        reply_good (IsLatest q) is k f looks each = latest_good _ q refl is (learn_of c.next w.tail w.hand k) f each
-        reply_good x is k f looks each = subst (λ (z : Reply). Good (step.hand_feed m c w w.hand from rid z)) is (hand_good w.hand refl k f looks (subst (λ (z : Reply). EachHand m objects es Sees c w w.hand from rid z) (sym is) each))
+          latest_ok Got lo e0 me Known r k f.0 from.num rid q c.next l (omega (arith, newer, e)) (subst (λ (p : Layout). News Got lo e0 me Known p q) (sym f.1) (hears q (latest q is))) from (subst (Got from rid) (latest q is) got)
 
     -- of work that may be none
     abbrev pub WorkFits : Client m → Option (Work m) → Type 0
     WorkFits c None = Unit {0}
     WorkFits c (Some w) = TaskFits c.stand (task_in m w.hand) × ((t : Task m) → w.hand ≡ Doing t → Looks c t)
 
+    less_of : (b : Bool) (i j : ℕ) → (b && nat_lt i j) ≡ true → i < j
+    less_of b i j h = grind arith
+
+    fed_good : (c : Client m) → Le c → Stands c → Hears c → Held c → WorkFits c c.work → EachDelivery m objects es Sees c c.work from rid (reply y) → Good (step.feed m c c.work from rid (reply y))
+    fed_good c l s hears k f each = delivered m At' Good ends_good way (over_walks m At' Good ends_good walked_way) c from rid (reply y) (record { held = k; says = none_says }) feeds newer
+      where
+        fits : (w : Work m) → c.work ≡ Some w → TaskFits c.stand (task_in m w.hand) × ((t : Task m) → w.hand ≡ Doing t → Looks c t)
+        fits w has = subst (WorkFits c) has f
+
+        feeds : (w : Work m) (t : Task m) → c.work ≡ Some w → w.hand ≡ Doing t → awaits (task_awaited m c.stand t) from rid ≡ true → NoLatest (reply y) → At' c w (Feeds t from.num rid (reply y))
+        feeds w t has doing a other =
+            let held = subst (HandHeld c.next w.tail) doing (subst (WorkHeld c.next) has k) in
+            let task = subst (λ (d : Hand m). TaskFits c.stand (task_in m d)) doing (fits w has).0 in
+            (l, s, fed_here c w l s.0 s.1 hears t held (asked (task_awaited m c.stand t) from rid a) task ((fits w has).1 t doing), each_fed m objects es Sees c from rid (reply y) each w t has doing a other)
+
+        newer : (w : Work m) (q : Layout) → c.work ≡ Some w → reply y ≡ IsLatest q → (node_eq from (layout_id from.num) && nat_lt c.stand.epoch q.epoch) ≡ true → At' c w (Newer (task_in m w.hand) from.num rid q)
+        newer w q has is e =
+            let later = less_of (node_eq from (layout_id from.num)) c.stand.epoch q.epoch e in
+            (l, s, (newly c w l s.0 s.1 hears q is later, newer_here c w l s.0 s.1 hears (task_in m w.hand) q is later (learn_of c.next w.tail w.hand (subst (WorkHeld c.next) has k)) (fits w has).0), each_newer m objects es Sees c from rid (reply y) each w q has is e)
+
     pub feed_good : (c : Client m) (o : Option (Work m)) → c.work ≡ o → lo ≤ c.next → Known c.stand → e0 ≤ c.stand.epoch → Hears c → Held c → WorkFits c o
         → EachDelivery m objects es Sees c o from rid (reply y) → Good (step.feed m c o from rid (reply y))
-    feed_good c None is l stand up hears k f each = record { held = k; says = none_says }
-    feed_good c (Some w) is l stand up hears k f each = reply_good c w l stand up hears is k (reply y) refl (subst (WorkHeld c.next) is k) f.0 f.1 each
+    feed_good c o is l stand up hears k f each =
+        subst (λ (z : Option (Work m)). WorkFits c z → EachDelivery m objects es Sees c z from rid (reply y) → Good (step.feed m c z from rid (reply y))) is (λ f each. fed_good c l (stand, up) hears k f each) f each
 
   -- Commands.
 
-  module _ (c : Client m) (free : c.work ≡ None) (l : Le c) where
-    moves : (d : Client m) (ns : List (NoteOf m)) → d.work ≡ c.work → AllSay ns → Good (record { now = d; besides = []; notes = ns })
-    moves d ns e s = record { held = subst (WorkHeld d.next) (sym (e ∙ free)) tt; says = s }
-
-    host_good : (o : Oid) (b : Bool) → Good (hosts_more m c o b)
-    host_good o true = moves _ _ refl (one_says _ tt)
-    host_good o false = moves _ _ refl (one_says _ tt)
-
-    puts_good : (o : Oid) (op : m.op) (t : Option Tx) → Good (step.puts m c o op t)
-    puts_good o op None = moves _ _ refl none_says
-    puts_good o op (Some t) = moves _ _ refl (one_says _ tt)
-
-    asks_good : (o : Oid) (q : m.ask) (t : Option Tx) → Good (step.asks m c (cmd.Ask o q) o q t)
-    asks_good o q None = moves _ _ refl none_says
-    asks_good o q (Some t) = by t.snapshot
-      where
-        state : (at : ℕ) (v : View m) (s : Option m.state) → Good (step.asked_of_state m c t at o q v s)
-        state at v None = moves _ _ refl none_says
-        state at v (Some s) = moves _ _ refl (one_says _ tt)
-
-        view : (at : ℕ) (v : Option (View m)) → Good (step.asks_view m c t at o q v)
-        view at None = moves _ _ refl none_says
-        view at (Some v) = state at v (state_of m v o)
-
-        by : (s : Option ℕ) → Good (step.asks_by m c (cmd.Ask o q) o q t s)
-        by None = synced' c _ _ l
-        by (Some at) = view at c.view
-
-    purpose_fits : (b : Bool) → Fits (if b then Writes else Judged)
-    purpose_fits true = tt
-    purpose_fits false = tt
-
-    ends_good : (t : Option Tx) → Good (step.ends m c cmd.End t)
-    ends_good None = moves _ _ refl none_says
-    ends_good (Some t) = by (length t.writes == 0)
-      where
-        by : (b : Bool) → Good (step.end_by m c cmd.End t b)
-        by true = moves _ _ refl (Each (each_and (note m t.number told.End) (note m t.number (told.Committed (step.snapshot_or m t.snapshot)) ∷ []) tt (each_one (note m t.number (told.Committed (step.snapshot_or m t.snapshot))) tt)))
-        by false = appended c (new_work m cmd.End) _ _ _ l (purpose_fits (length t.reads == 0)) (one_says (note m t.number told.End) tt)
-
-    accepts_good : (x : CommandOf m) → Good (accepts m c x)
-    unfolding accepts
-    accepts_good (cmd.Host o) = host_good o _
-    accepts_good cmd.Begin = moves _ _ refl (one_says _ tt)
-    accepts_good (cmd.Put o op) = puts_good o op c.tx
-    accepts_good (cmd.Ask o q) = asks_good o q c.tx
-    accepts_good cmd.End = ends_good c.tx
-    accepts_good cmd.Drop = moves _ _ refl (one_says _ tt)
-    accepts_good (cmd.Reconf y) = reconf_good c (new_work m (cmd.Reconf y)) (reconf_start c.stand c.layouts y c.num c.next) (reconf_start_ok Got lo e0 me Known c.stand c.layouts y c.num c.next)
-    accepts_good (cmd.Copy u r s) = copies_good c (new_work m (cmd.Copy u r s)) (record { unit = u; range = r; stripe = s; work = copying.Sealing 0 }) None tt
-    accepts_good x = synced' c _ _ l
+  takes_good : (c : Client m) (x : CommandOf m) → c.work ≡ None → Le c → (y : Moved m) → Taken m c x y → Good y
+  unfolding syncs sync_start appends append_start copy_start
+  takes_good c _ free l _ (SaidAtOnce x d ns s) = record { held = subst (WorkHeld d.next) (sym (said_work m c x d ns s ∙ free)) tt; says = said x d ns s }
+    where
+      said : (x : CommandOf m) (d : Client m) (ns : List (NoteOf m)) → IsSaid m c x d ns → AllSay ns
+      said _ _ _ (NoTxOpen x is) = none_says
+      said _ _ _ (NoViewKept o q t at is a b) = none_says
+      said _ _ _ (NoStateKept o q t at v is a b e) = none_says
+      said _ _ _ (ReadsOnly t is e) = Each (each_and (note m t.number told.End) (note m t.number (told.Committed (step.snapshot_or m t.snapshot)) ∷ []) tt (each_one (note m t.number (told.Committed (step.snapshot_or m t.snapshot))) tt))
+      said _ _ _ s = one_says _ tt
+  takes_good c _ free l _ (SyncsFirst x k) = record { held = l; says = none_says }
+  takes_good c _ free l _ (AppendsRecord t y is e k) = record { held = ((l, tt), purpose y k); says = one_says (note m t.number told.End) tt }
+    where
+      purpose : (y : Purpose m) → IsFor m t y → Fits y
+      purpose _ (ForWrites e) = tt
+      purpose _ (ForJudged e) = tt
+  takes_good c _ free l _ (ReconfBegins x n r e) =
+      record { held = subst (λ (t : Turn Reconf ReconfEnd). ReconfNext Got lo e0 me Known t.to) e (reconf_start_ok Got lo e0 me Known c.stand c.layouts x c.num c.next); says = none_says }
+  takes_good c _ free l _ (CopyBegins u r s) = record { held = copy_start_ok lo (CopyTold u r s) u r s c.next; says = none_says }
 
   pub command_good : (c : Client m) (x : CommandOf m) (o : Option Refusal) → (o ≡ None → c.work ≡ None) → Fine o → lo ≤ c.next → Held c → Good (refused_or m c x o)
-  command_good c x None free f l k = accepts_good c (free refl) l x
+  command_good c x None free f l k = takes_good c x (free refl) l (accepts m c x) (taken m c x)
   command_good c x (Some why) free f l k = record { held = k; says = one_says _ (say_refused why f) }

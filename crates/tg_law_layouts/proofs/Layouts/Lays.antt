@@ -134,7 +134,7 @@ module _ (m : Meaning) (n : ℕ) (ps : List Packet) (K : Layout → Type 0) wher
       → HandKnown m n ps K c.stand c.work → Fits m n ps K c.stand (reconf_of m c.work) → StandsAt (client_deliver m c x.from x.rid x.msg).now.stand (reconf_of m (client_deliver m c x.from x.rid x.msg).now.work)
       → TurnKnown (client_deliver m c x.from x.rid x.msg)
   unfolding client_deliver
-  deliver_known c x tells latest k f at = given_known c _ (feed_known m n ps K x tells latest c c.work refl k f) at
+  deliver_known c x tells latest k f at = given_known c _ (feed_known m n ps K x tells latest c k f) at
 
   tick_by_known : (c : Client m) (w : Option (Work m)) → c.work ≡ w → HandKnown m n ps K c.stand c.work → StandsAt c.stand (reconf_of m c.work) → TurnKnown (step.tick_by m c w)
   tick_by_known c None e k at = record { hand = k; says = none_say K }

@@ -1,5 +1,5 @@
 -- One layout for an epoch, over all worlds.
-use Rattle.std.proofs.Common.{◌≡◌, ◌⊎◌, ℕ, ◌+◌, ◌<◌, ◌≤◌, List, [], ◌++◌, Bool, true, false, ◌&&◌, refl, sym, ap, ◌∙◌, subst, inl, inr, arith, Some, None, Option}
+use Rattle.std.proofs.Common.{◌≡◌, ◌⊎◌, ℕ, ◌+◌, ◌<◌, ◌≤◌, List, [], ◌++◌, Bool, true, ◌&&◌, refl, sym, ap, ◌∙◌, subst, inl, inr, arith, Some, None, Option}
 use Rattle.std.specs.Prelude.{nat_lt}
 use Rattle.tg_base.specs.Layouts.{Layout}
 use Rattle.tg_base.specs.Changes.{Changed}
@@ -17,23 +17,19 @@ use Rattle.tg_model.specs.declared.command.Command.TheVariants as cmd
 use Rattle.tg_protocol.specs.Words.{unit_id, layout_id, seqr_id, numbers}
 use Rattle.tg_protocol.specs.Layouts.{next_of}
 use Rattle.tg_protocol.specs.Requests.{Waits, waits_for, awaits, drawn_from, Next, Goes, Learns, Ends}
-use Rattle.tg_protocol.specs.Replies.{Reply, reply}
+use Rattle.tg_protocol.specs.Replies.{reply}
 use Rattle.tg_protocol.specs.Replies as replied
 use Rattle.tg_protocol.specs.Reconfiguring.{Before, Stage, Preparing, Accepting, Later, ReconfWork, SealingSpare, LookingSpare, Sealing, LookingAgain, Agreeing, Telling, Starting, Reconf, ReconfEnd, Installed, Overtaken, NotWhole, ReconfTurn, next_epoch, stage_asks, reconf_work_asks, reconf_asks, set_asks, later_asks, reconf_awaited, first_step, reconf_start, reconf_feed, reconf_latest}
-use Rattle.tg_protocol.specs.Trimming as copying
-use Rattle.tg_protocol.specs.Trimming.{has_stripe, Copying, trim_feed, trim_start, copy_feed, copy_start}
-use Rattle.tg_protocol.specs.Syncing.{sync_again}
-use Rattle.tg_protocol.specs.Walking.{walk_feed, walk_again}
+use Rattle.tg_protocol.specs.Trimming.{has_stripe}
 use Rattle.tg_protocol.specs.Clients.{Task, Syncing, Walking, Appending, Trimming, Copying', Reconfiguring, Hand, Doing, Learning, Work, Client, refusal}
 use Rattle.tg_protocol.specs.Answers.{Moved, moved}
-use Rattle.tg_protocol.specs.ClientSteps.{task_asks, task_awaited, hand_asks, hand_again_asks, task_again_asks, client_asks, asks_latest, task_in, task_feed, task_again, copies_again, on_newer, stands, accepts, new_work, refused_or, client_command, client_deliver, client_tick, reconf_ended, reconf_to, on_reconf, learns_for, after_turn, ClientTurn, given}
+use Rattle.tg_protocol.specs.ClientSteps.{task_asks, task_awaited, hand_asks, hand_again_asks, task_again_asks, client_asks, asks_latest, task_in, stands, accepts, new_work, refused_or, client_command, client_deliver, client_tick, reconf_ended, reconf_to, on_reconf, after_turn, ClientTurn, given}
 use Rattle.tg_protocol.specs.ClientSteps as step
 use Rattle.tg_law_layouts.proofs.Moves.Members.{Has, has_left, has_either, has_map, has_filter}
 use Rattle.tg_law_layouts.proofs.Agreement.Facts.{Proposed, Promised, Truth}
 use Rattle.tg_law_layouts.proofs.Agreement.Proposers.{Below, StageOk, VotingOk, Early, WorkOk, ReconfOk, NextOk, TurnOk, feed_ok, latest_ok, again_awaited}
 use Rattle.tg_law_layouts.proofs.Layouts.Phases.{phase, told_epoch, IsTold, IsProposedNext, stage_epoch, end_stand, Follows, TurnFollows, latest_follows, feed_follows}
-use Rattle.tg_law_layouts.proofs.Moves.Besides.{sync_besides, append_besides, append_again_besides, sync_again_besides}
-use Rattle.tg_law_layouts.proofs.Layouts.Plain.{learns_quiet, NoAccepts, on_sync_plain, on_walk_plain, on_append_plain, on_trims_plain, on_copy_plain, host_plain, begin_plain, put_plain, asks_plain, ends_plain, drop_plain, syncs_plain, none_plain, one_plain, all_plain, both_plain, task_plain, TaskCalm, WorkCalm, Plain}
+use Rattle.tg_law_layouts.proofs.Layouts.Plain.{learns_quiet, NoAccepts, accepts_plain, Fed, Heard, delivered_plain, none_plain, one_plain, all_plain, both_plain, task_plain, TaskCalm, WorkCalm, Plain}
 use Rattle.tg_law_layouts.proofs.Moves.Turns.{not_busy}
 use Rattle.tg_law_layouts.proofs.Moves.Reconfs.{join_plain}
 
@@ -237,59 +233,27 @@ module _ (m : Meaning) where
     rests_fine c ns h = record { ok = h; quiet = none_plain; num = refl; layouts = refl }
 
     -- an awaited answer to a task
-    task_fine : (c : Client m) (w : Work m) (t : Task m) → HandOk n k ps c.stand (task_reconf t) → awaits (task_awaited m c.stand t) x.from x.rid ≡ true
-        → MovedFine n k ps c (task_feed m c w t x.from.num x.rid (reply x.msg))
-    unfolding task_feed
+    task_fine : (c : Client m) (w : Work m) (t : Task m) → HandOk n k ps c.stand (task_reconf t) → awaits (task_awaited m c.stand t) x.from x.rid ≡ true → Fed m (MovedFine n k ps c) c w t x.from.num x.rid (reply x.msg)
     task_fine c w (Reconfiguring r) h a = fed_fine c w r h a
-    task_fine c w (Syncing s) h a = plain_fine n k ps c c.stand _ h (on_sync_plain m c w _ (sync_besides c.stand s s.work x.from.num (reply x.msg) c.next))
-    task_fine c w (Walking y os) h a = plain_fine n k ps c c.stand _ h (on_walk_plain m c w y.oid os (walk_feed c.stand y y.job x.from.num (reply x.msg) c.next))
-    task_fine c w (Appending y z) h a = plain_fine n k ps c c.stand _ h (on_append_plain m c w z _ (append_besides c.stand y y.token y.work x.from.num (reply x.msg) c.next refl))
-    task_fine c w (Trimming t) h a = plain_fine n k ps c c.stand _ h (on_trims_plain m c w t.below (trim_feed c.stand t x.from.num (reply x.msg) c.next))
-    task_fine c w (Copying' y) h a = plain_fine n k ps c c.stand _ h (on_copy_plain m c w y (copy_feed c.stand y y.work x.from.num (reply x.msg) c.next))
-
-    copies_fine : (c : Client m) (w : Work m) (y : Copying) (f : Option Refusal) → Silent ps k c.stand.epoch → MovedFine n k ps c (copies_again m c w y f)
-    copies_fine c w y None h = plain_fine n k ps c c.stand _ h (on_copy_plain m c w y (copy_start y.unit y.range y.stripe c.next))
-    copies_fine c w y (Some why) h = record { ok = h; quiet = none_plain; num = refl; layouts = refl }
+    task_fine c w t h a = λ y p. plain_fine n k ps c c.stand y h p
 
     -- a newer layout
-    again_fine : (c : Client m) (w : Work m) (t : Task m) (q : Layout) → HandOk n k ps c.stand (task_reconf t) → c.stand.epoch < q.epoch → MovedFine n k ps c (on_newer m c w t x.from.num x.rid q)
-    unfolding task_again
+    again_fine : (c : Client m) (w : Work m) (t : Task m) (q : Layout) → HandOk n k ps c.stand (task_reconf t) → c.stand.epoch < q.epoch → Heard m (MovedFine n k ps c) c w t x.from.num x.rid q
     again_fine c w (Reconfiguring r) q h less = newer_fine c w r q h less
-    again_fine c w (Syncing s) q h less = plain_fine n k ps c q _ (silent_up ps k _ _ (omega (arith, less)) h) (on_sync_plain m (stands m c q) _ (sync_again s c.next) (sync_again_besides q s c.next))
-    again_fine c w (Walking y os) q h less = plain_fine n k ps c q _ (silent_up ps k _ _ (omega (arith, less)) h) (on_walk_plain m (stands m c q) w y.oid os (walk_again q y c.next))
-    again_fine c w (Appending y z) q h less = plain_fine n k ps c q _ (silent_up ps k _ _ (omega (arith, less)) h) (on_append_plain m (stands m c q) w z _ (append_again_besides q y c.next))
-    again_fine c w (Trimming t) q h less = plain_fine n k ps c q _ (silent_up ps k _ _ (omega (arith, less)) h) (on_trims_plain m (stands m c q) w t.below (trim_start q t.below c.next))
-    again_fine c w (Copying' y) q h less = let z = copies_fine (stands m c q) w y _ (silent_up ps k _ _ (omega (arith, less)) h) in record { ok = z.ok; quiet = z.quiet; num = z.num; layouts = z.layouts }
+    again_fine c w t q h less = λ y p. plain_fine n k ps c q y (silent_up ps k _ _ (omega (arith, less)) h) p
 
     -- Deliveries.
 
     hand_of : (c : Client m) (w : Work m) → c.work ≡ Some w → ClientOk n k ps c → HandOk n k ps c.stand (task_reconf (task_in m w.hand))
     hand_of c w e h = subst (λ (o : Option (Work m)). HandOk n k ps c.stand (reconf_of o)) e h
 
-    fed_if_fine : (b : Bool) (c : Client m) (w : Work m) (t : Task m) → awaits (task_awaited m c.stand t) x.from x.rid ≡ b → HandOk n k ps c.stand (task_reconf t) → ClientOk n k ps c
-        → MovedFine n k ps c (step.fed_if m b c w t x.from x.rid (reply x.msg))
-    fed_if_fine true c w t a h ok = task_fine c w t h a
-    fed_if_fine false c w t a h ok = rests_fine c [] ok
-
-    hand_fine : (c : Client m) (w : Work m) (d : Hand m) → HandOk n k ps c.stand (task_reconf (task_in m d)) → ClientOk n k ps c → MovedFine n k ps c (step.hand_feed m c w d x.from x.rid (reply x.msg))
-    hand_fine c w (Doing t) h ok = fed_if_fine _ c w t refl h ok
-    hand_fine c w (Learning ws t) h ok = rests_fine c [] ok
-
-    latest_fine : (b : Bool) (c : Client m) (w : Work m) (q : Layout) → (b ≡ true → c.stand.epoch < q.epoch) → HandOk n k ps c.stand (task_reconf (task_in m w.hand)) → ClientOk n k ps c
-        → MovedFine n k ps c (step.latest_if m b c w x.from x.rid q)
-    latest_fine true c w q less h ok = again_fine c w (task_in m w.hand) q h (less refl)
-    latest_fine false c w q less h ok = rests_fine c [] ok
-
     and_less : (a : Bool) (d e : ℕ) → (a && nat_lt d e) ≡ true → d < e
     and_less a d e h = grind arith
 
-    reply_fine : (c : Client m) (w : Work m) (y : Reply) → reply x.msg ≡ y → c.work ≡ Some w → ClientOk n k ps c → MovedFine n k ps c (step.reply_feed m c w x.from x.rid y)
-    reply_fine c w (replied.IsLatest q) is e ok = latest_fine _ c w q (λ t. and_less _ c.stand.epoch q.epoch t) (hand_of c w e ok) ok
-    reply_fine c w y is e ok = subst (λ (z : Reply). MovedFine n k ps c (step.hand_feed m c w w.hand x.from x.rid z)) is (hand_fine c w w.hand (hand_of c w e ok) ok)
-
-    feed_fine : (c : Client m) (o : Option (Work m)) → c.work ≡ o → ClientOk n k ps c → MovedFine n k ps c (step.feed m c o x.from x.rid (reply x.msg))
-    feed_fine c None e ok = rests_fine c [] ok
-    feed_fine c (Some w) e ok = reply_fine c w (reply x.msg) refl e ok
+    feed_fine : (c : Client m) → ClientOk n k ps c → MovedFine n k ps c (step.feed m c c.work x.from x.rid (reply x.msg))
+    feed_fine c ok = delivered_plain m (MovedFine n k ps c) c x.from x.rid (reply x.msg) (rests_fine c [] ok)
+        (λ w t has doing a. task_fine c w t (subst (λ (d : Hand m). HandOk n k ps c.stand (task_reconf (task_in m d))) doing (hand_of c w has ok)) a)
+        (λ w q has is e. again_fine c w (task_in m w.hand) q (hand_of c w has ok) (and_less _ c.stand.epoch q.epoch e))
 
   -- Commands.
 
@@ -330,20 +294,10 @@ module _ (m : Meaning) where
     unfolding reconf_start
     start_fine c w x num layouts silent = first_fine c w x x.join num layouts silent
 
-    calm_fine : (c : Client m) (x : Moved m) → Silent ps k c.stand.epoch → Plain m c x → MovedFine n k ps c x
-    calm_fine c x h f = plain_fine n k ps c c.stand x h f
-
     accepts_fine : (c : Client m) (x : CommandOf m) → c.work ≡ None → c.num ≡ k → c.layouts ≡ n → Silent ps k c.stand.epoch → MovedFine n k ps c (accepts m c x)
     unfolding accepts
     accepts_fine c (cmd.Reconf x) e num layouts h = start_fine c (new_work m (cmd.Reconf x)) x num layouts h
-    accepts_fine c (cmd.Copy u r s) e num layouts h = calm_fine c _ h (on_copy_plain m c (new_work m (cmd.Copy u r s)) (record { unit = u; range = r; stripe = s; work = copying.Sealing 0 }) (copy_start u r s c.next))
-    accepts_fine c (cmd.Host o) e num layouts h = calm_fine c _ h (host_plain m c o e)
-    accepts_fine c cmd.Begin e num layouts h = calm_fine c _ h (begin_plain m c e)
-    accepts_fine c (cmd.Put o op) e num layouts h = calm_fine c _ h (put_plain m c o op e)
-    accepts_fine c (cmd.Ask o q) e num layouts h = calm_fine c _ h (asks_plain m c _ o q c.tx e)
-    accepts_fine c cmd.End e num layouts h = calm_fine c _ h (ends_plain m c _ c.tx e)
-    accepts_fine c cmd.Drop e num layouts h = calm_fine c _ h (drop_plain m c e)
-    accepts_fine c x e num layouts h = calm_fine c _ h (syncs_plain m c (new_work m x) c.hosted)
+    accepts_fine c x e num layouts h = plain_fine n k ps c c.stand _ h (accepts_plain m c x tt e)
 
     refused_fine : (c : Client m) (x : CommandOf m) (o : Option Refusal) → (o ≡ None → c.work ≡ None) → c.num ≡ k → c.layouts ≡ n → ClientOk n k ps c → MovedFine n k ps c (refused_or m c x o)
     refused_fine c x None free num layouts ok = accepts_fine c x (free refl) num layouts (subst (λ (w : Option (Work m)). HandOk n k ps c.stand (reconf_of w)) (free refl) ok)
@@ -397,7 +351,7 @@ module _ (m : Meaning) where
 
     pub deliver_fine : ((e : ℕ) → Truth e n (OfEpoch e) ps) → (x : Packet) → Has ps x → (c : Client m) → ClientOk n k ps c → TurnFine c (step.client_deliver m c x.from x.rid x.msg)
     unfolding client_deliver
-    deliver_fine truth x sent c ok = given_fine c _ (feed_fine n k ps truth x sent c c.work refl ok)
+    deliver_fine truth x sent c ok = given_fine c _ (feed_fine n k ps truth x sent c ok)
 
     again_proposes : (p : Layout) (t : Task m) (o : Out) (e : ℕ) (b : Ballot) (q : Layout) → Has (task_again_asks m p t) o → o.msg ≡ msg.Accept e b q → (r : Reconf) × (task_reconf t ≡ Some r) × Has (reconf_awaited r) o
     again_proposes p (Reconfiguring r) o e b q h is = (r, refl, again_awaited r o h)

@@ -1,7 +1,6 @@
 -- A client that doesn't reconfigure proposes nothing.
 use Rattle.std.proofs.Common.{◌≡◌, ◌⊎◌, ℕ, List, [], ◌∷◌, ◌++◌, Bool, true, false, refl, sym, ap, ◌∙◌, subst, inl, inr, arith, Some, None, Option}
 use Rattle.tg_base.specs.Layouts.{Layout}
-use Rattle.tg_base.specs.declared.cell.Cell.{Cell}
 use Rattle.tg_base.specs.declared.ids.Ballot.{Ballot}
 use Rattle.tg_base.specs.declared.ids.NodeId.{NodeId}
 use Rattle.tg_base.specs.declared.ids.Oid.{Oid}
@@ -9,24 +8,35 @@ use Rattle.tg_base.specs.declared.msg.Msg.{Msg}
 use Rattle.tg_base.specs.declared.msg.Msg.TheVariants as msg
 use Rattle.tg_base.specs.declared.packet.Out.{Out}
 use Rattle.tg_kind.specs.Meaning.{Meaning}
-use Rattle.tg_model.specs.Kinds.{CommandOf, WhatOf}
+use Rattle.tg_model.specs.Kinds.{CommandOf, WhatOf, NoteOf}
 use Rattle.tg_protocol.specs.Words.{unit_id, layout_id}
-use Rattle.tg_protocol.specs.Requests.{out, Waits, asked_of, Next, Goes, Learns, Ends, Turn}
+use Rattle.tg_protocol.specs.Requests.{awaits, out, Waits, asked_of, Turn}
 use Rattle.tg_protocol.specs.Cells.{Place, CellWork, Puts, Gets, Fills, Copies, Probes, CellJob, work_asks}
-use Rattle.tg_protocol.specs.Appending.{AppendWork, Asking, Putting, Judging, Append, AppendEnd, At, append_start, append_work_asks}
+use Rattle.tg_protocol.specs.Appending.{AppendWork, Asking, Putting, Judging, Append, AppendEnd, append_start, append_work_asks}
 use Rattle.tg_protocol.specs.Syncing.{SyncWork, Checking, Settling, Probing, Sync, Confirmed, sync_work_asks, sync_start}
 use Rattle.tg_protocol.specs.Walking.{Walk, Members, job_asks}
-use Rattle.tg_protocol.specs.Trimming.{Trims, Trimmed, trim_start, CopyWork, Sealing, Reading, Storing, Trimming, Looking, Copying, CopyEnd, copy_work_asks}
-use Rattle.tg_protocol.specs.Clients.{Purpose, Writes, Judged, Decides, Rescues, Saves, Marks, Task, Syncing, Walking, Appending, Trimming, Copying', Reconfiguring, Hand, Doing, Learning, Work, Client, hosts_oid}
-use Rattle.tg_protocol.specs.Answers.{Moved, moved, appends, syncs, walked, closed, note}
+use Rattle.tg_protocol.specs.Trimming.{Trims, Trimmed, CopyWork, Sealing, Reading, Storing, Trimming, Looking, Copying, CopyEnd, copy_work_asks}
+use Rattle.tg_protocol.specs.Clients.{Purpose, Task, Syncing, Walking, Appending, Trimming, Copying', Reconfiguring, Hand, Doing, Learning, Work, Client, hosts_oid}
+use Rattle.tg_protocol.specs.Answers.{Moved, moved, replies, took_over, appends, syncs, closed, note}
 use Rattle.tg_protocol.specs.Transactions.{Tx}
 use Rattle.tg_model.specs.declared.trace.What.TheVariants as told
 use Rattle.tg_protocol.specs.ClientSteps as step
-use Rattle.tg_protocol.specs.ClientSteps.{task_asks, hand_asks, client_asks, asks_latest, after_turn, met, goes_on, learns_for, start_walk, walks, takes_back, found_by, lends, knows, lo_for, synced, sync_to, on_sync, gives_up, given_up_if, starts_over, at_trim, walk_ended_by, walk_ended, walk_to, on_walk, owns, knows_page, decided_for, append_ended, append_to, on_append, trim_to, on_trims, copy_to, on_copy, stands, task_in}
+use Rattle.tg_protocol.specs.ClientSteps.{task_feed, on_newer, accepts, on_reconf, task_awaited, task_asks, hand_asks, after_turn, met, goes_on, learns_for, on_sync, on_walk, owns, on_append, on_trims, on_copy, stands, task_in}
 use Rattle.tg_law_layouts.proofs.Moves.Members.{Has, has_either, has_map}
-use Rattle.tg_law_layouts.proofs.Moves.Clients.{Same, Ways, walked_case}
-use Rattle.tg_law_layouts.proofs.Moves.Besides.{OnlyLearns, none_learns}
-use Rattle.tg_law_layouts.proofs.Moves.Turns.{Begins, begins_walk}
+use Rattle.tg_law_layouts.proofs.Moves.Clients.{Same}
+use Rattle.tg_law_layouts.proofs.Moves.Besides.{OnlyLearns, none_learns, sync_besides, append_besides, append_again_besides, sync_again_besides}
+use Rattle.tg_law_steps.proofs.Places.{Place as Place', Feeds, Newer, OnSync, OnWalk, OnAppend, OnTrims, OnCopy, OnReconf, Walks, becomes}
+use Rattle.tg_law_steps.proofs.Ways.{Way, FeedsSync, FeedsAppend, FeedsReconf, NewerSync, NewerAppend, NewerReconf, reconf_fed, reconf_newer, AllWalked, IsRescue}
+use Rattle.tg_law_steps.proofs.Ends.{End, GoesOn, LearnsNewer, Syncs, Appends, Refuses, Answers, Tells, IsGoing, SyncGoes, AppendGoes, ReconfGoes, IsLearning, ReconfLearns, IsSynced, JudgedAt, IsAppended, MarkBegins, IsRefused, ReconfOvertaken, ReconfNotWhole, IsAnswered, IsSaved, IsTold, IsMarked, IsInstalled}
+use Rattle.tg_law_steps.proofs.Along.{along, over_walks, handed}
+use Rattle.tg_law_steps.proofs.Takes.{IsSaid, Begins, Taken, SaidAtOnce, ReconfBegins, taken, said_work}
+use Rattle.std.specs.Prelude.{◌&&◌, nat_lt}
+use Rattle.tg_base.specs.Orders.{node_eq}
+use Rattle.tg_protocol.specs.Replies.{Reply, IsLatest}
+use Rattle.tg_model.specs.declared.command.Command.TheVariants as cmd
+use Rattle.tg_entry.specs.declared.entry.Entry.{Entry}
+use Rattle.tg_model.specs.declared.refusal.Refusal.{Refusal}
+use Rattle.tg_protocol.specs.Views.{View}
 
 -- What is sent proposes nothing.
 
@@ -127,132 +137,111 @@ module _ (m : Meaning) where
   idle_plain : (c : Client m) (x : Moved m) → x.now.work ≡ None → x.besides ≡ [] → Same m c x.now → Plain c x
   idle_plain c x e f s = record { stand = s.stand; num = s.num; layouts = s.layouts; calm = subst WorkCalm (sym e) tt; quiet = subst (OnlyLearns x.now.stand) (sym f) (none_learns x.now.stand) }
 
-  ways : Ways m Plain
-  unfolding appends append_start syncs sync_start trim_start
-  ways = record {
-    idle = idle_plain;
-    append = λ c d w e p ns s. record { stand = s.stand; num = s.num; layouts = s.layouts; calm = tt; quiet = none_learns _ };
-    sync = λ c d w os s. record { stand = s.stand; num = s.num; layouts = s.layouts; calm = tt; quiet = none_learns _ };
-    trim = λ c w below. record { stand = refl; num = refl; layouts = refl; calm = tt; quiet = none_learns _ };
-    seen = λ c v x f. record { stand = f.stand; num = f.num; layouts = f.layouts; calm = f.calm; quiet = f.quiet };
-  }
+  -- Along a turn, as the client `b` stands.
+  module _ (b : Client m) where
+    abbrev Stand : Client m → Place' m → Layout
+    Stand c (Newer t n rid q) = q
+    Stand c p = c.stand
 
-  walked_plain : (c : Client m) (w : Work m) → Plain c (walked m c w)
-  walked_plain c w = walked_case m Plain ways c w
+    abbrev Calm : Client m → Place' m → Type 0
+    Calm c (Feeds t n rid x) = TaskCalm t
+    Calm c (Newer t n rid q) = TaskCalm t
+    Calm c (OnSync bs to) = OnlyLearns c.stand bs
+    Calm c (OnAppend y bs to) = OnlyLearns c.stand bs
+    Calm c (OnReconf to) = ⊥
+    Calm c p = Unit {0}
 
-  -- As another client that stands at the same layout.
-  pub record Alike (c d : Client m) : Type 0 where
-    pub stand : d.stand ≡ c.stand
-    pub num : d.num ≡ c.num
-    pub layouts : d.layouts ≡ c.layouts
+    abbrev Alike : Layout → Client m → Type 0
+    Alike p c = (p ≡ b.stand) × (c.num ≡ b.num) × (c.layouts ≡ b.layouts)
 
-  pub from_alike : (c d : Client m) (x : Moved m) → Alike c d → Plain d x → Plain c x
-  from_alike c d x s p = record { stand = p.stand ∙ s.stand; num = p.num ∙ s.num; layouts = p.layouts ∙ s.layouts; calm = p.calm; quiet = p.quiet }
+    abbrev pub CalmAt : Client m → Work m → Place' m → Type 0
+    CalmAt c w p = Alike (Stand c p) c × Calm c p
 
-  same : (c : Client m) → Same m c c
-  same c = record { next = refl; stand = refl; num = refl; layouts = refl }
+    pub calm_way : (c : Client m) (w : Work m) (p : Place' m) (d : Client m) (v : Work m) (q : Place' m) → Way m c w p d v q → CalmAt c w p → CalmAt d v q
+    calm_way c w _ _ _ _ (FeedsSync s n rid x) h = (h.0, sync_besides c.stand s s.work n x c.next)
+    calm_way c w _ _ _ _ (FeedsAppend a y n rid x) h = (h.0, append_besides c.stand a a.token a.work n x c.next refl)
+    calm_way c w _ _ _ _ (FeedsReconf r n rid x) h = absurd h.1
+    calm_way c w _ _ _ _ (NewerSync s n rid q) h = (h.0, sync_again_besides q s c.next)
+    calm_way c w _ _ _ _ (NewerAppend a y n rid q) h = (h.0, append_again_besides q a c.next)
+    calm_way c w _ _ _ _ (NewerReconf r n rid q) h = absurd h.1
+    calm_way c w _ _ _ _ x h = (h.0, tt)
 
-  walks_at : (c : Client m) (w : Work m) (o : Oid) (os : List Oid) (to : Next Walk Members) → Begins to → ((d : Client m) (v : Work m) → Plain d (walks m os d v))
-      → Plain c (elim to as (λ _. Moved m) [
-        | Goes x ↦ goes_on m (lends m (after_turn m c (start_walk m c w o))) w (Walking x os) []
-        | Learns x ↦ moved m c []
-        | Ends x ↦ walks m os (takes_back m c x) (found_by m w o x)
-      ])
-  walks_at c w o os (Goes x) b ih = record { stand = refl; num = refl; layouts = refl; calm = tt; quiet = none_learns _ }
-  walks_at c w o os (Learns x) b ih = absurd b
-  walks_at c w o os (Ends x) b ih = from_alike c (takes_back m c x) _ (record { stand = refl; num = refl; layouts = refl }) (ih (takes_back m c x) (found_by m w o x))
+    pub calm_walked : (c : Client m) (w : Work m) (d : Client m) (q : Place' m) → AllWalked m c w d q → CalmAt c w (Walks []) → CalmAt d w q
+    calm_walked c w _ _ (IsRescue at of) h = h
+    calm_walked c w _ _ x h = h
 
-  walks_plain : (os : List Oid) (c : Client m) (w : Work m) → Plain c (walks m os c w)
-  unfolding walks
-  walks_plain [] c w = walked_plain c w
-  walks_plain (o ∷ os) c w = walks_at c w o os (start_walk m c w o).to (begins_walk c.stand o _ w.lo c.cells c.next) (λ d v. walks_plain os d v)
+    going_plain : (c : Client m) (w : Work m) (p : Place' m) (d : Client m) (t : Task m) (bs : List Out) → IsGoing m c w p d t bs → CalmAt c w p → Plain b (goes_on m d w t bs)
+    going_plain c w _ _ _ _ (SyncGoes bs s) h = record { stand = h.0.0; num = h.0.1; layouts = h.0.2; calm = tt; quiet = h.1 }
+    going_plain c w _ _ _ _ (AppendGoes y bs a) h = record { stand = h.0.0; num = h.0.1; layouts = h.0.2; calm = tt; quiet = h.1 }
+    going_plain c w _ _ _ _ (ReconfGoes r) h = absurd h.1
+    going_plain c w _ _ _ _ x h = record { stand = h.0.0; num = h.0.1; layouts = h.0.2; calm = tt; quiet = none_learns _ }
 
-  synced_plain : (c : Client m) (w : Work m) (x : Confirmed) → Plain c (synced m c w x)
-  synced_plain c w x = by x.settled
-    where
-      by : (s : Option (ℕ × Cell)) → Plain c (walks m w.oids (knows m c s) (record w { tail = x.tail; lasts = x.lasts; lo = lo_for m c w.command }))
-      by None = walks_plain w.oids c _
-      by (Some s) = from_alike c _ _ (record { stand = refl; num = refl; layouts = refl }) (walks_plain w.oids (knows m c (Some s)) _)
+    learning_plain : (c : Client m) (w : Work m) (p : Place' m) (t : Task m) → IsLearning m c w p t → CalmAt c w p → Plain b (learns_for m c w t)
+    learning_plain c w _ _ (ReconfLearns r) h = absurd h.1
+    learning_plain c w _ _ x h = record { stand = h.0.0; num = h.0.1; layouts = h.0.2; calm = tt; quiet = none_learns _ }
 
-  learns_plain : (c : Client m) (w : Work m) (t : Task m) → TaskCalm t → Plain c (learns_for m c w t)
-  learns_plain c w t h = record { stand = refl; num = refl; layouts = refl; calm = h; quiet = none_learns _ }
+    synced_alike : (c : Client m) (w : Work m) (p : Place' m) (d : Client m) (v : Work m) (os : List Oid) → IsSynced m c w p d v os → CalmAt c w p → Alike d.stand d
+    synced_alike c w _ _ _ _ (JudgedAt bs p d) h = h.0
+    synced_alike c w _ _ _ _ x h = h.0
 
-  sync_to_plain : (bs : List Out) (c : Client m) (w : Work m) (to : Next Sync Confirmed) → OnlyLearns c.stand bs → Plain c (sync_to m c w bs to)
-  sync_to_plain bs c w (Goes s) q = record { stand = refl; num = refl; layouts = refl; calm = tt; quiet = q }
-  sync_to_plain bs c w (Learns s) q = learns_plain c w (Syncing s) tt
-  sync_to_plain bs c w (Ends x) q = synced_plain c w x
+    appended_alike : (c : Client m) (w : Work m) (p : Place' m) (d : Client m) (e : Entry) (y : Purpose m) (ns : List (NoteOf m)) → IsAppended m c w p d e y ns → CalmAt c w p → Alike d.stand d
+    appended_alike c w _ _ _ _ _ (MarkBegins es p upto o n of came may) h = h.0
+    appended_alike c w _ _ _ _ _ x h = h.0
+
+    refused_alike : (c : Client m) (w : Work m) (p : Place' m) (d : Client m) (n : ℕ) (why : Refusal) → IsRefused m c w p d n why → CalmAt c w p → Alike d.stand d
+    refused_alike c w _ _ _ _ (ReconfOvertaken e p) h = absurd h.1
+    refused_alike c w _ _ _ _ (ReconfNotWhole u pos p) h = absurd h.1
+    refused_alike c w _ _ _ _ x h = h.0
+
+    answered_alike : (c : Client m) (w : Work m) (p : Place' m) (d : Client m) (n : ℕ) (what : WhatOf m) → IsAnswered m c w p d n what → CalmAt c w p → Alike d.stand d
+    answered_alike c w _ _ _ _ (IsSaved o upto bs p d) h = h.0
+    answered_alike c w _ _ _ _ x h = h.0
+
+    took_alike : (d : Client m) (v : Option (View m)) → Alike d.stand d → Alike (took_over m d v).stand (took_over m d v)
+    took_alike d None h = h
+    took_alike d (Some v) h = h
+
+    told_alike : (c : Client m) (w : Work m) (p : Place' m) (d : Client m) (ns : List (NoteOf m)) → IsTold m c w p d ns → CalmAt c w p → Alike d.stand d
+    told_alike c w _ _ _ (IsMarked n o mark bs p d) h = took_alike (owns m c p d) c.view h.0
+    told_alike c w _ _ _ (IsInstalled e p) h = absurd h.1
+    told_alike c w _ _ _ x h = h.0
+
+    replied : (d : Client m) (ns : List (NoteOf m)) → Alike d.stand d → Plain b (replies m d ns)
+    replied d ns h = record { stand = h.0; num = h.1; layouts = h.2; calm = tt; quiet = none_learns _ }
+
+    pub calm_ends : (c : Client m) (w : Work m) (p : Place' m) (x : Moved m) → End m c w p x → CalmAt c w p → Plain b x
+    unfolding appends append_start syncs sync_start
+    calm_ends c w p _ (GoesOn d t bs x) h = going_plain c w p d t bs x h
+    calm_ends c w p _ (LearnsNewer t x) h = learning_plain c w p t x h
+    calm_ends c w p _ (Syncs d v os x) h = let a = synced_alike c w p d v os x h in record { stand = a.0; num = a.1; layouts = a.2; calm = tt; quiet = none_learns _ }
+    calm_ends c w p _ (Appends d e y ns x) h = let a = appended_alike c w p d e y ns x h in record { stand = a.0; num = a.1; layouts = a.2; calm = tt; quiet = none_learns _ }
+    calm_ends c w p _ (Refuses d n why x) h = replied d _ (refused_alike c w p d n why x h)
+    calm_ends c w p _ (Answers d n what x) h = replied (took_over m d d.view) _ (took_alike d d.view (answered_alike c w p d n what x h))
+    calm_ends c w p _ (Tells d ns x) h = replied d ns (told_alike c w p d ns x h)
+
+    pub calm_turn : (c : Client m) (w : Work m) (p : Place' m) → CalmAt c w p → Plain b (becomes m c w p)
+    calm_turn = along m CalmAt (Plain b) calm_ends calm_way (over_walks m CalmAt (Plain b) calm_ends calm_walked)
 
   pub on_sync_plain : (c : Client m) (w : Work m) (t : Turn Sync Confirmed) → OnlyLearns c.stand t.besides → Plain c (on_sync m c w t)
-  on_sync_plain c w t q = from_alike c (after_turn m c t) _ (record { stand = refl; num = refl; layouts = refl }) (sync_to_plain t.besides (after_turn m c t) (met m w t) t.to q)
-
-  starts_plain : (c : Client m) (w : Work m) (os : List Oid) (over : Bool) → Plain c (starts_over m c w os over)
-  starts_plain c w os true = walks_plain w.oids c _
-  starts_plain c w os false = walks_plain os c w
-
-  at_trim_plain : (c : Client m) (w : Work m) (os : List Oid) (s over : Bool) → Plain c (at_trim m c w os s over)
-  at_trim_plain c w os true over = ways.sync c c w w.oids (same c)
-  at_trim_plain c w os false over = starts_plain c w os over
-
-  given_up_plain : (b : Bool) (c : Client m) (x : Moved m) → Plain (given_up_if m b c) x → Plain c x
-  given_up_plain true c x p = from_alike c (record c { view = None }) x (record { stand = refl; num = refl; layouts = refl }) p
-  given_up_plain false c x p = p
-
-  ended_plain : (c : Client m) (w : Work m) (o : Oid) (os : List Oid) (x : Members) (g : Option ℕ) → Plain c (walk_ended_by m c w o os x g)
-  ended_plain c w o os x None = walks_plain os c w
-  ended_plain c w o os x (Some b) = given_up_plain (gives_up m c w b) c _ (at_trim_plain (given_up_if m (gives_up m c w b) c) w os _ _)
-
-  walk_ended_plain : (c : Client m) (w : Work m) (o : Oid) (os : List Oid) (x : Members) → Plain c (walk_ended m c w o os x)
-  walk_ended_plain c w o os x = from_alike c (takes_back m c x) _ (record { stand = refl; num = refl; layouts = refl }) (ended_plain (takes_back m c x) (found_by m w o x) o os x x.gone)
-
-  walk_to_plain : (c : Client m) (w : Work m) (o : Oid) (os : List Oid) (to : Next Walk Members) → Plain c (walk_to m c w o os to)
-  walk_to_plain c w o os (Goes x) = record { stand = refl; num = refl; layouts = refl; calm = tt; quiet = none_learns _ }
-  walk_to_plain c w o os (Learns x) = learns_plain c w (Walking x os) tt
-  walk_to_plain c w o os (Ends x) = walk_ended_plain c w o os x
+  on_sync_plain c w t q = calm_turn c (after_turn m c t) (met m w t) (OnSync t.besides t.to) ((refl, refl, refl), q)
 
   pub on_walk_plain : (c : Client m) (w : Work m) (o : Oid) (os : List Oid) (t : Turn Walk Members) → Plain c (on_walk m c w o os t)
-  on_walk_plain c w o os t = from_alike c (after_turn m c t) _ (record { stand = refl; num = refl; layouts = refl }) (walk_to_plain (after_turn m c t) (met m w t) o os t.to)
-
-  decided_plain : (c : Client m) (x : CommandOf m) (what : WhatOf m) → Plain c (decided_for m c x what)
-  decided_plain c x what = grind (arith, idle_plain)
-
-  append_ended_plain : (c : Client m) (w : Work m) (x : Purpose m) (e : AppendEnd) → Plain c (append_ended m c w x e)
-  append_ended_plain c w Judged (At p d) = ways.sync c (owns m c p d) _ c.hosted (record { next = refl; stand = refl; num = refl; layouts = refl })
-  append_ended_plain c w Writes e = grind (arith, idle_plain)
-  append_ended_plain c w Judged e = grind (arith, idle_plain)
-  append_ended_plain c w (Decides x) (At p d) = from_alike c (knows_page m c p d) _ (record { stand = refl; num = refl; layouts = refl }) (decided_plain (knows_page m c p d) w.command x)
-  append_ended_plain c w (Decides x) e = decided_plain c w.command x
-  append_ended_plain c w (Rescues x) e = grind (arith, idle_plain)
-  append_ended_plain c w (Saves o u) e = grind (arith, idle_plain)
-  append_ended_plain c w (Marks n o u) e = grind (arith, idle_plain)
-
-  append_to_plain : (bs : List Out) (c : Client m) (w : Work m) (x : Purpose m) (to : Next Append AppendEnd) → OnlyLearns c.stand bs → Plain c (append_to m c w x bs to)
-  append_to_plain bs c w x (Goes a) q = record { stand = refl; num = refl; layouts = refl; calm = tt; quiet = q }
-  append_to_plain bs c w x (Learns a) q = learns_plain c w (Appending a x) tt
-  append_to_plain bs c w x (Ends e) q = append_ended_plain c w x e
+  on_walk_plain c w o os t = calm_turn c (after_turn m c t) (met m w t) (OnWalk o os t.to) ((refl, refl, refl), tt)
 
   pub on_append_plain : (c : Client m) (w : Work m) (x : Purpose m) (t : Turn Append AppendEnd) → OnlyLearns c.stand t.besides → Plain c (on_append m c w x t)
-  on_append_plain c w x t q = from_alike c (after_turn m c t) _ (record { stand = refl; num = refl; layouts = refl }) (append_to_plain t.besides (after_turn m c t) (met m w t) x t.to q)
-
-  trim_to_plain : (c : Client m) (w : Work m) (b : ℕ) (to : Next Trims Trimmed) → Plain c (trim_to m c w b to)
-  trim_to_plain c w b (Goes t) = record { stand = refl; num = refl; layouts = refl; calm = tt; quiet = none_learns _ }
-  trim_to_plain c w b (Learns t) = learns_plain c w (Trimming t) tt
-  trim_to_plain c w b (Ends e) = grind (arith, idle_plain)
+  on_append_plain c w x t q = calm_turn c (after_turn m c t) (met m w t) (OnAppend x t.besides t.to) ((refl, refl, refl), q)
 
   pub on_trims_plain : (c : Client m) (w : Work m) (b : ℕ) (t : Turn Trims Trimmed) → Plain c (on_trims m c w b t)
-  on_trims_plain c w b t = from_alike c (after_turn m c t) _ (record { stand = refl; num = refl; layouts = refl }) (trim_to_plain (after_turn m c t) (met m w t) b t.to)
-
-  copy_to_plain : (c : Client m) (w : Work m) (x : Copying) (to : Next Copying CopyEnd) → Plain c (copy_to m c w x to)
-  copy_to_plain c w x (Goes y) = record { stand = refl; num = refl; layouts = refl; calm = tt; quiet = none_learns _ }
-  copy_to_plain c w x (Learns y) = learns_plain c w (Copying' y) tt
-  copy_to_plain c w x (Ends e) = idle_plain c _ refl refl (record { next = refl; stand = refl; num = refl; layouts = refl })
+  on_trims_plain c w b t = calm_turn c (after_turn m c t) (met m w t) (OnTrims b t.to) ((refl, refl, refl), tt)
 
   pub on_copy_plain : (c : Client m) (w : Work m) (x : Copying) (t : Turn Copying CopyEnd) → Plain c (on_copy m c w x t)
-  on_copy_plain c w x t = from_alike c (after_turn m c t) _ (record { stand = refl; num = refl; layouts = refl }) (copy_to_plain (after_turn m c t) (met m w t) x t.to)
+  on_copy_plain c w x t = calm_turn c (after_turn m c t) (met m w t) (OnCopy x t.to) ((refl, refl, refl), tt)
 
   -- Commands.
 
   pub syncs_plain : (c : Client m) (w : Work m) (os : List Oid) → Plain c (syncs m c w os)
-  syncs_plain c w os = ways.sync c c w os (same c)
+  unfolding syncs sync_start
+  syncs_plain c w os = record { stand = refl; num = refl; layouts = refl; calm = tt; quiet = none_learns _ }
 
   pub host_plain : (c : Client m) (o : Oid) → c.work ≡ None → Plain c (step.hosts_more m c o (hosts_oid m c o))
   host_plain c o e = grind (arith, idle_plain)
@@ -271,13 +260,59 @@ module _ (m : Meaning) where
   asks_by_plain c x o q t (Some at) e = grind (arith, idle_plain)
 
   pub asks_plain : (c : Client m) (x : CommandOf m) (o : Oid) (q : m.ask) (t : Option Tx) → c.work ≡ None → Plain c (step.asks m c x o q t)
-  asks_plain c x o q None e = idle_plain c _ e refl (same c)
+  asks_plain c x o q None e = idle_plain c _ e refl (record { next = refl; stand = refl; num = refl; layouts = refl })
   asks_plain c x o q (Some t) e = asks_by_plain c x o q t t.snapshot e
 
   end_by_plain : (c : Client m) (x : CommandOf m) (t : Tx) (b : Bool) → c.work ≡ None → Plain c (step.end_by m c x t b)
+  unfolding appends append_start
   end_by_plain c x t true e = idle_plain c _ e refl (record { next = refl; stand = refl; num = refl; layouts = refl })
-  end_by_plain c x t false e = ways.append c c _ _ _ _ (same c)
+  end_by_plain c x t false e = record { stand = refl; num = refl; layouts = refl; calm = tt; quiet = none_learns _ }
 
   pub ends_plain : (c : Client m) (x : CommandOf m) (t : Option Tx) → c.work ≡ None → Plain c (step.ends m c x t)
-  ends_plain c x None e = idle_plain c _ e refl (same c)
+  ends_plain c x None e = idle_plain c _ e refl (record { next = refl; stand = refl; num = refl; layouts = refl })
   ends_plain c x (Some t) e = end_by_plain c x t _ e
+
+  -- All commands but a reconfiguration.
+
+  abbrev pub NoReconf : CommandOf m → Type 0
+  NoReconf (cmd.Reconf x) = ⊥
+  NoReconf x = Unit {0}
+
+  said_same : (c : Client m) (x : CommandOf m) (d : Client m) (ns : List (NoteOf m)) → IsSaid m c x d ns → Same m c d
+  said_same c _ _ _ Begins = record { next = refl; stand = refl; num = refl; layouts = refl }
+  said_same c _ _ _ s = record { next = refl; stand = refl; num = refl; layouts = refl }
+
+  taken_plain : (c : Client m) (x : CommandOf m) → NoReconf x → c.work ≡ None → (y : Moved m) → Taken m c x y → Plain c y
+  unfolding appends append_start syncs sync_start
+  taken_plain c _ k free _ (SaidAtOnce x d ns s) = idle_plain c (moved m d ns) (said_work m c x d ns s ∙ free) refl (said_same c x d ns s)
+  taken_plain c _ k free _ (ReconfBegins x n r e) = absurd k
+  taken_plain c _ k free _ x = record { stand = refl; num = refl; layouts = refl; calm = tt; quiet = none_learns _ }
+
+  pub accepts_plain : (c : Client m) (x : CommandOf m) → NoReconf x → c.work ≡ None → Plain c (accepts m c x)
+  accepts_plain c x k free = taken_plain c x k free (accepts m c x) (taken m c x)
+
+  -- A delivery: by what comes of it for a reconfiguration, and of the plain turn of any other task.
+  module _ (Good : Moved m → Type 0) where
+    abbrev pub Fed : Client m → Work m → Task m → ℕ → ℕ → Reply → Type 0
+    Fed c w (Reconfiguring r) n rid x = Good (on_reconf m c w (reconf_fed m c r n rid x))
+    Fed c w t n rid x = (y : Moved m) → Plain c y → Good y
+
+    abbrev pub Heard : Client m → Work m → Task m → ℕ → ℕ → Layout → Type 0
+    Heard c w (Reconfiguring r) n rid q = Good (on_reconf m c w (reconf_newer m c r n rid q))
+    Heard c w t n rid q = (y : Moved m) → Plain (stands m c q) y → Good y
+
+    fed_plain : (c : Client m) (w : Work m) (t : Task m) (n rid : ℕ) (x : Reply) → Fed c w t n rid x → Good (task_feed m c w t n rid x)
+    unfolding task_feed
+    fed_plain c w (Reconfiguring r) n rid x h = h
+    fed_plain c w t n rid x h = h _ (calm_turn c c w (Feeds t n rid x) ((refl, refl, refl), tt))
+
+    heard_plain : (c : Client m) (w : Work m) (t : Task m) (n rid : ℕ) (q : Layout) → Heard c w t n rid q → Good (on_newer m c w t n rid q)
+    heard_plain c w (Reconfiguring r) n rid q h = h
+    heard_plain c w t n rid q h = h _ (calm_turn (stands m c q) c w (Newer t n rid q) ((refl, refl, refl), tt))
+
+    pub delivered_plain : (c : Client m) (from : NodeId) (rid : ℕ) (x : Reply) → Good (moved m c [])
+        → ((w : Work m) (t : Task m) → c.work ≡ Some w → w.hand ≡ Doing t → awaits (task_awaited m c.stand t) from rid ≡ true → Fed c w t from.num rid x)
+        → ((w : Work m) (q : Layout) → c.work ≡ Some w → x ≡ IsLatest q → (node_eq from (layout_id from.num) && nat_lt c.stand.epoch q.epoch) ≡ true → Heard c w (task_in m w.hand) from.num rid q)
+        → Good (step.feed m c c.work from rid x)
+    delivered_plain c from rid x still fed heard = handed m Good c from rid x still (λ w t has doing a other. fed_plain c w t from.num rid x (fed w t has doing a))
+        (λ w q has is e. heard_plain c w (task_in m w.hand) from.num rid q (heard w q has is e))

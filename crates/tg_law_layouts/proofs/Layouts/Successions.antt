@@ -16,7 +16,7 @@ use Rattle.tg_protocol.specs.Layouts.{units_of, next_of, next_units, change_faul
 use Rattle.tg_protocol.specs.Requests.{Waits, waits_for, without_wait, Next, Goes, Learns, Ends, passes, awaits}
 use Rattle.tg_protocol.specs.Replies.{Reply, reply}
 use Rattle.tg_protocol.specs.Replies as replied
-use Rattle.tg_protocol.specs.Trimming.{has_stripe, learns_if, Copying, trim_feed, trim_start, copy_feed, copy_start}
+use Rattle.tg_protocol.specs.Trimming.{has_stripe, learns_if}
 use Rattle.tg_protocol.specs.Following.{acks_of}
 use Rattle.tg_protocol.specs.Reconfiguring.{Acks, Before, Stage, Preparing, Accepting, Later, Voting, ReconfWork, SealingSpare, LookingSpare, Sealing, LookingAgain, Agreeing, Telling, Starting, Reconf, ReconfEnd, Installed, Overtaken, NotWhole, reconf_start, ReconfTurn, next_epoch, seals, looks_if, seals_if, first_step, proposes, after_seals, seals_left, sealed_if, greater, greatest, value_or, promised_on, accepted_on, sets_if, nacked, same_vote, is_of_epoch, promised, accepted, stage_feed, begun, is_answer, later_feed, has_rid, vote_feed, started_if, reconf_feed, adopts, heard_on, heard, own_decided, on_newer, is_own, reconf_latest}
 use Rattle.tg_law_layouts.proofs.Moves.Members.{Has, has_map, has_filter}
@@ -25,15 +25,11 @@ use Rattle.tg_kind.specs.Meaning.{Meaning}
 use Rattle.tg_model.specs.Kinds.{CommandOf}
 use Rattle.tg_model.specs.declared.refusal.Refusal.{Refusal}
 use Rattle.tg_model.specs.declared.command.Command.TheVariants as cmd
-use Rattle.tg_protocol.specs.Syncing.{sync_again}
-use Rattle.tg_protocol.specs.Walking.{walk_feed, walk_again}
-use Rattle.tg_protocol.specs.Trimming as copying
-use Rattle.tg_protocol.specs.Clients.{Task, Syncing, Walking, Appending, Trimming, Copying', Reconfiguring, Hand, Doing, Learning, Work, Client}
+use Rattle.tg_protocol.specs.Clients.{Task, Reconfiguring, Hand, Doing, Work, Client}
 use Rattle.tg_protocol.specs.Answers.{Moved}
-use Rattle.tg_protocol.specs.ClientSteps.{task_awaited, task_in, task_feed, task_again, copies_again, stands, accepts, new_work, refused_or, reconf_to, on_reconf, after_turn}
+use Rattle.tg_protocol.specs.ClientSteps.{task_awaited, task_in, stands, accepts, new_work, refused_or, reconf_to, on_reconf, after_turn}
 use Rattle.tg_protocol.specs.ClientSteps as step
-use Rattle.tg_law_layouts.proofs.Moves.Besides.{sync_besides, append_besides, append_again_besides, sync_again_besides}
-use Rattle.tg_law_layouts.proofs.Layouts.Plain.{on_sync_plain, on_walk_plain, on_append_plain, on_trims_plain, on_copy_plain, host_plain, begin_plain, put_plain, asks_plain, ends_plain, drop_plain, syncs_plain, WorkCalm, Plain}
+use Rattle.tg_law_layouts.proofs.Layouts.Plain.{WorkCalm, Plain, accepts_plain, Fed, Heard, delivered_plain}
 use Rattle.tg_law_layouts.proofs.Layouts.Pax.{task_reconf, reconf_of, calm_none}
 
 -- what is known of each proposal besides is X
@@ -588,71 +584,35 @@ module _ (m : Meaning) (ps : List Packet) (K : Layout → Type 0) (X : Layout �
       by (Ends (Overtaken e p)) h = record { hand = tt }
       by (Ends (NotWhole u i p)) h = record { hand = tt }
 
-  copies_good : (c : Client m) (w : Work m) (y : Copying) (f : Option Refusal) → MovedGood (copies_again m c w y f)
-  copies_good c w y None = plain_good c _ (on_copy_plain m c w y (copy_start y.unit y.range y.stripe c.next))
-  copies_good c w y (Some why) = record { hand = tt }
-
   -- what an awaited answer tells a reconfiguration
   abbrev pub HearsSeal : Option Reconf → ℕ → Reply → Type 0
   HearsSeal None n x = Unit {0}
   HearsSeal (Some r) n x = SealTold ps K X r r.work n x × PromiseTold ps K X r.work x
 
   module _ (x : Packet) where
-    task_good : (c : Client m) (w : Work m) (t : Task m) → ReconfGood (task_reconf m t) → HearsSeal (task_reconf m t) x.from.num (reply x.msg) → MovedGood (task_feed m c w t x.from.num x.rid (reply x.msg))
-    unfolding task_feed
+    task_good : (c : Client m) (w : Work m) (t : Task m) → ReconfGood (task_reconf m t) → HearsSeal (task_reconf m t) x.from.num (reply x.msg) → Fed m MovedGood c w t x.from.num x.rid (reply x.msg)
     task_good c w (Reconfiguring r) h s = turn_good c w (reconf_feed r r.work x.from.num x.rid (reply x.msg) c.next) (feed_good ps K X r r.work x.from.num x.rid (reply x.msg) c.next h h s.0 s.1)
-    task_good c w (Syncing y) h s = plain_good c _ (on_sync_plain m c w _ (sync_besides c.stand y y.work x.from.num (reply x.msg) c.next))
-    task_good c w (Walking y os) h s = plain_good c _ (on_walk_plain m c w y.oid os (walk_feed c.stand y y.job x.from.num (reply x.msg) c.next))
-    task_good c w (Appending y z) h s = plain_good c _ (on_append_plain m c w z _ (append_besides c.stand y y.token y.work x.from.num (reply x.msg) c.next refl))
-    task_good c w (Trimming t) h s = plain_good c _ (on_trims_plain m c w t.below (trim_feed c.stand t x.from.num (reply x.msg) c.next))
-    task_good c w (Copying' y) h s = plain_good c _ (on_copy_plain m c w y (copy_feed c.stand y y.work x.from.num (reply x.msg) c.next))
+    task_good c w t h s = plain_good c
 
-    again_good : (c : Client m) (w : Work m) (t : Task m) (q : Layout) → ReconfGood (task_reconf m t) → MovedGood (step.on_newer m c w t x.from.num x.rid q)
-    unfolding task_again
+    again_good : (c : Client m) (w : Work m) (t : Task m) (q : Layout) → ReconfGood (task_reconf m t) → Heard m MovedGood c w t x.from.num x.rid q
     again_good c w (Reconfiguring r) q h = turn_good c w (reconf_latest r r.work x.from.num x.rid q c.next) (latest_good ps K X r r.work x.from.num x.rid q c.next h)
-    again_good c w (Syncing s) q h = plain_good (stands m c q) _ (on_sync_plain m (stands m c q) _ (sync_again s c.next) (sync_again_besides q s c.next))
-    again_good c w (Walking y os) q h = plain_good (stands m c q) _ (on_walk_plain m (stands m c q) w y.oid os (walk_again q y c.next))
-    again_good c w (Appending y z) q h = plain_good (stands m c q) _ (on_append_plain m (stands m c q) w z _ (append_again_besides q y c.next))
-    again_good c w (Trimming t) q h = plain_good (stands m c q) _ (on_trims_plain m (stands m c q) w t.below (trim_start q t.below c.next))
-    again_good c w (Copying' y) q h = copies_good (stands m c q) w y _
-
-    fed_good : (b : Bool) (c : Client m) (w : Work m) (t : Task m) → awaits (task_awaited m c.stand t) x.from x.rid ≡ b → ReconfGood (reconf_of m c.work) → ReconfGood (task_reconf m t) → (awaits (task_awaited m c.stand t) x.from x.rid ≡ true → HearsSeal (task_reconf m t) x.from.num (reply x.msg))
-        → MovedGood (step.fed_if m b c w t x.from x.rid (reply x.msg))
-    fed_good true c w t a k h s = task_good c w t h (s a)
-    fed_good false c w t a k h s = record { hand = k }
-
-    hand_good : (c : Client m) (w : Work m) (d : Hand m) → ReconfGood (reconf_of m c.work) → ReconfGood (task_reconf m (task_in m d)) → ((t : Task m) → d ≡ Doing t → awaits (task_awaited m c.stand t) x.from x.rid ≡ true → HearsSeal (task_reconf m t) x.from.num (reply x.msg))
-        → MovedGood (step.hand_feed m c w d x.from x.rid (reply x.msg))
-    hand_good c w (Doing t) k h s = fed_good _ c w t refl k h (λ a. s t refl a)
-    hand_good c w (Learning ws t) k h s = record { hand = k }
-
-    newest_good : (b : Bool) (c : Client m) (w : Work m) (q : Layout) → ReconfGood (reconf_of m c.work) → ReconfGood (task_reconf m (task_in m w.hand)) → MovedGood (step.latest_if m b c w x.from x.rid q)
-    newest_good true c w q k h = again_good c w (task_in m w.hand) q h
-    newest_good false c w q k h = record { hand = k }
-
-    reply_good : (c : Client m) (w : Work m) (y : Reply) → reply x.msg ≡ y → ReconfGood (reconf_of m c.work) → ReconfGood (task_reconf m (task_in m w.hand)) → ((t : Task m) → w.hand ≡ Doing t → awaits (task_awaited m c.stand t) x.from x.rid ≡ true → HearsSeal (task_reconf m t) x.from.num (reply x.msg))
-        → MovedGood (step.reply_feed m c w x.from x.rid y)
-    reply_good c w (replied.IsLatest q) is k h s = newest_good _ c w q k h
-    reply_good c w y is k h s = subst (λ (z : Reply). MovedGood (step.hand_feed m c w w.hand x.from x.rid z)) is (hand_good c w w.hand k h s)
+    again_good c w t q h = plain_good (stands m c q)
 
     pub delivered_good : (c : Client m) (o : Option (Work m)) → c.work ≡ o → ReconfGood (reconf_of m c.work) → ((w : Work m) (t : Task m) → o ≡ Some w → w.hand ≡ Doing t → awaits (task_awaited m c.stand t) x.from x.rid ≡ true → HearsSeal (task_reconf m t) x.from.num (reply x.msg))
         → MovedGood (step.feed m c o x.from x.rid (reply x.msg))
-    delivered_good c None e k s = record { hand = k }
-    delivered_good c (Some w) e k s = reply_good c w (reply x.msg) refl k (subst (λ (o : Option (Work m)). ReconfGood (reconf_of m o)) e k) (λ t i a. s w t refl i a)
+    delivered_good c o e k s = subst (λ (u : Option (Work m)). MovedGood (step.feed m c u x.from x.rid (reply x.msg))) e (delivered_plain m MovedGood c x.from x.rid (reply x.msg) (record { hand = k })
+        (λ w t has doing a. task_good c w t (subst (λ (d : Hand m). ReconfGood (task_reconf m (task_in m d))) doing (held w has)) (s w t (sym e ∙ has) doing a))
+        (λ w q has is a. again_good c w (task_in m w.hand) q (held w has)))
+      where
+        held : (w : Work m) → c.work ≡ Some w → ReconfGood (task_reconf m (task_in m w.hand))
+        held w has = subst (λ (o : Option (Work m)). ReconfGood (reconf_of m o)) has k
 
   -- Commands.
 
   accepts_good : (c : Client m) (x : CommandOf m) → c.work ≡ None → K c.stand → ((y : Changed) → x ≡ cmd.Reconf y → (change_fault c.stand y ≡ None) × IsChange y) → MovedGood (accepts m c x)
   unfolding accepts reconf_start
   accepts_good c (cmd.Reconf x) e k f = turn_good c (new_work m (cmd.Reconf x)) (reconf_start c.stand c.layouts x c.num c.next) (first_good ps K X (record { change = x; me = c.num; layouts = c.layouts; stand = c.stand; work = SealingSpare 0 }) c.next x.join (record { known = k; allowed = (f x refl).0; lawful = (f x refl).1 }))
-  accepts_good c (cmd.Copy u r s) e k f = copies_good c (new_work m (cmd.Copy u r s)) (record { unit = u; range = r; stripe = s; work = copying.Sealing 0 }) None
-  accepts_good c (cmd.Host o) e k f = plain_good c _ (host_plain m c o e)
-  accepts_good c cmd.Begin e k f = plain_good c _ (begin_plain m c e)
-  accepts_good c (cmd.Put o op) e k f = plain_good c _ (put_plain m c o op e)
-  accepts_good c (cmd.Ask o q) e k f = plain_good c _ (asks_plain m c _ o q c.tx e)
-  accepts_good c cmd.End e k f = plain_good c _ (ends_plain m c _ c.tx e)
-  accepts_good c cmd.Drop e k f = plain_good c _ (drop_plain m c e)
-  accepts_good c x e k f = plain_good c _ (syncs_plain m c (new_work m x) c.hosted)
+  accepts_good c x e k f = plain_good c _ (accepts_plain m c x tt e)
 
   pub commanded_good : (c : Client m) (x : CommandOf m) (o : Option Refusal) → (o ≡ None → c.work ≡ None) → (o ≡ None → (y : Changed) → x ≡ cmd.Reconf y → (change_fault c.stand y ≡ None) × IsChange y) → K c.stand → ReconfGood (reconf_of m c.work) → MovedGood (refused_or m c x o)
   commanded_good c x None free f n k = accepts_good c x (free refl) n (f refl)

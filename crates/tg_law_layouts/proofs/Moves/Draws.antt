@@ -85,9 +85,9 @@ besides old next to m = record { up = omega arith; new = out to next m ∷ []; i
     by o (inl e) = inr (inl e)
     by o (inr h) = inl h
 
--- all is new, from a later number on
-pub later : (old : List Out) (next mid : ℕ) (now : List Out) (end : ℕ) → next ≤ mid → Drawn [] mid now end → Drawn old next now end
-later old next mid now end le d = record {
+-- from fewer requests and a later number
+pub wider : (old more : List Out) (next mid : ℕ) (now : List Out) (end : ℕ) → next ≤ mid → ((o : Out) → Has old o → Has more o) → Drawn old mid now end → Drawn more next now end
+wider old more next mid now end le k d = record {
   up = let a = d.up in omega (arith, le, a);
   new = d.new;
   is_new = record {
@@ -98,9 +98,13 @@ later old next mid now end le d = record {
   either = λ o h. by o (d.either o h);
 }
   where
-    by : (o : Out) → Has [] o ⊎ Has d.new o → Has old o ⊎ Has d.new o
-    by o (inl h) = absurd h
+    by : (o : Out) → Has old o ⊎ Has d.new o → Has more o ⊎ Has d.new o
+    by o (inl h) = inl (k o h)
     by o (inr h) = inr h
+
+-- all is new, from a later number on
+pub later : (old : List Out) (next mid : ℕ) (now : List Out) (end : ℕ) → next ≤ mid → Drawn [] mid now end → Drawn old next now end
+later old next mid now end le d = wider [] old next mid now end le (λ o h. absurd h) d
 
 has_mapped : {X Y : Type 0} → (f : X → Y) (xs : List X) (x : X) → Has xs x → Has (map f xs) (f x)
 has_mapped f [] x h = absurd h
@@ -122,6 +126,19 @@ NextDraws asks old next besides end (Ends e) = next ≤ end
 
 abbrev pub TurnDraws : {M E : Type 0} → (M → List Out) → List Out → ℕ → Turn M E → Type 0
 TurnDraws asks old next t = NextDraws asks old next t.besides t.next t.to
+
+-- a turn draws no number below its next
+pub next_up : {M E : Type 0} → (asks : M → List Out) (old : List Out) (next : ℕ) (bs : List Out) (end : ℕ) (to : Next M E) → NextDraws asks old next bs end to → next ≤ end
+next_up asks old next bs end (Goes x) d = d.up
+next_up asks old next bs end (Learns x) d = d.0
+next_up asks old next bs end (Ends e) d = d
+
+-- from fewer requests and a later number
+pub next_wider : {M E : Type 0} → (asks : M → List Out) (old more : List Out) (next mid : ℕ) (bs : List Out) (end : ℕ) (to : Next M E) → next ≤ mid → ((o : Out) → Has old o → Has more o) → NextDraws asks old mid bs end to
+    → NextDraws asks more next bs end to
+next_wider asks old more next mid bs end (Goes x) le k d = wider old more next mid _ end le k d
+next_wider asks old more next mid bs end (Learns x) le k d = (let a = d.0 in omega (arith, le, a), λ o h. k o (d.1 o h))
+next_wider asks old more next mid bs end (Ends e) le k d = omega (arith, le, d)
 
 -- what goes besides may be passed over
 pub without : (old : List Out) (next : ℕ) (xs now : List Out) (end : ℕ) → Drawn old next (xs ++ now) end → Drawn old next now end

@@ -1,5 +1,5 @@
 -- A put that isn't refused has an op that a page has room for.
-use Rattle.std.proofs.Common.{◌≡◌, ℕ, ◌+◌, ◌≤◌, Bool, true, false, List, [], ◌∷◌, ◌++◌, length, map, Option, Some, None, refl, sym, subst, arith}
+use Rattle.std.proofs.Common.{◌≡◌, ℕ, ◌≤◌, Bool, true, false, List, [], ◌∷◌, ◌++◌, length, map, Option, Some, None, refl, arith}
 use Rattle.std.specs.Prelude.{not, nat_lt, nat_le, is_some}
 use Rattle.std.proofs.lemmas.Bool.Decides.{nat_tests}
 use Rattle.tg_base.specs.declared.fault.Many.TheVariants as many
@@ -10,7 +10,7 @@ use Rattle.tg_kind.specs.Meaning.{Meaning}
 use Rattle.tg_model.specs.declared.command.Command.TheVariants as cmd
 use Rattle.tg_model.specs.declared.refusal.Refusal.TheVariants as cause
 use Rattle.tg_protocol.specs.Words.{first_some, where_true}
-use Rattle.tg_protocol.specs.Entries.{sum_of, read_size, write_size, head_size}
+use Rattle.tg_protocol.specs.Entries.{sum_of, write_size}
 use Rattle.tg_protocol.specs.Transactions.{Tx, TxFault, TooMany, TooLarge, too_large, record_size, tx_streams, write_fault}
 use Rattle.tg_protocol.specs.Clients.{Client, busy, no_tx, wrong_kind, not_registered, put_fault, by_tx, write_of, tests, refusal}
 

@@ -1,6 +1,5 @@
 -- The request numbers that a reconfiguration draws.
-use Rattle.std.proofs.Common.{◌≡◌, ◌⊎◌, ℕ, zero, suc, ◌+◌, List, [], ◌∷◌, ◌++◌, length, Bool, true, false, refl, sym, ap, subst, inl, inr, arith, Some, None, Option}
-use Rattle.std.specs.Prelude.{if◌then◌else◌, ◌==◌, ◌&&◌}
+use Rattle.std.proofs.Common.{◌≡◌, ◌⊎◌, ℕ, zero, suc, ◌+◌, List, [], ◌∷◌, ◌++◌, length, refl, sym, ap, subst, inl, inr, arith, Some, None, Option}
 use Rattle.tg_base.specs.Layouts.{Layout}
 use Rattle.tg_base.specs.Changes.{Changed}
 use Rattle.tg_base.specs.declared.change.Join.{Join}
@@ -9,15 +8,13 @@ use Rattle.tg_base.specs.declared.msg.Msg.{Msg}
 use Rattle.tg_base.specs.declared.msg.Msg.TheVariants as msg
 use Rattle.tg_base.specs.declared.packet.Out.{Out}
 use Rattle.tg_protocol.specs.Words.{unit_id, layout_id, numbers}
-use Rattle.tg_proj.specs.Refusals.{new_start}
-use Rattle.tg_protocol.specs.Layouts.{next_units, next_of}
-use Rattle.tg_protocol.specs.Requests.{out, Waits, waits_for, asked_of, without_wait, passes}
+use Rattle.tg_protocol.specs.Layouts.{next_units}
+use Rattle.tg_protocol.specs.Requests.{out, Waits, waits_for, asked_of, without_wait}
 use Rattle.tg_protocol.specs.Replies.{Reply}
-use Rattle.tg_protocol.specs.Replies as reply
-use Rattle.tg_protocol.specs.Trimming.{learns_if}
-use Rattle.tg_protocol.specs.Reconfiguring.{Acks, Before, Stage, Preparing, Accepting, Later, Voting, ReconfWork, SealingSpare, LookingSpare, Sealing, LookingAgain, Agreeing, Telling, Starting, Reconf, ReconfTurn, next_epoch, servers, ballot_of, is_majority, join_asks, stage_asks, reconf_work_asks, set_asks, later_asks, reconf_awaited, seals, first_step, reconf_start, looks_if, seals_if, prepares, after_seals, seals_left, sealed_if, greatest, value_or, promised_on, promised, tells, accepted_on, accepted, sets_if, nacked, same_vote, is_of_epoch, stage_feed, begun, is_answer, later_feed, has_rid, vote_feed, started_if, reconf_feed, adopts, heard_on, heard, own_decided, on_newer, is_own, reconf_latest}
+use Rattle.tg_protocol.specs.Reconfiguring.{Acks, proposes, round_after, Stage, Accepting, Later, Voting, Reconf, ReconfTurn, next_epoch, servers, ballot_of, join_asks, stage_asks, reconf_work_asks, set_asks, reconf_awaited, seals, reconf_start, greatest, value_or, tells, reconf_feed, reconf_latest}
 use Rattle.tg_law_layouts.proofs.Moves.Members.{Has, has_left, has_right, has_either}
 use Rattle.tg_law_layouts.proofs.Moves.Draws.{Drawn, IsNew, TurnDraws, keeps, same, news, none_new, one_new, all_new, draws_one, draws_all, fewer_asked}
+use Rattle.tg_law_steps.proofs.Machines.Reconfs as turns
 
 abbrev ReconfDraws : List Out → ℕ → ReconfTurn → Type 0
 ReconfDraws old next t = TurnDraws reconf_awaited old next t
@@ -41,14 +38,13 @@ seals_draws : (old : List Out) (r : Reconf) (next : ℕ) → ReconfDraws old nex
 unfolding reconf_work_asks
 seals_draws old r next = alone old next _ _ (draws_all old next unit_id _ (next_units r.stand r.change))
 
-first_draws : (r : Reconf) (next : ℕ) (j : Option Join) → ReconfDraws [] next (first_step r next j)
+begun_draws : (r : Reconf) (next : ℕ) (t : ReconfTurn) → turns.Begun r next t → ReconfDraws [] next t
 unfolding reconf_work_asks
-first_draws r next None = seals_draws [] r next
-first_draws r next (Some j) = draws_join [] r.change.join next (λ x. unit_id x.unit) (λ x. msg.Seal r.stand.epoch)
+begun_draws r next _ (turns.JoinsNone e) = seals_draws [] r next
+begun_draws r next _ (turns.Joins j e) = draws_join [] r.change.join next (λ x. unit_id x.unit) (λ x. msg.Seal r.stand.epoch)
 
 pub reconf_start_draws : (p : Layout) (layouts : ℕ) (c : Changed) (me next : ℕ) → ReconfDraws [] next (reconf_start p layouts c me next)
-unfolding reconf_start
-reconf_start_draws p layouts c me next = first_draws (record { change = c; me = me; layouts = layouts; stand = p; work = SealingSpare 0 }) next c.join
+reconf_start_draws p layouts c me next = begun_draws _ next _ (turns.reconf_begun p layouts c me next)
 
 pub numbers_long : (n first : ℕ) → length (numbers n first) ≡ n
 numbers_long zero first = refl
@@ -58,37 +54,9 @@ numbers_long (suc n) first = ap suc (numbers_long n (first + 1))
 servers_draw : (old : List Out) (r : Reconf) (next : ℕ) (m : Msg) → Drawn old next (asked_of layout_id m (waits_for (servers r) next) ++ []) (next + r.layouts)
 servers_draw old r next m = subst (λ n. Drawn old next (asked_of layout_id m (waits_for (servers r) next) ++ []) (next + n)) (numbers_long r.layouts 0) (alone old next _ _ (draws_all old next layout_id m (servers r)))
 
-looks_draws : (r : Reconf) (next : ℕ) (b : Bool) → ReconfDraws (reconf_awaited r) next (looks_if r next b)
+proposes_draws : (old : List Out) (r : Reconf) (acks : Acks) (next : ℕ) → ReconfDraws old next (proposes r acks next)
 unfolding reconf_work_asks
-looks_draws r next true = draws_join _ r.change.join next _ _
-looks_draws r next false = same _ next
-
-seals_if_draws : (r : Reconf) (next : ℕ) (b : Bool) → ReconfDraws (reconf_awaited r) next (seals_if r next b)
-seals_if_draws r next true = seals_draws _ r next
-seals_if_draws r next false = same _ next
-
-prepares_draws : (old : List Out) (r : Reconf) (own : Layout) (next : ℕ) → ReconfDraws old next (prepares r own next)
-unfolding reconf_work_asks
-prepares_draws old r own next = servers_draw old r next _
-
-after_seals_draws : (old : List Out) (r : Reconf) (acks : Acks) (next : ℕ) (j : Option Join) → ReconfDraws old next (after_seals r acks next j)
-unfolding reconf_work_asks
-after_seals_draws old r acks next None = prepares_draws old r (next_of r.stand r.change r.me (new_start r.stand.start acks)) next
-after_seals_draws old r acks next (Some j) = draws_join old r.change.join next _ _
-
-seals_left_draws : (old : List Out) (r : Reconf) (ws : Waits) (acks : Acks) (next : ℕ) → ((o : Out) → Has (asked_of unit_id (msg.Seal (next_epoch r)) ws) o → Has old o) → ReconfDraws old next (seals_left r ws acks next)
-unfolding reconf_work_asks
-seals_left_draws old r [] acks next k = after_seals_draws old r acks next _
-seals_left_draws old r (w ∷ ws) acks next k = alone old next _ next (keeps old next (asked_of unit_id (msg.Seal (next_epoch r)) (w ∷ ws)) next (omega arith) k)
-
-sealed_draws : (r : Reconf) (u h : ℕ) (ws : Waits) (acks : Acks) (next : ℕ) (b : Bool) → ((o : Out) → Has (asked_of unit_id (msg.Seal (next_epoch r)) ws) o → Has (reconf_awaited r) o)
-    → ReconfDraws (reconf_awaited r) next (sealed_if r u h ws acks next b)
-sealed_draws r u h ws acks next true k = seals_left_draws _ r _ _ next (λ o x. k o (fewer_asked unit_id _ u ws o x))
-sealed_draws r u h ws acks next false k = same _ next
-
-learns_draws : (r : Reconf) (next : ℕ) (b : Bool) → ReconfDraws (reconf_awaited r) next (learns_if b r next)
-learns_draws r next true = (omega arith, λ o h. h)
-learns_draws r next false = same _ next
+proposes_draws old r acks next = servers_draw old r next _
 
 tells_draws : (old : List Out) (r : Reconf) (q : Layout) (next : ℕ) → ReconfDraws old next (tells r q next)
 unfolding reconf_work_asks
@@ -96,9 +64,18 @@ tells_draws old r q next = servers_draw old r next _
 
 -- The rounds.
 
--- what is awaited in a stage, and for a round that is set, was awaited
-abbrev Asked : List Out → Reconf → ℕ → Stage → Option Later → Type 0
-Asked old r round s l = (o : Out) → Has (stage_asks r round s ++ set_asks r l) o → Has old o
+-- what is awaited in a voting's stage, and for a round that is set
+abbrev voting_asks : Reconf → Voting → List Out
+voting_asks r v = stage_asks r v.round v.stage ++ set_asks r v.later
+
+-- a round that was set was awaited
+voting_asked : (n rid : ℕ) (x : Reply) (next : ℕ) (r : Reconf) (v u : Voting) → turns.IsVoting n rid x next r v u → (o : Out) → Has (voting_asks r u) o → Has (voting_asks r v) o
+voting_asked n rid x next r v _ turns.Present o h = h
+voting_asked n rid x next r v _ (turns.IsBegun l is has answers) o h = has_right (stage_asks r v.round v.stage) (set_asks r v.later) o (subst (λ i. Has (set_asks r i) o) (sym is) (by (has_either (set_asks r (Some l)) [] o h)))
+  where
+    by : Has (set_asks r (Some l)) o ⊎ Has [] o → Has (set_asks r (Some l)) o
+    by (inl k) = k
+    by (inr k) = absurd k
 
 -- a new stage beside the set round
 stage_draws : (old : List Out) (r : Reconf) (v : Voting) (m : Msg) (next : ℕ) (s : Stage) → stage_asks r v.round s ≡ asked_of layout_id m (waits_for (servers r) next)
@@ -123,23 +100,10 @@ fewer_stage old r round n m ws l k o h = by (has_either (asked_of layout_id m (w
     by (inl x) = k o (has_left (asked_of layout_id m ws) (set_asks r l) o (fewer_asked layout_id m n ws o x))
     by (inr x) = k o (has_right (asked_of layout_id m ws) (set_asks r l) o x)
 
-promised_draws : (old : List Out) (r : Reconf) (v : Voting) (ws : Waits) (hs : List Before) (next : ℕ) (b : Bool)
-    → ((o : Out) → Has (asked_of layout_id (msg.Prepare (next_epoch r) (ballot_of r v.round)) ws ++ set_asks r v.later) o → Has old o)
-    → ReconfDraws old next (promised_on r v ws hs next b)
-unfolding reconf_work_asks
-promised_draws old r v ws hs next true k = stage_draws old r v _ next (Accepting (waits_for (servers r) next) 0 (value_or (greatest hs) v.own)) refl (λ o h. k o (has_right _ (set_asks r v.later) o h))
-promised_draws old r v ws hs next false k = keeps old next _ next (omega arith) k
-
-accepted_draws : (old : List Out) (r : Reconf) (v : Voting) (ws : Waits) (n : ℕ) (q : Layout) (next : ℕ) (b : Bool)
-    → ((o : Out) → Has (asked_of layout_id (msg.Accept (next_epoch r) (ballot_of r v.round) q) ws ++ set_asks r v.later) o → Has old o)
-    → ReconfDraws old next (accepted_on r v ws n q next b)
-unfolding reconf_work_asks
-accepted_draws old r v ws n q next true k = tells_draws old r q next
-accepted_draws old r v ws n q next false k = keeps old next _ next (omega arith) k
-
-sets_draws : (old : List Out) (r : Reconf) (v : Voting) (round next : ℕ) (b : Bool) → Asked old r v.round v.stage v.later → ReconfDraws old next (sets_if r v round next b)
-unfolding reconf_work_asks
-sets_draws old r v round next true k = record {
+-- a round is set beside the stage
+sets_draws : (old : List Out) (r : Reconf) (v : Voting) (round next : ℕ) → ((o : Out) → Has (voting_asks r v) o → Has old o)
+    → Drawn old next (stage_asks r v.round v.stage ++ asked_of layout_id (msg.Prepare (next_epoch r) (ballot_of r round)) (waits_for (servers r) next)) (next + r.layouts)
+sets_draws old r v round next k = record {
   up = omega arith;
   new = new;
   is_new = subst (λ n. IsNew next (next + n) new) (numbers_long r.layouts 0) (all_new layout_id _ (servers r) next);
@@ -152,93 +116,50 @@ sets_draws old r v round next true k = record {
     by : (o : Out) → Has (stage_asks r v.round v.stage) o ⊎ Has new o → Has old o ⊎ Has new o
     by o (inl h) = inl (k o (has_left (stage_asks r v.round v.stage) (set_asks r v.later) o h))
     by o (inr h) = inr h
-sets_draws old r v round next false k = keeps old next _ next (omega arith) k
 
-if_draws : (old : List Out) (next : ℕ) (b : Bool) (t u : ReconfTurn) → ReconfDraws old next t → ReconfDraws old next u → ReconfDraws old next (if b then t else u)
-if_draws old next true t u f g = f
-if_draws old next false t u f g = g
+-- An awaited answer.
 
-stage_feed_draws : (old : List Out) (r : Reconf) (v : Voting) (s : Stage) (n : ℕ) (x : Reply) (next : ℕ) → v.stage ≡ s → ((o : Out) → Has (reconf_awaited r) o → Has old o) → Asked old r v.round s v.later
-    → ReconfDraws old next (stage_feed r v s n x next)
-stage_feed_draws old r v (Preparing ws hs) n (reply.IsPromise e b a) next is k asked =
-    if_draws old next (same_vote r v.round e b && is_of_epoch e a) (promised r v n a ws hs next) (passes next r) (promised_draws old r v (without_wait n ws) (a ∷ hs) next (is_majority r (length (a ∷ hs))) (fewer_stage old r v.round n _ ws v.later asked)) (keeps old next _ next (omega arith) k)
-stage_feed_draws old r v (Accepting ws i q) n (reply.IsAccepted e b) next is k asked =
-    if_draws old next (same_vote r v.round e b) (accepted r v n ws i q next) (passes next r) (accepted_draws old r v (without_wait n ws) (i + 1) q next (is_majority r (i + 1)) (fewer_stage old r v.round n _ ws v.later asked)) (keeps old next _ next (omega arith) k)
-stage_feed_draws old r v s n (reply.IsNack e b) next is k asked =
-    if_draws old next (e == next_epoch r) (nacked r v b next) (passes next r) (sets_draws old r v _ next _ (λ o h. asked o (subst (λ t. Has (stage_asks r v.round t ++ set_asks r v.later) o) is h))) (keeps old next _ next (omega arith) k)
-stage_feed_draws old r v s n x next is k asked = keeps old next _ next (omega arith) k
-
-later_feed_draws : (old : List Out) (r : Reconf) (v : Voting) (l : Later) (n : ℕ) (x : Reply) (next : ℕ) (b : Bool) → ((o : Out) → Has (reconf_awaited r) o → Has old o)
-    → ((o : Out) → Has (set_asks r (Some l)) o → Has old o) → ReconfDraws old next (later_feed r v l n x next b)
-later_feed_draws old r v l n x next true k asked = stage_feed_draws old r (begun v l) (Preparing l.waits []) n x next refl k (λ o h. by o (has_either (set_asks r (Some l)) [] o h))
-  where
-    by : (o : Out) → Has (set_asks r (Some l)) o ⊎ Has [] o → Has old o
-    by o (inl h) = asked o h
-    by o (inr h) = absurd h
-later_feed_draws old r v l n x next false k asked = keeps old next _ next (omega arith) k
-
-vote_feed_draws : (old : List Out) (r : Reconf) (v : Voting) (l : Option Later) (n rid : ℕ) (x : Reply) (next : ℕ) → v.later ≡ l → ((o : Out) → Has (reconf_awaited r) o → Has old o)
-    → Asked old r v.round v.stage v.later → ReconfDraws old next (vote_feed r v l n rid x next)
-vote_feed_draws old r v None n rid x next is k asked = stage_feed_draws old r v v.stage n x next refl k asked
-vote_feed_draws old r v (Some l) n rid x next is k asked =
-    if_draws old next (has_rid n rid l.waits) (later_feed r v l n x next (is_answer r l x)) (stage_feed r v v.stage n x next)
-    (later_feed_draws old r v l n x next _ k (λ o h. asked o (has_right (stage_asks r v.round v.stage) (set_asks r v.later) o (subst (λ i. Has (set_asks r i) o) (sym is) h))))
-    (stage_feed_draws old r v v.stage n x next refl k asked)
-
-started_draws : (r : Reconf) (next : ℕ) (b : Bool) → ReconfDraws (reconf_awaited r) next (started_if r next b)
-started_draws r next true = omega arith
-started_draws r next false = same _ next
-
-feed_draws : (r : Reconf) (w : ReconfWork) (n rid : ℕ) (x : Reply) (next : ℕ) → r.work ≡ w → ReconfDraws (reconf_awaited r) next (reconf_feed r w n rid x next)
-unfolding reconf_feed reconf_work_asks
-feed_draws r (SealingSpare i) n rid (reply.IsSealed e h) next is = looks_draws r next _
-feed_draws r (SealingSpare i) n rid (reply.IsFenced e) next is = seals_if_draws r next _
-feed_draws r (LookingSpare i) n rid reply.IsWhole next is = seals_draws _ r next
-feed_draws r (LookingSpare i) n rid (reply.IsMissing pos) next is = omega arith
-feed_draws r (LookingSpare i) n rid (reply.IsFenced e) next is = seals_if_draws r next _
-feed_draws r (Sealing ws acks) n rid (reply.IsSealed e h) next is = sealed_draws r n h ws acks next _ (λ o h. subst (λ w. Has (reconf_work_asks r w ++ later_asks r w) o) (sym is) (has_left _ [] o h))
-feed_draws r (Sealing ws acks) n rid (reply.IsFenced e) next is = learns_draws r next _
-feed_draws r (LookingAgain i acks) n rid reply.IsWhole next is = prepares_draws _ r (next_of r.stand r.change r.me (new_start r.stand.start acks)) next
-feed_draws r (LookingAgain i acks) n rid (reply.IsMissing pos) next is = omega arith
-feed_draws r (LookingAgain i acks) n rid (reply.IsFenced e) next is = learns_draws r next _
-feed_draws r (Agreeing v) n rid x next is = vote_feed_draws _ r v v.later n rid x next refl (λ o h. h) (λ o h. subst (λ w. Has (reconf_work_asks r w ++ later_asks r w) o) (sym is) h)
-feed_draws r (Starting i) n rid (reply.IsTail t ls) next is = started_draws r next _
-feed_draws r (Starting i) n rid (reply.IsOldEpoch e) next is = learns_draws r next _
-feed_draws r w n rid x next is = same _ next
+fed_draws : (n rid : ℕ) (x : Reply) (next : ℕ) (r : Reconf) (t : ReconfTurn) → turns.Fed n rid x next r t → ReconfDraws (reconf_awaited r) next t
+unfolding reconf_work_asks
+fed_draws n rid x next _ _ (turns.Nothing r) = same _ next
+fed_draws n rid x next _ _ (turns.LooksSpare r k e h is f) = draws_join _ r.change.join next _ _
+fed_draws n rid x next _ _ (turns.SpareWhole r k is) = seals_draws _ r next
+fed_draws n rid x next _ _ (turns.SpareMisses r k pos is) = omega arith
+fed_draws n rid x next _ _ (turns.SpareFenced r w e k is f) = seals_draws _ r next
+fed_draws n rid x next _ _ (turns.SealsMore r ws acks e h w vs is f left) = alone _ next _ next (keeps _ next (asked_of unit_id (msg.Seal (next_epoch r)) (w ∷ vs)) next (omega arith)
+    (λ o y. has_left _ [] o (fewer_asked unit_id _ n ws o (subst (λ (zs : Waits). Has (asked_of unit_id (msg.Seal (next_epoch r)) zs) o) (sym left) y))))
+fed_draws n rid x next _ _ (turns.SealsLast r ws acks e h is f none j) = proposes_draws _ r ((n, h) ∷ acks) next
+fed_draws n rid x next _ _ (turns.LooksAgain r ws acks e h j is f none i) = draws_join _ r.change.join next _ _
+fed_draws n rid x next _ _ (turns.AgainWhole r k acks is) = proposes_draws _ r acks next
+fed_draws n rid x next _ _ (turns.AgainMisses r k acks pos is) = omega arith
+fed_draws n rid x next _ _ (turns.NextFenced r w e k is f) = (omega arith, λ o h. h)
+fed_draws n rid x next _ _ (turns.Promises r v u ws ps e b a of st is f g) = keeps _ next _ next (omega arith)
+    (fewer_stage (voting_asks r v) r u.round n _ ws u.later (λ o h. voting_asked n rid x next r v u of o (subst (λ (s : Stage). Has (stage_asks r u.round s ++ set_asks r u.later) o) (sym st) h)))
+fed_draws n rid x next _ _ (turns.PromisesMost r v u ws ps e b a of st is f g) = stage_draws _ r u _ next (Accepting (waits_for (servers r) next) 0 (value_or (greatest (a ∷ ps)) u.own)) refl
+    (λ o h. voting_asked n rid x next r v u of o (has_right (stage_asks r u.round u.stage) (set_asks r u.later) o h))
+fed_draws n rid x next _ _ (turns.Accepts r v u ws k q e b of st is f g) = keeps _ next _ next (omega arith)
+    (fewer_stage (voting_asks r v) r u.round n _ ws u.later (λ o h. voting_asked n rid x next r v u of o (subst (λ (s : Stage). Has (stage_asks r u.round s ++ set_asks r u.later) o) (sym st) h)))
+fed_draws n rid x next _ _ (turns.AcceptsMost r v u ws k q e b of st is f g) = tells_draws _ r q next
+fed_draws n rid x next _ _ (turns.Nacks r v u e b of is f g) = sets_draws _ r u (round_after u b) next (voting_asked n rid x next r v u of)
+fed_draws n rid x next _ _ (turns.NacksLow r v u e b of is f g) = keeps _ next _ next (omega arith) (voting_asked n rid x next r v u of)
+fed_draws n rid x next _ _ (turns.Starts r k t ls is e) = omega arith
+fed_draws n rid x next _ _ (turns.StartsPast r k e is f) = (omega arith, λ o h. h)
 
 pub reconf_draws : (r : Reconf) (n rid : ℕ) (x : Reply) (next : ℕ) → ReconfDraws (reconf_awaited r) next (reconf_feed r r.work n rid x next)
-reconf_draws r n rid x next = feed_draws r r.work n rid x next refl
+reconf_draws r n rid x next = fed_draws n rid x next r _ (turns.reconf_fed n rid x next r)
 
 -- A newer layout.
 
-own_draws : (r : Reconf) (w : ReconfWork) (q : Layout) (next : ℕ) → ReconfDraws (reconf_awaited r) next (own_decided r w q next)
-own_draws r (Telling ws n p) q next = same _ next
-own_draws r w q next = tells_draws _ r q next
-
-on_newer_draws : (r : Reconf) (q : Layout) (next : ℕ) (b : Bool) → ReconfDraws (reconf_awaited r) next (on_newer r q next b)
-on_newer_draws r q next true = own_draws r r.work q next
-on_newer_draws r q next false = omega arith
-
-adopts_draws : (old : List Out) (r : Reconf) (q : Layout) (next : ℕ) (b : Bool) → ReconfDraws old next (adopts r q next b)
+heard_draws : (n rid : ℕ) (q : Layout) (next : ℕ) (r : Reconf) (t : ReconfTurn) → turns.Heard n rid q next r t → ReconfDraws (reconf_awaited r) next t
 unfolding reconf_work_asks
-adopts_draws old r q next true = draws_one old next _ _
-adopts_draws old r q next false = omega arith
-
-heard_draws : (old : List Out) (r : Reconf) (ws : Waits) (n : ℕ) (q : Layout) (next : ℕ) (b : Bool) → ((o : Out) → Has (asked_of layout_id (msg.Decided q) ws) o → Has old o) → ReconfDraws old next (heard_on r ws n q next b)
-unfolding reconf_work_asks
-heard_draws old r ws n q next true k = adopts_draws old r q next _
-heard_draws old r ws n q next false k = alone old next _ next (keeps old next (asked_of layout_id (msg.Decided q) ws) next (omega arith) k)
-
-latest_draws : (r : Reconf) (w : ReconfWork) (n rid : ℕ) (q : Layout) (next : ℕ) → r.work ≡ w → ReconfDraws (reconf_awaited r) next (reconf_latest r w n rid q next)
-unfolding reconf_latest reconf_work_asks
-latest_draws r (Starting i) n rid q next is = omega arith
-latest_draws r (Telling ws h y) n rid q next is = if_draws (reconf_awaited r) next (has_rid n rid ws && (q.epoch == next_epoch r)) (heard r n ws h y next) (on_newer r q next (is_own r q))
-    (heard_draws (reconf_awaited r) r (without_wait n ws) (h + 1) y next (is_majority r (h + 1)) (λ o h. subst (λ w. Has (reconf_work_asks r w ++ later_asks r w) o) (sym is) (has_left _ [] o (fewer_asked layout_id _ n ws o h))))
-    (on_newer_draws r q next (is_own r q))
-latest_draws r w n rid q next is = on_newer_draws r q next _
+heard_draws n rid q next _ _ (turns.HearsOne r ws k p e f) = alone _ next _ next (keeps _ next (asked_of layout_id (msg.Decided p) (without_wait n ws)) next (omega arith) (λ o y. has_left _ [] o (fewer_asked layout_id _ n ws o y)))
+heard_draws n rid q next _ _ (turns.Adopts r ws k p e f g) = draws_one _ next _ _
+heard_draws n rid q next _ _ (turns.TellsOwn r ws k p e) = same _ next
+heard_draws n rid q next _ _ (turns.OwnDecided r w k e) = tells_draws _ r q next
+heard_draws n rid q next _ _ x = omega arith
 
 pub reconf_latest_draws : (r : Reconf) (n rid : ℕ) (q : Layout) (next : ℕ) → ReconfDraws (reconf_awaited r) next (reconf_latest r r.work n rid q next)
-reconf_latest_draws r n rid q next = latest_draws r r.work n rid q next refl
+reconf_latest_draws r n rid q next = heard_draws n rid q next r _ (turns.reconf_heard n rid q next r)
 
 -- A spare unit is asked at most.
 pub join_plain : (P : List Out → Type 0) (j : Option Join) (f : Join → List Out) → P [] → ((x : Join) → P (f x)) → P (join_asks j f)

@@ -1,5 +1,5 @@
 -- The request numbers that a client draws in a step.
-use Rattle.std.proofs.Common.{◌≡◌, ◌⊎◌, ℕ, zero, suc, ◌+◌, ◌≤◌, List, [], ◌∷◌, ◌++◌, Bool, true, false, refl, sym, subst, inl, inr, arith, Some, None, Option}
+use Rattle.std.proofs.Common.{◌≡◌, ◌⊎◌, ℕ, zero, suc, ◌+◌, ◌≤◌, List, [], ◌∷◌, ◌++◌, refl, sym, ◌∙◌, subst, inl, inr, arith, Some, None, Option}
 use Rattle.tg_base.specs.Layouts.{Layout}
 use Rattle.tg_base.specs.declared.cell.Cell.{Cell}
 use Rattle.tg_base.specs.declared.ids.NodeId.{NodeId}
@@ -12,34 +12,42 @@ use Rattle.tg_model.specs.Kinds.{CommandOf, NoteOf}
 use Rattle.tg_model.specs.declared.command.Command.TheVariants as cmd
 use Rattle.tg_model.specs.declared.refusal.Refusal.{Refusal}
 use Rattle.tg_protocol.specs.Words.{cell_at, layout_id, numbers}
-use Rattle.tg_protocol.specs.Requests.{waits_for, drawn_from, Next, Goes, Learns, Ends, Turn, ends}
+use Rattle.tg_protocol.specs.Requests.{waits_for, drawn_from, Next, Goes, Learns, Ends, ends}
 use Rattle.tg_protocol.specs.Replies.{Reply, reply}
-use Rattle.tg_protocol.specs.Replies as replied
 use Rattle.tg_protocol.specs.Cells.{place_in, get_cell}
-use Rattle.tg_protocol.specs.Appending.{Append, AppendEnd, At, append_asks}
-use Rattle.tg_protocol.specs.Syncing.{Sync, Confirmed, sync_asks}
-use Rattle.tg_protocol.specs.Walking.{Walk, Members, WalkTurn, walk_asks, walk_on, walk_start, reads_turn, walk_members, next_visit, visited}
-use Rattle.tg_protocol.specs.Trimming.{Trims, Trimmed, trim_asks, Copying, CopyEnd, copy_asks}
-use Rattle.tg_protocol.specs.Reconfiguring.{Reconf, ReconfEnd, reconf_asks, reconf_awaited, reconf_again_asks, later_asks, this_or, reconf_feed, reconf_latest, reconf_start}
-use Rattle.tg_protocol.specs.Transactions.{Tx}
-use Rattle.tg_protocol.specs.Clients.{Purpose, Judged, Task, Syncing, Walking, Appending, Trimming, Copying', Reconfiguring, Hand, Doing, Learning, Work, Client, refusal}
+use Rattle.tg_protocol.specs.Appending.{append_asks}
+use Rattle.tg_protocol.specs.Syncing.{sync_asks}
+use Rattle.tg_protocol.specs.Walking.{Walk, WalkTurn, walk_asks, walk_on, walk_start, reads_turn, walk_members, next_visit, visited}
+use Rattle.tg_protocol.specs.Trimming.{trim_asks, copy_asks}
+use Rattle.tg_protocol.specs.Reconfiguring.{Reconf, reconf_asks, reconf_awaited, reconf_again_asks, later_asks, this_or}
+use Rattle.tg_protocol.specs.Clients.{Purpose, Task, Syncing, Walking, Appending, Trimming, Copying', Reconfiguring, Hand, Doing, Learning, Work, Client, refusal}
 use Rattle.tg_protocol.specs.Answers.{Moved, moved}
-use Rattle.tg_protocol.specs.Trimming as copying
 use Rattle.tg_protocol.specs.ClientSteps as step
-use Rattle.tg_protocol.specs.ClientSteps.{new_work, task_asks, task_awaited, task_again_asks, hand_again_asks, hand_asks, client_asks, asks_latest, after_turn, met, goes_on, learns_for, start_walk, walks, takes_back, found_by, lends, knows, synced, sync_to, on_sync, gives_up, given_up_if, starts_over, at_trim, walk_ended_by, walk_ended, walk_to, on_walk, owns, append_ended, append_to, on_append, trim_to, on_trims, copy_to, on_copy, stands, reconf_ended, reconf_to, on_reconf, task_feed, copies_again, task_again, on_newer, fed_if, hand_feed, latest_if, reply_feed, feed, accepts, refused_or, ClientTurn, called, given, client_command, client_deliver, tick_by, client_tick}
+use Rattle.tg_protocol.specs.ClientSteps.{task_in, new_work, task_asks, task_awaited, task_again_asks, hand_again_asks, hand_asks, client_asks, asks_latest, goes_on, learns_for, start_walk, owns, feed, ClientTurn, given, client_command, client_deliver, tick_by, client_tick}
 use Rattle.tg_law_layouts.proofs.Moves.Members.{Has, has_left, has_right, has_either, has_filter}
-use Rattle.tg_law_layouts.proofs.Moves.Draws.{Drawn, IsNew, TurnDraws, NextDraws, keeps, same, all_new, later, without}
+use Rattle.tg_law_layouts.proofs.Moves.Draws.{Drawn, IsNew, TurnDraws, NextDraws, same, wider, next_wider, all_new, draws_all, later, without}
 use Rattle.tg_law_layouts.proofs.Moves.Machines.{append_draws, append_again_draws, sync_draws, sync_start_draws, walk_draws, walk_again_draws, walk_start_draws, trim_draws, trim_start_draws, copy_draws, copy_start_draws}
 use Rattle.tg_law_layouts.proofs.Moves.Reconfs.{reconf_start_draws, reconf_draws, reconf_latest_draws, numbers_long}
-use Rattle.tg_law_layouts.proofs.Moves.Clients.{task_kept, hand_reserved, work_reserved, reserved, MovedDraws, Fresh, idle_fresh, appends_fresh, syncs_fresh, walked_fresh}
+use Rattle.tg_law_layouts.proofs.Moves.Clients.{task_kept, hand_reserved, work_reserved, reserved, MovedDraws, idle_draws, appends_draws, syncs_draws}
+use Rattle.tg_law_steps.proofs.Places.{Place, Feeds, Newer, OnSync, OnWalk, OnAppend, OnTrims, OnCopy, OnReconf}
+use Rattle.tg_law_steps.proofs.Ways.{Way, FeedsSync, FeedsWalk, FeedsAppend, FeedsTrims, FeedsCopy, FeedsReconf, NewerSync, NewerWalk, NewerAppend, NewerTrims, NewerCopy, NewerReconf, AllWalked, IsRescue}
+use Rattle.tg_law_steps.proofs.Ends.{End, GoesOn, LearnsNewer, Syncs, Appends, Refuses, Answers, Tells, IsGoing, WalkBegins, TrimsBegin, IsLearning, ReconfLearns, IsSynced, JudgedAt, IsAppended, MarkBegins, IsRefused, CopyFault, IsAnswered, IsSaved, IsTold, IsMarked}
+use Rattle.tg_law_steps.proofs.Takes.{IsSaid, Begins as Begins', Taken, SaidAtOnce, SyncsFirst, AppendsRecord, ReconfBegins, CopyBegins, said_work}
+use Rattle.tg_law_steps.proofs.Along.{delivered, over_walks, commanded}
+use Rattle.tg_entry.specs.declared.entry.Entry.{Entry}
+use Rattle.tg_model.specs.Kinds.{WhatOf}
+use Rattle.tg_protocol.specs.Views.{View}
+use Rattle.tg_protocol.specs.Words.{unit_id}
+use Rattle.tg_protocol.specs.Layouts.{units_of}
+use Rattle.tg_protocol.specs.Answers.{took_over}
+use Rattle.tg_protocol.specs.Trimming.{copy_start}
 
--- more was awaited
-pub wider : (old more : List Out) (next : ℕ) (now : List Out) (end : ℕ) → ((o : Out) → Has old o → Has more o) → Drawn old next now end → Drawn more next now end
-wider old more next now end k d = record { up = d.up; new = d.new; is_new = d.is_new; either = λ o h. by o (d.either o h) }
-  where
-    by : (o : Out) → Has old o ⊎ Has d.new o → Has more o ⊎ Has d.new o
-    by o (inl h) = inl (k o h)
-    by o (inr h) = inr h
+-- from fewer requests and a later number, and what goes besides passed over
+next_without : {M E : Type 0} → (asks : M → List Out) (old more : List Out) (next mid : ℕ) (bs : List Out) (end : ℕ) (to : Next M E) → next ≤ mid → ((o : Out) → Has old o → Has more o) → NextDraws asks old mid bs end to
+    → NextDraws asks more next [] end to
+next_without asks old more next mid bs end (Goes x) le k d = without more next bs (asks x) end (wider old more next mid _ end le k d)
+next_without asks old more next mid bs end (Learns x) le k d = (let a = d.0 in omega (arith, le, a), λ o h. k o (d.1 o h))
+next_without asks old more next mid bs end (Ends e) le k d = omega (arith, le, d)
 
 -- A walk that begins doesn't learn.
 
@@ -69,43 +77,55 @@ pub begins_walk : (p : Layout) (o : Oid) (ls : List ℕ) (lo : ℕ) (cells : Lis
 unfolding walk_start
 begins_walk p o ls lo cells next = begins_on p next _ _
 
-module _ (m : Meaning) where
-  -- all is new
-  fresh_draws : (old : List Out) (next n : ℕ) (x : Moved m) → next ≤ n → Fresh m n x → MovedDraws m old next x
-  fresh_draws old next n x le f = record { is = later old next n _ _ le f.is }
+-- Along a turn, from the requests `old` and the next number `next`.
+module _ (m : Meaning) (old : List Out) (next : ℕ) where
+  abbrev Kept : List Out → Type 0
+  Kept os = (o : Out) → Has os o → Has old o
 
-  fresh_later : (next n : ℕ) (x : Moved m) → next ≤ n → Fresh m n x → Fresh m next x
-  fresh_later next n x le f = record { is = later [] next n _ _ le f.is }
+  abbrev Here : Client m → Work m → Place m → Type 0
+  Here c w (Feeds t n rid x) = (next ≤ c.next) × Kept (task_awaited m c.stand t)
+  Here c w (Newer t n rid q) = (next ≤ c.next) × Kept (task_kept m t)
+  Here c w (OnSync bs to) = NextDraws (sync_asks c.stand) old next bs c.next to
+  Here c w (OnWalk o os to) = NextDraws walk_asks old next [] c.next to
+  Here c w (OnAppend y bs to) = NextDraws (append_asks c.stand) old next bs c.next to
+  Here c w (OnTrims b to) = NextDraws (trim_asks c.stand) old next [] c.next to
+  Here c w (OnCopy x to) = NextDraws (copy_asks c.stand) old next [] c.next to
+  Here c w (OnReconf to) = NextDraws reconf_awaited old next [] c.next to
+  Here c w p = next ≤ c.next
 
-  -- Walks.
-
-  walks_at : (c : Client m) (w : Work m) (o : Oid) (os : List Oid) (to : Next Walk Members) → NextDraws walk_asks [] c.next (start_walk m c w o).besides (start_walk m c w o).next to → Begins to
-      → ((d : Client m) (v : Work m) → Fresh m d.next (walks m os d v)) → Fresh m c.next (elim to as (λ _. Moved m) [
-        | Goes x ↦ goes_on m (lends m (after_turn m c (start_walk m c w o))) w (Walking x os) []
-        | Learns x ↦ moved m c []
-        | Ends x ↦ walks m os (takes_back m c x) (found_by m w o x)
-      ])
+  way : (c : Client m) (w : Work m) (p : Place m) (d : Client m) (v : Work m) (q : Place m) → Way m c w p d v q → Here c w p → Here d v q
   unfolding task_asks
-  walks_at c w o os (Goes x) d b ih = record { is = without [] c.next (start_walk m c w o).besides (walk_asks x) _ d }
-  walks_at c w o os (Learns x) d b ih = absurd b
-  walks_at c w o os (Ends x) d b ih = ih (takes_back m c x) (found_by m w o x)
+  way c w _ _ _ _ (FeedsSync s n rid x) h = next_wider (sync_asks c.stand) (sync_asks c.stand s) old next c.next _ _ _ h.0 h.1 (sync_draws c.stand s n x c.next)
+  way c w _ _ _ _ (FeedsWalk k os n rid x) h = next_without walk_asks (walk_asks k) old next c.next _ _ _ h.0 h.1 (walk_draws c.stand k n x c.next)
+  way c w _ _ _ _ (FeedsAppend a y n rid x) h = next_wider (append_asks c.stand) (append_asks c.stand a) old next c.next _ _ _ h.0 h.1 (append_draws c.stand a n x c.next)
+  way c w _ _ _ _ (FeedsTrims t n rid x) h = next_without (trim_asks c.stand) (trim_asks c.stand t) old next c.next _ _ _ h.0 h.1 (trim_draws c.stand t n x c.next)
+  way c w _ _ _ _ (FeedsCopy y n rid x) h = next_without (copy_asks c.stand) (copy_asks c.stand y) old next c.next _ _ _ h.0 h.1 (copy_draws c.stand y n x c.next)
+  way c w _ _ _ _ (FeedsReconf r n rid x) h = next_without reconf_awaited (reconf_awaited r) old next c.next _ _ _ h.0 h.1 (reconf_draws r n rid x c.next)
+  way c w _ _ _ _ (NewerSync s n rid q) h = next_wider (sync_asks q) [] old next c.next _ _ _ h.0 h.1 (sync_start_draws q s.oids c.next)
+  way c w _ _ _ _ (NewerWalk k os n rid q) h = next_without walk_asks [] old next c.next _ _ _ h.0 h.1 (walk_again_draws q k c.next)
+  way c w _ _ _ _ (NewerAppend a y n rid q) h = next_wider (append_asks q) [] old next c.next _ _ _ h.0 h.1 (append_again_draws q a c.next)
+  way c w _ _ _ _ (NewerTrims t n rid q) h = next_without (trim_asks q) [] old next c.next _ _ _ h.0 h.1 (trim_start_draws q t.below c.next)
+  way c w _ _ _ _ (NewerCopy x n rid q fine) h = next_without (copy_asks q) [] old next c.next _ _ _ h.0 h.1 (copy_start_draws q x.unit x.range x.stripe c.next)
+  way c w _ _ _ _ (NewerReconf r n rid q) h = next_without reconf_awaited (reconf_awaited r) old next c.next _ _ _ h.0 h.1 (reconf_latest_draws r n rid q c.next)
+  way c w _ _ _ _ x h = h
 
-  walks_fresh : (os : List Oid) (c : Client m) (w : Work m) → Fresh m c.next (walks m os c w)
-  unfolding walks
-  walks_fresh [] c w = walked_fresh m c w
-  walks_fresh (o ∷ os) c w = walks_at c w o os (start_walk m c w o).to (walk_start_draws c.stand o _ w.lo c.cells c.next) (begins_walk c.stand o _ w.lo c.cells c.next) (λ d v. walks_fresh os d v)
+  walked_way : (c : Client m) (w : Work m) (d : Client m) (q : Place m) → AllWalked m c w d q → next ≤ c.next → Here d w q
+  walked_way c w _ _ (IsRescue at of) h = h
+  walked_way c w _ _ x h = h
 
-  synced_fresh : (c : Client m) (w : Work m) (x : Confirmed) → Fresh m c.next (synced m c w x)
-  synced_fresh c w x = by x.settled
-    where
-      by : (s : Option (ℕ × Cell)) → Fresh m c.next (walks m w.oids (knows m c s) (record w { tail = x.tail; lasts = x.lasts; lo = step.lo_for m c w.command }))
-      by None = walks_fresh w.oids _ _
-      by (Some s) = walks_fresh w.oids _ _
+  -- What a turn comes to.
 
-  -- Learning.
+  going_draws : (c : Client m) (w : Work m) (p : Place m) (d : Client m) (t : Task m) (bs : List Out) → IsGoing m c w p d t bs → Here c w p → MovedDraws m old next (goes_on m d w t bs)
+  unfolding task_asks
+  going_draws c w _ _ _ _ (WalkBegins o os x e) h = record {
+    is = later old next c.next _ _ h (without [] c.next (start_walk m c w o).besides (walk_asks x) (start_walk m c w o).next
+        (subst (NextDraws walk_asks [] c.next (start_walk m c w o).besides (start_walk m c w o).next) e (walk_start_draws c.stand o _ w.lo c.cells c.next)));
+  }
+  going_draws c w _ _ _ _ (TrimsBegin es p upto of came some) h = record { is = later old next c.next _ _ h (draws_all [] c.next unit_id (msg.Trim c.stand.epoch _) (units_of c.stand)) }
+  going_draws c w _ _ _ _ x h = record { is = h }
 
-  learns_draws : (old : List Out) (next : ℕ) (c : Client m) (w : Work m) (t : Task m) → next ≤ c.next → ((o : Out) → Has (task_kept m t) o → Has old o) → MovedDraws m old next (learns_for m c w t)
-  learns_draws old next c w t le k = record {
+  learns_draws : (c : Client m) (w : Work m) (t : Task m) → next ≤ c.next → Kept (task_kept m t) → MovedDraws m old next (learns_for m c w t)
+  learns_draws c w t le k = record {
     is = record {
       up = omega (arith, le);
       new = asked;
@@ -128,189 +148,78 @@ module _ (m : Meaning) where
       by o (inl h) = inr h
       by o (inr h) = inl (k o h)
 
-  -- Each machine's turn.
+  learning_draws : (c : Client m) (w : Work m) (p : Place m) (t : Task m) → IsLearning m c w p t → Here c w p → MovedDraws m old next (learns_for m c w t)
+  learning_draws c w _ _ (ReconfLearns r) h = learns_draws c w (Reconfiguring r) h.0 h.1
+  learning_draws c w _ _ x h = learns_draws c w _ h.0 (λ o i. absurd i)
 
-  sync_to_draws : (old bs : List Out) (next : ℕ) (c : Client m) (w : Work m) (to : Next Sync Confirmed) → NextDraws (sync_asks c.stand) old next bs c.next to → MovedDraws m old next (sync_to m c w bs to)
-  unfolding task_asks
-  sync_to_draws old bs next c w (Goes s) d = record { is = d }
-  sync_to_draws old bs next c w (Learns s) d = learns_draws old next c w (Syncing s) d.0 (λ o h. absurd h)
-  sync_to_draws old bs next c w (Ends x) d = fresh_draws old next c.next _ d (synced_fresh c w x)
+  synced_up : (c : Client m) (w : Work m) (p : Place m) (d : Client m) (v : Work m) (os : List Oid) → IsSynced m c w p d v os → Here c w p → next ≤ d.next
+  synced_up c w _ _ _ _ (JudgedAt bs p d) h = h
+  synced_up c w _ _ _ _ x h = h
 
-  on_sync_draws : (old : List Out) (c : Client m) (w : Work m) (t : Turn Sync Confirmed) → TurnDraws (sync_asks c.stand) old c.next t → MovedDraws m old c.next (on_sync m c w t)
-  on_sync_draws old c w t d = sync_to_draws old t.besides c.next (after_turn m c t) (met m w t) t.to d
+  appended_up : (c : Client m) (w : Work m) (p : Place m) (d : Client m) (e : Entry) (y : Purpose m) (ns : List (NoteOf m)) → IsAppended m c w p d e y ns → Here c w p → next ≤ d.next
+  appended_up c w _ _ _ _ _ (MarkBegins es p upto o n of came may) h = h
+  appended_up c w _ _ _ _ _ x h = h
 
-  starts_fresh : (c : Client m) (w : Work m) (os : List Oid) (over : Bool) → Fresh m c.next (starts_over m c w os over)
-  starts_fresh c w os true = walks_fresh w.oids c _
-  starts_fresh c w os false = walks_fresh os c w
+  refused_up : (c : Client m) (w : Work m) (p : Place m) (d : Client m) (n : ℕ) (why : Refusal) → IsRefused m c w p d n why → Here c w p → next ≤ d.next
+  refused_up c w _ _ _ _ (CopyFault x n rid q why e) h = h.0
+  refused_up c w _ _ _ _ x h = h
 
-  at_trim_fresh : (c : Client m) (w : Work m) (os : List Oid) (s over : Bool) → Fresh m c.next (at_trim m c w os s over)
-  at_trim_fresh c w os true over = syncs_fresh m c w w.oids c.next (omega arith)
-  at_trim_fresh c w os false over = starts_fresh c w os over
+  answered_up : (c : Client m) (w : Work m) (p : Place m) (d : Client m) (n : ℕ) (what : WhatOf m) → IsAnswered m c w p d n what → Here c w p → next ≤ d.next
+  answered_up c w _ _ _ _ (IsSaved o upto bs p d) h = h
+  answered_up c w _ _ _ _ x h = h
 
-  given_up_fresh : (b : Bool) (c : Client m) (x : Moved m) → Fresh m (given_up_if m b c).next x → Fresh m c.next x
-  given_up_fresh true c x f = f
-  given_up_fresh false c x f = f
+  took_up : (d : Client m) (v : Option (View m)) → next ≤ d.next → next ≤ (took_over m d v).next
+  took_up d None le = le
+  took_up d (Some v) le = le
 
-  ended_fresh : (c : Client m) (w : Work m) (o : Oid) (os : List Oid) (x : Members) (g : Option ℕ) → Fresh m c.next (walk_ended_by m c w o os x g)
-  ended_fresh c w o os x None = walks_fresh os c w
-  ended_fresh c w o os x (Some b) = given_up_fresh (gives_up m c w b) c _ (at_trim_fresh (given_up_if m (gives_up m c w b) c) w os _ _)
+  told_up : (c : Client m) (w : Work m) (p : Place m) (d : Client m) (ns : List (NoteOf m)) → IsTold m c w p d ns → Here c w p → next ≤ d.next
+  told_up c w _ _ _ (IsMarked n o mark bs p d) h = took_up (owns m c p d) c.view h
+  told_up c w _ _ _ x h = h
 
-  walk_ended_fresh : (c : Client m) (w : Work m) (o : Oid) (os : List Oid) (x : Members) → Fresh m c.next (walk_ended m c w o os x)
-  walk_ended_fresh c w o os x = ended_fresh (takes_back m c x) (found_by m w o x) o os x x.gone
+  ends_draws : (c : Client m) (w : Work m) (p : Place m) (x : Moved m) → End m c w p x → Here c w p → MovedDraws m old next x
+  ends_draws c w p _ (GoesOn d t bs x) h = going_draws c w p d t bs x h
+  ends_draws c w p _ (LearnsNewer t x) h = learning_draws c w p t x h
+  ends_draws c w p _ (Syncs d v os x) h = syncs_draws m old d v os next (synced_up c w p d v os x h)
+  ends_draws c w p _ (Appends d e y ns x) h = appends_draws m old d w e y ns next (appended_up c w p d e y ns x h)
+  ends_draws c w p _ (Refuses d n why x) h = idle_draws m old next _ refl refl (refused_up c w p d n why x h)
+  ends_draws c w p _ (Answers d n what x) h = idle_draws m old next _ refl refl (took_up d d.view (answered_up c w p d n what x h))
+  ends_draws c w p _ (Tells d ns x) h = idle_draws m old next _ refl refl (told_up c w p d ns x h)
 
-  walk_to_draws : (old bs : List Out) (next : ℕ) (c : Client m) (w : Work m) (o : Oid) (os : List Oid) (to : Next Walk Members) → NextDraws walk_asks old next bs c.next to → MovedDraws m old next (walk_to m c w o os to)
-  unfolding task_asks
-  walk_to_draws old bs next c w o os (Goes x) d = record { is = without old next bs _ _ d }
-  walk_to_draws old bs next c w o os (Learns x) d = learns_draws old next c w (Walking x os) d.0 (λ o h. absurd h)
-  walk_to_draws old bs next c w o os (Ends x) d = fresh_draws old next c.next _ d (walk_ended_fresh c w o os x)
-
-  on_walk_draws : (old : List Out) (c : Client m) (w : Work m) (o : Oid) (os : List Oid) (t : Turn Walk Members) → TurnDraws walk_asks old c.next t → MovedDraws m old c.next (on_walk m c w o os t)
-  on_walk_draws old c w o os t d = walk_to_draws old t.besides c.next (after_turn m c t) (met m w t) o os t.to d
-
-  append_ended_fresh : (c : Client m) (w : Work m) (x : Purpose m) (e : AppendEnd) → Fresh m c.next (append_ended m c w x e)
-  append_ended_fresh c w Judged (At p d) = syncs_fresh m (owns m c p d) (record w { at = p }) c.hosted c.next (omega arith)
-  append_ended_fresh c w x e = grind (arith, idle_fresh)
-
-  append_to_draws : (old bs : List Out) (next : ℕ) (c : Client m) (w : Work m) (x : Purpose m) (to : Next Append AppendEnd) → NextDraws (append_asks c.stand) old next bs c.next to → MovedDraws m old next (append_to m c w x bs to)
-  unfolding task_asks
-  append_to_draws old bs next c w x (Goes a) d = record { is = d }
-  append_to_draws old bs next c w x (Learns a) d = learns_draws old next c w (Appending a x) d.0 (λ o h. absurd h)
-  append_to_draws old bs next c w x (Ends e) d = fresh_draws old next c.next _ d (append_ended_fresh c w x e)
-
-  on_append_draws : (old : List Out) (c : Client m) (w : Work m) (x : Purpose m) (t : Turn Append AppendEnd) → TurnDraws (append_asks c.stand) old c.next t → MovedDraws m old c.next (on_append m c w x t)
-  on_append_draws old c w x t d = append_to_draws old t.besides c.next (after_turn m c t) (met m w t) x t.to d
-
-  trim_to_draws : (old bs : List Out) (next : ℕ) (c : Client m) (w : Work m) (b : ℕ) (to : Next Trims Trimmed) → NextDraws (trim_asks c.stand) old next bs c.next to → MovedDraws m old next (trim_to m c w b to)
-  unfolding task_asks
-  trim_to_draws old bs next c w b (Goes t) d = record { is = without old next bs _ _ d }
-  trim_to_draws old bs next c w b (Learns t) d = learns_draws old next c w (Trimming t) d.0 (λ o h. absurd h)
-  trim_to_draws old bs next c w b (Ends e) d = fresh_draws old next c.next _ d (grind (arith, idle_fresh))
-
-  on_trims_draws : (old : List Out) (c : Client m) (w : Work m) (b : ℕ) (t : Turn Trims Trimmed) → TurnDraws (trim_asks c.stand) old c.next t → MovedDraws m old c.next (on_trims m c w b t)
-  on_trims_draws old c w b t d = trim_to_draws old t.besides c.next (after_turn m c t) (met m w t) b t.to d
-
-  copy_to_draws : (old bs : List Out) (next : ℕ) (c : Client m) (w : Work m) (x : Copying) (to : Next Copying CopyEnd) → NextDraws (copy_asks c.stand) old next bs c.next to → MovedDraws m old next (copy_to m c w x to)
-  unfolding task_asks
-  copy_to_draws old bs next c w x (Goes y) d = record { is = without old next bs _ _ d }
-  copy_to_draws old bs next c w x (Learns y) d = learns_draws old next c w (Copying' y) d.0 (λ o h. absurd h)
-  copy_to_draws old bs next c w x (Ends e) d = fresh_draws old next c.next _ d (idle_fresh m c.next _ refl refl (omega arith))
-
-  on_copy_draws : (old : List Out) (c : Client m) (w : Work m) (x : Copying) (t : Turn Copying CopyEnd) → TurnDraws (copy_asks c.stand) old c.next t → MovedDraws m old c.next (on_copy m c w x t)
-  on_copy_draws old c w x t d = copy_to_draws old t.besides c.next (after_turn m c t) (met m w t) x t.to d
-
-  reconf_ended_fresh : (c : Client m) (e : ReconfEnd) → Fresh m c.next (reconf_ended m c e)
-  reconf_ended_fresh c e = grind (arith, idle_fresh)
-
-  reconf_to_draws : (old bs : List Out) (next : ℕ) (c : Client m) (w : Work m) (to : Next Reconf ReconfEnd) → NextDraws reconf_awaited old next bs c.next to → MovedDraws m old next (reconf_to m c w to)
-  reconf_to_draws old bs next c w (Goes r) d = record { is = without old next bs _ _ d }
-  reconf_to_draws old bs next c w (Learns r) d = learns_draws old next c w (Reconfiguring r) d.0 d.1
-  reconf_to_draws old bs next c w (Ends e) d = fresh_draws old next c.next _ d (reconf_ended_fresh c e)
-
-  on_reconf_draws : (old : List Out) (c : Client m) (w : Work m) (t : Turn Reconf ReconfEnd) → TurnDraws reconf_awaited old c.next t → MovedDraws m old c.next (on_reconf m c w t)
-  on_reconf_draws old c w t d = reconf_to_draws old t.besides c.next (after_turn m c t) w t.to d
-
-  -- An awaited answer.
-
-  fed_draws : (c : Client m) (w : Work m) (t : Task m) (n rid : ℕ) (x : Reply) → MovedDraws m (task_awaited m c.stand t) c.next (task_feed m c w t n rid x)
-  unfolding task_feed task_asks
-  fed_draws c w (Syncing s) n rid x = on_sync_draws _ c w _ (sync_draws c.stand s n x c.next)
-  fed_draws c w (Walking k os) n rid x = on_walk_draws _ c w k.oid os _ (walk_draws c.stand k n x c.next)
-  fed_draws c w (Appending a y) n rid x = on_append_draws _ c w y _ (append_draws c.stand a n x c.next)
-  fed_draws c w (Trimming t) n rid x = on_trims_draws _ c w t.below _ (trim_draws c.stand t n x c.next)
-  fed_draws c w (Copying' y) n rid x = on_copy_draws _ c w y _ (copy_draws c.stand y n x c.next)
-  fed_draws c w (Reconfiguring r) n rid x = on_reconf_draws _ c w (reconf_feed r r.work n rid x c.next) (reconf_draws r n rid x c.next)
-
-  -- A newer layout.
-
-  copies_draws : (c : Client m) (w : Work m) (x : Copying) (f : Option Refusal) → MovedDraws m [] c.next (copies_again m c w x f)
-  copies_draws c w x None = on_copy_draws [] c w x _ (copy_start_draws c.stand x.unit x.range x.stripe c.next)
-  copies_draws c w x (Some why) = fresh_draws [] c.next c.next _ (omega arith) (idle_fresh m c.next _ refl refl (omega arith))
-
-  moved_wider : (old more : List Out) (next : ℕ) (x : Moved m) → ((o : Out) → Has old o → Has more o) → MovedDraws m old next x → MovedDraws m more next x
-  moved_wider old more next x k d = record { is = wider old more next _ _ k d.is }
-
-  newer_draws : (c : Client m) (w : Work m) (t : Task m) (n rid : ℕ) (q : Layout) → MovedDraws m (task_kept m t) c.next (on_newer m c w t n rid q)
-  unfolding task_again
-  newer_draws c w (Reconfiguring r) n rid q = on_reconf_draws _ c w (reconf_latest r r.work n rid q c.next) (reconf_latest_draws r n rid q c.next)
-  newer_draws c w (Syncing s) n rid q = on_sync_draws [] (stands m c q) _ _ (sync_start_draws q s.oids c.next)
-  newer_draws c w (Walking k os) n rid q = on_walk_draws [] (stands m c q) w k.oid os _ (walk_again_draws q k c.next)
-  newer_draws c w (Appending a y) n rid q = on_append_draws [] (stands m c q) w y _ (append_again_draws q a c.next)
-  newer_draws c w (Trimming t) n rid q = on_trims_draws [] (stands m c q) w t.below _ (trim_start_draws q t.below c.next)
-  newer_draws c w (Copying' x) n rid q = copies_draws (stands m c q) w x _
-
+module _ (m : Meaning) where
   -- Deliveries.
 
-  kept_reserved : (p : Layout) (h : Hand m) (o : Out) → Has (task_kept m (step.task_in m h)) o → Has (hand_reserved m p h) o
+  kept_reserved : (p : Layout) (h : Hand m) (o : Out) → Has (task_kept m (task_in m h)) o → Has (hand_reserved m p h) o
   kept_reserved p (Doing (Reconfiguring r)) o h = h
   kept_reserved p (Doing t) o h = absurd h
   kept_reserved p (Learning ws t) o h = has_right (asks_latest m ws) (task_kept m t) o h
 
-  -- nothing has changed
-  still_draws : (c : Client m) (w : Work m) (ns : List (NoteOf m)) → c.work ≡ Some w → MovedDraws m (hand_reserved m c.stand w.hand) c.next (moved m c ns)
-  still_draws c w ns e = record { is = keeps _ c.next _ c.next (omega arith) (λ o h. subst (λ (x : Option (Work m)). Has (work_reserved m c.stand x) o) e h) }
-
-  fed_if_draws : (b : Bool) (c : Client m) (w : Work m) (t : Task m) (from : NodeId) (rid : ℕ) (x : Reply) → c.work ≡ Some w → w.hand ≡ Doing t
-      → MovedDraws m (hand_reserved m c.stand w.hand) c.next (fed_if m b c w t from rid x)
-  fed_if_draws true c w t from rid x e i = subst (λ (h : Hand m). MovedDraws m (hand_reserved m c.stand h) c.next (task_feed m c w t from.num rid x)) (sym i) (fed_draws c w t from.num rid x)
-  fed_if_draws false c w t from rid x e i = still_draws c w [] e
-
-  hand_draws : (c : Client m) (w : Work m) (h : Hand m) (from : NodeId) (rid : ℕ) (x : Reply) → c.work ≡ Some w → w.hand ≡ h → MovedDraws m (hand_reserved m c.stand w.hand) c.next (hand_feed m c w h from rid x)
-  hand_draws c w (Doing t) from rid x e i = fed_if_draws _ c w t from rid x e i
-  hand_draws c w (Learning ws t) from rid x e i = still_draws c w [] e
-
-  latest_draws : (b : Bool) (c : Client m) (w : Work m) (from : NodeId) (rid : ℕ) (q : Layout) → c.work ≡ Some w → MovedDraws m (hand_reserved m c.stand w.hand) c.next (latest_if m b c w from rid q)
-  latest_draws true c w from rid q e = moved_wider _ _ c.next _ (kept_reserved c.stand w.hand) (newer_draws c w (step.task_in m w.hand) from.num rid q)
-  latest_draws false c w from rid q e = still_draws c w [] e
-
-  reply_draws : (c : Client m) (w : Work m) (from : NodeId) (rid : ℕ) (x : Reply) → c.work ≡ Some w → MovedDraws m (hand_reserved m c.stand w.hand) c.next (reply_feed m c w from rid x)
-  reply_draws c w from rid (replied.IsLatest q) e = latest_draws _ c w from rid q e
-  reply_draws c w from rid x e = hand_draws c w w.hand from rid x e refl
-
-  feed_draws : (c : Client m) (o : Option (Work m)) (from : NodeId) (rid : ℕ) (x : Reply) → c.work ≡ o → MovedDraws m (work_reserved m c.stand o) c.next (feed m c o from rid x)
-  feed_draws c None from rid x e = record { is = keeps [] c.next _ c.next (omega arith) (λ o h. subst (λ (w : Option (Work m)). Has (work_reserved m c.stand w) o) e h) }
-  feed_draws c (Some w) from rid x e = reply_draws c w from rid x e
+  feed_draws : (c : Client m) (from : NodeId) (rid : ℕ) (x : Reply) → MovedDraws m (reserved m c) c.next (feed m c c.work from rid x)
+  feed_draws c from rid x = delivered m (Here m (reserved m c) c.next) (MovedDraws m (reserved m c) c.next) (ends_draws m (reserved m c) c.next) (way m (reserved m c) c.next)
+      (over_walks m (Here m (reserved m c) c.next) (MovedDraws m (reserved m c) c.next) (ends_draws m (reserved m c) c.next) (walked_way m (reserved m c) c.next)) c from rid x (record { is = same (reserved m c) c.next })
+      (λ w t has doing a other. (omega arith, λ o h. held w has o (subst (λ (d : Hand m). Has (hand_reserved m c.stand d) o) (sym doing) h)))
+      (λ w q has is e. (omega arith, λ o h. held w has o (kept_reserved c.stand w.hand o h)))
+    where
+      held : (w : Work m) → c.work ≡ Some w → (o : Out) → Has (hand_reserved m c.stand w.hand) o → Has (reserved m c) o
+      held w has o h = subst (λ (x : Option (Work m)). Has (work_reserved m c.stand x) o) (sym has) h
 
   -- Commands.
-
-  asks_by_fresh : (c : Client m) (x : CommandOf m) (o : Oid) (q : m.ask) (t : Tx) (at : Option ℕ) → c.work ≡ None → Fresh m c.next (step.asks_by m c x o q t at)
-  asks_by_fresh c x o q t None e = syncs_fresh m c _ c.hosted c.next (omega arith)
-  asks_by_fresh c x o q t (Some at) e = grind (arith, idle_fresh)
-
-  asks_fresh : (c : Client m) (x : CommandOf m) (o : Oid) (q : m.ask) (t : Option Tx) → c.work ≡ None → Fresh m c.next (step.asks m c x o q t)
-  asks_fresh c x o q None e = idle_fresh m c.next _ e refl (omega arith)
-  asks_fresh c x o q (Some t) e = asks_by_fresh c x o q t t.snapshot e
-
-  end_by_fresh : (c : Client m) (x : CommandOf m) (t : Tx) (b : Bool) → c.work ≡ None → Fresh m c.next (step.end_by m c x t b)
-  end_by_fresh c x t true e = idle_fresh m c.next _ e refl (omega arith)
-  end_by_fresh c x t false e = appends_fresh m c _ _ _ _ c.next (omega arith)
-
-  ends_fresh : (c : Client m) (x : CommandOf m) (t : Option Tx) → c.work ≡ None → Fresh m c.next (step.ends m c x t)
-  ends_fresh c x None e = idle_fresh m c.next _ e refl (omega arith)
-  ends_fresh c x (Some t) e = end_by_fresh c x t _ e
-
-  of_fresh : (c : Client m) (x : Moved m) → MovedDraws m [] c.next x → Fresh m c.next x
-  of_fresh c x d = record { is = d.is }
-
-  accepts_fresh : (c : Client m) (x : CommandOf m) → c.work ≡ None → Fresh m c.next (accepts m c x)
-  unfolding accepts
-  accepts_fresh c (cmd.Host o) e = grind (arith, idle_fresh)
-  accepts_fresh c cmd.Begin e = idle_fresh m c.next _ e refl (omega arith)
-  accepts_fresh c (cmd.Put o op) e = grind (arith, idle_fresh)
-  accepts_fresh c (cmd.Ask o q) e = asks_fresh c _ o q c.tx e
-  accepts_fresh c cmd.End e = ends_fresh c _ c.tx e
-  accepts_fresh c cmd.Drop e = idle_fresh m c.next _ e refl (omega arith)
-  accepts_fresh c (cmd.Reconf x) e = of_fresh c _ (on_reconf_draws [] c (new_work m (cmd.Reconf x)) (reconf_start c.stand c.layouts x c.num c.next) (reconf_start_draws c.stand c.layouts x c.num c.next))
-  accepts_fresh c (cmd.Copy u r s) e = of_fresh c _ (copies_draws c (new_work m (cmd.Copy u r s)) (record { unit = u; range = r; stripe = s; work = copying.Sealing 0 }) None)
-  accepts_fresh c x e = syncs_fresh m c (new_work m x) c.hosted c.next (omega arith)
 
   -- none is taken while one waits
   pub not_busy : (c : Client m) (x : CommandOf m) → refusal m c x ≡ None → c.work ≡ None
   unfolding refusal
   not_busy c x h = grind arith
 
-  refused_draws : (c : Client m) (x : CommandOf m) (o : Option Refusal) → (o ≡ None → c.work ≡ None) → MovedDraws m (reserved m c) c.next (refused_or m c x o)
-  refused_draws c x None free = fresh_draws _ c.next c.next _ (omega arith) (accepts_fresh c x (free refl))
-  refused_draws c x (Some why) free = record { is = same (reserved m c) c.next }
+  said_next : (c : Client m) (x : CommandOf m) (d : Client m) (ns : List (NoteOf m)) → IsSaid m c x d ns → c.next ≤ d.next
+  said_next c _ _ _ Begins' = omega arith
+  said_next c _ _ _ s = omega arith
+
+  takes_draws : (old : List Out) (c : Client m) (x : CommandOf m) → c.work ≡ None → (y : Moved m) → Taken m c x y → MovedDraws m old c.next y
+  unfolding task_asks copy_start
+  takes_draws old c _ free _ (SaidAtOnce x d ns s) = idle_draws m old c.next (moved m d ns) (said_work m c x d ns s ∙ free) refl (said_next c x d ns s)
+  takes_draws old c _ free _ (SyncsFirst x k) = syncs_draws m old c (new_work m x) c.hosted c.next (omega arith)
+  takes_draws old c _ free _ (AppendsRecord t y has some k) = appends_draws m old c (new_work m cmd.End) _ y _ c.next (omega arith)
+  takes_draws old c _ free _ (ReconfBegins x n r e) = record { is = later old c.next c.next _ n (omega arith) (subst (TurnDraws reconf_awaited [] c.next) e (reconf_start_draws c.stand c.layouts x c.num c.next)) }
+  takes_draws old c _ free _ (CopyBegins u r s) = record { is = later old c.next c.next _ (c.next + 1) (omega arith) (copy_start_draws c.stand u r s c.next) }
 
   -- The steps.
 
@@ -350,11 +259,11 @@ module _ (m : Meaning) where
 
   pub command_draws : (c : Client m) (x : CommandOf m) → TurnDraws' c (client_command m c x)
   unfolding client_command
-  command_draws c x = given_draws c _ (refused_draws c x (refusal m c x) (not_busy c x))
+  command_draws c x = given_draws c _ (commanded m (MovedDraws m (reserved m c) c.next) c x (λ why e. record { is = same (reserved m c) c.next }) (λ e. takes_draws (reserved m c) c x (not_busy c x e)))
 
   pub deliver_draws : (c : Client m) (from : NodeId) (rid : ℕ) (x : Msg) → TurnDraws' c (client_deliver m c from rid x)
   unfolding client_deliver
-  deliver_draws c from rid x = given_draws c _ (feed_draws c c.work from rid (reply x) refl)
+  deliver_draws c from rid x = given_draws c _ (feed_draws c from rid (reply x))
 
   this_or_has : (xs ys : List Out) (o : Out) → Has (this_or xs ys) o → Has xs o ⊎ Has ys o
   this_or_has [] ys o h = inr h

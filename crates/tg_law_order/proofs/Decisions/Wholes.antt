@@ -52,7 +52,7 @@ module _ (m : Meaning) where
   held_after h ms = run_keeps m Held keep ms (start m h) (start_held h)
 
   each_whole : (h : Header) (w : World m) (e : EventOf m) → Held (config m w) → EachEvent m h.objects (entries_in m w) (WalksWhole m) w e
-  each_whole h w (Deliver i) held = λ x at is on. delivery_at m h.objects (entries_in m w) (client m w x.to.num) (client m w x.to.num).work x.from x.rid (reply x.msg) (held.clients x.to.num)
+  each_whole h w (Deliver i) held = λ x at is on. delivery_at m h.objects (entries_in m w) (client m w x.to.num) x.from x.rid (reply x.msg) (held.clients x.to.num)
   each_whole h w (Commands k x) held = tt
   each_whole h w (Lose i) held = tt
   each_whole h w (Tick n) held = tt

@@ -43,7 +43,7 @@ module _ (m : Meaning) (objects : List Oid) (es : Entries) (P : Client m → Wor
 
   heard : (c : Client m) (p : Packet) → EachDelivery m objects es P c c.work p.from p.rid (reply p.msg) → Asks c (client_deliver m c p.from p.rid p.msg).now
   unfolding client_deliver
-  heard c p each v has i walk = fed m objects es P c c.work v p.from p.rid (reply p.msg) has i walk each
+  heard c p each v has i walk = fed m objects es P c v p.from p.rid (reply p.msg) has i walk each
 
   module _ (w : World m) where
     abbrev All : Config m → Type 0

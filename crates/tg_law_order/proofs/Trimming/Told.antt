@@ -1,5 +1,5 @@
 -- Over a run, whatever units are asked to trim was told by a client that trims.
-use Rattle.std.proofs.Common.{◌≡◌, ℕ, ◌≤◌, [], ◌∷◌, ◌++◌, refl, sym, ap, ◌∙◌, subst, arith, Some, append-nil}
+use Rattle.std.proofs.Common.{◌≡◌, ℕ, ◌≤◌, [], ◌∷◌, ◌++◌, refl, sym, subst, arith, Some, append-nil}
 use Rattle.std.specs.Prelude.{Contains}
 use Rattle.tg_base.specs.Clusters.{Header}
 use Rattle.tg_kind.specs.Meaning.{Meaning}
@@ -14,7 +14,6 @@ use Rattle.tg_law_layouts.specs.Moves.After.{after}
 use Rattle.tg_law_layouts.specs.Moves.Configs.{Config, config}
 use Rattle.tg_law_layouts.proofs.Moves.Lists.{at_map}
 use Rattle.tg_law_layouts.proofs.Moves.Members.{has_contained}
-use Rattle.tg_law_cells.proofs.Entries.Lists.{joined}
 use Rattle.tg_law_walks.proofs.Drafts.Written.{then_next, then_takes}
 use Rattle.tg_law_walks.proofs.Once.Along.{on_moves}
 use Rattle.tg_law_walks.proofs.Once.Nowhere.{reached}

@@ -1,5 +1,5 @@
 -- Where trims come from: each was told by a client that trims, as the floor that its directory had.
-use Rattle.std.specs.Prelude.{◌≡◌, ℕ, ◌≤◌, ◌∷◌, ◌++◌, Some}
+use Rattle.std.specs.Prelude.{◌≡◌, ℕ, ◌≤◌, Some}
 use Rattle.tg_base.specs.Clusters.{Header}
 use Rattle.tg_base.specs.declared.ids.Oid.{Oid}
 use Rattle.tg_base.specs.declared.msg.Msg.TheVariants as msg
@@ -13,9 +13,9 @@ use Rattle.tg_protocol.specs.Views.{state_of}
 use Rattle.tg_protocol.specs.Answers.{floor_of}
 use Rattle.tg_protocol.specs.Checkpoints.{trim_of}
 use Rattle.tg_protocol.specs.Walked.{Walked, walked_in}
-use Rattle.tg_protocol.specs.Worlds.{World, start}
+use Rattle.tg_protocol.specs.Worlds.{World}
 use Rattle.tg_protocol.specs.Chosen.{Sent}
-use Rattle.tg_protocol.specs.Runs.{Moves, Takes, Reaches, run}
+use Rattle.tg_protocol.specs.Runs.{Moves, Reaches}
 use Rattle.tg_law_trims.specs.Trims.Spare.{own_play}
 use Rattle.tg_law_trims.specs.Leaves.Passed.{Ended}
 

@@ -1,6 +1,6 @@
 -- What a command, a tick and a delivery make of a client: its transaction, what it appends, and what it tells.
-use Rattle.std.proofs.Common.{◌≡◌, ℕ, ◌+◌, List, [], ◌∷◌, Bool, true, false, refl, sym, ap, ◌∙◌, subst, arith, Option, Some, None, is_some, length}
-use Rattle.std.specs.Prelude.{◌==◌}
+use Rattle.std.proofs.Common.{◌≡◌, ℕ, ◌+◌, [], ◌∷◌, Bool, true, false, refl, sym, ap, ◌∙◌, subst, arith, Option, Some, None, is_some, length}
+use Rattle.std.specs.Prelude.{if◌then◌else◌, ◌==◌}
 use Rattle.tg_base.specs.declared.ids.NodeId.{NodeId}
 use Rattle.tg_base.specs.declared.ids.Oid.{Oid}
 use Rattle.tg_base.specs.declared.msg.Msg.{Msg}
@@ -12,18 +12,17 @@ use Rattle.tg_model.specs.declared.trace.What.TheVariants as told
 use Rattle.tg_model.specs.Kinds.{CommandOf}
 use Rattle.tg_model.specs.Words.{word_of}
 use Rattle.tg_protocol.specs.Words.{first_some, where_true}
-use Rattle.tg_protocol.specs.Requests.{Next, Goes, Learns, Ends, Turn}
 use Rattle.tg_protocol.specs.Replies.{reply}
 use Rattle.tg_protocol.specs.Appending.{Append, AppendEnd, Asking, append_start}
 use Rattle.tg_protocol.specs.Syncing.{sync_start}
-use Rattle.tg_protocol.specs.Trimming.{Copying, CopyEnd, copy_start}
-use Rattle.tg_protocol.specs.Trimming as copying
-use Rattle.tg_protocol.specs.Reconfiguring.{Reconf, ReconfEnd, Installed, Overtaken, NotWhole, reconf_start}
-use Rattle.tg_protocol.specs.Views.{View, state_of, view_version}
+use Rattle.tg_protocol.specs.Views.{view_version}
 use Rattle.tg_protocol.specs.Transactions.{Tx, tx_read, tx_put, open_tx, commit_record}
-use Rattle.tg_protocol.specs.Clients.{Appending, Work, Client, hosts_oid, tests, busy, tx_number, number_on, write_of, refusal}
+use Rattle.tg_protocol.specs.Clients.{Purpose, Writes, Judged, Appending, Work, Client, tests, busy, tx_number, number_on, write_of, refusal}
 use Rattle.tg_protocol.specs.Answers.{Moved, moved, note, appends, syncs}
-use Rattle.tg_protocol.specs.ClientSteps.{task_in, new_work, hosts_more, puts, asked_of_state, asks_view, asks_by, asks, snapshot_or, purpose_of, end_by, ends, accepts, refused_or, after_turn, met, copy_to, on_copy, reconf_ended, reconf_to, on_reconf, feed}
+use Rattle.tg_protocol.specs.ClientSteps.{task_in, snapshot_or, purpose_of, refused_or, feed}
+use Rattle.tg_law_steps.proofs.Takes.{IsFor, ForWrites, ForJudged, HostsAlready, Hosts, Asks, ReadsOnly, IsWalked, WalksAsk, Taken, SaidAtOnce, SyncsFirst, AppendsRecord, ReconfBegins, CopyBegins}
+use Rattle.tg_law_steps.proofs.Takes as begin
+use Rattle.tg_law_steps.proofs.Along.{commanded}
 use Rattle.tg_law_replies.specs.Replies.Ended.{reply_ends, work_ends}
 use Rattle.tg_law_replies.proofs.Books.Effects.{IsEnd, IsAsk, Idle, Suits, AllZero, Effect, feed_effect}
 
@@ -123,97 +122,49 @@ module _ (m : Meaning) (c0 : Client m) where
     Beginning : Begins x r → Taking x r
 
   module _ (free : c0.work ≡ None) where
-    nothing : (x : CommandOf m) → Taking x (moved m c0 [])
-    nothing x = Nothing (refl, refl, refl) free tt
-
-    host_taking : (x : CommandOf m) (o : Oid) (b : Bool) → Taking x (hosts_more m c0 o b)
-    host_taking x o true = Nothing (refl, refl, refl) free (refl, tt)
-    host_taking x o false = Nothing (refl, refl, refl) free (refl, tt)
-
-    put_taking : (o : Oid) (op : m.op) (t : Option Tx) → c0.tx ≡ t → Taking (cmd.Put o op) (puts m c0 o op t)
-    put_taking o op None is = nothing (cmd.Put o op)
-    put_taking o op (Some t) is = Putting (record { of = t; from = is; oid = o; op = op; is = refl; tx = refl; begun = refl; num = refl; work = free; notes = refl })
-
-    waits : (x : CommandOf m) (os : List Oid) → (IsEnd m x → ⊥) → (IsAsk m x → (t : Tx) → c0.tx ≡ Some t → t.snapshot ≡ None) → Taking x (syncs m c0 (new_work m x) os)
-    unfolding syncs sync_start
-    waits x os other first = Beginning (record { same = (refl, refl, refl); work = _; works = refl; command = refl; not_end = other; first = first; idle = tt; suits = tt; notes = refl })
-
     one_tx : (s t : Tx) → Some s ≡ Some t → s ≡ t
     one_tx s t e = cc
 
-    ask_taking : (o : Oid) (q : m.ask) (t : Option Tx) → c0.tx ≡ t → Taking (cmd.Ask o q) (asks m c0 (cmd.Ask o q) o q t)
-    ask_taking o q None is = nothing (cmd.Ask o q)
-    ask_taking o q (Some t) is = by t.snapshot refl
-      where
-        state : (a : ℕ) → t.snapshot ≡ Some a → (v : View m) (s : Option m.state) → Taking (cmd.Ask o q) (asked_of_state m c0 t a o q v s)
-        state a at v None = nothing (cmd.Ask o q)
-        state a at v (Some s) = Answering (record { of = t; from = is; oid = o; ask = q; version = view_version m v o (m.look q); at = a; answer = m.answers s q; first = at; tx = refl; begun = refl; num = refl; work = free; notes = refl })
+    first : (x : CommandOf m) → IsWalked m c0 x → IsAsk m x → (t : Tx) → c0.tx ≡ Some t → t.snapshot ≡ None
+    first _ (WalksAsk o q t is snap) i u has = ap (λ (z : Tx). z.snapshot) (one_tx u t (sym has ∙ is)) ∙ snap
+    first _ k i u has = absurd i
 
-        view : (a : ℕ) → t.snapshot ≡ Some a → (v : Option (View m)) → Taking (cmd.Ask o q) (asks_view m c0 t a o q v)
-        view a at None = nothing (cmd.Ask o q)
-        view a at (Some v) = state a at v (state_of m v o)
+    walks_not_end : (x : CommandOf m) → IsWalked m c0 x → IsEnd m x → ⊥
+    walks_not_end _ (WalksAsk o q t is snap) e = e
+    walks_not_end _ k e = e
 
-        by : (s : Option ℕ) → t.snapshot ≡ s → Taking (cmd.Ask o q) (asks_by m c0 (cmd.Ask o q) o q t s)
-        by None at = waits (cmd.Ask o q) c0.hosted (λ e. e) (λ i u has. ap (λ (z : Tx). z.snapshot) (one_tx u t (sym has ∙ is)) ∙ at)
-        by (Some a) at = view a at c0.view
-
-    end_taking : (t : Option Tx) → c0.tx ≡ t → Taking cmd.End (ends m c0 cmd.End t)
-    unfolding appends append_start
-    end_taking None is = nothing cmd.End
-    end_taking (Some t) is = by (length t.writes == 0) refl
-      where
-        by : (b : Bool) → (length t.writes == 0) ≡ b → Taking cmd.End (end_by m c0 cmd.End t b)
-        by true e = Ending (record { of = t; from = is; none = e; tx = refl; begun = refl; num = refl; work = free; notes = refl })
-        by false e = EndingLater (record {
-          of = t;
-          from = is;
-          some = e;
-          same = (refl, refl, refl);
-          work = _;
-          works = refl;
-          command = refl;
-          append = record { draft = commit_record t c0.num; token = None; work = Asking c0.next };
-          appends = refl;
-          draft = refl;
-          notes = refl;
-        })
-
-    not_ask : (x : CommandOf m) → (IsAsk m x → ⊥) → IsAsk m x → (t : Tx) → c0.tx ≡ Some t → t.snapshot ≡ None
-    not_ask x never i t has = absurd (never i)
-
-    copy_taking : (x : CommandOf m) (c : Client m) → Stays c → c.work ≡ None → (w : Work m) → w.command ≡ x → (y : Copying) (t : Turn Copying CopyEnd) → (IsEnd m x → ⊥) → (IsAsk m x → ⊥) → Taking x (on_copy m c w y t)
-    copy_taking x c s idle w is y t other never = by t.to
-      where
-        by : (z : Next Copying CopyEnd) → Taking x (copy_to m (after_turn m c t) (met m w t) y z)
-        by (Goes z) = Beginning (record { same = s; work = _; works = refl; command = is; not_end = other; first = not_ask x never; idle = tt; suits = other; notes = refl })
-        by (Learns z) = Beginning (record { same = s; work = _; works = refl; command = is; not_end = other; first = not_ask x never; idle = tt; suits = other; notes = refl })
-        by (Ends e) = Nothing s refl (refl, tt)
-
-    reconf_taking : (x : CommandOf m) (c : Client m) → Stays c → (w : Work m) → w.command ≡ x → (t : Turn Reconf ReconfEnd) → (IsEnd m x → ⊥) → (IsAsk m x → ⊥) → Taking x (on_reconf m c w t)
-    reconf_taking x c s w is t other never = by t.to
-      where
-        end : (e : ReconfEnd) → Taking x (reconf_ended m (after_turn m c t) e)
-        end (Installed e p) = Nothing s refl (refl, tt)
-        end (Overtaken e p) = Nothing s refl (refl, tt)
-        end (NotWhole u q p) = Nothing s refl (refl, tt)
-
-        by : (z : Next Reconf ReconfEnd) → Taking x (reconf_to m (after_turn m c t) w z)
-        by (Goes r) = Beginning (record { same = s; work = _; works = refl; command = is; not_end = other; first = not_ask x never; idle = tt; suits = other; notes = refl })
-        by (Learns r) = Beginning (record { same = s; work = _; works = refl; command = is; not_end = other; first = not_ask x never; idle = tt; suits = other; notes = refl })
-        by (Ends e) = end e
+    purpose_is : (t : Tx) (y : Purpose m) → IsFor m t y → y ≡ purpose_of m t
+    purpose_is t _ (ForWrites e) = ap (λ (b : Bool). if b then Writes else Judged) (sym e)
+    purpose_is t _ (ForJudged e) = ap (λ (b : Bool). if b then Writes else Judged) (sym e)
 
     -- with no transaction open where it begins one
-    taking : (x : CommandOf m) → (x ≡ cmd.Begin → c0.tx ≡ None) → Taking x (accepts m c0 x)
-    unfolding accepts
-    taking (cmd.Host o) none = host_taking (cmd.Host o) o (hosts_oid m c0 o)
-    taking cmd.Begin none = Opening (record { was = none refl; tx = refl; begun = refl; num = refl; work = free; notes = refl })
-    taking (cmd.Put o op) none = put_taking o op c0.tx refl
-    taking (cmd.Ask o q) none = ask_taking o q c0.tx refl
-    taking cmd.End none = end_taking c0.tx refl
-    taking cmd.Drop none = Dropping (record { tx = refl; begun = refl; num = refl; work = free; notes = refl })
-    taking (cmd.Reconf y) none = reconf_taking (cmd.Reconf y) c0 (refl, refl, refl) (new_work m (cmd.Reconf y)) refl (reconf_start c0.stand c0.layouts y c0.num c0.next) (λ e. e) (λ e. e)
-    taking (cmd.Copy u r s) none = copy_taking (cmd.Copy u r s) c0 (refl, refl, refl) free (new_work m (cmd.Copy u r s)) refl (record { unit = u; range = r; stripe = s; work = copying.Sealing 0 }) (copy_start u r s c0.next) (λ e. e) (λ e. e)
-    taking x none = waits x c0.hosted (λ e. e) (not_ask x (λ e. e))
+    taking : (x : CommandOf m) (r : Moved m) → (x ≡ cmd.Begin → c0.tx ≡ None) → Taken m c0 x r → Taking x r
+    unfolding syncs sync_start appends append_start
+    taking _ _ none (SaidAtOnce _ _ _ (HostsAlready o e)) = Nothing (refl, refl, refl) free (refl, tt)
+    taking _ _ none (SaidAtOnce _ _ _ (Hosts o e)) = Nothing (refl, refl, refl) free (refl, tt)
+    taking _ _ none (SaidAtOnce _ _ _ begin.Begins) = Opening (record { was = none refl; tx = refl; begun = refl; num = refl; work = free; notes = refl })
+    taking _ _ none (SaidAtOnce _ _ _ (begin.Puts o op t is)) = Putting (record { of = t; from = is; oid = o; op = op; is = refl; tx = refl; begun = refl; num = refl; work = free; notes = refl })
+    taking _ _ none (SaidAtOnce _ _ _ (Asks o q t a v s is at sees e)) =
+        Answering (record { of = t; from = is; oid = o; ask = q; version = view_version m v o (m.look q); at = a; answer = m.answers s q; first = at; tx = refl; begun = refl; num = refl; work = free; notes = refl })
+    taking _ _ none (SaidAtOnce _ _ _ (ReadsOnly t is e)) = Ending (record { of = t; from = is; none = e; tx = refl; begun = refl; num = refl; work = free; notes = refl })
+    taking _ _ none (SaidAtOnce _ _ _ begin.Drops) = Dropping (record { tx = refl; begun = refl; num = refl; work = free; notes = refl })
+    taking _ _ none (SaidAtOnce _ _ _ x) = Nothing (refl, refl, refl) free tt
+    taking _ _ none (SyncsFirst x k) = Beginning (record { same = (refl, refl, refl); work = _; works = refl; command = refl; not_end = walks_not_end x k; first = first x k; idle = tt; suits = tt; notes = refl })
+    taking _ _ none (AppendsRecord t y is e for) = EndingLater (record {
+      of = t;
+      from = is;
+      some = e;
+      same = (refl, refl, refl);
+      work = _;
+      works = refl;
+      command = refl;
+      append = record { draft = commit_record t c0.num; token = None; work = Asking c0.next };
+      appends = ap (λ (z : Purpose m). Appending (record { draft = commit_record t c0.num; token = None; work = Asking c0.next }) z) (purpose_is t y for);
+      draft = refl;
+      notes = refl;
+    })
+    taking _ _ none (ReconfBegins x n r e) = Beginning (record { same = (refl, refl, refl); work = _; works = refl; command = refl; not_end = λ e. e; first = λ i t has. absurd i; idle = tt; suits = λ e. e; notes = refl })
+    taking _ _ none (CopyBegins u r s) = Beginning (record { same = (refl, refl, refl); work = _; works = refl; command = refl; not_end = λ e. e; first = λ i t has. absurd i; idle = tt; suits = λ e. e; notes = refl })
 
   -- what a command makes of the client
   pub data Commanding (x : CommandOf m) (r : Moved m) : Type 0 where
@@ -237,11 +188,7 @@ module _ (m : Meaning) (c0 : Client m) where
       by (Some w) (Some t) z = absurd (no (cause.Busy (word_of w.command)) z)
 
   pub commanding : (x : CommandOf m) → Commanding x (refused_or m c0 x (refusal m c0 x))
-  commanding x = by (refusal m c0 x) refl
-    where
-      by : (o : Option Refusal) → refusal m c0 x ≡ o → Commanding x (refused_or m c0 x o)
-      by None e = Takes' (free_unless x e) e (taking (free_unless x e) x (none_open x e))
-      by (Some why) e = Refuses why e refl
+  commanding x = commanded m (Commanding x) c0 x (λ why e. Refuses why e refl) (λ e r k. Takes' (free_unless x e) e (taking (free_unless x e) x r (none_open x e) k))
 
   -- What a turn of the client makes of it.
 

@@ -1,36 +1,30 @@
 -- What a client makes of its commands, once it has played: what it tells and what it appends is true of the log.
-use Rattle.std.proofs.Common.{◌≡◌, ◌<◌, is_some, nat_le, ◌&&◌, ◌⊎◌, ℕ, ◌+◌, ◌≤◌, max, List, [], ◌∷◌, Bool, true, false, refl, sym, ap, ◌∙◌, subst, inl, inr, arith, Option, Some, None, Contains}
+use Rattle.std.proofs.Common.{◌≡◌, ◌⊎◌, ℕ, ◌+◌, ◌≤◌, max, List, [], ◌∷◌, Bool, true, false, refl, sym, ap, ◌∙◌, subst, inl, inr, arith, Option, Some, None, Contains}
 use Rattle.tg_base.specs.declared.ids.Oid.{Oid}
 use Rattle.tg_base.specs.declared.marks.Part.{Part}
 use Rattle.tg_entry.specs.declared.entry.Body.{Body}
 use Rattle.tg_entry.specs.declared.entry.Body.TheVariants.{Decision, Checkpoint}
 use Rattle.tg_entry.specs.declared.entry.Entry.{Entry}
 use Rattle.tg_kind.specs.Meaning.{Meaning}
-use Rattle.tg_model.specs.declared.play.PlayEnd.{PlayEnd}
-use Rattle.tg_model.specs.declared.play.PlayEnd.TheVariants.{Played, Blocked}
 use Rattle.tg_model.specs.declared.refusal.Refusal.{Refusal}
-use Rattle.tg_model.specs.declared.refusal.Refusal.TheVariants as cause
 use Rattle.tg_model.specs.declared.trace.What.TheVariants as told
 use Rattle.tg_model.specs.Kinds.{WhatOf, NoteOf}
 use Rattle.tg_protocol.specs.Words.{directory}
 use Rattle.tg_entry.specs.Needs.{reads_of}
 use Rattle.tg_protocol.specs.Entries.{is_commit}
-use Rattle.tg_protocol.specs.Versions.{Changed}
-use Rattle.tg_protocol.specs.Views.{Entries, Verdict, Commits, Aborts, Unknown, Base, View, base_of, state_of, view_version, fate_of, changed_in, unknown_in, verdict, view_outcome, fate_or_verdict}
+use Rattle.tg_protocol.specs.Views.{Entries, Verdict, Commits, Aborts, Base, View, base_of, state_of, view_version, fate_of, verdict, view_outcome, fate_or_verdict}
 use Rattle.tg_protocol.specs.Checkpoints.{base_at}
-use Rattle.tg_protocol.specs.Past.{commit_at}
 use Rattle.tg_protocol.specs.Transactions.{Tx, tx_read, commit_record}
 use Rattle.tg_protocol.specs.Appending.{append_start}
-use Rattle.tg_protocol.specs.Clients.{Purpose, Writes, Marks, Decides, Rescues, Task, Appending, Hand, Doing, Learning, Work, Client, tx_number}
-use Rattle.tg_protocol.specs.Answers.{Moved, note, mark_notes, replies, refuses, dir_or, base_upto, took_over, answers, closed, appends, decision, with_decision, lacks_decision, decides_if, trim_above, ask_answer, ask_in, on_ask, unsure, aborted, end_decided, end_aborted, end_no, end_by, end_record, on_end, forgotten_or, fate_verdict, fate_record, fate_known, blocks, fate_blocked, on_fate, decide_verdict, decide_record, decide_blocked, decide_played, on_decide}
+use Rattle.tg_protocol.specs.Clients.{Purpose, Writes, Marks, Decides, Rescues, Task, Appending, Hand, Doing, Learning, Work, Client}
+use Rattle.tg_protocol.specs.Answers.{Moved, note, mark_notes, replies, refuses, dir_or, base_upto, took_over, answers, closed, appends, decision}
 use Rattle.tg_law_replies.specs.Plays.Sound.{IsRising, IsBase, IsSound}
 use Rattle.tg_law_replies.specs.History.Logs.{state_below, version_below, AreListed, HasOutcome}
-use Rattle.tg_law_replies.proofs.History.Members.{Has, has_contained}
-use Rattle.tg_law_replies.proofs.History.Ledger.{one_entry}
-use Rattle.tg_law_replies.specs.Views.Views.{IsTrueCheckpoint, IsTrueBase, IsTrueView, StandsAt}
+use Rattle.tg_law_replies.proofs.History.Members.{Has}
+use Rattle.tg_law_replies.specs.Views.Views.{IsTrueCheckpoint, IsTrueBase, IsTrueView}
 use Rattle.tg_law_replies.specs.Views.Exact.{IsRecorded}
 use Rattle.tg_law_replies.specs.Views.Looking.{IsTrueAt, IsJudge}
-use Rattle.tg_law_replies.proofs.Views.Plays.{max_left, verdicts_true, changes_true}
+use Rattle.tg_law_replies.proofs.Views.Plays.{max_left, verdicts_true}
 use Rattle.tg_law_replies.proofs.Replies.Books.{IsPlain, ArePlain}
 
 module _ (m : Meaning) (objects : List Oid) (es : Entries) (rising : IsRising es) (listed : AreListed es) where
@@ -285,174 +279,5 @@ module _ (m : Meaning) (objects : List Oid) (es : Entries) (rising : IsRising es
     inl (record { tx = h.tx; begun = h.begun; plain = plain }),
   )
 
-  -- The answers of `ask`.
-
-  abbrev asked_client : Client m → Tx → Oid → m.ask → View m → ℕ → Client m
-  asked_client c x o q v t = record c { tx = Some (tx_read x (record { oid = o; part = m.look q; version = view_version m v o (m.look q) }) t) }
-
-  some_tx : (c : Client m) (x : Tx) → InStep c → c.tx ≡ Some x → tx0 ≡ Some x
-  some_tx c x h has = by h.tx
-    where
-      none : None ≡ Some x → ⊥
-      none e = cc
-
-      by : (c.tx ≡ tx0) ⊎ (c.tx ≡ None) → tx0 ≡ Some x
-      by (inl e) = sym e ∙ has
-      by (inr e) = absurd (none (sym e ∙ has))
-
-  pub ask_right : (c : Client m) (w : Work m) (o : Oid) (q : m.ask) (v : View m) (came : PlayEnd) → InStep c → ((t : ℕ) → came ≡ Played t → IsTrueAt m objects es v w.tail o)
-      → ((x : Tx) → c.tx ≡ Some x → x.snapshot ≡ None) → IsRightMove (on_ask m c w o q v came)
-  ask_right c w o q v (Blocked p x) h at first = refuses_right c (tx_number m c.tx) (cause.Undecided p x) h
-  ask_right c w o q v (Played t) h at first = by c.tx refl
-    where
-      told_by : (x : Tx) → c.tx ≡ Some x → (s : Option m.state) → state_of m v o ≡ s → IsRightMove (ask_answer m c w x o q v s)
-      told_by x has None is = refuses_right c x.number (cause.NotHosted o) h
-      told_by x has (Some s) is = (
-        replies_now m objects es rising listed (took_over m (asked_client c x o q v w.tail) c.view) (note m x.number (told.Asked o q w.tail (m.answers s q)) ∷ [])
-            (took_now m objects es rising listed (asked_client c x o q v w.tail) c.view (record { view = h.right.view; dir = h.right.dir; work = h.right.work }) refl),
-        one_note m objects es rising listed x.number (told.Asked o q w.tail (m.answers s q)) (answer_there m objects es rising listed v w.tail o q s (at t refl) is),
-        inr (inl (record {
-          of = x;
-          from = some_tx c x h has;
-          oid = o;
-          ask = q;
-          snapshot = w.tail;
-          answer = m.answers s q;
-          first = inl (first x has);
-          tx = took_tx m objects es rising listed (asked_client c x o q v w.tail) c.view
-              ∙ ap (λ (n : ℕ). Some (tx_read x (record { oid = o; part = m.look q; version = n }) w.tail)) (version_there m objects es rising listed v w.tail o s (m.look q) (at t refl) is);
-          begun = took_begun m objects es rising listed (asked_client c x o q v w.tail) c.view ∙ h.begun;
-          notes = refl;
-        })),
-      )
-
-      by : (x : Option Tx) → c.tx ≡ x → IsRightMove (ask_in m c w o q v x)
-      by None has = refuses_right c 0 cause.NoTx h
-      by (Some x) has = told_by x has (state_of m v o) refl
-
-  -- The outcome of a record.
-
-  pub decide_if_right : (b : Bool) (c : Client m) (w : Work m) (e : Entry) (p : ℕ) (said_so : Bool) (x : ℕ) (what : WhatOf m) → InStep c → HasOutcome m objects es p said_so → True what → IsPlain m what
-      → IsRightMove (decides_if m b c w e p said_so x what)
-  decide_if_right true c w e p said_so x what h out t y =
-      appends_right (with_decision m c) w (decision m c e p said_so) (Decides what) [] (record { right = record { view = h.right.view; dir = h.right.dir; work = h.right.work }; tx = h.tx; begun = h.begun }) (decision_right m objects es rising listed c e p said_so out) (t, y) (λ n i. absurd i) (λ n i. absurd i)
-  decide_if_right false c w e p said_so x what h out t y = answers_right c x what h t y
-
   pub close_right : (c : Client m) → InStep c → InStep (closed m c)
   close_right c h = record { right = record { view = h.right.view; dir = h.right.dir; work = h.right.work }; tx = inr refl; begun = h.begun }
-
-  pub unsure_right : (c : Client m) (p q : ℕ) → InStep c → True (told.Unsure p q) → IsRightMove (unsure m c p q)
-  unsure_right c p q h so = answers_right (closed m c) (tx_number m c.tx) (told.Unsure p q) (close_right c h) so tt
-
-  end_decided_right : (b : Bool) (c : Client m) (w : Work m) (e : Entry) (p : ℕ) (said_so : Bool) (what : WhatOf m) → InStep c → HasOutcome m objects es p said_so → True what → IsPlain m what
-      → IsRightMove (end_decided m b c w e p said_so what)
-  end_decided_right true c w e p said_so what h out t y =
-      appends_right (with_decision m c) w (decision m c e p said_so) (Decides what) [] (record { right = record { view = h.right.view; dir = h.right.dir; work = h.right.work }; tx = h.tx; begun = h.begun }) (decision_right m objects es rising listed c e p said_so out) (t, y) (λ n i. absurd i) (λ n i. absurd i)
-  end_decided_right false c w e p said_so what h out t y = answers_right (closed m c) (tx_number m c.tx) what (close_right c h) t y
-
-  end_no_right : (c : Client m) (w : Work m) (own : Entries) (v : View m) (e : Entry) (p : ℕ) → InStep c → IsJudge m objects es v own p e → StandsAt m v p (reads_of e) → HasOutcome m objects es p false → (o : Option Oid)
-      → unknown_in m v (reads_of e) p ≡ o → IsRightMove (end_no m c w own v e p o)
-  end_no_right c w own v e p h j stands out (Some o) is = unsure_right c p p h (inl refl)
-  end_no_right c w own v e p h j stands out None is = by (changed_in m v (reads_of e) p) refl
-    where
-      same : e ≡ out.entry
-      same = one_entry 0 es p e out.entry rising (has_contained es (p, e) j.here) (has_contained es (p, out.entry) out.here)
-
-      by : (x : Option Changed) → changed_in m v (reads_of e) p ≡ x → IsRightMove (end_aborted m c w own e p x)
-      by None k = unsure_right c p p h (inl refl)
-      by (Some x) k =
-          let f = changes_true m objects es v p (reads_of e) x rising j.so stands is k in
-          end_decided_right (lacks_decision m own p e) c w e p false (aborted m p x) h out
-          (record { out = out; read = subst (λ (d : Entry). Contains (reads_of d) x.read) same f.read; is = f.now; differs = f.differs }) tt
-
-  end_by_right : (c : Client m) (w : Work m) (own : Entries) (v : View m) (e : Entry) (p : ℕ) → InStep c → IsJudge m objects es v own p e → StandsAt m v p (reads_of e) → (d : Verdict) → verdict m v own p e ≡ d
-      → IsRightMove (end_by m c w own v e p d)
-  end_by_right c w own v e p h j stands Commits is =
-      let out = (judged m objects es rising listed v own p e j Commits is).0 refl in end_decided_right (lacks_decision m own p e) c w e p true (told.Committed p) h out out tt
-  end_by_right c w own v e p h j stands Aborts is = end_no_right c w own v e p h j stands ((judged m objects es rising listed v own p e j Aborts is).1 refl) (unknown_in m v (reads_of e) p) refl
-  end_by_right c w own v e p h j stands (Unknown o) is = unsure_right c p p h (inl refl)
-
-  pub end_right : (c : Client m) (w : Work m) (own : Entries) (v : View m) (came : PlayEnd) → InStep c → ((t : ℕ) (e : Entry) → came ≡ Played t → commit_at own w.at ≡ Some e → IsJudge m objects es v own w.at e × StandsAt m v w.at (reads_of e))
-      → ((q : ℕ) (x : Oid) → came ≡ Blocked q x → IsCommitAt m objects es rising listed q) → IsRightMove (on_end m c w own v came)
-  end_right c w own v (Blocked q x) h judge stuck = unsure_right c w.at q h (inr (stuck q x refl))
-  end_right c w own v (Played t) h judge stuck = by (commit_at own w.at) refl
-    where
-      by : (e : Option Entry) → commit_at own w.at ≡ e → IsRightMove (end_record m c w own v w.at e)
-      by None is = unsure_right c w.at w.at h (inl refl)
-      by (Some e) is = let j = judge t e refl is in end_by_right c w own v e w.at h j.0 j.1 (verdict m v own w.at e) refl
-
-  -- `fate` and `decide`.
-
-  forgotten_right : (c : Client m) (w : Work m) (p : ℕ) (what : WhatOf m) (o : Option ℕ) → InStep c → True what → IsPlain m what → IsRightMove (forgotten_or m c w p what o)
-  forgotten_right c w p what None h t y = answers_right c 0 what h t y
-  forgotten_right c w p what (Some b) h t y = refuses_right c 0 (cause.Forgotten p b) h
-
-  fate_verdict_right : (c : Client m) (w : Work m) (own : Entries) (v : View m) (e : Entry) (p : ℕ) → InStep c → IsJudge m objects es v own p e → (d : Verdict) → verdict m v own p e ≡ d
-      → IsRightMove (fate_verdict m c w p d)
-  fate_verdict_right c w own v e p h j (Unknown o) is = refuses_right c 0 (cause.Undecided p o) h
-  fate_verdict_right c w own v e p h j Commits is = forgotten_right c w p (told.Fate p (Some true)) (trim_above m w.trims p) h ((judged m objects es rising listed v own p e j Commits is).0 refl) tt
-  fate_verdict_right c w own v e p h j Aborts is = forgotten_right c w p (told.Fate p (Some false)) (trim_above m w.trims p) h ((judged m objects es rising listed v own p e j Aborts is).1 refl) tt
-
-  -- a record without a fate is judged
-  abbrev pub Judges : View m → Entries → ℕ → Type 0
-  Judges v own p = (e : Entry) → commit_at own p ≡ Some e → fate_of m v p ≡ None → IsJudge m objects es v own p e
-
-  fate_known_right : (c : Client m) (w : Work m) (own : Entries) (v : View m) (p : ℕ) → InStep c → IsTrueView m objects es v → Judges v own p → IsRightMove (fate_known m c w own v p (fate_of m v p))
-  fate_known_right c w own v p h so judge = by (fate_of m v p) refl
-    where
-      rest : fate_of m v p ≡ None → (e : Option Entry) → commit_at own p ≡ e → IsRightMove (fate_record m c w own v p e)
-      rest none None is = forgotten_right c w p (told.Fate p None) (trim_above m w.trims p) h tt tt
-      rest none (Some e) is = fate_verdict_right c w own v e p h (judge e is none) (verdict m v own p e) refl
-
-      by : (b : Option Bool) → fate_of m v p ≡ b → IsRightMove (fate_known m c w own v p b)
-      by (Some b) is = answers_right c 0 (told.Fate p (Some b)) h (so.fates p b is) tt
-      by None is = rest is (commit_at own p) refl
-
-  -- where the play went past it
-  abbrev pub JudgesPast : PlayEnd → View m → Entries → ℕ → Type 0
-  JudgesPast came v own p = (e : Entry) → commit_at own p ≡ Some e → fate_of m v p ≡ None → ((q : ℕ) (x : Oid) → came ≡ Blocked q x → p < q) → IsJudge m objects es v own p e
-
-  not_blocked : (t q : ℕ) (x : Oid) → Played t ≡ Blocked q x → ⊥
-  not_blocked t q x e = cc
-
-  above : (p q : ℕ) → nat_le q p ≡ false → p < q
-  above p q e = grind arith
-
-  abbrev end_at : PlayEnd → ℕ
-  end_at (Played t) = t
-  end_at (Blocked q x) = q
-
-  goes_past : (own : Entries) (p q r : ℕ) (x y : Oid) (e : Entry) → commit_at own p ≡ Some e → blocks m own p q ≡ false → Blocked q x ≡ Blocked r y → p < r
-  goes_past own p q r x y e k f is =
-      subst (λ (n : ℕ). p < n) (ap end_at is) (above p q (ap (λ (o : Option Entry). is_some o && nat_le q p) (sym k) ∙ f))
-
-  pub fate_right : (c : Client m) (w : Work m) (own : Entries) (v : View m) (p : ℕ) (came : PlayEnd) → InStep c → IsTrueView m objects es v → JudgesPast came v own p → IsRightMove (on_fate m c w own v p came)
-  fate_right c w own v p (Played t) h so judge = fate_known_right c w own v p h so (λ e k none. judge e k none (λ q x is. absurd (not_blocked t q x is)))
-  fate_right c w own v p (Blocked q x) h so judge = by (blocks m own p q) refl
-    where
-      by : (b : Bool) → blocks m own p q ≡ b → IsRightMove (fate_blocked m c w own v p q x b)
-      by true f = refuses_right c 0 (cause.Undecided q x) h
-      by false f = fate_known_right c w own v p h so (λ e k none. judge e k none (λ r y is. goes_past own p q r x y e k f is))
-
-  decide_verdict_right : (c : Client m) (w : Work m) (own : Entries) (e : Entry) (p : ℕ) (d : Verdict) → InStep c → (d ≡ Commits → HasOutcome m objects es p true) × (d ≡ Aborts → HasOutcome m objects es p false)
-      → IsRightMove (decide_verdict m c w own p e d)
-  decide_verdict_right c w own e p (Unknown o) h out = refuses_right c 0 (cause.Undecided p o) h
-  decide_verdict_right c w own e p Commits h out = let y = out.0 refl in decide_if_right (lacks_decision m own p e) c w e p true 0 (told.Decided p (Some true)) h y y tt
-  decide_verdict_right c w own e p Aborts h out = let n = out.1 refl in decide_if_right (lacks_decision m own p e) c w e p false 0 (told.Decided p (Some false)) h n n tt
-
-  pub decide_right : (c : Client m) (w : Work m) (own : Entries) (v : View m) (p : ℕ) (came : PlayEnd) (gone : Option ℕ) → InStep c → IsTrueView m objects es v → JudgesPast came v own p
-      → IsRightMove (on_decide m c w own v p came gone)
-  decide_right c w own v p came (Some b) h so judge = refuses_right c 0 (cause.Forgotten p b) h
-  decide_right c w own v p came None h so judge = by_end came judge
-    where
-      by : Judges v own p → (e : Option Entry) → commit_at own p ≡ e → IsRightMove (decide_record m c w own v p e)
-      by now None is = answers_right c 0 (told.Decided p None) h tt tt
-      by now (Some e) is = decide_verdict_right c w own e p (view_outcome m v own p e) h (outcome_right m objects es rising listed v own p e so (now e is))
-
-      blocked : (q : ℕ) (x : Oid) → JudgesPast (Blocked q x) v own p → (b : Bool) → blocks m own p q ≡ b → IsRightMove (decide_blocked m c w own v p q x b)
-      blocked q x judge true f = refuses_right c 0 (cause.Undecided q x) h
-      blocked q x judge false f = by (λ e k none. judge e k none (λ r y is. goes_past own p q r x y e k f is)) (commit_at own p) refl
-
-      by_end : (d : PlayEnd) → JudgesPast d v own p → IsRightMove (decide_played m c w own v p d)
-      by_end (Played t) judge = by (λ e k none. judge e k none (λ q x is. absurd (not_blocked t q x is))) (commit_at own p) refl
-      by_end (Blocked q x) judge = blocked q x judge (blocks m own p q) refl

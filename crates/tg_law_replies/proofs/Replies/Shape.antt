@@ -94,6 +94,10 @@ module _ (m : Meaning) where
   stands_decides tx view cmd.End h = tt
   stands_decides tx view x h = h
 
+  pub decides_stand : (tx : Option Tx) (view : Option (View m)) (x : CommandOf m) → (x ≡ cmd.End → ⊥) → DecidesFor tx view x → StandsIn tx view
+  decides_stand tx view cmd.End other h = absurd (other refl)
+  decides_stand tx view x other h = h
+
   -- where the walks are over, a transaction without a snapshot is the asking one, or the command ends it
   pub walks_stand : (tx : Option Tx) (view : Option (View m)) (hosted : List Oid) (x : CommandOf m) → (x ≡ cmd.End → ⊥) → WalksFor tx hosted x → StandsIn tx view
   walks_stand tx view hosted (cmd.Ask o q) other h = unasked tx view h

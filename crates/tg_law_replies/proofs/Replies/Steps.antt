@@ -1,6 +1,6 @@
 -- A step of a world keeps its clients right, and what is told in it is true of the log.
 use Rattle.std.proofs.Common.{◌≡◌, ◌⊎◌, ℕ, zero, suc, ◌+◌, List, [], ◌∷◌, ◌++◌, map, Bool, true, false, refl, sym, ap, ◌∙◌, subst, inl, inr, arith, Option, Some, None, is_some, length}
-use Rattle.std.specs.Prelude.{not, slice_set, slice_index_or, slice_get, if◌then◌else◌, ◌==◌}
+use Rattle.std.specs.Prelude.{not, slice_set, slice_index_or, slice_get, ◌==◌}
 use Rattle.tg_base.specs.declared.ids.NodeId.{NodeId}
 use Rattle.tg_base.specs.declared.ids.Oid.{Oid}
 use Rattle.tg_base.specs.declared.ids.Role.{Role}
@@ -17,14 +17,14 @@ use Rattle.tg_model.specs.Kinds.{CommandOf, EventOf, WhatOf, NoteOf}
 use Rattle.tg_base.specs.Orders.{node_eq, role_number}
 use Rattle.tg_protocol.specs.Words.{first_some, where_true, client_id}
 use Rattle.tg_protocol.specs.Replies.{reply}
-use Rattle.tg_protocol.specs.Reconfiguring.{reconf_start}
-use Rattle.tg_protocol.specs.Views.{Entries, View, state_of}
+use Rattle.tg_protocol.specs.Views.{Entries, View, state_of, view_version}
 use Rattle.tg_protocol.specs.Transactions.{Tx, tx_read, tx_put, open_tx, commit_record}
-use Rattle.tg_protocol.specs.Trimming as copying
-use Rattle.tg_protocol.specs.Clients.{tests, busy, no_tx, Writes, Judged, Work, Client, new_client, hosts_oid, write_of, number_on, refusal}
+use Rattle.tg_protocol.specs.Clients.{Purpose, Task, Reconfiguring, tests, busy, no_tx, Work, Client, new_client, write_of, number_on, refusal}
 use Rattle.tg_protocol.specs.Answers.{Moved, moved, note, closed, appends, syncs}
-use Rattle.tg_protocol.specs.ClientSteps.{feed, new_work, hosts_more, puts, asked_of_state, asks_view, asks_by, asks, snapshot_or, end_by, ends, tx_of, works_on, accepts, refused_or, on_reconf, copies_again, ClientTurn, called, given, client_command, client_deliver, tick_by, client_tick}
+use Rattle.tg_protocol.specs.ClientSteps.{goes_on, feed, new_work, snapshot_or, tx_of, refused_or, ClientTurn, called, given, client_command, client_deliver, tick_by, client_tick}
 use Rattle.tg_protocol.specs.Worlds.{World, Told, client, unit_moves, layout_moves, seqr_moves, client_turned, moves, comes, handed, delivers, noted_if, commands, ticks, ticks_if, stops_if, mark_of, counted, happens, runs, sends}
+use Rattle.tg_law_steps.proofs.Takes.{IsFor, ForWrites, ForJudged, HostsAlready, Hosts, Begins, Puts, Asks, ReadsOnly, Drops, Taken, SaidAtOnce, SyncsFirst, AppendsRecord, ReconfBegins, CopyBegins}
+use Rattle.tg_law_steps.proofs.Along.{commanded}
 use Rattle.tg_law_replies.specs.Plays.Sound.{IsRising}
 use Rattle.tg_law_replies.specs.History.Logs.{AreListed}
 use Rattle.tg_law_replies.proofs.History.Members.{Has, both_and, same_number, number_same}
@@ -34,9 +34,9 @@ use Rattle.tg_law_replies.specs.Replies.Ended.{work_ends, handed_ends, packet_en
 use Rattle.tg_law_replies.proofs.Replies.Ready.{Ready}
 use Rattle.tg_law_replies.proofs.Replies.Shape.{StandsIn}
 use Rattle.tg_law_replies.proofs.Replies.Books.{IsPlain}
-use Rattle.tg_law_replies.proofs.Replies.Moves.{IsRight, InStep, IsBooked, IsRightMove, TrueWhat, TrueNotes, IsBlind, one_note, one_plain, commit_draft, answer_there, version_there, appends_right}
+use Rattle.tg_law_replies.proofs.Replies.Moves.{TruePurpose, TrueTask, IsRight, InStep, IsBooked, IsRightMove, TrueWhat, TrueNotes, IsBlind, one_note, one_plain, commit_draft, answer_there, version_there, appends_right}
 use Rattle.tg_law_replies.proofs.Replies.Upkeep.{syncs_right}
-use Rattle.tg_law_replies.proofs.Replies.Turns.{LandsBy, feed_right, reconf_right, copies_right, still}
+use Rattle.tg_law_replies.proofs.Replies.Turns.{LandsBy, feed_right, goes_right, still}
 use Rattle.tg_protocol.specs.Runs.{LawfulCommand}
 use Rattle.tg_protocol.specs.Holding.{append_by}
 use Rattle.tg_law_layouts.proofs.Moves.Puts.{put_short}
@@ -173,56 +173,6 @@ module _ (m : Meaning) (objects : List Oid) (es : Entries) (rising : IsRising es
   plainly c d n what h tx begun t p =
       (h, inl (one_note m objects es rising listed n what t, inl (inl (record { tx = tx; begun = begun; plain = one_plain m objects es rising listed c.tx c.begun n what p }))))
 
-  host_right : (c : Client m) (o : Oid) (b : Bool) → Right c → IsRightTurn c (hosts_more m c o b)
-  host_right c o true h = plainly c c 0 (told.Hosted o) h (inl refl) refl tt tt
-  host_right c o false h = plainly c _ 0 (told.Hosted o) (record { view = λ v is. absurd (none v is); dir = h.dir; work = h.work }) (inl refl) refl tt tt
-    where
-      none : (v : View m) → None ≡ Some v → ⊥
-      none v e = cc
-
-  put_right : (c : Client m) (o : Oid) (op : m.op) (t : Option Tx) → c.tx ≡ t → Right c → m.read o (m.spell op) ≡ Some op → IsRightTurn c (puts m c o op t)
-  put_right c o op None is h spelled = of_move c (moved m c []) (still m objects es rising listed c.tx c.begun c (held c h))
-  put_right c o op (Some t) is h spelled = (
-    record { view = h.view; dir = h.dir; work = h.work },
-    inl (
-      one_note m objects es rising listed t.number (told.Put o op) tt,
-      inr (inr (record { of = t; from = is; oid = o; op = op; spelled = spelled; tx = refl; begun = refl; notes = refl })),
-    ),
-  )
-
-  ask_right : (c : Client m) (o : Oid) (q : m.ask) (t : Option Tx) → c.tx ≡ t → Right c → StandsIn m c.tx c.view → IsRightTurn c (asks m c (cmd.Ask o q) o q t)
-  ask_right c o q None is h r = of_move c (moved m c []) (still m objects es rising listed c.tx c.begun c (held c h))
-  ask_right c o q (Some t) is h r = by t.snapshot refl
-    where
-      answers : (a : ℕ) (v : View m) → t.snapshot ≡ Some a → IsTrueAt m objects es v a o → (s : Option m.state) → state_of m v o ≡ s → IsRightTurn c (asked_of_state m c t a o q v s)
-      answers a v snap k None e = of_move c (moved m c []) (still m objects es rising listed c.tx c.begun c (held c h))
-      answers a v snap k (Some s) e = (
-        record { view = h.view; dir = h.dir; work = h.work },
-        inl (
-          one_note m objects es rising listed t.number (told.Asked o q a (m.answers s q)) (answer_there m objects es rising listed v a o q s k e),
-          inl (inr (inl (record {
-            of = t;
-            from = is;
-            oid = o;
-            ask = q;
-            snapshot = a;
-            answer = m.answers s q;
-            first = inr snap;
-            tx = ap (λ (n : ℕ). Some (tx_read t (record { oid = o; part = m.look q; version = n }) a)) (version_there m objects es rising listed v a o s (m.look q) k e);
-            begun = refl;
-            notes = refl;
-          }))),
-        ),
-      )
-
-      views : (a : ℕ) → t.snapshot ≡ Some a → (v : Option (View m)) → c.view ≡ v → IsRightTurn c (asks_view m c t a o q v)
-      views a snap None e = of_move c (moved m c []) (still m objects es rising listed c.tx c.begun c (held c h))
-      views a snap (Some v) e = let with = r t a v o is snap e in answers a v snap (record { so = (h.view v e).so; stands = with.stands; based = with.based }) (state_of m v o) refl
-
-      by : (s : Option ℕ) → t.snapshot ≡ s → IsRightTurn c (asks_by m c (cmd.Ask o q) o q t s)
-      by None snap = of_move c (syncs m c (new_work m (cmd.Ask o q)) c.hosted) (syncs_right m objects es rising listed c.tx c.begun c (new_work m (cmd.Ask o q)) c.hosted (held c h))
-      by (Some a) snap = views a snap c.view refl
-
   no_items : {X : Type 0} → (xs : List X) → (length xs == 0) ≡ true → xs ≡ []
   no_items [] e = refl
   no_items (x ∷ xs) e = let n : suc (length xs) ≡ 0 = same_number (suc (length xs)) 0 e in absurd (omega (arith, n))
@@ -231,42 +181,64 @@ module _ (m : Meaning) (objects : List Oid) (es : Entries) (rising : IsRising es
   unfolding commit_record
   blind t k e = (refl, no_items t.reads e)
 
-  end_right : (c : Client m) (t : Option Tx) → c.tx ≡ t → Right c → IsRightTurn c (ends m c cmd.End t)
-  end_right c None is h = of_move c (moved m c []) (still m objects es rising listed c.tx c.begun c (held c h))
-  end_right c (Some t) is h = by (length t.writes == 0) refl
+  purpose : (t : Tx) (k : ℕ) (y : Purpose m) → IsFor m t y → TruePurpose m objects es rising listed (commit_record t k) y
+  purpose t k _ (ForWrites e) = blind t k e
+  purpose t k _ (ForJudged e) = tt
+
+  -- an ask's answer in the view that stands at the transaction's snapshot
+  asked_right : (c : Client m) (o : Oid) (q : m.ask) (t : Tx) (at : ℕ) (v : View m) (s : m.state) → c.tx ≡ Some t → t.snapshot ≡ Some at → c.view ≡ Some v → state_of m v o ≡ Some s → Right c → StandsIn m c.tx c.view
+      → IsRightTurn c (moved m (record c { tx = Some (tx_read t (record { oid = o; part = m.look q; version = view_version m v o (m.look q) }) at) }) (note m t.number (told.Asked o q at (m.answers s q)) ∷ []))
+  asked_right c o q t at v s has snap sees is h r =
+      let with = r t at v o has snap sees in
+      let k : IsTrueAt m objects es v at o = record { so = (h.view v sees).so; stands = with.stands; based = with.based } in (
+        record { view = h.view; dir = h.dir; work = h.work },
+        inl (
+          one_note m objects es rising listed t.number (told.Asked o q at (m.answers s q)) (answer_there m objects es rising listed v at o q s k is),
+          inl (inr (inl (record {
+            of = t;
+            from = has;
+            oid = o;
+            ask = q;
+            snapshot = at;
+            answer = m.answers s q;
+            first = inr snap;
+            tx = ap (λ (n : ℕ). Some (tx_read t (record { oid = o; part = m.look q; version = n }) at)) (version_there m objects es rising listed v at o s (m.look q) k is);
+            begun = refl;
+            notes = refl;
+          }))),
+        ),
+      )
+
+  -- a task begins that appends nothing
+  begins_right : (c d : Client m) (w : Work m) (t : Task m) → InStep m objects es rising listed c.tx c.begun d → TrueTask m objects es rising listed t → IsRightTurn c (goes_on m d w t [])
+  begins_right c d w t h k = of_move c (goes_on m d w t []) (goes_right m objects es rising listed c.tx c.begun d w t [] h k)
+
+  taken_right : (c : Client m) (x : CommandOf m) (y : Moved m) → Right c → StandsIn m c.tx c.view → IsSpelled m x → Taken m c x y → IsRightTurn c y
+  taken_right c _ _ h r spelled (SaidAtOnce _ _ _ (HostsAlready o e)) = plainly c c 0 (told.Hosted o) h (inl refl) refl tt tt
+  taken_right c _ _ h r spelled (SaidAtOnce _ _ _ (Hosts o e)) = plainly c _ 0 (told.Hosted o) (record { view = λ v is. absurd (none v is); dir = h.dir; work = h.work }) (inl refl) refl tt tt
     where
-      appended : (b : Bool) → (length t.reads == 0) ≡ b → IsRightMove m objects es rising listed c.tx c.begun (appends m c (new_work m cmd.End) (commit_record t c.num) (if b then Writes else Judged) (note m t.number told.End ∷ []))
-      appended true e =
-          appends_right m objects es rising listed c.tx c.begun c (new_work m cmd.End) (commit_record t c.num) Writes (note m t.number told.End ∷ []) (held c h) (commit_draft m objects es rising listed t c.num) (blind t c.num e)
-          (one_note m objects es rising listed t.number told.End tt) (one_plain m objects es rising listed c.tx c.begun t.number told.End tt)
-      appended false e =
-          appends_right m objects es rising listed c.tx c.begun c (new_work m cmd.End) (commit_record t c.num) Judged (note m t.number told.End ∷ []) (held c h) (commit_draft m objects es rising listed t c.num) tt
-          (one_note m objects es rising listed t.number told.End tt) (one_plain m objects es rising listed c.tx c.begun t.number told.End tt)
-
-      by : (b : Bool) → (length t.writes == 0) ≡ b → IsRightTurn c (end_by m c cmd.End t b)
-      by true e = (record { view = h.view; dir = h.dir; work = h.work }, inr (record { of = t; from = is; none = no_items t.writes e; tx = refl; begun = refl; notes = refl }))
-      by false e = of_move c (end_by m c cmd.End t false) (appended (length t.reads == 0) refl)
-
-  accepts_right : (c : Client m) (x : CommandOf m) → Right c → StandsIn m c.tx c.view → IsSpelled m x → IsRightTurn c (accepts m c x)
-  unfolding accepts
-  accepts_right c (cmd.Host o) h r spelled = host_right c o (hosts_oid m c o) h
-  accepts_right c cmd.Begin h r spelled =
+      none : (v : View m) → None ≡ Some v → ⊥
+      none v e = cc
+  taken_right c _ _ h r spelled (SaidAtOnce _ _ _ Begins) =
       (record { view = h.view; dir = h.dir; work = h.work }, inl (one_note m objects es rising listed (c.begun + 1) told.Begin tt, inr (inl (record { tx = refl; begun = refl; notes = refl }))))
-  accepts_right c (cmd.Put o op) h r spelled = put_right c o op c.tx refl h spelled
-  accepts_right c (cmd.Ask o q) h r spelled = ask_right c o q c.tx refl h r
-  accepts_right c cmd.End h r spelled = end_right c c.tx refl h
-  accepts_right c cmd.Drop h r spelled = plainly c (closed m c) (tx_of m c) told.Dropped (record { view = h.view; dir = h.dir; work = h.work }) (inr refl) refl tt tt
-  accepts_right c (cmd.Reconf x) h r spelled =
-      of_move c (on_reconf m c (new_work m (cmd.Reconf x)) (reconf_start c.stand c.layouts x c.num c.next))
-      (reconf_right m objects es rising listed c.tx c.begun c (new_work m (cmd.Reconf x)) (reconf_start c.stand c.layouts x c.num c.next) (held c h))
-  accepts_right c (cmd.Copy u i s) h r spelled =
-      of_move c (copies_again m c (new_work m (cmd.Copy u i s)) (record { unit = u; range = i; stripe = s; work = copying.Sealing 0 }) None)
-      (copies_right m objects es rising listed c.tx c.begun c (new_work m (cmd.Copy u i s)) (record { unit = u; range = i; stripe = s; work = copying.Sealing 0 }) None (held c h))
-  accepts_right c x h r spelled = of_move c (works_on m c x) (syncs_right m objects es rising listed c.tx c.begun c (new_work m x) c.hosted (held c h))
-
-  refused_right : (c : Client m) (x : CommandOf m) (o : Option Refusal) → Right c → (o ≡ None → StandsIn m c.tx c.view) → (o ≡ None → IsSpelled m x) → IsRightTurn c (refused_or m c x o)
-  refused_right c x None h r spelled = accepts_right c x h (r refl) (spelled refl)
-  refused_right c x (Some why) h r spelled = plainly c c (number_on m c why) (told.Refused why) h (inl refl) refl tt tt
+  taken_right c _ _ h r spelled (SaidAtOnce _ _ _ (Puts o op t is)) = (
+    record { view = h.view; dir = h.dir; work = h.work },
+    inl (
+      one_note m objects es rising listed t.number (told.Put o op) tt,
+      inr (inr (record { of = t; from = is; oid = o; op = op; spelled = spelled; tx = refl; begun = refl; notes = refl })),
+    ),
+  )
+  taken_right c _ _ h r spelled (SaidAtOnce _ _ _ (Asks o q t at v s has snap sees is)) = asked_right c o q t at v s has snap sees is h r
+  taken_right c _ _ h r spelled (SaidAtOnce _ _ _ (ReadsOnly t is e)) = (record { view = h.view; dir = h.dir; work = h.work }, inr (record { of = t; from = is; none = no_items t.writes e; tx = refl; begun = refl; notes = refl }))
+  taken_right c _ _ h r spelled (SaidAtOnce _ _ _ Drops) = plainly c (closed m c) (tx_of m c) told.Dropped (record { view = h.view; dir = h.dir; work = h.work }) (inr refl) refl tt tt
+  taken_right c _ _ h r spelled (SaidAtOnce _ _ _ x) = of_move c (moved m c []) (still m objects es rising listed c.tx c.begun c (held c h))
+  taken_right c _ _ h r spelled (SyncsFirst x k) = of_move c (syncs m c (new_work m x) c.hosted) (syncs_right m objects es rising listed c.tx c.begun c (new_work m x) c.hosted (held c h))
+  taken_right c _ _ h r spelled (AppendsRecord t y is e for) =
+      of_move c (appends m c (new_work m cmd.End) (commit_record t c.num) y (note m t.number told.End ∷ []))
+      (appends_right m objects es rising listed c.tx c.begun c (new_work m cmd.End) (commit_record t c.num) y (note m t.number told.End ∷ []) (held c h) (commit_draft m objects es rising listed t c.num) (purpose t c.num y for)
+      (one_note m objects es rising listed t.number told.End tt) (one_plain m objects es rising listed c.tx c.begun t.number told.End tt))
+  taken_right c _ _ h r spelled (ReconfBegins x n y e) = begins_right c _ (new_work m (cmd.Reconf x)) (Reconfiguring y) (record { right = record { view = h.view; dir = h.dir; work = h.work }; tx = inl refl; begun = refl }) tt
+  taken_right c _ _ h r spelled (CopyBegins u i s) = begins_right c _ (new_work m (cmd.Copy u i s)) _ (record { right = record { view = h.view; dir = h.dir; work = h.work }; tx = inl refl; begun = refl }) tt
 
   called_right : (c : Client m) → Right c → Right (called m c)
   called_right c h = record { view = h.view; dir = h.dir; work = h.work }
@@ -292,7 +264,9 @@ module _ (m : Meaning) (objects : List Oid) (es : Entries) (rising : IsRising es
 
   pub command_right : (c : Client m) (x : CommandOf m) → Right c → (c.work ≡ None → StandsIn m c.tx c.view) → LawfulCommand m x → IsClientTurn c (client_command m c x)
   unfolding client_command
-  command_right c x h r lawful = given_right c (refused_or m c x (refusal m c x)) (refused_right c x (refusal m c x) h (λ fine. r (not_busy m c x fine)) (λ fine. spelled_unless m c x lawful fine))
+  command_right c x h r lawful =
+      given_right c (refused_or m c x (refusal m c x))
+      (commanded m (IsRightTurn c) c x (λ why e. plainly c c (number_on m c why) (told.Refused why) h (inl refl) refl tt tt) (λ fine y k. taken_right c x y h (r (not_busy m c x fine)) (spelled_unless m c x lawful fine) k))
 
   pub tick_right : (c : Client m) → Right c → IsClientTurn c (client_tick m c)
   unfolding client_tick

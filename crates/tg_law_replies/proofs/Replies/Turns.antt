@@ -1,8 +1,7 @@
 -- A client's steps keep it right, and what they tell is true of the log.
-use Rattle.std.proofs.Common.{◌≡◌, ℕ, List, [], ◌∷◌, Bool, true, false, refl, sym, ap, subst, inl, inr, Option, Some, None, Contains}
-use Rattle.std.specs.Prelude.{not, nat_lt, nat_le, ◌&&◌, ◌==◌}
+use Rattle.std.proofs.Common.{◌≡◌, ◌<◌, ◌⊎◌, ◌+◌, ◌∙◌, is_some, arith, ℕ, List, [], ◌∷◌, Bool, true, false, refl, sym, ap, subst, inl, inr, Option, Some, None, Contains}
+use Rattle.std.specs.Prelude.{nat_lt, nat_le, ◌&&◌}
 use Rattle.tg_base.specs.Layouts.{Layout}
-use Rattle.tg_base.specs.declared.cell.Cell.{Cell}
 use Rattle.tg_base.specs.declared.ids.NodeId.{NodeId}
 use Rattle.tg_base.specs.declared.ids.Oid.{Oid}
 use Rattle.std.specs.List.{list_all}
@@ -13,40 +12,45 @@ use Rattle.tg_entry.specs.declared.entry.Entry.{Entry}
 use Rattle.tg_kind.specs.Meaning.{Meaning}
 use Rattle.tg_model.specs.declared.command.Command.TheVariants as cmd
 use Rattle.tg_model.specs.declared.refusal.Refusal.{Refusal}
-use Rattle.tg_model.specs.declared.refusal.Refusal.TheVariants as cause
 use Rattle.tg_model.specs.declared.trace.What.TheVariants as told
 use Rattle.tg_model.specs.Kinds.{CommandOf, WhatOf, NoteOf}
-use Rattle.tg_base.specs.Orders.{node_eq}
-use Rattle.tg_protocol.specs.Words.{layout_id}
 use Rattle.tg_entry.specs.Needs.{reads_of}
 use Rattle.tg_protocol.specs.Entries.{is_commit, streams_of}
 use Rattle.tg_entry.specs.Records.{linked}
 use Rattle.tg_protocol.specs.Logs.{is_current, changes_below}
-use Rattle.tg_protocol.specs.Views.{Entries, View}
-use Rattle.tg_protocol.specs.Requests.{awaits, Next, Goes, Learns, Ends, Turn}
-use Rattle.tg_protocol.specs.Replies.{Reply, IsLatest, IsIssued, IsOldEpoch, IsFull}
+use Rattle.tg_protocol.specs.Views.{Entries, View, Play, Verdict, Commits, Aborts, state_of, view_version, fate_of, verdict, view_outcome}
+use Rattle.tg_protocol.specs.Past.{commit_at}
+use Rattle.tg_model.specs.declared.play.PlayEnd.{PlayEnd}
+use Rattle.tg_model.specs.declared.play.PlayEnd.TheVariants.{Played, Blocked}
+use Rattle.tg_protocol.specs.Transactions.{Tx, tx_read}
+use Rattle.tg_law_replies.specs.Views.Views.{StandsAt}
+use Rattle.tg_law_replies.specs.Views.Looking.{IsTrueAt, IsJudge}
+use Rattle.tg_law_replies.proofs.History.Ledger.{one_entry}
+use Rattle.tg_law_replies.proofs.Views.Plays.{changes_true}
+use Rattle.tg_law_replies.proofs.Replies.Ways.{end_fed, end_newer}
+use Rattle.tg_law_replies.proofs.Replies.Each.{delivered}
+use Rattle.tg_protocol.specs.Requests.{Next, Goes, Learns, Ends, Turn}
+use Rattle.tg_protocol.specs.Replies.{Reply, IsIssued, IsOldEpoch, IsFull}
 use Rattle.tg_protocol.specs.Cells.{CellJob, CellEnd, Done, Seen, Lost, Fenced, Gone, cell_feed}
-use Rattle.tg_protocol.specs.Appending.{AppendWork, Asking, Putting, Judging, Token, Append, AppendEnd, At, Full, Forgotten, put_end, put_next, put_turn, own_or_not, judge_end, judge_next, judge_turn, on_issued, asking_feed, by_token, append_feed, dead_or_judged, again_with, append_again, names_all}
+use Rattle.tg_protocol.specs.Appending.{AppendWork, Asking, Putting, Judging, Token, Append, AppendEnd, At, put_end, put_next, put_turn, own_or_not, judge_end, judge_next, judge_turn, on_issued, asking_feed, by_token, append_feed, dead_or_judged, again_with, append_again, names_all}
 use Rattle.tg_protocol.specs.Appending as append
-use Rattle.tg_protocol.specs.Syncing.{Sync, Confirmed, sync_feed, sync_again}
-use Rattle.tg_protocol.specs.Walking.{Walk, Members, walk_feed, walk_again}
-use Rattle.tg_protocol.specs.Trimming.{Trims, Trimmed, trim_start, trim_feed, Copying, CopyEnd, copy_start, copy_feed}
-use Rattle.tg_protocol.specs.Reconfiguring.{Reconf, ReconfEnd, Installed, Overtaken, NotWhole, reconf_feed, reconf_latest}
-use Rattle.tg_protocol.specs.Transactions.{Tx}
-use Rattle.tg_protocol.specs.Clients.{Purpose, Writes, Judged, Decides, Rescues, Saves, Marks, Task, Syncing, Walking, Appending, Trimming, Copying', Reconfiguring, Hand, Doing, Learning, Work, Client, copy_fault}
-use Rattle.tg_protocol.specs.Answers.{Moved, moved, note, closed, took_over}
-use Rattle.tg_protocol.specs.ClientSteps.{task_awaited, task_in, after_turn, met, goes_on, learns_for, takes_back, found_by, start_walk, walks, knows, sync_to, on_sync, stale, starts_over, gives_up, given_up_if, at_trim, walk_ended_by, walk_to, on_walk, knows_page, owns, tx_of, record_lost, lost, page_known, decided_for, append_ended, append_to, on_append, trim_to, on_trims, copy_to, on_copy, stands, reconf_ended, reconf_to, on_reconf, task_feed, copies_again, task_again, on_newer, fed_if, hand_feed, latest_if, reply_feed, feed}
+use Rattle.tg_protocol.specs.Clients.{Purpose, Decides, Rescues, Saves, Task, Appending, Hand, Doing, Learning, Work, Client, all_entries}
+use Rattle.tg_protocol.specs.Answers.{Moved, moved, note, took_over, replies, answers, appends, syncs, decision, with_decision}
+use Rattle.tg_protocol.specs.ClientSteps.{task_in, goes_on, learns_for, plays_kept, knows_page, owns, stands, feed}
 use Rattle.tg_protocol.specs.Holding.{append_of, append_by}
+use Rattle.tg_law_steps.proofs.Places.{Place, Feeds, Newer, OnAppend, Walks, Plays, Looks, Rescues as Rescues'}
+use Rattle.tg_law_steps.proofs.Ways.{Way, FeedsAppend, NewerAppend, MetHigh, StartsOver, AllWalked, HasPlayed, LooksBack, IsRescue}
+use Rattle.tg_law_steps.proofs.Ends as end
 use Rattle.tg_law_replies.specs.Plays.Sound.{IsRising}
 use Rattle.tg_law_replies.specs.History.Logs.{AreListed, HasOutcome}
-use Rattle.tg_law_replies.proofs.History.Members.{both_and}
-use Rattle.tg_law_replies.specs.Replies.Steps.{EachWalk, EachSync, EachOver, EachTrim, EachEnd, EachWalked, EachFeed, EachAgain, EachNewer, EachAwaited, EachHand, EachLatest, EachReply, EachDelivery}
-use Rattle.tg_law_replies.specs.Replies.Ended.{end_of, task_ends, again_ends, awaited_ends, hand_ends, latest_ends, reply_ends, work_ends, EndsSo}
-use Rattle.tg_law_replies.proofs.Replies.Ready.{Ready}
+use Rattle.tg_law_replies.proofs.History.Members.{both_and, has_contained, not_lt}
+use Rattle.tg_law_replies.specs.Replies.Steps.{EachDelivery}
+use Rattle.tg_law_replies.specs.Replies.Ended.{end_of, task_ends, again_ends, work_ends, EndsSo}
+use Rattle.tg_law_replies.proofs.Replies.Ready.{Ready, IsReady, IsReadyToPlay}
 use Rattle.tg_law_replies.proofs.Replies.Books.{IsPlain, ArePlain}
-use Rattle.tg_law_replies.proofs.Replies.Moves.{InStep, IsRightMove, TrueWhat, TrueNotes, TrueDraft, RescuesBy, IsBlind, TruePurpose, TrueTask, TrueHand, one_note, one_plain, one_work, replies_right, refuses_right, answers_right, close_right, took_right}
-use Rattle.tg_law_replies.proofs.Replies.Upkeep.{syncs_right}
-use Rattle.tg_law_replies.proofs.Replies.Played.{walked_right}
+use Rattle.tg_law_replies.proofs.Replies.Moves.{InStep, IsRightMove, TrueWhat, TrueNotes, TrueDraft, RescuesBy, IsBlind, TruePurpose, TrueTask, TrueHand, one_note, one_plain, one_work, replies_now, took_now, took_tx, took_begun, decision_right, answer_there, version_there, judged, outcome_right, replies_right, refuses_right, answers_right, appends_right, close_right, took_right}
+use Rattle.tg_law_replies.proofs.Replies.Upkeep.{saves_body, saves_draft, syncs_right, marks_right, rescued}
+use Rattle.tg_law_replies.proofs.Replies.Played.{IsTruePlay, keeps_right, own_play_true}
 
 -- An append keeps its draft.
 
@@ -140,15 +144,12 @@ module _ (m : Meaning) (objects : List Oid) (es : Entries) (rising : IsRising es
   abbrev True : Task m → Type 0
   True t = TrueTask m objects es rising listed t
 
-  abbrev LandsTask : Task m → Option AppendEnd → Type 0
-  LandsTask t end = LandsBy m es (append_of m t) end
-
   -- Machines that go on.
 
   pub still : (c : Client m) → Held c → RightMove (moved m c [])
   still c h = (h.right, λ n i. absurd i, inl (record { tx = h.tx; begun = h.begun; plain = λ n i. absurd i }))
 
-  goes_right : (c : Client m) (w : Work m) (t : Task m) (besides : List Out) → Held c → True t → RightMove (goes_on m c w t besides)
+  pub goes_right : (c : Client m) (w : Work m) (t : Task m) (besides : List Out) → Held c → True t → RightMove (goes_on m c w t besides)
   goes_right c w t besides h k =
       (record { view = h.right.view; dir = h.right.dir; work = λ x is. subst (λ (y : Work m). TrueHand m objects es rising listed y.hand) (one_work m objects es rising listed (record w { hand = Doing t }) x is) k }, λ n i. absurd i, inl (record { tx = h.tx; begun = h.begun; plain = λ n i. absurd i }))
 
@@ -156,28 +157,28 @@ module _ (m : Meaning) (objects : List Oid) (es : Entries) (rising : IsRising es
   learns_right c w t h k =
       (record { view = h.right.view; dir = h.right.dir; work = λ x is. subst (λ (y : Work m). TrueHand m objects es rising listed y.hand) (one_work m objects es rising listed _ x is) k }, λ n i. absurd i, inl (record { tx = h.tx; begun = h.begun; plain = λ n i. absurd i }))
 
-  turned : {M E : Type 0} (c : Client m) (t : Turn M E) → Held c → Held (after_turn m c t)
-  turned c t h = record { right = record { view = h.right.view; dir = h.right.dir; work = h.right.work }; tx = h.tx; begun = h.begun }
+  -- Along a turn.
 
-  -- Walks.
+  -- an append whose draft and purpose are so, and that ends by the log
+  record TrueAppend (y : Purpose m) (to : Next Append AppendEnd) : Type 0 where
+    pub draft : Entry
+    pub so : TrueDraft m objects es rising listed draft
+    pub purpose : TruePurpose m objects es rising listed draft y
+    pub keeps : Keeps draft to
+    pub lands : (e : AppendEnd) → end_of to ≡ Some e → EndsSo m es draft e
 
-  members_right : (c : Client m) (x : Members) → Held c → Held (takes_back m c x)
-  members_right c x h = record { right = record { view = h.right.view; dir = h.right.dir; work = h.right.work }; tx = h.tx; begun = h.begun }
+  abbrev Fits : Client m → Work m → Place m → Type 0
+  Fits c w (Feeds t n rid x) = True t × LandsBy m es (append_of m t) (task_ends m c t n x)
+  Fits c w (Newer t n rid q) = True t × LandsBy m es (append_of m t) (again_ends m (stands m c q) t)
+  Fits c w (OnAppend y bs to) = TrueAppend y to
+  Fits c w (Plays own p) = IsTruePlay m objects es rising listed tx0 n0 c w own p
+  Fits c w (Looks at o q) = IsReady m objects es c w (cmd.AskAt at o q)
+  Fits c w (Rescues' at) = IsReady m objects es c w (cmd.Rescue at)
+  Fits c w p = Unit {0}
 
-  pub walks_right : (os : List Oid) (c : Client m) (w : Work m) → Held c → EachWalk m objects es (Ready m objects es) os c w → RightMove (walks m os c w)
-  unfolding walks
-  walks_right [] c w h r = walked_right m objects es rising listed tx0 n0 c w h r
-  walks_right (o ∷ os) c w h r = by ((start_walk m c w o).to) refl (λ x is. walks_right os (takes_back m c x) (found_by m w o x) (members_right c x h) (r x is))
-    where
-      by : (n : Next Walk Members) → (start_walk m c w o).to ≡ n → ((x : Members) → (start_walk m c w o).to ≡ Ends x → RightMove (walks m os (takes_back m c x) (found_by m w o x)))
-          → RightMove (elim n as (λ _. Moved m) [
-            | Goes x ↦ goes_on m (record (after_turn m c (start_walk m c w o)) { cells = [] }) w (Walking x os) []
-            | Learns x ↦ moved m c []
-            | Ends x ↦ walks m os (takes_back m c x) (found_by m w o x)
-          ])
-      by (Goes x) is rest = goes_right (record (after_turn m c (start_walk m c w o)) { cells = [] }) w (Walking x os) [] (record { right = record { view = h.right.view; dir = h.right.dir; work = h.right.work }; tx = h.tx; begun = h.begun }) tt
-      by (Learns x) is rest = still c h
-      by (Ends x) is rest = rest x is
+  record Along (c : Client m) (w : Work m) (p : Place m) : Type 0 where
+    pub held : Held c
+    pub fits : Fits c w p
 
   no_view : (c : Client m) → Held c → Held (record c { view = None })
   no_view c h = record { right = record { view = λ v is. absurd (none v is); dir = h.right.dir; work = h.right.work }; tx = h.tx; begun = h.begun }
@@ -185,69 +186,69 @@ module _ (m : Meaning) (objects : List Oid) (es : Entries) (rising : IsRising es
       none : (v : View m) → None ≡ Some v → ⊥
       none v e = cc
 
-  knows_right : (c : Client m) (s : Option (ℕ × Cell)) → Held c → Held (knows m c s)
-  knows_right c None h = h
-  knows_right c (Some s) h = record { right = record { view = h.right.view; dir = h.right.dir; work = h.right.work }; tx = h.tx; begun = h.begun }
+  way : (c : Client m) (w : Work m) (p : Place m) (d : Client m) (v : Work m) (q : Place m) → Way m c w p d v q → Along c w p → Along d v q
+  way c w _ _ _ _ (FeedsAppend a y n rid x) h = record {
+    held = record { right = record { view = h.held.right.view; dir = h.held.right.dir; work = h.held.right.work }; tx = h.held.tx; begun = h.held.begun };
+    fits = record { draft = a.draft; so = h.fits.0.0; purpose = h.fits.0.1; keeps = feed_keeps c.stand a a.work n x c.next; lands = λ e is. h.fits.1 a e refl is };
+  }
+  way c w _ _ _ _ (NewerAppend a y n rid q) h = record {
+    held = record { right = record { view = h.held.right.view; dir = h.held.right.dir; work = h.held.right.work }; tx = h.held.tx; begun = h.held.begun };
+    fits = record { draft = a.draft; so = h.fits.0.0; purpose = h.fits.0.1; keeps = again_keeps q a c.next; lands = λ e is. h.fits.1 a e refl is };
+  }
+  way c w _ _ _ _ (MetHigh o os x b e f z) h = record { held = no_view c h.held; fits = tt }
+  way c w _ _ _ _ (StartsOver o os x b e f z) h = record { held = no_view c h.held; fits = tt }
+  way c w _ _ _ _ x h = record { held = record { right = record { view = h.held.right.view; dir = h.held.right.dir; work = h.held.right.work }; tx = h.held.tx; begun = h.held.begun }; fits = tt }
 
-  sync_right : (c : Client m) (w : Work m) (t : Turn Sync Confirmed) → Held c → EachSync m objects es (Ready m objects es) (after_turn m c t) (met m w t) t.to → RightMove (on_sync m c w t)
-  sync_right c w t h r = by t.to r
-    where
-      by : (x : Next Sync Confirmed) → EachSync m objects es (Ready m objects es) (after_turn m c t) (met m w t) x → RightMove (sync_to m (after_turn m c t) (met m w t) t.besides x)
-      by (Goes s) r = goes_right (after_turn m c t) (met m w t) (Syncing s) t.besides (turned c t h) tt
-      by (Learns s) r = learns_right (after_turn m c t) (met m w t) (Syncing s) (turned c t h) tt
-      by (Ends x) r = walks_right w.oids (knows m (after_turn m c t) x.settled) _ (knows_right (after_turn m c t) x.settled (turned c t h)) r
+  ready_to_play : (c : Client m) (w : Work m) (x : CommandOf m) → plays_kept m x ≡ true → IsReady m objects es c w x → IsReadyToPlay m objects es c w
+  ready_to_play c w (cmd.AskAt at o q) e r = absurd cc
+  ready_to_play c w (cmd.Rescue at) e r = absurd cc
+  ready_to_play c w x e r = r
 
-  walk_end_right : (c : Client m) (w : Work m) (o : Oid) (os : List Oid) (x : Members) (g : Option ℕ) → Held c → EachEnd m objects es (Ready m objects es) c w o os x g → RightMove (walk_ended_by m c w o os x g)
-  walk_end_right c w o os x None h r = walks_right os c w h r
-  walk_end_right c w o os x (Some b) h r = by (given_up_if m (gives_up m c w b) c) (gives (gives_up m c w b)) (stale m c w o x b) (gives_up m c w b && not (w.lo == 0)) r
-    where
-      gives : (t : Bool) → Held (given_up_if m t c)
-      gives true = no_view c h
-      gives false = h
+  walked_way : (c : Client m) (w : Work m) (d : Client m) (q : Place m) → AllWalked m c w d q → Along c w (Walks []) → Ready m objects es c w → Along d w q
+  walked_way c w _ _ (HasPlayed k) h r =
+      let ready = ready_to_play c w w.command k r in
+      record { held = keeps_right m objects es rising listed tx0 n0 c w h.held ready; fits = own_play_true m objects es rising listed tx0 n0 c w h.held ready }
+  walked_way c w _ _ (LooksBack at o q of) h r = record { held = h.held; fits = subst (λ (x : CommandOf m). IsReady m objects es c w x) of r }
+  walked_way c w _ _ (IsRescue at of) h r = record { held = h.held; fits = subst (λ (x : CommandOf m). IsReady m objects es c w x) of r }
 
-      over : (d : Client m) (t : Bool) → Held d → EachOver m objects es (Ready m objects es) d w os t → RightMove (starts_over m d w os t)
-      over d true k r = walks_right w.oids d (record w { lo = 0; found = []; trims = [] }) k r
-      over d false k r = walks_right os d w k r
+  -- What is said of records.
 
-      by : (d : Client m) → Held d → (s t : Bool) → EachTrim m objects es (Ready m objects es) d w os s t → RightMove (at_trim m d w os s t)
-      by d k true t r = syncs_right m objects es rising listed tx0 n0 d w w.oids k
-      by d k false t r = over d t k r
+  not_blocked : (t q : ℕ) (x : Oid) → Played t ≡ Blocked q x → ⊥
+  not_blocked t q x e = cc
 
-  walk_right : (c : Client m) (w : Work m) (o : Oid) (os : List Oid) (t : Turn Walk Members) → Held c → EachWalked m objects es (Ready m objects es) (after_turn m c t) (met m w t) o os t.to → RightMove (on_walk m c w o os t)
-  walk_right c w o os t h r = by t.to r
-    where
-      by : (x : Next Walk Members) → EachWalked m objects es (Ready m objects es) (after_turn m c t) (met m w t) o os x → RightMove (walk_to m (after_turn m c t) (met m w t) o os x)
-      by (Goes x) r = goes_right (after_turn m c t) (met m w t) (Walking x os) [] (turned c t h) tt
-      by (Learns x) r = learns_right (after_turn m c t) (met m w t) (Walking x os) (turned c t h) tt
-      by (Ends x) r =
-          walk_end_right (takes_back m (after_turn m c t) x) (found_by m (met m w t) o x) o os x x.gone (members_right (after_turn m c t) x (turned c t h)) r
+  above : (p q : ℕ) → nat_le q p ≡ false → p < q
+  above p q e = grind arith
 
-  -- Appends.
+  abbrev end_at : PlayEnd → ℕ
+  end_at (Played t) = t
+  end_at (Blocked q x) = q
 
-  page_right : (c : Client m) (p : ℕ) (d : List ℕ) → Held c → Held (knows_page m c p d)
-  page_right c p d h = record { right = record { view = h.right.view; dir = h.right.dir; work = h.right.work }; tx = h.tx; begun = h.begun }
+  goes_past : (own : Entries) (at : ℕ) (came : PlayEnd) (e : Entry) → end.Passes m own at came → commit_at own at ≡ Some e → (r : ℕ) (y : Oid) → came ≡ Blocked r y → at < r
+  goes_past own at _ e (end.CameTo upto) k r y is = absurd (not_blocked upto r y is)
+  goes_past own at _ e (end.StuckAbove q x f) k r y is = subst (λ (n : ℕ). at < n) (ap end_at is) (above at q (ap (λ (o : Option Entry). is_some o && nat_le q at) (sym k) ∙ f))
 
-  owns_right : (c : Client m) (p : ℕ) (d : List ℕ) → Held c → Held (owns m c p d)
-  owns_right c p d h = record { right = record { view = h.right.view; dir = h.right.dir; work = h.right.work }; tx = h.tx; begun = h.begun }
+  said_so : (at : ℕ) (d : Verdict) (b : Bool) → end.SaysSo m d b → (d ≡ Commits → HasOutcome m objects es at true) × (d ≡ Aborts → HasOutcome m objects es at false) → HasOutcome m objects es at b
+  said_so at _ _ end.SaysYes out = out.0 refl
+  said_so at _ _ end.SaysNo out = out.1 refl
 
-  record_lost_right : (c : Client m) (e : AppendEnd) → Held c → RightMove (record_lost m c e)
-  record_lost_right c (Full l) h = refuses_right m objects es rising listed tx0 n0 c (tx_of m c) (cause.LogFull l) h
-  record_lost_right c (Forgotten p b) h = refuses_right m objects es rising listed tx0 n0 (closed m c) (tx_of m c) (cause.Forgotten p b) (close_right m objects es rising listed tx0 n0 c h)
-  record_lost_right c (At p d) h = still c h
+  judged_so : (own : Entries) (v : View m) (at : ℕ) (e : Entry) (b : Bool) (what : WhatOf m) → end.Judges m own v at e b what → IsJudge m objects es v own at e × StandsAt m v at (reads_of e)
+      → HasOutcome m objects es at b × TrueWhat m objects es rising listed what × IsPlain m what
+  judged_so own v at e _ _ (end.Commit' is) j = let out = (judged m objects es rising listed v own at e j.0 Commits is).0 refl in (out, out, tt)
+  judged_so own v at e _ _ (end.Abort' x is stands k) j =
+      let out = (judged m objects es rising listed v own at e j.0 Aborts is).1 refl in
+      let same = one_entry 0 es at e out.entry rising (has_contained es (at, e) j.0.here) (has_contained es (at, out.entry) out.here) in
+      let f = changes_true m objects es v at (reads_of e) x rising j.0.so j.1 stands k in
+      (out, record { out = out; read = subst (λ (d : Entry). Contains (reads_of d) x.read) same f.read; is = f.now; differs = f.differs }, tt)
 
-  lost_right : (c : Client m) (x : ℕ) (e : AppendEnd) → Held c → RightMove (lost m c x e)
-  lost_right c x (Full l) h = refuses_right m objects es rising listed tx0 n0 c x (cause.LogFull l) h
-  lost_right c x (Forgotten p b) h = refuses_right m objects es rising listed tx0 n0 c x (cause.Forgotten p b) h
-  lost_right c x (At p d) h = still c h
+  fate_so : (c : Client m) (w : Work m) (own : Entries) (p : Play m) (at : ℕ) (e : Entry) (d : Verdict) (b : Bool) → IsTruePlay m objects es rising listed tx0 n0 c w own p → w.command ≡ cmd.Fate at → end.Passes m own at p.came
+      → fate_of m p.view at ≡ None → commit_at own at ≡ Some e → verdict m p.view own at e ≡ d → end.SaysSo m d b → HasOutcome m objects es at b
+  fate_so c w own p at e d b y of k none here is s = said_so at d b s (judged m objects es rising listed p.view own at e (y.judged at e (inl of) here (λ r z past. goes_past own at p.came e k here r z past) none) d is)
 
-  known_page_right : (c : Client m) (e : AppendEnd) → Held c → Held (page_known m c e)
-  known_page_right c (At p d) h = page_right c p d h
-  known_page_right c (Full l) h = h
-  known_page_right c (Forgotten p b) h = h
-
-  decided_right : (c : Client m) (x : CommandOf m) (what : WhatOf m) → Held c → TrueWhat m objects es rising listed what → IsPlain m what → RightMove (decided_for m c x what)
-  decided_right c cmd.End what h t y = answers_right m objects es rising listed tx0 n0 (closed m c) (tx_of m c) what (close_right m objects es rising listed tx0 n0 c h) t y
-  decided_right c x what h t y = answers_right m objects es rising listed tx0 n0 c 0 what h t y
+  decided_so : (c : Client m) (w : Work m) (own : Entries) (p : Play m) (at : ℕ) (e : Entry) (d : Verdict) (b : Bool) → IsTruePlay m objects es rising listed tx0 n0 c w own p → w.command ≡ cmd.Decide at → end.Passes m own at p.came
+      → commit_at own at ≡ Some e → view_outcome m p.view own at e ≡ d → end.SaysSo m d b → HasOutcome m objects es at b
+  decided_so c w own p at e d b y of k here is s =
+      let out = outcome_right m objects es rising listed p.view own at e y.so (λ none. y.judged at e (inr of) here (λ r z past. goes_past own at p.came e k here r z past) none) in
+      said_so at d b s ((λ j. out.0 (is ∙ j)), (λ j. out.1 (is ∙ j)))
 
   -- a rescue whose decision record has landed
   rescue_said : (d : Entry) (q : ℕ) (what : WhatOf m) → RescuesBy m objects es rising listed d what → ((links : List StreamLink) × Contains es (q, linked d links)) → TrueWhat m objects es rising listed what
@@ -263,144 +264,159 @@ module _ (m : Meaning) (objects : List Oid) (es : Entries) (rising : IsRising es
     outcome = both_and (is_commit d) (list_all (is_current m (changes_below m [] es p)) (reads_of d)) blind.0 (ap (λ (rs : List ReadMark). list_all (is_current m (changes_below m [] es p)) rs) blind.1);
   }
 
-  ended_right : (c : Client m) (w : Work m) (x : Purpose m) (f : Entry) (e : AppendEnd) → Held c → TruePurpose m objects es rising listed f x → EndsSo m es f e → RightMove (append_ended m c w x e)
-  ended_right c w Writes f (At p d) h t out =
-      replies_right m objects es rising listed tx0 n0 (closed m (owns m c p d)) (note m (tx_of m c) (told.Committed p) ∷ []) (close_right m objects es rising listed tx0 n0 (owns m c p d) (owns_right c p d h))
-      (one_note m objects es rising listed (tx_of m c) (told.Committed p) (landed f p t out)) (one_plain m objects es rising listed tx0 n0 (tx_of m c) (told.Committed p) tt)
-  ended_right c w Writes f (Full l) h t out = record_lost_right c (Full l) h
-  ended_right c w Writes f (Forgotten p b) h t out = record_lost_right c (Forgotten p b) h
-  ended_right c w Judged f (At p d) h t out = syncs_right m objects es rising listed tx0 n0 (owns m c p d) (record w { at = p }) c.hosted (owns_right c p d h)
-  ended_right c w Judged f (Full l) h t out = record_lost_right c (Full l) h
-  ended_right c w Judged f (Forgotten p b) h t out = record_lost_right c (Forgotten p b) h
-  ended_right c w (Decides what) f e h t out = decided_right (page_known m c e) w.command what (known_page_right c e h) t.0 t.1
-  ended_right c w (Rescues what) f (At p d) h t out =
-      replies_right m objects es rising listed tx0 n0 (knows_page m c p d) (note m 0 what ∷ []) (page_right c p d h) (one_note m objects es rising listed 0 what (rescue_said f p what t.0 out)) (one_plain m objects es rising listed tx0 n0 0 what t.1)
-  ended_right c w (Rescues what) f (Full l) h t out = lost_right c 0 (Full l) h
-  ended_right c w (Rescues what) f (Forgotten p b) h t out = lost_right c 0 (Forgotten p b) h
-  ended_right c w (Saves o u) f (At p d) h t out = answers_right m objects es rising listed tx0 n0 (knows_page m c p d) 0 (told.Saved o p u) (page_right c p d h) tt tt
-  ended_right c w (Saves o u) f (Full l) h t out = lost_right c 0 (Full l) h
-  ended_right c w (Saves o u) f (Forgotten p b) h t out = lost_right c 0 (Forgotten p b) h
-  ended_right c w (Marks n o k) f (At p d) h t out =
-      replies_right m objects es rising listed tx0 n0 (took_over m (owns m c p d) c.view) (note m n (told.Committed p) ∷ note m 0 (told.Marked o k) ∷ [])
-      (took_right m objects es rising listed tx0 n0 (owns m c p d) c.view (owns_right c p d h) refl) said plain
-    where
-      said : TrueNotes m objects es rising listed (note m n (told.Committed p) ∷ note m 0 (told.Marked o k) ∷ [])
-      said x (inl e) = subst (λ (y : NoteOf m). TrueWhat m objects es rising listed y.what) (sym e) (landed f p t out)
-      said x (inr (inl e)) = subst (λ (y : NoteOf m). TrueWhat m objects es rising listed y.what) (sym e) tt
-      said x (inr (inr i)) = absurd i
+  -- What the turn comes to.
 
-      plain : ArePlain m (note m n (told.Committed p) ∷ note m 0 (told.Marked o k) ∷ [])
-      plain x (inl e) = subst (λ (y : NoteOf m). IsPlain m y.what) (sym e) tt
-      plain x (inr (inl e)) = subst (λ (y : NoteOf m). IsPlain m y.what) (sym e) tt
-      plain x (inr (inr i)) = absurd i
-  ended_right c w (Marks n o k) f (Full l) h t out = lost_right c n (Full l) h
-  ended_right c w (Marks n o k) f (Forgotten p b) h t out = lost_right c n (Forgotten p b) h
+  kept : (c : Client m) → Held c → Held (with_decision m c)
+  kept c h = record { right = record { view = h.right.view; dir = h.right.dir; work = h.right.work }; tx = h.tx; begun = h.begun }
 
-  append_right : (c : Client m) (w : Work m) (y : Purpose m) (d : Entry) (t : Turn Append AppendEnd) → Held c → TrueDraft m objects es rising listed d → TruePurpose m objects es rising listed d y
-      → Keeps d t.to → ((e : AppendEnd) → end_of t.to ≡ Some e → EndsSo m es d e) → RightMove (on_append m c w y t)
-  append_right c w y d t h draft purpose keeps lands = by t.to keeps lands
-    where
-      by : (x : Next Append AppendEnd) → Keeps d x → ((e : AppendEnd) → end_of x ≡ Some e → EndsSo m es d e) → RightMove (append_to m (after_turn m c t) (met m w t) y t.besides x)
-      by (Goes a) k l = goes_right (after_turn m c t) (met m w t) (Appending a y) t.besides (turned c t h) (subst (λ (e : Entry). TrueDraft m objects es rising listed e × TruePurpose m objects es rising listed e y) (sym k) (draft, purpose))
-      by (Learns a) k l = learns_right (after_turn m c t) (met m w t) (Appending a y) (turned c t h) (subst (λ (e : Entry). TrueDraft m objects es rising listed e × TruePurpose m objects es rising listed e y) (sym k) (draft, purpose))
-      by (Ends e) k l = ended_right (after_turn m c t) (met m w t) y d e (turned c t h) purpose (l e refl)
+  page_right : (c : Client m) (p : ℕ) (d : List ℕ) → Held c → Held (knows_page m c p d)
+  page_right c p d h = record { right = record { view = h.right.view; dir = h.right.dir; work = h.right.work }; tx = h.tx; begun = h.begun }
 
-  -- Trims, copies, reconfigurations.
-
-  trims_right : (c : Client m) (w : Work m) (b : ℕ) (t : Turn Trims Trimmed) → Held c → RightMove (on_trims m c w b t)
-  trims_right c w b t h = by t.to
-    where
-      by : (x : Next Trims Trimmed) → RightMove (trim_to m (after_turn m c t) (met m w t) b x)
-      by (Goes x) = goes_right (after_turn m c t) (met m w t) (Trimming x) [] (turned c t h) tt
-      by (Learns x) = learns_right (after_turn m c t) (met m w t) (Trimming x) (turned c t h) tt
-      by (Ends e) = answers_right m objects es rising listed tx0 n0 (after_turn m c t) 0 (told.Trimmed b) (turned c t h) tt tt
-
-  copy_right : (c : Client m) (w : Work m) (x : Copying) (t : Turn Copying CopyEnd) → Held c → RightMove (on_copy m c w x t)
-  copy_right c w x t h = by t.to
-    where
-      by : (y : Next Copying CopyEnd) → RightMove (copy_to m (after_turn m c t) (met m w t) x y)
-      by (Goes y) = goes_right (after_turn m c t) (met m w t) (Copying' y) [] (turned c t h) tt
-      by (Learns y) = learns_right (after_turn m c t) (met m w t) (Copying' y) (turned c t h) tt
-      by (Ends e) =
-          replies_right m objects es rising listed tx0 n0 (after_turn m c t) (note m 0 (told.Copied x.unit x.range x.stripe) ∷ []) (turned c t h)
-          (one_note m objects es rising listed 0 (told.Copied x.unit x.range x.stripe) tt) (one_plain m objects es rising listed tx0 n0 0 (told.Copied x.unit x.range x.stripe) tt)
+  owns_right : (c : Client m) (p : ℕ) (d : List ℕ) → Held c → Held (owns m c p d)
+  owns_right c p d h = record { right = record { view = h.right.view; dir = h.right.dir; work = h.right.work }; tx = h.tx; begun = h.begun }
 
   stands_right : (c : Client m) (p : Layout) → Held c → Held (stands m c p)
   stands_right c p h = record { right = record { view = h.right.view; dir = h.right.dir; work = h.right.work }; tx = h.tx; begun = h.begun }
 
-  pub reconf_right : (c : Client m) (w : Work m) (t : Turn Reconf ReconfEnd) → Held c → RightMove (on_reconf m c w t)
-  reconf_right c w t h = by t.to
+  one_told : (c : Client m) (n : ℕ) (what : WhatOf m) → Held c → TrueWhat m objects es rising listed what → IsPlain m what → RightMove (replies m c (note m n what ∷ []))
+  one_told c n what h t y = replies_right m objects es rising listed tx0 n0 c (note m n what ∷ []) h (one_note m objects es rising listed n what t) (one_plain m objects es rising listed tx0 n0 n what y)
+
+  answered : (c : Client m) (n : ℕ) (what : WhatOf m) → Held c → TrueWhat m objects es rising listed what → IsPlain m what → RightMove (answers m c n what)
+  answered c n what h t y = answers_right m objects es rising listed tx0 n0 c n what h t y
+
+  decides : (c : Client m) (w : Work m) (e : Entry) (at : ℕ) (b : Bool) (y : Purpose m) → Held c → HasOutcome m objects es at b → TruePurpose m objects es rising listed (decision m c e at b) y → RightMove (appends m (with_decision m c) w (decision m c e at b) y [])
+  decides c w e at b y h out t = appends_right m objects es rising listed tx0 n0 (with_decision m c) w (decision m c e at b) y [] (kept c h) (decision_right m objects es rising listed c e at b out) t (λ n i. absurd i) (λ n i. absurd i)
+
+  goes : (c : Client m) (w : Work m) (p : Place m) (d : Client m) (t : Task m) (bs : List Out) → end.IsGoing m c w p d t bs → Along c w p → RightMove (goes_on m d w t bs)
+  goes c w _ _ _ bs (end.AppendGoes y _ a) h = goes_right c w (Appending a y) bs h.held (subst (λ (e : Entry). TrueDraft m objects es rising listed e × TruePurpose m objects es rising listed e y) (sym h.fits.keeps) (h.fits.so, h.fits.purpose))
+  goes c w _ d t bs x h = goes_right d w t bs (record { right = record { view = h.held.right.view; dir = h.held.right.dir; work = h.held.right.work }; tx = h.held.tx; begun = h.held.begun }) tt
+
+  learns : (c : Client m) (w : Work m) (p : Place m) (t : Task m) → end.IsLearning m c w p t → Along c w p → RightMove (learns_for m c w t)
+  learns c w _ _ (end.AppendLearns y bs a) h = learns_right c w (Appending a y) h.held (subst (λ (e : Entry). TrueDraft m objects es rising listed e × TruePurpose m objects es rising listed e y) (sym h.fits.keeps) (h.fits.so, h.fits.purpose))
+  learns c w _ t x h = learns_right c w t h.held tt
+
+  synced : (c : Client m) (w : Work m) (p : Place m) (d : Client m) (v : Work m) (os : List Oid) → end.IsSynced m c w p d v os → Along c w p → RightMove (syncs m d v os)
+  synced c w _ _ v os (end.JudgedAt bs p page) h = syncs_right m objects es rising listed tx0 n0 (owns m c p page) v os (owns_right c p page h.held)
+  synced c w _ _ v os (end.StaleHigh o ws x b e f) h = syncs_right m objects es rising listed tx0 n0 (record c { view = None }) v os (no_view c h.held)
+  synced c w _ _ v os x h = syncs_right m objects es rising listed tx0 n0 c v os h.held
+
+  appended : (c : Client m) (w : Work m) (p : Place m) (d : Client m) (e : Entry) (y : Purpose m) (ns : List (NoteOf m)) → end.IsAppended m c w p d e y ns → Along c w p → RightMove (appends m d w e y ns)
+  appended c w _ _ _ _ _ (end.EndDecides own p upto e b what of a i j l) h = let k = judged_so own p.view w.at e b what j (h.fits.ended upto e of a i) in decides c w e w.at b (Decides what) h.held k.0 (k.1, k.2)
+  appended c w _ _ _ _ _ (end.DecideDecides own p at e d b of t k i v s l) h = let out = decided_so c w own p at e d b h.fits of k i v s in decides c w e at b (Decides (told.Decided at (Some b))) h.held out (out, tt)
+  appended c w _ _ _ _ _ (end.SaveBegins own p upto o of a l) h =
+      let saver = h.fits.saves o upto of a in
+      appends_right m objects es rising listed tx0 n0 (record c { checkpoints = c.checkpoints + 1 }) w _ (Saves o w.tail) []
+      (record { right = record { view = h.held.right.view; dir = h.held.right.dir; work = h.held.right.work }; tx = h.held.tx; begun = h.held.begun })
+      (saves_body m objects es rising listed tx0 n0 p.view o w.tail c.num (c.checkpoints + 1) saver, saves_draft m objects es rising listed tx0 n0 p.view o w.tail c.num (c.checkpoints + 1) saver) tt (λ n i. absurd i) (λ n i. absurd i)
+  appended c w _ _ _ _ _ (end.MarkBegins own p upto o n of a f) h = marks_right m objects es rising listed tx0 n0 c w o n h.held
+  appended c w _ _ _ _ _ (end.RescueDecides at b e k i) h =
+      let out = (rescued m objects es rising listed tx0 n0 (all_entries m c w w.oids) w.trims w.oids c.objects at b true k h.fits).0 in decides c w e at b (Rescues (told.Rescued at (Some b))) h.held out ((out, refl), tt)
+
+  refused_held : (c : Client m) (w : Work m) (p : Place m) (d : Client m) (n : ℕ) (why : Refusal) → end.IsRefused m c w p d n why → Held c → Held d
+  refused_held c w _ _ _ _ (end.RecordForgotten y bs p b of) h = close_right m objects es rising listed tx0 n0 c h
+  refused_held c w _ _ _ _ (end.ReconfOvertaken e p) h = stands_right c p h
+  refused_held c w _ _ _ _ (end.ReconfNotWhole u pos p) h = stands_right c p h
+  refused_held c w _ _ _ _ (end.CopyFault x n rid q why f) h = stands_right c q h
+  refused_held c w _ _ _ _ x h = h
+
+  -- an ask's answer
+  asked : (c : Client m) (w : Work m) (own : Entries) (p : Play m) (o : Oid) (q : m.ask) (upto : ℕ) (t : Tx) (s : m.state) → w.command ≡ cmd.Ask o q → p.came ≡ Played upto → c.tx ≡ Some t → state_of m p.view o ≡ Some s
+      → Held c → IsTruePlay m objects es rising listed tx0 n0 c w own p
+      → RightMove (answers m (record c { tx = Some (tx_read t (record { oid = o; part = m.look q; version = view_version m p.view o (m.look q) }) w.tail) }) t.number (told.Asked o q w.tail (m.answers s q)))
+  asked c w own p o q upto t s of a has is h y = (
+    replies_now m objects es rising listed (took_over m d c.view) (note m t.number (told.Asked o q w.tail (m.answers s q)) ∷ []) (took_now m objects es rising listed d c.view (record { view = h.right.view; dir = h.right.dir; work = h.right.work }) refl),
+    one_note m objects es rising listed t.number (told.Asked o q w.tail (m.answers s q)) (answer_there m objects es rising listed p.view w.tail o q s at is),
+    inr (inl (record {
+      of = t;
+      from = from h.tx;
+      oid = o;
+      ask = q;
+      snapshot = w.tail;
+      answer = m.answers s q;
+      first = inl (y.first o q t of has);
+      tx = took_tx m objects es rising listed d c.view ∙ ap (λ (n : ℕ). Some (tx_read t (record { oid = o; part = m.look q; version = n }) w.tail)) (version_there m objects es rising listed p.view w.tail o s (m.look q) at is);
+      begun = took_begun m objects es rising listed d c.view ∙ h.begun;
+      notes = refl;
+    })),
+  )
     where
-      ends : (e : ReconfEnd) → RightMove (reconf_ended m (after_turn m c t) e)
-      ends (Installed e p) =
-          replies_right m objects es rising listed tx0 n0 (stands m (after_turn m c t) p) (note m 0 (told.Installed e) ∷ []) (stands_right (after_turn m c t) p (turned c t h)) (one_note m objects es rising listed 0 (told.Installed e) tt) (one_plain m objects es rising listed tx0 n0 0 (told.Installed e) tt)
-      ends (Overtaken e p) = refuses_right m objects es rising listed tx0 n0 (stands m (after_turn m c t) p) 0 (cause.Overtaken e) (stands_right (after_turn m c t) p (turned c t h))
-      ends (NotWhole u q p) = refuses_right m objects es rising listed tx0 n0 (stands m (after_turn m c t) p) 0 (cause.NotWhole u q) (stands_right (after_turn m c t) p (turned c t h))
+      d : Client m
+      d = record c { tx = Some (tx_read t (record { oid = o; part = m.look q; version = view_version m p.view o (m.look q) }) w.tail) }
 
-      by : (x : Next Reconf ReconfEnd) → RightMove (reconf_to m (after_turn m c t) w x)
-      by (Goes r) = goes_right (stands m (after_turn m c t) r.stand) w (Reconfiguring r) [] (stands_right (after_turn m c t) r.stand (turned c t h)) tt
-      by (Learns r) = learns_right (after_turn m c t) w (Reconfiguring r) (turned c t h) tt
-      by (Ends e) = ends e
+      at : IsTrueAt m objects es p.view w.tail o
+      at = y.asked o q upto of a
 
-  -- An awaited answer, and a newer layout.
+      none : None ≡ Some t → ⊥
+      none e = cc
 
-  fed_right : (c : Client m) (w : Work m) (t : Task m) (n rid : ℕ) (x : Reply) → Held c → True t → LandsTask t (task_ends m c t n x) → EachFeed m objects es (Ready m objects es) c w t n rid x → RightMove (task_feed m c w t n rid x)
-  unfolding task_feed
-  fed_right c w (Syncing s) n rid x h k l r = sync_right c w (sync_feed c.stand s s.work n x c.next) h r
-  fed_right c w (Walking j os) n rid x h k l r = walk_right c w j.oid os (walk_feed c.stand j j.job n x c.next) h r
-  fed_right c w (Appending a y) n rid x h k l r = append_right c w y a.draft (append_feed c.stand a a.work n x c.next) h k.0 k.1 (feed_keeps c.stand a a.work n x c.next) (λ e is. l a e refl is)
-  fed_right c w (Trimming t) n rid x h k l r = trims_right c w t.below (trim_feed c.stand t n x c.next) h
-  fed_right c w (Copying' y) n rid x h k l r = copy_right c w y (copy_feed c.stand y y.work n x c.next) h
-  fed_right c w (Reconfiguring y) n rid x h k l r = reconf_right c w (reconf_feed y y.work n rid x c.next) h
+      from : (c.tx ≡ tx0) ⊎ (c.tx ≡ None) → tx0 ≡ Some t
+      from (inl e) = sym e ∙ has
+      from (inr e) = absurd (none (sym e ∙ has))
 
-  pub copies_right : (c : Client m) (w : Work m) (x : Copying) (o : Option Refusal) → Held c → RightMove (copies_again m c w x o)
-  copies_right c w x None h = copy_right c w x (copy_start x.unit x.range x.stripe c.next) h
-  copies_right c w x (Some why) h = refuses_right m objects es rising listed tx0 n0 c 0 why h
+  answers_so : (c : Client m) (w : Work m) (p : Place m) (d : Client m) (n : ℕ) (what : WhatOf m) → end.IsAnswered m c w p d n what → Along c w p → RightMove (answers m d n what)
+  answers_so c w _ d n what (end.DecidedAt _ bs p page free) h = answered d n what (page_right c p page h.held) h.fits.purpose.0 h.fits.purpose.1
+  answers_so c w _ d n what (end.DecidedLost _ bs e l free) h = answered c n what h.held h.fits.purpose.0 h.fits.purpose.1
+  answers_so c w _ d n what (end.JudgedSo _ bs p page of) h = answered d n what (close_right m objects es rising listed tx0 n0 (knows_page m c p page) (page_right c p page h.held)) h.fits.purpose.0 h.fits.purpose.1
+  answers_so c w _ d n what (end.JudgedLost _ bs e l of) h = answered d n what (close_right m objects es rising listed tx0 n0 c h.held) h.fits.purpose.0 h.fits.purpose.1
+  answers_so c w _ d n what (end.IsSaved o upto bs p page) h = answered d n what (page_right c p page h.held) tt tt
+  answers_so c w _ d n what (end.AreTrimmed b e) h = answered d n what h.held tt tt
+  answers_so c w _ d n what (end.IsAsked own p o q upto t s of a has is) h = asked c w own p o q upto t s of a has is h.held h.fits
+  answers_so c w _ d n what (end.EndBlocked own p q x of a) h = answered d n what (close_right m objects es rising listed tx0 n0 c h.held) (inr (h.fits.stuck q x a)) tt
+  answers_so c w _ d n what (end.EndUnsure own p upto of a k) h = answered d n what (close_right m objects es rising listed tx0 n0 c h.held) (inl refl) tt
+  answers_so c w _ d n what (end.EndJudged own p upto e b _ of a i j l) h =
+      let k = judged_so own p.view w.at e b what j (h.fits.ended upto e of a i) in answered d n what (close_right m objects es rising listed tx0 n0 c h.held) k.1 k.2
+  answers_so c w _ d n what (end.FateKept own p at b of k f) h = answered d n what h.held (h.fits.so.fates at b f) tt
+  answers_so c w _ d n what (end.FateJudged own p at e v b of k f i is s t) h = answered d n what h.held (fate_so c w own p at e v b h.fits of k f i is s) tt
+  answers_so c w _ d n what (end.DecideJudged own p at e v b of t k i is s l) h = answered d n what h.held (decided_so c w own p at e v b h.fits of k i is s) tt
+  answers_so c w _ d n what x h = answered d n what h.held tt tt
 
-  again_right : (c : Client m) (w : Work m) (t : Task m) → Held c → True t → LandsTask t (again_ends m c t) → EachAgain m objects es (Ready m objects es) c w t → RightMove (task_again m c w t)
-  unfolding task_again
-  again_right c w (Syncing s) h k l r = sync_right c (record w { gone_before = w.gone }) (sync_again s c.next) h r
-  again_right c w (Walking j os) h k l r = walk_right c w j.oid os (walk_again c.stand j c.next) h r
-  again_right c w (Appending a y) h k l r = append_right c w y a.draft (append_again c.stand a c.next) h k.0 k.1 (again_keeps c.stand a c.next) (λ e is. l a e refl is)
-  again_right c w (Trimming t) h k l r = trims_right c w t.below (trim_start c.stand t.below c.next) h
-  again_right c w (Copying' x) h k l r = copies_right c w x (copy_fault m c.stand x.unit x.range x.stripe) h
-  again_right c w (Reconfiguring r) h k l e = goes_right c w (Reconfiguring r) [] h tt
+  tells_so : (c : Client m) (w : Work m) (p : Place m) (d : Client m) (ns : List (NoteOf m)) → end.IsTold m c w p d ns → Along c w p → RightMove (replies m d ns)
+  tells_so c w _ d _ (end.IsCommitted bs p page) h =
+      one_told d _ (told.Committed p) (close_right m objects es rising listed tx0 n0 (owns m c p page) (owns_right c p page h.held)) (landed h.fits.draft p h.fits.purpose (h.fits.lands (At p page) refl)) tt
+  tells_so c w _ d _ (end.IsRescued x bs p page) h = one_told d 0 x (page_right c p page h.held) (rescue_said h.fits.draft p x h.fits.purpose.0 (h.fits.lands (At p page) refl)) h.fits.purpose.1
+  tells_so c w _ d _ (end.IsMarked n o mark bs p page) h =
+      replies_right m objects es rising listed tx0 n0 d (note m n (told.Committed p) ∷ note m 0 (told.Marked o mark) ∷ []) (took_right m objects es rising listed tx0 n0 (owns m c p page) c.view (owns_right c p page h.held) refl) said plain
+    where
+      said : TrueNotes m objects es rising listed (note m n (told.Committed p) ∷ note m 0 (told.Marked o mark) ∷ [])
+      said x (inl e) = subst (λ (y : NoteOf m). TrueWhat m objects es rising listed y.what) (sym e) (landed h.fits.draft p h.fits.purpose (h.fits.lands (At p page) refl))
+      said x (inr (inl e)) = subst (λ (y : NoteOf m). TrueWhat m objects es rising listed y.what) (sym e) tt
+      said x (inr (inr i)) = absurd i
 
-  newer_right : (c : Client m) (w : Work m) (t : Task m) (n rid : ℕ) (q : Layout) → Held c → True t → LandsTask t (again_ends m (stands m c q) t) → EachNewer m objects es (Ready m objects es) c w t q → RightMove (on_newer m c w t n rid q)
-  newer_right c w (Reconfiguring y) n rid q h k l r = reconf_right c w (reconf_latest y y.work n rid q c.next) h
-  newer_right c w (Syncing s) n rid q h k l r = again_right (stands m c q) w (Syncing s) (stands_right c q h) k l r
-  newer_right c w (Walking j os) n rid q h k l r = again_right (stands m c q) w (Walking j os) (stands_right c q h) k l r
-  newer_right c w (Appending a y) n rid q h k l r = again_right (stands m c q) w (Appending a y) (stands_right c q h) k l r
-  newer_right c w (Trimming t) n rid q h k l r = again_right (stands m c q) w (Trimming t) (stands_right c q h) k l r
-  newer_right c w (Copying' x) n rid q h k l r = again_right (stands m c q) w (Copying' x) (stands_right c q h) k l r
+      plain : ArePlain m (note m n (told.Committed p) ∷ note m 0 (told.Marked o mark) ∷ [])
+      plain x (inl e) = subst (λ (y : NoteOf m). IsPlain m y.what) (sym e) tt
+      plain x (inr (inl e)) = subst (λ (y : NoteOf m). IsPlain m y.what) (sym e) tt
+      plain x (inr (inr i)) = absurd i
+  tells_so c w _ d _ (end.IsInstalled e p) h = one_told d 0 (told.Installed e) (stands_right c p h.held) tt tt
+  tells_so c w _ d _ (end.PlaysOther own p k) h = replies_right m objects es rising listed tx0 n0 c [] h.held (λ n i. absurd i) (λ n i. absurd i)
+  tells_so c w _ d _ (end.LooksFound at o q p upto s l e a is) h = one_told c 0 (told.Past o q at (m.answers s q)) h.held (answer_there m objects es rising listed p.view at o q s (h.fits (not_lt w.tail at l) p upto e a) is) tt
+  tells_so c w _ d _ (end.RescueKnown at b e) h =
+      let out = rescued m objects es rising listed tx0 n0 (all_entries m c w w.oids) w.trims w.oids c.objects at b false e h.fits in one_told c 0 (told.Rescued at (Some b)) h.held (out.0, out.1 refl) tt
+  tells_so c w _ d _ x h = one_told c 0 _ h.held tt tt
 
-  fed_if_right : (b : Bool) (c : Client m) (w : Work m) (t : Task m) (from : NodeId) (rid : ℕ) (x : Reply) → Held c → True t → LandsTask t (awaited_ends m b c t from x) → EachAwaited m objects es (Ready m objects es) b c w t from rid x
-      → RightMove (fed_if m b c w t from rid x)
-  fed_if_right true c w t from rid x h k l r = fed_right c w t from.num rid x h k l r
-  fed_if_right false c w t from rid x h k l r = still c h
+  right_ends : (c : Client m) (w : Work m) (p : Place m) (x : Moved m) → end.End m c w p x → Along c w p → RightMove x
+  right_ends c w p _ (end.GoesOn d t bs x) h = goes c w p d t bs x h
+  right_ends c w p _ (end.LearnsNewer t x) h = learns c w p t x h
+  right_ends c w p _ (end.Syncs d v os x) h = synced c w p d v os x h
+  right_ends c w p _ (end.Appends d e y ns x) h = appended c w p d e y ns x h
+  right_ends c w p _ (end.Refuses d n why x) h = refuses_right m objects es rising listed tx0 n0 d n why (refused_held c w p d n why x h.held)
+  right_ends c w p _ (end.Answers d n what x) h = answers_so c w p d n what x h
+  right_ends c w p _ (end.Tells d ns x) h = tells_so c w p d ns x h
 
-  hand_right : (c : Client m) (w : Work m) (d : Hand m) (from : NodeId) (rid : ℕ) (x : Reply) → Held c → TrueHand m objects es rising listed d → LandsTask (task_in m d) (hand_ends m c d from rid x) → EachHand m objects es (Ready m objects es) c w d from rid x
-      → RightMove (hand_feed m c w d from rid x)
-  hand_right c w (Doing t) from rid x h k l r = fed_if_right (awaits (task_awaited m c.stand t) from rid) c w t from rid x h k l r
-  hand_right c w (Learning waits t) from rid x h k l r = still c h
+  -- A delivery.
 
   task_true : (d : Hand m) → TrueHand m objects es rising listed d → True (task_in m d)
   task_true (Doing t) k = k
   task_true (Learning waits t) k = k
 
-  latest_right : (b : Bool) (c : Client m) (w : Work m) (from : NodeId) (rid : ℕ) (q : Layout) → Held c → TrueHand m objects es rising listed w.hand → LandsTask (task_in m w.hand) (latest_ends m b (stands m c q) (task_in m w.hand))
-      → EachLatest m objects es (Ready m objects es) b c w q → RightMove (latest_if m b c w from rid q)
-  latest_right true c w from rid q h k l r = newer_right c w (task_in m w.hand) from.num rid q h (task_true w.hand k) l r
-  latest_right false c w from rid q h k l r = still c h
-
-  reply_right : (c : Client m) (w : Work m) (from : NodeId) (rid : ℕ) (x : Reply) → Held c → TrueHand m objects es rising listed w.hand → LandsTask (task_in m w.hand) (reply_ends m c w from rid x) → EachReply m objects es (Ready m objects es) c w from rid x
-      → RightMove (reply_feed m c w from rid x)
-  reply_right c w from rid (IsLatest q) h k l r = latest_right (node_eq from (layout_id from.num) && nat_lt c.stand.epoch q.epoch) c w from rid q h k l r
-  reply_right c w from rid x h k l r = hand_right c w w.hand from rid x h k l r
-
   pub feed_right : (c : Client m) (from : NodeId) (rid : ℕ) (x : Reply) → Held c → LandsBy m es (append_by m c.work) (work_ends m c c.work from rid x) → EachDelivery m objects es (Ready m objects es) c c.work from rid x → RightMove (feed m c c.work from rid x)
-  feed_right c from rid x h l r = by c.work refl l r
-    where
-      by : (w : Option (Work m)) → c.work ≡ w → LandsBy m es (append_by m w) (work_ends m c w from rid x) → EachDelivery m objects es (Ready m objects es) c w from rid x → RightMove (feed m c w from rid x)
-      by None is l r = still c h
-      by (Some w) is l r = reply_right c w from rid x h (h.right.work w is) l r
+  feed_right c from rid x h l r =
+      delivered m objects es (Ready m objects es) Along RightMove right_ends way walked_way c from rid x (still c h)
+      (λ w t has doing a other. record {
+        held = h;
+        fits = (
+          subst (λ (d : Hand m). TrueHand m objects es rising listed d) doing (h.right.work w has),
+          λ b e is k. l b e (ap (append_by m) has ∙ ap (λ (d : Hand m). append_of m (task_in m d)) doing ∙ is) (end_fed m c from rid x w t has doing a other ∙ k),
+        );
+      })
+      (λ w q has is new. record { held = h; fits = (task_true w.hand (h.right.work w has), λ b e is' k. l b e (ap (append_by m) has ∙ is') (end_newer m c from rid x w q has is new ∙ k)) })
+      r

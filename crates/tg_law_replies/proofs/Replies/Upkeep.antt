@@ -1,6 +1,6 @@
--- What a client makes of checkpoints, marks, trims, past asks and rescues, once it has played.
-use Rattle.std.proofs.Common.{◌≡◌, ℕ, ◌+◌, ◌≤◌, List, [], ◌∷◌, Bool, true, false, refl, sym, ap, ◌∙◌, subst, inl, inr, arith, Option, Some, None}
-use Rattle.std.specs.Prelude.{nat_lt, nat_le, not, is_some, length, if◌then◌else◌, ◌&&◌, ◌==◌}
+-- What a client makes of checkpoints, marks and rescues, once it has played.
+use Rattle.std.proofs.Common.{◌≡◌, ℕ, ◌+◌, List, Bool, true, false, refl, sym, ap, ◌∙◌, subst, inl, inr, arith, Option, Some, None}
+use Rattle.std.specs.Prelude.{nat_le, not, is_some, length, if◌then◌else◌, ◌&&◌}
 use Rattle.tg_base.specs.declared.ids.Oid.{Oid}
 use Rattle.tg_base.specs.declared.marks.Part.{Part}
 use Rattle.tg_base.specs.declared.marks.Part.TheVariants.{All}
@@ -9,37 +9,31 @@ use Rattle.tg_entry.specs.declared.entry.Entry.{Entry}
 use Rattle.tg_kind.specs.Meaning.{Meaning}
 use Rattle.tg_model.specs.declared.play.PlayEnd.{PlayEnd}
 use Rattle.tg_model.specs.declared.play.PlayEnd.TheVariants.{Played, Blocked}
-use Rattle.tg_base.specs.declared.fault.Many.TheVariants as many
-use Rattle.tg_model.specs.declared.refusal.Refusal.TheVariants as cause
-use Rattle.tg_model.specs.declared.trace.What.TheVariants as told
 use Rattle.tg_model.specs.Kinds.{NoteOf}
-use Rattle.tg_protocol.specs.Words.{directory, has_oid}
-use Rattle.tg_base.specs.Orders.{oid_eq, with_oid}
+use Rattle.tg_protocol.specs.Words.{has_oid}
+use Rattle.tg_base.specs.Orders.{oid_eq}
 use Rattle.tg_entry.specs.Needs.{needs_decision}
-use Rattle.tg_protocol.specs.Entries.{entry_size}
 use Rattle.tg_protocol.specs.Versions.{based, version_in, version_of}
-use Rattle.tg_protocol.specs.Views.{Entries, decision_in, Verdict, Commits, Aborts, Unknown, Base, View, Play, state_of, view_outcome, view_version, view_parts}
-use Rattle.tg_protocol.specs.Checkpoints.{TrimPoints, base_at, base_in, loaded, saved_bytes, checkpoint, ForgetFault, NoCheckpoint, OpenDecision, may_forget}
-use Rattle.tg_protocol.specs.Past.{commit_at, PastTurn, PastView, PastGone, past_at, RescueTurn, Wider, Wide, Absent, StuckAt, Known, block_in, known_by, at_record, grows, rescue_by, rescue_turn}
+use Rattle.tg_protocol.specs.Views.{Entries, decision_in, Verdict, Commits, Aborts, Unknown, Base, View, state_of, view_outcome, view_version, view_parts}
+use Rattle.tg_protocol.specs.Checkpoints.{TrimPoints, base_at, base_in, loaded, saved_bytes, checkpoint}
+use Rattle.tg_protocol.specs.Past.{commit_at, RescueTurn, Wider, Wide, Known, block_in, known_by, at_record, grows, rescue_by, rescue_turn}
 use Rattle.tg_protocol.specs.Syncing.{sync_start}
-use Rattle.tg_protocol.specs.Trimming.{trim_start}
 use Rattle.tg_protocol.specs.Transactions.{Tx}
 use Rattle.tg_protocol.specs.Appending.{append_start}
-use Rattle.tg_protocol.specs.Clients.{Rescues, Saves, Marks, Work, Client, member_entries}
-use Rattle.tg_protocol.specs.Answers.{Moved, note, appends, syncs, with_decision, decision, save_if, on_checkpoint, mark_record, mark_notes, forget_by, on_forget, trims_if, trims, floor_of, on_trim, past_answer, past_played, past_turn, ahead_or, on_ask_at, rescue_decision, rescue_known, absent, on_rescue, trim_above}
-use Rattle.tg_protocol.specs.Answers as answer
+use Rattle.tg_protocol.specs.Clients.{Marks, Work, Client}
+use Rattle.tg_protocol.specs.Answers.{Moved, appends, syncs, mark_record, mark_notes}
 use Rattle.tg_law_replies.specs.Plays.Sound.{IsRising, IsBase}
 use Rattle.tg_law_replies.specs.History.Logs.{state_below, version_below, AreListed, HasOutcome}
-use Rattle.tg_law_replies.proofs.History.Members.{has_contained, contained_has, same_oid, oid_itself, not_lt}
+use Rattle.tg_law_replies.proofs.History.Members.{has_contained, contained_has, same_oid, oid_itself}
 use Rattle.tg_law_replies.proofs.History.Ledger.{one_entry}
 use Rattle.tg_law_replies.specs.Views.Views.{IsTrueBase}
-use Rattle.tg_law_replies.specs.Views.Looking.{IsTrueAt, IsSaver, rescuing, IsRescuer}
+use Rattle.tg_law_replies.specs.Views.Looking.{IsSaver, rescuing, IsRescuer}
 use Rattle.tg_law_replies.specs.Views.Exact.{DecisionStands, IsRecorded}
 use Rattle.tg_law_replies.proofs.Views.Records.{decision_there, commit_there}
 use Rattle.tg_law_replies.proofs.Views.Saved.{saves_true}
 use Rattle.tg_law_replies.proofs.Views.Saves.{saves_lawful}
 use Rattle.tg_law_replies.proofs.Views.Plays.{max_left}
-use Rattle.tg_law_replies.proofs.Replies.Moves.{InStep, IsRightMove, TrueWhat, TrueNotes, TrueBody, TrueHand, one_note, one_plain, one_work, no_base, replies_right, refuses_right, answers_right, appends_right, answer_there, decision_right, outcome_right}
+use Rattle.tg_law_replies.proofs.Replies.Moves.{InStep, IsRightMove, TrueWhat, TrueNotes, TrueBody, TrueHand, one_work, no_base, outcome_right}
 
 module _ (m : Meaning) (objects : List Oid) (es : Entries) (rising : IsRising es) (listed : AreListed es) (tx0 : Option Tx) (n0 : ℕ) where
   abbrev Held : Client m → Type 0
@@ -100,10 +94,10 @@ module _ (m : Meaning) (objects : List Oid) (es : Entries) (rising : IsRising es
             ∙ (sym (c.3.versions j) ∙ loads_versions o v.upto (view_version m v o All) (view_parts m v o).whole (view_parts m v o).keys (saved_bytes m (state_of m v o)) c.0 j c.1);
       }
 
-  saves_body : (v : View m) (o : Oid) (t client number : ℕ) → IsSaver m objects es v o t → TrueBody m objects es rising listed (checkpoint m v o t client number).body
+  pub saves_body : (v : View m) (o : Oid) (t client number : ℕ) → IsSaver m objects es v o t → TrueBody m objects es rising listed (checkpoint m v o t client number).body
   saves_body v o t client number h = subst (λ (n : ℕ). TrueBody m objects es rising listed (checkpoint m v o n client number).body) h.stands (body_there v o t client number h)
 
-  saves_draft : (v : View m) (o : Oid) (t client number : ℕ) → IsSaver m objects es v o t → (p : Oid) (b : Base m) → base_at m p (checkpoint m v o t client number) ≡ Some b → IsTrueBase m objects es p b × IsBase m b
+  pub saves_draft : (v : View m) (o : Oid) (t client number : ℕ) → IsSaver m objects es v o t → (p : Oid) (b : Base m) → base_at m p (checkpoint m v o t client number) ≡ Some b → IsTrueBase m objects es p b × IsBase m b
   saves_draft v o t client number h p b is = (
     subst (λ (y : Oid). IsTrueBase m objects es y b) (sym same)
         (subst (λ (x : Base m). IsTrueBase m objects es o x) (one made.0 b (sym made.1 ∙ (ap (λ (n : ℕ). base_at m o (checkpoint m v o n client number)) h.stands ∙ (ap (λ (y : Oid). base_at m y (checkpoint m v o t client number)) (sym same) ∙ is)))) made.3),
@@ -121,17 +115,7 @@ module _ (m : Meaning) (objects : List Oid) (es : Entries) (rising : IsRising es
           saves_true m objects es v o h.base client number rising h.sound h.so h.hosted (let low = h.low in let at = h.stands in omega (arith, low, at))
           (subst (λ (n : ℕ). m.load o (m.save (state_below m objects es n o)) ≡ Some (state_below m objects es n o)) (sym h.stands) h.loads)
 
-  pub checkpoint_right : (c : Client m) (w : Work m) (v : View m) (o : Oid) (came : PlayEnd) → Held c → ((t : ℕ) → came ≡ Played t → IsSaver m objects es v o w.tail) → RightMove (on_checkpoint m c w v o came)
-  checkpoint_right c w v o (Blocked q x) h saver = refuses_right m objects es rising listed tx0 n0 c 0 (cause.Undecided q x) h
-  checkpoint_right c w v o (Played t) h saver = by (nat_lt 4096 (entry_size (checkpoint m v o w.tail c.num (c.checkpoints + 1))))
-    where
-      by : (b : Bool) → RightMove (save_if m b c w o (checkpoint m v o w.tail c.num (c.checkpoints + 1)))
-      by true = refuses_right m objects es rising listed tx0 n0 c 0 (cause.TooLarge (entry_size (checkpoint m v o w.tail c.num (c.checkpoints + 1)))) h
-      by false =
-          appends_right m objects es rising listed tx0 n0 (record c { checkpoints = c.checkpoints + 1 }) w (checkpoint m v o w.tail c.num (c.checkpoints + 1)) (Saves o w.tail) []
-          (record { right = record { view = h.right.view; dir = h.right.dir; work = h.right.work }; tx = h.tx; begun = h.begun }) (saves_body v o w.tail c.num (c.checkpoints + 1) (saver t refl), saves_draft v o w.tail c.num (c.checkpoints + 1) (saver t refl)) tt (λ n i. absurd i) (λ n i. absurd i)
-
-  -- Marks and trims.
+  -- Syncs and marks.
 
   pub syncs_right : (c : Client m) (w : Work m) (os : List Oid) → Held c → RightMove (syncs m c w os)
   unfolding syncs sync_start
@@ -143,7 +127,7 @@ module _ (m : Meaning) (objects : List Oid) (es : Entries) (rising : IsRising es
   marks_said x o n k (inr (inr (inl e))) = subst (λ (y : NoteOf m). TrueWhat m objects es rising listed y.what) (sym e) tt
   marks_said x o n k (inr (inr (inr i))) = absurd i
 
-  marks_right : (c : Client m) (w : Work m) (o : Oid) (n : ℕ) → Held c
+  pub marks_right : (c : Client m) (w : Work m) (o : Oid) (n : ℕ) → Held c
       → RightMove (appends m (record c { begun = c.begun + 1 }) w (mark_record m c o n) (Marks (c.begun + 1) o n) (mark_notes m (c.begun + 1) o n))
   unfolding appends append_start
   marks_right c w o n h = (
@@ -155,50 +139,6 @@ module _ (m : Meaning) (objects : List Oid) (es : Entries) (rising : IsRising es
     marks_said (c.begun + 1) o n,
     inr (inr (record { tx = h.tx; begun = ap (λ (i : ℕ). i + 1) h.begun; oid = o; mark = n; notes = ap (λ (i : ℕ). mark_notes m (i + 1) o n) h.begun })),
   )
-
-  pub forget_right : (c : Client m) (w : Work m) (own : Entries) (o : Oid) (n : ℕ) (came : PlayEnd) → Held c → RightMove (on_forget m c w own o n came)
-  forget_right c w own o n (Blocked q x) h = refuses_right m objects es rising listed tx0 n0 c 0 (cause.Undecided q x) h
-  forget_right c w own o n (Played t) h = by (may_forget m own o n)
-    where
-      by : (f : Option (ForgetFault m)) → RightMove (forget_by m c w o n f)
-      by (Some NoCheckpoint) = refuses_right m objects es rising listed tx0 n0 c 0 (cause.NoCheckpoint o) h
-      by (Some (OpenDecision p)) = refuses_right m objects es rising listed tx0 n0 c 0 (cause.OpenDecision p) h
-      by None = marks_right c w o n h
-
-  pub trim_right : (c : Client m) (w : Work m) (v : View m) (came : PlayEnd) → Held c → RightMove (on_trim m c w v came)
-  unfolding trim_start
-  trim_right c w v (Blocked q x) h = refuses_right m objects es rising listed tx0 n0 c 0 (cause.Undecided q x) h
-  trim_right c w v (Played t) h = by (floor_of m (state_of m v directory) == 0)
-    where
-      by : (b : Bool) → RightMove (trims_if m c w (floor_of m (state_of m v directory)) b)
-      by true = answers_right m objects es rising listed tx0 n0 c 0 (told.Trimmed (floor_of m (state_of m v directory))) h tt tt
-      by false =
-          (record { view = h.right.view; dir = h.right.dir; work = λ x is. subst (λ (y : Work m). TrueHand m objects es rising listed y.hand) (one_work m objects es rising listed _ x is) tt }, λ n i. absurd i, inl (record { tx = h.tx; begun = h.begun; plain = λ n i. absurd i }))
-
-  -- Past asks.
-
-  pub ask_at_right : (c : Client m) (w : Work m) (p : ℕ) (o : Oid) (q : m.ask) → Held c
-      → (p ≤ w.tail → (v : Play m) (t : ℕ) → past_at m (member_entries m c w w.oids) w.trims w.oids c.objects o p ≡ PastView v → v.came ≡ Played t → IsTrueAt m objects es v.view p o)
-      → RightMove (on_ask_at m c w p o q)
-  ask_at_right c w p o q h at = by (nat_lt w.tail p) refl
-    where
-      told_by : (v : Play m) → IsTrueAt m objects es v.view p o → (s : Option m.state) → state_of m v.view o ≡ s → RightMove (past_answer m c p o q s)
-      told_by v a None is = refuses_right m objects es rising listed tx0 n0 c 0 (cause.NotHosted o) h
-      told_by v a (Some s) is =
-          replies_right m objects es rising listed tx0 n0 c (note m 0 (told.Past o q p (m.answers s q)) ∷ []) h
-          (one_note m objects es rising listed 0 (told.Past o q p (m.answers s q)) (answer_there m objects es rising listed v.view p o q s a is)) (one_plain m objects es rising listed tx0 n0 0 (told.Past o q p (m.answers s q)) tt)
-
-      came : (v : Play m) → ((t : ℕ) → v.came ≡ Played t → IsTrueAt m objects es v.view p o) → (e : PlayEnd) → v.came ≡ e → RightMove (past_played m c p o q v e)
-      came v a (Played t) is = told_by v (a t is) (state_of m v.view o) refl
-      came v a (Blocked r x) is = refuses_right m objects es rising listed tx0 n0 c 0 (cause.Undecided r x) h
-
-      turn : p ≤ w.tail → (t : PastTurn m) → past_at m (member_entries m c w w.oids) w.trims w.oids c.objects o p ≡ t → RightMove (past_turn m c p o q t)
-      turn le (PastView v) is = came v (λ t k. at le v t is k) v.came refl
-      turn le (PastGone b) is = refuses_right m objects es rising listed tx0 n0 c 0 (cause.Forgotten p b) h
-
-      by : (b : Bool) → nat_lt w.tail p ≡ b → RightMove (ahead_or m c w p o q b)
-      by true e = refuses_right m objects es rising listed tx0 n0 c 0 (cause.Ahead w.tail) h
-      by false e = turn (not_lt w.tail p e) (past_at m (member_entries m c w w.oids) w.trims w.oids c.objects o p) refl
 
   -- Rescues.
 
@@ -213,7 +153,7 @@ module _ (m : Meaning) (objects : List Oid) (es : Entries) (rising : IsRising es
   abbrev turn_if : Bool → RescueTurn m → RescueTurn m → RescueTurn m
   turn_if b x y = if b then x else y
 
-  rescued : (own : Entries) (gone : TrimPoints) (oids os : List Oid) (p : ℕ) (b needs : Bool) → rescue_turn m own gone oids os p ≡ Known b needs
+  pub rescued : (own : Entries) (gone : TrimPoints) (oids os : List Oid) (p : ℕ) (b needs : Bool) → rescue_turn m own gone oids os p ≡ Known b needs
       → ((e : Entry) → commit_at own p ≡ Some e → IsRescuer m objects es own gone oids os p e) → HasOutcome m objects es p b × (needs ≡ false → IsRecorded es p)
   unfolding rescue_turn
   rescued own gone oids os p b needs is rescuer = came (rescuing m objects es own gone oids os p).came refl is
@@ -272,27 +212,3 @@ module _ (m : Meaning) (objects : List Oid) (es : Entries) (rising : IsRising es
           → HasOutcome m objects es p b × (needs ≡ false → IsRecorded es p)
       came (Played t) end k = block t end (block_in m (rescuing m objects es own gone oids os p) own p (Played t)) k
       came (Blocked q x) end k = inside (q, x) (has_oid x oids) k
-
-  pub rescue_right : (c : Client m) (w : Work m) (own : Entries) (p : ℕ) → Held c → ((e : Entry) → commit_at own p ≡ Some e → IsRescuer m objects es own w.trims w.oids c.objects p e) → RightMove (on_rescue m c w own p)
-  rescue_right c w own p h rescuer = by (rescue_turn m own w.trims w.oids c.objects p) refl
-    where
-      absent_right : (o : Option ℕ) → RightMove (absent m c p o)
-      absent_right None = replies_right m objects es rising listed tx0 n0 c (note m 0 (told.Rescued p None) ∷ []) h (one_note m objects es rising listed 0 (told.Rescued p None) tt) (one_plain m objects es rising listed tx0 n0 0 (told.Rescued p None) tt)
-      absent_right (Some b) = refuses_right m objects es rising listed tx0 n0 c 0 (cause.Forgotten p b) h
-
-      decides : (b : Bool) → HasOutcome m objects es p b → (e : Option Entry) → RightMove (rescue_decision m c w own p b e)
-      decides b out None = replies_right m objects es rising listed tx0 n0 c (note m 0 (told.Rescued p None) ∷ []) h (one_note m objects es rising listed 0 (told.Rescued p None) tt) (one_plain m objects es rising listed tx0 n0 0 (told.Rescued p None) tt)
-      decides b out (Some e) =
-          appends_right m objects es rising listed tx0 n0 (with_decision m c) w (decision m c e p b) (Rescues (told.Rescued p (Some b))) [] (record { right = record { view = h.right.view; dir = h.right.dir; work = h.right.work }; tx = h.tx; begun = h.begun })
-          (decision_right m objects es rising listed c e p b out) ((out, refl), tt) (λ n i. absurd i) (λ n i. absurd i)
-
-      known : (b needs : Bool) → HasOutcome m objects es p b × (needs ≡ false → IsRecorded es p) → RightMove (rescue_known m c w own p b needs)
-      known b true out = decides b out.0 (commit_at own p)
-      known b false out = replies_right m objects es rising listed tx0 n0 c (note m 0 (told.Rescued p (Some b)) ∷ []) h (one_note m objects es rising listed 0 (told.Rescued p (Some b)) (out.0, out.1 refl)) (one_plain m objects es rising listed tx0 n0 0 (told.Rescued p (Some b)) tt)
-
-      by : (t : RescueTurn m) → rescue_turn m own w.trims w.oids c.objects p ≡ t → RightMove (answer.rescue_by m c w own p t)
-      by (Wider o) is = syncs_right c w (with_oid o w.oids) h
-      by Wide is = refuses_right m objects es rising listed tx0 n0 c 0 (cause.TooMany many.Hosted) h
-      by Absent is = absent_right (trim_above m w.trims p)
-      by (StuckAt q x) is = refuses_right m objects es rising listed tx0 n0 c 0 (cause.Undecided q x) h
-      by (Known b needs) is = known b needs (rescued own w.trims w.oids c.objects p b needs is rescuer)

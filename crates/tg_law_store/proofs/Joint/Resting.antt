@@ -31,7 +31,7 @@ use Rattle.tg_law_order.specs.Decisions.Decisions.{IsDecidedBy}
 use Rattle.tg_law_order.specs.Decisions.Forgetting.{IsDecidedUpTo, ForgetsDecided}
 use Rattle.tg_law_order.proofs.Decisions.Forgets.{forgets_decide}
 use Rattle.tg_law_store.specs.Joint.Joint.{JointRests, EachOwns, MarksRestWhere}
-use Rattle.tg_law_store.proofs.Joint.Linking.{at_end}
+use Rattle.tg_law_replies.proofs.Replies.Reached.{at_end}
 use Rattle.tg_law_store.proofs.Joint.Lifting.{saved_late, entry_stays, front_spare, step_spare}
 use Rattle.tg_law_store.proofs.Joint.Settled.{whole_late, stood}
 

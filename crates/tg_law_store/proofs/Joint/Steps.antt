@@ -43,7 +43,8 @@ use Rattle.tg_law_store.proofs.Store.Steps.{store_steps_rest, views_here}
 use Rattle.tg_law_order.specs.Trimming.Decided.{MetSettled}
 use Rattle.tg_law_order.proofs.Trimming.Decided.{met_decided_where}
 use Rattle.tg_law_store.specs.Joint.Joint.{JointRests, EachOwns, StepsHoldWhere}
-use Rattle.tg_law_store.proofs.Joint.Linking.{at_end, one_end}
+use Rattle.tg_law_replies.proofs.Replies.Reached.{at_end}
+use Rattle.tg_law_store.proofs.Joint.Linking.{one_end}
 use Rattle.tg_law_store.proofs.Joint.Resting.{marks_rest_where}
 use Rattle.tg_law_store.proofs.Joint.Told.{longer}
 use Rattle.tg_law_store.proofs.Joint.Trimmed.{met_settled_where}

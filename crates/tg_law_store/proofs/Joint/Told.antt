@@ -1,5 +1,5 @@
 -- What stands below a floor that a trimming client told is decided: whoever marked it had found it so, or had met an earlier trim.
-use Rattle.std.proofs.Common.{◌≡◌, ◌⊎◌, ℕ, zero, suc, ◌+◌, ◌<◌, ◌≤◌, List, [], ◌∷◌, ◌++◌, length, Bool, true, refl, sym, ap, ◌∙◌, subst, inl, inr, arith, Some, None, Option}
+use Rattle.std.proofs.Common.{◌≡◌, ◌⊎◌, ℕ, zero, suc, ◌<◌, ◌≤◌, List, [], ◌∷◌, ◌++◌, length, Bool, true, refl, sym, ap, ◌∙◌, subst, inl, inr, arith, Some, None, Option}
 use Rattle.tg_base.specs.Clusters.{Header}
 use Rattle.tg_base.specs.declared.ids.Oid.{Oid}
 use Rattle.tg_entry.specs.Needs.{needs_decision}
@@ -31,7 +31,7 @@ use Rattle.tg_law_order.specs.Decisions.Decisions.{IsDecidedBy}
 use Rattle.tg_law_order.specs.Trimming.Trimming.{FloorTold}
 use Rattle.tg_law_order.proofs.Trimming.Meeting.{walks_meet_told_trims}
 use Rattle.tg_law_store.specs.Joint.Joint.{JointRests, EachOwns}
-use Rattle.tg_law_store.proofs.Joint.Linking.{at_end}
+use Rattle.tg_law_replies.proofs.Replies.Reached.{at_end}
 use Rattle.tg_law_store.proofs.Joint.Lifting.{entry_was, decided_late, front_spare, step_spare}
 use Rattle.tg_law_store.proofs.Joint.Settled.{token_of}
 use Rattle.tg_law_store.proofs.Joint.Resting.{decided_there}

@@ -1,5 +1,5 @@
 -- Legal runs, by what is left of them.
-use Rattle.std.proofs.Common.{◌≡◌, sym, subst}
+use Rattle.std.proofs.Common.{subst}
 use Rattle.tg_base.specs.Clusters.{Header}
 use Rattle.tg_kind.specs.Meaning.{Meaning}
 use Rattle.tg_protocol.specs.Worlds.{World}

@@ -1,5 +1,5 @@
 -- Over a run: what each client has in hand to append comes from an end of its walks.
-use Rattle.std.proofs.Common.{◌≡◌, ℕ, ◌<◌, [], ◌∷◌, ◌++◌, refl, sym, ap, ◌∙◌, subst, inl, inr, arith, Some}
+use Rattle.std.proofs.Common.{◌≡◌, ℕ, ◌<◌, [], ◌∷◌, ◌++◌, refl, sym, ◌∙◌, subst, inl, inr, arith, Some}
 use Rattle.tg_base.specs.Clusters.{Header}
 use Rattle.tg_kind.specs.Meaning.{Meaning}
 use Rattle.tg_model.specs.Kinds.{EventOf}
@@ -14,7 +14,7 @@ use Rattle.tg_law_layouts.specs.Moves.After.{after}
 use Rattle.tg_law_layouts.proofs.Moves.Lists.{at_map}
 use Rattle.tg_law_layouts.proofs.Moves.Moves.{AllGive, Gives}
 use Rattle.tg_law_layouts.proofs.Layouts.Deciding.{layouts_are_known}
-use Rattle.tg_law_walks.proofs.Drafts.Written.{then_next, then_takes, give_right, regroup}
+use Rattle.tg_law_walks.proofs.Drafts.Written.{then_next, then_takes, give_right}
 use Rattle.tg_law_walks.proofs.Once.Along.{on_moves}
 use Rattle.tg_law_walks.proofs.Once.Reached.{give, reach_at}
 use Rattle.tg_law_store.proofs.Origins.Drafts.{ClientFits, client_on}

@@ -1,5 +1,5 @@
 -- From which ends of walks the log's checkpoints, marks and decisions come.
-use Rattle.std.specs.Prelude.{◌≡◌, ℕ, ◌≤◌, Bool, true, List, ◌∷◌, ◌++◌, Some, None, Contains}
+use Rattle.std.specs.Prelude.{◌≡◌, ℕ, ◌≤◌, Bool, true, List, Some, None, Contains}
 use Rattle.tg_base.specs.Clusters.{Header}
 use Rattle.tg_base.specs.Layouts.{Layout}
 use Rattle.tg_base.specs.declared.cell.Cell.{Cell}
@@ -12,13 +12,13 @@ use Rattle.tg_entry.specs.declared.entry.Entry.{Entry}
 use Rattle.tg_entry.specs.declared.entry.WriteOp.{WriteOp}
 use Rattle.tg_kind.specs.Meaning.{Meaning}
 use Rattle.tg_model.specs.declared.command.Command.TheVariants as cmd
-use Rattle.tg_model.specs.Kinds.{CommandOf, EventOf}
+use Rattle.tg_model.specs.Kinds.{CommandOf}
 use Rattle.tg_protocol.specs.Words.{directory}
 use Rattle.tg_protocol.specs.Checkpoints.{may_forget}
 use Rattle.tg_protocol.specs.Clients.{all_entries}
-use Rattle.tg_protocol.specs.Walked.{Walked, walked_in}
-use Rattle.tg_protocol.specs.Worlds.{World, start}
-use Rattle.tg_protocol.specs.Runs.{Moves, Takes, run, Reaches}
+use Rattle.tg_protocol.specs.Walked.{Walked}
+use Rattle.tg_protocol.specs.Worlds.{World}
+use Rattle.tg_protocol.specs.Runs.{Moves, Reaches}
 use Rattle.tg_protocol.specs.Chosen.{IsDecided}
 use Rattle.tg_protocol.specs.Alike.{HasEntry}
 use Rattle.tg_law_cells.specs.Cells.Settled.{IsSettled}

@@ -1,8 +1,7 @@
 -- What is left of each step of a run of the store, as far as trims were spare before it.
 use Rattle.tg_base.specs.Clusters.{Header}
 use Rattle.tg_model.specs.Kinds.{EventOf}
-use Rattle.tg_model.specs.Legal.{InOrder, Legal}
-use Rattle.tg_protocol.specs.Worlds.{World, trace, history}
+use Rattle.tg_protocol.specs.Worlds.{World}
 use Rattle.tg_protocol.specs.Runs.{Moves, Reaches}
 use Rattle.tg_dir.specs.Spellings.{is_number}
 use Rattle.tg_any.specs.Anys.{is_op}

@@ -1,7 +1,7 @@
 -- Wherever a step of a run comes to the end of a command's walks, they are exact, by the log at hand and by the one that the run
 -- ends with.
 use Rattle.std.proofs.Common.{◌≡◌, ℕ, List, [], ◌∷◌, ◌++◌, Bool, true, false, refl, sym, ap, ◌∙◌, subst, Some, None, Option, append-nil}
-use Rattle.std.specs.Prelude.{nat_lt, not, ◌&&◌, ◌==◌}
+use Rattle.std.specs.Prelude.{nat_lt, ◌&&◌}
 use Rattle.tg_base.specs.Clusters.{Header}
 use Rattle.tg_base.specs.Layouts.{Layout}
 use Rattle.tg_base.specs.declared.ids.NodeId.{NodeId}
@@ -13,19 +13,18 @@ use Rattle.tg_model.specs.Kinds.{EventOf}
 use Rattle.tg_model.specs.declared.command.Event.TheVariants.{Command as Commands, Deliver, Lose, Tick, Stop}
 use Rattle.tg_base.specs.Orders.{node_eq}
 use Rattle.tg_protocol.specs.Words.{client_id, layout_id}
-use Rattle.tg_protocol.specs.Requests.{awaits, Next, Goes, Learns, Ends}
+use Rattle.tg_protocol.specs.Requests.{awaits}
 use Rattle.tg_protocol.specs.Replies.{Reply, IsLatest, reply}
-use Rattle.tg_protocol.specs.Syncing.{Sync, Confirmed, sync_start, sync_feed, sync_again}
-use Rattle.tg_protocol.specs.Walking.{Walk, Members, walk_feed, walk_again}
+use Rattle.tg_protocol.specs.Syncing.{sync_start}
 use Rattle.tg_protocol.specs.Logs.{Log, entries_of}
 use Rattle.tg_protocol.specs.Views.{Entries}
 use Rattle.tg_protocol.specs.Clients.{Task, Syncing, Walking, Appending, Trimming, Copying', Reconfiguring, Hand, Doing, Learning, Work, Client}
-use Rattle.tg_protocol.specs.ClientSteps.{task_awaited, task_in, after_turn, met, takes_back, found_by, knows, lo_for, stale, gives_up, given_up_if, stands}
+use Rattle.tg_protocol.specs.ClientSteps.{task_awaited, task_in, stands}
 use Rattle.tg_protocol.specs.Worlds.{World, client, log}
 use Rattle.tg_protocol.specs.Runs.{Moves, Takes, Reaches, Later}
 use Rattle.tg_law_layouts.specs.Moves.After.{after}
 use Rattle.tg_law_replies.specs.History.Worlds.{entries_in}
-use Rattle.tg_law_replies.specs.Replies.Steps.{EachWalk, EachSync, EachOver, EachTrim, EachEnd, EachWalked, EachFeed, EachAgain, EachNewer, EachAwaited, EachHand, EachLatest, EachReply, EachDelivery, EachEvent}
+use Rattle.tg_law_replies.specs.Replies.Steps.{EachFeed, EachNewer, EachAwaited, EachHand, EachLatest, EachReply, EachDelivery, EachEvent}
 use Rattle.tg_law_cells.specs.Entries.Archive.{TrimsWereSafe}
 use Rattle.tg_law_cells.proofs.Entries.Lists.{joined}
 use Rattle.tg_law_walks.specs.Walks.Streams.{IsByPosition, AreKnown, AreLinked}
@@ -41,77 +40,14 @@ use Rattle.tg_law_walks.proofs.Lists.Safe.{safe_before}
 use Rattle.tg_law_walks.proofs.Lists.Telling.{entries_are_good}
 use Rattle.tg_law_syncs.specs.Finds.Left.{RoundsExact, RoundsKnown}
 use Rattle.tg_law_syncs.specs.Exact.Finds.{RoundsExactBySpareTrims, RoundsKnownBySpareTrims}
+use Rattle.tg_law_syncs.proofs.Each.{each_more}
 use Rattle.tg_law_syncs.proofs.Exact.Held.{goes_on, clients_work}
 use Rattle.tg_law_syncs.proofs.Exact.Exact.{step_ends}
 
 -- What holds at the end of a step's walks, as far as another thing does, whatever entries it speaks of.
 module _ (m : Meaning) (objects : List Oid) (es fs : Entries) (P Q : Client m → Work m → Type 0) (more : (c : Client m) (w : Work m) → P c w → Q c w) where
-  walk_more : (os : List Oid) (c : Client m) (w : Work m) → EachWalk m objects es P os c w → EachWalk m objects fs Q os c w
-  walk_more [] c w p = more c w p
-  walk_more (o ∷ os) c w p = λ x is. walk_more os (takes_back m c x) (found_by m w o x) (p x is)
-
-  sync_more : (c : Client m) (w : Work m) (x : Next Sync Confirmed) → EachSync m objects es P c w x → EachSync m objects fs Q c w x
-  sync_more c w (Goes s) p = tt
-  sync_more c w (Learns s) p = tt
-  sync_more c w (Ends x) p = walk_more w.oids (knows m c x.settled) (record w { tail = x.tail; lasts = x.lasts; lo = lo_for m c w.command }) p
-
-  over_more : (c : Client m) (w : Work m) (os : List Oid) (b : Bool) → EachOver m objects es P c w os b → EachOver m objects fs Q c w os b
-  over_more c w os true p = walk_more w.oids c (record w { lo = 0; found = []; trims = [] }) p
-  over_more c w os false p = walk_more os c w p
-
-  trim_more : (c : Client m) (w : Work m) (os : List Oid) (s t : Bool) → EachTrim m objects es P c w os s t → EachTrim m objects fs Q c w os s t
-  trim_more c w os true t p = tt
-  trim_more c w os false t p = over_more c w os t p
-
-  end_more : (c : Client m) (w : Work m) (o : Oid) (os : List Oid) (x : Members) (g : Option ℕ) → EachEnd m objects es P c w o os x g → EachEnd m objects fs Q c w o os x g
-  end_more c w o os x None p = walk_more os c w p
-  end_more c w o os x (Some b) p = trim_more (given_up_if m (gives_up m c w b) c) w os (stale m c w o x b) (gives_up m c w b && not (w.lo == 0)) p
-
-  walked_more : (c : Client m) (w : Work m) (o : Oid) (os : List Oid) (x : Next Walk Members) → EachWalked m objects es P c w o os x → EachWalked m objects fs Q c w o os x
-  walked_more c w o os (Goes x) p = tt
-  walked_more c w o os (Learns x) p = tt
-  walked_more c w o os (Ends x) p = end_more (takes_back m c x) (found_by m w o x) o os x x.gone p
-
-  feed_more : (c : Client m) (w : Work m) (t : Task m) (n rid : ℕ) (x : Reply) → EachFeed m objects es P c w t n rid x → EachFeed m objects fs Q c w t n rid x
-  feed_more c w (Syncing s) n rid x p = sync_more (after_turn m c (sync_feed c.stand s s.work n x c.next)) (met m w (sync_feed c.stand s s.work n x c.next)) (sync_feed c.stand s s.work n x c.next).to p
-  feed_more c w (Walking k os) n rid x p = walked_more (after_turn m c (walk_feed c.stand k k.job n x c.next)) (met m w (walk_feed c.stand k k.job n x c.next)) k.oid os (walk_feed c.stand k k.job n x c.next).to p
-  feed_more c w t n rid x p = tt
-
-  again_more : (c : Client m) (w : Work m) (t : Task m) → EachAgain m objects es P c w t → EachAgain m objects fs Q c w t
-  again_more c w (Syncing s) p = sync_more (after_turn m c (sync_again s c.next)) (met m (record w { gone_before = w.gone }) (sync_again s c.next)) (sync_again s c.next).to p
-  again_more c w (Walking k os) p = walked_more (after_turn m c (walk_again c.stand k c.next)) (met m w (walk_again c.stand k c.next)) k.oid os (walk_again c.stand k c.next).to p
-  again_more c w t p = tt
-
-  newer_more : (c : Client m) (w : Work m) (t : Task m) (q : Layout) → EachNewer m objects es P c w t q → EachNewer m objects fs Q c w t q
-  newer_more c w (Reconfiguring r) q p = tt
-  newer_more c w (Syncing s) q p = again_more (stands m c q) w (Syncing s) p
-  newer_more c w (Walking k os) q p = again_more (stands m c q) w (Walking k os) p
-  newer_more c w (Appending a y) q p = tt
-  newer_more c w (Trimming t) q p = tt
-  newer_more c w (Copying' x) q p = tt
-
-  awaited_more : (b : Bool) (c : Client m) (w : Work m) (t : Task m) (from : NodeId) (rid : ℕ) (x : Reply) → EachAwaited m objects es P b c w t from rid x → EachAwaited m objects fs Q b c w t from rid x
-  awaited_more true c w t from rid x p = feed_more c w t from.num rid x p
-  awaited_more false c w t from rid x p = tt
-
-  hand_more : (c : Client m) (w : Work m) (d : Hand m) (from : NodeId) (rid : ℕ) (x : Reply) → EachHand m objects es P c w d from rid x → EachHand m objects fs Q c w d from rid x
-  hand_more c w (Doing t) from rid x p = awaited_more (awaits (task_awaited m c.stand t) from rid) c w t from rid x p
-  hand_more c w (Learning ws t) from rid x p = tt
-
-  latest_more : (b : Bool) (c : Client m) (w : Work m) (q : Layout) → EachLatest m objects es P b c w q → EachLatest m objects fs Q b c w q
-  latest_more true c w q p = newer_more c w (task_in m w.hand) q p
-  latest_more false c w q p = tt
-
-  reply_more : (c : Client m) (w : Work m) (from : NodeId) (rid : ℕ) (x : Reply) → EachReply m objects es P c w from rid x → EachReply m objects fs Q c w from rid x
-  reply_more c w from rid (IsLatest q) p = latest_more (node_eq from (layout_id from.num) && nat_lt c.stand.epoch q.epoch) c w q p
-  reply_more c w from rid x p = hand_more c w w.hand from rid x p
-
-  pub delivery_more : (c : Client m) (o : Option (Work m)) (from : NodeId) (rid : ℕ) (x : Reply) → EachDelivery m objects es P c o from rid x → EachDelivery m objects fs Q c o from rid x
-  delivery_more c None from rid x p = tt
-  delivery_more c (Some w) from rid x p = reply_more c w from rid x p
-
   pub event_more : (w : World m) (e : EventOf m) → EachEvent m objects es P w e → EachEvent m objects fs Q w e
-  event_more w (Deliver i) p = λ x at is on. delivery_more (client m w x.to.num) (client m w x.to.num).work x.from x.rid (reply x.msg) (p x at is on)
+  event_more w (Deliver i) p = λ x at is on. each_more m objects es fs P Q more (client m w x.to.num) x.from x.rid (reply x.msg) (p x at is on)
   event_more w (Commands k x) p = tt
   event_more w (Lose i) p = tt
   event_more w (Tick n) p = tt

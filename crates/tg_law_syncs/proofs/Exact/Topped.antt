@@ -20,14 +20,14 @@ use Rattle.tg_protocol.specs.LayoutServers.{layout_step}
 use Rattle.tg_protocol.specs.Requests.{awaits, Next, Goes, Learns, Ends}
 use Rattle.tg_protocol.specs.Replies.{reply}
 use Rattle.tg_protocol.specs.Sequencers.{SeqrState, SeqrTurn, new_seqr}
-use Rattle.tg_protocol.specs.Syncing.{SyncWork, Checking, Settling, Probing, Sync, Confirmed, sync_start, sync_feed}
-use Rattle.tg_protocol.specs.Walking.{Walk, Members, walk_feed, walk_again}
+use Rattle.tg_protocol.specs.Syncing.{SyncWork, Checking, Settling, Probing, Sync, Confirmed}
+use Rattle.tg_protocol.specs.Walking.{Walk, Members}
 use Rattle.tg_protocol.specs.Reconfiguring.{Reconf, ReconfEnd}
 use Rattle.tg_protocol.specs.Logs.{Log, entries_of}
 use Rattle.tg_protocol.specs.Views.{Entries, Base}
 use Rattle.tg_protocol.specs.Checkpoints.{base_at}
 use Rattle.tg_protocol.specs.Clients.{Task, Syncing, Walking, Appending, Trimming, Copying', Reconfiguring, Hand, Doing, Learning, Work, Client, new_client, all_entries, entries_at}
-use Rattle.tg_protocol.specs.ClientSteps.{ClientTurn, task_asks, task_awaited, task_in, after_turn, met, takes_back, found_by, knows, lo_for, stale, gives_up, given_up_if, stands}
+use Rattle.tg_protocol.specs.ClientSteps.{ClientTurn, task_asks, task_awaited, task_in, takes_back, found_by, knows, lo_for, stale, gives_up, given_up_if}
 use Rattle.tg_protocol.specs.Worlds.{World, start, log, happens, next_event}
 use Rattle.tg_protocol.specs.Runs.{Moves, Next as Counts', Takes, run, Reaches, Later}
 use Rattle.tg_law_layouts.specs.Moves.After.{after}
@@ -45,7 +45,7 @@ use Rattle.tg_law_cells.proofs.Entries.Lists.{joined}
 use Rattle.tg_law_replies.specs.History.Worlds.{entries_in}
 use Rattle.tg_law_replies.proofs.History.Members as entries
 use Rattle.tg_law_replies.proofs.Views.Judges.{mine_below}
-use Rattle.tg_law_replies.specs.Replies.Steps.{EachWalk, EachSync, EachOver, EachTrim, EachEnd, EachWalked, EachFeed, EachNewer, EachDelivery, EachEvent}
+use Rattle.tg_law_replies.specs.Replies.Steps.{EachWalk, EachSync, EachOver, EachTrim, EachEnd, EachWalked, EachDelivery, EachEvent}
 use Rattle.tg_law_walks.specs.Walks.Streams.{IsByPosition, AreKnown}
 use Rattle.tg_law_walks.specs.Walks.Laws.{IsFound}
 use Rattle.tg_law_walks.proofs.Walks.Cells.{there_entry}
@@ -56,7 +56,7 @@ use Rattle.tg_law_walks.specs.Lists.Drafted.{DraftsFit}
 use Rattle.tg_law_walks.specs.Lists.Spared.{TrimsWereSpare}
 use Rattle.tg_law_walks.proofs.Lists.Reached.{before_reached}
 use Rattle.tg_law_syncs.specs.Finds.Left.{SavesPrecede}
-use Rattle.tg_law_syncs.proofs.Known.Far.{SyncFar, SyncNext, SyncHeard, sync_far}
+use Rattle.tg_law_syncs.proofs.Known.Far.{SyncFar, SyncNext, SyncHeard}
 use Rattle.tg_law_syncs.proofs.Known.FarTurns as far
 use Rattle.tg_law_syncs.proofs.Known.FarHeld.{asked_check, is_tail, far_at, hears_all, none_told}
 use Rattle.tg_law_syncs.proofs.Known.Past.{Reached', SeqrReached, answers_hold, seqrs_reach}
@@ -66,8 +66,9 @@ use Rattle.tg_law_syncs.proofs.Exact.Bases.{new_low}
 use Rattle.tg_law_syncs.proofs.Exact.Held as held
 use Rattle.tg_law_syncs.proofs.Exact.Held.{goes_on}
 use Rattle.tg_law_syncs.proofs.Exact.Exact.{work_ends}
-use Rattle.tg_law_syncs.proofs.Exact.Finds.{delivery_more, delivery_exact, each_reply, of_client}
-use Rattle.tg_law_syncs.proofs.Exact.Tops.{Below, NewBelow, none_bases, TaskKept, TaskFar, HandFar, WorkFar, Topped, NextOnto, TaskHeard, NewerOk, Hears, kept_of, command_fine, deliver_fine, tick_fine}
+use Rattle.tg_law_syncs.proofs.Each.{each_more}
+use Rattle.tg_law_syncs.proofs.Exact.Finds.{delivery_exact, of_client}
+use Rattle.tg_law_syncs.proofs.Exact.Tops.{Below, NewBelow, none_bases, TaskKept, TaskFar, HandFar, WorkFar, Topped, NextOnto, TaskHeard, NewerOk, Hears, command_fine, deliver_fine, tick_fine, delivery_below}
 
 -- Through the walks of a step, a view that has no base past the tail has none at their end.
 module _ (m : Meaning) (objects : List Oid) (es : Entries) where
@@ -267,42 +268,13 @@ module _ (m : Meaning) (h : Header) (zs : Moves m) (r : Reaches m h zs (after m 
       each : EachDelivery m h.objects (entries_in m (after m h zs)) (NewBelow m) cl cl.work x.from x.rid (reply x.msg)
       each =
           let byp = logs_by_position m (after m h zs) in
-          delivery_more m h.objects (entries_in m (after m h zs)) (entries_in m (after m h zs)) (IsFound m (log m (after m h zs))) (NewBelow m) (λ d w f. new_below m (log m (after m h zs)) byp precede d w f) cl cl.work x.from x.rid (reply x.msg)
+          each_more m h.objects (entries_in m (after m h zs)) (entries_in m (after m h zs)) (IsFound m (log m (after m h zs))) (NewBelow m) (λ d w f. new_below m (log m (after m h zs)) byp precede d w f) cl x.from x.rid (reply x.msg)
           (delivery_exact m (log m (after m h zs)) byp (held.linked m h zs r trims fit) h.objects cl cl.work x.from x.rid (reply x.msg) refl ((held.held_at m h zs r trims fit xs (Takes e ∷ ys) split).clients k).work
           (work_ends m h xs (after m h xs) (after m h zs) rw later spare k x (contained (after m h xs).packets x comes.sent) comes.to_node cl.work refl))
 
       -- where it ends the walks of the client
-
-      kept : (w : Work m) → cl.work ≡ Some w → TaskKept m (R c) (P c) (T c k) cl w (task_in m w.hand)
-      kept w works = kept_of m h.objects (entries_in m (after m h zs)) (R c) (P c) (T c k) (past_low m h zs r trims fit c) (past_down m h zs r trims fit c) cl.next (told_none k) D cl w w.hand (subst (λ (o : Option (Work m)). WorkFar m (R c) (P c) (T c k) cl o) works (tops.clients k).work)
-
-      fed_at : (w : Work m) (t : Task m) → cl.work ≡ Some w → w.hand ≡ Doing t → awaits (task_awaited m p t) x.from x.rid ≡ true → EachFeed m h.objects (entries_in m (after m h zs)) (AtTail m h.objects (entries_in m (after m h zs))) cl w t x.from.num x.rid (reply x.msg)
-      fed_at w (Syncing s) works hand awaited =
-          let t = sync_feed p s s.work x.from.num (reply x.msg) cl.next in
-          sync_at m h.objects (entries_in m (after m h zs)) p (R c p) (P c p) (T c k p) (after_turn m cl t) (met m w t) t.to
-          (sync_far p (R c p) (P c p) (T c k p) (past_low m h zs r trims fit c p) cl.next (told_none k p) (Below m cl.view) s x.from.num (reply x.msg) cl.next (sync_hears w s works hand awaited) (in_hand w (Syncing s) works hand))
-      fed_at w (Walking v os) works hand awaited =
-          let t = walk_feed p v v.job x.from.num (reply x.msg) cl.next in
-          walked_at m h.objects (entries_in m (after m h zs)) (after_turn m cl t) (met m w t) v.oid os t.to (subst (λ (d : Hand m). TaskKept m (R c) (P c) (T c k) cl w (task_in m d)) hand (kept w works)).0
-      fed_at w t works hand awaited = tt
-
-      newer_at : (w : Work m) (q : Layout) (t : Task m) → TaskKept m (R c) (P c) (T c k) cl w t → EachNewer m h.objects (entries_in m (after m h zs)) (AtTail m h.objects (entries_in m (after m h zs))) cl w t q
-      unfolding sync_start
-      newer_at w q (Reconfiguring s) f = tt
-      newer_at w q (Syncing s) f = tt
-      newer_at w q (Walking v os) f =
-          let t = walk_again q v cl.next in
-          walked_at m h.objects (entries_in m (after m h zs)) (after_turn m (stands m cl q) t) (met m w t) v.oid os t.to f.0
-      newer_at w q (Appending a y) f = tt
-      newer_at w q (Trimming s) f = tt
-      newer_at w q (Copying' y) f = tt
-
       pub delivery_at : EachDelivery m h.objects (entries_in m (after m h zs)) (AtTail m h.objects (entries_in m (after m h zs))) cl cl.work x.from x.rid (reply x.msg)
-      delivery_at = by cl.work refl
-        where
-          by : (o : Option (Work m)) → cl.work ≡ o → EachDelivery m h.objects (entries_in m (after m h zs)) (AtTail m h.objects (entries_in m (after m h zs))) cl o x.from x.rid (reply x.msg)
-          by None works = tt
-          by (Some w) works = each_reply m h.objects (entries_in m (after m h zs)) (AtTail m h.objects (entries_in m (after m h zs))) cl w x.from x.rid (reply x.msg) (λ t hand awaited. fed_at w t works hand awaited) (λ q. newer_at w q (task_in m w.hand) (kept w works))
+      delivery_at = delivery_below m h.objects (entries_in m (after m h zs)) (R c) (P c) (T c k) (past_low m h zs r trims fit c) (past_down m h zs r trims fit c) cl.next (told_none k) D cl x.from x.rid x.msg (omega arith) (tops.clients k) hears each
 
     turned : (k : ℕ) (t : ClientTurn m) → ClientInput m c k t → D t.now.stand → TopIn c k t.now
     turned k t (Commanded x) d = command_fine m h.objects (entries_in m (after m h zs)) (R c) (P c) (T c k) (past_low m h zs r trims fit c) (past_down m h zs r trims fit c) (client_in m c k).next (told_none k) D (client_in m c k) x (omega arith) (tops.clients k)

@@ -12,14 +12,13 @@ use Rattle.tg_protocol.specs.Words.{numbers}
 use Rattle.tg_protocol.specs.Replies.{Reply, reply}
 use Rattle.tg_protocol.specs.Appending.{Append, At}
 use Rattle.tg_protocol.specs.Transactions.{Tx}
-use Rattle.tg_protocol.specs.Clients.{Work, Client, new_client, refusal, tx_number, upto}
-use Rattle.tg_protocol.specs.ClientSteps.{ClientTurn, client_command, client_deliver, client_tick, tick_by}
+use Rattle.tg_protocol.specs.Clients.{Work, Client, new_client, tx_number, upto}
+use Rattle.tg_protocol.specs.ClientSteps.{ClientTurn, task_in, client_command, client_deliver, client_tick, tick_by}
 use Rattle.tg_protocol.specs.Worlds.{World, Told, start, client, happens, trace}
 use Rattle.tg_protocol.specs.Runs.{Moves, Next, Takes, Reaches, run}
 use Rattle.tg_protocol.specs.Alike.{HasRecord}
 use Rattle.tg_protocol.specs.Holding.{append_of, append_by, HasItsRecord, RepliesHaveRecords}
 use Rattle.tg_law_layouts.proofs.Moves.Lists.{at_map}
-use Rattle.tg_law_layouts.proofs.Moves.Turns.{not_busy}
 use Rattle.tg_law_replies.specs.History.Worlds.{entries_in}
 use Rattle.tg_law_replies.proofs.History.Members.{Has, has_contained, contained_has, has_image, has_either}
 use Rattle.tg_law_cells.specs.Entries.Archive.{TrimsWereSafe}
@@ -33,7 +32,7 @@ use Rattle.tg_law_replies.proofs.Books.Told.{all_told}
 use Rattle.tg_law_replies.proofs.Books.Turns.{BookOf, DraftOf}
 use Rattle.tg_law_replies.proofs.Books.Worlds.{WorldBook, nil_right, regroup, step, run_book, start_book, run_both}
 use Rattle.tg_law_walks.proofs.Once.Known.{replies_known}
-use Rattle.tg_law_syncs.proofs.Follow.Says.{Other, NotSaved, IsSave, MadeTask, MadeWork, Made, Says, Others, Counts, Saved', AllSay, Ready, feed_good, command_good}
+use Rattle.tg_law_syncs.proofs.Follow.Says.{Other, NotSaved, IsSave, MadeTask, MadeWork, Made, Says, Others, Counts, Saved', AllSay, Open, Ready, feed_good, command_good}
 use Rattle.tg_law_syncs.proofs.Follow.Shut.{EndOpen, end_stepped, start_end}
 use Rattle.tg_law_syncs.proofs.Follow.Steps.{Turns as Turns', Input, Commanded, Handed, Ticked, Speaks, Silent, Speaks', speaks}
 use Rattle.tg_law_syncs.proofs.Follow.Committed.{of_committed}
@@ -53,20 +52,22 @@ module _ (m : Meaning) where
     abbrev c : Client m
     c = client m w n
 
-    ready : (from : NodeId) (rid : ℕ) (x : Reply) → ended_in m w e n ≡ work_ends m c c.work from rid x → (v : Work m) → c.work ≡ Some v → Ready m (SavedNow w e n) c v (work_ends m c c.work from rid x)
-    ready from rid x ends v has = record {
-      open' = λ i. let t = open' v has i in subst (λ (o : Option Tx). 0 < tx_number m o) (sym t.1) (book.number t.0 t.1).0;
-      suits = book.suits v has;
-      marks = λ a k o j is. (subst (DraftOf m n (trace m w) c.tx c.begun) is (book.drafts v has)).positive;
-      made = subst (MadeWork m c.num (upto m c)) has made;
-      saves = λ a o u p page is end. record {
-        append = a;
-        page = page;
-        begun = ap (append_by m) has ∙ ap (append_of m) is;
-        ends = ends ∙ end;
-        save = subst (MadeTask m c.num (upto m c) v.command) is (subst (MadeWork m c.num (upto m c)) has made);
-      };
-    }
+    ready : (from : NodeId) (rid : ℕ) (x : Reply) → ended_in m w e n ≡ work_ends m c c.work from rid x → (v : Work m) → c.work ≡ Some v → Open m (SavedNow w e n) c v × Ready m (SavedNow w e n) c v (task_in m v.hand) (work_ends m c c.work from rid x)
+    ready from rid x ends v has = (
+      λ i. let t = open' v has i in subst (λ (o : Option Tx). 0 < tx_number m o) (sym t.1) (book.number t.0 t.1).0,
+      record {
+        suits = book.suits v has;
+        marks = λ a k o j is. (subst (DraftOf m n (trace m w) c.tx c.begun) is (book.drafts v has)).positive;
+        made = subst (MadeWork m c.num (upto m c)) has made;
+        saves = λ a o u p page is end. record {
+          append = a;
+          page = page;
+          begun = ap (append_by m) has ∙ ap (append_of m) is;
+          ends = ends ∙ end;
+          save = subst (MadeTask m c.num (upto m c) v.command) is (subst (MadeWork m c.num (upto m c)) has made);
+        };
+      },
+    )
 
     tick_good : (o : Option (Work m)) → c.work ≡ o → AllSay m (SavedNow w e n) (tick_by m c o).notes × Made m (tick_by m c o).now
     tick_good None is = (λ y i. absurd i, made)
@@ -74,8 +75,8 @@ module _ (m : Meaning) where
 
     turn_good : (t : ClientTurn m) → Input m w e n t → AllSay m (SavedNow w e n) t.notes × Made m t.now
     unfolding client_command client_deliver client_tick
-    turn_good t (Commanded x) = let g = command_good m (SavedNow w e n) c x (refusal m c x) (not_busy m c x) (λ y is. (book.number y is).0) made in (g.says, g.made)
-    turn_good t (Handed p ends) = let g = feed_good m (SavedNow w e n) c c.work p.from p.rid (reply p.msg) refl (ready p.from p.rid (reply p.msg) ends) in (g.says, g.made)
+    turn_good t (Commanded x) = let g = command_good m (SavedNow w e n) c x (λ y is. (book.number y is).0) made in (g.says, g.made)
+    turn_good t (Handed p ends) = let g = feed_good m (SavedNow w e n) c p.from p.rid (reply p.msg) made (ready p.from p.rid (reply p.msg) ends) in (g.says, g.made)
     turn_good t Ticked = tick_good c.work refl
 
   -- Along a run.

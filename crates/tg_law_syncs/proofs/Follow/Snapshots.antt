@@ -12,7 +12,7 @@ use Rattle.tg_protocol.specs.Words.{directory, numbers}
 use Rattle.tg_protocol.specs.Replies.{reply}
 use Rattle.tg_protocol.specs.Appending.{Append, AppendEnd}
 use Rattle.tg_protocol.specs.Transactions.{Tx, open_tx, tx_put, tx_read}
-use Rattle.tg_protocol.specs.Clients.{Purpose, Writes, Judged, Marks, Task, Appending, Work, Client, new_client, upto_in, upto, refusal, write_of}
+use Rattle.tg_protocol.specs.Clients.{Purpose, Writes, Judged, Marks, Task, Appending, Work, Client, new_client, upto_in, upto, write_of}
 use Rattle.tg_protocol.specs.Answers.{Moved, note, mark_notes}
 use Rattle.tg_protocol.specs.ClientSteps.{ClientTurn, task_in, called, client_command, client_deliver, client_tick}
 use Rattle.tg_protocol.specs.Worlds.{World, start, client, trace, happens, next_event}
@@ -20,7 +20,6 @@ use Rattle.tg_protocol.specs.Runs.{Moves, Next, Takes as Moves', run}
 use Rattle.tg_law_layouts.specs.Moves.Configs.{Config, config, client_in}
 use Rattle.tg_law_layouts.proofs.Moves.Lists.{at_map, at_set}
 use Rattle.tg_law_layouts.proofs.Moves.Moves.{Cases, ClientInput, Commanded, Hears', Ticks', step_cases}
-use Rattle.tg_law_layouts.proofs.Moves.Turns.{not_busy}
 use Rattle.tg_law_replies.proofs.History.Members.{Has, has_contained, contained_has, has_image, has_either}
 use Rattle.tg_law_replies.proofs.Replies.Books.{mark, IsPlain}
 use Rattle.tg_law_replies.proofs.Books.Effects.{IsEnd, IsAsk, Idle, Suits, IsRecord, IsOther, Onward, Same', Walks, Lands, Begins, Quit, Zeros, AskFails, Filled, Marked, MarkFilled, MarkLost, On, Quits, Closes, Asks, Marks'}
@@ -334,8 +333,8 @@ module _ (m : Meaning) where
 
   turn_sees : (c : Config m) (k : ℕ) (t : ClientTurn m) → ClientInput m c k t → Sees m (client_in m c k) t.now
   unfolding client_command client_deliver client_tick
-  turn_sees c k t (Commanded x) = called_sees (client_in m c k) _ (command_sees m (client_in m c k) x (refusal m (client_in m c k) x) refl (not_busy m (client_in m c k) x))
-  turn_sees c k t (Hears' p comes) = called_sees (client_in m c k) _ (feed_sees m (client_in m c k) (client_in m c k).work p.from p.rid (reply p.msg) refl)
+  turn_sees c k t (Commanded x) = called_sees (client_in m c k) _ (command_sees m (client_in m c k) x)
+  turn_sees c k t (Hears' p comes) = called_sees (client_in m c k) _ (feed_sees m (client_in m c k) p.from p.rid (reply p.msg))
   turn_sees c k t Ticks' = tick_sees m (client_in m c k) (client_in m c k).work refl
 
   sees_cases : (c : Config m) → Cases m c (λ d. (k : ℕ) → Sees m (client_in m c k) (client_in m d k))

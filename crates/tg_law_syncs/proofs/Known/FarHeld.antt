@@ -1,10 +1,9 @@
 -- Over a run, what lies below each client's later tails.
-use Rattle.std.proofs.Common.{◌≡◌, ◌⊎◌, ℕ, ◌+◌, ◌-◌, ◌<◌, ◌≤◌, List, [], ◌∷◌, ◌++◌, length, Bool, true, false, refl, sym, ap, ◌∙◌, subst, inl, inr, arith, Some, None, Option, append-nil}
+use Rattle.std.proofs.Common.{◌≡◌, ◌⊎◌, ℕ, ◌+◌, ◌-◌, ◌<◌, ◌≤◌, List, [], ◌∷◌, ◌++◌, length, Bool, true, refl, sym, ap, ◌∙◌, subst, inl, inr, arith, Some, Option, append-nil}
 use Rattle.std.specs.Prelude.{slice_index_or, nat_lt, ◌&&◌}
 use Rattle.tg_base.specs.Clusters.{Header}
 use Rattle.tg_base.specs.Layouts.{Layout}
 use Rattle.tg_base.specs.declared.cell.Cell.{Cell}
-use Rattle.tg_base.specs.declared.ids.NodeId.{NodeId}
 use Rattle.tg_base.specs.declared.ids.Oid.{Oid}
 use Rattle.tg_base.specs.declared.ids.Role.TheVariants as role
 use Rattle.tg_base.specs.declared.marks.StreamLink.{StreamLink}
@@ -17,27 +16,27 @@ use Rattle.tg_model.specs.Kinds.{EventOf}
 use Rattle.tg_base.specs.Orders.{node_eq}
 use Rattle.tg_protocol.specs.Words.{client_id, seqr_id, layout_id, numbers}
 use Rattle.tg_protocol.specs.Entries.{streams_of}
-use Rattle.tg_protocol.specs.Requests.{awaits, Next, Goes, Learns, Ends, Turn}
+use Rattle.tg_protocol.specs.Requests.{awaits, Next, Goes, Learns, Ends}
 use Rattle.tg_protocol.specs.Replies.{reply, IsTail, IsIssued, IsLatest}
 use Rattle.tg_protocol.specs.Cells.{Place, CellJob, CellEnd, Done, Gone, cell_asks, cell_feed}
-use Rattle.tg_protocol.specs.Appending.{AppendWork, Asking, Putting, Judging, Append, append_asks, append_work_asks, append_feed, append_again}
-use Rattle.tg_protocol.specs.Syncing.{Answer, SyncWork, Checking, Settling, Probing, Sync, sync_work_asks, sync_feed}
-use Rattle.tg_protocol.specs.Walking.{Walk, job_asks, walk_feed, walk_again}
+use Rattle.tg_protocol.specs.Appending.{AppendWork, Asking, Putting, Judging, Append, append_work_asks, append_again}
+use Rattle.tg_protocol.specs.Syncing.{Answer, SyncWork, Checking, Settling, Sync, sync_work_asks}
+use Rattle.tg_protocol.specs.Walking.{Walk, job_asks, walk_again}
 use Rattle.tg_protocol.specs.Reconfiguring.{Reconf, ReconfWork, Stage, Preparing, Accepting, ReconfEnd, Installed, Overtaken, NotWhole, ReconfTurn, reconf_feed, reconf_latest}
 use Rattle.tg_protocol.specs.Logs.{Log}
-use Rattle.tg_protocol.specs.Clients.{Purpose, Task, Syncing, Walking, Appending, Trimming, Copying', Reconfiguring, Hand, Doing, Learning, Work, Client, new_client, upto}
+use Rattle.tg_protocol.specs.Clients.{Purpose, Task, Syncing, Walking, Appending, Trimming, Copying', Reconfiguring, Hand, Doing, Work, Client, new_client, upto}
 use Rattle.tg_protocol.specs.ClientSteps.{ClientTurn, task_asks, task_awaited, task_in, after_turn, reconf_to, on_reconf}
 use Rattle.tg_protocol.specs.Layouts.{first_layout}
 use Rattle.tg_protocol.specs.LayoutServers.{layout_step}
 use Rattle.tg_protocol.specs.Sequencers.{SeqrState, SeqrTurn, new_seqr}
-use Rattle.tg_protocol.specs.Worlds.{World, start, client, log, happens, next_event}
-use Rattle.tg_protocol.specs.Runs.{Moves, Next as Counts', Takes, run, Reaches, Later}
+use Rattle.tg_protocol.specs.Worlds.{World, start, log, happens, next_event}
+use Rattle.tg_protocol.specs.Runs.{Moves, Next as Counts', Takes, run, Reaches}
 use Rattle.tg_law_layouts.specs.Moves.After.{after}
-use Rattle.tg_law_layouts.specs.Moves.Configs.{Config, config, client_in, layout_in, seqr_in}
+use Rattle.tg_law_layouts.specs.Moves.Configs.{Config, config, client_in, layout_in}
 use Rattle.tg_law_layouts.proofs.Moves.Clients.{reserved, work_reserved, hand_reserved}
 use Rattle.tg_law_layouts.proofs.Moves.Growth.{unit_quiet, layout_quiet, client_quiet, Quiet}
 use Rattle.tg_law_layouts.proofs.Moves.Lists.{contained, at_map, at_set}
-use Rattle.tg_law_layouts.proofs.Moves.Members.{Has, has_contained, has_left}
+use Rattle.tg_law_layouts.proofs.Moves.Members.{Has}
 use Rattle.tg_law_layouts.proofs.Moves.Moves.{Cases, Comes, seqr_turn, client_turn, SeqrInput, ClientInput, Commanded, Hears', Ticks', step_cases, run_keeps}
 use Rattle.tg_law_layouts.proofs.Moves.Scripts.{run_both}
 use Rattle.tg_law_layouts.proofs.Requests.Starts.{All, all_hold}
@@ -51,24 +50,24 @@ use Rattle.tg_law_layouts.proofs.Layouts.Phases.{phase, stage_epoch, IsProposedN
 use Rattle.tg_law_layouts.proofs.Agreement.Proposers.{StageOk, VotingOk, WorkOk}
 use Rattle.tg_law_cells.proofs.Cells.Hands as cells
 use Rattle.tg_law_cells.proofs.Cells.Jobs.{JobOk, MaybeOk, AppendOk, AppendClaims, SyncOk, SyncClaims, cell_ok}
-use Rattle.tg_law_cells.proofs.Cells.Justified.{Awaited, awaited_ask, EndOk, NextOk, Claims, heard}
+use Rattle.tg_law_cells.proofs.Cells.Justified.{awaited_ask, EndOk, NextOk, Claims, heard}
 use Rattle.tg_law_cells.proofs.Cells.Sent.{Heard, task_claims}
 use Rattle.tg_law_cells.proofs.Cells.Stores.{cells_hold}
 use Rattle.tg_law_cells.proofs.Entries.Lists.{joined}
 use Rattle.tg_law_walks.specs.Lists.Drafted.{DraftsFit}
 use Rattle.tg_law_walks.specs.Lists.Lists.{Counts}
 use Rattle.tg_law_walks.specs.Lists.Spared.{WasSettled, TrimsWereSpare}
-use Rattle.tg_law_walks.specs.Lists.Telling.{asks_links, tells_links}
-use Rattle.tg_law_walks.proofs.Lists.Reached.{before_reached, goes_later}
+use Rattle.tg_law_walks.specs.Lists.Telling.{tells_links}
+use Rattle.tg_law_walks.proofs.Lists.Reached.{before_reached}
 use Rattle.tg_law_syncs.proofs.Syncs.Clients.{heard as sync_answer}
 use Rattle.tg_law_syncs.proofs.Syncs.Confirming.{settled_by}
-use Rattle.tg_law_syncs.proofs.Known.Far.{AppendFar, SyncHeard, AppendHeard}
-use Rattle.tg_law_syncs.proofs.Known.FarTurns.{IsPast, SyncPast, GoneOk, Onto, NextOnto, TurnFar, NewerOk, TaskHeard, Hears, TaskKept, TaskFar, HandFar, Far, command_fine, deliver_fine, tick_fine}
-use Rattle.tg_law_syncs.proofs.Known.Growing.{FarIn, Tells, grows, quiet_tells}
-use Rattle.tg_law_syncs.proofs.Known.Past.{Reached', SeqrReached, answers_hold, seqrs_reach}
+use Rattle.tg_law_syncs.proofs.Known.Far.{AppendFar}
+use Rattle.tg_law_syncs.proofs.Known.FarTurns.{SyncPast, GoneOk, Onto, NextOnto, NewerOk, TaskHeard, Hears, command_fine, deliver_fine, tick_fine}
+use Rattle.tg_law_syncs.proofs.Known.Growing.{FarIn, grows, quiet_tells}
+use Rattle.tg_law_syncs.proofs.Known.Past.{Reached', answers_hold, seqrs_reach}
 use Rattle.tg_law_syncs.proofs.Known.Reaches.{Reached, Past, Told, past_low, past_down, onto, stay, settled_counts, gone_ok}
-use Rattle.tg_law_syncs.proofs.Known.Telling.{check_in, token_in, check_asks, token_asks, open_sync, open_token, reached, far_hand, seqr_tells}
-use Rattle.tg_law_syncs.proofs.Known.Turned.{MetBy, Met, SyncHas, WalkHas, AppendHas, sync_up, walk_up, walk_again_up, append_up, append_again_up, sync_met, walk_met, append_met, walk_again_none, append_again_none}
+use Rattle.tg_law_syncs.proofs.Known.Telling.{check_asks, token_asks, open_sync, open_token, reached, far_hand, seqr_tells}
+use Rattle.tg_law_syncs.proofs.Known.Turned.{Met, SyncHas, WalkHas, AppendHas, sync_up, walk_up, walk_again_up, append_up, append_again_up, sync_met, walk_met, append_met, walk_again_none, append_again_none}
 
 pub is_tail : (y : Msg) (t : ℕ) (ls : List StreamLink) → reply y ≡ IsTail t ls → tells_links y ≡ Some (t, ls)
 unfolding reply tells_links
@@ -241,7 +240,7 @@ module _ (m : Meaning) (h : Header) (zs : Moves m) (r : Reaches m h zs (after m 
       unfolding task_asks
       walk_hears w v os works hand awaited = record {
         up = walk_up p v x.from.num (reply x.msg) cl.next;
-        gone = met_ok w (Walking v os) works hand awaited (WalkHas v.job) _ (λ j y. (subst (λ (o : Option CellJob). MaybeOk (after m h xs).packets p o) y (in_hand w (Walking v os) works hand awaited), λ o i. subst (λ (z : Option CellJob). Has (job_asks z) o) y i)) (walk_met x.from.num (reply x.msg) cl.next p v v.job);
+        gone = met_ok w (Walking v os) works hand awaited (WalkHas v.job) _ (λ j y. (subst (λ (o : Option CellJob). MaybeOk (after m h xs).packets p o) y (in_hand w (Walking v os) works hand awaited), λ o i. subst (λ (z : Option CellJob). Has (job_asks z) o) y i)) (walk_met x.from.num (reply x.msg) cl.next p v);
       }
 
       -- of an append

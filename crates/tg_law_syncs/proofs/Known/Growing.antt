@@ -1,18 +1,14 @@
 -- What lies below a client's later tails still does while others take their turns.
-use Rattle.std.proofs.Common.{◌≡◌, ◌⊎◌, ℕ, ◌≤◌, List, true, false, refl, sym, ap, ◌∙◌, subst, inl, inr, arith, Some, None, Option}
+use Rattle.std.proofs.Common.{◌≡◌, ℕ, ◌≤◌, refl, ap, Some, None, Option}
 use Rattle.tg_base.specs.Clusters.{Header}
 use Rattle.tg_base.specs.Layouts.{Layout}
 use Rattle.tg_base.specs.declared.ids.NodeId.{NodeId}
 use Rattle.tg_base.specs.declared.ids.Role.TheVariants as role
-use Rattle.tg_base.specs.declared.marks.StreamLink.{StreamLink}
 use Rattle.tg_base.specs.declared.packet.Packet.{Packet}
 use Rattle.tg_kind.specs.Meaning.{Meaning}
-use Rattle.tg_protocol.specs.Words.{client_id, seqr_id}
 use Rattle.tg_protocol.specs.Appending.{AppendWork, Asking, Putting, Judging, Append}
 use Rattle.tg_protocol.specs.Syncing.{SyncWork, Checking, Settling, Probing, Sync}
-use Rattle.tg_protocol.specs.Logs.{Log}
 use Rattle.tg_protocol.specs.Clients.{Purpose, Task, Syncing, Walking, Appending, Trimming, Copying', Reconfiguring, Hand, Doing, Learning, Work, Client, upto}
-use Rattle.tg_protocol.specs.ClientSteps.{task_in}
 use Rattle.tg_protocol.specs.Worlds.{log}
 use Rattle.tg_protocol.specs.Runs.{Moves, Reaches}
 use Rattle.tg_law_layouts.specs.Moves.After.{after}
@@ -20,10 +16,9 @@ use Rattle.tg_law_layouts.specs.Moves.Configs.{Config}
 use Rattle.tg_law_layouts.proofs.Moves.Members.{Has}
 use Rattle.tg_law_walks.specs.Lists.Drafted.{DraftsFit}
 use Rattle.tg_law_walks.specs.Lists.Spared.{TrimsWereSpare}
-use Rattle.tg_law_walks.specs.Lists.Telling.{tells_links}
 use Rattle.tg_law_syncs.proofs.Known.Far.{AppendFar}
 use Rattle.tg_law_syncs.proofs.Known.Past.{SeqrReached}
-use Rattle.tg_law_syncs.proofs.Known.FarTurns.{IsPast, SyncPast, IsSavedPast, GoneOk, Common, TaskKept, TaskFar, HandFar, WorkFar, Far}
+use Rattle.tg_law_syncs.proofs.Known.FarTurns.{IsPast, SyncPast, GoneOk, Common, TaskKept, TaskFar, HandFar, WorkFar, Far}
 use Rattle.tg_law_syncs.proofs.Known.Reaches.{Reached, Past, Told, past_on}
 
 module _ (m : Meaning) (h : Header) (zs : Moves m) (r : Reaches m h zs (after m h zs)) (trims : TrimsWereSpare m h zs) (fit : DraftsFit m (after m h zs)) where

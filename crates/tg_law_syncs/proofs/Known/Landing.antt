@@ -1,22 +1,21 @@
 -- An append ends with its token's page, which is the log's where the cell is that its machine ends with.
-use Rattle.std.proofs.Common.{◌≡◌, ◌⊎◌, ℕ, ◌+◌, List, Bool, true, false, refl, sym, ap, ◌∙◌, subst, inl, inr, Option, Some, None}
+use Rattle.std.proofs.Common.{◌≡◌, ◌⊎◌, ℕ, ◌+◌, List, Bool, true, false, refl, sym, ap, ◌∙◌, subst, inl, inr, Option, Some}
 use Rattle.tg_base.specs.Layouts.{Layout}
 use Rattle.tg_base.specs.declared.cell.Cell.{Cell}
 use Rattle.tg_base.specs.declared.cell.Cell.TheVariants.{Data}
-use Rattle.tg_base.specs.declared.marks.StreamLink.{StreamLink}
-use Rattle.tg_entry.specs.declared.entry.Entry.{Entry}
 use Rattle.tg_protocol.specs.Words.{cell_at, cell_eq}
 use Rattle.tg_entry.specs.Records.{linked}
 use Rattle.tg_protocol.specs.Pages.{page_of}
 use Rattle.tg_protocol.specs.Requests.{Next, Goes, Learns, Ends}
 use Rattle.tg_protocol.specs.Replies.{Reply}
 use Rattle.tg_protocol.specs.Replies as replied
-use Rattle.tg_protocol.specs.Cells.{Place, place_in, CellWork, Puts, CellJob, CellEnd, Done, Seen, Lost, Fenced, Gone, works, put_on, end_if, put_cell, fill_cell, work_feed, cell_feed}
-use Rattle.tg_protocol.specs.Appending.{on_older, on_newer, AppendWork, Asking, Putting, Judging, Token, Append, AppendEnd, At, put_end, put_next, own_or_not, judge_end, judge_next, on_issued, asking_feed, append_feed, dead_or_judged, again_with, append_again}
+use Rattle.tg_protocol.specs.Cells.{Place, place_in, CellWork, Puts, CellJob, CellEnd, Done, Seen, Lost, Fenced, Gone, works, put_on, end_if, work_feed, cell_feed}
+use Rattle.tg_protocol.specs.Appending.{AppendWork, Asking, Putting, Judging, Token, Append, AppendEnd, At, append_feed, append_again}
 use Rattle.tg_protocol.specs.Logs.{Log}
 use Rattle.tg_law_layouts.proofs.Moves.Units.{cell_same}
 use Rattle.tg_law_walks.specs.Walks.Walks.{EndsAs}
 use Rattle.tg_law_walks.proofs.Walks.Turns.{Fine, cell_fine}
+use Rattle.tg_law_steps.proofs.Machines.Appends.{AppendCame, Waits as AppendWaits, NewerCame as NewerForAppend, PutsAt, LogFull, PutsOn, IsPut as PageIsPut, LostTo, PutTrimmed, JudgesOn, IsOwn, IsAnothers, JudgedTrimmed, append_came, AppendAgain, AsksAgain, Judges, append_again_came}
 
 -- A machine that puts a page puts that page, and ends with it.
 
@@ -94,23 +93,9 @@ module _ (l : Log) where
   same_token : (t u : Token) → Some t ≡ Some u → t ≡ u
   same_token t u e = cc
 
-  some_cell : Cell → Option Cell
-  some_cell c = Some c
-
-  put_end_lands : (a : Append) (t : Token) (pos : ℕ) (e : CellEnd) (next : ℕ) → pos ≡ t.pos → NextPut t.page (Ends e) → EndsAs l pos (Ends e) → TokenFits a → LandsNext (put_end a t e next).to
-  put_end_lands a t pos (Done c) next at is h f = subst (λ (q : ℕ). cell_at l q ≡ Some (Data t.page)) at (h ∙ ap (λ (y : Cell). Some y) is)
-  put_end_lands a t pos (Lost c) next at is h f = tt
-  put_end_lands a t pos (Gone b) next at is h f = tt
-  put_end_lands a t pos (Fenced u e) next at is h f = f
-  put_end_lands a t pos Seen next at is h f = f
-
-  put_next_lands : (a : Append) (t : Token) (pos : ℕ) (to : Next CellJob CellEnd) (next : ℕ) → pos ≡ t.pos → Fine pos to → NextPut t.page to → EndsAs l pos to → TokenFits a → LandsNext (put_next a t to next).to
-  put_next_lands a t pos (Goes x) next at fine is h f = λ u e. let s = same_token t u e in subst (λ (v : Token). (x.place.pos ≡ v.pos) × IsPut x v.page) s (fine ∙ at, is)
-  put_next_lands a t pos (Learns x) next at fine is h f = f
-  put_next_lands a t pos (Ends e) next at fine is h f = put_end_lands a t pos e next at is h f
-
-  own_lands : (a : Append) (t : Token) (c : Cell) (next : ℕ) (b : Bool) → cell_eq c (Data t.page) ≡ b → cell_at l t.pos ≡ Some c → LandsNext (own_or_not a t next b).to
-  own_lands a t c next true e h = by (cell_same c (Data t.page))
+  -- an append's machine ends with the page of its token, where it was put
+  own_lands : (t : Token) (c : Cell) → cell_eq c (Data t.page) ≡ true → cell_at l t.pos ≡ Some c → cell_at l t.pos ≡ Some (Data t.page)
+  own_lands t c e h = by (cell_same c (Data t.page))
     where
       contrary : (x : Bool) → x ≡ true → x ≡ false → ⊥
       contrary x t f = cc
@@ -118,59 +103,29 @@ module _ (l : Log) where
       by : (cell_eq c (Data t.page) ≡ false) ⊎ (c ≡ Data t.page) → cell_at l t.pos ≡ Some (Data t.page)
       by (inl f) = absurd (contrary (cell_eq c (Data t.page)) e f)
       by (inr i) = h ∙ ap (λ (y : Cell). Some y) i
-  own_lands a t c next false e h = tt
 
-  judge_end_lands : (a : Append) (t : Token) (pos : ℕ) (e : CellEnd) (next : ℕ) → pos ≡ t.pos → EndsAs l pos (Ends e) → TokenFits a → LandsNext (judge_end a t e next).to
-  judge_end_lands a t pos (Done c) next at h f = own_lands a t c next _ refl (subst (λ (q : ℕ). cell_at l q ≡ Some c) at h)
-  judge_end_lands a t pos (Gone b) next at h f = tt
-  judge_end_lands a t pos (Fenced u e) next at h f = f
-  judge_end_lands a t pos Seen next at h f = f
-  judge_end_lands a t pos (Lost c) next at h f = f
-
-  judge_next_lands : (a : Append) (t : Token) (pos : ℕ) (to : Next CellJob CellEnd) (next : ℕ) → pos ≡ t.pos → Fine pos to → EndsAs l pos to → TokenFits a → LandsNext (judge_next a t to next).to
-  judge_next_lands a t pos (Goes x) next at fine h f = λ u e. subst (λ (v : Token). x.place.pos ≡ v.pos) (same_token t u e) (fine ∙ at)
-  judge_next_lands a t pos (Learns x) next at fine h f = f
-  judge_next_lands a t pos (Ends e) next at fine h f = judge_end_lands a t pos e next at h f
-
-  issued_lands : (p : Layout) (a : Append) (pos : ℕ) (ls : List StreamLink) (next : ℕ) (b : Bool) → TokenFits a → LandsNext (on_issued p a pos ls next b).to
-  unfolding put_cell
-  issued_lands p a pos ls next true f = λ u e. subst (λ (v : Token). (pos ≡ v.pos) × IsPut (works (place_in p pos) (Puts next (page_of (linked a.draft ls)) 0)) v.page) (same_token (record { pos = pos; page = page_of (linked a.draft ls) }) u e) (refl, record { rid = next; index = 0; is = refl })
-  issued_lands p a pos ls next false f = f
-
-  older_lands : (p : Layout) (a : Append) (next : ℕ) (b : Bool) → TokenFits a → LandsNext (on_older {M = Append} {E = AppendEnd} p next a b).to
-  older_lands p a next true f = f
-  older_lands p a next false f = f
-
-  newer_lands : (p : Layout) (a : Append) (e next : ℕ) (b : Bool) → TokenFits a → LandsNext (on_newer {M = Append} {E = AppendEnd} p e next a b).to
-  newer_lands p a e next true f = f
-  newer_lands p a e next false f = older_lands p a next _ f
-
-  asking_lands : (p : Layout) (a : Append) (x : Reply) (next : ℕ) → TokenFits a → LandsNext (asking_feed p a x next).to
-  asking_lands p a (replied.IsIssued pos ls) next f = issued_lands p a pos ls next _ f
-  asking_lands p a (replied.IsFull b) next f = tt
-  asking_lands p a (replied.IsOldEpoch e) next f = newer_lands p a e next _ f
-  asking_lands p a x next f = f
-
-  feed_lands_at : (p : Layout) (d : Entry) (t : Option Token) (w : AppendWork) (n : ℕ) (x : Reply) (next : ℕ) → WorkFits t w → AppendEndsAs w n x next → LandsNext (append_feed p (record { draft = d; token = t; work = w }) w n x next).to
-  unfolding append_feed
-  feed_lands_at p d t (Asking r) n x next f h = asking_lands p _ x next f
-  feed_lands_at p d None (Putting j) n x next f h = f
-  feed_lands_at p d (Some t) (Putting j) n x next f h = put_next_lands _ t j.place.pos _ _ (f t refl).0 (cell_fine j n x next) (put_stays j t.page n x next (f t refl).1) h f
-  feed_lands_at p d None (Judging j) n x next f h = f
-  feed_lands_at p d (Some t) (Judging j) n x next f h = judge_next_lands _ t j.place.pos _ _ (f t refl) (cell_fine j n x next) h f
+  came_lands : (p : Layout) (a : Append) (n : ℕ) (x : Reply) (next : ℕ) (w : AppendWork) (to : Next Append AppendEnd) → TokenFits a → WorkFits a.token w → AppendEndsAs w n x next → AppendCame p a n x next w to → LandsNext to
+  came_lands p a n x next _ _ f k h (AppendWaits w) = f
+  came_lands p a n x next _ _ f k h (NewerForAppend w) = f
+  came_lands p a n x next _ _ f k h (PutsAt r pos ls is names) = λ u e. subst (λ (v : Token). (pos ≡ v.pos) × IsPut (works (place_in p pos) (Puts next (page_of (linked a.draft ls)) 0)) v.page) (same_token (record { pos = pos; page = page_of (linked a.draft ls) }) u e) (refl, record { rid = next; index = 0; is = refl })
+  came_lands p a n x next _ _ f k h (LogFull r b is) = tt
+  came_lands p a n x next _ _ f k h (PutsOn j i t has g) = λ u e. subst (λ (v : Token). (i.place.pos ≡ v.pos) × IsPut i v.page) (same_token t u e)
+      (subst (Fine j.place.pos) g (cell_fine j n x next) ∙ (k t has).0, subst (NextPut t.page) g (put_stays j t.page n x next (k t has).1))
+  came_lands p a n x next _ _ f k h (PageIsPut j t c has g) = subst (λ (q : ℕ). cell_at l q ≡ Some (Data t.page)) (k t has).0
+      (subst (EndsAs l j.place.pos) g h ∙ ap (λ (y : Cell). Some y) (subst (NextPut t.page) g (put_stays j t.page n x next (k t has).1)))
+  came_lands p a n x next _ _ f k h (LostTo j t c has g) = tt
+  came_lands p a n x next _ _ f k h (PutTrimmed j t b has g) = tt
+  came_lands p a n x next _ _ f k h (JudgesOn j i t has g) = λ u e. subst (λ (v : Token). i.place.pos ≡ v.pos) (same_token t u e) (subst (Fine j.place.pos) g (cell_fine j n x next) ∙ k t has)
+  came_lands p a n x next _ _ f k h (IsOwn j t c has g own) = own_lands t c own (subst (λ (q : ℕ). cell_at l q ≡ Some c) (k t has) (subst (EndsAs l j.place.pos) g h))
+  came_lands p a n x next _ _ f k h (IsAnothers j t c has g other) = tt
+  came_lands p a n x next _ _ f k h (JudgedTrimmed j t b has g) = tt
 
   pub feed_lands : (p : Layout) (a : Append) (n : ℕ) (x : Reply) (next : ℕ) → TokenFits a → AppendEndsAs a.work n x next → LandsNext (append_feed p a a.work n x next).to
-  feed_lands p a n x next f h = feed_lands_at p a.draft a.token a.work n x next f h
-
-  judged_lands : (q : Layout) (a : Append) (t : Token) (next : ℕ) (b : Bool) → LandsNext (dead_or_judged q a t next b).to
-  unfolding fill_cell
-  judged_lands q a t next true = tt
-  judged_lands q a t next false = λ u e. ap (λ (v : Token). v.pos) (same_token t u e)
+  feed_lands p a n x next f h = came_lands p a n x next a.work _ f f h (append_came p a n x next a.work)
 
   pub again_lands : (q : Layout) (a : Append) (next : ℕ) → LandsNext (append_again q a next).to
-  unfolding append_again
-  again_lands q a next = by a.token
+  again_lands q a next = by _ (append_again_came q a next)
     where
-      by : (t : Option Token) → LandsNext (again_with q a next t).to
-      by None = tt
-      by (Some t) = judged_lands q a t next _
+      by : (to : Next Append AppendEnd) → AppendAgain q a next to → LandsNext to
+      by _ AsksAgain = tt
+      by _ (Judges t has less) = λ u e. ap (λ (v : Token). v.pos) (same_token t u e)

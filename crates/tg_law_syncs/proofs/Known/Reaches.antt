@@ -1,6 +1,6 @@
 -- In a world of a run: what was confirmed of a layout lies below its sequencer's next position, as long as it issues in that
 -- layout; so it does in each later layout; and a trim that was met has left each stream an entry there that saves it.
-use Rattle.std.proofs.Common.{◌≡◌, ◌⊎◌, ℕ, ◌+◌, ◌<◌, ◌≤◌, List, [], ◌∷◌, ◌++◌, true, false, refl, sym, ap, ◌∙◌, subst, inl, inr, arith, Some, None, Option}
+use Rattle.std.proofs.Common.{◌≡◌, ◌⊎◌, ℕ, ◌+◌, ◌<◌, ◌≤◌, List, ◌∷◌, ◌++◌, true, false, refl, sym, ap, ◌∙◌, subst, inl, inr, arith, Some, Option}
 use Rattle.std.specs.Prelude.{Contains, nat_lt}
 use Rattle.std.proofs.lemmas.Bool.Decides.{nat_tests}
 use Rattle.tg_base.specs.Clusters.{Header}
@@ -14,22 +14,19 @@ use Rattle.tg_base.specs.declared.msg.Msg.TheVariants as msg
 use Rattle.tg_base.specs.declared.packet.Out.{Out}
 use Rattle.tg_base.specs.declared.packet.Packet.{Packet}
 use Rattle.tg_base.proofs.Rules.{layout_rules}
-use Rattle.tg_entry.specs.declared.entry.Entry.{Entry}
 use Rattle.tg_kind.specs.Meaning.{Meaning}
 use Rattle.tg_model.specs.Kinds.{EventOf}
-use Rattle.tg_protocol.specs.Words.{client_id, seqr_id, unit_id, cell_at}
-use Rattle.tg_protocol.specs.Entries.{streams_of, lists}
-use Rattle.tg_protocol.specs.Pages.{entry_of, cell_entry}
+use Rattle.tg_protocol.specs.Words.{client_id, seqr_id, unit_id}
+use Rattle.tg_protocol.specs.Entries.{streams_of}
+use Rattle.tg_protocol.specs.Pages.{cell_entry}
 use Rattle.tg_protocol.specs.Units.{unit_ask}
 use Rattle.tg_protocol.specs.Requests.{awaits, Ends}
 use Rattle.tg_protocol.specs.Replies.{reply}
 use Rattle.tg_protocol.specs.Cells.{Place, CellJob, Gone, cell_asks, cell_feed}
-use Rattle.tg_protocol.specs.Logs.{Log, entry_at}
 use Rattle.tg_protocol.specs.Sequencers.{scanning}
-use Rattle.tg_protocol.specs.Clients.{Client}
-use Rattle.tg_protocol.specs.Worlds.{World, start, log}
+use Rattle.tg_protocol.specs.Worlds.{log}
 use Rattle.tg_protocol.specs.Chosen.{IsDecided}
-use Rattle.tg_protocol.specs.Runs.{Moves, Takes, Reaches, Later, LawfulCommand}
+use Rattle.tg_protocol.specs.Runs.{Moves, Takes, Reaches, Later}
 use Rattle.tg_law_layouts.specs.Moves.After.{after}
 use Rattle.tg_law_layouts.specs.Moves.Configs.{Config, config, client_in, seqr_in}
 use Rattle.tg_law_layouts.proofs.Moves.Clients.{reserved}
@@ -51,18 +48,17 @@ use Rattle.tg_law_cells.specs.Homes.Homes.{Home, TrimAsked, ToldGone, epoch_aske
 use Rattle.tg_law_cells.proofs.Homes.Gones.{gone_is_asked}
 use Rattle.tg_law_cells.proofs.Homes.Homes.{settled_has_home, settled_is_below, starts_rise, epochs_are_decided}
 use Rattle.tg_law_walks.specs.Walks.Streams.{entry_lists, stands_in}
-use Rattle.tg_law_walks.specs.Walks.Rounds.{IsSavedBelow}
 use Rattle.tg_law_walks.specs.Lists.Drafted.{DraftsFit}
 use Rattle.tg_law_walks.specs.Lists.Lists.{Counts}
-use Rattle.tg_law_walks.specs.Lists.Spared.{IsSaved, WasSettled, TrimsWereSpare}
+use Rattle.tg_law_walks.specs.Lists.Spared.{WasSettled, TrimsWereSpare}
 use Rattle.tg_law_walks.specs.Lists.Telling.{tells_links}
-use Rattle.tg_law_walks.proofs.Lists.Ends.{cell_of, stands_there}
+use Rattle.tg_law_walks.proofs.Lists.Ends.{cell_of}
 use Rattle.tg_law_walks.proofs.Lists.Reached.{before_reached, goes_later}
 use Rattle.tg_law_walks.proofs.Lists.Safe.{safe_of, safe_before}
 use Rattle.tg_law_walks.proofs.Lists.Scanning.{AtTrim, OfUnit, at_trim, is_gone}
 use Rattle.tg_law_syncs.proofs.Syncs.Later.{late}
 use Rattle.tg_law_syncs.proofs.Known.Past.{SeqrReached}
-use Rattle.tg_law_syncs.proofs.Known.FarTurns.{IsSavedPast, GoneOk, Onto}
+use Rattle.tg_law_syncs.proofs.Known.FarTurns.{GoneOk}
 
 module _ (m : Meaning) (h : Header) (zs : Moves m) (r : Reaches m h zs (after m h zs)) (trims : TrimsWereSpare m h zs) (fit : DraftsFit m (after m h zs)) where
   abbrev pub Reached : Config m → Layout → ℕ → Type 0

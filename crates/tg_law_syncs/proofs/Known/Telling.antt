@@ -1,5 +1,5 @@
 -- What a sequencer tells a client lies past all that was confirmed to it before it asked.
-use Rattle.std.proofs.Common.{◌≡◌, ◌⊎◌, ℕ, ◌<◌, ◌≤◌, List, [], ◌∷◌, ◌++◌, length, map, true, false, refl, sym, ap, ◌∙◌, subst, inl, inr, arith, Some, None, Option}
+use Rattle.std.proofs.Common.{◌≡◌, ◌⊎◌, ℕ, ◌≤◌, List, ◌++◌, map, true, refl, sym, ap, ◌∙◌, subst, inl, inr, arith, Some, Option}
 use Rattle.tg_base.specs.Clusters.{Header}
 use Rattle.tg_base.specs.Layouts.{Layout}
 use Rattle.tg_base.specs.declared.ids.NodeId.{NodeId}
@@ -16,27 +16,26 @@ use Rattle.tg_protocol.specs.Requests.{out}
 use Rattle.tg_protocol.specs.Appending.{AppendWork, Asking, Append, append_work_asks}
 use Rattle.tg_protocol.specs.Syncing.{SyncWork, Checking, Sync, sync_work_asks}
 use Rattle.tg_protocol.specs.Sequencers.{SeqrTurn, scanning}
-use Rattle.tg_protocol.specs.Clients.{Purpose, Task, Syncing, Appending, Hand, Doing, Work, Client, upto}
-use Rattle.tg_protocol.specs.ClientSteps.{task_asks, task_awaited}
-use Rattle.tg_protocol.specs.Worlds.{World, log, packet_of}
+use Rattle.tg_protocol.specs.Clients.{Purpose, Syncing, Appending, Hand, Doing, Work, Client, upto}
+use Rattle.tg_protocol.specs.ClientSteps.{task_asks}
+use Rattle.tg_protocol.specs.Worlds.{log, packet_of}
 use Rattle.tg_protocol.specs.Runs.{Moves, Reaches}
 use Rattle.tg_law_layouts.specs.Moves.After.{after}
 use Rattle.tg_law_layouts.specs.Moves.Configs.{Config, config, client_in, seqr_in}
 use Rattle.tg_law_layouts.specs.Moves.Telling.{is_request}
 use Rattle.tg_law_layouts.proofs.Moves.Clients.{reserved, work_reserved, hand_reserved}
 use Rattle.tg_law_layouts.proofs.Moves.Members.{Has, has_either, has_map}
-use Rattle.tg_law_layouts.proofs.Moves.Moves.{Comes, SeqrInput, seqr_turn}
+use Rattle.tg_law_layouts.proofs.Moves.Moves.{SeqrInput, seqr_turn}
 use Rattle.tg_law_layouts.proofs.Requests.Starts.{All, all_hold}
 use Rattle.tg_law_layouts.specs.Layouts.Decisions.{IsOfDecided}
 use Rattle.tg_law_layouts.proofs.Layouts.Deciding.{layouts_are_known}
-use Rattle.tg_law_walks.specs.Walks.Rounds.{IsSavedBelow}
 use Rattle.tg_law_walks.specs.Lists.Drafted.{DraftsFit}
 use Rattle.tg_law_walks.specs.Lists.Spared.{TrimsWereSpare}
 use Rattle.tg_law_walks.specs.Lists.Telling.{asks_links, tells_links}
 use Rattle.tg_law_walks.proofs.Lists.Reached.{before_reached}
 use Rattle.tg_law_syncs.proofs.Known.Past as answers
 use Rattle.tg_law_syncs.proofs.Known.Past.{Answered, Answers, answers_hold, turn_tells}
-use Rattle.tg_law_syncs.proofs.Known.FarTurns.{IsPast, HandFar, WorkFar, Far}
+use Rattle.tg_law_syncs.proofs.Known.FarTurns.{IsPast, HandFar, WorkFar}
 use Rattle.tg_law_syncs.proofs.Known.Reaches.{Reached, Past, Told, below_next}
 use Rattle.tg_law_syncs.proofs.Known.Growing.{T, FarIn, Tells}
 

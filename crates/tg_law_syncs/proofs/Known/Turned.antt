@@ -1,20 +1,17 @@
 -- Of a machine's turn: its numbers only grow, and a trim that it met was told to the cell's machine that it had.
-use Rattle.std.proofs.Common.{◌≡◌, ◌⊎◌, ℕ, zero, suc, ◌≤◌, List, [], ◌++◌, Bool, true, false, refl, sym, ap, ◌∙◌, subst, inl, inr, arith, Option, Some, None}
-use Rattle.std.specs.Prelude.{nat_lt}
+use Rattle.std.proofs.Common.{◌≡◌, ◌⊎◌, ℕ, ◌≤◌, List, [], Bool, true, false, refl, inl, inr, arith, Option, Some, None}
 use Rattle.tg_base.specs.Layouts.{Layout}
-use Rattle.tg_base.specs.declared.cell.Cell.{Cell}
 use Rattle.tg_base.specs.declared.packet.Out.{Out}
 use Rattle.tg_entry.specs.declared.entry.Entry.{Entry}
-use Rattle.tg_protocol.specs.Words.{cell_at}
-use Rattle.tg_protocol.specs.Requests.{Next, Goes, Learns, Ends, Turn, ends}
+use Rattle.tg_protocol.specs.Requests.{Next, Goes, Learns, Ends}
 use Rattle.tg_protocol.specs.Replies.{Reply}
-use Rattle.tg_protocol.specs.Cells.{CellJob, CellEnd, Done, Seen, Lost, Fenced, Gone, cell_feed, place_in, get_cell, fill_cell, put_cell, probe}
-use Rattle.tg_protocol.specs.Appending.{AppendWork, Asking, Putting, Judging, Token, Append, AppendEnd, put_end, put_next, judge_end, judge_next, append_asks, asking_feed, append_feed, dead_or_judged, again_with, append_again}
-use Rattle.tg_protocol.specs.Syncing.{Answer, SyncWork, Checking, Settling, Probing, Sync, Confirmed, sync_asks, sync_feed, probe_end, probe_next, probes, settle_end, settle_next, confirm_by, on_tail, checking_feed}
-use Rattle.tg_protocol.specs.Walking.{Walk, Members, WalkTurn, walk_asks, reads_turn, visited, read_at, next_visit, walk_on, walk_from, walk_end, walk_next, walk_feed, walk_again}
-use Rattle.tg_protocol.specs.Walking as walking
+use Rattle.tg_protocol.specs.Cells.{CellJob, CellEnd, Done, Seen, Lost, Fenced, Gone, cell_feed, fill_cell, put_cell, probe}
+use Rattle.tg_protocol.specs.Appending.{AppendWork, Asking, Putting, Judging, Token, Append, put_next, judge_next, append_asks, asking_feed, append_feed, dead_or_judged, again_with, append_again}
+use Rattle.tg_protocol.specs.Syncing.{Answer, SyncWork, Checking, Settling, Probing, Sync, sync_asks, sync_feed, probe_next, settle_next, checking_feed}
+use Rattle.tg_protocol.specs.Walking.{Walk, WalkTurn, walk_asks, read_at, walk_from, walk_feed, walk_again}
 use Rattle.tg_law_layouts.proofs.Moves.Draws.{NextDraws}
 use Rattle.tg_law_layouts.proofs.Moves.Machines.{append_draws, append_again_draws, sync_draws, walk_draws, walk_again_draws}
+use Rattle.tg_law_steps.proofs.Machines.Walks.{goes_on, WalkCame, HasRead, MetTrim, walk_came}
 
 -- Numbers.
 
@@ -122,57 +119,20 @@ module _ (n : ℕ) (x : Reply) (next : ℕ) where
 
 -- a walk that goes on over known cells meets none
 
-module _ (p : Layout) (next : ℕ) where
-  at_cell : ℕ → Walk → ℕ → Option Cell → WalkTurn
-  at_cell n w q o = elim o as (λ _. WalkTurn) [
-    | Some c ↦ walk_on p next n (visited w q c)
-    | None ↦ reads_turn w (get_cell (place_in p q) next)
-  ]
-
-  at_visit : ℕ → Walk → Option ℕ → WalkTurn
-  at_visit n w o = elim o as (λ _. WalkTurn) [
-    | None ↦ ends next (walking.walk_members w None)
-    | Some q ↦ at_cell n w q (cell_at w.cells q)
-  ]
-
-  walk_on_is : (n : ℕ) (w : Walk) → walk_on p next (suc n) w ≡ at_visit n w (next_visit w)
-  unfolding walk_on at_visit at_cell
-  walk_on_is n w = refl
-
-  step_none : (n : ℕ) (w : Walk) → ((v : Walk) → (walk_on p next n v).gone ≡ 0) → (o : Option ℕ) → (at_visit n w o).gone ≡ 0
-  unfolding at_visit at_cell get_cell
-  step_none n w rest None = refl
-  step_none n w rest (Some q) = at (cell_at w.cells q)
-    where
-      at : (o : Option Cell) → (at_cell n w q o).gone ≡ 0
-      at None = refl
-      at (Some c) = rest (visited w q c)
-
-  on_none : (n : ℕ) (w : Walk) → (walk_on p next n w).gone ≡ 0
-  unfolding walk_on
-  on_none zero w = refl
-  on_none (suc n) w = ap (λ (t : WalkTurn). t.gone) (walk_on_is n w) ∙ step_none n w (λ v. on_none n v) (next_visit w)
-
-  pub walks_none : (w : Walk) → (walk_from p next w).gone ≡ 0
-  walks_none w = on_none _ w
+pub walks_none : (p : Layout) (next : ℕ) (w : Walk) → (walk_from p next w).gone ≡ 0
+walks_none p next w = goes_on p next (λ v. Unit {0}) (λ t. t.gone ≡ 0) (λ v q c e f k. tt) (λ v k. refl) (λ v q e f k. refl) _ w tt
 
 pub walk_again_none : (p : Layout) (w : Walk) (next : ℕ) → (walk_again p w next).gone ≡ 0
 walk_again_none p w next = walks_none p next w
 
 module _ (n : ℕ) (x : Reply) (next : ℕ) where
-  walk_next_met : (p : Layout) (w : Walk) (j : CellJob) (to : Next CellJob CellEnd) (next' : ℕ) → (cell_feed j n x next).to ≡ to → Met (WalkHas (Some j)) n x next (walk_next p w j.place.pos to next').gone
-  walk_next_met p w j (Goes i) next' e = inl refl
-  walk_next_met p w j (Learns i) next' e = inl refl
-  walk_next_met p w j (Ends (Done c)) next' e = inl (walks_none p next' (read_at w j.place.pos c))
-  walk_next_met p w j (Ends Seen) next' e = inl refl
-  walk_next_met p w j (Ends (Lost c)) next' e = inl refl
-  walk_next_met p w j (Ends (Fenced u f)) next' e = inl refl
-  walk_next_met p w j (Ends (Gone b)) next' e = inr (record { job = j; has = refl; ends = e })
-
-  pub walk_met : (p : Layout) (w : Walk) (o : Option CellJob) → Met (WalkHas o) n x next (walk_feed p w o n x next).gone
-  unfolding walk_feed
-  walk_met p w None = inl refl
-  walk_met p w (Some j) = walk_next_met p w j (cell_feed j n x next).to _ refl
+  pub walk_met : (p : Layout) (w : Walk) → Met (WalkHas w.job) n x next (walk_feed p w w.job n x next).gone
+  walk_met p w = by w.job _ (walk_came p w n x next w.job)
+    where
+      by : (o : Option CellJob) (t : WalkTurn) → WalkCame p w n x next o t → Met (WalkHas o) n x next t.gone
+      by _ _ (HasRead j c e) = inl (walks_none p (cell_feed j n x next).next (read_at w j.place.pos c))
+      by _ _ (MetTrim j b e) = inr (record { job = j; has = refl; ends = e })
+      by _ _ y = inl refl
 
 -- an append that goes on in a newer layout meets none
 judged_none : (q : Layout) (a : Append) (t : Token) (next : ℕ) (b : Bool) → (dead_or_judged q a t next b).gone ≡ 0

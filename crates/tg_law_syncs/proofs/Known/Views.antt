@@ -1,7 +1,6 @@
 -- How far a view is played, and of which objects it has bases.
-use Rattle.std.proofs.Common.{◌≡◌, ℕ, ◌<◌, ◌≤◌, List, [], ◌∷◌, Bool, true, false, cond, refl, sym, ap, ◌∙◌, subst, inl, inr, arith, Option, Some, None}
-use Rattle.std.specs.Prelude.{nat_lt, nat_le, ◌&&◌, filter}
-use Rattle.tg_entry.specs.declared.entry.Entry.{Entry}
+use Rattle.std.proofs.Common.{◌≡◌, ℕ, ◌<◌, ◌≤◌, [], ◌∷◌, Bool, true, false, cond, refl, sym, subst, arith, Option, Some, None}
+use Rattle.std.specs.Prelude.{nat_lt, nat_le, ◌&&◌}
 use Rattle.tg_kind.specs.Meaning.{Meaning}
 use Rattle.tg_protocol.specs.Views.{Entries, View, Play, Step, On, Stuck, view_start, step_at, between, play_on, play_from, play}
 use Rattle.tg_protocol.specs.Clients.{Work, Client, upto_in, upto, all_entries}

@@ -1,5 +1,5 @@
 -- What syncs and walks end with is true of the log, then and later.
-use Rattle.std.proofs.Common.{◌≡◌, ℕ, ◌+◌, ◌-◌, ◌≤◌, ◌++◌, Bool, true, false, refl, sym, ap, ◌∙◌, subst, arith, Some, None, Option}
+use Rattle.std.proofs.Common.{◌≡◌, ℕ, ◌+◌, ◌-◌, ◌≤◌, ◌++◌, refl, sym, ap, ◌∙◌, subst, arith, Some, None, Option}
 use Rattle.tg_base.specs.Clusters.{Header}
 use Rattle.tg_base.specs.Layouts.{Layout}
 use Rattle.tg_base.specs.declared.cell.Cell.{Cell}
@@ -8,10 +8,9 @@ use Rattle.tg_base.proofs.Rules.{layout_rules}
 use Rattle.tg_kind.specs.Meaning.{Meaning}
 use Rattle.tg_protocol.specs.Words.{cell_at}
 use Rattle.tg_protocol.specs.Requests.{Next, Goes, Learns, Ends}
-use Rattle.tg_protocol.specs.Replies.{Reply, reply, IsTail as TellsTail, IsOldEpoch}
-use Rattle.tg_protocol.specs.Cells.{Place, place_in, last_unit, CellJob, CellEnd, Done, Seen, Lost, Fenced, Gone, cell_feed, fill_cell, probe}
-use Rattle.tg_protocol.specs.Appending.{on_older, on_newer}
-use Rattle.tg_protocol.specs.Syncing.{Answer, SyncWork, Checking, Settling, Probing, Sync, Confirmed, confirmed, confirm_by, on_tail, checking_feed, settle_end, settle_next, probe_end, probe_next, sync_feed}
+use Rattle.tg_protocol.specs.Replies.{Reply, reply}
+use Rattle.tg_protocol.specs.Cells.{Place, place_in, last_unit, CellJob, CellEnd, Done, cell_feed}
+use Rattle.tg_protocol.specs.Syncing.{Answer, SyncWork, Settling, Probing, Sync, Confirmed, confirmed, sync_feed}
 use Rattle.tg_protocol.specs.Logs.{Log}
 use Rattle.tg_protocol.specs.Clients.{Syncing, Hand, Work}
 use Rattle.tg_protocol.specs.Worlds.{World, start, client, log}
@@ -52,6 +51,7 @@ use Rattle.tg_law_syncs.proofs.Syncs.Clients.{held_at, last_below}
 use Rattle.tg_law_syncs.proofs.Syncs.Later.{late}
 use Rattle.tg_law_syncs.proofs.Syncs.Hands as hands
 use Rattle.tg_law_syncs.proofs.Syncs.Hands.{SyncFine}
+use Rattle.tg_law_steps.proofs.Machines.Syncs.{SyncCame, Waits, NewerCame, IsSettled as SettledSo, IsProbed, sync_came}
 
 -- How a sync ends.
 
@@ -79,61 +79,15 @@ module _ (p : Layout) (s : Sync) (n : ℕ) (x : Reply) (next : ℕ) (c : Confirm
   abbrev to : CellJob → Next CellJob CellEnd
   to j = (cell_feed j n x next).to
 
-  confirm_no : (a : Answer) (b : Bool) → (confirm_by p s a next b).to ≡ Ends c → Confirms s to c
-  unfolding fill_cell probe
-  confirm_no a true e = goes_no _ c e
-  confirm_no a false e = goes_no _ c e
-
-  on_tail_no : (a : Answer) (b : Bool) → (on_tail p s a next b).to ≡ Ends c → Confirms s to c
-  on_tail_no a true e = confirm_no a _ e
-  on_tail_no a false e = goes_no _ c e
-
-  older_no : (b : Bool) → (on_older {M = Sync} {E = Confirmed} p next s b).to ≡ Ends c → Confirms s to c
-  older_no true e = goes_no _ c e
-  older_no false e = goes_no _ c e
-
-  newer_no : (f : ℕ) (b : Bool) → (on_newer {M = Sync} {E = Confirmed} p f next s b).to ≡ Ends c → Confirms s to c
-  newer_no f true e = learns_no _ c e
-  newer_no f false e = older_no _ e
-
-  checking_no : (y : Reply) → (checking_feed p s y next).to ≡ Ends c → Confirms s to c
-  checking_no (TellsTail t ls) e = on_tail_no (record { tail = t; lasts = ls }) _ e
-  checking_no (IsOldEpoch f) e = newer_no f _ e
-  checking_no y e = goes_no _ c e
-
-  settle_ends : (a : Answer) (j : CellJob) (d : CellEnd) (next' : ℕ) → s.work ≡ Settling a j → to j ≡ Ends d → (settle_end p s a d next').to ≡ Ends c → Confirms s to c
-  unfolding probe
-  settle_ends a j (Done cell) next' w f e = BySettled a j cell w f (same_end _ c e)
-  settle_ends a j (Gone b) next' w f e = goes_no _ c e
-  settle_ends a j (Fenced u g) next' w f e = learns_no _ c e
-  settle_ends a j Seen next' w f e = goes_no _ c e
-  settle_ends a j (Lost d) next' w f e = goes_no _ c e
-
-  settle_by : (a : Answer) (j : CellJob) (y : Next CellJob CellEnd) (next' : ℕ) → s.work ≡ Settling a j → to j ≡ y → (settle_next p s a y next').to ≡ Ends c → Confirms s to c
-  settle_by a j (Goes i) next' w f e = goes_no _ c e
-  settle_by a j (Learns i) next' w f e = learns_no _ c e
-  settle_by a j (Ends d) next' w f e = settle_ends a j d next' w f e
-
-  probe_ends : (a : Answer) (j : CellJob) (d : CellEnd) (next' : ℕ) → s.work ≡ Probing a j → (probe_end s a d next').to ≡ Ends c → Confirms s to c
-  probe_ends a j Seen next' w e = ByProbed a j w (same_end _ c e)
-  probe_ends a j (Fenced u g) next' w e = learns_no _ c e
-  probe_ends a j (Done d) next' w e = goes_no _ c e
-  probe_ends a j (Gone b) next' w e = goes_no _ c e
-  probe_ends a j (Lost d) next' w e = goes_no _ c e
-
-  probe_by : (a : Answer) (j : CellJob) (y : Next CellJob CellEnd) (next' : ℕ) → s.work ≡ Probing a j → (probe_next s a y next').to ≡ Ends c → Confirms s to c
-  probe_by a j (Goes i) next' w e = goes_no _ c e
-  probe_by a j (Learns i) next' w e = learns_no _ c e
-  probe_by a j (Ends d) next' w e = probe_ends a j d next' w e
-
-  feed_by : (w : SyncWork) → s.work ≡ w → (sync_feed p s w n x next).to ≡ Ends c → Confirms s to c
-  unfolding sync_feed
-  feed_by (Checking r) w e = checking_no x e
-  feed_by (Settling a j) w e = settle_by a j (cell_feed j n x next).to _ w refl e
-  feed_by (Probing a j) w e = probe_by a j (cell_feed j n x next).to _ w e
+  came_confirms : (w : SyncWork) (y : Next Sync Confirmed) → s.work ≡ w → SyncCame p s n x next w y → y ≡ Ends c → Confirms s to c
+  came_confirms _ _ w (Waits v) e = goes_no _ c e
+  came_confirms _ _ w (NewerCame v) e = learns_no _ c e
+  came_confirms _ _ w (SettledSo a j cell f) e = BySettled a j cell w f (same_end _ c e)
+  came_confirms _ _ w (IsProbed a j f) e = ByProbed a j w (same_end _ c e)
+  came_confirms _ _ w y e = goes_no _ c e
 
   confirms : (sync_feed p s s.work n x next).to ≡ Ends c → Confirms s to c
-  confirms e = feed_by s.work refl e
+  confirms e = came_confirms s.work _ refl (sync_came p s n x next s.work) e
 
 -- Over a run.
 

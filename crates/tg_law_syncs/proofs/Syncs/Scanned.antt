@@ -1,28 +1,25 @@
 -- The premise of the laws on lists holds of a run in which a sequencer takes over: computed.
-use Rattle.std.proofs.Common.{◌≡◌, ◌⊎◌, ℕ, zero, suc, ◌+◌, ◌<◌, List, [], ◌∷◌, ◌++◌, length, Bool, true, false, ◌&&◌, refl, sym, ap, ◌∙◌, subst, inl, inr, arith, Option, Some, None, append-nil}
-use Rattle.std.specs.Prelude.{Contains, nat_lt, ◌==◌, slice_index_or}
+use Rattle.std.proofs.Common.{◌≡◌, ℕ, List, [], ◌∷◌, ◌++◌, Bool, true, false, ◌&&◌, refl, sym, ap, ◌∙◌, subst, inl, inr, arith, append-nil}
+use Rattle.std.specs.Prelude.{Contains}
 use Rattle.std.specs.List.{list_all}
 use Rattle.tg_codec.specs.Reading.{u8_at, u16_at, u32_at, u64_at, raw_at, fixed_at}
 use Rattle.tg_codec.specs.Codec.{read_many, spell_many, fit_many}
-use Rattle.tg_codec.proofs.Wholes.{whole_only}
-use Rattle.tg_entry.proofs.Laws.{entry_law}
 use Rattle.tg_entry.specs.Reads.{marks, reads}
 use Rattle.tg_entry.specs.Writes.{writes}
 use Rattle.tg_entry.specs.Checkpoints.{keys, new_fields, old_fields}
 use Rattle.tg_entry.specs.Format.{body, entry}
 use Rattle.tg_base.specs.Orders.{node_eq}
-use Rattle.tg_protocol.specs.Words.{client_id, seqr_id, directory, bytes_eq, bytes_lt, part_lt, cell_eq}
+use Rattle.tg_protocol.specs.Words.{directory, bytes_eq, bytes_lt, part_lt, cell_eq}
 use Rattle.tg_protocol.specs.Layouts.{chain_of, units_of, next_of, change_fault}
 use Rattle.tg_protocol.specs.Units.{new_unit, unit_ask, first_missing, on_ask, unit_step}
 use Rattle.tg_protocol.specs.LayoutServers.{new_layout, layout_ask, on_layout_ask, layout_step}
 use Rattle.tg_protocol.specs.Replies.{reply}
 use Rattle.tg_protocol.specs.Cells.{work_asks, put_cell, get_cell, fill_cell, probe, work_feed, cell_feed}
 use Rattle.tg_entry.specs.Needs.{needs_decision}
-use Rattle.tg_protocol.specs.Entries.{entry_size, streams_of}
-use Rattle.tg_entry.specs.Records.{linked}
-use Rattle.tg_protocol.specs.Pages.{page_of, entry_of, if_read}
+use Rattle.tg_protocol.specs.Entries.{entry_size}
+use Rattle.tg_protocol.specs.Pages.{page_of, entry_of}
 use Rattle.tg_protocol.specs.Sequencers.{SeqrState, scanning, new_seqr, seqr_step, seqr_tick}
-use Rattle.tg_protocol.specs.Appending.{names_all, append_work_asks, append_start, append_feed, append_again}
+use Rattle.tg_protocol.specs.Appending.{append_work_asks, append_start, append_feed, append_again}
 use Rattle.tg_protocol.specs.Syncing.{sync_work_asks, sync_start, sync_feed}
 use Rattle.tg_protocol.specs.Walking.{walk_on, walk_start, walk_feed}
 use Rattle.tg_protocol.specs.Versions.{no_versions, based, version_of, with_change, parts_of}
@@ -39,30 +36,21 @@ use Rattle.tg_protocol.specs.Sizes.{fields_size}
 use Rattle.tg_protocol.specs.Logs.{decided, newest, log_of, entries_of, members, path_on, path, changes_below, version, outcome, history_of}
 use Rattle.tg_model.specs.declared.command.Command.TheVariants as cmd
 use Rattle.tg_model.specs.declared.command.Event.TheVariants.{Command as Commands}
-use Rattle.tg_base.specs.declared.cell.Cell.TheVariants.{Data}
-use Rattle.tg_base.specs.declared.ids.NodeId.{NodeId}
-use Rattle.tg_base.specs.declared.ids.Oid.{Oid}
-use Rattle.tg_base.specs.declared.marks.StreamLink.{StreamLink}
 use Rattle.tg_base.specs.declared.msg.Msg.{Msg}
 use Rattle.tg_base.specs.declared.msg.Msg.TheVariants as msg
 use Rattle.tg_base.specs.declared.packet.Packet.{Packet}
-use Rattle.tg_entry.specs.declared.entry.Entry.{Entry}
-use Rattle.tg_entry.specs.declared.entry.Body.TheVariants.{Decision}
 use Rattle.tg_protocol.specs.Worlds.{World, start, seqr, latest, log, history, unit_moves, layout_moves, seqr_moves, client_turned, happens, limit_of, drain_on, drain, tick_all, rounds, settle, line, lines}
 use Rattle.tg_protocol.specs.Runs.{Moves, Takes, Reaches, Later, run}
 use Rattle.tg_law_layouts.specs.Moves.After.{after}
 use Rattle.tg_law_layouts.proofs.Moves.Lists.{contained}
 use Rattle.tg_law_layouts.proofs.Moves.Members.{Has, has_contained}
-use Rattle.tg_law_layouts.proofs.Moves.Units.{cell_same}
 use Rattle.tg_law_layouts.proofs.Layouts.Deciding.{latest_decided}
 use Rattle.tg_law_layouts.proofs.Layouts.Layouts.{more}
-use Rattle.tg_law_cells.specs.Tokens.Issuing.{Issued}
 use Rattle.tg_law_cells.specs.Entries.Archive.{TrimsWereSafe}
 use Rattle.tg_law_cells.specs.Entries.Worked.{tallies, two_units, drained, asked_again, trimmed}
 use Rattle.tg_law_cells.proofs.Entries.Lists.{joined}
 use Rattle.tg_law_cells.proofs.Entries.Worked.{worked_trim}
-use Rattle.tg_law_walks.specs.Walks.Lists.{backs, AreOnce}
-use Rattle.tg_law_walks.specs.Lists.Drafted.{IsFitPage, DraftsFit}
+use Rattle.tg_law_walks.specs.Walks.Lists.{backs}
 use Rattle.tg_law_walks.specs.Lists.Lists.{Counts}
 use Rattle.tg_law_walks.specs.Lists.Spared.{GoesOn, TrimsWereSpare}
 use Rattle.tg_law_syncs.specs.Syncs.Scan.{WorkedScan}

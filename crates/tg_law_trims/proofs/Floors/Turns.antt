@@ -1,39 +1,33 @@
 -- Through each of a client's turns: the tail for which it walks is one that its sync has confirmed.
-use Rattle.std.proofs.Common.{◌≡◌, ℕ, ◌<◌, ◌≤◌, List, [], ◌∷◌, Bool, true, false, refl, sym, subst, arith, Some, None, Option}
-use Rattle.std.specs.Prelude.{nat_lt, not, ◌&&◌, ◌==◌}
+use Rattle.std.proofs.Common.{◌≡◌, ℕ, ◌<◌, ◌≤◌, List, [], Bool, true, sym, ◌∙◌, subst, arith, Some, None, Option}
+use Rattle.std.specs.Prelude.{nat_lt, ◌&&◌}
 use Rattle.std.proofs.lemmas.Bool.Decides.{nat_tests}
 use Rattle.tg_base.specs.Layouts.{Layout}
-use Rattle.tg_base.specs.declared.cell.Cell.{Cell}
 use Rattle.tg_base.specs.declared.ids.NodeId.{NodeId}
 use Rattle.tg_base.specs.declared.ids.Oid.{Oid}
 use Rattle.tg_base.specs.declared.msg.Msg.{Msg}
-use Rattle.tg_base.specs.declared.packet.Out.{Out}
-use Rattle.tg_entry.specs.declared.entry.Entry.{Entry}
 use Rattle.tg_kind.specs.Meaning.{Meaning}
-use Rattle.tg_model.specs.declared.command.Command.TheVariants as cmd
-use Rattle.tg_model.specs.Kinds.{CommandOf, WhatOf, NoteOf}
-use Rattle.tg_model.specs.declared.refusal.Refusal.{Refusal}
+use Rattle.tg_model.specs.Kinds.{CommandOf}
 use Rattle.tg_base.specs.Orders.{node_eq}
 use Rattle.tg_protocol.specs.Words.{layout_id}
-use Rattle.tg_protocol.specs.Requests.{awaits, Next, Goes, Learns, Ends, Turn}
+use Rattle.tg_protocol.specs.Requests.{awaits, Next}
 use Rattle.tg_protocol.specs.Replies.{Reply, reply, IsLatest}
-use Rattle.tg_protocol.specs.Appending.{Append, AppendEnd, At, append_start, append_feed, append_again}
-use Rattle.tg_protocol.specs.Syncing.{Sync, SyncWork, Confirmed, sync_start, sync_feed, sync_again}
-use Rattle.tg_protocol.specs.Walking.{Walk, Members, walk_feed, walk_again}
-use Rattle.tg_protocol.specs.Trimming.{Trims, Trimmed, trim_start, trim_feed, Copying, CopyEnd, copy_feed, copy_start}
-use Rattle.tg_protocol.specs.Trimming as copying
-use Rattle.tg_protocol.specs.Reconfiguring.{Reconf, ReconfEnd, Installed, Overtaken, NotWhole, reconf_feed, reconf_latest, reconf_start}
-use Rattle.tg_protocol.specs.Transactions.{Tx}
+use Rattle.tg_protocol.specs.Appending.{append_start}
+use Rattle.tg_protocol.specs.Syncing.{Sync, SyncWork, Confirmed, sync_start, sync_feed}
 use Rattle.tg_protocol.specs.Views.{Entries}
-use Rattle.tg_protocol.specs.Clients.{Purpose, Writes, Judged, Decides, Rescues, Saves, Marks, Task, Syncing, Walking, Appending, Trimming, Copying', Reconfiguring, Hand, Doing, Learning, Work, Client, refusal}
-use Rattle.tg_protocol.specs.Answers.{Moved, moved, appends, syncs, trim_begun, walked, with_view}
-use Rattle.tg_protocol.specs.ClientSteps as step
-use Rattle.tg_protocol.specs.ClientSteps.{after_turn, met, goes_on, start_walk, takes_back, found_by, lends, knows, lo_for, synced, sync_to, on_sync, stale, gives_up, given_up_if, starts_over, at_trim, walk_ended_by, walk_to, on_walk, decided_for, append_ended, append_to, on_append, trim_to, on_trims, copy_to, on_copy, stands, task_in, task_awaited, reconf_to, on_reconf, task_feed, task_again, copies_again, on_newer, accepts, refused_or, new_work, client_command, client_deliver, client_tick}
-use Rattle.tg_law_layouts.proofs.Moves.Turns.{Begins, begins_walk, not_busy}
-use Rattle.tg_law_replies.specs.Replies.Steps.{EachWalk, EachSync, EachOver, EachTrim, EachEnd, EachWalked, EachFeed, EachNewer, EachAwaited, EachHand, EachLatest, EachReply, EachDelivery}
+use Rattle.tg_protocol.specs.Clients.{Task, Syncing, Walking, Appending, Trimming, Copying', Reconfiguring, Hand, Doing, Learning, Work, Client}
+use Rattle.tg_protocol.specs.Answers.{Moved, appends, syncs}
+use Rattle.tg_protocol.specs.ClientSteps.{task_in, task_awaited, client_command, client_deliver, client_tick, tick_by}
+use Rattle.tg_law_layouts.proofs.Moves.Turns.{not_busy}
+use Rattle.tg_law_replies.specs.Replies.Steps.{EachDelivery}
 use Rattle.tg_law_syncs.proofs.Known.Far as far
 use Rattle.tg_law_syncs.proofs.Known.Far.{SyncFar, SyncHeard, sync_far}
-use Rattle.tg_law_syncs.proofs.Known.Ways.{Came, Rests, Appends, Syncs, Trims as Trims', WalkedWay, Plays, LeavesView, played_view, walked_way}
+use Rattle.tg_law_replies.proofs.Replies.Reached.{each_delivered}
+use Rattle.tg_law_steps.proofs.Places.{Place, Feeds, Newer, OnSync, OnWalk, Over, Walks}
+use Rattle.tg_law_steps.proofs.Ways.{Way, FeedsSync, FeedsWalk, NewerWalk, Confirms, Settles, EndsAtOnce, WalkEnds, MetNone, MetLow, MetHigh, StartsOver, AllWalked, HasPlayed}
+use Rattle.tg_law_steps.proofs.Ends.{SyncGoes, WalkGoes, WalkBegins, WalkLearns, End, GoesOn, LearnsNewer}
+use Rattle.tg_law_steps.proofs.Takes.{Taken, SaidAtOnce, said_work}
+use Rattle.tg_law_steps.proofs.Along.{NoLatest, delivered, commanded, over_walks}
 
 abbrev pub Any : ℕ → Type 0
 Any t = Unit {0}
@@ -83,159 +77,6 @@ module _ (m : Meaning) (told settled past : Layout → ℕ → Type 0) (low : (p
   learn_of p tail (Doing (Reconfiguring r)) x = tt
   learn_of p tail (Learning ws t) x = x
 
-  idle_fine : (x : Moved m) → x.now.work ≡ None → Fine x
-  idle_fine x e = subst (λ (w : Option (Work m)). WorkTold x.now.stand w) (sym e) tt
-
-  syncs_fine : (c : Client m) (w : Work m) (os : List Oid) → Fine (syncs m c w os)
-  unfolding syncs sync_start
-  syncs_fine c w os = tt
-
-  appends_fine : (c : Client m) (w : Work m) (e : Entry) (y : Purpose m) (ns : List (NoteOf m)) → Fine (appends m c w e y ns)
-  unfolding appends append_start
-  appends_fine c w e y ns = tt
-
-  trims_fine : (c : Client m) (w : Work m) (below : ℕ) → Fine (trim_begun m c w below (trim_start c.stand below c.next))
-  unfolding trim_start
-  trims_fine c w below = tt
-
-  -- Where all streams are walked.
-
-  came_fine : (c : Client m) (w : Work m) (x : Moved m) → Came m c w x → Fine x
-  came_fine c w x (Rests s i) = idle_fine x i
-  came_fine c w x (Appends d s n en y ns is) = subst Fine (sym is) (appends_fine d w en y ns)
-  came_fine c w x (Syncs o is) = subst Fine (sym is) (syncs_fine c w _)
-  came_fine c w x (Trims' below is) = subst Fine (sym is) (trims_fine c w below)
-
-  walked_fine : (c : Client m) (w : Work m) → Fine (walked m c w)
-  walked_fine c w = by (walked_way m c w)
-    where
-      by : WalkedWay m c w (walked m c w) → Fine (walked m c w)
-      by (Plays p x) = came_fine (with_view m c (played_view m c w)) w (walked m c w) x
-      by (LeavesView x) = came_fine c w (walked m c w) x
-
-  walks_at : (c : Client m) (w : Work m) (o : Oid) (os : List Oid) (to : Next Walk Members) → Begins to → past c.stand w.tail → ((x : Members) → to ≡ Ends x → Fine (step.walks m os (takes_back m c x) (found_by m w o x)))
-      → Fine (elim to as (λ _. Moved m) [
-        | Goes x ↦ goes_on m (lends m (after_turn m c (start_walk m c w o))) w (Walking x os) []
-        | Learns x ↦ moved m c []
-        | Ends x ↦ step.walks m os (takes_back m c x) (found_by m w o x)
-      ])
-  walks_at c w o os (Goes x) b k ih = k
-  walks_at c w o os (Learns x) b k ih = absurd b
-  walks_at c w o os (Ends x) b k ih = ih x refl
-
-  walks_fine : (os : List Oid) (c : Client m) (w : Work m) → past c.stand w.tail → Fine (step.walks m os c w)
-  unfolding step.walks
-  walks_fine [] c w k = walked_fine c w
-  walks_fine (o ∷ os) c w k = walks_at c w o os (start_walk m c w o).to (begins_walk c.stand o _ w.lo c.cells c.next) k (λ x is. walks_fine os (takes_back m c x) (found_by m w o x) k)
-
-  -- Syncs.
-
-  synced_fine : (c : Client m) (w : Work m) (x : Confirmed) → past c.stand x.tail → Fine (synced m c w x)
-  synced_fine c w x k = by x.settled
-    where
-      by : (s : Option (ℕ × Cell)) → Fine (step.walks m w.oids (knows m c s) (record w { tail = x.tail; lasts = x.lasts; lo = lo_for m c w.command }))
-      by None = walks_fine w.oids c _ k
-      by (Some s) = walks_fine w.oids (knows m c (Some s)) _ k
-
-  sync_to_fine : (bs : List Out) (c : Client m) (w : Work m) (to : Next Sync Confirmed) → SyncNext c.stand to → Fine (sync_to m c w bs to)
-  sync_to_fine bs c w (Goes s) n = n
-  sync_to_fine bs c w (Learns s) n = tt
-  sync_to_fine bs c w (Ends x) n = synced_fine c w x (both c.stand x.tail n.0 n.1)
-
-  -- Walks.
-
-  over_fine : (c : Client m) (w : Work m) (os : List Oid) (over : Bool) → past c.stand w.tail → Fine (starts_over m c w os over)
-  over_fine c w os true k = walks_fine w.oids c _ k
-  over_fine c w os false k = walks_fine os c w k
-
-  at_trim_fine : (c : Client m) (w : Work m) (os : List Oid) (s over : Bool) → past c.stand w.tail → Fine (at_trim m c w os s over)
-  at_trim_fine c w os true over k = syncs_fine c w w.oids
-  at_trim_fine c w os false over k = over_fine c w os over k
-
-  ended_fine : (c : Client m) (w : Work m) (o : Oid) (os : List Oid) (x : Members) (g : Option ℕ) → past c.stand w.tail → Fine (walk_ended_by m c w o os x g)
-  ended_fine c w o os x None k = walks_fine os c w k
-  ended_fine c w o os x (Some b) k = by (gives_up m c w b)
-    where
-      by : (z : Bool) → Fine (at_trim m (given_up_if m z c) w os (stale m c w o x b) (z && not (w.lo == 0)))
-      by true = at_trim_fine (record c { view = None }) w os _ _ k
-      by false = at_trim_fine c w os _ _ k
-
-  walk_to_fine : (c : Client m) (w : Work m) (o : Oid) (os : List Oid) (to : Next Walk Members) → past c.stand w.tail → Fine (walk_to m c w o os to)
-  walk_to_fine c w o os (Goes x) k = k
-  walk_to_fine c w o os (Learns x) k = k
-  walk_to_fine c w o os (Ends x) k = ended_fine (takes_back m c x) (found_by m w o x) o os x x.gone k
-
-  -- Appends.
-
-  decided_fine : (c : Client m) (x : CommandOf m) (what : WhatOf m) → Fine (decided_for m c x what)
-  decided_fine c x what = grind (arith, idle_fine)
-
-  append_ended_fine : (c : Client m) (w : Work m) (x : Purpose m) (e : AppendEnd) → Fine (append_ended m c w x e)
-  append_ended_fine c w Writes e = grind (arith, idle_fine)
-  append_ended_fine c w Judged (At p d) = syncs_fine _ _ _
-  append_ended_fine c w Judged e = grind (arith, idle_fine)
-  append_ended_fine c w (Decides x) e = decided_fine (step.page_known m c e) w.command x
-  append_ended_fine c w (Rescues x) e = grind (arith, idle_fine)
-  append_ended_fine c w (Saves o u) e = grind (arith, idle_fine)
-  append_ended_fine c w (Marks n o u) e = grind (arith, idle_fine)
-
-  append_to_fine : (bs : List Out) (c : Client m) (w : Work m) (x : Purpose m) (to : Next Append AppendEnd) → Fine (append_to m c w x bs to)
-  append_to_fine bs c w x (Goes a) = tt
-  append_to_fine bs c w x (Learns a) = tt
-  append_to_fine bs c w x (Ends e) = append_ended_fine c w x e
-
-  -- Trims, copies and reconfigurations.
-
-  trim_to_fine : (c : Client m) (w : Work m) (b : ℕ) (to : Next Trims Trimmed) → Fine (trim_to m c w b to)
-  trim_to_fine c w b (Goes t) = tt
-  trim_to_fine c w b (Learns t) = tt
-  trim_to_fine c w b (Ends e) = grind (arith, idle_fine)
-
-  copy_to_fine : (c : Client m) (w : Work m) (x : Copying) (to : Next Copying CopyEnd) → Fine (copy_to m c w x to)
-  copy_to_fine c w x (Goes y) = tt
-  copy_to_fine c w x (Learns y) = tt
-  copy_to_fine c w x (Ends e) = tt
-
-  reconf_to_fine : (c : Client m) (w : Work m) (to : Next Reconf ReconfEnd) → Fine (reconf_to m c w to)
-  reconf_to_fine c w (Goes r) = tt
-  reconf_to_fine c w (Learns r) = tt
-  reconf_to_fine c w (Ends (Installed e p)) = tt
-  reconf_to_fine c w (Ends (Overtaken e p)) = tt
-  reconf_to_fine c w (Ends (NotWhole u q p)) = tt
-
-  on_sync_fine : (c : Client m) (w : Work m) (t : Turn Sync Confirmed) → SyncNext c.stand t.to → Fine (on_sync m c w t)
-  on_sync_fine c w t n = sync_to_fine t.besides (after_turn m c t) (met m w t) t.to n
-
-  on_walk_fine : (c : Client m) (w : Work m) (o : Oid) (os : List Oid) (t : Turn Walk Members) → past c.stand w.tail → Fine (on_walk m c w o os t)
-  on_walk_fine c w o os t k = walk_to_fine (after_turn m c t) (met m w t) o os t.to k
-
-  on_append_fine : (c : Client m) (w : Work m) (x : Purpose m) (t : Turn Append AppendEnd) → Fine (on_append m c w x t)
-  on_append_fine c w x t = append_to_fine t.besides (after_turn m c t) (met m w t) x t.to
-
-  on_trims_fine : (c : Client m) (w : Work m) (b : ℕ) (t : Turn Trims Trimmed) → Fine (on_trims m c w b t)
-  on_trims_fine c w b t = trim_to_fine (after_turn m c t) (met m w t) b t.to
-
-  on_copy_fine : (c : Client m) (w : Work m) (x : Copying) (t : Turn Copying CopyEnd) → Fine (on_copy m c w x t)
-  on_copy_fine c w x t = copy_to_fine (after_turn m c t) (met m w t) x t.to
-
-  on_reconf_fine : (c : Client m) (w : Work m) (t : Turn Reconf ReconfEnd) → Fine (on_reconf m c w t)
-  on_reconf_fine c w t = reconf_to_fine (after_turn m c t) w t.to
-
-  -- A newer layout.
-
-  copies_fine : (c : Client m) (w : Work m) (x : Copying) (f : Option Refusal) → Fine (copies_again m c w x f)
-  copies_fine c w x None = on_copy_fine c w x (copy_start x.unit x.range x.stripe c.next)
-  copies_fine c w x (Some why) = tt
-
-  newer_fine : (c : Client m) (w : Work m) (t : Task m) (n rid : ℕ) (q : Layout) → LearnTold c.stand w.tail t → c.stand.epoch < q.epoch → Fine (on_newer m c w t n rid q)
-  unfolding task_again sync_start
-  newer_fine c w (Reconfiguring r) n rid q k o = on_reconf_fine c w (reconf_latest r r.work n rid q c.next)
-  newer_fine c w (Syncing s) n rid q k o = on_sync_fine (stands m c q) (record w { gone_before = w.gone }) (sync_again s c.next) tt
-  newer_fine c w (Walking v os) n rid q k o = on_walk_fine (stands m c q) w v.oid os (walk_again q v c.next) (onto c.stand q w.tail o k)
-  newer_fine c w (Appending a y) n rid q k o = on_append_fine (stands m c q) w y (append_again q a c.next)
-  newer_fine c w (Trimming t) n rid q k o = on_trims_fine (stands m c q) w t.below (trim_start q t.below c.next)
-  newer_fine c w (Copying' x) n rid q k o = copies_fine (stands m c q) w x _
-
   -- An awaited answer.
 
   -- what it has to tell
@@ -246,172 +87,86 @@ module _ (m : Meaning) (told settled past : Layout → ℕ → Type 0) (low : (p
   pub sync_told : (c : Client m) (s : Sync) (n : ℕ) (x : Reply) → TaskHears c (Syncing s) n x → SyncTold c.stand s.work → SyncNext c.stand (sync_feed c.stand s s.work n x c.next).to
   sync_told c s n x h k = sync_far c.stand Any (settled c.stand) AnyTold (low c.stand) 0 (λ rid F le. tt) (told c.stand) s n x c.next h k
 
-  task_fine : (c : Client m) (w : Work m) (t : Task m) (n rid : ℕ) (x : Reply) → TaskTold c.stand w.tail t → TaskHears c t n x → Fine (task_feed m c w t n rid x)
-  unfolding task_feed
-  task_fine c w (Syncing s) n rid x k h = on_sync_fine c w (sync_feed c.stand s s.work n x c.next) (sync_told c s n x h k)
-  task_fine c w (Walking v os) n rid x k h = on_walk_fine c w v.oid os (walk_feed c.stand v v.job n x c.next) k
-  task_fine c w (Appending a y) n rid x k h = on_append_fine c w y (append_feed c.stand a a.work n x c.next)
-  task_fine c w (Trimming t) n rid x k h = on_trims_fine c w t.below (trim_feed c.stand t n x c.next)
-  task_fine c w (Copying' y) n rid x k h = on_copy_fine c w y (copy_feed c.stand y y.work n x c.next)
-  task_fine c w (Reconfiguring r) n rid x k h = on_reconf_fine c w (reconf_feed r r.work n rid x c.next)
+  -- what a client that waits for an answer hears
+  abbrev pub ClientHears : Client m → NodeId → ℕ → Reply → Type 0
+  ClientHears c from rid x = (w : Work m) (t : Task m) → c.work ≡ Some w → w.hand ≡ Doing t → awaits (task_awaited m c.stand t) from rid ≡ true → TaskHears c t from.num x
 
-  -- Commands.
+  -- Along a turn.
 
-  asks_by_fine : (c : Client m) (x : CommandOf m) (o : Oid) (q : m.ask) (t : Tx) (at : Option ℕ) → c.work ≡ None → Fine (step.asks_by m c x o q t at)
-  asks_by_fine c x o q t None e = syncs_fine c _ c.hosted
-  asks_by_fine c x o q t (Some at) e = grind (arith, idle_fine)
+  abbrev At : Client m → Work m → Place m → Type 0
+  At c w (Feeds t n rid x) = TaskTold c.stand w.tail t × TaskHears c t n x
+  At c w (Newer t n rid q) = LearnTold c.stand w.tail t × (c.stand.epoch < q.epoch)
+  At c w (OnSync bs to) = SyncNext c.stand to
+  At c w (OnWalk o os to) = past c.stand w.tail
+  At c w (Over o os x g) = past c.stand w.tail
+  At c w (Walks os) = past c.stand w.tail
+  At c w p = Unit {0}
 
-  asks_fine : (c : Client m) (x : CommandOf m) (o : Oid) (q : m.ask) (t : Option Tx) → c.work ≡ None → Fine (step.asks m c x o q t)
-  asks_fine c x o q None e = idle_fine (moved m c []) e
-  asks_fine c x o q (Some t) e = asks_by_fine c x o q t t.snapshot e
+  way : (c : Client m) (w : Work m) (p : Place m) (d : Client m) (v : Work m) (q : Place m) → Way m c w p d v q → At c w p → At d v q
+  unfolding sync_start
+  way c w _ _ _ _ (FeedsSync s n rid x) k = sync_told c s n x k.1 k.0
+  way c w _ _ _ _ (FeedsWalk y os n rid x) k = k.0
+  way c w _ _ _ _ (NewerWalk y os n rid q) k = onto c.stand q w.tail k.1 k.0
+  way c w _ _ _ _ (Confirms bs t ls) k = both c.stand t k.0 k.1
+  way c w _ _ _ _ (Settles bs t ls s) k = both c.stand t k.0 k.1
+  way c w _ _ _ _ (EndsAtOnce o os x e) k = k
+  way c w _ _ _ _ (WalkEnds o os x) k = k
+  way c w _ _ _ _ (MetNone o os x) k = k
+  way c w _ _ _ _ (MetLow o os x b e f) k = k
+  way c w _ _ _ _ (MetHigh o os x b e f z) k = k
+  way c w _ _ _ _ (StartsOver o os x b e f z) k = k
+  way c w _ _ _ _ x k = tt
 
-  end_by_fine : (c : Client m) (x : CommandOf m) (t : Tx) (b : Bool) → c.work ≡ None → Fine (step.end_by m c x t b)
-  end_by_fine c x t true e = idle_fine (step.end_by m c x t true) e
-  end_by_fine c x t false e = appends_fine c _ _ _ _
+  walked_way : (c : Client m) (w : Work m) (d : Client m) (q : Place m) → AllWalked m c w d q → At c w (Walks []) → At d w q
+  walked_way c w _ _ (HasPlayed of) k = tt
+  walked_way c w _ _ x k = tt
 
-  ends_fine : (c : Client m) (x : CommandOf m) (t : Option Tx) → c.work ≡ None → Fine (step.ends m c x t)
-  ends_fine c x None e = idle_fine (moved m c []) e
-  ends_fine c x (Some t) e = end_by_fine c x t _ e
+  ends_fine : (c : Client m) (w : Work m) (p : Place m) (x : Moved m) → End m c w p x → At c w p → Fine x
+  unfolding appends append_start syncs sync_start
+  ends_fine c w _ _ (GoesOn _ _ _ (SyncGoes bs s)) k = k
+  ends_fine c w _ _ (GoesOn _ _ _ (WalkGoes o os x)) k = k
+  ends_fine c w _ _ (GoesOn _ _ _ (WalkBegins o os x e)) k = k
+  ends_fine c w _ _ (GoesOn _ _ _ x) k = tt
+  ends_fine c w _ _ (LearnsNewer _ (WalkLearns o os x)) k = k
+  ends_fine c w _ _ (LearnsNewer _ x) k = tt
+  ends_fine c w _ _ x k = tt
 
-  accepts_fine : (c : Client m) (x : CommandOf m) → c.work ≡ None → Fine (accepts m c x)
-  unfolding accepts
-  accepts_fine c (cmd.Host o) e = grind (arith, idle_fine)
-  accepts_fine c cmd.Begin e = idle_fine (step.begins m c) e
-  accepts_fine c (cmd.Put o op) e = grind (arith, idle_fine)
-  accepts_fine c (cmd.Ask o q) e = asks_fine c _ o q c.tx e
-  accepts_fine c cmd.End e = ends_fine c _ c.tx e
-  accepts_fine c cmd.Drop e = grind (arith, idle_fine)
-  accepts_fine c (cmd.Reconf x) e = on_reconf_fine c (new_work m (cmd.Reconf x)) (reconf_start c.stand c.layouts x c.num c.next)
-  accepts_fine c (cmd.Copy u r s) e = copies_fine c (new_work m (cmd.Copy u r s)) (record { unit = u; range = r; stripe = s; work = copying.Sealing 0 }) None
-  accepts_fine c x e = syncs_fine c (new_work m x) c.hosted
+  takes_fine : (c : Client m) (x : CommandOf m) → c.work ≡ None → (y : Moved m) → Taken m c x y → Fine y
+  unfolding appends append_start syncs sync_start
+  takes_fine c _ free _ (SaidAtOnce x d ns s) = subst (WorkTold d.stand) (sym (said_work m c x d ns s ∙ free)) tt
+  takes_fine c _ free _ x = tt
 
-  refused_fine : (c : Client m) (x : CommandOf m) (o : Option Refusal) → (o ≡ None → c.work ≡ None) → ClientTold c → Fine (refused_or m c x o)
-  refused_fine c x None free k = accepts_fine c x (free refl)
-  refused_fine c x (Some why) free k = k
+  abbrev pub AtTail : Client m → Work m → Type 0
+  AtTail c w = past c.stand w.tail
 
   -- Turns.
 
   pub command_fine : (c : Client m) (x : CommandOf m) → ClientTold c → ClientTold (client_command m c x).now
   unfolding client_command
-  command_fine c x k = refused_fine c x (refusal m c x) (not_busy m c x) k
+  command_fine c x k = commanded m Fine c x (λ why e. k) (λ e. takes_fine c x (not_busy m c x e))
 
-  -- what a client that waits for an answer hears
-  abbrev pub ClientHears : Client m → NodeId → ℕ → Reply → Type 0
-  ClientHears c from rid x = (w : Work m) (t : Task m) → c.work ≡ Some w → w.hand ≡ Doing t → awaits (task_awaited m c.stand t) from rid ≡ true → TaskHears c t from.num x
+  is_newer : (c : Client m) (q : Layout) (a : Bool) → (a && nat_lt c.stand.epoch q.epoch) ≡ true → c.stand.epoch < q.epoch
+  is_newer c q a e = grind (arith, nat_tests, e)
 
-  module _ (c : Client m) (from : NodeId) (rid : ℕ) where
-    fed_if_fine : (b : Bool) (w : Work m) (t : Task m) (x : Reply) → ClientHears c from rid x → c.work ≡ Some w → w.hand ≡ Doing t → awaits (task_awaited m c.stand t) from rid ≡ b → ClientTold c → TaskTold c.stand w.tail t → Fine (step.fed_if m b c w t from rid x)
-    fed_if_fine true w t x g has doing e k h = task_fine c w t from.num rid x h (g w t has doing e)
-    fed_if_fine false w t x g has doing e k h = k
+  module _ (c : Client m) (from : NodeId) (rid : ℕ) (y : Msg) (k : ClientTold c) (g : ClientHears c from rid (reply y)) where
+    feeds_at : (w : Work m) (t : Task m) → c.work ≡ Some w → w.hand ≡ Doing t → awaits (task_awaited m c.stand t) from rid ≡ true → NoLatest (reply y) → At c w (Feeds t from.num rid (reply y))
+    feeds_at w t has doing a other = (subst (HandTold c.stand w.tail) doing (subst (WorkTold c.stand) has k), g w t has doing a)
 
-    hand_fine : (w : Work m) (d : Hand m) (x : Reply) → ClientHears c from rid x → c.work ≡ Some w → w.hand ≡ d → ClientTold c → HandTold c.stand w.tail d → Fine (step.hand_feed m c w d from rid x)
-    hand_fine w (Doing t) x g has doing k h = fed_if_fine _ w t x g has doing refl k h
-    hand_fine w (Learning ws t) x g has doing k h = k
-
-    is_newer : (q : Layout) (a : Bool) → (a && nat_lt c.stand.epoch q.epoch) ≡ true → c.stand.epoch < q.epoch
-    is_newer q a e = grind (arith, nat_tests, e)
-
-    latest_fine : (b : Bool) (w : Work m) (q : Layout) → (b ≡ true → c.stand.epoch < q.epoch) → ClientTold c → HandTold c.stand w.tail w.hand → Fine (step.latest_if m b c w from rid q)
-    latest_fine true w q g k h = newer_fine c w (task_in m w.hand) from.num rid q (learn_of c.stand w.tail w.hand h) (g refl)
-    latest_fine false w q g k h = k
-
-    reply_fine : (w : Work m) (x : Reply) → ClientHears c from rid x → c.work ≡ Some w → ClientTold c → HandTold c.stand w.tail w.hand → Fine (step.reply_feed m c w from rid x)
-    reply_fine w (IsLatest q) g has k h = latest_fine _ w q (is_newer q (node_eq from (layout_id from.num))) k h
-    reply_fine w x g has k h = hand_fine w w.hand x g has refl k h
-
-    feed_fine : (o : Option (Work m)) (x : Reply) → ClientHears c from rid x → c.work ≡ o → ClientTold c → Fine (step.feed m c o from rid x)
-    feed_fine None x g e k = k
-    feed_fine (Some w) x g e k = reply_fine w x g e k (subst (λ (o : Option (Work m)). WorkTold c.stand o) e k)
+    newer_at : (w : Work m) (q : Layout) → c.work ≡ Some w → reply y ≡ IsLatest q → (node_eq from (layout_id from.num) && nat_lt c.stand.epoch q.epoch) ≡ true → At c w (Newer (task_in m w.hand) from.num rid q)
+    newer_at w q has is a = (learn_of c.stand w.tail w.hand (subst (WorkTold c.stand) has k), is_newer c q (node_eq from (layout_id from.num)) a)
 
   pub deliver_fine : (c : Client m) (from : NodeId) (rid : ℕ) (y : Msg) → ClientTold c → ClientHears c from rid (reply y) → ClientTold (client_deliver m c from rid y).now
   unfolding client_deliver
-  deliver_fine c from rid y k g = feed_fine c from rid c.work (reply y) g refl k
+  deliver_fine c from rid y k g = delivered m At Fine ends_fine way (over_walks m At Fine ends_fine walked_way) c from rid (reply y) k (feeds_at c from rid y k g) (newer_at c from rid y k g)
 
   pub tick_fine : (c : Client m) → ClientTold c → ClientTold (client_tick m c).now
   unfolding client_tick
   tick_fine c k = by c.work k
     where
-      by : (w : Option (Work m)) → WorkTold c.stand w → ClientTold (step.tick_by m c w).now
+      by : (w : Option (Work m)) → WorkTold c.stand w → ClientTold (tick_by m c w).now
       by None f = k
       by (Some w) f = k
 
   -- Wherever walks end.
-
-  module _ (objects : List Oid) (es : Entries) where
-    abbrev pub AtTail : Client m → Work m → Type 0
-    AtTail c w = past c.stand w.tail
-
-    walk_at : (os : List Oid) (c : Client m) (w : Work m) → past c.stand w.tail → EachWalk m objects es AtTail os c w
-    walk_at [] c w b = b
-    walk_at (o ∷ os) c w b = λ x is. walk_at os (takes_back m c x) (found_by m w o x) b
-
-    sync_at : (c : Client m) (w : Work m) (to : Next Sync Confirmed) → SyncNext c.stand to → EachSync m objects es AtTail c w to
-    sync_at c w (Goes s) n = tt
-    sync_at c w (Learns s) n = tt
-    sync_at c w (Ends x) n = by x.settled
-      where
-        by : (s : Option (ℕ × Cell)) → EachWalk m objects es AtTail w.oids (knows m c s) (record w { tail = x.tail; lasts = x.lasts; lo = lo_for m c w.command })
-        by None = walk_at w.oids c (record w { tail = x.tail; lasts = x.lasts; lo = lo_for m c w.command }) (both c.stand x.tail n.0 n.1)
-        by (Some s) = walk_at w.oids (knows m c (Some s)) (record w { tail = x.tail; lasts = x.lasts; lo = lo_for m c w.command }) (both c.stand x.tail n.0 n.1)
-
-    over_at : (c : Client m) (w : Work m) (os : List Oid) (over : Bool) → past c.stand w.tail → EachOver m objects es AtTail c w os over
-    over_at c w os true b = walk_at w.oids c (record w { lo = 0; found = []; trims = [] }) b
-    over_at c w os false b = walk_at os c w b
-
-    trim_at : (c : Client m) (w : Work m) (os : List Oid) (s over : Bool) → past c.stand w.tail → EachTrim m objects es AtTail c w os s over
-    trim_at c w os true over b = tt
-    trim_at c w os false over b = over_at c w os over b
-
-    end_at : (c : Client m) (w : Work m) (o : Oid) (os : List Oid) (x : Members) (g : Option ℕ) → past c.stand w.tail → EachEnd m objects es AtTail c w o os x g
-    end_at c w o os x None b = walk_at os c w b
-    end_at c w o os x (Some g) b = by (gives_up m c w g)
-      where
-        by : (z : Bool) → EachTrim m objects es AtTail (given_up_if m z c) w os (stale m c w o x g) (z && not (w.lo == 0))
-        by true = trim_at (record c { view = None }) w os (stale m c w o x g) (not (w.lo == 0)) b
-        by false = trim_at c w os (stale m c w o x g) false b
-
-    walked_at : (c : Client m) (w : Work m) (o : Oid) (os : List Oid) (to : Next Walk Members) → past c.stand w.tail → EachWalked m objects es AtTail c w o os to
-    walked_at c w o os (Goes x) b = tt
-    walked_at c w o os (Learns x) b = tt
-    walked_at c w o os (Ends x) b = end_at (takes_back m c x) (found_by m w o x) o os x x.gone b
-
-    fed_at : (c : Client m) (w : Work m) (t : Task m) (n rid : ℕ) (x : Reply) → TaskTold c.stand w.tail t → TaskHears c t n x → EachFeed m objects es AtTail c w t n rid x
-    fed_at c w (Syncing s) n rid x k h = let t = sync_feed c.stand s s.work n x c.next in sync_at (after_turn m c t) (met m w t) t.to (sync_told c s n x h k)
-    fed_at c w (Walking v os) n rid x k h = let t = walk_feed c.stand v v.job n x c.next in walked_at (after_turn m c t) (met m w t) v.oid os t.to k
-    fed_at c w (Appending a y) n rid x k h = tt
-    fed_at c w (Trimming t) n rid x k h = tt
-    fed_at c w (Copying' y) n rid x k h = tt
-    fed_at c w (Reconfiguring r) n rid x k h = tt
-
-    newer_at : (c : Client m) (w : Work m) (t : Task m) (q : Layout) → LearnTold c.stand w.tail t → c.stand.epoch < q.epoch → EachNewer m objects es AtTail c w t q
-    unfolding sync_start
-    newer_at c w (Reconfiguring r) q k o = tt
-    newer_at c w (Syncing s) q k o = tt
-    newer_at c w (Walking v os) q k o = let t = walk_again q v c.next in walked_at (after_turn m (stands m c q) t) (met m w t) v.oid os t.to (onto c.stand q w.tail o k)
-    newer_at c w (Appending a y) q k o = tt
-    newer_at c w (Trimming t) q k o = tt
-    newer_at c w (Copying' y) q k o = tt
-
-    module _ (c : Client m) (from : NodeId) (rid : ℕ) where
-      fed_if_at : (b : Bool) (w : Work m) (t : Task m) (x : Reply) → ClientHears c from rid x → c.work ≡ Some w → w.hand ≡ Doing t → awaits (task_awaited m c.stand t) from rid ≡ b → TaskTold c.stand w.tail t → EachAwaited m objects es AtTail b c w t from rid x
-      fed_if_at true w t x g has doing e h = fed_at c w t from.num rid x h (g w t has doing e)
-      fed_if_at false w t x g has doing e h = tt
-
-      hand_at : (w : Work m) (d : Hand m) (x : Reply) → ClientHears c from rid x → c.work ≡ Some w → w.hand ≡ d → HandTold c.stand w.tail d → EachHand m objects es AtTail c w d from rid x
-      hand_at w (Doing t) x g has doing h = fed_if_at _ w t x g has doing refl h
-      hand_at w (Learning ws t) x g has doing h = tt
-
-      latest_at : (b : Bool) (w : Work m) (q : Layout) → (b ≡ true → c.stand.epoch < q.epoch) → HandTold c.stand w.tail w.hand → EachLatest m objects es AtTail b c w q
-      latest_at true w q g h = newer_at c w (task_in m w.hand) q (learn_of c.stand w.tail w.hand h) (g refl)
-      latest_at false w q g h = tt
-
-      reply_at : (w : Work m) (x : Reply) → ClientHears c from rid x → c.work ≡ Some w → HandTold c.stand w.tail w.hand → EachReply m objects es AtTail c w from rid x
-      reply_at w (IsLatest q) g has h = latest_at _ w q (is_newer c from rid q (node_eq from (layout_id from.num))) h
-      reply_at w x g has h = hand_at w w.hand x g has refl h
-
-      delivery_by : (o : Option (Work m)) (x : Reply) → ClientHears c from rid x → c.work ≡ o → ClientTold c → EachDelivery m objects es AtTail c o from rid x
-      delivery_by None x g e k = tt
-      delivery_by (Some w) x g e k = reply_at w x g e (subst (λ (o : Option (Work m)). WorkTold c.stand o) e k)
-
-    pub delivery_at : (c : Client m) (from : NodeId) (rid : ℕ) (y : Msg) → ClientTold c → ClientHears c from rid (reply y) → EachDelivery m objects es AtTail c c.work from rid (reply y)
-    delivery_at c from rid y k g = delivery_by c from rid c.work (reply y) g refl k
+  pub delivery_at : (objects : List Oid) (es : Entries) (c : Client m) (from : NodeId) (rid : ℕ) (y : Msg) → ClientTold c → ClientHears c from rid (reply y) → EachDelivery m objects es AtTail c c.work from rid (reply y)
+  delivery_at objects es c from rid y k g = each_delivered m objects es At AtTail way (λ d w i. i) c from rid (reply y) (feeds_at c from rid y k g) (newer_at c from rid y k g)

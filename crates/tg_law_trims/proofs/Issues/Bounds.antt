@@ -1,5 +1,5 @@
 -- Which positions the machines of a client name: those below what their layouts and the sequencer's answers give.
-use Rattle.std.proofs.Common.{◌≡◌, ℕ, zero, suc, ◌+◌, ◌<◌, ◌≤◌, List, [], ◌∷◌, Bool, true, false, refl, sym, subst, arith, Some, None, Option}
+use Rattle.std.proofs.Common.{◌≡◌, ℕ, ◌+◌, ◌<◌, ◌≤◌, List, [], ◌∷◌, Bool, true, false, refl, sym, subst, arith, Some, None, Option}
 use Rattle.std.specs.Prelude.{nat_lt, nat_le, filter}
 use Rattle.std.proofs.lemmas.Bool.Decides.{nat_tests}
 use Rattle.tg_base.specs.Layouts.{Layout}
@@ -8,24 +8,19 @@ use Rattle.tg_base.specs.declared.cell.Cell.TheVariants.{Junk, Data}
 use Rattle.tg_base.specs.declared.ids.Oid.{Oid}
 use Rattle.tg_base.specs.declared.marks.StreamLink.{StreamLink}
 use Rattle.tg_entry.specs.declared.entry.Entry.{Entry}
-use Rattle.tg_protocol.specs.Words.{cell_at, where_true}
+use Rattle.tg_protocol.specs.Words.{where_true}
 use Rattle.tg_base.specs.Orders.{oid_eq}
 use Rattle.tg_protocol.specs.Entries.{link_of, backs_of, backs_in, lists}
 use Rattle.tg_protocol.specs.Pages.{entry_of}
-use Rattle.tg_protocol.specs.Requests.{Waits, without_wait, Next, Goes, Learns, Ends, Turn}
-use Rattle.tg_protocol.specs.Replies.{Reply, IsTail, IsOldEpoch, IsIssued, IsFull}
+use Rattle.tg_protocol.specs.Requests.{Waits, Next, Goes, Learns, Ends, Turn}
+use Rattle.tg_protocol.specs.Replies.{Reply}
 use Rattle.tg_protocol.specs.Replies as replied
-use Rattle.tg_protocol.specs.Cells.{Place, place_in, CellWork, Puts, Gets, Fills, Copies, Probes, CellJob, CellEnd, Done, Seen, Lost, Fenced, Gone, works, put_on, copy_on, copy_if_same, end_if, probe_on, get_cell, fill_cell, work_feed, cell_feed}
-use Rattle.tg_protocol.specs.Walking.{Trail, go_down, next_on, next_of_trail, rest_of, listed, pointers_at, trail_after, Walk, Members, visited, with_job, at_least, next_visit, walk_on, walk_from, walk_start, walk_end, walk_next, walk_feed, walk_again, read_at}
+use Rattle.tg_protocol.specs.Cells.{Place, CellWork, Puts, Gets, Fills, Copies, Probes, CellJob, CellEnd, works, put_on, copy_on, copy_if_same, end_if, probe_on, fill_cell, work_feed, cell_feed}
+use Rattle.tg_protocol.specs.Walking.{Trail, go_down, next_on, next_of_trail, rest_of, listed, pointers_at, trail_after, Walk, Members, visited, at_least, next_visit, walk_from, walk_start, walk_feed, read_at}
+use Rattle.tg_law_steps.proofs.Machines.Walks.{goes_on, WalkCame, Waits as WalkWaits, NewerCame as NewerForWalk, ReadsOn, HasRead, MetTrim, walk_came}
 
 less_of : (a b : ℕ) → nat_lt a b ≡ true → a < b
 less_of a b e = grind (arith, nat_tests)
-
-not_less : (a b : ℕ) → nat_lt a b ≡ false → b ≤ a
-not_less a b e = grind (arith, nat_tests)
-
-not_past : (a b : ℕ) → nat_le a b ≡ false → b < a
-not_past a b e = grind (arith, nat_tests)
 
 from_zero : (t : ℕ) → 0 ≤ t
 from_zero t = omega arith
@@ -210,48 +205,19 @@ module _ (B : ℕ → ℕ → Type 0) (L : ℕ → ℕ → Type 0) where
         by None i f = absurd (cc)
         by (Some x) i f = some (nat_le w.lo x) x i f
 
-    on_ok : (n next : ℕ) (w : Walk) → TrailOk t w.trail → WalkNext t (walk_on p next n w).to
-    unfolding walk_on get_cell
-    on_ok zero next w k = tt
-    on_ok (suc n) next w k = by (λ v l. on_ok n next v l) (next_visit w) refl
-      where
-        cell : ((v : Walk) → TrailOk t v.trail → WalkNext t (walk_on p next n v).to) → (q : ℕ) → q < t → (c : Option Cell) → WalkNext t (elim c as (λ _. Turn Walk Members) [
-          | Some c ↦ walk_on p next n (visited w q c)
-          | None ↦ Rattle.tg_protocol.specs.Walking.reads_turn w (get_cell (place_in p q) next)
-        ]).to
-        cell ih q less (Some c) = ih (visited w q c) (visited_ok t w q c k less)
-        cell ih q less None = record { trail = k; job = (fit q less, less) }
-
-        by : ((v : Walk) → TrailOk t v.trail → WalkNext t (walk_on p next n v).to) → (o : Option ℕ) → next_visit w ≡ o → WalkNext t (elim o as (λ _. Turn Walk Members) [
-          | None ↦ Rattle.tg_protocol.specs.Requests.ends next (Rattle.tg_protocol.specs.Walking.walk_members w None)
-          | Some q ↦ elim (cell_at w.cells q) as (λ _. Turn Walk Members) [
-            | Some c ↦ walk_on p next n (visited w q c)
-            | None ↦ Rattle.tg_protocol.specs.Walking.reads_turn w (get_cell (place_in p q) next)
-          ]
-        ]).to
-        by ih None e = tt
-        by ih (Some q) e = cell ih q (visit_below w q k e) (cell_at w.cells q)
-
     pub walks_ok : (next : ℕ) (w : Walk) → TrailOk t w.trail → WalkNext t (walk_from p next w).to
-    walks_ok next w k = on_ok _ next w k
+    walks_ok next w k = goes_on p next (λ v. TrailOk t v.trail) (λ u. WalkNext t u.to) (λ v q c e f i. visited_ok t v q c i (visit_below v q i e)) (λ v i. tt) (λ v q e f i. record { trail = i; job = (let less = visit_below v q i e in (fit q less, less)) }) _ w k
 
     pub start_ok : (o : Oid) (lasts : List ℕ) (lo : ℕ) (cells : List (ℕ × Cell)) (next : ℕ) → AllBelow t lasts → WalkNext t (walk_start p o lasts lo cells next).to
     unfolding walk_start
     start_ok o lasts lo cells next k = walks_ok next _ (record { pointers = k; last = from_zero t })
 
-    end_ok : (w : Walk) (q : ℕ) (e : CellEnd) (next : ℕ) → WalkOk t w → q < t → WalkNext t (walk_end p w q e next).to
-    end_ok w q (Done c) next k less = walks_ok next (read_at w q c) (visited_ok t (record w { cells = (read_at w q c).cells }) q c k.trail less)
-    end_ok w q (Gone b) next k less = tt
-    end_ok w q (Fenced u e) next k less = k.trail
-    end_ok w q Seen next k less = k
-    end_ok w q (Lost c) next k less = k
-
-    next_ok : (w : Walk) (a : Place) (v : CellWork) (to : Next CellJob CellEnd) (next : ℕ) → WalkOk t w → Fits a × (a.pos < t) → Kept a v to → WalkNext t (walk_next p w a.pos to next).to
-    next_ok w a v (Goes j) next k f g = record { trail = k.trail; job = subst (λ (b : Place). Fits b × (b.pos < t)) (sym g.0) f }
-    next_ok w a v (Learns j) next k f g = k.trail
-    next_ok w a v (Ends e) next k f g = end_ok w a.pos e next k f.1
-
-    pub walk_ok : (w : Walk) (o : Option CellJob) (n : ℕ) (x : Reply) (next : ℕ) → WalkOk t w → JobFits t o → WalkNext t (walk_feed p w o n x next).to
-    unfolding walk_feed
-    walk_ok w None n x next k f = k
-    walk_ok w (Some j) n x next k f = next_ok w j.place j.work _ _ k f (cell_kept j n x next)
+    pub walk_ok : (w : Walk) (n : ℕ) (x : Reply) (next : ℕ) → WalkOk t w → WalkNext t (walk_feed p w w.job n x next).to
+    walk_ok w n x next k = by w.job _ (walk_came p w n x next w.job) k.job
+      where
+        by : (o : Option CellJob) (u : Turn Walk Members) → WalkCame p w n x next o u → JobFits t o → WalkNext t u.to
+        by _ _ (WalkWaits o next') f = k
+        by _ _ (NewerForWalk o next') f = k.trail
+        by _ _ (ReadsOn j i e) f = record { trail = k.trail; job = subst (λ (b : Place). Fits b × (b.pos < t)) (sym (subst (Kept j.place j.work) e (cell_kept j n x next)).0) f }
+        by _ _ (HasRead j c e) f = walks_ok (cell_feed j n x next).next (read_at w j.place.pos c) (visited_ok t (record w { cells = (read_at w j.place.pos c).cells }) j.place.pos c k.trail f.1)
+        by _ _ (MetTrim j b e) f = tt

@@ -1,19 +1,21 @@
 -- Likewise of syncs, appends and copies.
-use Rattle.std.proofs.Common.{◌≡◌, ℕ, ◌+◌, ◌-◌, ◌<◌, ◌≤◌, List, Bool, true, false, refl, sym, ap, ◌∙◌, subst, arith, Some, None, Option}
+use Rattle.std.proofs.Common.{◌≡◌, ℕ, ◌+◌, ◌-◌, ◌<◌, ◌≤◌, List, Bool, true, false, refl, sym, ap, ◌∙◌, subst, arith}
 use Rattle.std.specs.Prelude.{nat_lt, nat_le}
 use Rattle.std.proofs.lemmas.Bool.Decides.{nat_tests}
 use Rattle.tg_base.specs.Layouts.{Layout}
 use Rattle.tg_base.specs.declared.cell.Cell.{Cell}
 use Rattle.tg_base.specs.declared.marks.StreamLink.{StreamLink}
-use Rattle.tg_protocol.specs.Requests.{Next, Goes, Learns, Ends, Turn}
-use Rattle.tg_protocol.specs.Replies.{Reply, IsTail, IsOldEpoch, IsIssued, IsFull}
+use Rattle.tg_protocol.specs.Requests.{Next, Goes, Learns, Ends}
+use Rattle.tg_protocol.specs.Replies.{Reply, IsTail, IsIssued}
 use Rattle.tg_protocol.specs.Replies as replied
 use Rattle.tg_protocol.specs.Layouts.{range_end}
-use Rattle.tg_protocol.specs.Cells.{Place, CellWork, CellJob, CellEnd, Done, Seen, Lost, Fenced, Gone, put_cell, get_cell, fill_cell, probe, cell_feed}
-use Rattle.tg_protocol.specs.Appending.{AppendWork, Asking, Putting, Judging, Token, Append, AppendEnd, on_older, on_newer, put_end, put_next, own_or_not, judge_end, judge_next, on_issued, asking_feed, append_feed, by_token, dead_or_judged, again_with, append_again}
-use Rattle.tg_protocol.specs.Syncing.{Answer, SyncWork, Checking, Settling, Probing, Sync, Confirmed, sync_feed, probe_end, probe_next, probes, settle_end, settle_next, confirm_by, on_tail, checking_feed}
+use Rattle.tg_protocol.specs.Cells.{Place, CellWork, CellJob, CellEnd, Done, Seen, Lost, Fenced, Gone, get_cell, cell_feed}
+use Rattle.tg_protocol.specs.Appending.{AppendWork, Asking, Putting, Judging, Append, AppendEnd, append_feed, append_again}
+use Rattle.tg_protocol.specs.Syncing.{Answer, SyncWork, Checking, Settling, Probing, Sync, Confirmed, sync_feed}
 use Rattle.tg_protocol.specs.Trimming.{CopyWork, Sealing, Reading, Storing, Trimming, Looking, Copying, CopyEnd, learns_if, copy_from, copies_past, read_end, read_next, stored_if, skipped_if, sealed_if, copy_feed, copy_start}
 use Rattle.tg_law_trims.proofs.Issues.Bounds.{LinksBelow, OnlyProbes, Kept, cell_kept, Fits, AllFit}
+use Rattle.tg_law_steps.proofs.Machines.Syncs.{SyncCame, Waits, NewerCame, FillsBelow, ProbesBelow, SettlesOn, IsSettled, ProbesTrimmed, ProbesOn, IsProbed, sync_came}
+use Rattle.tg_law_steps.proofs.Machines.Appends.{AppendCame, Waits as AppendWaits, PutsAt, PutsOn, JudgesOn, append_came, AppendAgain, AsksAgain, Judges, append_again_came}
 
 less_of : (a b : ℕ) → nat_lt a b ≡ true → a < b
 less_of a b e = grind (arith, nat_tests)
@@ -56,64 +58,19 @@ module _ (B : ℕ → ℕ → Type 0) (L : ℕ → ℕ → Type 0) where
     pub done : (a : Answer) (j : CellJob) (c : Cell) → s.work ≡ Settling a j → j.place.pos ≡ a.tail - 1 → (cell_feed j n x next).to ≡ Ends (Done c) → L p.epoch a.tail
 
   module _ (p : Layout) (s : Sync) (n : ℕ) (x : Reply) (next : ℕ) (h : SyncHears p s n x next) where
-    probes_ok : (a : Answer) (next' : ℕ) → AnswerOk p.epoch a.tail a.lasts → L p.epoch a.tail → SyncNext p.epoch (probes p s a next').to
-    unfolding probe
-    probes_ok a next' k l = (k, l, tt)
-
-    confirm_ok : (a : Answer) (b : Bool) → nat_lt p.start a.tail ≡ b → AnswerOk p.epoch a.tail a.lasts → SyncNext p.epoch (confirm_by p s a next b).to
-    unfolding fill_cell
-    confirm_ok a true e k = (k, k.fit (a.tail - 1) (one_less p.start a.tail (less_of p.start a.tail e)), refl)
-    confirm_ok a false e k = probes_ok a next k (h.low a.tail (not_less p.start a.tail e))
-
-    on_tail_ok : (a : Answer) (b : Bool) → SyncOk p.epoch s.work → AnswerOk p.epoch a.tail a.lasts → SyncNext p.epoch (on_tail p s a next b).to
-    on_tail_ok a true f k = confirm_ok a _ refl k
-    on_tail_ok a false f k = f
-
-    older_ok : (b : Bool) → SyncOk p.epoch s.work → SyncNext p.epoch (on_older {M = Sync} {E = Confirmed} p next s b).to
-    older_ok true f = f
-    older_ok false f = f
-
-    newer_ok : (e : ℕ) (b : Bool) → SyncOk p.epoch s.work → SyncNext p.epoch (on_newer {M = Sync} {E = Confirmed} p e next s b).to
-    newer_ok e true f = tt
-    newer_ok e false f = older_ok _ f
-
-    checking_ok : (r : ℕ) (y : Reply) → s.work ≡ Checking r → x ≡ y → SyncOk p.epoch s.work → SyncNext p.epoch (checking_feed p s y next).to
-    checking_ok r (IsTail t ls) e i f = on_tail_ok (record { tail = t; lasts = ls }) _ f (h.tail r t ls e i)
-    checking_ok r (IsOldEpoch f) e i k = newer_ok f _ k
-    checking_ok r y e i f = f
-
-    settle_end_ok : (a : Answer) (j : CellJob) (c : CellEnd) (next' : ℕ) → s.work ≡ Settling a j → (cell_feed j n x next).to ≡ Ends c → SyncOk p.epoch s.work → SyncOk p.epoch (Settling a j) → SyncNext p.epoch (settle_end p s a c next').to
-    settle_end_ok a j (Done c) next' e i f k = record { answer = k.0; later = h.done a j c e k.2 i }
-    settle_end_ok a j (Gone b) next' e i f k = probes_ok a next' k.0 (h.gone a j b e k.2 i)
-    settle_end_ok a j (Fenced u g) next' e i f k = tt
-    settle_end_ok a j Seen next' e i f k = f
-    settle_end_ok a j (Lost c) next' e i f k = f
-
-    settle_next_ok : (a : Answer) (j : CellJob) (to : Next CellJob CellEnd) (next' : ℕ) → s.work ≡ Settling a j → (cell_feed j n x next).to ≡ to → Kept j.place j.work to → SyncOk p.epoch s.work → SyncOk p.epoch (Settling a j) → SyncNext p.epoch (settle_next p s a to next').to
-    settle_next_ok a j (Goes i) next' e g at f k = (k.0, subst (Fits B L) (sym at.0) k.1, ap (λ (b : Place). b.pos) at.0 ∙ k.2)
-    settle_next_ok a j (Learns i) next' e g at f k = tt
-    settle_next_ok a j (Ends c) next' e g at f k = settle_end_ok a j c next' e g f k
-
-    probe_end_ok : (a : Answer) (c : CellEnd) (next' : ℕ) → SyncOk p.epoch s.work → AnswerOk p.epoch a.tail a.lasts → L p.epoch a.tail → SyncNext p.epoch (probe_end s a c next').to
-    probe_end_ok a Seen next' f k l = record { answer = k; later = l }
-    probe_end_ok a (Fenced u e) next' f k l = tt
-    probe_end_ok a (Done c) next' f k l = f
-    probe_end_ok a (Lost c) next' f k l = f
-    probe_end_ok a (Gone b) next' f k l = f
-
-    probe_next_ok : (a : Answer) (j : CellJob) (to : Next CellJob CellEnd) (next' : ℕ) → Kept j.place j.work to → SyncOk p.epoch s.work → SyncOk p.epoch (Probing a j) → SyncNext p.epoch (probe_next s a to next').to
-    probe_next_ok a j (Goes i) next' at f k = (k.0, k.1, at.1 k.2)
-    probe_next_ok a j (Learns i) next' at f k = tt
-    probe_next_ok a j (Ends c) next' at f k = probe_end_ok a c next' f k.0 k.1
-
-    fed_ok : (w : SyncWork) → s.work ≡ w → SyncOk p.epoch s.work → SyncOk p.epoch w → SyncNext p.epoch (sync_feed p s w n x next).to
-    unfolding sync_feed
-    fed_ok (Checking r) e f k = checking_ok r x e refl f
-    fed_ok (Settling a j) e f k = settle_next_ok a j (cell_feed j n x next).to _ e refl (cell_kept j n x next) f k
-    fed_ok (Probing a j) e f k = probe_next_ok a j (cell_feed j n x next).to _ (cell_kept j n x next) f k
+    came_ok : (w : SyncWork) (to : Next Sync Confirmed) → s.work ≡ w → SyncCame p s n x next w to → SyncOk p.epoch w → SyncNext p.epoch to
+    came_ok _ _ e (Waits w) k = subst (SyncOk p.epoch) (sym e) k
+    came_ok _ _ e (NewerCame w) k = tt
+    came_ok _ _ e (FillsBelow r t ls is names more) k = let o = h.tail r t ls e is in (o, o.fit (t - 1) (one_less p.start t (less_of p.start t more)), refl)
+    came_ok _ _ e (ProbesBelow r t ls is names less) k = (h.tail r t ls e is, h.low t (not_less p.start t less), tt)
+    came_ok _ _ e (SettlesOn a j i g) k = let at = subst (Kept j.place j.work) g (cell_kept j n x next) in (k.0, subst (Fits B L) (sym at.0) k.1, ap (λ (b : Place). b.pos) at.0 ∙ k.2)
+    came_ok _ _ e (IsSettled a j c g) k = record { answer = k.0; later = h.done a j c e k.2 g }
+    came_ok _ _ e (ProbesTrimmed a j b g) k = (k.0, h.gone a j b e k.2 g, tt)
+    came_ok _ _ e (ProbesOn a j i g) k = let at = subst (Kept j.place j.work) g (cell_kept j n x next) in (k.0, k.1, at.1 k.2)
+    came_ok _ _ e (IsProbed a j g) k = record { answer = k.0; later = k.1 }
 
     pub sync_ok : SyncOk p.epoch s.work → SyncNext p.epoch (sync_feed p s s.work n x next).to
-    sync_ok f = fed_ok s.work refl f f
+    sync_ok f = came_ok s.work _ refl (sync_came p s n x next s.work) f
 
   -- Appends.
 
@@ -130,79 +87,24 @@ module _ (B : ℕ → ℕ → Type 0) (L : ℕ → ℕ → Type 0) where
     pub issued : (r pos : ℕ) (ls : List StreamLink) → a.work ≡ Asking r → x ≡ IsIssued pos ls → B p.epoch pos
 
   module _ (p : Layout) (a : Append) (n : ℕ) (x : Reply) (next : ℕ) (h : AppendHears p a x) where
-    put_end_ok : (t : Token) (e : CellEnd) (next' : ℕ) → AppendOk a.work → AppendNext (put_end a t e next').to
-    put_end_ok t (Done c) next' k = tt
-    put_end_ok t (Lost c) next' k = tt
-    put_end_ok t (Gone b) next' k = tt
-    put_end_ok t (Fenced u e) next' k = tt
-    put_end_ok t Seen next' k = k
-
-    put_next_ok : (t : Token) (j : CellJob) (to : Next CellJob CellEnd) (next' : ℕ) → Kept j.place j.work to → Fits B L j.place → AppendOk a.work → AppendNext (put_next a t to next').to
-    put_next_ok t j (Goes i) next' at f k = subst (Fits B L) (sym at.0) f
-    put_next_ok t j (Learns i) next' at f k = tt
-    put_next_ok t j (Ends e) next' at f k = put_end_ok t e next' k
-
-    own_ok : (t : Token) (next' : ℕ) (b : Bool) → AppendNext (own_or_not a t next' b).to
-    own_ok t next' true = tt
-    own_ok t next' false = tt
-
-    judge_end_ok : (t : Token) (e : CellEnd) (next' : ℕ) → AppendOk a.work → AppendNext (judge_end a t e next').to
-    judge_end_ok t (Done c) next' k = own_ok t next' _
-    judge_end_ok t (Gone b) next' k = tt
-    judge_end_ok t (Fenced u e) next' k = tt
-    judge_end_ok t (Lost c) next' k = k
-    judge_end_ok t Seen next' k = k
-
-    judge_next_ok : (t : Token) (j : CellJob) (to : Next CellJob CellEnd) (next' : ℕ) → Kept j.place j.work to → Fits B L j.place → AppendOk a.work → AppendNext (judge_next a t to next').to
-    judge_next_ok t j (Goes i) next' at f k = subst (Fits B L) (sym at.0) f
-    judge_next_ok t j (Learns i) next' at f k = tt
-    judge_next_ok t j (Ends e) next' at f k = judge_end_ok t e next' k
-
-    issued_ok : (pos : ℕ) (ls : List StreamLink) (b : Bool) → AppendOk a.work → B p.epoch pos → AppendNext (on_issued p a pos ls next b).to
-    unfolding put_cell
-    issued_ok pos ls true k f = f
-    issued_ok pos ls false k f = k
-
-    older : (b : Bool) → AppendOk a.work → AppendNext (on_older {M = Append} {E = AppendEnd} p next a b).to
-    older true f = f
-    older false f = f
-
-    newer : (e : ℕ) (b : Bool) → AppendOk a.work → AppendNext (on_newer {M = Append} {E = AppendEnd} p e next a b).to
-    newer e true f = tt
-    newer e false f = older _ f
-
-    asking_ok : (r : ℕ) (y : Reply) → a.work ≡ Asking r → x ≡ y → AppendOk a.work → AppendNext (asking_feed p a y next).to
-    asking_ok r (IsIssued pos ls) e i k = issued_ok pos ls _ k (h.issued r pos ls e i)
-    asking_ok r (IsFull l) e i k = tt
-    asking_ok r (IsOldEpoch f) e i k = newer f _ k
-    asking_ok r y e i k = k
-
-    token_ok : (o : Option Token) (f : Token → Turn Append AppendEnd) → AppendOk a.work → ((t : Token) → AppendNext (f t).to) → AppendNext (by_token a next o f).to
-    token_ok None f k g = k
-    token_ok (Some t) f k g = g t
-
-    work_ok : (w : AppendWork) → a.work ≡ w → AppendOk a.work → AppendOk w → AppendNext (append_feed p a w n x next).to
-    unfolding append_feed
-    work_ok (Asking r) e k f = asking_ok r x e refl k
-    work_ok (Putting j) e k f = token_ok a.token _ k (λ t. put_next_ok t j (cell_feed j n x next).to _ (cell_kept j n x next) f k)
-    work_ok (Judging j) e k f = token_ok a.token _ k (λ t. judge_next_ok t j (cell_feed j n x next).to _ (cell_kept j n x next) f k)
+    came_put : (w : AppendWork) (to : Next Append AppendEnd) → a.work ≡ w → AppendCame p a n x next w to → AppendOk w → AppendNext to
+    came_put _ _ e (AppendWaits w) k = subst AppendOk (sym e) k
+    came_put _ _ e (PutsAt r pos ls is names) k = h.issued r pos ls e is
+    came_put _ _ e (PutsOn j i t has g) k = subst (Fits B L) (sym (subst (Kept j.place j.work) g (cell_kept j n x next)).0) k
+    came_put _ _ e (JudgesOn j i t has g) k = subst (Fits B L) (sym (subst (Kept j.place j.work) g (cell_kept j n x next)).0) k
+    came_put _ _ e y k = tt
 
     pub append_ok : AppendOk a.work → AppendNext (append_feed p a a.work n x next).to
-    append_ok k = work_ok a.work refl k k
+    append_ok k = came_put a.work _ refl (append_came p a n x next a.work) k
 
   -- in a newer layout, whose start lies past what is judged
   module _ (p : Layout) (fit : AllFit B L p.epoch p.start) where
     pub again_ok : (a : Append) (next : ℕ) → AppendNext (append_again p a next).to
-    unfolding append_again fill_cell
-    again_ok a next = by a.token
+    again_ok a next = by _ (append_again_came p a next)
       where
-        judged : (t : Token) (b : Bool) → nat_le p.start t.pos ≡ b → AppendNext (dead_or_judged p a t next b).to
-        judged t true e = tt
-        judged t false e = fit t.pos (not_past p.start t.pos e)
-
-        by : (t : Option Token) → AppendNext (again_with p a next t).to
-        by None = tt
-        by (Some t) = judged t _ refl
+        by : (to : Next Append AppendEnd) → AppendAgain p a next to → AppendNext to
+        by _ AsksAgain = tt
+        by _ (Judges t has less) = fit t.pos (not_past p.start t.pos less)
 
   -- Copies.
 

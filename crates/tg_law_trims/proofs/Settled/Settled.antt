@@ -49,7 +49,8 @@ use Rattle.tg_law_cells.specs.Order.Tails.{ConfirmedTail}
 use Rattle.tg_law_syncs.proofs.Known.Knowing.{Knows}
 use Rattle.tg_law_syncs.proofs.Known.Views.{played_low}
 use Rattle.tg_law_syncs.proofs.Exact.Exact.{work_ends}
-use Rattle.tg_law_syncs.proofs.Exact.Finds.{event_more, delivery_more, delivery_exact, of_client}
+use Rattle.tg_law_syncs.proofs.Each.{each_more}
+use Rattle.tg_law_syncs.proofs.Exact.Finds.{event_more, delivery_exact, of_client}
 use Rattle.tg_law_syncs.proofs.Exact.Held as exact
 use Rattle.tg_law_trims.specs.Trims.Floors.{IsSettledFor}
 use Rattle.tg_law_trims.proofs.Floors.Tails as floors
@@ -175,7 +176,7 @@ module _ (m : Meaning) (h : Header) (zs : Moves m) (r : Reaches m h zs (after m 
     at_end c w f = record { hosts = f.hosts; played = played_low m c w w.tail f.upto (target_low m w w.command f.at) }
 
     rounds_end : EachDelivery m h.objects (entries_in m (after m h zs)) (IsAtEnd m (after m h zs) Se Ta IsToldWith Sure) cl cl.work x.from x.rid (reply x.msg)
-    rounds_end = delivery_more m h.objects (entries_of (log m (after m h zs))) (entries_in m (after m h zs)) (IsFound m (log m (after m h zs))) (IsAtEnd m (after m h zs) Se Ta IsToldWith Sure) at_end cl cl.work x.from x.rid (reply x.msg)
+    rounds_end = each_more m h.objects (entries_of (log m (after m h zs))) (entries_in m (after m h zs)) (IsFound m (log m (after m h zs))) (IsAtEnd m (after m h zs) Se Ta IsToldWith Sure) at_end cl x.from x.rid (reply x.msg)
         (delivery_exact m (log m (after m h zs)) (exact.byp m h zs r trims fit) (exact.linked m h zs r trims fit) h.objects cl cl.work x.from x.rid (reply x.msg) refl ((exact.held_at m h zs r trims fit xs ys split).clients k).work
         (work_ends m h xs (after m h xs) (after m h zs) (before_reached m h zs r xs ys split) (ys, exact.goes_on m h zs r xs ys split) (subst (λ (ms : Moves m). TrimsWereSpare m h ms) split trims) k x (contained _ x comes.sent) comes.to_node cl.work refl))
 

@@ -1,5 +1,5 @@
 -- A client's turns as a whole: what its walks have settled, and what its kept view rests on, is kept by each command, answer and tick.
-use Rattle.std.proofs.Common.{◌≡◌, ℕ, ◌<◌, ◌≤◌, List, Bool, true, false, refl, sym, ◌∙◌, subst, inr, Option, Some, None}
+use Rattle.std.proofs.Common.{◌≡◌, ℕ, ◌<◌, ◌≤◌, List, [], ◌∷◌, true, false, refl, sym, ◌∙◌, ap, subst, inl, inr, Option, Some, None}
 use Rattle.std.specs.Prelude.{Contains}
 use Rattle.tg_base.specs.Layouts.{Layout}
 use Rattle.tg_base.specs.declared.cell.Cell.{Cell}
@@ -7,41 +7,43 @@ use Rattle.tg_base.specs.declared.ids.NodeId.{NodeId}
 use Rattle.tg_base.specs.declared.ids.Oid.{Oid}
 use Rattle.tg_base.specs.declared.marks.StreamLink.{StreamLink}
 use Rattle.tg_base.specs.declared.msg.Msg.{Msg}
-use Rattle.tg_base.specs.declared.packet.Out.{Out}
 use Rattle.tg_kind.specs.Meaning.{Meaning}
-use Rattle.tg_model.specs.declared.command.Command.TheVariants as cmd
-use Rattle.tg_model.specs.Kinds.{CommandOf, WhatOf}
+use Rattle.tg_base.specs.Orders.{with_oid}
+use Rattle.tg_model.specs.Kinds.{CommandOf, WhatOf, NoteOf}
 use Rattle.tg_model.specs.declared.refusal.Refusal.{Refusal}
-use Rattle.tg_protocol.specs.Words.{cell_at}
-use Rattle.tg_protocol.specs.Requests.{awaits, Next, Goes, Learns, Ends, Turn}
-use Rattle.tg_protocol.specs.Replies.{Reply, reply, IsLatest}
-use Rattle.tg_protocol.specs.Appending.{Append, AppendEnd, At, Full, Forgotten, append_feed, append_again}
-use Rattle.tg_protocol.specs.Syncing.{sync_start, sync_feed}
+use Rattle.tg_protocol.specs.Words.{cell_at, with_cell}
+use Rattle.tg_protocol.specs.Requests.{awaits, Next, Goes, Learns, Ends}
+use Rattle.tg_protocol.specs.Replies.{Reply, reply}
+use Rattle.tg_protocol.specs.Appending.{append_start}
+use Rattle.tg_protocol.specs.Syncing.{Sync, Confirmed, sync_start, sync_feed}
 use Rattle.tg_protocol.specs.Walking.{Walk, Members, walk_feed, walk_again}
-use Rattle.tg_protocol.specs.Trimming.{Trims, Trimmed, trim_start, trim_feed, Copying, CopyEnd, copy_feed, copy_start}
-use Rattle.tg_protocol.specs.Trimming as copying
-use Rattle.tg_protocol.specs.Reconfiguring.{Reconf, ReconfEnd, Installed, Overtaken, NotWhole, reconf_feed, reconf_latest, reconf_start}
-use Rattle.tg_protocol.specs.Transactions.{Tx}
-use Rattle.tg_protocol.specs.Views.{Entries, View, state_of}
+use Rattle.tg_protocol.specs.Views.{Entries, View}
 use Rattle.tg_protocol.specs.Logs.{Log}
-use Rattle.tg_protocol.specs.Clients.{Purpose, Writes, Judged, Decides, Rescues, Saves, Marks, Task, Syncing, Walking, Appending, Trimming, Copying', Reconfiguring, Hand, Doing, Learning, Work, Client, refusal}
-use Rattle.tg_protocol.specs.Answers.{Moved, pruned, took_over, closed, syncs}
-use Rattle.tg_protocol.specs.ClientSteps as step
-use Rattle.tg_protocol.specs.ClientSteps.{after_turn, met, decided_for, append_ended, append_to, on_append, page_known, owns, knows_page, trim_to, on_trims, copy_to, on_copy, stands, task_in, task_awaited, reconf_to, on_reconf, task_feed, task_again, copies_again, on_newer, accepts, refused_or, new_work, client_command, client_deliver, client_tick}
+use Rattle.tg_protocol.specs.Clients.{Task, Syncing, Walking, Appending, Trimming, Copying', Reconfiguring, Hand, Doing, Learning, Work, Client, refusal}
+use Rattle.tg_protocol.specs.Answers.{Moved, took_over, appends, syncs}
+use Rattle.tg_protocol.specs.ClientSteps.{after_turn, met, owns, task_in, task_awaited, refused_or, client_command, client_deliver, client_tick, feed, tick_by, start_walk, lasts_of, plays_kept}
 use Rattle.tg_protocol.specs.Worlds.{World}
 use Rattle.tg_law_layouts.proofs.Moves.Turns.{not_busy}
-use Rattle.tg_law_replies.specs.Replies.Steps.{EachFeed, EachNewer, EachAwaited, EachHand, EachLatest, EachReply, EachDelivery}
+use Rattle.tg_law_replies.specs.Replies.Steps.{EachDelivery}
 use Rattle.tg_law_walks.specs.Walks.Streams.{AreKnown}
 use Rattle.tg_law_walks.specs.Walks.Walks.{JobEndsAs}
 use Rattle.tg_law_walks.specs.Walks.Lists.{backs}
+use Rattle.tg_law_walks.specs.Walks.Laws.{KeepsStreams}
+use Rattle.tg_law_walks.proofs.Walks.Cells.{more_known}
 use Rattle.tg_law_walks.proofs.Walks.Syncs.{syncs_keep_streams}
 use Rattle.tg_law_syncs.specs.Settling.Visits.{IsFull, AreFull, Visits, IsIssuedTo}
 use Rattle.tg_law_syncs.proofs.Settling.Visiting.{walks_visit_on, walks_visit_again}
 use Rattle.tg_law_syncs.proofs.Known.Knowing.{Knows, WorkKnows, TaskKnows, Settles}
-use Rattle.tg_law_trims.proofs.Settled.Rounds.{course, SavedTo, IsKept, IsAtWalk, visiting, saved_up, walk_up}
-use Rattle.tg_law_trims.proofs.Settled.Checks.{SyncHears, sync_by}
-use Rattle.tg_law_trims.proofs.Settled.Meets.{MeetsNone, from_none, none_no}
-use Rattle.tg_law_trims.proofs.Settled.Turns.{LearnOk, TaskOk, HandOk, WorkOk, IsSettling, IsAtEnd, MeetsBy, idle_fine, syncs_fine, appends_fine, on_sync_fine, on_walk_fine}
+use Rattle.tg_law_trims.proofs.Settled.Rounds.{course, SavedTo, IsKept, IsRounded, IsAtWalk, next_round, starts_anew, visiting, saved_up, walk_up}
+use Rattle.tg_law_trims.proofs.Settled.Checks.{SyncBy, SyncNext, SyncHears, sync_by}
+use Rattle.tg_law_trims.proofs.Settled.Meets.{MeetsNone, start_none, from_none, none_no}
+use Rattle.tg_law_replies.proofs.Replies.Ways.{EachAt, each_way, each_fed, each_newer}
+use Rattle.tg_law_trims.proofs.Settled.Turns.{IsOwn, LearnOk, TaskOk, HandOk, WorkOk, IsSettling, IsAtEnd, MeetsBy, no_view, played_kept, begins_as, on_walk_ok, meets_none, confirmed_work, confirmed_round}
+use Rattle.tg_law_steps.proofs.Places.{Place, Feeds, Newer, OnSync, OnWalk, Over, Walks, Rescues as RescuesAt}
+use Rattle.tg_law_steps.proofs.Ways.{Way, sync_fed, FeedsSync, FeedsWalk, NewerSync, NewerWalk, Confirms, Settles as SettlesCell, EndsAtOnce, WalkEnds, MetNone, MetLow, MetHigh, StartsOver, AllWalked, HasPlayed, LooksBack, IsRescue}
+use Rattle.tg_law_steps.proofs.Ends.{SyncGoes, WalkGoes, WalkBegins, SyncLearns, WalkLearns, JudgedAt, StaleLow, StaleHigh, Widens, MarkBegins, IsRefused, RecordFull, IsAnswered, DecidedAt, IsTold, IsMarked, End, GoesOn, LearnsNewer, Syncs, Appends, Refuses, Answers, Tells}
+use Rattle.tg_law_steps.proofs.Takes.{Hosts, Taken, SaidAtOnce, SyncsFirst, said_work}
+use Rattle.tg_law_steps.proofs.Along.{delivered, commanded, over_walks}
 
 module _ (m : Meaning) (v : World m) (S : ℕ → ℕ → Type 0) (Tl : ℕ → ℕ → Type 0) (Told : Layout → List Oid → ℕ → List StreamLink → Type 0) (Sure : Layout → ℕ → Type 0) where
   -- what an awaited answer has to tell, of a log that the client has read
@@ -108,107 +110,14 @@ module _ (m : Meaning) (v : World m) (S : ℕ → ℕ → Type 0) (Tl : ℕ → 
   abbrev Kept : Client m → Type 0
   Kept c = IsKept m v S Tl n c
 
+  abbrev Own : List Oid → Work m → Type 0
+  Own hosted w = IsOwn m v S Tl Told Sure hosted w
+
+  abbrev Round : ℕ → Work m → List (ℕ × Cell) → List Oid → Type 0
+  Round e w cells os = IsRounded m v S Tl n e (course m w) cells os
+
   abbrev Found : Client m → Work m → Type 0
   Found c w = IsAtEnd m v S Tl Told Sure c w
-
-  idle : (c : Client m) → Kept c → c.work ≡ None → IsSettling m v S Tl Told Sure n c
-  idle c k e = idle_fine m v S Tl Told Sure l n settles full ends joins c k e
-
-  replied_fine : (c : Client m) → Kept c → IsSettling m v S Tl Told Sure n (pruned m c)
-  replied_fine c k = record { kept = k; work = tt }
-
-  took_kept : (c : Client m) (y : Option (View m)) → Kept c → Kept (took_over m c y)
-  took_kept c None k = k
-  took_kept c (Some y) k = k
-
-  answered_fine : (c : Client m) → Kept c → IsSettling m v S Tl Told Sure n (pruned m (took_over m c c.view))
-  answered_fine c k = record { kept = took_kept c c.view k; work = tt }
-
-  -- a sync of the hosted streams
-  hosted_fine : (c : Client m) (w : Work m) → Kept c → Fine (syncs m c w c.hosted)
-  hosted_fine c w k = syncs_fine m v S Tl Told Sure l n settles full ends joins c w c.hosted k (inr (λ o i. i))
-
-  -- Appends.
-
-  decided_fine : (c : Client m) (x : CommandOf m) (what : WhatOf m) → Kept c → Fine (decided_for m c x what)
-  decided_fine c cmd.End what k = answered_fine (closed m c) k
-  decided_fine c (cmd.Host o) what k = answered_fine c k
-  decided_fine c cmd.Begin what k = answered_fine c k
-  decided_fine c (cmd.Put o op) what k = answered_fine c k
-  decided_fine c (cmd.Ask o q) what k = answered_fine c k
-  decided_fine c cmd.Drop what k = answered_fine c k
-  decided_fine c (cmd.Fate p) what k = answered_fine c k
-  decided_fine c (cmd.Decide p) what k = answered_fine c k
-  decided_fine c (cmd.Checkpoint o) what k = answered_fine c k
-  decided_fine c (cmd.Forget o i) what k = answered_fine c k
-  decided_fine c cmd.Trim what k = answered_fine c k
-  decided_fine c (cmd.Reconf x) what k = answered_fine c k
-  decided_fine c (cmd.Copy u r s) what k = answered_fine c k
-  decided_fine c (cmd.AskAt p o q) what k = answered_fine c k
-  decided_fine c (cmd.Rescue p) what k = answered_fine c k
-
-  page_kept : (c : Client m) (e : AppendEnd) → Kept c → Kept (page_known m c e)
-  page_kept c (At p d) k = k
-  page_kept c (Full b) k = k
-  page_kept c (Forgotten p b) k = k
-
-  append_ended_fine : (c : Client m) (w : Work m) (x : Purpose m) (e : AppendEnd) → Kept c → Fine (append_ended m c w x e)
-  append_ended_fine c w Writes (At p d) k = replied_fine (closed m (owns m c p d)) k
-  append_ended_fine c w Writes (Full b) k = replied_fine c k
-  append_ended_fine c w Writes (Forgotten p b) k = replied_fine (closed m c) k
-  append_ended_fine c w Judged (At p d) k = hosted_fine (owns m c p d) (record w { at = p }) k
-  append_ended_fine c w Judged (Full b) k = replied_fine c k
-  append_ended_fine c w Judged (Forgotten p b) k = replied_fine (closed m c) k
-  append_ended_fine c w (Decides x) e k = decided_fine (page_known m c e) w.command x (page_kept c e k)
-  append_ended_fine c w (Rescues x) (At p d) k = replied_fine (knows_page m c p d) k
-  append_ended_fine c w (Rescues x) (Full b) k = replied_fine c k
-  append_ended_fine c w (Rescues x) (Forgotten p b) k = replied_fine c k
-  append_ended_fine c w (Saves o u) (At p d) k = answered_fine (knows_page m c p d) k
-  append_ended_fine c w (Saves o u) (Full b) k = replied_fine c k
-  append_ended_fine c w (Saves o u) (Forgotten p b) k = replied_fine c k
-  append_ended_fine c w (Marks i o u) (At p d) k = replied_fine (took_over m (owns m c p d) c.view) (took_kept (owns m c p d) c.view k)
-  append_ended_fine c w (Marks i o u) (Full b) k = replied_fine c k
-  append_ended_fine c w (Marks i o u) (Forgotten p b) k = replied_fine c k
-
-  append_to_fine : (bs : List Out) (c : Client m) (w : Work m) (x : Purpose m) (to : Next Append AppendEnd) → Kept c → Fine (append_to m c w x bs to)
-  append_to_fine bs c w x (Goes a) k = record { kept = k; work = tt }
-  append_to_fine bs c w x (Learns a) k = record { kept = k; work = tt }
-  append_to_fine bs c w x (Ends e) k = append_ended_fine c w x e k
-
-  on_append_fine : (c : Client m) (w : Work m) (x : Purpose m) (t : Turn Append AppendEnd) → Kept c → Fine (on_append m c w x t)
-  on_append_fine c w x t k = append_to_fine t.besides (after_turn m c t) (met m w t) x t.to k
-
-  -- Trims, copies, reconfigurations.
-
-  trim_to_fine : (c : Client m) (w : Work m) (b : ℕ) (to : Next Trims Trimmed) → Kept c → Fine (trim_to m c w b to)
-  trim_to_fine c w b (Goes t) k = record { kept = k; work = tt }
-  trim_to_fine c w b (Learns t) k = record { kept = k; work = tt }
-  trim_to_fine c w b (Ends e) k = answered_fine c k
-
-  on_trims_fine : (c : Client m) (w : Work m) (b : ℕ) (t : Turn Trims Trimmed) → Kept c → Fine (on_trims m c w b t)
-  on_trims_fine c w b t k = trim_to_fine (after_turn m c t) (met m w t) b t.to k
-
-  copy_to_fine : (c : Client m) (w : Work m) (x : Copying) (to : Next Copying CopyEnd) → Kept c → Fine (copy_to m c w x to)
-  copy_to_fine c w x (Goes y) k = record { kept = k; work = tt }
-  copy_to_fine c w x (Learns y) k = record { kept = k; work = tt }
-  copy_to_fine c w x (Ends e) k = replied_fine c k
-
-  on_copy_fine : (c : Client m) (w : Work m) (x : Copying) (t : Turn Copying CopyEnd) → Kept c → Fine (on_copy m c w x t)
-  on_copy_fine c w x t k = copy_to_fine (after_turn m c t) (met m w t) x t.to k
-
-  reconf_to_fine : (c : Client m) (w : Work m) (to : Next Reconf ReconfEnd) → Kept c → Fine (reconf_to m c w to)
-  reconf_to_fine c w (Goes r) k = record { kept = k; work = tt }
-  reconf_to_fine c w (Learns r) k = record { kept = k; work = tt }
-  reconf_to_fine c w (Ends (Installed e p)) k = replied_fine (stands m c p) k
-  reconf_to_fine c w (Ends (Overtaken e p)) k = replied_fine (stands m c p) k
-  reconf_to_fine c w (Ends (NotWhole u q p)) k = replied_fine (stands m c p) k
-
-  on_reconf_fine : (c : Client m) (w : Work m) (t : Turn Reconf ReconfEnd) → Kept c → Fine (on_reconf m c w t)
-  on_reconf_fine c w t k = reconf_to_fine (after_turn m c t) w t.to k
-
-  copies_fine : (c : Client m) (w : Work m) (x : Copying) (f : Option Refusal) → Kept c → Fine (copies_again m c w x f)
-  copies_fine c w x None k = on_copy_fine c w x (copy_start x.unit x.range x.stripe c.next) k
-  copies_fine c w x (Some why) k = replied_fine c k
 
   -- Walks.
 
@@ -225,85 +134,116 @@ module _ (m : Meaning) (v : World m) (S : ℕ → ℕ → Type 0) (Tl : ℕ → 
   again_visits p next w k os known i = visits_low w k os (walk_again p k next).to i
       (walks_visit_again m v i.epoch l p k next w.tail (full i.epoch w.tail i.round.heading.confirmed) (visiting m v S Tl l i.epoch w.tail k known i.visit))
 
-  -- A newer layout.
+  -- Syncs.
 
-  newer_fine : (c : Client m) (w : Work m) (t : Task m) (j rid : ℕ) (q : Layout) → TaskKnows m l t → Kept c → LearnOk m v S Tl Told Sure n c.hosted w t → EachNewer m objects es Found c w t q → Fine (on_newer m c w t j rid q)
-  unfolding task_again sync_start
-  newer_fine c w (Reconfiguring r) j rid q known k i f = on_reconf_fine c w (reconf_latest r r.work j rid q c.next) k
-  newer_fine c w (Syncing s) j rid q known k i f = record { kept = k; work = (i.0, i.1, tt) }
-  newer_fine c w (Walking y os) j rid q known k i f =
-      on_walk_fine m v S Tl Told Sure l n settles full ends joins objects es (stands m c q) w i.1.epoch y.cells y.oid os (walk_again q y c.next) i.0 i.1.round k (again_visits q c.next w y os known i.1) (none_meets m v S Tl Told Sure n (walk_again q y c.next).to (from_none q c.next y)) f
-  newer_fine c w (Appending a y) j rid q known k i f = on_append_fine (stands m c q) w y (append_again q a c.next) k
-  newer_fine c w (Trimming t) j rid q known k i f = on_trims_fine (stands m c q) w t.below (trim_start q t.below c.next) k
-  newer_fine c w (Copying' x) j rid q known k i f = copies_fine (stands m c q) w x _ k
+  abbrev SyncAt : Client m → Work m → Next Sync Confirmed → Type 0
+  SyncAt c w (Goes s) = (s.oids ≡ w.oids) × Own c.hosted w × SyncBy (Told c.stand s.oids) (Sure c.stand) s.work
+  SyncAt c w (Learns s) = (s.oids ≡ w.oids) × Own c.hosted w
+  SyncAt c w (Ends x) = AreKnown l c.cells × Own c.hosted w × ((cells : List (ℕ × Cell)) → Round c.stand.epoch (confirmed_work m v S Tl Told Sure l n settles full ends joins c w x) cells w.oids) × Settles m l (Ends x)
 
-  -- An awaited answer.
+  sync_at : (s : Sync) (c : Client m) (w : Work m) (to : Next Sync Confirmed) → c.stand.epoch ≤ n → s.oids ≡ w.oids → Own c.hosted w → Kept c → AreKnown l c.cells → KeepsStreams s to → SyncNext (Told c.stand s.oids) (Sure c.stand) to → Settles m l to → SyncAt c w to
+  sync_at s c w (Goes t) le same own k known keep g f = (keep ∙ same, own, subst (λ (os : List Oid). SyncBy (Told c.stand os) (Sure c.stand) t.work) (sym keep) g)
+  sync_at s c w (Learns t) le same own k known keep g f = (keep ∙ same, own)
+  sync_at s c w (Ends x) le same own k known keep g f = (known, own, λ cells. confirmed_round m v S Tl Told Sure l n settles full ends joins c w s.oids x cells le same own k g.0 g.1, f)
 
-  fed_fine : (c : Client m) (w : Work m) (t : Task m) (j rid : ℕ) (x : Reply) → c.stand.epoch ≤ n → AreKnown l c.cells → TaskKnows m l t → Kept c → TaskOk m v S Tl Told Sure n c.stand c.hosted w t → TaskHears m v S Tl Told Sure l n c t j x
-      → EachFeed m objects es Found c w t j rid x → Fine (task_feed m c w t j rid x)
-  unfolding task_feed
-  fed_fine c w (Syncing s) j rid x le cells known k i h f =
-      on_sync_fine m v S Tl Told Sure l n settles full ends joins objects es s c w (sync_feed c.stand s s.work j x c.next) le i.0 i.1 k cells (syncs_keep_streams c.stand s j x c.next)
-      (sync_by (Told c.stand s.oids) (Sure c.stand) c.stand (low c.stand) s j x c.next h.0 i.2) h.1 f
-  fed_fine c w (Walking y os) j rid x le cells known k i h f =
-      on_walk_fine m v S Tl Told Sure l n settles full ends joins objects es c w i.1.epoch y.cells y.oid os (walk_feed c.stand y y.job j x c.next) i.0 i.1.round k (fed_visits c w y os j x known i.1 h.0) h.1 f
-  fed_fine c w (Appending a y) j rid x le cells known k i h f = on_append_fine c w y (append_feed c.stand a a.work j x c.next) k
-  fed_fine c w (Trimming t) j rid x le cells known k i h f = on_trims_fine c w t.below (trim_feed c.stand t j x c.next) k
-  fed_fine c w (Copying' y) j rid x le cells known k i h f = on_copy_fine c w y (copy_feed c.stand y y.work j x c.next) k
-  fed_fine c w (Reconfiguring r) j rid x le cells known k i h f = on_reconf_fine c w (reconf_feed r r.work j rid x c.next) k
+  -- Along a turn.
+
+  abbrev Rest : Client m → Work m → Place m → Type 0
+  Rest c w (Feeds t j rid x) = (c.stand.epoch ≤ n) × AreKnown l c.cells × TaskKnows m l t × TaskOk m v S Tl Told Sure n c.stand c.hosted w t × TaskHears m v S Tl Told Sure l n c t j x
+  Rest c w (Newer t j rid q) = TaskKnows m l t × LearnOk m v S Tl Told Sure n c.hosted w t
+  Rest c w (OnSync bs to) = SyncAt c w to
+  Rest c w (OnWalk o os to) = (e : ℕ) × (cells : List (ℕ × Cell)) × Own c.hosted w × Round e w cells (o ∷ os) × Visits l (IsIssuedTo m v e) o w.lo w.tail cells to × MeetsBy m v S Tl Told Sure n to
+  Rest c w (Over o os x g) = (e : ℕ) × AreKnown l c.cells × Own c.hosted w × Round e w c.cells os
+  Rest c w (Walks os) = (e : ℕ) × AreKnown l c.cells × Own c.hosted w × Round e w c.cells os
+  Rest c w (RescuesAt at) = plays_kept m w.command ≡ false
+  Rest c w p = Unit {0}
+
+  abbrev pub At' : Client m → Work m → Place m → Type 0
+  At' c w p = Kept c × Rest c w p
+
+  begins_visits : (c : Client m) (w : Work m) (e : ℕ) (o : Oid) (os : List Oid) (to : Next Walk Members) → (start_walk m c w o).to ≡ to → AreKnown l c.cells → Round e w c.cells (o ∷ os) → Visits l (IsIssuedTo m v e) o w.lo w.tail c.cells to
+  begins_visits c w e o os to is known h = subst (Visits l (IsIssuedTo m v e) o w.lo w.tail c.cells) is (begins_as m v S Tl Told Sure l n settles full ends joins c w e o os known h)
+
+  pub way : (c : Client m) (w : Work m) (p : Place m) (d : Client m) (u : Work m) (q : Place m) → Way m c w p d u q → At' c w p → At' d u q
+  unfolding sync_start
+  way c w _ _ _ _ (FeedsSync s j rid x) (k, (le, cells, known, i, h)) = (
+    k,
+    sync_at s (after_turn m c (sync_fed m c s j x)) (met m w (sync_fed m c s j x)) (sync_fed m c s j x).to le i.0 i.1 k cells (syncs_keep_streams c.stand s j x c.next)
+        (sync_by (Told c.stand s.oids) (Sure c.stand) c.stand (low c.stand) s j x c.next h.0 i.2) h.1,
+  )
+  way c w _ _ _ _ (FeedsWalk y os j rid x) (k, (le, cells, known, i, h)) = (k, (i.1.epoch, y.cells, i.0, i.1.round, fed_visits c w y os j x known i.1 h.0, h.1))
+  way c w _ _ _ _ (NewerSync s j rid q) (k, (known, i)) = (k, (i.0, i.1, tt))
+  way c w _ _ _ _ (NewerWalk y os j rid q) (k, (known, i)) = (k, (i.1.epoch, y.cells, i.0, i.1.round, again_visits q c.next w y os known i.1, none_meets m v S Tl Told Sure n (walk_again q y c.next).to (from_none q c.next y)))
+  way c w _ _ _ _ (Confirms bs t ls) (k, r) = (k, (c.stand.epoch, r.0, r.1, r.2 c.cells))
+  way c w _ _ _ _ (SettlesCell bs t ls s) (k, r) = (k, (c.stand.epoch, more_known l c.cells s.0 s.1 r.0 (r.3 s.0 s.1 refl), r.1, r.2 (with_cell c.cells s.0 s.1)))
+  way c w _ _ _ _ (EndsAtOnce o os x is) (k, (e, known, own, h)) =
+      let t = begins_visits c w e o os (Ends x) is known h in
+      let none = subst MeetsNone is (start_none c.stand o (lasts_of m w o) w.lo c.cells c.next) in
+      (k, (e, t.1, own, next_round m v S Tl n e (course m w) c.cells o os x h t.0 t.2 (meets_none m v S Tl Told Sure l n settles full ends joins x none)))
+  way c w _ _ _ _ (WalkEnds o os x) (k, (e, cells, own, h, t, g)) = (k, (e, t.1, own, next_round m v S Tl n e (course m w) cells o os x h t.0 t.2 g))
+  way c w _ _ _ _ (MetNone o os x) k = k
+  way c w _ _ _ _ (MetLow o os x b i j) k = k
+  way c w _ _ _ _ (MetHigh o os x b i j z) (k, r) = (no_view m v S Tl Told Sure l n settles full ends joins c, r)
+  way c w _ _ _ _ (StartsOver o os x b i j z) (k, (e, known, own, h)) = (no_view m v S Tl Told Sure l n settles full ends joins c, (e, known, own, starts_anew m v S Tl n e (course m w) c.cells os h))
+  way c w _ _ _ _ x (k, r) = (k, tt)
+
+  -- with what holds where all streams are walked
+  abbrev There : Client m → Work m → Place m → Type 0
+  There c w p = At' c w p × EachAt m objects es Found c w p
+
+  way_there : (c : Client m) (w : Work m) (p : Place m) (d : Client m) (u : Work m) (q : Place m) → Way m c w p d u q → There c w p → There d u q
+  way_there c w p d u q x k = (way c w p d u q x k.0, each_way m objects es Found c w p d u q x k.1)
+
+  walked_way : (c : Client m) (w : Work m) (d : Client m) (q : Place m) → AllWalked m c w d q → There c w (Walks []) → There d w q
+  walked_way c w _ _ (HasPlayed of) ((k, (e, known, own, h)), at) = ((played_kept m v S Tl Told Sure l n settles full ends joins c w e known h at, tt), tt)
+  walked_way c w _ _ (LooksBack at o q of) ((k, r), f) = ((k, tt), tt)
+  walked_way c w _ _ (IsRescue at of) ((k, r), f) = ((k, ap (λ (x : CommandOf m). plays_kept m x) of), tt)
+
+  -- What a turn comes to.
+
+  took_kept : (c : Client m) (y : Option (View m)) → Kept c → Kept (took_over m c y)
+  took_kept c None k = k
+  took_kept c (Some y) k = k
+
+  refused_kept : (c : Client m) (w : Work m) (p : Place m) (d : Client m) (i : ℕ) (why : Refusal) → IsRefused m c w p d i why → Kept c → Kept d
+  refused_kept c w _ _ _ _ (RecordFull y bs b of) k = k
+  refused_kept c w _ _ _ _ x k = k
+
+  answered_kept : (c : Client m) (w : Work m) (p : Place m) (d : Client m) (i : ℕ) (what : WhatOf m) → IsAnswered m c w p d i what → Kept c → Kept d
+  answered_kept c w _ _ _ _ (DecidedAt x bs p d e) k = k
+  answered_kept c w _ _ _ _ x k = k
+
+  told_kept : (c : Client m) (w : Work m) (p : Place m) (d : Client m) (ns : List (NoteOf m)) → IsTold m c w p d ns → Kept c → Kept d
+  told_kept c w _ _ _ (IsMarked i o j bs p d) k = took_kept (owns m c p d) c.view k
+  told_kept c w _ _ _ x k = k
+
+  ends_fine : (c : Client m) (w : Work m) (p : Place m) (x : Moved m) → End m c w p x → There c w p → Fine x
+  unfolding appends append_start syncs sync_start
+  ends_fine c w _ _ (GoesOn _ _ _ (SyncGoes bs s)) ((k, r), f) = record { kept = k; work = r }
+  ends_fine c w _ _ (GoesOn _ _ _ (WalkGoes o os x)) ((k, (e, cells, own, h, t, g)), f) = record { kept = k; work = (own, on_walk_ok m v S Tl Told Sure l n settles full ends joins (course m w) e cells o os x h t) }
+  ends_fine c w _ _ (GoesOn _ _ _ (WalkBegins o os x is)) ((k, (e, known, own, h)), f) = record { kept = k; work = (own, on_walk_ok m v S Tl Told Sure l n settles full ends joins (course m w) e c.cells o os x h (begins_visits c w e o os (Goes x) is known h)) }
+  ends_fine c w _ _ (GoesOn _ _ _ x) ((k, r), f) = record { kept = k; work = tt }
+  ends_fine c w _ _ (LearnsNewer _ (SyncLearns bs s)) ((k, r), f) = record { kept = k; work = r }
+  ends_fine c w _ _ (LearnsNewer _ (WalkLearns o os x)) ((k, (e, cells, own, h, t, g)), f) = record { kept = k; work = (own, on_walk_ok m v S Tl Told Sure l n settles full ends joins (course m w) e cells o os x h t) }
+  ends_fine c w _ _ (LearnsNewer _ x) ((k, r), f) = record { kept = k; work = tt }
+  ends_fine c w _ _ (Syncs _ _ _ (JudgedAt bs p d)) ((k, r), f) = record { kept = k; work = (refl, inr (λ o i. i), tt) }
+  ends_fine c w _ _ (Syncs _ _ _ (StaleLow o os x b i j)) ((k, (e, known, own, h)), f) = record { kept = k; work = (refl, own, tt) }
+  ends_fine c w _ _ (Syncs _ _ _ (StaleHigh o os x b i j)) ((k, (e, known, own, h)), f) = record { kept = no_view m v S Tl Told Sure l n settles full ends joins c; work = (refl, own, tt) }
+  ends_fine c w _ _ (Syncs _ _ _ (Widens at o e)) ((k, r), f) = record { kept = k; work = (refl, inl r, tt) }
+  ends_fine c w _ _ (Appends _ _ _ _ (MarkBegins es p upto o i of came may)) ((k, r), f) = record { kept = k; work = tt }
+  ends_fine c w _ _ (Appends _ _ _ _ x) ((k, r), f) = record { kept = k; work = tt }
+  ends_fine c w p _ (Refuses d i why x) k = record { kept = refused_kept c w p d i why x k.0.0; work = tt }
+  ends_fine c w p _ (Answers d i what x) k = record { kept = took_kept d d.view (answered_kept c w p d i what x k.0.0); work = tt }
+  ends_fine c w p _ (Tells d ns x) k = record { kept = told_kept c w p d ns x k.0.0; work = tt }
 
   -- Commands, of which none is taken while one is in hand.
 
-  none_view : (y : View m) → None ≡ Some y → ⊥
-  none_view y is = cc
-
-  hosts_fine : (c : Client m) (o : Oid) (b : Bool) → c.work ≡ None → Kept c → Fine (step.hosts_more m c o b)
-  hosts_fine c o true e k = idle c k e
-  hosts_fine c o false e k = idle _ (λ y p is i. absurd (none_view y is)) e
-
-  puts_fine : (c : Client m) (o : Oid) (op : m.op) (t : Option Tx) → c.work ≡ None → Kept c → Fine (step.puts m c o op t)
-  puts_fine c o op None e k = idle c k e
-  puts_fine c o op (Some t) e k = idle _ k e
-
-  asks_view_fine : (c : Client m) (t : Tx) (at : ℕ) (o : Oid) (q : m.ask) (y : Option (View m)) → c.work ≡ None → Kept c → Fine (step.asks_view m c t at o q y)
-  asks_view_fine c t at o q None e k = idle c k e
-  asks_view_fine c t at o q (Some y) e k = by (state_of m y o)
-    where
-      by : (s : Option m.state) → Fine (step.asked_of_state m c t at o q y s)
-      by None = idle c k e
-      by (Some s) = idle _ k e
-
-  asks_by_fine : (c : Client m) (x : CommandOf m) (o : Oid) (q : m.ask) (t : Tx) (at : Option ℕ) → c.work ≡ None → Kept c → Fine (step.asks_by m c x o q t at)
-  asks_by_fine c x o q t None e k = hosted_fine c (new_work m x) k
-  asks_by_fine c x o q t (Some at) e k = asks_view_fine c t at o q c.view e k
-
-  asks_fine : (c : Client m) (x : CommandOf m) (o : Oid) (q : m.ask) (t : Option Tx) → c.work ≡ None → Kept c → Fine (step.asks m c x o q t)
-  asks_fine c x o q None e k = idle c k e
-  asks_fine c x o q (Some t) e k = asks_by_fine c x o q t t.snapshot e k
-
-  end_by_fine : (c : Client m) (x : CommandOf m) (t : Tx) (b : Bool) → c.work ≡ None → Kept c → Fine (step.end_by m c x t b)
-  end_by_fine c x t true e k = idle (closed m c) k e
-  end_by_fine c x t false e k = appends_fine m v S Tl Told Sure l n settles full ends joins c _ _ _ _ k
-
-  ends_fine : (c : Client m) (x : CommandOf m) (t : Option Tx) → c.work ≡ None → Kept c → Fine (step.ends m c x t)
-  ends_fine c x None e k = idle c k e
-  ends_fine c x (Some t) e k = end_by_fine c x t _ e k
-
-  accepts_fine : (c : Client m) (x : CommandOf m) → c.work ≡ None → Kept c → Fine (accepts m c x)
-  unfolding accepts
-  accepts_fine c (cmd.Host o) e k = hosts_fine c o _ e k
-  accepts_fine c cmd.Begin e k = idle _ k e
-  accepts_fine c (cmd.Put o op) e k = puts_fine c o op c.tx e k
-  accepts_fine c (cmd.Ask o q) e k = asks_fine c _ o q c.tx e k
-  accepts_fine c cmd.End e k = ends_fine c _ c.tx e k
-  accepts_fine c cmd.Drop e k = idle (closed m c) k e
-  accepts_fine c (cmd.Reconf x) e k = on_reconf_fine c (new_work m (cmd.Reconf x)) (reconf_start c.stand c.layouts x c.num c.next) k
-  accepts_fine c (cmd.Copy u r s) e k = copies_fine c (new_work m (cmd.Copy u r s)) (record { unit = u; range = r; stripe = s; work = copying.Sealing 0 }) None k
-  accepts_fine c x e k = hosted_fine c (new_work m x) k
-
-  refused_fine : (c : Client m) (x : CommandOf m) (o : Option Refusal) → (o ≡ None → c.work ≡ None) → IsSettling m v S Tl Told Sure n c → Fine (refused_or m c x o)
-  refused_fine c x None free i = accepts_fine c x (free refl) i.kept
-  refused_fine c x (Some why) free i = i
+  takes_fine : (c : Client m) (x : CommandOf m) → c.work ≡ None → Kept c → (y : Moved m) → Taken m c x y → Fine y
+  unfolding appends append_start syncs sync_start
+  takes_fine c _ free k _ (SaidAtOnce _ _ _ (Hosts o is)) = record { kept = no_view m v S Tl Told Sure l n settles full ends joins (record c { hosted = with_oid o c.hosted }); work = subst (WorkOk m v S Tl Told Sure n c.stand (with_oid o c.hosted)) (sym free) tt }
+  takes_fine c _ free k _ (SaidAtOnce x d ns s) = record { kept = k; work = subst (WorkOk m v S Tl Told Sure n d.stand d.hosted) (sym (said_work m c x d ns s ∙ free)) tt }
+  takes_fine c _ free k _ (SyncsFirst x i) = record { kept = k; work = (refl, inr (λ o j. j), tt) }
+  takes_fine c _ free k _ x = record { kept = k; work = tt }
 
   -- Turns.
 
@@ -313,41 +253,36 @@ module _ (m : Meaning) (v : World m) (S : ℕ → ℕ → Type 0) (Tl : ℕ → 
 
   pub command_fine : (c : Client m) (x : CommandOf m) → IsSettling m v S Tl Told Sure n c → IsSettling m v S Tl Told Sure n (client_command m c x).now
   unfolding client_command
-  command_fine c x i = called (refused_or m c x (refusal m c x)).now _ _ (refused_fine c x (refusal m c x) (not_busy m c x) i)
+  command_fine c x i = called (refused_or m c x (refusal m c x)).now _ _ (commanded m Fine c x (λ why e. i) (λ e. takes_fine c x (not_busy m c x e) i.kept))
 
   pub tick_fine : (c : Client m) → IsSettling m v S Tl Told Sure n c → IsSettling m v S Tl Told Sure n (client_tick m c).now
   unfolding client_tick
   tick_fine c i = by c.work
     where
-      by : (w : Option (Work m)) → IsSettling m v S Tl Told Sure n (step.tick_by m c w).now
+      by : (w : Option (Work m)) → IsSettling m v S Tl Told Sure n (tick_by m c w).now
       by None = called c _ _ i
       by (Some w) = called c _ _ i
 
   module _ (c : Client m) (le : c.stand.epoch ≤ n) (from : NodeId) (rid : ℕ) (knows : Knows m l c) (so : IsSettling m v S Tl Told Sure n c) where
-    abbrev Tells : Reply → Type 0
-    Tells x = Hears m v S Tl Told Sure l n c from rid x
+    abbrev Tells' : Reply → Type 0
+    Tells' x = Hears m v S Tl Told Sure l n c from rid x
 
-    fed_if_fine : (b : Bool) (w : Work m) (t : Task m) (x : Reply) → Tells x → c.work ≡ Some w → w.hand ≡ Doing t → awaits (task_awaited m c.stand t) from rid ≡ b → TaskKnows m l t → TaskOk m v S Tl Told Sure n c.stand c.hosted w t
-        → EachAwaited m objects es Found b c w t from rid x → Fine (step.fed_if m b c w t from rid x)
-    fed_if_fine true w t x g has doing e known i f = fed_fine c w t from.num rid x le knows.cells known so.kept i (g w t has doing e) f
-    fed_if_fine false w t x g has doing e known i f = so
+    pub feeds_at : (x : Reply) → Tells' x → (w : Work m) (t : Task m) → c.work ≡ Some w → w.hand ≡ Doing t → awaits (task_awaited m c.stand t) from rid ≡ true → At' c w (Feeds t from.num rid x)
+    feeds_at x g w t has doing a = (
+      so.kept,
+      (
+        le,
+        knows.cells,
+        subst (λ (d : Hand m). TaskKnows m l (task_in m d)) doing (subst (WorkKnows m l) has knows.work),
+        subst (HandOk m v S Tl Told Sure n c.stand c.hosted w) doing (subst (WorkOk m v S Tl Told Sure n c.stand c.hosted) has so.work),
+        g w t has doing a,
+      ),
+    )
 
-    hand_fine : (w : Work m) (d : Hand m) (x : Reply) → Tells x → c.work ≡ Some w → w.hand ≡ d → TaskKnows m l (task_in m d) → HandOk m v S Tl Told Sure n c.stand c.hosted w d → EachHand m objects es Found c w d from rid x → Fine (step.hand_feed m c w d from rid x)
-    hand_fine w (Doing t) x g has doing known i f = fed_if_fine _ w t x g has doing refl known i f
-    hand_fine w (Learning ws t) x g has doing known i f = so
+    pub newer_at : (w : Work m) (q : Layout) → c.work ≡ Some w → At' c w (Newer (task_in m w.hand) from.num rid q)
+    newer_at w q has = (so.kept, (subst (WorkKnows m l) has knows.work, learn_of m v S Tl Told Sure n c.stand c.hosted w w.hand (subst (WorkOk m v S Tl Told Sure n c.stand c.hosted) has so.work)))
 
-    latest_fine : (b : Bool) (w : Work m) (q : Layout) → TaskKnows m l (task_in m w.hand) → HandOk m v S Tl Told Sure n c.stand c.hosted w w.hand → EachLatest m objects es Found b c w q → Fine (step.latest_if m b c w from rid q)
-    latest_fine true w q known i f = newer_fine c w (task_in m w.hand) from.num rid q known so.kept (learn_of m v S Tl Told Sure n c.stand c.hosted w w.hand i) f
-    latest_fine false w q known i f = so
-
-    reply_fine : (w : Work m) (x : Reply) → Tells x → c.work ≡ Some w → TaskKnows m l (task_in m w.hand) → HandOk m v S Tl Told Sure n c.stand c.hosted w w.hand → EachReply m objects es Found c w from rid x → Fine (step.reply_feed m c w from rid x)
-    reply_fine w (IsLatest q) g has known i f = latest_fine _ w q known i f
-    reply_fine w x g has known i f = hand_fine w w.hand x g has refl known i f
-
-    feed_fine : (o : Option (Work m)) (x : Reply) → Tells x → c.work ≡ o → WorkKnows m l o → WorkOk m v S Tl Told Sure n c.stand c.hosted o → EachDelivery m objects es Found c o from rid x → Fine (step.feed m c o from rid x)
-    feed_fine None x g e known i f = so
-    feed_fine (Some w) x g e known i f = reply_fine w x g e known i f
-
-    pub deliver_fine : (y : Msg) → Tells (reply y) → EachDelivery m objects es Found c c.work from rid (reply y) → IsSettling m v S Tl Told Sure n (client_deliver m c from rid y).now
+    pub deliver_fine : (y : Msg) → Tells' (reply y) → EachDelivery m objects es Found c c.work from rid (reply y) → IsSettling m v S Tl Told Sure n (client_deliver m c from rid y).now
     unfolding client_deliver
-    deliver_fine y g f = called (step.feed m c c.work from rid (reply y)).now _ _ (feed_fine c.work (reply y) g refl knows.work so.work f)
+    deliver_fine y g f = called (feed m c c.work from rid (reply y)).now _ _ (delivered m There Fine ends_fine way_there (over_walks m There Fine ends_fine walked_way) c from rid (reply y) so
+        (λ w t has doing a other. (feeds_at (reply y) g w t has doing a, each_fed m objects es Found c from rid (reply y) f w t has doing a other)) (λ w q has is a. (newer_at w q has, each_newer m objects es Found c from rid (reply y) f w q has is a)))

@@ -1,26 +1,29 @@
 -- Where the append comes from that a client has in hand after a turn.
-use Rattle.std.proofs.Common.{◌≡◌, ◌⊎◌, ℕ, ◌+◌, ◌<◌, Bool, true, false, List, Option, Some, None, refl, sym, ap, ◌∙◌, subst, inl, inr, arith}
+use Rattle.std.proofs.Common.{[], ◌≡◌, ◌⊎◌, ℕ, ◌+◌, ◌<◌, Bool, true, List, Option, Some, None, refl, sym, ap, ◌∙◌, subst, inl, inr, arith}
 use Rattle.std.specs.Prelude.{◌&&◌, nat_lt}
 use Rattle.tg_base.specs.Layouts.{Layout}
 use Rattle.tg_base.specs.declared.ids.NodeId.{NodeId}
 use Rattle.tg_base.specs.declared.ids.Oid.{Oid}
 use Rattle.tg_base.specs.declared.packet.Packet.{Packet}
 use Rattle.tg_kind.specs.Meaning.{Meaning}
-use Rattle.tg_model.specs.declared.command.Command.TheVariants as cmd
 use Rattle.tg_model.specs.declared.refusal.Refusal.{Refusal}
-use Rattle.tg_model.specs.Kinds.{CommandOf, WhatOf}
+use Rattle.tg_model.specs.Kinds.{CommandOf}
 use Rattle.tg_base.specs.Orders.{node_eq}
-use Rattle.tg_protocol.specs.Words.{layout_id, client_id, numbers}
-use Rattle.tg_protocol.specs.Requests.{awaits, waits_for, Next, Goes, Learns, Ends, Turn}
-use Rattle.tg_protocol.specs.Replies.{Reply, IsLatest, reply}
-use Rattle.tg_protocol.specs.Appending.{Append, AppendEnd, At, Full, Forgotten, append_asks, append_feed, append_again}
+use Rattle.tg_protocol.specs.Words.{layout_id, client_id}
+use Rattle.tg_protocol.specs.Requests.{awaits, Next, Goes, Learns}
+use Rattle.tg_protocol.specs.Replies.{IsLatest, reply}
+use Rattle.tg_protocol.specs.Appending.{Append, AppendEnd, append_asks, append_feed, append_again}
 use Rattle.tg_protocol.specs.Syncing.{Sync, sync_start}
-use Rattle.tg_protocol.specs.Clients.{Purpose, Writes, Judged, Decides, Rescues, Saves, Marks, Task, Syncing, Walking, Appending, Trimming, Copying', Reconfiguring, Hand, Doing, Learning, Work, Client, refusal}
-use Rattle.tg_protocol.specs.Answers.{syncs}
-use Rattle.tg_protocol.specs.ClientSteps.{task_asks, task_awaited, task_in, after_turn, met, owns, page_known, decided_for, append_ended, append_to, on_append, stands, task_feed, task_again, on_newer, fed_if, hand_feed, latest_if, reply_feed, feed, refused_or, ClientTurn, client_command, client_deliver, client_tick, tick_by}
+use Rattle.tg_protocol.specs.Clients.{Purpose, Task, Syncing, Walking, Appending, Trimming, Copying', Reconfiguring, Hand, Doing, Work, Client, refusal}
+use Rattle.tg_protocol.specs.Answers.{Moved, syncs}
+use Rattle.tg_protocol.specs.ClientSteps.{task_asks, task_awaited, task_in, reply_feed, feed, refused_or, ClientTurn, client_command, client_deliver, client_tick, tick_by}
 use Rattle.tg_law_layouts.specs.Moves.Configs.{Config, client_in}
 use Rattle.tg_law_layouts.proofs.Moves.Moves.{Comes, ClientInput, Commanded, Hears', Ticks', Given}
 use Rattle.tg_protocol.specs.Runs.{LawfulCommand}
+use Rattle.tg_law_steps.proofs.Places.{Place, Feeds, Newer, OnAppend, Walks}
+use Rattle.tg_law_steps.proofs.Ways.{Way, FeedsAppend, NewerAppend, AllWalked}
+use Rattle.tg_law_steps.proofs.Ends as end
+use Rattle.tg_law_steps.proofs.Along.{replied, over_walks}
 use Rattle.tg_law_walks.proofs.Drafts.Sound.{IsAsking, Kind, Comes', Stays, Begins, TaskComes, HandComes, Few, Sound, deliver_good}
 use Rattle.tg_law_walks.proofs.Drafts.Commands.{command_good}
 
@@ -63,49 +66,6 @@ module _ (m : Meaning) where
         no : (s : Sync) (y : Purpose m) → Syncing s ≡ Appending b y → ⊥
         no s y e = cc
 
-    decided_none : (c : Client m) (x : CommandOf m) (what : WhatOf m) → Holds (decided_for m c x what).now b → X
-    decided_none c cmd.End what h = none_held _ b refl h
-    decided_none c (cmd.Host o) what h = none_held _ b refl h
-    decided_none c cmd.Begin what h = none_held _ b refl h
-    decided_none c (cmd.Put o op) what h = none_held _ b refl h
-    decided_none c (cmd.Ask o q) what h = none_held _ b refl h
-    decided_none c cmd.Drop what h = none_held _ b refl h
-    decided_none c (cmd.Fate p) what h = none_held _ b refl h
-    decided_none c (cmd.Decide p) what h = none_held _ b refl h
-    decided_none c (cmd.Checkpoint o) what h = none_held _ b refl h
-    decided_none c (cmd.Forget o n) what h = none_held _ b refl h
-    decided_none c cmd.Trim what h = none_held _ b refl h
-    decided_none c (cmd.Reconf x) what h = none_held _ b refl h
-    decided_none c (cmd.Copy u r s) what h = none_held _ b refl h
-    decided_none c (cmd.AskAt p o q) what h = none_held _ b refl h
-    decided_none c (cmd.Rescue p) what h = none_held _ b refl h
-
-    ended_none : (c : Client m) (w : Work m) (z : Purpose m) (e : AppendEnd) → Holds (append_ended m c w z e).now b → X
-    ended_none c w Writes (At p d) h = none_held _ b refl h
-    ended_none c w Writes (Full l) h = none_held _ b refl h
-    ended_none c w Writes (Forgotten p q) h = none_held _ b refl h
-    ended_none c w Judged (At p d) h = synced_none (owns m c p d) (record w { at = p }) c.hosted h
-    ended_none c w Judged (Full l) h = none_held _ b refl h
-    ended_none c w Judged (Forgotten p q) h = none_held _ b refl h
-    ended_none c w (Decides what) e h = decided_none (page_known m c e) w.command what h
-    ended_none c w (Rescues what) (At p d) h = none_held _ b refl h
-    ended_none c w (Rescues what) (Full l) h = none_held _ b refl h
-    ended_none c w (Rescues what) (Forgotten p q) h = none_held _ b refl h
-    ended_none c w (Saves o u) (At p d) h = none_held _ b refl h
-    ended_none c w (Saves o u) (Full l) h = none_held _ b refl h
-    ended_none c w (Saves o u) (Forgotten p q) h = none_held _ b refl h
-    ended_none c w (Marks n o j) (At p d) h = none_held _ b refl h
-    ended_none c w (Marks n o j) (Full l) h = none_held _ b refl h
-    ended_none c w (Marks n o j) (Forgotten p q) h = none_held _ b refl h
-
-  ended_stand : (c : Client m) (w : Work m) (z : Purpose m) (b : Append) (t : Turn Append AppendEnd) → Holds (on_append m c w z t).now b → NextIs b t.to × ((on_append m c w z t).now.stand ≡ c.stand)
-  ended_stand c w z b t h = by t.to h
-    where
-      by : (n : Next Append AppendEnd) → Holds (append_to m (after_turn m c t) (met m w t) z t.besides n).now b → NextIs b n × ((append_to m (after_turn m c t) (met m w t) z t.besides n).now.stand ≡ c.stand)
-      by (Goes a) k = (inl (ap (λ (x : Append). Goes x) (same_append a b z k.purpose (held_in (append_to m (after_turn m c t) (met m w t) z t.besides (Goes a)).now b (record (met m w t) { hand = Doing (Appending a z) }) refl k))), refl)
-      by (Learns a) k = (inr (ap (λ (x : Append). Learns x) (same_append a b z k.purpose (held_in (append_to m (after_turn m c t) (met m w t) z t.besides (Learns a)).now b (record (met m w t) { hand = Learning (waits_for (numbers c.layouts 0) t.next) (Appending a z) }) refl k))), refl)
-      by (Ends e) k = ended_none b (after_turn m c t) (met m w t) z e k
-
   -- After a turn, an append in hand is new, or was there, or has heard an answer or of a newer layout.
   pub data Became (g : Config m) (k : ℕ) (now : Client m) (b : Append) : Type 0 where
     Fresh : b.token ≡ None → IsAsking m b.work → Kind m (client_in m g k) now.decisions now.checkpoints b.draft → ((a : Append) → Holds (client_in m g k) a → ⊥) → Became g k now b
@@ -130,53 +90,51 @@ module _ (m : Meaning) where
       is_same : (b : Append) → Holds c b → Became g k c b
       is_same b h = Same h refl
 
-      hand_became : (b : Append) (d : Hand m) → old.work.hand ≡ d → task_in m d ≡ Appending a old.purpose → Holds (hand_feed m c old.work d x.from x.rid (reply x.msg)).now b → Became g k (hand_feed m c old.work d x.from x.rid (reply x.msg)).now b
-      unfolding task_feed task_asks
-      hand_became b (Learning ws t) is at h = is_same b h
-      hand_became b (Doing t) is at h = by t at is h
-        where
-          fed : (t : Task m) → t ≡ Appending a old.purpose → old.work.hand ≡ Doing t → (b' : Bool) → awaits (task_awaited m c.stand t) x.from x.rid ≡ b' → Holds (fed_if m b' c old.work t x.from x.rid (reply x.msg)).now b
-              → Became g k (fed_if m b' c old.work t x.from x.rid (reply x.msg)).now b
-          fed t at is false f h = is_same b h
-          fed (Appending a' y) at is true f h =
-              let same = same_append a' a y old.purpose at in
-              let e = ended_stand c old.work y b (append_feed c.stand a' a'.work x.from.num (reply x.msg) c.next) h in
-              Fed a old x comes (is ∙ ap (λ (t : Task m). Doing t) at) (subst (λ (z : Append). awaits (append_asks c.stand z) x.from x.rid ≡ true) same f)
-              (subst (λ (z : Append). NextIs b (append_feed c.stand z z.work x.from.num (reply x.msg) c.next).to) same e.0) e.1
-          fed (Syncing s) at is true f h = absurd cc
-          fed (Walking j os) at is true f h = absurd cc
-          fed (Trimming t) at is true f h = absurd cc
-          fed (Copying' y) at is true f h = absurd cc
-          fed (Reconfiguring r) at is true f h = absurd cc
+      fed : {t : Task m} → awaits (task_awaited m c.stand t) x.from x.rid ≡ true → t ≡ Appending a old.purpose → awaits (append_asks c.stand a) x.from x.rid ≡ true
+      unfolding task_asks
+      fed e is = subst (λ (z : Task m). awaits (task_awaited m c.stand z) x.from x.rid ≡ true) is e
 
-          by : (t : Task m) → t ≡ Appending a old.purpose → old.work.hand ≡ Doing t → Holds (fed_if m (awaits (task_awaited m c.stand t) x.from x.rid) c old.work t x.from x.rid (reply x.msg)).now b
-              → Became g k (fed_if m (awaits (task_awaited m c.stand t) x.from x.rid) c old.work t x.from x.rid (reply x.msg)).now b
-          by t at is h = fed t at is (awaits (task_awaited m c.stand t) x.from x.rid) refl h
+      -- what its machine's turn leaves in hand
+      module _ (b : Append) where
+        abbrev Leaves : Layout → Next Append AppendEnd → Type 0
+        Leaves p to = (now : Client m) → NextIs b to → now.stand ≡ p → Became g k now b
 
-      newer_became : (b : Append) (q : Layout) (t : Task m) → t ≡ Appending a old.purpose → reply x.msg ≡ IsLatest q → x.from ≡ layout_id x.from.num → c.stand.epoch < q.epoch
-          → Holds (on_newer m c old.work t x.from.num x.rid q).now b → Became g k (on_newer m c old.work t x.from.num x.rid q).now b
-      unfolding task_again
-      newer_became b q (Appending a' y) at is node less h =
-          let same = same_append a' a y old.purpose at in
-          let e = ended_stand (stands m c q) old.work y b (append_again q a' c.next) h in
-          Again a old x q comes is node less (subst (λ (z : Append). NextIs b (append_again q z c.next).to) same e.0) e.1
-      newer_became b q (Syncing s) at is node less h = absurd cc
-      newer_became b q (Walking j os) at is node less h = absurd cc
-      newer_became b q (Trimming t) at is node less h = absurd cc
-      newer_became b q (Copying' y) at is node less h = absurd cc
-      newer_became b q (Reconfiguring r) at is node less h = absurd cc
+        abbrev At : Client m → Work m → Place m → Type 0
+        At d w (Feeds (Appending a' y) n rid z) = Leaves d.stand (append_feed d.stand a' a'.work n z d.next).to
+        At d w (Newer (Appending a' y) n rid q) = Leaves q (append_again q a' d.next).to
+        At d w (OnAppend y bs to) = Leaves d.stand to
+        At d w p = ⊥
 
-      latest_became : (b : Append) (q : Layout) → reply x.msg ≡ IsLatest q → (t : Bool) → (node_eq x.from (layout_id x.from.num) && nat_lt c.stand.epoch q.epoch) ≡ t
-          → Holds (latest_if m t c old.work x.from x.rid q).now b → Became g k (latest_if m t c old.work x.from x.rid q).now b
-      latest_became b q is true e h =
-          let f = both _ _ e in
-          let l = f.1 in
-          newer_became b q (task_in m old.work.hand) old.holds is (same_node x.from f.0) (grind (arith, l)) h
-      latest_became b q is false e h = is_same b h
+        way : (d : Client m) (w : Work m) (p : Place m) (e : Client m) (v : Work m) (q : Place m) → Way m d w p e v q → At d w p → At e v q
+        way d w _ _ _ _ (FeedsAppend a' y n rid z) h = h
+        way d w _ _ _ _ (NewerAppend a' y n rid q) h = h
+        way d w _ _ _ _ z h = absurd h
 
-      reply_became : (b : Append) (y : Reply) → reply x.msg ≡ y → Holds (reply_feed m c old.work x.from x.rid y).now b → Became g k (reply_feed m c old.work x.from x.rid y).now b
-      reply_became b (IsLatest q) is h = latest_became b q is _ refl h
-      reply_became b y is h = subst (λ (z : Reply). Holds (hand_feed m c old.work old.work.hand x.from x.rid z).now b → Became g k (hand_feed m c old.work old.work.hand x.from x.rid z).now b) is (hand_became b old.work.hand refl old.holds) h
+        all_walked : (d : Client m) (w : Work m) (e : Client m) (q : Place m) → AllWalked m d w e q → At d w (Walks []) → At e w q
+        all_walked d w e q z h = absurd h
+
+        ends : (d : Client m) (w : Work m) (p : Place m) (z : Moved m) → end.End m d w p z → At d w p → Holds z.now b → Became g k z.now b
+        ends d w _ _ (end.GoesOn _ _ _ (end.AppendGoes y bs a')) h o = h _ (inl (ap (λ (v : Append). Goes v) (same_append a' b y o.purpose (held_in _ b _ refl o)))) refl
+        ends d w _ _ (end.GoesOn _ _ _ z) h o = absurd h
+        ends d w _ _ (end.LearnsNewer _ (end.AppendLearns y bs a')) h o = h _ (inr (ap (λ (v : Append). Learns v) (same_append a' b y o.purpose (held_in _ b _ refl o)))) refl
+        ends d w _ _ (end.LearnsNewer _ z) h o = absurd h
+        ends d w _ _ (end.Syncs e v os z) h o = synced_none b e v os o
+        ends d w _ _ (end.Appends e v y ns (end.RescueDecides at so r i j)) h o = absurd h
+        ends d w _ _ (end.Appends e v y ns z) h o = absurd h
+        ends d w _ _ (end.Refuses e n why z) h o = none_held _ b refl o
+        ends d w _ _ (end.Answers e n what z) h o = none_held _ b refl o
+        ends d w _ _ (end.Tells e ns z) h o = none_held _ b refl o
+
+        reply_became : Holds (reply_feed m c old.work x.from x.rid (reply x.msg)).now b → Became g k (reply_feed m c old.work x.from x.rid (reply x.msg)).now b
+        reply_became =
+            replied m At (λ z. Holds z.now b → Became g k z.now b) ends way (over_walks m At (λ z. Holds z.now b → Became g k z.now b) ends all_walked) c old.work x.from x.rid (reply x.msg) (λ h. is_same b h)
+            (λ t doing awaited latest. subst (λ (z : Task m). At c old.work (Feeds z x.from.num x.rid (reply x.msg))) (sym (task t doing))
+            (λ now is stand. Fed a old x comes (doing ∙ ap (λ (z : Task m). Doing z) (task t doing)) (fed awaited (task t doing)) is stand))
+            (λ q is new. subst (λ (z : Task m). At c old.work (Newer z x.from.num x.rid q)) (sym old.holds)
+            (λ now next stand. let f = both (node_eq x.from (layout_id x.from.num)) (nat_lt c.stand.epoch q.epoch) new in let l = f.1 in Again a old x q comes is (same_node x.from f.0) (grind (arith, l)) next stand))
+          where
+            task : (t : Task m) → old.work.hand ≡ Doing t → t ≡ Appending a old.purpose
+            task t doing = ap (λ (d : Hand m). task_in m d) (sym doing) ∙ old.holds
 
     -- with no append in hand before
     began : (d : Client m) (b : Append) → HandComes m c d c.work d.work → Holds d b → ((a : Append) → Holds c a → ⊥) → Became g k d b
@@ -207,7 +165,7 @@ module _ (m : Meaning) where
     feed_became x comes (Some w) is b good h = by (task_in m w.hand) refl
       where
         hears : (a : Append) → Holds c a → Became g k (reply_feed m c w x.from x.rid (reply x.msg)).now b
-        hears a old = subst (λ (v : Work m). Holds (reply_feed m c v x.from x.rid (reply x.msg)).now b → Became g k (reply_feed m c v x.from x.rid (reply x.msg)).now b) (same_some old.work w (sym old.has ∙ is)) (reply_became x comes a old b (reply x.msg) refl) h
+        hears a old = subst (λ (v : Work m). Holds (reply_feed m c v x.from x.rid (reply x.msg)).now b → Became g k (reply_feed m c v x.from x.rid (reply x.msg)).now b) (same_some old.work w (sym old.has ∙ is)) (reply_became x comes a old b) h
 
         other : (t : Task m) → task_in m w.hand ≡ t → ((a : Append) (y : Purpose m) → t ≡ Appending a y → ⊥) → (a : Append) → Holds c a → ⊥
         other t at f a old = f a old.purpose (sym at ∙ held_in c a w is old)

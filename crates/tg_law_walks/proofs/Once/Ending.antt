@@ -1,6 +1,6 @@
 -- An append of a record that ends stands where it says, and one that it forgot stands nowhere else.
 use Rattle.std.proofs.Common.{◌≡◌, ◌⊎◌, ℕ, ◌<◌, List, length, [], ◌∷◌, ◌++◌, Bool, true, false, refl, sym, ap, ◌∙◌, subst, inl, inr, arith, Option, Some, None, Contains}
-use Rattle.std.specs.Prelude.{◌&&◌, nat_lt, slice_get}
+use Rattle.std.specs.Prelude.{slice_get}
 use Rattle.tg_base.specs.Clusters.{Header}
 use Rattle.tg_base.specs.declared.cell.Cell.{Cell}
 use Rattle.tg_base.specs.declared.cell.Cell.TheVariants.{Data}
@@ -12,21 +12,20 @@ use Rattle.tg_entry.specs.declared.entry.Entry.{Entry}
 use Rattle.tg_entry.specs.Format.{tag_of, entry}
 use Rattle.tg_append.proofs.Pages.{linked_fits}
 use Rattle.tg_kind.specs.Meaning.{Meaning}
-use Rattle.tg_model.specs.declared.command.Event.TheVariants.{Command as Commands, Deliver, Lose, Tick, Stop}
+use Rattle.tg_model.specs.declared.command.Event.TheVariants.{Deliver}
 use Rattle.tg_model.specs.Kinds.{EventOf}
-use Rattle.tg_base.specs.Orders.{node_eq}
-use Rattle.tg_protocol.specs.Words.{layout_id, client_id}
+use Rattle.tg_protocol.specs.Words.{client_id}
 use Rattle.tg_protocol.specs.Entries.{is_commit}
 use Rattle.tg_entry.specs.Records.{linked}
 use Rattle.tg_protocol.specs.Pages.{entry_of, entry_in}
-use Rattle.tg_protocol.specs.Requests.{awaits, Next, Goes, Learns, Ends, Turn}
-use Rattle.tg_protocol.specs.Replies.{Reply, IsLatest, reply}
+use Rattle.tg_protocol.specs.Requests.{Next, Goes, Learns, Ends, Turn}
+use Rattle.tg_protocol.specs.Replies.{reply}
 use Rattle.tg_protocol.specs.Cells.{Place, place_in, Done}
-use Rattle.tg_protocol.specs.Appending.{AppendWork, Putting, Judging, Token, Append, AppendEnd, At, Full, Forgotten, append_feed, append_again}
+use Rattle.tg_protocol.specs.Appending.{AppendWork, Putting, Judging, Token, Append, AppendEnd, At, Full, Forgotten}
 use Rattle.tg_protocol.specs.Transactions.{Tx}
-use Rattle.tg_protocol.specs.Clients.{Purpose, Writes, Judged, Decides, Rescues, Saves, Marks, Task, Appending, Hand, Doing, Learning, Work, Client, new_client}
+use Rattle.tg_protocol.specs.Clients.{Purpose, Writes, Judged, Decides, Rescues, Saves, Marks, Appending, Doing, Work, Client, new_client}
 use Rattle.tg_protocol.specs.Answers.{Moved}
-use Rattle.tg_protocol.specs.ClientSteps.{task_asks, task_awaited, task_in, after_turn, met, stands, append_ended, append_to, on_append, task_feed, fed_if, hand_feed, reply_feed, feed, called, client_deliver}
+use Rattle.tg_protocol.specs.ClientSteps.{task_asks, task_in, after_turn, met, append_ended, append_to, on_append, feed, called, client_deliver}
 use Rattle.tg_protocol.specs.Logs.{Log, entries_of}
 use Rattle.tg_protocol.specs.Views.{entry_if}
 use Rattle.tg_protocol.specs.Worlds.{World, start, client, log, trace, runs, client_turned, moves, comes, handed, delivers, counted, happens}
@@ -44,7 +43,7 @@ use Rattle.tg_law_cells.proofs.Cells.Jobs.{JobOk, AppendOk}
 use Rattle.tg_law_cells.proofs.Tokens.Linked.{read_back}
 use Rattle.tg_law_cells.specs.Entries.Archive.{TrimsWereSafe}
 use Rattle.tg_law_cells.proofs.Entries.Archive.{log_is_settled}
-use Rattle.tg_law_replies.specs.Replies.Ended.{end_of, task_ends, again_ends, awaited_ends, hand_ends, latest_ends, reply_ends, work_ends, handed_ends, packet_ends, ended_in, EndsSo, AppendsEnd}
+use Rattle.tg_law_replies.specs.Replies.Ended.{end_of, work_ends, ended_in, EndsSo, AppendsEnd}
 use Rattle.tg_law_replies.specs.Books.Kept.{RecordEndsSo, RecordsEnd}
 use Rattle.tg_law_replies.proofs.Books.Effects.{IsRecord}
 use Rattle.tg_law_replies.proofs.Books.Closing.{Only, None', DraftsAre}
@@ -54,9 +53,9 @@ use Rattle.tg_law_replies.proofs.Books.Worlds.{compare, set_same, declared, deli
 use Rattle.tg_law_replies.specs.History.Worlds.{entries_in}
 use Rattle.tg_law_walks.proofs.Drafts.Became.{no_some, same_some, Holds}
 use Rattle.tg_law_walks.proofs.Drafts.Written.{draft_in, then_takes}
-use Rattle.tg_law_walks.proofs.Once.Feeding.{TokenOk, FedSo, fed_so, EndedSo, again_so}
+use Rattle.tg_law_walks.proofs.Once.Feeding.{TokenOk, FedSo, fed_so, EndedSo}
 use Rattle.tg_law_walks.proofs.Once.Feeding as feeding
-use Rattle.tg_law_walks.proofs.Once.Filling.{again_none}
+use Rattle.tg_law_walks.proofs.Once.Awaited.{turned, work_end, Delivers, delivery}
 use Rattle.tg_law_walks.proofs.Once.Turning.{tag_commit, record_number}
 use Rattle.tg_law_walks.proofs.Once.Nowhere.{reached}
 use Rattle.tg_law_walks.proofs.Once.Reached.{header, give, short, reach_at, ends_settle, append_ok, claims_of}
@@ -75,13 +74,6 @@ entry_has (x ∷ l) p d e (inr i) reads = more (entry_in x.1) (entry_has l p d e
     more : (o : Option Entry) → Has (entries_of l) (p, e) → Has (entry_if x.0 o (entries_of l)) (p, e)
     more None g = g
     more (Some y) g = inr g
-
-same_node : (a b : NodeId) → node_eq a b ≡ true → a ≡ b
-unfolding node_eq
-same_node a b h = grind arith
-
-both : (a b : Bool) → (a && b) ≡ true → (a ≡ true) × (b ≡ true)
-both a b h = grind arith
 
 module _ (m : Meaning) (h : Header) (zs : Moves m) (reach : Reaches m h zs (after m h zs)) where
   abbrev w : World m
@@ -106,62 +98,19 @@ module _ (m : Meaning) (h : Header) (zs : Moves m) (reach : Reaches m h zs (afte
       pub doing : o.work.hand ≡ Doing (Appending a o.purpose)
       pub so : EndedSo ps a x
 
-    module _ (p : Packet) (sent : Has ps p) (to : p.to ≡ client_id k) (x : AppendEnd) where
-      latest_ended : (b : Bool) (d : Client m) → latest_ends m b d (task_in m o.work.hand) ≡ Some x → Ended x
-      latest_ended true d e = again_none d.stand a (append_again d.stand a d.next).to x (again_so d.stand a d.next) (ap (λ (t : Task m). again_ends m d t) (sym o.holds) ∙ e)
-      latest_ended false d e = no_some x e
-
-      awaited_ended : (b : Bool) (t : Task m) → awaits (task_awaited m c.stand t) p.from p.rid ≡ b → t ≡ Appending a o.purpose → o.work.hand ≡ Doing t → awaited_ends m b c t p.from (reply p.msg) ≡ Some x → Ended x
-      unfolding task_asks
-      awaited_ended true t awaited is doing e =
-          let at = doing ∙ ap (λ (y : Task m). Doing y) is in
-          record {
-            doing = at;
-            so = so_ended (append_feed c.stand a a.work p.from.num (reply p.msg) c.next).to x
-                (fed_so ps c.stand a p.from.num p.msg c.next ok (append_ok m h zs reach xs ys split k a o at)
-                (claims_of m h zs reach xs ys split k a o at p (record { sent = sent; to_node = to }) (subst (λ (y : Task m). awaits (task_awaited m c.stand y) p.from p.rid ≡ true) is awaited)))
-                (ap (λ (y : Task m). task_ends m c y p.from.num (reply p.msg)) (sym is) ∙ e);
-          }
-      awaited_ended false t awaited is doing e = no_some x e
-
-      hand_ended : (d : Hand m) → o.work.hand ≡ d → task_in m d ≡ Appending a o.purpose → hand_ends m c d p.from p.rid (reply p.msg) ≡ Some x → Ended x
-      hand_ended (Doing t) doing is e = awaited_ended (awaits (task_awaited m c.stand t) p.from p.rid) t refl is doing e
-      hand_ended (Learning ws t) doing is e = no_some x e
-
-      reply_ended : (y : Reply) → reply p.msg ≡ y → reply_ends m c o.work p.from p.rid y ≡ Some x → Ended x
-      reply_ended (IsLatest q) is e = latest_ended (node_eq p.from (layout_id p.from.num) && nat_lt c.stand.epoch q.epoch) (stands m c q) e
-      reply_ended y is e = hand_ended o.work.hand refl o.holds (subst (λ (z : Reply). hand_ends m c o.work.hand p.from p.rid z ≡ Some x) (sym is) e)
-
-      work_ended : work_ends m c c.work p.from p.rid (reply p.msg) ≡ Some x → Ended x
-      work_ended e = reply_ended (reply p.msg) refl (ap (λ (v : Option (Work m)). work_ends m c v p.from p.rid (reply p.msg)) (sym o.has) ∙ e)
-
-    -- the packet that is delivered
-    pub record Delivers (e : EventOf m) (x : AppendEnd) : Type 0 where
-      pub index : ℕ
-      pub event : e ≡ Deliver index
-      pub packet : Packet
-      pub got : slice_get (after m h xs).packets index ≡ Some packet
-      pub to : packet.to ≡ client_id k
-      pub on : runs m (after m h xs) packet.to ≡ true
-      pub ends : work_ends m c c.work packet.from packet.rid (reply packet.msg) ≡ Some x
-
-    pub delivery : (e : EventOf m) (x : AppendEnd) → ended_in m (after m h xs) e k ≡ Some x → Delivers e x
-    delivery (Deliver i) x e = by (slice_get (after m h xs).packets i) refl e
-      where
-        here : (p : Packet) → slice_get (after m h xs).packets i ≡ Some p → (b : Bool) → (node_eq p.to (client_id k) && runs m (after m h xs) p.to) ≡ b → handed_ends m b c p ≡ Some x → Delivers (Deliver i) x
-        here p got true on e = let f = both (node_eq p.to (client_id k)) (runs m (after m h xs) p.to) on in record { index = i; event = refl; packet = p; got = got; to = same_node p.to (client_id k) f.0; on = f.1; ends = e }
-        here p got false on e = no_some x e
-
-        by : (q : Option Packet) → slice_get (after m h xs).packets i ≡ q → packet_ends m (after m h xs) k q ≡ Some x → Delivers (Deliver i) x
-        by None got e = no_some x e
-        by (Some p) got e = here p got (node_eq p.to (client_id k) && runs m (after m h xs) p.to) refl e
-    delivery (Commands j y) x e = no_some x e
-    delivery (Lose i) x e = no_some x e
-    delivery (Tick n) x e = no_some x e
-    delivery (Stop n) x e = no_some x e
+    work_ended : (p : Packet) → Has ps p → p.to ≡ client_id k → (x : AppendEnd) → work_ends m c c.work p.from p.rid (reply p.msg) ≡ Some x → Ended x
+    unfolding task_asks
+    work_ended p sent to x e =
+        let r = work_end m c a o p.from p.rid (reply p.msg) x e in
+        record {
+          doing = r.doing;
+          so = so_ended (turned m c a o p.from p.rid (reply p.msg)).to x
+              (fed_so ps c.stand a p.from.num p.msg c.next ok (append_ok m h zs reach xs ys split k a o r.doing) (claims_of m h zs reach xs ys split k a o r.doing p (record { sent = sent; to_node = to }) r.awaited))
+              r.ends;
+        }
 
     pub ended_so : (e : EventOf m) (x : AppendEnd) → ended_in m (after m h xs) e k ≡ Some x → Ended x
-    ended_so e x is = let d = delivery e x is in work_ended d.packet (has_got ps d.index d.packet d.got) d.to x d.ends
+    ended_so e x is = let d = delivery m (after m h xs) k e x is in work_ended d.packet (has_got ps d.index d.packet d.got) d.to x d.ends
 
     -- An append that has ended at a position, whose draft has a spelling.
 
@@ -227,27 +176,8 @@ module _ (m : Meaning) (h : Header) (zs : Moves m) (reach : Reaches m h zs (afte
           by (Learns b) e = no_some (Forgotten p below) e
           by (Ends y) e = subst (λ (z : AppendEnd). Shut (append_ended m (after_turn m c u) (met m o.work u) o.purpose z)) (sym (same_some y (Forgotten p below) e)) (forgotten_end (after_turn m c u) (met m o.work u) refl refl)
 
-      module _ (q : Packet) where
-        forgotten_task : (b : Bool) (t : Task m) → t ≡ Appending a o.purpose → awaited_ends m b c t q.from (reply q.msg) ≡ Some (Forgotten p below) → Shut (fed_if m b c o.work t q.from q.rid (reply q.msg))
-        unfolding task_feed
-        forgotten_task true t is e = subst (λ (y : Task m). Shut (task_feed m c o.work y q.from.num q.rid (reply q.msg))) (sym is)
-            (forgotten_append (append_feed c.stand a a.work q.from.num (reply q.msg) c.next) (ap (λ (y : Task m). task_ends m c y q.from.num (reply q.msg)) (sym is) ∙ e))
-        forgotten_task false t is e = no_some (Forgotten p below) e
-
-        forgotten_hand : (d : Hand m) → task_in m d ≡ Appending a o.purpose → hand_ends m c d q.from q.rid (reply q.msg) ≡ Some (Forgotten p below) → Shut (hand_feed m c o.work d q.from q.rid (reply q.msg))
-        forgotten_hand (Doing t) is e = forgotten_task (awaits (task_awaited m c.stand t) q.from q.rid) t is e
-        forgotten_hand (Learning ws t) is e = no_some (Forgotten p below) e
-
-        forgotten_latest : {X : Type 0} (b : Bool) (d : Client m) → latest_ends m b d (task_in m o.work.hand) ≡ Some (Forgotten p below) → X
-        forgotten_latest true d e = again_none d.stand a (append_again d.stand a d.next).to (Forgotten p below) (again_so d.stand a d.next) (ap (λ (t : Task m). again_ends m d t) (sym o.holds) ∙ e)
-        forgotten_latest false d e = no_some (Forgotten p below) e
-
-        forgotten_reply : (y : Reply) → reply q.msg ≡ y → reply_ends m c o.work q.from q.rid y ≡ Some (Forgotten p below) → Shut (reply_feed m c o.work q.from q.rid y)
-        forgotten_reply (IsLatest l) is e = forgotten_latest (node_eq q.from (layout_id q.from.num) && nat_lt c.stand.epoch l.epoch) (stands m c l) e
-        forgotten_reply y is e = subst (λ (z : Reply). hand_ends m c o.work.hand q.from q.rid z ≡ Some (Forgotten p below) → Shut (hand_feed m c o.work o.work.hand q.from q.rid z)) is (forgotten_hand o.work.hand o.holds) e
-
-        pub forgotten_feed : work_ends m c c.work q.from q.rid (reply q.msg) ≡ Some (Forgotten p below) → Shut (feed m c c.work q.from q.rid (reply q.msg))
-        forgotten_feed e = subst (λ (v : Option (Work m)). Shut (feed m c v q.from q.rid (reply q.msg))) (sym o.has) (forgotten_reply (reply q.msg) refl (ap (λ (v : Option (Work m)). work_ends m c v q.from q.rid (reply q.msg)) (sym o.has) ∙ e))
+      pub forgotten_feed : (q : Packet) → work_ends m c c.work q.from q.rid (reply q.msg) ≡ Some (Forgotten p below) → Shut (feed m c c.work q.from q.rid (reply q.msg))
+      forgotten_feed q e = let r = work_end m c a o q.from q.rid (reply q.msg) (Forgotten p below) e in subst Shut (sym r.moved) (forgotten_append (turned m c a o q.from q.rid (reply q.msg)) r.ends)
 
   -- A delivery to a client.
 
@@ -274,7 +204,7 @@ module _ (m : Meaning) (h : Header) (zs : Moves m) (reach : Reaches m h zs (afte
     now : after m h (xs ++ Takes e ∷ []) ≡ happens m (after m h xs) e
     now = then_takes m h xs e
 
-    only : (commit : is_commit a.draft ≡ true) (p below : ℕ) → Delivers xs tail split k a o (s.tokens a o) e (Forgotten p below) → Only m a.draft.head.number (None' m) (client m (happens m (after m h xs) e) k)
+    only : (commit : is_commit a.draft ≡ true) (p below : ℕ) → Delivers m (after m h xs) k e (Forgotten p below) → Only m a.draft.head.number (None' m) (client m (happens m (after m h xs) e) k)
     only commit p below d = subst (Only m a.draft.head.number (None' m)) (sym moved) (
       let b = shut.begun in let n = record_number m k (trace m (after m h xs)) (client m (after m h xs) k) (books m h zs reach xs k) a o commit in omega (arith, b, n),
       λ t is number. other t (shut.open' t is) number,
@@ -302,7 +232,7 @@ module _ (m : Meaning) (h : Header) (zs : Moves m) (reach : Reaches m h zs (afte
             by (Saves i u) is y = isnt (sym y ∙ commit)
 
     -- a record that was forgotten stands nowhere else
-    nowhere_else : (p below : ℕ) → Delivers xs tail split k a o (s.tokens a o) e (Forgotten p below) → feeding.Forgets (after m h xs).packets a p → RecordEndsSo m (entries_in m w) a.draft (Forgotten p below)
+    nowhere_else : (p below : ℕ) → Delivers m (after m h xs) k e (Forgotten p below) → feeding.Forgets (after m h xs).packets a p → RecordEndsSo m (entries_in m w) a.draft (Forgotten p below)
     nowhere_else p below d f q y i commit mine same number = by ((leaving m h zs reach).of k (put_there m h zs reach k q y z client_is) tag)
       where
         z : Stands m h zs reach q y
@@ -350,12 +280,12 @@ module _ (m : Meaning) (h : Header) (zs : Moves m) (reach : Reaches m h zs (afte
     pub all_ends_so : entry.fits a.draft ≡ true → (x : AppendEnd) → ended_in m (after m h xs) e k ≡ Some x → EndsSo m (entries_in m w) a.draft x
     all_ends_so spelled (At p d) is = let f = ended_so xs tail split k a o (s.tokens a o) e (At p d) is in landed xs tail split k a o (s.tokens a o) safe f.doing p d f.so spelled
     all_ends_so spelled (Full l) is = tt
-    all_ends_so spelled (Forgotten p below) is = nowhere_else p below (delivery xs tail split k a o (s.tokens a o) e (Forgotten p below) is) (ended_so xs tail split k a o (s.tokens a o) e (Forgotten p below) is).so
+    all_ends_so spelled (Forgotten p below) is = nowhere_else p below (delivery m (after m h xs) k e (Forgotten p below) is) (ended_so xs tail split k a o (s.tokens a o) e (Forgotten p below) is).so
 
     pub ends_so : (x : AppendEnd) → ended_in m (after m h xs) e k ≡ Some x → RecordEndsSo m (entries_in m w) a.draft x
     ends_so (At p d) is = let f = ended_so xs tail split k a o (s.tokens a o) e (At p d) is in λ commit. landed xs tail split k a o (s.tokens a o) safe f.doing p d f.so (whole m a.draft (draft_in m h zs (header m h zs reach) (give m h zs reach) (short m h zs reach) xs tail split k a o).fits (tag_commit a.draft.body a.draft refl commit))
     ends_so (Full l) is = tt
-    ends_so (Forgotten p below) is = nowhere_else p below (delivery xs tail split k a o (s.tokens a o) e (Forgotten p below) is) (ended_so xs tail split k a o (s.tokens a o) e (Forgotten p below) is).so
+    ends_so (Forgotten p below) is = nowhere_else p below (delivery m (after m h xs) k e (Forgotten p below) is) (ended_so xs tail split k a o (s.tokens a o) e (Forgotten p below) is).so
 
   pub all_end_here : ((k : ℕ) (xs ys : Moves m) (a : Append) → zs ≡ xs ++ ys → Holds m (client m (after m h xs) k) a → entry.fits a.draft ≡ true) → TrimsWereSafe m h zs → AppendsEnd m h zs w
   all_end_here spelled safe before rest e split k a x has is =

@@ -4,16 +4,19 @@ use Rattle.std.specs.Prelude.{not, nat_le, ◌&&◌, ◌==◌}
 use Rattle.tg_base.specs.Layouts.{Layout}
 use Rattle.tg_base.specs.declared.cell.Cell.{Cell}
 use Rattle.tg_base.specs.declared.cell.Cell.TheVariants.{Data}
-use Rattle.tg_base.specs.declared.marks.StreamLink.{StreamLink}
 use Rattle.tg_base.specs.declared.msg.Msg.{Msg}
 use Rattle.tg_base.specs.declared.packet.Packet.{Packet}
 use Rattle.tg_entry.specs.declared.entry.Entry.{Entry}
 use Rattle.tg_protocol.specs.Words.{cell_eq}
 use Rattle.tg_protocol.specs.Requests.{Next, Goes, Learns, Ends}
 use Rattle.tg_protocol.specs.Replies.{Reply, reply}
-use Rattle.tg_protocol.specs.Replies as replied
-use Rattle.tg_protocol.specs.Cells.{Place, unit_at, CellWork, Puts, CellJob, CellEnd, Done, Seen, Lost, Fenced, Gone, works, put_on, end_if, put_cell, fill_cell, work_feed, cell_feed}
-use Rattle.tg_protocol.specs.Appending.{on_older, on_newer, AppendWork, Asking, Putting, Judging, Token, Append, AppendEnd, At, Full, Forgotten, put_end, put_next, own_or_not, judge_end, judge_next, on_issued, asking_feed, append_feed, dead_or_judged, again_with, append_again}
+use Rattle.tg_protocol.specs.Cells.{Place, unit_at, CellWork, Puts, CellJob, CellEnd, Done, Lost, cell_feed}
+use Rattle.tg_protocol.specs.Appending.{AppendWork, Asking, Putting, Judging, Token, Append, AppendEnd, At, Full, Forgotten, append_feed, append_again}
+use Rattle.tg_protocol.specs.Requests.{Turn}
+use Rattle.tg_law_steps.proofs.Machines.Cells as cells
+use Rattle.tg_law_steps.proofs.Machines.Cells.{cell_fed, IsCopied, FillHeld, FillTaken, CopyHeld, CopySame}
+use Rattle.tg_law_steps.proofs.Machines.Appends as appending
+use Rattle.tg_law_steps.proofs.Machines.Appends.{putting, judging, append_fed, append_anew}
 use Rattle.tg_law_layouts.proofs.Moves.Units.{cell_same}
 use Rattle.tg_law_cells.proofs.Cells.Justified.{ToldBy, EndOk, NextOk}
 use Rattle.tg_law_cells.proofs.Cells.Jobs.{AppendOk, AppendClaims, cell_ok}
@@ -34,25 +37,19 @@ PutNext a d (Ends (Done c)) = c ≡ Data d
 PutNext a d (Ends (Lost c)) = c ≡ Data d → ⊥
 PutNext a d (Ends e) = Unit {0}
 
-put_again : (a : Place) (d : List ℕ) (r i : ℕ) → IsPut (Puts r d i) d
-put_again a d r i = record { rid = r; index = i; is = refl }
+same_data : (r i : ℕ) (c d : List ℕ) → IsPut (Puts r c i) d → c ≡ d
+same_data r i c d p = let e = p.is in cc
 
-put_on_next : (a : Place) (d : List ℕ) (i next : ℕ) (b : Bool) → PutNext a d (put_on a d i next b).to
-put_on_next a d i next true = (refl, put_again a d next i)
-put_on_next a d i next false = refl
+-- what copies a cell puts no page
+no_copy : (u : ℕ) (x : Reply) (next : ℕ) (w : CellWork) (c : Cell) (i : ℕ) (d : List ℕ) → IsCopied u x next w c i → IsPut w d → ⊥
+no_copy u x next _ c _ d (FillHeld r e) p = let f = p.is in cc
+no_copy u x next _ c _ d (FillTaken r _ e) p = let f = p.is in cc
+no_copy u x next _ c _ d (CopyHeld r _ i e) p = let f = p.is in cc
+no_copy u x next _ c _ d (CopySame r _ i y e g) p = let f = p.is in cc
 
--- an end that is no cell's
-fenced_next : (b : Bool) (a : Place) (d : List ℕ) (r i next u e : ℕ) → PutNext a d (end_if b (works a (Puts r d i)) next (Fenced u e)).to
-fenced_next true a d r i next u e = tt
-fenced_next false a d r i next u e = (refl, put_again a d r i)
-
-gone_next : (b : Bool) (a : Place) (d : List ℕ) (r i next g : ℕ) → PutNext a d (end_if b (works a (Puts r d i)) next (Gone g)).to
-gone_next true a d r i next g = tt
-gone_next false a d r i next g = (refl, put_again a d r i)
-
--- the test of a loss
-lost_next : (a : Place) (d : List ℕ) (r i : ℕ) (c : Cell) (next : ℕ) (b : Bool) → ((i == 0) && not (cell_eq c (Data d))) ≡ b → PutNext a d (end_if b (works a (Puts r d i)) next (Lost c)).to
-lost_next a d r i c next true e = λ same. differ (cell_eq c (Data d)) (rest (i == 0) (not (cell_eq c (Data d))) e) (ap (λ (x : Cell). cell_eq x (Data d)) same ∙ cell_self (Data d))
+-- a loss tells another cell
+other_cell : (i : ℕ) (c : Cell) (d : List ℕ) → ((i == 0) && not (cell_eq c (Data d))) ≡ true → c ≡ Data d → ⊥
+other_cell i c d e same = differ (cell_eq c (Data d)) (rest (i == 0) (not (cell_eq c (Data d))) e) (ap (λ (x : Cell). cell_eq x (Data d)) same ∙ cell_self (Data d))
   where
     rest : (s t : Bool) → (s && t) ≡ true → t ≡ true
     rest s t e = grind arith
@@ -60,19 +57,24 @@ lost_next a d r i c next true e = λ same. differ (cell_eq c (Data d)) (rest (i 
     differ : (b : Bool) → not b ≡ true → b ≡ true → ⊥
     differ true e f = cc
     differ false e f = cc
-lost_next a d r i c next false e = (refl, put_again a d r i)
 
-puts_next : (a : Place) (d : List ℕ) (r i u : ℕ) (x : Reply) (next : ℕ) → PutNext a d (work_feed (works a (Puts r d i)) (Puts r d i) u x next).to
-unfolding work_feed
-puts_next a d r i u (replied.IsFenced e) next = fenced_next _ a d r i next u e
-puts_next a d r i u replied.IsHeld next = put_on_next a d (i + 1) next _
-puts_next a d r i u (replied.IsTaken c) next = lost_next a d r i c next _ refl
-puts_next a d r i u (replied.IsGone b) next = gone_next _ a d r i next b
-puts_next a d r i u x next = (refl, put_again a d r i)
+module _ (d : List ℕ) (u : ℕ) (x : Reply) (next : ℕ) where
+  cell_next : (j : CellJob) (t : Turn CellJob CellEnd) → cells.Fed u x next j t → IsPut j.work d → PutNext j.place d t.to
+  cell_next _ _ (cells.IsFence j e is f) p = tt
+  cell_next _ _ (cells.IsTrim a w b one is f) p = tt
+  cell_next _ _ (cells.PutsOn a r c i is f) p = (refl, record { rid = next; index = i + 1; is = ap (λ (z : List ℕ). Puts next z (i + 1)) (same_data r i c d p) })
+  cell_next _ _ (cells.PutsLast a r c i is f) p = ap (λ (z : List ℕ). Data z) (same_data r i c d p)
+  cell_next _ _ (cells.PutRefused a r c i y is f) p = subst (λ (z : List ℕ). y ≡ Data z → ⊥) (same_data r i c d p) (other_cell i y c f)
+  cell_next _ _ (cells.ReadsCell a r c is) p = let e = p.is in absurd cc
+  cell_next _ _ (cells.ReadsNone a r is) p = let e = p.is in absurd cc
+  cell_next _ _ (cells.CopiesOn a w c i k f) p = absurd (no_copy u x next w c i d k p)
+  cell_next _ _ (cells.CopiesLast a w c i k f) p = absurd (no_copy u x next w c i d k p)
+  cell_next _ _ (cells.ProbesLast a ws k f) p = let e = p.is in absurd cc
+  cell_next _ _ (cells.ProbesOn a ws v vs k f) p = let e = p.is in absurd cc
+  cell_next _ _ (cells.Nothing j) p = (refl, p)
 
 job_next : (j : CellJob) (d : List ℕ) → IsPut j.work d → (u : ℕ) (x : Reply) (next : ℕ) → PutNext j.place d (cell_feed j u x next).to
-unfolding cell_feed
-job_next j d p u x next = subst (λ (w : CellWork). PutNext j.place d (work_feed (works j.place w) w u x next).to) (sym p.is) (puts_next j.place d p.rid p.index u x next)
+job_next j d p u x next = cell_next d u x next j (cell_feed j u x next) (cell_fed u x next j) p
 
 -- Of an append: while it asks it has no token, and the machine that is in hand is of its token.
 abbrev pub WorkToken : Option Token → AppendWork → Type 0
@@ -163,120 +165,98 @@ module _ (ps : List Packet) where
   no_judge : (j k : CellJob) → Judging j ≡ Putting k → ⊥
   no_judge j k e = cc
 
-  module _ (d : Entry) where
-    abbrev with_put : Token → CellJob → Append
-    with_put t j = record { draft = d; token = Some t; work = Putting j }
+  contrary : (b : Bool) → b ≡ true → b ≡ false → ⊥
+  contrary b f g = cc
 
-    abbrev with_judge : Token → CellJob → Append
-    with_judge t j = record { draft = d; token = Some t; work = Judging j }
+  equal : (t : Token) (c : Cell) → cell_eq c (Data t.page) ≡ true → c ≡ Data t.page
+  equal t c e = by (cell_same c (Data t.page))
+    where
+      by : (cell_eq c (Data t.page) ≡ false) ⊎ (c ≡ Data t.page) → c ≡ Data t.page
+      by (inl f) = absurd (contrary (cell_eq c (Data t.page)) e f)
+      by (inr s) = s
 
-    same_put : (j k : CellJob) (t : Token) → j.place.pos ≡ t.pos → (i : CellJob) → (Putting j ≡ Putting i) ⊎ (Putting j ≡ Judging i) → i.place.pos ≡ t.pos
-    same_put j k t at i (inl e) = subst (λ (x : CellJob). x.place.pos ≡ t.pos) (is_put j i e) at
-    same_put j k t at i (inr e) = absurd cc
+  same_put : (j : CellJob) (t : Token) → j.place.pos ≡ t.pos → (i : CellJob) → (Putting j ≡ Putting i) ⊎ (Putting j ≡ Judging i) → i.place.pos ≡ t.pos
+  same_put j t at i (inl e) = subst (λ (x : CellJob). x.place.pos ≡ t.pos) (is_put j i e) at
+  same_put j t at i (inr e) = absurd cc
 
-    same_judge : (j : CellJob) (t : Token) → j.place.pos ≡ t.pos → (i : CellJob) → (Judging j ≡ Putting i) ⊎ (Judging j ≡ Judging i) → i.place.pos ≡ t.pos
-    same_judge j t at i (inl e) = absurd cc
-    same_judge j t at i (inr e) = let f : j ≡ i = cc in subst (λ (x : CellJob). x.place.pos ≡ t.pos) f at
+  same_judge : (j : CellJob) (t : Token) → j.place.pos ≡ t.pos → (i : CellJob) → (Judging j ≡ Putting i) ⊎ (Judging j ≡ Judging i) → i.place.pos ≡ t.pos
+  same_judge j t at i (inl e) = absurd cc
+  same_judge j t at i (inr e) = let f : j ≡ i = cc in subst (λ (x : CellJob). x.place.pos ≡ t.pos) f at
 
-    put_ended : (t : Token) (j : CellJob) (e : CellEnd) (next : ℕ) → j.place.pos ≡ t.pos → IsPut j.work t.page → PutNext j.place t.page (Ends e) → EndOk ps j.place e → FedSo (with_put t j) (put_end (with_put t j) t e next).to
-    put_ended t j (Done c) next at put n told = record { of = t; had = refl; at = refl; page = refl; job = j; works = inl refl; pos = at; told = subst (λ (x : Cell). EndOk ps j.place (Done x)) n told }
-    put_ended t j (Lost c) next at put n told = inr (inr (record {
-      none = refl;
-      ok = refl;
-      asks = λ k e. no_put next k e;
+  put_at : (d : Entry) (t : Token) (j : CellJob) → TokenOk (putting d t j) → (j.place.pos ≡ t.pos) × IsPut j.work t.page
+  put_at d t j ok = let e = some_is ok.0 t (sym ok.1) in (ok.2 ∙ ap (λ (x : Token). x.pos) e, subst (λ (x : Token). IsPut j.work x.page) e ok.3)
+
+  judge_at : (d : Entry) (t : Token) (j : CellJob) → TokenOk (judging d t j) → j.place.pos ≡ t.pos
+  judge_at d t j ok = ok.2 ∙ ap (λ (x : Token). x.pos) (some_is ok.0 t (sym ok.1))
+
+  module _ (p : Layout) (n : ℕ) (y : Msg) (next : ℕ) where
+    told : (j k : CellJob) (to : Next CellJob CellEnd) → (cell_feed j n (reply y) next).to ≡ to → AppendOk ps p (Putting j) → AppendClaims ps p (Putting j) y → NextOk ps j.place to
+    told j k to e ok h = subst (NextOk ps j.place) e (cell_ok ps p j y ok h n next)
+
+    told_judging : (j : CellJob) (to : Next CellJob CellEnd) → (cell_feed j n (reply y) next).to ≡ to → AppendOk ps p (Judging j) → AppendClaims ps p (Judging j) y → NextOk ps j.place to
+    told_judging j to e ok h = subst (NextOk ps j.place) e (cell_ok ps p j y ok h n next)
+
+    put_next : (d : Entry) (t : Token) (j : CellJob) (to : Next CellJob CellEnd) → (cell_feed j n (reply y) next).to ≡ to → TokenOk (putting d t j) → PutNext j.place t.page to
+    put_next d t j to e ok = subst (PutNext j.place t.page) e (job_next j t.page (put_at d t j ok).1 n (reply y) next)
+
+    so : (a : Append) (t : Turn Append AppendEnd) → appending.Fed p n (reply y) next a t → TokenOk a → AppendOk ps p a.work → AppendClaims ps p a.work y → FedSo a t.to
+    so _ _ (appending.Issues d o r pos ls is e) ok k h = inr (inl (record { was = ok; ok = (_, refl, refl, record { rid = next; index = 0; is = refl }); job = _; works = refl }))
+    so _ _ (appending.IsFilled d o r l is) ok k h = ok
+    so _ _ (appending.TellsLayout d o r e is f g) ok k h = inl (stays _ ok)
+    so _ _ (appending.LearnsEpoch d o r e is f) ok k h = refl
+    so _ _ (appending.Nothing a) ok k h = inl (stays a ok)
+    so _ _ (appending.PutGoes d t j i e) ok k h =
+        let f = put_next d t j (Goes i) e ok in
+        inl (record { token = refl; ok = (t, refl, ap (λ (a : Place). a.pos) f.0 ∙ (put_at d t j ok).0, f.1); place = λ z q. (j, refl, ap (λ (y : CellJob). y.place) (sym (is_put i z q)) ∙ f.0) })
+    so _ _ (appending.PutDone d t j c e) ok k h = record {
       of = t;
       had = refl;
-      pos = same_put j j t at;
-      why = inl (record { job = j; works = refl; cell = c; told = told; other = n });
-    }))
-    put_ended t j (Gone b) next at put n told = record { of = t; had = refl; at = refl }
-    put_ended t j (Fenced u e) next at put n told = refl
-    put_ended t j Seen next at put n told = inl (stays (with_put t j) (t, refl, at, put))
-
-    put_fed : (t : Token) (j : CellJob) (to : Next CellJob CellEnd) (next : ℕ) → j.place.pos ≡ t.pos → IsPut j.work t.page → PutNext j.place t.page to → NextOk ps j.place to → FedSo (with_put t j) (put_next (with_put t j) t to next).to
-    put_fed t j (Goes x) next at put n told = inl (record {
-      token = refl;
-      ok = (t, refl, ap (λ (a : Place). a.pos) n.0 ∙ at, n.1);
-      place = λ k e. (j, refl, ap (λ (y : CellJob). y.place) (sym (is_put x k e)) ∙ n.0);
-    })
-    put_fed t j (Learns x) next at put n told = refl
-    put_fed t j (Ends e) next at put n told = put_ended t j e next at put n told
-
-    own_fed : (t : Token) (j : CellJob) (c : Cell) (next : ℕ) (b : Bool) → cell_eq c (Data t.page) ≡ b → j.place.pos ≡ t.pos → EndOk ps j.place (Done c) → FedSo (with_judge t j) (own_or_not (with_judge t j) t next b).to
-    own_fed t j c next true e at told = record { of = t; had = refl; at = refl; page = refl; job = j; works = inr refl; pos = at; told = subst (λ (x : Cell). EndOk ps j.place (Done x)) (equal (cell_same c (Data t.page))) told }
-      where
-        contrary : (b : Bool) → b ≡ true → b ≡ false → ⊥
-        contrary b f g = cc
-
-        equal : (cell_eq c (Data t.page) ≡ false) ⊎ (c ≡ Data t.page) → c ≡ Data t.page
-        equal (inl f) = absurd (contrary (cell_eq c (Data t.page)) e f)
-        equal (inr s) = s
-    own_fed t j c next false e at told = inr (inr (record {
+      at = refl;
+      page = refl;
+      job = j;
+      works = inl refl;
+      pos = (put_at d t j ok).0;
+      told = subst (λ (x : Cell). EndOk ps j.place (Done x)) (put_next d t j (Ends (Done c)) e ok) (told j j (Ends (Done c)) e k h);
+    }
+    so _ _ (appending.PutLost d t j c e) ok k h = inr (inr (record {
       none = refl;
       ok = refl;
-      asks = λ k f. no_put next k f;
+      asks = λ z q. no_put _ z q;
       of = t;
       had = refl;
-      pos = same_judge j t at;
-      why = inr (record { job = j; works = refl; cell = c; told = told; other = λ same. contrary (cell_eq c (Data t.page)) (ap (λ (x : Cell). cell_eq x (Data t.page)) same ∙ cell_self (Data t.page)) e });
+      pos = same_put j t (put_at d t j ok).0;
+      why = inl (record { job = j; works = refl; cell = c; told = told j j (Ends (Lost c)) e k h; other = put_next d t j (Ends (Lost c)) e ok });
     }))
-      where
-        contrary : (b : Bool) → b ≡ true → b ≡ false → ⊥
-        contrary b f g = cc
-
-    judge_ended : (t : Token) (j : CellJob) (e : CellEnd) (next : ℕ) → j.place.pos ≡ t.pos → EndOk ps j.place e → FedSo (with_judge t j) (judge_end (with_judge t j) t e next).to
-    judge_ended t j (Done c) next at told = own_fed t j c next _ refl at told
-    judge_ended t j (Gone b) next at told = record { of = t; had = refl; at = refl }
-    judge_ended t j (Fenced u e) next at told = refl
-    judge_ended t j Seen next at told = inl (stays (with_judge t j) (t, refl, at))
-    judge_ended t j (Lost c) next at told = inl (stays (with_judge t j) (t, refl, at))
-
-    judge_fed : (t : Token) (j : CellJob) (to : Next CellJob CellEnd) (next : ℕ) → j.place.pos ≡ t.pos → NextOk ps j.place to → FedSo (with_judge t j) (judge_next (with_judge t j) t to next).to
-    judge_fed t j (Goes x) next at told = inl (record { token = refl; ok = (t, refl, ap (λ (a : Place). a.pos) told.0 ∙ at); place = λ k e. absurd (no_judge x k e) })
-    judge_fed t j (Learns x) next at told = refl
-    judge_fed t j (Ends e) next at told = judge_ended t j e next at told
-
-    abbrev asking : ℕ → Append
-    asking r = record { draft = d; token = None; work = Asking r }
-
-    issued_fed : (p : Layout) (r pos : ℕ) (ls : List StreamLink) (next : ℕ) (b : Bool) → FedSo (asking r) (on_issued p (asking r) pos ls next b).to
-    unfolding put_cell
-    issued_fed p r pos ls next true = inr (inl (record { was = refl; ok = (_, refl, refl, record { rid = next; index = 0; is = refl }); job = _; works = refl }))
-    issued_fed p r pos ls next false = inl (stays (asking r) refl)
-
-    older_fed : (p : Layout) (r next : ℕ) (b : Bool) → FedSo (asking r) (on_older {M = Append} {E = AppendEnd} p next (asking r) b).to
-    older_fed p r next true = inl (stays (asking r) refl)
-    older_fed p r next false = inl (stays (asking r) refl)
-
-    newer_fed : (p : Layout) (r e next : ℕ) (b : Bool) → FedSo (asking r) (on_newer {M = Append} {E = AppendEnd} p e next (asking r) b).to
-    newer_fed p r e next true = refl
-    newer_fed p r e next false = older_fed p r next _
-
-    asked_fed : (p : Layout) (r : ℕ) (x : Reply) (next : ℕ) → FedSo (asking r) (asking_feed p (asking r) x next).to
-    asked_fed p r (replied.IsIssued pos ls) next = issued_fed p r pos ls next _
-    asked_fed p r (replied.IsFull l) next = refl
-    asked_fed p r (replied.IsOldEpoch e) next = newer_fed p r e next _
-    asked_fed p r x next = inl (stays (asking r) refl)
-
-    fed_at : (p : Layout) (o : Option Token) (w : AppendWork) (n : ℕ) (y : Msg) (next : ℕ) → WorkToken o w → AppendOk ps p w → AppendClaims ps p w y
-        → FedSo (record { draft = d; token = o; work = w }) (append_feed p (record { draft = d; token = o; work = w }) w n (reply y) next).to
-    unfolding append_feed
-    fed_at p None (Asking r) n y next ok k h = asked_fed p r (reply y) next
-    fed_at p (Some t) (Asking r) n y next ok k h = absurd cc
-    fed_at p None (Putting j) n y next ok k h = let e = ok.1 in absurd cc
-    fed_at p (Some t) (Putting j) n y next ok k h =
-        let e = some_is ok.0 t (sym ok.1) in
-        let at = ok.2 ∙ ap (λ (x : Token). x.pos) e in
-        let put = subst (λ (x : Token). IsPut j.work x.page) e ok.3 in
-        put_fed t j (cell_feed j n (reply y) next).to (cell_feed j n (reply y) next).next at put (job_next j t.page put n (reply y) next) (cell_ok ps p j y k h n next)
-    fed_at p None (Judging j) n y next ok k h = let e = ok.1 in absurd cc
-    fed_at p (Some t) (Judging j) n y next ok k h =
-        let e = some_is ok.0 t (sym ok.1) in
-        judge_fed t j (cell_feed j n (reply y) next).to (cell_feed j n (reply y) next).next (ok.2 ∙ ap (λ (x : Token). x.pos) e) (cell_ok ps p j y k h n next)
+    so _ _ (appending.PutGone d t j b e) ok k h = record { of = t; had = refl; at = refl }
+    so _ _ (appending.JudgeGoes d t j i e) ok k h =
+        inl (record { token = refl; ok = (t, refl, ap (λ (a : Place). a.pos) (told_judging j (Goes i) e k h).0 ∙ judge_at d t j ok); place = λ z q. absurd (no_judge i z q) })
+    so _ _ (appending.JudgeOwn d t j c e f) ok k h = record {
+      of = t;
+      had = refl;
+      at = refl;
+      page = refl;
+      job = j;
+      works = inr refl;
+      pos = judge_at d t j ok;
+      told = subst (λ (x : Cell). EndOk ps j.place (Done x)) (equal t c f) (told_judging j (Ends (Done c)) e k h);
+    }
+    so _ _ (appending.JudgeOther d t j c e f) ok k h = inr (inr (record {
+      none = refl;
+      ok = refl;
+      asks = λ z q. no_put _ z q;
+      of = t;
+      had = refl;
+      pos = same_judge j t (judge_at d t j ok);
+      why = inr (record { job = j; works = refl; cell = c; told = told_judging j (Ends (Done c)) e k h; other = λ same. contrary (cell_eq c (Data t.page)) (ap (λ (x : Cell). cell_eq x (Data t.page)) same ∙ cell_self (Data t.page)) f });
+    }))
+    so _ _ (appending.JudgeGone d t j b e) ok k h = record { of = t; had = refl; at = refl }
+    so _ _ (appending.JobLearns d t w j i of e) ok k h = refl
+    so _ _ (appending.JobFenced d t w j u f of e) ok k h = refl
+    so _ _ (appending.JobPasses d t w j f of e) ok k h = inl (stays _ ok)
 
   -- an awaited answer
   pub fed_so : (p : Layout) (a : Append) (n : ℕ) (y : Msg) (next : ℕ) → TokenOk a → AppendOk ps p a.work → AppendClaims ps p a.work y → FedSo a (append_feed p a a.work n (reply y) next).to
-  fed_so p a n y next ok k h = fed_at a.draft p a.token a.work n y next ok k h
+  fed_so p a n y next ok k h = so p n y next a (append_feed p a a.work n (reply y) next) (append_fed p n (reply y) next a) ok k h
 
 -- In a newer layout: a token at or past its start is given up, and the position of another is settled first.
 
@@ -300,15 +280,10 @@ AgainSo q a x = ⊥
 starts_below : (p q : ℕ) → nat_le p q ≡ true → p ≤ q
 starts_below p q e = grind arith
 
-dead_so : (q : Layout) (d : Entry) (w : AppendWork) (t : Token) (next : ℕ) (b : Bool) → nat_le q.start t.pos ≡ b → AgainSo q (record { draft = d; token = Some t; work = w }) (dead_or_judged q (record { draft = d; token = Some t; work = w }) t next b).to
-unfolding fill_cell
-dead_so q d w t next true e = inl (record { none = refl; ok = refl; asks = λ k f. cc; why = λ u is. subst (λ (x : Token). q.start ≤ x.pos) (some_is t u is) (starts_below q.start t.pos e) })
-dead_so q d w t next false e = inr (record { of = t; had = refl; has = refl; ok = (t, refl, refl); asks = λ k f. cc })
+anew_so : (q : Layout) (next : ℕ) (a : Append) (t : Turn Append AppendEnd) → appending.Anew q next a t → AgainSo q a t.to
+anew_so q next _ _ (appending.HasNone d w) = inl (record { none = refl; ok = refl; asks = λ k f. cc; why = λ t is. absurd cc })
+anew_so q next _ _ (appending.IsDead d t w e) = inl (record { none = refl; ok = refl; asks = λ k f. cc; why = λ u is. subst (λ (x : Token). q.start ≤ x.pos) (some_is t u is) (starts_below q.start t.pos e) })
+anew_so q next _ _ (appending.Settles d t w e) = inr (record { of = t; had = refl; has = refl; ok = (t, refl, refl); asks = λ k f. cc })
 
 pub again_so : (q : Layout) (a : Append) (next : ℕ) → AgainSo q a (append_again q a next).to
-unfolding append_again
-again_so q a next = by a.token
-  where
-    by : (o : Option Token) → AgainSo q (record { draft = a.draft; token = o; work = a.work }) (again_with q (record { draft = a.draft; token = o; work = a.work }) next o).to
-    by None = inl (record { none = refl; ok = refl; asks = λ k f. cc; why = λ t is. absurd cc })
-    by (Some t) = dead_so q a.draft a.work t next _ refl
+again_so q a next = anew_so q next a (append_again q a next) (append_anew q next a)

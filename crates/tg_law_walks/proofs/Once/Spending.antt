@@ -164,7 +164,7 @@ turn_of m g k tr book u (Hears' p comes) =
       moved = feed m (client_in m g k) (client_in m g k).work p.from p.rid (reply p.msg);
       turn = d.turned;
       now = delivered_as m (client_in m g k) p;
-      full = λ a o ok rec idle t open'. fed_idle m (client_in m g k) a o ok rec p.from p.rid t (reply p.msg) idle open';
+      full = λ a o ok rec idle t open'. fed_idle m (client_in m g k) a o ok rec (book.suits o.work o.has) p.from p.rid t (reply p.msg) idle open';
     }
 turn_of m g k tr book u Ticks' =
     let t = tick_of m (client_in m g k) in

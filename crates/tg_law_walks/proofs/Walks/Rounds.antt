@@ -8,7 +8,7 @@ use Rattle.tg_kind.specs.Meaning.{Meaning}
 use Rattle.tg_protocol.specs.Words.{cell_at}
 use Rattle.tg_base.specs.Orders.{oid_eq}
 use Rattle.tg_protocol.specs.Walking.{Members}
-use Rattle.tg_protocol.specs.Logs.{Log, entry_at, members}
+use Rattle.tg_protocol.specs.Logs.{Log, entry_at}
 use Rattle.tg_protocol.specs.Views.{View, Base}
 use Rattle.tg_protocol.specs.Checkpoints.{trim_of, load_from}
 use Rattle.tg_protocol.specs.Clients.{positions_in, with_positions, entries_at}

@@ -1,0 +1,6 @@
+pub mod Cells
+pub mod Appends
+pub mod Syncs
+pub mod Walks
+pub mod Copies
+pub mod Reconfs
