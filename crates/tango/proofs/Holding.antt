@@ -1,13 +1,21 @@
--- What a replay or a live run prints is of a run that holds.
-use Rattle.std.proofs.Common.{ℕ, List, Option, Some, None}
+-- What a replay or a live run prints is of a run that holds, and judged legal.
+use Rattle.std.proofs.Common.{◌≡◌, ℕ, ◌<◌, ◌^◌, Bool, false, List, length, Option, Some, None, refl, ap, ◌∙◌, arith}
+use Rattle.std.specs.Prelude.{nat_le}
+use Rattle.std.proofs.lemmas.Bool.Decides.{nat_tests}
+use Rattle.tg_base.specs.Clusters.{Header}
 use Rattle.tg_base.specs.declared.fault.Which.{Which}
+use Rattle.tg_audit.specs.declared.verdict.Verdict.TheVariants.{Legal}
+use Rattle.tg_audit_run.specs.Verdicts.{HasVerdict}
+use Rattle.tg_replay.specs.Headline.{told_in}
 use Rattle.tg_replay.specs.Outcomes.{Told}
-use Rattle.tg_replay.specs.Runs.{Replayed, Refused, Limited}
-use Rattle.tg_live.specs.Lives.{goes}
+use Rattle.tg_replay.specs.Runs.{Script, IsScript, Replayed, Refused, Limited, printed_before, transcript, world_of}
+use Rattle.tg_live.specs.Lives.{Live, goes}
 use Rattle.tg_live.specs.Scripts as lives
 use Rattle.tg_live.specs.Scripts.{Over}
 use Rattle.tg_law_scripts.specs.Headline.Headline.{EachScriptHolds, EachLiveHolds}
-use Rattle.tango.specs.Holding.{ReplayedTruly, RefusedTruly, LimitedTruly, LivedTruly, LiveRefusedTruly, LiveLimitedTruly}
+use Rattle.tg_law_transcripts.specs.Auditing.{EachAudited, LiveAudited, EachLiveAudited}
+use Rattle.tg_law_transcripts.specs.Fits.{EachFits}
+use Rattle.tango.specs.Holding.{ReplayedTruly, RefusedTruly, LimitedTruly, LivedTruly, LiveRefusedTruly, LiveLimitedTruly, ReplayedLegally, RefusedLegally, LimitedLegally, LivedLegally, LiveRefusedLegally, LiveLimitedLegally}
 
 -- what is told of a text is told of it in other words
 told_so : {P Q : List ℕ → List ℕ → Type 0} (left before after : Option (List ℕ)) → ((text out : List ℕ) → P text out → Q text out) → Told left before after P → Told left before after Q
@@ -33,3 +41,40 @@ module _ (each : EachLiveHolds) (o : Over) (left before after : Option (List ℕ
 
   pub live_limited_truly : (which : Which) → Told left before after (λ text out. lives.Limited o text which out) → Told left before after (λ text out. LiveLimitedTruly o text which out)
   live_limited_truly which t = told_so left before after (λ text out r. record { limited = r; holds = each r.script r.run.answers r.end r.lawful r.run.lived }) t
+
+-- What an audit says.
+
+past_header : (n : ℕ) → 3 < n → nat_le n 3 ≡ false
+past_header n past = grind (arith, nat_tests)
+
+module _ (fits : EachFits) (law : EachAudited) (left before after : Option (List ℕ)) where
+  script_legal : (s : Script) → IsScript s → (out : List ℕ) → out ≡ transcript s.header (world_of s) → length s.events < 2 ^ 64 → HasVerdict out Legal
+  script_legal s is out printed few = (told_in s.header (world_of s), fits s is few, printed, law s is)
+
+  pub replayed_legally : Told left before after Replayed → Told left before after ReplayedLegally
+  replayed_legally t = told_so left before after (λ text out r. record { replayed = r; legal = script_legal r.script r.lawful out r.printed }) t
+
+  pub refused_legally : (n : ℕ) → Told left before after (λ text out. Refused text n out) → Told left before after (λ text out. RefusedLegally text n out)
+  refused_legally n t =
+      told_so left before after (λ text out r. record {
+        refused = r;
+        legal = λ past few. script_legal r.before r.first.lawful out (r.printed ∙ ap (λ (b : Bool). printed_before b r.before) (past_header n past)) few;
+      }) t
+
+  pub limited_legally : (which : Which) → Told left before after (λ text out. Limited text which out) → Told left before after (λ text out. LimitedLegally text which out)
+  limited_legally which t = told_so left before after (λ text out r. record { limited = r; legal = script_legal r.script r.passes.lawful out r.printed }) t
+
+module _ (law : EachLiveAudited) (o : Over) (left before after : Option (List ℕ)) where
+  live_legal : (h : Header) (l : Live) → LiveAudited h l → HasVerdict (transcript h l.world) Legal
+  live_legal h l a = (told_in h l.world, a.fits, refl, a.legal)
+
+  pub lived_legally : Told left before after (lives.Replayed o) → Told left before after (LivedLegally o)
+  lived_legally t = told_so left before after (λ text out r. record { replayed = r; legal = live_legal r.script.header r.end (law r.script r.run.answers (goes r.end) r.lawful r.run.lived) }) t
+
+  pub live_refused_legally : (n : ℕ) → Told left before after (λ text out. lives.Refused o text n out) → Told left before after (λ text out. LiveRefusedLegally o text n out)
+  live_refused_legally n t =
+      told_so left before after (λ text out r. record { refused = r; legal = λ end run. live_legal r.before.header end (law r.before run.answers (goes end) r.first.lawful run.lived) }) t
+
+  pub live_limited_legally : (which : Which) → Told left before after (λ text out. lives.Limited o text which out) → Told left before after (λ text out. LiveLimitedLegally o text which out)
+  live_limited_legally which t =
+      told_so left before after (λ text out r. record { limited = r; legal = live_legal r.script.header r.end.live (law r.script r.run.answers r.end r.lawful r.run.lived) }) t

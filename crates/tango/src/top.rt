@@ -35,6 +35,7 @@ ghost use Rattle.tg_law_scripts.specs.Headline.Headline.{ScriptHolds};
 ghost use Rattle.tg_law_sessions.specs.Nodes.{NodesHold};
 ghost use Rattle.tango.specs.Forms.{is_over_link, is_reading};
 ghost use Rattle.tango.specs.Holding.{LimitedTruly, LiveLimitedTruly, LiveRefusedTruly, LivedTruly, RefusedTruly, ReplayedTruly};
+ghost use Rattle.tango.specs.Holding.{LimitedLegally, LiveLimitedLegally, LiveRefusedLegally, LivedLegally, RefusedLegally, ReplayedLegally};
 ghost use Rattle.tango.specs.Lawful.{IsLegalText, IsIllegalText};
 
 use std::alloc::Global;
@@ -46,6 +47,7 @@ use tg_bench::bench;
 use tg_io::{Link, Sink, Source, Status};
 use tg_law_scripts::laws_of_headline::{lives_hold, scripts_hold};
 use tg_law_sessions::nodes_hold;
+use tg_law_transcripts::{audits_say_legal, live_audits_say_legal, transcripts_fit};
 use tg_law_verdicts::verdicts_are_true;
 use tg_live::run;
 use tg_node::node;
@@ -80,6 +82,11 @@ pub fn tango<S: Source, K: Sink, L: Link>(
     ensures done_truly { form_of (map string_bytes words.now) ≡ Some Replay → result ≡ Done → Told (S.left source.old) (K.written sink.old) (K.written sink.new) ReplayedTruly }
     ensures script_truly { form_of (map string_bytes words.now) ≡ Some Replay → (line : ℕ) → result ≡ AtLine line → Told (S.left source.old) (K.written sink.old) (K.written sink.new) (λ text out. RefusedTruly text line out) }
     ensures limit_truly { form_of (map string_bytes words.now) ≡ Some Replay → (which : Which) → result ≡ Limit which → Told (S.left source.old) (K.written sink.old) (K.written sink.new) (λ text out. LimitedTruly text which out) }
+    // An audit of what is printed says legal: it is a transcript, in which the rules of a legal run find no fault. So it is of fewer
+    // than 2^64 event lines.
+    ensures done_legally { form_of (map string_bytes words.now) ≡ Some Replay → result ≡ Done → Told (S.left source.old) (K.written sink.old) (K.written sink.new) ReplayedLegally }
+    ensures script_legally { form_of (map string_bytes words.now) ≡ Some Replay → (line : ℕ) → result ≡ AtLine line → Told (S.left source.old) (K.written sink.old) (K.written sink.new) (λ text out. RefusedLegally text line out) }
+    ensures limit_legally { form_of (map string_bytes words.now) ≡ Some Replay → (which : Which) → result ≡ Limit which → Told (S.left source.old) (K.written sink.old) (K.written sink.new) (λ text out. LimitedLegally text which out) }
     // What is written at a fault is a front of a transcript, or nothing.
     ensures cut_short { form_of (map string_bytes words.now) ≡ Some Replay → (result ≡ WriteFault) ⊎ (result ≡ OutOfMemory) → Told (S.left source.old) (K.written sink.old) (K.written sink.new) IsCutShort }
     ensures silent { form_of (map string_bytes words.now) ≡ Some Replay → result ≡ ReadFault → K.written sink.new ≡ K.written sink.old }
@@ -105,6 +112,10 @@ pub fn tango<S: Source, K: Sink, L: Link>(
     ensures live_done_truly { form_of (map string_bytes words.now) ≡ Some Live → result ≡ Done → Told (S.left source.old) (K.written sink.old) (K.written sink.new) (LivedTruly (over (L.handed link.old) (L.handed link.new) (carried (L.sent link.old) (L.acts link.old)) (carried (L.sent link.new) (L.acts link.new)))) }
     ensures live_script_truly { form_of (map string_bytes words.now) ≡ Some Live → (line : ℕ) → result ≡ AtLine line → Told (S.left source.old) (K.written sink.old) (K.written sink.new) (λ text out. LiveRefusedTruly (over (L.handed link.old) (L.handed link.new) (carried (L.sent link.old) (L.acts link.old)) (carried (L.sent link.new) (L.acts link.new))) text line out) }
     ensures live_limit_truly { form_of (map string_bytes words.now) ≡ Some Live → (which : Which) → result ≡ Limit which → Told (S.left source.old) (K.written sink.old) (K.written sink.new) (λ text out. LiveLimitedTruly (over (L.handed link.old) (L.handed link.new) (carried (L.sent link.old) (L.acts link.old)) (carried (L.sent link.new) (L.acts link.new))) text which out) }
+    // An audit says so of the transcript that a live run prints after its recording.
+    ensures live_done_legally { form_of (map string_bytes words.now) ≡ Some Live → result ≡ Done → Told (S.left source.old) (K.written sink.old) (K.written sink.new) (LivedLegally (over (L.handed link.old) (L.handed link.new) (carried (L.sent link.old) (L.acts link.old)) (carried (L.sent link.new) (L.acts link.new)))) }
+    ensures live_script_legally { form_of (map string_bytes words.now) ≡ Some Live → (line : ℕ) → result ≡ AtLine line → Told (S.left source.old) (K.written sink.old) (K.written sink.new) (λ text out. LiveRefusedLegally (over (L.handed link.old) (L.handed link.new) (carried (L.sent link.old) (L.acts link.old)) (carried (L.sent link.new) (L.acts link.new))) text line out) }
+    ensures live_limit_legally { form_of (map string_bytes words.now) ≡ Some Live → (which : Which) → result ≡ Limit which → Told (S.left source.old) (K.written sink.old) (K.written sink.new) (λ text out. LiveLimitedLegally (over (L.handed link.old) (L.handed link.new) (carried (L.sent link.old) (L.acts link.old)) (carried (L.sent link.new) (L.acts link.new))) text which out) }
     // What is written at a fault is a front of what a run prints, or nothing.
     ensures live_cut_short { form_of (map string_bytes words.now) ≡ Some Live → (result ≡ WriteFault) ⊎ (result ≡ OutOfMemory) → Told (S.left source.old) (K.written sink.old) (K.written sink.new) (lives.IsCutShort (over (L.handed link.old) (L.handed link.new) (carried (L.sent link.old) (L.acts link.old)) (carried (L.sent link.new) (L.acts link.new)))) }
     ensures live_silent { form_of (map string_bytes words.now) ≡ Some Live → (result ≡ ReadFault) ⊎ (result ≡ LinkFault) → K.written sink.new ≡ K.written sink.old }
@@ -199,10 +210,13 @@ pub fn tango<S: Source, K: Sink, L: Link>(
     match read_form(alloc, words) {
         Ok(Some(Form::Replay)) => {
             scripts_hold();
+            transcripts_fit();
+            audits_say_legal();
             replay(alloc, source, sink)
         }
         Ok(Some(Form::Live)) => {
             lives_hold();
+            live_audits_say_legal();
             run(alloc, source, sink, link)
         }
         Ok(Some(Form::Node(id))) => {

@@ -1,5 +1,5 @@
--- What each reply of a run tells keeps the words of its fields, unless a refusal counts.
-use Rattle.std.proofs.Common.{◌≡◌, ℕ, ◌+◌, ◌<◌, ◌≤◌, ◌^◌, [], ◌∷◌, Bool, true, false, cond, refl, sym, subst, inl, inr, arith}
+-- What each reply of a run tells keeps the words of its fields, where the size that a refusal tells has 64 bits.
+use Rattle.std.proofs.Common.{◌≡◌, ℕ, ◌+◌, ◌<◌, ◌≤◌, ◌^◌, [], ◌∷◌, Bool, true, false, cond, refl, sym, ap, subst, inl, inr, arith}
 use Rattle.std.specs.Prelude.{◌&&◌, ◌||◌, nat_lt}
 use Rattle.std.proofs.lemmas.Bool.Decides.{nat_tests}
 use Rattle.tg_base.specs.Clusters.{Header, IsHeader}
@@ -45,7 +45,7 @@ use Rattle.tg_law_headline.proofs.Alike.Records.{has_mark}
 use Rattle.tg_law_replies.proofs.History.Members as history_members
 use Rattle.tg_law_syncs.proofs.Follow.Replies.{Fact, IsOther, IsOfTx, IsSaved, state}
 use Rattle.tg_law_syncs.proofs.Follow.Says.{Other}
-use Rattle.tg_law_transcripts.specs.Fits.{is_count, TellsBelow}
+use Rattle.tg_law_transcripts.specs.Fits.{TellsBelow}
 use Rattle.tg_law_transcripts.proofs.Given.{WhyOk}
 use Rattle.tg_law_transcripts.proofs.Passed.{Named, OpOk, AskOk, Says}
 use Rattle.tg_law_transcripts.proofs.Answered.{answers_fit, asked_object, floors_fit}
@@ -69,17 +69,17 @@ or_right : (a b : Bool) → b ≡ true → (a || b) ≡ true
 or_right true b e = refl
 or_right false b e = e
 
--- refusals
-why_fits : (why : Refusal) → WhyOk all_kinds Named OpOk AskOk why → is_count (told.Refused why) ≡ false → refusal_fits why ≡ true
+-- refusals, of which one tells a size
+why_fits : (why : Refusal) → WhyOk all_kinds Named OpOk AskOk why → ((b : ℕ) → why ≡ cause.TooLarge b → b < 2 ^ 64) → refusal_fits why ≡ true
 why_fits (cause.Busy x) k n = refl
 why_fits cause.NoTx k n = refl
 why_fits cause.TxOpen k n = refl
 why_fits (cause.NotHosted o) k n = k
 why_fits (cause.NotRegistered o) k n = k
 why_fits (cause.WrongKind o) k n = k
-why_fits (cause.TooLarge b) k n = absurd cc
+why_fits (cause.TooLarge b) k n = near b (n b refl)
 why_fits (cause.Undecided p o) k n = both (nat_lt p (2 ^ 64)) (is_named o) (near p k.0) k.1
-why_fits (cause.LogFull l) k n = absurd cc
+why_fits (cause.LogFull l) k n = near l k
 why_fits (cause.Forgotten p b) k n = both (nat_lt p (2 ^ 64)) (nat_lt b (2 ^ 64)) (near p k.0) (near b k.1)
 why_fits (cause.NoReplica r s) k n = both (nat_lt r (2 ^ 64)) (nat_lt s (2 ^ 64)) (near r k.0) (near s k.1)
 why_fits (cause.Returned u) k n = few u k
@@ -94,7 +94,7 @@ why_fits (cause.NotWhole u p) k n = both (nat_lt u 65536) (nat_lt p (2 ^ 64)) (f
 why_fits (cause.Ahead t) k n = near t k
 
 -- what an ask looks at
-part_of : (q : AnyAsk) → ask_fits q ≡ true → part_fits (all_kinds.look q) ≡ true
+pub part_of : (q : AnyAsk) → ask_fits q ≡ true → part_fits (all_kinds.look q) ≡ true
 unfolding any.looked
 part_of (asks.Directory (directory_asks.Find name)) e = or_left (text_format.fits name) (path_format.fits name) e
 part_of (asks.Directory directory_asks.Marks) e = refl
@@ -192,7 +192,7 @@ module _ (h : Header) (ms : Moves all_kinds) (r : Reaches all_kinds h ms (after 
         let s = subst (λ (y : MarkOf all_kinds). Says y.tx y.what) (sym m.is) (says m.of m.has) in
         (s.0, s.1)
 
-    fits : (what : WhatOf all_kinds) → t.mark.what ≡ what → is_count what ≡ false → what_fits what ≡ true
+    fits : (what : WhatOf all_kinds) → t.mark.what ≡ what → ((b : ℕ) → what ≡ told.Refused (cause.TooLarge b) → b < 2 ^ 64) → what_fits what ≡ true
     fits told.Begin is n = refl
     fits (told.Put o op) is n = let s = said _ is in both (is_named o) (op_fits op) s.0 s.1
     fits (told.Asked o q at a) is n =
@@ -221,12 +221,12 @@ module _ (h : Header) (ms : Moves all_kinds) (r : Reaches all_kinds h ms (after 
         let k = logs.rows.trims t j (contained end.told t i) is in
         subst (λ (x : ℕ). nat_lt x (2 ^ 64) ≡ true) (sym k.floor) (floors_fit directory (state_at all_kinds end.cluster.objects (history all_kinds end) k.tail directory) (kept k.tail directory refl))
     fits (told.Installed e) is n = near e (said _ is)
-    fits (told.Refused why) is n = why_fits why (said _ is) n
+    fits (told.Refused why) is n = why_fits why (said _ is) (λ b e. n b (ap (λ (x : Refusal). told.Refused x) e))
     fits (told.Copied u g s) is n = let k = said _ is in both (nat_lt u 65536) _ (few u k.0) (both (nat_lt g (2 ^ 64)) (nat_lt s (2 ^ 64)) (near g k.1) (near s k.2))
     fits (told.Past o q p a) is n =
         let s = said _ is in
         both (is_named o) _ s.0 (both (ask_fits q) _ s.1 (both (nat_lt p (2 ^ 64)) (answer_fits q a) (near p s.3) (answered o q p a s.2 (holds.headline.past t o q p a (contained end.told t i) is))))
     fits (told.Rescued p b) is n = both (nat_lt p (2 ^ 64)) true (near p (said _ is)) refl
 
-    pub tells_fit : is_count t.mark.what ≡ false → what_fits t.mark.what ≡ true
+    pub tells_fit : ((b : ℕ) → t.mark.what ≡ told.Refused (cause.TooLarge b) → b < 2 ^ 64) → what_fits t.mark.what ≡ true
     tells_fit n = fits t.mark.what refl n

@@ -45,12 +45,13 @@ module _ (m : Meaning) (Named : Oid → Type 0) (OpOk : m.op → Type 0) (AskOk 
   AllowedOk (cmd.AskAt at o q) = m.allows_ask o q ≡ true
   AllowedOk x = Unit {0}
 
-  -- why it is refused; how large an entry would be, and how long the log is, aren't asked here
+  -- why it is refused; how large an entry would be isn't asked here
   abbrev pub WhyOk : Refusal → Type 0
   WhyOk (cause.NotHosted o) = Named o
   WhyOk (cause.NotRegistered o) = Named o
   WhyOk (cause.WrongKind o) = Named o
   WhyOk (cause.Undecided p x) = Near p × Named x
+  WhyOk (cause.LogFull l) = Near l
   WhyOk (cause.Forgotten p b) = Near p × Near b
   WhyOk (cause.NoReplica r s) = Near r × Near s
   WhyOk (cause.Returned u) = Few u

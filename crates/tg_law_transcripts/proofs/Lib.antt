@@ -23,3 +23,12 @@ pub mod Kept
 pub mod Limits
 pub mod Fitting
 pub mod Replies
+pub mod Judging
+pub mod Lengths
+pub mod Written
+pub mod Readings
+pub mod Keys
+pub mod Sizes
+pub mod Saved
+pub mod Large
+pub mod Recorded

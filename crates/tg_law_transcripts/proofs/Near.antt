@@ -102,7 +102,15 @@ module _ (j : CellJob) (next : ℕ) where
   unfolding cell_feed
   cell_near u x k = work_near j.work u x k
 
--- Appends: the position of a token.
+-- Appends: the position of a token, and the limit that a sequencer tells where the log is full.
+
+abbrev pub LimitNear : Reply → Type 0
+LimitNear (IsFull l) = Near l
+LimitNear x = Unit {0}
+
+abbrev pub FullNear : AppendWork → Reply → Type 0
+FullNear (Asking r) x = LimitNear x
+FullNear w x = Unit {0}
 
 abbrev pub TokenNear : Option Token → Type 0
 TokenNear None = Unit {0}
@@ -110,7 +118,7 @@ TokenNear (Some t) = Near t.pos
 
 abbrev pub EndNear : AppendEnd → Type 0
 EndNear (At p d) = Near p
-EndNear (Full l) = Unit {0}
+EndNear (Full l) = Near l
 EndNear (Forgotten p b) = Near p × Near b
 
 abbrev pub AppendNear : Next Append AppendEnd → Type 0
@@ -154,24 +162,24 @@ module _ (p : Layout) (a : Append) (ok : TokenNear a.token) (next : ℕ) where
   newer_near e true = ok
   newer_near e false = older_near _
 
-  asking_near : (x : Reply) → ReplyNear x → AppendNear (asking_feed p a x next).to
-  asking_near (IsIssued pos ls) k = issued_near pos ls _ k
-  asking_near (IsFull l) k = k
-  asking_near (IsOldEpoch e) k = newer_near e _
-  asking_near x k = ok
+  asking_near : (x : Reply) → ReplyNear x → LimitNear x → AppendNear (asking_feed p a x next).to
+  asking_near (IsIssued pos ls) k f = issued_near pos ls _ k
+  asking_near (IsFull l) k f = f
+  asking_near (IsOldEpoch e) k f = newer_near e _
+  asking_near x k f = ok
 
   by_token_near : (t : Option Token) → TokenNear t → (f : Token → Rattle.tg_protocol.specs.Appending.AppendTurn) → ((s : Token) → Near s.pos → AppendNear (f s).to) → AppendNear (by_token a next t f).to
   by_token_near None l f g = ok
   by_token_near (Some s) l f g = g s l
 
-  fed_near : (w : AppendWork) (n : ℕ) (x : Reply) → ReplyNear x → AppendNear (append_feed p a w n x next).to
+  fed_near : (w : AppendWork) (n : ℕ) (x : Reply) → ReplyNear x → FullNear w x → AppendNear (append_feed p a w n x next).to
   unfolding append_feed
-  fed_near (Asking r) n x k = asking_near x k
-  fed_near (Putting j) n x k = by_token_near a.token ok _ (λ s l. put_near s l _ _ (cell_near j next n x k))
-  fed_near (Judging j) n x k = by_token_near a.token ok _ (λ s l. judge_near s l _ _ (cell_near j next n x k))
+  fed_near (Asking r) n x k f = asking_near x k f
+  fed_near (Putting j) n x k f = by_token_near a.token ok _ (λ s l. put_near s l _ _ (cell_near j next n x k))
+  fed_near (Judging j) n x k f = by_token_near a.token ok _ (λ s l. judge_near s l _ _ (cell_near j next n x k))
 
-  pub append_near : (n : ℕ) (x : Reply) → ReplyNear x → AppendNear (append_feed p a a.work n x next).to
-  append_near n x k = fed_near a.work n x k
+  pub append_near : (n : ℕ) (x : Reply) → ReplyNear x → FullNear a.work x → AppendNear (append_feed p a a.work n x next).to
+  append_near n x k f = fed_near a.work n x k f
 
   pub again_near : AppendNear (append_again p a next).to
   unfolding append_again fill_cell

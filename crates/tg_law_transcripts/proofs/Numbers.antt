@@ -118,7 +118,7 @@ module _ (m : Meaning) where
 
   -- Transactions.
 
-  state_in : (h : Header) (ms : Moves m) (w : World m) → Reaches m h ms w → State m h w
+  pub state_in : (h : Header) (ms : Moves m) (w : World m) → Reaches m h ms w → State m h w
   unfolding start
   state_in h ms w r =
       subst (State m h) (sym r.goes.is) (state_hold m h r.header ms (lawful_give m h ms (r.goes.lawful)) (let few = r.goes.few in let is = ap (λ (v : World m). v.steps) r.goes.is in omega (arith, few, is)))

@@ -1,10 +1,11 @@
--- Each reply of a script keeps the grammar.
-use Rattle.std.proofs.Common.{◌≡◌, ℕ, ◌<◌, ◌≤◌, ◌^◌, length, Bool, true, false, refl, sym, subst, arith}
-use Rattle.std.specs.Prelude.{nat_lt, not, ◌||◌}
+-- Each reply of a script keeps the grammar, and so does the whole.
+use Rattle.std.proofs.Common.{◌≡◌, ℕ, ◌<◌, ◌≤◌, ◌^◌, length, true, sym, subst, arith}
+use Rattle.std.specs.Prelude.{nat_lt}
 use Rattle.tg_codec.proofs.Laws.{both, and-left, and-right}
 use Rattle.tg_protocol.specs.Worlds.{Told, start, trace}
 use Rattle.tg_any.specs.AllKinds.{all_kinds}
 use Rattle.tg_trace.specs.Transcripts.{Reply, reply, is_transcript}
+use Rattle.tg_replay.specs.Headline.{TranscriptsFit}
 use Rattle.tg_replay.specs.Runs.{Script, IsScript, Worlds, world_of}
 use Rattle.tg_model.specs.declared.command.Event.TheVariants.{Command as Commands}
 use Rattle.tg_model.specs.Kinds.{CommandOf}
@@ -13,12 +14,13 @@ use Rattle.tg_trace.specs.Replies.{what_fits}
 use Rattle.tg_law_layouts.specs.Moves.After.{after}
 use Rattle.tg_law_layouts.proofs.Moves.Members.{Has, Image, has_map}
 use Rattle.tg_law_scripts.proofs.Scripts.Reaching.{each_script_reaches}
-use Rattle.tg_law_transcripts.specs.Fits.{is_numbered, tells_within, is_count, tells_or_counts, counts_within, EachIsNumbered, EachFitsByReplies, EachTells, EachFitsByCounts}
+use Rattle.tg_law_transcripts.specs.Fits.{is_numbered, tells_within, EachIsNumbered, EachTells, EachFits}
 use Rattle.tg_law_transcripts.proofs.Lists.{all_of, both_of, lt_test}
 use Rattle.tg_law_transcripts.proofs.Commanded.{given_ok}
 use Rattle.tg_law_transcripts.proofs.Events.{few_events}
 use Rattle.tg_law_transcripts.proofs.Fitting.{tells_fit}
 use Rattle.tg_law_transcripts.proofs.Given.{CommandOk}
+use Rattle.tg_law_transcripts.proofs.Large.{size_near}
 use Rattle.tg_law_transcripts.proofs.Moves.{IsLed, each_script_led}
 use Rattle.tg_law_transcripts.proofs.Passed.{Named, OpOk, AskOk}
 use Rattle.tg_law_transcripts.proofs.Stepped.{end_state}
@@ -46,36 +48,26 @@ module _ (s : Script) (is : IsScript s) (few : length s.events < 2 ^ 64) where
       both (nat_lt u.event (2 ^ 64)) _ (lt_test u.event (2 ^ 64) (omega (arith, event, e, few)))
       (both (nat_lt u.client 65536) _ (lt_test u.client 65536 (let c = x.0 in omega (arith, c))) (lt_test u.tx (2 ^ 32) x.1))
 
--- What each reply tells is within its type, unless a refusal counts.
+-- What each reply tells is within its type.
+module _ (s : Script) (is : IsScript s) where
+  l : IsLed s
+  l = each_script_led s is
 
-tells_of : (s : Script) → IsScript s → (u : Reply) → Has (trace all_kinds (world_of s)) u → tells_or_counts u ≡ true
-tells_of s is u i = by (is_count u.what) refl
-  where
-    l : IsLed s
-    l = each_script_led s is
+  reached : Reaches all_kinds s.header l.moves (after all_kinds s.header l.moves)
+  reached = subst (Reaches all_kinds s.header l.moves) l.reaches.goes.is l.reaches
 
-    at_end : world_of s ≡ after all_kinds s.header l.moves
-    at_end = l.reaches.goes.is
+  gives : (k : ℕ) (x : CommandOf all_kinds) → Has l.moves (Takes (Commands k x)) → CommandOk all_kinds Named OpOk AskOk x
+  gives k x j = given_ok s.header l.reaches.header x (l.lawful k x j) (l.given (Takes (Commands k x)) j)
 
-    reached : Reaches all_kinds s.header l.moves (after all_kinds s.header l.moves)
-    reached = subst (Reaches all_kinds s.header l.moves) at_end l.reaches
-
-    gives : (k : ℕ) (x : CommandOf all_kinds) → Has l.moves (Takes (Commands k x)) → CommandOk all_kinds Named OpOk AskOk x
-    gives k x j = given_ok s.header l.reaches.header x (l.lawful k x j) (l.given (Takes (Commands k x)) j)
-
-    m : Image (λ (t : Told all_kinds). t.mark) (after all_kinds s.header l.moves).told u
-    m = has_map (λ (t : Told all_kinds). t.mark) (after all_kinds s.header l.moves).told u (subst (λ (w : Worlds). Has (trace all_kinds w) u) at_end i)
-
-    told_fits : is_count u.what ≡ false → what_fits u.what ≡ true
-    told_fits n = subst (λ (v : Reply). is_count v.what ≡ false → what_fits v.what ≡ true) (sym m.is)
-        (tells_fit s.header l.moves reached (end_state s.header l.moves reached gives).told m.of m.has) n
-
-    by : (b : Bool) → is_count u.what ≡ b → (b || what_fits u.what) ≡ true
-    by true n = refl
-    by false n = told_fits n
+  tells_of : (u : Reply) → Has (trace all_kinds (world_of s)) u → tells_within u ≡ true
+  tells_of u i =
+      let m : Image (λ (t : Told all_kinds). t.mark) (after all_kinds s.header l.moves).told u =
+      has_map (λ (t : Told all_kinds). t.mark) (after all_kinds s.header l.moves).told u (subst (λ (w : Worlds). Has (trace all_kinds w) u) l.reaches.goes.is i) in
+      subst (λ (v : Reply). what_fits v.what ≡ true) (sym m.is)
+      (tells_fit s.header l.moves reached (end_state s.header l.moves reached gives).told m.of m.has (λ b e. size_near s.header l.moves reached gives m.of b m.has e))
 
 pub replies_tell : EachTells
-replies_tell s is = all_of tells_or_counts (trace all_kinds (world_of s)) (tells_of s is)
+replies_tell s is = all_of tells_within (trace all_kinds (world_of s)) (tells_of s is)
 
 pub replies_are_numbered : EachIsNumbered
 replies_are_numbered s is few = all_of is_numbered (trace all_kinds (world_of s)) (numbers_of s is few)
@@ -85,23 +77,16 @@ one_fits u n t =
     let rest = and-right (nat_lt u.event (2 ^ 64)) _ n in
     both _ _ (and-left (nat_lt u.event (2 ^ 64)) _ n) (both _ _ (and-left (nat_lt u.client 65536) _ rest) (both _ _ (and-right (nat_lt u.client 65536) _ rest) t))
 
-pub fit_by_replies : EachFitsByReplies
+-- So the whole is a transcript.
+pub each_fits : EachFits
 unfolding is_transcript
-fit_by_replies s is few told =
+each_fits s is few =
     let r = each_script_reaches s is in
     let e = histories_fit s.header r.moves (world_of s) r.reaches in
     let three = and-left _ _ e in
     let two = and-left _ _ three in
-    let replies = both_of is_numbered tells_within reply.fits (trace all_kinds (world_of s)) one_fits (replies_are_numbered s is few) told in
+    let replies = both_of is_numbered tells_within reply.fits (trace all_kinds (world_of s)) one_fits (replies_are_numbered s is few) (replies_tell s is) in
     both _ _ (both _ _ (both _ _ (both _ _ (and-left _ _ two) replies) (and-right _ _ two)) (and-right _ _ three)) (and-right _ _ e)
 
--- where counts are within their types too, all that is told is
-either_fits : (u : Reply) → tells_or_counts u ≡ true → counts_within u ≡ true → tells_within u ≡ true
-either_fits u a b = by (is_count u.what) a b
-  where
-    by : (t : Bool) → (t || what_fits u.what) ≡ true → (not t || what_fits u.what) ≡ true → what_fits u.what ≡ true
-    by true a b = b
-    by false a b = a
-
-pub fit_by_counts : EachFitsByCounts
-fit_by_counts s is few counts = fit_by_replies s is few (both_of tells_or_counts counts_within tells_within (trace all_kinds (world_of s)) either_fits (replies_tell s is) counts)
+pub transcripts_fit : TranscriptsFit
+transcripts_fit s is within few = each_fits s is few

@@ -5,13 +5,14 @@ use Rattle.tg_base.specs.Clusters.{Header, IsHeader}
 use Rattle.tg_base.specs.declared.ids.NodeId.{NodeId}
 use Rattle.tg_base.specs.declared.ids.Role.{Role}
 use Rattle.tg_base.specs.declared.ids.Role.TheVariants as role
+use Rattle.tg_base.specs.declared.msg.Msg.TheVariants as msg
 use Rattle.tg_base.specs.declared.packet.Packet.{Packet}
 use Rattle.tg_model.specs.declared.command.Event.TheVariants.{Command as Commands, Deliver, Lose, Tick, Stop}
 use Rattle.tg_model.specs.Kinds.{CommandOf, EventOf}
 use Rattle.tg_protocol.specs.Clients.{Client, new_client}
 use Rattle.tg_protocol.specs.ClientSteps.{ClientTurn, client_command, client_deliver, client_tick}
 use Rattle.tg_protocol.specs.Runs.{Moves, Next, Takes, Reaches, run, most_steps}
-use Rattle.tg_protocol.specs.Words.{client_id, numbers}
+use Rattle.tg_protocol.specs.Words.{client_id, seqr_id, numbers}
 use Rattle.tg_protocol.specs.Worlds.{World, Told, start, client, log, happens, runs, mark_of, handed, noted_if, client_turned, unit_moves, layout_moves, seqr_moves, moves, comes, delivers, commands, ticks, ticks_if, stops_if, counted}
 use Rattle.tg_any.specs.AllKinds.{all_kinds}
 use Rattle.tg_law_layouts.specs.Moves.After.{after}
@@ -27,8 +28,10 @@ use Rattle.tg_law_walks.proofs.Lists.Reached.{before_reached}
 use Rattle.tg_law_walks.specs.Walks.Streams.{AreKnown}
 use Rattle.tg_law_syncs.proofs.Exact.Finds.{rounds_known}
 use Rattle.tg_law_headline.proofs.Runs.Holding.{logs_hold}
-use Rattle.tg_law_transcripts.proofs.Near.{reply_near}
+use Rattle.tg_law_transcripts.proofs.Near.{Near, reply_near}
 use Rattle.tg_law_transcripts.proofs.Given.{CommandOk}
+use Rattle.tg_law_transcripts.proofs.Histories.{limit_few}
+use Rattle.tg_law_transcripts.proofs.Limits.{full_tells_limit}
 use Rattle.tg_law_transcripts.proofs.Posted.{posted}
 use Rattle.tg_law_transcripts.proofs.Spoken.{EndReads}
 use Rattle.tg_law_transcripts.proofs.Turned.{GoodTurn, commanded, delivered, ticked, up}
@@ -44,6 +47,10 @@ module _ (h : Header) (header : IsHeader h) (final : World all_kinds) (xs : Move
 
   abbrev Good : ClientTurn all_kinds → Type 0
   Good t = GoodTurn all_kinds Named OpOk AskOk own_directory marks_ok h.objects (entries_in all_kinds final) top low high t
+
+  -- the limit that a sequencer tells
+  limit_told : (q : ℕ) (p : Packet) (l : ℕ) → Has w.packets p → p.from ≡ seqr_id q → p.msg ≡ msg.Full l → Near l
+  limit_told q p l has from says = let a = full_tells_limit all_kinds h xs q p l has from says in let b = limit_few h xs w r in omega (arith, a, b)
 
   raised : (c : Client all_kinds) → Kept top c → Kept (top + 1) c
   raised c k = up all_kinds Named OpOk AskOk own_directory marks_ok h.objects (entries_in all_kinds final) top low high c k
@@ -86,7 +93,7 @@ module _ (h : Header) (header : IsHeader h) (final : World all_kinds) (xs : Move
   moves_state i p role.Seqr is got on each s = silent _ refl refl refl s
   moves_state i p role.Client is got on each s =
       turned (handed all_kinds w i) p.to.num (client_deliver all_kinds (client all_kinds w p.to.num) p.from p.rid p.msg) refl refl refl (declared all_kinds w p.to is on)
-      (delivered all_kinds Named OpOk AskOk own_directory marks_ok h.objects (entries_in all_kinds final) top low high (client all_kinds w p.to.num) p.from p.rid p.msg (s.clients p.to.num) (reply_near p.msg) ((posted all_kinds h header xs).from p (has_got w.packets i p got)) (each p got is on)) s
+      (delivered all_kinds Named OpOk AskOk own_directory marks_ok h.objects (entries_in all_kinds final) top low high (client all_kinds w p.to.num) p.from p.rid p.msg (s.clients p.to.num) (reply_near p.msg) (λ q l from says. limit_told q p l (has_got w.packets i p got) from says) ((posted all_kinds h header xs).from p (has_got w.packets i p got)) (each p got is on)) s
 
   ticks_state : (n : NodeId) (a : Role) → n.role ≡ a → runs all_kinds w n ≡ true → State top w → State (top + 1) (ticks all_kinds w n.num a)
   ticks_state n role.Unit is on s = silent _ refl refl refl s

@@ -1,11 +1,10 @@
 -- The world of each script keeps the grammar of transcripts.
-use Rattle.std.specs.Prelude.{◌≡◌, ◌≢◌, ℕ, ◌<◌, ◌^◌, Bool, true, false, not, ◌&&◌, ◌||◌, [], length, Contains}
+use Rattle.std.specs.Prelude.{◌≡◌, ◌≢◌, ℕ, ◌<◌, ◌^◌, Bool, true, ◌&&◌, [], length, Contains}
 use Rattle.std.specs.List.{list_all}
 use Rattle.tg_base.specs.Clusters.{Header}
 use Rattle.tg_base.specs.Units.{is_rising}
 use Rattle.tg_base.specs.declared.msg.Msg.TheVariants as msg
 use Rattle.tg_base.specs.declared.packet.Packet.{Packet}
-use Rattle.tg_model.specs.declared.refusal.Refusal.TheVariants as cause
 use Rattle.tg_model.specs.declared.trace.What.TheVariants as told
 use Rattle.tg_model.specs.Kinds.{WhatOf}
 use Rattle.tg_model.specs.Traces.{puts_of}
@@ -49,31 +48,13 @@ EachTellsBelow = (h : Header) (ms : Moves all_kinds) (w : World all_kinds) → R
 abbrev pub EachFullTells : Type 0
 EachFullTells = (h : Header) (ms : Moves all_kinds) (w : World all_kinds) → Reaches all_kinds h ms w → (s : ℕ) (a : Packet) (l : ℕ) → Contains w.packets a → a.from ≡ seqr_id s → a.msg ≡ msg.Full l → l ≡ w.cluster.limit
 
--- what a refusal counts: how large an entry would be, and how long the log may get
-abbrev pub is_count : WhatOf all_kinds → Bool
-is_count (told.Refused (cause.TooLarge bytes)) = true
-is_count (told.Refused (cause.LogFull limit)) = true
-is_count what = false
-
--- what a reply tells is within its type, unless it is such a count
-abbrev pub tells_or_counts : Reply → Bool
-tells_or_counts m = is_count m.what || what_fits m.what
-
-abbrev pub EachTells : Type 0
-EachTells = (s : Script) → IsScript s → list_all tells_or_counts (trace all_kinds (world_of s)) ≡ true
-
--- a count is within its type
-abbrev pub counts_within : Reply → Bool
-counts_within m = not (is_count m.what) || what_fits m.what
-
--- where that holds of each reply, the whole is a transcript
-abbrev pub EachFitsByCounts : Type 0
-EachFitsByCounts = (s : Script) → IsScript s → length s.events < 2 ^ 64 → list_all counts_within (trace all_kinds (world_of s)) ≡ true → is_transcript (told_in s.header (world_of s)) ≡ true
-
--- what a reply tells is within its type
+-- what each reply tells is within its type
 abbrev pub tells_within : Reply → Bool
 tells_within m = what_fits m.what
 
--- where that holds of each reply, the whole is a transcript
-abbrev pub EachFitsByReplies : Type 0
-EachFitsByReplies = (s : Script) → IsScript s → length s.events < 2 ^ 64 → list_all tells_within (trace all_kinds (world_of s)) ≡ true → is_transcript (told_in s.header (world_of s)) ≡ true
+abbrev pub EachTells : Type 0
+EachTells = (s : Script) → IsScript s → list_all tells_within (trace all_kinds (world_of s)) ≡ true
+
+-- so the whole is a transcript, whether a limit stops the script or not
+abbrev pub EachFits : Type 0
+EachFits = (s : Script) → IsScript s → length s.events < 2 ^ 64 → is_transcript (told_in s.header (world_of s)) ≡ true

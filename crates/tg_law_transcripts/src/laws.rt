@@ -1,6 +1,7 @@
 //! What is told in the world of a script keeps the grammar of transcripts.
 
-ghost use Rattle.tg_law_transcripts.specs.Fits.{EachFitsByCounts, EachFitsByReplies, EachFullTells, EachHistoryFits, EachIsNumbered, EachTells, EachTellsBelow};
+ghost use Rattle.tg_replay.specs.Headline.{TranscriptsFit};
+ghost use Rattle.tg_law_transcripts.specs.Fits.{EachFits, EachFullTells, EachHistoryFits, EachIsNumbered, EachTells, EachTellsBelow};
 
 /// The numbers of a reply's event, its client and its transaction are within their types, in a script of fewer than 2^64 event lines.
 pub fn replies_are_numbered()
@@ -17,22 +18,19 @@ pub fn records_below()
     ensures { EachTellsBelow }
 {}
 
-/// So where what each reply tells is within its type, the objects, the replies and the history of a script are a transcript.
-pub fn fit_by_replies()
-    ensures { EachFitsByReplies }
+/// A sequencer of a run that says that the log is full tells the header's limit.
+pub fn full_tells()
+    ensures { EachFullTells }
 {}
 
-/// What each reply of a script tells is within its type, unless a refusal counts: how large an entry would be, or how long the log may get.
+/// What each reply of a script tells is within its type, also how large an entry would be that is refused.
 pub fn replies_tell()
     ensures { EachTells }
 {}
 
-/// So where such counts are within their types, the objects, the replies and the history of a script are a transcript.
-pub fn fit_by_counts()
-    ensures { EachFitsByCounts }
-{}
-
-/// A sequencer of a run that says that the log is full tells the header's limit.
-pub fn full_tells()
-    ensures { EachFullTells }
+/// So the objects, the replies and the history of a script are a transcript, in a script of fewer than 2^64 event lines, whether a limit
+/// stops it or not.
+pub fn transcripts_fit()
+    ensures within { TranscriptsFit }
+    ensures each { EachFits }
 {}

@@ -1,9 +1,10 @@
-//! What is told in the world of a script keeps the grammar of transcripts.
+//! What is told in the world of a script or of a live run keeps the grammar of transcripts, and an audit finds it legal.
 #![tactic(auto)]
 
+mod audits;
 mod laws;
 
+pub use audits::{audits_say_legal, live_audits_say_legal};
 pub use laws::{
-    fit_by_counts, fit_by_replies, full_tells, histories_fit, records_below, replies_are_numbered,
-    replies_tell,
+    full_tells, histories_fit, records_below, replies_are_numbered, replies_tell, transcripts_fit,
 };

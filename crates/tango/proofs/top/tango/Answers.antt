@@ -11,6 +11,7 @@ use Rattle.tg_lines.specs.Feeds.{NoneOutside}
 use Rattle.tg_lines.specs.Lines.{lines}
 use Rattle.tg_node.specs.Texts.{Told, Followed, FirstOutside, Refused, PassesLimit, IsWithin as WithNoLimit, Limited, IsCutBetween, IsCutInLine, IsCutInReplies, IsCutShort, IsText, IsOrStops}
 use Rattle.tango.proofs.Holding.{replayed_truly, refused_truly, limited_truly, lived_truly, live_refused_truly, live_limited_truly}
+use Rattle.tango.proofs.Holding.{replayed_legally, refused_legally, limited_legally, lived_legally, live_refused_legally, live_limited_legally}
 use Rattle.tg_law_scripts.specs.Headline.Headline.{ScriptHolds}
 use Rattle.tg_live.specs.Sends.{carried}
 use Rattle.tg_live.specs.Stages.{over}
@@ -150,3 +151,27 @@ pub returns-in-Ok-Some-Bench-clause-load_truly : goal.returns-in-Ok-Some-Bench-c
 returns-in-Ok-Some-Bench-clause-load_truly g c = λ start count named came. moved (map string_bytes c.args.words.now) c.in-Ok-Some-Bench.field-0 c.in-Ok-Some-Bench.field-0-0 c.in-Ok-Some-Bench.start c.in-Ok-Some-Bench.count start count
     (λ s n. ScriptHolds (load s n)) c.in-Ok-Some-Bench.ensures c.in-Ok-Some-Bench.field-0-is c.in-Ok-Some-Bench.field-0-0-is named
     (c.scripts_hold-in-Ok-Some-Bench.ensures (load c.in-Ok-Some-Bench.start c.in-Ok-Some-Bench.count) c.bench.ensures.load.0)
+
+pub returns-in-Ok-Some-Replay-clause-done_legally : goal.returns-in-Ok-Some-Replay-clause-done_legally
+returns-in-Ok-Some-Replay-clause-done_legally g c = λ named done.
+    replayed_legally c.transcripts_fit.ensures.each c.audits_say_legal.ensures (g.S.Source.left c.args.source.now) (g.K.Sink.written c.args.sink.now) (g.K.Sink.written c.replay.new.sink) (c.replay.ensures.done done)
+
+pub returns-in-Ok-Some-Live-clause-live_done_legally : goal.returns-in-Ok-Some-Live-clause-live_done_legally
+returns-in-Ok-Some-Live-clause-live_done_legally g c = λ named done.
+    lived_legally c.live_audits_say_legal.ensures (over (g.L.Link.handed c.args.link.now) (g.L.Link.handed c.run.new.link) (carried (g.L.Link.sent c.args.link.now) (g.L.Link.acts c.args.link.now)) (carried (g.L.Link.sent c.run.new.link) (g.L.Link.acts c.run.new.link))) (g.S.Source.left c.args.source.now) (g.K.Sink.written c.args.sink.now) (g.K.Sink.written c.run.new.sink) (c.run.ensures.done done)
+
+pub returns-in-Ok-Some-Replay-clause-script_legally : goal.returns-in-Ok-Some-Replay-clause-script_legally
+returns-in-Ok-Some-Replay-clause-script_legally g c = λ named line is.
+    refused_legally c.transcripts_fit.ensures.each c.audits_say_legal.ensures (g.S.Source.left c.args.source.now) (g.K.Sink.written c.args.sink.now) (g.K.Sink.written c.replay.new.sink) line (c.replay.ensures.script line is)
+
+pub returns-in-Ok-Some-Live-clause-live_script_legally : goal.returns-in-Ok-Some-Live-clause-live_script_legally
+returns-in-Ok-Some-Live-clause-live_script_legally g c = λ named line is.
+    live_refused_legally c.live_audits_say_legal.ensures (over (g.L.Link.handed c.args.link.now) (g.L.Link.handed c.run.new.link) (carried (g.L.Link.sent c.args.link.now) (g.L.Link.acts c.args.link.now)) (carried (g.L.Link.sent c.run.new.link) (g.L.Link.acts c.run.new.link))) (g.S.Source.left c.args.source.now) (g.K.Sink.written c.args.sink.now) (g.K.Sink.written c.run.new.sink) line (c.run.ensures.script line is)
+
+pub returns-in-Ok-Some-Replay-clause-limit_legally : goal.returns-in-Ok-Some-Replay-clause-limit_legally
+returns-in-Ok-Some-Replay-clause-limit_legally g c = λ named which is.
+    limited_legally c.transcripts_fit.ensures.each c.audits_say_legal.ensures (g.S.Source.left c.args.source.now) (g.K.Sink.written c.args.sink.now) (g.K.Sink.written c.replay.new.sink) which (c.replay.ensures.limit which is)
+
+pub returns-in-Ok-Some-Live-clause-live_limit_legally : goal.returns-in-Ok-Some-Live-clause-live_limit_legally
+returns-in-Ok-Some-Live-clause-live_limit_legally g c = λ named which is.
+    live_limited_legally c.live_audits_say_legal.ensures (over (g.L.Link.handed c.args.link.now) (g.L.Link.handed c.run.new.link) (carried (g.L.Link.sent c.args.link.now) (g.L.Link.acts c.args.link.now)) (carried (g.L.Link.sent c.run.new.link) (g.L.Link.acts c.run.new.link))) (g.S.Source.left c.args.source.now) (g.K.Sink.written c.args.sink.now) (g.K.Sink.written c.run.new.sink) which (c.run.ensures.limit which is)
