@@ -1,2 +1,3 @@
 mod Formats
 pub mod Read
+mod Old

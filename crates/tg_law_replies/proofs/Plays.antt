@@ -3,3 +3,4 @@ pub mod Parts
 pub mod Kept
 pub mod Answers
 pub mod Saved
+pub mod Old

@@ -3,6 +3,7 @@
 
 ghost use Rattle.tg_kind.specs.Of.{meaning_of};
 ghost use Rattle.tg_law_replies.specs.Plays.Laws.{PlaysJoin, StartsSound, PlaysKeep, AnswersStay, CheckpointsKeep};
+ghost use Rattle.tg_law_replies.specs.Plays.Old.{OldEntriesWhole};
 
 use tg_kind::Registry;
 
@@ -31,4 +32,10 @@ pub fn answers_stay<K: Registry>()
 /// A checkpoint of a sound view, loaded again, has the object's state and the version of each of its parts.
 pub fn checkpoints_keep<K: Registry>()
     ensures { CheckpointsKeep (meaning_of K.Registry) }
+{}
+
+/// A view that was played over entries of format 1, whose reads are of whole objects, says of each record what whole reads
+/// say: it commits where none of the objects that it read was written by a committed record since.
+pub fn old_entries_whole<K: Registry>()
+    ensures { OldEntriesWhole (meaning_of K.Registry) }
 {}

@@ -186,9 +186,10 @@ unfolding entry
 reads_entry = reads_via to_entry from_entry (dep (fixed (0x54 ∷ [])) (λ _. of_format)) (λ p. Unit {0} × IsRow p.1) IsRead
     (reads_dep (fixed (0x54 ∷ [])) (λ _. of_format) (λ x. Unit {0}) (λ x. IsRow) (reads_any (fixed (0x54 ∷ []))) (λ x h. reads_format)) (λ p h. h.1)
 
-page_read : (page : List ℕ) (e : Entry) → entry_of page ≡ Some e → IsRead e
+-- what holds of each entry that is read holds of each page's
+pub page_has : (P : Entry → Type 0) → Reads entry P → (page : List ℕ) (e : Entry) → entry_of page ≡ Some e → P e
 unfolding entry_of
-page_read page e is = by (entry.read page) refl is
+page_has P reads page e is = by (entry.read page) refl is
   where
     none : {X : Type 0} → None ≡ Some e → X
     none z = absurd cc
@@ -196,11 +197,11 @@ page_read page e is = by (entry.read page) refl is
     one : (x : Entry) → Some x ≡ Some e → x ≡ e
     one x z = cc
 
-    ended_by : (x : Entry) (rest : List ℕ) → entry.read page ≡ Ok (x, rest) → (b : Bool) → if_read (if b then Ok x else Err (length page - length rest)) ≡ Some e → IsRead e
-    ended_by x rest at true z = subst IsRead (one x z) (reads_entry page x rest at)
+    ended_by : (x : Entry) (rest : List ℕ) → entry.read page ≡ Ok (x, rest) → (b : Bool) → if_read (if b then Ok x else Err (length page - length rest)) ≡ Some e → P e
+    ended_by x rest at true z = subst P (one x z) (reads page x rest at)
     ended_by x rest at false z = none z
 
-    by : (r : Result (Entry × List ℕ) ℕ) → entry.read page ≡ r → if_read (ended page r) ≡ Some e → IsRead e
+    by : (r : Result (Entry × List ℕ) ℕ) → entry.read page ≡ r → if_read (ended page r) ≡ Some e → P e
     by (Ok x) at z = ended_by x.0 x.1 at (length x.1 == 0) z
     by (Err n) at z = none z
 
@@ -231,7 +232,7 @@ keeps e h = record {
     writing (Checkpoint o u v whole keys state) of commit = absurd cc
 
 pub pages_keep_grammar : PagesKeepGrammar
-pages_keep_grammar page e is = keeps e (page_read page e is)
+pages_keep_grammar page e is = keeps e (page_has IsRead reads_entry page e is)
 
 -- Logs.
 
