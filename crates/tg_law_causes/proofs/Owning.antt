@@ -83,7 +83,7 @@ module _ (m : Meaning) (es : Entries) (Mine : ℕ → Type 0) (mine : (p : ℕ) 
   Held c w p = Owned c.own × Here c w p
 
   way : (c : Client m) (w : Work m) (p : Place m) (d : Client m) (v : Work m) (q : Place m) → Way m c w p d v q → Held c w p → Held d v q
-  way c w _ _ _ _ (FeedsAppend a y n rid x) h = (h.0, record { draft = a.draft; fits = h.1.0; keeps = feed_keeps c.stand a a.work n x c.next; lands = λ e is. h.1.1 a e refl is })
+  way c w _ _ _ _ (FeedsAppend a y n rid x) h = (h.0, record { draft = a.draft; fits = h.1.0; keeps = feed_keeps c.stand a n x c.next; lands = λ e is. h.1.1 a e refl is })
   way c w _ _ _ _ (NewerAppend a y n rid q) h = (h.0, record { draft = a.draft; fits = h.1.0; keeps = again_keeps q a c.next; lands = λ e is. h.1.1 a e refl is })
   way c w _ _ _ _ x h = (h.0, tt)
 

@@ -459,7 +459,7 @@ module _ (m : Meaning) (objects : List Oid) (es : Entries) (rising : IsRising es
         append = b;
         low = l;
         fits = k;
-        keeps = feed_keeps c.stand b b.work from.num (reply y) c.next;
+        keeps = feed_keeps c.stand b from.num (reply y) c.next;
         lands = λ e is. lands b e refl is;
         goes = λ s le ok. feed_ok Got c.stand s b from.num c.next from rid y ok got (let u = below a.of a.has in let e = a.number in omega (arith, u, e)) a;
       }

@@ -180,7 +180,7 @@ module _ (m : Meaning) (h : Header) (zs : Moves m) (reach : Reaches m h zs (afte
           }
           by (Same old stand) = kept k b old q so is
           by (Fed a old x comes doing awaited next stand) =
-              same a b (next_draft a.draft b (append_feed c.stand a a.work x.from.num (reply x.msg) c.next).to next (feed_keeps c.stand a a.work x.from.num (reply x.msg) c.next)) old q so is
+              same a b (next_draft a.draft b (append_feed c.stand a a.work x.from.num (reply x.msg) c.next).to next (feed_keeps c.stand a x.from.num (reply x.msg) c.next)) old q so is
           by (Again a old x p comes latest node later next stand) = same a b (next_draft a.draft b (append_again p a c.next).to next (again_keeps p a c.next)) old q so is
 
     own : (k : ℕ) (t : ClientTurn m) → (i : ClientInput m (config m (after m h xs)) k t) → Given m (LawfulCommand m) (config m (after m h xs)) k t i → k < length (after m h xs).clients → AllBegan on (client_turn m (config m (after m h xs)) k t)

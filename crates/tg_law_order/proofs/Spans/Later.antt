@@ -213,7 +213,7 @@ module _ (m : Meaning) (h : Header) (zs : Moves m) (reach : Reaches m h zs (afte
         like e = subst (IsLater k) e n
 
         fed_like : (x : Packet) → NextIs b (append_feed p a a.work x.from.num (reply x.msg) c.next).to → IsLater k a.draft
-        fed_like x is = like (next_draft a.draft b (append_feed p a a.work x.from.num (reply x.msg) c.next).to is (feed_keeps p a a.work x.from.num (reply x.msg) c.next))
+        fed_like x is = like (next_draft a.draft b (append_feed p a a.work x.from.num (reply x.msg) c.next).to is (feed_keeps p a x.from.num (reply x.msg) c.next))
 
         again_like : (q : Layout) → NextIs b (append_again q a c.next).to → IsLater k a.draft
         again_like q is = like (next_draft a.draft b (append_again q a c.next).to is (again_keeps q a c.next))

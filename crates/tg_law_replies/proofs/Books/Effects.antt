@@ -280,7 +280,7 @@ module _ (m : Meaning) (c0 : Client m) (w0 : Work m) (end0 : Option AppendEnd) w
     way : (c : Client m) (w : Work m) (p : Place m) (d : Client m) (v : Work m) (q : Place m) → Way m c w p d v q → Along c w p → Along d v q
     way c w _ _ _ _ (FeedsSync s n rid x) h = record { held = h.held; fits = idle h.fits.0 tt }
     way c w _ _ _ _ (FeedsWalk k os n rid x) h = record { held = h.held; fits = idle h.fits.0 tt }
-    way c w _ _ _ _ (FeedsAppend a y n rid x) h = record { held = h.held; fits = (a, h.fits.0, feed_keeps c.stand a a.work n x c.next, h.fits.1) }
+    way c w _ _ _ _ (FeedsAppend a y n rid x) h = record { held = h.held; fits = (a, h.fits.0, feed_keeps c.stand a n x c.next, h.fits.1) }
     way c w _ _ _ _ (FeedsTrims t n rid x) h = record { held = h.held; fits = (idle h.fits.0 tt, suits h.fits.0) }
     way c w _ _ _ _ (FeedsCopy y n rid x) h = record { held = h.held; fits = (idle h.fits.0 tt, suits h.fits.0) }
     way c w _ _ _ _ (FeedsReconf r n rid x) h = record { held = h.held; fits = (idle h.fits.0 tt, suits h.fits.0) }

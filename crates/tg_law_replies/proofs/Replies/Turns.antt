@@ -1,6 +1,6 @@
 -- A client's steps keep it right, and what they tell is true of the log.
 use Rattle.std.proofs.Common.{◌≡◌, ◌<◌, ◌⊎◌, ◌+◌, ◌∙◌, is_some, arith, ℕ, List, [], ◌∷◌, Bool, true, false, refl, sym, ap, subst, inl, inr, Option, Some, None, Contains}
-use Rattle.std.specs.Prelude.{nat_lt, nat_le, ◌&&◌}
+use Rattle.std.specs.Prelude.{nat_le, ◌&&◌}
 use Rattle.tg_base.specs.Layouts.{Layout}
 use Rattle.tg_base.specs.declared.ids.NodeId.{NodeId}
 use Rattle.tg_base.specs.declared.ids.Oid.{Oid}
@@ -15,7 +15,7 @@ use Rattle.tg_model.specs.declared.refusal.Refusal.{Refusal}
 use Rattle.tg_model.specs.declared.trace.What.TheVariants as told
 use Rattle.tg_model.specs.Kinds.{CommandOf, WhatOf, NoteOf}
 use Rattle.tg_entry.specs.Needs.{reads_of}
-use Rattle.tg_protocol.specs.Entries.{is_commit, streams_of}
+use Rattle.tg_protocol.specs.Entries.{is_commit}
 use Rattle.tg_entry.specs.Records.{linked}
 use Rattle.tg_protocol.specs.Logs.{is_current, changes_below}
 use Rattle.tg_protocol.specs.Views.{Entries, View, Play, Verdict, Commits, Aborts, state_of, view_version, fate_of, verdict, view_outcome}
@@ -29,11 +29,9 @@ use Rattle.tg_law_replies.proofs.History.Ledger.{one_entry}
 use Rattle.tg_law_replies.proofs.Views.Plays.{changes_true}
 use Rattle.tg_law_replies.proofs.Replies.Ways.{end_fed, end_newer}
 use Rattle.tg_law_replies.proofs.Replies.Each.{delivered}
-use Rattle.tg_protocol.specs.Requests.{Next, Goes, Learns, Ends, Turn}
-use Rattle.tg_protocol.specs.Replies.{Reply, IsIssued, IsOldEpoch, IsFull}
-use Rattle.tg_protocol.specs.Cells.{CellJob, CellEnd, Done, Seen, Lost, Fenced, Gone, cell_feed}
-use Rattle.tg_protocol.specs.Appending.{AppendWork, Asking, Putting, Judging, Token, Append, AppendEnd, At, put_end, put_next, put_turn, own_or_not, judge_end, judge_next, judge_turn, on_issued, asking_feed, by_token, append_feed, dead_or_judged, again_with, append_again, names_all}
-use Rattle.tg_protocol.specs.Appending as append
+use Rattle.tg_protocol.specs.Requests.{Next, Goes, Learns, Ends}
+use Rattle.tg_protocol.specs.Replies.{Reply}
+use Rattle.tg_protocol.specs.Appending.{AppendWork, Append, AppendEnd, At, append_feed, append_again}
 use Rattle.tg_protocol.specs.Clients.{Purpose, Decides, Rescues, Saves, Task, Appending, Hand, Doing, Learning, Work, Client, all_entries}
 use Rattle.tg_protocol.specs.Answers.{Moved, moved, note, took_over, replies, answers, appends, syncs, decision, with_decision}
 use Rattle.tg_protocol.specs.ClientSteps.{task_in, goes_on, learns_for, plays_kept, knows_page, owns, stands, feed}
@@ -41,6 +39,7 @@ use Rattle.tg_protocol.specs.Holding.{append_of, append_by}
 use Rattle.tg_law_steps.proofs.Places.{Place, Feeds, Newer, OnAppend, Walks, Plays, Looks, Rescues as Rescues'}
 use Rattle.tg_law_steps.proofs.Ways.{Way, FeedsAppend, NewerAppend, MetHigh, StartsOver, AllWalked, HasPlayed, LooksBack, IsRescue}
 use Rattle.tg_law_steps.proofs.Ends as end
+use Rattle.tg_law_steps.proofs.Machines.Appends.{AppendCame, LogFull, IsPut, PutTrimmed, IsOwn, JudgedTrimmed, append_came, AppendAgain, AsksAgain, append_again_came}
 use Rattle.tg_law_replies.specs.Plays.Sound.{IsRising}
 use Rattle.tg_law_replies.specs.History.Logs.{AreListed, HasOutcome}
 use Rattle.tg_law_replies.proofs.History.Members.{both_and, has_contained, not_lt}
@@ -59,76 +58,23 @@ Keeps d (Goes a) = a.draft ≡ d
 Keeps d (Learns a) = a.draft ≡ d
 Keeps d (Ends e) = Unit {0}
 
-abbrev KeepsTurn : Entry → Turn Append AppendEnd → Type 0
-KeepsTurn d t = Keeps d t.to
+came_keeps : (p : Layout) (a : Append) (n : ℕ) (x : Reply) (next : ℕ) (w : AppendWork) (to : Next Append AppendEnd) → AppendCame p a n x next w to → Keeps a.draft to
+came_keeps p a n x next _ _ (LogFull r l is) = tt
+came_keeps p a n x next _ _ (IsPut j t c has e) = tt
+came_keeps p a n x next _ _ (PutTrimmed j t b has e) = tt
+came_keeps p a n x next _ _ (IsOwn j t c has e own) = tt
+came_keeps p a n x next _ _ (JudgedTrimmed j t b has e) = tt
+came_keeps p a n x next _ _ s = refl
 
-put_end_keeps : (a : Append) (t : Token) (e : CellEnd) (next : ℕ) → KeepsTurn a.draft (put_end a t e next)
-put_end_keeps a t (Done c) next = tt
-put_end_keeps a t Seen next = refl
-put_end_keeps a t (Lost c) next = refl
-put_end_keeps a t (Fenced u e) next = refl
-put_end_keeps a t (Gone b) next = tt
+pub feed_keeps : (p : Layout) (a : Append) (n : ℕ) (x : Reply) (next : ℕ) → Keeps a.draft (append_feed p a a.work n x next).to
+feed_keeps p a n x next = came_keeps p a n x next a.work _ (append_came p a n x next a.work)
 
-put_keeps : (a : Append) (t : Token) (x : Next CellJob CellEnd) (next : ℕ) → KeepsTurn a.draft (put_next a t x next)
-put_keeps a t (Goes j) next = refl
-put_keeps a t (Learns j) next = refl
-put_keeps a t (Ends e) next = put_end_keeps a t e next
+anew_keeps : (q : Layout) (a : Append) (next : ℕ) (to : Next Append AppendEnd) → AppendAgain q a next to → Keeps a.draft to
+anew_keeps q a next _ AsksAgain = refl
+anew_keeps q a next _ s = refl
 
-own_keeps : (a : Append) (t : Token) (next : ℕ) (b : Bool) → KeepsTurn a.draft (own_or_not a t next b)
-own_keeps a t next true = tt
-own_keeps a t next false = refl
-
-judge_end_keeps : (a : Append) (t : Token) (e : CellEnd) (next : ℕ) → KeepsTurn a.draft (judge_end a t e next)
-judge_end_keeps a t (Done c) next = own_keeps a t next _
-judge_end_keeps a t Seen next = refl
-judge_end_keeps a t (Lost c) next = refl
-judge_end_keeps a t (Fenced u e) next = refl
-judge_end_keeps a t (Gone b) next = tt
-
-judge_keeps : (a : Append) (t : Token) (x : Next CellJob CellEnd) (next : ℕ) → KeepsTurn a.draft (judge_next a t x next)
-judge_keeps a t (Goes j) next = refl
-judge_keeps a t (Learns j) next = refl
-judge_keeps a t (Ends e) next = judge_end_keeps a t e next
-
-issued_keeps : (p : Layout) (a : Append) (pos : ℕ) (ls : List StreamLink) (next : ℕ) (b : Bool) → KeepsTurn a.draft (on_issued p a pos ls next b)
-issued_keeps p a pos ls next true = put_keeps a _ _ _
-issued_keeps p a pos ls next false = refl
-
-older_keeps : (p : Layout) (next : ℕ) (a : Append) (b : Bool) → KeepsTurn a.draft (append.on_older {M = Append} {E = AppendEnd} p next a b)
-older_keeps p next a true = refl
-older_keeps p next a false = refl
-
-newer_keeps : (p : Layout) (e next : ℕ) (a : Append) (b : Bool) → KeepsTurn a.draft (append.on_newer {M = Append} {E = AppendEnd} p e next a b)
-newer_keeps p e next a true = refl
-newer_keeps p e next a false = older_keeps p next a (nat_lt e p.epoch)
-
-asking_keeps : (p : Layout) (a : Append) (x : Reply) (next : ℕ) → KeepsTurn a.draft (asking_feed p a x next)
-asking_keeps p a (IsIssued pos ls) next = issued_keeps p a pos ls next (names_all (streams_of a.draft) ls)
-asking_keeps p a (IsFull l) next = tt
-asking_keeps p a (IsOldEpoch e) next = newer_keeps p e next a (nat_lt p.epoch e)
-asking_keeps p a x next = refl
-
-token_keeps : (a : Append) (next : ℕ) (t : Option Token) (f : Token → Turn Append AppendEnd) → ((t : Token) → KeepsTurn a.draft (f t)) → KeepsTurn a.draft (by_token a next t f)
-token_keeps a next None f h = refl
-token_keeps a next (Some t) f h = h t
-
-pub feed_keeps : (p : Layout) (a : Append) (w : AppendWork) (n : ℕ) (x : Reply) (next : ℕ) → KeepsTurn a.draft (append_feed p a w n x next)
-unfolding append_feed
-feed_keeps p a (Asking r) n x next = asking_keeps p a x next
-feed_keeps p a (Putting j) n x next = token_keeps a next a.token (λ t. put_turn a t (cell_feed j n x next)) (λ t. put_keeps a t _ _)
-feed_keeps p a (Judging j) n x next = token_keeps a next a.token (λ t. judge_turn a t (cell_feed j n x next)) (λ t. judge_keeps a t _ _)
-
-dead_keeps : (p : Layout) (a : Append) (t : Token) (next : ℕ) (b : Bool) → KeepsTurn a.draft (dead_or_judged p a t next b)
-dead_keeps p a t next true = refl
-dead_keeps p a t next false = judge_keeps a t _ _
-
-pub again_keeps : (p : Layout) (a : Append) (next : ℕ) → KeepsTurn a.draft (append_again p a next)
-unfolding append_again
-again_keeps p a next = by a.token
-  where
-    by : (t : Option Token) → KeepsTurn a.draft (again_with p a next t)
-    by None = refl
-    by (Some t) = dead_keeps p a t next (nat_le p.start t.pos)
+pub again_keeps : (q : Layout) (a : Append) (next : ℕ) → Keeps a.draft (append_again q a next).to
+again_keeps q a next = anew_keeps q a next _ (append_again_came q a next)
 
 -- an append that ends does so by the log
 abbrev pub LandsBy : (m : Meaning) → Entries → Option Append → Option AppendEnd → Type 0
@@ -189,7 +135,7 @@ module _ (m : Meaning) (objects : List Oid) (es : Entries) (rising : IsRising es
   way : (c : Client m) (w : Work m) (p : Place m) (d : Client m) (v : Work m) (q : Place m) → Way m c w p d v q → Along c w p → Along d v q
   way c w _ _ _ _ (FeedsAppend a y n rid x) h = record {
     held = record { right = record { view = h.held.right.view; dir = h.held.right.dir; work = h.held.right.work }; tx = h.held.tx; begun = h.held.begun };
-    fits = record { draft = a.draft; so = h.fits.0.0; purpose = h.fits.0.1; keeps = feed_keeps c.stand a a.work n x c.next; lands = λ e is. h.fits.1 a e refl is };
+    fits = record { draft = a.draft; so = h.fits.0.0; purpose = h.fits.0.1; keeps = feed_keeps c.stand a n x c.next; lands = λ e is. h.fits.1 a e refl is };
   }
   way c w _ _ _ _ (NewerAppend a y n rid q) h = record {
     held = record { right = record { view = h.held.right.view; dir = h.held.right.dir; work = h.held.right.work }; tx = h.held.tx; begun = h.held.begun };

@@ -38,7 +38,7 @@ module _ (m : Meaning) (E : Walked m → Type 0) where
   -- Along a turn.
 
   way : (c : Client m) (w : Work m) (p : Place m) (d : Client m) (v : Work m) (q : Place m) → Way m c w p d v q → Along m E c w p → Along m E d v q
-  way c w _ _ _ _ (FeedsAppend a y n rid x) h = record { tx = h.tx; some = h.some; fits = h.fits; came = λ z e. no_some z e; at = (a, record { fits = h.at }, feed_keeps c.stand a a.work n x c.next) }
+  way c w _ _ _ _ (FeedsAppend a y n rid x) h = record { tx = h.tx; some = h.some; fits = h.fits; came = λ z e. no_some z e; at = (a, record { fits = h.at }, feed_keeps c.stand a n x c.next) }
   way c w _ _ _ _ (NewerAppend a y n rid q) h = record {
     tx = h.tx;
     some = (let less = h.at.1 in omega (arith, less));

@@ -320,7 +320,7 @@ module _ (m : Meaning) (objects : List Oid) (es : Entries) where
         pub at : At c w p
 
       way : (c : Client m) (w : Work m) (p : Place m) (d : Client m) (v : Work m) (q : Place m) → Way m c w p d v q → Along c w p → Along d v q
-      way c w _ _ _ _ (FeedsAppend a y n rid x) h = record { root = turned_root c _ h.root; saves = h.saves; at = (a, h.at.0, feed_keeps c.stand a a.work n x c.next) }
+      way c w _ _ _ _ (FeedsAppend a y n rid x) h = record { root = turned_root c _ h.root; saves = h.saves; at = (a, h.at.0, feed_keeps c.stand a n x c.next) }
       way c w _ _ _ _ (FeedsReconf r n rid x) h = record { root = turned_root c _ h.root; saves = h.saves; at = h.at.1 }
       way c w _ _ _ _ (NewerSync s n rid q) h = record { root = turned_root (stands m c q) _ (stands_root c q h.at.1 h.root); saves = h.saves; at = tt }
       way c w _ _ _ _ (NewerWalk k os n rid q) h = record { root = turned_root (stands m c q) _ (stands_root c q h.at.1 h.root); saves = h.saves; at = tt }

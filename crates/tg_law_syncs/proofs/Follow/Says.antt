@@ -146,7 +146,7 @@ module _ (m : Meaning) (saved : Oid → ℕ → ℕ → Type 0) where
   Fit c w p = Open c w × Unit {0}
 
   way : (c : Client m) (w : Work m) (p : Place m) (d : Client m) (v : Work m) (q : Place m) → Way m c w p d v q → Fit c w p → Fit d v q
-  way c w _ _ _ _ (FeedsAppend a y n rid x) k = (k.0, next_well c w a y (append_fed m c a n x).to (feed_keeps c.stand a a.work n x c.next) k.1)
+  way c w _ _ _ _ (FeedsAppend a y n rid x) k = (k.0, next_well c w a y (append_fed m c a n x).to (feed_keeps c.stand a n x c.next) k.1)
   way c w _ _ _ _ (NewerAppend a y n rid q) k = (k.0, next_well c w a y (append_again q a c.next).to (again_keeps q a c.next) k.1)
   way c w _ _ _ _ x k = (k.0, tt)
 

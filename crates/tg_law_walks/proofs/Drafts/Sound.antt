@@ -307,7 +307,7 @@ module _ (m : Meaning) (c0 : Client m) (w0 : Work m) (few : Few m c0) (tx0 : May
       held = within h.held h.held.counts refl refl refl refl;
       fits = subst (λ (z : Reply). TailNext (sync_feed c.stand s s.work n z c.next).to) (sym h.fits.1.1) (tail_feed_ok c.stand s n h.fits.1.0 c.next (subst (TaskOk m c0.num) h.fits.0 task0));
     }
-    way c w _ _ _ _ (FeedsAppend a y n rid x) h = record { held = within h.held h.held.counts refl refl refl refl; fits = (a, h.fits.0, feed_keeps c.stand a a.work n x c.next) }
+    way c w _ _ _ _ (FeedsAppend a y n rid x) h = record { held = within h.held h.held.counts refl refl refl refl; fits = (a, h.fits.0, feed_keeps c.stand a n x c.next) }
     way c w _ _ _ _ (NewerSync s n rid q) h = record { held = within h.held h.held.counts refl refl refl refl; fits = tail_start_ok s.oids c.next }
     way c w _ _ _ _ (NewerAppend a y n rid q) h = record { held = within h.held h.held.counts refl refl refl refl; fits = (a, h.fits, again_keeps q a c.next) }
     way c w _ _ _ _ (Confirms bs t ls) h = record { held = record { counts = h.held.counts; tx = h.held.tx; command = h.held.command; tail = h.fits; view = h.held.view }; fits = tt }

@@ -337,7 +337,7 @@ module _ (m : Meaning) (h : Header) (zs : Moves m) (header : IsHeader h) (give :
           by : Became m (config m (after m h xs)) k u.now b → PutsOk k b.draft b.work
           by (Fresh none asks kind new) = asking_puts k b.draft b.work asks
           by (Same old stand) = t.hands k b old
-          by (Fed a old x comes doing awaited is stand) = kept a (append_feed (client_in m (config m (after m h xs)) k).stand a a.work x.from.num (reply x.msg) (client_in m (config m (after m h xs)) k).next).to is (feed_keeps (client_in m (config m (after m h xs)) k).stand a a.work x.from.num (reply x.msg) (client_in m (config m (after m h xs)) k).next)
+          by (Fed a old x comes doing awaited is stand) = kept a (append_feed (client_in m (config m (after m h xs)) k).stand a a.work x.from.num (reply x.msg) (client_in m (config m (after m h xs)) k).next).to is (feed_keeps (client_in m (config m (after m h xs)) k).stand a x.from.num (reply x.msg) (client_in m (config m (after m h xs)) k).next)
               (next_puts k a.draft b _ is (feed_puts k a.draft (client_in m (config m (after m h xs)) k).stand a x.from.num x.msg (client_in m (config m (after m h xs)) k).next (t.hands k a old) (makes k a old x comes doing awaited)))
           by (Again a old x q comes is node less next stand) = kept a (append_again q a (client_in m (config m (after m h xs)) k).next).to next (again_keeps q a (client_in m (config m (after m h xs)) k).next) (next_puts k a.draft b _ next (again_puts k a.draft q a (client_in m (config m (after m h xs)) k).next))
 

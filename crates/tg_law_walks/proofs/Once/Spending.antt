@@ -403,7 +403,7 @@ module _ (m : Meaning) (h : Header) (zs : Moves m) (reach : Reaches m h zs (afte
         by (Fresh none asks kind isnt) t is = no_some t (sym none ∙ is)
         by (Same old stand) t is = s.drawn b old t is
         by (Fed a old x comes doing awaited next stand) t is =
-            fed_drawn a b o (s.drawn a old) (next_draft a.draft b (append_feed c.stand a a.work x.from.num (reply x.msg) c.next).to next (feed_keeps c.stand a a.work x.from.num (reply x.msg) c.next)) (append_feed c.stand a a.work x.from.num (reply x.msg) c.next).to next (fed a old x comes doing awaited) t is
+            fed_drawn a b o (s.drawn a old) (next_draft a.draft b (append_feed c.stand a a.work x.from.num (reply x.msg) c.next).to next (feed_keeps c.stand a x.from.num (reply x.msg) c.next)) (append_feed c.stand a a.work x.from.num (reply x.msg) c.next).to next (fed a old x comes doing awaited) t is
         by (Again a old x q comes said node later next stand) t is =
             again_drawn q a b (s.drawn a old) (next_draft a.draft b (append_again q a c.next).to next (again_keeps q a c.next)) (append_again q a c.next).to next (again_so q a c.next) t is
 
@@ -536,7 +536,7 @@ module _ (m : Meaning) (h : Header) (zs : Moves m) (reach : Reaches m h zs (afte
         by (Same old stand) = on b (λ y. inr (same_hand b x.epoch x.pos x.page (let z = ap (λ (q : Layout). q.epoch) stand in omega (arith, z)) y)) (s.hands b old x kind)
         by (Fed a old y comes doing awaited is stand) =
             on a (λ z. fed_hand a b old doing (append_feed c.stand a a.work y.from.num (reply y.msg) c.next).to is (fed a old y comes doing awaited) stand x.epoch x.pos x.page z)
-            (s.hands a old x (kind_of a (next_draft a.draft b (append_feed c.stand a a.work y.from.num (reply y.msg) c.next).to is (feed_keeps c.stand a a.work y.from.num (reply y.msg) c.next))))
+            (s.hands a old x (kind_of a (next_draft a.draft b (append_feed c.stand a a.work y.from.num (reply y.msg) c.next).to is (feed_keeps c.stand a y.from.num (reply y.msg) c.next))))
         by (Again a old y q comes is node later next stand) =
             on a (λ z. again_hand q a b (append_again q a c.next).to next (again_so q a c.next) (told y q comes.sent is) later stand x.epoch x.pos x.page z)
             (s.hands a old x (kind_of a (next_draft a.draft b (append_again q a c.next).to next (again_keeps q a c.next))))
@@ -598,7 +598,7 @@ module _ (m : Meaning) (h : Header) (zs : Moves m) (reach : Reaches m h zs (afte
         by : Became m g k u.now b → Bounded m u.now b.draft
         by (Fresh none asks kind isnt) = fresh kind
         by (Same old stand) = grows b refl (s.bounds b old)
-        by (Fed a old x comes doing awaited is stand) = grows a (next_draft a.draft b (append_feed c.stand a a.work x.from.num (reply x.msg) c.next).to is (feed_keeps c.stand a a.work x.from.num (reply x.msg) c.next)) (s.bounds a old)
+        by (Fed a old x comes doing awaited is stand) = grows a (next_draft a.draft b (append_feed c.stand a a.work x.from.num (reply x.msg) c.next).to is (feed_keeps c.stand a x.from.num (reply x.msg) c.next)) (s.bounds a old)
         by (Again a old x q comes is node later next stand) = grows a (next_draft a.draft b (append_again q a c.next).to next (again_keeps q a c.next)) (s.bounds a old)
 
     begun_is : u.now.begun ≡ of.moved.now.begun
