@@ -358,7 +358,7 @@ module _ (m : Meaning) where
   abbrev pub HeldOr : ℕ → Tx → World m → Type 0
   HeldOr k t w = Held m t (client m w k) ⊎ Only m t.number (None' m) (client m w k)
 
-  has_marked : (event k : ℕ) (ns : List (NoteOf m)) (n : NoteOf m) → Has ns n → Has (map (mark m event k) ns) (mark m event k n)
+  pub has_marked : (event k : ℕ) (ns : List (NoteOf m)) (n : NoteOf m) → Has ns n → Has (map (mark m event k) ns) (mark m event k n)
   has_marked event k [] n i = absurd i
   has_marked event k (x ∷ ns) n (inl e) = inl (ap (λ (y : NoteOf m). mark m event k y) e)
   has_marked event k (x ∷ ns) n (inr i) = inr (has_marked event k ns n i)

@@ -68,7 +68,7 @@ module _ (o : Oid) (b : Option Based) (upto : ℕ) (lawful : AreVersions o upto 
   below_first : (n : PartVersion) (ns : List PartVersion) (k : Part) → oid_eq n.oid o ≡ true → Fall n.version ns → After o upto (n ∷ ns) → noted_or b ns o k ≤ n.version
   below_first n ns k same fall after = let a = after.0 same in noted_within o b ns n.version upto k lawful (omega (arith, a)) fall
 
-  part_at_most : (ns : List PartVersion) (bound : ℕ) (k : Part) → Fall bound ns → After o upto ns → noted_or b ns o k ≤ noted_or b ns o All
+  pub part_at_most : (ns : List PartVersion) (bound : ℕ) (k : Part) → Fall bound ns → After o upto ns → noted_or b ns o k ≤ noted_or b ns o All
   part_at_most [] bound k fall after = base_all b lawful k
   part_at_most (n ∷ ns) bound k fall after = subst (λ (x : ℕ). noted_or b (n ∷ ns) o k ≤ x) (sym (first_all n ns)) (by (oid_eq n.oid o) refl (overlap n.part k) (part_at_most ns n.version k fall.1 after.1))
     where
@@ -77,7 +77,7 @@ module _ (o : Oid) (b : Option Based) (upto : ℕ) (lawful : AreVersions o upto 
       by true e false rest = below_first n ns k e fall.1 after
       by false e u rest = rest
 
-  whole_at_most : (ns : List PartVersion) (bound : ℕ) → Fall bound ns → After o upto ns → whole_noted b ns o ≤ noted_or b ns o All
+  pub whole_at_most : (ns : List PartVersion) (bound : ℕ) → Fall bound ns → After o upto ns → whole_noted b ns o ≤ noted_or b ns o All
   whole_at_most [] bound fall after = whole_all b lawful
   whole_at_most (n ∷ ns) bound fall after = subst (λ (x : ℕ). whole_noted b (n ∷ ns) o ≤ x) (sym (first_all n ns)) (by (oid_eq n.oid o) refl (is_whole n.part) (whole_at_most ns n.version fall.1 after.1))
     where

@@ -1,5 +1,5 @@
 -- A checkpoint of a view has a spelling, where ops touch parts of the format.
-use Rattle.std.proofs.Common.{◌≡◌, ℕ, ◌<◌, ◌≤◌, ◌^◌, Bool, true, false, cond, List, [], ◌∷◌, filter, map, Option, Some, None, refl, sym, ap, ◌∙◌, subst, arith}
+use Rattle.std.proofs.Common.{◌≡◌, ℕ, ◌<◌, ◌≤◌, ◌^◌, Bool, true, false, cond, List, [], ◌∷◌, filter, map, Option, Some, None, refl, sym, ap, ◌∙◌, arith}
 use Rattle.std.specs.Prelude.{not, ◌&&◌, nat_lt, if◌then◌else◌}
 use Rattle.std.specs.List.{list_all}
 use Rattle.std.specs.Ordering.{is_lt, is_eq, ordering_reverse}
@@ -13,85 +13,21 @@ use Rattle.tg_base.specs.Orders.{oid_eq}
 use Rattle.tg_entry.specs.Format.{entry}
 use Rattle.tg_entry.specs.Records.{is_object, keys_rise}
 use Rattle.tg_kind.specs.Meaning.{Meaning}
-use Rattle.tg_kind.specs.Parts.{part_eq, is_whole, overlap}
+use Rattle.tg_kind.specs.Parts.{part_eq, is_whole}
 use Rattle.tg_protocol.specs.Words.{part_lt}
 use Rattle.tg_protocol.specs.Entries.{entry_size}
-use Rattle.tg_protocol.specs.Versions.{Based, PartVersion, key_version, version_in, base_version, noted_or, version_of, whole_noted, with_part, parts_noted, parts_based, base_parts, Parts, parts_of}
+use Rattle.tg_protocol.specs.Versions.{Based, PartVersion, noted_or, version_of, whole_noted, with_part, parts_noted, parts_based, base_parts, Parts, parts_of}
 use Rattle.tg_protocol.specs.Views.{Base, View, base_of, state_of, view_version, view_parts, played_version, played_parts}
 use Rattle.tg_protocol.specs.Checkpoints.{saved_bytes, checkpoint}
 use Rattle.tg_vers.proofs.Order.{part_total, part_lt_is, part_eq_is}
 use Rattle.tg_play.specs.Lawful.{AreKeys, is_shown}
 use Rattle.tg_ckpt.specs.Saving.{key_of_bytes}
 use Rattle.tg_ckpt.proofs.Drafts.{draft_kept}
-use Rattle.tg_law_replies.specs.Plays.Sound as sound
-use Rattle.tg_law_replies.specs.Plays.Sound.{Fall, IsBased, AreVersions, IsSound}
-use Rattle.tg_law_replies.proofs.Plays.Parts.{After}
-use Rattle.tg_law_replies.proofs.Plays.Saved.{noted_within, base_lawful, after_of}
+use Rattle.tg_law_replies.specs.Plays.Sound.{IsSound}
+use Rattle.tg_law_replies.proofs.Plays.Saved.{base_lawful, after_of}
+use Rattle.tg_law_replies.proofs.Views.Saves.{part_at_most, whole_at_most}
 use Rattle.tg_law_walks.specs.Drafts.Parts.{TouchParts}
 use Rattle.tg_law_walks.proofs.Drafts.Views.{NameParts, BasedOk, NotedOk, ViewOk, found_ok, version_small}
-
--- No version is above the object's.
-
-module _ (o : Oid) (b : Option Based) (upto : ℕ) (lawful : AreVersions o upto b) where
-  key_within : (k : Part) (whole version : ℕ) (xs : List (Part × ℕ)) → whole ≤ version → sound.AreKeys whole version xs → key_version k whole xs ≤ version
-  key_within k whole version [] le h = le
-  key_within k whole version (x ∷ xs) le h = at (part_eq k x.0) (key_within k whole version xs le h.3)
-    where
-      at : (t : Bool) → key_version k whole xs ≤ version → cond t x.1 (key_version k whole xs) ≤ version
-      at true rest = h.2
-      at false rest = rest
-
-  in_within : (c : Based) (k : Part) → IsBased o upto c → version_in c k ≤ c.version
-  in_within c All h = omega arith
-  in_within c (Text t) h = key_within (Text t) c.whole c.version c.keys h.whole h.keys
-  in_within c (Num n) h = key_within (Num n) c.whole c.version c.keys h.whole h.keys
-
-  base_all : (c : Option Based) → AreVersions o upto c → (k : Part) → (base_version c o k ≤ base_version c o All) × (whole_noted c [] o ≤ base_version c o All)
-  base_all None h k = (omega arith, omega arith)
-  base_all (Some c) h k = at (oid_eq c.oid o)
-    where
-      at : (t : Bool) → (cond t (version_in c k) 0 ≤ cond t c.version 0) × (cond t c.whole 0 ≤ cond t c.version 0)
-      at true = (in_within c k h, h.whole)
-      at false = (omega arith, omega arith)
-
-  all_overlaps : (k : Part) → overlap k All ≡ true
-  all_overlaps All = refl
-  all_overlaps (Text t) = refl
-  all_overlaps (Num n) = refl
-
-  -- a version below one that is noted later
-  abbrev Most : ℕ → List PartVersion → Type 0
-  Most x ns = x ≤ noted_or b ns o All
-
-  noted_most : (ns : List PartVersion) (bound : ℕ) (k : Part) → Fall bound ns → After o upto ns → Most (noted_or b ns o k) ns × Most (whole_noted b ns o) ns
-  noted_most [] bound k fall after = base_all b lawful k
-  noted_most (n ∷ ns) bound k fall after = by (oid_eq n.oid o) refl (overlap n.part k) (is_whole n.part) (noted_most ns n.version k fall.1 after.1)
-    where
-      below : (j : Part) → oid_eq n.oid o ≡ true → noted_or b ns o j ≤ n.version
-      below j same = let a = after.0 same in noted_within o b ns n.version upto j lawful (omega (arith, a)) fall.1
-
-      first : (t : Bool) → (t && overlap n.part All) ≡ t
-      first t = ap (λ (c : Bool). t && c) (all_overlaps n.part) ∙ plain t
-        where
-          plain : (t : Bool) → (t && true) ≡ t
-          plain true = refl
-          plain false = refl
-
-      by : (t : Bool) → oid_eq n.oid o ≡ t → (u v : Bool) → Most (noted_or b ns o k) ns × Most (whole_noted b ns o) ns
-          → (cond (t && u) n.version (noted_or b ns o k) ≤ cond (t && overlap n.part All) n.version (noted_or b ns o All)) × (cond (t && v) n.version (whole_noted b ns o) ≤ cond (t && overlap n.part All) n.version (noted_or b ns o All))
-      by t e u v rest = subst (λ (c : Bool). (cond (t && u) n.version (noted_or b ns o k) ≤ cond c n.version (noted_or b ns o All)) × (cond (t && v) n.version (whole_noted b ns o) ≤ cond c n.version (noted_or b ns o All))) (sym (first t)) (of t e u v)
-        where
-          of : (t : Bool) → oid_eq n.oid o ≡ t → (u v : Bool) → (cond (t && u) n.version (noted_or b ns o k) ≤ cond t n.version (noted_or b ns o All)) × (cond (t && v) n.version (whole_noted b ns o) ≤ cond t n.version (noted_or b ns o All))
-          of false e u v = rest
-          of true e u v = (left u, right v)
-            where
-              left : (u : Bool) → cond u n.version (noted_or b ns o k) ≤ n.version
-              left true = omega arith
-              left false = below k e
-
-              right : (v : Bool) → cond v n.version (whole_noted b ns o) ≤ n.version
-              right true = omega arith
-              right false = let x = below All e in let y = rest.1 in omega (arith, x, y)
 
 -- Parts rise, and each is one of the format that isn't the whole.
 
@@ -233,8 +169,8 @@ module _ (m : Meaning) (parts : TouchParts m) (v : View m) (o : Oid) (ok : ViewO
           let lawful = base_lawful m v.bases o b is_sound.bases is in
           let after = after_of m v.bases v.noted o b is is_sound.after in
           let t = keys_told (λ (k : Part). noted_or b.versions.base v.noted o k) (whole_noted b.versions.base v.noted o) (noted_or b.versions.base v.noted o All) (parts_noted v.noted o (base_parts b.versions.base o))
-          (λ k. (noted_most o b.versions.base b.upto lawful v.noted v.upto k is_sound.fall after).0) (noted_rise m parts v.noted o (base_parts b.versions.base o) ok.1 (base_rise b.versions.base o h)) in
-          (record { below = (noted_most o b.versions.base b.upto lawful v.noted v.upto All is_sound.fall after).1; each = t.each; rising = t.rising }, t.bytes)
+          (λ k. part_at_most o b.versions.base b.upto lawful v.noted v.upto k is_sound.fall after) (noted_rise m parts v.noted o (base_parts b.versions.base o) ok.1 (base_rise b.versions.base o h)) in
+          (record { below = whole_at_most o b.versions.base b.upto lawful v.noted v.upto is_sound.fall after; each = t.each; rising = t.rising }, t.bytes)
 
   pub checkpoint_fits : (upto client number : ℕ) → is_object o ≡ true → client < 2 ^ 16 → 1 ≤ number → number < 2 ^ 32 → upto < 2 ^ 64 → nat_lt 4096 (entry_size (checkpoint m v o upto client number)) ≡ false → entry.fits (checkpoint m v o upto client number) ≡ true
   unfolding checkpoint

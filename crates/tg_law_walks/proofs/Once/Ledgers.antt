@@ -1,5 +1,6 @@
 -- What a transaction has put and asked, by the trace, and what an open one writes and reads.
 use Rattle.std.proofs.Common.{◌≡◌, ◌⊎◌, ℕ, ◌<◌, List, [], ◌∷◌, ◌++◌, map, Bool, true, false, refl, sym, ap, ◌∙◌, subst, inl, inr, arith}
+use Rattle.std.proofs.lemmas.List.{map-append}
 use Rattle.std.specs.Prelude.{if◌then◌else◌, ◌&&◌, ◌==◌}
 use Rattle.tg_base.specs.declared.ids.Oid.{Oid}
 use Rattle.tg_base.specs.declared.marks.Part.{Part}
@@ -14,7 +15,7 @@ use Rattle.tg_base.specs.Orders.{oid_eq}
 use Rattle.tg_protocol.specs.Transactions.{same_part, read_before, with_read}
 use Rattle.tg_protocol.specs.Clients.{write_of}
 use Rattle.tg_law_replies.proofs.Plays.Parts.{part_same}
-use Rattle.tg_law_replies.proofs.History.Members.{Has, has_contained, contained_has, same_oid, and_both, has_either}
+use Rattle.tg_law_replies.proofs.History.Members.{Has, has_contained, contained_has, same_oid, and_both, has_either, has_right}
 use Rattle.tg_law_replies.proofs.Replies.Books.{puts_more}
 use Rattle.tg_law_replies.proofs.Replies.Closed.{LeavesAlone, none_put, puts_stay, told_still, told_before}
 use Rattle.tg_law_replies.proofs.Books.Worlds.{nil_right}
@@ -54,10 +55,6 @@ with_others r (y ∷ rs) o part x = by (read_before r y) (same_part y.oid y.part
     by false false (inl e) rest = record { read = x.read; here = inl e; oid = x.oid; of_part = x.of_part }
     by false false (inr i) rest = more_read y (with_read r rs) o part (rest (record { read = x.read; here = i; oid = x.oid; of_part = x.of_part }))
 
-has_last : {X : Type 0} → (xs : List X) (x : X) → Has (xs ++ x ∷ []) x
-has_last [] x = inl refl
-has_last (y ∷ xs) x = inr (has_last xs x)
-
 with_either : (r : ReadMark) (rs : List ReadMark) (x : ReadMark) → Has (with_read r rs) x → (x ≡ r) ⊎ Has rs x
 with_either r [] x (inl e) = inl e
 with_either r [] x (inr i) = absurd i
@@ -73,10 +70,6 @@ with_either r (y ∷ rs) x i = by (read_before r y) (same_part y.oid y.part r) i
     by false true j rest = inr j
     by false false (inl e) rest = inr (inl e)
     by false false (inr j) rest = more (rest j)
-
-map_more : {X Y : Type 0} → (f : X → Y) (xs ys : List X) → map f (xs ++ ys) ≡ map f xs ++ map f ys
-map_more f [] ys = refl
-map_more f (x ∷ xs) ys = ap (λ zs. f x ∷ zs) (map_more f xs ys)
 
 module _ (m : Meaning) where
   -- a part was asked of
@@ -131,7 +124,7 @@ module _ (m : Meaning) where
       unfolding puts_of
       put_ledger o op = record {
         writes = ap (λ (us : List WriteOp). us ++ write_of m o op ∷ []) l.writes
-            ∙ (sym (map_more (λ (u : Oid × m.op). write_of m u.0 u.1) (puts_of m tr k x) ((o, op) ∷ []))
+            ∙ (sym (map-append (λ (u : Oid × m.op). write_of m u.0 u.1) (puts_of m tr k x) ((o, op) ∷ []))
             ∙ ap (λ (us : List (Oid × m.op)). map (λ (u : Oid × m.op). write_of m u.0 u.1) us)
             (ap (λ (b : Bool). puts_of m tr k x ++ (if b then (o, op) ∷ [] else [])) (sym itself) ∙ sym (puts_more m tr (record { event = event; client = k; tx = x; what = told.Put o op } ∷ []) k x)));
         asked = λ r i. more_asked tr (record { event = event; client = k; tx = x; what = told.Put o op } ∷ []) r.oid r.part (l.asked r i);
@@ -164,7 +157,7 @@ module _ (m : Meaning) where
             ask = q;
             at = s;
             answer = a;
-            asked = record { number = positive; event = event; here = contained_has (tr ++ record { event = event; client = k; tx = x; what = told.Asked o q s a } ∷ []) _ (has_last tr (record { event = event; client = k; tx = x; what = told.Asked o q s a })) };
+            asked = record { number = positive; event = event; here = contained_has (tr ++ record { event = event; client = k; tx = x; what = told.Asked o q s a } ∷ []) _ (has_right tr (record { event = event; client = k; tx = x; what = told.Asked o q s a } ∷ []) _ (inl refl)) };
             looks = refl;
           }
 

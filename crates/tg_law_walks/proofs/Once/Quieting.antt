@@ -21,7 +21,7 @@ use Rattle.tg_law_replies.proofs.Books.Effects.{IsEnd, IsAsk, OfRecord, AllZero,
 use Rattle.tg_law_replies.proofs.Books.Commands.{Refuses, Takes', Taking, Nothing, Opening, Putting, Answering, Ending, EndingLater, Dropping, Beginning, Turned, Idles, Works, Takes}
 use Rattle.tg_law_replies.proofs.Books.Closing.{NotFull, begun_turned}
 use Rattle.tg_law_replies.proofs.Books.Turns.{BookOf}
-use Rattle.tg_law_replies.proofs.Books.Worlds.{nil_right, regroup, cancel, WorldBook, Stepped, Rests, Turns, NeverFull, Grown, grown_by, run_grows, step, step_book}
+use Rattle.tg_law_replies.proofs.Books.Worlds.{nil_right, regroup, cancel, has_marked, WorldBook, Stepped, Rests, Turns, NeverFull, Grown, grown_by, run_grows, step, step_book}
 use Rattle.tg_law_walks.proofs.Drafts.Became.{no_some, same_some}
 use Rattle.tg_law_walks.proofs.Once.Refusing.{Awaits, awaits_turned}
 use Rattle.tg_law_walks.proofs.Once.Turning.{NotEnding, Opened, Was, New, Ran, opened}
@@ -147,11 +147,6 @@ module _ (m : Meaning) where
 
   -- Along a run.
 
-  has_marked : (event k : ℕ) (ns : List (NoteOf m)) (n : NoteOf m) → Has ns n → Has (map (mark m event k) ns) (mark m event k n)
-  has_marked event k [] n i = absurd i
-  has_marked event k (x ∷ ns) n (inl e) = inl (ap (λ (y : NoteOf m). mark m event k y) e)
-  has_marked event k (x ∷ ns) n (inr i) = inr (has_marked event k ns n i)
-
   module _ (k : ℕ) where
     pub awaits_stepped : (e : EventOf m) (w v : World m) → WorldBook m w → Stepped m k e w v → Awaits m (client m w k) → Awaits m (client m v k)
     awaits_stepped e w v h (Rests c ys t alone) a = subst (Awaits m) (sym c) a
@@ -179,7 +174,7 @@ module _ (m : Meaning) where
 
           full : NotFull m n r.notes
           full l i = never (mark m w.event k (note m n (told.Refused (cause.LogFull l)))) l
-              (subst (λ (zs : Trace m). Has zs (mark m w.event k (note m n (told.Refused (cause.LogFull l))))) (sym same) (has_marked w.event k r.notes (note m n (told.Refused (cause.LogFull l))) i)) refl refl refl
+              (subst (λ (zs : Trace m). Has zs (mark m w.event k (note m n (told.Refused (cause.LogFull l))))) (sym same) (has_marked m w.event k r.notes (note m n (told.Refused (cause.LogFull l))) i)) refl refl refl
 
           called_quiet : Quiet n r.now → (n ≤ r.now.begun) × ((t : Tx) → r.now.tx ≡ Some t → t.number ≡ n → (w : Work m) × (r.now.work ≡ Some w) × IsEnd m w.command)
           called_quiet z = z
