@@ -149,10 +149,10 @@ module _ (m : Meaning) (Heard : List StreamLink → Type 0) (Given : ℕ → ℕ
 
   way : (c : Client m) (w : Work m) (p : Place m) (d : Client m) (v : Work m) (q : Place m) → Way m c w p d v q → Here c w p → Here d v q
   unfolding sync_start
-  way c w _ _ _ _ (FeedsSync s n rid x) h = (sync_tells Heard c.stand s h.0.0 x h.1 n c.next, sync_quiet c.stand s n x c.next h.0.1)
+  way c w _ _ _ _ (FeedsSync s n rid x) h = (sync_tells Heard c.stand s h.0.0 x h.1 n c.next, sync_quiet c.stand n x c.next s h.0.1)
   way c w _ _ _ _ (FeedsWalk k os n rid x) h = (feed_treads (lasts_of m w k.oid) c.stand k n x c.next h.0.1, h.0.0)
-  way c w _ _ _ _ (FeedsAppend a y n rid x) h = append_quiet c.stand a n x c.next h.0
-  way c w _ _ _ _ (FeedsCopy y n rid x) h = copy_fed m Given c.stand y h.0 n c.next x h.2
+  way c w _ _ _ _ (FeedsAppend a y n rid x) h = append_quiet c.stand n x c.next a h.0
+  way c w _ _ _ _ (FeedsCopy y n rid x) h = copy_fed m Given c.stand n x c.next y h.0 h.2
   way c w _ _ _ _ (NewerSync s n rid q) h = (tt, tt)
   way c w _ _ _ _ (NewerWalk k os n rid q) h = (goes_treads (lasts_of m w k.oid) q c.next k h.1.came, h.0)
   way c w _ _ _ _ (NewerAppend a y n rid q) h = append_again_quiet q a c.next

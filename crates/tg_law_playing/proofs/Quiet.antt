@@ -1,20 +1,20 @@
 -- Of all that a client does, only walks and copies read cells.
-use Rattle.std.proofs.Common.{◌≡◌, ℕ, List, [], ◌∷◌, Bool, true, false, sym, ap, ◌∙◌, inl, inr, arith, Option, Some, None}
-use Rattle.std.specs.Prelude.{nat_lt, nat_le}
+use Rattle.std.proofs.Common.{◌≡◌, ℕ, List, [], ◌∷◌, sym, ap, ◌∙◌, subst, inl, inr}
 use Rattle.tg_base.specs.Layouts.{Layout}
 use Rattle.tg_base.specs.declared.ids.NodeId.{NodeId}
-use Rattle.tg_base.specs.declared.marks.StreamLink.{StreamLink}
 use Rattle.tg_base.specs.declared.msg.Msg.{Msg}
 use Rattle.tg_base.specs.declared.msg.Msg.TheVariants as msg
 use Rattle.tg_base.specs.declared.packet.Out.{Out}
 use Rattle.tg_protocol.specs.Words.{unit_id}
-use Rattle.tg_protocol.specs.Requests.{out, Waits, asked_of, Next, Goes, Learns, Ends}
+use Rattle.tg_protocol.specs.Requests.{out, Waits, asked_of, Next, Goes, Learns, Ends, Turn}
 use Rattle.tg_protocol.specs.Replies.{Reply}
-use Rattle.tg_protocol.specs.Replies as replied
-use Rattle.tg_protocol.specs.Cells.{Place, CellWork, Puts, Gets, Fills, Copies, Probes, CellJob, CellEnd, Done, Seen, Lost, Fenced, Gone, works, work_asks, cell_asks, work_feed, cell_feed, fill_cell, put_cell, probe}
-use Rattle.tg_protocol.specs.Appending.{Append, AppendWork, Asking, Putting, Judging, AppendEnd, Token, on_older, on_newer, put_next, own_or_not, judge_next, on_issued, asking_feed, by_token, append_feed, dead_or_judged, again_with, append_again}
-use Rattle.tg_protocol.specs.Syncing.{Answer, SyncWork, Checking, Settling, Probing, Sync, Confirmed, probe_next, settle_next, confirm_by, on_tail, checking_feed, sync_feed}
+use Rattle.tg_protocol.specs.Cells.{Place, CellWork, Puts, Gets, Fills, Copies, Probes, CellJob, CellEnd, work_asks, cell_asks, cell_feed}
+use Rattle.tg_protocol.specs.Appending.{Append, AppendWork, Asking, Putting, Judging, AppendEnd, append_feed, append_again}
+use Rattle.tg_protocol.specs.Syncing.{SyncWork, Checking, Settling, Probing, Sync, Confirmed, sync_feed}
 use Rattle.tg_law_layouts.proofs.Moves.Members.{Has, has_map}
+use Rattle.tg_law_steps.proofs.Machines.Cells as cell
+use Rattle.tg_law_steps.proofs.Machines.Appends as append
+use Rattle.tg_law_steps.proofs.Machines.Syncs as sync
 
 -- no cell is read by these
 abbrev pub Quiet : List Out → Type 0
@@ -70,17 +70,12 @@ abbrev pub CellQuiet : Next CellJob CellEnd → Type 0
 CellQuiet (Goes j) = NotGets j.work
 CellQuiet to = Unit {0}
 
-fed_at : (a : Place) (w : CellWork) (u : ℕ) (x : Reply) (next : ℕ) → NotGets w → CellQuiet (work_feed (works a w) w u x next).to
-unfolding work_feed fill_cell
-fed_at a (Gets r) u x next k = absurd k
-fed_at a (Puts r d i) u x next k = grind arith
-fed_at a (Fills r) u x next k = grind arith
-fed_at a (Copies r c i) u x next k = grind arith
-fed_at a (Probes ws) u x next k = grind arith
+fed_quiet : (u : ℕ) (x : Reply) (next : ℕ) (j : CellJob) (t : Turn CellJob CellEnd) → cell.Fed u x next j t → NotGets j.work → CellQuiet t.to
+fed_quiet u x next _ _ (cell.Nothing j) k = k
+fed_quiet u x next _ _ s k = tt
 
-pub cell_quiet : (j : CellJob) (u : ℕ) (x : Reply) (next : ℕ) → NotGets j.work → CellQuiet (cell_feed j u x next).to
-unfolding cell_feed
-cell_quiet j u x next k = fed_at j.place j.work u x next k
+cell_quiet : (j : CellJob) (u : ℕ) (x : Reply) (next : ℕ) → NotGets j.work → CellQuiet (cell_feed j u x next).to
+cell_quiet j u x next k = fed_quiet u x next j _ (cell.cell_fed u x next j) k
 
 -- Syncs.
 
@@ -94,57 +89,6 @@ SyncNext (Goes s) = SyncQuiet s.work
 SyncNext (Learns s) = SyncQuiet s.work
 SyncNext (Ends x) = Unit {0}
 
-module _ (p : Layout) (s : Sync) (ok : SyncQuiet s.work) where
-  probe_next_quiet : (a : Answer) (to : Next CellJob CellEnd) (next : ℕ) → CellQuiet to → SyncNext (probe_next s a to next).to
-  probe_next_quiet a (Goes j) next k = k
-  probe_next_quiet a (Learns j) next k = ok
-  probe_next_quiet a (Ends Seen) next k = tt
-  probe_next_quiet a (Ends (Fenced u e)) next k = ok
-  probe_next_quiet a (Ends (Done c)) next k = ok
-  probe_next_quiet a (Ends (Lost c)) next k = ok
-  probe_next_quiet a (Ends (Gone b)) next k = ok
-
-  settle_next_quiet : (a : Answer) (to : Next CellJob CellEnd) (next : ℕ) → CellQuiet to → SyncNext (settle_next p s a to next).to
-  unfolding probe
-  settle_next_quiet a (Goes j) next k = k
-  settle_next_quiet a (Learns j) next k = ok
-  settle_next_quiet a (Ends Seen) next k = ok
-  settle_next_quiet a (Ends (Fenced u e)) next k = ok
-  settle_next_quiet a (Ends (Done c)) next k = tt
-  settle_next_quiet a (Ends (Lost c)) next k = ok
-  settle_next_quiet a (Ends (Gone b)) next k = tt
-
-  confirm_quiet : (a : Answer) (next : ℕ) (b : Bool) → SyncNext (confirm_by p s a next b).to
-  unfolding probe fill_cell
-  confirm_quiet a next true = tt
-  confirm_quiet a next false = tt
-
-  tail_quiet : (a : Answer) (next : ℕ) (b : Bool) → SyncNext (on_tail p s a next b).to
-  tail_quiet a next false = ok
-  tail_quiet a next true = confirm_quiet a next (nat_lt p.start a.tail)
-
-  old_quiet : (e next : ℕ) (b : Bool) → SyncNext (on_newer p e next s b).to
-  old_quiet e next true = ok
-  old_quiet e next false = by (nat_lt e p.epoch)
-    where
-      by : (b : Bool) → SyncNext (on_older p next s b).to
-      by true = ok
-      by false = ok
-
-  checking_quiet : (x : Reply) (next : ℕ) → SyncNext (checking_feed p s x next).to
-  checking_quiet (replied.IsTail t ls) next = tail_quiet _ next _
-  checking_quiet (replied.IsOldEpoch e) next = old_quiet e next _
-  checking_quiet x next = ok
-
-sync_at : (p : Layout) (s : Sync) (w : SyncWork) (n : ℕ) (x : Reply) (next : ℕ) → SyncQuiet s.work → SyncQuiet w → SyncNext (sync_feed p s w n x next).to
-unfolding sync_feed
-sync_at p s (Checking r) n x next ok k = checking_quiet p s ok x next
-sync_at p s (Settling a j) n x next ok k = settle_next_quiet p s ok a (cell_feed j n x next).to _ (cell_quiet j n x next k)
-sync_at p s (Probing a j) n x next ok k = probe_next_quiet p s ok a (cell_feed j n x next).to _ (cell_quiet j n x next k)
-
-pub sync_quiet : (p : Layout) (s : Sync) (n : ℕ) (x : Reply) (next : ℕ) → SyncQuiet s.work → SyncNext (sync_feed p s s.work n x next).to
-sync_quiet p s n x next k = sync_at p s s.work n x next k k
-
 -- Appends.
 
 abbrev pub AppendQuiet : AppendWork → Type 0
@@ -157,74 +101,33 @@ AppendNext (Goes a) = AppendQuiet a.work
 AppendNext (Learns a) = AppendQuiet a.work
 AppendNext (Ends e) = Unit {0}
 
-module _ (p : Layout) (a : Append) (ok : AppendQuiet a.work) where
-  put_next_quiet : (t : Token) (to : Next CellJob CellEnd) (next : ℕ) → CellQuiet to → AppendNext (put_next a t to next).to
-  put_next_quiet t (Goes j) next k = k
-  put_next_quiet t (Learns j) next k = ok
-  put_next_quiet t (Ends Seen) next k = ok
-  put_next_quiet t (Ends (Fenced u e)) next k = ok
-  put_next_quiet t (Ends (Done c)) next k = tt
-  put_next_quiet t (Ends (Lost c)) next k = tt
-  put_next_quiet t (Ends (Gone b)) next k = tt
+module _ (p : Layout) (n : ℕ) (x : Reply) (next : ℕ) where
+  goes_quiet : (j i : CellJob) → NotGets j.work → (cell_feed j n x next).to ≡ Goes i → NotGets i.work
+  goes_quiet j i k e = subst CellQuiet e (cell_quiet j n x next k)
 
-  own_quiet : (t : Token) (next : ℕ) (b : Bool) → AppendNext (own_or_not a t next b).to
-  own_quiet t next true = tt
-  own_quiet t next false = tt
+  sync_so : (s : Sync) (w : SyncWork) (to : Next Sync Confirmed) → sync.SyncCame p s n x next w to → SyncQuiet s.work → SyncQuiet w → SyncNext to
+  sync_so s _ _ (sync.Waits w) ok k = ok
+  sync_so s _ _ (sync.NewerCame w) ok k = ok
+  sync_so s _ _ (sync.SettlesOn a j i e) ok k = goes_quiet j i k e
+  sync_so s _ _ (sync.ProbesOn a j i e) ok k = goes_quiet j i k e
+  sync_so s _ _ t ok k = tt
 
-  judge_next_quiet : (t : Token) (to : Next CellJob CellEnd) (next : ℕ) → CellQuiet to → AppendNext (judge_next a t to next).to
-  judge_next_quiet t (Goes j) next k = k
-  judge_next_quiet t (Learns j) next k = ok
-  judge_next_quiet t (Ends Seen) next k = ok
-  judge_next_quiet t (Ends (Fenced u e)) next k = ok
-  judge_next_quiet t (Ends (Done c)) next k = own_quiet t next _
-  judge_next_quiet t (Ends (Lost c)) next k = ok
-  judge_next_quiet t (Ends (Gone b)) next k = tt
+  pub sync_quiet : (s : Sync) → SyncQuiet s.work → SyncNext (sync_feed p s s.work n x next).to
+  sync_quiet s k = sync_so s s.work _ (sync.sync_came p s n x next s.work) k k
 
-  issued_quiet : (pos : ℕ) (ls : List StreamLink) (next : ℕ) (b : Bool) → AppendNext (on_issued p a pos ls next b).to
-  unfolding put_cell
-  issued_quiet pos ls next true = tt
-  issued_quiet pos ls next false = ok
+  append_so : (a : Append) (w : AppendWork) (to : Next Append AppendEnd) → append.AppendCame p a n x next w to → AppendQuiet a.work → AppendQuiet w → AppendNext to
+  append_so a _ _ (append.Waits w) ok k = ok
+  append_so a _ _ (append.NewerCame w) ok k = ok
+  append_so a _ _ (append.PutsOn j i t has e) ok k = goes_quiet j i k e
+  append_so a _ _ (append.JudgesOn j i t has e) ok k = goes_quiet j i k e
+  append_so a _ _ t ok k = tt
 
-  append_old_quiet : (e next : ℕ) (b : Bool) → AppendNext (on_newer p e next a b).to
-  append_old_quiet e next true = ok
-  append_old_quiet e next false = by (nat_lt e p.epoch)
-    where
-      by : (b : Bool) → AppendNext (on_older p next a b).to
-      by true = ok
-      by false = ok
+  pub append_quiet : (a : Append) → AppendQuiet a.work → AppendNext (append_feed p a a.work n x next).to
+  append_quiet a k = append_so a a.work _ (append.append_came p a n x next a.work) k k
 
-  asking_quiet : (x : Reply) (next : ℕ) → AppendNext (asking_feed p a x next).to
-  asking_quiet (replied.IsIssued pos ls) next = issued_quiet pos ls next _
-  asking_quiet (replied.IsFull l) next = tt
-  asking_quiet (replied.IsOldEpoch e) next = append_old_quiet e next _
-  asking_quiet x next = ok
+again_so : (q : Layout) (a : Append) (next : ℕ) (to : Next Append AppendEnd) → append.AppendAgain q a next to → AppendNext to
+again_so q a next _ append.AsksAgain = tt
+again_so q a next _ s = tt
 
-  append_at : (w : AppendWork) (n : ℕ) (x : Reply) (next : ℕ) → AppendQuiet w → AppendNext (append_feed p a w n x next).to
-  unfolding append_feed
-  append_at (Asking r) n x next k = asking_quiet x next
-  append_at (Putting j) n x next k = by a.token
-    where
-      by : (t : Option Token) → AppendNext (by_token a next t (λ u. put_next a u (cell_feed j n x next).to (cell_feed j n x next).next)).to
-      by None = ok
-      by (Some u) = put_next_quiet u (cell_feed j n x next).to _ (cell_quiet j n x next k)
-  append_at (Judging j) n x next k = by a.token
-    where
-      by : (t : Option Token) → AppendNext (by_token a next t (λ u. judge_next a u (cell_feed j n x next).to (cell_feed j n x next).next)).to
-      by None = ok
-      by (Some u) = judge_next_quiet u (cell_feed j n x next).to _ (cell_quiet j n x next k)
-
-pub append_quiet : (p : Layout) (a : Append) (n : ℕ) (x : Reply) (next : ℕ) → AppendQuiet a.work → AppendNext (append_feed p a a.work n x next).to
-append_quiet p a n x next k = append_at p a k a.work n x next k
-
-judged : (p : Layout) (a : Append) (next : ℕ) (t : Token) (b : Bool) → AppendNext (dead_or_judged p a t next b).to
-unfolding fill_cell
-judged p a next t true = tt
-judged p a next t false = tt
-
-pub append_again_quiet : (p : Layout) (a : Append) (next : ℕ) → AppendNext (append_again p a next).to
-unfolding append_again
-append_again_quiet p a next = by a.token
-  where
-    by : (t : Option Token) → AppendNext (again_with p a next t).to
-    by None = tt
-    by (Some t) = judged p a next t (nat_le p.start t.pos)
+pub append_again_quiet : (q : Layout) (a : Append) (next : ℕ) → AppendNext (append_again q a next).to
+append_again_quiet q a next = again_so q a next _ (append.append_again_came q a next)

@@ -1,18 +1,18 @@
 -- A copy reads positions of its stripe alone, in the epoch of the layout at which its client stands.
 use Rattle.std.proofs.Common.{◌≡◌, ℕ, ◌+◌, ◌-◌, ◌*◌, ◌/◌, ◌%◌, ◌<◌, ◌≤◌, length, Bool, true, false, refl, sym, ap, ◌∙◌, subst, arith, None}
-use Rattle.std.specs.Prelude.{nat_lt, nat_le, ◌==◌, if◌then◌else◌}
+use Rattle.std.specs.Prelude.{nat_lt, nat_le, if◌then◌else◌}
 use Rattle.std.proofs.lemmas.Nat.{mod-mul-add}
 use Rattle.tg_base.specs.Layouts.{Layout}
 use Rattle.tg_kind.specs.Meaning.{Meaning}
 use Rattle.tg_proj.specs.Places.{range_at, stripe_number}
 use Rattle.tg_protocol.specs.Layouts.{range_end, next_in_stripe}
-use Rattle.tg_protocol.specs.Requests.{Next, Goes, Learns, Ends}
-use Rattle.tg_protocol.specs.Replies.{Reply, IsHeld, IsTaken, IsGone, IsFenced, IsSealed, IsMissing, IsWhole}
-use Rattle.tg_protocol.specs.Cells.{Place, CellJob, CellEnd, Done, Seen, Lost, Fenced, Gone, get_cell, cell_feed}
-use Rattle.tg_protocol.specs.Trimming.{CopyWork, Reading, Storing, Looking, Copying, CopyEnd, copy_start, copy_from, copy_at, copies_past, read_end, read_next, stored_if, skipped_if, sealed_if, learns_if, copy_feed}
-use Rattle.tg_protocol.specs.Trimming as copying
+use Rattle.tg_protocol.specs.Requests.{Next, Goes, Learns, Ends, Turn}
+use Rattle.tg_protocol.specs.Replies.{Reply, IsMissing}
+use Rattle.tg_protocol.specs.Cells.{Place}
+use Rattle.tg_protocol.specs.Trimming.{CopyWork, Reading, Looking, Copying, CopyEnd, copy_start, copy_feed}
 use Rattle.tg_protocol.specs.Clients.{copy_fault}
 use Rattle.tg_protocol.specs.Playing.{InStripe}
+use Rattle.tg_law_steps.proofs.Machines.Copies as copy
 use Rattle.tg_law_playing.proofs.Past.{same_place}
 
 -- Positions of a stripe.
@@ -75,70 +75,32 @@ module _ (m : Meaning) (Given : ℕ → ℕ → ℕ → Type 0) where
   unfolding copy_start
   copy_starts p u r s next given less = record { given = given; stripe = less; work = tt }
 
-  module _ (p : Layout) (c : Copying) (ok : IsCopying p c) where
-    on_work : (w : CopyWork) → WorkIn p c.range c.stripe w → IsCopying p (record c { work = w })
-    on_work w k = record { given = ok.given; stripe = ok.stripe; work = k }
+  -- An awaited answer comes to a copy, and one that says what the spare lacks is of the stripe.
+  module _ (p : Layout) (u : ℕ) (x : Reply) (next : ℕ) where
+    abbrev IsLacked : Copying → CopyWork → Type 0
+    IsLacked c w = (r pos : ℕ) → w ≡ Looking r → x ≡ IsMissing pos → IsOfStripe p c.range c.stripe pos
+
+    goes_at : (c : Copying) (w : CopyWork) (at gone : ℕ) → copy.GoesOn p u x next c w at gone → c.stripe < length (range_at p.ranges c.range).stripes → IsLacked c w → IsOfStripe p c.range c.stripe at
+    goes_at c _ _ _ (copy.Lacks r pos is) less f = f r pos refl is
+    goes_at c _ _ _ s less f = next_of_stripe p c.range c.stripe _ less
 
     less_of : (a b : ℕ) → nat_lt a b ≡ true → a < b
     less_of a b e = grind arith
 
-    from_in : (pos next : ℕ) (b : Bool) → IsOfStripe p c.range c.stripe pos → nat_lt pos (range_end p c.range) ≡ b → CopyNext p (copy_from p c pos next b).to
-    unfolding get_cell
-    from_in pos next true k e = on_work _ (refl, record { after = k.from; before = less_of pos (range_end p c.range) e; stripe = k.stripe })
-    from_in pos next false k e = on_work (Looking next) tt
+    fed_in : (c : Copying) (t : Turn Copying CopyEnd) → copy.Fed p u x next c t → IsCopying p c → IsLacked c c.work → CopyNext p t.to
+    fed_in _ _ (copy.ReadGoes c j k e) ok f =
+        record { given = ok.given; stripe = ok.stripe; work = subst (λ (a : Place). (a.epoch ≡ p.epoch) × InStripe m p c.range c.stripe a.pos) (sym (same_place j u x next k e)) ok.work }
+    fed_in _ _ (copy.Stores c j y e) ok f = record { given = ok.given; stripe = ok.stripe; work = tt }
+    fed_in _ _ (copy.Trims c j b e) ok f = record { given = ok.given; stripe = ok.stripe; work = tt }
+    fed_in _ _ (copy.Reads c w at gone k e) ok f =
+        let z = goes_at c w at gone k ok.stripe f in
+        record { given = ok.given; stripe = ok.stripe; work = (refl, record { after = z.from; before = less_of at (range_end p c.range) e; stripe = z.stripe }) }
+    fed_in _ _ (copy.LooksLast c w at gone k e) ok f = record { given = ok.given; stripe = ok.stripe; work = tt }
+    fed_in _ _ (copy.HasAll c r is) ok f = tt
+    fed_in _ _ s ok f = ok
 
-    at_in : (pos next : ℕ) → IsOfStripe p c.range c.stripe pos → CopyNext p (copy_at p c pos next).to
-    at_in pos next k = from_in pos next (nat_lt pos (range_end p c.range)) k refl
-
-    past_in : (pos next : ℕ) → CopyNext p (copies_past p c pos next).to
-    past_in pos next = at_in (next_in_stripe (range_at p.ranges c.range) c.stripe pos) next (next_of_stripe p c.range c.stripe pos ok.stripe)
-
-    end_in : (pos : ℕ) (e : CellEnd) (next : ℕ) → CopyNext p (read_end p c pos e next).to
-    end_in pos (Done x) next = on_work (Storing next pos x) tt
-    end_in pos (Gone b) next = on_work (copying.Trimming next b) tt
-    end_in pos (Fenced u e) next = ok
-    end_in pos Seen next = ok
-    end_in pos (Lost x) next = ok
-
-    read_in : (j : CellJob) (to : Next CellJob CellEnd) (next : ℕ) → (j.place.epoch ≡ p.epoch) × InStripe m p c.range c.stripe j.place.pos → ((k : CellJob) → to ≡ Goes k → k.place ≡ j.place) → CopyNext p (read_next p c j.place.pos to next).to
-    read_in j (Goes k) next at f = on_work (Reading k) (subst (λ (a : Place). (a.epoch ≡ p.epoch) × InStripe m p c.range c.stripe a.pos) (sym (f k refl)) at)
-    read_in j (Learns k) next at f = ok
-    read_in j (Ends e) next at f = end_in j.place.pos e next
-
-    stored_in : (pos next : ℕ) (b : Bool) → CopyNext p (stored_if p c pos next b).to
-    stored_in pos next true = past_in (pos + 1) next
-    stored_in pos next false = ok
-
-    skipped_in : (b next : ℕ) (s : Bool) → CopyNext p (skipped_if p c b next s).to
-    skipped_in b next true = past_in b next
-    skipped_in b next false = ok
-
-    sealed_in : (next : ℕ) (b : Bool) → CopyNext p (sealed_if p c next b).to
-    sealed_in next true = past_in 0 next
-    sealed_in next false = ok
-
-    learns_in : (b : Bool) (next : ℕ) → CopyNext p (learns_if b c next).to
-    learns_in true next = ok
-    learns_in false next = ok
-
-    fed_in : (w : CopyWork) (u next : ℕ) (x : Reply) → WorkIn p c.range c.stripe w → ((r pos : ℕ) → w ≡ Looking r → x ≡ IsMissing pos → IsOfStripe p c.range c.stripe pos) → CopyNext p (copy_feed p c w u x next).to
-    unfolding copy_feed
-    fed_in (Reading j) u next x k f = read_in j (cell_feed j u x next).to (cell_feed j u x next).next k (λ i e. same_place j u x next i e)
-    fed_in (copying.Sealing r) u next (IsFenced e) k f = learns_in (nat_lt p.epoch e) next
-    fed_in (copying.Sealing r) u next (IsSealed e h) k f = sealed_in next (e == p.epoch)
-    fed_in (Storing r pos x) u next (IsFenced e) k f = learns_in (nat_lt p.epoch e) next
-    fed_in (Storing r pos x) u next IsHeld k f = past_in (pos + 1) next
-    fed_in (Storing r pos x) u next (IsTaken y) k f = stored_in pos next _
-    fed_in (Storing r pos x) u next (IsGone b) k f = skipped_in b next (nat_lt pos b)
-    fed_in (copying.Trimming r b) u next (IsFenced e) k f = learns_in (nat_lt p.epoch e) next
-    fed_in (copying.Trimming r b) u next (IsGone d) k f = past_in b next
-    fed_in (Looking r) u next (IsFenced e) k f = learns_in (nat_lt p.epoch e) next
-    fed_in (Looking r) u next IsWhole k f = tt
-    fed_in (Looking r) u next (IsMissing pos) k f = at_in pos next (f r pos refl refl)
-    fed_in w u next x k f = ok
-
-    pub copy_fed : (u next : ℕ) (x : Reply) → ((r pos : ℕ) → c.work ≡ Looking r → x ≡ IsMissing pos → IsOfStripe p c.range c.stripe pos) → CopyNext p (copy_feed p c c.work u x next).to
-    copy_fed u next x f = fed_in c.work u next x ok.work f
+    pub copy_fed : (c : Copying) → IsCopying p c → IsLacked c c.work → CopyNext p (copy_feed p c c.work u x next).to
+    copy_fed c ok f = fed_in c _ (copy.copy_fed p u x next c) ok f
 
 -- a copy that isn't refused is of a stripe that is there
 pub stripe_there : (m : Meaning) (p : Layout) (u r s : ℕ) → copy_fault m p u r s ≡ None → s < length (range_at p.ranges r).stripes

@@ -170,7 +170,7 @@ module _ (m : Meaning) (given top : ℕ) (Met : Type 0) where
 
   way : (c : Client m) (w : Work m) (p : Place m) (d : Client m) (v : Work m) (q : Place m) → Way m c w p d v q → Stands c w p → Stands d v q
   unfolding sync_start
-  way c w _ _ _ _ (FeedsSync s n rid x) h = (h.0, (h.1.0.0, sync_quiet c.stand s n x c.next h.1.0.1))
+  way c w _ _ _ _ (FeedsSync s n rid x) h = (h.0, (h.1.0.0, sync_quiet c.stand n x c.next s h.1.0.1))
   way c w _ _ _ _ (FeedsWalk k os n rid x) h = (
     h.0,
     (
@@ -179,7 +179,7 @@ module _ (m : Meaning) (given top : ℕ) (Met : Type 0) where
       feed_by Hears c.stand k n x c.next (λ i b has ends. h.1.1 b (cell_gone i n x c.next b ends)),
     ),
   )
-  way c w _ _ _ _ (FeedsAppend a y n rid x) h = (h.0, (h.1.0.0, append_quiet c.stand a n x c.next h.1.0.1))
+  way c w _ _ _ _ (FeedsAppend a y n rid x) h = (h.0, (h.1.0.0, append_quiet c.stand n x c.next a h.1.0.1))
   way c w _ _ _ _ (FeedsCopy y n rid x) h = (h.0, h.1.0)
   way c w _ _ _ _ (FeedsReconf r n rid x) h = (h.0, h.1.0)
   way c w _ _ _ _ (NewerSync s n rid q) h = (h.0, (h.1.0, tt))
