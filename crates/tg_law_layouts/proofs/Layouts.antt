@@ -1,6 +1,5 @@
 pub mod Plain
 pub mod Phases
-pub mod Votes
 pub mod Pax
 pub mod Decisions
 pub mod Layouts

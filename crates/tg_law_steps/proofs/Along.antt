@@ -42,7 +42,7 @@ use Rattle.tg_law_steps.proofs.Takes.{Taken, taken}
 
 -- A walk that begins doesn't learn.
 
-abbrev Begins : {M E : Type 0} → Next M E → Type 0
+abbrev pub Begins : {M E : Type 0} → Next M E → Type 0
 Begins (Learns x) = ⊥
 Begins _ = Unit {0}
 
@@ -64,7 +64,7 @@ unfolding walk_on
 begins_on p next zero w = tt
 begins_on p next (suc n) w = begins_visit p next n w (next_visit w) (λ v. begins_on p next n v)
 
-begins_walk : (p : Layout) (o : Oid) (ls : List ℕ) (lo : ℕ) (cells : List (ℕ × Cell)) (next : ℕ) → Begins (walk_start p o ls lo cells next).to
+pub begins_walk : (p : Layout) (o : Oid) (ls : List ℕ) (lo : ℕ) (cells : List (ℕ × Cell)) (next : ℕ) → Begins (walk_start p o ls lo cells next).to
 unfolding walk_start
 begins_walk p o ls lo cells next = begins_on p next _ _
 

@@ -4,3 +4,5 @@ pub mod Syncs
 pub mod Walks
 pub mod Copies
 pub mod Reconfs
+pub mod Trims
+pub mod Awaited

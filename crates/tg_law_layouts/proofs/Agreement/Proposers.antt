@@ -1,6 +1,6 @@
 -- A client that reconfigures, seen from the epoch that it proposes a layout for.
-use Rattle.std.proofs.Common.{◌≡◌, ◌⊎◌, ℕ, zero, suc, ◌+◌, ◌<◌, ◌≤◌, List, [], ◌∷◌, ◌++◌, length, Bool, true, false, not, ◌&&◌, refl, sym, ap, ◌∙◌, subst, inl, inr, arith, Some, None, Option}
-use Rattle.std.specs.Prelude.{nat_lt, ◌==◌, if◌then◌else◌}
+use Rattle.std.proofs.Common.{◌≡◌, ◌⊎◌, ℕ, zero, suc, ◌+◌, ◌<◌, ◌≤◌, List, [], ◌∷◌, length, Bool, true, false, not, ◌&&◌, refl, sym, ap, ◌∙◌, subst, inl, inr, arith, Some, None, Option}
+use Rattle.std.specs.Prelude.{nat_lt, ◌==◌}
 use Rattle.std.specs.List.{list_any}
 use Rattle.tg_base.specs.Layouts.{Layout}
 use Rattle.tg_base.specs.Changes.{Changed}
@@ -12,16 +12,17 @@ use Rattle.tg_base.specs.declared.msg.Msg.TheVariants as msg
 use Rattle.tg_base.specs.declared.packet.Out.{Out}
 use Rattle.tg_base.specs.declared.packet.Packet.{Packet}
 use Rattle.tg_protocol.specs.Words.{ballot_lt, unit_id, layout_id, numbers}
-use Rattle.tg_protocol.specs.Layouts.{next_of, next_units}
-use Rattle.tg_base.specs.Orders.{node_eq}
-use Rattle.tg_protocol.specs.Requests.{passes, awaits, Waits, waits_for, without_wait, asked_of, out, Next, Goes, Learns, Ends}
-use Rattle.tg_protocol.specs.Trimming.{learns_if, has_stripe}
+use Rattle.tg_protocol.specs.Layouts.{next_of}
+use Rattle.tg_protocol.specs.Requests.{awaits, Waits, waits_for, without_wait, asked_of, out, Next, Goes, Learns, Ends}
+use Rattle.tg_protocol.specs.Trimming.{has_stripe}
 use Rattle.tg_protocol.specs.Replies.{Reply}
 use Rattle.tg_protocol.specs.Replies as reply
-use Rattle.tg_protocol.specs.Reconfiguring.{Acks, join_asks, at_work, with_stage, Before, Stage, Preparing, Accepting, Later, Voting, ReconfWork, SealingSpare, LookingSpare, Sealing, LookingAgain, Agreeing, Telling, Starting, Reconf, ReconfEnd, ReconfTurn, next_epoch, servers, ballot_of, is_majority, greatest, value_or, proposes, seals, after_seals, seals_left, seals_if, looks_if, sealed_if, promised, promised_on, accepted, accepted_on, tells, nacked, sets_if, round_after, stage_feed, begun, is_answer, later_feed, vote_feed, has_rid, reconf_feed, reconf_latest, reconf_awaited, reconf_again_asks, reconf_asks, reconf_work_asks, later_asks, stage_asks, set_asks, this_or, heard, heard_on, adopts, own_decided, on_newer, same_vote, is_of_epoch, started_if}
+use Rattle.tg_protocol.specs.Reconfiguring.{Acks, join_asks, at_work, with_stage, Before, Stage, Preparing, Accepting, Later, Voting, ReconfWork, SealingSpare, LookingSpare, Sealing, LookingAgain, Agreeing, Telling, Starting, Reconf, ReconfEnd, ReconfTurn, next_epoch, servers, ballot_of, is_majority, greatest, value_or, proposes, tells, round_after, begun, has_rid, reconf_feed, reconf_latest, reconf_awaited, reconf_again_asks, reconf_asks, reconf_work_asks, later_asks, stage_asks, set_asks, this_or, heard, same_vote, is_of_epoch}
 use Rattle.tg_law_layouts.proofs.Moves.Members.{Has, has_left, has_right, has_either, has_map}
 use Rattle.tg_law_layouts.proofs.Agreement.Ballots.{equal_or_less, top_there}
 use Rattle.tg_law_layouts.proofs.Agreement.Counts.{count, count_one_more, Implies}
+use Rattle.tg_law_steps.proofs.Machines.Awaited.{stage_waits, voting_fed}
+use Rattle.tg_law_steps.proofs.Machines.Reconfs as turns
 use Rattle.tg_law_layouts.proofs.Agreement.Facts.{Proposed, Promised, Elected, Truth, Grows, proposed_grows, promised_grows, elected_grows}
 
 -- Waits.
@@ -54,7 +55,7 @@ all_wait n rid l less = all_wait_from n 0 rid l (omega arith) (omega (arith, les
 asked_more : (w : ℕ × ℕ) (ws : Waits) (l rid : ℕ) → (has_rid l rid ws ≡ true → answered ws l ≡ false) → has_rid l rid (w ∷ ws) ≡ true → answered (w ∷ ws) l ≡ false
 asked_more w ws l rid rest h = grind arith
 
-waits_rid : (ws : Waits) (l rid : ℕ) → has_rid l rid ws ≡ true → answered ws l ≡ false
+pub waits_rid : (ws : Waits) (l rid : ℕ) → has_rid l rid ws ≡ true → answered ws l ≡ false
 waits_rid [] l rid h = absurd (cc)
 waits_rid (w ∷ ws) l rid h = asked_more w ws l rid (waits_rid ws l rid) h
 
@@ -70,38 +71,16 @@ answered_more : (w : ℕ × ℕ) (ws : Waits) (l i : ℕ) → (answered ws i ≡
     → answered (w ∷ ws) i ≡ true → answered (without_wait l (w ∷ ws)) i ≡ true
 answered_more w ws l i rest h = grind arith
 
-answered_still : (ws : Waits) (l : ℕ) → Implies (answered ws) (answered (without_wait l ws))
+pub answered_still : (ws : Waits) (l : ℕ) → Implies (answered ws) (answered (without_wait l ws))
 answered_still [] l i h = refl
 answered_still (w ∷ ws) l i h = answered_more w ws l i (answered_still ws l i) h
 
 answered_first : (w : ℕ × ℕ) (ws : Waits) (l : ℕ) → answered (without_wait l ws) l ≡ true → answered (without_wait l (w ∷ ws)) l ≡ true
 answered_first w ws l rest = grind arith
 
-answered_now : (ws : Waits) (l : ℕ) → answered (without_wait l ws) l ≡ true
+pub answered_now : (ws : Waits) (l : ℕ) → answered (without_wait l ws) l ≡ true
 answered_now [] l = refl
 answered_now (w ∷ ws) l = answered_first w ws l (answered_now ws l)
-
--- an awaited answer of a layout server
-pub record OfServer (from : NodeId) (rid : ℕ) (ws : Waits) : Type 0 where
-  pub server : from ≡ layout_id from.num
-  pub waits : has_rid from.num rid ws ≡ true
-
-awaited_more : (m : Msg) (w : ℕ × ℕ) (ws : Waits) (from : NodeId) (rid : ℕ) → (awaits (asked_of layout_id m ws) from rid ≡ true → OfServer from rid ws)
-    → awaits (asked_of layout_id m (w ∷ ws)) from rid ≡ true → OfServer from rid (w ∷ ws)
-unfolding node_eq
-awaited_more m w ws from rid rest h = grind arith
-
-awaited_asked : (m : Msg) (ws : Waits) (from : NodeId) (rid : ℕ) → awaits (asked_of layout_id m ws) from rid ≡ true → OfServer from rid ws
-awaited_asked m [] from rid h = absurd (cc)
-awaited_asked m (w ∷ ws) from rid h = awaited_more m w ws from rid (awaited_asked m ws from rid) h
-
-either_more : (o : Out) (xs ys : List Out) (from : NodeId) (rid : ℕ) → (awaits (xs ++ ys) from rid ≡ true → (awaits xs from rid ≡ true) ⊎ (awaits ys from rid ≡ true))
-    → awaits (o ∷ xs ++ ys) from rid ≡ true → (awaits (o ∷ xs) from rid ≡ true) ⊎ (awaits ys from rid ≡ true)
-either_more o xs ys from rid rest h = grind arith
-
-awaited_either : (xs ys : List Out) (from : NodeId) (rid : ℕ) → awaits (xs ++ ys) from rid ≡ true → (awaits xs from rid ≡ true) ⊎ (awaits ys from rid ≡ true)
-awaited_either [] ys from rid h = inr h
-awaited_either (o ∷ xs) ys from rid h = either_more o xs ys from rid (awaited_either xs ys from rid) h
 
 -- A client's state.
 
@@ -187,6 +166,9 @@ module _ (p : Layout) (c : Changed) (n k : ℕ) (Mine : Layout → Type 0) (mine
   none_some : (l : Later) → None ≡ Some l → ⊥
   none_some l x = cc
 
+  at_ok : (r : Reconf) (w : ReconfWork) → r.me ≡ k → r.layouts ≡ n → WorkOk p c n k Mine ps r w → ReconfOk p c n k Mine ps (at_work r w)
+  at_ok r w me layouts ok = record { me = me; layouts = layouts; work = ok }
+
   proposes_ok : (r : Reconf) (acks : Acks) (next : ℕ) → r.me ≡ k → r.layouts ≡ n → Early p c n k Mine ps r → TurnOk p c n k Mine ps (proposes r acks next)
   proposes_ok r acks next me layouts early = record {
     me = me;
@@ -202,41 +184,10 @@ module _ (p : Layout) (c : Changed) (n k : ℕ) (Mine : Layout → Type 0) (mine
     );
   }
 
-  early_ok : (r : Reconf) (w : ReconfWork) → r.me ≡ k → r.layouts ≡ n → WorkOk p c n k Mine ps (at_work r w) w → ReconfOk p c n k Mine ps (at_work r w)
-  early_ok r w me layouts ok = record { me = me; layouts = layouts; work = ok }
-
-  same_early : (r : Reconf) (w : ReconfWork) → Early p c n k Mine ps r → Early p c n k Mine ps (at_work r w)
-  same_early r w early = (early.0, early.1, early.2)
-
-  after_seals_ok : (r : Reconf) (acks : Acks) (next : ℕ) (j : Option Join) → r.me ≡ k → r.layouts ≡ n → Early p c n k Mine ps r → TurnOk p c n k Mine ps (after_seals r acks next j)
-  after_seals_ok r acks next None me layouts early = proposes_ok r acks next me layouts early
-  after_seals_ok r acks next (Some j) me layouts early = early_ok r (LookingAgain next acks) me layouts (same_early r (LookingAgain next acks) early)
-
-  seals_left_ok : (r : Reconf) (ws : Waits) (acks : Acks) (next : ℕ) → r.me ≡ k → r.layouts ≡ n → Early p c n k Mine ps r → TurnOk p c n k Mine ps (seals_left r ws acks next)
-  seals_left_ok r [] acks next me layouts early = after_seals_ok r acks next _ me layouts early
-  seals_left_ok r (w ∷ ws) acks next me layouts early = early_ok r (Sealing (w ∷ ws) acks) me layouts (same_early r (Sealing (w ∷ ws) acks) early)
-
-  sealed_if_ok : (r : Reconf) (u h : ℕ) (ws : Waits) (acks : Acks) (next : ℕ) (b : Bool) → ReconfOk p c n k Mine ps r → Early p c n k Mine ps r → TurnOk p c n k Mine ps (sealed_if r u h ws acks next b)
-  sealed_if_ok r u h ws acks next true ok early = seals_left_ok r _ _ next ok.me ok.layouts early
-  sealed_if_ok r u h ws acks next false ok early = ok
-
-  seals_ok : (r : Reconf) (next : ℕ) → ReconfOk p c n k Mine ps r → Early p c n k Mine ps r → TurnOk p c n k Mine ps (seals r next)
-  seals_ok r next ok early = early_ok r first ok.me ok.layouts (same_early r first early)
-    where
-      first : ReconfWork
-      first = Sealing (waits_for (next_units r.stand r.change) next) []
-
-  seals_if_ok : (r : Reconf) (next : ℕ) (b : Bool) → ReconfOk p c n k Mine ps r → Early p c n k Mine ps r → TurnOk p c n k Mine ps (seals_if r next b)
-  seals_if_ok r next true ok early = seals_ok r next ok early
-  seals_if_ok r next false ok early = ok
-
-  looks_if_ok : (r : Reconf) (next : ℕ) (b : Bool) → ReconfOk p c n k Mine ps r → Early p c n k Mine ps r → TurnOk p c n k Mine ps (looks_if r next b)
-  looks_if_ok r next true ok early = early_ok r (LookingSpare next) ok.me ok.layouts (same_early r (LookingSpare next) early)
-  looks_if_ok r next false ok early = ok
-
-  learns_if_ok : (r : Reconf) (next : ℕ) (b : Bool) → ReconfOk p c n k Mine ps r → TurnOk p c n k Mine ps (learns_if b r next)
-  learns_if_ok r next true ok = ok
-  learns_if_ok r next false ok = ok
+  -- work below the votes
+  spare_early : (r : Reconf) (w : ReconfWork) → turns.IsSpare w → WorkOk p c n k Mine ps r w → Early p c n k Mine ps r
+  spare_early r _ (turns.OfSeal i) early = early
+  spare_early r _ (turns.OfLook i) early = early
 
   -- The votes.
 
@@ -327,10 +278,10 @@ module _ (p : Layout) (c : Changed) (n k : ℕ) (Mine : Layout → Type 0) (mine
   most_of : (m len many : ℕ) → m ≡ n → nat_lt m (len + len) ≡ true → len ≤ many → n < many + many
   most_of m len many is most le = grind arith
 
-  promised_ok : (r : Reconf) (v : Voting) (ws : Waits) (hs : List Before) (next : ℕ) (b : Bool) → is_majority r (length hs) ≡ b → r.me ≡ k → r.layouts ≡ n → r.stand ≡ p
-      → VotingOk E n k Mine ps v → Prepared E n k Mine ps v.round ws hs → TurnOk p c n k Mine ps (promised_on r v ws hs next b)
-  promised_ok r v ws hs next false is me layouts stand ok o = voting_ok r v (Preparing ws hs) me layouts stand ok o
-  promised_ok r v ws hs next true is me layouts stand ok o = voting_ok r v (Accepting _ 0 _) me layouts stand ok (record {
+  -- most servers have promised
+  most_ok : (r : Reconf) (v : Voting) (ws : Waits) (hs : List Before) → is_majority r (length hs) ≡ true → r.layouts ≡ n → VotingOk E n k Mine ps v → Prepared E n k Mine ps v.round ws hs
+      → Accepted E n k Mine ps v.round (value_or (greatest hs) v.own)
+  most_ok r v ws hs is layouts ok o = record {
     below = λ b q x y. inl (o.below b q x y);
     elected = record {
       quorum = answered ws;
@@ -343,60 +294,26 @@ module _ (p : Layout) (c : Changed) (n k : ℕ) (Mine : Layout → Type 0) (mine
       value = refl;
     };
     allowed = value_mine v.own hs ok.own o.before;
-  })
-
-  accepted_ok : (r : Reconf) (v : Voting) (ws : Waits) (m : ℕ) (q : Layout) (next : ℕ) (b : Bool) → r.me ≡ k → r.layouts ≡ n → r.stand ≡ p
-      → VotingOk E n k Mine ps v → Accepted E n k Mine ps v.round q → TurnOk p c n k Mine ps (accepted_on r v ws m q next b)
-  accepted_ok r v ws m q next true me layouts stand ok o = record { me = me; layouts = layouts; work = tt }
-  accepted_ok r v ws m q next false me layouts stand ok o = voting_ok r v (Accepting ws m q) me layouts stand ok o
+  }
 
   later_is : (x y : Later) → Some x ≡ Some y → x ≡ y
   later_is x y e = cc
 
-  sets_ok : (r : Reconf) (v : Voting) (round next : ℕ) (b : Bool) → r.me ≡ k → r.layouts ≡ n → r.stand ≡ p → v.round < round
-      → VotingOk E n k Mine ps v → TurnOk p c n k Mine ps (sets_if r v round next b)
-  sets_ok r v round next false me layouts stand less ok = record { me = me; layouts = layouts; work = (stand, ok) }
-  sets_ok r v round next true me layouts stand less ok = record {
-    me = me;
-    layouts = layouts;
-    work = (
-      stand,
-      record {
-        own = ok.own;
-        later = λ l x. subst (λ (m : Later). v.round < m.round) (later_is _ l x) less;
-        waits = λ l x. subst (λ (m : Later). AllWait n m.waits) (later_is _ l x) (subst (λ m. AllWait n (waits_for (numbers m 0) next)) (sym layouts) (all_wait n next));
-        stage = ok.stage;
-      },
-    );
+  -- a later round is set
+  sets_ok : (r : Reconf) (v : Voting) (round next : ℕ) → r.layouts ≡ n → v.round < round → VotingOk E n k Mine ps v
+      → VotingOk E n k Mine ps (record v { later = Some (record { round = round; waits = waits_for (servers r) next }) })
+  sets_ok r v round next layouts less ok = record {
+    own = ok.own;
+    later = λ l x. subst (λ (m : Later). v.round < m.round) (later_is _ l x) less;
+    waits = λ l x. subst (λ (m : Later). AllWait n m.waits) (later_is _ l x) (subst (λ m. AllWait n (waits_for (numbers m 0) next)) (sym layouts) (all_wait n next));
+    stage = ok.stage;
   }
 
   round_above : (v : Voting) (b : Ballot) → v.round < round_after v b
   round_above v b = grind arith
 
-  nacked_ok : (r : Reconf) (v : Voting) (b : Ballot) (next : ℕ) → r.me ≡ k → r.layouts ≡ n → r.stand ≡ p → VotingOk E n k Mine ps v → TurnOk p c n k Mine ps (nacked r v b next)
-  nacked_ok r v b next me layouts stand ok = sets_ok r v _ next _ me layouts stand (round_above v b) ok
-
-  same_of : (a b c : Bool) → ((a && b) && c) ≡ true → (a ≡ true) × (b ≡ true)
-  same_of a b c h = grind arith
-
-  -- the server that answers in a stage of preparing is awaited there
-  abbrev IsAwaited : Stage → ℕ → Type 0
-  IsAwaited (Preparing ws hs) l = answered ws l ≡ false
-  IsAwaited (Accepting ws m q) l = Unit {0}
-
   vote_is : (r : Reconf) (round f : ℕ) (b : Ballot) (other : Bool) → r.me ≡ k → r.stand ≡ p → (same_vote r round f b && other) ≡ true → (f ≡ E) × (b ≡ record { round = round; client = k })
   vote_is r round f b other me stand h = grind arith
-
-  passed_ok : (r : Reconf) (v : Voting) (next : ℕ) → r.me ≡ k → r.layouts ≡ n → r.stand ≡ p → r.work ≡ Agreeing v → VotingOk E n k Mine ps v → TurnOk p c n k Mine ps (passes next r)
-  passed_ok r v next me layouts stand work ok = record { me = me; layouts = layouts; work = subst (λ (w : ReconfWork). WorkOk p c n k Mine ps r w) (sym work) (stand, ok) }
-
-  if_ok : (b : Bool) (t u : ReconfTurn) → (b ≡ true → TurnOk p c n k Mine ps t) → TurnOk p c n k Mine ps u → TurnOk p c n k Mine ps (if b then t else u)
-  if_ok true t u f g = f refl
-  if_ok false t u f g = g
-
-  nack_ok : (r : Reconf) (v : Voting) (f : ℕ) (b : Ballot) (next : ℕ) → ReconfOk p c n k Mine ps r → r.stand ≡ p → VotingOk E n k Mine ps v
-      → TurnOk p c n k Mine ps (if f == next_epoch r then nacked r v b next else passes next r)
-  nack_ok r v f b next ok stand votes = if_ok (f == next_epoch r) (nacked r v b next) (passes next r) (λ is. nacked_ok r v b next ok.me ok.layouts stand votes) ok
 
   told_here : (r : Reconf) (round l f : ℕ) (b : Ballot) (a : Before) (other : Bool) → r.me ≡ k → r.stand ≡ p → Tells l (reply.IsPromise f b a)
       → (same_vote r round f b && other) ≡ true → Promised E ps l (record { round = round; client = k }) a
@@ -404,113 +321,65 @@ module _ (p : Layout) (c : Changed) (n k : ℕ) (Mine : Layout → Type 0) (mine
       let same = vote_is r round f b other me stand h in
       subst (λ (d : Ballot). Promised E ps l d a) same.1 (tells b a (ap (λ (g : ℕ). reply.IsPromise g b a) same.0))
 
-  stage_feed_ok : (r : Reconf) (v : Voting) (s : Stage) (l : ℕ) (x : Reply) (next : ℕ) → ReconfOk p c n k Mine ps r → r.stand ≡ p → VotingOk E n k Mine ps v
-      → StageOk E n k Mine ps v.round s → IsAwaited s l → Tells l x → TurnOk p c n k Mine ps (stage_feed r v s l x next)
-  stage_feed_ok r v (Preparing ws hs) l (reply.IsPromise f b a) next ok stand votes o waits tells =
-      if_ok (same_vote r v.round f b && is_of_epoch f a) (promised r v l a ws hs next) (passes next r)
-      (λ h. promised_ok r v (without_wait l ws) (a ∷ hs) next _ refl ok.me ok.layouts stand votes
-      (more_heard v.round ws hs l a o waits (told_here r v.round l f b a (is_of_epoch f a) ok.me stand tells h)))
-      ok
-  stage_feed_ok r v (Preparing ws hs) l (reply.IsNack f b) next ok stand votes o waits tells = nack_ok r v f b next ok stand votes
-  stage_feed_ok r v (Preparing ws hs) l x next ok stand votes o waits tells = ok
-  stage_feed_ok r v (Accepting ws m q) l (reply.IsAccepted f b) next ok stand votes o waits tells =
-      if_ok (same_vote r v.round f b) (accepted r v l ws m q next) (passes next r) (λ h. accepted_ok r v _ _ q next _ ok.me ok.layouts stand votes o) ok
-  stage_feed_ok r v (Accepting ws m q) l (reply.IsNack f b) next ok stand votes o waits tells = nack_ok r v f b next ok stand votes
-  stage_feed_ok r v (Accepting ws m q) l x next ok stand votes o waits tells = ok
+  voting_ok_on : (from : NodeId) (rid : ℕ) (x : Reply) (next : ℕ) (r : Reconf) (v u : Voting) → turns.IsVoting from.num rid x next r v u → VotingOk E n k Mine ps v → VotingOk E n k Mine ps u
+  voting_ok_on from rid x next r v _ (turns.Present none) ok = ok
+  voting_ok_on from rid x next r v _ (turns.IsBegun l is has answers) ok = begun_ok v l is ok
 
-  later_feed_ok : (r : Reconf) (v : Voting) (t : Later) (l : ℕ) (x : Reply) (next : ℕ) (b : Bool) → v.later ≡ Some t → ReconfOk p c n k Mine ps r → r.stand ≡ p
-      → VotingOk E n k Mine ps v → answered t.waits l ≡ false → Tells l x → TurnOk p c n k Mine ps (later_feed r v t l x next b)
-  later_feed_ok r v t l x next true is ok stand votes waits tells =
-      let b = begun_ok v t is votes in stage_feed_ok r (begun v t) (Preparing t.waits []) l x next ok stand b b.stage waits tells
-  later_feed_ok r v t l x next false is ok stand votes waits tells = ok
+  -- For an awaited answer.
 
-  in_stage : (r : Reconf) (round : ℕ) (s : Stage) (from : NodeId) (rid : ℕ) → awaits (stage_asks r round s) from rid ≡ true → (from ≡ layout_id from.num) × IsAwaited s from.num
-  in_stage r round (Preparing ws hs) from rid h = let a = awaited_asked _ ws from rid h in (a.server, waits_rid ws from.num rid a.waits)
-  in_stage r round (Accepting ws m q) from rid h = let a = awaited_asked _ ws from rid h in (a.server, tt)
+  module _ (from : NodeId) (rid : ℕ) (x : Reply) (next : ℕ) (tells : from ≡ layout_id from.num → Tells from.num x) where
+    one_more : (r : Reconf) (v u : Voting) (ws : Waits) (hs : List Before) (e : ℕ) (b : Ballot) (a : Before) → turns.IsVoting from.num rid x next r v u → u.stage ≡ Preparing ws hs → x ≡ reply.IsPromise e b a
+        → (same_vote r u.round e b && is_of_epoch e a) ≡ true → ReconfOk p c n k Mine ps (at_work r (Agreeing v)) → awaits (reconf_awaited (at_work r (Agreeing v))) from rid ≡ true
+        → Prepared E n k Mine ps u.round (without_wait from.num ws) (a ∷ hs)
+    unfolding reconf_work_asks
+    one_more r v u ws hs e b a of st is f ok awaited =
+        let s = voting_fed r v u from rid x next of awaited in
+        more_heard u.round ws hs from.num a (subst (λ (t : Stage). StageOk E n k Mine ps u.round t) st (voting_ok_on from rid x next r v u of ok.work.1).stage)
+        (waits_rid ws from.num rid (subst (λ (t : Stage). has_rid from.num rid (stage_waits t) ≡ true) st s.waits))
+        (told_here r u.round from.num e b a _ ok.me ok.work.0 (subst (λ (y : Reply). Tells from.num y) is (tells s.server)) f)
 
-  vote_feed_ok : (r : Reconf) (v : Voting) (o : Option Later) (from : NodeId) (rid : ℕ) (x : Reply) (next : ℕ) → v.later ≡ o → ReconfOk p c n k Mine ps r → r.stand ≡ p
-      → VotingOk E n k Mine ps v → awaits (stage_asks r v.round v.stage ++ set_asks r o) from rid ≡ true → (from ≡ layout_id from.num → Tells from.num x)
-      → TurnOk p c n k Mine ps (vote_feed r v o from.num rid x next)
-  vote_feed_ok r v None from rid x next is ok stand votes awaited tells = by (awaited_either (stage_asks r v.round v.stage) [] from rid awaited)
-    where
-      by : (awaits (stage_asks r v.round v.stage) from rid ≡ true) ⊎ (awaits [] from rid ≡ true) → TurnOk p c n k Mine ps (stage_feed r v v.stage from.num x next)
-      by (inl h) = let s = in_stage r v.round v.stage from rid h in stage_feed_ok r v v.stage from.num x next ok stand votes votes.stage s.1 (tells s.0)
-      by (inr h) = absurd (no_true h)
-        where
-          no_true : false ≡ true → ⊥
-          no_true e = cc
-  vote_feed_ok r v (Some t) from rid x next is ok stand votes awaited tells = at (has_rid from.num rid t.waits) refl (awaited_either (stage_asks r v.round v.stage) (set_asks r (Some t)) from rid awaited)
-    where
-      at : (b : Bool) → has_rid from.num rid t.waits ≡ b → (awaits (stage_asks r v.round v.stage) from rid ≡ true) ⊎ (awaits (set_asks r (Some t)) from rid ≡ true)
-          → TurnOk p c n k Mine ps (if b then later_feed r v t from.num x next (is_answer r t x) else stage_feed r v v.stage from.num x next)
-      at true e (inl h) = let s = in_stage r v.round v.stage from rid h in later_feed_ok r v t from.num x next _ is ok stand votes (waits_rid t.waits from.num rid e) (tells s.0)
-      at true e (inr h) = let a = awaited_asked _ t.waits from rid h in later_feed_ok r v t from.num x next _ is ok stand votes (waits_rid t.waits from.num rid e) (tells a.server)
-      at false e (inl h) = let s = in_stage r v.round v.stage from rid h in stage_feed_ok r v v.stage from.num x next ok stand votes votes.stage s.1 (tells s.0)
-      at false e (inr h) = absurd (contrary e (awaited_asked _ t.waits from rid h).waits)
-        where
-          contrary : {b : Bool} → b ≡ false → b ≡ true → ⊥
-          contrary f t = cc
-
-  started_if_ok : (r : Reconf) (next : ℕ) (b : Bool) → ReconfOk p c n k Mine ps r → TurnOk p c n k Mine ps (started_if r next b)
-  started_if_ok r next true ok = tt
-  started_if_ok r next false ok = ok
-
-  work_feed_ok : (r : Reconf) (w : ReconfWork) (from : NodeId) (rid : ℕ) (x : Reply) (next : ℕ) → ReconfOk p c n k Mine ps r → WorkOk p c n k Mine ps r w
-      → awaits (reconf_work_asks r w ++ later_asks r w) from rid ≡ true → (from ≡ layout_id from.num → Tells from.num x) → TurnOk p c n k Mine ps (reconf_feed r w from.num rid x next)
-  unfolding reconf_feed reconf_work_asks
-  work_feed_ok r (SealingSpare i) from rid (reply.IsSealed f h) next ok early awaited tells = looks_if_ok r next _ ok early
-  work_feed_ok r (SealingSpare i) from rid (reply.IsFenced f) next ok early awaited tells = seals_if_ok r next _ ok early
-  work_feed_ok r (SealingSpare i) from rid x next ok early awaited tells = ok
-  work_feed_ok r (LookingSpare i) from rid reply.IsWhole next ok early awaited tells = seals_ok r next ok early
-  work_feed_ok r (LookingSpare i) from rid (reply.IsMissing q) next ok early awaited tells = tt
-  work_feed_ok r (LookingSpare i) from rid (reply.IsFenced f) next ok early awaited tells = seals_if_ok r next _ ok early
-  work_feed_ok r (LookingSpare i) from rid x next ok early awaited tells = ok
-  work_feed_ok r (Sealing ws acks) from rid (reply.IsSealed f h) next ok early awaited tells = sealed_if_ok r from.num h ws acks next _ ok early
-  work_feed_ok r (Sealing ws acks) from rid (reply.IsFenced f) next ok early awaited tells = learns_if_ok r next _ ok
-  work_feed_ok r (Sealing ws acks) from rid x next ok early awaited tells = ok
-  work_feed_ok r (LookingAgain i acks) from rid reply.IsWhole next ok early awaited tells = proposes_ok r acks next ok.me ok.layouts early
-  work_feed_ok r (LookingAgain i acks) from rid (reply.IsMissing q) next ok early awaited tells = tt
-  work_feed_ok r (LookingAgain i acks) from rid (reply.IsFenced f) next ok early awaited tells = learns_if_ok r next _ ok
-  work_feed_ok r (LookingAgain i acks) from rid x next ok early awaited tells = ok
-  work_feed_ok r (Agreeing v) from rid x next ok votes awaited tells = vote_feed_ok r v v.later from rid x next refl ok votes.0 votes.1 awaited tells
-  work_feed_ok r (Telling ws h q) from rid x next ok done awaited tells = ok
-  work_feed_ok r (Starting i) from rid (reply.IsTail t ls) next ok done awaited tells = started_if_ok r next _ ok
-  work_feed_ok r (Starting i) from rid (reply.IsOldEpoch f) next ok done awaited tells = learns_if_ok r next _ ok
-  work_feed_ok r (Starting i) from rid x next ok done awaited tells = ok
+    fed_ok : (r : Reconf) (t : ReconfTurn) → turns.Fed from.num rid x next r t → ReconfOk p c n k Mine ps r → awaits (reconf_awaited r) from rid ≡ true → TurnOk p c n k Mine ps t
+    fed_ok _ _ (turns.Nothing r) ok awaited = ok
+    fed_ok _ _ (turns.LooksSpare r i e h is f) ok awaited = at_ok r _ ok.me ok.layouts ok.work
+    fed_ok _ _ (turns.SpareWhole r i is) ok awaited = at_ok r _ ok.me ok.layouts ok.work
+    fed_ok _ _ (turns.SpareMisses r i pos is) ok awaited = tt
+    fed_ok _ _ (turns.SpareFenced r w e of is f) ok awaited = at_ok r _ ok.me ok.layouts (spare_early r w of ok.work)
+    fed_ok _ _ (turns.SealsMore r ws acks e h w vs is f left) ok awaited = at_ok r _ ok.me ok.layouts ok.work
+    fed_ok _ _ (turns.SealsLast r ws acks e h is f none j) ok awaited = proposes_ok r ((from.num, h) ∷ acks) next ok.me ok.layouts ok.work
+    fed_ok _ _ (turns.LooksAgain r ws acks e h j is f none i) ok awaited = at_ok r _ ok.me ok.layouts ok.work
+    fed_ok _ _ (turns.AgainWhole r i acks is) ok awaited = proposes_ok r acks next ok.me ok.layouts ok.work
+    fed_ok _ _ (turns.AgainMisses r i acks pos is) ok awaited = tt
+    fed_ok _ _ (turns.NextFenced r w e of is f) ok awaited = ok
+    fed_ok _ _ (turns.Promises r v u ws hs e b a of st is f g) ok awaited =
+        voting_ok r u (Preparing (without_wait from.num ws) (a ∷ hs)) ok.me ok.layouts ok.work.0 (voting_ok_on from rid x next r v u of ok.work.1) (one_more r v u ws hs e b a of st is f ok awaited)
+    fed_ok _ _ (turns.PromisesMost r v u ws hs e b a of st is f g) ok awaited =
+        let votes = voting_ok_on from rid x next r v u of ok.work.1 in
+        voting_ok r u (Accepting (waits_for (servers r) next) 0 (value_or (greatest (a ∷ hs)) u.own)) ok.me ok.layouts ok.work.0 votes
+        (most_ok r u (without_wait from.num ws) (a ∷ hs) g ok.layouts votes (one_more r v u ws hs e b a of st is f ok awaited))
+    fed_ok _ _ (turns.Accepts r v u ws i q e b of st is f g) ok awaited =
+        let votes = voting_ok_on from rid x next r v u of ok.work.1 in
+        voting_ok r u (Accepting (without_wait from.num ws) (i + 1) q) ok.me ok.layouts ok.work.0 votes (subst (λ (t : Stage). StageOk E n k Mine ps u.round t) st votes.stage)
+    fed_ok _ _ (turns.AcceptsMost r v u ws i q e b of st is f g) ok awaited = at_ok r _ ok.me ok.layouts tt
+    fed_ok _ _ (turns.Nacks r v u e b of is f g) ok awaited = at_ok r _ ok.me ok.layouts (ok.work.0, sets_ok r u (round_after u b) next ok.layouts (round_above u b) (voting_ok_on from rid x next r v u of ok.work.1))
+    fed_ok _ _ (turns.NacksLow r v u e b of is f g) ok awaited = at_ok r _ ok.me ok.layouts (ok.work.0, voting_ok_on from rid x next r v u of ok.work.1)
+    fed_ok _ _ (turns.Starts r i t ls is f) ok awaited = tt
+    fed_ok _ _ (turns.StartsPast r i e is f) ok awaited = ok
 
   pub feed_ok : (r : Reconf) (from : NodeId) (rid : ℕ) (x : Reply) (next : ℕ) → ReconfOk p c n k Mine ps r → awaits (reconf_awaited r) from rid ≡ true
       → (from ≡ layout_id from.num → Tells from.num x) → TurnOk p c n k Mine ps (reconf_feed r r.work from.num rid x next)
-  feed_ok r from rid x next ok awaited tells = work_feed_ok r r.work from rid x next ok ok.work awaited tells
+  feed_ok r from rid x next ok awaited tells = fed_ok from rid x next tells r _ (turns.reconf_fed from.num rid x next r) ok awaited
 
-  -- A newer layout.
+  -- For a newer layout.
 
-  tells_ok : (r : Reconf) (q : Layout) (next : ℕ) → ReconfOk p c n k Mine ps r → TurnOk p c n k Mine ps (tells r q next)
-  tells_ok r q next ok = record { me = ok.me; layouts = ok.layouts; work = tt }
-
-  own_decided_ok : (r : Reconf) (w : ReconfWork) (q : Layout) (next : ℕ) → ReconfOk p c n k Mine ps r → TurnOk p c n k Mine ps (own_decided r w q next)
-  own_decided_ok r (Telling ws h q') q next ok = ok
-  own_decided_ok r w q next ok = tells_ok r q next ok
-
-  on_newer_ok : (r : Reconf) (q : Layout) (next : ℕ) (b : Bool) → ReconfOk p c n k Mine ps r → TurnOk p c n k Mine ps (on_newer r q next b)
-  on_newer_ok r q next true ok = own_decided_ok r r.work q next ok
-  on_newer_ok r q next false ok = tt
-
-  adopts_ok : (r : Reconf) (q : Layout) (next : ℕ) (b : Bool) → ReconfOk p c n k Mine ps r → TurnOk p c n k Mine ps (adopts r q next b)
-  adopts_ok r q next true ok = record { me = ok.me; layouts = ok.layouts; work = tt }
-  adopts_ok r q next false ok = tt
-
-  heard_ok : (r : Reconf) (ws : Waits) (m : ℕ) (q : Layout) (next : ℕ) (b : Bool) → ReconfOk p c n k Mine ps r → TurnOk p c n k Mine ps (heard_on r ws m q next b)
-  heard_ok r ws m q next true ok = adopts_ok r q next _ ok
-  heard_ok r ws m q next false ok = record { me = ok.me; layouts = ok.layouts; work = tt }
-
-  latest_at : (r : Reconf) (w : ReconfWork) (l rid : ℕ) (q : Layout) (next : ℕ) → ReconfOk p c n k Mine ps r → TurnOk p c n k Mine ps (reconf_latest r w l rid q next)
-  unfolding reconf_latest
-  latest_at r (Starting i) l rid q next ok = tt
-  latest_at r (Telling ws h y) l rid q next ok = if_ok _ (heard r l ws h y next) (on_newer r q next _) (λ is. heard_ok r _ _ y next _ ok) (on_newer_ok r q next _ ok)
-  latest_at r w l rid q next ok = on_newer_ok r q next _ ok
+  heard_ok : (l rid : ℕ) (q : Layout) (next : ℕ) (r : Reconf) (t : ReconfTurn) → turns.Heard l rid q next r t → ReconfOk p c n k Mine ps r → TurnOk p c n k Mine ps t
+  heard_ok l rid q next _ _ (turns.HearsOne r ws i y e f) ok = at_ok r _ ok.me ok.layouts tt
+  heard_ok l rid q next _ _ (turns.Adopts r ws i y e f g) ok = record { me = ok.me; layouts = ok.layouts; work = tt }
+  heard_ok l rid q next _ _ (turns.TellsOwn r ws i y e) ok = ok
+  heard_ok l rid q next _ _ (turns.OwnDecided r w of e) ok = at_ok r _ ok.me ok.layouts tt
+  heard_ok l rid q next _ _ x ok = tt
 
   pub latest_ok : (r : Reconf) (l rid : ℕ) (q : Layout) (next : ℕ) → ReconfOk p c n k Mine ps r → TurnOk p c n k Mine ps (reconf_latest r r.work l rid q next)
-  latest_ok r l rid q next ok = latest_at r r.work l rid q next ok
+  latest_ok r l rid q next ok = heard_ok l rid q next r _ (turns.reconf_heard l rid q next r) ok
 
 -- What a client sends.
 

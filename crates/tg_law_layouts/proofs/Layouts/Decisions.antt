@@ -31,7 +31,7 @@ use Rattle.tg_law_layouts.proofs.Requests.Answered.{turn_on, said_by}
 use Rattle.tg_law_layouts.proofs.Requests.Numbers.{seqr_input_draws}
 use Rattle.tg_law_layouts.proofs.Layouts.Plain.{job_plain}
 use Rattle.tg_law_layouts.proofs.Layouts.Phases.{phase}
-use Rattle.tg_law_layouts.proofs.Layouts.Votes.{NewProposal, NewPromise, NewAcceptance, proposed_either, sent_truth, sent_stands, answered_truth, own_stands, other_stands, proposed_old}
+use Rattle.tg_law_layouts.proofs.Agreement.Votes.{Said, said_this, NewProposal, NewPromise, NewAcceptance, proposed_either, sent_truth, sent_stands, answered_truth, own_stands, other_stands, proposed_old}
 use Rattle.tg_law_layouts.proofs.Layouts.Pax.{OfEpoch, Silent, WorkerOk, HandOk, ClientOk, reconf_of, TurnFine, command_fine, deliver_fine, tick_fine, awaited_of}
 
 -- Packets that propose, promise and accept nothing.
@@ -81,10 +81,10 @@ module _ (m : Meaning) where
         by (inr y) = absurd (s.proposes y.packet e b q y.sent y.is)
 
     still_truth : (e : ℕ) → Truth e c.cluster.layouts (OfEpoch e) (c.packets ++ new)
-    still_truth e = sent_truth m e c.cluster.layouts (OfEpoch e) c.packets (h.truth e) 0 new (no_promise e) (no_acceptance e) (λ b q. ⊥) (λ b q y. s.proposes y.packet e b q y.sent y.is) (λ b q y. absurd y) (λ b q r y. absurd y)
+    still_truth e = sent_truth e c.cluster.layouts (OfEpoch e) c.packets (h.truth e) 0 new (no_promise e) (no_acceptance e) (λ b q. ⊥) (λ b q y. s.proposes y.packet e b q y.sent y.is) (λ b q y. absurd y) (λ b q r y. absurd y)
 
     still_stands : (l e : ℕ) (v : Vote) → Stands e c.packets l v → Stands e (c.packets ++ new) l v
-    still_stands l e v y = sent_stands m e c.cluster.layouts (OfEpoch e) c.packets (h.truth e) 0 new (no_promise e) (no_acceptance e) (λ b q. ⊥) (λ b q y. s.proposes y.packet e b q y.sent y.is) (λ b q y. absurd y) (λ b q r y. absurd y) l v y
+    still_stands l e v y = sent_stands e c.cluster.layouts (OfEpoch e) c.packets (h.truth e) 0 new (no_promise e) (no_acceptance e) (λ b q. ⊥) (λ b q y. s.proposes y.packet e b q y.sent y.is) (λ b q y. absurd y) (λ b q r y. absurd y) l v y
 
     still_hand : (k : ℕ) (p : Layout) (o : Option Reconf) → HandOk m c.cluster.layouts k c.packets p o → HandOk m c.cluster.layouts k (c.packets ++ new) p o
     still_hand k p o y = hand_still c.cluster.layouts k c.packets (c.packets ++ new) (λ x g. has_left c.packets new x g) (λ f b q z mine. proposed_back f b q z) p o y
@@ -143,18 +143,22 @@ module _ (m : Meaning) where
       still : Still new
       still = record { proposes = proposes; from = λ x g r. role_is (sym (ap (λ (n : NodeId). n.role) (outs_from m (seqr_id s) t.sends x g)) ∙ r) }
 
+  said_in : (l : ℕ) (p : Packet) (o : Option Msg) → p.to ≡ layout_id l → (y : Packet) → Has (answer_to m p o) y → Said l o y
+  said_in l p None to y h = absurd h
+  said_in l p (Some x) to y h = said_this l x _ y to refl h
+
   by_layout' : (c : Config m) → Pax c → (l : ℕ) (p : Packet) → Comes m c p (layout_id l) → l < length c.layouts → Pax (layout_turn m c l p (layout_step (layout_in m c l) p.msg))
   by_layout' c h l p comes less = record {
     num = h.num;
     layouts = h.layouts;
     long = set_long c.layouts l t.now ∙ h.long;
-    truth = λ e. answered_truth m e n (OfEpoch e) c.packets (h.truth e) p comes.sent l less' comes.to_node (vote_of s e) (vote_of t.now e) (h.stands l e) t.says (moved e);
+    truth = λ e. answered_truth e n (OfEpoch e) c.packets (h.truth e) p comes.sent l less' (vote_of s e) (vote_of t.now e) (h.stands l e) t.says (moved e) (answer_to m p t.says) says;
     stands = λ i e. at_set c.layouts l t.now (λ j. new_layout (first_layout c.cluster)) (λ j y. Stands e (c.packets ++ answer_to m p t.says) j (vote_of y e)) less
-        (own_stands m e n (OfEpoch e) c.packets (h.truth e) p comes.sent l less' comes.to_node (vote_of s e) (vote_of t.now e) (h.stands l e) t.says (moved e))
-        (λ j other. other_stands m e n (OfEpoch e) c.packets (h.truth e) p comes.sent l less' comes.to_node (vote_of s e) (vote_of t.now e) (h.stands l e) t.says (moved e) j _ other (h.stands j e))
+        (own_stands e n (OfEpoch e) c.packets (h.truth e) p comes.sent l less' (vote_of s e) (vote_of t.now e) (h.stands l e) t.says (moved e) (answer_to m p t.says) says)
+        (λ j other. other_stands e n (OfEpoch e) c.packets (h.truth e) p comes.sent l less' (vote_of s e) (vote_of t.now e) (h.stands l e) t.says (moved e) (answer_to m p t.says) says j _ other (h.stands j e))
         i;
     clients = λ k. hand_still n k c.packets (c.packets ++ answer_to m p t.says) (λ x g. has_left c.packets _ x g)
-        (λ e b q y mine. proposed_old m e n (OfEpoch e) c.packets (h.truth e) p comes.sent l less' comes.to_node (vote_of s e) (vote_of t.now e) (h.stands l e) t.says (moved e) b q y) _ _ (h.clients k);
+        (λ e b q y mine. proposed_old e n (OfEpoch e) c.packets (h.truth e) p comes.sent l less' (vote_of s e) (vote_of t.now e) (h.stands l e) t.says (moved e) (answer_to m p t.says) says b q y) _ _ (h.clients k);
   }
     where
       n : ℕ
@@ -171,6 +175,9 @@ module _ (m : Meaning) where
 
       moved : (e : ℕ) → Moved e (vote_of (layout_in m c l) e) p.msg (vote_of (layout_step (layout_in m c l) p.msg).now e) (layout_step (layout_in m c l) p.msg).says
       moved e = server_moves e (layout_in m c l) p.msg
+
+      says : (y : Packet) → Has (answer_to m p t.says) y → Said l t.says y
+      says y g = said_in l p t.says comes.to_node y g
 
   -- A client's turn.
 
@@ -238,10 +245,10 @@ module _ (m : Meaning) where
     one e b q r x y = work_one k x.reconf.work b q r x.proposes (subst (λ (z : Reconf). WorkProposes k z.work b r) (same_hand x.reconf y.reconf x.hand y.hand) y.proposes)
 
     turn_truth : (e : ℕ) → Truth e n (OfEpoch e) (ps ++ new)
-    turn_truth e = sent_truth m e n (OfEpoch e) ps (h.truth e) k new (λ l b a x. from_layout x.packet l x.sent x.from) (λ l b x. from_layout x.packet l x.sent x.from) (Now e) (new_proposes e) (own e) (one e)
+    turn_truth e = sent_truth e n (OfEpoch e) ps (h.truth e) k new (λ l b a x. from_layout x.packet l x.sent x.from) (λ l b x. from_layout x.packet l x.sent x.from) (Now e) (new_proposes e) (own e) (one e)
 
     turn_stands : (l e : ℕ) (v : Vote) → Stands e ps l v → Stands e (ps ++ new) l v
-    turn_stands l e v y = sent_stands m e n (OfEpoch e) ps (h.truth e) k new (λ l b a x. from_layout x.packet l x.sent x.from) (λ l b x. from_layout x.packet l x.sent x.from) (Now e) (new_proposes e) (own e) (one e) l v y
+    turn_stands l e v y = sent_stands e n (OfEpoch e) ps (h.truth e) k new (λ l b a x. from_layout x.packet l x.sent x.from) (λ l b x. from_layout x.packet l x.sent x.from) (Now e) (new_proposes e) (own e) (one e) l v y
 
     old_or_now : (e : ℕ) (b : Ballot) (q : Layout) → Proposed e (ps ++ new) b q → Proposed e ps b q ⊎ Now e b q
     old_or_now e b q x = by (proposed_either e ps new b q x)

@@ -1,72 +1,34 @@
 -- A reconfiguration tells only layouts that are decided: its own, after a majority has accepted it, or one that it was told.
-use Rattle.std.proofs.Common.{◌≡◌, ◌⊎◌, ℕ, zero, suc, ◌+◌, ◌<◌, ◌≤◌, List, [], ◌∷◌, ◌++◌, Bool, true, false, ◌&&◌, refl, sym, ap, subst, inl, inr, arith, Some, None, Option}
-use Rattle.std.specs.Prelude.{nat_lt, ◌==◌, if◌then◌else◌}
+use Rattle.std.proofs.Common.{◌≡◌, ◌⊎◌, ℕ, zero, suc, ◌+◌, ◌<◌, ◌≤◌, List, ◌++◌, Bool, true, false, ◌&&◌, refl, sym, ap, subst, inl, inr, arith}
+use Rattle.std.specs.Prelude.{nat_lt, if◌then◌else◌}
 use Rattle.tg_base.specs.Layouts.{Layout}
-use Rattle.tg_base.specs.declared.change.Join.{Join}
-use Rattle.tg_protocol.specs.Trimming.{learns_if}
 use Rattle.tg_base.specs.declared.ids.Ballot.{Ballot}
 use Rattle.tg_base.specs.declared.ids.NodeId.{NodeId}
 use Rattle.tg_base.specs.declared.msg.Msg.{Msg}
 use Rattle.tg_base.specs.declared.packet.Out.{Out}
 use Rattle.tg_base.specs.declared.packet.Packet.{Packet}
-use Rattle.tg_base.specs.Orders.{node_eq}
 use Rattle.tg_protocol.specs.Words.{layout_id}
 use Rattle.tg_protocol.specs.Logs.{has_accepted, acceptances, by_majority}
-use Rattle.tg_protocol.specs.Requests.{Waits, awaits, asked_of, without_wait, passes, Next, Goes, Learns, Ends}
+use Rattle.tg_protocol.specs.Requests.{Waits, awaits, asked_of, without_wait, Next, Goes, Learns, Ends}
 use Rattle.tg_protocol.specs.Replies.{Reply}
 use Rattle.tg_protocol.specs.Replies as reply
-use Rattle.tg_protocol.specs.Reconfiguring.{Acks, Before, looks_if, seals_if, sealed_if, seals_left, after_seals, started_if, reconf_work_asks, later_asks, reconf_awaited, Stage, Preparing, Accepting, Later, Voting, ReconfWork, SealingSpare, LookingSpare, Sealing, LookingAgain, Agreeing, Telling, Starting, Reconf, ReconfEnd, Installed, Overtaken, NotWhole, ReconfTurn, next_epoch, ballot_of, is_majority, stage_asks, set_asks, promised, promised_on, accepted, accepted_on, tells, nacked, sets_if, same_vote, is_of_epoch, stage_feed, begun, is_answer, later_feed, has_rid, vote_feed, heard, heard_on, adopts, own_decided, on_newer, is_own, reconf_feed, reconf_latest}
+use Rattle.tg_protocol.specs.Reconfiguring.{stage_asks, reconf_work_asks, reconf_awaited, at_work, Stage, Preparing, Accepting, Voting, ReconfWork, Agreeing, Telling, Reconf, ReconfEnd, Installed, Overtaken, NotWhole, ReconfTurn, next_epoch, ballot_of, same_vote, has_rid, reconf_feed, reconf_latest}
 use Rattle.tg_law_layouts.proofs.Agreement.Counts.{count, count_one_more, Implies}
-use Rattle.tg_law_layouts.proofs.Agreement.Proposers.{answered}
+use Rattle.tg_law_layouts.proofs.Agreement.Proposers.{answered, answered_still, answered_now, waits_rid}
+use Rattle.tg_law_steps.proofs.Machines.Awaited.{awaited_asked, stage_waits, stage_awaited, voting_fed, awaited_either as awaited_in_either}
+use Rattle.tg_law_steps.proofs.Machines.Reconfs as turns
 use Rattle.tg_law_layouts.proofs.Agreement.Facts.{Proposed}
 
--- What is waited for.
-
-without_more : (w : ℕ × ℕ) (ws : Waits) (l i : ℕ) → (answered ws i ≡ true → answered (without_wait l ws) i ≡ true) → answered (w ∷ ws) i ≡ true → answered (without_wait l (w ∷ ws)) i ≡ true
-without_more w ws l i rest h = grind arith
-
-still_answered : (ws : Waits) (l i : ℕ) → answered ws i ≡ true → answered (without_wait l ws) i ≡ true
-still_answered [] l i h = refl
-still_answered (w ∷ ws) l i h = without_more w ws l i (still_answered ws l i) h
-
-now_more : (w : ℕ × ℕ) (ws : Waits) (l : ℕ) → answered (without_wait l ws) l ≡ true → answered (without_wait l (w ∷ ws)) l ≡ true
-now_more w ws l rest = grind arith
-
-now_answered : (ws : Waits) (l : ℕ) → answered (without_wait l ws) l ≡ true
-now_answered [] l = refl
-now_answered (w ∷ ws) l = now_more w ws l (now_answered ws l)
-
-asked_more : (m : Msg) (w : ℕ × ℕ) (ws : Waits) (from : NodeId) (rid : ℕ) → (awaits (asked_of layout_id m ws) from rid ≡ true → answered ws from.num ≡ false) → awaits (asked_of layout_id m (w ∷ ws)) from rid ≡ true → answered (w ∷ ws) from.num ≡ false
-unfolding node_eq
-asked_more m w ws from rid rest h = grind arith
-
-pub asked_waits : (m : Msg) (ws : Waits) (from : NodeId) (rid : ℕ) → awaits (asked_of layout_id m ws) from rid ≡ true → answered ws from.num ≡ false
-asked_waits m [] from rid h = absurd (cc)
-asked_waits m (w ∷ ws) from rid h = asked_more m w ws from rid (asked_waits m ws from rid) h
-
-rid_more : (m : Msg) (w : ℕ × ℕ) (ws : Waits) (from : NodeId) (rid : ℕ) → (awaits (asked_of layout_id m ws) from rid ≡ true → has_rid from.num rid ws ≡ true) → awaits (asked_of layout_id m (w ∷ ws)) from rid ≡ true → has_rid from.num rid (w ∷ ws) ≡ true
-unfolding node_eq
-rid_more m w ws from rid rest h = grind arith
-
-either_more : (o : Out) (xs ys : List Out) (from : NodeId) (rid : ℕ) → (awaits (xs ++ ys) from rid ≡ true → (awaits xs from rid ≡ true) ⊎ (awaits ys from rid ≡ true))
-    → awaits (o ∷ xs ++ ys) from rid ≡ true → (awaits (o ∷ xs) from rid ≡ true) ⊎ (awaits ys from rid ≡ true)
-either_more o xs ys from rid rest h = grind arith
+-- Of whom an awaited answer is.
 
 pub awaited_either : (xs ys : List Out) (from : NodeId) (rid : ℕ) → awaits (xs ++ ys) from rid ≡ true → (awaits xs from rid ≡ true) ⊎ (awaits ys from rid ≡ true)
-awaited_either [] ys from rid h = inr h
-awaited_either (o ∷ xs) ys from rid h = either_more o xs ys from rid (awaited_either xs ys from rid) h
-
-server_more : (m : Msg) (w : ℕ × ℕ) (ws : Waits) (from : NodeId) (rid : ℕ) → (awaits (asked_of layout_id m ws) from rid ≡ true → from ≡ layout_id from.num) → awaits (asked_of layout_id m (w ∷ ws)) from rid ≡ true → from ≡ layout_id from.num
-unfolding node_eq
-server_more m w ws from rid rest h = grind arith
+awaited_either xs ys from rid h = awaited_in_either xs ys from rid h
 
 pub asked_server : (m : Msg) (ws : Waits) (from : NodeId) (rid : ℕ) → awaits (asked_of layout_id m ws) from rid ≡ true → from ≡ layout_id from.num
-asked_server m [] from rid h = absurd (cc)
-asked_server m (w ∷ ws) from rid h = server_more m w ws from rid (asked_server m ws from rid) h
+asked_server m ws from rid h = (awaited_asked m ws from rid h).server
 
 pub stage_server : (r : Reconf) (round : ℕ) (s : Stage) (from : NodeId) (rid : ℕ) → awaits (stage_asks r round s) from rid ≡ true → from ≡ layout_id from.num
-stage_server r round (Preparing ws hs) from rid h = asked_server _ ws from rid h
-stage_server r round (Accepting ws k q) from rid h = asked_server _ ws from rid h
+stage_server r round s from rid h = (stage_awaited r round s from rid h).server
 
 -- Counts.
 
@@ -129,39 +91,14 @@ module _ (n : ℕ) (ps : List Packet) where
 
     -- A newer layout, which is known.
 
-    latest_known : (r : Reconf) (w : ReconfWork) (l rid : ℕ) (q : Layout) (next : ℕ) → r.work ≡ w → WorkKnown r w → Known q → NextKnown r (reconf_latest r w l rid q next).to
-    unfolding reconf_latest
-    latest_known r (Starting i) l rid q next is k known = inr known
-    latest_known r (Telling ws h y) l rid q next is k known = by (has_rid l rid ws && (q.epoch == next_epoch r))
-      where
-        adopted : (b : Bool) → NextKnown r (adopts r y next b).to
-        adopted true = (tt, inr k)
-        adopted false = inr k
-
-        heard_known : (b : Bool) → NextKnown r (heard_on r (without_wait l ws) (h + 1) y next b).to
-        heard_known true = adopted _
-        heard_known false = (k, inl refl)
-
-        own : (w : ReconfWork) → r.work ≡ w → NextKnown r (own_decided r w q next).to
-        own (Telling a c z) i = (subst (λ (x : ReconfWork). WorkKnown r x) (sym is) k, inl refl)
-        own w i = (known, inl refl)
-
-        newer : (b : Bool) → NextKnown r (on_newer r q next b).to
-        newer true = own r.work refl
-        newer false = inr known
-
-        by : (b : Bool) → NextKnown r (if b then heard r l ws h y next else on_newer r q next (is_own r q)).to
-        by true = heard_known _
-        by false = newer _
-    latest_known r w l rid q next is k known = newer _
-      where
-        own : (v : ReconfWork) → r.work ≡ v → NextKnown r (own_decided r v q next).to
-        own (Telling a c z) i = (subst (λ (x : ReconfWork). WorkKnown r x) (sym is) k, inl refl)
-        own v i = (known, inl refl)
-
-        newer : (b : Bool) → NextKnown r (on_newer r q next b).to
-        newer true = own r.work refl
-        newer false = inr known
+    heard_known : (l rid : ℕ) (q : Layout) (next : ℕ) (r : Reconf) (t : ReconfTurn) → turns.Heard l rid q next r t → WorkKnown r r.work → Known q → NextKnown r t.to
+    heard_known l rid q next _ _ (turns.StartedBefore r i) k known = inr known
+    heard_known l rid q next _ _ (turns.HearsOne r ws i y e f) k known = (k, inl refl)
+    heard_known l rid q next _ _ (turns.Adopts r ws i y e f g) k known = (tt, inr k)
+    heard_known l rid q next _ _ (turns.TellsOther r ws i y e f g) k known = inr k
+    heard_known l rid q next _ _ (turns.TellsOwn r ws i y e) k known = (k, inl refl)
+    heard_known l rid q next _ _ (turns.OwnDecided r w of e) k known = (known, inl refl)
+    heard_known l rid q next _ _ (turns.IsOvertaken r w of e) k known = inr known
 
     -- An answer of a round: what the servers have told is so.
 
@@ -172,13 +109,13 @@ module _ (n : ℕ) (ps : List Packet) where
     one_counted : (e : ℕ) (b : Ballot) (ws : Waits) (k l : ℕ) → Counted e b ws k → answered ws l ≡ false → l < n → has_accepted ps e b l ≡ true → Counted e b (without_wait l ws) (k + 1)
     one_counted e b ws k l c waits less has = record {
       enough =
-          let one = count_one_more (accepted_by e b ws) (accepted_by e b (without_wait l ws)) implied l (and_false _ _ waits) (and_both _ _ (now_answered ws l) has) n less in
+          let one = count_one_more (accepted_by e b ws) (accepted_by e b (without_wait l ws)) implied l (and_false _ _ waits) (and_both _ _ (answered_now ws l) has) n less in
           let old = c.enough in
           omega (arith, one, old);
     }
       where
         implied : Implies (accepted_by e b ws) (accepted_by e b (without_wait l ws))
-        implied i h = let t = both_and (answered ws i) (has_accepted ps e b i) h in and_both _ _ (still_answered ws l i t.0) t.1
+        implied i h = let t = both_and (answered ws i) (has_accepted ps e b i) h in and_both _ _ (answered_still ws l i t.0) t.1
 
     -- a majority has accepted
     won : (e : ℕ) (b : Ballot) (ws : Waits) (k : ℕ) → Counted e b ws k → nat_lt n (k + k) ≡ true → by_majority ps n e b ≡ true
@@ -190,138 +127,59 @@ module _ (n : ℕ) (ps : List Packet) where
     Winner r round (Preparing ws hs) = Unit {0}
     Winner r round (Accepting ws k q) = by_majority ps n (next_epoch r) (ballot_of r round) ≡ true → Known q
 
-    pass_known : (r : Reconf) → WorkKnown r r.work → NextKnown r (Goes r)
-    pass_known r k = (k, inl refl)
-
-    if_known : (r : Reconf) (b : Bool) (t u : ReconfTurn) → (b ≡ true → NextKnown r t.to) → NextKnown r u.to → NextKnown r (if b then t else u).to
-    if_known r true t u f g = f refl
-    if_known r false t u f g = g
-
-    accepted_known : (r : Reconf) (v : Voting) (ws : Waits) (k : ℕ) (q : Layout) (next : ℕ) (b : Bool) → is_majority r k ≡ b → r.layouts ≡ n → Counted (next_epoch r) (ballot_of r v.round) ws k
-        → (by_majority ps n (next_epoch r) (ballot_of r v.round) ≡ true → Known q) → NextKnown r (accepted_on r v ws k q next b).to
-    accepted_known r v ws k q next true is layouts c w = (w (won _ _ ws k c (subst (λ i. nat_lt i (k + k) ≡ true) layouts is)), inl refl)
-    accepted_known r v ws k q next false is layouts c w = (c, inl refl)
-
-    promised_known : (r : Reconf) (v : Voting) (ws : Waits) (hs : List Before) (next : ℕ) (b : Bool) → NextKnown r (promised_on r v ws hs next b).to
-    promised_known r v ws hs next true = (record { enough = omega arith }, inl refl)
-    promised_known r v ws hs next false = (tt, inl refl)
-
-    sets_known : (r : Reconf) (v : Voting) (round next : ℕ) (b : Bool) → StageKnown r v.round v.stage → NextKnown r (sets_if r v round next b).to
-    sets_known r v round next true k = (k, inl refl)
-    sets_known r v round next false k = (k, inl refl)
-
     -- the ballot is the round's
     same_of : (r : Reconf) (round e : ℕ) (b : Ballot) → same_vote r round e b ≡ true → (e ≡ next_epoch r) × (b ≡ ballot_of r round)
     same_of r round e b h = grind arith
-
-    -- the server is awaited in a stage
-    abbrev pub IsAwaited : Stage → ℕ → Type 0
-    IsAwaited (Preparing ws hs) l = Unit {0}
-    IsAwaited (Accepting ws k q) l = answered ws l ≡ false
-
-    stage_known : (r : Reconf) (v : Voting) (s : Stage) (l : ℕ) (x : Reply) (next : ℕ) → WorkKnown r r.work → r.layouts ≡ n → v.stage ≡ s → StageKnown r v.round s → Winner r v.round s → IsAwaited s l → Tells l x
-        → NextKnown r (stage_feed r v s l x next).to
-    stage_known r v (Preparing ws hs) l (reply.IsPromise e b a) next all layouts is k w waits tells =
-        if_known r (same_vote r v.round e b && is_of_epoch e a) (promised r v l a ws hs next) (passes next r) (λ h. promised_known r v _ _ next _) (pass_known r all)
-    stage_known r v (Accepting ws i q) l (reply.IsAccepted e b) next all layouts is k w waits tells =
-        if_known r (same_vote r v.round e b) (accepted r v l ws i q next) (passes next r)
-        (λ h. let t = tells e b refl in let s = same_of r v.round e b h in
-        accepted_known r v (without_wait l ws) (i + 1) q next _ refl layouts
-        (one_counted _ _ ws i l k waits t.0 (subst (λ (f : ℕ). has_accepted ps f (ballot_of r v.round) l ≡ true) s.0 (subst (λ (c : Ballot). has_accepted ps e c l ≡ true) s.1 t.1))) w)
-        (pass_known r all)
-    stage_known r v s l (reply.IsNack e b) next all layouts is k w waits tells =
-        if_known r (e == next_epoch r) (nacked r v b next) (passes next r) (λ h. sets_known r v _ next _ (subst (λ (t : Stage). StageKnown r v.round t) (sym is) k)) (pass_known r all)
-    stage_known r v s l x next all layouts is k w waits tells = pass_known r all
-
-    -- The whole machine.
-
-    wait_rid : (m : Msg) (ws : Waits) (from : NodeId) (rid : ℕ) → awaits (asked_of layout_id m ws) from rid ≡ true → has_rid from.num rid ws ≡ true
-    wait_rid m [] from rid h = absurd (cc)
-    wait_rid m (w ∷ ws) from rid h = rid_more m w ws from rid (wait_rid m ws from rid) h
-
-    in_stage : (r : Reconf) (round : ℕ) (s : Stage) (from : NodeId) (rid : ℕ) → awaits (stage_asks r round s) from rid ≡ true → IsAwaited s from.num
-    in_stage r round (Preparing ws hs) from rid h = tt
-    in_stage r round (Accepting ws k q) from rid h = asked_waits _ ws from rid h
-
-    later_known : (r : Reconf) (v : Voting) (t : Later) (l : ℕ) (x : Reply) (next : ℕ) (b : Bool) → WorkKnown r r.work → r.layouts ≡ n → Tells l x → NextKnown r (later_feed r v t l x next b).to
-    later_known r v t l x next true all layouts tells = stage_known r (begun v t) (Preparing t.waits []) l x next all layouts refl tt tt tt tells
-    later_known r v t l x next false all layouts tells = pass_known r all
-
-    vote_known : (r : Reconf) (v : Voting) (o : Option Later) (from : NodeId) (rid : ℕ) (x : Reply) (next : ℕ) → WorkKnown r r.work → r.layouts ≡ n → StageKnown r v.round v.stage → Winner r v.round v.stage
-        → awaits (stage_asks r v.round v.stage ++ set_asks r o) from rid ≡ true → (from ≡ layout_id from.num → Tells from.num x) → NextKnown r (vote_feed r v o from.num rid x next).to
-    vote_known r v None from rid x next all layouts k w a tells = by (awaited_either (stage_asks r v.round v.stage) [] from rid a)
-      where
-        by : (awaits (stage_asks r v.round v.stage) from rid ≡ true) ⊎ (awaits [] from rid ≡ true) → NextKnown r (stage_feed r v v.stage from.num x next).to
-        by (inl h) = stage_known r v v.stage from.num x next all layouts refl k w (in_stage r v.round v.stage from rid h) (tells (stage_server r v.round v.stage from rid h))
-        by (inr h) = absurd (contrary h)
-          where
-            contrary : false ≡ true → ⊥
-            contrary e = cc
-    vote_known r v (Some t) from rid x next all layouts k w a tells = by (has_rid from.num rid t.waits) refl (awaited_either (stage_asks r v.round v.stage) (set_asks r (Some t)) from rid a)
-      where
-        contrary : (b : Bool) → b ≡ true → b ≡ false → ⊥
-        contrary b e f = cc
-
-        by : (b : Bool) → has_rid from.num rid t.waits ≡ b → (awaits (stage_asks r v.round v.stage) from rid ≡ true) ⊎ (awaits (set_asks r (Some t)) from rid ≡ true)
-            → NextKnown r (if b then later_feed r v t from.num x next (is_answer r t x) else stage_feed r v v.stage from.num x next).to
-        by true e (inl h) = later_known r v t from.num x next _ all layouts (tells (stage_server r v.round v.stage from rid h))
-        by true e (inr h) = later_known r v t from.num x next _ all layouts (tells (asked_server _ t.waits from rid h))
-        by false e (inl h) = stage_known r v v.stage from.num x next all layouts refl k w (in_stage r v.round v.stage from rid h) (tells (stage_server r v.round v.stage from rid h))
-        by false e (inr h) = absurd (contrary _ (wait_rid _ t.waits from rid h) e)
 
     abbrev pub WorkWinner : Reconf → ReconfWork → Type 0
     WorkWinner r (Agreeing v) = Winner r v.round v.stage
     WorkWinner r w = Unit {0}
 
-    looks_known : (r : Reconf) (next : ℕ) (b : Bool) → WorkKnown r r.work → NextKnown r (looks_if r next b).to
-    looks_known r next true k = (tt, inl refl)
-    looks_known r next false k = pass_known r k
+    -- For an awaited answer.
 
-    seals_if_known : (r : Reconf) (next : ℕ) (b : Bool) → WorkKnown r r.work → NextKnown r (seals_if r next b).to
-    seals_if_known r next true k = (tt, inl refl)
-    seals_if_known r next false k = pass_known r k
+    module _ (from : NodeId) (rid : ℕ) (x : Reply) (next : ℕ) (tells : from ≡ layout_id from.num → Tells from.num x) where
+      voting_known : (r : Reconf) (v u : Voting) → turns.IsVoting from.num rid x next r v u → StageKnown r v.round v.stage → StageKnown r u.round u.stage
+      voting_known r v _ (turns.Present none) k = k
+      voting_known r v _ (turns.IsBegun l is has answers) k = tt
 
-    learns_known : (r : Reconf) (next : ℕ) (b : Bool) → WorkKnown r r.work → NextKnown r (learns_if b r next).to
-    learns_known r next true k = pass_known r k
-    learns_known r next false k = pass_known r k
+      voting_wins : (r : Reconf) (v u : Voting) → turns.IsVoting from.num rid x next r v u → Winner r v.round v.stage → Winner r u.round u.stage
+      voting_wins r v _ (turns.Present none) k = k
+      voting_wins r v _ (turns.IsBegun l is has answers) k = tt
 
-    after_seals_known : (r : Reconf) (acks : Acks) (next : ℕ) (j : Option Join) → NextKnown r (after_seals r acks next j).to
-    after_seals_known r acks next None = (tt, inl refl)
-    after_seals_known r acks next (Some j) = (tt, inl refl)
+      -- one more has accepted
+      more_known : (r : Reconf) (v u : Voting) (ws : Waits) (i : ℕ) (q : Layout) (e : ℕ) (b : Ballot) → turns.IsVoting from.num rid x next r v u → u.stage ≡ Accepting ws i q → x ≡ reply.IsAccepted e b
+          → same_vote r u.round e b ≡ true → StageKnown r v.round v.stage → awaits (reconf_awaited (at_work r (Agreeing v))) from rid ≡ true
+          → Counted (next_epoch r) (ballot_of r u.round) (without_wait from.num ws) (i + 1)
+      unfolding reconf_work_asks
+      more_known r v u ws i q e b of st is f k awaited =
+          let s = voting_fed r v u from rid x next of awaited in
+          let t = tells s.server e b is in
+          let same = same_of r u.round e b f in
+          one_counted _ _ ws i from.num (subst (λ (z : Stage). StageKnown r u.round z) st (voting_known r v u of k))
+          (waits_rid ws from.num rid (subst (λ (z : Stage). has_rid from.num rid (stage_waits z) ≡ true) st s.waits)) t.0
+          (subst (λ (d : ℕ). has_accepted ps d (ballot_of r u.round) from.num ≡ true) same.0 (subst (λ (c : Ballot). has_accepted ps e c from.num ≡ true) same.1 t.1))
 
-    seals_left_known : (r : Reconf) (ws : Waits) (acks : Acks) (next : ℕ) → NextKnown r (seals_left r ws acks next).to
-    seals_left_known r [] acks next = after_seals_known r acks next r.change.join
-    seals_left_known r (w ∷ ws) acks next = (tt, inl refl)
-
-    sealed_known : (r : Reconf) (u h : ℕ) (ws : Waits) (acks : Acks) (next : ℕ) (b : Bool) → WorkKnown r r.work → NextKnown r (sealed_if r u h ws acks next b).to
-    sealed_known r u h ws acks next true k = seals_left_known r _ _ next
-    sealed_known r u h ws acks next false k = pass_known r k
-
-    started_known : (r : Reconf) (next : ℕ) (b : Bool) → WorkKnown r r.work → NextKnown r (started_if r next b).to
-    started_known r next true k = inl refl
-    started_known r next false k = pass_known r k
-
-    feed_known : (r : Reconf) (w : ReconfWork) (from : NodeId) (rid : ℕ) (x : Reply) (next : ℕ) → r.work ≡ w → WorkKnown r r.work → r.layouts ≡ n → WorkWinner r w
-        → awaits (reconf_work_asks r w ++ later_asks r w) from rid ≡ true → (from ≡ layout_id from.num → Tells from.num x) → NextKnown r (reconf_feed r w from.num rid x next).to
-    unfolding reconf_feed reconf_work_asks
-    feed_known r (SealingSpare i) from rid (reply.IsSealed e h) next is k layouts win a tells = looks_known r next _ k
-    feed_known r (SealingSpare i) from rid (reply.IsFenced e) next is k layouts win a tells = seals_if_known r next _ k
-    feed_known r (LookingSpare i) from rid reply.IsWhole next is k layouts win a tells = (tt, inl refl)
-    feed_known r (LookingSpare i) from rid (reply.IsMissing pos) next is k layouts win a tells = inl refl
-    feed_known r (LookingSpare i) from rid (reply.IsFenced e) next is k layouts win a tells = seals_if_known r next _ k
-    feed_known r (Sealing ws acks) from rid (reply.IsSealed e h) next is k layouts win a tells = sealed_known r from.num h ws acks next _ k
-    feed_known r (Sealing ws acks) from rid (reply.IsFenced e) next is k layouts win a tells = learns_known r next _ k
-    feed_known r (LookingAgain i acks) from rid reply.IsWhole next is k layouts win a tells = (tt, inl refl)
-    feed_known r (LookingAgain i acks) from rid (reply.IsMissing pos) next is k layouts win a tells = inl refl
-    feed_known r (LookingAgain i acks) from rid (reply.IsFenced e) next is k layouts win a tells = learns_known r next _ k
-    feed_known r (Agreeing v) from rid x next is k layouts win a tells = vote_known r v v.later from rid x next k layouts (subst (λ (w : ReconfWork). WorkKnown r w) is k) win a tells
-    feed_known r (Starting i) from rid (reply.IsTail t ls) next is k layouts win a tells = started_known r next _ k
-    feed_known r (Starting i) from rid (reply.IsOldEpoch e) next is k layouts win a tells = learns_known r next _ k
-    feed_known r w from rid x next is k layouts win a tells = pass_known r k
+      fed_known : (r : Reconf) (t : ReconfTurn) → turns.Fed from.num rid x next r t → WorkKnown r r.work → r.layouts ≡ n → WorkWinner r r.work → awaits (reconf_awaited r) from rid ≡ true → NextKnown r t.to
+      fed_known _ _ (turns.Nothing r) k layouts win a = (k, inl refl)
+      fed_known _ _ (turns.SpareMisses r i pos is) k layouts win a = inl refl
+      fed_known _ _ (turns.AgainMisses r i acks pos is) k layouts win a = inl refl
+      fed_known _ _ (turns.NextFenced r w e of is f) k layouts win a = (k, inl refl)
+      fed_known _ _ (turns.PromisesMost r v u ws hs e b h of st is f g) k layouts win a = (record { enough = omega arith }, inl refl)
+      fed_known _ _ (turns.Accepts r v u ws i q e b of st is f g) k layouts win a = (more_known r v u ws i q e b of st is f k a, inl refl)
+      fed_known _ _ (turns.AcceptsMost r v u ws i q e b of st is f g) k layouts win a = (
+        subst (λ (z : Stage). Winner r u.round z) st (voting_wins r v u of win)
+            (won _ _ (without_wait from.num ws) (i + 1) (more_known r v u ws i q e b of st is f k a) (subst (λ j. nat_lt j (i + 1 + (i + 1)) ≡ true) layouts g)),
+        inl refl,
+      )
+      fed_known _ _ (turns.Nacks r v u e b of is f g) k layouts win a = (voting_known r v u of k, inl refl)
+      fed_known _ _ (turns.NacksLow r v u e b of is f g) k layouts win a = (voting_known r v u of k, inl refl)
+      fed_known _ _ (turns.Starts r i t ls is f) k layouts win a = inl refl
+      fed_known _ _ (turns.StartsPast r i e is f) k layouts win a = (k, inl refl)
+      fed_known _ _ y k layouts win a = (tt, inl refl)
 
     pub turn_known : (r : Reconf) (from : NodeId) (rid : ℕ) (x : Reply) (next : ℕ) → WorkKnown r r.work → r.layouts ≡ n → WorkWinner r r.work → awaits (reconf_awaited r) from rid ≡ true → (from ≡ layout_id from.num → Tells from.num x)
         → NextKnown r (reconf_feed r r.work from.num rid x next).to
-    turn_known r from rid x next k layouts win a tells = feed_known r r.work from rid x next refl k layouts win a tells
+    turn_known r from rid x next k layouts win a tells = fed_known from rid x next tells r _ (turns.reconf_fed from.num rid x next r) k layouts win a
 
     pub newer_known : (r : Reconf) (l rid : ℕ) (q : Layout) (next : ℕ) → WorkKnown r r.work → Known q → NextKnown r (reconf_latest r r.work l rid q next).to
-    newer_known r l rid q next k known = latest_known r r.work l rid q next refl k known
+    newer_known r l rid q next k known = heard_known l rid q next r _ (turns.reconf_heard l rid q next r) k known

@@ -1,5 +1,5 @@
 -- The request numbers that each machine draws.
-use Rattle.std.proofs.Common.{◌≡◌, ℕ, ◌+◌, ◌≤◌, List, [], ◌∷◌, Bool, true, false, sym, subst, arith, None}
+use Rattle.std.proofs.Common.{◌≡◌, ℕ, ◌+◌, ◌≤◌, List, [], sym, subst, arith, None}
 use Rattle.tg_base.specs.Layouts.{Layout}
 use Rattle.tg_base.specs.declared.cell.Cell.{Cell}
 use Rattle.tg_base.specs.declared.ids.Oid.{Oid}
@@ -10,12 +10,11 @@ use Rattle.tg_protocol.specs.Words.{unit_id}
 use Rattle.tg_protocol.specs.Layouts.{units_of}
 use Rattle.tg_protocol.specs.Requests.{Waits, asked_of, without_wait, Goes}
 use Rattle.tg_protocol.specs.Replies.{Reply}
-use Rattle.tg_protocol.specs.Replies as reply
 use Rattle.tg_protocol.specs.Cells.{Place, Probes, CellJob, CellTurn, work_asks, cell_asks, get_cell, cell_feed}
 use Rattle.tg_protocol.specs.Appending.{Append, AppendTurn, append_work_asks, append_asks, asks_token, append_feed, append_again}
 use Rattle.tg_protocol.specs.Syncing.{Sync, SyncTurn, sync_work_asks, sync_asks, sync_start, sync_feed}
 use Rattle.tg_protocol.specs.Walking.{Walk, WalkTurn, with_job, walk_asks, walk_from, walk_start, walk_feed, walk_again, read_at, trail}
-use Rattle.tg_protocol.specs.Trimming.{Trims, TrimTurn, trim_asks, trim_start, trims_left, learns_if, trim_feed, Copying, CopyTurn, copy_work_asks, copy_asks, copy_start, copy_feed}
+use Rattle.tg_protocol.specs.Trimming.{Trims, TrimTurn, trim_asks, trim_start, trim_feed, Copying, CopyTurn, copy_work_asks, copy_asks, copy_start, copy_feed}
 use Rattle.tg_law_layouts.proofs.Moves.Members.{Has}
 use Rattle.tg_law_layouts.proofs.Moves.Draws.{Drawn, next_up, next_wider, TurnDraws, NextDraws, keeps, same, draws_one, draws_all, besides, later, fewer_asked, without}
 use Rattle.tg_law_steps.proofs.Machines.Cells as cells
@@ -23,6 +22,7 @@ use Rattle.tg_law_steps.proofs.Machines.Appends as appends
 use Rattle.tg_law_steps.proofs.Machines.Syncs as syncs
 use Rattle.tg_law_steps.proofs.Machines.Walks as reads
 use Rattle.tg_law_steps.proofs.Machines.Copies as copies
+use Rattle.tg_law_steps.proofs.Machines.Trims as trims
 
 -- Cells.
 
@@ -167,19 +167,15 @@ module _ (p : Layout) where
   unfolding trim_start
   trim_start_draws below next = draws_all [] next unit_id _ (units_of p)
 
-  trims_left_draws : (old : List Out) (below : ℕ) (ws : Waits) (next : ℕ) → ((o : Out) → Has (asked_of unit_id (msg.Trim p.epoch below) ws) o → Has old o) → TrimDraws old next (trims_left below ws next)
-  trims_left_draws old below [] next k = omega arith
-  trims_left_draws old below (w ∷ ws) next k = keeps old next _ next (omega arith) k
-
-  learns_draws : (t : Trims) (next : ℕ) (b : Bool) → TrimDraws (trim_asks p t) next (learns_if b t next)
-  learns_draws t next true = (omega arith, λ o h. h)
-  learns_draws t next false = same _ next
+  trim_turn : (u : ℕ) (x : Reply) (next : ℕ) (t : Trims) (y : TrimTurn) → trims.Fed p u x next t y → TrimDraws (trim_asks p t) next y
+  trim_turn u x next _ _ (trims.TrimsOn b ws d w vs is left) = keeps _ next _ next (omega arith)
+      (λ o h. fewer_asked unit_id _ u ws o (subst (λ (zs : Waits). Has (asked_of unit_id (msg.Trim p.epoch b) zs) o) (sym left) h))
+  trim_turn u x next _ _ (trims.TrimsLast b ws d is left) = omega arith
+  trim_turn u x next _ _ (trims.IsFence t e is f) = (omega arith, λ o h. h)
+  trim_turn u x next _ _ (trims.Nothing t) = same _ next
 
   pub trim_draws : (t : Trims) (u : ℕ) (x : Reply) (next : ℕ) → TrimDraws (trim_asks p t) next (trim_feed p t u x next)
-  unfolding trim_feed
-  trim_draws t u (reply.IsGone b) next = trims_left_draws _ t.below _ next (λ o h. fewer_asked unit_id _ u t.waits o h)
-  trim_draws t u (reply.IsFenced e) next = learns_draws t next _
-  trim_draws t u x next = same _ next
+  trim_draws t u x next = trim_turn u x next t _ (trims.trims_fed p u x next t)
 
 -- Copies.
 

@@ -70,7 +70,7 @@ voting_asks r v = stage_asks r v.round v.stage ++ set_asks r v.later
 
 -- a round that was set was awaited
 voting_asked : (n rid : ℕ) (x : Reply) (next : ℕ) (r : Reconf) (v u : Voting) → turns.IsVoting n rid x next r v u → (o : Out) → Has (voting_asks r u) o → Has (voting_asks r v) o
-voting_asked n rid x next r v _ turns.Present o h = h
+voting_asked n rid x next r v _ (turns.Present none) o h = h
 voting_asked n rid x next r v _ (turns.IsBegun l is has answers) o h = has_right (stage_asks r v.round v.stage) (set_asks r v.later) o (subst (λ i. Has (set_asks r i) o) (sym is) (by (has_either (set_asks r (Some l)) [] o h)))
   where
     by : Has (set_asks r (Some l)) o ⊎ Has [] o → Has (set_asks r (Some l)) o

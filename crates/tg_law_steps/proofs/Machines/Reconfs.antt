@@ -1,5 +1,5 @@
 -- What a turn of a reconfiguration comes to, and by which tests: for an awaited answer, and for a newer layout.
-use Rattle.std.proofs.Common.{◌≡◌, ℕ, ◌+◌, ◌^◌, List, [], ◌∷◌, length, Bool, true, false, refl, sym, subst, Option, Some, None}
+use Rattle.std.proofs.Common.{◌≡◌, ℕ, ◌+◌, ◌^◌, List, [], ◌∷◌, length, Bool, true, false, refl, sym, ap, ◌∙◌, subst, Option, Some, None}
 use Rattle.std.specs.Prelude.{nat_lt, ◌==◌, ◌&&◌, if◌then◌else◌}
 use Rattle.tg_base.specs.Layouts.{Layout}
 use Rattle.tg_base.specs.Changes.{Changed}
@@ -30,11 +30,16 @@ pub data IsTold : ReconfWork → Type 0 where
   NotYet : (w : ReconfWork) → IsEarly w → IsTold w
   Tells : (ws : Waits) (k : ℕ) (q : Layout) → IsTold (Telling ws k q)
 
+-- the requests that wait in a round that is set
+abbrev pub set_waits : Option Later → Waits
+set_waits None = []
+set_waits (Some l) = l.waits
+
 -- For an awaited answer of a node with this number, to a request of this number.
 module _ (n rid : ℕ) (x : Reply) (next : ℕ) where
   -- the voting that is answered: the present one, or the one whose round a `Nack` has set
   pub data IsVoting (r : Reconf) (v : Voting) : Voting → Type 0 where
-    Present : IsVoting r v v
+    Present : has_rid n rid (set_waits v.later) ≡ false → IsVoting r v v
     IsBegun : (l : Later) → v.later ≡ Some l → has_rid n rid l.waits ≡ true → is_answer r l x ≡ true → IsVoting r v (begun v l)
 
   pub data Fed : Reconf → ReconfTurn → Type 0 where
@@ -142,10 +147,10 @@ module _ (n rid : ℕ) (x : Reply) (next : ℕ) where
       rid_fed : (l : Later) (b : Bool) → v.later ≡ Some l → has_rid n rid l.waits ≡ b
           → Fed (at_work r (Agreeing v)) (if b then later_feed (at_work r (Agreeing v)) v l n x next (is_answer r l x) else stage_feed (at_work r (Agreeing v)) v v.stage n x next)
       rid_fed l true has f = later_fed l (is_answer r l x) has f refl
-      rid_fed l false has f = stage_fed v v Present v.stage x refl refl
+      rid_fed l false has f = stage_fed v v (Present (ap (λ (o : Option Later). has_rid n rid (set_waits o)) has ∙ f)) v.stage x refl refl
 
       vote_fed : (o : Option Later) → v.later ≡ o → Fed (at_work r (Agreeing v)) (vote_feed (at_work r (Agreeing v)) v o n rid x next)
-      vote_fed None has = stage_fed v v Present v.stage x refl refl
+      vote_fed None has = stage_fed v v (Present (ap (λ (o : Option Later). has_rid n rid (set_waits o)) has)) v.stage x refl refl
       vote_fed (Some l) has = rid_fed l (has_rid n rid l.waits) has refl
 
     started_fed : (k t : ℕ) (ls : List StreamLink) (b : Bool) → x ≡ IsTail t ls → names_all [] ls ≡ b → Fed (at_work r (Starting k)) (started_if (at_work r (Starting k)) next b)

@@ -1,5 +1,5 @@
 -- What stays true of the packets of one epoch when a client or a layout server sends more.
-use Rattle.std.proofs.Common.{◌≡◌, ◌⊎◌, ℕ, ◌<◌, List, ◌++◌, true, false, refl, sym, ap, ◌∙◌, subst, inl, inr, arith, Some, None, Option}
+use Rattle.std.proofs.Common.{◌≡◌, ◌⊎◌, ℕ, ◌<◌, List, [], ◌∷◌, ◌++◌, true, false, refl, sym, ap, ◌∙◌, subst, inl, inr, arith, Some, None, Option}
 use Rattle.tg_base.specs.Layouts.{Layout}
 use Rattle.tg_base.specs.declared.ids.Ballot.{Ballot}
 use Rattle.tg_base.specs.declared.ids.NodeId.{NodeId}
@@ -9,8 +9,6 @@ use Rattle.tg_base.specs.declared.packet.Packet.{Packet}
 use Rattle.tg_protocol.specs.Words.{ballot_lt, layout_id}
 use Rattle.tg_protocol.specs.LayoutServers.{Vote}
 use Rattle.tg_protocol.specs.Reconfiguring.{Before}
-use Rattle.tg_kind.specs.Meaning.{Meaning}
-use Rattle.tg_protocol.specs.Worlds.{answer_to}
 use Rattle.tg_law_layouts.proofs.Moves.Members.{Has, has_left, has_either}
 use Rattle.tg_law_layouts.proofs.Agreement.Ballots.{not_less_then}
 use Rattle.tg_law_layouts.proofs.Agreement.Facts.{Proposed, Promised, Elected, Covers, Truth, Grows, proposed_grows, elected_grows, Accepts as Acceptance}
@@ -60,7 +58,18 @@ module _ (e : ℕ) (ps new : List Packet) where
       by (inl h) = inl (record { packet = x.packet; sent = h; from = x.from; is = x.is })
       by (inr h) = inr (record { packet = x.packet; sent = h; from = x.from; is = x.is })
 
-module _ (m : Meaning) (E n : ℕ) (Mine : Layout → Type 0) where
+-- what a layout server says in a packet
+pub record Said (l : ℕ) (says : Option Msg) (y : Packet) : Type 0 where
+  pub msg : Msg
+  pub is : says ≡ Some msg
+  pub same : y.msg ≡ msg
+  pub from : y.from ≡ layout_id l
+
+pub said_this : (l : ℕ) (m : Msg) (x y : Packet) → x.from ≡ layout_id l → x.msg ≡ m → Has (x ∷ []) y → Said l (Some m) y
+said_this l m x y from is (inl e) = record { msg = m; is = refl; same = ap (λ (z : Packet). z.msg) e ∙ is; from = ap (λ (z : Packet). z.from) e ∙ from }
+said_this l m x y from is (inr h) = absurd h
+
+module _ (E n : ℕ) (Mine : Layout → Type 0) where
   -- A client sends: what it proposes now is its own, and one layout for a ballot.
 
   module _ (ps : List Packet) (truth : Truth E n Mine ps) (k : ℕ) (new : List Packet) (no_promise : (l : ℕ) (b : Ballot) (a : Before) → NewPromise E ps new l b a → ⊥)
@@ -124,24 +133,8 @@ module _ (m : Meaning) (E n : ℕ) (Mine : Layout → Type 0) where
 
   -- A server answers.
 
-  module _ (ps : List Packet) (truth : Truth E n Mine ps) (x : Packet) (sent : Has ps x) (l : ℕ) (less : l < n) (to : x.to ≡ layout_id l) (v u : Vote) (stands : Stands E ps l v) (says : Option Msg) (moved : Moved E v x.msg u says) where
-    abbrev answers : List Packet
-    answers = answer_to m x says
-
-    pub record Said (y : Packet) : Type 0 where
-      pub msg : Msg
-      pub is : says ≡ Some msg
-      pub same : y.msg ≡ msg
-      pub from : y.from ≡ layout_id l
-
-    said_of : (o : Option Msg) → says ≡ o → (y : Packet) → Has (answer_to m x o) y → Said y
-    said_of None is y h = absurd h
-    said_of (Some m) is y (inl e) = record { msg = m; is = is; same = ap (λ (z : Packet). z.msg) e; from = ap (λ (z : Packet). z.from) e ∙ to }
-    said_of (Some m) is y (inr h) = absurd h
-
-    said : (y : Packet) → Has answers y → Said y
-    said y h = said_of says refl y h
-
+  module _ (ps : List Packet) (truth : Truth E n Mine ps) (x : Packet) (sent : Has ps x) (l : ℕ) (less : l < n) (v u : Vote) (stands : Stands E ps l v) (says : Option Msg) (moved : Moved E v x.msg u says)
+      (answers : List Packet) (said : (y : Packet) → Has answers y → Said l says y) where
     says_this : (y : Packet) (m : Msg) → Has answers y → y.msg ≡ m → says ≡ Some m
     says_this y m h is = let s = said y h in s.is ∙ ap (λ (z : Msg). Some z) (sym s.same ∙ is)
 
