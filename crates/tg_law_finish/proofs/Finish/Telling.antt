@@ -25,7 +25,7 @@ use Rattle.tg_protocol.specs.Replies.{Reply, IsLatest, reply}
 use Rattle.tg_model.specs.declared.refusal.Refusal.{Refusal}
 use Rattle.tg_protocol.specs.Requests.{Next, Goes, Learns, Ends}
 use Rattle.tg_protocol.specs.Walking.{Walk, Members, walk_feed, walk_again}
-use Rattle.tg_law_layouts.proofs.Moves.Turns.{Begins, begins_walk}
+use Rattle.tg_law_steps.proofs.Along.{Begins, begins_walk}
 use Rattle.tg_model.specs.declared.command.Command.TheVariants as cmd
 use Rattle.tg_law_finish.specs.Finish.Commands.{plays}
 

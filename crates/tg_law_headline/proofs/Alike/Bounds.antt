@@ -46,7 +46,7 @@ use Rattle.tg_law_layouts.proofs.Layouts.Plain.{NoAccepts, none_plain, one_plain
 use Rattle.tg_law_layouts.proofs.Layouts.Pax.{reconf_of, task_reconf, HandOk}
 use Rattle.tg_law_layouts.proofs.Layouts.Decisions.{Pax, input_fine}
 use Rattle.tg_law_layouts.proofs.Layouts.Layouts.{start_pax, has_header}
-use Rattle.tg_law_layouts.proofs.Layouts.Tellings.{awaited_either, asked_server, stage_server}
+use Rattle.tg_law_steps.proofs.Machines.Awaited.{awaited_either, awaited_asked, stage_awaited}
 use Rattle.tg_law_layouts.proofs.Layouts.Standing.{IsKnown, known_grows}
 use Rattle.tg_law_layouts.proofs.Layouts.Decided.{Lay, start_lay, keeps as lay_keeps}
 use Rattle.tg_law_layouts.proofs.Layouts.Successions.{Good, Sealed, own_of, WorkGood, StageGood, SealTold, IsLooked, PromiseTold, Promises, ReconfGood, HearsSeal, delivered_good, commanded_good}
@@ -250,10 +250,10 @@ module _ (m : Meaning) (h : Header) (final : List Packet) (X : Layout → Type 0
       where
         set_server : (l : Option Later) → awaits (set_asks r l) x.from x.rid ≡ true → x.from ≡ layout_id x.from.num
         set_server None j = absurd (none_awaited x.from x.rid j)
-        set_server (Some l) j = asked_server _ l.waits x.from x.rid j
+        set_server (Some l) j = (awaited_asked _ l.waits x.from x.rid j).server
 
         by : (awaits (stage_asks r v.round v.stage) x.from x.rid ≡ true) ⊎ (awaits (set_asks r v.later) x.from x.rid ≡ true) → x.from ≡ layout_id x.from.num
-        by (inl j) = stage_server r v.round v.stage x.from x.rid j
+        by (inl j) = (stage_awaited r v.round v.stage x.from x.rid j).server
         by (inr j) = set_server v.later j
     hears_work k r hand (LookingAgain n acks) x g to open' i = by (awaited_either (join_asks r.change.join (λ j. out (unit_id j.unit) n (has_stripe (next_epoch r) r.stand j.range j.stripe) ∷ [])) [] x.from x.rid i)
       where

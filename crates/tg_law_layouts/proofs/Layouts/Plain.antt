@@ -1,5 +1,5 @@
 -- A client that doesn't reconfigure proposes nothing.
-use Rattle.std.proofs.Common.{◌≡◌, ◌⊎◌, ℕ, List, [], ◌∷◌, ◌++◌, Bool, true, false, refl, sym, ap, ◌∙◌, subst, inl, inr, arith, Some, None, Option}
+use Rattle.std.proofs.Common.{◌≡◌, ◌⊎◌, ℕ, List, [], ◌∷◌, ◌++◌, true, refl, sym, ap, ◌∙◌, subst, inl, inr, Some, None, Option}
 use Rattle.tg_base.specs.Layouts.{Layout}
 use Rattle.tg_base.specs.declared.ids.Ballot.{Ballot}
 use Rattle.tg_base.specs.declared.ids.NodeId.{NodeId}
@@ -10,22 +10,21 @@ use Rattle.tg_base.specs.declared.packet.Out.{Out}
 use Rattle.tg_kind.specs.Meaning.{Meaning}
 use Rattle.tg_model.specs.Kinds.{CommandOf, WhatOf, NoteOf}
 use Rattle.tg_protocol.specs.Words.{unit_id, layout_id}
-use Rattle.tg_protocol.specs.Requests.{awaits, out, Waits, asked_of, Turn}
+use Rattle.tg_protocol.specs.Requests.{awaits, out, Waits, asked_of}
 use Rattle.tg_protocol.specs.Cells.{Place, CellWork, Puts, Gets, Fills, Copies, Probes, CellJob, work_asks}
-use Rattle.tg_protocol.specs.Appending.{AppendWork, Asking, Putting, Judging, Append, AppendEnd, append_start, append_work_asks}
-use Rattle.tg_protocol.specs.Syncing.{SyncWork, Checking, Settling, Probing, Sync, Confirmed, sync_work_asks, sync_start}
-use Rattle.tg_protocol.specs.Walking.{Walk, Members, job_asks}
-use Rattle.tg_protocol.specs.Trimming.{Trims, Trimmed, CopyWork, Sealing, Reading, Storing, Trimming, Looking, Copying, CopyEnd, copy_work_asks}
-use Rattle.tg_protocol.specs.Clients.{Purpose, Task, Syncing, Walking, Appending, Trimming, Copying', Reconfiguring, Hand, Doing, Learning, Work, Client, hosts_oid}
-use Rattle.tg_protocol.specs.Answers.{Moved, moved, replies, took_over, appends, syncs, closed, note}
-use Rattle.tg_protocol.specs.Transactions.{Tx}
+use Rattle.tg_protocol.specs.Appending.{AppendWork, Asking, Putting, Judging, Append, append_start, append_work_asks}
+use Rattle.tg_protocol.specs.Syncing.{SyncWork, Checking, Settling, Probing, Sync, sync_work_asks, sync_start}
+use Rattle.tg_protocol.specs.Walking.{job_asks}
+use Rattle.tg_protocol.specs.Trimming.{CopyWork, Sealing, Reading, Storing, Trimming, Looking, Copying, copy_work_asks}
+use Rattle.tg_protocol.specs.Clients.{Purpose, Task, Syncing, Walking, Appending, Trimming, Copying', Reconfiguring, Hand, Doing, Learning, Work, Client}
+use Rattle.tg_protocol.specs.Answers.{Moved, moved, replies, took_over, appends, syncs}
 use Rattle.tg_model.specs.declared.trace.What.TheVariants as told
 use Rattle.tg_protocol.specs.ClientSteps as step
-use Rattle.tg_protocol.specs.ClientSteps.{task_feed, on_newer, accepts, on_reconf, task_awaited, task_asks, hand_asks, after_turn, met, goes_on, learns_for, on_sync, on_walk, owns, on_append, on_trims, on_copy, stands, task_in}
+use Rattle.tg_protocol.specs.ClientSteps.{task_feed, on_newer, accepts, on_reconf, task_awaited, task_asks, hand_asks, goes_on, learns_for, owns, stands, task_in}
 use Rattle.tg_law_layouts.proofs.Moves.Members.{Has, has_either, has_map}
 use Rattle.tg_law_layouts.proofs.Moves.Clients.{Same}
 use Rattle.tg_law_layouts.proofs.Moves.Besides.{OnlyLearns, none_learns, sync_besides, append_besides, append_again_besides, sync_again_besides}
-use Rattle.tg_law_steps.proofs.Places.{Place as Place', Feeds, Newer, OnSync, OnWalk, OnAppend, OnTrims, OnCopy, OnReconf, Walks, becomes}
+use Rattle.tg_law_steps.proofs.Places.{Place as Place', Feeds, Newer, OnSync, OnAppend, OnReconf, Walks, becomes}
 use Rattle.tg_law_steps.proofs.Ways.{Way, FeedsSync, FeedsAppend, FeedsReconf, NewerSync, NewerAppend, NewerReconf, reconf_fed, reconf_newer, AllWalked, IsRescue}
 use Rattle.tg_law_steps.proofs.Ends.{End, GoesOn, LearnsNewer, Syncs, Appends, Refuses, Answers, Tells, IsGoing, SyncGoes, AppendGoes, ReconfGoes, IsLearning, ReconfLearns, IsSynced, JudgedAt, IsAppended, MarkBegins, IsRefused, ReconfOvertaken, ReconfNotWhole, IsAnswered, IsSaved, IsTold, IsMarked, IsInstalled}
 use Rattle.tg_law_steps.proofs.Along.{along, over_walks, handed}
@@ -221,56 +220,6 @@ module _ (m : Meaning) where
 
     pub calm_turn : (c : Client m) (w : Work m) (p : Place' m) → CalmAt c w p → Plain b (becomes m c w p)
     calm_turn = along m CalmAt (Plain b) calm_ends calm_way (over_walks m CalmAt (Plain b) calm_ends calm_walked)
-
-  pub on_sync_plain : (c : Client m) (w : Work m) (t : Turn Sync Confirmed) → OnlyLearns c.stand t.besides → Plain c (on_sync m c w t)
-  on_sync_plain c w t q = calm_turn c (after_turn m c t) (met m w t) (OnSync t.besides t.to) ((refl, refl, refl), q)
-
-  pub on_walk_plain : (c : Client m) (w : Work m) (o : Oid) (os : List Oid) (t : Turn Walk Members) → Plain c (on_walk m c w o os t)
-  on_walk_plain c w o os t = calm_turn c (after_turn m c t) (met m w t) (OnWalk o os t.to) ((refl, refl, refl), tt)
-
-  pub on_append_plain : (c : Client m) (w : Work m) (x : Purpose m) (t : Turn Append AppendEnd) → OnlyLearns c.stand t.besides → Plain c (on_append m c w x t)
-  on_append_plain c w x t q = calm_turn c (after_turn m c t) (met m w t) (OnAppend x t.besides t.to) ((refl, refl, refl), q)
-
-  pub on_trims_plain : (c : Client m) (w : Work m) (b : ℕ) (t : Turn Trims Trimmed) → Plain c (on_trims m c w b t)
-  on_trims_plain c w b t = calm_turn c (after_turn m c t) (met m w t) (OnTrims b t.to) ((refl, refl, refl), tt)
-
-  pub on_copy_plain : (c : Client m) (w : Work m) (x : Copying) (t : Turn Copying CopyEnd) → Plain c (on_copy m c w x t)
-  on_copy_plain c w x t = calm_turn c (after_turn m c t) (met m w t) (OnCopy x t.to) ((refl, refl, refl), tt)
-
-  -- Commands.
-
-  pub syncs_plain : (c : Client m) (w : Work m) (os : List Oid) → Plain c (syncs m c w os)
-  unfolding syncs sync_start
-  syncs_plain c w os = record { stand = refl; num = refl; layouts = refl; calm = tt; quiet = none_learns _ }
-
-  pub host_plain : (c : Client m) (o : Oid) → c.work ≡ None → Plain c (step.hosts_more m c o (hosts_oid m c o))
-  host_plain c o e = grind (arith, idle_plain)
-
-  pub begin_plain : (c : Client m) → c.work ≡ None → Plain c (step.begins m c)
-  begin_plain c e = idle_plain c _ e refl (record { next = refl; stand = refl; num = refl; layouts = refl })
-
-  pub put_plain : (c : Client m) (o : Oid) (op : m.op) → c.work ≡ None → Plain c (step.puts m c o op c.tx)
-  put_plain c o op e = grind (arith, idle_plain)
-
-  pub drop_plain : (c : Client m) → c.work ≡ None → Plain c (moved m (closed m c) (note m (step.tx_of m c) told.Dropped ∷ []))
-  drop_plain c e = idle_plain c _ e refl (record { next = refl; stand = refl; num = refl; layouts = refl })
-
-  asks_by_plain : (c : Client m) (x : CommandOf m) (o : Oid) (q : m.ask) (t : Tx) (at : Option ℕ) → c.work ≡ None → Plain c (step.asks_by m c x o q t at)
-  asks_by_plain c x o q t None e = syncs_plain c _ c.hosted
-  asks_by_plain c x o q t (Some at) e = grind (arith, idle_plain)
-
-  pub asks_plain : (c : Client m) (x : CommandOf m) (o : Oid) (q : m.ask) (t : Option Tx) → c.work ≡ None → Plain c (step.asks m c x o q t)
-  asks_plain c x o q None e = idle_plain c _ e refl (record { next = refl; stand = refl; num = refl; layouts = refl })
-  asks_plain c x o q (Some t) e = asks_by_plain c x o q t t.snapshot e
-
-  end_by_plain : (c : Client m) (x : CommandOf m) (t : Tx) (b : Bool) → c.work ≡ None → Plain c (step.end_by m c x t b)
-  unfolding appends append_start
-  end_by_plain c x t true e = idle_plain c _ e refl (record { next = refl; stand = refl; num = refl; layouts = refl })
-  end_by_plain c x t false e = record { stand = refl; num = refl; layouts = refl; calm = tt; quiet = none_learns _ }
-
-  pub ends_plain : (c : Client m) (x : CommandOf m) (t : Option Tx) → c.work ≡ None → Plain c (step.ends m c x t)
-  ends_plain c x None e = idle_plain c _ e refl (record { next = refl; stand = refl; num = refl; layouts = refl })
-  ends_plain c x (Some t) e = end_by_plain c x t _ e
 
   -- All commands but a reconfiguration.
 

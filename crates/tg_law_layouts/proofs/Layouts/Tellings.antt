@@ -1,34 +1,21 @@
 -- A reconfiguration tells only layouts that are decided: its own, after a majority has accepted it, or one that it was told.
-use Rattle.std.proofs.Common.{◌≡◌, ◌⊎◌, ℕ, zero, suc, ◌+◌, ◌<◌, ◌≤◌, List, ◌++◌, Bool, true, false, ◌&&◌, refl, sym, ap, subst, inl, inr, arith}
+use Rattle.std.proofs.Common.{◌≡◌, ◌⊎◌, ℕ, zero, suc, ◌+◌, ◌<◌, ◌≤◌, List, Bool, true, false, ◌&&◌, refl, sym, ap, subst, inl, inr, arith}
 use Rattle.std.specs.Prelude.{nat_lt, if◌then◌else◌}
 use Rattle.tg_base.specs.Layouts.{Layout}
 use Rattle.tg_base.specs.declared.ids.Ballot.{Ballot}
 use Rattle.tg_base.specs.declared.ids.NodeId.{NodeId}
-use Rattle.tg_base.specs.declared.msg.Msg.{Msg}
-use Rattle.tg_base.specs.declared.packet.Out.{Out}
 use Rattle.tg_base.specs.declared.packet.Packet.{Packet}
 use Rattle.tg_protocol.specs.Words.{layout_id}
 use Rattle.tg_protocol.specs.Logs.{has_accepted, acceptances, by_majority}
-use Rattle.tg_protocol.specs.Requests.{Waits, awaits, asked_of, without_wait, Next, Goes, Learns, Ends}
+use Rattle.tg_protocol.specs.Requests.{Waits, awaits, without_wait, Next, Goes, Learns, Ends}
 use Rattle.tg_protocol.specs.Replies.{Reply}
 use Rattle.tg_protocol.specs.Replies as reply
-use Rattle.tg_protocol.specs.Reconfiguring.{stage_asks, reconf_work_asks, reconf_awaited, at_work, Stage, Preparing, Accepting, Voting, ReconfWork, Agreeing, Telling, Reconf, ReconfEnd, Installed, Overtaken, NotWhole, ReconfTurn, next_epoch, ballot_of, same_vote, has_rid, reconf_feed, reconf_latest}
+use Rattle.tg_protocol.specs.Reconfiguring.{reconf_work_asks, reconf_awaited, at_work, Stage, Preparing, Accepting, Voting, ReconfWork, Agreeing, Telling, Reconf, ReconfEnd, Installed, Overtaken, NotWhole, ReconfTurn, next_epoch, ballot_of, same_vote, has_rid, reconf_feed, reconf_latest}
 use Rattle.tg_law_layouts.proofs.Agreement.Counts.{count, count_one_more, Implies}
 use Rattle.tg_law_layouts.proofs.Agreement.Proposers.{answered, answered_still, answered_now, waits_rid}
-use Rattle.tg_law_steps.proofs.Machines.Awaited.{awaited_asked, stage_waits, stage_awaited, voting_fed, awaited_either as awaited_in_either}
+use Rattle.tg_law_steps.proofs.Machines.Awaited.{stage_waits, voting_fed}
 use Rattle.tg_law_steps.proofs.Machines.Reconfs as turns
 use Rattle.tg_law_layouts.proofs.Agreement.Facts.{Proposed}
-
--- Of whom an awaited answer is.
-
-pub awaited_either : (xs ys : List Out) (from : NodeId) (rid : ℕ) → awaits (xs ++ ys) from rid ≡ true → (awaits xs from rid ≡ true) ⊎ (awaits ys from rid ≡ true)
-awaited_either xs ys from rid h = awaited_in_either xs ys from rid h
-
-pub asked_server : (m : Msg) (ws : Waits) (from : NodeId) (rid : ℕ) → awaits (asked_of layout_id m ws) from rid ≡ true → from ≡ layout_id from.num
-asked_server m ws from rid h = (awaited_asked m ws from rid h).server
-
-pub stage_server : (r : Reconf) (round : ℕ) (s : Stage) (from : NodeId) (rid : ℕ) → awaits (stage_asks r round s) from rid ≡ true → from ≡ layout_id from.num
-stage_server r round s from rid h = (stage_awaited r round s from rid h).server
 
 -- Counts.
 

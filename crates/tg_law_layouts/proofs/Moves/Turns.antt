@@ -1,7 +1,6 @@
 -- The request numbers that a client draws in a step.
-use Rattle.std.proofs.Common.{◌≡◌, ◌⊎◌, ℕ, zero, suc, ◌+◌, ◌≤◌, List, [], ◌∷◌, ◌++◌, refl, sym, ◌∙◌, subst, inl, inr, arith, Some, None, Option}
+use Rattle.std.proofs.Common.{◌≡◌, ◌⊎◌, ℕ, ◌+◌, ◌≤◌, List, [], ◌∷◌, ◌++◌, refl, sym, ◌∙◌, subst, inl, inr, arith, Some, None, Option}
 use Rattle.tg_base.specs.Layouts.{Layout}
-use Rattle.tg_base.specs.declared.cell.Cell.{Cell}
 use Rattle.tg_base.specs.declared.ids.NodeId.{NodeId}
 use Rattle.tg_base.specs.declared.ids.Oid.{Oid}
 use Rattle.tg_base.specs.declared.msg.Msg.{Msg}
@@ -11,13 +10,12 @@ use Rattle.tg_kind.specs.Meaning.{Meaning}
 use Rattle.tg_model.specs.Kinds.{CommandOf, NoteOf}
 use Rattle.tg_model.specs.declared.command.Command.TheVariants as cmd
 use Rattle.tg_model.specs.declared.refusal.Refusal.{Refusal}
-use Rattle.tg_protocol.specs.Words.{cell_at, layout_id, numbers}
-use Rattle.tg_protocol.specs.Requests.{waits_for, drawn_from, Next, Goes, Learns, Ends, ends}
+use Rattle.tg_protocol.specs.Words.{layout_id, numbers}
+use Rattle.tg_protocol.specs.Requests.{waits_for, drawn_from, Next, Goes, Learns, Ends}
 use Rattle.tg_protocol.specs.Replies.{Reply, reply}
-use Rattle.tg_protocol.specs.Cells.{place_in, get_cell}
 use Rattle.tg_protocol.specs.Appending.{append_asks}
 use Rattle.tg_protocol.specs.Syncing.{sync_asks}
-use Rattle.tg_protocol.specs.Walking.{Walk, WalkTurn, walk_asks, walk_on, walk_start, reads_turn, walk_members, next_visit, visited}
+use Rattle.tg_protocol.specs.Walking.{walk_asks}
 use Rattle.tg_protocol.specs.Trimming.{trim_asks, copy_asks}
 use Rattle.tg_protocol.specs.Reconfiguring.{Reconf, reconf_asks, reconf_awaited, reconf_again_asks, later_asks, this_or}
 use Rattle.tg_protocol.specs.Clients.{Purpose, Task, Syncing, Walking, Appending, Trimming, Copying', Reconfiguring, Hand, Doing, Learning, Work, Client, refusal}
@@ -32,7 +30,7 @@ use Rattle.tg_law_layouts.proofs.Moves.Clients.{task_kept, hand_reserved, work_r
 use Rattle.tg_law_steps.proofs.Places.{Place, Feeds, Newer, OnSync, OnWalk, OnAppend, OnTrims, OnCopy, OnReconf}
 use Rattle.tg_law_steps.proofs.Ways.{Way, FeedsSync, FeedsWalk, FeedsAppend, FeedsTrims, FeedsCopy, FeedsReconf, NewerSync, NewerWalk, NewerAppend, NewerTrims, NewerCopy, NewerReconf, AllWalked, IsRescue}
 use Rattle.tg_law_steps.proofs.Ends.{End, GoesOn, LearnsNewer, Syncs, Appends, Refuses, Answers, Tells, IsGoing, WalkBegins, TrimsBegin, IsLearning, ReconfLearns, IsSynced, JudgedAt, IsAppended, MarkBegins, IsRefused, CopyFault, IsAnswered, IsSaved, IsTold, IsMarked}
-use Rattle.tg_law_steps.proofs.Takes.{IsSaid, Begins as Begins', Taken, SaidAtOnce, SyncsFirst, AppendsRecord, ReconfBegins, CopyBegins, said_work}
+use Rattle.tg_law_steps.proofs.Takes.{IsSaid, Begins, Taken, SaidAtOnce, SyncsFirst, AppendsRecord, ReconfBegins, CopyBegins, said_work}
 use Rattle.tg_law_steps.proofs.Along.{delivered, over_walks, commanded}
 use Rattle.tg_entry.specs.declared.entry.Entry.{Entry}
 use Rattle.tg_model.specs.Kinds.{WhatOf}
@@ -48,34 +46,6 @@ next_without : {M E : Type 0} → (asks : M → List Out) (old more : List Out) 
 next_without asks old more next mid bs end (Goes x) le k d = without more next bs (asks x) end (wider old more next mid _ end le k d)
 next_without asks old more next mid bs end (Learns x) le k d = (let a = d.0 in omega (arith, le, a), λ o h. k o (d.1 o h))
 next_without asks old more next mid bs end (Ends e) le k d = omega (arith, le, d)
-
--- A walk that begins doesn't learn.
-
-abbrev pub Begins : {M E : Type 0} → Next M E → Type 0
-Begins (Learns x) = ⊥
-Begins _ = Unit {0}
-
-begins_cell : (p : Layout) (next n : ℕ) (w : Walk) (q : ℕ) (o : Option Cell) → ((v : Walk) → Begins (walk_on p next n v).to)
-    → Begins (elim o as (λ _. WalkTurn) [ Some c ↦ walk_on p next n (visited w q c) | None ↦ reads_turn w (get_cell (place_in p q) next) ]).to
-unfolding get_cell
-begins_cell p next n w q None ih = tt
-begins_cell p next n w q (Some c) ih = ih (visited w q c)
-
-begins_visit : (p : Layout) (next n : ℕ) (w : Walk) (o : Option ℕ) → ((v : Walk) → Begins (walk_on p next n v).to) → Begins (elim o as (λ _. WalkTurn) [
-  | None ↦ ends next (walk_members w None)
-  | Some q ↦ elim (cell_at w.cells q) as (λ _. WalkTurn) [ Some c ↦ walk_on p next n (visited w q c) | None ↦ reads_turn w (get_cell (place_in p q) next) ]
-]).to
-begins_visit p next n w None ih = tt
-begins_visit p next n w (Some q) ih = begins_cell p next n w q (cell_at w.cells q) ih
-
-begins_on : (p : Layout) (next n : ℕ) (w : Walk) → Begins (walk_on p next n w).to
-unfolding walk_on
-begins_on p next zero w = tt
-begins_on p next (suc n) w = begins_visit p next n w (next_visit w) (λ v. begins_on p next n v)
-
-pub begins_walk : (p : Layout) (o : Oid) (ls : List ℕ) (lo : ℕ) (cells : List (ℕ × Cell)) (next : ℕ) → Begins (walk_start p o ls lo cells next).to
-unfolding walk_start
-begins_walk p o ls lo cells next = begins_on p next _ _
 
 -- Along a turn, from the requests `old` and the next number `next`.
 module _ (m : Meaning) (old : List Out) (next : ℕ) where
@@ -210,7 +180,7 @@ module _ (m : Meaning) where
   not_busy c x h = grind arith
 
   said_next : (c : Client m) (x : CommandOf m) (d : Client m) (ns : List (NoteOf m)) → IsSaid m c x d ns → c.next ≤ d.next
-  said_next c _ _ _ Begins' = omega arith
+  said_next c _ _ _ Begins = omega arith
   said_next c _ _ _ s = omega arith
 
   takes_draws : (old : List Out) (c : Client m) (x : CommandOf m) → c.work ≡ None → (y : Moved m) → Taken m c x y → MovedDraws m old c.next y
