@@ -1,3 +1,3 @@
 mod Formats
 pub mod Read
-mod Old
+pub mod Old
