@@ -20,11 +20,13 @@ def names_of(top):
     return {row[0].strip(): row[1].split() for row in rows}
 
 
-def below(name, named):
+def below(name, named, found=None):
     """All that stands below one, the kit's libraries too, each after those that it names."""
-    found = {}
+    found = {} if found is None else found
     for it in named.get(name, []):
-        found.update(dict.fromkeys([*below(it, named), it]))
+        if it not in found:
+            below(it, named, found)
+            found[it] = None
     return list(found)
 
 
