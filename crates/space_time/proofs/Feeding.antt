@@ -13,7 +13,7 @@ use Rattle.tg_script.specs.declared.line.Line.{Line}
 use Rattle.tg_protocol.specs.Worlds.{next_event, start}
 use Rattle.tg_world.specs.Kept.{KeepsWorld}
 use Rattle.tg_any.specs.AllKinds.{all_kinds}
-use Rattle.tg_replay.specs.Runs.{Worlds, line_in, line_on}
+use Rattle.tg_replay.specs.Runs.{Worlds, Runs, line_in, line_on}
 use Rattle.tg_replay.specs.Stages.{IsMade, Reads, Finished}
 use Rattle.tg_replay.specs.declared.stages.Run.{Run}
 use Rattle.tg_replay.proofs.Scripts.{opening, run_opens}
@@ -23,7 +23,7 @@ use Rattle.space_time.specs.declared.recording.Recorded.{Recorded}
 use Rattle.space_time.specs.declared.reading.Fed.{Fed}
 use Rattle.space_time.specs.declared.reading.Fed.TheVariants.{Goes, Stops}
 use Rattle.space_time.specs.declared.going.Went.{Went}
-use Rattle.space_time.specs.Records.{IsRecorded, Begins, Makes, GoesOnRecorded, run_in, finish_in}
+use Rattle.space_time.specs.Records.{IsRecorded, Begins, Makes, GoesOnRecorded, CountsOn, run_in, finish_in}
 
 -- what comes of a line whose steps were made
 pub record IsAfter (q : Went) (f : Fed) : Type 0 where
@@ -36,6 +36,13 @@ kept q f h a = by q.stopped refl
     by : (o : Option Which) → q.stopped ≡ o → GoesOnRecorded f
     by None e = subst GoesOnRecorded (sym (a.goes e)) h
     by (Some x) e = subst GoesOnRecorded (sym (a.stops x e)) h
+
+pub counts : (r b : Recording) (q : Went) (f : Fed) (g : Worlds → Runs) → Begins r b → Makes b g q → IsAfter q f → CountsOn r.run.events f
+counts r b q f g begins makes a = by q.stopped refl
+  where
+    by : (o : Option Which) → q.stopped ≡ o → CountsOn r.run.events f
+    by None e = subst (CountsOn r.run.events) (sym (a.goes e)) (makes.events ∙ begins.events)
+    by (Some x) e = subst (CountsOn r.run.events) (sym (a.stops x e)) tt
 
 pub made : (r b : Recording) (q : Went) (f : Fed) (l : Line) → Begins r b → Makes b (λ w. line_in w l) q → IsAfter q f → (w : Worlds) → KeepsWorld all_kinds r.run.world w → IsMade r.run (line_on w l) (run_in f)
 made r b q f l begins makes a w k = by q.stopped refl

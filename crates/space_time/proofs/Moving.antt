@@ -1,5 +1,5 @@
 -- A recording goes on by one move more.
-use Rattle.std.specs.Prelude.{◌≡◌, ℕ, suc, ◌+◌, List, [], ◌∷◌, ◌++◌, length, Option, Some, None, SomeIff, refl}
+use Rattle.std.specs.Prelude.{◌≡◌, ℕ, suc, ◌+◌, List, [], ◌∷◌, ◌++◌, length, refl}
 use Rattle.std.proofs.Common.{sym, ap, subst, ◌∙◌, arith}
 use Rattle.tg_base.specs.Clusters.{Header}
 use Rattle.tg_model.specs.Kinds.{EventOf}
@@ -56,11 +56,6 @@ steps_takes n (Takes d ∷ ms) e w = ap (λ (ss : List Step). step_of n d (happe
 no_lines : lines_of [] ≡ 0
 unfolding lines_of
 no_lines = refl
-
--- a sum that was told is the sum
-pub next_number : (r : Option ℕ) (P : Type 0) (v x : ℕ) → SomeIff r P v → r ≡ Some x → x ≡ v
-next_number None P v x h e = absurd cc
-next_number (Some y) P v x h e = let same : y ≡ x = cc in sym same ∙ h.1
 
 abbrev step_at : ℕ → Happening → Worlds → Step
 step_at line h w = record { line = line; happening = h; sent = length w.packets; told = length (trace all_kinds w) }

@@ -92,6 +92,11 @@ run_in (Stops r) = fed.Stops (finish_in r)
 abbrev pub HasRecord : Recorded → Type 0
 HasRecord r = IfSome r.recording IsRecorded
 
+-- a recording that goes on has one event more
+abbrev pub CountsOn : ℕ → Fed → Type 0
+CountsOn n (Goes r) = r.run.events ≡ n + 1
+CountsOn n (Stops r) = Unit {0}
+
 abbrev pub GoesOnRecorded : Fed → Type 0
 GoesOnRecorded (Goes r) = IsRecorded r
 GoesOnRecorded (Stops r) = HasRecord r

@@ -1,6 +1,6 @@
 //! Reading a script from a source.
 
-ghost use Rattle.std.specs.Prelude.{◌≡◌, ◌++◌, ◌∷◌, [], ℕ, List, None, Some, IfOk, IfSome, IsTrue, ◌↔◌};
+ghost use Rattle.std.specs.Prelude.{◌≡◌, ◌<◌, ◌+◌, ◌^◌, ◌++◌, ◌∷◌, [], ℕ, List, length, None, Some, IfOk, IfSome, IsTrue, ◌↔◌};
 ghost use Rattle.tg_io.specs.Faults.{HasCause, StaysSure};
 ghost use Rattle.tg_lines.specs.Lines.{ahead, lines};
 ghost use Rattle.tg_protocol.specs.Worlds as seen;
@@ -13,7 +13,7 @@ ghost use Rattle.tg_replay.specs.Runs.{Script, MayCome, line_on};
 ghost use Rattle.tg_replay.specs.Stages.{Finished, Reads, Took, IsRunOf, IsMade, IsOutside};
 ghost use Rattle.tg_replay.specs.declared.stages.End.TheVariants as end;
 ghost use Rattle.space_time.specs.declared.reading.Fed.TheVariants as fed;
-ghost use Rattle.space_time.specs.Records.{IsRecorded, HasRecord, GoesOnRecorded, run_in, finish_in};
+ghost use Rattle.space_time.specs.Records.{IsRecorded, HasRecord, GoesOnRecorded, CountsOn, run_in, finish_in};
 
 use crate::going::{Went, play_line};
 use crate::recording::{Recorded, Recording};
@@ -53,7 +53,9 @@ fn record_events<S: Source>(
     reader: &mut LineReader,
     source: &mut S,
 ) -> Result<Recorded, IoErr>
-    requires { IsRecorded recording }
+    requires recorded { IsRecorded recording }
+    // A source gives fewer than 2^64 bytes, and each line takes one at least.
+    requires room { recording.run.events + 3 + (length reader.old + S.room source.old) < 2 ^ 64 }
     ensures finished { IfSome (ahead reader.old (S.left source.old)) (λ rest. (text : List ℕ) → Reads text recording.run rest → IfOk result (λ r. Finished text (finish_in r))) }
     ensures recorded { IfOk result HasRecord }
     ensures cause { HasCause (S.faults source.old) (S.faults source.new) result }
@@ -82,30 +84,34 @@ pub enum Fed {
 impl Recording {
     /// Takes the next event line. An `Err` is want of memory, or of numbers.
     fn feed(self, alloc: Global, line: List<u8>) -> Result<Fed, NoMemory>
-        requires { IsRecorded self }
+        requires recorded { IsRecorded self }
+        requires room { self.run.events + 4 < 2 ^ 64 }
         ensures kept { IfOk result GoesOnRecorded }
+        ensures counts { IfOk result (CountsOn self.run.events) }
         ensures took { (text : List ℕ) (read more : List (List ℕ)) (s : Script) → lines text ≡ read ++ line ∷ more → IsRunOf read self.run s → IfOk result (λ f. Took text (read ++ line ∷ []) (run_in f)) }
     {
         let Some(event) = line_of(alloc, &self.run.cluster, &line)? else {
-            return self.outside();
+            return Ok(self.outside());
         };
         if !self.may_come(&event) {
-            return self.outside();
+            return Ok(self.outside());
         }
         self.play(alloc, line, event)
     }
 
     // The next event line is outside.
-    fn outside(self) -> Result<Fed, NoMemory>
-        requires { IsRecorded self }
-        ensures kept { IfOk result GoesOnRecorded }
-        ensures outside { IfOk result (λ f. IsOutside self.run (run_in f)) }
+    fn outside(self) -> Fed
+        requires recorded { IsRecorded self }
+        requires room { self.run.events + 4 < 2 ^ 64 }
+        ensures kept { GoesOnRecorded result }
+        ensures counts { CountsOn self.run.events result }
+        ensures outside { IsOutside self.run (run_in result) }
     {
-        let line = self.run.events.checked_add(4).ok_or(NoMemory)?;
-        Ok(Fed::Stops(Recorded {
+        let line = self.run.events + 4;
+        Fed::Stops(Recorded {
             end: End::Outside { line },
             recording: Some(self),
-        }))
+        })
     }
 
     // Whether a line may come next: a packet that is delivered or lost was sent.
@@ -122,8 +128,10 @@ impl Recording {
 
     // Makes a line's steps, as far as the limits allow.
     fn play(self, alloc: Global, text: List<u8>, line: Line) -> Result<Fed, NoMemory>
-        requires { IsRecorded self }
+        requires recorded { IsRecorded self }
+        requires room { self.run.events + 4 < 2 ^ 64 }
         ensures kept { IfOk result GoesOnRecorded }
+        ensures counts { IfOk result (CountsOn self.run.events) }
         ensures made { (w : seen.World all_kinds) → KeepsWorld all_kinds self.run.world w → IfOk result (λ f. IsMade self.run (line_on w line) (run_in f)) }
     {
         let begun = self.begin(text)?;

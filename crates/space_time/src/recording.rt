@@ -1,6 +1,6 @@
 //! What is kept of a run.
 
-ghost use Rattle.std.specs.Prelude.{◌≡◌, ◌+◌, length, IfOk};
+ghost use Rattle.std.specs.Prelude.{◌≡◌, ◌<◌, ◌+◌, ◌^◌, length, IfOk};
 ghost use Rattle.tg_base.specs.Clusters.{IsHeader};
 ghost use Rattle.tg_protocol.specs.Worlds as seen;
 ghost use Rattle.tg_world.specs.Kept.{KeepsWorld};
@@ -65,7 +65,8 @@ impl Recording {
 
     /// The next event line begins. An `Err` is want of memory, or of numbers.
     pub(crate) fn begin(self, line: List<u8>) -> Result<Recording, NoMemory>
-        requires { IsRecorded self }
+        requires recorded { IsRecorded self }
+        requires room { self.run.events + 4 < 2 ^ 64 }
         ensures { IfOk result (Begins self) }
     {
         let Recording {
@@ -78,12 +79,11 @@ impl Recording {
             mut lines,
         } = self;
         lines.push(line)?;
-        let events = events.checked_add(1).ok_or(NoMemory)?;
         Ok(Recording {
             run: Run {
                 cluster,
                 world: world.next_event()?,
-                events,
+                events: events + 1,
             },
             steps,
             lines,

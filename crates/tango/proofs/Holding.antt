@@ -8,7 +8,7 @@ use Rattle.tg_audit.specs.declared.verdict.Verdict.TheVariants.{Legal}
 use Rattle.tg_audit_run.specs.Verdicts.{HasVerdict}
 use Rattle.tg_replay.specs.Headline.{told_in}
 use Rattle.tg_replay.specs.Outcomes.{Told}
-use Rattle.tg_replay.specs.Runs.{Script, IsScript, Replayed, Refused, Limited, printed_before, transcript, world_of}
+use Rattle.tg_replay.specs.Runs.{Script, IsScript, IsCounted, Replayed, Refused, Limited, printed_before, transcript, world_of}
 use Rattle.tg_live.specs.Lives.{Live, goes}
 use Rattle.tg_live.specs.Scripts as lives
 use Rattle.tg_live.specs.Scripts.{Over}
@@ -48,21 +48,21 @@ past_header : (n : ℕ) → 3 < n → nat_le n 3 ≡ false
 past_header n past = grind (arith, nat_tests)
 
 module _ (fits : EachFits) (law : EachAudited) (left before after : Option (List ℕ)) where
-  script_legal : (s : Script) → IsScript s → (out : List ℕ) → out ≡ transcript s.header (world_of s) → length s.events < 2 ^ 64 → HasVerdict out Legal
-  script_legal s is out printed few = (told_in s.header (world_of s), fits s is few, printed, law s is)
+  script_legal : (s : Script) → IsScript s → (out : List ℕ) → out ≡ transcript s.header (world_of s) → IsCounted s → HasVerdict out Legal
+  script_legal s is out printed counted = (told_in s.header (world_of s), fits s is counted, printed, law s is)
 
   pub replayed_legally : Told left before after Replayed → Told left before after ReplayedLegally
-  replayed_legally t = told_so left before after (λ text out r. record { replayed = r; legal = script_legal r.script r.lawful out r.printed }) t
+  replayed_legally t = told_so left before after (λ text out r. record { replayed = r; legal = script_legal r.script r.lawful out r.printed r.counted }) t
 
   pub refused_legally : (n : ℕ) → Told left before after (λ text out. Refused text n out) → Told left before after (λ text out. RefusedLegally text n out)
   refused_legally n t =
       told_so left before after (λ text out r. record {
         refused = r;
-        legal = λ past few. script_legal r.before r.first.lawful out (r.printed ∙ ap (λ (b : Bool). printed_before b r.before) (past_header n past)) few;
+        legal = λ past. script_legal r.before r.first.lawful out (r.printed ∙ ap (λ (b : Bool). printed_before b r.before) (past_header n past)) r.counted;
       }) t
 
   pub limited_legally : (which : Which) → Told left before after (λ text out. Limited text which out) → Told left before after (λ text out. LimitedLegally text which out)
-  limited_legally which t = told_so left before after (λ text out r. record { limited = r; legal = script_legal r.script r.passes.lawful out r.printed }) t
+  limited_legally which t = told_so left before after (λ text out r. record { limited = r; legal = script_legal r.script r.passes.lawful out r.printed r.counted }) t
 
 module _ (law : EachLiveAudited) (o : Over) (left before after : Option (List ℕ)) where
   live_legal : (h : Header) (l : Live) → LiveAudited h l → HasVerdict (transcript h l.world) Legal

@@ -1,5 +1,5 @@
 -- What holds of the runs that a replay or a live run prints.
-use Rattle.std.specs.Prelude.{ℕ, ◌<◌, ◌^◌, List, length}
+use Rattle.std.specs.Prelude.{ℕ, ◌<◌, List}
 use Rattle.tg_base.specs.declared.fault.Which.{Which}
 use Rattle.tg_audit.specs.declared.verdict.Verdict.TheVariants.{Legal}
 use Rattle.tg_audit_run.specs.Verdicts.{HasVerdict}
@@ -39,23 +39,22 @@ pub record LiveLimitedTruly (o : Over) (text : List ℕ) (which : Which) (out : 
   pub limited : lives.Limited o text which out
   pub holds : LiveHolds limited.script.header limited.end.live
 
--- What an audit says of what was printed: it is a transcript, and the verdict on it is legal. A text that was replayed to its end, of
--- fewer than 2^64 event lines.
+-- What an audit says of what was printed: it is a transcript, and the verdict on it is legal. A text that was replayed to its end.
 pub record ReplayedLegally (text out : List ℕ) : Type 0 where
   pub replayed : Replayed text out
-  pub legal : length replayed.script.events < 2 ^ 64 → HasVerdict out Legal
+  pub legal : HasVerdict out Legal
 
 -- A text whose line n, past the header's three, is the first outside.
 pub record RefusedLegally (text : List ℕ) (n : ℕ) (out : List ℕ) : Type 0 where
   pub refused : Refused text n out
-  pub legal : 3 < n → length refused.before.events < 2 ^ 64 → HasVerdict out Legal
+  pub legal : 3 < n → HasVerdict out Legal
 
 -- A text whose run a limit stopped.
 pub record LimitedLegally (text : List ℕ) (which : Which) (out : List ℕ) : Type 0 where
   pub limited : Limited text which out
-  pub legal : length limited.script.events < 2 ^ 64 → HasVerdict out Legal
+  pub legal : HasVerdict out Legal
 
--- Likewise of live runs: of the transcript that is printed after the recording, which has fewer lines than that.
+-- Likewise of live runs: of the transcript that is printed after the recording.
 pub record LivedLegally (o : Over) (text out : List ℕ) : Type 0 where
   pub replayed : lives.Replayed o text out
   pub legal : HasVerdict (transcript replayed.script.header replayed.end.world) Legal

@@ -82,8 +82,7 @@ pub fn tango<S: Source, K: Sink, L: Link>(
     ensures done_truly { form_of (map string_bytes words.now) ≡ Some Replay → result ≡ Done → Told (S.left source.old) (K.written sink.old) (K.written sink.new) ReplayedTruly }
     ensures script_truly { form_of (map string_bytes words.now) ≡ Some Replay → (line : ℕ) → result ≡ AtLine line → Told (S.left source.old) (K.written sink.old) (K.written sink.new) (λ text out. RefusedTruly text line out) }
     ensures limit_truly { form_of (map string_bytes words.now) ≡ Some Replay → (which : Which) → result ≡ Limit which → Told (S.left source.old) (K.written sink.old) (K.written sink.new) (λ text out. LimitedTruly text which out) }
-    // An audit of what is printed says legal: it is a transcript, in which the rules of a legal run find no fault. So it is of fewer
-    // than 2^64 event lines.
+    // An audit of what is printed says legal: it is a transcript, in which the rules of a legal run find no fault.
     ensures done_legally { form_of (map string_bytes words.now) ≡ Some Replay → result ≡ Done → Told (S.left source.old) (K.written sink.old) (K.written sink.new) ReplayedLegally }
     ensures script_legally { form_of (map string_bytes words.now) ≡ Some Replay → (line : ℕ) → result ≡ AtLine line → Told (S.left source.old) (K.written sink.old) (K.written sink.new) (λ text out. RefusedLegally text line out) }
     ensures limit_legally { form_of (map string_bytes words.now) ≡ Some Replay → (which : Which) → result ≡ Limit which → Told (S.left source.old) (K.written sink.old) (K.written sink.new) (λ text out. LimitedLegally text which out) }

@@ -267,6 +267,7 @@ replayed = record {
   script = adds;
   lawful = adding_lawful;
   within = adding_within;
+  counted = omega arith;
   tells = adding_tells;
   printed = subst (λ (w : Worlds). adding_transcript ≡ replays.transcript cluster w) (sym added_is) adding_printed;
 }

@@ -109,7 +109,7 @@ pub true_run : IsTrueRun begins
 true_run = record { reached = reached; holds = subst (Holds all_kinds) (sym world_is) holds }
 
 pub replayed : Replayed script transcript_text
-replayed = record { script = begins; lawful = lawful; within = within; tells = tells; printed = printed_of }
+replayed = record { script = begins; lawful = lawful; within = within; counted = omega arith; tells = tells; printed = printed_of }
   where
     printed_of : transcript_text ≡ replays.transcript cluster (world_of begins)
     printed_of = subst (λ (w : Worlds). transcript_text ≡ replays.transcript cluster w) (sym world_is) printed

@@ -5,7 +5,7 @@ use Rattle.tg_base.specs.Clusters.{Header, IsHeader}
 use Rattle.tg_script.specs.Headers.{header_lines, IsFront, IsFirstOutside}
 use Rattle.tg_lines.specs.Lines.{lines, TakesLine}
 use Rattle.tg_lines.specs.Feeds.{feeds, NoneOutside, TakesFeeds}
-use Rattle.tg_lines.specs.Openings.{Opened, Took, IsNoLine, IsOpening, Reached}
+use Rattle.tg_lines.specs.Openings.{OnOpens, Opened, Took, IsNoLine, IsOpening, Reached}
 use Rattle.tg_lines.proofs.Feeding.{takes_more}
 use Rattle.tg_lines.specs.declared.header.Opening.{Opening}
 use Rattle.tg_lines.specs.declared.header.Opening.TheVariants.{Opens, Outside}
@@ -89,6 +89,11 @@ opened_end (Some text) (Some rest) (Some more) ls (Opens header) h t few is =
 opened_end (Some text) (Some rest) (Some more) ls (Outside n) h t few is =
     let all : lines text ≡ ls = h ∙ ap (λ (xs : List ℕ). ls ++ lines xs) t.0 ∙ append-nil ls in
     (few_lines ls n few is, subst (λ (xs : List (List ℕ)). IsFirstOutside xs n) (sym all) is)
+
+-- what holds of three lines holds where they are a header
+pub on_opens : (ls : List (List ℕ)) (o : Opening) (P : Type 0) → IsOpening ls o → (length ls ≡ 3 → P) → OnOpens o P
+on_opens ls (Opens h) P is p = p (ap length is)
+on_opens ls (Outside n) P is p = tt
 
 -- one line is the first outside
 pub not_before : (ls : List (List ℕ)) (m n : ℕ) → n < m → IsFirstOutside ls m → IsFirstOutside ls n → ⊥

@@ -10,6 +10,11 @@ abbrev pub IsOpened : List ℕ → List ℕ → Opening → Type 0
 IsOpened text rest (Opens h) = lines text ≡ header_lines h ++ lines rest
 IsOpened text rest (Outside n) = (n ≤ 3) × IsFirstOutside (lines text) n
 
+-- what holds where the text begins with a header
+abbrev pub OnOpens : Opening → Type 0 → Type 0
+OnOpens (Opens h) P = P
+OnOpens (Outside n) P = Unit {0}
+
 -- as far as the source tells its text
 abbrev pub Opened : Option (List ℕ) → Option (List ℕ) → Opening → Type 0
 Opened (Some text) (Some rest) opening = IsOpened text rest opening

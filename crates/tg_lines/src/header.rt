@@ -1,11 +1,11 @@
 //! The header of a script.
 
-ghost use Rattle.std.specs.Prelude.{◌≡◌, ◌≤◌, ℕ, length, IfOk, IfSome, IfNone, IsErrOf};
+ghost use Rattle.std.specs.Prelude.{◌≡◌, ◌+◌, ◌≤◌, ℕ, length, IfOk, IfSome, IfNone, IsErrOf};
 ghost use Rattle.tg_io.specs.Faults.{HasCause, StaysSure};
 ghost use Rattle.tg_io.specs.declared.fault.IoErr.TheVariants.{Failed};
 ghost use Rattle.tg_lines.specs.Feeds.{NoneOutside, TakesFeeds};
 ghost use Rattle.tg_lines.specs.Lines.{ahead, lines};
-ghost use Rattle.tg_lines.specs.Openings.{Opened, Took, IsOpening, IsNoLine};
+ghost use Rattle.tg_lines.specs.Openings.{OnOpens, Opened, Took, IsOpening, IsNoLine};
 ghost use Rattle.tg_script.specs.Headers.{IsFirstOutside};
 
 use crate::line_reader::LineReader;
@@ -41,6 +41,8 @@ pub fn read_header<S: Source>(
     // No line is taken after the one that is outside.
     ensures took { IfOk result (Took (ahead reader.old (S.left source.old)) (ahead reader.new (S.left source.new))) }
     ensures still { IfOk result (λ _. S.faults source.new ≡ S.faults source.old) }
+    // The three lines of a header took three bytes at least of what may come.
+    ensures less { IfOk result (λ opening. OnOpens opening (length reader.new + S.room source.new + 3 ≤ length reader.old + S.room source.old)) }
     // What is taken has three line feeds at most.
     ensures feeds { IfOk result (λ opening. TakesFeeds 3 (ahead reader.old (S.left source.old)) (ahead reader.new (S.left source.new))) }
     // Where the source fails, each line that came whole is one of the three, and none is outside.

@@ -140,6 +140,8 @@ pub fn read_all<S: Source>(alloc: Global, source: &mut S) -> Result<List<u8>, Io
     ensures read { IfSome (S.left source.old) (λ bytes. IfOk result (λ text. text ≡ bytes)) }
     ensures cause { HasCause (S.faults source.old) (S.faults source.new) result }
     ensures sure { StaysSure (S.sure source.old) (S.sure source.new) (S.faults source.old) (S.faults source.new) }
+    // The count of faults rises only where a fault, or want of memory, is answered.
+    ensures still { IfOk result (λ _. S.faults source.new ≡ S.faults source.old) }
 {
     let mut text = List::new(alloc);
     let mut piece = [0; PIECE];

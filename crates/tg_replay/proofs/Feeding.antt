@@ -1,5 +1,5 @@
 -- From the lines of a text to how its reading ends.
-use Rattle.std.proofs.Common.{◌≡◌, ℕ, suc, ◌+◌, ◌≤◌, List, [], ◌∷◌, ◌++◌, length, map, take, sym, ap, ◌∙◌, subst, append_assoc, arith, Some, None, Option, Result, IfOk, IfSome}
+use Rattle.std.proofs.Common.{◌≡◌, ℕ, suc, ◌+◌, ◌<◌, ◌≤◌, ◌^◌, List, [], ◌∷◌, ◌++◌, length, map, take, sym, ap, ◌∙◌, subst, append_assoc, arith, Some, None, Option, Result, IfOk, IfSome}
 use Rattle.std.proofs.lemmas.List.{append-nil}
 use Rattle.tg_base.specs.Clusters.{Header, IsHeader}
 use Rattle.tg_io.specs.declared.fault.IoErr.{IoErr}
@@ -22,7 +22,7 @@ use Rattle.tg_replay.specs.declared.stages.End.TheVariants.{Whole, Outside, Limi
 use Rattle.tg_replay.specs.declared.stages.Finish.{Finish}
 use Rattle.tg_replay.specs.declared.stages.Fed.{Fed}
 use Rattle.tg_replay.specs.declared.stages.Fed.TheVariants.{Goes, Stops}
-use Rattle.tg_replay.specs.Stages.{IsRunOf, Reads, StillReads, Ends, Finished, Took, IsOutside, IsMade, GoesOnKept, status_of}
+use Rattle.tg_replay.specs.Stages.{IsRunOf, Reads, StillReads, Ends, Finished, Took, IsOutside, IsMade, GoesOnKept, CountsOn, status_of}
 use Rattle.tg_replay.proofs.Lists.{length_last, take_within}
 use Rattle.tg_replay.proofs.Scripts.{longer, run_longer, opening, opening_lawful, run_opens, run_goes_on, run_ends, run_limited, passes_limit, refuses_event, first_event, refuses_header}
 
@@ -57,18 +57,26 @@ pub outside_kept : (r : Run) (f : Fed) → IsOutside r f → GoesOnKept f
 outside_kept r (Goes q) m = absurd m
 outside_kept r (Stops f) m = tt
 
+pub outside_counts : (n : ℕ) (r : Run) (f : Fed) → IsOutside r f → CountsOn n f
+outside_counts n r (Goes q) m = absurd m
+outside_counts n r (Stops f) m = tt
+
+pub made_kept : (r : Run) (x : Runs) (f : Fed) → IsMade r x f → GoesOnKept f
+made_kept r x (Goes q) m = record { world = x.world; keeps = m.1.world }
+made_kept r x (Stops f) m = tt
+
 -- what is made of a line that may come
-pub made_took : (text line : List ℕ) (read more : List (List ℕ)) (r : Run) (s : Script) (l : Line) (f : Fed) → IsRunOf read r s → lines text ≡ read ++ line ∷ more →
+pub made_took : (text line : List ℕ) (read more : List (List ℕ)) (r : Run) (s : Script) (l : Line) (f : Fed) → IsRunOf read r s → r.events + 4 < 2 ^ 64 → lines text ≡ read ++ line ∷ more →
     IsLine s.header l → MayCome (world_of s) l → line ≡ line_text l → ((m : Line) → IsLine s.header m → line ≡ line_text m → m ≡ l) →
     IsMade r (line_on (world_of s) l) f → Took text (read ++ line ∷ []) f
-made_took text line read more r s l (Goes q) h cut is comes spelled one m = (longer s l, run_goes_on read r q s line l h is comes spelled one m.0 m.1)
-made_took text line read more r s l (Stops f) h cut is comes spelled one m =
+made_took text line read more r s l (Goes q) h room cut is comes spelled one m = (longer s l, run_goes_on read r q s line l h room is comes spelled one m.0 m.1)
+made_took text line read more r s l (Stops f) h room cut is comes spelled one m =
     let events : m.run.events ≡ length (s.events ++ l ∷ []) = let a = h.events in let b = length_last s.events l in let e = m.after.events in omega arith in
     ended text f (Limited m.which) (Some m.run) m.end m.is (
       longer s l,
       subst (λ (x : Runs). KeepsWorld all_kinds m.run.world x.world) (sym (run_longer s l h.within)) m.after.world,
       m.after.cluster ∙ h.cluster,
-      run_limited text line read more r s l m.which h cut is comes spelled m.over,
+      run_limited text line read more r s l m.which h room cut is comes spelled m.over,
       events,
       passes_limit text line read more r s l m.which h cut is comes spelled m.over,
     )

@@ -1,5 +1,5 @@
 -- A script that is read line by line: how it goes on, and where it ends.
-use Rattle.std.proofs.Common.{◌≡◌, ℕ, zero, suc, ◌+◌, ◌-◌, ◌<◌, ◌≤◌, List, [], ◌∷◌, ◌++◌, length, take, map, refl, sym, ap, ◌∙◌, subst, ⊎_elim, arith, Some, None, true, false}
+use Rattle.std.proofs.Common.{◌≡◌, ℕ, zero, suc, ◌+◌, ◌-◌, ◌<◌, ◌≤◌, ◌^◌, List, [], ◌∷◌, ◌++◌, length, take, map, refl, sym, ap, ◌∙◌, subst, ⊎_elim, arith, Some, None, true, false}
 use Rattle.std.proofs.lemmas.List.{length-map, map-append}
 use Rattle.std.specs.Prelude.{slice_get, nat_le}
 use Rattle.tg_base.specs.Clusters.{Header, IsHeader}
@@ -11,7 +11,7 @@ use Rattle.tg_script.proofs.Clusters.{same_header}
 use Rattle.tg_world.specs.Kept.{KeepsWorld}
 use Rattle.tg_any.specs.AllKinds.{all_kinds}
 use Rattle.tg_replay.specs.declared.stages.Run.{Run}
-use Rattle.tg_replay.specs.Runs.{Script, IsScript, IsWithin, IsLine, MayCome, Runs, line_on, lines_on, line_text, text_lines, run_of, world_of, front, transcript, FirstOutside, PassesLimit, Replayed, Refused, Limited, printed_before}
+use Rattle.tg_replay.specs.Runs.{Script, IsScript, IsWithin, IsCounted, IsLine, MayCome, Runs, line_on, lines_on, line_text, text_lines, run_of, world_of, front, transcript, FirstOutside, PassesLimit, Replayed, Refused, Limited, printed_before}
 use Rattle.tg_lines.specs.Lines.{lines}
 use Rattle.tg_replay.specs.Stages.{IsRunOf, IsAfter}
 use Rattle.tg_replay.proofs.Lists.{front_and_next, front_more, take_next, length_last, last_or_before, take_whole, take_within, take_self, image}
@@ -80,14 +80,18 @@ next_line read r s h t lawful line e =
       comes = subst (λ (x : Script). MayCome (world_of x) event.0) same (lawful.comes (length s.events) event.0 event.1);
     }
 
+counted_longer : (read : List (List ℕ)) (r : Run) (s : Script) (l : Line) → IsRunOf read r s → r.events + 4 < 2 ^ 64 → IsCounted (longer s l)
+counted_longer read r s l h room = let a = h.events in let b = length_last s.events l in omega (arith, a, b, room)
+
 -- a run goes on by a line
-pub run_goes_on : (read : List (List ℕ)) (r q : Run) (s : Script) (line : List ℕ) (l : Line) → IsRunOf read r s → IsLine s.header l → MayCome (world_of s) l → line ≡ line_text l →
+pub run_goes_on : (read : List (List ℕ)) (r q : Run) (s : Script) (line : List ℕ) (l : Line) → IsRunOf read r s → r.events + 4 < 2 ^ 64 → IsLine s.header l → MayCome (world_of s) l → line ≡ line_text l →
     ((m : Line) → IsLine s.header m → line ≡ line_text m → m ≡ l) → (line_on (world_of s) l).stopped ≡ None → IsAfter r (line_on (world_of s) l).world q → IsRunOf (read ++ line ∷ []) q (longer s l)
-run_goes_on read r q s line l h is comes spelled one within after =
+run_goes_on read r q s line l h room is comes spelled one within after =
     let runs : run_of (longer s l) ≡ line_on (world_of s) l = run_longer s l h.within in
     record {
       lawful = script_longer s l h.lawful is comes;
       within = ap (λ (x : Runs). x.stopped) runs ∙ within;
+      counted = counted_longer read r s l h room;
       lines = ap (λ (x : List (List ℕ)). x ++ line ∷ []) h.lines ∙ ap (λ (x : List ℕ). text_lines s ++ x ∷ []) spelled ∙ sym (text_longer s l);
       cluster = after.cluster ∙ h.cluster;
       world = subst (λ (x : Runs). KeepsWorld all_kinds q.world x.world) (sym runs) after.world;
@@ -131,6 +135,7 @@ refuses_event text line read more r s h cut none n at =
     record {
       before = s;
       first = first_event text line read more r s h cut none n at;
+      counted = h.counted;
       printed = sym (ap (λ b. printed_before b s) past);
     }
 
@@ -144,6 +149,9 @@ opening_lawful h e = record { header = e; each = λ k l f. absurd cc; comes = λ
 pub opening_within : (h : Header) → IsWithin (opening h)
 unfolding lines_on
 opening_within h = refl
+
+opening_counted : (h : Header) → IsCounted (opening h)
+opening_counted h = omega arith
 
 one_unit : Header
 one_unit = record { units = 1; layouts = 1; seqs = 1; clients = 1; limit = 1; chains = (0 ∷ []) ∷ []; objects = [] }
@@ -173,6 +181,7 @@ refuses_header text (suc n) le h =
         begins = ap (λ k. take k (lines text)) less ∙ f.same ∙ sym (begins_header f.header [] n few) ∙ sym (ap (λ k. take k (text_lines (opening f.header))) less);
         outside = λ t lawful b. h.outside (record { header = t.header; lawful = lawful.header; same = b ∙ begins_header t.header (map line_text t.events) (suc n) le });
       };
+      counted = opening_counted f.header;
       printed = sym (ap (λ b. printed_before b (opening f.header)) early);
     }
 
@@ -182,6 +191,7 @@ unfolding lines_on
 run_opens h r lawful cluster world events = record {
   lawful = opening_lawful h lawful;
   within = refl;
+  counted = opening_counted h;
   lines = refl;
   cluster = cluster;
   world = world;
@@ -193,7 +203,7 @@ run_opens h r lawful cluster world events = record {
 
 -- the end of the text
 pub run_ends : (text : List ℕ) (read : List (List ℕ)) (r : Run) (s : Script) → IsRunOf read r s → lines text ≡ read → Replayed text (transcript s.header (world_of s))
-run_ends text read r s h cut = record { script = s; lawful = h.lawful; within = h.within; tells = cut ∙ h.lines; printed = refl }
+run_ends text read r s h cut = record { script = s; lawful = h.lawful; within = h.within; counted = h.counted; tells = cut ∙ h.lines; printed = refl }
 
 -- a limit
 pub passes_limit : (text line : List ℕ) (read more : List (List ℕ)) (r : Run) (s : Script) (l : Line) (which : Which) → IsRunOf read r s → lines text ≡ read ++ line ∷ more →
@@ -212,10 +222,11 @@ passes_limit text line read more r s l which h cut is comes spelled over =
       before = subst IsWithin (sym (at_end s l (length (s.events ++ l ∷ []) - 1) before)) h.within;
     }
 
-pub run_limited : (text line : List ℕ) (read more : List (List ℕ)) (r : Run) (s : Script) (l : Line) (which : Which) → IsRunOf read r s → lines text ≡ read ++ line ∷ more →
+pub run_limited : (text line : List ℕ) (read more : List (List ℕ)) (r : Run) (s : Script) (l : Line) (which : Which) → IsRunOf read r s → r.events + 4 < 2 ^ 64 → lines text ≡ read ++ line ∷ more →
     IsLine s.header l → MayCome (world_of s) l → line ≡ line_text l → (line_on (world_of s) l).stopped ≡ Some which → Limited text which (transcript s.header (world_of (longer s l)))
-run_limited text line read more r s l which h cut is comes spelled over = record {
+run_limited text line read more r s l which h room cut is comes spelled over = record {
   script = longer s l;
   passes = passes_limit text line read more r s l which h cut is comes spelled over;
+  counted = counted_longer read r s l h room;
   printed = refl;
 }

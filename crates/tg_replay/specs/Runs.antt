@@ -1,5 +1,5 @@
 -- What a text says: a script and its world, and what a run of it comes to.
-use Rattle.std.specs.Prelude.{◌≡◌, ℕ, ◌+◌, ◌-◌, ◌<◌, ◌≤◌, ◌++◌, List, [], ◌∷◌, length, map, take, nat_le, Bool, true, false, slice_get, Option, Some, None}
+use Rattle.std.specs.Prelude.{◌≡◌, ℕ, ◌+◌, ◌-◌, ◌<◌, ◌≤◌, ◌^◌, ◌++◌, List, [], ◌∷◌, length, map, take, nat_le, Bool, true, false, slice_get, Option, Some, None}
 use Rattle.tg_base.specs.Clusters.{Header, IsHeader}
 use Rattle.tg_base.specs.declared.fault.Which.{Which}
 use Rattle.tg_base.specs.declared.ids.Oid.{Oid}
@@ -92,6 +92,10 @@ Tells text s = lines text ≡ text_lines s
 abbrev pub Begins : List ℕ → ℕ → Script → Type 0
 Begins text n s = take n (lines text) ≡ take n (text_lines s)
 
+-- fewer than 2^64 event lines
+abbrev pub IsCounted : Script → Type 0
+IsCounted s = length s.events < 2 ^ 64
+
 -- What is printed of a world: its objects, its replies and its history.
 abbrev pub transcript : Header → Worlds → List ℕ
 transcript h w = rendered (record { objects = h.objects; trace = trace all_kinds w; history = history all_kinds w })
@@ -101,6 +105,7 @@ pub record Replayed (text out : List ℕ) : Type 0 where
   pub script : Script
   pub lawful : IsScript script
   pub within : IsWithin script
+  pub counted : IsCounted script
   pub tells : Tells text script
   pub printed : out ≡ transcript script.header (world_of script)
 
@@ -125,6 +130,7 @@ printed_before false s = transcript s.header (world_of s)
 pub record Refused (text : List ℕ) (n : ℕ) (out : List ℕ) : Type 0 where
   pub before : Script
   pub first : FirstOutside text n before
+  pub counted : IsCounted before
   pub printed : out ≡ printed_before (nat_le n 3) before
 
 -- The text begins with this script, and a limit is reached in the midst of its last line, where another step is asked.
@@ -138,6 +144,7 @@ pub record PassesLimit (text : List ℕ) (which : Which) (s : Script) : Type 0 w
 pub record Limited (text : List ℕ) (which : Which) (out : List ℕ) : Type 0 where
   pub script : Script
   pub passes : PassesLimit text which script
+  pub counted : IsCounted script
   pub printed : out ≡ transcript script.header (world_of script)
 
 -- What the status says of the text, and what is printed with it.

@@ -18,12 +18,13 @@ use Rattle.tg_replay.specs.declared.stages.Fed.{Fed}
 use Rattle.tg_replay.specs.declared.stages.Fed.TheVariants.{Goes, Stops}
 use Rattle.tg_lines.specs.Feeds.{TakesFeeds}
 use Rattle.tg_lines.specs.Lines.{lines}
-use Rattle.tg_replay.specs.Runs.{Script, IsScript, IsWithin, Tells, FirstOutside, PassesLimit, Outcome, Runs, Worlds, text_lines, world_of, transcript, front}
+use Rattle.tg_replay.specs.Runs.{Script, IsScript, IsWithin, IsCounted, Tells, FirstOutside, PassesLimit, Outcome, Runs, Worlds, text_lines, world_of, transcript, front}
 
 -- A run that was read: its script, which no other has in these lines.
 pub record IsRunOf (read : List (List ℕ)) (r : Run) (s : Script) : Type 0 where
   pub lawful : IsScript s
   pub within : IsWithin s
+  pub counted : IsCounted s
   pub lines : read ≡ text_lines s
   pub cluster : r.cluster ≡ s.header
   pub world : KeepsWorld all_kinds r.world (world_of s)
@@ -94,6 +95,11 @@ IsMade r x (Stops f) = IsStopped r x f
 abbrev pub GoesOnKept : Fed → Type 0
 GoesOnKept (Goes q) = IsWorld all_kinds q.world
 GoesOnKept (Stops f) = Unit {0}
+
+-- a run that goes on has one event more
+abbrev pub CountsOn : ℕ → Fed → Type 0
+CountsOn n (Goes q) = q.events ≡ n + 1
+CountsOn n (Stops f) = Unit {0}
 
 -- One run was read up to a rest of a text, and goes on to another up to a later rest, as far as the source tells its text.
 abbrev pub StillReads : Option (List ℕ) → Option (List ℕ) → Run → Run → Type 0

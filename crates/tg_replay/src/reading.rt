@@ -1,6 +1,6 @@
 //! Reading a script from a source.
 
-ghost use Rattle.std.specs.Prelude.{◌≡◌, ℕ, List, IfOk, IfSome, IsErrOf};
+ghost use Rattle.std.specs.Prelude.{◌≡◌, ◌<◌, ◌+◌, ◌^◌, ℕ, List, length, IfOk, IfSome, IsErrOf};
 ghost use Rattle.tg_io.specs.Faults.{HasCause, StaysSure};
 ghost use Rattle.tg_io.specs.declared.fault.IoErr.TheVariants.{Failed};
 ghost use Rattle.tg_lines.specs.Feeds.{NoneOutside};
@@ -44,7 +44,9 @@ fn read_events<S: Source>(
     reader: &mut LineReader,
     source: &mut S,
 ) -> Result<Finish, IoErr>
-    requires { IsWorld all_kinds run.world }
+    requires kept { IsWorld all_kinds run.world }
+    // A source gives fewer than 2^64 bytes, and each line takes one at least.
+    requires room { run.events + 3 + (length reader.old + S.room source.old) < 2 ^ 64 }
     ensures finished { IfSome (ahead reader.old (S.left source.old)) (λ rest. (text : List ℕ) → Reads text run rest → IfOk result (Finished text)) }
     ensures cause { HasCause (S.faults source.old) (S.faults source.new) result }
     ensures sure { StaysSure (S.sure source.old) (S.sure source.new) (S.faults source.old) (S.faults source.new) }

@@ -1,13 +1,13 @@
 //! The run of a script, line by line.
 
-ghost use Rattle.std.specs.Prelude.{◌≡◌, ◌++◌, ◌+◌, ℕ, List, [], ◌∷◌, IfOk, IsTrue, ◌↔◌};
+ghost use Rattle.std.specs.Prelude.{◌≡◌, ◌<◌, ◌++◌, ◌+◌, ◌^◌, ℕ, List, [], ◌∷◌, IfOk, IsTrue, ◌↔◌};
 ghost use Rattle.tg_base.specs.Clusters.{IsHeader};
 ghost use Rattle.tg_protocol.specs.Worlds as seen;
 ghost use Rattle.tg_world.specs.Kept.{IsWorld, KeepsWorld};
 ghost use Rattle.tg_lines.specs.Lines.{lines};
 ghost use Rattle.tg_any.specs.AllKinds.{all_kinds};
 ghost use Rattle.tg_replay.specs.Runs.{Script, MayCome, Runs, line_in, line_on};
-ghost use Rattle.tg_replay.specs.Stages.{Took, IsMade, IsOutside, IsRunOf, GoesOnKept};
+ghost use Rattle.tg_replay.specs.Stages.{Took, IsMade, IsOutside, IsRunOf, GoesOnKept, CountsOn};
 
 use crate::stages::{End, Fed, Finish, Run};
 use std::alloc::Global;
@@ -34,30 +34,33 @@ impl Run {
         })
     }
 
-    /// Takes the next event line. An `Err` is want of memory, or of numbers.
+    /// Takes the next event line. An `Err` is want of memory.
     pub(crate) fn feed(self, alloc: Global, line: &[u8]) -> Result<Fed, NoMemory>
-        requires { IsWorld all_kinds self.world }
+        requires kept { IsWorld all_kinds self.world }
+        requires room { self.events + 4 < 2 ^ 64 }
         ensures kept { IfOk result GoesOnKept }
+        ensures counts { IfOk result (CountsOn self.events) }
         ensures took { (text : List ℕ) (read more : List (List ℕ)) (s : Script) → lines text ≡ read ++ line.now ∷ more → IsRunOf read self s → IfOk result (Took text (read ++ line.now ∷ [])) }
     {
         let Some(event) = parse_line(alloc, &self.cluster, line)? else {
-            return self.outside();
+            return Ok(self.outside());
         };
         if !self.may_come(&event) {
-            return self.outside();
+            return Ok(self.outside());
         }
         self.play(alloc, event)
     }
 
     /// The next event line is outside.
-    fn outside(self) -> Result<Fed, NoMemory>
-        ensures { IfOk result (IsOutside self) }
+    fn outside(self) -> Fed
+        requires { self.events + 4 < 2 ^ 64 }
+        ensures { IsOutside self result }
     {
-        let line = self.events.checked_add(4).ok_or(NoMemory)?;
-        Ok(Fed::Stops(Finish {
+        let line = self.events + 4;
+        Fed::Stops(Finish {
             end: End::Outside { line },
             run: Some(self),
-        }))
+        })
     }
 
     /// Whether a line may come next: a packet that is delivered or lost was sent.
@@ -74,10 +77,12 @@ impl Run {
 
     /// Makes a line's steps, as far as the limits allow.
     fn play(self, alloc: Global, line: Line) -> Result<Fed, NoMemory>
-        requires { IsWorld all_kinds self.world }
-        ensures { (w : seen.World all_kinds) → KeepsWorld all_kinds self.world w → IfOk result (IsMade self (line_on w line)) }
+        requires kept { IsWorld all_kinds self.world }
+        requires room { self.events + 4 < 2 ^ 64 }
+        ensures made { (w : seen.World all_kinds) → KeepsWorld all_kinds self.world w → IfOk result (IsMade self (line_on w line)) }
+        ensures counts { IfOk result (CountsOn self.events) }
     {
-        let events = self.events.checked_add(1).ok_or(NoMemory)?;
+        let events = self.events + 1;
         let Run { cluster, world, .. } = self;
         let ran = make(alloc, world, line)?;
         Ok(after(cluster, events, ran))
@@ -86,7 +91,8 @@ impl Run {
 
 // A run after a line, which goes on unless a limit was reached.
 fn after(cluster: Cluster, events: u64, ran: Ran<AnyKind>) -> Fed
-    ensures { (r : Run) (x : Runs) → cluster ≡ r.cluster → events ≡ r.events + 1 → KeepsWorld all_kinds ran.world x.world → ran.stopped ≡ x.stopped → IsMade r x result }
+    ensures counts { (n : ℕ) → events ≡ n + 1 → CountsOn n result }
+    ensures made { (r : Run) (x : Runs) → cluster ≡ r.cluster → events ≡ r.events + 1 → KeepsWorld all_kinds ran.world x.world → ran.stopped ≡ x.stopped → IsMade r x result }
 {
     let Ran { world, stopped } = ran;
     let run = Run {

@@ -1,4 +1,4 @@
-use Rattle.std.proofs.Common.{◌≡◌, ◌≤◌, ◌-◌, length}
+use Rattle.std.proofs.Common.{◌≡◌, ◌+◌, ◌≤◌, ◌-◌, length}
 use Rattle.tg_io.specs.Faults.{StaysSure}
 use Rattle.tg_lines.specs.Feeds.{TakesFeeds}
 use Rattle.tg_lines.specs.Lines.{ahead}
@@ -13,6 +13,7 @@ invariant-loop-alloc g l = record {
   still : g.S.Source.faults l.source ≡ g.S.Source.faults l.fn.source;
   sure : StaysSure (g.S.Source.sure l.fn.source) (g.S.Source.sure l.source) (g.S.Source.faults l.fn.source) (g.S.Source.faults l.source);
   clean : AreClean l.lines;
+  less : length l.reader + g.S.Source.room l.source + length l.lines ≤ length l.fn.reader + g.S.Source.room l.fn.source;
   feeds : TakesFeeds (length l.lines) (ahead l.fn.reader (g.S.Source.left l.fn.source)) (ahead l.reader (g.S.Source.left l.source));
 }
 

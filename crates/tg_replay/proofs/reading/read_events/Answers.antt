@@ -1,9 +1,9 @@
-use Rattle.std.proofs.Common.{◌≤◌, ℕ, List, Option, Some, refl, subst, arith, ◌∙◌, ◌≡◌, Err, ap}
+use Rattle.std.proofs.Common.{◌<◌, ◌≤◌, ◌+◌, ◌^◌, ℕ, List, length, Option, Some, IfSome, refl, subst, arith, ◌∙◌, ◌≡◌, Err, ap}
 use Rattle.tg_io.proofs.Faults.{sure_since}
 use Rattle.tg_lines.specs.Lines.{ahead, TakesLine}
 use Rattle.tg_replay.specs.declared.stages.Fed.{Fed}
 use Rattle.tg_replay.specs.declared.stages.End.TheVariants.{Whole}
-use Rattle.tg_replay.specs.Stages.{GoesOnKept}
+use Rattle.tg_replay.specs.Stages.{CountsOn, GoesOnKept}
 use Rattle.tg_replay.proofs.Feeding.{Feeds, still_more, still_first, still_stops, still_ends}
 use Rattle.std.proofs.lemmas.Result.{err_from_is_err_and}
 use Rattle.tg_io.specs.declared.fault.IoErr.TheVariants.{Failed}
@@ -31,9 +31,14 @@ loop-run-preserved g c =
     let feeds = subst (λ (f : Fed). Feeds c.loop-run.run c.in-Some.line f) c.in-Goes.is fed in
     let later : g.S.Source.faults c.args.source.now ≤ g.S.Source.faults c.loop-run.source = i.later in
     let rose : g.S.Source.faults c.loop-run.source ≤ g.S.Source.faults c.next.new.source = c.in_ok-line.ensures.cause.later in
+    let less : length c.next.new.self + g.S.Source.room c.next.new.source < length c.loop-run.reader + g.S.Source.room c.loop-run.source =
+    subst (λ (o : Option (List ℕ)). IfSome o (λ l. length c.next.new.self + g.S.Source.room c.next.new.source < length c.loop-run.reader + g.S.Source.room c.loop-run.source)) c.in-Some.is c.in_ok-line.ensures.less in
+    let room : c.loop-run.run.events + 3 + (length c.loop-run.reader + g.S.Source.room c.loop-run.source) < 2 ^ 64 = i.room in
+    let counts : c.in-Goes.next.events ≡ c.loop-run.run.events + 1 = subst (CountsOn c.loop-run.run.events) c.in-Goes.is c.in_ok-next.ensures.counts in
     record {
       reads = still_more before rest after c.args.run c.loop-run.run c.in-Goes.next c.in-Some.line i.reads line c.in_ok-line.ensures.feeds feeds;
       kept = subst GoesOnKept c.in-Goes.is c.in_ok-next.ensures.kept;
+      room = omega (arith, room, less, counts);
       later = omega arith;
       still = c.in_ok-line.ensures.still ∙ i.still;
       sure = sure_since _ _ _ _ _ _ i.sure c.in_ok-line.ensures.sure;
@@ -53,3 +58,10 @@ returns-in_err-line-clause-first g c = λ failed.
     let end : c.from_residual.result ≡ Err c.in_err-line.field-0.0 = p.1 ∙ ap Err p.2 in
     still_first (ahead c.args.reader.now (g.S.Source.left c.args.source.now)) (ahead c.loop-run.reader (g.S.Source.left c.loop-run.source)) (g.S.Source.left c.next.new.source) c.args.run c.loop-run.run c.loop-run.invariant.reads
     (c.in_err-line.ensures.first (handed_on c.from_residual.result c.in_err-line.field-0.0 Failed end failed))
+
+pub feed-requires-clause-room : goal.feed-requires-clause-room
+feed-requires-clause-room g c =
+    let less : length c.next.new.self + g.S.Source.room c.next.new.source < length c.loop-run.reader + g.S.Source.room c.loop-run.source =
+    subst (λ (o : Option (List ℕ)). IfSome o (λ l. length c.next.new.self + g.S.Source.room c.next.new.source < length c.loop-run.reader + g.S.Source.room c.loop-run.source)) c.in-Some.is c.in_ok-line.ensures.less in
+    let room : c.loop-run.run.events + 3 + (length c.loop-run.reader + g.S.Source.room c.loop-run.source) < 2 ^ 64 = c.loop-run.invariant.room in
+    omega (arith, less, room)

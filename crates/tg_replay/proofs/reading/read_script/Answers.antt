@@ -1,9 +1,9 @@
-use Rattle.std.proofs.Common.{◌≡◌, ◌∙◌, None, Err, ap, refl, subst}
+use Rattle.std.proofs.Common.{◌≡◌, ◌≤◌, ◌+◌, ◌-◌, ◌^◌, ◌∙◌, length, None, Err, ap, refl, subst, arith}
 use Rattle.std.proofs.lemmas.Result.{err_from_is_err_and}
 use Rattle.tg_io.specs.declared.fault.IoErr.TheVariants.{Failed}
 use Rattle.tg_lines.proofs.Feeding.{handed_on}
 use Rattle.tg_lines.specs.Lines.{ahead}
-use Rattle.tg_lines.specs.Openings.{Opened}
+use Rattle.tg_lines.specs.Openings.{OnOpens, Opened}
 use Rattle.tg_lines.specs.declared.header.Opening.{Opening}
 use Rattle.tg_replay.specs.declared.stages.End.TheVariants.{Outside}
 use Rattle.tg_replay.proofs.Feeding.{header_first, header_outside, header_opens, opens_first}
@@ -39,3 +39,12 @@ returns-in_ok-run-in-Opens-clause-first g c =
     let run = c.in_ok-run-in-Opens in
     λ failed. opens_first c.new-reader.result left rest (g.S.Source.left c.read_events.new.source) c.in-Opens.cluster run.run' c.new-reader.ensures opened c.in_ok-line.ensures.feeds
     run.ensures.lawful run.ensures.cluster run.ensures.world run.ensures.events (c.read_events.ensures.first failed)
+
+pub read_events-requires-clause-room : goal.read_events-requires-clause-room
+read_events-requires-clause-room g c =
+    let less : length c.read_header.new.reader + g.S.Source.room c.read_header.new.source + 3 ≤ length c.new-reader.result + g.S.Source.room c.args.source.now =
+    subst (λ (o : Opening). OnOpens o (length c.read_header.new.reader + g.S.Source.room c.read_header.new.source + 3 ≤ length c.new-reader.result + g.S.Source.room c.args.source.now)) c.in-Opens.is c.in_ok-line.ensures.less in
+    let empty : length c.new-reader.result ≡ 0 = ap length c.new-reader.ensures in
+    let capped : g.S.Source.room c.args.source.now ≤ 2 ^ 64 - 1 = g.met.S.Source.capped c.args.source.now in
+    let none : c.in_ok-run-in-Opens.run'.events ≡ 0 = c.in_ok-run-in-Opens.ensures.events in
+    omega (arith, less, empty, capped, none)

@@ -1,11 +1,11 @@
 use Rattle.std.proofs.Common.{refl, sym, ◌∙◌}
 use Rattle.tg_replay.proofs.steps.after.Goals as goal
 
-pub returns-in-None : goal.returns-in-None
-returns-in-None c = λ r x same next kept over. (sym over ∙ c.in-None.is, record { cluster = same; world = kept; events = next })
+pub returns-in-None-clause-made : goal.returns-in-None-clause-made
+returns-in-None-clause-made c = λ r x same next kept over. (sym over ∙ c.in-None.is, record { cluster = same; world = kept; events = next })
 
-pub returns-in-Some : goal.returns-in-Some
-returns-in-Some c = λ r x same next kept over. record {
+pub returns-in-Some-clause-made : goal.returns-in-Some-clause-made
+returns-in-Some-clause-made c = λ r x same next kept over. record {
   which = c.in-Some.which;
   over = sym over ∙ c.in-Some.is;
   end = refl;
@@ -13,3 +13,6 @@ returns-in-Some c = λ r x same next kept over. record {
   is = refl;
   after = record { cluster = same; world = kept; events = next };
 }
+
+pub returns-in-None-clause-counts : goal.returns-in-None-clause-counts
+returns-in-None-clause-counts c = λ n e. e
