@@ -1,8 +1,9 @@
 -- Along a run: what each client's work has been told since its command began, and that it knows the pages of its own records; and so
 -- what a step tells where no record is there.
-use Rattle.std.proofs.Common.{◌≡◌, ◌⊎◌, ℕ, ◌≤◌, List, [], ◌∷◌, ◌++◌, map, Bool, true, false, refl, sym, ap, ◌∙◌, subst, inl, inr, arith, Option, Some, None, is_some}
-use Rattle.std.specs.Prelude.{nat_lt, cond, ◌==◌, Contains}
+use Rattle.std.proofs.Common.{◌≡◌, ◌⊎◌, ℕ, ◌+◌, ◌≤◌, List, [], ◌∷◌, ◌++◌, map, Bool, true, false, refl, sym, ap, ◌∙◌, subst, inl, inr, arith, Option, Some, None, is_some}
+use Rattle.std.specs.Prelude.{nat_lt, cond, ◌==◌, Contains, if◌then◌else◌}
 use Rattle.tg_base.specs.Clusters.{Header}
+use Rattle.tg_base.specs.Orders.{node_eq, role_number}
 use Rattle.tg_base.specs.declared.cell.Cell.{Cell}
 use Rattle.tg_base.specs.declared.ids.NodeId.{NodeId}
 use Rattle.tg_base.specs.declared.ids.Oid.{Oid}
@@ -10,18 +11,24 @@ use Rattle.tg_base.specs.declared.msg.Msg.{Msg}
 use Rattle.tg_base.specs.declared.msg.Msg.TheVariants as msg
 use Rattle.tg_base.specs.declared.packet.Packet.{Packet}
 use Rattle.tg_kind.specs.Meaning.{Meaning}
-use Rattle.tg_model.specs.Kinds.{EventOf, WhatOf, NoteOf}
+use Rattle.tg_model.specs.Kinds.{CommandOf, EventOf, WhatOf, NoteOf}
+use Rattle.tg_model.specs.declared.command.Command.TheVariants as cmd
+use Rattle.tg_model.specs.declared.refusal.Refusal.TheVariants as cause
 use Rattle.tg_model.specs.declared.trace.What.TheVariants as told
 use Rattle.tg_protocol.specs.Words.{client_id, numbers, cell_at, with_cell, with_num}
 use Rattle.tg_protocol.specs.Logs.{Log, entries_of}
 use Rattle.tg_protocol.specs.Replies.{reply}
 use Rattle.tg_protocol.specs.Views.{View}
-use Rattle.tg_protocol.specs.Clients.{Work, Client, new_client, refusal}
+use Rattle.tg_protocol.specs.Clients.{Work, Client, new_client, refusal, member_entries}
 use Rattle.tg_protocol.specs.Answers.{Moved}
 use Rattle.tg_protocol.specs.ClientSteps.{ClientTurn, feed, refused_or, client_command, client_deliver, client_tick, tick_by}
-use Rattle.tg_protocol.specs.Worlds.{CommandStart, World, Told, start, client, noted_of, log, happens}
+use Rattle.tg_protocol.specs.Walked.{Walked, work_end, packet_end, walked_in}
+use Rattle.tg_protocol.specs.Worlds.{CommandStart, World, Told, start, client, noted_of, log, happens, runs}
 use Rattle.tg_protocol.specs.Runs.{Move, Moves, Next, Takes, Reaches, run}
-use Rattle.tg_protocol.specs.Causes.{IsFor, IsNone, SaysNone, NonesTrue}
+use Rattle.tg_protocol.specs.Alike.{SentNow}
+use Rattle.tg_protocol.specs.Causes.{AsksOf, IsNone, SaysNone, NonesTrue, RefusalsTrue}
+use Rattle.tg_protocol.specs.Stuck.{command_in}
+use Rattle.tg_protocol.specs.Playing.{Replies}
 use Rattle.tg_law_layouts.specs.Moves.After.{after}
 use Rattle.tg_law_layouts.specs.Moves.Configs.{config}
 use Rattle.tg_law_layouts.proofs.Moves.Lists.{contained, at_map}
@@ -32,6 +39,7 @@ use Rattle.tg_law_layouts.proofs.Layouts.Layouts.{stays_sent}
 use Rattle.tg_law_replies.specs.History.Worlds.{entries_in}
 use Rattle.tg_law_replies.specs.Replies.Steps.{EachDelivery, EachEvent}
 use Rattle.tg_law_replies.proofs.Books.Worlds.{cancel, nil_right, run_both}
+use Rattle.tg_law_replies.proofs.History.Members.{both_and, number_same}
 use Rattle.tg_law_walks.specs.Walks.Rounds.{round, IsRound}
 use Rattle.tg_law_walks.specs.Walks.Streams.{IsByPosition}
 use Rattle.tg_law_walks.specs.Lists.Spared.{TrimsWereSpare}
@@ -39,7 +47,7 @@ use Rattle.tg_law_walks.proofs.Walks.Cells.{cell_here, more_some}
 use Rattle.tg_law_walks.proofs.Drafts.Written.{then_next, then_takes}
 use Rattle.tg_law_walks.proofs.Once.Along.{on_moves}
 use Rattle.tg_law_walks.proofs.Walks.Syncs.{logs_by_position}
-use Rattle.tg_law_syncs.specs.Finds.Left.{RoundsExact}
+use Rattle.tg_law_syncs.specs.Finds.Left.{RoundsExact, SavesPrecede}
 use Rattle.tg_law_syncs.proofs.Exact.Finds.{rounds_exact}
 use Rattle.tg_law_trims.proofs.Leaves.Ends.{ends_have}
 use Rattle.tg_law_trims.proofs.Leaves.Landing.{LandInSteps, lands_in_steps}
@@ -47,8 +55,14 @@ use Rattle.tg_law_trims.proofs.Leaves.Steps.{happens_hold}
 use Rattle.tg_law_trims.proofs.Leaves.Turns.{Lasts, AtWork, Holds, PlayHolds}
 use Rattle.tg_law_headline.proofs.Alike.Running.{starts_at, state_at as run_at}
 use Rattle.tg_law_headline.proofs.Alike.Speaks.{Noted, Before, Anew, Delivered, From, Speaks, Silent, Speaks', Turns, told_of, speaks}
+use Rattle.tg_law_answers.specs.Confirmed.{EndsWalks, IsNoneThere, NonesThere, IsAheadThere, AheadsThere, FatesForgotten, IsPastGone, PastsForgotten}
+use Rattle.tg_law_causes.proofs.Stalled.{command_waits}
+use Rattle.tg_law_headline.proofs.Alike.Machines.{TailTold}
+use Rattle.tg_law_headline.proofs.Alike.Refusals.{refused_at_once}
 use Rattle.tg_law_answers.proofs.Absent.{Owned}
-use Rattle.tg_law_answers.proofs.Nones.{NoneTold, Ok, EachOk, Held, WorkHeld, Good, feed_turn, command_turn}
+use Rattle.tg_law_answers.proofs.Hosted.{asked_hosted}
+use Rattle.tg_law_answers.proofs.Pasts.{gone_at, no_base_within, gone_told}
+use Rattle.tg_law_answers.proofs.Nones.{NoneTold, AheadTold, PastGoneAt, ForgottenOk, Ok, EachOk, Held, WorkHeld, Good, feed_turn, command_turn}
 
 -- what a reply says of a record that isn't there
 says_map : (m : Meaning) (what : WhatOf m) (P Q : ℕ → Type 0) → ((p : ℕ) → P p → Q p) → SaysNone m what P → SaysNone m what Q
@@ -73,6 +87,10 @@ one_more p q (x ∷ xs) h = by (nat_lt p x) (p == x) h (one_more p q xs)
         later (inl e) = inl e
         later (inr j) = inr (inr j)
 
+node_itself : (a : NodeId) → node_eq a a ≡ true
+unfolding node_eq
+node_itself a = both_and (role_number a.role == role_number a.role) (a.num == a.num) (number_same (role_number a.role) (role_number a.role) refl) (number_same a.num a.num refl)
+
 module _ (m : Meaning) where
   -- The pages of a client's own records are known.
 
@@ -96,20 +114,40 @@ module _ (m : Meaning) where
   abbrev pub OwnsHold : Client m → Type 0
   OwnsHold c = Holds m K K c
 
-  -- A record of a reply is the same with the count of steps.
+  -- What is told is the same with the count of steps.
 
-  module _ (objects : List Oid) (l : Log) (byp : IsByPosition l) (Got : NodeId → ℕ → Msg → Type 0) (lo : ℕ) where
-    none_called : (d : Client m) (n p : ℕ) → NoneTold m objects l byp Got lo d p → NoneTold m objects l byp Got lo (record d { calls = n }) p
-    none_called d n p x = record { idle = x.idle; tail = x.tail; synced = x.synced; none = λ known e there commit less for. x.none known e there commit less for }
+  module _ (objects : List Oid) (l : Log) (byp : IsByPosition l) (Got : NodeId → ℕ → Msg → Type 0) (lo : ℕ) (end : Option (Walked m)) (command : Option (CommandOf m)) where
+    none_called : (d : Client m) (n p : ℕ) → NoneTold m objects l byp Got lo end command d p → NoneTold m objects l byp Got lo end command (record d { calls = n }) p
+    none_called d n p x = record { idle = x.idle; had = x.had; ended = x.ended; synced = x.synced; none = λ known e there commit less for. x.none known e there commit less for }
 
-    each_called : (d : Client m) (n : ℕ) (ns : List (NoteOf m)) → EachOk m objects l byp Got lo d ns → EachOk m objects l byp Got lo (record d { calls = n }) ns
+    forgotten_called : (d : Client m) (n : ℕ) (x : Option (CommandOf m)) (at below : ℕ) → ForgottenOk m objects l byp Got lo end command d x at below → ForgottenOk m objects l byp Got lo end command (record d { calls = n }) x at below
+    forgotten_called d n (Some (cmd.Fate p)) at below k = k
+    forgotten_called d n (Some (cmd.AskAt p o q)) at below k = k
+    forgotten_called d n x at below k = tt
+
+    ok_called : (d : Client m) (n : ℕ) (what : WhatOf m) → Ok m objects l byp Got lo end command d what → Ok m objects l byp Got lo end command (record d { calls = n }) what
+    ok_called d n (told.Fate p None) k = none_called d n p k
+    ok_called d n (told.Decided p None) k = none_called d n p k
+    ok_called d n (told.Rescued p None) k = none_called d n p k
+    ok_called d n (told.Refused (cause.Ahead tail)) k = k
+    ok_called d n (told.Refused (cause.Forgotten at below)) k = forgotten_called d n command at below k
+    ok_called d n what k = tt
+
+    each_called : (d : Client m) (n : ℕ) (ns : List (NoteOf m)) → EachOk m objects l byp Got lo end command d ns → EachOk m objects l byp Got lo end command (record d { calls = n }) ns
     each_called d n [] k = tt
-    each_called d n (y ∷ ys) k = (says_map m y.what (λ p. NoneTold m objects l byp Got lo d p) (λ p. NoneTold m objects l byp Got lo (record d { calls = n }) p) (none_called d n) k.0, each_called d n ys k.1)
+    each_called d n (y ∷ ys) k = (ok_called d n y.what k.0, each_called d n ys k.1)
 
-    each_has : (d : Client m) (ns : List (NoteOf m)) (y : NoteOf m) → EachOk m objects l byp Got lo d ns → Has ns y → Ok m objects l byp Got lo d y.what
+    each_has : (d : Client m) (ns : List (NoteOf m)) (y : NoteOf m) → EachOk m objects l byp Got lo end command d ns → Has ns y → Ok m objects l byp Got lo end command d y.what
     each_has d [] y k i = absurd i
-    each_has d (z ∷ zs) y k (inl e) = subst (λ (u : NoteOf m). Ok m objects l byp Got lo d u.what) (sym e) k.0
+    each_has d (z ∷ zs) y k (inl e) = subst (λ (u : NoteOf m). Ok m objects l byp Got lo end command d u.what) (sym e) k.0
     each_has d (z ∷ zs) y k (inr i) = each_has d zs y k.1 i
+
+    -- of a record that isn't there
+    says_none : (d : Client m) (what : WhatOf m) → Ok m objects l byp Got lo end command d what → SaysNone m what (λ p. NoneTold m objects l byp Got lo end command d p)
+    says_none d (told.Fate p None) k = k
+    says_none d (told.Decided p None) k = k
+    says_none d (told.Rescued p None) k = k
+    says_none d what k = tt
 
 -- By the world to which a run comes.
 module _ (m : Meaning) (h : Header) (ms : Moves m) (r : Reaches m h ms (after m h ms)) (trims : TrimsWereSpare m h ms) where
@@ -160,29 +198,51 @@ module _ (m : Meaning) (h : Header) (ms : Moves m) (r : Reaches m h ms (after m 
       abbrev c : Client m
       c = client m (after m h xs) n
 
-      abbrev GoodTurn : ClientTurn m → Type 0
-      GoodTurn t = Held m h.objects (log m (after m h ms)) byp (Got n) s.next t.now × EachOk m h.objects (log m (after m h ms)) byp (Got n) s.next t.now t.notes
+      -- what it tells, by the end to which the step brings its walks, if it does
+      record Says (t : ClientTurn m) : Type 0 where
+        end : Option (Walked m)
+        comes : (y : Walked m) → end ≡ Some y → walked_in m w e n ≡ Some y
+        says : EachOk m h.objects (log m (after m h ms)) byp (Got n) s.next end (command_in m c.work) t.now t.notes
 
-      given : (x : Moved m) → Good m h.objects (log m (after m h ms)) byp (Got n) s.next x → (k : ℕ)
-          → Held m h.objects (log m (after m h ms)) byp (Got n) s.next (record x.now { calls = k }) × EachOk m h.objects (log m (after m h ms)) byp (Got n) s.next (record x.now { calls = k }) x.notes
-      given x g k = (g.held, each_called m h.objects (log m (after m h ms)) byp (Got n) s.next x.now k x.notes g.says)
+      abbrev GoodTurn : ClientTurn m → Type 0
+      GoodTurn t = Held m h.objects (log m (after m h ms)) byp (Got n) s.next t.now × Says t
+
+      given : (x : Moved m) (end : Option (Walked m)) → Good m h.objects (log m (after m h ms)) byp (Got n) s.next end (command_in m c.work) x → (k : ℕ)
+          → Held m h.objects (log m (after m h ms)) byp (Got n) s.next (record x.now { calls = k }) × EachOk m h.objects (log m (after m h ms)) byp (Got n) s.next end (command_in m c.work) (record x.now { calls = k }) x.notes
+      given x end g k = (g.held, each_called m h.objects (log m (after m h ms)) byp (Got n) s.next end (command_in m c.work) x.now k x.notes g.says)
 
       brought : (p : Packet) → Delivered m w e n p → EachDelivery m h.objects (entries_in m (after m h ms)) Ends c c.work p.from p.rid (reply p.msg)
       brought p b =
           subst (λ (k : ℕ). EachDelivery m h.objects (entries_in m (after m h ms)) Ends (client m w k) (client m w k).work p.from p.rid (reply p.msg)) b.num
           (subst (λ (y : EventOf m). EachEvent m h.objects (entries_in m (after m h ms)) Ends w y) b.event each p b.got b.of_client b.on)
 
+      -- a step without an end to which walks come
+      no_end : (y : Walked m) → None ≡ Some y → walked_in m w e n ≡ Some y
+      no_end y z = absurd cc
+
       ticked : (o : Option (Work m)) → c.work ≡ o → GoodTurn (tick_by m c o)
-      ticked None is = (kept.held, tt)
-      ticked (Some x) is = (kept.held, tt)
+      ticked None is = (kept.held, record { end = None; comes = no_end; says = tt })
+      ticked (Some x) is = (kept.held, record { end = None; comes = no_end; says = tt })
+
+      -- where a packet comes to the client
+      ends_here : (p : Packet) → p.to ≡ client_id n → Delivered m w e n p → walked_in m w e n ≡ work_end m c c.work p.from p.rid (reply p.msg)
+      ends_here p to d =
+          ap (λ (y : EventOf m). walked_in m w y n) d.event
+          ∙ (ap (λ (o : Option Packet). packet_end m w n o) d.got
+          ∙ ap (λ (b : Bool). if b then work_end m c c.work p.from p.rid (reply p.msg) else None)
+          (both_and (node_eq p.to (client_id n)) (runs m w p.to) (subst (λ (a : NodeId). node_eq a (client_id n) ≡ true) (sym to) (node_itself (client_id n))) d.on))
 
       turn_good : (t : ClientTurn m) → (i : ClientInput m (config m w) n t) → From m w e n t i → GoodTurn t
       unfolding client_command client_deliver client_tick
-      turn_good t (Commanded x) b = given (refused_or m c x (refusal m c x)) (command_turn m h.objects (log m (after m h ms)) byp (Got n) s.next c x (refusal m c x) (not_busy m c x) kept.next kept.held) _
+      turn_good t (Commanded x) b =
+          let g = given (refused_or m c x (refusal m c x)) None (command_turn m h.objects (log m (after m h ms)) byp (Got n) s.next (command_in m c.work) c x (refusal m c x) (refused_at_once m c x) (not_busy m c x) kept.next kept.held) ((refused_or m c x (refusal m c x)).now.calls + 1) in
+          (g.0, record { end = None; comes = no_end; says = g.1 })
       turn_good t (Hears' p comes) b =
-          given (feed m c c.work p.from p.rid (reply p.msg))
+          let g =
+          given (feed m c c.work p.from p.rid (reply p.msg)) (work_end m c c.work p.from p.rid (reply p.msg))
           (feed_turn m h.objects (log m (after m h ms)) byp (Got n) s.next p.from p.rid p.msg
-          (subst (λ (z : NodeId). Has (after m h ms).packets (record { from = p.from; to = z; rid = p.rid; msg = p.msg })) comes.to_node (sent p comes.sent)) c kept.next kept.held (brought p b)) _
+          (subst (λ (z : NodeId). Has (after m h ms).packets (record { from = p.from; to = z; rid = p.rid; msg = p.msg })) comes.to_node (sent p comes.sent)) c kept.next kept.held (brought p b)) ((feed m c c.work p.from p.rid (reply p.msg)).now.calls + 1) in
+          (g.0, record { end = work_end m c c.work p.from p.rid (reply p.msg); comes = λ y is. ends_here p comes.to_node b ∙ is; says = g.1 })
       turn_good t Ticks' b = ticked c.work refl
 
       up : (t : ClientTurn m) → ClientInput m (config m w) n t → c.next ≤ t.now.next
@@ -208,39 +268,107 @@ module _ (m : Meaning) (h : Header) (ms : Moves m) (r : Reaches m h ms (after m 
     -- What the step tells, where it is the last.
 
     module _ (owns : AllOwn (after m h xs)) (kept : (k : ℕ) → Kept (noted_of m (after m h xs) k) k (client m (after m h xs) k)) (last : happens m (after m h xs) e ≡ after m h ms) where
-      sent_now : (t : Told m) (n : ℕ) (s : CommandStart) (p : ℕ) → t.mark.client ≡ n → t.noted ≡ s → NoneTold m h.objects (log m (after m h ms)) byp (Got n) s.next (client m v n) p → IsNone m (after m h ms) t p
-      sent_now t n s p of noted x = subst (λ (u : World m). IsNone m u t p) last (record {
-        tail = x.tail;
-        links = x.synced.links;
+      -- what a reply tells, by the end to which the step brings its client's walks, if it does
+      record Tells (t : Told m) : Type 0 where
+        end : Option (Walked m)
+        comes : (y : Walked m) → end ≡ Some y → walked_in m w e t.mark.client ≡ Some y
+        ok : Ok m h.objects (log m (after m h ms)) byp (Got t.mark.client) t.noted.next end (command_in m (client m w t.mark.client).work) (client m v t.mark.client) t.mark.what
+
+      abbrev there : (t : Told m) (had : Walked m) → walked_in m w e t.mark.client ≡ Some had → TailTold (Got t.mark.client) t.noted.next had.work.tail → EndsWalks m w e t
+      there t had walked k = record {
+        had = had;
+        walked = walked;
+        links = k.links;
         synced = record {
-          rid = x.synced.rid;
-          now = subst (λ (z : CommandStart). z.next ≤ x.synced.rid) (sym noted) x.synced.now;
+          rid = k.rid;
+          now = k.now;
           sent = record {
-            packet = record { from = x.synced.from; to = client_id n; rid = x.synced.rid; msg = msg.Tail x.tail x.synced.links };
-            sent = subst (λ (u : World m). Contains u.packets (record { from = x.synced.from; to = client_id n; rid = x.synced.rid; msg = msg.Tail x.tail x.synced.links })) (sym last) (contained (after m h ms).packets _ x.synced.got);
-            to = ap (λ (k : ℕ). client_id k) (sym of);
+            packet = record { from = k.from; to = client_id t.mark.client; rid = k.rid; msg = msg.Tail had.work.tail k.links };
+            sent = subst (λ (u : World m). Contains u.packets (record { from = k.from; to = client_id t.mark.client; rid = k.rid; msg = msg.Tail had.work.tail k.links })) (sym last) (contained (after m h ms).packets _ k.got);
+            to = refl;
             number = refl;
             says = refl;
           };
         };
-        none = λ d there commit less for. x.none known d (subst (λ (u : World m). Contains (entries_of (log m u)) (p, d)) last there) commit less (subst (λ (k : ℕ). IsFor m (client m v k) p d) of for);
-      })
+      }
+
+      none_there : (t : Told m) (end : Option (Walked m)) (p : ℕ) → ((y : Walked m) → end ≡ Some y → walked_in m w e t.mark.client ≡ Some y)
+          → NoneTold m h.objects (log m (after m h ms)) byp (Got t.mark.client) t.noted.next end (command_in m (client m w t.mark.client).work) (client m v t.mark.client) p → IsNoneThere m w e t p
+      none_there t end p comes x = record {
+        at = there t x.had (comes x.had x.ended) x.synced;
+        none = λ d i commit less for. x.none known d (subst (λ (u : World m). Contains (entries_of (log m u)) (p, d)) last i) commit less for;
+      }
         where
-          known : Owned (client m v n).own (client m v n).cells
-          known = subst (λ (o : Option (Work m)). AtWork m (K m) (K m) (client m v n).num (client m v n).own (client m v n).cells (client m v n).hosted (client m v n).view o) x.idle (owned owns n)
+          known : Owned (client m v t.mark.client).own (client m v t.mark.client).cells
+          known = subst (λ (o : Option (Work m)). AtWork m (K m) (K m) (client m v t.mark.client).num (client m v t.mark.client).own (client m v t.mark.client).cells (client m v t.mark.client).hosted (client m v t.mark.client).view o) x.idle (owned owns t.mark.client)
+
+      nones : (t : Told m) → Tells t → SaysNone m t.mark.what (λ p. IsNoneThere m w e t p)
+      nones t k =
+          says_map m t.mark.what (λ p. NoneTold m h.objects (log m (after m h ms)) byp (Got t.mark.client) t.noted.next k.end (command_in m (client m w t.mark.client).work) (client m v t.mark.client) p) (λ p. IsNoneThere m w e t p)
+          (λ p x. none_there t k.end p k.comes x)
+          (says_none m h.objects (log m (after m h ms)) byp (Got t.mark.client) t.noted.next k.end (command_in m (client m w t.mark.client).work) (client m v t.mark.client) t.mark.what k.ok)
+
+      ok_of : (t : Told m) (k : Tells t) (what : WhatOf m) → t.mark.what ≡ what
+          → Ok m h.objects (log m (after m h ms)) byp (Got t.mark.client) t.noted.next k.end (command_in m (client m w t.mark.client).work) (client m v t.mark.client) what
+      ok_of t k what is = subst (λ (y : WhatOf m). Ok m h.objects (log m (after m h ms)) byp (Got t.mark.client) t.noted.next k.end (command_in m (client m w t.mark.client).work) (client m v t.mark.client) y) is k.ok
+
+      ahead : (t : Told m) (tail : ℕ) → Tells t → t.mark.what ≡ told.Refused (cause.Ahead tail) → IsAheadThere m w e t tail
+      ahead t tail k what = by (ok_of t k (told.Refused (cause.Ahead tail)) what)
+        where
+          by : AheadTold m h.objects (log m (after m h ms)) byp (Got t.mark.client) t.noted.next k.end (command_in m (client m w t.mark.client).work) tail → IsAheadThere m w e t tail
+          by x = record {
+            at = there t x.had (k.comes x.had x.ended) x.synced;
+            is = x.is;
+            pos = x.pos;
+            oid = x.oid;
+            ask = x.ask;
+            command = command_waits m w t.mark.client e x.had (k.comes x.had x.ended) ∙ ap (λ (y : CommandOf m). Some y) x.asks;
+            above = x.above;
+          }
+
+      forgets : (t : Told m) (k : Tells t) (at below : ℕ) (x : CommandOf m) → t.mark.what ≡ told.Refused (cause.Forgotten at below) → command_in m (client m w t.mark.client).work ≡ Some x
+          → ForgottenOk m h.objects (log m (after m h ms)) byp (Got t.mark.client) t.noted.next k.end (command_in m (client m w t.mark.client).work) (client m v t.mark.client) (Some x) at below
+      forgets t k at below x what of =
+          subst (λ (y : Option (CommandOf m)). ForgottenOk m h.objects (log m (after m h ms)) byp (Got t.mark.client) t.noted.next k.end (command_in m (client m w t.mark.client).work) (client m v t.mark.client) y at below) of
+          (ok_of t k (told.Refused (cause.Forgotten at below)) what)
+
+      past : SavesPrecede m (entries_in m (after m h ms)) → (t : Told m) (k : Tells t) (p : ℕ) (o : Oid) (q : m.ask) (at below : ℕ) → command_in m (client m w t.mark.client).work ≡ Some (cmd.AskAt p o q)
+          → t.mark.what ≡ told.Refused (cause.Forgotten at below) → SentNow m v t (msg.Gone below) → IsPastGone m w e t p o at below
+      past precede t k p o q at below of what gone = by (forgets t k at below (cmd.AskAt p o q) what of)
+        where
+          same : (a b : CommandOf m) → Some a ≡ Some b → a ≡ b
+          same a b z = cc
+
+          by : PastGoneAt m h.objects (log m (after m h ms)) byp (Got t.mark.client) t.noted.next k.end (command_in m (client m w t.mark.client).work) p o at below → IsPastGone m w e t p o at below
+          by x = record {
+            named = x.named;
+            ends = there t x.had (k.comes x.had x.ended) x.synced;
+            met = (gone_at m (member_entries m x.had.client x.had.work x.had.work.oids) x.had.work.trims x.had.work.oids x.had.client.objects o at below x.gone).0;
+            gone = gone;
+            none = λ n d b i less gives low high.
+                no_base_within m (log m (after m h ms)) byp x.had.client x.had.work x.found precede o asked at below x.gone n d b (subst (λ (u : World m). Contains (entries_of (log m u)) (n, d)) last i) less gives low high;
+          }
+            where
+              asks : x.had.work.command ≡ cmd.AskAt p o q
+              asks = same x.had.work.command (cmd.AskAt p o q) (sym (command_waits m w t.mark.client e x.had (k.comes x.had x.ended)) ∙ of)
+
+              asked : Contains x.had.work.oids o
+              asked = x.found.hosts o (contained x.had.client.hosted o (asked_hosted m h xs e t.mark.client x.had (k.comes x.had x.ended) o (subst (λ (y : CommandOf m). AsksOf m y o) (sym asks) refl)))
 
       silent_none : (u : World m) → u.told ≡ w.told → (y : Told m) (q : List (Told m)) → u.told ≡ w.told ++ q → Has q y → ⊥
       silent_none u x y q are i = subst (λ (zs : List (Told m)). Has zs y) (cancel w.told q [] (sym are ∙ (x ∙ sym (nil_right w.told)))) i
 
-      tells : (u : World m) → u ≡ v → Speaks m w e u → (y : Told m) (q : List (Told m)) → u.told ≡ w.told ++ q → Has q y → SaysNone m y.mark.what (λ p. IsNone m (after m h ms) y p)
+      tells : (u : World m) → u ≡ v → Speaks m w e u → (y : Told m) (q : List (Told m)) → u.told ≡ w.told ++ q → Has q y → Tells y
       tells u same (Silent t cc nn) y q are i = absurd (silent_none u t y q are i)
       tells u same (Speaks' n t s i noted x f b) y q are j =
           let z = has_map (told_of m w n s) t.notes y (subst (λ (zs : List (Told m)). Has zs y) (cancel w.told q (map (told_of m w n s) t.notes) (sym are ∙ x)) j) in
-          let good = (turn_good n s (kept_of n s noted (kept n)) t i b).1 in
-          let ok = each_has m h.objects (log m (after m h ms)) byp (Got n) s.next t.now t.notes z.of good z.has in
-          subst (λ (k : WhatOf m). SaysNone m k (λ p. IsNone m (after m h ms) y p)) (sym (ap (λ (k : Told m). k.mark.what) z.is))
-          (says_map m z.of.what (λ p. NoneTold m h.objects (log m (after m h ms)) byp (Got n) s.next t.now p) (λ p. IsNone m (after m h ms) y p)
-          (λ p k. sent_now y n s p (ap (λ (g : Told m). g.mark.client) z.is) (ap (λ (g : Told m). g.noted) z.is) (subst (λ (d : Client m). NoneTold m h.objects (log m (after m h ms)) byp (Got n) s.next d p) (sym (now (f n))) k)) ok)
+          let turn = (turn_good n s (kept_of n s noted (kept n)) t i b).1 in
+          subst Tells (sym z.is) (record {
+            end = turn.end;
+            comes = turn.comes;
+            ok = subst (λ (d : Client m). Ok m h.objects (log m (after m h ms)) byp (Got n) s.next turn.end (command_in m (client m w n).work) d z.of.what) (sym (now (f n)))
+                (each_has m h.objects (log m (after m h ms)) byp (Got n) s.next turn.end (command_in m (client m w n).work) t.now t.notes z.of turn.says z.has);
+          })
         where
           now : Turns m w u n t s n → client m v n ≡ t.now
           now (inl a) = subst (λ (g : World m). client m g n ≡ t.now) same a.1
@@ -277,7 +405,31 @@ unfolding run
 last_is m h xs e = sym (run_both m xs (Takes e ∷ []) (start m h))
 
 -- Of the last step of a run.
-pub nones_last : (m : Meaning) (h : Header) (xs : Moves m) (e : EventOf m) → Reaches m h (xs ++ Takes e ∷ []) (after m h (xs ++ Takes e ∷ [])) → TrimsWereSpare m h (xs ++ Takes e ∷ []) → NonesTrue m (after m h xs) e
-nones_last m h xs e r trims t replies =
-    subst (λ (u : World m). SaysNone m t.mark.what (λ p. IsNone m u t p)) (sym (last_is m h xs e))
-    (tells m h (xs ++ Takes e ∷ []) r trims xs [] e refl (owns_at m h (xs ++ Takes e ∷ []) r trims xs (Takes e ∷ []) refl) (kept_at m h (xs ++ Takes e ∷ []) r trims xs (Takes e ∷ []) refl) (last_is m h xs e) (happens m (after m h xs) e) refl (speaks m (after m h xs) e) t replies.replies replies.are (has_contained replies.replies t replies.here))
+module _ (m : Meaning) (h : Header) (xs : Moves m) (e : EventOf m) (r : Reaches m h (xs ++ Takes e ∷ []) (after m h (xs ++ Takes e ∷ []))) (trims : TrimsWereSpare m h (xs ++ Takes e ∷ [])) where
+  owns : (k : ℕ) → OwnsHold m (client m (after m h xs) k)
+  owns = owns_at m h (xs ++ Takes e ∷ []) r trims xs (Takes e ∷ []) refl
+
+  kept : (k : ℕ) → Kept m h (xs ++ Takes e ∷ []) r trims (noted_of m (after m h xs) k) k (client m (after m h xs) k)
+  kept = kept_at m h (xs ++ Takes e ∷ []) r trims xs (Takes e ∷ []) refl
+
+  -- what its replies tell
+  told_last : (t : Told m) → Replies m (after m h xs) e t → Tells m h (xs ++ Takes e ∷ []) r trims xs [] e refl owns kept (last_is m h xs e) t
+  told_last t replies = tells m h (xs ++ Takes e ∷ []) r trims xs [] e refl owns kept (last_is m h xs e) (happens m (after m h xs) e) refl (speaks m (after m h xs) e) t replies.replies replies.are (has_contained replies.replies t replies.here)
+
+  pub nones_last : NonesThere m (after m h xs) e
+  nones_last t replies = nones m h (xs ++ Takes e ∷ []) r trims xs [] e refl owns kept (last_is m h xs e) t (told_last t replies)
+
+  pub aheads_last : AheadsThere m (after m h xs) e
+  aheads_last t tail replies what = ahead m h (xs ++ Takes e ∷ []) r trims xs [] e refl owns kept (last_is m h xs e) t tail (told_last t replies) what
+
+  pub fates_last : FatesForgotten m (after m h xs) e
+  fates_last t p at below replies of what v is = forgets m h (xs ++ Takes e ∷ []) r trims xs [] e refl owns kept (last_is m h xs e) t (told_last t replies) at below (cmd.Fate p) what of v is
+
+  pub pasts_last : SavesPrecede m (entries_in m (after m h (xs ++ Takes e ∷ []))) → RefusalsTrue m (after m h xs) e → PastsForgotten m (after m h xs) e
+  pasts_last precede refusals t p o q at below replies of what = past m h (xs ++ Takes e ∷ []) r trims xs [] e refl owns kept (last_is m h xs e) precede t (told_last t replies) p o q at below of what
+      (gone_told m (after m h xs) e t at below (refusals t (cause.Forgotten at below) replies what))
+
+-- so, by a tail that was told for the command, no record is there
+pub some_tail : (m : Meaning) (w : World m) (e : EventOf m) → NonesThere m w e → NonesTrue m w e
+some_tail m w e nones t replies = says_map m t.mark.what (λ p. IsNoneThere m w e t p) (λ p. IsNone m (happens m w e) t p)
+    (λ p k. record { tail = k.at.had.work.tail; links = k.at.links; synced = k.at.synced; none = k.none }) (nones t replies)

@@ -148,7 +148,7 @@ module _ (m : Meaning) where
   none_some (Some b) g k = cc
 
   -- an entry of the log that saves an object stands in its stream
-  listed_in : (x : Option Cell) (d : Entry) (o : Oid) (b : Base m) → cell_entry x ≡ Some d → base_at m o d ≡ Some b → lists d o ≡ true
+  pub listed_in : (x : Option Cell) (d : Entry) (o : Oid) (b : Base m) → cell_entry x ≡ Some d → base_at m o d ≡ Some b → lists d o ≡ true
   listed_in None d o b read is = absurd cc
   listed_in (Some Junk) d o b read is = absurd cc
   listed_in (Some (Data page)) d o b read is = saves_listed m page d o b read is
@@ -196,14 +196,18 @@ module _ (m : Meaning) (h : Header) (ms : Moves m) (e : EventOf m) (r : Reaches 
   whole : (o : Oid) (n : ℕ) → k.end.work.command ≡ cmd.Forget o n → k.end.work.lo ≡ 0
   whole = ends_give m h.objects (entries_in m (after m h ms)) (WalksWhole m) (after m h ms) t.mark.client e k.end (forgets_walk_whole m h ms (after m h ms) e before) k.ended
 
+  pub none_below : (o : Oid) (n : ℕ) → k.end.work.command ≡ cmd.Forget o n → Contains k.end.client.hosted o → may_forget m (hosted_entries m k.end.client k.end.work) o n ≡ Some NoCheckpoint
+      → (p : ℕ) (d : Entry) (b : Base m) → HasEntry m (after m h (ms ++ Takes e ∷ [])) p d → p < k.end.work.tail → base_at m o d ≡ Some b → n ≤ b.upto → ⊥
+  none_below o n is hosted none p d b there less gives reaches =
+      none_reaches m (log m (after m h (ms ++ Takes e ∷ []))) (logs_by_position m (after m h (ms ++ Takes e ∷ []))) k.end.client k.end.work (causing.found m h ms e r trims t k) (whole o n is) precede o hosted n
+      (no_load m (hosted_entries m k.end.client k.end.work) o n none) p d b there less gives reaches
+
   pub no_base : (o : Oid) (n : ℕ) → k.end.work.command ≡ cmd.Forget o n → Contains k.end.client.hosted o → may_forget m (hosted_entries m k.end.client k.end.work) o n ≡ Some NoCheckpoint → HasNoBase m (after m h (ms ++ Takes e ∷ [])) t o n
   no_base o n is hosted none = record {
     tail = k.end.work.tail;
     links = k.end.work.lasts;
     synced = record { rid = k.heard.tail.rid; now = k.heard.tail.now; sent = k.heard.tail.sent };
-    none = λ p d b there less gives reaches.
-        none_reaches m (log m (after m h (ms ++ Takes e ∷ []))) (logs_by_position m (after m h (ms ++ Takes e ∷ []))) k.end.client k.end.work (causing.found m h ms e r trims t k) (whole o n is) precede o hosted n
-        (no_load m (hosted_entries m k.end.client k.end.work) o n none) p d b there less gives reaches;
+    none = none_below o n is hosted none;
   }
 
   pub is_open : (o : Oid) (n p : ℕ) → k.end.work.command ≡ cmd.Forget o n → may_forget m (hosted_entries m k.end.client k.end.work) o n ≡ Some (OpenDecision p) → IsOpen m (after m h ms) e t o n p

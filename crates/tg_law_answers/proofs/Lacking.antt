@@ -1,10 +1,11 @@
 -- Where an outcome is unsure at the end of walks, the client's own record is among its entries.
-use Rattle.std.proofs.Common.{◌≡◌, ◌⊎◌, ℕ, List, [], ◌∷◌, ◌++◌, refl, sym, ◌∙◌, subst, inl, inr, arith, Option, Some, None}
+use Rattle.std.proofs.Common.{◌≡◌, ◌⊎◌, ℕ, List, [], ◌∷◌, ◌++◌, true, refl, sym, ap, ◌∙◌, subst, inl, inr, arith, Option, Some, None}
 use Rattle.tg_base.specs.Clusters.{Header}
+use Rattle.tg_base.specs.declared.ids.Oid.{Oid}
 use Rattle.tg_kind.specs.Meaning.{Meaning}
 use Rattle.tg_model.specs.declared.command.Command.TheVariants as cmd
 use Rattle.tg_model.specs.declared.trace.What.TheVariants as told
-use Rattle.tg_model.specs.Kinds.{EventOf, WhatOf, NoteOf}
+use Rattle.tg_model.specs.Kinds.{CommandOf, EventOf, WhatOf, NoteOf}
 use Rattle.tg_protocol.specs.Past.{commit_at}
 use Rattle.tg_protocol.specs.Clients.{Task, Syncing, Walking, Appending, Trimming, Copying', Reconfiguring, Work, Client, all_entries}
 use Rattle.tg_protocol.specs.ClientSteps.{task_in}
@@ -12,6 +13,7 @@ use Rattle.tg_protocol.specs.Answers.{walked}
 use Rattle.tg_protocol.specs.Walked.{Walked, entries_had}
 use Rattle.tg_protocol.specs.Worlds.{Told, client, log}
 use Rattle.tg_protocol.specs.Causes.{IsUnsure, UnsureTrue}
+use Rattle.tg_protocol.specs.Views.{decision_in}
 use Rattle.tg_protocol.specs.Runs.{Moves, Takes, Reaches}
 use Rattle.tg_law_layouts.specs.Moves.After.{after}
 use Rattle.tg_law_replies.specs.History.Worlds.{entries_in}
@@ -24,11 +26,13 @@ use Rattle.tg_law_syncs.proofs.Exact.Finds.{rounds_exact}
 use Rattle.tg_law_trims.proofs.Leaves.Turns.{AtTask, AtWork}
 use Rattle.tg_law_causes.specs.Undecidings.{LacksRecord, UnsureUnlessLacking}
 use Rattle.tg_law_causes.proofs.EndsGive.{ends_give}
-use Rattle.tg_law_causes.proofs.Stalling.{Plain, Brief, EachOk, Said, walked_so}
+use Rattle.tg_law_causes.proofs.Stalling.{Plain, Brief, EachOk, Said, widens, walked_so}
 use Rattle.tg_law_causes.proofs.Stalled.{AtWalksEnd, undecided_ends}
+use Rattle.tg_law_answers.specs.Undecided.{HasNoYes, UnsureUnlessYes}
 use Rattle.tg_law_answers.proofs.Absent.{Owned, commit_found, own_found}
 use Rattle.tg_law_answers.proofs.Along.{K, owns_at}
 use Rattle.tg_law_causes.proofs.OwnAlong.{own_record}
+use Rattle.tg_law_answers.proofs.NoYes.{Ok as Open, each_has as open_has, walked_ok}
 use Rattle.tg_law_answers.proofs.OwnSince.{own_past}
 use Rattle.tg_law_answers.proofs.WalksEnd.{TaskOwned, owned_there}
 
@@ -88,15 +92,36 @@ module _ (m : Meaning) (h : Header) (ms : Moves m) (e : EventOf m) (before : Rea
     ends_so : (a p : ℕ) → t.mark.what ≡ told.Unsure a p → (a ≡ k.end.work.at) × (k.end.work.command ≡ cmd.End)
     ends_so a p what = subst (λ (y : WhatOf m). Ok (walked m k.end.client k.end.work).now y) (sym k.is ∙ what) (each_has (walked m k.end.client k.end.work).now (walked m k.end.client k.end.work).notes k.note said.notes k.here)
 
-    has_record : (a p : ℕ) → t.mark.what ≡ told.Unsure a p → commit_at (all_entries m k.end.client k.end.work k.end.work.oids) a ≡ None → ⊥
-    has_record a p what none =
-        let f = ends_so a p what in
-        let g = own_past m h ms before t.mark.client e k.end k.ended f.1 in
+    -- the record that an `end` has appended is among its entries
+    own_there : k.end.work.command ≡ cmd.End → commit_at (all_entries m k.end.client k.end.work k.end.work.oids) k.end.work.at ≡ None → ⊥
+    own_there ending none =
+        let g = own_past m h ms before t.mark.client e k.end k.ended ending in
         let r = own_record m h (ms ++ Takes e ∷ []) reach ends ms [] e refl t.mark.client k.end k.ended k.end.work.at g.0 in
         let less = g.1 in
         commit_found (all_entries m k.end.client k.end.work k.end.work.oids) k.end.work.at r.0
         (own_found m (log m (after m h (ms ++ Takes e ∷ []))) (logs_by_position m (after m h (ms ++ Takes e ∷ []))) k.end.client k.end.work found k.end.work.oids (λ o i. i) found.hosts k.end.work.at r.0 owned g.0 r.1 (omega (arith, less)))
-        r.2 (subst (λ (n : ℕ). commit_at (all_entries m k.end.client k.end.work k.end.work.oids) n ≡ None) f.0 none)
+        r.2 none
+
+    has_record : (a p : ℕ) → t.mark.what ≡ told.Unsure a p → commit_at (all_entries m k.end.client k.end.work k.end.work.oids) a ≡ None → ⊥
+    has_record a p what none = let f = ends_so a p what in own_there f.1 (subst (λ (n : ℕ). commit_at (all_entries m k.end.client k.end.work k.end.work.oids) n ≡ None) f.0 none)
+
+    -- and none that says yes for the record that it names
+    streams : k.end.work.command ≡ cmd.End → k.end.work.oids ≡ k.end.client.hosted
+    streams ending = k.heard.streams (ap (λ (x : CommandOf m). widens m x) ending)
+
+    hosted_there : k.end.work.command ≡ cmd.End → commit_at (all_entries m k.end.client k.end.work k.end.client.hosted) k.end.work.at ≡ None → ⊥
+    hosted_there ending none = own_there ending (subst (λ (os : List Oid). commit_at (all_entries m k.end.client k.end.work os) k.end.work.at ≡ None) (sym (streams ending)) none)
+
+    no_yes : (a p : ℕ) → t.mark.what ≡ told.Unsure a p → HasNoYes m (after m h ms) e t p
+    no_yes a p what = record {
+      had = k.end;
+      walked = k.ended;
+      none = subst (λ (os : List Oid). decision_in (all_entries m k.end.client k.end.work os) p ≡ Some true → ⊥) (sym (streams so.0)) so.1;
+    }
+      where
+        so : (k.end.work.command ≡ cmd.End) × (decision_in (all_entries m k.end.client k.end.work k.end.client.hosted) p ≡ Some true → ⊥)
+        so = subst (λ (y : WhatOf m). Open m k.end.client k.end.work hosted_there y) (sym k.is ∙ what)
+            (open_has m k.end.client k.end.work hosted_there (walked m k.end.client k.end.work).notes k.note (walked_ok m k.end.client k.end.work hosted_there) k.here)
 
     one_end : (y z : Walked m) → Some y ≡ Some z → y ≡ z
     one_end y z is = cc
@@ -111,3 +136,7 @@ module _ (m : Meaning) (h : Header) (ms : Moves m) (e : EventOf m) (before : Rea
       by (inl x) = x
       by (inr l) =
           absurd (lacks_not t (undecided_ends m h ms e reach trims replies.replies t replies.are (has_contained replies.replies t replies.here) (λ brief. subst (Brief m) what brief)) a p what l.1)
+
+  pub no_yes_there : UnsureUnlessYes m (after m h ms) e
+  no_yes_there t a p replies what =
+      no_yes t (undecided_ends m h ms e reach trims replies.replies t replies.are (has_contained replies.replies t replies.here) (λ brief. subst (Brief m) what brief)) a p what

@@ -9,10 +9,13 @@ pub mod Hosting
 pub mod Lacking
 pub mod Limited
 pub mod Limits
+pub mod NoYes
 pub mod Nones
 pub mod OwnSince
+pub mod Pasts
 pub mod Refused
 pub mod Refusing
 pub mod States
 pub mod Store
+pub mod Unsaved
 pub mod WalksEnd

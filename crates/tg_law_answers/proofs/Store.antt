@@ -5,7 +5,7 @@ use Rattle.tg_base.specs.Clusters.{Header}
 use Rattle.tg_any.specs.AllKinds.{all_kinds}
 use Rattle.tg_kind.specs.Meaning.{Meaning}
 use Rattle.tg_model.specs.Kinds.{EventOf}
-use Rattle.tg_protocol.specs.Causes.{CausesRefuse, NonesTrue, UnsureTrue}
+use Rattle.tg_protocol.specs.Causes.{CausesRefuse, NonesTrue, RefusalsTrue, UnsureTrue}
 use Rattle.tg_protocol.specs.Worlds.{World, happens}
 use Rattle.tg_protocol.specs.Runs.{Moves, Move, Takes, Reaches, Later, LawfulEvent, LawfulMove, EachStep, most_steps, run}
 use Rattle.tg_law_layouts.specs.Moves.After.{after}
@@ -19,9 +19,16 @@ use Rattle.tg_law_causes.specs.Undecidings.{UnsureUnlessLacking}
 use Rattle.tg_law_headline.proofs.Runs.Finding.{ends}
 use Rattle.tg_law_causes.proofs.Store.{directories_true}
 use Rattle.tg_law_causes.proofs.StoreStalled.{unsure_unless_lacking}
-use Rattle.tg_law_answers.proofs.Along.{nones_last}
-use Rattle.tg_law_answers.proofs.Lacking.{unsure_there}
+use Rattle.tg_law_answers.specs.Confirmed.{NonesThere, AheadsThere, FatesForgotten, PastsForgotten, UnsavedThere}
+use Rattle.tg_law_answers.specs.Undecided.{UnsureUnlessYes}
+use Rattle.tg_law_answers.proofs.Along.{nones_last, aheads_last, fates_last, pasts_last, some_tail}
+use Rattle.tg_law_answers.proofs.Lacking.{unsure_there, no_yes_there as unsure_unless_yes}
+use Rattle.tg_law_answers.proofs.Refused.{refusals_true}
 use Rattle.tg_law_answers.proofs.Refusing.{causes_refuse_here}
+use Rattle.tg_law_answers.proofs.Unsaved.{unsaved_there as unsaved_last}
+use Rattle.tg_law_walks.proofs.Checkpoints.Checkpoints.{entries_own}
+use Rattle.tg_law_syncs.proofs.Follow.Saves.{saves_precede}
+use Rattle.tg_law_store.proofs.AllKinds.Touching.{kinds_touch_parts}
 
 pub causes_refuse : EachStep all_kinds (CausesRefuse all_kinds)
 causes_refuse h ms w e r lawful few = causes_refuse_here all_kinds h ms w e r (directories_true h ms w r)
@@ -43,11 +50,14 @@ module _ (m : Meaning) (h : Header) (ms : Moves m) (w : World m) (e : EventOf m)
   unfolding on
   reached = let z = reaches_later m h ms w (happens m w e) r on in subst (Reaches m h (ms ++ Takes e ∷ [])) z.goes.is z
 
-pub nones_true : EachStep all_kinds (NonesTrue all_kinds)
-nones_true h ms w e r lawful few =
+pub nones_there : EachStep all_kinds (NonesThere all_kinds)
+nones_there h ms w e r lawful few =
     let z = reached all_kinds h ms w e r lawful few in
     let t = store_trims_are_spare h (ms ++ Takes e ∷ []) (after all_kinds h (ms ++ Takes e ∷ [])) z (steps_hold h (ms ++ Takes e ∷ []) (after all_kinds h (ms ++ Takes e ∷ [])) z) in
-    subst (λ (u : World all_kinds). NonesTrue all_kinds u e) (sym r.goes.is) (nones_last all_kinds h ms e z t.were)
+    subst (λ (u : World all_kinds). NonesThere all_kinds u e) (sym r.goes.is) (nones_last all_kinds h ms e z t.were)
+
+pub nones_true : EachStep all_kinds (NonesTrue all_kinds)
+nones_true h ms w e r lawful few = some_tail all_kinds w e (nones_there h ms w e r lawful few)
 
 pub unsure_true : EachStep all_kinds (UnsureTrue all_kinds)
 unsure_true h ms w e r lawful few =
@@ -56,3 +66,37 @@ unsure_true h ms w e r lawful few =
     subst (λ (u : World all_kinds). UnsureTrue all_kinds u e) (sym r.goes.is)
     (unsure_there all_kinds h ms e (subst (Reaches all_kinds h ms) r.goes.is r) z t.were (ends h (ms ++ Takes e ∷ []) (after all_kinds h (ms ++ Takes e ∷ [])) z)
     (subst (λ (u : World all_kinds). UnsureUnlessLacking all_kinds u e) r.goes.is (unsure_unless_lacking h ms w e r lawful few)))
+
+pub no_yes_there : EachStep all_kinds (UnsureUnlessYes all_kinds)
+no_yes_there h ms w e r lawful few =
+    let z = reached all_kinds h ms w e r lawful few in
+    let t = store_trims_are_spare h (ms ++ Takes e ∷ []) (after all_kinds h (ms ++ Takes e ∷ [])) z (steps_hold h (ms ++ Takes e ∷ []) (after all_kinds h (ms ++ Takes e ∷ [])) z) in
+    subst (λ (u : World all_kinds). UnsureUnlessYes all_kinds u e) (sym r.goes.is)
+    (unsure_unless_yes all_kinds h ms e (subst (Reaches all_kinds h ms) r.goes.is r) z t.were (ends h (ms ++ Takes e ∷ []) (after all_kinds h (ms ++ Takes e ∷ [])) z))
+
+pub aheads_there : EachStep all_kinds (AheadsThere all_kinds)
+aheads_there h ms w e r lawful few =
+    let z = reached all_kinds h ms w e r lawful few in
+    let t = store_trims_are_spare h (ms ++ Takes e ∷ []) (after all_kinds h (ms ++ Takes e ∷ [])) z (steps_hold h (ms ++ Takes e ∷ []) (after all_kinds h (ms ++ Takes e ∷ [])) z) in
+    subst (λ (u : World all_kinds). AheadsThere all_kinds u e) (sym r.goes.is) (aheads_last all_kinds h ms e z t.were)
+
+pub fates_forgotten : EachStep all_kinds (FatesForgotten all_kinds)
+fates_forgotten h ms w e r lawful few =
+    let z = reached all_kinds h ms w e r lawful few in
+    let t = store_trims_are_spare h (ms ++ Takes e ∷ []) (after all_kinds h (ms ++ Takes e ∷ [])) z (steps_hold h (ms ++ Takes e ∷ []) (after all_kinds h (ms ++ Takes e ∷ [])) z) in
+    subst (λ (u : World all_kinds). FatesForgotten all_kinds u e) (sym r.goes.is) (fates_last all_kinds h ms e z t.were)
+
+pub pasts_forgotten : EachStep all_kinds (PastsForgotten all_kinds)
+pasts_forgotten h ms w e r lawful few =
+    let z = reached all_kinds h ms w e r lawful few in
+    let t = store_trims_are_spare h (ms ++ Takes e ∷ []) (after all_kinds h (ms ++ Takes e ∷ [])) z (steps_hold h (ms ++ Takes e ∷ []) (after all_kinds h (ms ++ Takes e ∷ [])) z) in
+    let p = saves_precede all_kinds h (ms ++ Takes e ∷ []) (after all_kinds h (ms ++ Takes e ∷ [])) z t.were (entries_own all_kinds kinds_touch_parts h (ms ++ Takes e ∷ []) (after all_kinds h (ms ++ Takes e ∷ [])) z) in
+    subst (λ (u : World all_kinds). PastsForgotten all_kinds u e) (sym r.goes.is)
+    (pasts_last all_kinds h ms e z t.were p (subst (λ (u : World all_kinds). RefusalsTrue all_kinds u e) r.goes.is (refusals_true h ms w e r lawful few)))
+
+pub unsaved_there : EachStep all_kinds (UnsavedThere all_kinds)
+unsaved_there h ms w e r lawful few =
+    let z = reached all_kinds h ms w e r lawful few in
+    let t = store_trims_are_spare h (ms ++ Takes e ∷ []) (after all_kinds h (ms ++ Takes e ∷ [])) z (steps_hold h (ms ++ Takes e ∷ []) (after all_kinds h (ms ++ Takes e ∷ [])) z) in
+    let p = saves_precede all_kinds h (ms ++ Takes e ∷ []) (after all_kinds h (ms ++ Takes e ∷ [])) z t.were (entries_own all_kinds kinds_touch_parts h (ms ++ Takes e ∷ []) (after all_kinds h (ms ++ Takes e ∷ [])) z) in
+    subst (λ (u : World all_kinds). UnsavedThere all_kinds u e) (sym r.goes.is) (unsaved_last all_kinds h ms e (subst (Reaches all_kinds h ms) r.goes.is r) z t.were p)

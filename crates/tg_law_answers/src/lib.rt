@@ -2,9 +2,11 @@
 #![tactic(auto)]
 
 mod causes;
+mod confirmed;
 mod laws;
 mod unsure;
 
 pub use causes::refusals_true;
+pub use confirmed::{aheads_there, fates_forgotten, nones_there, pasts_forgotten, unsaved_there};
 pub use laws::{causes_refuse, nones_true};
-pub use unsure::unsure_true;
+pub use unsure::{unsure_true, unsure_unless_yes};
