@@ -23,6 +23,9 @@ pub mod Trails
 pub mod Readers
 pub mod Tasks
 pub mod Askers
+pub mod Probes
+pub mod Midway
+pub mod Suiting
 pub mod Askings
 pub mod Scans
 pub mod Standing
@@ -38,6 +41,9 @@ pub mod Rescuing
 pub mod Hosting
 pub mod Ending
 pub mod Waits
+pub mod Starts
+pub mod Walked
+pub mod Issued
 pub mod Below
 pub mod Named
 pub mod Shapes

@@ -4,5 +4,6 @@ pub mod Commit
 pub mod Books
 pub mod Legal
 pub mod Settling
+pub mod Probing
 pub mod Closing
 pub mod Saving

@@ -6,6 +6,8 @@ pub mod Queues
 pub mod Laws
 pub mod Store
 pub mod Makes
+pub mod Reads
 pub mod Walks
 pub mod Rescues
 pub mod Ends
+pub mod Anywhere

@@ -11,7 +11,7 @@
 //! it alone, is proved (`tg_law_trims::laws_of_issues`).
 
 ghost use Rattle.tg_kind.specs.Of.{meaning_of};
-ghost use Rattle.tg_law_finish.specs.Finish.Laws.{AppendAnswered, AppendInTime, AskAnswered, AskInTime, DeliveriesTakeTurns, EndsAreTold};
+ghost use Rattle.tg_law_finish.specs.Finish.Laws.{AppendAnswered, AppendInTime, AskAnswered, AskInTime, DeliveriesTakeTurns, EndsAreTold, RepliesAreTold};
 ghost use Rattle.tg_law_finish.specs.Finish.Walks.{StreamsFew};
 ghost use Rattle.tg_protocol.specs.Runs.{Always};
 
@@ -42,9 +42,14 @@ pub fn asks_are_answered_in_time<K: Registry>()
     ensures { Always (meaning_of K.Registry) (AskInTime (meaning_of K.Registry)) }
 {}
 
-/// In any world, where a settling ends a client's command that plays, the client has told a reply.
+/// In any world, where a settling ends a client's command that plays, the client has told something.
 pub fn ends_are_told<K: Registry>()
     ensures { EndsAreTold (meaning_of K.Registry) }
+{}
+
+/// In each world of a run it has told a reply: no mere mark of a transaction's beginning, of a write, or of an end that is accepted.
+pub fn replies_are_told<K: Registry>()
+    ensures { Always (meaning_of K.Registry) (RepliesAreTold (meaning_of K.Registry)) }
 {}
 
 /// In any world the delivery of the oldest packet takes it out, and puts what a node sends then behind the others.

@@ -7,6 +7,7 @@
 //! latest layout's sequencer has issued a position since that layout's start (`asks_finish`, `makes_finish`).
 
 ghost use Rattle.tg_any.specs.AllKinds.{all_kinds};
+ghost use Rattle.tg_law_finish.specs.Finish.Anywhere.{CommandWalks};
 ghost use Rattle.tg_law_finish.specs.Finish.Ends.{EndFinishes};
 ghost use Rattle.tg_law_finish.specs.Finish.Makes.{MakeFinishes};
 ghost use Rattle.tg_law_finish.specs.Finish.Rescues.{RescueWalks};
@@ -33,9 +34,10 @@ pub fn makes_finish()
     ensures { Always all_kinds (MakeFinishes all_kinds) }
 {}
 
-/// An `ask`, `fate` or `ask-at` whose sync still waits for its first answer is answered whatever is trimmed, and whether or
-/// not the sequencer has issued a position since its layout's start. Its walks may meet trims, find the tail stale and sync
-/// again, and give up the kept view and start over: in so many passes more as there are units, and two.
+/// An `ask`, `fate` or `ask-at` that waits in a sync or in a walk, wherever that stands, is answered whatever is
+/// trimmed, and whether or not the sequencer has issued a position since its layout's start. Its walks may meet trims,
+/// find the tail stale and sync again, and give up the kept view and start over: in so many passes more as there are
+/// units, and two.
 pub fn asks_finish_anyway()
     ensures { Always all_kinds (AskWalks all_kinds) }
 {}
@@ -55,4 +57,11 @@ pub fn rescues_finish()
 /// syncs, walks what it hosts, and tells the outcome, or appends a decision record first.
 pub fn ends_finish()
     ensures { Always all_kinds (EndFinishes all_kinds) }
+{}
+
+/// So an `ask`, `fate`, `ask-at`, `decide`, `checkpoint`, `forget` or `rescue` is answered wherever it stands, but
+/// while its client waits for a newer layout: within the bound of its command, and 129 times what trims may cost walks
+/// over 128 streams.
+pub fn commands_finish()
+    ensures { Always all_kinds (CommandWalks all_kinds) }
 {}

@@ -1,6 +1,6 @@
 //! Runs for which the premises of the laws hold, computed by the definitions.
 
-ghost use Rattle.tg_law_finish.specs.Tallies.Settled.{AppendIsAnswered, AskIsAnswered, EndIsAnswered, FateIsAnswered, RescueIsAnswered, SaveIsAnswered};
+ghost use Rattle.tg_law_finish.specs.Tallies.Settled.{AppendIsAnswered, AskIsAnswered, EndIsAnswered, FateIsAnswered, ProbeIsAnswered, RescueIsAnswered, SaveIsAnswered};
 ghost use Rattle.tg_law_finish.specs.Tallies.Books.{CommitIsBooked};
 ghost use Rattle.tg_law_finish.specs.Tallies.Tallies.{PastIsTold, CommitIsTold};
 
@@ -36,6 +36,13 @@ pub fn ask_is_answered()
 /// are allowed.
 pub fn fate_is_answered()
     ensures { FateIsAnswered }
+{}
+
+/// A run in which nothing was issued, a client is told so, and its probe of the chain of position 0 is lost, is one for
+/// which `asks_finish_anyway` asks no more than it has: it is in the middle of its sync. A settling of it takes four
+/// deliveries with the client, where 26 are allowed.
+pub fn probe_is_answered()
+    ensures { ProbeIsAnswered }
 {}
 
 /// A run in which a client asks within a transaction and ends it, and its record's request for a token is lost, is one for which

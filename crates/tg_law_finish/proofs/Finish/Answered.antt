@@ -21,7 +21,7 @@ use Rattle.tg_base.specs.declared.ids.Oid.{Oid}
 use Rattle.tg_protocol.specs.Entries.{streams_of}
 use Rattle.tg_model.specs.declared.command.Command.TheVariants as cmd
 use Rattle.tg_protocol.specs.Clients.{Judged, Appending, Syncing, Doing, Work, Client, Hand, Task}
-use Rattle.tg_protocol.specs.ClientSteps.{task_asks}
+use Rattle.tg_protocol.specs.ClientSteps.{task_asks, task_in}
 use Rattle.tg_protocol.specs.Worlds.{World, seqr, client, latest, settle}
 use Rattle.tg_protocol.specs.Runs.{Moves, Reaches, Always}
 use Rattle.tg_protocol.specs.Finishing.{longest_chain, is_with_client, passes, WaitsAlone, IsReadyFor, most_deliveries, most_deliveries_in, Finishes, HasReply}
@@ -35,16 +35,19 @@ use Rattle.tg_law_finish.specs.Finish.Appends.{WaitsForAppend, AppendStands, Put
 use Rattle.tg_law_finish.specs.Finish.Asks.{NothingTrimmed, HasIssued, WaitsForSync}
 use Rattle.tg_law_finish.specs.Finish.Makes.{makes, MakesSync, make_bound}
 use Rattle.tg_law_finish.specs.Finish.Ends.{EndsAppend, end_bound}
-use Rattle.tg_law_finish.specs.Finish.Rescues.{is_rescue, RescuesSync, rescue_bound}
+use Rattle.tg_law_finish.specs.Finish.Reads.{WaitsForRead}
+use Rattle.tg_law_finish.specs.Finish.Rescues.{is_rescue, rescue_bound}
 use Rattle.tg_law_finish.specs.Finish.Walks.{StreamsFew, passes_bound, walk_bound, streams}
-use Rattle.tg_law_finish.specs.Finish.Laws.{IsAnswered, AppendAnswered, AppendInTime, AskAnswered, AskInTime, EndsAreTold}
-use Rattle.tg_law_finish.proofs.Finish.Asking.{HeldWhereTrimmed, Walkable, Untrimmed, Owns, Syncs}
+use Rattle.tg_law_finish.specs.Finish.Laws.{IsReply, IsAnswered, AppendAnswered, AppendInTime, AskAnswered, AskInTime, EndsAreTold, RepliesAreTold}
+use Rattle.tg_law_finish.proofs.Finish.Asking.{HeldWhereTrimmed, Walkable, Untrimmed, Owns, Syncs, TaskStands, Reads}
 use Rattle.tg_law_finish.proofs.Finish.Counted.{is_of, one_if, cost, counted, Finishes as Counted}
-use Rattle.tg_law_finish.proofs.Finish.Replying.{settle_replies}
-use Rattle.tg_law_finish.proofs.Finish.Telling.{CommandIs}
+use Rattle.tg_law_finish.proofs.Finish.Replying.{settle_replies, settle_tells}
+use Rattle.tg_law_finish.proofs.Finish.Suiting.{WorkSuits, task_replies, all_suit}
+use Rattle.tg_law_finish.proofs.Finish.Telling.{HasIt}
 use Rattle.tg_law_finish.specs.Finish.Commands.{is_ask, plays}
 use Rattle.tg_law_finish.proofs.Finish.Finishes.{writes_finish}
-use Rattle.tg_law_finish.proofs.Finish.Waits.{asks_finish, makes_finish, asks_finish_by, makes_finish_by, rescues_finish_by, ends_finish_by}
+use Rattle.tg_law_finish.proofs.Finish.Waits.{asks_finish, makes_finish, ends_finish_by}
+use Rattle.tg_law_finish.proofs.Finish.Walked.{asks_finish_by, makes_finish_by, rescues_finish_by}
 use Rattle.tg_law_finish.proofs.Finish.Hosting.{WorkFew, hosting}
 use Rattle.tg_law_finish.proofs.Finish.Standing.{numbers_hold, cells_always, pax_always, working, lawful, next_near, names_below, once_there, units_are, cluster_is, header_limits}
 use Rattle.tg_law_finish.proofs.Finish.Writing.{Writes, Stands, InHand, PutStands, JudgeStands}
@@ -81,7 +84,7 @@ front_of xs ys zs e = subst (λ (l : List ℕ). take (length l - length ys) l �
     less : (xs ys : List ℕ) → length (xs ++ ys) - length ys ≡ length xs
     less xs ys = let a = length-append xs ys in omega (arith, a)
 
-answered_of : (m : Meaning) (k n : ℕ) (w v : World m) → Counted m k n w v → HasReply m w v k (λ what. Unit {0}) → Finishes m w v k n (λ what. Unit {0})
+answered_of : (m : Meaning) (k n : ℕ) (w v : World m) → Counted m k n w v → HasReply m w v k (IsReply m) → Finishes m w v k n (IsReply m)
 answered_of m k n w v f r = record {
   idle = f.answered;
   reply = r;
@@ -89,7 +92,7 @@ answered_of m k n w v f r = record {
       (subst (λ c. c ≤ n) (counted_is m k v.packets f.done) f.few);
 }
 
-within : (m : Meaning) (k a b : ℕ) (w v : World m) → a ≤ b → Finishes m w v k a (λ what. Unit {0}) → Finishes m w v k b (λ what. Unit {0})
+pub within : (m : Meaning) (k a b : ℕ) (w v : World m) → a ≤ b → Finishes m w v k a (IsReply m) → Finishes m w v k b (IsReply m)
 within m k a b w v le f = let few = f.few in record { idle = f.idle; reply = f.reply; few = omega (arith, le, few) }
 
 -- The bounds of commands.
@@ -248,9 +251,6 @@ module _ (m : Meaning) (h : Header) (ms : Moves m) (w : World m) (r : Reaches m 
   made : MakesSync m w k → Syncs m w k
   made f = synced f.work f.sync f.rid f.waits f.hand f.first
 
-  rescued : RescuesSync m w k → Syncs m w k
-  rescued f = synced f.work f.sync f.rid f.waits f.hand f.first
-
   rescues_play : (x : CommandOf m) → is_rescue m x ≡ true → plays m x ≡ true
   unfolding is_rescue plays
   rescues_play x e = grind arith
@@ -267,8 +267,9 @@ module _ (m : Meaning) (h : Header) (ms : Moves m) (w : World m) (r : Reaches m 
   few_layouts : w.cluster.layouts ≤ 7
   few_layouts = subst (λ (y : Header). y.layouts ≤ 7) (sym (cluster_is m h ms w r)) (header_limits h r.header).0
 
-  in_work : (work : Work m) → (client m w k).work ≡ Some work → CommandIs m work.command (client m w k).work
-  in_work work e = subst (λ (o : Option (Work m)). CommandIs m work.command o) (sym e) refl
+  replied : (work : Work m) → (client m w k).work ≡ Some work → plays m work.command ≡ true → (client m (settle m w).world k).work ≡ None → HasReply m w (settle m w).world k (IsReply m)
+  replied work e play idle = settle_replies m (IsReply m) (λ what i. i) k work.command play w
+      (subst (λ (o : Option (Work m)). HasIt m (IsReply m) work.command o) (sym e) (refl, task_replies m work.command (task_in m work.hand) (subst (λ (o : Option (Work m)). WorkSuits m o) e (all_suit m h ms w r k)))) idle
 
   asks_play : (x : CommandOf m) → is_ask m x ≡ true → plays m x ≡ true
   unfolding is_ask plays
@@ -280,7 +281,7 @@ module _ (m : Meaning) (h : Header) (ms : Moves m) (w : World m) (r : Reaches m 
   pub append_answered : (x : CommandOf m) → WaitsAlone m w k x → IsReadyFor m w k → Granted m w → WaitsForAppend m w k → IsAnswered m w k (4 * longest_chain p + 2 * w.cluster.layouts + 2)
   append_answered x a b g f =
       let c = writes_finish m w k p (longest_chain p) (working m h ms w r k x a b) (lawful m h ms w r k x a b g) (writes b.stand f) a.within in
-      answered_of m k _ w _ (subst (λ l. Counted m k (4 * longest_chain p + 2 * l + 2) w (settle m w).world) layouts_are c) (settle_replies m k f.work.command f.command w (in_work f.work f.waits) c.answered)
+      answered_of m k _ w _ (subst (λ l. Counted m k (4 * longest_chain p + 2 * l + 2) w (settle m w).world) layouts_are c) (replied f.work f.waits f.command c.answered)
 
   pub append_in_time : (x : CommandOf m) → WaitsAlone m w k x → IsReadyFor m w k → Granted m w → WaitsForAppend m w k → IsAnswered m w k (most_deliveries_in m w x)
   append_in_time x a b g f = within m k _ _ w _ (bounds m x _ _ _ _ (rooms _ _ _ (longest g x a b) few_layouts)) (append_answered x a b g f)
@@ -289,7 +290,7 @@ module _ (m : Meaning) (h : Header) (ms : Moves m) (w : World m) (r : Reaches m 
   unfolding asks synced
   ask_answered x a b g u n f =
       let c = asks_finish m w k p (longest_chain p) (working m h ms w r k x a b) (lawful m h ms w r k x a b g) (walkable (none_trimmed u)) (untrimmed u n) (asks f) f.asks a.within in
-      answered_of m k _ w _ (subst (λ l. Counted m k (2 * ((longest_chain p + 1) * ((seqr m w p.seq).next + 1)) + 2 * l) w (settle m w).world) layouts_are c) (settle_replies m k f.work.command (asks_play f.work.command f.asks) w (in_work f.work f.waits) c.answered)
+      answered_of m k _ w _ (subst (λ l. Counted m k (2 * ((longest_chain p + 1) * ((seqr m w p.seq).next + 1)) + 2 * l) w (settle m w).world) layouts_are c) (replied f.work f.waits (asks_play f.work.command f.asks) c.answered)
 
   pub ask_in_time : (x : CommandOf m) → WaitsAlone m w k x → IsReadyFor m w k → Granted m w → NothingTrimmed m w → HasIssued m w → WaitsForSync m w k → IsAnswered m w k (most_deliveries_in m w x)
   ask_in_time x a b g u n f = within m k _ _ w _ (bounds m x _ _ _ _ (each_room _ _ _ (longest g x a b) few_layouts)) (ask_answered x a b g u n f)
@@ -298,12 +299,28 @@ module _ (m : Meaning) (h : Header) (ms : Moves m) (w : World m) (r : Reaches m 
   unfolding made synced
   make_answered x a b g u n f =
       let c = makes_finish m w k p (longest_chain p) (working m h ms w r k x a b) (lawful m h ms w r k x a b g) (walkable (none_trimmed u)) (untrimmed u n) (made f) f.makes_it a.within in
-      answered_of m k _ w _ (subst (λ l. Counted m k (2 * ((longest_chain p + 1) * ((seqr m w p.seq).next + 1)) + 2 * l + 2 * (longest_chain p + 1)) w (settle m w).world) layouts_are c) (settle_replies m k f.work.command (makes_play f.work.command f.makes_it) w (in_work f.work f.waits) c.answered)
+      answered_of m k _ w _ (subst (λ l. Counted m k (2 * ((longest_chain p + 1) * ((seqr m w p.seq).next + 1)) + 2 * l + 2 * (longest_chain p + 1)) w (settle m w).world) layouts_are c) (replied f.work f.waits (makes_play f.work.command f.makes_it) c.answered)
 
   pub make_in_time : (x : CommandOf m) → WaitsAlone m w k x → IsReadyFor m w k → Granted m w → NothingTrimmed m w → HasIssued m w → MakesSync m w k → IsAnswered m w k (most_deliveries_in m w x)
   make_in_time x a b g u n f = within m k _ _ w _ (bounds m x _ _ _ _ (made_room _ _ _ (longest g x a b) few_layouts)) (make_answered x a b g u n f)
 
   -- Whatever is trimmed.
+
+  one_work : (v u : Work m) → Some v ≡ Some u → v ≡ u
+  one_work v u e = cc
+
+  reading : (client m w k).stand ≡ p → (f : WaitsForRead m w k) → TaskStands m w p f.work f.task → Reads m w k p
+  reading e f stands = record {
+    work = f.work;
+    waits = f.waits;
+    task = f.task;
+    hand = f.hand;
+    stands = stands;
+    below = λ o g. below_next o (reserves (client m w k) f.work f.task o f.waits f.hand (subst (λ (q : Layout). Has (hand_reserved m q (Doing f.task)) o) (sym e) g));
+  }
+
+  pub same_command : (x : CommandOf m) → WaitsAlone m w k x → (v : Work m) → (client m w k).work ≡ Some v → x ≡ v.command
+  same_command x a v e = sym (ap (λ (u : Work m). u.command) (one_work v a.work (sym e ∙ a.waits)) ∙ a.command)
 
   few_streams : (v : Work m) → (client m w k).work ≡ Some v → length v.oids ≤ 128
   few_streams v e = subst (λ (o : Option (Work m)). WorkFew m o) e (hosting m h ms w r k).work
@@ -311,56 +328,53 @@ module _ (m : Meaning) (h : Header) (ms : Moves m) (w : World m) (r : Reaches m 
   passes_few : (c s n : ℕ) → s ≤ 128 → 2 * ((2 * c + 1 + s) * (n + 2)) ≤ 2 * ((2 * c + 1 + 128) * (n + 2))
   passes_few c s n le = let a = mul-le (2 * c + 1 + s) (n + 2) (2 * c + 1 + 128) (n + 2) (omega (arith, le)) (omega arith) in omega (arith, a)
 
-  ask_by : (x : CommandOf m) → WaitsAlone m w k x → IsReadyFor m w k → Granted m w → HeldWhereTrimmed m w p → (f : WaitsForSync m w k) → IsAnswered m w k (walk_bound m w (streams m f.work))
-  unfolding asks synced
-  ask_by x a b g held f =
-      let c = asks_finish_by m w k p (longest_chain p) (working m h ms w r k x a b) (lawful m h ms w r k x a b g) (walkable held) (asks f) f.asks a.within in
+  ask_by : (x : CommandOf m) → WaitsAlone m w k x → IsReadyFor m w k → Granted m w → HeldWhereTrimmed m w p → (f : WaitsForRead m w k) → TaskStands m w p f.work f.task → is_ask m f.work.command ≡ true → IsAnswered m w k (walk_bound m w (streams m f.work))
+  unfolding reading
+  ask_by x a b g held f stands is =
+      let c = asks_finish_by m w k p (longest_chain p) (working m h ms w r k x a b) (lawful m h ms w r k x a b g) (walkable held) (reading b.stand f stands) is a.within in
       answered_of m k _ w _ (subst (λ n. Counted m k (2 * ((longest_chain p + 1) * (seqr m w p.seq).next) + 2 * w.cluster.layouts + 2 * ((2 * longest_chain p + 1 + length f.work.oids) * (n + 2))) w (settle m w).world) (units_are m h ms w r)
       (subst (λ l. Counted m k (2 * ((longest_chain p + 1) * (seqr m w p.seq).next) + 2 * l + 2 * ((2 * longest_chain p + 1 + length f.work.oids) * (length w.units + 2))) w (settle m w).world) layouts_are c))
-      (settle_replies m k f.work.command (asks_play f.work.command f.asks) w (in_work f.work f.waits) c.answered)
+      (replied f.work f.waits (asks_play f.work.command is) c.answered)
 
-  make_by : (x : CommandOf m) → WaitsAlone m w k x → IsReadyFor m w k → Granted m w → HeldWhereTrimmed m w p → (f : MakesSync m w k) → IsAnswered m w k (walk_bound m w (streams m f.work) + 2 * (longest_chain p + 1))
-  unfolding made synced
-  make_by x a b g held f =
-      let c = makes_finish_by m w k p (longest_chain p) (working m h ms w r k x a b) (lawful m h ms w r k x a b g) (walkable held) (made f) f.makes_it a.within in
+  make_by : (x : CommandOf m) → WaitsAlone m w k x → IsReadyFor m w k → Granted m w → HeldWhereTrimmed m w p → (f : WaitsForRead m w k) → TaskStands m w p f.work f.task → makes m f.work.command ≡ true
+      → IsAnswered m w k (walk_bound m w (streams m f.work) + 2 * (longest_chain p + 1))
+  unfolding reading
+  make_by x a b g held f stands is =
+      let c = makes_finish_by m w k p (longest_chain p) (working m h ms w r k x a b) (lawful m h ms w r k x a b g) (walkable held) (reading b.stand f stands) is a.within in
       answered_of m k _ w _ (subst (λ n. Counted m k (2 * ((longest_chain p + 1) * (seqr m w p.seq).next) + 2 * w.cluster.layouts + 2 * ((2 * longest_chain p + 1 + length f.work.oids) * (n + 2)) + 2 * (longest_chain p + 1)) w (settle m w).world) (units_are m h ms w r)
       (subst (λ l. Counted m k (2 * ((longest_chain p + 1) * (seqr m w p.seq).next) + 2 * l + 2 * ((2 * longest_chain p + 1 + length f.work.oids) * (length w.units + 2)) + 2 * (longest_chain p + 1)) w (settle m w).world) layouts_are c))
-      (settle_replies m k f.work.command (makes_play f.work.command f.makes_it) w (in_work f.work f.waits) c.answered)
+      (replied f.work f.waits (makes_play f.work.command is) c.answered)
 
-  pub ask_walks : (x : CommandOf m) → WaitsAlone m w k x → IsReadyFor m w k → Granted m w → HeldWhereTrimmed m w p → (f : WaitsForSync m w k)
+  pub ask_walks : (x : CommandOf m) → WaitsAlone m w k x → IsReadyFor m w k → Granted m w → HeldWhereTrimmed m w p → is_ask m x ≡ true → (f : WaitsForRead m w k) → TaskStands m w p f.work f.task
       → IsAnswered m w k (walk_bound m w (streams m f.work)) × IsAnswered m w k (most_deliveries_in m w x + passes_bound m w 128)
-  ask_walks x a b g held f =
-      let y = ask_by x a b g held f in
+  ask_walks x a b g held is f stands =
+      let y = ask_by x a b g held f stands (subst (λ (z : CommandOf m). is_ask m z ≡ true) (same_command x a f.work f.waits) is) in
       let few = passes_few (longest_chain p) (length f.work.oids) w.cluster.units (few_streams f.work f.waits) in
       let room = bounds m x (longest_chain p) (seqr m w p.seq).next w.cluster.units _ (walks_room (longest_chain p) (seqr m w p.seq).next w.cluster.layouts (longest g x a b) few_layouts) in
       (y, within m k _ _ w _ (omega (arith, room, few)) y)
 
-  pub make_walks : (x : CommandOf m) → WaitsAlone m w k x → IsReadyFor m w k → Granted m w → HeldWhereTrimmed m w p → (f : MakesSync m w k)
+  pub make_walks : (x : CommandOf m) → WaitsAlone m w k x → IsReadyFor m w k → Granted m w → HeldWhereTrimmed m w p → makes m x ≡ true → (f : WaitsForRead m w k) → TaskStands m w p f.work f.task
       → IsAnswered m w k (walk_bound m w (streams m f.work) + 2 * (longest_chain p + 1)) × IsAnswered m w k (most_deliveries_in m w x + passes_bound m w 128)
-  make_walks x a b g held f =
-      let y = make_by x a b g held f in
+  make_walks x a b g held is f stands =
+      let y = make_by x a b g held f stands (subst (λ (z : CommandOf m). makes m z ≡ true) (same_command x a f.work f.waits) is) in
       let few = passes_few (longest_chain p) (length f.work.oids) w.cluster.units (few_streams f.work f.waits) in
       let room = bounds m x (longest_chain p) (seqr m w p.seq).next w.cluster.units _ (walks_room (longest_chain p) (seqr m w p.seq).next w.cluster.layouts (longest g x a b) few_layouts) in
       (y, within m k _ _ w _ (omega (arith, room, few)) y)
 
-  rescue_by : (x : CommandOf m) → WaitsAlone m w k x → IsReadyFor m w k → Granted m w → HeldWhereTrimmed m w p → (f : RescuesSync m w k) → IsAnswered m w k (rescue_bound m w (streams m f.work))
-  unfolding rescued synced
-  rescue_by x a b g held f =
-      let c = rescues_finish_by m w k p (longest_chain p) (working m h ms w r k x a b) (lawful m h ms w r k x a b g) (walkable held) (rescued f) f.rescues (few_streams f.work f.waits) a.within in
+  rescue_by : (x : CommandOf m) → WaitsAlone m w k x → IsReadyFor m w k → Granted m w → HeldWhereTrimmed m w p → (f : WaitsForRead m w k) → TaskStands m w p f.work f.task → is_rescue m f.work.command ≡ true → IsAnswered m w k (rescue_bound m w (streams m f.work))
+  unfolding reading
+  rescue_by x a b g held f stands is =
+      let c = rescues_finish_by m w k p (longest_chain p) (working m h ms w r k x a b) (lawful m h ms w r k x a b g) (walkable held) (reading b.stand f stands) is (few_streams f.work f.waits) a.within in
       answered_of m k _ w _
       (subst (λ n. Counted m k ((2 * ((longest_chain p + 1) * (seqr m w p.seq).next) + 2 * w.cluster.layouts + 2 * ((2 * longest_chain p + 1 + 128) * (n + 2))) * ((128 - length f.work.oids) + 1) + 2 * (longest_chain p + 1)) w (settle m w).world) (units_are m h ms w r)
       (subst (λ l. Counted m k ((2 * ((longest_chain p + 1) * (seqr m w p.seq).next) + 2 * l + 2 * ((2 * longest_chain p + 1 + 128) * (length w.units + 2))) * ((128 - length f.work.oids) + 1) + 2 * (longest_chain p + 1)) w (settle m w).world) layouts_are c))
-      (settle_replies m k f.work.command (rescues_play f.work.command f.rescues) w (in_work f.work f.waits) c.answered)
+      (replied f.work f.waits (rescues_play f.work.command is) c.answered)
 
-  one_work : (v u : Work m) → Some v ≡ Some u → v ≡ u
-  one_work v u e = cc
-
-  pub rescue_walks : (x : CommandOf m) → WaitsAlone m w k x → IsReadyFor m w k → Granted m w → HeldWhereTrimmed m w p → (f : RescuesSync m w k)
+  pub rescue_walks : (x : CommandOf m) → WaitsAlone m w k x → IsReadyFor m w k → Granted m w → HeldWhereTrimmed m w p → is_rescue m x ≡ true → (f : WaitsForRead m w k) → TaskStands m w p f.work f.task
       → IsAnswered m w k (rescue_bound m w (streams m f.work)) × IsAnswered m w k (most_deliveries_in m w x + 129 * passes_bound m w 128)
-  rescue_walks x a b g held f =
-      let y = rescue_by x a b g held f in
-      let same = ap (λ (v : Work m). v.command) (one_work f.work a.work (sym f.waits ∙ a.waits)) ∙ a.command in
-      let most = rescues_most m x (longest_chain p) (seqr m w p.seq).next w.cluster.units (subst (λ (z : CommandOf m). is_rescue m z ≡ true) same f.rescues) in
+  rescue_walks x a b g held is f stands =
+      let y = rescue_by x a b g held f stands (subst (λ (z : CommandOf m). is_rescue m z ≡ true) (same_command x a f.work f.waits) is) in
+      let most = rescues_most m x (longest_chain p) (seqr m w p.seq).next w.cluster.units is in
       let room = rescues_room (longest_chain p) (seqr m w p.seq).next w.cluster.layouts (passes_bound m w 128) (128 - length f.work.oids) (longest g x a b) few_layouts (omega arith) in
       (y, within m k _ _ w _ (omega (arith, room, most)) y)
 
@@ -370,7 +384,7 @@ module _ (m : Meaning) (h : Header) (ms : Moves m) (w : World m) (r : Reaches m 
       answered_of m k _ w _
       (subst (λ n. Counted m k (2 * ((longest_chain p + 1) * (seqr m w p.seq).next) + 2 * w.cluster.layouts + 2 * ((2 * longest_chain p + 1 + 128) * (n + 2)) + 6 * (longest_chain p + 1)) w (settle m w).world) (units_are m h ms w r)
       (subst (λ l. Counted m k (2 * ((longest_chain p + 1) * (seqr m w p.seq).next) + 2 * l + 2 * ((2 * longest_chain p + 1 + 128) * (length w.units + 2)) + 6 * (longest_chain p + 1)) w (settle m w).world) layouts_are c))
-      (settle_replies m k f.work.command (ends_play f.work.command f.command) w (in_work f.work f.waits) c.answered)
+      (replied f.work f.waits (ends_play f.work.command f.command) c.answered)
 
   pub end_walks : (x : CommandOf m) → WaitsAlone m w k x → IsReadyFor m w k → Granted m w → HeldWhereTrimmed m w p → Owns m w k p → IsAnswered m w k (end_bound m w) × IsAnswered m w k (most_deliveries_in m w x + passes_bound m w 128)
   end_walks x a b g held f =
@@ -391,7 +405,10 @@ pub asks_in_time : (m : Meaning) → Always m (AskInTime m)
 asks_in_time m h ms w r k x a b g u n f = ask_in_time m h ms w r k x a b g u n f
 
 pub ends_are_told : (m : Meaning) → EndsAreTold m
-ends_are_told m w k work e g idle = settle_replies m k work.command g w (subst (λ (o : Option (Work m)). CommandIs m work.command o) (sym e) refl) idle
+ends_are_told m w k work e g idle = settle_tells m k w work g e idle
+
+pub replies_are_told : (m : Meaning) → Always m (RepliesAreTold m)
+replies_are_told m h ms w r k work e g idle = replied m h ms w r k work e g idle
 
 pub streams_are_few : (m : Meaning) → Always m (StreamsFew m)
 streams_are_few m h ms w r k v e = few_streams m h ms w r k v e

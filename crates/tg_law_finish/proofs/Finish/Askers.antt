@@ -230,7 +230,6 @@ module _ (m : Meaning) (h : Header) (stopped : List NodeId) (k : ℕ) (p : Layou
 
   -- the last position below the tail is filled; so much is left after the sync
   pub record Settles (s : Net m) (cells : List (ℕ × Cell)) (after : ℕ) (a : Answer) (pl : Place) (y : CellWork) (n : ℕ) : Type 0 where
-    pub tail_is : a.tail ≡ tail
     pub place : pl ≡ place_in p pl.pos
     pub less : pl.pos < tail
     pub lasts : (o : Oid) → Low p tail (backs_of (link_of o a.lasts))
@@ -252,9 +251,9 @@ module _ (m : Meaning) (h : Header) (stopped : List NodeId) (k : ℕ) (p : Layou
   pub data SyncWell (t : Net m) (cells : List (ℕ × Cell)) (after n next : ℕ) : SyncTurn → Type 0 where
     SyncOn : (oids : List Oid) (a : Answer) (pl : Place) (y : CellWork) (u : ℕ) (z : Msg) (left : ℕ) → work_asks pl y ≡ out (unit_id u) next z ∷ [] → Settles t cells after a pl y left → left + 1 ≤ n
         → SyncWell t cells after n next (record { next = next + 1; besides = []; gone = 0; to = Goes (record { oids = oids; work = Settling a (works pl y) }) })
-    SyncEnds : (a : Answer) (c : Cell) → a.tail ≡ tail → ((o : Oid) → Low p tail (backs_of (link_of o a.lasts))) → Here t → budget (unknown (with_cell cells (a.tail - 1) c) tail) + extra kind.trims after ≤ n
+    SyncEnds : (a : Answer) (c : Cell) → ((o : Oid) → Low p tail (backs_of (link_of o a.lasts))) → Here t → budget (unknown (with_cell cells (a.tail - 1) c) tail) + extra kind.trims after ≤ n
         → SyncWell t cells after n next (record { next = next; besides = []; gone = 0; to = Ends (confirmed a (Some (a.tail - 1, c))) })
-    SyncProbes : (oids : List Oid) (a : Answer) (gone : ℕ) → a.tail ≡ tail → ((o : Oid) → Low p tail (backs_of (link_of o a.lasts))) → Here t → budget (unknown cells tail) + extra kind.trims after + length (place_in p (a.tail - 1)).chain ≤ n
+    SyncProbes : (oids : List Oid) (a : Answer) (gone : ℕ) → ((o : Oid) → Low p tail (backs_of (link_of o a.lasts))) → Here t → budget (unknown cells tail) + extra kind.trims after + length (place_in p (a.tail - 1)).chain ≤ n
         → SyncWell t cells after n next (record { next = next + length (place_in p (a.tail - 1)).chain; besides = []; gone = gone; to = Goes (record { oids = oids; work = Probing a (works (place_in p (a.tail - 1)) (Probes (waits_for (place_in p (a.tail - 1)).chain next))) }) })
 
   chain_short : (s : Net m) (n : ℕ) → Here s → length (place_in p n).chain ≤ longest
@@ -267,17 +266,17 @@ module _ (m : Meaning) (h : Header) (stopped : List NodeId) (k : ℕ) (p : Layou
       let e = budget_less (unknown (with_cell cells (a.tail - 1) c) tail) (unknown cells tail) (unknown_less cells (a.tail - 1) c tail) in
       let few = f.few in
       let more = extra_less kind.trims after (longest + after) (omega arith) in
-      SyncEnds a c f.tail_is f.lasts here (omega (arith, e, few, more))
+      SyncEnds a c f.lasts here (omega (arith, e, few, more))
   cell_settles s t cells after sy a pl y n f here next x (CellGoes w u z left asks cell fewer) =
       let few = f.few in
-      SyncOn sy.oids a pl w u z (n - 1) asks (record { tail_is = f.tail_is; place = f.place; less = f.less; lasts = f.lasts; here = here; sort = f.sort; cost = left; cell = cell; few = omega (arith, few, fewer) }) (omega (arith, few, fewer))
+      SyncOn sy.oids a pl w u z (n - 1) asks (record { place = f.place; less = f.less; lasts = f.lasts; here = here; sort = f.sort; cost = left; cell = cell; few = omega (arith, few, fewer) }) (omega (arith, few, fewer))
   cell_settles s t cells after sy a pl y n f here next x (CellGone u b not_clean less is past) =
       let trims = they_trim u b pl.pos is past in
       let few = f.few in
       let one = extra_is kind.trims (longest + after) trims in
       let other = extra_is kind.trims after trims in
       let short = chain_short t (a.tail - 1) here in
-      SyncProbes sy.oids a b f.tail_is f.lasts here (omega (arith, few, one, other, short))
+      SyncProbes sy.oids a b f.lasts here (omega (arith, few, one, other, short))
 
   fills : (s : Net m) (cells : List (ℕ × Cell)) (after : ℕ) (sy : Sync) (a : Answer) (n next : ℕ) → a.tail ≡ tail → ((o : Oid) → Low p tail (backs_of (link_of o a.lasts))) → Here s → nat_lt p.start tail ≡ true
       → longest + budget (unknown cells tail) + extra kind.trims (longest + after) ≤ n → SyncWell s cells after n next (settle_turn p sy a (fill_cell (place_in p (a.tail - 1)) next))
@@ -289,7 +288,7 @@ module _ (m : Meaning) (h : Header) (stopped : List NodeId) (k : ℕ) (p : Layou
       let one = g.stable.serves.some in
       let short = g.stable.serves.short in
       let cell : CellStage m h stopped k p longest low_at many s pl sort.0 (Fills next) (longest - 1) = (sort.1, omega (arith, one, short)) in
-      SyncOn sy.oids a pl (Fills next) _ _ (n - 1) refl (record { tail_is = is; place = refl; less = below p.start tail (a.tail) is past; lasts = lasts; here = here; sort = sort.0; cost = longest - 1; cell = cell; few = omega (arith, one, short, few) }) (omega (arith, one, short, few))
+      SyncOn sy.oids a pl (Fills next) _ _ (n - 1) refl (record { place = refl; less = below p.start tail (a.tail) is past; lasts = lasts; here = here; sort = sort.0; cost = longest - 1; cell = cell; few = omega (arith, one, short, few) }) (omega (arith, one, short, few))
     where
       below : (start tail t : ℕ) → t ≡ tail → nat_lt start tail ≡ true → t - 1 < tail
       below start tail t e less = grind (arith, e, less)
@@ -317,4 +316,4 @@ module _ (m : Meaning) (h : Header) (stopped : List NodeId) (k : ℕ) (p : Layou
           let one = extra_is kind.trims (longest + after) they in
           let other = extra_is kind.trims after they in
           let short = chain_short s (a.tail - 1) here in
-          SyncProbes sy.oids a 0 is lasts here (omega (arith, few, one, other, short))
+          SyncProbes sy.oids a 0 lasts here (omega (arith, few, one, other, short))

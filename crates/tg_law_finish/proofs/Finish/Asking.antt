@@ -1,8 +1,10 @@
 -- A client that waits for a sync and walks.
-use Rattle.std.specs.Prelude.{◌≡◌, ◌⊎◌, ℕ, ◌+◌, ◌^◌, ◌<◌, ◌≤◌, nat_lt, true, false, List, length, Some, None}
+use Rattle.std.specs.Prelude.{◌≡◌, ◌⊎◌, ℕ, ◌+◌, ◌^◌, ◌<◌, ◌≤◌, nat_lt, true, false, List, length, Some, None, ⊤}
 use Rattle.tg_base.specs.Layouts.{Layout}
 use Rattle.tg_base.specs.declared.cell.Cell.{Cell}
 use Rattle.tg_base.specs.declared.ids.Oid.{Oid}
+use Rattle.tg_base.specs.declared.marks.StreamLink.{StreamLink}
+use Rattle.tg_base.specs.declared.packet.Out.{Out}
 use Rattle.tg_kind.specs.Meaning.{Meaning}
 use Rattle.tg_protocol.specs.Words.{cell_at, too_far}
 use Rattle.tg_model.specs.declared.command.Command.TheVariants as cmd
@@ -10,11 +12,17 @@ use Rattle.tg_protocol.specs.Entries.{streams_of, link_of, backs_of}
 use Rattle.tg_protocol.specs.Layouts.{chain_of}
 use Rattle.tg_protocol.specs.Sequencers.{links_of, with_positions}
 use Rattle.tg_protocol.specs.Appending.{Append, Asking, names_all}
-use Rattle.tg_protocol.specs.Syncing.{Sync, Checking}
-use Rattle.tg_protocol.specs.Clients.{Judged, Appending, Syncing, Doing, Work}
+use Rattle.tg_protocol.specs.Cells.{CellWork, Puts, Gets, Fills, Copies, Probes, CellJob, place_in}
+use Rattle.tg_protocol.specs.Requests.{Waits}
+use Rattle.tg_protocol.specs.Syncing.{Sync, SyncWork, Checking, Settling, Probing}
+use Rattle.tg_protocol.specs.Walking.{Walk}
+use Rattle.tg_protocol.specs.Clients.{Judged, Task, Appending, Syncing, Walking, Trimming, Copying', Reconfiguring, Doing, Work}
+use Rattle.tg_protocol.specs.ClientSteps.{task_awaited}
 use Rattle.tg_protocol.specs.Worlds.{World, unit, seqr, client}
+use Rattle.tg_law_layouts.proofs.Moves.Members.{Has}
 use Rattle.tg_law_trims.proofs.Issues.Bounds.{AllBelow}
 use Rattle.tg_law_finish.proofs.Finish.Askers.{Distinct}
+use Rattle.tg_law_finish.proofs.Finish.Probes.{Asked}
 use Rattle.tg_law_finish.proofs.Finish.Working.{at_chain}
 
 module _ (m : Meaning) where
@@ -60,3 +68,65 @@ module _ (m : Meaning) where
     pub hand : work.hand ≡ Doing (Syncing sync)
     pub first : sync.work ≡ Checking rid
     pub below : rid < (client m w k).next
+
+  -- A client in a sync or in a walk.
+
+  -- a cell goes down a chain: the first unit has it, or has trimmed it; and where a unit has trimmed it, so has each other one
+  pub record CarriesDown (w : World m) (p : Layout) (pos : ℕ) (c : Cell) : Type 0 where
+    pub first : nat_lt pos (unit m w (at_chain m p pos 0)).low ≡ false → cell_at (unit m w (at_chain m p pos 0)).cells pos ≡ Some c
+    pub held : (j : ℕ) → j < length (chain_of p pos) → nat_lt pos (unit m w (at_chain m p pos j)).low ≡ true
+        → (i : ℕ) → i < length (chain_of p pos) → (cell_at (unit m w (at_chain m p pos i)).cells pos ≡ Some c) ⊎ (nat_lt pos (unit m w (at_chain m p pos i)).low ≡ true)
+
+  abbrev pub CellStands : World m → Layout → ℕ → CellWork → Type 0
+  CellStands w p pos (Gets r) = ⊤
+  CellStands w p pos (Fills r) = ⊤
+  CellStands w p pos (Copies r c i) = (i < length (chain_of p pos)) × CarriesDown w p pos c
+  CellStands w p pos (Puts r d i) = ⊥
+  CellStands w p pos (Probes ws) = ⊥
+
+  -- an issued position is read
+  pub record JobStands (w : World m) (p : Layout) (j : CellJob) : Type 0 where
+    pub place : j.place ≡ place_in p j.place.pos
+    pub less : j.place.pos < (seqr m w p.seq).next
+    pub work : CellStands w p j.place.pos j.work
+
+  pub record ProbeStands (p : Layout) (j : CellJob) : Type 0 where
+    pub place : j.place ≡ place_in p j.place.pos
+    pub waits : Waits
+    pub work : j.work ≡ Probes waits
+    pub asked : Asked j.place waits
+
+  -- the last positions of each stream were issued
+  abbrev pub LastsBelow : World m → Layout → List StreamLink → Type 0
+  LastsBelow w p ls = (o : Oid) → AllBelow (seqr m w p.seq).next (backs_of (link_of o ls))
+
+  abbrev pub SyncStands : World m → Layout → SyncWork → Type 0
+  SyncStands w p (Checking r) = ⊤
+  SyncStands w p (Settling a j) = LastsBelow w p a.lasts × JobStands w p j
+  SyncStands w p (Probing a j) = LastsBelow w p a.lasts × ProbeStands p j
+
+  pub record WalkStands (w : World m) (p : Layout) (v : Work m) (x : Walk) (os : List Oid) : Type 0 where
+    pub lasts : LastsBelow w p v.lasts
+    pub pointers : AllBelow (seqr m w p.seq).next x.trail.pointers
+    pub last : x.trail.last ≤ (seqr m w p.seq).next
+    pub job : CellJob
+    pub has : x.job ≡ Some job
+    pub stands : JobStands w p job
+    pub fewer : length os < length v.oids
+
+  abbrev pub TaskStands : World m → Layout → Work m → Task m → Type 0
+  TaskStands w p v (Syncing s) = SyncStands w p s.work
+  TaskStands w p v (Walking x os) = WalkStands w p v x os
+  TaskStands w p v (Appending a y) = ⊥
+  TaskStands w p v (Trimming t) = ⊥
+  TaskStands w p v (Copying' x) = ⊥
+  TaskStands w p v (Reconfiguring x) = ⊥
+
+  -- where the client's sync or walk stands
+  pub record Reads (w : World m) (k : ℕ) (p : Layout) : Type 0 where
+    pub work : Work m
+    pub waits : (client m w k).work ≡ Some work
+    pub task : Task m
+    pub hand : work.hand ≡ Doing task
+    pub stands : TaskStands w p work task
+    pub below : (o : Out) → Has (task_awaited m p task) o → o.rid < (client m w k).next

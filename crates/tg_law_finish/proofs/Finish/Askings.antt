@@ -1,6 +1,6 @@
 -- A client whose command syncs and walks comes to where all is walked.
 use Rattle.std.proofs.Common.{◌≡◌, ◌⊎◌, ℕ, zero, suc, ◌+◌, ◌-◌, ◌/◌, ◌<◌, ◌≤◌, List, [], ◌∷◌, ◌++◌, length, map, cond, Bool, true, false, not, ◌&&◌, refl, ap, ◌∙◌, sym, subst, inl, inr, arith, Some, None, Option, eqb, append-nil}
-use Rattle.std.specs.Prelude.{slice_set, slice_index, slice_index_or, nat_lt, max, is_some, ⊤}
+use Rattle.std.specs.Prelude.{slice_set, slice_index_or, nat_lt, max, is_some}
 use Rattle.tg_base.specs.Layouts.{Layout}
 use Rattle.tg_base.specs.Clusters.{Header}
 use Rattle.tg_base.specs.declared.cell.Cell.{Cell}
@@ -43,7 +43,8 @@ use Rattle.tg_law_finish.proofs.Finish.Readings.{Sort, CellAsk, cell_ask, cell_k
 use Rattle.tg_law_finish.proofs.Finish.Trails.{unknown, unknown_fewer, Low, TrailLow, Walked, WalkReads, WalkEnds}
 use Rattle.tg_law_finish.proofs.Finish.Readers.{Way, Walks, WalksTo, ToOver, ToReads, walks_to, seen}
 use Rattle.tg_law_finish.proofs.Finish.Tasks.{TaskShape, Below, Away, none_drawn, shape_called, shape_ticked, again_is, busied, task_fed}
-use Rattle.tg_law_finish.proofs.Finish.Askers.{Distinct, Kind, extra, extra_less, extra_is, above, above_fewer, budget, passes, passes_less, passes_fewer, rest, Here, here_keeps, here_put, stable_at, sort_of, Reading, WalkStage, WalkWell, CellOn, WalkOn, WalkGone, cell_walks, Settles, SyncStage, SyncWell, SyncOn, SyncEnds, SyncProbes, cell_settles, tail_well}
+use Rattle.tg_law_finish.proofs.Finish.Probes.{AskedOnce, each_at, each_waits, all_once, waits_some}
+use Rattle.tg_law_finish.proofs.Finish.Askers.{Kind, extra, extra_less, extra_is, above, above_fewer, budget, passes, passes_less, passes_fewer, rest, Here, here_keeps, here_put, stable_at, sort_of, Reading, WalkStage, WalkWell, CellOn, WalkOn, WalkGone, cell_walks, Settles, SyncStage, SyncWell, SyncOn, SyncEnds, SyncProbes, cell_settles, tail_well}
 
 -- Of commands that go on in such a way once all is walked.
 module _ (m : Meaning) (h : Header) (stopped : List NodeId) (k : ℕ) (p : Layout) (longest : ℕ) (low_at : ℕ → ℕ) (many tail most : ℕ) (kind : Kind low_at p tail) (way : Way m) where
@@ -60,7 +61,7 @@ module _ (m : Meaning) (h : Header) (stopped : List NodeId) (k : ℕ) (p : Layou
   abbrev after_of : Work m → ℕ → ℕ
   after_of w v = Rest (length w.oids) w.gone_before v
 
-  abbrev IsSuch : Work m → Type 0
+  abbrev pub IsSuch : Work m → Type 0
   IsSuch w = way.Is w.command (length w.oids) × (length w.oids ≤ most)
 
   abbrev LastsLow : List StreamLink → Type 0
@@ -93,19 +94,14 @@ module _ (m : Meaning) (h : Header) (stopped : List NodeId) (k : ℕ) (p : Layou
 
   -- A probe: the units of a chain are asked at once.
 
-  abbrev look : Place → Msg
+  abbrev pub look : Place → Msg
   look pl = msg.Has pl.epoch pl.pos pl.pos 1
 
-  abbrev looks : Place → Waits → List Out
+  abbrev pub looks : Place → Waits → List Out
   looks pl ws = asked_of unit_id (look pl) ws
 
   abbrev wholes : Waits → List Item
   wholes ws = map (λ (w : ℕ × ℕ). Tell (unit_id w.0) w.1 msg.Whole) ws
-
-  -- no unit is asked twice
-  abbrev pub AskedOnce : Waits → Type 0
-  AskedOnce [] = ⊤
-  AskedOnce (w ∷ ws) = Each (λ (v : ℕ × ℕ). eqb v.0 w.0 ≡ false) ws × AskedOnce ws
 
   abbrev Answering : Net m → ℕ × ℕ → Type 0
   Answering s w = UnitServes m h stopped k p longest s w.0
@@ -126,7 +122,6 @@ module _ (m : Meaning) (h : Header) (stopped : List NodeId) (k : ℕ) (p : Layou
     pub some : waits ≡ [] → ⊥
     pub units : Each (Answering s) waits
     pub once : AskedOnce waits
-    pub tail_is : answer.tail ≡ tail
     pub lasts : LastsLow answer.lasts
     pub here : HereIn s
     pub such : IsSuch shape.work
@@ -152,7 +147,7 @@ module _ (m : Meaning) (h : Header) (stopped : List NodeId) (k : ℕ) (p : Layou
     FedOver : (c : Client m) (x : Moved m) → c.next ≡ next → c.stand ≡ p → HereIn t → way.GoesOn c x → Fed t n next x
     FedOn : (c : Client m) (w : Work m) (task : Task m) (to : NodeId) (z : Msg) (left : ℕ) → c.next ≡ next + 1 → c.stand ≡ p → task_awaited m p task ≡ out to next z ∷ [] → task_again_asks m p task ≡ out to next z ∷ [] → task_asks m p task ≡ out to next z ∷ []
         → ((l : ℕ) → node_eq to (layout_id l) ≡ false) → TaskStage t c.cells (seen c.view) (record w { hand = Doing task }) task left → left + 1 ≤ n → Fed t n next (goes_on m c w task [])
-    FedProbes : (c : Client m) (w : Work m) (oids : List Oid) (a : Answer) (left : ℕ) → c.next ≡ next + length (place_in p (a.tail - 1)).chain → c.stand ≡ p → a.tail ≡ tail → LastsLow a.lasts → HereIn t → IsSuch w
+    FedProbes : (c : Client m) (w : Work m) (oids : List Oid) (a : Answer) (left : ℕ) → c.next ≡ next + length (place_in p (a.tail - 1)).chain → c.stand ≡ p → LastsLow a.lasts → HereIn t → IsSuch w
         → Budget (unknown c.cells tail) + extra kind.trims (after_of w (seen c.view)) ≤ left → left + length (place_in p (a.tail - 1)).chain ≤ n
         → Fed t n next (goes_on m c w (Syncing (record { oids = oids; work = Probing a (works (place_in p (a.tail - 1)) (Probes (waits_for (place_in p (a.tail - 1)).chain next))) })) [])
 
@@ -334,12 +329,12 @@ module _ (m : Meaning) (h : Header) (stopped : List NodeId) (k : ℕ) (p : Layou
   unfolding task_asks sync_work_asks
   sync_fed t c w n x (SyncOn oids a pl y u z left asks f few) stand such =
       FedOn (record c { next = c.next + 1 }) (record w { gone = max w.gone 0 }) (Syncing (record { oids = oids; work = Settling a (works pl y) })) (unit_id u) z left refl stand asks asks asks (λ l. unit_away m h stopped k p longest u l) (f, such) few
-  sync_fed t c w n x (SyncEnds a y is lasts here few) stand such =
+  sync_fed t c w n x (SyncEnds a y lasts here few) stand such =
       let d = record c { cells = with_cell c.cells (a.tail - 1) y } in
       walks_fed t (with_cell c.cells (a.tail - 1) y) n c.next w.gone_before (seen c.view) (length w.oids) (length w.oids) _
       (walks_to m way p tail most w.oids d (record w { gone = max w.gone 0; tail = a.tail; lasts = a.lasts; lo = steps.lo_for m d w.command }) stand (record { asks = such.0; lasts = lasts; few = such.1 })) here few
-  sync_fed t c w n x (SyncProbes oids a gone is lasts here few) stand such =
-      FedProbes (record c { next = c.next + length (place_in p (a.tail - 1)).chain }) (record w { gone = max w.gone gone }) oids a (n - length (place_in p (a.tail - 1)).chain) refl stand is lasts here such (omega (arith, few)) (omega (arith, few))
+  sync_fed t c w n x (SyncProbes oids a gone lasts here few) stand such =
+      FedProbes (record c { next = c.next + length (place_in p (a.tail - 1)).chain }) (record w { gone = max w.gone gone }) oids a (n - length (place_in p (a.tail - 1)).chain) refl stand lasts here such (omega (arith, few)) (omega (arith, few))
 
   task_well : (t : Net m) (c : Client m) (w : Work m) (task : Task m) (num rid : ℕ) (y : Msg) (n : ℕ) → c.stand ≡ p → TaskWell t c.cells (seen c.view) w task y n → Fed t n c.next (task_feed m c w task num rid (reply y))
   unfolding task_feed
@@ -363,29 +358,9 @@ module _ (m : Meaning) (h : Header) (stopped : List NodeId) (k : ℕ) (p : Layou
   all_below pl [] rid n le = tt
   all_below pl (u ∷ us) rid n le = (omega (arith, le), all_below pl us (rid + 1) n (omega (arith, le)))
 
-  all_away : (pl : Place) (ws : Waits) → Each Away (looks pl ws)
+  pub all_away : (pl : Place) (ws : Waits) → Each Away (looks pl ws)
   all_away pl [] = tt
   all_away pl (w ∷ ws) = ((λ l. unit_away m h stopped k p longest w.0 l), all_away pl ws)
-
-  each_at : (P : ℕ → Type 0) (xs : List ℕ) → ((j : ℕ) → j < length xs → P (slice_index xs j)) → Each P xs
-  each_at P [] f = tt
-  each_at P (x ∷ xs) f = (f 0 (omega arith), each_at P xs (λ j less. f (suc j) (omega (arith, less))))
-
-  all_answer : (s : Net m) (us : List ℕ) (rid : ℕ) → Each (λ u. UnitServes m h stopped k p longest s u) us → Each (Answering s) (waits_for us rid)
-  all_answer s [] rid a = tt
-  all_answer s (u ∷ us) rid a = (a.0, all_answer s us (rid + 1) a.1)
-
-  none_again : (us : List ℕ) (rid u : ℕ) → Each (λ y. eqb y u ≡ false) us → Each (λ (v : ℕ × ℕ). eqb v.0 u ≡ false) (waits_for us rid)
-  none_again [] rid u a = tt
-  none_again (x ∷ us) rid u a = (a.0, none_again us (rid + 1) u a.1)
-
-  all_once : (us : List ℕ) (rid : ℕ) → Distinct us → AskedOnce (waits_for us rid)
-  all_once [] rid d = tt
-  all_once (u ∷ us) rid d = (none_again us (rid + 1) u d.0, all_once us (rid + 1) d.1)
-
-  waits_some : (us : List ℕ) (rid : ℕ) → 0 < length us → waits_for us rid ≡ [] → ⊥
-  waits_some [] rid less e = absurd (omega (arith, less))
-  waits_some (u ∷ us) rid less e = absurd cc
 
   looks_long : (pl : Place) (us : List ℕ) (rid : ℕ) → length (looks pl (waits_for us rid)) ≡ length us
   looks_long pl [] rid = refl
@@ -403,7 +378,7 @@ module _ (m : Meaning) (h : Header) (stopped : List NodeId) (k : ℕ) (p : Layou
     stage = AsksOne (out to c.next z) left (record { task = task; shape = record { stand = stand; work = record w { hand = Doing task }; waits = refl; hand = refl; awaited = awaited; again = again; asks = asks; below = (omega (arith, next), tt); away = (away, tt) }; stage = stage });
     less = few;
   })
-  fed_turns s c n x (FedProbes d w oids a left next stand is lasts here such few less) =
+  fed_turns s c n x (FedProbes d w oids a left next stand lasts here such few less) =
       let pl = place_in p (a.tail - 1) in
       let waits = waits_for pl.chain c.next in
       let stable = (here.good (a.tail - 1)).stable in
@@ -426,9 +401,8 @@ module _ (m : Meaning) (h : Header) (stopped : List NodeId) (k : ℕ) (p : Layou
           shape = record { stand = stand; work = record w { hand = Doing task }; waits = refl; hand = refl; awaited = refl; again = refl; asks = refl; below = all_below pl pl.chain c.next _ (omega (arith, next)); away = all_away pl waits };
           items = sym (append-nil _);
           some = λ e. waits_some pl.chain c.next stable.serves.some e;
-          units = all_answer s pl.chain c.next (each_at (λ u. UnitServes m h stopped k p longest s u) pl.chain (λ j l. stable.serves.unit j l));
+          units = each_waits (λ u. UnitServes m h stopped k p longest s u) pl.chain c.next (each_at (λ u. UnitServes m h stopped k p longest s u) pl.chain (λ j l. stable.serves.unit j l));
           once = all_once pl.chain c.next (kind.once (a.tail - 1));
-          tail_is = is;
           lasts = lasts;
           here = here;
           such = such;
@@ -472,14 +446,14 @@ module _ (m : Meaning) (h : Header) (stopped : List NodeId) (k : ℕ) (p : Layou
   unfolding task_feed sync_feed cell_feed work_feed reply
   probe_fed c w sy a pl x ws stand is once = ap (λ (y : SyncWork). on_sync m c w (sync_feed c.stand sy y x.0 IsWhole c.next)) is ∙ ap (λ ys. on_sync m c w (probe_turn sy a (probe_on pl ys c.next))) (without_first x ws once)
 
-  probe_goes : (s : Net m) (c : Client m) (n : ℕ) (sy : Sync) (a : Answer) (pl : Place) (x : ℕ × ℕ) (ws : Waits) (g : TaskShape m h stopped k p longest c (Syncing sy) (looks pl (x ∷ ws))) → pl.epoch ≡ p.epoch → Each (Answering s) ws → AskedOnce ws → a.tail ≡ tail → LastsLow a.lasts → HereIn s → IsSuch g.work
+  probe_goes : (s : Net m) (c : Client m) (n : ℕ) (sy : Sync) (a : Answer) (pl : Place) (x : ℕ × ℕ) (ws : Waits) (g : TaskShape m h stopped k p longest c (Syncing sy) (looks pl (x ∷ ws))) → pl.epoch ≡ p.epoch → Each (Answering s) ws → AskedOnce ws → LastsLow a.lasts → HereIn s → IsSuch g.work
       → Budget (unknown c.cells tail) + extra kind.trims (after_of g.work (seen c.view)) ≤ n
       → (EndsWalks s c (given m c (probed c g.work sy a pl ws)) n × (wholes ws ≡ [])) ⊎ Goes m h stopped k p Reads s (given m c (probed c g.work sy a pl ws)) (wholes ws) n
   unfolding client_asks task_asks sync_work_asks work_asks
-  probe_goes s c n sy a pl x [] g epoch units once is lasts here such few =
+  probe_goes s c n sy a pl x [] g epoch units once lasts here such few =
       fed_turns s c n _ (walks_fed s c.cells n c.next g.work.gone_before (seen c.view) (length g.work.oids) (length g.work.oids) _
       (walks_to m way p tail most g.work.oids c (record (g.work) { gone = max g.work.gone 0; tail = a.tail; lasts = a.lasts; lo = steps.lo_for m c g.work.command }) g.stand (record { asks = such.0; lasts = lasts; few = such.1 })) here few)
-  probe_goes s c n sy a pl x (w ∷ ws) g epoch units once is lasts here such few =
+  probe_goes s c n sy a pl x (w ∷ ws) g epoch units once lasts here such few =
       let task : Task m = Syncing (record { oids = sy.oids; work = Probing a (works pl (Probes (w ∷ ws))) }) in
       inr (record {
         os = [];
@@ -500,7 +474,6 @@ module _ (m : Meaning) (h : Header) (stopped : List NodeId) (k : ℕ) (p : Layou
           some = λ e. absurd cc;
           units = units;
           once = once;
-          tail_is = is;
           lasts = lasts;
           here = here;
           such = such;
@@ -541,7 +514,7 @@ module _ (m : Meaning) (h : Header) (stopped : List NodeId) (k : ℕ) (p : Layou
               let same = same_work x.shape.work g.work (sym x.shape.waits ∙ g.waits) in
               subst (λ (z : Moved m). (EndsWalks s c (given m c z) n × (wholes ws ≡ [])) ⊎ Goes m h stopped k p Reads s (given m c z) (wholes ws) n)
               (sym (task_fed m h stopped k p longest c (Syncing x.sync) (looks x.pl (w ∷ ws)) (unit_id w.0) w.1 (reply msg.Whole) g (first_awaited (out (unit_id w.0) w.1 (look x.pl)) (looks x.pl ws)) refl ∙ probe_fed c g.work x.sync x.answer x.pl w ws g.stand work once.0))
-              (probe_goes s c n x.sync x.answer x.pl w ws g x.epoch units once.1 x.tail_is x.lasts x.here (subst IsSuch same x.such) (subst (λ (v : Work m). Budget (unknown c.cells tail) + extra kind.trims (after_of v (seen c.view)) ≤ n) same x.few))
+              (probe_goes s c n x.sync x.answer x.pl w ws g x.epoch units once.1 x.lasts x.here (subst IsSuch same x.such) (subst (λ (v : Work m). Budget (unknown c.cells tail) + extra kind.trims (after_of v (seen c.view)) ≤ n) same x.few))
 
   -- A request comes to its node.
 
@@ -763,7 +736,6 @@ module _ (m : Meaning) (h : Header) (stopped : List NodeId) (k : ℕ) (p : Layou
           some = x.some;
           units = each_keeps s t x.waits keep x.units;
           once = x.once;
-          tail_is = x.tail_is;
           lasts = x.lasts;
           here = here_keeps m h stopped k p longest low_at many tail most kind s t keep x.here;
           such = x.such;
@@ -777,7 +749,7 @@ module _ (m : Meaning) (h : Header) (stopped : List NodeId) (k : ℕ) (p : Layou
   reading_keeps s t wk os g v pl y n keep f = record { place = f.place; less = f.less; low = f.low; here = here_keeps m h stopped k p longest low_at many tail most kind s t keep f.here; sort = f.sort; cost = f.cost; cell = cell_keeps m h stopped k p longest low_at many s t pl f.sort y f.cost keep (stable_at m h stopped k p longest low_at many tail most kind s pl f.place f.here) f.cell; left = f.left; fewer = f.fewer; few = f.few; gone = f.gone }
 
   settles_keeps : (s t : Net m) (cells : List (ℕ × Cell)) (after : ℕ) (a : Answer) (pl : Place) (y : CellWork) (n : ℕ) → Keeps m h stopped k p s t → Settles m h stopped k p longest low_at many tail most kind s cells after a pl y n → Settles m h stopped k p longest low_at many tail most kind t cells after a pl y n
-  settles_keeps s t cells after a pl y n keep f = record { tail_is = f.tail_is; place = f.place; less = f.less; lasts = f.lasts; here = here_keeps m h stopped k p longest low_at many tail most kind s t keep f.here; sort = f.sort; cost = f.cost; cell = cell_keeps m h stopped k p longest low_at many s t pl f.sort y f.cost keep (stable_at m h stopped k p longest low_at many tail most kind s pl f.place f.here) f.cell; few = f.few }
+  settles_keeps s t cells after a pl y n keep f = record { place = f.place; less = f.less; lasts = f.lasts; here = here_keeps m h stopped k p longest low_at many tail most kind s t keep f.here; sort = f.sort; cost = f.cost; cell = cell_keeps m h stopped k p longest low_at many s t pl f.sort y f.cost keep (stable_at m h stopped k p longest low_at many tail most kind s pl f.place f.here) f.cell; few = f.few }
 
   sync_keeps : (s t : Net m) (cells : List (ℕ × Cell)) (after : ℕ) (sy : Sync) (w : SyncWork) (n : ℕ) → Keeps m h stopped k p s t → SyncStage m h stopped k p longest low_at many tail most kind s cells after sy w n → SyncStage m h stopped k p longest low_at many tail most kind t cells after sy w n
   sync_keeps s t cells after sy (Checking r) n keep f = (here_keeps m h stopped k p longest low_at many tail most kind s t keep f.0, f.1)
@@ -798,8 +770,8 @@ module _ (m : Meaning) (h : Header) (stopped : List NodeId) (k : ℕ) (p : Layou
 
   sync_well_keeps : (s t : Net m) (cells : List (ℕ × Cell)) (after n next : ℕ) (x : SyncTurn) → Keeps m h stopped k p s t → SyncWell m h stopped k p longest low_at many tail most kind s cells after n next x → SyncWell m h stopped k p longest low_at many tail most kind t cells after n next x
   sync_well_keeps s t cells after n next x keep (SyncOn oids a pl y u z left asks f few) = SyncOn oids a pl y u z left asks (settles_keeps s t cells after a pl y left keep f) few
-  sync_well_keeps s t cells after n next x keep (SyncEnds a c is lasts here few) = SyncEnds a c is lasts (here_keeps m h stopped k p longest low_at many tail most kind s t keep here) few
-  sync_well_keeps s t cells after n next x keep (SyncProbes oids a gone is lasts here few) = SyncProbes oids a gone is lasts (here_keeps m h stopped k p longest low_at many tail most kind s t keep here) few
+  sync_well_keeps s t cells after n next x keep (SyncEnds a c lasts here few) = SyncEnds a c lasts (here_keeps m h stopped k p longest low_at many tail most kind s t keep here) few
+  sync_well_keeps s t cells after n next x keep (SyncProbes oids a gone lasts here few) = SyncProbes oids a gone lasts (here_keeps m h stopped k p longest low_at many tail most kind s t keep here) few
 
   walk_well_keeps : (s t : Net m) (os g v n next : ℕ) (x : WalkTurn) → Keeps m h stopped k p s t → WalkWell m h stopped k p longest low_at many tail most kind s os g v n next x → WalkWell m h stopped k p longest low_at many tail most kind t os g v n next x
   walk_well_keeps s t os g v n next x keep (CellOn wk pl y u z left asks f few) = CellOn wk pl y u z left asks (reading_keeps s t wk os g v pl y left keep f) few
@@ -834,17 +806,17 @@ module _ (m : Meaning) (h : Header) (stopped : List NodeId) (k : ℕ) (p : Layou
   reads_stays : (s t : Net m) (c : Client m) (is : List Item) (n : ℕ) → Keeps m h stopped k p s t → Reads s c is n → Reads t c is n
   reads_stays s t c is n keep (AsksOne o l x) = AsksOne o l (record { task = x.task; shape = x.shape; stage = task_keeps s t c.cells (seen c.view) x.shape.work x.task l keep x.stage })
   reads_stays s t c is n keep (HearsOne from rid y l x) = HearsOne from rid y l (record { task = x.task; o = x.o; shape = x.shape; awaited = x.awaited; no_latest = x.no_latest; well = hears_keeps s t c.cells (seen c.view) x.shape.work x.task y l keep x.well })
-  reads_stays s t c is n keep (ProbesAll js l x) = ProbesAll js l (record { sync = x.sync; answer = x.answer; pl = x.pl; epoch = x.epoch; waits = x.waits; told = x.told; asked = x.asked; split = x.split; work = x.work; shape = x.shape; items = x.items; some = x.some; units = each_keeps s t x.waits keep x.units; once = x.once; tail_is = x.tail_is; lasts = x.lasts; here = here_keeps m h stopped k p longest low_at many tail most kind s t keep x.here; such = x.such; few = x.few })
+  reads_stays s t c is n keep (ProbesAll js l x) = ProbesAll js l (record { sync = x.sync; answer = x.answer; pl = x.pl; epoch = x.epoch; waits = x.waits; told = x.told; asked = x.asked; split = x.split; work = x.work; shape = x.shape; items = x.items; some = x.some; units = each_keeps s t x.waits keep x.units; once = x.once; lasts = x.lasts; here = here_keeps m h stopped k p longest low_at many tail most kind s t keep x.here; such = x.such; few = x.few })
 
   reads_called : (s : Net m) (c : Client m) (is : List Item) (n : ℕ) → Reads s c is n → Reads s (called m c) is n
   reads_called s c is n (AsksOne o l x) = AsksOne o l (record { task = x.task; shape = shape_called m h stopped k p longest c x.task (o ∷ []) x.shape; stage = x.stage })
   reads_called s c is n (HearsOne from rid y l x) = HearsOne from rid y l (record { task = x.task; o = x.o; shape = shape_called m h stopped k p longest c x.task (x.o ∷ []) x.shape; awaited = x.awaited; no_latest = x.no_latest; well = x.well })
-  reads_called s c is n (ProbesAll js l x) = ProbesAll js l (record { sync = x.sync; answer = x.answer; pl = x.pl; epoch = x.epoch; waits = x.waits; told = x.told; asked = x.asked; split = x.split; work = x.work; shape = shape_called m h stopped k p longest c (Syncing x.sync) (looks x.pl x.waits) x.shape; items = x.items; some = x.some; units = x.units; once = x.once; tail_is = x.tail_is; lasts = x.lasts; here = x.here; such = x.such; few = x.few })
+  reads_called s c is n (ProbesAll js l x) = ProbesAll js l (record { sync = x.sync; answer = x.answer; pl = x.pl; epoch = x.epoch; waits = x.waits; told = x.told; asked = x.asked; split = x.split; work = x.work; shape = shape_called m h stopped k p longest c (Syncing x.sync) (looks x.pl x.waits) x.shape; items = x.items; some = x.some; units = x.units; once = x.once; lasts = x.lasts; here = x.here; such = x.such; few = x.few })
 
   reads_ticked : (s : Net m) (c : Client m) (is : List Item) (os : List Out) (n : ℕ) → Reads s c is n → is ≡ asks os → Reads s (called m (record c { next = c.next + c.layouts })) is n
   reads_ticked s c is os n (AsksOne o l x) e = AsksOne o l (record { task = x.task; shape = shape_ticked m h stopped k p longest c x.task (o ∷ []) x.shape; stage = x.stage })
   reads_ticked s c is os n (HearsOne from rid y l x) e = HearsOne from rid y l (record { task = x.task; o = x.o; shape = shape_ticked m h stopped k p longest c x.task (x.o ∷ []) x.shape; awaited = x.awaited; no_latest = x.no_latest; well = x.well })
-  reads_ticked s c is os n (ProbesAll js l x) e = ProbesAll js l (record { sync = x.sync; answer = x.answer; pl = x.pl; epoch = x.epoch; waits = x.waits; told = x.told; asked = x.asked; split = x.split; work = x.work; shape = shape_ticked m h stopped k p longest c (Syncing x.sync) (looks x.pl x.waits) x.shape; items = x.items; some = x.some; units = x.units; once = x.once; tail_is = x.tail_is; lasts = x.lasts; here = x.here; such = x.such; few = x.few })
+  reads_ticked s c is os n (ProbesAll js l x) e = ProbesAll js l (record { sync = x.sync; answer = x.answer; pl = x.pl; epoch = x.epoch; waits = x.waits; told = x.told; asked = x.asked; split = x.split; work = x.work; shape = shape_ticked m h stopped k p longest c (Syncing x.sync) (looks x.pl x.waits) x.shape; items = x.items; some = x.some; units = x.units; once = x.once; lasts = x.lasts; here = x.here; such = x.such; few = x.few })
 
   only_asks : (xs os : List Out) (ws : Waits) → asks xs ++ wholes ws ≡ asks os → (ws ≡ []) × (xs ≡ os)
   only_asks [] [] [] e = (refl, refl)

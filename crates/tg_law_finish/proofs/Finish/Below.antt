@@ -128,7 +128,7 @@ module _ (m : Meaning) (h : Header) (zs : Moves m) (r : Reaches m h zs (after m 
         let same : o.ask.msg ≡ i.ask.msg = numbers.same o.ask i.ask o.has (has_contained _ i.ask i.asked) o.request (ap is_request i.asks ∙ check_requests e i.streams) (o.from ∙ i.back) (o.to ∙ (i.from_seqr ∙ sym i.to_seqr)) (o.rid ∙ i.number) in
         (o.up e i.streams (ap asks_links (same ∙ i.asks) ∙ check_asks e i.streams)).1 (at ∙ sym serves.epoch)
 
-    none_below : (e p : ℕ) → IsBelow m (after m h zs) e p → e ≡ q.epoch → p < s.next
+    pub none_below : (e p : ℕ) → IsBelow m (after m h zs) e p → e ≡ q.epoch → p < s.next
     none_below e p (BelowStart l d less) at = let a = ap (λ (x : Layout). x.start) (once l e d at) in let b = past in omega (arith, less, a, b)
     none_below e p (WasIssued l d os ls i) at = issued_below e p os ls (subst (λ n. Issued m (after m h zs) n e p os ls) (ap (λ (x : Layout). x.seq) (once l e d at)) i) at
     none_below e p (BelowTail l d t i less) at = let a = tail_below e t (subst (λ n. TailTold m (after m h zs) n e t) (ap (λ (x : Layout). x.seq) (once l e d at)) i) at in omega (arith, less, a)

@@ -1,18 +1,22 @@
--- Where the append stands that a client has in hand, in a world that is ready.
-use Rattle.std.proofs.Common.{◌≡◌, ◌⊎◌, ℕ, zero, suc, ◌<◌, List, [], length, true, refl, sym, ap, ◌∙◌, subst, inl, inr, arith, Some, Option}
-use Rattle.std.specs.Prelude.{Contains, slice_index}
+-- Where what a client has in hand stands, in a world that is ready: an append, a sync or a walk.
+use Rattle.std.proofs.Common.{◌≡◌, ◌⊎◌, ℕ, zero, suc, ◌<◌, ◌≤◌, List, [], ◌∷◌, length, true, false, refl, sym, ap, ◌∙◌, subst, inl, inr, arith, Some, None, Option}
+use Rattle.std.specs.Prelude.{Contains, slice_index, nat_lt}
 use Rattle.tg_base.specs.Clusters.{Header}
 use Rattle.tg_base.specs.Layouts.{Layout}
 use Rattle.tg_base.specs.declared.cell.Cell.{Cell}
 use Rattle.tg_base.specs.declared.cell.Cell.TheVariants.{Data}
+use Rattle.tg_base.specs.declared.ids.Oid.{Oid}
+use Rattle.tg_base.specs.declared.marks.StreamLink.{StreamLink}
 use Rattle.tg_kind.specs.Meaning.{Meaning}
 use Rattle.tg_protocol.specs.Words.{cell_at, cell_eq, client_id}
 use Rattle.tg_protocol.specs.Layouts.{chain_of}
 use Rattle.tg_protocol.specs.Entries.{streams_of}
-use Rattle.tg_protocol.specs.Cells.{Place, place_in, unit_at, CellWork, Puts, Gets, Fills, Copies, Probes}
+use Rattle.tg_protocol.specs.Cells.{Place, place_in, unit_at, CellJob, CellWork, Puts, Gets, Fills, Copies, Probes}
+use Rattle.tg_protocol.specs.Syncing.{SyncWork, Checking, Settling, Probing}
+use Rattle.tg_protocol.specs.Walking.{Walk}
 use Rattle.tg_protocol.specs.Sequencers.{SeqrState}
 use Rattle.tg_protocol.specs.Appending.{Append, AppendWork, Asking, Putting, Judging, Token}
-use Rattle.tg_protocol.specs.Clients.{Purpose, Appending, Hand, Doing, Work}
+use Rattle.tg_protocol.specs.Clients.{Purpose, Task, Appending, Syncing, Walking, Trimming, Copying', Reconfiguring, Hand, Doing, Work}
 use Rattle.tg_protocol.specs.ClientSteps.{task_in}
 use Rattle.tg_protocol.specs.Worlds.{World, unit, seqr, client, latest}
 use Rattle.tg_protocol.specs.Runs.{Moves, Reaches, Later, run}
@@ -34,7 +38,7 @@ use Rattle.tg_law_cells.proofs.Cells.Heads.{heads_have_cells}
 use Rattle.tg_law_cells.proofs.Cells.Jobs as jobs
 use Rattle.tg_law_cells.proofs.Cells.Justified.{ToldBy}
 use Rattle.tg_law_cells.proofs.Cells.Justified as justified
-use Rattle.tg_law_cells.proofs.Cells.Settling.{cell_self, units_tell_settled, units_have_no_other}
+use Rattle.tg_law_cells.proofs.Cells.Settling.{cell_self, settled_is_held, units_tell_settled, units_have_no_other}
 use Rattle.tg_law_cells.proofs.Cells.Stores.{cells_hold, up_to}
 use Rattle.tg_law_cells.proofs.Cells.Successors.{some_there}
 use Rattle.tg_law_cells.proofs.Tokens.Hands as own_hands
@@ -46,11 +50,31 @@ use Rattle.tg_law_walks.proofs.Drafts.Became.{Holds}
 use Rattle.tg_law_walks.proofs.Once.Along.{spent}
 use Rattle.tg_law_walks.proofs.Once.Feeding.{WorkToken}
 use Rattle.tg_law_trims.specs.Trims.Spare.{TrimsAre}
+use Rattle.tg_law_trims.proofs.Issues.Bounds.{AllBelow, AllFit, JobFits, TrailOk, lasts_below}
+use Rattle.tg_law_trims.proofs.Issues.Clients.{B, L}
+use Rattle.tg_law_trims.proofs.Issues.Hands as naming
+use Rattle.tg_law_trims.proofs.Issues.Machines as issues
+use Rattle.tg_law_trims.proofs.Issues.Machines.{AnswerOk, TailOk}
+use Rattle.tg_law_finish.specs.Finish.Reads.{IsRead}
 use Rattle.tg_law_finish.specs.Finish.Appends.{InHand, NoOther, AppendStands, PuttingStands, JudgingStands}
-use Rattle.tg_law_finish.proofs.Finish.Working.{Working}
-use Rattle.tg_law_finish.proofs.Finish.Below.{once, greatest, some, past, issued_below, trimmed_settled}
+use Rattle.tg_law_finish.proofs.Finish.Asking.{CarriesDown, CellStands, JobStands, ProbeStands, LastsBelow, SyncStands, WalkStands, TaskStands}
+use Rattle.tg_law_finish.proofs.Finish.Midway as midway
+use Rattle.tg_law_finish.proofs.Finish.Midway.{ReadShape, SyncShape, WalkShape}
+use Rattle.tg_law_finish.proofs.Finish.Probes.{ProbeShape}
+use Rattle.tg_law_finish.proofs.Finish.Working.{Working, at_chain}
+use Rattle.tg_law_finish.proofs.Finish.Issued.{clients_here}
+use Rattle.tg_law_finish.proofs.Finish.Below.{once, greatest, some, past, issued_below, none_below, trimmed_settled}
 use Rattle.tg_law_finish.proofs.Finish.Shapes.{Shape, PutShape, JudgeShape}
 use Rattle.tg_law_finish.proofs.Finish.Shaped.{shaped_hold}
+
+is_less : (x y : ℕ) → x < y → nat_lt x y ≡ true
+is_less x y less = grind arith
+
+is_below : (x y : ℕ) → nat_lt x y ≡ true → x < y
+is_below x y e = grind arith
+
+not_both : (x y : ℕ) → x < y → nat_lt x y ≡ false → ⊥
+not_both x y less e = grind arith
 
 module _ (m : Meaning) (h : Header) (zs : Moves m) (r : Reaches m h zs (after m h zs)) (trims : TrimsAre m h zs (after m h zs)) (k : ℕ) (ready : Working m (after m h zs) k (latest m (after m h zs)))
     (serves : IsServing (seqr m (after m h zs) (latest m (after m h zs)).seq) (latest m (after m h zs)).epoch) where
@@ -177,3 +201,115 @@ module _ (m : Meaning) (h : Header) (zs : Moves m) (r : Reaches m h zs (after m 
       mine : own_jobs.AppendOk (after m h zs).packets (client_id k) (client m (after m h zs) k).stand a.work
       mine = subst (λ (d : Hand m). own_hands.HandOk m (after m h zs).packets (client_id k) (client m (after m h zs) k).stand d) hand
           (subst (λ (o : Option (Work m)). own_hands.WorkOk m (after m h zs).packets (client_id k) (client m (after m h zs) k).stand o) has ((pages_hold m h zs).hands k))
+
+  -- A sync or a walk.
+
+  -- a position that may be named in this epoch
+  named_below : (e pos : ℕ) → B m h zs r trims.in_time e pos → e ≡ q.epoch → pos < s.next
+  named_below e pos named at = none_below m h zs r serves e pos named at
+
+  tail_below' : (t : ℕ) → AllFit (B m h zs r trims.in_time) (L m h zs r trims.in_time) q.epoch t → t ≤ s.next
+  tail_below' zero fit = omega arith
+  tail_below' (suc t) fit = let less = named_below q.epoch t (fit t (omega arith)) refl in omega (arith, less)
+
+  all_more : (t n : ℕ) (xs : List ℕ) → t ≤ n → AllBelow t xs → AllBelow n xs
+  all_more t n [] le k = tt
+  all_more t n (x ∷ xs) le k = ((let less = k.0 in omega (arith, less, le)), all_more t n xs le k.1)
+
+  lasts_below' : (t : ℕ) (ls : List StreamLink) → AnswerOk (B m h zs r trims.in_time) (L m h zs r trims.in_time) q.epoch t ls → LastsBelow m (after m h zs) q ls
+  lasts_below' t ls k o = all_more t s.next _ (tail_below' t k.fit) (lasts_below t o ls k.links)
+
+  -- the cell that the first unit has told
+  module _ (pos : ℕ) (c : Cell) (t : ToldUpTo (after m h zs).packets (head q pos) q.epoch pos c) where
+    first_has : (cell_at (unit m (after m h zs) (head q pos)).cells pos ≡ Some c) ⊎ (pos < (unit m (after m h zs) (head q pos)).low)
+    first_has =
+        let so : IsSo m (after m h zs) (head q pos) t.claim = told_is_so m h zs w r (head q pos) t.claim t.told in
+        subst (λ (y : Cell). (cell_at (unit m (after m h zs) (head q pos)).cells pos ≡ Some y) ⊎ (pos < (unit m (after m h zs) (head q pos)).low)) t.is
+        (subst (λ (n : ℕ). (cell_at (unit m (after m h zs) (head q pos)).cells n ≡ Some t.claim.cell) ⊎ (n < (unit m (after m h zs) (head q pos)).low)) t.at so.cell)
+
+    stands_later : (y : Cell) (g : IsSettled m (after m h zs) pos y) (i : ℕ) → i < length (chain_of q pos) → StandsLater m (after m h zs) g.layout q pos (at_chain m q pos i)
+    stands_later y g i less = record { decided = decided; later = greatest m h zs r g.layout g.decided; here = contained (chain_of q pos) _ (has_at (chain_of q pos) i less) }
+
+    carries : CarriesDown m (after m h zs) q pos c
+    carries = record { first = first; held = held }
+      where
+        first : nat_lt pos (unit m (after m h zs) (at_chain m q pos 0)).low ≡ false → cell_at (unit m (after m h zs) (at_chain m q pos 0)).cells pos ≡ Some c
+        first e = by first_has
+          where
+            by : (cell_at (unit m (after m h zs) (head q pos)).cells pos ≡ Some c) ⊎ (pos < (unit m (after m h zs) (head q pos)).low) → cell_at (unit m (after m h zs) (head q pos)).cells pos ≡ Some c
+            by (inl i) = i
+            by (inr less) = absurd (not_both _ _ less e)
+
+        held : (j : ℕ) → j < length (chain_of q pos) → nat_lt pos (unit m (after m h zs) (at_chain m q pos j)).low ≡ true
+            → (i : ℕ) → i < length (chain_of q pos) → (cell_at (unit m (after m h zs) (at_chain m q pos i)).cells pos ≡ Some c) ⊎ (nat_lt pos (unit m (after m h zs) (at_chain m q pos i)).low ≡ true)
+        held j there low i here = by (trimmed_settled m h zs r serves trims.in_time trims.were.safe (at_chain m q pos j) pos (is_below _ _ low))
+          where
+            by : (y : Cell) × IsSettled m (after m h zs) pos y → (cell_at (unit m (after m h zs) (at_chain m q pos i)).cells pos ≡ Some c) ⊎ (nat_lt pos (unit m (after m h zs) (at_chain m q pos i)).low ≡ true)
+            by g =
+                let told = units_tell_settled m h zs w w r now pos g.0 g.1 q (head q pos) t.claim (stands_later g.0 g.1 0 (first_there pos)) t.told t.at in
+                of (sym told ∙ t.is) (settled_is_held m h zs w w r now pos g.0 g.1 q (at_chain m q pos i) (stands_later g.0 g.1 i here))
+              where
+                of : g.0 ≡ c → (cell_at (unit m (after m h zs) (at_chain m q pos i)).cells pos ≡ Some g.0) ⊎ (pos < (unit m (after m h zs) (at_chain m q pos i)).low)
+                    → (cell_at (unit m (after m h zs) (at_chain m q pos i)).cells pos ≡ Some c) ⊎ (nat_lt pos (unit m (after m h zs) (at_chain m q pos i)).low ≡ true)
+                of e (inl x) = inl (x ∙ ap (λ (y : Cell). Some y) e)
+                of e (inr less) = inr (is_less _ _ less)
+
+  cell_stands : (pl : Place) (y : CellWork) → ReadShape pl y → pl ≡ place_in q pl.pos → justified.WorkOk (after m h zs).packets pl y → CellStands m (after m h zs) q pl.pos y
+  cell_stands pl (Gets j) shape e told = tt
+  cell_stands pl (Fills j) shape e told = tt
+  cell_stands pl (Copies j c i) shape e told = (in_chain pl i e shape, carries pl.pos c (up_to (after m h zs).packets (head q pl.pos) q.epoch pl.pos c (told_head pl c e (told.1 0 told.0))))
+  cell_stands pl (Puts j d i) shape e told = absurd shape
+  cell_stands pl (Probes ws) shape e told = absurd shape
+
+  job_stands : (j : CellJob) → ReadShape j.place j.work → jobs.JobOk (after m h zs).packets q j → B m h zs r trims.in_time j.place.epoch j.place.pos → JobStands m (after m h zs) q j
+  job_stands j shape ok named = record {
+    place = ok.place;
+    less = named_below j.place.epoch j.place.pos named (ap (λ (a : Place). a.epoch) ok.place);
+    work = cell_stands j.place j.work shape ok.place ok.work;
+  }
+
+  probe_stands : (j : CellJob) (y : CellWork) → j.work ≡ y → ProbeShape j.place y → jobs.JobOk (after m h zs).packets q j → ProbeStands m q j
+  probe_stands j (Probes ws) is shape ok = record { place = ok.place; waits = ws; work = is; asked = shape }
+  probe_stands j (Gets i) is shape ok = absurd shape
+  probe_stands j (Fills i) is shape ok = absurd shape
+  probe_stands j (Copies i c n) is shape ok = absurd shape
+  probe_stands j (Puts i d n) is shape ok = absurd shape
+
+  sync_stands : (y : SyncWork) → SyncShape y → jobs.SyncOk (after m h zs).packets q y → issues.SyncOk (B m h zs r trims.in_time) (L m h zs r trims.in_time) q.epoch y → SyncStands m (after m h zs) q y
+  sync_stands (Checking j) shape ok named = tt
+  sync_stands (Settling a j) shape ok named = (lasts_below' a.tail a.lasts named.0, job_stands j shape ok named.1)
+  sync_stands (Probing a j) shape ok named = (lasts_below' a.tail a.lasts named.0, probe_stands j j.work refl shape ok)
+
+  walk_stands : (v : Work m) (x : Walk) (os : List Oid) (o : Option CellJob) → x.job ≡ o → WalkShape o → length os < length v.oids → jobs.MaybeOk (after m h zs).packets q o
+      → TailOk (B m h zs r trims.in_time) (L m h zs r trims.in_time) q.epoch v.tail v.lasts → TrailOk v.tail x.trail → JobFits (B m h zs r trims.in_time) (L m h zs r trims.in_time) v.tail o → WalkStands m (after m h zs) q v x os
+  walk_stands v x os None is shape fewer ok tail trail fits = absurd shape
+  walk_stands v x os (Some j) is shape fewer ok tail trail fits =
+      let low = tail_below' v.tail tail.answer.fit in
+      let last = trail.last in
+      record {
+        lasts = lasts_below' v.tail v.lasts tail.answer;
+        pointers = all_more v.tail s.next _ low trail.pointers;
+        last = omega (arith, last, low);
+        job = j;
+        has = is;
+        stands = job_stands j shape ok fits.0;
+        fewer = fewer;
+      }
+
+  task_stands : (v : Work m) (t : Task m) → IsRead m t → midway.TaskStands m v t → hands.TaskOk m (after m h zs).packets q t → naming.TaskOk m (B m h zs r trims.in_time) (L m h zs r trims.in_time) q v t → TaskStands m (after m h zs) q v t
+  task_stands v (Syncing y) is shape ok k = sync_stands y.work shape ok k
+  task_stands v (Walking x os) is shape ok k = walk_stands v x os x.job refl shape.0 shape.1 ok k.0 k.1.trail k.1.job
+  task_stands v (Appending x y) is shape ok k = absurd is
+  task_stands v (Trimming x) is shape ok k = absurd is
+  task_stands v (Copying' x) is shape ok k = absurd is
+  task_stands v (Reconfiguring x) is shape ok k = absurd is
+
+  pub reads_stand : (v : Work m) (t : Task m) → (client m (after m h zs) k).work ≡ Some v → v.hand ≡ Doing t → IsRead m t → TaskStands m (after m h zs) q v t
+  reads_stand v t has hand is = task_stands v t is
+      (subst (λ (d : Hand m). midway.HandStands m v d) hand (subst (λ (o : Option (Work m)). midway.WorkStands m o) has (midway.all_stand m h zs (after m h zs) r k)))
+      (subst (λ (l : Layout). hands.TaskOk m (after m h zs).packets l t) ready.client_stands
+      (subst (λ (d : Hand m). hands.HandOk m (after m h zs).packets (client m (after m h zs) k).stand d) hand
+      (subst (λ (o : Option (Work m)). hands.WorkOk m (after m h zs).packets (client m (after m h zs) k).stand o) has ((cells_hold m h zs).hands k))))
+      (subst (λ (l : Layout). naming.TaskOk m (B m h zs r trims.in_time) (L m h zs r trims.in_time) l v t) ready.client_stands
+      (subst (λ (d : Hand m). naming.HandOk m (B m h zs r trims.in_time) (L m h zs r trims.in_time) (client m (after m h zs) k).stand v d) hand
+      (subst (λ (o : Option (Work m)). naming.WorkOk m (B m h zs r trims.in_time) (L m h zs r trims.in_time) (client m (after m h zs) k).stand o) has (clients_here m h zs r trims.in_time k))))

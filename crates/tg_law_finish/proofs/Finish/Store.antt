@@ -1,19 +1,21 @@
 -- Commands of the store finish: all that the laws of settlings ask of a world is so in each run of the store.
-use Rattle.std.proofs.Common.{◌≡◌, ◌⊎◌, ℕ, ◌<◌, ◌≤◌, [], length, true, false, refl, sym, ap, ◌∙◌, subst, inl, inr, arith, Some}
+use Rattle.std.proofs.Common.{◌≡◌, ◌⊎◌, ℕ, ◌+◌, ◌*◌, ◌<◌, ◌≤◌, [], length, true, false, refl, sym, subst, inl, inr, arith, Some, Option}
 use Rattle.std.specs.Prelude.{nat_lt}
 use Rattle.std.proofs.lemmas.Bool.Decides.{nat_tests}
 use Rattle.tg_base.specs.Clusters.{Header}
 use Rattle.tg_any.specs.AllKinds.{all_kinds}
 use Rattle.tg_kind.specs.Meaning.{Meaning}
+use Rattle.tg_model.specs.declared.command.Command.TheVariants as cmd
 use Rattle.tg_model.specs.Kinds.{CommandOf}
 use Rattle.tg_base.specs.declared.cell.Cell.{Cell}
 use Rattle.tg_protocol.specs.Words.{cell_at, too_far}
 use Rattle.tg_protocol.specs.Layouts.{chain_of}
 use Rattle.tg_protocol.specs.Entries.{streams_of}
-use Rattle.tg_protocol.specs.Clients.{Judged, Work}
-use Rattle.tg_protocol.specs.Worlds.{World, unit, seqr, latest}
+use Rattle.tg_protocol.specs.Clients.{Purpose, Writes, Judged, Decides, Rescues, Saves, Marks, Task, Syncing, Walking, Appending, Trimming, Copying', Reconfiguring, Hand, Doing, Work}
+use Rattle.tg_protocol.specs.ClientSteps.{task_in}
+use Rattle.tg_protocol.specs.Worlds.{World, unit, seqr, client, latest}
 use Rattle.tg_protocol.specs.Runs.{Moves, Goes, Reaches, Always, run}
-use Rattle.tg_protocol.specs.Finishing.{IsServing, WaitsAlone, IsReadyFor}
+use Rattle.tg_protocol.specs.Finishing.{IsServing, WaitsAlone, IsReadyFor, most_deliveries_in}
 use Rattle.tg_law_layouts.specs.Moves.After.{after}
 use Rattle.tg_law_layouts.proofs.Moves.Lists.{contained}
 use Rattle.tg_law_layouts.proofs.Moves.Members.{has_contained}
@@ -23,23 +25,27 @@ use Rattle.tg_law_cells.proofs.Cells.Befores.{has_at}
 use Rattle.tg_law_cells.proofs.Cells.Settling.{settled_is_held}
 use Rattle.tg_law_trims.specs.Trims.Spare.{TrimsAre}
 use Rattle.tg_law_headline.proofs.Runs.Holding.{logs_hold}
-use Rattle.tg_law_finish.specs.Finish.Appends.{WaitsForAppend}
-use Rattle.tg_law_finish.specs.Finish.Commands.{plays}
+use Rattle.tg_law_finish.specs.Finish.Anywhere.{syncs_first, CommandWalks}
+use Rattle.tg_law_finish.specs.Finish.Appends.{is_last, WaitsForAppend}
+use Rattle.tg_law_finish.specs.Finish.Commands.{is_ask}
 use Rattle.tg_law_finish.specs.Finish.Granted.{Granted}
-use Rattle.tg_law_finish.proofs.Finish.Answered.{append_answered, append_in_time, ask_answered, ask_in_time, make_answered, make_in_time, ask_walks, make_walks, rescue_walks, token_below, end_walks}
+use Rattle.tg_law_finish.proofs.Finish.Answered.{within, same_command, append_answered, append_in_time, ask_answered, ask_in_time, make_answered, make_in_time, ask_walks, make_walks, rescue_walks, token_below, end_walks}
 use Rattle.tg_law_finish.proofs.Finish.Standing.{next_near, limit_below, working}
-use Rattle.tg_law_finish.specs.Finish.Makes.{MakeFinishes}
+use Rattle.tg_law_finish.specs.Finish.Laws.{IsAnswered}
+use Rattle.tg_law_finish.specs.Finish.Makes.{makes, MakeFinishes}
 use Rattle.tg_law_finish.specs.Finish.Store.{AppendsLast, AppendFinishes, AskFinishes}
 use Rattle.tg_law_finish.specs.Finish.Ends.{EndsAppend, EndFinishes}
-use Rattle.tg_law_finish.specs.Finish.Rescues.{RescueWalks}
-use Rattle.tg_law_finish.specs.Finish.Walks.{AskWalks, MakeWalks}
-use Rattle.tg_law_finish.proofs.Finish.Asking.{HeldWhereTrimmed, Owns}
+use Rattle.tg_law_finish.specs.Finish.Reads.{WaitsForRead}
+use Rattle.tg_law_finish.specs.Finish.Rescues.{is_rescue, RescueWalks}
+use Rattle.tg_law_finish.specs.Finish.Walks.{passes_bound, AskWalks, MakeWalks}
+use Rattle.tg_law_finish.proofs.Finish.Asking.{HeldWhereTrimmed, Owns, TaskStands}
 use Rattle.tg_law_finish.proofs.Finish.Below.{greatest, trimmed_settled, lows_below, unwritten_past}
 use Rattle.tg_law_finish.proofs.Finish.Working.{at_chain}
 use Rattle.tg_law_finish.proofs.Finish.Named.{named, grown_named, grown_below}
 use Rattle.tg_law_finish.proofs.Finish.Drafted.{drafted}
 use Rattle.tg_law_finish.proofs.Finish.Hosting.{hosting}
-use Rattle.tg_law_finish.proofs.Finish.Hands.{append_stands}
+use Rattle.tg_law_finish.proofs.Finish.Hands.{append_stands, reads_stand}
+use Rattle.tg_law_finish.proofs.Finish.Suiting.{IsCopy, IsReconf, SuitsPurpose, Suits, WorkSuits, purpose_plays, all_suit}
 
 nearer : (a b : ℕ) → a ≤ b → too_far b ≡ false → too_far a ≡ false
 nearer a b le e = grind (arith, nat_tests, le, e)
@@ -60,14 +66,14 @@ module _ (m : Meaning) where
       trims = trims.in_time;
     }
 
-    some_work : (u v : Work m) → Some u ≡ Some v → u ≡ v
-    some_work u v e = cc
+    suits : (v : Work m) (t : Task m) → (client m (after m h zs) k).work ≡ Some v → v.hand ≡ Doing t → Suits m v.command t
+    suits v t has hand = subst (λ (d : Hand m). Suits m v.command (task_in m d)) hand (subst (λ (o : Option (Work m)). WorkSuits m o) has (all_suit m h zs (after m h zs) r k))
 
-    waits : plays m x ≡ true → AppendsLast m (after m h zs) k → WaitsForAppend m (after m h zs) k
-    waits play f = record {
+    waits : AppendsLast m (after m h zs) k → WaitsForAppend m (after m h zs) k
+    waits f = record {
       work = f.work;
       waits = f.waits;
-      command = subst (λ (y : CommandOf m). plays m y ≡ true) (sym (ap (λ (v : Work m). v.command) (some_work f.work a.work (sym f.waits ∙ a.waits)) ∙ a.command)) play;
+      command = purpose_plays m f.work.command f.purpose (suits f.work (Appending f.append f.purpose) f.waits f.hand);
       append = f.append;
       purpose = f.purpose;
       hand = f.hand;
@@ -76,9 +82,9 @@ module _ (m : Meaning) where
     }
 
   append_here : (h : Header) (zs : Moves m) → Reaches m h zs (after m h zs) → TrimsAre m h zs (after m h zs) → AppendFinishes m (after m h zs)
-  append_here h zs r trims k x a b play f =
+  append_here h zs r trims k x a b f =
       let g = granted h zs r trims k x a b in
-      let i = waits h zs r trims k x a b play f in
+      let i = waits h zs r trims k x a b f in
       (append_answered m h zs (after m h zs) r k x a b g i, append_in_time m h zs (after m h zs) r k x a b g i)
 
   ask_here : (h : Header) (zs : Moves m) → Reaches m h zs (after m h zs) → TrimsAre m h zs (after m h zs) → AskFinishes m (after m h zs)
@@ -118,14 +124,19 @@ module _ (m : Meaning) where
           of i (inl e) = inl e
           of i (inr e) = inr (is_less _ _ e)
 
+  -- where its sync or its walk stands
+  stands_here : (h : Header) (zs : Moves m) (r : Reaches m h zs (after m h zs)) → TrimsAre m h zs (after m h zs) → (k : ℕ) (x : CommandOf m) → WaitsAlone m (after m h zs) k x → IsReadyFor m (after m h zs) k → (f : WaitsForRead m (after m h zs) k)
+      → TaskStands m (after m h zs) (latest m (after m h zs)) f.work f.task
+  stands_here h zs r trims k x a b f = reads_stand m h zs r trims k (working m h zs (after m h zs) r k x a b) b.serves f.work f.task f.waits f.hand f.reads
+
   ask_walks_here : (h : Header) (zs : Moves m) → Reaches m h zs (after m h zs) → TrimsAre m h zs (after m h zs) → AskWalks m (after m h zs)
-  ask_walks_here h zs r trims k x a b f = ask_walks m h zs (after m h zs) r k x a b (granted h zs r trims k x a b) (held_here h zs r trims b.serves) f
+  ask_walks_here h zs r trims k x a b is f = ask_walks m h zs (after m h zs) r k x a b (granted h zs r trims k x a b) (held_here h zs r trims b.serves) is f (stands_here h zs r trims k x a b f)
 
   make_walks_here : (h : Header) (zs : Moves m) → Reaches m h zs (after m h zs) → TrimsAre m h zs (after m h zs) → MakeWalks m (after m h zs)
-  make_walks_here h zs r trims k x a b f = make_walks m h zs (after m h zs) r k x a b (granted h zs r trims k x a b) (held_here h zs r trims b.serves) f
+  make_walks_here h zs r trims k x a b is f = make_walks m h zs (after m h zs) r k x a b (granted h zs r trims k x a b) (held_here h zs r trims b.serves) is f (stands_here h zs r trims k x a b f)
 
   rescue_walks_here : (h : Header) (zs : Moves m) → Reaches m h zs (after m h zs) → TrimsAre m h zs (after m h zs) → RescueWalks m (after m h zs)
-  rescue_walks_here h zs r trims k x a b f = rescue_walks m h zs (after m h zs) r k x a b (granted h zs r trims k x a b) (held_here h zs r trims b.serves) f
+  rescue_walks_here h zs r trims k x a b is f = rescue_walks m h zs (after m h zs) r k x a b (granted h zs r trims k x a b) (held_here h zs r trims b.serves) is f (stands_here h zs r trims k x a b f)
 
   -- the record of a transaction that is ended asks for its token
   owns_here : (h : Header) (zs : Moves m) (r : Reaches m h zs (after m h zs)) → TrimsAre m h zs (after m h zs) → (k : ℕ) (x : CommandOf m) → WaitsAlone m (after m h zs) k x → IsReadyFor m (after m h zs) k → EndsAppend m (after m h zs) k
@@ -152,6 +163,81 @@ module _ (m : Meaning) where
   end_here : (h : Header) (zs : Moves m) → Reaches m h zs (after m h zs) → TrimsAre m h zs (after m h zs) → EndFinishes m (after m h zs)
   end_here h zs r trims k x a b f = end_walks m h zs (after m h zs) r k x a b (granted h zs r trims k x a b) (held_here h zs r trims b.serves) (owns_here h zs r trims k x a b f)
 
+  -- A command that syncs first.
+
+  is_one : (x : CommandOf m) → syncs_first m x ≡ true → (is_ask m x ≡ true) ⊎ ((makes m x ≡ true) ⊎ (is_rescue m x ≡ true))
+  unfolding syncs_first is_ask makes is_rescue
+  is_one (cmd.Ask o q) e = inl refl
+  is_one (cmd.Fate p) e = inl refl
+  is_one (cmd.AskAt p o q) e = inl refl
+  is_one (cmd.Decide p) e = inr (inl refl)
+  is_one (cmd.Checkpoint o) e = inr (inl refl)
+  is_one (cmd.Forget o n) e = inr (inl refl)
+  is_one (cmd.Rescue p) e = inr (inr refl)
+  is_one (cmd.Host o) e = absurd cc
+  is_one cmd.Begin e = absurd cc
+  is_one (cmd.Put o op) e = absurd cc
+  is_one cmd.End e = absurd cc
+  is_one cmd.Drop e = absurd cc
+  is_one cmd.Trim e = absurd cc
+  is_one (cmd.Reconf y) e = absurd cc
+  is_one (cmd.Copy u y s) e = absurd cc
+
+  -- no record of a transaction, no trim, no copy and no reconfiguration is for it
+  last_of : (x : CommandOf m) (y : Purpose m) → syncs_first m x ≡ true → SuitsPurpose m x y → is_last m y ≡ true
+  unfolding syncs_first is_last
+  last_of x Writes e k = refl
+  last_of x Judged e k = absurd (let f = subst (λ (z : CommandOf m). syncs_first m z ≡ true) k e in cc)
+  last_of x (Decides what) e k = refl
+  last_of x (Rescues what) e k = refl
+  last_of x (Saves o upto) e k = refl
+  last_of x (Marks n o mark) e k = refl
+
+  no_trim : (x : CommandOf m) → syncs_first m x ≡ true → x ≡ cmd.Trim → ⊥
+  unfolding syncs_first
+  no_trim x e k = let f = subst (λ (z : CommandOf m). syncs_first m z ≡ true) k e in cc
+
+  no_copy : (x : CommandOf m) → syncs_first m x ≡ true → IsCopy m x → ⊥
+  unfolding syncs_first
+  no_copy (cmd.Copy u y s) e k = cc
+  no_copy x e k = k
+
+  no_reconf : (x : CommandOf m) → syncs_first m x ≡ true → IsReconf m x → ⊥
+  unfolding syncs_first
+  no_reconf (cmd.Reconf y) e k = cc
+  no_reconf x e k = k
+
+  more : (n z : ℕ) → n ≤ n + 129 * z
+  more n z = omega arith
+
+  one_more : (n z : ℕ) → n + z ≤ n + 129 * z
+  one_more n z = omega arith
+
+  command_here : (h : Header) (zs : Moves m) → Reaches m h zs (after m h zs) → TrimsAre m h zs (after m h zs) → CommandWalks m (after m h zs)
+  command_here h zs r trims k x a b such f = by f.task f.hand (subst (λ (y : CommandOf m). Suits m y f.task) (sym (same_command m h zs (after m h zs) r k x a f.work f.waits)) (suits h zs r trims k x a b f.work f.task f.waits f.hand))
+    where
+      bound : ℕ
+      bound = most_deliveries_in m (after m h zs) x
+
+      trimmed : ℕ
+      trimmed = passes_bound m (after m h zs) 128
+
+      reads : WaitsForRead m (after m h zs) k → IsAnswered m (after m h zs) k (bound + 129 * trimmed)
+      reads g = of (is_one x such)
+        where
+          of : (is_ask m x ≡ true) ⊎ ((makes m x ≡ true) ⊎ (is_rescue m x ≡ true)) → IsAnswered m (after m h zs) k (bound + 129 * trimmed)
+          of (inl e) = within m k _ _ (after m h zs) _ (one_more bound trimmed) (ask_walks_here h zs r trims k x a b e g).1
+          of (inr (inl e)) = within m k _ _ (after m h zs) _ (one_more bound trimmed) (make_walks_here h zs r trims k x a b e g).1
+          of (inr (inr e)) = (rescue_walks_here h zs r trims k x a b e g).1
+
+      by : (t : Task m) → f.work.hand ≡ Doing t → Suits m x t → IsAnswered m (after m h zs) k (bound + 129 * trimmed)
+      by (Syncing s) e fits = reads (record { work = f.work; waits = f.waits; task = Syncing s; hand = e; reads = tt })
+      by (Walking y os) e fits = reads (record { work = f.work; waits = f.waits; task = Walking y os; hand = e; reads = tt })
+      by (Appending y z) e fits = within m k _ _ (after m h zs) _ (more bound trimmed) (append_here h zs r trims k x a b (record { work = f.work; waits = f.waits; append = y; purpose = z; hand = e; last = last_of x z such fits })).1
+      by (Trimming y) e fits = absurd (no_trim x such fits)
+      by (Copying' y) e fits = absurd (no_copy x such fits)
+      by (Reconfiguring y) e fits = absurd (no_reconf x such fits)
+
   -- over any kinds, where trims left what is needed
   pub append_where : (h : Header) (zs : Moves m) (w : World m) → Reaches m h zs w → TrimsAre m h zs w → AppendFinishes m w
   append_where h zs w r trims = subst (λ (v : World m). Reaches m h zs v → TrimsAre m h zs v → AppendFinishes m v) (sym r.goes.is) (append_here h zs) r trims
@@ -173,6 +259,12 @@ module _ (m : Meaning) where
 
   pub end_where : (h : Header) (zs : Moves m) (w : World m) → Reaches m h zs w → TrimsAre m h zs w → EndFinishes m w
   end_where h zs w r trims = subst (λ (v : World m). Reaches m h zs v → TrimsAre m h zs v → EndFinishes m v) (sym r.goes.is) (end_here h zs) r trims
+
+  pub command_where : (h : Header) (zs : Moves m) (w : World m) → Reaches m h zs w → TrimsAre m h zs w → CommandWalks m w
+  command_where h zs w r trims = subst (λ (v : World m). Reaches m h zs v → TrimsAre m h zs v → CommandWalks m v) (sym r.goes.is) (command_here h zs) r trims
+
+pub commands_finish : Always all_kinds (CommandWalks all_kinds)
+commands_finish h zs w r = command_where all_kinds h zs w r (logs_hold h zs w r).trims
 
 pub appends_finish : Always all_kinds (AppendFinishes all_kinds)
 appends_finish h zs w r = append_where all_kinds h zs w r (logs_hold h zs w r).trims

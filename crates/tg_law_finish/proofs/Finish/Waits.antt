@@ -1,7 +1,6 @@
 -- A settling ends a command whose sync waits for its first answer.
-use Rattle.std.proofs.Common.{◌≡◌, ◌⊎◌, ℕ, zero, suc, ◌+◌, ◌-◌, ◌*◌, ◌<◌, ◌≤◌, List, [], ◌∷◌, length, Bool, true, false, refl, ap, sym, subst, inl, inr, arith, None}
+use Rattle.std.proofs.Common.{◌≡◌, ◌⊎◌, ℕ, zero, suc, ◌+◌, ◌*◌, ◌<◌, ◌≤◌, List, [], ◌∷◌, length, Bool, true, false, refl, ap, sym, subst, inl, inr, arith, None}
 use Rattle.std.proofs.Math.Nat.{mul-suc, mul-zero}
-use Rattle.std.proofs.lemmas.Nat.{mul-le}
 use Rattle.std.specs.Prelude.{nat_lt}
 use Rattle.tg_base.specs.Layouts.{Layout}
 use Rattle.tg_base.specs.declared.msg.Msg.TheVariants as msg
@@ -27,12 +26,12 @@ use Rattle.tg_law_finish.proofs.Finish.Asking.{Walkable, Untrimmed, Owns, Syncs}
 use Rattle.tg_law_finish.proofs.Finish.Ending.{EndStage, ends_talk, round_long}
 use Rattle.tg_law_finish.proofs.Finish.Owners.{Before, OwnStage}
 use Rattle.tg_law_finish.proofs.Finish.Talks.{Request}
-use Rattle.tg_law_finish.proofs.Finish.Askers.{Kind, Here, extra, above, budget, budget_less, passes, passes_less, rest, SyncStage}
+use Rattle.tg_law_finish.proofs.Finish.Askers.{Kind, Here, extra, above, budget, budget_less, passes, rest, SyncStage}
 use Rattle.tg_law_finish.proofs.Finish.Askings.{Reads, AsksOne}
 use Rattle.tg_law_finish.proofs.Finish.Both.{AsksStage, asks_talk, MakesStage, makes_talk}
 use Rattle.tg_law_finish.proofs.Finish.Counted.{Finishes}
 use Rattle.tg_law_finish.proofs.Finish.Finishes.{nodes_once, ready, serves, issues, clients_long}
-use Rattle.tg_law_finish.proofs.Finish.Lines.{Ask}
+use Rattle.tg_law_finish.proofs.Finish.Lines.{Ask, asks}
 use Rattle.tg_law_finish.proofs.Finish.Joined.{StageOf}
 use Rattle.tg_law_finish.proofs.Finish.Nets.{net}
 use Rattle.tg_law_finish.proofs.Finish.Others.{weigh}
@@ -41,17 +40,15 @@ use Rattle.tg_law_finish.proofs.Finish.Makers.{making_way}
 use Rattle.tg_law_finish.proofs.Finish.Readings.{Clean, Trimmed, Good}
 use Rattle.tg_law_finish.proofs.Finish.Rounds.{Waiting, finishes}
 use Rattle.tg_law_finish.proofs.Finish.Trails.{unknown, Low}
-use Rattle.tg_law_finish.proofs.Finish.Waited.{whole, few_unknown, few_above, few_seen}
-use Rattle.tg_law_finish.proofs.Finish.Rescuing.{round, for_rounds, RescueStage, first_stage, rescue_talk}
-use Rattle.tg_law_finish.proofs.Finish.Rescuers.{rescuing_way}
-use Rattle.tg_law_finish.specs.Finish.Rescues.{is_rescue}
+use Rattle.tg_law_finish.proofs.Finish.Waited.{whole, few_unknown}
+use Rattle.tg_law_finish.proofs.Finish.Rescuing.{round}
 use Rattle.tg_law_finish.proofs.Finish.Working.{Working, Lawful, at_chain}
 use Rattle.tg_law_finish.proofs.Finish.Writers.{seqr_away}
 
 pub true_not : true ≡ false → ⊥
 true_not e = cc
 
-all_low : (p : Layout) (tail : ℕ) (qs : List ℕ) → AllBelow tail qs → Low p tail qs
+pub all_low : (p : Layout) (tail : ℕ) (qs : List ℕ) → AllBelow tail qs → Low p tail qs
 all_low p tail [] l = tt
 all_low p tail (q ∷ qs) l = (l.0, all_low p tail qs l.1)
 
@@ -69,7 +66,7 @@ module _ (m : Meaning) (w : World m) (k : ℕ) (p : Layout) (longest : ℕ) (a :
   unit_there n e = grind arith
 
   -- some unit of a chain has trimmed the position, or none
-  looked : (pos n : ℕ) → n ≤ length (chain_of p pos) → ((j : ℕ) → j < n → nat_lt pos (low_at (at_chain m p pos j)) ≡ false) ⊎ ((j : ℕ) × (j < length (chain_of p pos)) × (nat_lt pos (low_at (at_chain m p pos j)) ≡ true))
+  pub looked : (pos n : ℕ) → n ≤ length (chain_of p pos) → ((j : ℕ) → j < n → nat_lt pos (low_at (at_chain m p pos j)) ≡ false) ⊎ ((j : ℕ) × (j < length (chain_of p pos)) × (nat_lt pos (low_at (at_chain m p pos j)) ≡ true))
   looked pos zero le = inl (λ j less. absurd (omega (arith, less)))
   looked pos (suc n) le = by (nat_lt pos (low_at (at_chain m p pos n))) refl (looked pos n (omega (arith, le)))
     where
@@ -86,7 +83,7 @@ module _ (m : Meaning) (w : World m) (k : ℕ) (p : Layout) (longest : ℕ) (a :
           of j (inl i) = subst (λ x. nat_lt pos (low_at (at_chain m p pos x)) ≡ false) (sym i) e
           of j (inr less) = f j less
 
-  good : Good m w.cluster w.stopped k p longest low_at many (net m w)
+  pub good : Good m w.cluster w.stopped k p longest low_at many (net m w)
   good pos = record { stable = record { serves = serves m w k p longest a b pos; lows = λ j less. refl; few = λ j less. unit_there (at_chain m p pos j) (a.units_run pos j less) }; sort = by (looked pos (length (chain_of p pos)) (omega arith)) }
     where
       by : ((j : ℕ) → j < length (chain_of p pos) → nat_lt pos (low_at (at_chain m p pos j)) ≡ false) ⊎ ((j : ℕ) × (j < length (chain_of p pos)) × (nat_lt pos (low_at (at_chain m p pos j)) ≡ true))
@@ -94,7 +91,7 @@ module _ (m : Meaning) (w : World m) (k : ℕ) (p : Layout) (longest : ℕ) (a :
       by (inl free) = inl (record { free = free; below = λ j c less has. b.heads pos j c less has (free 0 (b.some pos)) })
       by (inr f) = let g = u.held pos f.0 f.1 f.2 in inr (record { cell = g.0; held = g.1 })
 
-  here : (kind : Kind low_at p tail) (most : ℕ) → Here m w.cluster w.stopped k p longest low_at many tail most kind (net m w)
+  pub here : (kind : Kind low_at p tail) (most : ℕ) → Here m w.cluster w.stopped k p longest low_at many tail most kind (net m w)
   here kind most = record {
     good = good;
     on = a.seqr_runs;
@@ -117,14 +114,14 @@ module _ (m : Meaning) (w : World m) (k : ℕ) (p : Layout) (longest : ℕ) (a :
   calm_kind x = record { trims = false; calm = λ e. x.lows; past = λ e. x.past; once = u.once }
 
   -- the world as one in which a piece of work waits
-  waits_for : (o : Out) (Stage : StageOf m w.cluster w.stopped k p) (left n : ℕ) → Stage (net m w) (client m w k) (Ask o ∷ []) left → (2 + ((client m w k).layouts + (client m w k).layouts)) + (left + left) ≤ n
-      → Waiting m w.cluster w.stopped k p Stage (nodes m w) (net m w) [] n
+  pub waits_for : (os : List Out) (Stage : StageOf m w.cluster w.stopped k p) (left n : ℕ) → Stage (net m w) (client m w k) (asks os) left
+      → ((length os + length os) + ((client m w k).layouts + (client m w k).layouts)) + (left + left) ≤ n → Waiting m w.cluster w.stopped k p Stage (nodes m w) (net m w) [] n
   unfolding weigh
-  waits_for o Stage left n stage few =
+  waits_for os Stage left n stage few =
       let once = nodes_once k m w (clients_long m w k p longest a b) in
       record {
         ready = ready m w k p longest a b;
-        os = o ∷ [];
+        os = os;
         left = left;
         stage = stage;
         strays = tt;
@@ -178,15 +175,11 @@ module _ (m : Meaning) (w : World m) (k : ℕ) (p : Layout) (longest : ℕ) (a :
 
     pub waits : (Stage : StageOf m w.cluster w.stopped k p) (extras n : ℕ) → Stage (net m w) (client m w k) (Ask check ∷ []) (left + extras) → (2 + ((client m w k).layouts + (client m w k).layouts)) + ((left + extras) + (left + extras)) ≤ n
         → Waiting m w.cluster w.stopped k p Stage (nodes m w) (net m w) [] n
-    waits Stage extras n stage few = waits_for check Stage (left + extras) n stage few
+    waits Stage extras n stage few = waits_for (check ∷ []) Stage (left + extras) n stage few
 
     is_budget : (t : ℕ) → Budget t ≡ (longest + 1) * t
     is_budget zero = sym (mul-zero (longest + 1))
     is_budget (suc t) = let e = is_budget t in let f = mul-suc (longest + 1) t in omega (arith, e, f)
-
-    is_passes : (n : ℕ) → passes m w.cluster w.stopped k p longest low_at many tail most kind n ≡ (2 * longest + 1 + most) * n
-    is_passes zero = sym (mul-zero (2 * longest + 1 + most))
-    is_passes (suc n) = let e = is_passes n in let f = mul-suc (2 * longest + 1 + most) n in omega (arith, e, f)
 
     pub all_read : Budget (unknown (client m w k).cells tail) ≤ (longest + 1) * tail
     all_read =
@@ -194,15 +187,7 @@ module _ (m : Meaning) (w : World m) (k : ℕ) (p : Layout) (longest : ℕ) (a :
         let g = budget_less m w.cluster w.stopped k p longest low_at many tail most kind (unknown (client m w k).cells tail) tail (few_unknown (client m w k).cells tail) in
         omega (arith, e, g)
 
-    pub all_pass : passes m w.cluster w.stopped k p longest low_at many tail most kind (above low_at f.work.gone_before many + seen (client m w k).view) ≤ (2 * longest + 1 + most) * (many + 1)
-    all_pass =
-        let e = is_passes (many + 1) in
-        let x = few_above low_at f.work.gone_before many in
-        let y = few_seen m (client m w k).view in
-        let g = passes_less m w.cluster w.stopped k p longest low_at many tail most kind (above low_at f.work.gone_before many + seen (client m w k).view) (many + 1) (omega (arith, x, y)) in
-        omega (arith, e, g)
-
-  abbrev Ends : ℕ → Type 0
+  abbrev pub Ends : ℕ → Type 0
   Ends n = (settle m w).stopped ≡ None → Finishes m k n w (settle m w).world
 
   -- Nothing is trimmed.
@@ -231,98 +216,6 @@ module _ (m : Meaning) (w : World m) (k : ℕ) (p : Layout) (longest : ℕ) (a :
       finishes m w.cluster w.stopped k p _ (makes_talk m w.cluster w.stopped k p longest low_at many tail (length f.work.oids) kind) w _ a.quiet refl refl
       (waits kind f (length f.work.oids) (whole (length f.work.oids)) (MakesStage m w.cluster w.stopped k p longest low_at many tail (length f.work.oids) kind) (longest + 1) _ (inl (record { left = left kind f (length f.work.oids) (whole (length f.work.oids)); stage = reads kind f (length f.work.oids) (whole (length f.work.oids)) (making_way m) such; few = omega arith })) (omega (arith, few))) none
 
-  -- Walks may meet trims.
-
-  trims_few : (t l n s x y z e : ℕ) → x ≤ (longest + 1) * t → y ≤ (2 * longest + 1 + s) * (n + 1) → z ≡ longest + (s + y)
-      → (2 + (l + l)) + ((longest + x + z + e) + (longest + x + z + e)) ≤ 2 * ((longest + 1) * t) + 2 * l + 2 * ((2 * longest + 1 + s) * (n + 2)) + 2 * e
-  trims_few t l n s x y z e le few is = let f = mul-suc (2 * longest + 1 + s) (n + 1) in let g = ap (λ i. (2 * longest + 1 + s) * i) (plus n) in omega (arith, f, g, le, few, is)
-    where
-      plus : (n : ℕ) → n + 2 ≡ suc (n + 1)
-      plus n = omega arith
-
-  pub asks_finish_by : (f : Syncs m w k) → is_ask m f.work.command ≡ true → Ends (2 * ((longest + 1) * tail) + 2 * (client m w k).layouts + 2 * ((2 * longest + 1 + length f.work.oids) * (many + 2)))
-  asks_finish_by f such none =
-      let kind = trims_kind in
-      let few = trims_few tail (client m w k).layouts many (length f.work.oids) (for_reads kind f (length f.work.oids) (whole (length f.work.oids))) (for_passes kind f (length f.work.oids) (whole (length f.work.oids))) (for_trims kind f (length f.work.oids) (whole (length f.work.oids))) 0 (all_read kind f (length f.work.oids) (whole (length f.work.oids))) (all_pass kind f (length f.work.oids) (whole (length f.work.oids))) refl in
-      finishes m w.cluster w.stopped k p _ (asks_talk m w.cluster w.stopped k p longest low_at many tail (length f.work.oids) kind) w _ a.quiet refl refl
-      (waits kind f (length f.work.oids) (whole (length f.work.oids)) (AsksStage m w.cluster w.stopped k p longest low_at many tail (length f.work.oids) kind) 0 _ (more kind (reads kind f (length f.work.oids) (whole (length f.work.oids)) (asking_way m) such)) (omega (arith, few))) none
-    where
-      more : (kind : Kind low_at p tail) → AsksStage m w.cluster w.stopped k p longest low_at many tail (length f.work.oids) kind (net m w) (client m w k) (Ask (check kind f (length f.work.oids) (whole (length f.work.oids))) ∷ []) (left kind f (length f.work.oids) (whole (length f.work.oids)))
-          → AsksStage m w.cluster w.stopped k p longest low_at many tail (length f.work.oids) kind (net m w) (client m w k) (Ask (check kind f (length f.work.oids) (whole (length f.work.oids))) ∷ []) (left kind f (length f.work.oids) (whole (length f.work.oids)) + 0)
-      more kind s = subst (λ n. AsksStage m w.cluster w.stopped k p longest low_at many tail (length f.work.oids) kind (net m w) (client m w k) (Ask (check kind f (length f.work.oids) (whole (length f.work.oids))) ∷ []) n) (omega arith) s
-
-  pub makes_finish_by : (f : Syncs m w k) → makes m f.work.command ≡ true → Ends (2 * ((longest + 1) * tail) + 2 * (client m w k).layouts + 2 * ((2 * longest + 1 + length f.work.oids) * (many + 2)) + 2 * (longest + 1))
-  makes_finish_by f such none =
-      let kind = trims_kind in
-      let few = trims_few tail (client m w k).layouts many (length f.work.oids) (for_reads kind f (length f.work.oids) (whole (length f.work.oids))) (for_passes kind f (length f.work.oids) (whole (length f.work.oids))) (for_trims kind f (length f.work.oids) (whole (length f.work.oids))) (longest + 1) (all_read kind f (length f.work.oids) (whole (length f.work.oids))) (all_pass kind f (length f.work.oids) (whole (length f.work.oids))) refl in
-      finishes m w.cluster w.stopped k p _ (makes_talk m w.cluster w.stopped k p longest low_at many tail (length f.work.oids) kind) w _ a.quiet refl refl
-      (waits kind f (length f.work.oids) (whole (length f.work.oids)) (MakesStage m w.cluster w.stopped k p longest low_at many tail (length f.work.oids) kind) (longest + 1) _ (inl (record { left = left kind f (length f.work.oids) (whole (length f.work.oids)); stage = reads kind f (length f.work.oids) (whole (length f.work.oids)) (making_way m) such; few = omega arith })) (omega (arith, few))) none
-
-  -- Streams may join.
-
-  rounds_few : (j most : ℕ) (kind : Kind low_at p tail) (wide : 128 ≤ most) → for_rounds m w.cluster w.stopped k p longest low_at many tail most kind wide j ≡ suc (round m w.cluster w.stopped k p longest low_at many tail most kind wide) * j + suc longest
-  rounds_few zero most kind wide = let e = mul-zero (suc (round m w.cluster w.stopped k p longest low_at many tail most kind wide)) in omega (arith, e)
-  rounds_few (suc j) most kind wide = let e = rounds_few j most kind wide in let f = mul-suc (suc (round m w.cluster w.stopped k p longest low_at many tail most kind wide)) j in omega (arith, e, f)
-
-  rescues_few : (l x j r c a : ℕ) → a ≡ r * j + suc c → x + 1 ≤ r → 1 ≤ r → (2 + (l + l)) + ((x + a) + (x + a)) ≤ (2 * l + 2 * r) * (j + 1) + 2 * (c + 1)
-  rescues_few l x j r c a is less one =
-      let e = mul-suc (2 * l + 2 * r) j in
-      let f = ap (λ i. (2 * l + 2 * r) * i) (plus j) in
-      let g = twice l r j in
-      omega (arith, is, less, one, e, f, g)
-    where
-      plus : (n : ℕ) → n + 1 ≡ suc n
-      plus n = omega arith
-
-      twice : (l r j : ℕ) → r * j + r * j ≤ (2 * l + 2 * r) * j
-      twice l r j = let a = mul-le (2 * r) j (2 * l + 2 * r) j (omega arith) (omega arith) in omega (arith, a)
-
-  -- how much a round takes
-  round_is : (f : Syncs m w k) (most : ℕ) (few : length f.work.oids ≤ most) (wide : 128 ≤ most)
-      → suc (round m w.cluster w.stopped k p longest low_at many tail most trims_kind wide) ≡ (longest + 1) * tail + (2 * longest + 1 + most) * (many + 2)
-  round_is f most few wide =
-      let a = is_budget trims_kind f most few tail in
-      let b = is_passes trims_kind f most few (many + 1) in
-      let e = mul-suc (2 * longest + 1 + most) (many + 1) in
-      let g = ap (λ i. (2 * longest + 1 + most) * i) (plus many) in
-      omega (arith, a, b, e, g)
-    where
-      plus : (n : ℕ) → n + 2 ≡ suc (n + 1)
-      plus n = omega arith
-
-  first_few : (l x y z s most t n r : ℕ) → x ≤ (longest + 1) * t → y ≤ (2 * longest + 1 + most) * (n + 1) → z ≡ longest + (s + y) → s ≤ most → r ≡ (longest + 1) * t + (2 * longest + 1 + most) * (n + 2) → longest + x + z + 1 ≤ r
-  first_few l x y z s most t n r a b c d e =
-      let f = mul-suc (2 * longest + 1 + most) (n + 1) in
-      let g = ap (λ i. (2 * longest + 1 + most) * i) (plus n) in
-      omega (arith, a, b, c, d, e, f, g)
-    where
-      plus : (n : ℕ) → n + 2 ≡ suc (n + 1)
-      plus n = omega arith
-
-  pub rescues_finish_by : (f : Syncs m w k) → is_rescue m f.work.command ≡ true → length f.work.oids ≤ 128
-      → Ends ((2 * ((longest + 1) * tail) + 2 * (client m w k).layouts + 2 * ((2 * longest + 1 + 128) * (many + 2))) * ((128 - length f.work.oids) + 1) + 2 * (longest + 1))
-  rescues_finish_by f such few none =
-      let s = length f.work.oids in
-      let most : ℕ = 128 in
-      let j = 128 - s in
-      let wide : 128 ≤ 128 = omega arith in
-      let kind = trims_kind in
-      let r = suc (round m w.cluster w.stopped k p longest low_at many tail most kind wide) in
-      let is = round_is f most few wide in
-      let x = first_few (client m w k).layouts (for_reads kind f most few) (for_passes kind f most few) (for_trims kind f most few) s most tail many r (all_read kind f most few) (all_pass kind f most few) refl few is in
-      let enough = rescues_few (client m w k).layouts (left kind f most few) j r longest (for_rounds m w.cluster w.stopped k p longest low_at many tail most kind wide j) (rounds_few j most kind wide) x (omega (arith, x)) in
-      let whole = ap (λ i. i * (j + 1)) (both (client m w k).layouts r ((longest + 1) * tail) ((2 * longest + 1 + most) * (many + 2)) is) in
-      finishes m w.cluster w.stopped k p _ (rescue_talk m w.cluster w.stopped k p longest low_at many tail most kind wide j) w _ a.quiet refl refl
-      (waits kind f most few (RescueStage m w.cluster w.stopped k p longest low_at many tail most kind wide j) (for_rounds m w.cluster w.stopped k p longest low_at many tail most kind wide j) _
-      (first_stage m w.cluster w.stopped k p longest low_at many tail most kind wide j (net m w) (client m w k) (Ask (check kind f most few) ∷ []) _ (record { left = left kind f most few; stage = reads kind f most few (rescuing_way m j) (such, room s); few = omega arith }))
-      (omega (arith, enough, whole))) none
-    where
-      room : (n : ℕ) → 128 ≤ n + (128 - n)
-      room n = omega arith
-
-      both : (l r x y : ℕ) → r ≡ x + y → 2 * l + 2 * r ≡ 2 * x + 2 * l + 2 * y
-      both l r x y e = omega (arith, e)
-
   -- A transaction with reads is ended.
 
   ends_few : (l c t n r : ℕ) → r ≡ (c + 1) * (suc t) + (2 * c + 1 + 128) * (n + 2) → (2 + (l + l)) + ((c + (r + suc c)) + (c + (r + suc c))) ≤ 2 * ((c + 1) * t) + 2 * l + 2 * ((2 * c + 1 + 128) * (n + 2)) + 6 * (c + 1)
@@ -342,7 +235,7 @@ module _ (m : Meaning) (w : World m) (k : ℕ) (p : Layout) (longest : ℕ) (a :
       let is = round_long m w.cluster w.stopped k p longest low_at many (suc tail) most kind wide in
       let o = out (seqr_id p.seq) f.rid (msg.Token p.epoch (streams_of f.append.draft)) in
       finishes m w.cluster w.stopped k p _ (ends_talk m w.cluster w.stopped k p longest low_at many tail most kind wide) w _ a.quiet refl refl
-      (waits_for o (EndStage m w.cluster w.stopped k p longest low_at many tail most kind wide) (longest + (r + suc longest)) _
+      (waits_for (o ∷ []) (EndStage m w.cluster w.stopped k p longest low_at many tail most kind wide) (longest + (r + suc longest)) _
       (inl (record {
         left = longest;
         stage = Request o longest (record {

@@ -3,7 +3,8 @@ use Rattle.std.specs.Prelude.{◌≡◌, ℕ, ◌+◌, ◌*◌, true, List, ◌�
 use Rattle.tg_base.specs.declared.packet.Packet.{Packet}
 use Rattle.tg_kind.specs.Meaning.{Meaning}
 use Rattle.tg_model.specs.declared.command.Event.TheVariants.{Deliver}
-use Rattle.tg_model.specs.Kinds.{CommandOf}
+use Rattle.tg_model.specs.declared.trace.What.TheVariants as told
+use Rattle.tg_model.specs.Kinds.{CommandOf, WhatOf}
 use Rattle.tg_protocol.specs.Clients.{Work}
 use Rattle.tg_protocol.specs.Worlds.{World, client, latest, happens, lowest, settle}
 use Rattle.tg_protocol.specs.Finishing.{longest_chain, WaitsAlone, IsReadyFor, most_deliveries_in, Finishes, HasReply}
@@ -14,9 +15,16 @@ use Rattle.tg_law_finish.specs.Finish.Appends.{WaitsForAppend}
 use Rattle.tg_law_finish.specs.Finish.Asks.{NothingTrimmed, HasIssued, WaitsForSync}
 
 module _ (m : Meaning) where
+  -- a reply: it doesn't only mark that a transaction has begun, that it has a write, or that its end is accepted
+  abbrev pub IsReply : WhatOf m → Type 0
+  IsReply told.Begin = ⊥
+  IsReply (told.Put o op) = ⊥
+  IsReply told.End = ⊥
+  IsReply what = Unit {0}
+
   -- the settling ends the command, the client tells a reply, and so many packets with it are delivered at most
   abbrev pub IsAnswered : World m → ℕ → ℕ → Type 0
-  IsAnswered w k most = Finishes m w (settle m w).world k most (λ what. Unit {0})
+  IsAnswered w k most = Finishes m w (settle m w).world k most IsReply
 
   -- an append: four deliveries for each unit of the longest chain, two for each layout server, and two more
   abbrev pub append_bound : World m → ℕ
@@ -44,10 +52,15 @@ module _ (m : Meaning) where
   AskInTime w = (k : ℕ) (x : CommandOf m) → WaitsAlone m w k x → IsReadyFor m w k → Granted m w → NothingTrimmed m w → HasIssued m w → WaitsForSync m w k →
       IsAnswered w k (most_deliveries_in m w x)
 
-  -- whatever the world: where a settling ends a command that plays, its client has told a reply
+  -- whatever the world: where a settling ends a command that plays, its client has told something
   abbrev pub EndsAreTold : Type 0
   EndsAreTold = (w : World m) (k : ℕ) (work : Work m) → (client m w k).work ≡ Some work → plays m work.command ≡ true →
       (client m (settle m w).world k).work ≡ None → HasReply m w (settle m w).world k (λ what. Unit {0})
+
+  -- in a run it has told a reply
+  abbrev pub RepliesAreTold : World m → Type 0
+  RepliesAreTold w = (k : ℕ) (work : Work m) → (client m w k).work ≡ Some work → plays m work.command ≡ true →
+      (client m (settle m w).world k).work ≡ None → HasReply m w (settle m w).world k IsReply
 
   -- whatever the world: the oldest packet's delivery takes it out, and puts what it makes a node send behind the others
   pub record TakesTurn (w v : World m) (q : List Packet) : Type 0 where

@@ -8,7 +8,6 @@ use Rattle.tg_protocol.specs.Worlds.{World, client}
 use Rattle.tg_protocol.specs.Finishing.{WaitsAlone, IsReadyFor, most_deliveries_in}
 use Rattle.tg_law_finish.specs.Finish.Appends.{is_last}
 use Rattle.tg_law_finish.specs.Finish.Asks.{NothingTrimmed, HasIssued, WaitsForSync}
-use Rattle.tg_law_finish.specs.Finish.Commands.{plays}
 use Rattle.tg_law_finish.specs.Finish.Laws.{IsAnswered, append_bound, ask_bound}
 
 module _ (m : Meaning) where
@@ -23,7 +22,7 @@ module _ (m : Meaning) where
 
   -- within the deliveries of an append, and within the bound of the command
   abbrev pub AppendFinishes : World m → Type 0
-  AppendFinishes w = (k : ℕ) (x : CommandOf m) → WaitsAlone m w k x → IsReadyFor m w k → plays m x ≡ true → AppendsLast w k →
+  AppendFinishes w = (k : ℕ) (x : CommandOf m) → WaitsAlone m w k x → IsReadyFor m w k → AppendsLast w k →
       IsAnswered m w k (append_bound m w) × IsAnswered m w k (most_deliveries_in m w x)
 
   -- within the deliveries of an ask, and within the bound of the command

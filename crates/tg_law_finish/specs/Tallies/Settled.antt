@@ -3,6 +3,8 @@ use Rattle.std.specs.Prelude.{◌≡◌, ℕ, ◌+◌, ◌*◌, [], ◌∷◌}
 use Rattle.tg_model.specs.declared.command.Command.TheVariants as cmd
 use Rattle.tg_model.specs.declared.command.Event.TheVariants.{Command as Commands, Deliver, Lose}
 use Rattle.tg_model.specs.Kinds.{CommandOf}
+use Rattle.tg_protocol.specs.Syncing.{SyncWork, Probing}
+use Rattle.tg_protocol.specs.Clients.{Task, Syncing}
 use Rattle.tg_protocol.specs.Worlds.{World, start, latest, settle}
 use Rattle.tg_protocol.specs.Runs.{Moves, Takes, Reaches, run}
 use Rattle.tg_protocol.specs.Finishing.{longest_chain, deliveries, is_with_client, most_deliveries_in, WaitsAlone, IsReadyFor}
@@ -11,8 +13,8 @@ use Rattle.tg_law_finish.specs.Finish.Appends.{WaitsForAppend}
 use Rattle.tg_law_finish.specs.Finish.Asks.{NothingTrimmed, HasIssued, WaitsForSync}
 use Rattle.tg_law_finish.specs.Finish.Ends.{EndsAppend, end_bound}
 use Rattle.tg_law_finish.specs.Finish.Laws.{append_bound, ask_bound}
-use Rattle.tg_law_finish.specs.Finish.Makes.{MakesSync}
-use Rattle.tg_law_finish.specs.Finish.Rescues.{RescuesSync, rescue_bound}
+use Rattle.tg_law_finish.specs.Finish.Reads.{WaitsForRead}
+use Rattle.tg_law_finish.specs.Finish.Rescues.{rescue_bound}
 use Rattle.tg_law_finish.specs.Finish.Walks.{streams, walk_bound}
 use Rattle.tg_law_finish.specs.Tallies.Tallies.{tallies, tally, with_tally}
 
@@ -58,8 +60,30 @@ pub record FateSettles (w : World tallies) : Type 0 where
   pub alone : WaitsAlone tallies w 0 (cmd.Fate 0)
   pub ready : IsReadyFor tallies w 0
   pub none_issued : next_position tallies w ≡ (latest tallies w).start
-  pub waits : WaitsForSync tallies w 0
+  pub waits : WaitsForRead tallies w 0
   pub counts : Counted w 6 26 64 (λ v. walk_bound tallies v (streams tallies waits.work)) (cmd.Fate 0)
+
+-- a client asks for a fate while nothing has been issued; it is told so, and its probe of position 0's chain is lost
+abbrev pub probe_lost : Moves tallies
+probe_lost = Takes (Commands 0 (cmd.Fate 0)) ∷ Takes (Deliver 0) ∷ Takes (Deliver 1) ∷ Takes (Lose 2) ∷ []
+
+abbrev pub ProbesChain : SyncWork → Type 0
+ProbesChain (Probing a j) = Unit {0}
+ProbesChain x = ⊥
+
+-- a sync that probes a chain
+abbrev pub IsProbe : Task tallies → Type 0
+IsProbe (Syncing s) = ProbesChain s.work
+IsProbe t = ⊥
+
+pub record ProbeSettles (w : World tallies) : Type 0 where
+  pub reached : Reaches tallies with_tally probe_lost w
+  pub alone : WaitsAlone tallies w 0 (cmd.Fate 0)
+  pub ready : IsReadyFor tallies w 0
+  pub none_issued : next_position tallies w ≡ (latest tallies w).start
+  pub waits : WaitsForRead tallies w 0
+  pub probes : IsProbe waits.task
+  pub counts : Counted w 4 26 64 (λ v. walk_bound tallies v (streams tallies waits.work)) (cmd.Fate 0)
 
 -- a client asks for a tally and adds to it, and its record's request for a token is lost
 abbrev pub end_lost : Moves tallies
@@ -81,7 +105,7 @@ pub record SaveSettles (w : World tallies) : Type 0 where
   pub reached : Reaches tallies with_tally save_lost w
   pub alone : WaitsAlone tallies w 0 (cmd.Checkpoint tally)
   pub ready : IsReadyFor tallies w 0
-  pub waits : MakesSync tallies w 0
+  pub waits : WaitsForRead tallies w 0
   pub counts : Counted w 10 36 64 (λ v. walk_bound tallies v (streams tallies waits.work) + 2 * (longest_chain (latest tallies v) + 1)) (cmd.Checkpoint tally)
 
 -- a client rescues where nothing was issued, and its request for a tail is lost
@@ -92,7 +116,7 @@ pub record RescueSettles (w : World tallies) : Type 0 where
   pub reached : Reaches tallies with_tally rescue_lost w
   pub alone : WaitsAlone tallies w 0 (cmd.Rescue 0)
   pub ready : IsReadyFor tallies w 0
-  pub waits : RescuesSync tallies w 0
+  pub waits : WaitsForRead tallies w 0
   pub counts : Counted w 6 100868 8192 (λ v. rescue_bound tallies v (streams tallies waits.work)) (cmd.Rescue 0)
 
 abbrev pub AppendIsAnswered : Type 0
@@ -103,6 +127,9 @@ AskIsAnswered = AskSettles (run tallies ask_lost (start tallies with_tally))
 
 abbrev pub FateIsAnswered : Type 0
 FateIsAnswered = FateSettles (run tallies fate_lost (start tallies with_tally))
+
+abbrev pub ProbeIsAnswered : Type 0
+ProbeIsAnswered = ProbeSettles (run tallies probe_lost (start tallies with_tally))
 
 abbrev pub EndIsAnswered : Type 0
 EndIsAnswered = EndSettles (run tallies end_lost (start tallies with_tally))
