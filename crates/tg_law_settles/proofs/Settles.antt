@@ -15,6 +15,7 @@ use Rattle.tg_law_layouts.proofs.Moves.Lists.{contained}
 use Rattle.tg_law_layouts.proofs.Moves.Members.{Has, has_either, has_contained}
 use Rattle.tg_law_layouts.proofs.Moves.Scripts.{run_both}
 use Rattle.tg_law_scripts.proofs.Scripts.Reaching.{each_script_reaches}
+use Rattle.tg_law_finish.specs.Finish.Laws.{IsReply}
 use Rattle.tg_law_finish.proofs.Finish.Store.{appends_finish, asks_finish_anyway, makes_finish_anyway, rescues_finish, ends_finish}
 use Rattle.tg_law_settles.specs.Settles.{IsSettleLine, world_before, world_after, Waits, ForAppend, ForAsk, ForMake, ForRescue, ForEnd, SettleLinesFinish}
 
@@ -76,15 +77,15 @@ counts h ms w r = record {
     by x (inr (inr e)) = absurd e
 
 answered : (h : Header) (ms : Moves all_kinds) (w : Worlds) → Reaches all_kinds h ms w → (k most : ℕ) (x : CommandOf all_kinds) → WaitsAlone all_kinds w k x → IsReadyFor all_kinds w k → Waits w k x most
-    → Finishes all_kinds w (settle all_kinds w).world k most (λ what. Unit {0})
-answered h ms w r k most x a b (ForAppend play f) = (appends_finish h ms w r k x a b play f).0
-answered h ms w r k most x a b (ForAsk f) = (asks_finish_anyway h ms w r k x a b f).0
-answered h ms w r k most x a b (ForMake f) = (makes_finish_anyway h ms w r k x a b f).0
-answered h ms w r k most x a b (ForRescue f) = (rescues_finish h ms w r k x a b f).0
+    → Finishes all_kinds w (settle all_kinds w).world k most (IsReply all_kinds)
+answered h ms w r k most x a b (ForAppend f) = (appends_finish h ms w r k x a b f).0
+answered h ms w r k most x a b (ForAsk is f) = (asks_finish_anyway h ms w r k x a b is f).0
+answered h ms w r k most x a b (ForMake is f) = (makes_finish_anyway h ms w r k x a b is f).0
+answered h ms w r k most x a b (ForRescue is f) = (rescues_finish h ms w r k x a b is f).0
 answered h ms w r k most x a b (ForEnd f) = (ends_finish h ms w r k x a b f).0
 
 pub settle_lines_finish : SettleLinesFinish
 settle_lines_finish s n k most x is a b waits =
     let r = each_script_reaches (front n s) (front_script s n is.script) in
-    subst (λ (v : Worlds). Finishes all_kinds (world_before s n) v k most (λ what. Unit {0})) (sym (settled_after s n is))
+    subst (λ (v : Worlds). Finishes all_kinds (world_before s n) v k most (IsReply all_kinds)) (sym (settled_after s n is))
     (answered s.header (r.moves ++ Next ∷ []) (world_before s n) (counts s.header r.moves (world_of (front n s)) r.reaches) k most x a b waits)

@@ -6,13 +6,13 @@ use Rattle.tg_protocol.specs.Finishing.{longest_chain, WaitsAlone, IsReadyFor, F
 use Rattle.tg_any.specs.AllKinds.{all_kinds}
 use Rattle.tg_script.specs.declared.line.Line.TheVariants as line
 use Rattle.tg_replay.specs.Runs.{Script, Worlds, IsScript, IsWithin, world_of, front}
-use Rattle.tg_law_finish.specs.Finish.Commands.{plays}
-use Rattle.tg_law_finish.specs.Finish.Laws.{append_bound}
+use Rattle.tg_law_finish.specs.Finish.Commands.{is_ask}
+use Rattle.tg_law_finish.specs.Finish.Laws.{IsReply, append_bound}
 use Rattle.tg_law_finish.specs.Finish.Store.{AppendsLast}
-use Rattle.tg_law_finish.specs.Finish.Asks.{WaitsForSync}
-use Rattle.tg_law_finish.specs.Finish.Makes.{MakesSync}
+use Rattle.tg_law_finish.specs.Finish.Makes.{makes}
+use Rattle.tg_law_finish.specs.Finish.Reads.{WaitsForRead}
 use Rattle.tg_law_finish.specs.Finish.Ends.{EndsAppend, end_bound}
-use Rattle.tg_law_finish.specs.Finish.Rescues.{RescuesSync, rescue_bound}
+use Rattle.tg_law_finish.specs.Finish.Rescues.{is_rescue, rescue_bound}
 use Rattle.tg_law_finish.specs.Finish.Walks.{streams, walk_bound}
 
 -- event line n, counted from 0, settles, and no limit stops the script before it
@@ -31,16 +31,16 @@ world_after s n = world_of (front (n + 1) s)
 -- a client waits with a command that is proved to finish, within so many deliveries
 pub data Waits (w : Worlds) (k : ℕ) (x : CommandOf all_kinds) : ℕ → Type 0 where
   -- for an append after which nothing is left to do
-  ForAppend : plays all_kinds x ≡ true → AppendsLast all_kinds w k → Waits w k x (append_bound all_kinds w)
-  -- for a sync's first answer: of `ask`, `fate` and `ask-at`
-  ForAsk : (f : WaitsForSync all_kinds w k) → Waits w k x (walk_bound all_kinds w (streams all_kinds f.work))
+  ForAppend : AppendsLast all_kinds w k → Waits w k x (append_bound all_kinds w)
+  -- in a sync or in a walk: of `ask`, `fate` and `ask-at`
+  ForAsk : is_ask all_kinds x ≡ true → (f : WaitsForRead all_kinds w k) → Waits w k x (walk_bound all_kinds w (streams all_kinds f.work))
   -- and of `decide`, `checkpoint`, `forget`, and `end` whose record is appended
-  ForMake : (f : MakesSync all_kinds w k) → Waits w k x (walk_bound all_kinds w (streams all_kinds f.work) + 2 * (longest_chain (latest all_kinds w) + 1))
+  ForMake : makes all_kinds x ≡ true → (f : WaitsForRead all_kinds w k) → Waits w k x (walk_bound all_kinds w (streams all_kinds f.work) + 2 * (longest_chain (latest all_kinds w) + 1))
   -- and of `rescue`
-  ForRescue : (f : RescuesSync all_kinds w k) → Waits w k x (rescue_bound all_kinds w (streams all_kinds f.work))
+  ForRescue : is_rescue all_kinds x ≡ true → (f : WaitsForRead all_kinds w k) → Waits w k x (rescue_bound all_kinds w (streams all_kinds f.work))
   -- for the token of the record of a transaction with reads
   ForEnd : EndsAppend all_kinds w k → Waits w k x (end_bound all_kinds w)
 
 abbrev pub SettleLinesFinish : Type 0
 SettleLinesFinish = (s : Script) (n k most : ℕ) (x : CommandOf all_kinds) → IsSettleLine s n → WaitsAlone all_kinds (world_before s n) k x → IsReadyFor all_kinds (world_before s n) k →
-    Waits (world_before s n) k x most → Finishes all_kinds (world_before s n) (world_after s n) k most (λ what. Unit {0})
+    Waits (world_before s n) k x most → Finishes all_kinds (world_before s n) (world_after s n) k most (IsReply all_kinds)
