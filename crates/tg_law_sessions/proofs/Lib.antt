@@ -1,5 +1,6 @@
 pub mod Moves
 pub mod Orders
 pub mod Reaching
-pub mod Holding
 pub mod Wholes
+pub mod Progress
+pub mod Holding

@@ -43,14 +43,18 @@ after_in_two n [] js = refl
 after_in_two n (i ∷ is) js = after_in_two (node_step all_kinds n i).now is js
 
 -- what a session so far comes to by further inputs
-record GoesOn (n : NodeId) (s e : Session) (is : List AnyInput) : Type 0 where
-  node : e.node ≡ after all_kinds s.node is
-  sent : e.sent ≡ s.sent ++ given all_kinds (sends_of all_kinds n) s.node is
-  replies : map (said_in_reply n) e.replies ≡ map (said_in_reply n) s.replies ++ given all_kinds (says_of all_kinds n) s.node is
+pub record GoesOn (n : NodeId) (s e : Session) (is : List AnyInput) : Type 0 where
+  pub node : e.node ≡ after all_kinds s.node is
+  pub sent : e.sent ≡ s.sent ++ given all_kinds (sends_of all_kinds n) s.node is
+  pub replies : map (said_in_reply n) e.replies ≡ map (said_in_reply n) s.replies ++ given all_kinds (says_of all_kinds n) s.node is
 
-plays_on : (n : NodeId) (event : ℕ) (is : List AnyInput) (s : Session) → GoesOn n s (plays n event is s) is
+pub goes_nowhere : (n : NodeId) (s : Session) → GoesOn n s s []
 unfolding given after
-plays_on n event [] s = record { node = refl; sent = sym (no_more s.sent); replies = sym (no_more (map (said_in_reply n) s.replies)) }
+goes_nowhere n s = record { node = refl; sent = sym (no_more s.sent); replies = sym (no_more (map (said_in_reply n) s.replies)) }
+
+pub plays_on : (n : NodeId) (event : ℕ) (is : List AnyInput) (s : Session) → GoesOn n s (plays n event is s) is
+unfolding given after
+plays_on n event [] s = goes_nowhere n s
 plays_on n event (i ∷ is) s =
     let t = node_step all_kinds s.node i in
     let r = plays_on n event is (steps n event i s) in
@@ -63,15 +67,9 @@ plays_on n event (i ∷ is) s =
           ∙ in_three (map (said_in_reply n) s.replies) (says_of all_kinds n t) (given all_kinds (says_of all_kinds n) t.now is);
     }
 
-lines_on : (n : NodeId) (event : ℕ) (ds : List Deed) (s : Session) → GoesOn n s (plays_lines n event ds s) (inputs_in n ds)
-unfolding given after
-lines_on n event [] s = record { node = refl; sent = sym (no_more s.sent); replies = sym (no_more (map (said_in_reply n) s.replies)) }
-lines_on n event (d ∷ ds) s =
-    let is = inputs_of n d in
-    let a = plays_on n event is s in
-    let m = plays n event is s in
-    let r = lines_on n (suc event) ds m in
-    let js = inputs_in n ds in
+-- further inputs, and others after them
+pub goes_on : (n : NodeId) (s m e : Session) (is js : List AnyInput) → GoesOn n s m is → GoesOn n m e js → GoesOn n s e (is ++ js)
+goes_on n s m e is js a r =
     record {
       node = r.node ∙ ap (λ (x : Node all_kinds). after all_kinds x js) a.node ∙ sym (after_in_two s.node is js);
       sent = r.sent ∙ ap (λ (x : Node all_kinds). m.sent ++ given all_kinds (sends_of all_kinds n) x js) a.node
@@ -83,6 +81,12 @@ lines_on n event (d ∷ ds) s =
           ∙ in_three (map (said_in_reply n) s.replies) (given all_kinds (says_of all_kinds n) s.node is) (given all_kinds (says_of all_kinds n) (after all_kinds s.node is) js)
           ∙ ap (λ (xs : List (Said all_kinds)). map (said_in_reply n) s.replies ++ xs) (sym (given_in_two (says_of all_kinds n) s.node is js));
     }
+
+pub lines_on : (n : NodeId) (event : ℕ) (ds : List Deed) (s : Session) → GoesOn n s (plays_lines n event ds s) (inputs_in n ds)
+lines_on n event [] s = goes_nowhere n s
+lines_on n event (d ∷ ds) s =
+    let m = plays n event (inputs_of n d) s in
+    goes_on n s m (plays_lines n (suc event) ds m) (inputs_of n d) (inputs_in n ds) (plays_on n event (inputs_of n d) s) (lines_on n (suc event) ds m)
 
 pub session_is_node : SessionIsNode
 session_is_node h n ds = let g = lines_on n 1 ds (opening h n) in record { node = g.node; sent = g.sent; replies = g.replies }

@@ -35,7 +35,9 @@ pub fn sessions_are_nodes()
     ensures { SessionIsNode }
 {}
 
-/// So nodes that follow texts, each in a process of its own, make a run of the store that holds.
+/// So nodes that follow texts of one header, each in a process of its own and to its end, to a refused line or to a limit,
+/// make a run of the store that holds; and there each node, the packets that it sent and its replies are those of its own
+/// session. Commands are lawful since lines of a script ask them, and steps are few since a limit stops a node.
 pub fn nodes_hold()
     ensures { NodesHold }
 {}
