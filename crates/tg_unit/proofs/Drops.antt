@@ -52,4 +52,4 @@ pub from-first : (es : List (ℕ × Segment)) (first n : ℕ) (s : Segment) → 
 from-first [] first n s is le h = tt
 from-first (e ∷ es) first n s is le h =
     let key : e.0 ≡ first = ap (λ (x : ℕ × Segment). x.0) (same-some e (first, s) is) in
-    (omega arith, h.1, h.2, h.3)
+    (omega arith, h.1, h.2, h.3, h.4)

@@ -1,5 +1,5 @@
 -- A cell is put into its segment.
-use Rattle.std.proofs.Common.{◌≡◌, ◌≢◌, ℕ, ◌+◌, ◌*◌, ◌<◌, ◌≤◌, List, [], ◌∷◌, ◌++◌, length, Option, Some, None, refl, sym, ap, ◌∙◌, inl, inr, arith}
+use Rattle.std.proofs.Common.{◌≡◌, ◌≢◌, ℕ, ◌+◌, ◌*◌, ◌^◌, ◌<◌, ◌≤◌, List, [], ◌∷◌, ◌++◌, length, Option, Some, None, refl, sym, ap, ◌∙◌, inl, inr, arith}
 use Rattle.std.specs.Ordering.{nat_cmp}
 use Rattle.std.specs.Map.{set_value}
 use Rattle.std.specs.BTreeMap.{is_at}
@@ -81,22 +81,22 @@ put-cells (e ∷ es) n i least c s lt h new =
           ap cells_of (put-here e es n s same) ∙ ap (λ zs. by_position e.0 zs ++ cells_of es) cells
           ∙ sym (put-placed e.1.cells (cells_of es) n e.0 i c same lt (from-cells es (64 * e.0 + 64) (e.0 + 1) (omega arith) h.3))
       | inr (inl less) ↦
-          let cells : s.cells ≡ (i, c) ∷ [] = new ∙ ap (λ o. put (cells_in o) i c) (none-before (e ∷ es) n e.0 less (omega arith, h.1, h.2, h.3)) in
+          let cells : s.cells ≡ (i, c) ∷ [] = new ∙ ap (λ o. put (cells_in o) i c) (none-before (e ∷ es) n e.0 less (omega arith, h.1, h.2, h.3, h.4)) in
           ap cells_of (put-before e es n s less) ∙ ap (λ zs. by_position n zs ++ cells_of (e ∷ es)) cells
-          ∙ sym (put-front (cells_of (e ∷ es)) (64 * e.0) (64 * n + i) c (omega arith) (from-cells (e ∷ es) (64 * e.0) e.0 (omega arith) (omega arith, h.1, h.2, h.3)))
+          ∙ sym (put-front (cells_of (e ∷ es)) (64 * e.0) (64 * n + i) c (omega arith) (from-cells (e ∷ es) (64 * e.0) e.0 (omega arith) (omega arith, h.1, h.2, h.3, h.4)))
       | inr (inr more) ↦
           let cells : s.cells ≡ put (cells_in (look n es)) i c = new ∙ ap (λ o. put (cells_in o) i c) (look-past n e es (λ p. omega arith)) in
           ap cells_of (put-past e es n s more) ∙ ap (λ zs. by_position e.0 e.1.cells ++ zs) (put-cells es n i (e.0 + 1) c s lt h.3 cells)
           ∙ sym (put-second (by_position e.0 e.1.cells) (cells_of es) (64 * e.0 + 64) (64 * n + i) c (omega arith) (below-placed e.1.cells (64 * e.0 + 64) e.0 0 (omega arith) h.1.rising))
     ]
 
-pub put-whole : (es : List (ℕ × Segment)) (n least : ℕ) (s : Segment) → least ≤ n → IsSegment s → 1 ≤ length s.cells → AreSegments least es → AreSegments least (put es n s)
-put-whole [] n least s le new some h = (le, new, some, tt)
-put-whole (e ∷ es) n least s le new some h =
+pub put-whole : (es : List (ℕ × Segment)) (n least : ℕ) (s : Segment) → n < 2 ^ 58 → least ≤ n → IsSegment s → 1 ≤ length s.cells → AreSegments least es → AreSegments least (put es n s)
+put-whole [] n least s near le new some h = (le, new, some, tt, near)
+put-whole (e ∷ es) n least s near le new some h =
     elim (cases_order n e.0) [
-      | inl same ↦ rw (put-here e es n s same) (h.0, new, some, h.3)
-      | inr (inl less) ↦ rw (put-before e es n s less) (le, new, some, (omega arith, h.1, h.2, h.3))
-      | inr (inr more) ↦ rw (put-past e es n s more) (h.0, h.1, h.2, put-whole es n (e.0 + 1) s (omega arith) new some h.3)
+      | inl same ↦ rw (put-here e es n s same) (h.0, new, some, h.3, h.4)
+      | inr (inl less) ↦ rw (put-before e es n s less) (le, new, some, (omega arith, h.1, h.2, h.3, h.4), near)
+      | inr (inr more) ↦ rw (put-past e es n s more) (h.0, h.1, h.2, put-whole es n (e.0 + 1) s near (omega arith) new some h.3, h.4)
     ]
 
 pub set-put : (es : List (ℕ × Segment)) (n least : ℕ) (old s : Segment) → look n es ≡ Some old → AreSegments least es → set_value (is_at (nat_cmp n)) es s ≡ put es n s
@@ -104,7 +104,7 @@ set-put [] n least old s found h = absurd (cc)
 set-put (e ∷ es) n least old s found h =
     elim (cases_order n e.0) [
       | inl same ↦ set-here e es n s same ∙ sym (put-here e es n s same)
-      | inr (inl less) ↦ let none = none-before (e ∷ es) n e.0 less (omega arith, h.1, h.2, h.3) in absurd (cc)
+      | inr (inl less) ↦ let none = none-before (e ∷ es) n e.0 less (omega arith, h.1, h.2, h.3, h.4) in absurd (cc)
       | inr (inr more) ↦
           let ne : n ≢ e.0 = λ p. omega arith in
           set-past e es n s ne ∙ ap (λ zs. e ∷ zs) (set-put es n (e.0 + 1) old s (sym (look-past n e es ne) ∙ found) h.3) ∙ sym (put-past e es n s more)

@@ -1,11 +1,24 @@
 -- The positions of cells.
-use Rattle.std.specs.Prelude.{◌≡◌, ℕ, nat_lt, Bool, true, false, cond, List, [], ◌∷◌, ◌++◌, refl}
-use Rattle.std.proofs.Common.{ap, sym, ◌∙◌}
+use Rattle.std.specs.Prelude.{◌≡◌, ℕ, ◌+◌, nat_lt, Bool, true, false, cond, List, [], ◌∷◌, ◌++◌, refl}
+use Rattle.std.proofs.Common.{ap, sym, subst, ◌∙◌}
 use Rattle.std.proofs.lemmas.List.{append_assoc}
 use Rattle.tg_base.specs.declared.cell.Cell.{Cell}
 use Rattle.tg_protocol.specs.Logs.{positions}
-use Rattle.tg_unit.specs.Segments.{by_position, cells_below, cells_of}
+use Rattle.tg_unit.specs.Segments.{by_position, cells_below, cells_of, ArePlaces, AreLow, AreNear, AreSegments}
 use Rattle.tg_unit.specs.declared.segment.Segment.{Segment}
+
+are-low : (cells : List (ℕ × Cell)) (least : ℕ) → ArePlaces least cells → AreLow cells
+are-low [] least h = tt
+are-low (e ∷ es) least h = (h.1, are-low es (e.0 + 1) h.2)
+
+-- the positions of whole segments are numbers of 64 bits
+pub are-near : (es : List (ℕ × Segment)) (least : ℕ) → AreSegments least es → AreNear es
+are-near [] least h = tt
+are-near (e ∷ es) least h = (h.4, are-low e.1.cells 0 h.1.rising, are-near es (e.0 + 1) h.3)
+
+-- the first segment is near, and so are the others
+pub first-near : (es rest : List (ℕ × Segment)) (num : ℕ) (s : Segment) → es ≡ (num, s) ∷ rest → AreNear es → AreNear ((num, s) ∷ rest)
+first-near es rest num s first h = subst AreNear first h
 
 positions_joined : (xs ys : List (ℕ × Cell)) → positions (xs ++ ys) ≡ positions xs ++ positions ys
 positions_joined [] ys = refl

@@ -1,5 +1,5 @@
 -- A cell is put into a segment that is there, or into a new one.
-use Rattle.std.proofs.Common.{◌≡◌, ℕ, ◌+◌, ◌*◌, ◌<◌, ◌≤◌, List, [], length, Some, None, Result, Ok, Err, OnOk, sym, ap, subst, ◌∙◌, arith}
+use Rattle.std.proofs.Common.{◌≡◌, ℕ, ◌+◌, ◌*◌, ◌^◌, ◌<◌, ◌≤◌, List, [], length, Some, None, Result, Ok, Err, OnOk, sym, ap, subst, ◌∙◌, arith}
 use Rattle.std.specs.Ordering.{nat_cmp}
 use Rattle.std.specs.Map.{set_value}
 use Rattle.std.specs.BTreeMap.{is_at}
@@ -31,5 +31,5 @@ pub put-new : (es : List (ℕ × Segment)) (n i : ℕ) (c : Cell) (new : Segment
     → cells_of (put es n new) ≡ put (cells_of es) (64 * n + i) c
 put-new es n i c new lt found h cells = put-cells es n i 0 c new lt h (cells ∙ ap (λ o. put (cells_in o) i c) (sym found))
 
-pub put-new-whole : (es : List (ℕ × Segment)) (n i : ℕ) (c : Cell) (new : Segment) → AreSegments 0 es → IsSegment new → new.cells ≡ put [] i c → AreSegments 0 (put es n new)
-put-new-whole es n i c new h whole cells = put-whole es n 0 new (omega arith) whole (has-cell new [] i c cells) h
+pub put-new-whole : (es : List (ℕ × Segment)) (n i : ℕ) (c : Cell) (new : Segment) → n < 2 ^ 58 → AreSegments 0 es → IsSegment new → new.cells ≡ put [] i c → AreSegments 0 (put es n new)
+put-new-whole es n i c new near h whole cells = put-whole es n 0 new near (omega arith) whole (has-cell new [] i c cells) h

@@ -53,7 +53,7 @@ drop-segment e es n j least lt h =
 
 pub weaker : (es : List (ℕ × Segment)) (low least : ℕ) → low ≤ least → AreSegments least es → AreSegments low es
 weaker [] low least le h = tt
-weaker (e ∷ es) low least le h = (omega (arith, h.0), h.1, h.2, h.3)
+weaker (e ∷ es) low least le h = (omega (arith, h.0), h.1, h.2, h.3, h.4)
 
 pub keep-segments : (es : List (ℕ × Segment)) (n j : ℕ) → j < 64 → AreSegments (n + 1) es → cells_from (64 * n + j) (cells_of es) ≡ cells_of es
 keep-segments es n j lt h = all-kept (cells_of es) (64 * n + 64) (64 * n + j) (omega arith) (from-cells es (64 * n + 64) (n + 1) (omega arith) h)
@@ -87,7 +87,7 @@ trim-remove (e ∷ es) n j lt gone h =
       | inr other ↦
           ap cells_of (remove-past e es n other)
           ∙ ap (λ zs. by_position e.0 e.1.cells ++ cells_of zs) (absent es n (e.0 + 1) (omega (arith, h.0)) h.3)
-          ∙ sym (all-kept (cells_of (e ∷ es)) (64 * n + 64) (64 * n + j) (omega arith) (from-cells (e ∷ es) (64 * n + 64) (n + 1) (omega arith) (omega (arith, h.0), h.1, h.2, h.3)))
+          ∙ sym (all-kept (cells_of (e ∷ es)) (64 * n + 64) (64 * n + j) (omega arith) (from-cells (e ∷ es) (64 * n + 64) (n + 1) (omega arith) (omega (arith, h.0), h.1, h.2, h.3, h.4)))
     ]
   where
     absent : (es : List (ℕ × Segment)) (n least : ℕ) → n < least → AreSegments least es → remove_entry (is_at (nat_cmp n)) es ≡ es
@@ -99,15 +99,15 @@ removed-whole [] n least h = tt
 removed-whole (e ∷ es) n least h =
     elim (cases_eq n e.0) [
       | inl same ↦ rw (remove-here e es n same) (weaker es least (e.0 + 1) (omega (arith, h.0)) h.3)
-      | inr other ↦ rw (remove-past e es n other) (h.0, h.1, h.2, removed-whole es n (e.0 + 1) h.3)
+      | inr other ↦ rw (remove-past e es n other) (h.0, h.1, h.2, removed-whole es n (e.0 + 1) h.3, h.4)
     ]
 
 pub set-whole : (es : List (ℕ × Segment)) (n least : ℕ) (s : Segment) → IsSegment s → 1 ≤ length s.cells → AreSegments least es → AreSegments least (set_value (is_at (nat_cmp n)) es s)
 set-whole [] n least s new some h = tt
 set-whole (e ∷ es) n least s new some h =
     elim (cases_eq n e.0) [
-      | inl same ↦ rw (set-here e es n s same) (h.0, new, some, h.3)
-      | inr other ↦ rw (set-past e es n s other) (h.0, h.1, h.2, set-whole es n (e.0 + 1) s new some h.3)
+      | inl same ↦ rw (set-here e es n s same) (h.0, new, some, h.3, h.4)
+      | inr other ↦ rw (set-past e es n s other) (h.0, h.1, h.2, set-whole es n (e.0 + 1) s new some h.3, h.4)
     ]
 
 -- places below one go from the cells of a segment

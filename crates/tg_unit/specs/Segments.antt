@@ -1,5 +1,5 @@
 -- Cells in segments of 64 positions. A segment's number and a place make a position.
-use Rattle.std.specs.Prelude.{◌≡◌, ℕ, ◌+◌, ◌*◌, ◌<◌, ◌≤◌, Bool, true, false, List, [], ◌∷◌, ◌++◌, filter, nat_lt, length, Option, Some, None}
+use Rattle.std.specs.Prelude.{◌≡◌, ℕ, ◌+◌, ◌*◌, ◌^◌, ◌<◌, ◌≤◌, Bool, true, false, List, [], ◌∷◌, ◌++◌, filter, nat_lt, length, Option, Some, None}
 use Rattle.std.specs.Int.{bit_at}
 use Rattle.std.specs.Ordering.{nat_cmp}
 use Rattle.std.specs.Map.{lookup}
@@ -59,10 +59,20 @@ pub record IsSegment (s : Segment) : Type 0 where
   pub junk : (i : ℕ) → i < 64 → bit_at s.junk i ≡ one_if_junk (cell_at s.cells i)
   pub rising : ArePlaces 0 s.cells
 
--- the segments rise by number from the least one on, and each has a cell
+-- the segments rise by number from the least one on, each has a cell, and its positions are numbers of 64 bits
 abbrev pub AreSegments : ℕ → List (ℕ × Segment) → Type 0
 AreSegments least [] = Unit {0}
-AreSegments least (e ∷ es) = (least ≤ e.0) × IsSegment e.1 × (1 ≤ length e.1.cells) × AreSegments (e.0 + 1) es
+AreSegments least (e ∷ es) = (least ≤ e.0) × IsSegment e.1 × (1 ≤ length e.1.cells) × AreSegments (e.0 + 1) es × (e.0 < 2 ^ 58)
+
+-- each place is below 64
+abbrev pub AreLow : List (ℕ × Cell) → Type 0
+AreLow [] = Unit {0}
+AreLow (e ∷ es) = (e.0 < 64) × AreLow es
+
+-- the places of segments make positions of 64 bits
+abbrev pub AreNear : List (ℕ × Segment) → Type 0
+AreNear [] = Unit {0}
+AreNear (e ∷ es) = (e.0 < 2 ^ 58) × AreLow e.1.cells × AreNear es
 
 -- the segment with a number
 abbrev pub segment_at : List (ℕ × Segment) → ℕ → Option Segment

@@ -1,9 +1,9 @@
 //! The cells of a unit, in segments.
 
-ghost use Rattle.std.specs.Prelude.{◌≡◌, ℕ, ◌+◌, ◌-◌, ◌*◌, ◌/◌, ◌%◌, ◌<◌, ◌≤◌, ◌↔◌, [], is_some, option_copied, Some, None, true, false, IsNone, IfOk, IfSome, OnOk, OnErr, ◌++◌, ◌∷◌};
+ghost use Rattle.std.specs.Prelude.{◌≡◌, ℕ, ◌+◌, ◌-◌, ◌*◌, ◌/◌, ◌%◌, ◌^◌, ◌<◌, ◌≤◌, ◌↔◌, [], is_some, option_copied, Some, None, true, false, IsNone, IfOk, IfSome, OnOk, OnErr, ◌++◌, ◌∷◌};
 ghost use Rattle.tg_protocol.specs.Words.{cell_at, with_cell, cells_from};
 ghost use Rattle.tg_protocol.specs.Logs.{positions};
-ghost use Rattle.tg_unit.specs.Segments.{by_position, cells_below, cells_of, segment_at, AreSegments, IsBare, TellsSegment, HasFrom, LacksFrom};
+ghost use Rattle.tg_unit.specs.Segments.{by_position, cells_below, cells_of, segment_at, AreLow, AreNear, AreSegments, IsBare, TellsSegment, HasFrom, LacksFrom};
 
 use crate::segment::Segment;
 use std::alloc::Global;
@@ -67,16 +67,14 @@ impl Cells {
         }
     }
 
-    /// The positions that have cells, in their order. An `Err` is want of memory, or a position past the greatest
-    /// number.
+    /// The positions that have cells, in their order. An `Err` is want of memory.
     pub fn positions(&self, alloc: Global) -> Result<List<Pos>, NoMemory>
         ensures { IfOk result (λ ps. ps ≡ positions self.now) }
     {
         positions_of(alloc, &self.segments)
     }
 
-    /// Equal cells below a position, with their positions. An `Err` is want of memory, or a position past the greatest
-    /// number.
+    /// Equal cells below a position, with their positions. An `Err` is want of memory.
     pub fn below(&self, alloc: Global, low: Pos) -> Result<Vec<(Pos, Cell)>, NoMemory>
         ensures { IfOk result (λ l. l.items ≡ cells_below low self.now) }
     {
@@ -118,6 +116,7 @@ impl Cells {
 
 /// The positions of the cells of segments.
 fn positions_of(alloc: Global, segments: &BTreeMap<u64, Segment>) -> Result<List<Pos>, NoMemory>
+    requires { AreNear segments.now.entries }
     ensures { IfOk result (λ ps. ps ≡ positions (cells_of segments.now.entries)) }
 {
     let mut found = List::new(alloc);
@@ -129,12 +128,14 @@ fn positions_of(alloc: Global, segments: &BTreeMap<u64, Segment>) -> Result<List
 
 /// Puts the positions of a segment's cells last.
 fn put_positions(num: u64, cells: &[(u8, Cell)], found: &mut List<Pos>) -> Result<(), NoMemory>
+    requires near { num < 2 ^ 58 }
+    requires places { AreLow cells.now }
     ensures { OnOk result (found.new ≡ found.old ++ positions (by_position num cells.now)) }
 {
     match cells {
         [] => Ok(()),
         [(place, _), others @ ..] => {
-            found.push(position(num, *place)?)?;
+            found.push(position(num, *place))?;
             put_positions(num, others, found)
         }
     }
@@ -146,6 +147,7 @@ fn below_of(
     segments: &BTreeMap<u64, Segment>,
     low: Pos,
 ) -> Result<Vec<(Pos, Cell)>, NoMemory>
+    requires { AreNear segments.now.entries }
     ensures { IfOk result (λ l. l.items ≡ cells_below low (cells_of segments.now.entries)) }
 {
     let mut found = Vec::new(alloc);
@@ -163,12 +165,14 @@ fn put_below(
     low: Pos,
     found: &mut Vec<(Pos, Cell)>,
 ) -> Result<(), NoMemory>
+    requires near { num < 2 ^ 58 }
+    requires places { AreLow cells.now }
     ensures { OnOk result (found.new.items ≡ found.old.items ++ cells_below low (by_position num cells.now)) }
 {
     match cells {
         [] => Ok(()),
         [(place, cell), others @ ..] => {
-            put_if_below(position(num, *place)?, cell, low, found)?;
+            put_if_below(position(num, *place), cell, low, found)?;
             put_below(num, others, low, found)
         }
     }
@@ -190,13 +194,12 @@ fn put_if_below(
 }
 
 /// The position of a place of a segment.
-fn position(num: u64, place: u8) -> Result<Pos, NoMemory>
-    ensures { IfOk result (λ pos. pos ≡ 64 * num + place) }
+fn position(num: u64, place: u8) -> Pos
+    requires near { num < 2 ^ 58 }
+    requires place { place < 64 }
+    ensures { result ≡ 64 * num + place }
 {
-    match num.checked_mul(SPAN) {
-        None => Err(NoMemory),
-        Some(first) => first.checked_add(u64::from(place)).ok_or(NoMemory),
-    }
+    SPAN * num + u64::from(place)
 }
 
 /// Puts a cell at a place of a segment. A new segment is whole before it comes into the map, so
@@ -208,6 +211,7 @@ fn put_in(
     place: u8,
     cell: Cell,
 ) -> Result<(), NoMemory>
+    requires near { num < 2 ^ 58 }
     requires place { place < 64 }
     requires whole { AreSegments 0 segments.old.entries }
     requires free { cell_at (cells_of segments.old.entries) (64 * num + place) ≡ None }

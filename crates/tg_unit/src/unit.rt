@@ -64,16 +64,14 @@ impl Unit {
         self.cells.get(pos)
     }
 
-    /// The positions of its cells, rising. An `Err` is want of memory, or a position past the greatest number, of
-    /// which no request can speak.
+    /// The positions of its cells, rising. An `Err` is want of memory.
     pub fn positions(&self, alloc: Global) -> Result<List<Pos>, NoMemory>
         ensures { IfOk result (λ ps. ps ≡ positions self.now.cells) }
     {
         self.cells.positions(alloc)
     }
 
-    /// Equal cells below a position, with their positions, rising. An `Err` is want of memory, or a position past the
-    /// greatest number.
+    /// Equal cells below a position, with their positions, rising. An `Err` is want of memory.
     pub fn below(&self, alloc: Global, low: Pos) -> Result<Vec<(Pos, Cell)>, NoMemory>
         ensures { IfOk result (λ l. l.items ≡ cells_below low self.now.cells) }
     {

@@ -59,4 +59,4 @@ returns-in_ok-insert-in-None-clause-whole c =
     let same : c.get_mut.follows.lender-at-none.entries ≡ c.args.segments.now.entries = cc in
     let seg = c.in_ok-segment-in-None.segment in
     subst (AreSegments 0) (sym (c.in_ok-insert-in-None.ensures.entries ∙ ap (λ (es : List (ℕ × Segment)). put es c.args.num seg) same))
-    (put-new-whole c.args.segments.now.entries c.args.num c.args.place c.args.cell seg c.requires.whole c.in_ok-segment-in-None.ensures.whole c.in_ok-segment-in-None.ensures.cells)
+    (put-new-whole c.args.segments.now.entries c.args.num c.args.place c.args.cell seg c.requires.near c.requires.whole c.in_ok-segment-in-None.ensures.whole c.in_ok-segment-in-None.ensures.cells)
