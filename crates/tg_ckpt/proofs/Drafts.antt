@@ -19,7 +19,7 @@ use Rattle.tg_protocol.specs.Entries.{unlinked, draft, sum_of, key_size, entry_s
 use Rattle.tg_play.specs.Lawful.{AreKeys, is_named, is_shown}
 use Rattle.tg_play.proofs.Truths.{both, four, first_true, rest_true}
 use Rattle.tg_ckpt.specs.Saving.{Saves, of_bytes, key_of_bytes}
-use Rattle.tg_ckpt.specs.declared.fault.CkptFault.{CkptFault}
+use Rattle.tg_ckpt.specs.declared.fault.SaveFault.{SaveFault}
 
 abbrev pub head_of : ℕ → ℕ → Oid → Head
 head_of client number o = record { format = 2; client = client; number = number; streams = unlinked o ∷ [] }
@@ -133,7 +133,7 @@ pub drafted : (d : Entry) (h : Head) (o : Oid) (upto version whole : ℕ) (keys 
 drafted d h o upto version whole keys state made is = is ∙ ap (λ (x : Head). entry_of x o upto version whole keys state) made
 
 -- the same checkpoint from what was told of it
-pub saves_as : (r : Result Entry CkptFault) (h : Head) (client number : ℕ) (o : Oid) (upto v x w y : ℕ) (ks ls : Keyed) (s t : List ℕ) → h ≡ head_of client number o → v ≡ x → w ≡ y → ks ≡ ls → s ≡ t
+pub saves_as : (r : Result Entry SaveFault) (h : Head) (client number : ℕ) (o : Oid) (upto v x w y : ℕ) (ks ls : Keyed) (s t : List ℕ) → h ≡ head_of client number o → v ≡ x → w ≡ y → ks ≡ ls → s ≡ t
     → Saves r (draft h.client h.number (o ∷ []) (Checkpoint o upto v w ks s)) → Saves r (draft client number (o ∷ []) (Checkpoint o upto x y ls t))
 saves_as r h client number o upto v x w y ks ls s t head version whole keys state k =
     subst (λ (e : Entry). Saves r e) (λ i. draft (head i).client (head i).number (o ∷ []) (Checkpoint o upto (version i) (whole i) (keys i) (state i))) k

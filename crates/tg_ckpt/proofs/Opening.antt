@@ -13,9 +13,11 @@ use Rattle.tg_protocol.specs.Checkpoints as forgetting
 use Rattle.tg_play.specs.declared.base.Base.{Base}
 use Rattle.tg_play.specs.Kept.{at_position, decisions_kept}
 use Rattle.tg_play.proofs.Places.{decisions_told}
-use Rattle.tg_ckpt.specs.declared.fault.CkptFault.{CkptFault}
-use Rattle.tg_ckpt.specs.declared.fault.CkptFault.TheVariants.{OpenDecision, NoCheckpoint, TooLarge, NoMemory}
-use Rattle.tg_ckpt.specs.Answers.{KeepsMaybe, Loads, Closes, Forgets}
+use Rattle.tg_ckpt.specs.declared.fault.LoadFault.{LoadFault}
+use Rattle.tg_ckpt.specs.declared.fault.LoadFault.TheVariants as loads
+use Rattle.tg_ckpt.specs.declared.fault.ForgetFault.{ForgetFault}
+use Rattle.tg_ckpt.specs.declared.fault.ForgetFault.TheVariants as forgets
+use Rattle.tg_ckpt.specs.Answers.{of_load, KeepsMaybe, Loads, Closes, Forgets}
 
 -- ---- records that need a decision record
 
@@ -66,25 +68,22 @@ module _ (m : Meaning) where
   forgets_by o es mark d is = ap (λ (x : Option (told.Base m)). forget_fault m es o mark x) is
 
   -- no checkpoint reaches the mark
-  pub forgets_fault : (A : Type 0) (o : Oid) (es : Entries) (mark : ℕ) (e : CkptFault) → Loads m o (Err e) (load_from m es o mark) → Forgets m {A = A} o (Err e) (may_forget m es o mark)
-  forgets_fault A o es mark (NoCheckpoint q) h = (h.0, forgets_by o es mark None h.1)
-  forgets_fault A o es mark NoMemory h = tt
-  forgets_fault A o es mark (OpenDecision p) h = absurd h
-  forgets_fault A o es mark (TooLarge bytes) h = absurd h
+  pub forgets_fault : (A : Type 0) (o : Oid) (es : Entries) (mark : ℕ) (e : LoadFault) → Loads m o (Err e) (load_from m es o mark) → Forgets m {A = A} o (Err (of_load e)) (may_forget m es o mark)
+  forgets_fault A o es mark (loads.NoCheckpoint q) h = (h.0, forgets_by o es mark None h.1)
+  forgets_fault A o es mark loads.NoMemory h = tt
 
   some_there : (b : Base m.state) (d : Option (told.Base m)) → KeepsMaybe m (Some b) d → (o : Oid) (es : Entries) (mark : ℕ) → forget_fault m es o mark d ≡ open_fault m (open_decision es es o mark)
   some_there b None h o es mark = absurd h
   some_there b (Some d) h o es mark = refl
 
-  closed : {A : Type 0} (o : Oid) (r : Result A CkptFault) (p : Option ℕ) → Closes r p → Forgets m o r (open_fault m p)
+  closed : {A : Type 0} (o : Oid) (r : Result A ForgetFault) (p : Option ℕ) → Closes r p → Forgets m o r (open_fault m p)
   closed o (Ok x) p h = ap (λ (q : Option ℕ). open_fault m q) h
-  closed o (Err (OpenDecision q)) p h = ap (λ (x : Option ℕ). open_fault m x) h
-  closed o (Err NoMemory) p h = tt
-  closed o (Err (NoCheckpoint q)) p h = absurd h
-  closed o (Err (TooLarge bytes)) p h = absurd h
+  closed o (Err (forgets.OpenDecision q)) p h = ap (λ (x : Option ℕ). open_fault m x) h
+  closed o (Err forgets.NoMemory) p h = tt
+  closed o (Err (forgets.NoCheckpoint q)) p h = absurd h
 
   -- one does, and so it rests with the decision records
-  pub forgets_on : {A : Type 0} (o : Oid) (es : Entries) (mark : ℕ) (b : Base m.state) (r : Result A CkptFault) → Loads m o (Ok b) (load_from m es o mark) → Closes r (open_decision es es o mark)
+  pub forgets_on : {A : Type 0} (o : Oid) (es : Entries) (mark : ℕ) (b : Base m.state) (r : Result A ForgetFault) → Loads m o (Ok b) (load_from m es o mark) → Closes r (open_decision es es o mark)
       → Forgets m o r (may_forget m es o mark)
   forgets_on o es mark b r h closes =
       subst (λ (f : Option (forgetting.ForgetFault m)). Forgets m o r f)

@@ -8,8 +8,8 @@ use Rattle.tg_entry.specs.Format.{entry}
 use Rattle.tg_entry.specs.Records.{is_byte}
 use Rattle.tg_entry.specs.declared.entry.Entry.{Entry}
 use Rattle.tg_protocol.specs.Entries.{entry_size}
-use Rattle.tg_ckpt.specs.declared.fault.CkptFault.{CkptFault}
-use Rattle.tg_ckpt.specs.declared.fault.CkptFault.TheVariants.{OpenDecision, NoCheckpoint, TooLarge, NoMemory}
+use Rattle.tg_ckpt.specs.declared.fault.SaveFault.{SaveFault}
+use Rattle.tg_ckpt.specs.declared.fault.SaveFault.TheVariants.{TooLarge, NoMemory}
 
 -- each of them has a spelling
 abbrev pub AreSpelled : Placed → Type 0
@@ -25,9 +25,7 @@ abbrev pub key_of_bytes : Part × ℕ → Bool
 key_of_bytes k = of_bytes k.0
 
 -- this entry as a draft, which fits a page, or how many bytes it has, unless memory ran out
-abbrev pub Saves : Result Entry CkptFault → Entry → Type 0
+abbrev pub Saves : Result Entry SaveFault → Entry → Type 0
 Saves (Ok d) e = (d ≡ e) × (entry_size e ≤ 4096)
 Saves (Err (TooLarge bytes)) e = (bytes ≡ min (entry_size e) (2 ^ 64 - 1)) × (4096 < entry_size e)
 Saves (Err NoMemory) e = Unit {0}
-Saves (Err (OpenDecision p)) e = ⊥
-Saves (Err (NoCheckpoint o)) e = ⊥

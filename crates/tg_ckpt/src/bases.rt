@@ -14,7 +14,7 @@ ghost use Rattle.tg_ckpt.specs.Kept.{kept_base};
 ghost use Rattle.tg_ckpt.specs.Saving.{AreSpelled};
 
 use crate::choosing::{highest, lowest};
-use crate::fault::CkptFault;
+use crate::fault::LoadFault;
 use std::alloc::Global;
 use tg_base::{List, NoMemory, Oid, Pos};
 use tg_entry::{Entries, Entry};
@@ -32,13 +32,13 @@ pub fn load_from<K: Registry>(
     entries: &Entries,
     oid: Oid,
     below: Pos,
-) -> Result<Base<K>, CkptFault>
+) -> Result<Base<K>, LoadFault>
     ensures told { Loads (meaning_of K.Registry) oid result (told.load_from (meaning_of K.Registry) entries.now oid below) }
     ensures lawful { AreSpelled entries.now → IfOk result (λ b. IsLawfulBase b) }
 {
     let base = lowest(alloc, entries.as_slice(), oid, below)?;
     match base {
-        None => Err(CkptFault::NoCheckpoint { oid }),
+        None => Err(LoadFault::NoCheckpoint { oid }),
         Some(base) => Ok(base),
     }
 }

@@ -10,7 +10,7 @@ ghost use Rattle.tg_protocol.specs.Entries.{lists};
 ghost use Rattle.tg_ckpt.specs.Answers.{Closes, Forgets};
 
 use crate::bases::load_from;
-use crate::fault::CkptFault;
+use crate::fault::ForgetFault;
 use std::alloc::Global;
 use std::collections::BTreeMap;
 use tg_base::{NoMemory, Oid, Pos};
@@ -70,13 +70,13 @@ fn all_decided(
     entries: &[(Pos, Entry)],
     oid: Oid,
     mark: Pos,
-) -> Result<(), CkptFault>
+) -> Result<(), ForgetFault>
     ensures { Closes result (told.open_decision entries.now entries.now oid mark) }
 {
     let open = open_decision(alloc, entries, oid, mark)?;
     match open {
         None => Ok(()),
-        Some(pos) => Err(CkptFault::OpenDecision { pos }),
+        Some(pos) => Err(ForgetFault::OpenDecision { pos }),
     }
 }
 
@@ -90,7 +90,7 @@ pub fn may_forget<K: Registry>(
     entries: &Entries,
     oid: Oid,
     mark: Pos,
-) -> Result<(), CkptFault>
+) -> Result<(), ForgetFault>
     ensures { Forgets (meaning_of K.Registry) oid result (told.may_forget (meaning_of K.Registry) entries.now oid mark) }
 {
     load_from::<K>(alloc, entries, oid, mark)?;

@@ -9,6 +9,6 @@ mod loading;
 mod saving;
 
 pub use bases::{fresh_base, last_base, load_from, view_base, view_bases};
-pub use fault::CkptFault;
+pub use fault::{ForgetFault, LoadFault, SaveFault};
 pub use forgetting::may_forget;
 pub use saving::checkpoint;

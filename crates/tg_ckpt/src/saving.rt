@@ -12,7 +12,7 @@ ghost use Rattle.tg_protocol.specs.Views as views;
 ghost use Rattle.tg_play.specs.Lawful.{AreKeys};
 ghost use Rattle.tg_ckpt.specs.Saving.{Saves, of_bytes, key_of_bytes};
 
-use crate::fault::CkptFault;
+use crate::fault::SaveFault;
 use std::alloc::Global;
 use tg_base::{Backs, Blob, List, NoMemory, Oid, Part, Pos, StreamLink};
 use tg_entry::{Body, Draft, Entry, Head};
@@ -75,7 +75,7 @@ fn draft_of(
     whole: u64,
     keys: List<(Part, u64)>,
     state: List<u8>,
-) -> Result<Draft, CkptFault>
+) -> Result<Draft, SaveFault>
     requires object { is_object oid ≡ true }
     requires number { 1 ≤ head.number }
     requires head { head ≡ (draft head.client head.number (oid ∷ []) (Checkpoint oid 0 0 0 [] [])).head }
@@ -84,7 +84,7 @@ fn draft_of(
 {
     let bytes = checkpoint_size(keys.as_slice(), state.as_slice());
     if bytes > Blob::MAX {
-        return Err(CkptFault::TooLarge { bytes });
+        return Err(SaveFault::TooLarge { bytes });
     }
     let body = Body::Checkpoint {
         oid,
@@ -117,7 +117,7 @@ pub fn checkpoint<K: Registry>(
     upto: Pos,
     client: u16,
     number: u32,
-) -> Result<Draft, CkptFault>
+) -> Result<Draft, SaveFault>
     requires object { is_object oid ≡ true }
     requires number { 1 ≤ number }
     ensures { (v : views.View (meaning_of K.Registry)) → KeepsView (meaning_of K.Registry) view.now v → Saves result (told.checkpoint (meaning_of K.Registry) v oid upto client number) }
