@@ -12,4 +12,5 @@ pub mod Runs
 pub mod Spaces
 pub mod Whole
 pub mod Exact
+pub mod Sizes
 pub mod Slices

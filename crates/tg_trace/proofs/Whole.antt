@@ -252,6 +252,10 @@ pub parses_found : (r : Result Transcript TextFault) (text : List ℕ) → Parse
 parses_found (Ok t) text h = let w = read_is text t h in (w.is, w.lawful)
 parses_found (Err e) text h = tt
 
+pub parses_text : (r : Result Transcript TextFault) (text : List ℕ) → Parses r (parsed (pieces text)) → IfOk r (λ t. text ≡ rendered t)
+parses_text (Ok t) text h = (read_is text t h).is
+parses_text (Err e) text h = tt
+
 pub parses_only : (r : Result Transcript TextFault) (text : List ℕ) (t : Transcript) → Parses r (parsed (pieces text)) → is_transcript t ≡ true → text ≡ rendered t → MatchResult r (λ x. x ≡ t) (λ e. e ≡ fault.NoMemory)
 parses_only (Ok x) text t h lawful is =
     let same : ◌≡◌ {A = Result Transcript ℕ} (Ok x) (Ok t) = sym h ∙ ap (λ (y : List ℕ). parsed (pieces y)) is ∙ reads_rendered t lawful in cc

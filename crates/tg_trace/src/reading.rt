@@ -1,6 +1,6 @@
 //! Reading transcripts.
 
-ghost use Rattle.std.specs.Prelude.{◌≡◌, ◌≤◌, ◌+◌, true, length, IfOk, MatchResult};
+ghost use Rattle.std.specs.Prelude.{◌≡◌, ◌<◌, ◌≤◌, ◌+◌, ◌^◌, true, length, IfOk, MatchResult};
 ghost use Rattle.tg_base.specs.declared.fault.TextFault.TheVariants as fault;
 ghost use Rattle.tg_any.specs.Words.{texts};
 ghost use Rattle.tg_trace.specs.declared.beginning.Beginning.{Beginning};
@@ -22,9 +22,12 @@ use tg_base::{List, NoMemory, Oid, Pos, TextFault};
 /// the one after the last, and where all are there one more. A line that isn't ended is such a line too.
 pub fn read(alloc: Global, text: &[u8]) -> Result<Transcript, TextFault>
     ensures found { IfOk result (λ t. (text.now ≡ rendered t) × (is_transcript t ≡ true)) }
+    // Its lines have numbers of 64 bits.
+    ensures numbered { IfOk result (λ t. length t.trace + length t.history + 3 < 2 ^ 64) }
     ensures only { (t : Transcript) → is_transcript t ≡ true → text.now ≡ rendered t → MatchResult result (λ x. x ≡ t) (λ e. e ≡ fault.NoMemory) }
     ensures outside { OnOutside result (λ line. IsFirstOutside text.now line) }
 {
+    let _bytes = text.len();
     let pieces = pieces(alloc, text)?;
     parse(alloc, pieces.as_slice())
 }
