@@ -1,8 +1,8 @@
 //! Commands are answered, once the view has played.
 
+ghost use Rattle.std.specs.Prelude.{IsSome};
 ghost use Rattle.tg_kind.specs.Of.{meaning_of};
 ghost use Rattle.tg_protocol.specs.Answers as told;
-ghost use Rattle.tg_protocol.specs.Views as views;
 ghost use Rattle.tg_client_answers.specs.Fates.{Moves};
 
 use crate::{on_ask, on_checkpoint, on_decide, on_end, on_fate, on_forget, on_trim};
@@ -10,29 +10,13 @@ use std::alloc::Global;
 use tg_base::{List, NoMemory};
 use tg_client_state::{Job, Moved, State};
 use tg_entry::Entries;
-use tg_kind::Registry;
+use tg_kind::{Kind, Registry};
 use tg_model::{Command, PlayEnd};
-
-// A command `ask` is answered, and no other one. An `Err` is want of memory, or of numbers.
-fn asked<K: Registry>(
-    state: State<K>,
-    alloc: Global,
-    job: Job<K>,
-    came: PlayEnd,
-) -> Result<Moved<K>, NoMemory>
-    ensures { (es : views.Entries) → Moves (meaning_of K.Registry) state job result (λ c w v. told.answer_by (meaning_of K.Registry) c w es (record { view = v; came = came }) w.command) }
-{
-    let tail = job.tail;
-    match job.into_command() {
-        Command::Ask { oid, ask } => on_ask(state, alloc, tail, oid, ask, came),
-        _ => Err(NoMemory),
-    }
-}
 
 /// The command is answered by what the view has played, and where the play came to. Commands that play nothing are
 /// answered by nothing here.
 ///
-/// An `Err` is want of memory, or of numbers. A client that keeps no view has no answer either.
+/// An `Err` is want of memory, or of numbers.
 pub fn answered<K: Registry>(
     state: State<K>,
     alloc: Global,
@@ -40,10 +24,15 @@ pub fn answered<K: Registry>(
     entries: &Entries,
     came: PlayEnd,
 ) -> Result<Moved<K>, NoMemory>
+    requires { IsSome state.view }
     ensures { Moves (meaning_of K.Registry) state job result (λ c w v. told.answer_by (meaning_of K.Registry) c w entries.now (record { view = v; came = came }) w.command) }
 {
     match &job.command {
-        Command::Ask { .. } => asked(state, alloc, job, came),
+        Command::Ask { oid, ask } => {
+            let (tail, oid) = (job.tail, *oid);
+            let ask = K::copy_ask(ask)?;
+            on_ask(state, alloc, tail, oid, ask, came)
+        }
         Command::End => on_end(state, alloc, job, entries, came),
         Command::Fate { at } => {
             let at = *at;

@@ -1,6 +1,6 @@
 //! The answer to an ask.
 
-ghost use Rattle.std.specs.Prelude.{◌≡◌, true, Some};
+ghost use Rattle.std.specs.Prelude.{◌≡◌, true, Some, IsSome};
 ghost use Rattle.tg_base.specs.Parts.{is_part};
 ghost use Rattle.tg_kind.specs.Of.{meaning_of};
 ghost use Rattle.tg_protocol.specs.Answers as told;
@@ -17,8 +17,8 @@ use tg_kind::Registry;
 use tg_model::{PlayEnd, Refusal, What};
 use tg_play::View;
 
-// The answer of a hosted object, whose read is noted. An `Err` is want of memory, or a read that the transaction doesn't
-// take.
+// The answer of a hosted object, whose read is noted in the open transaction. An `Err` is want of memory, or a read that
+// the transaction doesn't take.
 fn asked<K: Registry>(
     state: State<K>,
     alloc: Global,
@@ -27,7 +27,8 @@ fn asked<K: Registry>(
     ask: K::Ask,
     answer: Answer<K::Ans>,
 ) -> Result<Moved<K>, NoMemory>
-    requires { is_part answer.part ≡ true }
+    requires part { is_part answer.part ≡ true }
+    requires open { IsSome state.tx }
     ensures { Tells (meaning_of K.Registry) state result (λ c. asked_told (meaning_of K.Registry) c tail oid ask answer c.tx) }
 {
     let Answer { ans, part, version } = answer;
@@ -44,8 +45,8 @@ fn asked<K: Registry>(
     state.answers(alloc, number, what)
 }
 
-// What a view answers, and a refusal where the object isn't hosted. An `Err` is want of memory, or a read that the
-// transaction doesn't take, or want of a view.
+// What the view answers, and a refusal where the object isn't hosted. An `Err` is want of memory, or a read that the
+// transaction doesn't take.
 fn asks<K: Registry>(
     state: State<K>,
     alloc: Global,
@@ -54,10 +55,12 @@ fn asks<K: Registry>(
     ask: K::Ask,
     number: u32,
 ) -> Result<Moved<K>, NoMemory>
+    requires view { IsSome state.view }
+    requires open { IsSome state.tx }
     ensures { (t : Tx) → state.tx ≡ Some t → number ≡ t.number → Asks (meaning_of K.Registry) state tail result (λ c w v. told.ask_answer (meaning_of K.Registry) c w t oid ask v (views.state_of (meaning_of K.Registry) v oid)) }
 {
     match &state.view {
-        None => Err(NoMemory),
+        None => unreachable!(),
         Some(view) => match answer_of(view, alloc, oid, &ask)? {
             None => state.refuses(alloc, number, Refusal::NotHosted { oid }),
             Some(answer) => asked(state, alloc, tail, oid, ask, answer),
@@ -65,8 +68,7 @@ fn asks<K: Registry>(
     }
 }
 
-// The answer in the open transaction. An `Err` is want of memory, or a read that the transaction doesn't take, or want
-// of a view.
+// The answer in the open transaction. An `Err` is want of memory, or a read that the transaction doesn't take.
 fn ask_in<K: Registry>(
     state: State<K>,
     alloc: Global,
@@ -74,6 +76,7 @@ fn ask_in<K: Registry>(
     oid: Oid,
     ask: K::Ask,
 ) -> Result<Moved<K>, NoMemory>
+    requires { IsSome state.view }
     ensures { Asks (meaning_of K.Registry) state tail result (λ c w v. told.ask_in (meaning_of K.Registry) c w oid ask v c.tx) }
 {
     match &state.tx {
@@ -89,7 +92,7 @@ fn ask_in<K: Registry>(
 /// its state there, and the transaction notes the read with the version that was found.
 ///
 /// An `Err` is want of memory, or of numbers: a read that the transaction doesn't take, and a number that entries may not
-/// give an object, are refused before any play. A client that keeps no view has no answer either.
+/// give an object, are refused before any play.
 pub fn on_ask<K: Registry>(
     state: State<K>,
     alloc: Global,
@@ -98,6 +101,7 @@ pub fn on_ask<K: Registry>(
     ask: K::Ask,
     came: PlayEnd,
 ) -> Result<Moved<K>, NoMemory>
+    requires { IsSome state.view }
     ensures { Asks (meaning_of K.Registry) state tail result (λ c w v. told.on_ask (meaning_of K.Registry) c w oid ask v came) }
 {
     match came {

@@ -1,6 +1,6 @@
 //! What a view answers to an ask, and the read of it that a transaction notes.
 
-ghost use Rattle.std.specs.Prelude.{◌≡◌, ◌≤◌, true, length, IfOk, IfSome};
+ghost use Rattle.std.specs.Prelude.{◌≡◌, ◌≤◌, true, length, IfOk, IfSome, IsSome};
 ghost use Rattle.tg_base.specs.declared.marks.Part.TheVariants.{Text};
 ghost use Rattle.tg_base.specs.Parts.{is_part};
 ghost use Rattle.tg_kind.specs.Of.{meaning_of};
@@ -101,7 +101,7 @@ fn with_read<K: Registry>(
 /// The open transaction with one read more.
 ///
 /// An `Err` is want of memory, or of numbers: a read that the transaction doesn't take, or of an object with a number
-/// that entries may not name. Where none is open there is none with a read either.
+/// that entries may not name.
 pub fn noted<K: Registry>(
     tx: Option<Tx<K>>,
     oid: Oid,
@@ -109,11 +109,12 @@ pub fn noted<K: Registry>(
     at: Pos,
     version: u64,
 ) -> Result<Option<Tx<K>>, NoMemory>
-    requires { is_part part ≡ true }
+    requires part { is_part part ≡ true }
+    requires open { IsSome tx }
     ensures { IfOk result (λ t. Notes tx (record { oid = oid; part = part; version = version }) at t) }
 {
     match tx {
-        None => Err(NoMemory),
+        None => unreachable!(),
         Some(tx) => Ok(Some(with_read(tx, oid, part, at, version)?)),
     }
 }

@@ -1,6 +1,6 @@
 //! The decision of a commit record.
 
-ghost use Rattle.std.specs.Prelude.{◌≡◌, Some};
+ghost use Rattle.std.specs.Prelude.{◌≡◌, Some, IsSome};
 ghost use Rattle.tg_kind.specs.Of.{meaning_of};
 ghost use Rattle.tg_model.specs.declared.trace.What.TheVariants as what;
 ghost use Rattle.tg_protocol.specs.Answers as told;
@@ -68,7 +68,7 @@ fn tells<K: Registry>(
     }
 }
 
-// A record at a position. An `Err` is want of memory, or of numbers, or of a view.
+// A record at a position. An `Err` is want of memory, or of numbers.
 fn judged<K: Registry>(
     state: State<K>,
     alloc: Global,
@@ -77,10 +77,11 @@ fn judged<K: Registry>(
     at: Pos,
     entry: &Entry,
 ) -> Result<Moved<K>, NoMemory>
+    requires { IsSome state.view }
     ensures { Moves (meaning_of K.Registry) state job result (λ c w v. told.decide_verdict (meaning_of K.Registry) c w entries.now at entry.now (views.view_outcome (meaning_of K.Registry) v entries.now at entry.now)) }
 {
     match &state.view {
-        None => Err(NoMemory),
+        None => unreachable!(),
         Some(view) => {
             let answer = decision::<K>(view.outcome(entries, at, entry), at);
             tells(state, alloc, job, entries, at, entry, answer)
@@ -88,7 +89,7 @@ fn judged<K: Registry>(
     }
 }
 
-// The record at a position, if there is one. An `Err` is want of memory, or of numbers, or of a view.
+// The record at a position, if there is one. An `Err` is want of memory, or of numbers.
 fn record<K: Registry>(
     state: State<K>,
     alloc: Global,
@@ -96,6 +97,7 @@ fn record<K: Registry>(
     entries: &Entries,
     at: Pos,
 ) -> Result<Moved<K>, NoMemory>
+    requires { IsSome state.view }
     ensures { Moves (meaning_of K.Registry) state job result (λ c w v. told.decide_record (meaning_of K.Registry) c w entries.now v at (commit_at entries.now at)) }
 {
     match commit_at(entries, at) {
@@ -104,8 +106,7 @@ fn record<K: Registry>(
     }
 }
 
-// The record at a position, unless the play is blocked at or below it. An `Err` is want of memory, or of numbers, or of
-// a view.
+// The record at a position, unless the play is blocked at or below it. An `Err` is want of memory, or of numbers.
 fn played<K: Registry>(
     state: State<K>,
     alloc: Global,
@@ -114,6 +115,7 @@ fn played<K: Registry>(
     at: Pos,
     came: PlayEnd,
 ) -> Result<Moved<K>, NoMemory>
+    requires { IsSome state.view }
     ensures { Moves (meaning_of K.Registry) state job result (λ c w v. told.decide_played (meaning_of K.Registry) c w entries.now v at came) }
 {
     match blocked_by::<K>(entries, at, came) {
@@ -126,7 +128,7 @@ fn played<K: Registry>(
 /// says so where it needs one and there is none among the entries. It is refused where a walk met a trim above the
 /// position, where the play is blocked at or below a record, and where that can't be decided.
 ///
-/// An `Err` is want of memory, or of numbers. A client that keeps no view has none either.
+/// An `Err` is want of memory, or of numbers.
 pub fn on_decide<K: Registry>(
     state: State<K>,
     alloc: Global,
@@ -135,6 +137,7 @@ pub fn on_decide<K: Registry>(
     at: Pos,
     came: PlayEnd,
 ) -> Result<Moved<K>, NoMemory>
+    requires { IsSome state.view }
     ensures { Moves (meaning_of K.Registry) state job result (λ c w v. told.on_decide (meaning_of K.Registry) c w entries.now v at came (told.trim_above (meaning_of K.Registry) w.trims at)) }
 {
     match trim_above::<K>(job.trims.as_slice(), at) {

@@ -1,5 +1,6 @@
 //! The end of a transaction.
 
+ghost use Rattle.std.specs.Prelude.{IsSome};
 ghost use Rattle.tg_kind.specs.Of.{meaning_of};
 ghost use Rattle.tg_protocol.specs.Answers as told;
 ghost use Rattle.tg_protocol.specs.Past.{commit_at};
@@ -61,7 +62,7 @@ fn tells<K: Registry>(
     }
 }
 
-// The record that `end` appended. An `Err` is want of memory, or of numbers, or of a view.
+// The record that `end` appended. An `Err` is want of memory, or of numbers.
 fn judged<K: Registry>(
     state: State<K>,
     alloc: Global,
@@ -70,10 +71,11 @@ fn judged<K: Registry>(
     at: Pos,
     entry: &Entry,
 ) -> Result<Moved<K>, NoMemory>
+    requires { IsSome state.view }
     ensures { Moves (meaning_of K.Registry) state job result (λ c w v. told.end_by (meaning_of K.Registry) c w entries.now v entry.now at (views.verdict (meaning_of K.Registry) v entries.now at entry.now)) }
 {
     match &state.view {
-        None => Err(NoMemory),
+        None => unreachable!(),
         Some(view) => {
             let answer = ended(view, entries, at, entry)?;
             tells(state, alloc, job, entries, at, entry, answer)
@@ -81,7 +83,7 @@ fn judged<K: Registry>(
     }
 }
 
-// The record at a position, if it is there. An `Err` is want of memory, or of numbers, or of a view.
+// The record at a position, if it is there. An `Err` is want of memory, or of numbers.
 fn ends<K: Registry>(
     state: State<K>,
     alloc: Global,
@@ -89,6 +91,7 @@ fn ends<K: Registry>(
     entries: &Entries,
     at: Pos,
 ) -> Result<Moved<K>, NoMemory>
+    requires { IsSome state.view }
     ensures { Moves (meaning_of K.Registry) state job result (λ c w v. told.end_record (meaning_of K.Registry) c w entries.now v at (commit_at entries.now at)) }
 {
     match commit_at(entries, at) {
@@ -101,7 +104,7 @@ fn ends<K: Registry>(
 /// a read that has changed is named, or neither is known. A decision record is written first where the record needs one
 /// and there is none among the entries.
 ///
-/// An `Err` is want of memory, or of numbers. A client that keeps no view has none either.
+/// An `Err` is want of memory, or of numbers.
 pub fn on_end<K: Registry>(
     state: State<K>,
     alloc: Global,
@@ -109,6 +112,7 @@ pub fn on_end<K: Registry>(
     entries: &Entries,
     came: PlayEnd,
 ) -> Result<Moved<K>, NoMemory>
+    requires { IsSome state.view }
     ensures { Moves (meaning_of K.Registry) state job result (λ c w v. told.on_end (meaning_of K.Registry) c w entries.now v came) }
 {
     let at = job.at;

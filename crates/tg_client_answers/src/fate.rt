@@ -1,6 +1,6 @@
 //! The fate of a commit record.
 
-ghost use Rattle.std.specs.Prelude.{◌≡◌};
+ghost use Rattle.std.specs.Prelude.{◌≡◌, IsSome};
 ghost use Rattle.tg_kind.specs.Of.{meaning_of};
 ghost use Rattle.tg_protocol.specs.Answers as told;
 ghost use Rattle.tg_protocol.specs.Clients.{Client, Work};
@@ -94,7 +94,7 @@ fn tells<K: Registry>(
     }
 }
 
-// What is known of the record at a position. An `Err` is want of memory, or of a view.
+// What is known of the record at a position. An `Err` is want of memory.
 fn known<K: Registry>(
     state: State<K>,
     alloc: Global,
@@ -102,10 +102,11 @@ fn known<K: Registry>(
     entries: &Entries,
     at: Pos,
 ) -> Result<Moved<K>, NoMemory>
+    requires { IsSome state.view }
     ensures { Moves (meaning_of K.Registry) state job result (λ c w v. told.fate_known (meaning_of K.Registry) c w entries.now v at (views.fate_of (meaning_of K.Registry) v at)) }
 {
     match &state.view {
-        None => Err(NoMemory),
+        None => unreachable!(),
         Some(view) => {
             let fate = fate(view, entries, job.trims.as_slice(), at);
             tells(state, alloc, at, fate)
@@ -117,7 +118,7 @@ fn known<K: Registry>(
 /// entries. It is refused where the play is blocked at or below a record, where that can't be decided, and where there
 /// may have been one below a trim.
 ///
-/// An `Err` is want of memory. A client that keeps no view has none either.
+/// An `Err` is want of memory.
 pub fn on_fate<K: Registry>(
     state: State<K>,
     alloc: Global,
@@ -126,6 +127,7 @@ pub fn on_fate<K: Registry>(
     at: Pos,
     came: PlayEnd,
 ) -> Result<Moved<K>, NoMemory>
+    requires { IsSome state.view }
     ensures { Moves (meaning_of K.Registry) state job result (λ c w v. told.on_fate (meaning_of K.Registry) c w entries.now v at came) }
 {
     match blocked_by::<K>(entries, at, came) {

@@ -15,7 +15,7 @@ ghost use Rattle.tg_client_state.specs.States.{Rest, client_of, KeepsViewIf, Kee
 
 use std::alloc::Global;
 use tg_base::{Backs, Blob, List, NoMemory, Oid, Pos, StreamLink};
-use tg_ckpt::{CkptFault, may_forget};
+use tg_ckpt::{ForgetFault, may_forget};
 use tg_client_state::{Job, Moved, Purpose, State, one_note};
 use tg_entry::{Body, Draft, Entries, Entry, Head, WriteOp};
 use tg_kind::Registry;
@@ -31,21 +31,17 @@ struct Marking<K: Registry> {
     notes: List<NoteOf<K>>,
 }
 
-/// The bytes of a mark's op. An `Err` is want of memory; and bytes that a page doesn't hold, or none, are given up.
+/// The bytes of a mark's op, which are some, and few. An `Err` is want of memory.
 fn spelled<K: Registry>(alloc: Global, oid: Oid, mark: Pos) -> Result<Blob, NoMemory>
     ensures bytes { IfOk result (λ b. b ≡ K.Kind.spelled (K.Registry.marking oid mark)) }
     ensures some { IfOk result (λ b. 1 ≤ length b) }
 {
     let op = K::mark_op(oid, mark);
+    let _known = K::touch(&op);
     let mut bytes = List::new(alloc);
     K::put_op(alloc, &op, &mut bytes)?;
-    if bytes.is_empty() {
-        return Err(NoMemory);
-    }
-    match Blob::new(bytes) {
-        None => Err(NoMemory),
-        Some(op) => Ok(op),
-    }
+    let blob = Blob::new(bytes).unwrap();
+    Ok(blob)
 }
 
 /// The record that writes these bytes to the directory.
@@ -158,14 +154,14 @@ fn marks<K: Registry>(
 fn unmarked<K: Registry>(
     state: State<K>,
     alloc: Global,
-    fault: CkptFault,
+    fault: ForgetFault,
 ) -> Result<Moved<K>, NoMemory>
     ensures { (w : rules.Work (meaning_of K.Registry)) (o : Oid) (n : ℕ) (f : Option (ckpts.ForgetFault (meaning_of K.Registry))) (r : Rest (meaning_of K.Registry)) (old : ℕ) → Forgets (meaning_of K.Registry) {A = Unit {0}} o (Err fault) f → KeepsViewIf (meaning_of K.Registry) state.view r.view → IfOk result (λ x. KeepsMoved (meaning_of K.Registry) old x (told.forget_by (meaning_of K.Registry) (client_of (meaning_of K.Registry) state r) w o n f)) }
 {
     match fault {
-        CkptFault::NoCheckpoint { oid } => state.refuses(alloc, 0, Refusal::NoCheckpoint { oid }),
-        CkptFault::OpenDecision { pos } => state.refuses(alloc, 0, Refusal::OpenDecision { pos }),
-        _ => Err(NoMemory),
+        ForgetFault::NoCheckpoint { oid } => state.refuses(alloc, 0, Refusal::NoCheckpoint { oid }),
+        ForgetFault::OpenDecision { pos } => state.refuses(alloc, 0, Refusal::OpenDecision { pos }),
+        ForgetFault::NoMemory => Err(NoMemory),
     }
 }
 

@@ -1,6 +1,6 @@
 //! A client's view plays.
 
-ghost use Rattle.std.specs.Prelude.{◌≡◌, Option, IfOk};
+ghost use Rattle.std.specs.Prelude.{◌≡◌, Option, IfOk, IsSome};
 ghost use Rattle.tg_kind.specs.Of.{meaning_of};
 ghost use Rattle.tg_protocol.specs.Answers as told;
 ghost use Rattle.tg_protocol.specs.Clients.{Client, Work};
@@ -64,7 +64,8 @@ pub fn played<K: Registry>(
     target: Pos,
 ) -> Result<(State<K>, PlayEnd), NoMemory>
     requires { AreSpelled entries.now }
-    ensures { (r : Rest (meaning_of K.Registry)) (w : Work (meaning_of K.Registry)) → KeepsViewIf (meaning_of K.Registry) state.view r.view → w.trims ≡ trims.now → IfOk result (λ x. HasPlayed (meaning_of K.Registry) state r w entries.now target x.0 x.1) }
+    ensures played { (r : Rest (meaning_of K.Registry)) (w : Work (meaning_of K.Registry)) → KeepsViewIf (meaning_of K.Registry) state.view r.view → w.trims ≡ trims.now → IfOk result (λ x. HasPlayed (meaning_of K.Registry) state r w entries.now target x.0 x.1) }
+    ensures seen { IfOk result (λ x. IsSome x.0.view) }
 {
     let mut state = state;
     let kept = state.view;

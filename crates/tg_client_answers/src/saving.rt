@@ -1,6 +1,6 @@
 //! An object's state is saved in the log.
 
-ghost use Rattle.std.specs.Prelude.{◌≡◌, ◌≤◌, ◌<◌, ◌+◌, ◌-◌, ◌^◌, min, ℕ, [], Some, Err, IfOk};
+ghost use Rattle.std.specs.Prelude.{◌≡◌, ◌≤◌, ◌<◌, ◌+◌, ◌-◌, ◌^◌, min, ℕ, [], Some, Err, IfOk, IsSome};
 ghost use Rattle.tg_base.specs.declared.ids.Oid.{Oid};
 ghost use Rattle.tg_entry.specs.declared.entry.Entry.{Entry};
 ghost use Rattle.tg_kind.specs.Of.{meaning_of};
@@ -16,7 +16,7 @@ ghost use Rattle.tg_client_state.specs.States.{Rest, client_of, KeepsViewIf, Kee
 
 use std::alloc::Global;
 use tg_base::{List, NoMemory, Oid, Pos};
-use tg_ckpt::{CkptFault, checkpoint};
+use tg_ckpt::{SaveFault, checkpoint};
 use tg_client_state::{Job, Moved, Purpose, State, is_object};
 use tg_entry::Draft;
 use tg_kind::Registry;
@@ -32,15 +32,15 @@ fn saved_by<K: Registry>(
     upto: Pos,
     client: u16,
     made: u32,
-) -> Result<Draft, CkptFault>
+) -> Result<Draft, SaveFault>
     ensures saves { (v : views.View (meaning_of K.Registry)) → KeepsView (meaning_of K.Registry) view.now v → Saves result (ckpts.checkpoint (meaning_of K.Registry) v oid upto client (made + 1)) }
     ensures numbers { IfOk result (λ _. made + 1 < 2 ^ 32) }
 {
     if !is_object(oid) {
-        return Err(CkptFault::NoMemory);
+        return Err(SaveFault::NoMemory);
     }
     match made.checked_add(1) {
-        None => Err(CkptFault::NoMemory),
+        None => Err(SaveFault::NoMemory),
         Some(number) => checkpoint(alloc, view, oid, upto, client, number),
     }
 }
@@ -51,12 +51,13 @@ fn saved<K: Registry>(
     alloc: Global,
     oid: Oid,
     upto: Pos,
-) -> Result<Draft, CkptFault>
+) -> Result<Draft, SaveFault>
+    requires { IsSome state.now.view }
     ensures saves { (v : views.View (meaning_of K.Registry)) → KeepsViewIf (meaning_of K.Registry) state.now.view (Some v) → Saves result (ckpts.checkpoint (meaning_of K.Registry) v oid upto state.now.num (state.now.checkpoints + 1)) }
     ensures numbers { IfOk result (λ _. state.now.checkpoints + 1 < 2 ^ 32) }
 {
     match &state.view {
-        None => Err(CkptFault::NoMemory),
+        None => unreachable!(),
         Some(view) => saved_by(alloc, view, oid, upto, state.num, state.checkpoints),
     }
 }
@@ -100,13 +101,13 @@ fn too_large<K: Registry>(
 fn unsaved<K: Registry>(
     state: State<K>,
     alloc: Global,
-    fault: CkptFault,
+    fault: SaveFault,
 ) -> Result<Moved<K>, NoMemory>
     ensures { (w : rules.Work (meaning_of K.Registry)) (o : Oid) (e : Entry) (r : Rest (meaning_of K.Registry)) (old : ℕ) → Saves (Err fault) e → KeepsViewIf (meaning_of K.Registry) state.view r.view → IfOk result (λ x. KeepsMoved (meaning_of K.Registry) old x (told.saves (meaning_of K.Registry) (client_of (meaning_of K.Registry) state r) w o e)) }
 {
     match fault {
-        CkptFault::TooLarge { bytes } => too_large(state, alloc, bytes),
-        _ => Err(NoMemory),
+        SaveFault::TooLarge { bytes } => too_large(state, alloc, bytes),
+        SaveFault::NoMemory => Err(NoMemory),
     }
 }
 
@@ -117,6 +118,7 @@ fn saves<K: Registry>(
     job: Job<K>,
     oid: Oid,
 ) -> Result<Moved<K>, NoMemory>
+    requires { IsSome state.view }
     ensures { (r : Rest (meaning_of K.Registry)) (w : rules.Work (meaning_of K.Registry)) (v : views.View (meaning_of K.Registry)) (old : ℕ) → r.view ≡ Some v → old ≤ state.rids.next → KeepsViewIf (meaning_of K.Registry) state.view r.view → KeepsJob (meaning_of K.Registry) job w → IfOk result (λ x. KeepsMoved (meaning_of K.Registry) old x (told.saves (meaning_of K.Registry) (client_of (meaning_of K.Registry) state r) w oid (ckpts.checkpoint (meaning_of K.Registry) v oid w.tail state.num (state.checkpoints + 1)))) }
 {
     match saved(&state, alloc, oid, job.tail) {
@@ -133,6 +135,7 @@ pub fn on_checkpoint<K: Registry>(
     oid: Oid,
     came: PlayEnd,
 ) -> Result<Moved<K>, NoMemory>
+    requires { IsSome state.view }
     ensures { (r : Rest (meaning_of K.Registry)) (w : rules.Work (meaning_of K.Registry)) (v : views.View (meaning_of K.Registry)) (old : ℕ) → r.view ≡ Some v → old ≤ state.rids.next → KeepsViewIf (meaning_of K.Registry) state.view r.view → KeepsJob (meaning_of K.Registry) job w → IfOk result (λ x. KeepsMoved (meaning_of K.Registry) old x (told.on_checkpoint (meaning_of K.Registry) (client_of (meaning_of K.Registry) state r) w v oid came)) }
 {
     match came {

@@ -1,10 +1,16 @@
+use Rattle.std.proofs.Common.{ap, ◌∙◌}
 use Rattle.tg_play.proofs.Means.{means}
+use Rattle.tg_protocol.specs.Answers.{on_ask}
 use Rattle.tg_client_state.specs.States.{client_of}
-use Rattle.tg_client_answers.proofs.Telling.{moves_same, answered_as, nothing_told}
+use Rattle.tg_client_answers.proofs.Telling.{moves_same, answered_as, nothing_told, same_tail}
 use Rattle.tg_client_answers.proofs.answering.answered.Goals as goal
 
-pub returns-in-Ask : goal.returns-in-Ask
-returns-in-Ask g c = c.asked.ensures c.args.entries.now
+pub returns-in_ok-ask-in-Ask : goal.returns-in_ok-ask-in-Ask
+returns-in_ok-ask-in-Ask g c = λ r w v old hv hn hk hj.
+    moves_same (means g.K.Kind g.K.Registry) c.on_ask.result old _ _
+    (ap (λ q. on_ask (means g.K.Kind g.K.Registry) (client_of (means g.K.Kind g.K.Registry) c.args.state r) w c.in-Ask.oid q v c.args.came) c.in_ok-ask-in-Ask.ensures
+    ∙ answered_as (means g.K.Kind g.K.Registry) (client_of (means g.K.Kind g.K.Registry) c.args.state r) w c.args.entries.now (record { view = v; came = c.args.came }) c.args.job _ hj c.in-Ask.is)
+    (c.on_ask.ensures r w v old hv hk (same_tail (means g.K.Kind g.K.Registry) c.args.job w hj))
 
 pub returns-in-End : goal.returns-in-End
 returns-in-End g c = λ r w v old hv hn hk hj.

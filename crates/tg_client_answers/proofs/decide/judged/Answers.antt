@@ -5,8 +5,8 @@ use Rattle.tg_client_answers.specs.Fates.{decision_told}
 use Rattle.tg_client_answers.proofs.TellingTx.{moves_same, kept_view, decide_judged}
 use Rattle.tg_client_answers.proofs.decide.judged.Goals as goal
 
-pub returns-in-Some : goal.returns-in-Some
-returns-in-Some g c = λ r w v old hv hn hk hj.
+pub returns : goal.returns
+returns g c = λ r w v old hv hn hk hj.
     moves_same (means g.K.Kind g.K.Registry) c.tells.result old _ _
     (decide_judged (means g.K.Kind g.K.Registry) (client_of (means g.K.Kind g.K.Registry) c.args.state r) w c.args.entries.now c.args.at c.args.entry.now (told_verdict c.outcome.result) _ (decision_told (means g.K.Kind g.K.Registry) (client_of (means g.K.Kind g.K.Registry) c.args.state r) w c.args.entries.now c.args.at c.args.entry.now c.decision-answer.result)
     (c.decision-answer.ensures (client_of (means g.K.Kind g.K.Registry) c.args.state r) w c.args.entries.now c.args.entry.now) (c.outcome.ensures v (kept_view (means g.K.Kind g.K.Registry) c.args.state.view c.in-Some.view r.view v c.in-Some.is hv hk)))

@@ -3,6 +3,6 @@ use Rattle.tg_client_state.specs.States.{client_of}
 use Rattle.tg_client_answers.proofs.TellingTx.{moves_same, kept_view}
 use Rattle.tg_client_answers.proofs.end.judged.Goals as goal
 
-pub returns-in_ok-answer-in-Some : goal.returns-in_ok-answer-in-Some
-returns-in_ok-answer-in-Some g c = λ r w v old hv hn hk hj.
+pub returns : goal.returns
+returns g c = λ r w v old hv hn hk hj.
     moves_same (means g.K.Kind g.K.Registry) c.tells.result old _ _ (c.in_ok-answer-in-Some.ensures (client_of (means g.K.Kind g.K.Registry) c.args.state r) w v (kept_view (means g.K.Kind g.K.Registry) c.args.state.view c.in-Some.view r.view v c.in-Some.is hv hk)) (c.tells.ensures r w v old hv hn hk hj)

@@ -4,6 +4,6 @@ use Rattle.tg_client_state.specs.States.{client_of}
 use Rattle.tg_client_answers.proofs.TellingTx.{moves_same, kept_view, same_trims}
 use Rattle.tg_client_answers.proofs.fate.known.Goals as goal
 
-pub returns-in-Some : goal.returns-in-Some
-returns-in-Some g c = λ r w v old hv hn hk hj.
+pub returns : goal.returns
+returns g c = λ r w v old hv hn hk hj.
     moves_same (means g.K.Kind g.K.Registry) c.tells.result old _ _ (c.fate-fate.ensures (client_of (means g.K.Kind g.K.Registry) c.args.state r) w v (kept_view (means g.K.Kind g.K.Registry) c.args.state.view c.in-Some.view r.view v c.in-Some.is hv hk) (c.as_slice.ensures ∙ same_trims (means g.K.Kind g.K.Registry) c.args.job w hj)) (c.tells.ensures r old hk)
