@@ -1,6 +1,6 @@
 //! Verdicts on transcripts and on their texts.
 
-ghost use Rattle.std.specs.Prelude.{◌≡◌, true, IfOk, MatchResult};
+ghost use Rattle.std.specs.Prelude.{◌≡◌, ◌+◌, ◌^◌, ◌<◌, true, length, IfOk, MatchResult};
 ghost use Rattle.tg_base.specs.declared.fault.TextFault.TheVariants as fault;
 ghost use Rattle.tg_kind.specs.Of.{meaning_of};
 ghost use Rattle.tg_trace.specs.Reading.{IsFirstOutside, OnOutside};
@@ -38,9 +38,10 @@ impl Judged for AnyKind {
     ghost same_answers_exact = { exact.same_answer_exact };
 }
 
-/// The verdict on a transcript that has a text. An `Err` is want of memory.
+/// The verdict on a transcript that has a text, whose lines have numbers of 64 bits. An `Err` is want of memory.
 pub fn judge(alloc: Global, transcript: &Transcript) -> Result<Verdict, NoMemory>
-    requires { is_transcript transcript.now ≡ true }
+    requires lawful { is_transcript transcript.now ≡ true }
+    requires numbered { length transcript.now.trace + length transcript.now.history + 3 < 2 ^ 64 }
     ensures { IfOk result (λ v. v ≡ verdict_of (meaning_of ⟦<AnyKind as Registry>⟧) op_test answer_test transcript.now.objects transcript.now.history transcript.now.trace) }
 {
     verdict_on::<AnyKind>(

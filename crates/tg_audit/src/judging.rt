@@ -1,6 +1,6 @@
 //! The judge's tests, and the verdict.
 
-ghost use Rattle.std.specs.Prelude.{◌≡◌, ◌+◌, ◌<◌, ◌≤◌, nat_le, true, length, get_or, take, IfOk};
+ghost use Rattle.std.specs.Prelude.{◌≡◌, ◌+◌, ◌^◌, ◌<◌, ◌≤◌, nat_le, true, length, get_or, take, IfOk, IfSome};
 ghost use Rattle.std.specs.List.{list_any};
 ghost use Rattle.tg_kind.specs.Of.{meaning_of};
 ghost use Rattle.tg_kind.specs.Headers.{is_header};
@@ -375,7 +375,8 @@ impl<'a, K: Judged> Run<'a, K> {
     // The first reply at which a clause fails.
     fn in_trace(&self, alloc: Global) -> Result<Option<(usize, Clause)>, NoMemory>
         requires { runs.IsRun (meaning_of K.Registry) K.same_answers self.now.objects.now self.now.history.now self.now.trace.now self.now.tables.now }
-        ensures { IfOk result (λ f. f ≡ rule.in_trace (meaning_of K.Registry) K.same_ops K.same_answers self.now.objects.now self.now.history.now self.now.trace.now) }
+        ensures within { IfOk result (λ f. IfSome f (λ p. p.0 < length self.now.trace.now)) }
+        ensures first { IfOk result (λ f. f ≡ rule.in_trace (meaning_of K.Registry) K.same_ops K.same_answers self.now.objects.now self.now.history.now self.now.trace.now) }
     {
         let trace = self.trace;
         for place in 0..trace.len() {
@@ -389,7 +390,8 @@ impl<'a, K: Judged> Run<'a, K> {
     // The first entry at which a clause fails.
     fn in_history(&self, alloc: Global) -> Result<Option<(usize, Clause)>, NoMemory>
         requires { runs.IsRun (meaning_of K.Registry) K.same_answers self.now.objects.now self.now.history.now self.now.trace.now self.now.tables.now }
-        ensures { IfOk result (λ f. f ≡ rule.in_history (meaning_of K.Registry) K.same_ops K.same_answers self.now.objects.now self.now.history.now self.now.trace.now) }
+        ensures within { IfOk result (λ f. IfSome f (λ p. p.0 < length self.now.history.now)) }
+        ensures first { IfOk result (λ f. f ≡ rule.in_history (meaning_of K.Registry) K.same_ops K.same_answers self.now.objects.now self.now.history.now self.now.trace.now) }
     {
         let history = self.history;
         for place in 0..history.len() {
@@ -401,38 +403,35 @@ impl<'a, K: Judged> Run<'a, K> {
     }
 }
 
-// The verdict that names an item's line, where the first item has this one. A line past 64 bits is taken as want of
-// memory, which has no room for so many.
-fn illegal(first: u64, place: usize, clause: Clause) -> Result<Verdict, NoMemory>
-    ensures { IfOk result (λ v. v ≡ Illegal (first + place) clause) }
+// The verdict that names an item's line, where the first item has this one.
+fn illegal(first: u64, place: usize, clause: Clause) -> Verdict
+    requires { first + place < 2 ^ 64 }
+    ensures { result ≡ Illegal (first + place) clause }
 {
-    match first.checked_add(place as u64) {
-        Some(line) => Ok(Verdict::Illegal { line, clause }),
-        None => Err(NoMemory),
-    }
+    let line = first + place as u64;
+    Verdict::Illegal { line, clause }
 }
 
 impl<'a, K: Judged> Run<'a, K> {
     // The verdict where no clause fails at a reply.
     fn past_trace(&self, alloc: Global) -> Result<Verdict, NoMemory>
-        requires { runs.IsRun (meaning_of K.Registry) K.same_answers self.now.objects.now self.now.history.now self.now.trace.now self.now.tables.now }
+        requires run { runs.IsRun (meaning_of K.Registry) K.same_answers self.now.objects.now self.now.history.now self.now.trace.now self.now.tables.now }
+        requires room { length self.now.trace.now + length self.now.history.now + 3 < 2 ^ 64 }
         ensures { IfOk result (λ v. v ≡ rule.past_trace (meaning_of K.Registry) K.same_ops K.same_answers self.now.objects.now self.now.history.now self.now.trace.now) }
     {
         let Some((place, clause)) = self.in_history(alloc)? else {
             return Ok(Verdict::Legal);
         };
-        let Some(first) = (self.trace.len() as u64).checked_add(3) else {
-            return Err(NoMemory);
-        };
-        illegal(first, place, clause)
+        Ok(illegal(self.trace.len() as u64 + 3, place, clause))
     }
 
     fn verdict(&self, alloc: Global) -> Result<Verdict, NoMemory>
-        requires { runs.IsRun (meaning_of K.Registry) K.same_answers self.now.objects.now self.now.history.now self.now.trace.now self.now.tables.now }
+        requires run { runs.IsRun (meaning_of K.Registry) K.same_answers self.now.objects.now self.now.history.now self.now.trace.now self.now.tables.now }
+        requires room { length self.now.trace.now + length self.now.history.now + 3 < 2 ^ 64 }
         ensures { IfOk result (λ v. v ≡ rule.verdict (meaning_of K.Registry) K.same_ops K.same_answers self.now.objects.now self.now.history.now self.now.trace.now) }
     {
         match self.in_trace(alloc)? {
-            Some((place, clause)) => illegal(2, place, clause),
+            Some((place, clause)) => Ok(illegal(2, place, clause)),
             None => self.past_trace(alloc),
         }
     }
@@ -445,7 +444,8 @@ fn ruled<K: Judged>(
     history: &[DoneOf<K>],
     trace: &[MarkOf<K>],
 ) -> Result<Verdict, NoMemory>
-    requires { is_header objects.now ≡ true }
+    requires header { is_header objects.now ≡ true }
+    requires room { length trace.now + length history.now + 3 < 2 ^ 64 }
     ensures { IfOk result (λ v. v ≡ rule.verdict (meaning_of K.Registry) K.same_ops K.same_answers objects.now history.now trace.now) }
 {
     let tables = tables_of::<K>(alloc, objects, history, trace)?;
@@ -459,8 +459,8 @@ fn ruled<K: Judged>(
 }
 
 /// The verdict on a run by the objects of its header, its committed transactions and its replies: legal, or the first
-/// line of its transcript at which a clause of a legal run fails, and the first such clause there. An `Err` is want of
-/// memory.
+/// line of its transcript at which a clause of a legal run fails, and the first such clause there. Its lines have numbers
+/// of 64 bits. An `Err` is want of memory.
 ///
 /// It goes over the replies and the history once and makes tables of where each transaction stands. Where stamps rise it
 /// plays the history once for each object that is asked; else it plays the object of each answer anew.
@@ -470,7 +470,8 @@ pub fn verdict_on<K: Judged>(
     history: &[DoneOf<K>],
     trace: &[MarkOf<K>],
 ) -> Result<Verdict, NoMemory>
-    requires { is_header objects.now ≡ true }
+    requires header { is_header objects.now ≡ true }
+    requires room { length trace.now + length history.now + 3 < 2 ^ 64 }
     ensures { IfOk result (λ v. v ≡ verdict_of (meaning_of K.Registry) K.same_ops K.same_answers objects.now history.now trace.now) }
 {
     ruled::<K>(alloc, objects, history, trace)
