@@ -9,8 +9,8 @@ use Rattle.tg_protocol.specs.ClientSteps.{fate_missing}
 use Rattle.tg_play.specs.Kept.{Kept}
 use Rattle.tg_play.specs.Relations.{KeepsView}
 use Rattle.tg_play.specs.declared.base.Base.{Base}
-use Rattle.tg_ckpt.specs.declared.fault.CkptFault.{CkptFault}
-use Rattle.tg_ckpt.specs.declared.fault.CkptFault.TheVariants.{NoCheckpoint}
+use Rattle.tg_ckpt.specs.declared.fault.LoadFault.{LoadFault}
+use Rattle.tg_ckpt.specs.declared.fault.LoadFault.TheVariants.{NoCheckpoint}
 use Rattle.tg_ckpt.specs.Answers.{Loads}
 use Rattle.tg_client_state.specs.States.{KeepsViewIf}
 
@@ -21,12 +21,12 @@ module _ (m : Meaning) where
   loads-base o b None h = absurd h
   loads-base o b (Some x) h = refl
 
-  pub loads_some : (o : Oid) (x : Result (Base m.state) CkptFault) (b : Base m.state) (d : Option (told.Base m)) → x ≡ Ok b → Loads m o x d → true ≡ is_some d
-  loads_some o x b d e h = loads-base o b d (subst (λ (y : Result (Base m.state) CkptFault). Loads m o y d) e h)
+  pub loads_some : (o : Oid) (x : Result (Base m.state) LoadFault) (b : Base m.state) (d : Option (told.Base m)) → x ≡ Ok b → Loads m o x d → true ≡ is_some d
+  loads_some o x b d e h = loads-base o b d (subst (λ (y : Result (Base m.state) LoadFault). Loads m o y d) e h)
 
-  pub loads_none : (o : Oid) (x : Result (Base m.state) CkptFault) (f : CkptFault) (q : Oid) (d : Option (told.Base m)) → x ≡ Err f → f ≡ NoCheckpoint q → Loads m o x d → false ≡ is_some d
+  pub loads_none : (o : Oid) (x : Result (Base m.state) LoadFault) (f : LoadFault) (q : Oid) (d : Option (told.Base m)) → x ≡ Err f → f ≡ NoCheckpoint q → Loads m o x d → false ≡ is_some d
   loads_none o x f q d e k h =
-      let told-of = subst (λ (y : CkptFault). Loads m o (Err y) d) k (subst (λ (y : Result (Base m.state) CkptFault). Loads m o y d) e h) in
+      let told-of = subst (λ (y : LoadFault). Loads m o (Err y) d) k (subst (λ (y : Result (Base m.state) LoadFault). Loads m o y d) e h) in
       sym (ap (λ (y : Option (told.Base m)). is_some y) told-of.1)
 
   -- A view.

@@ -11,7 +11,7 @@ ghost use Rattle.tg_client_state.specs.States.{Rest, client_of, KeepsViewIf};
 
 use std::alloc::Global;
 use tg_base::{NoMemory, Oid, Pos};
-use tg_ckpt::{CkptFault, load_from};
+use tg_ckpt::{LoadFault, load_from};
 use tg_client_cells::Known;
 use tg_client_state::State;
 use tg_kind::Registry;
@@ -31,8 +31,8 @@ fn reaches<K: Registry>(
     let entries = known.entries_of(alloc, list)?;
     match load_from::<K>(alloc, &entries, oid, below) {
         Ok(_) => Ok(true),
-        Err(CkptFault::NoCheckpoint { .. }) => Ok(false),
-        Err(_) => Err(NoMemory),
+        Err(LoadFault::NoCheckpoint { .. }) => Ok(false),
+        Err(LoadFault::NoMemory) => Err(NoMemory),
     }
 }
 
