@@ -1,6 +1,6 @@
 //! Asks of the open transaction.
 
-ghost use Rattle.std.specs.Prelude.{◌≡◌, ℕ, true, Option, Some, IfOk};
+ghost use Rattle.std.specs.Prelude.{◌≡◌, ℕ, true, Option, Some, IfOk, IsSome};
 ghost use Rattle.tg_kind.specs.Of.{meaning_of};
 ghost use Rattle.tg_base.specs.Parts.{is_part};
 ghost use Rattle.tg_model.specs.declared.command.Command.TheVariants as cmd;
@@ -53,11 +53,12 @@ fn read_in<K: Registry>(
     at: Pos,
     version: u64,
 ) -> Result<Option<Tx<K>>, NoMemory>
-    requires { is_part part ≡ true }
+    requires part { is_part part ≡ true }
+    requires open { IsSome tx }
     ensures { (t : txs.Tx) → tx ≡ Some t → IfOk result (λ u. u ≡ Some (txs.tx_read t (record { oid = oid; part = part; version = version }) at)) }
 {
     match tx {
-        None => Err(NoMemory),
+        None => unreachable!(),
         Some(tx) => {
             let tx = with_read(tx, oid, part, at, version)?;
             Ok(Some(tx))
@@ -97,6 +98,7 @@ fn asked<K: Registry>(
     answer: K::Ans,
     version: u64,
 ) -> Result<Moved<K>, NoMemory>
+    requires { IsSome state.tx }
     ensures { (t : txs.Tx) (w : View (meaning_of K.Registry)) (s : K) → state.tx ≡ Some t → answer ≡ K.answered s ask → version ≡ view_version (meaning_of K.Registry) w oid (K.looked ask) → (v : Option (View (meaning_of K.Registry))) (n : ℕ) → KeepsViewIf (meaning_of K.Registry) state.view v → IfOk result (λ x. KeepsMoved (meaning_of K.Registry) state.rids.next x (told.asked_of_state (meaning_of K.Registry) (idle (meaning_of K.Registry) state v n) t at oid ask w (Some s))) }
 {
     let part = looked_at::<K>(alloc, &ask)?;
@@ -125,6 +127,7 @@ fn asks_view<K: Registry>(
     ask: K::Ask,
     at: Pos,
 ) -> Result<Moved<K>, NoMemory>
+    requires { IsSome state.tx }
     ensures { (t : txs.Tx) → state.tx ≡ Some t → (v : Option (View (meaning_of K.Registry))) (n : ℕ) → KeepsViewIf (meaning_of K.Registry) state.view v → IfOk result (λ x. KeepsMoved (meaning_of K.Registry) state.rids.next x (told.asks_view (meaning_of K.Registry) (idle (meaning_of K.Registry) state v n) t at oid ask v)) }
 {
     match answer_in::<K>(&state.view, alloc, oid, &ask)? {
