@@ -1,17 +1,23 @@
 -- A node is moved out of a row, and back.
 use Rattle.std.specs.Prelude.{◌≡◌, ℕ, zero, suc, ◌+◌, ◌<◌, ◌≤◌, List, [], ◌∷◌, length, insert, remove, slice_set, slice_index_or, refl}
 use Rattle.std.proofs.Common.{sym, ap, subst, ◌∙◌, arith}
+use Rattle.std.proofs.lemmas.List.{length-map}
 use Rattle.tg_base.specs.Clusters.{Header}
 use Rattle.tg_base.specs.Layouts.{Layout}
 use Rattle.tg_protocol.specs.Sequencers.{SeqrState}
 use Rattle.tg_seqr.specs.Counted.{Counted}
 use Rattle.tg_world_servers.specs.Kept.{IsWhole}
-use Rattle.tg_world_servers.specs.Rows.{states_of, AreCounted}
+use Rattle.tg_world_servers.specs.Rows.{state_of, states_of, AreCounted}
 
 pub put_back : {X : Type 0} (xs : List X) (n : ℕ) (y : X) → n < length xs → insert (remove xs n) n y ≡ slice_set xs n y
 put_back [] n y h = absurd (omega (arith, h))
 put_back (x ∷ xs) zero y h = refl
 put_back (x ∷ xs) (suc n) y h = let k : n < length xs = omega (arith, h) in λ i. x ∷ put_back xs n y k i
+
+pub set_length : {X : Type 0} (xs : List X) (n : ℕ) (y : X) → length (slice_set xs n y) ≡ length xs
+set_length [] n y = refl
+set_length (x ∷ xs) zero y = refl
+set_length (x ∷ xs) (suc n) y = ap suc (set_length xs n y)
 
 pub same_read : {X : Type 0} (xs : List X) (n : ℕ) (d e : X) → n < length xs → slice_index_or xs n d ≡ slice_index_or xs n e
 same_read [] n d e h = absurd (omega (arith, h))
@@ -38,6 +44,10 @@ states_read [] n d e h = absurd (omega (arith, h))
 states_read (x ∷ cs) zero d e h = refl
 states_read (x ∷ cs) (suc n) d e h = let k : n < length cs = omega (arith, h) in states_read cs n d e k
 
+-- a turn leaves as many as there were
+pub turned_length : (cs ds : List Counted) (n : ℕ) (s : SeqrState) → states_of ds ≡ slice_set (states_of cs) n s → length ds ≡ length cs
+turned_length cs ds n s e = sym (length-map ds state_of) ∙ ap length e ∙ set_length (states_of cs) n s ∙ length-map cs state_of
+
 -- ---- how many steps they have taken
 
 pub counted_read : (most : ℕ) (cs : List Counted) (n : ℕ) (d : Counted) → n < length cs → AreCounted most cs → (slice_index_or cs n d).calls ≤ most
@@ -56,15 +66,27 @@ counted_set most (x ∷ cs) (suc n) c h k = (k.0, counted_set most cs n c h k.1)
 
 -- ---- the servers stay whole as a step is counted
 
-pub whole_more : (c : Header) (q : Layout) (cs : List Counted) (steps : ℕ) → IsWhole c q cs steps → IsWhole c q cs (steps + 1)
-whole_more c q cs steps h = record { begins = h.begins; counted = counted_more steps (steps + 1) cs (omega arith) h.counted }
+pub whole_more : (c : Header) (q : Layout) (us vs ls ms : ℕ) (cs : List Counted) (steps : ℕ) → vs ≡ us → ms ≡ ls → IsWhole c q us ls cs steps → IsWhole c q vs ms cs (steps + 1)
+whole_more c q us vs ls ms cs steps units layouts h = record {
+  begins = h.begins;
+  counted = counted_more steps (steps + 1) cs (omega arith) h.counted;
+  all_units = units ∙ h.all_units;
+  all_layouts = layouts ∙ h.all_layouts;
+  all_seqrs = h.all_seqrs;
+}
 
-pub whole_turned : (c : Header) (q : Layout) (cs ds : List Counted) (steps : ℕ) → IsWhole c q cs steps → AreCounted (steps + 1) ds → IsWhole c q ds (steps + 1)
-whole_turned c q cs ds steps h k = record { begins = h.begins; counted = k }
+pub whole_turned : (c : Header) (q : Layout) (us ls : ℕ) (cs ds : List Counted) (steps : ℕ) → length ds ≡ length cs → IsWhole c q us ls cs steps → AreCounted (steps + 1) ds → IsWhole c q us ls ds (steps + 1)
+whole_turned c q us ls cs ds steps long h k = record {
+  begins = h.begins;
+  counted = k;
+  all_units = h.all_units;
+  all_layouts = h.all_layouts;
+  all_seqrs = long ∙ h.all_seqrs;
+}
 
 -- there is room for one step more
-pub has_room : (c : Header) (q : Layout) (cs : List Counted) (steps : ℕ) → IsWhole c q cs steps → steps < 200000 → AreCounted 199999 cs
-has_room c q cs steps h room = counted_more steps 199999 cs (omega (arith, room)) h.counted
+pub has_room : (c : Header) (q : Layout) (us ls : ℕ) (cs : List Counted) (steps : ℕ) → IsWhole c q us ls cs steps → steps < 200000 → AreCounted 199999 cs
+has_room c q us ls cs steps h room = counted_more steps 199999 cs (omega (arith, room)) h.counted
 
 -- ---- a sequencer's turn in its row
 

@@ -1,15 +1,20 @@
 -- Rows of new nodes.
-use Rattle.std.specs.Prelude.{◌≡◌, ℕ, zero, suc, ◌+◌, ◌≤◌, List, [], ◌∷◌, ◌++◌, map, refl}
+use Rattle.std.specs.Prelude.{◌≡◌, ℕ, zero, suc, ◌+◌, ◌≤◌, List, [], ◌∷◌, ◌++◌, length, map, replicate, refl}
 use Rattle.std.proofs.Common.{sym, ap, subst, ◌∙◌, arith}
 use Rattle.std.proofs.Math.Nat.{add-zero}
-use Rattle.std.proofs.lemmas.List.{append_assoc}
+use Rattle.std.proofs.lemmas.List.{append_assoc, length-map, length-replicate}
+use Rattle.tg_base.specs.Clusters.{Header}
 use Rattle.tg_base.specs.declared.ids.NodeId.{NodeId}
 use Rattle.tg_base.specs.declared.ids.Role.{Role}
 use Rattle.tg_base.specs.Layouts.{Layout}
+use Rattle.tg_protocol.specs.Layouts.{first_layout}
+use Rattle.tg_protocol.specs.LayoutServers.{LayoutState, new_layout}
+use Rattle.tg_protocol.specs.Units.{UnitState, new_unit}
 use Rattle.tg_protocol.specs.Words.{numbers}
 use Rattle.tg_protocol.specs.Sequencers.{SeqrState, new_seqr}
 use Rattle.tg_seqr.specs.Counted.{Counted}
-use Rattle.tg_world_servers.specs.Rows.{states_of, AreCounted}
+use Rattle.tg_world_servers.specs.Kept.{IsWhole}
+use Rattle.tg_world_servers.specs.Rows.{state_of, states_of, AreCounted}
 use Rattle.tg_world_servers.specs.Servers.{node_of}
 
 pub numbers_last : (n first : ℕ) → numbers (suc n) first ≡ numbers n first ++ (first + n) ∷ []
@@ -59,3 +64,18 @@ nodes_last r first now after n x e is h =
     map_next : (xs : List ℕ) (y : ℕ) → map (node_of r) (xs ++ y ∷ []) ≡ map (node_of r) xs ++ node_of r y ∷ []
     map_next [] y = refl
     map_next (z ∷ xs) y = λ i. node_of r z ∷ map_next xs y i
+
+numbers_length : (n first : ℕ) → length (numbers n first) ≡ n
+numbers_length zero first = refl
+numbers_length (suc n) first = ap suc (numbers_length n (first + 1))
+
+-- the rows of a header's nodes, before their first step
+pub starts_whole : (h c : Header) (q : Layout) (us : List UnitState) (ls : List LayoutState) (cs : List Counted) (f : ℕ → SeqrState) → c ≡ h → q ≡ first_layout h → us ≡ replicate h.units new_unit → ls ≡ replicate h.layouts (new_layout q)
+    → states_of cs ≡ map f (numbers h.seqs 0) → AreCounted 0 cs → IsWhole c q (length us) (length ls) cs 0
+starts_whole h c q us ls cs f is begins units layouts seqrs counted = record {
+  begins = begins ∙ sym (ap first_layout is);
+  counted = counted;
+  all_units = ap length units ∙ length-replicate h.units new_unit ∙ sym (ap (λ (x : Header). x.units) is);
+  all_layouts = ap length layouts ∙ length-replicate h.layouts (new_layout q) ∙ sym (ap (λ (x : Header). x.layouts) is);
+  all_seqrs = sym (length-map cs state_of) ∙ ap length seqrs ∙ length-map (numbers h.seqs 0) f ∙ numbers_length h.seqs 0 ∙ sym (ap (λ (x : Header). x.seqs) is);
+}

@@ -58,6 +58,7 @@ impl Drop for Servers {
 }
 
 impl Model for Servers {
+    ghost use Rattle.std.specs.Prelude.{length};
     ghost use Rattle.tg_world_servers.specs.Rows.{states_of, AreCounted};
     ghost use Rattle.tg_world_servers.specs.Servers.{ServersState};
     ghost use Rattle.tg_world_servers.specs.Kept.{IsWhole};
@@ -66,7 +67,7 @@ impl Model for Servers {
 
     ghost view = { λ s. record { cluster = s.parts.value.cluster; units = s.parts.value.units.items; layouts = s.parts.value.layouts.items; seqrs = states_of s.parts.value.seqrs.items; stopped = s.parts.value.stopped; post = s.parts.value.post; archive = s.parts.value.archive.entries; steps = s.parts.value.steps } };
 
-    ghost invariant = { λ s. IsWhole s.parts.value.cluster s.parts.value.first s.parts.value.seqrs.items s.parts.value.steps };
+    ghost invariant = { λ s. IsWhole s.parts.value.cluster s.parts.value.first (length s.parts.value.units.items) (length s.parts.value.layouts.items) s.parts.value.seqrs.items s.parts.value.steps };
 }
 
 impl Servers {
@@ -120,11 +121,19 @@ impl Servers {
     pub fn count(&self, role: Role) -> usize
         ensures { result ≡ count_of self.now role }
     {
+        self.declared(role) as usize
+    }
+
+    // The same, as the header declares it.
+    fn declared(&self, role: Role) -> u16
+        ensures { result ≡ count_of self.now role }
+    {
+        let cluster = &self.parts.cluster;
         match role {
-            Role::Unit => self.parts.units.len(),
-            Role::Layout => self.parts.layouts.len(),
-            Role::Seqr => self.parts.seqrs.len(),
-            Role::Client => self.parts.cluster.clients as usize,
+            Role::Unit => cluster.units,
+            Role::Layout => cluster.layouts,
+            Role::Seqr => cluster.seqs,
+            Role::Client => cluster.clients,
         }
     }
 
@@ -164,10 +173,10 @@ impl Servers {
         ensures { IfOk result (λ ns. ns.items ≡ nodes self.now) }
     {
         let mut nodes = Vec::new(alloc);
-        put_nodes(&mut nodes, Role::Unit, self.count(Role::Unit))?;
-        put_nodes(&mut nodes, Role::Layout, self.count(Role::Layout))?;
-        put_nodes(&mut nodes, Role::Seqr, self.count(Role::Seqr))?;
-        put_nodes(&mut nodes, Role::Client, self.count(Role::Client))?;
+        put_nodes(&mut nodes, Role::Unit, self.declared(Role::Unit))?;
+        put_nodes(&mut nodes, Role::Layout, self.declared(Role::Layout))?;
+        put_nodes(&mut nodes, Role::Seqr, self.declared(Role::Seqr))?;
+        put_nodes(&mut nodes, Role::Client, self.declared(Role::Client))?;
         Ok(nodes)
     }
 
@@ -393,26 +402,13 @@ impl Servers {
 }
 
 // The nodes of a role, of which there are so many.
-fn put_nodes(nodes: &mut Vec<NodeId>, role: Role, count: usize) -> Result<(), NoMemory>
+fn put_nodes(nodes: &mut Vec<NodeId>, role: Role, count: u16) -> Result<(), NoMemory>
     ensures { OnOk result (nodes.new.items ≡ nodes.old.items ++ map (node_of role) (numbers count 0)) }
 {
     for num in 0..count {
-        nodes.push(node_of(role, num)?)?;
+        nodes.push(NodeId { role, num })?;
     }
     Ok(())
-}
-
-// A node of a role. Each count of nodes is a number of 16 bits, so it never fails.
-fn node_of(role: Role, num: usize) -> Result<NodeId, NoMemory>
-    ensures { IfOk result (λ n. n ≡ node_of role num) }
-{
-    if num > 0xffff {
-        return Err(NoMemory);
-    }
-    Ok(NodeId {
-        role,
-        num: num as u16,
-    })
 }
 
 fn is_node(node: NodeId, other: NodeId) -> bool

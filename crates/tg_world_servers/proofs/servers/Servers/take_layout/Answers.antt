@@ -1,15 +1,17 @@
-use Rattle.std.proofs.Common.{◌≡◌, ap, ◌∙◌}
+use Rattle.std.proofs.Common.{◌≡◌, length, refl, ap, ◌∙◌}
+use Rattle.tg_protocol.specs.LayoutServers.{new_layout}
 use Rattle.tg_world_servers.specs.Servers.{ServersState, counted, layout_takes}
 use Rattle.tg_world_servers.specs.declared.servers.Parts.{Parts}
 use Rattle.tg_world_servers.proofs.Boxed.{as_told, whole_in}
-use Rattle.tg_world_servers.proofs.Moving.{whole_more}
+use Rattle.tg_world_servers.proofs.Moving.{set_length, whole_more}
 use Rattle.tg_world_servers.proofs.Taking.{packet_got, layout_took}
 use Rattle.tg_world_servers.proofs.servers.Servers.take_layout.Goals as goal
 
 pub invariant_of-result : goal.invariant_of-result
 invariant_of-result c =
     let x : Parts = c.deref_mut-inner.result.now in
-    whole_more x.cluster x.first x.seqrs.items x.steps (whole_in x _ c.deref_mut-inner.ensures.value c.self.invariant)
+    whole_more x.cluster x.first (length x.units.items) (length x.units.items) (length x.layouts.items) (length c.layout_takes.new.layouts.items) x.seqrs.items x.steps refl
+    (ap length (c.in_ok-says.ensures.now (new_layout x.first)) ∙ set_length x.layouts.items c.args.num _) (whole_in x _ c.deref_mut-inner.ensures.value c.self.invariant)
 
 pub returns-clause-now : goal.returns-clause-now
 returns-clause-now c = λ p at to.

@@ -1,19 +1,21 @@
-use Rattle.std.proofs.Common.{◌≡◌, List, sym, ap, ◌∙◌}
+use Rattle.std.proofs.Common.{◌≡◌, List, length, refl, sym, ap, ◌∙◌}
 use Rattle.tg_base.specs.Layouts.{Layout}
 use Rattle.tg_base.specs.declared.packet.Packet.{Packet}
 use Rattle.tg_protocol.specs.Layouts.{first_layout}
 use Rattle.tg_protocol.specs.Logs.{newest}
+use Rattle.tg_protocol.specs.Units.{new_unit}
 use Rattle.tg_world_servers.specs.Servers.{ServersState, counted, unit_takes}
 use Rattle.tg_world_servers.specs.declared.servers.Parts.{Parts}
 use Rattle.tg_world_servers.proofs.Boxed.{as_told, whole_in}
-use Rattle.tg_world_servers.proofs.Moving.{whole_more}
+use Rattle.tg_world_servers.proofs.Moving.{set_length, whole_more}
 use Rattle.tg_world_servers.proofs.Taking.{packet_got, unit_took}
 use Rattle.tg_world_servers.proofs.servers.Servers.take_unit.Goals as goal
 
 pub invariant_of-result : goal.invariant_of-result
 invariant_of-result c =
     let x : Parts = c.deref_mut-inner.result.now in
-    whole_more x.cluster x.first x.seqrs.items x.steps (whole_in x _ c.deref_mut-inner.ensures.value c.self.invariant)
+    whole_more x.cluster x.first (length x.units.items) (length c.unit_takes.new.units.items) (length x.layouts.items) (length x.layouts.items) x.seqrs.items x.steps
+    (ap length (c.in_ok-says.ensures.now new_unit) ∙ set_length x.units.items c.args.num _) refl (whole_in x _ c.deref_mut-inner.ensures.value c.self.invariant)
 
 pub returns-clause-now : goal.returns-clause-now
 returns-clause-now c = λ p at to.
