@@ -17,6 +17,7 @@ pub mod Appends
 pub mod Writers
 pub mod Drafted
 pub mod Owners
+pub mod Holders
 pub mod Finishes
 pub mod Readings
 pub mod Trails
@@ -31,7 +32,9 @@ pub mod Scans
 pub mod Standing
 pub mod Answered
 pub mod Telling
+pub mod Folds
 pub mod Replying
+pub mod Drains
 pub mod Makers
 pub mod Joined
 pub mod Both
@@ -40,9 +43,11 @@ pub mod Rescuers
 pub mod Rescuing
 pub mod Hosting
 pub mod Ending
+pub mod Recording
 pub mod Waits
 pub mod Starts
 pub mod Walked
+pub mod Recorded
 pub mod Issued
 pub mod Below
 pub mod Named

@@ -7,3 +7,4 @@ pub mod Settling
 pub mod Probing
 pub mod Closing
 pub mod Saving
+pub mod Paging

@@ -3,7 +3,9 @@ pub mod Granted
 pub mod Appends
 pub mod Asks
 pub mod Queues
+pub mod Alone
 pub mod Laws
+pub mod Drains
 pub mod Store
 pub mod Makes
 pub mod Reads

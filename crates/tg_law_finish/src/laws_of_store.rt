@@ -1,14 +1,18 @@
-//! Commands of the store finish, in every run over the store's own kinds. In a quiet world a client waits alone, and the
-//! latest layout's units and sequencer, and the client, run and stand in it. Then a settling ends the command, the client
+//! Commands of the store finish, in every run over the store's own kinds. A client waits alone: nothing is on its
+//! way, or its requests alone are, as right after its command (`IsAlone` in specs/Finish/Alone.antt). The latest
+//! layout's units and sequencer, and the client, run and stand in it. Then a settling ends the command, the client
 //! tells a reply, and at most so many packets with it are delivered as its bound says (`Finishes` of tg_protocol).
+//! Where anything else is on its way, take the world that the settling's first drain leaves (`drains_come_first`,
+//! `drains_are_runs`, `drains_answer`).
 //!
-//! Of the world it is asked that it is ready, and no more: what `Granted` asks (specs/Finish/Granted.antt), and where an
-//! append stands, is so in each run of the store. Commands that walk take fewer deliveries where nothing is trimmed and the
-//! latest layout's sequencer has issued a position since that layout's start (`asks_finish`, `makes_finish`).
+//! Of the world it is asked that it is ready, and no more: what `Granted` asks (specs/Finish/Granted.antt), and
+//! where an append stands, is so in each run of the store. Commands that walk take fewer deliveries where nothing
+//! is trimmed and the latest layout's sequencer has issued a position since that layout's start (`asks_finish`,
+//! `makes_finish`).
 
 ghost use Rattle.tg_any.specs.AllKinds.{all_kinds};
 ghost use Rattle.tg_law_finish.specs.Finish.Anywhere.{CommandWalks};
-ghost use Rattle.tg_law_finish.specs.Finish.Ends.{EndFinishes};
+ghost use Rattle.tg_law_finish.specs.Finish.Ends.{EndFinishes, RecordFinishes};
 ghost use Rattle.tg_law_finish.specs.Finish.Makes.{MakeFinishes};
 ghost use Rattle.tg_law_finish.specs.Finish.Rescues.{RescueWalks};
 ghost use Rattle.tg_law_finish.specs.Finish.Store.{AppendFinishes, AskFinishes};
@@ -21,15 +25,15 @@ pub fn appends_finish()
     ensures { Always all_kinds (AppendFinishes all_kinds) }
 {}
 
-/// A client whose `ask`, `fate` or `ask-at` still waits for its sync's first answer is answered, where nothing is trimmed
-/// and the latest layout's sequencer has issued a position since that layout's start.
+/// A client whose `ask`, `fate` or `ask-at` still waits for its sync's first answer is answered, where nothing is
+/// trimmed and the latest layout's sequencer has issued a position since that layout's start.
 pub fn asks_finish()
     ensures { Always all_kinds (AskFinishes all_kinds) }
 {}
 
-/// A client whose `decide`, `checkpoint` or `forget` still waits for its sync's first answer is answered, likewise: once all
-/// is walked it is refused, or appends a decision record, a checkpoint or a mark. So is one whose `end` has appended its
-/// record, and syncs to judge it.
+/// A client whose `decide`, `checkpoint` or `forget` still waits for its sync's first answer is answered, likewise:
+/// once all is walked it is refused, or appends a decision record, a checkpoint or a mark. So is one whose `end`
+/// has appended its record, and syncs to judge it.
 pub fn makes_finish()
     ensures { Always all_kinds (MakeFinishes all_kinds) }
 {}
@@ -47,21 +51,27 @@ pub fn makes_finish_anyway()
     ensures { Always all_kinds (MakeWalks all_kinds) }
 {}
 
-/// So is a `rescue`, however many streams join those that it walks: within the bound of its command too, and 129 times what trims may
-/// cost.
+/// So is a `rescue`, however many streams join those that it walks: within the bound of its command too, and 129
+/// times what trims may cost.
 pub fn rescues_finish()
     ensures { Always all_kinds (RescueWalks all_kinds) }
 {}
 
-/// So is an `end` whose record still asks for its token: the record goes down its chain, or the log is full; then the client
-/// syncs, walks what it hosts, and tells the outcome, or appends a decision record first.
+/// So is an `end` whose record still asks for its token: the record goes down its chain, or the log is full; then
+/// the client syncs, walks what it hosts, and tells the outcome, or appends a decision record first.
 pub fn ends_finish()
     ensures { Always all_kinds (EndFinishes all_kinds) }
 {}
 
-/// So an `ask`, `fate`, `ask-at`, `decide`, `checkpoint`, `forget` or `rescue` is answered wherever it stands, but
-/// while its client waits for a newer layout: within the bound of its command, and 129 times what trims may cost walks
-/// over 128 streams.
+/// So is one wherever the append of its record stands: the page may be on its way down the chain, or the position
+/// of a token of an older layout may be settled. Where another cell is there, another token is asked for.
+pub fn records_finish()
+    ensures { Always all_kinds (RecordFinishes all_kinds) }
+{}
+
+/// So an `ask`, `end`, `fate`, `ask-at`, `decide`, `checkpoint`, `forget` or `rescue` is answered wherever it
+/// stands, but while its client waits for a newer layout: within the bound of its command, and 129 times what trims
+/// may cost walks over 128 streams.
 pub fn commands_finish()
     ensures { Always all_kinds (CommandWalks all_kinds) }
 {}

@@ -1,6 +1,6 @@
 //! Runs for which the premises of the laws hold, computed by the definitions.
 
-ghost use Rattle.tg_law_finish.specs.Tallies.Settled.{AppendIsAnswered, AskIsAnswered, EndIsAnswered, FateIsAnswered, ProbeIsAnswered, RescueIsAnswered, SaveIsAnswered};
+ghost use Rattle.tg_law_finish.specs.Tallies.Settled.{AppendIsAnswered, AskIsAnswered, EndIsAnswered, FateIsAnswered, ProbeIsAnswered, RecordIsAnswered, RescueIsAnswered, SaveIsAnswered};
 ghost use Rattle.tg_law_finish.specs.Tallies.Books.{CommitIsBooked};
 ghost use Rattle.tg_law_finish.specs.Tallies.Tallies.{PastIsTold, CommitIsTold};
 
@@ -49,6 +49,12 @@ pub fn probe_is_answered()
 /// `ends_finish` asks no more than it has. A settling of it takes ten deliveries with the client, where 800 are allowed.
 pub fn end_is_answered()
     ensures { EndIsAnswered }
+{}
+
+/// A run in which that client has its token, and the request of its page is lost, is one for which `records_finish` asks no
+/// more than it has. A settling of it takes eight deliveries with the client, where 808 are allowed.
+pub fn record_is_answered()
+    ensures { RecordIsAnswered }
 {}
 
 /// A run in which a client saves a tally while nothing was issued, and its request for a tail is lost, is one for which

@@ -24,30 +24,34 @@ use Rattle.tg_protocol.specs.Clients.{Judged, Appending, Syncing, Doing, Work, C
 use Rattle.tg_protocol.specs.ClientSteps.{task_asks, task_in}
 use Rattle.tg_protocol.specs.Worlds.{World, seqr, client, latest, settle}
 use Rattle.tg_protocol.specs.Runs.{Moves, Reaches, Always}
-use Rattle.tg_protocol.specs.Finishing.{longest_chain, is_with_client, passes, WaitsAlone, IsReadyFor, most_deliveries, most_deliveries_in, Finishes, HasReply}
+use Rattle.tg_protocol.specs.Finishing.{longest_chain, is_with_client, passes, IsReadyFor, most_deliveries, most_deliveries_in, Finishes, HasReply}
 use Rattle.tg_law_layouts.proofs.Moves.Clients.{reserved, work_reserved, hand_reserved}
 use Rattle.tg_law_layouts.proofs.Moves.Members.{Has}
 use Rattle.tg_law_cells.proofs.Cells.Hands as hands
 use Rattle.tg_law_cells.proofs.Cells.Jobs.{AppendOk}
+use Rattle.tg_law_finish.specs.Finish.Alone.{IsAlone}
+use Rattle.tg_law_finish.specs.Finish.Drains.{drained, DrainsAnswer}
 use Rattle.tg_law_finish.specs.Finish.Granted.{Granted}
 use Rattle.tg_law_finish.specs.Finish.Appends as appends
 use Rattle.tg_law_finish.specs.Finish.Appends.{WaitsForAppend, AppendStands, PuttingStands, JudgingStands}
 use Rattle.tg_law_finish.specs.Finish.Asks.{NothingTrimmed, HasIssued, WaitsForSync}
 use Rattle.tg_law_finish.specs.Finish.Makes.{makes, MakesSync, make_bound}
-use Rattle.tg_law_finish.specs.Finish.Ends.{EndsAppend, end_bound}
+use Rattle.tg_law_finish.specs.Finish.Ends.{EndsAppend, end_bound, record_bound}
 use Rattle.tg_law_finish.specs.Finish.Reads.{WaitsForRead}
 use Rattle.tg_law_finish.specs.Finish.Rescues.{is_rescue, rescue_bound}
 use Rattle.tg_law_finish.specs.Finish.Walks.{StreamsFew, passes_bound, walk_bound, streams}
 use Rattle.tg_law_finish.specs.Finish.Laws.{IsReply, IsAnswered, AppendAnswered, AppendInTime, AskAnswered, AskInTime, EndsAreTold, RepliesAreTold}
-use Rattle.tg_law_finish.proofs.Finish.Asking.{HeldWhereTrimmed, Walkable, Untrimmed, Owns, Syncs, TaskStands, Reads}
+use Rattle.tg_law_finish.proofs.Finish.Asking.{HeldWhereTrimmed, Walkable, Untrimmed, Owns, Holds, Syncs, TaskStands, Reads}
 use Rattle.tg_law_finish.proofs.Finish.Counted.{is_of, one_if, cost, counted, Finishes as Counted}
-use Rattle.tg_law_finish.proofs.Finish.Replying.{settle_replies, settle_tells}
+use Rattle.tg_law_finish.proofs.Finish.Drains.{stays_idle}
+use Rattle.tg_law_finish.proofs.Finish.Replying.{settle_replies, drain_replies, settle_tells}
 use Rattle.tg_law_finish.proofs.Finish.Suiting.{WorkSuits, task_replies, all_suit}
 use Rattle.tg_law_finish.proofs.Finish.Telling.{HasIt}
 use Rattle.tg_law_finish.specs.Finish.Commands.{is_ask, plays}
 use Rattle.tg_law_finish.proofs.Finish.Finishes.{writes_finish}
 use Rattle.tg_law_finish.proofs.Finish.Waits.{asks_finish, makes_finish, ends_finish_by}
 use Rattle.tg_law_finish.proofs.Finish.Walked.{asks_finish_by, makes_finish_by, rescues_finish_by}
+use Rattle.tg_law_finish.proofs.Finish.Recorded.{records_finish_by}
 use Rattle.tg_law_finish.proofs.Finish.Hosting.{WorkFew, hosting}
 use Rattle.tg_law_finish.proofs.Finish.Standing.{numbers_hold, cells_always, pax_always, working, lawful, next_near, names_below, once_there, units_are, cluster_is, header_limits}
 use Rattle.tg_law_finish.proofs.Finish.Writing.{Writes, Stands, InHand, PutStands, JudgeStands}
@@ -120,6 +124,12 @@ walks_room c t l one few =
 
 ends_room : (c t l : ℕ) → 1 ≤ c → l ≤ 7 → 2 * ((c + 1) * t) + 2 * l + 6 * (c + 1) ≤ 16 * c * (t + 4)
 ends_room c t l one few =
+    let a = mul-le (c + 1) t (2 * c) t (omega (arith, one)) (omega arith) in
+    let b = mul-le (16 * c) t (16 * c) t (omega arith) (omega arith) in
+    omega (arith, one, few, a, b)
+
+records_room : (c t l : ℕ) → 1 ≤ c → l ≤ 7 → 2 * ((c + 1) * t) + 2 * l + 8 * (c + 1) ≤ 16 * c * (t + 4)
+records_room c t l one few =
     let a = mul-le (c + 1) t (2 * c) t (omega (arith, one)) (omega arith) in
     let b = mul-le (16 * c) t (16 * c) t (omega arith) (omega arith) in
     omega (arith, one, few, a, b)
@@ -267,41 +277,46 @@ module _ (m : Meaning) (h : Header) (ms : Moves m) (w : World m) (r : Reaches m 
   few_layouts : w.cluster.layouts ≤ 7
   few_layouts = subst (λ (y : Header). y.layouts ≤ 7) (sym (cluster_is m h ms w r)) (header_limits h r.header).0
 
+  has_command : (work : Work m) → (client m w k).work ≡ Some work → HasIt m (IsReply m) work.command (client m w k).work
+  has_command work e = subst (λ (o : Option (Work m)). HasIt m (IsReply m) work.command o) (sym e) (refl, task_replies m work.command (task_in m work.hand) (subst (λ (o : Option (Work m)). WorkSuits m o) e (all_suit m h ms w r k)))
+
   replied : (work : Work m) → (client m w k).work ≡ Some work → plays m work.command ≡ true → (client m (settle m w).world k).work ≡ None → HasReply m w (settle m w).world k (IsReply m)
-  replied work e play idle = settle_replies m (IsReply m) (λ what i. i) k work.command play w
-      (subst (λ (o : Option (Work m)). HasIt m (IsReply m) work.command o) (sym e) (refl, task_replies m work.command (task_in m work.hand) (subst (λ (o : Option (Work m)). WorkSuits m o) e (all_suit m h ms w r k)))) idle
+  replied work e play idle = settle_replies m (IsReply m) (λ what i. i) k work.command play w (has_command work e) idle
+
+  drain_replied : (work : Work m) → (client m w k).work ≡ Some work → plays m work.command ≡ true → (client m (drained m w) k).work ≡ None → HasReply m w (drained m w) k (IsReply m)
+  drain_replied work e play idle = drain_replies m (IsReply m) (λ what i. i) k work.command play w (has_command work e) idle
 
   asks_play : (x : CommandOf m) → is_ask m x ≡ true → plays m x ≡ true
   unfolding is_ask plays
   asks_play x e = grind arith
 
-  longest : Granted m w → (x : CommandOf m) → WaitsAlone m w k x → IsReadyFor m w k → 1 ≤ longest_chain p
+  longest : Granted m w → (x : CommandOf m) → IsAlone m w k x → IsReadyFor m w k → 1 ≤ longest_chain p
   longest g x a b = let l = lawful m h ms w r k x a b g in let y = l.some 0 in let z = l.short 0 in omega (arith, y, z)
 
-  pub append_answered : (x : CommandOf m) → WaitsAlone m w k x → IsReadyFor m w k → Granted m w → WaitsForAppend m w k → IsAnswered m w k (4 * longest_chain p + 2 * w.cluster.layouts + 2)
+  pub append_answered : (x : CommandOf m) → IsAlone m w k x → IsReadyFor m w k → Granted m w → WaitsForAppend m w k → IsAnswered m w k (4 * longest_chain p + 2 * w.cluster.layouts + 2)
   append_answered x a b g f =
       let c = writes_finish m w k p (longest_chain p) (working m h ms w r k x a b) (lawful m h ms w r k x a b g) (writes b.stand f) a.within in
       answered_of m k _ w _ (subst (λ l. Counted m k (4 * longest_chain p + 2 * l + 2) w (settle m w).world) layouts_are c) (replied f.work f.waits f.command c.answered)
 
-  pub append_in_time : (x : CommandOf m) → WaitsAlone m w k x → IsReadyFor m w k → Granted m w → WaitsForAppend m w k → IsAnswered m w k (most_deliveries_in m w x)
+  pub append_in_time : (x : CommandOf m) → IsAlone m w k x → IsReadyFor m w k → Granted m w → WaitsForAppend m w k → IsAnswered m w k (most_deliveries_in m w x)
   append_in_time x a b g f = within m k _ _ w _ (bounds m x _ _ _ _ (rooms _ _ _ (longest g x a b) few_layouts)) (append_answered x a b g f)
 
-  pub ask_answered : (x : CommandOf m) → WaitsAlone m w k x → IsReadyFor m w k → Granted m w → NothingTrimmed m w → HasIssued m w → WaitsForSync m w k → IsAnswered m w k (2 * ((longest_chain p + 1) * ((seqr m w p.seq).next + 1)) + 2 * w.cluster.layouts)
+  pub ask_answered : (x : CommandOf m) → IsAlone m w k x → IsReadyFor m w k → Granted m w → NothingTrimmed m w → HasIssued m w → WaitsForSync m w k → IsAnswered m w k (2 * ((longest_chain p + 1) * ((seqr m w p.seq).next + 1)) + 2 * w.cluster.layouts)
   unfolding asks synced
   ask_answered x a b g u n f =
       let c = asks_finish m w k p (longest_chain p) (working m h ms w r k x a b) (lawful m h ms w r k x a b g) (walkable (none_trimmed u)) (untrimmed u n) (asks f) f.asks a.within in
       answered_of m k _ w _ (subst (λ l. Counted m k (2 * ((longest_chain p + 1) * ((seqr m w p.seq).next + 1)) + 2 * l) w (settle m w).world) layouts_are c) (replied f.work f.waits (asks_play f.work.command f.asks) c.answered)
 
-  pub ask_in_time : (x : CommandOf m) → WaitsAlone m w k x → IsReadyFor m w k → Granted m w → NothingTrimmed m w → HasIssued m w → WaitsForSync m w k → IsAnswered m w k (most_deliveries_in m w x)
+  pub ask_in_time : (x : CommandOf m) → IsAlone m w k x → IsReadyFor m w k → Granted m w → NothingTrimmed m w → HasIssued m w → WaitsForSync m w k → IsAnswered m w k (most_deliveries_in m w x)
   ask_in_time x a b g u n f = within m k _ _ w _ (bounds m x _ _ _ _ (each_room _ _ _ (longest g x a b) few_layouts)) (ask_answered x a b g u n f)
 
-  pub make_answered : (x : CommandOf m) → WaitsAlone m w k x → IsReadyFor m w k → Granted m w → NothingTrimmed m w → HasIssued m w → MakesSync m w k → IsAnswered m w k (make_bound m w)
+  pub make_answered : (x : CommandOf m) → IsAlone m w k x → IsReadyFor m w k → Granted m w → NothingTrimmed m w → HasIssued m w → MakesSync m w k → IsAnswered m w k (make_bound m w)
   unfolding made synced
   make_answered x a b g u n f =
       let c = makes_finish m w k p (longest_chain p) (working m h ms w r k x a b) (lawful m h ms w r k x a b g) (walkable (none_trimmed u)) (untrimmed u n) (made f) f.makes_it a.within in
       answered_of m k _ w _ (subst (λ l. Counted m k (2 * ((longest_chain p + 1) * ((seqr m w p.seq).next + 1)) + 2 * l + 2 * (longest_chain p + 1)) w (settle m w).world) layouts_are c) (replied f.work f.waits (makes_play f.work.command f.makes_it) c.answered)
 
-  pub make_in_time : (x : CommandOf m) → WaitsAlone m w k x → IsReadyFor m w k → Granted m w → NothingTrimmed m w → HasIssued m w → MakesSync m w k → IsAnswered m w k (most_deliveries_in m w x)
+  pub make_in_time : (x : CommandOf m) → IsAlone m w k x → IsReadyFor m w k → Granted m w → NothingTrimmed m w → HasIssued m w → MakesSync m w k → IsAnswered m w k (most_deliveries_in m w x)
   make_in_time x a b g u n f = within m k _ _ w _ (bounds m x _ _ _ _ (made_room _ _ _ (longest g x a b) few_layouts)) (make_answered x a b g u n f)
 
   -- Whatever is trimmed.
@@ -319,7 +334,7 @@ module _ (m : Meaning) (h : Header) (ms : Moves m) (w : World m) (r : Reaches m 
     below = λ o g. below_next o (reserves (client m w k) f.work f.task o f.waits f.hand (subst (λ (q : Layout). Has (hand_reserved m q (Doing f.task)) o) (sym e) g));
   }
 
-  pub same_command : (x : CommandOf m) → WaitsAlone m w k x → (v : Work m) → (client m w k).work ≡ Some v → x ≡ v.command
+  pub same_command : (x : CommandOf m) → IsAlone m w k x → (v : Work m) → (client m w k).work ≡ Some v → x ≡ v.command
   same_command x a v e = sym (ap (λ (u : Work m). u.command) (one_work v a.work (sym e ∙ a.waits)) ∙ a.command)
 
   few_streams : (v : Work m) → (client m w k).work ≡ Some v → length v.oids ≤ 128
@@ -328,7 +343,7 @@ module _ (m : Meaning) (h : Header) (ms : Moves m) (w : World m) (r : Reaches m 
   passes_few : (c s n : ℕ) → s ≤ 128 → 2 * ((2 * c + 1 + s) * (n + 2)) ≤ 2 * ((2 * c + 1 + 128) * (n + 2))
   passes_few c s n le = let a = mul-le (2 * c + 1 + s) (n + 2) (2 * c + 1 + 128) (n + 2) (omega (arith, le)) (omega arith) in omega (arith, a)
 
-  ask_by : (x : CommandOf m) → WaitsAlone m w k x → IsReadyFor m w k → Granted m w → HeldWhereTrimmed m w p → (f : WaitsForRead m w k) → TaskStands m w p f.work f.task → is_ask m f.work.command ≡ true → IsAnswered m w k (walk_bound m w (streams m f.work))
+  ask_by : (x : CommandOf m) → IsAlone m w k x → IsReadyFor m w k → Granted m w → HeldWhereTrimmed m w p → (f : WaitsForRead m w k) → TaskStands m w p f.work f.task → is_ask m f.work.command ≡ true → IsAnswered m w k (walk_bound m w (streams m f.work))
   unfolding reading
   ask_by x a b g held f stands is =
       let c = asks_finish_by m w k p (longest_chain p) (working m h ms w r k x a b) (lawful m h ms w r k x a b g) (walkable held) (reading b.stand f stands) is a.within in
@@ -336,7 +351,7 @@ module _ (m : Meaning) (h : Header) (ms : Moves m) (w : World m) (r : Reaches m 
       (subst (λ l. Counted m k (2 * ((longest_chain p + 1) * (seqr m w p.seq).next) + 2 * l + 2 * ((2 * longest_chain p + 1 + length f.work.oids) * (length w.units + 2))) w (settle m w).world) layouts_are c))
       (replied f.work f.waits (asks_play f.work.command is) c.answered)
 
-  make_by : (x : CommandOf m) → WaitsAlone m w k x → IsReadyFor m w k → Granted m w → HeldWhereTrimmed m w p → (f : WaitsForRead m w k) → TaskStands m w p f.work f.task → makes m f.work.command ≡ true
+  make_by : (x : CommandOf m) → IsAlone m w k x → IsReadyFor m w k → Granted m w → HeldWhereTrimmed m w p → (f : WaitsForRead m w k) → TaskStands m w p f.work f.task → makes m f.work.command ≡ true
       → IsAnswered m w k (walk_bound m w (streams m f.work) + 2 * (longest_chain p + 1))
   unfolding reading
   make_by x a b g held f stands is =
@@ -345,7 +360,7 @@ module _ (m : Meaning) (h : Header) (ms : Moves m) (w : World m) (r : Reaches m 
       (subst (λ l. Counted m k (2 * ((longest_chain p + 1) * (seqr m w p.seq).next) + 2 * l + 2 * ((2 * longest_chain p + 1 + length f.work.oids) * (length w.units + 2)) + 2 * (longest_chain p + 1)) w (settle m w).world) layouts_are c))
       (replied f.work f.waits (makes_play f.work.command is) c.answered)
 
-  pub ask_walks : (x : CommandOf m) → WaitsAlone m w k x → IsReadyFor m w k → Granted m w → HeldWhereTrimmed m w p → is_ask m x ≡ true → (f : WaitsForRead m w k) → TaskStands m w p f.work f.task
+  pub ask_walks : (x : CommandOf m) → IsAlone m w k x → IsReadyFor m w k → Granted m w → HeldWhereTrimmed m w p → is_ask m x ≡ true → (f : WaitsForRead m w k) → TaskStands m w p f.work f.task
       → IsAnswered m w k (walk_bound m w (streams m f.work)) × IsAnswered m w k (most_deliveries_in m w x + passes_bound m w 128)
   ask_walks x a b g held is f stands =
       let y = ask_by x a b g held f stands (subst (λ (z : CommandOf m). is_ask m z ≡ true) (same_command x a f.work f.waits) is) in
@@ -353,7 +368,7 @@ module _ (m : Meaning) (h : Header) (ms : Moves m) (w : World m) (r : Reaches m 
       let room = bounds m x (longest_chain p) (seqr m w p.seq).next w.cluster.units _ (walks_room (longest_chain p) (seqr m w p.seq).next w.cluster.layouts (longest g x a b) few_layouts) in
       (y, within m k _ _ w _ (omega (arith, room, few)) y)
 
-  pub make_walks : (x : CommandOf m) → WaitsAlone m w k x → IsReadyFor m w k → Granted m w → HeldWhereTrimmed m w p → makes m x ≡ true → (f : WaitsForRead m w k) → TaskStands m w p f.work f.task
+  pub make_walks : (x : CommandOf m) → IsAlone m w k x → IsReadyFor m w k → Granted m w → HeldWhereTrimmed m w p → makes m x ≡ true → (f : WaitsForRead m w k) → TaskStands m w p f.work f.task
       → IsAnswered m w k (walk_bound m w (streams m f.work) + 2 * (longest_chain p + 1)) × IsAnswered m w k (most_deliveries_in m w x + passes_bound m w 128)
   make_walks x a b g held is f stands =
       let y = make_by x a b g held f stands (subst (λ (z : CommandOf m). makes m z ≡ true) (same_command x a f.work f.waits) is) in
@@ -361,7 +376,7 @@ module _ (m : Meaning) (h : Header) (ms : Moves m) (w : World m) (r : Reaches m 
       let room = bounds m x (longest_chain p) (seqr m w p.seq).next w.cluster.units _ (walks_room (longest_chain p) (seqr m w p.seq).next w.cluster.layouts (longest g x a b) few_layouts) in
       (y, within m k _ _ w _ (omega (arith, room, few)) y)
 
-  rescue_by : (x : CommandOf m) → WaitsAlone m w k x → IsReadyFor m w k → Granted m w → HeldWhereTrimmed m w p → (f : WaitsForRead m w k) → TaskStands m w p f.work f.task → is_rescue m f.work.command ≡ true → IsAnswered m w k (rescue_bound m w (streams m f.work))
+  rescue_by : (x : CommandOf m) → IsAlone m w k x → IsReadyFor m w k → Granted m w → HeldWhereTrimmed m w p → (f : WaitsForRead m w k) → TaskStands m w p f.work f.task → is_rescue m f.work.command ≡ true → IsAnswered m w k (rescue_bound m w (streams m f.work))
   unfolding reading
   rescue_by x a b g held f stands is =
       let c = rescues_finish_by m w k p (longest_chain p) (working m h ms w r k x a b) (lawful m h ms w r k x a b g) (walkable held) (reading b.stand f stands) is (few_streams f.work f.waits) a.within in
@@ -370,7 +385,7 @@ module _ (m : Meaning) (h : Header) (ms : Moves m) (w : World m) (r : Reaches m 
       (subst (λ l. Counted m k ((2 * ((longest_chain p + 1) * (seqr m w p.seq).next) + 2 * l + 2 * ((2 * longest_chain p + 1 + 128) * (length w.units + 2))) * ((128 - length f.work.oids) + 1) + 2 * (longest_chain p + 1)) w (settle m w).world) layouts_are c))
       (replied f.work f.waits (rescues_play f.work.command is) c.answered)
 
-  pub rescue_walks : (x : CommandOf m) → WaitsAlone m w k x → IsReadyFor m w k → Granted m w → HeldWhereTrimmed m w p → is_rescue m x ≡ true → (f : WaitsForRead m w k) → TaskStands m w p f.work f.task
+  pub rescue_walks : (x : CommandOf m) → IsAlone m w k x → IsReadyFor m w k → Granted m w → HeldWhereTrimmed m w p → is_rescue m x ≡ true → (f : WaitsForRead m w k) → TaskStands m w p f.work f.task
       → IsAnswered m w k (rescue_bound m w (streams m f.work)) × IsAnswered m w k (most_deliveries_in m w x + 129 * passes_bound m w 128)
   rescue_walks x a b g held is f stands =
       let y = rescue_by x a b g held f stands (subst (λ (z : CommandOf m). is_rescue m z ≡ true) (same_command x a f.work f.waits) is) in
@@ -378,7 +393,7 @@ module _ (m : Meaning) (h : Header) (ms : Moves m) (w : World m) (r : Reaches m 
       let room = rescues_room (longest_chain p) (seqr m w p.seq).next w.cluster.layouts (passes_bound m w 128) (128 - length f.work.oids) (longest g x a b) few_layouts (omega arith) in
       (y, within m k _ _ w _ (omega (arith, room, most)) y)
 
-  end_by : (x : CommandOf m) → WaitsAlone m w k x → IsReadyFor m w k → Granted m w → HeldWhereTrimmed m w p → Owns m w k p → IsAnswered m w k (end_bound m w)
+  end_by : (x : CommandOf m) → IsAlone m w k x → IsReadyFor m w k → Granted m w → HeldWhereTrimmed m w p → Owns m w k p → IsAnswered m w k (end_bound m w)
   end_by x a b g held f =
       let c = ends_finish_by m w k p (longest_chain p) (working m h ms w r k x a b) (lawful m h ms w r k x a b g) (walkable held) f a.within in
       answered_of m k _ w _
@@ -386,10 +401,28 @@ module _ (m : Meaning) (h : Header) (ms : Moves m) (w : World m) (r : Reaches m 
       (subst (λ l. Counted m k (2 * ((longest_chain p + 1) * (seqr m w p.seq).next) + 2 * l + 2 * ((2 * longest_chain p + 1 + 128) * (length w.units + 2)) + 6 * (longest_chain p + 1)) w (settle m w).world) layouts_are c))
       (replied f.work f.waits (ends_play f.work.command f.command) c.answered)
 
-  pub end_walks : (x : CommandOf m) → WaitsAlone m w k x → IsReadyFor m w k → Granted m w → HeldWhereTrimmed m w p → Owns m w k p → IsAnswered m w k (end_bound m w) × IsAnswered m w k (most_deliveries_in m w x + passes_bound m w 128)
+  pub end_walks : (x : CommandOf m) → IsAlone m w k x → IsReadyFor m w k → Granted m w → HeldWhereTrimmed m w p → Owns m w k p → IsAnswered m w k (end_bound m w) × IsAnswered m w k (most_deliveries_in m w x + passes_bound m w 128)
   end_walks x a b g held f =
       let y = end_by x a b g held f in
       let room = bounds m x (longest_chain p) (seqr m w p.seq).next w.cluster.units _ (ends_room (longest_chain p) (seqr m w p.seq).next w.cluster.layouts (longest g x a b) few_layouts) in
+      (y, within m k _ _ w _ (omega (arith, room)) y)
+
+  pub record_below : (client m w k).stand ≡ p → (v : Work m) (a : Append) → (client m w k).work ≡ Some v → v.hand ≡ Doing (Appending a Judged) → (o : Out) → Has (append_asks p a) o → o.rid < (client m w k).next
+  unfolding task_asks
+  record_below e v a has hand o g = below_next o (reserves (client m w k) v (Appending a Judged) o has hand (subst (λ (q : Layout). Has (append_asks q a) o) (sym e) g))
+
+  record_by : (x : CommandOf m) → IsAlone m w k x → IsReadyFor m w k → Granted m w → HeldWhereTrimmed m w p → Holds m w k p → IsAnswered m w k (record_bound m w)
+  record_by x a b g held f =
+      let c = records_finish_by m w k p (longest_chain p) (working m h ms w r k x a b) (lawful m h ms w r k x a b g) (walkable held) f a.within in
+      answered_of m k _ w _
+      (subst (λ n. Counted m k (2 * ((longest_chain p + 1) * (seqr m w p.seq).next) + 2 * w.cluster.layouts + 2 * ((2 * longest_chain p + 1 + 128) * (n + 2)) + 8 * (longest_chain p + 1)) w (settle m w).world) (units_are m h ms w r)
+      (subst (λ l. Counted m k (2 * ((longest_chain p + 1) * (seqr m w p.seq).next) + 2 * l + 2 * ((2 * longest_chain p + 1 + 128) * (length w.units + 2)) + 8 * (longest_chain p + 1)) w (settle m w).world) layouts_are c))
+      (replied f.work f.waits (ends_play f.work.command f.command) c.answered)
+
+  pub record_walks : (x : CommandOf m) → IsAlone m w k x → IsReadyFor m w k → Granted m w → HeldWhereTrimmed m w p → Holds m w k p → IsAnswered m w k (record_bound m w) × IsAnswered m w k (most_deliveries_in m w x + passes_bound m w 128)
+  record_walks x a b g held f =
+      let y = record_by x a b g held f in
+      let room = bounds m x (longest_chain p) (seqr m w p.seq).next w.cluster.units _ (records_room (longest_chain p) (seqr m w p.seq).next w.cluster.layouts (longest g x a b) few_layouts) in
       (y, within m k _ _ w _ (omega (arith, room)) y)
 
 pub appends_are_answered : (m : Meaning) → Always m (AppendAnswered m)
@@ -409,6 +442,9 @@ ends_are_told m w k work e g idle = settle_tells m k w work g e idle
 
 pub replies_are_told : (m : Meaning) → Always m (RepliesAreTold m)
 replies_are_told m h ms w r k work e g idle = replied m h ms w r k work e g idle
+
+pub drains_answer : (m : Meaning) → Always m (DrainsAnswer m)
+drains_answer m h ms w r k work e g idle = record { reply = drain_replied m h ms w r k work e g idle; idle = stays_idle m k w idle }
 
 pub streams_are_few : (m : Meaning) → Always m (StreamsFew m)
 streams_are_few m h ms w r k v e = few_streams m h ms w r k v e

@@ -1,17 +1,19 @@
 -- A client that waits for a sync and walks.
-use Rattle.std.specs.Prelude.{◌≡◌, ◌⊎◌, ℕ, ◌+◌, ◌^◌, ◌<◌, ◌≤◌, nat_lt, true, false, List, length, Some, None, ⊤}
+use Rattle.std.specs.Prelude.{◌≡◌, ◌⊎◌, ℕ, zero, suc, ◌+◌, ◌^◌, ◌<◌, ◌≤◌, nat_lt, true, false, List, length, Some, None, ⊤}
 use Rattle.tg_base.specs.Layouts.{Layout}
 use Rattle.tg_base.specs.declared.cell.Cell.{Cell}
+use Rattle.tg_base.specs.declared.cell.Cell.TheVariants.{Data}
 use Rattle.tg_base.specs.declared.ids.Oid.{Oid}
 use Rattle.tg_base.specs.declared.marks.StreamLink.{StreamLink}
 use Rattle.tg_base.specs.declared.packet.Out.{Out}
+use Rattle.tg_entry.specs.declared.entry.Entry.{Entry}
 use Rattle.tg_kind.specs.Meaning.{Meaning}
 use Rattle.tg_protocol.specs.Words.{cell_at, too_far}
 use Rattle.tg_model.specs.declared.command.Command.TheVariants as cmd
 use Rattle.tg_protocol.specs.Entries.{streams_of, link_of, backs_of}
 use Rattle.tg_protocol.specs.Layouts.{chain_of}
 use Rattle.tg_protocol.specs.Sequencers.{links_of, with_positions}
-use Rattle.tg_protocol.specs.Appending.{Append, Asking, names_all}
+use Rattle.tg_protocol.specs.Appending.{Append, AppendWork, Asking, Putting, Judging, Token, append_asks, names_all}
 use Rattle.tg_protocol.specs.Cells.{CellWork, Puts, Gets, Fills, Copies, Probes, CellJob, place_in}
 use Rattle.tg_protocol.specs.Requests.{Waits}
 use Rattle.tg_protocol.specs.Syncing.{Sync, SyncWork, Checking, Settling, Probing}
@@ -26,7 +28,8 @@ use Rattle.tg_law_finish.proofs.Finish.Probes.{Asked}
 use Rattle.tg_law_finish.proofs.Finish.Working.{at_chain}
 
 module _ (m : Meaning) where
-  -- where a unit of a chain has trimmed a position, each of the others has the one cell that is settled there, or has trimmed it
+  -- where a unit of a chain has trimmed a position, each of the others has the one cell that is settled there, or
+  -- has trimmed it
   abbrev pub HeldWhereTrimmed : World m → Layout → Type 0
   HeldWhereTrimmed w p = (pos j : ℕ) → j < length (chain_of p pos) → nat_lt pos (unit m w (at_chain m p pos j)).low ≡ true
       → (c : Cell) × ((i : ℕ) → i < length (chain_of p pos) → (cell_at (unit m w (at_chain m p pos i)).cells pos ≡ Some c) ⊎ (nat_lt pos (unit m w (at_chain m p pos i)).low ≡ true))
@@ -43,7 +46,15 @@ module _ (m : Meaning) where
     pub lows : (u : ℕ) → (unit m w u).low ≡ 0
     pub past : nat_lt p.start (seqr m w p.seq).next ≡ true
 
-  -- a transaction's record asks for its token; the lists can grow by it, and no unit has a cell at the next position or past it
+  -- the next position can be issued to a draft's streams: the lists can grow by it, and no unit has a cell there or
+  -- past it
+  pub record Grows (w : World m) (p : Layout) (d : Entry) : Type 0 where
+    pub limit : (seqr m w p.seq).limit < 2 ^ 62
+    pub ahead : (pos j : ℕ) → (seqr m w p.seq).next ≤ pos → j < length (chain_of p pos) → cell_at (unit m w (at_chain m p pos j)).cells pos ≡ None
+    pub named : too_far ((seqr m w p.seq).next + 1) ≡ false → (ts : List Oid) → names_all ts (links_of (with_positions (seqr m w p.seq).next (streams_of d) (seqr m w p.seq).lists) ts) ≡ true
+    pub lasts : (o : Oid) (ts : List Oid) → AllBelow ((seqr m w p.seq).next + 1) (backs_of (link_of o (links_of (with_positions (seqr m w p.seq).next (streams_of d) (seqr m w p.seq).lists) ts)))
+
+  -- a transaction's record asks for its token
   pub record Owns (w : World m) (k : ℕ) (p : Layout) : Type 0 where
     pub work : Work m
     pub waits : (client m w k).work ≡ Some work
@@ -54,10 +65,7 @@ module _ (m : Meaning) where
     pub first : append.work ≡ Asking rid
     pub below : rid < (client m w k).next
     pub hosted : length (client m w k).hosted ≤ 128
-    pub limit : (seqr m w p.seq).limit < 2 ^ 62
-    pub ahead : (pos j : ℕ) → (seqr m w p.seq).next ≤ pos → j < length (chain_of p pos) → cell_at (unit m w (at_chain m p pos j)).cells pos ≡ None
-    pub named : too_far ((seqr m w p.seq).next + 1) ≡ false → (ts : List Oid) → names_all ts (links_of (with_positions (seqr m w p.seq).next (streams_of append.draft) (seqr m w p.seq).lists) ts) ≡ true
-    pub lasts : (o : Oid) (ts : List Oid) → AllBelow ((seqr m w p.seq).next + 1) (backs_of (link_of o (links_of (with_positions (seqr m w p.seq).next (streams_of append.draft) (seqr m w p.seq).lists) ts)))
+    pub grows : Grows w p append.draft
 
   -- the command's sync is outstanding
   pub record Syncs (w : World m) (k : ℕ) : Type 0 where
@@ -71,7 +79,8 @@ module _ (m : Meaning) where
 
   -- A client in a sync or in a walk.
 
-  -- a cell goes down a chain: the first unit has it, or has trimmed it; and where a unit has trimmed it, so has each other one
+  -- a cell goes down a chain: the first unit has it, or has trimmed it; and where a unit has trimmed it, so has
+  -- each other one
   pub record CarriesDown (w : World m) (p : Layout) (pos : ℕ) (c : Cell) : Type 0 where
     pub first : nat_lt pos (unit m w (at_chain m p pos 0)).low ≡ false → cell_at (unit m w (at_chain m p pos 0)).cells pos ≡ Some c
     pub held : (j : ℕ) → j < length (chain_of p pos) → nat_lt pos (unit m w (at_chain m p pos j)).low ≡ true
@@ -89,6 +98,40 @@ module _ (m : Meaning) where
     pub place : j.place ≡ place_in p j.place.pos
     pub less : j.place.pos < (seqr m w p.seq).next
     pub work : CellStands w p j.place.pos j.work
+
+  -- a page goes down a chain, whose first unit has it, or has trimmed it, where another is asked
+  abbrev pub PutStands : World m → Layout → ℕ → CellWork → Type 0
+  PutStands w p pos (Puts r d zero) = ⊤
+  PutStands w p pos (Puts r d (suc i)) = (suc i < length (chain_of p pos)) × CarriesDown w p pos (Data d)
+  PutStands w p pos (Gets r) = ⊥
+  PutStands w p pos (Fills r) = ⊥
+  PutStands w p pos (Copies r c i) = ⊥
+  PutStands w p pos (Probes ws) = ⊥
+
+  pub record PageStands (w : World m) (p : Layout) (j : CellJob) : Type 0 where
+    pub place : j.place ≡ place_in p j.place.pos
+    pub less : j.place.pos < (seqr m w p.seq).next
+    pub work : PutStands w p j.place.pos j.work
+
+  -- with a token, whose position was issued
+  abbrev pub TokenStands : World m → Layout → AppendWork → Type 0
+  TokenStands w p (Asking r) = ⊥
+  TokenStands w p (Putting j) = PageStands w p j
+  TokenStands w p (Judging j) = JobStands w p j
+
+  -- a transaction's record has its token
+  pub record Holds (w : World m) (k : ℕ) (p : Layout) : Type 0 where
+    pub work : Work m
+    pub waits : (client m w k).work ≡ Some work
+    pub command : work.command ≡ cmd.End
+    pub append : Append
+    pub hand : work.hand ≡ Doing (Appending append Judged)
+    pub token : Token
+    pub has : append.token ≡ Some token
+    pub stands : TokenStands w p append.work
+    pub below : (o : Out) → Has (append_asks p append) o → o.rid < (client m w k).next
+    pub hosted : length (client m w k).hosted ≤ 128
+    pub grows : Grows w p append.draft
 
   pub record ProbeStands (p : Layout) (j : CellJob) : Type 0 where
     pub place : j.place ≡ place_in p j.place.pos

@@ -10,7 +10,7 @@ use Rattle.tg_protocol.specs.Clients.{Client, Work}
 use Rattle.tg_protocol.specs.Answers.{syncs}
 use Rattle.tg_protocol.specs.ClientSteps.{ClientTurn, given}
 use Rattle.tg_law_finish.specs.Finish.Makes.{makes}
-use Rattle.tg_law_finish.proofs.Finish.Askers.{Kind, extra, budget, passes, rest}
+use Rattle.tg_law_finish.proofs.Finish.Askers.{Kind, Here, extra, budget, passes, rest}
 use Rattle.tg_law_finish.proofs.Finish.Askings.{sync_begins}
 use Rattle.tg_law_finish.proofs.Finish.Both.{MakesStage, makes_talk}
 use Rattle.tg_law_finish.proofs.Finish.Joined.{StageOf, ExitOf, Roomy, RoomyExit, roomy, Either, joined}
@@ -18,12 +18,12 @@ use Rattle.tg_law_finish.proofs.Finish.Lines.{Over, Talk, Goes}
 use Rattle.tg_law_finish.proofs.Finish.Makers.{making_way}
 use Rattle.tg_law_finish.proofs.Finish.Nets.{Net}
 use Rattle.tg_law_finish.proofs.Finish.Others.{Ready}
-use Rattle.tg_law_finish.proofs.Finish.Owners.{OwnsStage, OwnEnds, OwnOver, OwnSyncs, Then, owns_talk}
+use Rattle.tg_law_finish.proofs.Finish.Owners.{OwnsStage, OwnEnds, OwnOver, OwnSyncs, owns_talk}
 use Rattle.tg_law_finish.proofs.Finish.Readers.{seen}
 use Rattle.tg_law_finish.proofs.Finish.Rescuing.{round}
 use Rattle.tg_law_finish.proofs.Finish.Waited.{budget_within, passes_within}
 
--- how much a round takes
+-- how much a round takes, and what begins with one
 module _ (m : Meaning) (h : Header) (stopped : List NodeId) (k : ℕ) (p : Layout) (longest : ℕ) (low_at : ℕ → ℕ) (many tail most : ℕ) (kind : Kind low_at p tail) (wide : 128 ≤ most) where
   budget_is : (t : ℕ) → budget m h stopped k p longest low_at many tail most kind t ≡ (longest + 1) * t
   budget_is zero = sym (mul-zero (longest + 1))
@@ -44,6 +44,21 @@ module _ (m : Meaning) (h : Header) (stopped : List NodeId) (k : ℕ) (p : Layou
       plus : (n : ℕ) → n + 2 ≡ suc (n + 1)
       plus n = omega arith
 
+  at_most : (b : Bool) (n : ℕ) → extra b n ≤ n
+  at_most true n = omega arith
+  at_most false n = omega arith
+
+  -- a sync, the walks and a decision record
+  pub syncs_makes : (s : Net m) (c d : Client m) (w : Work m) (os : List Oid) (n : ℕ) → Here m h stopped k p longest low_at many tail most kind s → d.next ≡ c.next → d.stand ≡ p → makes m w.command ≡ true → length os ≤ most
+      → suc (round m h stopped k p longest low_at many tail most kind wide) + suc longest ≤ n → Goes m h stopped k p (MakesStage m h stopped k p longest low_at many tail most kind) s (given m c (syncs m d w os)) [] n
+  syncs_makes s c d w os n here up stand such short few =
+      let a = budget_within m h stopped k p longest low_at many tail most kind d.cells in
+      let b = passes_within m h stopped k p longest low_at many tail most kind w.gone d.view in
+      let z = at_most kind.trims (longest + rest m h stopped k p longest low_at many tail most kind (length os) w.gone (seen d.view)) in
+      let goes = sync_begins m h stopped k p longest low_at many tail most kind (making_way m) s c d w os (suc (round m h stopped k p longest low_at many tail most kind wide)) up stand such short here (omega (arith, a, b, z, short)) in
+      let fewer = goes.less in
+      record { os = goes.os; left = goes.left + suc longest; sends = goes.sends; stage = inl (record { left = goes.left; stage = goes.stage; few = omega arith }); less = omega (arith, fewer, few) }
+
 module _ (m : Meaning) (h : Header) (stopped : List NodeId) (k : ℕ) (p : Layout) (longest : ℕ) (low_at : ℕ → ℕ) (many tail most : ℕ) (kind : Kind low_at p (suc tail)) (wide : 128 ≤ most) where
   -- what comes behind the record
   abbrev pub behind : ℕ
@@ -61,26 +76,12 @@ module _ (m : Meaning) (h : Header) (stopped : List NodeId) (k : ℕ) (p : Layou
   abbrev pub EndStage : StageOf m h stopped k p
   EndStage = Either m h stopped k p First Second FirstEnd (Over m h stopped k p)
 
-  at_most : (b : Bool) (n : ℕ) → extra b n ≤ n
-  at_most true n = omega arith
-  at_most false n = omega arith
-
-  syncs_then : (s : Net m) (c d : Client m) (w : Work m) (os : List Oid) (n : ℕ) → Then m h stopped k p longest low_at many tail most kind s → d.next ≡ c.next → d.stand ≡ p → makes m w.command ≡ true → length os ≤ most → behind ≤ n
-      → Goes m h stopped k p Second s (given m c (syncs m d w os)) [] n
-  syncs_then s c d w os n here up stand such short few =
-      let a = budget_within m h stopped k p longest low_at many (suc tail) most kind d.cells in
-      let b = passes_within m h stopped k p longest low_at many (suc tail) most kind w.gone d.view in
-      let z = at_most kind.trims (longest + rest m h stopped k p longest low_at many (suc tail) most kind (length os) w.gone (seen d.view)) in
-      let goes = sync_begins m h stopped k p longest low_at many (suc tail) most kind (making_way m) s c d w os (suc (round m h stopped k p longest low_at many (suc tail) most kind wide)) up stand such short here (omega (arith, a, b, z, short)) in
-      let fewer = goes.less in
-      record { os = goes.os; left = goes.left + suc longest; sends = goes.sends; stage = inl (record { left = goes.left; stage = goes.stage; few = omega arith }); less = omega (arith, fewer, few) }
-
   ends_begin : (s : Net m) (c : Client m) (t : ClientTurn m) (n : ℕ) → Ready m h stopped k p s → FirstEnd s c t n → Over m h stopped k p s c t n ⊎ Goes m h stopped k p Second s t [] n
   ends_begin s c t n ready e = by e.exit
     where
       by : OwnEnds m h stopped k p longest low_at many tail most kind s c t e.left → Over m h stopped k p s c t n ⊎ Goes m h stopped k p Second s t [] n
       by (OwnOver x) = inl x
-      by (OwnSyncs d w os here up stand such short is) = let few = e.few in inr (subst (λ (u : ClientTurn m). Goes m h stopped k p Second s u [] n) (sym is) (syncs_then s c d w os n here up stand such short (omega (arith, few))))
+      by (OwnSyncs d w os here up stand such short is) = let few = e.few in inr (subst (λ (u : ClientTurn m). Goes m h stopped k p Second s u [] n) (sym is) (syncs_makes m h stopped k p longest low_at many (suc tail) most kind wide s c d w os n here up stand such short (omega (arith, few))))
 
   pub ends_talk : Talk m h stopped k p EndStage (Over m h stopped k p)
   ends_talk = joined m h stopped k p First Second FirstEnd (Over m h stopped k p)

@@ -23,7 +23,7 @@ use Rattle.tg_law_finish.proofs.Finish.Nets.{Net, net}
 use Rattle.tg_law_finish.proofs.Finish.Lists.{Each}
 use Rattle.tg_law_finish.proofs.Finish.Strays.{Old}
 use Rattle.tg_law_finish.proofs.Finish.Others.{Ready, weigh}
-use Rattle.tg_law_finish.proofs.Finish.Rounds.{Waiting, finishes}
+use Rattle.tg_law_finish.proofs.Finish.Rounds.{Waiting, finishes_from}
 use Rattle.tg_law_finish.proofs.Finish.Places.{UnitServes, Serves, Issues, CanIssue, Below}
 use Rattle.tg_law_finish.proofs.Finish.Places as places
 use Rattle.tg_law_finish.proofs.Finish.Appends.{AppendStage}
@@ -201,4 +201,4 @@ module _ (m : Meaning) (w : World m) (k : ℕ) (p : Layout) (longest : ℕ) (a :
       }
 
 pub writes_finish : (m : Meaning) → WritesFinish m
-writes_finish m w k p c a b f none = finishes m w.cluster w.stopped k p _ (one_talk m w.cluster w.stopped k p _ _ _ (writes_machine m w.cluster w.stopped k p c)) w _ a.quiet refl refl (waits m w k p c a b f) none
+writes_finish m w k p c a b f none = finishes_from m w.cluster w.stopped k p _ (one_talk m w.cluster w.stopped k p _ _ _ (writes_machine m w.cluster w.stopped k p c)) w _ a.on_way refl refl (waits m w k p c a b f) none

@@ -57,7 +57,7 @@ use Rattle.tg_law_trims.proofs.Issues.Machines as issues
 use Rattle.tg_law_trims.proofs.Issues.Machines.{AnswerOk, TailOk}
 use Rattle.tg_law_finish.specs.Finish.Reads.{IsRead}
 use Rattle.tg_law_finish.specs.Finish.Appends.{InHand, NoOther, AppendStands, PuttingStands, JudgingStands}
-use Rattle.tg_law_finish.proofs.Finish.Asking.{CarriesDown, CellStands, JobStands, ProbeStands, LastsBelow, SyncStands, WalkStands, TaskStands}
+use Rattle.tg_law_finish.proofs.Finish.Asking.{CarriesDown, CellStands, JobStands, PutStands, PageStands, ProbeStands, LastsBelow, SyncStands, WalkStands, TaskStands}
 use Rattle.tg_law_finish.proofs.Finish.Midway as midway
 use Rattle.tg_law_finish.proofs.Finish.Midway.{ReadShape, SyncShape, WalkShape}
 use Rattle.tg_law_finish.proofs.Finish.Probes.{ProbeShape}
@@ -184,12 +184,20 @@ module _ (m : Meaning) (h : Header) (zs : Moves m) (r : Reaches m h zs (after m 
   work_stands a (Putting j) shape ok own token = put_stands a j.place j.work shape ok.place ok.work own.work token.0 token.1
   work_stands a (Judging j) shape ok own token = judge_stands a j.place j.work shape.0 shape.1 ok.place ok.work token.0 token.1
 
-  pub append_stands : (v : Work m) (a : Append) (y : Purpose m) → (client m (after m h zs) k).work ≡ Some v → v.hand ≡ Doing (Appending a y) → AppendStands m (after m h zs) a a.work
-  append_stands v a y has hand = work_stands a a.work
-      (subst (λ (l : Layout). Shape l a.work) ready.client_stands (shaped_hold m h zs r k a holds))
-      (subst (λ (l : Layout). jobs.AppendOk (after m h zs).packets l a.work) ready.client_stands told)
-      (subst (λ (l : Layout). own_jobs.AppendOk (after m h zs).packets (client_id k) l a.work) ready.client_stands mine)
-      (((spent m h zs r).of k).tokens a holds)
+  -- what is so of an append in hand
+  pub record InHandAre (a : Append) : Type 0 where
+    pub shape : Shape q a.work
+    pub told : jobs.AppendOk (after m h zs).packets q a.work
+    pub mine : own_jobs.AppendOk (after m h zs).packets (client_id k) q a.work
+    pub token : WorkToken a.token a.work
+
+  in_hand_are : (v : Work m) (a : Append) (y : Purpose m) → (client m (after m h zs) k).work ≡ Some v → v.hand ≡ Doing (Appending a y) → InHandAre a
+  in_hand_are v a y has hand = record {
+    shape = subst (λ (l : Layout). Shape l a.work) ready.client_stands (shaped_hold m h zs r k a holds);
+    told = subst (λ (l : Layout). jobs.AppendOk (after m h zs).packets l a.work) ready.client_stands told;
+    mine = subst (λ (l : Layout). own_jobs.AppendOk (after m h zs).packets (client_id k) l a.work) ready.client_stands mine;
+    token = ((spent m h zs r).of k).tokens a holds;
+  }
     where
       holds : Holds m (client_in m (config m (after m h zs)) k) a
       holds = record { work = v; purpose = y; has = has; holds = ap (task_in m) hand }
@@ -201,6 +209,9 @@ module _ (m : Meaning) (h : Header) (zs : Moves m) (r : Reaches m h zs (after m 
       mine : own_jobs.AppendOk (after m h zs).packets (client_id k) (client m (after m h zs) k).stand a.work
       mine = subst (λ (d : Hand m). own_hands.HandOk m (after m h zs).packets (client_id k) (client m (after m h zs) k).stand d) hand
           (subst (λ (o : Option (Work m)). own_hands.WorkOk m (after m h zs).packets (client_id k) (client m (after m h zs) k).stand o) has ((pages_hold m h zs).hands k))
+
+  pub append_stands : (v : Work m) (a : Append) (y : Purpose m) → (client m (after m h zs) k).work ≡ Some v → v.hand ≡ Doing (Appending a y) → AppendStands m (after m h zs) a a.work
+  append_stands v a y has hand = let g = in_hand_are v a y has hand in work_stands a a.work g.shape g.told g.mine g.token
 
   -- A sync or a walk.
 
@@ -260,6 +271,45 @@ module _ (m : Meaning) (h : Header) (zs : Moves m) (r : Reaches m h zs (after m 
   cell_stands pl (Copies j c i) shape e told = (in_chain pl i e shape, carries pl.pos c (up_to (after m h zs).packets (head q pl.pos) q.epoch pl.pos c (told_head pl c e (told.1 0 told.0))))
   cell_stands pl (Puts j d i) shape e told = absurd shape
   cell_stands pl (Probes ws) shape e told = absurd shape
+
+  -- With a token.
+
+  page_stands : (pl : Place) (y : CellWork) → PutShape pl y → pl ≡ place_in q pl.pos → justified.WorkOk (after m h zs).packets pl y → owning.WorkOk (after m h zs).packets (own_jobs.Mine (after m h zs).packets (client_id k) q) pl y
+      → PutStands m (after m h zs) q pl.pos y × (pl.pos < s.next)
+  page_stands pl (Puts j d zero) shape e told own = (tt, issued pl d e own)
+  page_stands pl (Puts j d (suc i)) shape e told own = (
+    (in_chain pl (suc i) e shape, carries pl.pos (Data d) (up_to (after m h zs).packets (head q pl.pos) q.epoch pl.pos (Data d) (told_head pl (Data d) e (told 0 (omega arith))))),
+    issued pl d e own,
+  )
+  page_stands pl (Gets j) shape e told own = absurd shape
+  page_stands pl (Fills j) shape e told own = absurd shape
+  page_stands pl (Copies j c i) shape e told own = absurd shape
+  page_stands pl (Probes ws) shape e told own = absurd shape
+
+  judged_stands : (pl : Place) (y : CellWork) → JudgeShape pl y → pl ≡ place_in q pl.pos → justified.WorkOk (after m h zs).packets pl y → CellStands m (after m h zs) q pl.pos y
+  judged_stands pl (Fills j) shape e told = tt
+  judged_stands pl (Copies j c i) shape e told = (in_chain pl i e shape, carries pl.pos c (up_to (after m h zs).packets (head q pl.pos) q.epoch pl.pos c (told_head pl c e (told.1 0 told.0))))
+  judged_stands pl (Gets j) shape e told = absurd shape
+  judged_stands pl (Puts j d i) shape e told = absurd shape
+  judged_stands pl (Probes ws) shape e told = absurd shape
+
+  -- what an append has that has a token
+  abbrev pub HasToken : Append → AppendWork → Type 0
+  HasToken a (Asking j) = Unit {0}
+  HasToken a (Putting j) = (t : Token) × (a.token ≡ Some t) × PageStands m (after m h zs) q j
+  HasToken a (Judging j) = (t : Token) × (a.token ≡ Some t) × JobStands m (after m h zs) q j
+
+  has_token : (a : Append) (y : AppendWork) → Shape q y → jobs.AppendOk (after m h zs).packets q y → own_jobs.AppendOk (after m h zs).packets (client_id k) q y → WorkToken a.token y → HasToken a y
+  has_token a (Asking j) shape ok own token = tt
+  has_token a (Putting j) shape ok own token = let g = page_stands j.place j.work shape ok.place ok.work own.work in (token.0, token.1, record { place = ok.place; less = g.1; work = g.0 })
+  has_token a (Judging j) shape ok own token = (
+    token.0,
+    token.1,
+    record { place = ok.place; less = (let low = shape.0 in let b = past m h zs r serves in omega (arith, low, b)); work = judged_stands j.place j.work shape.1 ok.place ok.work },
+  )
+
+  pub token_stands : (v : Work m) (a : Append) (y : Purpose m) → (client m (after m h zs) k).work ≡ Some v → v.hand ≡ Doing (Appending a y) → HasToken a a.work
+  token_stands v a y has hand = let g = in_hand_are v a y has hand in has_token a a.work g.shape g.told g.mine g.token
 
   job_stands : (j : CellJob) → ReadShape j.place j.work → jobs.JobOk (after m h zs).packets q j → B m h zs r trims.in_time j.place.epoch j.place.pos → JobStands m (after m h zs) q j
   job_stands j shape ok named = record {

@@ -1,5 +1,5 @@
--- A client that appends the record of a transaction with reads: a token, and its page down the chain; then it syncs, below the position
--- that is next then.
+-- A client that appends the record of a transaction with reads: a token, and its page down the chain; then it
+-- syncs, below the position that is next then.
 use Rattle.std.proofs.Common.{◌≡◌, ◌⊎◌, ℕ, zero, suc, ◌+◌, ◌-◌, ◌^◌, ◌<◌, ◌≤◌, List, [], ◌∷◌, ◌++◌, length, map, cond, Bool, true, false, refl, ap, ◌∙◌, sym, subst, inl, inr, arith, Some, None, eqb}
 use Rattle.std.specs.Prelude.{slice_set, nat_lt, nat_le, max, ⊤}
 use Rattle.tg_base.specs.Layouts.{Layout}
@@ -49,7 +49,7 @@ is_at (At p d) = true
 is_at _ = false
 
 module _ (m : Meaning) where
-  lost_over : (c : Client m) (w : Work m) (e : AppendEnd) → is_at e ≡ false → ((append_ended m c w Judged e).now.work ≡ None) × ((append_ended m c w Judged e).besides ≡ [])
+  pub lost_over : (c : Client m) (w : Work m) (e : AppendEnd) → is_at e ≡ false → ((append_ended m c w Judged e).now.work ≡ None) × ((append_ended m c w Judged e).besides ≡ [])
   unfolding is_at
   lost_over c w (At p d) l = absurd cc
   lost_over c w (Full b) l = (refl, refl)
@@ -70,7 +70,7 @@ module _ (m : Meaning) (h : Header) (stopped : List NodeId) (k : ℕ) (p : Layou
     pub named : too_far (suc tail) ≡ false → (ts : List Oid) → names_all ts (links_of (with_positions (seqr_of m h s p.seq).next (streams_of d) (seqr_of m h s p.seq).lists) ts) ≡ true
     pub lasts : (o : Oid) (ts : List Oid) → Low p (suc tail) (backs_of (link_of o (links_of (with_positions (seqr_of m h s p.seq).next (streams_of d) (seqr_of m h s p.seq).lists) ts)))
 
-  before_keeps : (s t : Net m) (d : Entry) → Keeps m h stopped k p s t → Before s d → Before t d
+  pub before_keeps : (s t : Net m) (d : Entry) → Keeps m h stopped k p s t → Before s d → Before t d
   before_keeps s t d keep x = record {
     issue = keeps_issue m h stopped k p longest s t d keep x.issue;
     good = good_keeps m h stopped k p longest low_at many s t keep x.good;
@@ -381,16 +381,16 @@ module _ (m : Meaning) (h : Header) (stopped : List NodeId) (k : ℕ) (p : Layou
     OwnOver : IsOver m h stopped k p t → OwnEnds s c t n
     OwnSyncs : (d : Client m) (w : Work m) (os : List Oid) → Then s → d.next ≡ c.next → d.stand ≡ p → makes m w.command ≡ true → length os ≤ most → t ≡ given m c (syncs m d w os) → OwnEnds s c t n
 
-  own_called : (c : Client m) (a : Append) (o : Out) → Own c a o → Own (called m c) a o
+  pub own_called : (c : Client m) (a : Append) (o : Out) → Own c a o → Own (called m c) a o
   own_called c a o x = record { shape = shape_called m h stopped k p longest c a o x.shape; judged = x.judged; such = x.such; hosted = x.hosted }
 
-  own_ticked : (c : Client m) (a : Append) (o : Out) → Own c a o → Own (called m (record c { next = c.next + c.layouts })) a o
+  pub own_ticked : (c : Client m) (a : Append) (o : Out) → Own c a o → Own (called m (record c { next = c.next + c.layouts })) a o
   own_ticked c a o x = record { shape = shape_ticked m h stopped k p longest c a o x.shape; judged = x.judged; such = x.such; hosted = x.hosted }
 
   abbrev Comes : Net m → Client m → ClientTurn m → ℕ → Type 0
   Comes s c t n = OwnEnds s c t n ⊎ More m h stopped k p Owning Hearing s t n
 
-  now_over : (c : Client m) (x : Moved m) → x.now.work ≡ None → x.besides ≡ [] → IsOver m h stopped k p (given m c x)
+  pub now_over : (c : Client m) (x : Moved m) → x.now.work ≡ None → x.besides ≡ [] → IsOver m h stopped k p (given m c x)
   now_over c x e f = record { none = e; sends = ap (λ os. os ++ drawn_from c.next (client_asks m x.now)) f ∙ ap (λ os. drawn_from c.next os) (over_asks m x.now e) }
 
   turned : (s : Net m) (c : Client m) (a : Append) (o : Out) (x : Own c a o) (t : AppendTurn) (n : ℕ) → Well s n c.next t → Comes s c (given m c (on_append m c x.shape.work Judged t)) n
@@ -412,24 +412,26 @@ module _ (m : Meaning) (h : Header) (stopped : List NodeId) (k : ℕ) (p : Layou
         less = few;
       })
 
+  -- an awaited answer goes to the append
+  pub own_fed : (c : Client m) (a : Append) (o : Out) (from : NodeId) (rid : ℕ) (r : Reply) (x : Shape m h stopped k p longest c a o) → x.purpose ≡ Judged → awaits (o ∷ []) from rid ≡ true → is_latest r ≡ false
+      → feed m c c.work from rid r ≡ on_append m c x.work Judged (append_feed p a a.work from.num r c.next)
+  unfolding task_feed
+  own_fed c a o from rid r x judged awaited plain = ap (λ w. feed m c w from rid r) x.waits ∙ (to_hand m c x.work from rid r plain ∙ (ap (λ z. hand_feed m c x.work z from rid r) x.hand
+      ∙ (ap (λ b. fed_if m b c x.work (Appending a x.purpose) from rid r) (ap (λ os. awaits os from rid) (awaited_is m h stopped k p longest c a o x) ∙ awaited)
+      ∙ (ap (λ q. on_append m c x.work x.purpose (append_feed q a a.work from.num r c.next)) x.stand ∙ ap (λ z. on_append m c x.work z (append_feed p a a.work from.num r c.next)) judged))))
+
   answered : (s : Net m) (c : Client m) (from : NodeId) (rid : ℕ) (y : Msg) (n : ℕ) → Hearing s c from rid y n → Comes s c (client_deliver m c from rid y) n
-  unfolding client_deliver task_feed
+  unfolding client_deliver
   answered s c from rid y n g =
-      let x = g.own.shape in
-      subst (λ (z : Moved m). Comes s c (given m c z) n) (sym (fed from rid (reply y) x g.own.judged g.awaited g.no_latest))
+      subst (λ (z : Moved m). Comes s c (given m c z) n) (sym (own_fed c g.append g.o from rid (reply y) g.own.shape g.own.judged g.awaited g.no_latest))
       (turned s c g.append g.o g.own (append_feed p g.append g.append.work from.num (reply y) c.next) n (g.well from.num c.next))
-    where
-      fed : {a : Append} {o : Out} (from : NodeId) (rid : ℕ) (r : Reply) (x : Shape m h stopped k p longest c a o) → x.purpose ≡ Judged → awaits (o ∷ []) from rid ≡ true → is_latest r ≡ false → feed m c c.work from rid r ≡ on_append m c x.work Judged (append_feed p a a.work from.num r c.next)
-      fed {a} {o} from rid r x judged awaited plain = ap (λ w. feed m c w from rid r) x.waits ∙ (to_hand m c x.work from rid r plain ∙ (ap (λ z. hand_feed m c x.work z from rid r) x.hand
-          ∙ (ap (λ b. fed_if m b c x.work (Appending a x.purpose) from rid r) (ap (λ os. awaits os from rid) (awaited_is m h stopped k p longest c a o x) ∙ awaited)
-          ∙ (ap (λ q. on_append m c x.work x.purpose (append_feed q a a.work from.num r c.next)) x.stand ∙ ap (λ z. on_append m c x.work z (append_feed p a a.work from.num r c.next)) judged))))
 
   -- The request comes to its node.
 
   abbrev Told' : Net m → Out → ℕ → Type 0
   Told' s o n = Asked m h stopped k p Owning Hearing s o n
 
-  own_at : (c : Client m) (a : Append) (x o : Out) → x ≡ o → Own c a o → Own c a x
+  pub own_at : (c : Client m) (a : Append) (x o : Out) → x ≡ o → Own c a o → Own c a x
   own_at c a x o e f = record { shape = shape_at m h stopped k p longest c a x o e f.shape; judged = f.judged; such = f.such; hosted = f.hosted }
 
   asked_at : (s : Net m) (x o : Out) (n : ℕ) → x ∷ [] ≡ o ∷ [] → (x ≡ o → Told' s x n) → Told' s o n

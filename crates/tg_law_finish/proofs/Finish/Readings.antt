@@ -1,5 +1,5 @@
--- One cell that is read, and filled and carried down where it is unwritten. Where a unit of its chain has trimmed it, each of the
--- others still has the cell that is settled there.
+-- One cell that is read, and filled and carried down where it is unwritten. Where a unit of its chain has trimmed
+-- it, each of the others still has the cell that is settled there.
 use Rattle.std.proofs.Common.{◌≡◌, ◌⊎◌, ℕ, suc, ◌+◌, ◌-◌, ◌<◌, ◌≤◌, List, [], ◌∷◌, length, Bool, true, false, refl, ap, ◌∙◌, sym, subst, inl, inr, arith, Some, None, Option, eqb}
 use Rattle.std.specs.Prelude.{nat_lt}
 use Rattle.tg_base.specs.Layouts.{Layout}
@@ -22,10 +22,10 @@ use Rattle.tg_law_finish.proofs.Finish.Stores.{Kept, Outcome, IsGone', IsHeld', 
 use Rattle.tg_law_finish.proofs.Finish.Places.{Serves, keeps_serves, puts_serves}
 use Rattle.tg_law_finish.proofs.Finish.Appends.{is_latest, gone_near, unit_back, held_put}
 
-two : {b : Bool} → b ≡ true → b ≡ false → ⊥
+pub two : {b : Bool} → b ≡ true → b ≡ false → ⊥
 two e f = grind arith
 
-one_cell : (x y : Cell) → Some x ≡ Some y → x ≡ y
+pub one_cell : (x y : Cell) → Some x ≡ Some y → x ≡ y
 one_cell x y e = cc
 
 -- Of units that have trimmed so far.
@@ -62,7 +62,7 @@ module _ (m : Meaning) (h : Header) (stopped : List NodeId) (k : ℕ) (p : Layou
 
   -- Whatever other packets do, it stays so.
 
-  same_unit : (s t : Net m) (pl : Place) → Keeps m h stopped k p s t → Serves m h stopped k p longest s pl → (j : ℕ) → j < length pl.chain → unit_of m t (unit_at pl j) ≡ unit_of m s (unit_at pl j)
+  pub same_unit : (s t : Net m) (pl : Place) → Keeps m h stopped k p s t → Serves m h stopped k p longest s pl → (j : ℕ) → j < length pl.chain → unit_of m t (unit_at pl j) ≡ unit_of m s (unit_at pl j)
   same_unit s t pl keep x j less = keep.units (unit_at pl j) (x.unit j less).epoch
 
   pub stable_keeps : (s t : Net m) (pl : Place) → Keeps m h stopped k p s t → Stable s pl → Stable t pl
@@ -102,7 +102,7 @@ module _ (m : Meaning) (h : Header) (stopped : List NodeId) (k : ℕ) (p : Layou
       by j x less (inl e) = has below ∙ ap (λ y. Some y) (sym (equal_cell x c e))
       by j x less (inr e) = put.stays (unit_at pl 0) x (below j x less e)
 
-  held_stays : (s t : Net m) (pl : Place) (d c : Cell) → Put m stopped s t pl.pos d → Held s pl c → Held t pl c
+  pub held_stays : (s t : Net m) (pl : Place) (d c : Cell) → Put m stopped s t pl.pos d → Held s pl c → Held t pl c
   held_stays s t pl d c put held = λ j less. by j (held j less)
     where
       by : (j : ℕ) → (cell_at (unit_of m s (unit_at pl j)).cells pl.pos ≡ Some c) ⊎ (nat_lt pl.pos (low_at (unit_at pl j)) ≡ true)
@@ -225,7 +225,7 @@ module _ (m : Meaning) (h : Header) (stopped : List NodeId) (k : ℕ) (p : Layou
   never_gone s pl j x c less e = two (past s pl j x less e) (c.free j less)
 
   -- what unit j has that hasn't trimmed it
-  untrimmed : (s : Net m) (pl : Place) (j : ℕ) (c : Cell) → Stable s pl → Held s pl c → j < length pl.chain → nat_lt pl.pos (unit_of m s (unit_at pl j)).low ≡ false → cell_at (unit_of m s (unit_at pl j)).cells pl.pos ≡ Some c
+  pub untrimmed : (s : Net m) (pl : Place) (j : ℕ) (c : Cell) → Stable s pl → Held s pl c → j < length pl.chain → nat_lt pl.pos (unit_of m s (unit_at pl j)).low ≡ false → cell_at (unit_of m s (unit_at pl j)).cells pl.pos ≡ Some c
   untrimmed s pl j c x held less low = by (held j less)
     where
       by : (cell_at (unit_of m s (unit_at pl j)).cells pl.pos ≡ Some c) ⊎ (nat_lt pl.pos (low_at (unit_at pl j)) ≡ true) → cell_at (unit_of m s (unit_at pl j)).cells pl.pos ≡ Some c
@@ -236,10 +236,10 @@ module _ (m : Meaning) (h : Header) (stopped : List NodeId) (k : ℕ) (p : Layou
   unit_there s u e = grind arith
 
   -- the unit at which it was stored has it
-  stored_there : (s : Net m) (u : ℕ) (t : UnitState) (pos : ℕ) (c : Cell) → on_in m stopped s (unit_id u) ≡ true → cell_at t.cells pos ≡ Some c → cell_at (unit_of m (with_unit m stopped s u t) u).cells pos ≡ Some c
+  pub stored_there : (s : Net m) (u : ℕ) (t : UnitState) (pos : ℕ) (c : Cell) → on_in m stopped s (unit_id u) ≡ true → cell_at t.cells pos ≡ Some c → cell_at (unit_of m (with_unit m stopped s u t) u).cells pos ≡ Some c
   stored_there s u t pos c on e = ap (λ y. cell_at y.cells pos) (set_there s.units u t new_unit (unit_there s u on)) ∙ e
 
-  clean_same : (s : Net m) (pl : Place) (u : ℕ) → Clean s pl → Clean (with_unit m stopped s u (unit_of m s u)) pl
+  pub clean_same : (s : Net m) (pl : Place) (u : ℕ) → Clean s pl → Clean (with_unit m stopped s u (unit_of m s u)) pl
   clean_same s pl u x = let put = unit_same m stopped s u pl.pos Junk in record { free = x.free; below = λ j y less e. put.stays (unit_at pl 0) y (x.below j y less (unit_back m h stopped k p longest s u pl.pos (unit_at pl j) y e)) }
 
   -- A fill of the first unit.
@@ -377,11 +377,11 @@ module _ (m : Meaning) (h : Header) (stopped : List NodeId) (k : ℕ) (p : Layou
 
   -- Whatever other packets do.
 
-  sort_keeps : (s t : Net m) (pl : Place) (b : Bool) → Keeps m h stopped k p s t → Stable s pl → Sort s pl b → Sort t pl b
+  pub sort_keeps : (s t : Net m) (pl : Place) (b : Bool) → Keeps m h stopped k p s t → Stable s pl → Sort s pl b → Sort t pl b
   sort_keeps s t pl true keep x c = clean_keeps s t pl keep x.serves c
   sort_keeps s t pl false keep x c = record { cell = c.cell; held = held_keeps s t pl c.cell keep x.serves c.held }
 
-  carries_keeps : (s t : Net m) (pl : Place) (b : Bool) (c : Cell) → Keeps m h stopped k p s t → Stable s pl → Carries s pl b c → Carries t pl b c
+  pub carries_keeps : (s t : Net m) (pl : Place) (b : Bool) (c : Cell) → Keeps m h stopped k p s t → Stable s pl → Carries s pl b c → Carries t pl b c
   carries_keeps s t pl true c keep x holds = (clean_keeps s t pl keep x.serves holds.0, ap (λ u. cell_at u.cells pl.pos) (same_unit s t pl keep x.serves 0 x.serves.some) ∙ holds.1)
   carries_keeps s t pl false c keep x holds = held_keeps s t pl c keep x.serves holds
 

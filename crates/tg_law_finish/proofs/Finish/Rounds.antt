@@ -1,4 +1,5 @@
--- A settling of a quiet world in which one client waits: the first round of ticks sends its requests again.
+-- A settling of a world in which one client waits: its requests are on their way, or the first round of ticks sends
+-- them again.
 use Rattle.std.proofs.Common.{◌≡◌, ◌⊎◌, ℕ, zero, suc, ◌+◌, ◌≤◌, List, [], ◌∷◌, ◌++◌, length, map, Bool, true, false, refl, ap, ◌∙◌, sym, subst, inl, inr, arith, Some, None, eqb}
 use Rattle.std.specs.Prelude.{slice_set}
 use Rattle.tg_base.specs.Layouts.{Layout}
@@ -16,11 +17,13 @@ use Rattle.tg_protocol.specs.Requests.{waits_for}
 use Rattle.tg_protocol.specs.Clients.{Client, Work}
 use Rattle.tg_protocol.specs.ClientSteps.{client_tick, tick_by, called, ClientTurn, hand_again_asks, asks_latest}
 use Rattle.tg_protocol.specs.Worlds.{packet_of, World, nodes, settle}
+use Rattle.tg_law_finish.specs.Finish.Alone.{awaited, own_requests}
+use Rattle.tg_law_finish.specs.Finish.Queues.{Queue}
 use Rattle.tg_law_finish.proofs.Finish.Counted.{Finishes}
 use Rattle.tg_law_finish.proofs.Finish.Nets.{Net, net, net_ticked, sent_ticked, on_in, client_alike, client_of}
 use Rattle.tg_law_finish.proofs.Finish.Lists.{Each, each_both}
 use Rattle.tg_law_finish.proofs.Finish.Others.{Stray, AsksLatest, weigh, weigh_both, Ready, Passes, from_weighs, other_ticks, client_turns, idle_ticks, nothing_sent, keeps_same}
-use Rattle.tg_law_finish.proofs.Finish.Settles.{Rounding, settles}
+use Rattle.tg_law_finish.proofs.Finish.Settles.{Drained, Rounding, settles, settles_from}
 use Rattle.tg_law_finish.proofs.Finish.Lines.{Item, asks, Talk, Over, Busy, Idle, Inv, line_more, line_behind, line_strays, line_asks, weigh_asks, idle_passes, stage_passes, any_step, is_idle}
 
 code_client : (r : Role) (n k : ℕ) → node_eq (record { role = r; num = n }) (client_id k) ≡ true → record { role = r; num = n } ≡ client_id k
@@ -252,9 +255,34 @@ module _ (m : Meaning) (h : Header) (stopped : List NodeId) (k : ℕ) (p : Layou
       }
 
       -- the client has its answer
-      pub finishes : (w : World m) (n : ℕ) → w.waiting ≡ [] → w.cluster ≡ h → w.stopped ≡ stopped → Waiting (nodes m w) (net m w) [] n → (settle m w).stopped ≡ None → Finishes m k n w (settle m w).world
-      finishes w n quiet cluster stops waits none =
-          let d = settles m k h stopped (Inv m h stopped k p Stage) Pre rounding w n quiet (inr (inr waits)) cluster stops none in
-          let i = is_idle m h stopped k p Stage talk (net m (settle m w).world) d.left d.holds.inv in
+      has_answer : (w v : World m) (n : ℕ) → Drained m k h stopped (Inv m h stopped k p Stage) w v n → Finishes m k n w v
+      has_answer w v n d =
+          let i = is_idle m h stopped k p Stage talk (net m v) d.left d.holds.inv in
           let few = d.spent.few in
-          record { done = d.spent.done; since = d.spent.since; few = omega (arith, few); answered = subst (λ (x : Header). (client_of m x (net m (settle m w).world) k).work ≡ None) (sym d.holds.cluster) i.none }
+          record { done = d.spent.done; since = d.spent.since; few = omega (arith, few); answered = subst (λ (x : Header). (client_of m x (net m v) k).work ≡ None) (sym d.holds.cluster) i.none }
+
+      pub finishes : (w : World m) (n : ℕ) → w.waiting ≡ [] → w.cluster ≡ h → w.stopped ≡ stopped → Waiting (nodes m w) (net m w) [] n → (settle m w).stopped ≡ None → Finishes m k n w (settle m w).world
+      finishes w n quiet cluster stops waits none = has_answer w (settle m w).world n (settles m k h stopped (Inv m h stopped k p Stage) Pre rounding w n quiet (inr (inr waits)) cluster stops none)
+
+      -- Its requests are on their way, and nothing else: the first drain ends its command.
+
+      own_are : (w : World m) (n : ℕ) → w.cluster ≡ h → (x : Waiting (nodes m w) (net m w) [] n) → own_requests m w k ≡ map (packet_of m (client_id k)) x.os
+      own_are w n cluster x =
+          let c = client_of m h (net m w) k in
+          let f = talk.again (net m w) c (asks x.os) x.os x.left x.stage refl in
+          ap (λ (os : List Out). map (packet_of m (client_id k)) os)
+          (subst (λ (y : Header). awaited m (client_of m y (net m w) k) (client_of m y (net m w) k).work ≡ x.os) (sym cluster) (ap (λ o. awaited m c o) f.waits ∙ f.again))
+
+      sent_once : (w : World m) (n : ℕ) (x : Waiting (nodes m w) (net m w) [] n) → Busy m h stopped k p Stage (net m w) (map (packet_of m (client_id k)) x.os) n
+      sent_once w n x =
+          let heavy = weigh_asks m h stopped k p x.os in
+          let few = x.few in
+          record { ready = x.ready; items = asks x.os; left = x.left; line = line_asks m h stopped k p x.os; stage = x.stage; few = omega (arith, heavy, few) }
+
+      -- nothing is on its way, or its requests alone
+      pub finishes_from : (w : World m) (n : ℕ) → (w.waiting ≡ []) ⊎ Queue m w (own_requests m w k) → w.cluster ≡ h → w.stopped ≡ stopped → Waiting (nodes m w) (net m w) [] n → (settle m w).stopped ≡ None
+          → Finishes m k n w (settle m w).world
+      finishes_from w n (inl quiet) cluster stops waits none = finishes w n quiet cluster stops waits none
+      finishes_from w n (inr sent) cluster stops waits none = has_answer w (settle m w).world n
+          (settles_from m k h stopped (Inv m h stopped k p Stage) Pre rounding w n (map (packet_of m (client_id k)) waits.os)
+          (record { queue = subst (λ q. Queue m w q) (own_are w n cluster waits) sent; inv = inr (sent_once w n waits); cluster = cluster; stops = stops }) none)

@@ -310,6 +310,13 @@ module _ (m : Meaning) (k : ℕ) where
       first_drain zero w next n e le t = over w next n (omega (arith, le))
       first_drain (suc fuel) w next n e le t = quiet_drains fuel w next n e t
 
+      -- what a settling comes to
+      pub settles_from : Rounding → (w : World m) (n : ℕ) (q : List Packet) → Holds w q n → DrainsTo w n (settle m w)
+      unfolding settle
+      settles_from t w n q holds = unless w n (drain m w) (λ v. rounds m 8 v) (drain m w).stopped refl (λ calm.
+          let y = drain_to t.keeps w n q holds calm in
+          λ none. drained_later w _ _ n y.left y.spent (rounds_to t 8 (drain m w).world y.left y.holds none))
+
       -- what a settling of a quiet world comes to
       pub settles : Rounding → (w : World m) (n : ℕ) → w.waiting ≡ [] → Pre (nodes m w) (net m w) [] n → w.cluster ≡ h → w.stopped ≡ stopped → DrainsTo w n (settle m w)
       unfolding settle drain

@@ -1,4 +1,5 @@
--- What the settling's proof asks of a world holds of each to which a run comes, where a command waits alone and all stands ready.
+-- What the settling's proof asks of a world holds of each to which a run comes, where a command waits alone and all
+-- stands ready.
 use Rattle.std.proofs.Common.{◌≡◌, ◌≢◌, ◌⊎◌, ℕ, zero, suc, ◌^◌, ◌<◌, ◌≤◌, List, [], ◌∷◌, length, Bool, true, false, eqb, refl, ap, ◌∙◌, sym, subst, inl, inr, arith, Some, None, Option}
 use Rattle.std.specs.Prelude.{slice_index, nat_lt, max, fold, flat_map, if◌then◌else◌, ◌&&◌, slice_index_or}
 use Rattle.tg_base.proofs.Exact.{and-left, and-right}
@@ -20,7 +21,7 @@ use Rattle.tg_protocol.specs.Layouts.{chain_of, units_of}
 use Rattle.tg_protocol.specs.Cells.{CellJob, Place}
 use Rattle.tg_protocol.specs.Worlds.{World, start, unit, seqr, latest, runs}
 use Rattle.tg_protocol.specs.Runs.{Moves, Reaches, Always}
-use Rattle.tg_protocol.specs.Finishing.{stripes_of, longest_chain, WaitsAlone, IsReadyFor}
+use Rattle.tg_protocol.specs.Finishing.{stripes_of, longest_chain, IsReadyFor}
 use Rattle.tg_law_layouts.specs.Moves.Configs.{config}
 use Rattle.tg_law_layouts.proofs.Moves.Always.{always}
 use Rattle.tg_law_layouts.proofs.Moves.Moves.{Keeps, run_keeps}
@@ -40,6 +41,7 @@ use Rattle.tg_law_cells.proofs.Cells.Successors.{place_of, stands_there, some_th
 use Rattle.tg_law_trims.proofs.Issues.Bounds.{AllBelow, lasts_below}
 use Rattle.tg_law_trims.proofs.Issues.Tails.{Tails, tails_hold, links_below}
 use Rattle.tg_law_trims.proofs.Issues.Unwritten.{next_is_unwritten}
+use Rattle.tg_law_finish.specs.Finish.Alone.{IsAlone}
 use Rattle.tg_law_finish.specs.Finish.Granted.{Granted}
 use Rattle.std.proofs.lemmas.List.{length-replicate}
 use Rattle.tg_law_finish.proofs.Finish.Askers.{Distinct}
@@ -210,7 +212,7 @@ module _ (m : Meaning) where
     pub names_below : (o : Oid) (os : List Oid) → AllBelow (seqr m w p.seq).next (backs_of (link_of o (links_of (seqr m w p.seq).lists os)))
     names_below o os = lasts_below (seqr m w p.seq).next o _ (links_below (seqr m w p.seq).next (seqr m w p.seq).lists os (λ n. (tails_always h ms w r).below p.seq n))
 
-    module _ (k : ℕ) (x : CommandOf m) (a : WaitsAlone m w k x) (b : IsReadyFor m w k) where
+    module _ (k : ℕ) (x : CommandOf m) (a : IsAlone m w k x) (b : IsReadyFor m w k) where
       ready_unit : (pos i : ℕ) → i < length (chain_of p pos) → (runs m w (unit_id (slice_index (chain_of p pos) i)) ≡ true) × ((unit m w (slice_index (chain_of p pos) i)).epoch ≡ p.epoch)
       ready_unit pos i less = b.units (slice_index (chain_of p pos) i) (contained (units_of p) _ (in_units pos i less))
 
@@ -225,7 +227,7 @@ module _ (m : Meaning) where
 
       pub working : Working m w k p
       working = record {
-        quiet = a.quiet;
+        on_way = a.on_way;
         newest = refl;
         units_run = λ pos i less. (ready_unit pos i less).0;
         units_stand = λ pos i less. (ready_unit pos i less).1;

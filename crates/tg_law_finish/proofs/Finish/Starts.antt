@@ -91,10 +91,10 @@ module _ (m : Meaning) (w : World m) (k : ℕ) (p : Layout) (longest : ℕ) (a :
   abbrev StageAt : Place → CellWork → Type 0
   StageAt pl y = (d : Bool) × (n : ℕ) × CellStage m w.cluster w.stopped k p longest low_at many s pl d y n × (n ≤ longest)
 
-  some_at : (pos : ℕ) → 0 < length (chain_of p pos)
+  pub some_at : (pos : ℕ) → 0 < length (chain_of p pos)
   some_at pos = (good m w k p longest a b u pos).stable.serves.some
 
-  short_at : (pos : ℕ) → length (chain_of p pos) ≤ longest
+  pub short_at : (pos : ℕ) → length (chain_of p pos) ≤ longest
   short_at pos = (good m w k p longest a b u pos).stable.serves.short
 
   read_stage : (pos r : ℕ) → StageAt (place_in p pos) (Gets r)
@@ -110,7 +110,7 @@ module _ (m : Meaning) (w : World m) (k : ℕ) (p : Layout) (longest : ℕ) (a :
       let short = short_at pos in
       (x.0, longest, (x.1, omega (arith, short)), omega arith)
 
-  copy_stage : (pos r : ℕ) (y : Cell) (i : ℕ) → i < length (chain_of p pos) → CarriesDown m w p pos y → StageAt (place_in p pos) (Copies r y i)
+  pub copy_stage : (pos r : ℕ) (y : Cell) (i : ℕ) → i < length (chain_of p pos) → CarriesDown m w p pos y → StageAt (place_in p pos) (Copies r y i)
   copy_stage pos r y i less f = by (looked m w k p longest a b u pos (length (chain_of p pos)) (omega arith))
     where
       few : length (chain_of p pos) ≤ longest + suc i
@@ -129,7 +129,7 @@ module _ (m : Meaning) (w : World m) (k : ℕ) (p : Layout) (longest : ℕ) (a :
   cell_stage pos (Puts r d i) f = absurd f
   cell_stage pos (Probes ws) f = absurd f
 
-  job_stage : (j : CellJob) → JobStands m w p j → StageAt j.place j.work
+  pub job_stage : (j : CellJob) → JobStands m w p j → StageAt j.place j.work
   job_stage j f = subst (λ (pl : Place). StageAt pl j.work) (sym f.place) (cell_stage j.place.pos j.work f.work)
 
   -- it asks one unit

@@ -1,5 +1,5 @@
 -- Commands of the store finish: all that the laws of settlings ask of a world is so in each run of the store.
-use Rattle.std.proofs.Common.{◌≡◌, ◌⊎◌, ℕ, ◌+◌, ◌*◌, ◌<◌, ◌≤◌, [], length, true, false, refl, sym, subst, inl, inr, arith, Some, Option}
+use Rattle.std.proofs.Common.{◌≡◌, ◌≢◌, ◌⊎◌, ℕ, ◌+◌, ◌*◌, ◌<◌, ◌≤◌, [], length, true, false, refl, ap, ◌∙◌, sym, subst, inl, inr, arith, Some, Option}
 use Rattle.std.specs.Prelude.{nat_lt}
 use Rattle.std.proofs.lemmas.Bool.Decides.{nat_tests}
 use Rattle.tg_base.specs.Clusters.{Header}
@@ -11,11 +11,12 @@ use Rattle.tg_base.specs.declared.cell.Cell.{Cell}
 use Rattle.tg_protocol.specs.Words.{cell_at, too_far}
 use Rattle.tg_protocol.specs.Layouts.{chain_of}
 use Rattle.tg_protocol.specs.Entries.{streams_of}
+use Rattle.tg_protocol.specs.Appending.{Append, AppendWork, Asking, Putting, Judging, Token}
 use Rattle.tg_protocol.specs.Clients.{Purpose, Writes, Judged, Decides, Rescues, Saves, Marks, Task, Syncing, Walking, Appending, Trimming, Copying', Reconfiguring, Hand, Doing, Work}
 use Rattle.tg_protocol.specs.ClientSteps.{task_in}
 use Rattle.tg_protocol.specs.Worlds.{World, unit, seqr, client, latest}
 use Rattle.tg_protocol.specs.Runs.{Moves, Goes, Reaches, Always, run}
-use Rattle.tg_protocol.specs.Finishing.{IsServing, WaitsAlone, IsReadyFor, most_deliveries_in}
+use Rattle.tg_protocol.specs.Finishing.{longest_chain, IsServing, IsReadyFor, most_deliveries_in}
 use Rattle.tg_law_layouts.specs.Moves.After.{after}
 use Rattle.tg_law_layouts.proofs.Moves.Lists.{contained}
 use Rattle.tg_law_layouts.proofs.Moves.Members.{has_contained}
@@ -25,27 +26,28 @@ use Rattle.tg_law_cells.proofs.Cells.Befores.{has_at}
 use Rattle.tg_law_cells.proofs.Cells.Settling.{settled_is_held}
 use Rattle.tg_law_trims.specs.Trims.Spare.{TrimsAre}
 use Rattle.tg_law_headline.proofs.Runs.Holding.{logs_hold}
-use Rattle.tg_law_finish.specs.Finish.Anywhere.{syncs_first, CommandWalks}
+use Rattle.tg_law_finish.specs.Finish.Alone.{IsAlone}
+use Rattle.tg_law_finish.specs.Finish.Anywhere.{CommandWalks}
 use Rattle.tg_law_finish.specs.Finish.Appends.{is_last, WaitsForAppend}
-use Rattle.tg_law_finish.specs.Finish.Commands.{is_ask}
+use Rattle.tg_law_finish.specs.Finish.Commands.{is_ask, plays}
 use Rattle.tg_law_finish.specs.Finish.Granted.{Granted}
-use Rattle.tg_law_finish.proofs.Finish.Answered.{within, same_command, append_answered, append_in_time, ask_answered, ask_in_time, make_answered, make_in_time, ask_walks, make_walks, rescue_walks, token_below, end_walks}
+use Rattle.tg_law_finish.proofs.Finish.Answered.{within, same_command, record_below, record_walks, append_answered, append_in_time, ask_answered, ask_in_time, make_answered, make_in_time, ask_walks, make_walks, rescue_walks, token_below, end_walks}
 use Rattle.tg_law_finish.proofs.Finish.Standing.{next_near, limit_below, working}
 use Rattle.tg_law_finish.specs.Finish.Laws.{IsAnswered}
 use Rattle.tg_law_finish.specs.Finish.Makes.{makes, MakeFinishes}
 use Rattle.tg_law_finish.specs.Finish.Store.{AppendsLast, AppendFinishes, AskFinishes}
-use Rattle.tg_law_finish.specs.Finish.Ends.{EndsAppend, EndFinishes}
+use Rattle.tg_law_finish.specs.Finish.Ends.{EndsAppend, EndFinishes, EndsRecord, record_bound, RecordFinishes}
 use Rattle.tg_law_finish.specs.Finish.Reads.{WaitsForRead}
 use Rattle.tg_law_finish.specs.Finish.Rescues.{is_rescue, RescueWalks}
 use Rattle.tg_law_finish.specs.Finish.Walks.{passes_bound, AskWalks, MakeWalks}
-use Rattle.tg_law_finish.proofs.Finish.Asking.{HeldWhereTrimmed, Owns, TaskStands}
+use Rattle.tg_law_finish.proofs.Finish.Asking.{HeldWhereTrimmed, Grows, Owns, TokenStands, TaskStands}
 use Rattle.tg_law_finish.proofs.Finish.Below.{greatest, trimmed_settled, lows_below, unwritten_past}
 use Rattle.tg_law_finish.proofs.Finish.Working.{at_chain}
 use Rattle.tg_law_finish.proofs.Finish.Named.{named, grown_named, grown_below}
 use Rattle.tg_law_finish.proofs.Finish.Drafted.{drafted}
 use Rattle.tg_law_finish.proofs.Finish.Hosting.{hosting}
-use Rattle.tg_law_finish.proofs.Finish.Hands.{append_stands, reads_stand}
-use Rattle.tg_law_finish.proofs.Finish.Suiting.{IsCopy, IsReconf, SuitsPurpose, Suits, WorkSuits, purpose_plays, all_suit}
+use Rattle.tg_law_finish.proofs.Finish.Hands.{append_stands, HasToken, token_stands, reads_stand}
+use Rattle.tg_law_finish.proofs.Finish.Suiting.{IsCopy, IsReconf, Suits, WorkSuits, purpose_plays, all_suit}
 
 nearer : (a b : ℕ) → a ≤ b → too_far b ≡ false → too_far a ≡ false
 nearer a b le e = grind (arith, nat_tests, le, e)
@@ -55,7 +57,7 @@ module _ (m : Meaning) where
   unfolding run
   nothing_more h zs r = record { lawful = λ x c. absurd (has_contained [] x c); is = refl; few = r.goes.few }
 
-  module _ (h : Header) (zs : Moves m) (r : Reaches m h zs (after m h zs)) (trims : TrimsAre m h zs (after m h zs)) (k : ℕ) (x : CommandOf m) (a : WaitsAlone m (after m h zs) k x) (b : IsReadyFor m (after m h zs) k) where
+  module _ (h : Header) (zs : Moves m) (r : Reaches m h zs (after m h zs)) (trims : TrimsAre m h zs (after m h zs)) (k : ℕ) (x : CommandOf m) (a : IsAlone m (after m h zs) k x) (b : IsReadyFor m (after m h zs) k) where
     abbrev w : World m
     w = after m h zs
 
@@ -125,7 +127,7 @@ module _ (m : Meaning) where
           of i (inr e) = inr (is_less _ _ e)
 
   -- where its sync or its walk stands
-  stands_here : (h : Header) (zs : Moves m) (r : Reaches m h zs (after m h zs)) → TrimsAre m h zs (after m h zs) → (k : ℕ) (x : CommandOf m) → WaitsAlone m (after m h zs) k x → IsReadyFor m (after m h zs) k → (f : WaitsForRead m (after m h zs) k)
+  stands_here : (h : Header) (zs : Moves m) (r : Reaches m h zs (after m h zs)) → TrimsAre m h zs (after m h zs) → (k : ℕ) (x : CommandOf m) → IsAlone m (after m h zs) k x → IsReadyFor m (after m h zs) k → (f : WaitsForRead m (after m h zs) k)
       → TaskStands m (after m h zs) (latest m (after m h zs)) f.work f.task
   stands_here h zs r trims k x a b f = reads_stand m h zs r trims k (working m h zs (after m h zs) r k x a b) b.serves f.work f.task f.waits f.hand f.reads
 
@@ -138,74 +140,113 @@ module _ (m : Meaning) where
   rescue_walks_here : (h : Header) (zs : Moves m) → Reaches m h zs (after m h zs) → TrimsAre m h zs (after m h zs) → RescueWalks m (after m h zs)
   rescue_walks_here h zs r trims k x a b is f = rescue_walks m h zs (after m h zs) r k x a b (granted h zs r trims k x a b) (held_here h zs r trims b.serves) is f (stands_here h zs r trims k x a b f)
 
-  -- the record of a transaction that is ended asks for its token
-  owns_here : (h : Header) (zs : Moves m) (r : Reaches m h zs (after m h zs)) → TrimsAre m h zs (after m h zs) → (k : ℕ) (x : CommandOf m) → WaitsAlone m (after m h zs) k x → IsReadyFor m (after m h zs) k → EndsAppend m (after m h zs) k
-      → Owns m (after m h zs) k (latest m (after m h zs))
-  owns_here h zs r trims k x a b f =
+  -- what is issued next to the streams of a draft in hand
+  grows_here : (h : Header) (zs : Moves m) (r : Reaches m h zs (after m h zs)) → TrimsAre m h zs (after m h zs) → (k : ℕ) (x : CommandOf m) → IsAlone m (after m h zs) k x → IsReadyFor m (after m h zs) k → (v : Work m) (a : Append) (y : Purpose m)
+      → (client m (after m h zs) k).work ≡ Some v → v.hand ≡ Doing (Appending a y) → Grows m (after m h zs) (latest m (after m h zs)) a.draft
+  grows_here h zs r trims k x alone b v a y has hand =
       let q = latest m (after m h zs) in
-      let once = drafted m h zs r k f.work f.append Judged f.waits f.hand in
+      let once = drafted m h zs r k v a y has hand in
       record {
-        work = f.work;
-        waits = f.waits;
-        command = f.command;
-        append = f.append;
-        rid = f.rid;
-        hand = f.hand;
-        first = f.first;
-        below = token_below m h zs (after m h zs) r k f;
-        hosted = (hosting m h zs (after m h zs) r k).hosted;
         limit = limit_below m h zs (after m h zs) r;
-        ahead = λ pos j from less. unwritten_past m h zs r b.serves trims.in_time (at_chain m q pos j) pos from (contained (chain_of q pos) _ (has_at (chain_of q pos) j less)) ((working m h zs (after m h zs) r k x a b).units_stand pos j less);
-        named = λ near ts. grown_named m h zs r trims.were b.serves (streams_of f.append.draft) once near ts;
-        lasts = λ o ts. grown_below m h zs r trims.were b.serves (streams_of f.append.draft) once o ts;
+        ahead = λ pos j from less. unwritten_past m h zs r b.serves trims.in_time (at_chain m q pos j) pos from (contained (chain_of q pos) _ (has_at (chain_of q pos) j less)) ((working m h zs (after m h zs) r k x alone b).units_stand pos j less);
+        named = λ near ts. grown_named m h zs r trims.were b.serves (streams_of a.draft) once near ts;
+        lasts = λ o ts. grown_below m h zs r trims.were b.serves (streams_of a.draft) once o ts;
       }
+
+  -- the record of a transaction that is ended asks for its token
+  owns_here : (h : Header) (zs : Moves m) (r : Reaches m h zs (after m h zs)) → TrimsAre m h zs (after m h zs) → (k : ℕ) (x : CommandOf m) → IsAlone m (after m h zs) k x → IsReadyFor m (after m h zs) k → EndsAppend m (after m h zs) k
+      → Owns m (after m h zs) k (latest m (after m h zs))
+  owns_here h zs r trims k x a b f = record {
+    work = f.work;
+    waits = f.waits;
+    command = f.command;
+    append = f.append;
+    rid = f.rid;
+    hand = f.hand;
+    first = f.first;
+    below = token_below m h zs (after m h zs) r k f;
+    hosted = (hosting m h zs (after m h zs) r k).hosted;
+    grows = grows_here h zs r trims k x a b f.work f.append Judged f.waits f.hand;
+  }
 
   end_here : (h : Header) (zs : Moves m) → Reaches m h zs (after m h zs) → TrimsAre m h zs (after m h zs) → EndFinishes m (after m h zs)
   end_here h zs r trims k x a b f = end_walks m h zs (after m h zs) r k x a b (granted h zs r trims k x a b) (held_here h zs r trims b.serves) (owns_here h zs r trims k x a b f)
 
-  -- A command that syncs first.
+  -- its record is being appended
 
-  is_one : (x : CommandOf m) → syncs_first m x ≡ true → (is_ask m x ≡ true) ⊎ ((makes m x ≡ true) ⊎ (is_rescue m x ≡ true))
-  unfolding syncs_first is_ask makes is_rescue
-  is_one (cmd.Ask o q) e = inl refl
-  is_one (cmd.Fate p) e = inl refl
-  is_one (cmd.AskAt p o q) e = inl refl
-  is_one (cmd.Decide p) e = inr (inl refl)
-  is_one (cmd.Checkpoint o) e = inr (inl refl)
-  is_one (cmd.Forget o n) e = inr (inl refl)
-  is_one (cmd.Rescue p) e = inr (inr refl)
-  is_one (cmd.Host o) e = absurd cc
-  is_one cmd.Begin e = absurd cc
-  is_one (cmd.Put o op) e = absurd cc
-  is_one cmd.End e = absurd cc
-  is_one cmd.Drop e = absurd cc
-  is_one cmd.Trim e = absurd cc
-  is_one (cmd.Reconf y) e = absurd cc
-  is_one (cmd.Copy u y s) e = absurd cc
+  held_here_by : (h : Header) (zs : Moves m) (r : Reaches m h zs (after m h zs)) → TrimsAre m h zs (after m h zs) → (k : ℕ) (x : CommandOf m) → IsAlone m (after m h zs) k x → IsReadyFor m (after m h zs) k → (f : EndsRecord m (after m h zs) k) → f.work.command ≡ cmd.End
+      → (t : Token) → f.append.token ≡ Some t → TokenStands m (after m h zs) (latest m (after m h zs)) f.append.work → IsAnswered m (after m h zs) k (record_bound m (after m h zs)) × IsAnswered m (after m h zs) k (most_deliveries_in m (after m h zs) x + passes_bound m (after m h zs) 128)
+  held_here_by h zs r trims k x a b f command t has stands = record_walks m h zs (after m h zs) r k x a b (granted h zs r trims k x a b) (held_here h zs r trims b.serves) (record {
+    work = f.work;
+    waits = f.waits;
+    command = command;
+    append = f.append;
+    hand = f.hand;
+    token = t;
+    has = has;
+    stands = stands;
+    below = record_below m h zs (after m h zs) r k b.stand f.work f.append f.waits f.hand;
+    hosted = (hosting m h zs (after m h zs) r k).hosted;
+    grows = grows_here h zs r trims k x a b f.work f.append Judged f.waits f.hand;
+  })
 
-  -- no record of a transaction, no trim, no copy and no reconfiguration is for it
-  last_of : (x : CommandOf m) (y : Purpose m) → syncs_first m x ≡ true → SuitsPurpose m x y → is_last m y ≡ true
-  unfolding syncs_first is_last
-  last_of x Writes e k = refl
-  last_of x Judged e k = absurd (let f = subst (λ (z : CommandOf m). syncs_first m z ≡ true) k e in cc)
-  last_of x (Decides what) e k = refl
-  last_of x (Rescues what) e k = refl
-  last_of x (Saves o upto) e k = refl
-  last_of x (Marks n o mark) e k = refl
+  record_here : (h : Header) (zs : Moves m) → Reaches m h zs (after m h zs) → TrimsAre m h zs (after m h zs) → RecordFinishes m (after m h zs)
+  record_here h zs r trims k x a b f = by f.append.work refl (token_stands m h zs r trims k (working m h zs (after m h zs) r k x a b) b.serves f.work f.append Judged f.waits f.hand)
+    where
+      command : f.work.command ≡ cmd.End
+      command = suits h zs r trims k x a b f.work (Appending f.append Judged) f.waits f.hand
 
-  no_trim : (x : CommandOf m) → syncs_first m x ≡ true → x ≡ cmd.Trim → ⊥
-  unfolding syncs_first
-  no_trim x e k = let f = subst (λ (z : CommandOf m). syncs_first m z ≡ true) k e in cc
+      more : (n c : ℕ) → n + 6 * c ≤ n + 8 * c
+      more n c = omega arith
 
-  no_copy : (x : CommandOf m) → syncs_first m x ≡ true → IsCopy m x → ⊥
-  unfolding syncs_first
+      by : (y : AppendWork) → f.append.work ≡ y → HasToken m h zs r trims k (working m h zs (after m h zs) r k x a b) b.serves f.append y
+          → IsAnswered m (after m h zs) k (record_bound m (after m h zs)) × IsAnswered m (after m h zs) k (most_deliveries_in m (after m h zs) x + passes_bound m (after m h zs) 128)
+      by (Asking j) is g =
+          let e = end_here h zs r trims k x a b (record { work = f.work; waits = f.waits; command = command; append = f.append; rid = j; hand = f.hand; first = is }) in
+          (within m k _ _ (after m h zs) _ (more _ (longest_chain (latest m (after m h zs)) + 1)) e.0, e.1)
+      by (Putting j) is g = held_here_by h zs r trims k x a b f command g.0 g.1 (subst (λ (y : AppendWork). TokenStands m (after m h zs) (latest m (after m h zs)) y) (sym is) g.2)
+      by (Judging j) is g = held_here_by h zs r trims k x a b f command g.0 g.1 (subst (λ (y : AppendWork). TokenStands m (after m h zs) (latest m (after m h zs)) y) (sym is) g.2)
+
+  -- A command that syncs and plays.
+
+  is_one : (x : CommandOf m) → plays m x ≡ true → x ≢ cmd.Trim → (is_ask m x ≡ true) ⊎ ((makes m x ≡ true) ⊎ (is_rescue m x ≡ true))
+  unfolding plays is_ask makes is_rescue
+  is_one (cmd.Ask o q) e off = inl refl
+  is_one (cmd.Fate p) e off = inl refl
+  is_one (cmd.AskAt p o q) e off = inl refl
+  is_one cmd.End e off = inr (inl refl)
+  is_one (cmd.Decide p) e off = inr (inl refl)
+  is_one (cmd.Checkpoint o) e off = inr (inl refl)
+  is_one (cmd.Forget o n) e off = inr (inl refl)
+  is_one (cmd.Rescue p) e off = inr (inr refl)
+  is_one cmd.Trim e off = absurd (off refl)
+  is_one (cmd.Host o) e off = absurd cc
+  is_one cmd.Begin e off = absurd cc
+  is_one (cmd.Put o op) e off = absurd cc
+  is_one cmd.Drop e off = absurd cc
+  is_one (cmd.Reconf y) e off = absurd cc
+  is_one (cmd.Copy u y s) e off = absurd cc
+
+  -- no copy and no reconfiguration is for it
+
+  no_copy : (x : CommandOf m) → plays m x ≡ true → IsCopy m x → ⊥
+  unfolding plays
   no_copy (cmd.Copy u y s) e k = cc
   no_copy x e k = k
 
-  no_reconf : (x : CommandOf m) → syncs_first m x ≡ true → IsReconf m x → ⊥
-  unfolding syncs_first
+  no_reconf : (x : CommandOf m) → plays m x ≡ true → IsReconf m x → ⊥
+  unfolding plays
   no_reconf (cmd.Reconf y) e k = cc
   no_reconf x e k = k
+
+  judged_or_last : (y : Purpose m) → (y ≡ Judged) ⊎ (is_last m y ≡ true)
+  unfolding is_last
+  judged_or_last Judged = inl refl
+  judged_or_last Writes = inr refl
+  judged_or_last (Decides what) = inr refl
+  judged_or_last (Rescues what) = inr refl
+  judged_or_last (Saves o upto) = inr refl
+  judged_or_last (Marks n o mark) = inr refl
 
   more : (n z : ℕ) → n ≤ n + 129 * z
   more n z = omega arith
@@ -214,7 +255,7 @@ module _ (m : Meaning) where
   one_more n z = omega arith
 
   command_here : (h : Header) (zs : Moves m) → Reaches m h zs (after m h zs) → TrimsAre m h zs (after m h zs) → CommandWalks m (after m h zs)
-  command_here h zs r trims k x a b such f = by f.task f.hand (subst (λ (y : CommandOf m). Suits m y f.task) (sym (same_command m h zs (after m h zs) r k x a f.work f.waits)) (suits h zs r trims k x a b f.work f.task f.waits f.hand))
+  command_here h zs r trims k x a b such off f = by f.task f.hand (subst (λ (y : CommandOf m). Suits m y f.task) (sym (same_command m h zs (after m h zs) r k x a f.work f.waits)) (suits h zs r trims k x a b f.work f.task f.waits f.hand))
     where
       bound : ℕ
       bound = most_deliveries_in m (after m h zs) x
@@ -223,18 +264,22 @@ module _ (m : Meaning) where
       trimmed = passes_bound m (after m h zs) 128
 
       reads : WaitsForRead m (after m h zs) k → IsAnswered m (after m h zs) k (bound + 129 * trimmed)
-      reads g = of (is_one x such)
+      reads g = of (is_one x such off)
         where
           of : (is_ask m x ≡ true) ⊎ ((makes m x ≡ true) ⊎ (is_rescue m x ≡ true)) → IsAnswered m (after m h zs) k (bound + 129 * trimmed)
           of (inl e) = within m k _ _ (after m h zs) _ (one_more bound trimmed) (ask_walks_here h zs r trims k x a b e g).1
           of (inr (inl e)) = within m k _ _ (after m h zs) _ (one_more bound trimmed) (make_walks_here h zs r trims k x a b e g).1
           of (inr (inr e)) = (rescue_walks_here h zs r trims k x a b e g).1
 
+      appends : (y : Append) (z : Purpose m) → f.work.hand ≡ Doing (Appending y z) → (z ≡ Judged) ⊎ (is_last m z ≡ true) → IsAnswered m (after m h zs) k (bound + 129 * trimmed)
+      appends y z e (inl is) = within m k _ _ (after m h zs) _ (one_more bound trimmed) (record_here h zs r trims k x a b (record { work = f.work; waits = f.waits; append = y; hand = e ∙ ap (λ (i : Purpose m). Doing (Appending y i)) is })).1
+      appends y z e (inr is) = within m k _ _ (after m h zs) _ (more bound trimmed) (append_here h zs r trims k x a b (record { work = f.work; waits = f.waits; append = y; purpose = z; hand = e; last = is })).1
+
       by : (t : Task m) → f.work.hand ≡ Doing t → Suits m x t → IsAnswered m (after m h zs) k (bound + 129 * trimmed)
       by (Syncing s) e fits = reads (record { work = f.work; waits = f.waits; task = Syncing s; hand = e; reads = tt })
       by (Walking y os) e fits = reads (record { work = f.work; waits = f.waits; task = Walking y os; hand = e; reads = tt })
-      by (Appending y z) e fits = within m k _ _ (after m h zs) _ (more bound trimmed) (append_here h zs r trims k x a b (record { work = f.work; waits = f.waits; append = y; purpose = z; hand = e; last = last_of x z such fits })).1
-      by (Trimming y) e fits = absurd (no_trim x such fits)
+      by (Appending y z) e fits = appends y z e (judged_or_last z)
+      by (Trimming y) e fits = absurd (off fits)
       by (Copying' y) e fits = absurd (no_copy x such fits)
       by (Reconfiguring y) e fits = absurd (no_reconf x such fits)
 
@@ -259,6 +304,9 @@ module _ (m : Meaning) where
 
   pub end_where : (h : Header) (zs : Moves m) (w : World m) → Reaches m h zs w → TrimsAre m h zs w → EndFinishes m w
   end_where h zs w r trims = subst (λ (v : World m). Reaches m h zs v → TrimsAre m h zs v → EndFinishes m v) (sym r.goes.is) (end_here h zs) r trims
+
+  pub record_where : (h : Header) (zs : Moves m) (w : World m) → Reaches m h zs w → TrimsAre m h zs w → RecordFinishes m w
+  record_where h zs w r trims = subst (λ (v : World m). Reaches m h zs v → TrimsAre m h zs v → RecordFinishes m v) (sym r.goes.is) (record_here h zs) r trims
 
   pub command_where : (h : Header) (zs : Moves m) (w : World m) → Reaches m h zs w → TrimsAre m h zs w → CommandWalks m w
   command_where h zs w r trims = subst (λ (v : World m). Reaches m h zs v → TrimsAre m h zs v → CommandWalks m v) (sym r.goes.is) (command_here h zs) r trims
@@ -286,3 +334,6 @@ rescues_finish h zs w r = rescue_walks_where all_kinds h zs w r (logs_hold h zs 
 
 pub ends_finish : Always all_kinds (EndFinishes all_kinds)
 ends_finish h zs w r = end_where all_kinds h zs w r (logs_hold h zs w r).trims
+
+pub records_finish : Always all_kinds (RecordFinishes all_kinds)
+records_finish h zs w r = record_where all_kinds h zs w r (logs_hold h zs w r).trims

@@ -5,6 +5,7 @@ use Rattle.std.specs.Prelude.{nat_lt}
 use Rattle.tg_base.specs.Layouts.{Layout}
 use Rattle.tg_base.specs.declared.msg.Msg.TheVariants as msg
 use Rattle.tg_base.specs.declared.packet.Out.{Out}
+use Rattle.tg_entry.specs.declared.entry.Entry.{Entry}
 use Rattle.tg_kind.specs.Meaning.{Meaning}
 use Rattle.tg_protocol.specs.Words.{unit_id, seqr_id, too_far}
 use Rattle.tg_protocol.specs.Layouts.{chain_of}
@@ -22,7 +23,7 @@ use Rattle.tg_protocol.specs.Worlds.{World, nodes, unit, seqr, client, runs, set
 use Rattle.tg_law_finish.specs.Finish.Commands.{is_ask}
 use Rattle.tg_law_finish.specs.Finish.Makes.{makes}
 use Rattle.tg_law_trims.proofs.Issues.Bounds.{AllBelow}
-use Rattle.tg_law_finish.proofs.Finish.Asking.{Walkable, Untrimmed, Owns, Syncs}
+use Rattle.tg_law_finish.proofs.Finish.Asking.{Walkable, Untrimmed, Grows, Owns, Syncs}
 use Rattle.tg_law_finish.proofs.Finish.Ending.{EndStage, ends_talk, round_long}
 use Rattle.tg_law_finish.proofs.Finish.Owners.{Before, OwnStage}
 use Rattle.tg_law_finish.proofs.Finish.Talks.{Request}
@@ -38,7 +39,7 @@ use Rattle.tg_law_finish.proofs.Finish.Others.{weigh}
 use Rattle.tg_law_finish.proofs.Finish.Readers.{Way, asking_way, seen}
 use Rattle.tg_law_finish.proofs.Finish.Makers.{making_way}
 use Rattle.tg_law_finish.proofs.Finish.Readings.{Clean, Trimmed, Good}
-use Rattle.tg_law_finish.proofs.Finish.Rounds.{Waiting, finishes}
+use Rattle.tg_law_finish.proofs.Finish.Rounds.{Waiting, finishes_from}
 use Rattle.tg_law_finish.proofs.Finish.Trails.{unknown, Low}
 use Rattle.tg_law_finish.proofs.Finish.Waited.{whole, few_unknown}
 use Rattle.tg_law_finish.proofs.Finish.Rescuing.{round}
@@ -202,7 +203,7 @@ module _ (m : Meaning) (w : World m) (k : ℕ) (p : Layout) (longest : ℕ) (a :
   asks_finish x f such none =
       let kind = calm_kind x in
       let few = calm_few tail (client m w k).layouts (for_reads kind f (length f.work.oids) (whole (length f.work.oids))) (for_trims kind f (length f.work.oids) (whole (length f.work.oids))) 0 (all_read kind f (length f.work.oids) (whole (length f.work.oids))) refl in
-      finishes m w.cluster w.stopped k p _ (asks_talk m w.cluster w.stopped k p longest low_at many tail (length f.work.oids) kind) w _ a.quiet refl refl
+      finishes_from m w.cluster w.stopped k p _ (asks_talk m w.cluster w.stopped k p longest low_at many tail (length f.work.oids) kind) w _ a.on_way refl refl
       (waits kind f (length f.work.oids) (whole (length f.work.oids)) (AsksStage m w.cluster w.stopped k p longest low_at many tail (length f.work.oids) kind) 0 _ (more kind (reads kind f (length f.work.oids) (whole (length f.work.oids)) (asking_way m) such)) (omega (arith, few))) none
     where
       more : (kind : Kind low_at p tail) → AsksStage m w.cluster w.stopped k p longest low_at many tail (length f.work.oids) kind (net m w) (client m w k) (Ask (check kind f (length f.work.oids) (whole (length f.work.oids))) ∷ []) (left kind f (length f.work.oids) (whole (length f.work.oids)))
@@ -213,15 +214,32 @@ module _ (m : Meaning) (w : World m) (k : ℕ) (p : Layout) (longest : ℕ) (a :
   makes_finish x f such none =
       let kind = calm_kind x in
       let few = calm_few tail (client m w k).layouts (for_reads kind f (length f.work.oids) (whole (length f.work.oids))) (for_trims kind f (length f.work.oids) (whole (length f.work.oids))) (longest + 1) (all_read kind f (length f.work.oids) (whole (length f.work.oids))) refl in
-      finishes m w.cluster w.stopped k p _ (makes_talk m w.cluster w.stopped k p longest low_at many tail (length f.work.oids) kind) w _ a.quiet refl refl
+      finishes_from m w.cluster w.stopped k p _ (makes_talk m w.cluster w.stopped k p longest low_at many tail (length f.work.oids) kind) w _ a.on_way refl refl
       (waits kind f (length f.work.oids) (whole (length f.work.oids)) (MakesStage m w.cluster w.stopped k p longest low_at many tail (length f.work.oids) kind) (longest + 1) _ (inl (record { left = left kind f (length f.work.oids) (whole (length f.work.oids)); stage = reads kind f (length f.work.oids) (whole (length f.work.oids)) (making_way m) such; few = omega arith })) (omega (arith, few))) none
 
   -- A transaction with reads is ended.
 
+  pub next_kind : Kind low_at p (suc tail)
+  next_kind = record { trims = true; calm = λ e. absurd (true_not e); past = λ e. absurd (true_not e); once = u.once }
+
+  pub can_grow : (d : Entry) → Grows m w p d → Before m w.cluster w.stopped k p longest low_at many tail 128 next_kind (net m w) d
+  can_grow d f = record {
+    issue = issues m w k p longest a b (record { draft = d; token = None; work = Asking 0 });
+    good = good;
+    next = refl;
+    limit = f.limit;
+    ahead = f.ahead;
+    named = λ near ts. f.named (subst (λ n. too_far n ≡ false) (sym (plus tail)) near) ts;
+    lasts = λ o ts. all_low p (suc tail) _ (subst (λ n. AllBelow n (backs_of (link_of o (links_of (with_positions tail (streams_of d) (seqr m w p.seq).lists) ts)))) (plus tail) (f.lasts o ts));
+  }
+    where
+      plus : (n : ℕ) → n + 1 ≡ suc n
+      plus n = omega arith
+
   ends_few : (l c t n r : ℕ) → r ≡ (c + 1) * (suc t) + (2 * c + 1 + 128) * (n + 2) → (2 + (l + l)) + ((c + (r + suc c)) + (c + (r + suc c))) ≤ 2 * ((c + 1) * t) + 2 * l + 2 * ((2 * c + 1 + 128) * (n + 2)) + 6 * (c + 1)
   ends_few l c t n r e = let f = mul-suc (c + 1) t in omega (arith, e, f)
 
-  ends_made : (x : CommandOf m) → x ≡ cmd.End → makes m x ≡ true
+  pub ends_made : (x : CommandOf m) → x ≡ cmd.End → makes m x ≡ true
   unfolding makes
   ends_made x e = ap (λ y. makes m y) e
 
@@ -234,7 +252,7 @@ module _ (m : Meaning) (w : World m) (k : ℕ) (p : Layout) (longest : ℕ) (a :
       let r = suc (round m w.cluster w.stopped k p longest low_at many (suc tail) most kind wide) in
       let is = round_long m w.cluster w.stopped k p longest low_at many (suc tail) most kind wide in
       let o = out (seqr_id p.seq) f.rid (msg.Token p.epoch (streams_of f.append.draft)) in
-      finishes m w.cluster w.stopped k p _ (ends_talk m w.cluster w.stopped k p longest low_at many tail most kind wide) w _ a.quiet refl refl
+      finishes_from m w.cluster w.stopped k p _ (ends_talk m w.cluster w.stopped k p longest low_at many tail most kind wide) w _ a.on_way refl refl
       (waits_for (o ∷ []) (EndStage m w.cluster w.stopped k p longest low_at many tail most kind wide) (longest + (r + suc longest)) _
       (inl (record {
         left = longest;
@@ -246,25 +264,8 @@ module _ (m : Meaning) (w : World m) (k : ℕ) (p : Layout) (longest : ℕ) (a :
             such = ends_made f.work.command f.command;
             hosted = f.hosted;
           };
-          stage = subst (λ (y : AppendWork). OwnStage m w.cluster w.stopped k p longest low_at many tail most kind (net m w) f.append y longest) (sym f.first) (before, omega arith);
+          stage = subst (λ (y : AppendWork). OwnStage m w.cluster w.stopped k p longest low_at many tail most kind (net m w) f.append y longest) (sym f.first) (can_grow f.append.draft f.grows, omega arith);
         });
         few = omega arith;
       }))
       (let l = ends_few (client m w k).layouts longest tail many r is in omega (arith, l))) none
-    where
-      next_kind : Kind low_at p (suc tail)
-      next_kind = record { trims = true; calm = λ e. absurd (true_not e); past = λ e. absurd (true_not e); once = u.once }
-
-      plus : (n : ℕ) → n + 1 ≡ suc n
-      plus n = omega arith
-
-      before : Before m w.cluster w.stopped k p longest low_at many tail 128 next_kind (net m w) f.append.draft
-      before = record {
-        issue = issues m w k p longest a b (record { draft = f.append.draft; token = None; work = Asking 0 });
-        good = good;
-        next = refl;
-        limit = f.limit;
-        ahead = f.ahead;
-        named = λ near ts. f.named (subst (λ n. too_far n ≡ false) (sym (plus tail)) near) ts;
-        lasts = λ o ts. all_low p (suc tail) _ (subst (λ n. AllBelow n (backs_of (link_of o (links_of (with_positions tail (streams_of f.append.draft) (seqr m w p.seq).lists) ts)))) (plus tail) (f.lasts o ts));
-      }

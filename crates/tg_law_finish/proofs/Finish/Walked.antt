@@ -19,7 +19,7 @@ use Rattle.tg_law_finish.proofs.Finish.Nets.{net}
 use Rattle.tg_law_finish.proofs.Finish.Readers.{asking_way}
 use Rattle.tg_law_finish.proofs.Finish.Rescuers.{rescuing_way}
 use Rattle.tg_law_finish.proofs.Finish.Rescuing.{round, for_rounds, RescueStage, first_stage, rescue_talk}
-use Rattle.tg_law_finish.proofs.Finish.Rounds.{finishes}
+use Rattle.tg_law_finish.proofs.Finish.Rounds.{finishes_from}
 use Rattle.tg_law_finish.proofs.Finish.Starts.{started}
 use Rattle.tg_law_finish.proofs.Finish.Waited.{whole}
 use Rattle.tg_law_finish.proofs.Finish.Waits.{Ends, trims_kind, waits_for}
@@ -77,7 +77,7 @@ module _ (m : Meaning) (w : World m) (k : ℕ) (p : Layout) (longest : ℕ) (a :
       let s = length f.work.oids in
       let x = started m w k p longest a b u s (asking_way m) f such (whole s) in
       let few = reads_few layouts tail many longest s (length x.os) x.left 0 x.within in
-      finishes m w.cluster w.stopped k p _ (asks_talk m w.cluster w.stopped k p longest low_at many tail s kind) w _ a.quiet refl refl
+      finishes_from m w.cluster w.stopped k p _ (asks_talk m w.cluster w.stopped k p longest low_at many tail s kind) w _ a.on_way refl refl
       (waits_for m w k p longest a b u x.os (AsksStage m w.cluster w.stopped k p longest low_at many tail s kind) x.left _ x.stage (omega (arith, few))) none
 
   pub makes_finish_by : (f : Reads m w k p) → makes m f.work.command ≡ true
@@ -86,7 +86,7 @@ module _ (m : Meaning) (w : World m) (k : ℕ) (p : Layout) (longest : ℕ) (a :
       let s = length f.work.oids in
       let x = started m w k p longest a b u s (making_way m) f such (whole s) in
       let few = reads_few layouts tail many longest s (length x.os) x.left (longest + 1) x.within in
-      finishes m w.cluster w.stopped k p _ (makes_talk m w.cluster w.stopped k p longest low_at many tail s kind) w _ a.quiet refl refl
+      finishes_from m w.cluster w.stopped k p _ (makes_talk m w.cluster w.stopped k p longest low_at many tail s kind) w _ a.on_way refl refl
       (waits_for m w k p longest a b u x.os (MakesStage m w.cluster w.stopped k p longest low_at many tail s kind) (x.left + (longest + 1)) _ (inl (record { left = x.left; stage = x.stage; few = omega arith })) few) none
 
   -- Streams may join.
@@ -109,7 +109,7 @@ module _ (m : Meaning) (w : World m) (k : ℕ) (p : Layout) (longest : ℕ) (a :
       let long = round_few longest tail many most r is in
       let enough = rescues_few layouts j r longest (for_rounds m w.cluster w.stopped k p longest low_at many tail most kind wide j) (length x.os) x.left (rounds_few j most wide) (omega (arith, within, long)) in
       let whole = ap (λ i. i * (j + 1)) (both layouts r ((longest + 1) * tail) ((2 * longest + 1 + most) * (many + 2)) is) in
-      finishes m w.cluster w.stopped k p _ (rescue_talk m w.cluster w.stopped k p longest low_at many tail most kind wide j) w _ a.quiet refl refl
+      finishes_from m w.cluster w.stopped k p _ (rescue_talk m w.cluster w.stopped k p longest low_at many tail most kind wide j) w _ a.on_way refl refl
       (waits_for m w k p longest a b u x.os (RescueStage m w.cluster w.stopped k p longest low_at many tail most kind wide j) (x.left + for_rounds m w.cluster w.stopped k p longest low_at many tail most kind wide j) _
       (first_stage m w.cluster w.stopped k p longest low_at many tail most kind wide j (net m w) (client m w k) (asks x.os) _ (record { left = x.left; stage = x.stage; few = omega arith }))
       (omega (arith, enough, whole))) none

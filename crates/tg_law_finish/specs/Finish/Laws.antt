@@ -7,7 +7,8 @@ use Rattle.tg_model.specs.declared.trace.What.TheVariants as told
 use Rattle.tg_model.specs.Kinds.{CommandOf, WhatOf}
 use Rattle.tg_protocol.specs.Clients.{Work}
 use Rattle.tg_protocol.specs.Worlds.{World, client, latest, happens, lowest, settle}
-use Rattle.tg_protocol.specs.Finishing.{longest_chain, WaitsAlone, IsReadyFor, most_deliveries_in, Finishes, HasReply}
+use Rattle.tg_protocol.specs.Finishing.{longest_chain, IsReadyFor, most_deliveries_in, Finishes, HasReply}
+use Rattle.tg_law_finish.specs.Finish.Alone.{IsAlone}
 use Rattle.tg_law_finish.specs.Finish.Commands.{plays}
 use Rattle.tg_law_finish.specs.Finish.Queues.{Queue}
 use Rattle.tg_law_finish.specs.Finish.Granted.{Granted, next_position}
@@ -31,25 +32,25 @@ module _ (m : Meaning) where
   append_bound w = 4 * longest_chain (latest m w) + 2 * w.cluster.layouts + 2
 
   abbrev pub AppendAnswered : World m → Type 0
-  AppendAnswered w = (k : ℕ) (x : CommandOf m) → WaitsAlone m w k x → IsReadyFor m w k → Granted m w → WaitsForAppend m w k →
+  AppendAnswered w = (k : ℕ) (x : CommandOf m) → IsAlone m w k x → IsReadyFor m w k → Granted m w → WaitsForAppend m w k →
       IsAnswered w k (append_bound w)
 
   -- so within the bound of its command
   abbrev pub AppendInTime : World m → Type 0
-  AppendInTime w = (k : ℕ) (x : CommandOf m) → WaitsAlone m w k x → IsReadyFor m w k → Granted m w → WaitsForAppend m w k →
+  AppendInTime w = (k : ℕ) (x : CommandOf m) → IsAlone m w k x → IsReadyFor m w k → Granted m w → WaitsForAppend m w k →
       IsAnswered w k (most_deliveries_in m w x)
 
-  -- an ask of a log of which nothing is trimmed, and to which the present sequencer has added: two deliveries for each unit of the longest chain and one more, at
-  -- each position and once more, and two for each layout server
+  -- an ask of a log of which nothing is trimmed, and to which the present sequencer has added: two deliveries for
+  -- each unit of the longest chain and one more, at each position and once more, and two for each layout server
   abbrev pub ask_bound : World m → ℕ
   ask_bound w = 2 * ((longest_chain (latest m w) + 1) * (next_position m w + 1)) + 2 * w.cluster.layouts
 
   abbrev pub AskAnswered : World m → Type 0
-  AskAnswered w = (k : ℕ) (x : CommandOf m) → WaitsAlone m w k x → IsReadyFor m w k → Granted m w → NothingTrimmed m w → HasIssued m w → WaitsForSync m w k →
+  AskAnswered w = (k : ℕ) (x : CommandOf m) → IsAlone m w k x → IsReadyFor m w k → Granted m w → NothingTrimmed m w → HasIssued m w → WaitsForSync m w k →
       IsAnswered w k (ask_bound w)
 
   abbrev pub AskInTime : World m → Type 0
-  AskInTime w = (k : ℕ) (x : CommandOf m) → WaitsAlone m w k x → IsReadyFor m w k → Granted m w → NothingTrimmed m w → HasIssued m w → WaitsForSync m w k →
+  AskInTime w = (k : ℕ) (x : CommandOf m) → IsAlone m w k x → IsReadyFor m w k → Granted m w → NothingTrimmed m w → HasIssued m w → WaitsForSync m w k →
       IsAnswered w k (most_deliveries_in m w x)
 
   -- whatever the world: where a settling ends a command that plays, its client has told something

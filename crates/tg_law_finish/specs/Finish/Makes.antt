@@ -1,4 +1,5 @@
--- A client that waits for a sync, walks and then an append: of `decide`, `checkpoint` and `forget`, and of `end` whose record is appended.
+-- A client that waits for a sync, walks and then an append: of `decide`, `checkpoint` and `forget`, and of `end`
+-- whose record is appended.
 use Rattle.std.specs.Prelude.{◌≡◌, ℕ, ◌+◌, ◌*◌, Bool, true, false, Some}
 use Rattle.tg_kind.specs.Meaning.{Meaning}
 use Rattle.tg_model.specs.declared.command.Command.TheVariants as cmd
@@ -6,7 +7,8 @@ use Rattle.tg_model.specs.Kinds.{CommandOf}
 use Rattle.tg_protocol.specs.Syncing.{Sync, Checking}
 use Rattle.tg_protocol.specs.Clients.{Syncing, Doing, Work}
 use Rattle.tg_protocol.specs.Worlds.{World, client, latest}
-use Rattle.tg_protocol.specs.Finishing.{longest_chain, WaitsAlone, IsReadyFor, most_deliveries_in}
+use Rattle.tg_protocol.specs.Finishing.{longest_chain, IsReadyFor, most_deliveries_in}
+use Rattle.tg_law_finish.specs.Finish.Alone.{IsAlone}
 use Rattle.tg_law_finish.specs.Finish.Asks.{NothingTrimmed, HasIssued}
 use Rattle.tg_law_finish.specs.Finish.Laws.{IsAnswered, ask_bound}
 
@@ -34,5 +36,5 @@ module _ (m : Meaning) where
   make_bound w = ask_bound m w + 2 * (longest_chain (latest m w) + 1)
 
   abbrev pub MakeFinishes : World m → Type 0
-  MakeFinishes w = (k : ℕ) (x : CommandOf m) → WaitsAlone m w k x → IsReadyFor m w k → NothingTrimmed m w → HasIssued m w → MakesSync w k →
+  MakeFinishes w = (k : ℕ) (x : CommandOf m) → IsAlone m w k x → IsReadyFor m w k → NothingTrimmed m w → HasIssued m w → MakesSync w k →
       IsAnswered m w k (make_bound w) × IsAnswered m w k (most_deliveries_in m w x)

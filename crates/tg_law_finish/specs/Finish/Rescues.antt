@@ -4,7 +4,8 @@ use Rattle.tg_kind.specs.Meaning.{Meaning}
 use Rattle.tg_model.specs.declared.command.Command.TheVariants as cmd
 use Rattle.tg_model.specs.Kinds.{CommandOf}
 use Rattle.tg_protocol.specs.Worlds.{World, latest}
-use Rattle.tg_protocol.specs.Finishing.{longest_chain, WaitsAlone, IsReadyFor, most_deliveries_in}
+use Rattle.tg_protocol.specs.Finishing.{longest_chain, IsReadyFor, most_deliveries_in}
+use Rattle.tg_law_finish.specs.Finish.Alone.{IsAlone}
 use Rattle.tg_law_finish.specs.Finish.Laws.{IsAnswered}
 use Rattle.tg_law_finish.specs.Finish.Reads.{WaitsForRead}
 use Rattle.tg_law_finish.specs.Finish.Walks.{streams, passes_bound, walk_bound}
@@ -14,11 +15,11 @@ module _ (m : Meaning) where
   is_rescue (cmd.Rescue p) = true
   is_rescue _ = false
 
-  -- The streams are walked once, and once more for each that joins them; then a decision record takes two deliveries for each unit of the
-  -- longest chain, and two for the token.
+  -- The streams are walked once, and once more for each that joins them; then a decision record takes two
+  -- deliveries for each unit of the longest chain, and two for the token.
   abbrev pub rescue_bound : World m → ℕ → ℕ
   rescue_bound w n = walk_bound m w 128 * ((128 - n) + 1) + 2 * (longest_chain (latest m w) + 1)
 
   abbrev pub RescueWalks : World m → Type 0
-  RescueWalks w = (k : ℕ) (x : CommandOf m) → WaitsAlone m w k x → IsReadyFor m w k → is_rescue x ≡ true → (f : WaitsForRead m w k) →
+  RescueWalks w = (k : ℕ) (x : CommandOf m) → IsAlone m w k x → IsReadyFor m w k → is_rescue x ≡ true → (f : WaitsForRead m w k) →
       IsAnswered m w k (rescue_bound w (streams m f.work)) × IsAnswered m w k (most_deliveries_in m w x + 129 * passes_bound m w 128)

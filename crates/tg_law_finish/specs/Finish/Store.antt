@@ -5,7 +5,8 @@ use Rattle.tg_model.specs.Kinds.{CommandOf}
 use Rattle.tg_protocol.specs.Appending.{Append}
 use Rattle.tg_protocol.specs.Clients.{Purpose, Appending, Doing, Work}
 use Rattle.tg_protocol.specs.Worlds.{World, client}
-use Rattle.tg_protocol.specs.Finishing.{WaitsAlone, IsReadyFor, most_deliveries_in}
+use Rattle.tg_protocol.specs.Finishing.{IsReadyFor, most_deliveries_in}
+use Rattle.tg_law_finish.specs.Finish.Alone.{IsAlone}
 use Rattle.tg_law_finish.specs.Finish.Appends.{is_last}
 use Rattle.tg_law_finish.specs.Finish.Asks.{NothingTrimmed, HasIssued, WaitsForSync}
 use Rattle.tg_law_finish.specs.Finish.Laws.{IsAnswered, append_bound, ask_bound}
@@ -22,10 +23,10 @@ module _ (m : Meaning) where
 
   -- within the deliveries of an append, and within the bound of the command
   abbrev pub AppendFinishes : World m → Type 0
-  AppendFinishes w = (k : ℕ) (x : CommandOf m) → WaitsAlone m w k x → IsReadyFor m w k → AppendsLast w k →
+  AppendFinishes w = (k : ℕ) (x : CommandOf m) → IsAlone m w k x → IsReadyFor m w k → AppendsLast w k →
       IsAnswered m w k (append_bound m w) × IsAnswered m w k (most_deliveries_in m w x)
 
   -- within the deliveries of an ask, and within the bound of the command
   abbrev pub AskFinishes : World m → Type 0
-  AskFinishes w = (k : ℕ) (x : CommandOf m) → WaitsAlone m w k x → IsReadyFor m w k → NothingTrimmed m w → HasIssued m w → WaitsForSync m w k →
+  AskFinishes w = (k : ℕ) (x : CommandOf m) → IsAlone m w k x → IsReadyFor m w k → NothingTrimmed m w → HasIssued m w → WaitsForSync m w k →
       IsAnswered m w k (ask_bound m w) × IsAnswered m w k (most_deliveries_in m w x)

@@ -1,10 +1,12 @@
--- A client that syncs and walks, whatever is trimmed, and whether or not the sequencer has issued a position since its layout's start.
+-- A client that syncs and walks, whatever is trimmed, and whether or not the sequencer has issued a position since
+-- its layout's start.
 use Rattle.std.specs.Prelude.{◌≡◌, ℕ, ◌+◌, ◌*◌, ◌≤◌, length, true, Some}
 use Rattle.tg_kind.specs.Meaning.{Meaning}
 use Rattle.tg_model.specs.Kinds.{CommandOf}
 use Rattle.tg_protocol.specs.Clients.{Work}
 use Rattle.tg_protocol.specs.Worlds.{World, client, latest}
-use Rattle.tg_protocol.specs.Finishing.{longest_chain, WaitsAlone, IsReadyFor, most_deliveries_in}
+use Rattle.tg_protocol.specs.Finishing.{longest_chain, IsReadyFor, most_deliveries_in}
+use Rattle.tg_law_finish.specs.Finish.Alone.{IsAlone}
 use Rattle.tg_law_finish.specs.Finish.Commands.{is_ask}
 use Rattle.tg_law_finish.specs.Finish.Granted.{next_position}
 use Rattle.tg_law_finish.specs.Finish.Laws.{IsAnswered}
@@ -12,13 +14,15 @@ use Rattle.tg_law_finish.specs.Finish.Makes.{makes}
 use Rattle.tg_law_finish.specs.Finish.Reads.{WaitsForRead}
 
 module _ (m : Meaning) where
-  -- What trims may cost. A pass is a sync, which fills the last position and may probe its chain, and one request for each stream whose
-  -- walk meets a trim. A trim that was unknown before the sync makes the tail stale, and a new pass begins: at most once for each unit, since
-  -- no unit trims anything meanwhile. And a kept view is given up at most once.
+  -- What trims may cost. A pass is a sync, which fills the last position and may probe its chain, and one request
+  -- for each stream whose walk meets a trim. A trim that was unknown before the sync makes the tail stale, and a
+  -- new pass begins: at most once for each unit, since no unit trims anything meanwhile. And a kept view is given
+  -- up at most once.
   abbrev pub passes_bound : World m → ℕ → ℕ
   passes_bound w streams = 2 * ((2 * longest_chain (latest m w) + 1 + streams) * (w.cluster.units + 2))
 
-  -- and each position is read at most once: two deliveries for each unit of the longest chain, and one more; and two for each layout server
+  -- and each position is read at most once: two deliveries for each unit of the longest chain, and one more; and
+  -- two for each layout server
   abbrev pub walk_bound : World m → ℕ → ℕ
   walk_bound w streams = 2 * ((longest_chain (latest m w) + 1) * next_position m w) + 2 * w.cluster.layouts + passes_bound w streams
 
@@ -30,10 +34,10 @@ module _ (m : Meaning) where
   StreamsFew w = (k : ℕ) (v : Work m) → (client m w k).work ≡ Some v → streams v ≤ 128
 
   abbrev pub AskWalks : World m → Type 0
-  AskWalks w = (k : ℕ) (x : CommandOf m) → WaitsAlone m w k x → IsReadyFor m w k → is_ask m x ≡ true → (f : WaitsForRead m w k) →
+  AskWalks w = (k : ℕ) (x : CommandOf m) → IsAlone m w k x → IsReadyFor m w k → is_ask m x ≡ true → (f : WaitsForRead m w k) →
       IsAnswered m w k (walk_bound w (streams f.work)) × IsAnswered m w k (most_deliveries_in m w x + passes_bound w 128)
 
   -- the record that it makes takes two deliveries more for each unit of the longest chain, and two for the token
   abbrev pub MakeWalks : World m → Type 0
-  MakeWalks w = (k : ℕ) (x : CommandOf m) → WaitsAlone m w k x → IsReadyFor m w k → makes m x ≡ true → (f : WaitsForRead m w k) →
+  MakeWalks w = (k : ℕ) (x : CommandOf m) → IsAlone m w k x → IsReadyFor m w k → makes m x ≡ true → (f : WaitsForRead m w k) →
       IsAnswered m w k (walk_bound w (streams f.work) + 2 * (longest_chain (latest m w) + 1)) × IsAnswered m w k (most_deliveries_in m w x + passes_bound w 128)

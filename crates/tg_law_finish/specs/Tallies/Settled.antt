@@ -8,10 +8,11 @@ use Rattle.tg_protocol.specs.Clients.{Task, Syncing}
 use Rattle.tg_protocol.specs.Worlds.{World, start, latest, settle}
 use Rattle.tg_protocol.specs.Runs.{Moves, Takes, Reaches, run}
 use Rattle.tg_protocol.specs.Finishing.{longest_chain, deliveries, is_with_client, most_deliveries_in, WaitsAlone, IsReadyFor}
+use Rattle.tg_law_finish.specs.Finish.Alone.{IsAlone}
 use Rattle.tg_law_finish.specs.Finish.Granted.{Granted, next_position}
 use Rattle.tg_law_finish.specs.Finish.Appends.{WaitsForAppend}
 use Rattle.tg_law_finish.specs.Finish.Asks.{NothingTrimmed, HasIssued, WaitsForSync}
-use Rattle.tg_law_finish.specs.Finish.Ends.{EndsAppend, end_bound}
+use Rattle.tg_law_finish.specs.Finish.Ends.{EndsAppend, end_bound, EndsRecord, record_bound}
 use Rattle.tg_law_finish.specs.Finish.Laws.{append_bound, ask_bound}
 use Rattle.tg_law_finish.specs.Finish.Reads.{WaitsForRead}
 use Rattle.tg_law_finish.specs.Finish.Rescues.{rescue_bound}
@@ -97,6 +98,18 @@ pub record EndSettles (w : World tallies) : Type 0 where
   pub waits : EndsAppend tallies w 0
   pub counts : Counted w 10 800 64 (end_bound tallies) cmd.End
 
+-- it has its record's token, and the request of its page is lost
+abbrev pub page_lost : Moves tallies
+page_lost = Takes (Commands 0 (cmd.Host tally)) ∷ Takes (Commands 0 cmd.Begin) ∷ Takes (Commands 0 (cmd.Ask tally 0)) ∷ Takes (Deliver 0) ∷ Takes (Deliver 1) ∷ Takes (Deliver 2) ∷ Takes (Deliver 3)
+    ∷ Takes (Commands 0 (cmd.Put tally 5)) ∷ Takes (Commands 0 cmd.End) ∷ Takes (Deliver 4) ∷ Takes (Deliver 5) ∷ Takes (Lose 6) ∷ []
+
+pub record RecordSettles (w : World tallies) : Type 0 where
+  pub reached : Reaches tallies with_tally page_lost w
+  pub alone : IsAlone tallies w 0 cmd.End
+  pub ready : IsReadyFor tallies w 0
+  pub waits : EndsRecord tallies w 0
+  pub counts : Counted w 8 808 80 (record_bound tallies) cmd.End
+
 -- a client saves a tally of which nothing was written, and its request for a tail is lost
 abbrev pub save_lost : Moves tallies
 save_lost = Takes (Commands 0 (cmd.Host tally)) ∷ Takes (Commands 0 (cmd.Checkpoint tally)) ∷ Takes (Lose 0) ∷ []
@@ -133,6 +146,9 @@ ProbeIsAnswered = ProbeSettles (run tallies probe_lost (start tallies with_tally
 
 abbrev pub EndIsAnswered : Type 0
 EndIsAnswered = EndSettles (run tallies end_lost (start tallies with_tally))
+
+abbrev pub RecordIsAnswered : Type 0
+RecordIsAnswered = RecordSettles (run tallies page_lost (start tallies with_tally))
 
 abbrev pub SaveIsAnswered : Type 0
 SaveIsAnswered = SaveSettles (run tallies save_lost (start tallies with_tally))
