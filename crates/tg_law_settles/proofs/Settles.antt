@@ -1,11 +1,12 @@
--- The world of a script's lines before a `settle` line is one of a run, so what is proved of settlings holds of the line.
+-- The world of a script's lines before a `settle` line is one of a run, so what is proved of settlings holds of the
+-- line.
 use Rattle.std.proofs.Common.{◌≡◌, ℕ, zero, suc, ◌+◌, List, [], ◌∷◌, ◌++◌, ◌⊎◌, take, refl, inl, inr, ap, ◌∙◌, sym, subst, arith, Some, None}
 use Rattle.std.specs.Prelude.{slice_get}
 use Rattle.tg_base.specs.Clusters.{Header}
 use Rattle.tg_model.specs.Kinds.{CommandOf}
-use Rattle.tg_protocol.specs.Worlds.{start, next_event, settle}
+use Rattle.tg_protocol.specs.Worlds.{start, client, next_event, settle}
 use Rattle.tg_protocol.specs.Runs.{Move, Moves, Next, LawfulMove, Reaches, run}
-use Rattle.tg_protocol.specs.Finishing.{WaitsAlone, IsReadyFor, Finishes}
+use Rattle.tg_protocol.specs.Finishing.{IsReadyFor, Finishes}
 use Rattle.tg_any.specs.AllKinds.{all_kinds}
 use Rattle.tg_script.specs.declared.line.Line.{Line}
 use Rattle.tg_script.specs.declared.line.Line.TheVariants as line
@@ -15,9 +16,12 @@ use Rattle.tg_law_layouts.proofs.Moves.Lists.{contained}
 use Rattle.tg_law_layouts.proofs.Moves.Members.{Has, has_either, has_contained}
 use Rattle.tg_law_layouts.proofs.Moves.Scripts.{run_both}
 use Rattle.tg_law_scripts.proofs.Scripts.Reaching.{each_script_reaches}
+use Rattle.tg_law_finish.specs.Finish.Alone.{IsAlone}
 use Rattle.tg_law_finish.specs.Finish.Laws.{IsReply}
-use Rattle.tg_law_finish.proofs.Finish.Store.{appends_finish, asks_finish_anyway, makes_finish_anyway, rescues_finish, ends_finish}
-use Rattle.tg_law_settles.specs.Settles.{IsSettleLine, world_before, world_after, Waits, ForAppend, ForAsk, ForMake, ForRescue, ForEnd, SettleLinesFinish}
+use Rattle.tg_law_finish.proofs.Finish.Answered.{drains_answer}
+use Rattle.tg_law_finish.proofs.Finish.Drains.{drains_come_first, drains_are_runs}
+use Rattle.tg_law_finish.proofs.Finish.Store.{appends_finish, asks_finish_anyway, makes_finish_anyway, rescues_finish, ends_finish, records_finish}
+use Rattle.tg_law_settles.specs.Settles.{IsSettleLine, world_before, world_after, world_drained, Waits, ForAppend, ForAsk, ForMake, ForRescue, ForEnd, ForRecord, SettleLinesFinish, DrainedLinesFinish, DrainedLinesAnswer}
 
 no_item : {X : Type 0} → (x : X) → None ≡ Some x → ⊥
 no_item x e = cc
@@ -76,16 +80,45 @@ counts h ms w r = record {
     by x (inr (inl e)) = subst (λ (y : Move all_kinds). LawfulMove all_kinds (start all_kinds h).cluster y) (sym e) tt
     by x (inr (inr e)) = absurd e
 
-answered : (h : Header) (ms : Moves all_kinds) (w : Worlds) → Reaches all_kinds h ms w → (k most : ℕ) (x : CommandOf all_kinds) → WaitsAlone all_kinds w k x → IsReadyFor all_kinds w k → Waits w k x most
+answered : (h : Header) (ms : Moves all_kinds) (w : Worlds) → Reaches all_kinds h ms w → (k most : ℕ) (x : CommandOf all_kinds) → IsAlone all_kinds w k x → IsReadyFor all_kinds w k → Waits w k x most
     → Finishes all_kinds w (settle all_kinds w).world k most (IsReply all_kinds)
 answered h ms w r k most x a b (ForAppend f) = (appends_finish h ms w r k x a b f).0
 answered h ms w r k most x a b (ForAsk is f) = (asks_finish_anyway h ms w r k x a b is f).0
 answered h ms w r k most x a b (ForMake is f) = (makes_finish_anyway h ms w r k x a b is f).0
 answered h ms w r k most x a b (ForRescue is f) = (rescues_finish h ms w r k x a b is f).0
 answered h ms w r k most x a b (ForEnd f) = (ends_finish h ms w r k x a b f).0
+answered h ms w r k most x a b (ForRecord f) = (records_finish h ms w r k x a b f).0
+
+-- a run comes to the world before the line
+pub record Comes (s : Script) (n : ℕ) : Type 0 where
+  pub moves : Moves all_kinds
+  pub reaches : Reaches all_kinds s.header moves (world_before s n)
+
+comes : (s : Script) (n : ℕ) → IsSettleLine s n → Comes s n
+comes s n is =
+    let r = each_script_reaches (front n s) (front_script s n is.script) in
+    record { moves = r.moves ++ Next ∷ []; reaches = counts s.header r.moves (world_of (front n s)) r.reaches }
 
 pub settle_lines_finish : SettleLinesFinish
 settle_lines_finish s n k most x is a b waits =
-    let r = each_script_reaches (front n s) (front_script s n is.script) in
+    let r = comes s n is in
     subst (λ (v : Worlds). Finishes all_kinds (world_before s n) v k most (IsReply all_kinds)) (sym (settled_after s n is))
-    (answered s.header (r.moves ++ Next ∷ []) (world_before s n) (counts s.header r.moves (world_of (front n s)) r.reaches) k most x a b waits)
+    (answered s.header r.moves (world_before s n) r.reaches k most x a b waits)
+
+-- The world after the line is the drained one's settling.
+
+drained_after : (s : Script) (n : ℕ) → IsSettleLine s n → world_after s n ≡ (settle all_kinds (world_drained s n)).world
+drained_after s n is = settled_after s n is ∙ ap (λ (r : Runs). r.world) (sym (drains_come_first all_kinds (world_before s n)).same)
+
+pub drained_lines_finish : DrainedLinesFinish
+drained_lines_finish s n k most x is a b waits =
+    let r = comes s n is in
+    let d = drains_are_runs all_kinds s.header r.moves (world_before s n) r.reaches in
+    subst (λ (v : Worlds). Finishes all_kinds (world_drained s n) v k most (IsReply all_kinds)) (sym (drained_after s n is))
+    (answered s.header d.0 (world_drained s n) d.1 k most x a b waits)
+
+pub drained_lines_answer : DrainedLinesAnswer
+drained_lines_answer s n k work is has such none =
+    let r = comes s n is in
+    let a = drains_answer all_kinds s.header r.moves (world_before s n) r.reaches k work has such none in
+    record { reply = a.reply; idle = subst (λ (v : Worlds). (client all_kinds v k).work ≡ None) (sym (settled_after s n is)) a.idle }

@@ -1,17 +1,20 @@
 -- A script's `settle` line, as a replay runs it: it answers the client that waits alone.
-use Rattle.std.specs.Prelude.{◌≡◌, ℕ, ◌+◌, ◌*◌, true, slice_get, Some}
+use Rattle.std.specs.Prelude.{◌≡◌, ℕ, ◌+◌, ◌*◌, true, slice_get, Some, None}
 use Rattle.tg_model.specs.Kinds.{CommandOf}
-use Rattle.tg_protocol.specs.Worlds.{latest, next_event}
-use Rattle.tg_protocol.specs.Finishing.{longest_chain, WaitsAlone, IsReadyFor, Finishes}
+use Rattle.tg_protocol.specs.Clients.{Work}
+use Rattle.tg_protocol.specs.Worlds.{client, latest, next_event}
+use Rattle.tg_protocol.specs.Finishing.{longest_chain, IsReadyFor, Finishes, HasReply}
 use Rattle.tg_any.specs.AllKinds.{all_kinds}
 use Rattle.tg_script.specs.declared.line.Line.TheVariants as line
 use Rattle.tg_replay.specs.Runs.{Script, Worlds, IsScript, IsWithin, world_of, front}
-use Rattle.tg_law_finish.specs.Finish.Commands.{is_ask}
+use Rattle.tg_law_finish.specs.Finish.Alone.{IsAlone}
+use Rattle.tg_law_finish.specs.Finish.Commands.{is_ask, plays}
+use Rattle.tg_law_finish.specs.Finish.Drains.{drained}
 use Rattle.tg_law_finish.specs.Finish.Laws.{IsReply, append_bound}
 use Rattle.tg_law_finish.specs.Finish.Store.{AppendsLast}
 use Rattle.tg_law_finish.specs.Finish.Makes.{makes}
 use Rattle.tg_law_finish.specs.Finish.Reads.{WaitsForRead}
-use Rattle.tg_law_finish.specs.Finish.Ends.{EndsAppend, end_bound}
+use Rattle.tg_law_finish.specs.Finish.Ends.{EndsAppend, end_bound, EndsRecord, record_bound}
 use Rattle.tg_law_finish.specs.Finish.Rescues.{is_rescue, rescue_bound}
 use Rattle.tg_law_finish.specs.Finish.Walks.{streams, walk_bound}
 
@@ -40,7 +43,28 @@ pub data Waits (w : Worlds) (k : ℕ) (x : CommandOf all_kinds) : ℕ → Type 0
   ForRescue : is_rescue all_kinds x ≡ true → (f : WaitsForRead all_kinds w k) → Waits w k x (rescue_bound all_kinds w (streams all_kinds f.work))
   -- for the token of the record of a transaction with reads
   ForEnd : EndsAppend all_kinds w k → Waits w k x (end_bound all_kinds w)
+  -- for its append, wherever that stands
+  ForRecord : EndsRecord all_kinds w k → Waits w k x (record_bound all_kinds w)
 
+-- The client waits alone: nothing is on its way, or its requests alone are, as right after its command.
 abbrev pub SettleLinesFinish : Type 0
-SettleLinesFinish = (s : Script) (n k most : ℕ) (x : CommandOf all_kinds) → IsSettleLine s n → WaitsAlone all_kinds (world_before s n) k x → IsReadyFor all_kinds (world_before s n) k →
+SettleLinesFinish = (s : Script) (n k most : ℕ) (x : CommandOf all_kinds) → IsSettleLine s n → IsAlone all_kinds (world_before s n) k x → IsReadyFor all_kinds (world_before s n) k →
     Waits (world_before s n) k x most → Finishes all_kinds (world_before s n) (world_after s n) k most (IsReply all_kinds)
+
+-- Whatever is on its way before the line, it begins with a drain.
+abbrev pub world_drained : Script → ℕ → Worlds
+world_drained s n = drained all_kinds (world_before s n)
+
+-- which may leave the client waiting
+abbrev pub DrainedLinesFinish : Type 0
+DrainedLinesFinish = (s : Script) (n k most : ℕ) (x : CommandOf all_kinds) → IsSettleLine s n → IsAlone all_kinds (world_drained s n) k x → IsReadyFor all_kinds (world_drained s n) k →
+    Waits (world_drained s n) k x most → Finishes all_kinds (world_drained s n) (world_after s n) k most (IsReply all_kinds)
+
+-- or end its command: then it has told a reply, and the line leaves it idle
+pub record DrainAnswers (s : Script) (n k : ℕ) : Type 0 where
+  pub reply : HasReply all_kinds (world_before s n) (world_drained s n) k (IsReply all_kinds)
+  pub idle : (client all_kinds (world_after s n) k).work ≡ None
+
+abbrev pub DrainedLinesAnswer : Type 0
+DrainedLinesAnswer = (s : Script) (n k : ℕ) (work : Work all_kinds) → IsSettleLine s n → (client all_kinds (world_before s n) k).work ≡ Some work → plays all_kinds work.command ≡ true →
+    (client all_kinds (world_drained s n) k).work ≡ None → DrainAnswers s n k

@@ -1,11 +1,33 @@
 //! What a script's `settle` line does, as a replay runs it.
 
-ghost use Rattle.tg_law_settles.specs.Settles.{SettleLinesFinish};
+ghost use Rattle.tg_law_settles.specs.PastViews.{UpdateIsSettled};
+ghost use Rattle.tg_law_settles.specs.Settles.{DrainedLinesAnswer, DrainedLinesFinish, SettleLinesFinish};
 
-/// In the world before a script's `settle` line one client waits alone, the world is ready for it, and its command is
-/// one that is proved to finish (`Waits`): it waits for an append after which nothing is left, for the token of a
-/// transaction's record, or in a sync or a walk, wherever that stands. Then the line ends the command, the client tells
-/// a reply, and at most so many packets with it are delivered, whatever was trimmed and lost before.
+/// In the world before a script's `settle` line one client waits alone, with nothing on its way but its requests,
+/// as right after its command; the world is ready for it; and its command is one that is proved to finish
+/// (`Waits`): it waits for an append after which nothing is left, for the record of a transaction with reads, or in
+/// a sync or a walk, wherever that stands. Then the line ends the command, the client tells a reply, and at most so
+/// many packets with it are delivered, whatever was trimmed and lost before.
 pub fn settle_lines_finish()
     ensures { SettleLinesFinish }
+{}
+
+/// Whatever is on its way before the line, it begins with a drain. Where the client waits so in the world that the
+/// drain leaves, the line ends the command, the client tells a reply after the drain, and at most so many packets
+/// with it are delivered after it.
+pub fn drained_lines_finish()
+    ensures { DrainedLinesFinish }
+{}
+
+/// Where the drain ends a client's command that syncs and plays, the client has told a reply by then, and it is
+/// idle after the line.
+pub fn drained_lines_answer()
+    ensures { DrainedLinesAnswer }
+{}
+
+/// The first `settle` line of `examples/past-views.script`, right after an update, is one for which these laws ask
+/// no more than there is. It takes four deliveries with the client, where eight are allowed, and its drain ends the
+/// update.
+pub fn update_is_settled()
+    ensures { UpdateIsSettled }
 {}
