@@ -1,18 +1,18 @@
 -- A walk reads only at or past the position down to which it goes, and a play takes no view back.
-use Rattle.std.proofs.Common.{◌≡◌, ℕ, zero, suc, ◌≤◌, List, [], ◌∷◌, Bool, true, false, cond, refl, sym, subst, arith, Option, Some, None}
+use Rattle.std.proofs.Common.{◌≡◌, ℕ, ◌≤◌, List, [], ◌∷◌, Bool, true, false, cond, refl, sym, subst, arith, Option, Some, None}
 use Rattle.std.specs.Prelude.{nat_lt, nat_le, ◌&&◌}
 use Rattle.tg_base.specs.Layouts.{Layout}
 use Rattle.tg_base.specs.declared.cell.Cell.{Cell}
 use Rattle.tg_base.specs.declared.ids.Oid.{Oid}
 use Rattle.tg_kind.specs.Meaning.{Meaning}
-use Rattle.tg_protocol.specs.Words.{cell_at}
-use Rattle.tg_protocol.specs.Requests.{Next, Goes, Learns, Ends, ends}
+use Rattle.tg_protocol.specs.Requests.{Next, Goes, Learns, Ends}
 use Rattle.tg_protocol.specs.Replies.{Reply, IsGone}
-use Rattle.tg_protocol.specs.Cells.{CellJob, CellEnd, Done, Seen, Lost, Fenced, Gone, cell_feed, work_feed, fill_cell, place_in, get_cell}
-use Rattle.tg_protocol.specs.Walking.{Walk, Members, WalkTurn, walk_members, reads_turn, visited, read_at, at_least, next_visit, next_of_trail, walk_on, walk_from, walk_end, walk_next, walk_start, walk_feed, trail}
+use Rattle.tg_protocol.specs.Cells.{Place, CellJob, Gone, cell_feed, work_feed, fill_cell, get_cell}
+use Rattle.tg_protocol.specs.Walking.{Walk, Members, WalkTurn, with_job, read_at, at_least, next_of_trail, walk_from, walk_start, walk_feed, trail}
 use Rattle.tg_protocol.specs.Views.{Entries, View, Play, Step, On, Stuck, view_start, step_at, between, play_on, play_from, play}
 use Rattle.tg_protocol.specs.Clients.{Work, Client, upto_in, upto, all_entries}
 use Rattle.tg_protocol.specs.Answers.{own_view, view_or_new, play_target}
+use Rattle.tg_law_steps.proofs.Machines.Walks.{goes_on, Fed, ReadGoes, ReadDone, ReadGone, walk_fed}
 use Rattle.tg_law_replies.proofs.Plays.Joins.{step_on, on_more}
 use Rattle.tg_law_syncs.proofs.Known.Ways.{played_view}
 
@@ -49,66 +49,22 @@ module _ (P : ℕ → Type 0) (up : (a b : ℕ) → a ≤ b → P a → P b) whe
   visit_past lo (Some r) q e = grind arith
 
   module _ (p : Layout) where
-    reads_past : (w : Walk) (q next : ℕ) → P w.lo → P q → NextPast (reads_turn w (get_cell (place_in p q) next)).to
-    unfolding get_cell
-    reads_past w q next lo at = with_job_past w _ lo at
-
-    at_cell : ℕ → ℕ → Walk → ℕ → Option Cell → WalkTurn
-    at_cell next n w q o = elim o as (λ _. WalkTurn) [
-      | Some c ↦ walk_on p next n (visited w q c)
-      | None ↦ reads_turn w (get_cell (place_in p q) next)
-    ]
-
-    at_visit : ℕ → ℕ → Walk → Option ℕ → WalkTurn
-    at_visit next n w o = elim o as (λ _. WalkTurn) [
-      | None ↦ ends next (walk_members w None)
-      | Some q ↦ at_cell next n w q (cell_at w.cells q)
-    ]
-
-    walk_on_is : (next n : ℕ) (w : Walk) → walk_on p next (suc n) w ≡ at_visit next n w (next_visit w)
-    unfolding walk_on at_visit at_cell
-    walk_on_is next n w = refl
-
-    on_step : (next n : ℕ) (w : Walk) → ((v : Walk) → P v.lo → NextPast (walk_on p next n v).to) → P w.lo → (x : Option ℕ) → next_visit w ≡ x → NextPast (at_visit next n w x).to
-    unfolding at_visit at_cell
-    on_step next n w rest lo None e = tt
-    on_step next n w rest lo (Some q) e = at (cell_at w.cells q)
-      where
-        at : (o : Option Cell) → NextPast (at_cell next n w q o).to
-        at None = reads_past w q next lo (up w.lo q (visit_past w.lo (next_of_trail w.trail) q e) lo)
-        at (Some c) = rest (visited w q c) lo
-
-    on_past : (next n : ℕ) (w : Walk) → P w.lo → NextPast (walk_on p next n w).to
-    unfolding walk_on
-    on_past next zero w lo = tt
-    on_past next (suc n) w lo = subst (λ (t : WalkTurn). NextPast t.to) (sym (walk_on_is next n w)) (on_step next n w (λ v i. on_past next n v i) lo (next_visit w) refl)
-
     pub goes_past : (next : ℕ) (w : Walk) → P w.lo → NextPast (walk_from p next w).to
-    goes_past next w lo = on_past next _ w lo
+    goes_past next w lo = goes_on p next (λ (v : Walk). P v.lo) (λ (t : WalkTurn). NextPast t.to) (λ v q c visit known low. low) (λ v low. tt)
+        (λ v q visit unknown low. with_job_past v _ low (up v.lo q (visit_past v.lo (next_of_trail v.trail) q visit) low)) _ w lo
 
     pub starts_past : (o : Oid) (lasts : List ℕ) (lo : ℕ) (cells : List (ℕ × Cell)) (next : ℕ) → P lo → NextPast (walk_start p o lasts lo cells next).to
     unfolding walk_start
     starts_past o lasts lo cells next k = goes_past next (record { oid = o; lo = lo; cells = cells; trail = trail lasts 0; members = []; job = None }) k
 
-    end_past : (w : Walk) (q : ℕ) (e : CellEnd) (next : ℕ) → WalkPast w → NextPast (walk_end p w q e next).to
-    end_past w q (Done c) next k = goes_past next (read_at w q c) k.0
-    end_past w q (Gone b) next k = tt
-    end_past w q (Fenced u e) next k = k
-    end_past w q Seen next k = k
-    end_past w q (Lost c) next k = k
-
-    next_past : (w : Walk) (q next : ℕ) (to : Next CellJob CellEnd) → ((j : CellJob) → to ≡ Goes j → P j.place.pos) → WalkPast w → NextPast (walk_next p w q to next).to
-    next_past w q next (Goes j) f k = with_job_past w j k.0 (f j refl)
-    next_past w q next (Learns j) f k = k
-    next_past w q next (Ends e) f k = end_past w q e next k
-
-    feed_at : (w : Walk) (o : Option CellJob) (n : ℕ) (x : Reply) (next : ℕ) → ((j : CellJob) → o ≡ Some j → P j.place.pos) → WalkPast w → NextPast (walk_feed p w o n x next).to
-    unfolding walk_feed
-    feed_at w None n x next f k = k
-    feed_at w (Some j) n x next f k = next_past w j.place.pos _ (cell_feed j n x next).to (λ i e. subst (λ z. P z.pos) (sym (same_place j n x next i e)) (f j refl)) k
+    turn_past : (n : ℕ) (x : Reply) (next : ℕ) (w : Walk) (t : WalkTurn) → Fed p n x next w t → WalkPast w → NextPast t.to
+    turn_past n x next _ _ (ReadGoes w j i e) k = with_job_past w i k.0 (subst (λ (a : Place). P a.pos) (sym (same_place j n x next i e)) (k.1 j refl))
+    turn_past n x next _ _ (ReadDone w j c e) k = goes_past _ (read_at (with_job w j) j.place.pos c) k.0
+    turn_past n x next _ _ (ReadGone w j b e) k = tt
+    turn_past n x next _ _ came k = k
 
     pub feed_past : (w : Walk) (n : ℕ) (x : Reply) (next : ℕ) → WalkPast w → NextPast (walk_feed p w w.job n x next).to
-    feed_past w n x next k = feed_at w w.job n x next k.1 k
+    feed_past w n x next k = turn_past n x next w _ (walk_fed p n x next w) k
 
 -- Plays.
 

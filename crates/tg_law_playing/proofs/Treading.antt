@@ -1,13 +1,14 @@
 -- Through each step of a walk: it came where it is by the cells that it knows.
-use Rattle.std.proofs.Common.{◌≡◌, ℕ, zero, suc, List, [], Bool, true, false, cond, eqb, refl, sym, ap, ◌∙◌, subst, arith, Option, Some, None}
+use Rattle.std.proofs.Common.{◌≡◌, ℕ, List, [], Bool, true, false, cond, eqb, refl, sym, ap, ◌∙◌, subst, arith, Option, Some, None}
 use Rattle.tg_base.specs.Layouts.{Layout}
 use Rattle.tg_base.specs.declared.cell.Cell.{Cell}
 use Rattle.tg_base.specs.declared.ids.Oid.{Oid}
 use Rattle.tg_protocol.specs.Words.{cell_at, with_cell}
-use Rattle.tg_protocol.specs.Requests.{Next, Goes, Learns, Ends, ends}
+use Rattle.tg_protocol.specs.Requests.{Next, Goes, Learns, Ends}
 use Rattle.tg_protocol.specs.Replies.{Reply}
-use Rattle.tg_protocol.specs.Cells.{CellJob, CellEnd, Done, Seen, Lost, Fenced, Gone, cell_feed, place_in, get_cell}
-use Rattle.tg_protocol.specs.Walking.{trail, Walk, Members, WalkTurn, walk_members, reads_turn, visited, read_at, at_least, next_visit, next_of_trail, walk_on, walk_from, walk_end, walk_next, walk_start, walk_feed}
+use Rattle.tg_protocol.specs.Cells.{Place, CellJob}
+use Rattle.tg_protocol.specs.Walking.{trail, Walk, Members, WalkTurn, with_job, read_at, at_least, next_of_trail, walk_from, walk_start, walk_feed}
+use Rattle.tg_law_steps.proofs.Machines.Walks.{goes_on, Fed, ReadGoes, ReadDone, ReadGone, walk_fed}
 use Rattle.tg_law_walks.proofs.Walks.Cells.{cell_stored, cell_here}
 use Rattle.tg_law_playing.proofs.Past.{same_place}
 use Rattle.tg_law_playing.proofs.Trails.{Leads, begins, visits, more_leads}
@@ -42,42 +43,10 @@ module _ (lasts : List ℕ) where
   with_job_treads w j came at none = record { came = came; reads = λ k e. subst (λ (z : CellJob). (next_of_trail w.trail ≡ Some z.place.pos) × (cell_at w.cells z.place.pos ≡ None)) (sym (same_job j k e)) (at, none) }
 
   module _ (p : Layout) where
-    reads_treads : (w : Walk) (q next : ℕ) → Came w → next_of_trail w.trail ≡ Some q → cell_at w.cells q ≡ None → NextTreads w.oid (reads_turn w (get_cell (place_in p q) next)).to
-    unfolding get_cell
-    reads_treads w q next came at none = (with_job_treads w _ came at none, refl)
-
-    at_cell : ℕ → ℕ → Walk → ℕ → Option Cell → WalkTurn
-    at_cell next n w q o = elim o as (λ _. WalkTurn) [
-      | Some c ↦ walk_on p next n (visited w q c)
-      | None ↦ reads_turn w (get_cell (place_in p q) next)
-    ]
-
-    at_visit : ℕ → ℕ → Walk → Option ℕ → WalkTurn
-    at_visit next n w o = elim o as (λ _. WalkTurn) [
-      | None ↦ ends next (walk_members w None)
-      | Some q ↦ at_cell next n w q (cell_at w.cells q)
-    ]
-
-    walk_on_is : (next n : ℕ) (w : Walk) → walk_on p next (suc n) w ≡ at_visit next n w (next_visit w)
-    unfolding walk_on at_visit at_cell
-    walk_on_is next n w = refl
-
-    on_step : (next n : ℕ) (w : Walk) → ((v : Walk) → Came v → NextTreads v.oid (walk_on p next n v).to) → Came w → (x : Option ℕ) → next_visit w ≡ x → NextTreads w.oid (at_visit next n w x).to
-    unfolding at_visit at_cell
-    on_step next n w rest came None e = tt
-    on_step next n w rest came (Some q) e = at (cell_at w.cells q) refl
-      where
-        at : (o : Option Cell) → cell_at w.cells q ≡ o → NextTreads w.oid (at_cell next n w q o).to
-        at None is = reads_treads w q next came (visit_next w.lo (next_of_trail w.trail) q e) is
-        at (Some c) is = rest (visited w q c) (visits w.cells w.oid (trail lasts 0) w.trail q c came (visit_next w.lo (next_of_trail w.trail) q e) is)
-
-    on_treads : (next n : ℕ) (w : Walk) → Came w → NextTreads w.oid (walk_on p next n w).to
-    unfolding walk_on
-    on_treads next zero w came = tt
-    on_treads next (suc n) w came = subst (λ (t : WalkTurn). NextTreads w.oid t.to) (sym (walk_on_is next n w)) (on_step next n w (λ v k. on_treads next n v k) came (next_visit w) refl)
-
     pub goes_treads : (next : ℕ) (w : Walk) → Came w → NextTreads w.oid (walk_from p next w).to
-    goes_treads next w came = on_treads next _ w came
+    goes_treads next w came = goes_on p next (λ (v : Walk). Came v × (v.oid ≡ w.oid)) (λ (t : WalkTurn). NextTreads w.oid t.to)
+        (λ v q c at known k. (visits v.cells v.oid (trail lasts 0) v.trail q c k.0 (visit_next v.lo (next_of_trail v.trail) q at) known, k.1)) (λ v k. tt)
+        (λ v q at unknown k. (with_job_treads v _ k.0 (visit_next v.lo (next_of_trail v.trail) q at) unknown, k.1)) _ w (came, refl)
 
     pub starts_treads : (o : Oid) (lo : ℕ) (cells : List (ℕ × Cell)) (next : ℕ) → NextTreads o (walk_start p o lasts lo cells next).to
     unfolding walk_start
@@ -101,24 +70,14 @@ module _ (lasts : List ℕ) where
     read_came w q c came at none =
         visits (with_cell w.cells q c) w.oid (trail lasts 0) w.trail q c (more_leads w.cells (with_cell w.cells q c) w.oid (trail lasts 0) w.trail (stored_stays w.cells q c none) came) at (cell_here w.cells q c)
 
-    end_treads : (w : Walk) (q : ℕ) (e : CellEnd) (next : ℕ) → IsTreading w → next_of_trail w.trail ≡ Some q → cell_at w.cells q ≡ None → NextTreads w.oid (walk_end p w q e next).to
-    end_treads w q (Done c) next k at none = goes_treads next (read_at w q c) (read_came w q c k.came at none)
-    end_treads w q (Gone b) next k at none = tt
-    end_treads w q (Fenced u e) next k at none = (k, refl)
-    end_treads w q Seen next k at none = (k, refl)
-    end_treads w q (Lost c) next k at none = (k, refl)
-
-    next_treads : (w : Walk) (q next : ℕ) (to : Next CellJob CellEnd) → ((j : CellJob) → to ≡ Goes j → j.place.pos ≡ q) → IsTreading w → next_of_trail w.trail ≡ Some q → cell_at w.cells q ≡ None → NextTreads w.oid (walk_next p w q to next).to
-    next_treads w q next (Goes j) f k at none =
-        let e = f j refl in
-        (with_job_treads w j k.came (at ∙ ap (λ (n : ℕ). Some n) (sym e)) (ap (cell_at w.cells) e ∙ none), refl)
-    next_treads w q next (Learns j) f k at none = (k, refl)
-    next_treads w q next (Ends e) f k at none = end_treads w q e next k at none
-
-    feed_at : (w : Walk) (o : Option CellJob) (n : ℕ) (x : Reply) (next : ℕ) → w.job ≡ o → IsTreading w → NextTreads w.oid (walk_feed p w o n x next).to
-    unfolding walk_feed
-    feed_at w None n x next is k = (k, refl)
-    feed_at w (Some j) n x next is k = let y = k.reads j is in next_treads w j.place.pos _ (cell_feed j n x next).to (λ i e. ap (λ z. z.pos) (same_place j n x next i e)) k y.0 y.1
+    turn_treads : (n : ℕ) (x : Reply) (next : ℕ) (w : Walk) (t : WalkTurn) → Fed p n x next w t → IsTreading w → NextTreads w.oid t.to
+    turn_treads n x next _ _ (ReadGoes w j i e) k =
+        let same : i.place.pos ≡ j.place.pos = ap (λ (a : Place). a.pos) (same_place j n x next i e) in
+        let y = k.reads j refl in
+        (with_job_treads w i k.came (y.0 ∙ ap (λ (q : ℕ). Some q) (sym same)) (ap (cell_at w.cells) same ∙ y.1), refl)
+    turn_treads n x next _ _ (ReadDone w j c e) k = let y = k.reads j refl in goes_treads _ (read_at (with_job w j) j.place.pos c) (read_came (with_job w j) j.place.pos c k.came y.0 y.1)
+    turn_treads n x next _ _ (ReadGone w j b e) k = tt
+    turn_treads n x next _ _ came k = (k, refl)
 
     pub feed_treads : (w : Walk) (n : ℕ) (x : Reply) (next : ℕ) → IsTreading w → NextTreads w.oid (walk_feed p w w.job n x next).to
-    feed_treads w n x next k = feed_at w w.job n x next refl k
+    feed_treads w n x next k = turn_treads n x next w _ (walk_fed p n x next w) k

@@ -1,6 +1,6 @@
 -- Trims: a unit that answers one has trimmed as far as it was asked, from then on; and which units a client has heard so.
 use Rattle.std.proofs.Common.{◌≡◌, ◌⊎◌, ℕ, ◌+◌, ◌<◌, ◌≤◌, List, [], ◌∷◌, length, filter, cond, Bool, true, false, refl, sym, ap, ◌∙◌, subst, inl, inr, arith, Some}
-use Rattle.std.specs.Prelude.{◌==◌, not, nat_lt, max}
+use Rattle.std.specs.Prelude.{◌==◌, not, max}
 use Rattle.tg_base.specs.Clusters.{Header}
 use Rattle.tg_base.specs.Layouts.{Layout}
 use Rattle.tg_base.specs.declared.ids.NodeId.{NodeId}
@@ -13,8 +13,8 @@ use Rattle.tg_kind.specs.Meaning.{Meaning}
 use Rattle.tg_protocol.specs.Words.{unit_id}
 use Rattle.tg_protocol.specs.Layouts.{units_of}
 use Rattle.tg_protocol.specs.Requests.{out, Waits, waits_for, without_wait, Next, Goes, Learns, Ends}
-use Rattle.tg_protocol.specs.Replies.{Reply, reply, IsGone, IsFenced}
-use Rattle.tg_protocol.specs.Trimming.{Trims, Trimmed, trim_asks, trim_start, trims_left, learns_if, trim_feed}
+use Rattle.tg_protocol.specs.Replies.{reply}
+use Rattle.tg_protocol.specs.Trimming.{Trims, Trimmed, TrimTurn, trim_asks, trim_start, trim_feed}
 use Rattle.tg_protocol.specs.Units.{UnitState, unit_ask, in_epoch, on_trim, on_ask, unit_step}
 use Rattle.tg_protocol.specs.Worlds.{start}
 use Rattle.tg_protocol.specs.Runs.{Moves}
@@ -26,6 +26,7 @@ use Rattle.tg_law_layouts.proofs.Moves.Moves.{Comes, unit_turn, Keeps, run_keeps
 use Rattle.tg_law_layouts.proofs.Moves.Growth.{Grows, IsCalm, by_unit, unit_turn_grows}
 use Rattle.tg_law_layouts.proofs.Moves.Units.{answers_request}
 use Rattle.tg_law_layouts.proofs.Requests.Answered.{turn_on, Said, old_or_said, unit_now}
+use Rattle.tg_law_steps.proofs.Machines.Trims.{trims, Fed, TrimsOn, TrimsLast, IsFence, Nothing, trims_fed}
 use Rattle.tg_law_headline.proofs.Alike.Appends.{is_gone, Asked}
 
 -- The units' side.
@@ -158,19 +159,14 @@ module _ (Got AskSent : NodeId → ℕ → Msg → Type 0) (e0 : ℕ) (Known : L
   unfolding trim_start
   trim_start_ok p n next known later = (refl, record { layout = p; known = known; later = later; units = λ u h. inl (all_wait (units_of p) next u h) })
 
-  module _ (p : Layout) (t : Trims) (ok : TrimsOk t.below t.waits) (from : NodeId) (rid : ℕ) (y : Msg) (got : Got from rid y) (next : ℕ) (a : Asked (trim_asks p t) from rid)
-      (looks : (u : ℕ) (o : Out) → Has (trim_asks p t) o → o.to ≡ unit_id u → o.to ≡ from → o.rid ≡ rid → AskSent o.to o.rid o.msg) where
-    left_ok : (ws : Waits) → ((u : ℕ) → Has (units_of ok.layout) u → HasWait ws u ⊎ TrimTold u t.below) → TrimNext t.below (trims_left t.below ws next).to
-    left_ok [] units = record { layout = ok.layout; known = ok.known; later = ok.later; units = λ u h. none u (units u h) }
-      where
-        none : (u : ℕ) → HasWait [] u ⊎ TrimTold u t.below → (t.below ≡ 0) ⊎ TrimTold u t.below
-        none u (inl w) = absurd w.1
-        none u (inr d) = inr d
-    left_ok (w ∷ ws) units = (refl, record { layout = ok.layout; known = ok.known; later = ok.later; units = units })
+  module _ (p : Layout) (from : NodeId) (rid : ℕ) (y : Msg) (got : Got from rid y) (next : ℕ) where
+    -- what is looked for in the requests, once they are found to be trims
+    abbrev Looks : Trims → Type 0
+    Looks t = (u : ℕ) (o : Out) → Has (trim_asks p t) o → o.to ≡ unit_id u → o.to ≡ from → o.rid ≡ rid → AskSent o.to o.rid o.msg
 
     -- the unit that answers now
-    answered : (b : ℕ) → y ≡ msg.Gone b → (u : ℕ) → u ≡ from.num → TrimTold u t.below
-    answered b is u at = by (has_map (λ (w : ℕ × ℕ). out (unit_id w.0) w.1 (msg.Trim p.epoch t.below)) t.waits a.of a.has)
+    answered : (t : Trims) → Asked (trim_asks p t) from rid → Looks t → (b : ℕ) → y ≡ msg.Gone b → (u : ℕ) → u ≡ from.num → TrimTold u t.below
+    answered t a looks b is u at = by (has_map (λ (w : ℕ × ℕ). out (unit_id w.0) w.1 (msg.Trim p.epoch t.below)) t.waits a.of a.has)
       where
         by : Image (λ (w : ℕ × ℕ). out (unit_id w.0) w.1 (msg.Trim p.epoch t.below)) t.waits a.of → TrimTold u t.below
         by w =
@@ -186,9 +182,10 @@ module _ (Got AskSent : NodeId → ℕ → Msg → Type 0) (e0 : ℕ) (Known : L
               gone = subst (λ (z : NodeId). Got z rid (msg.Gone b)) here (subst (Got from rid) is got);
             }
 
-    unit_left : (b : ℕ) → y ≡ msg.Gone b → (u : ℕ) → HasWait t.waits u ⊎ TrimTold u t.below → HasWait (without_wait from.num t.waits) u ⊎ TrimTold u t.below
-    unit_left b is u (inr d) = inr d
-    unit_left b is u (inl w) = by (u == from.num) refl
+    -- each is waited for still, or has answered
+    unit_left : (t : Trims) → Asked (trim_asks p t) from rid → Looks t → (b : ℕ) → y ≡ msg.Gone b → (ws : Waits) → without_wait from.num t.waits ≡ ws → (u : ℕ) → HasWait t.waits u ⊎ TrimTold u t.below → HasWait ws u ⊎ TrimTold u t.below
+    unit_left t a looks b is ws left u (inr d) = inr d
+    unit_left t a looks b is ws left u (inl w) = by (u == from.num) refl
       where
         same : (i j : ℕ) → (i == j) ≡ true → i ≡ j
         same i j h = grind arith
@@ -196,19 +193,22 @@ module _ (Got AskSent : NodeId → ℕ → Msg → Type 0) (e0 : ℕ) (Known : L
         other : (i j : ℕ) → (i == j) ≡ false → not (i == j) ≡ true
         other i j h = grind arith
 
-        by : (x : Bool) → (u == from.num) ≡ x → HasWait (without_wait from.num t.waits) u ⊎ TrimTold u t.below
-        by true e = inr (answered b is u (same u from.num e))
-        by false e = inl (w.0, stays_in (λ (x : ℕ × ℕ). not (x.0 == from.num)) t.waits (u, w.0) (other u from.num e) w.1)
+        by : (x : Bool) → (u == from.num) ≡ x → HasWait ws u ⊎ TrimTold u t.below
+        by true e = inr (answered t a looks b is u (same u from.num e))
+        by false e = inl (w.0, subst (λ (z : Waits). Has z (u, w.0)) left (stays_in (λ (x : ℕ × ℕ). not (x.0 == from.num)) t.waits (u, w.0) (other u from.num e) w.1))
 
-    fenced_ok : (b : Bool) → TrimNext t.below (learns_if b t next).to
-    fenced_ok true = refl
-    fenced_ok false = (refl, ok)
-
-    pub trim_fed : TrimNext t.below (trim_feed p t from.num (reply y) next).to
-    unfolding trim_feed
-    trim_fed = by (reply y) refl
+    turn_ok : (t : Trims) (c : TrimTurn) → Fed p from.num (reply y) next t c → TrimsOk t.below t.waits → Asked (trim_asks p t) from rid → Looks t → TrimNext t.below c.to
+    turn_ok _ _ (TrimsOn b ws d w vs is left) ok a looks =
+        (refl, record { layout = ok.layout; known = ok.known; later = ok.later; units = λ u h. unit_left (trims b ws) a looks d (is_gone y d is) (w ∷ vs) left u (ok.units u h) })
+    turn_ok _ _ (TrimsLast b ws d is left) ok a looks =
+        record { layout = ok.layout; known = ok.known; later = ok.later; units = λ u h. none u (unit_left (trims b ws) a looks d (is_gone y d is) [] left u (ok.units u h)) }
       where
-        by : (x : Reply) → reply y ≡ x → TrimNext t.below (trim_feed p t from.num x next).to
-        by (IsGone b) is = left_ok (without_wait from.num t.waits) (λ u h. unit_left b (is_gone y b is) u (ok.units u h))
-        by (IsFenced e) is = fenced_ok (nat_lt p.epoch e)
-        by x is = (refl, ok)
+        none : (u : ℕ) → HasWait [] u ⊎ TrimTold u b → (b ≡ 0) ⊎ TrimTold u b
+        none u (inl w) = absurd w.1
+        none u (inr d) = inr d
+    turn_ok _ _ (IsFence t e is f) ok a looks = refl
+    turn_ok _ _ (Nothing t) ok a looks = (refl, ok)
+
+  pub trim_fed : (p : Layout) (t : Trims) (ok : TrimsOk t.below t.waits) (from : NodeId) (rid : ℕ) (y : Msg) (got : Got from rid y) (next : ℕ) (a : Asked (trim_asks p t) from rid)
+      (looks : (u : ℕ) (o : Out) → Has (trim_asks p t) o → o.to ≡ unit_id u → o.to ≡ from → o.rid ≡ rid → AskSent o.to o.rid o.msg) → TrimNext t.below (trim_feed p t from.num (reply y) next).to
+  trim_fed p t ok from rid y got next a looks = turn_ok p from rid y got next t _ (trims_fed p from.num (reply y) next t) ok a looks
