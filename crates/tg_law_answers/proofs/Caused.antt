@@ -1,5 +1,5 @@
 -- Each refusal has its cause: of what walks find, and of whether an object is hosted, by the end of the walks.
-use Rattle.std.proofs.Common.{◌≡◌, ℕ, ◌<◌, List, [], ◌∷◌, ◌++◌, map, refl, sym, ap, ◌∙◌, subst, inl, inr, Some, None}
+use Rattle.std.proofs.Common.{◌≡◌, ℕ, ◌<◌, List, [], ◌∷◌, ◌++◌, map, refl, sym, ap, ◌∙◌, subst, inr, Some, None}
 use Rattle.tg_base.specs.Clusters.{Header}
 use Rattle.tg_base.specs.declared.ids.Oid.{Oid}
 use Rattle.tg_kind.specs.Meaning.{Meaning}
@@ -8,7 +8,7 @@ use Rattle.tg_model.specs.declared.command.Event.TheVariants.{Command as Command
 use Rattle.tg_model.specs.declared.refusal.Refusal.{Refusal}
 use Rattle.tg_model.specs.declared.refusal.Refusal.TheVariants as cause
 use Rattle.tg_model.specs.declared.trace.What.TheVariants as told
-use Rattle.tg_model.specs.Kinds.{CommandOf, EventOf, WhatOf, NoteOf}
+use Rattle.tg_model.specs.Kinds.{CommandOf, EventOf, WhatOf}
 use Rattle.tg_protocol.specs.Answers.{walked}
 use Rattle.tg_protocol.specs.Causes.{AsksOf, HasNoBase, IsOpen, IsForget, HasCause}
 use Rattle.tg_protocol.specs.Checkpoints.{NoCheckpoint, OpenDecision, may_forget}
@@ -31,8 +31,8 @@ use Rattle.tg_law_syncs.specs.Finds.Left.{SavesPrecede}
 use Rattle.tg_law_causes.proofs.Causing as causing
 use Rattle.tg_law_causes.proofs.Heard.{silent, lose_tells, tick_tells, stop_tells}
 use Rattle.tg_law_causes.proofs.PastBases.{past_oid}
-use Rattle.tg_law_causes.proofs.Stalled.{goes_reach, AtWalksEnd, handed_ends}
-use Rattle.tg_law_causes.proofs.Stalling.{Plain, widens, EachOk, Said, hosted_entries, kept_play, walked_so}
+use Rattle.tg_law_causes.proofs.Stalled.{goes_reach, AtWalksEnd, ends_tell, handed_ends}
+use Rattle.tg_law_causes.proofs.Stalling.{Plain, widens, Said, hosted_entries, kept_play, walked_so}
 use Rattle.tg_law_answers.proofs.Forgets.{no_base, is_open}
 use Rattle.tg_law_answers.proofs.Hosted.{asked_hosted, played_has}
 use Rattle.tg_law_answers.proofs.States.{HasState, play_keeps, start_has}
@@ -63,11 +63,6 @@ module _ (m : Meaning) (h : Header) (ms : Moves m) (e : EventOf m) (before : Rea
     ok_plain d (told.Refused (cause.OpenDecision p)) plain = absurd plain
     ok_plain d (told.Refused (cause.NotHosted o)) plain = absurd plain
     ok_plain d what plain = tt
-
-    each_has : (d : Client m) (ns : List (NoteOf m)) (n : NoteOf m) → EachOk m Ok ok_plain d ns → Has ns n → Ok d n.what
-    each_has d [] n all i = absurd i
-    each_has d (y ∷ ns) n all (inl same) = subst (λ (z : NoteOf m). Ok d z.what) (sym same) all.0
-    each_has d (y ∷ ns) n all (inr i) = each_has d ns n all.1 i
 
     -- the object of which the command asks is hosted
     hosted : (x : CommandOf m) (o : Oid) → k.end.work.command ≡ x → AsksOf m x o → Has k.end.client.hosted o
@@ -128,7 +123,7 @@ module _ (m : Meaning) (h : Header) (ms : Moves m) (e : EventOf m) (before : Rea
     })
 
     told_so : (why : Refusal) → t.mark.what ≡ told.Refused why → Ok (walked m k.end.client k.end.work).now (told.Refused why)
-    told_so why what = subst (λ (y : WhatOf m). Ok (walked m k.end.client k.end.work).now y) (sym k.is ∙ what) (each_has (walked m k.end.client k.end.work).now (walked m k.end.client k.end.work).notes k.note said.notes k.here)
+    told_so why what = ends_tell m Ok ok_plain h ms e r trims t k said (told.Refused why) what
 
   found_plainly : (why : Refusal) → IsFound why → Plain m (told.Refused why) → ⊥
   found_plainly (cause.NoCheckpoint o) found k = k

@@ -5,14 +5,12 @@ use Rattle.tg_base.specs.Clusters.{Header}
 use Rattle.tg_base.specs.declared.cell.Cell.{Cell}
 use Rattle.tg_base.specs.declared.ids.Oid.{Oid}
 use Rattle.tg_base.specs.declared.ids.Role.TheVariants as role
-use Rattle.tg_base.specs.declared.packet.Packet.{Packet}
 use Rattle.tg_kind.specs.Meaning.{Meaning}
 use Rattle.tg_model.specs.Kinds.{CommandOf, EventOf}
-use Rattle.tg_protocol.specs.Words.{client_id, numbers}
-use Rattle.tg_protocol.specs.Replies.{reply}
+use Rattle.tg_protocol.specs.Words.{numbers}
 use Rattle.tg_protocol.specs.Causes.{AsksOf}
 use Rattle.tg_protocol.specs.Checkpoints.{TrimPoints, trim_of, load_from, base_or, base_by, view_base, view_bases}
-use Rattle.tg_protocol.specs.Clients.{Task, Syncing, Walking, Appending, Trimming, Copying', Reconfiguring, Work, Client, new_client}
+use Rattle.tg_protocol.specs.Clients.{Work, Client, new_client}
 use Rattle.tg_protocol.specs.ClientSteps.{ClientTurn, task_in, knows, given_up_if}
 use Rattle.tg_protocol.specs.Answers.{play_target, view_or_new, own_view}
 use Rattle.tg_protocol.specs.Runs.{Moves, Takes, Reaches}
@@ -28,10 +26,8 @@ use Rattle.tg_law_layouts.proofs.Moves.Members.{Has}
 use Rattle.tg_law_layouts.proofs.Moves.Moves.{ClientInput, Commanded, Hears', Ticks', Keeps, client_turn, run_keeps}
 use Rattle.tg_law_replies.specs.Replies.Ended.{AppendsEnd}
 use Rattle.tg_law_replies.specs.Replies.Laws.{ClientsFind}
-use Rattle.tg_law_replies.proofs.Replies.Carried.{WalksBy}
+use Rattle.tg_law_replies.proofs.Replies.Carried.{Carries, carried_by, carried}
 use Rattle.tg_law_replies.proofs.Views.Bases.{loaded_of, oid_loaded}
-use Rattle.tg_law_trims.proofs.Leaves.Walks.{feed_by}
-use Rattle.tg_law_trims.proofs.Leaves.Ended.{Stays, Tells, stays_there}
 use Rattle.tg_law_causes.proofs.Causing.{has_has_oid}
 use Rattle.tg_law_causes.proofs.Judging.{now, view_waits}
 use Rattle.tg_law_causes.proofs.Stalled.{command_waits}
@@ -73,14 +69,15 @@ module _ (m : Meaning) where
     abbrev Same : Client m → Work m → Type 0
     Same c v = c.hosted ≡ (client m w n).hosted
 
-    same_stays : Stays m (λ q b. Unit {0}) Same
-    same_stays = record {
+    carries : Carries m Same
+    carries = record {
       turned = λ c v x g i. i;
-      taken = λ c v o x f i. i;
+      taken = λ c v o x i. i;
       known = λ c v s t ls lo i. known c v s i;
       given = λ c v b i. given c v b i;
       over = λ c v i. i;
-      stood = λ c v q less i. i;
+      again = λ c v i. i;
+      stood = λ c v q i. i;
     }
       where
         known : (c : Client m) (v : Work m) (s : Option (ℕ × Cell)) → Same c v → Same (knows m c s) v
@@ -91,24 +88,8 @@ module _ (m : Meaning) where
         given c v true i = i
         given c v false i = i
 
-    same_walks : (v : Work m) (t : Task m) → WalksBy m Same (client m w n) v t
-    same_walks v (Syncing s) = refl
-    same_walks v (Walking j os) = refl
-    same_walks v (Appending a y) = tt
-    same_walks v (Trimming t) = tt
-    same_walks v (Copying' y) = tt
-    same_walks v (Reconfiguring r) = tt
-
-    same_hears : (x : Packet) → Has w.packets x → x.to ≡ client_id n → Tells m (λ q b. Unit {0}) Same (client m w n) x.from x.rid (reply x.msg)
-    same_hears x sent to v (Walking j os) is doing a = feed_by (λ b. Unit {0}) (client m w n).stand j x.from.num (reply x.msg) (client m w n).next (λ i b job ends. tt)
-    same_hears x sent to v (Syncing s) is doing a = tt
-    same_hears x sent to v (Appending s y) is doing a = tt
-    same_hears x sent to v (Trimming t) is doing a = tt
-    same_hears x sent to v (Copying' y) is doing a = tt
-    same_hears x sent to v (Reconfiguring r) is doing a = tt
-
     hosted_waits : (e : EventOf m) (y : Walked m) → walked_in m w e n ≡ Some y → y.client.hosted ≡ (client m w n).hosted
-    hosted_waits e y is = stays_there m (λ q b. Unit {0}) Same same_stays w n (λ v works. same_walks v (task_in m v.hand)) same_hears e y is
+    hosted_waits e y is = carried m Same carries w e n y (λ v works. carried_by m Same carries (client m w n) v (task_in m v.hand) refl) is
 
   -- the object of which a command asks is hosted where its walks are over
   pub asked_hosted : (h : Header) (ms : Moves m) (e : EventOf m) (n : ℕ) (y : Walked m) → walked_in m (after m h ms) e n ≡ Some y → (o : Oid) → AsksOf m y.work.command o → Has y.client.hosted o

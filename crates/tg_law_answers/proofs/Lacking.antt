@@ -5,7 +5,7 @@ use Rattle.tg_base.specs.declared.ids.Oid.{Oid}
 use Rattle.tg_kind.specs.Meaning.{Meaning}
 use Rattle.tg_model.specs.declared.command.Command.TheVariants as cmd
 use Rattle.tg_model.specs.declared.trace.What.TheVariants as told
-use Rattle.tg_model.specs.Kinds.{CommandOf, EventOf, WhatOf, NoteOf}
+use Rattle.tg_model.specs.Kinds.{CommandOf, EventOf, WhatOf}
 use Rattle.tg_protocol.specs.Past.{commit_at}
 use Rattle.tg_protocol.specs.Clients.{Task, Syncing, Walking, Appending, Trimming, Copying', Reconfiguring, Work, Client, all_entries}
 use Rattle.tg_protocol.specs.ClientSteps.{task_in}
@@ -18,7 +18,7 @@ use Rattle.tg_protocol.specs.Runs.{Moves, Takes, Reaches}
 use Rattle.tg_law_layouts.specs.Moves.After.{after}
 use Rattle.tg_law_replies.specs.History.Worlds.{entries_in}
 use Rattle.tg_law_replies.specs.Replies.Ended.{AppendsEnd}
-use Rattle.tg_law_replies.proofs.History.Members.{Has, has_contained}
+use Rattle.tg_law_replies.proofs.History.Members.{has_contained}
 use Rattle.tg_law_walks.specs.Lists.Spared.{TrimsWereSpare}
 use Rattle.tg_law_walks.specs.Walks.Rounds.{round, IsRound}
 use Rattle.tg_law_walks.proofs.Walks.Syncs.{logs_by_position}
@@ -26,8 +26,8 @@ use Rattle.tg_law_syncs.proofs.Exact.Finds.{rounds_exact}
 use Rattle.tg_law_trims.proofs.Leaves.Turns.{AtTask, AtWork}
 use Rattle.tg_law_causes.specs.Undecidings.{LacksRecord, UnsureUnlessLacking}
 use Rattle.tg_law_causes.proofs.EndsGive.{ends_give}
-use Rattle.tg_law_causes.proofs.Stalling.{Plain, Brief, EachOk, Said, widens, walked_so}
-use Rattle.tg_law_causes.proofs.Stalled.{AtWalksEnd, undecided_ends}
+use Rattle.tg_law_causes.proofs.Stalling.{Plain, Brief, Said, widens, walked_so}
+use Rattle.tg_law_causes.proofs.Stalled.{AtWalksEnd, ends_tell, undecided_ends}
 use Rattle.tg_law_answers.specs.Undecided.{HasNoYes, UnsureUnlessYes}
 use Rattle.tg_law_answers.proofs.Absent.{Owned, commit_found, own_found}
 use Rattle.tg_law_answers.proofs.Along.{K, owns_at}
@@ -70,11 +70,6 @@ module _ (m : Meaning) (h : Header) (ms : Moves m) (e : EventOf m) (before : Rea
     ok_plain d (told.Unsure a p) plain = absurd plain
     ok_plain d what plain = tt
 
-    each_has : (d : Client m) (ns : List (NoteOf m)) (n : NoteOf m) → EachOk m Ok ok_plain d ns → Has ns n → Ok d n.what
-    each_has d [] n all i = absurd i
-    each_has d (y ∷ ns) n all (inl same) = subst (λ (z : NoteOf m). Ok d z.what) (sym same) all.0
-    each_has d (y ∷ ns) n all (inr i) = each_has d ns n all.1 i
-
     said : Said m Ok ok_plain (walked m k.end.client k.end.work)
     said = walked_so m Ok ok_plain k.end.client k.end.work (record {
       undecided = λ d p o kept s n none. tt;
@@ -90,7 +85,7 @@ module _ (m : Meaning) (h : Header) (ms : Moves m) (e : EventOf m) (before : Rea
     })
 
     ends_so : (a p : ℕ) → t.mark.what ≡ told.Unsure a p → (a ≡ k.end.work.at) × (k.end.work.command ≡ cmd.End)
-    ends_so a p what = subst (λ (y : WhatOf m). Ok (walked m k.end.client k.end.work).now y) (sym k.is ∙ what) (each_has (walked m k.end.client k.end.work).now (walked m k.end.client k.end.work).notes k.note said.notes k.here)
+    ends_so a p what = ends_tell m Ok ok_plain h ms e reach trims t k said (told.Unsure a p) what
 
     -- the record that an `end` has appended is among its entries
     own_there : k.end.work.command ≡ cmd.End → commit_at (all_entries m k.end.client k.end.work k.end.work.oids) k.end.work.at ≡ None → ⊥

@@ -31,10 +31,8 @@ use Rattle.tg_law_cells.specs.Places.Order.{IsPlace, PastPage}
 use Rattle.tg_law_cells.proofs.Places.Order.{points_precede_places}
 use Rattle.tg_law_replies.specs.Replies.Ended.{work_ends, handed_ends, packet_ends, ended_in}
 use Rattle.tg_law_replies.proofs.History.Members.{and_both, both_and, number_same}
-use Rattle.tg_law_replies.proofs.Replies.Carried.{WalksBy}
+use Rattle.tg_law_replies.proofs.Replies.Carried.{WalksBy, Carries, carried}
 use Rattle.tg_law_walks.proofs.Once.Reached.{reach_at}
-use Rattle.tg_law_trims.proofs.Leaves.Walks.{feed_by}
-use Rattle.tg_law_trims.proofs.Leaves.Ended.{Stays, Tells, stays_there}
 use Rattle.tg_law_order.proofs.Spans.Turns as turns
 use Rattle.tg_law_order.proofs.Spans.Snapshots as spans
 use Rattle.tg_law_order.proofs.Decided.Ending.{AtTail, deliver_tail}
@@ -198,14 +196,15 @@ module _ (m : Meaning) (h : Header) (zs : Moves m) (reach : Reaches m h zs (afte
     abbrev Kept : Client m → Work m → Type 0
     Kept d v = Keep m (λ p. Since k p (client m (after m h zs) k)) d.own v
 
-    stays : Stays m (λ q b. Unit {0}) Kept
-    stays = record {
+    carries : Carries m Kept
+    carries = record {
       turned = λ d v n g i. i;
-      taken = λ d v o x f i. i;
+      taken = λ d v o x i. i;
       known = λ d v s t ls lo i. known d v s i;
       given = λ d v b i. given d v b i;
       over = λ d v i. i;
-      stood = λ d v q less i. i;
+      again = λ d v i. i;
+      stood = λ d v q i. i;
     }
       where
         known : (d : Client m) (v : Work m) (s : Option (ℕ × Cell)) → Kept d v → Keep m (λ p. Since k p (client m (after m h zs) k)) (knows m d s).own v
@@ -224,16 +223,8 @@ module _ (m : Meaning) (h : Header) (zs : Moves m) (reach : Reaches m h zs (afte
     walks v (Copying' y) f = tt
     walks v (Reconfiguring r) f = tt
 
-    hears : (x : Packet) → Has (after m h zs).packets x → x.to ≡ client_id k → Tells m (λ q b. Unit {0}) Kept (client m (after m h zs) k) x.from x.rid (reply x.msg)
-    hears x sent to v (Walking j os) is doing a = feed_by (λ b. Unit {0}) (client m (after m h zs) k).stand j x.from.num (reply x.msg) (client m (after m h zs) k).next (λ i b job ends. tt)
-    hears x sent to v (Syncing s) is doing a = tt
-    hears x sent to v (Appending s y) is doing a = tt
-    hears x sent to v (Trimming t) is doing a = tt
-    hears x sent to v (Copying' y) is doing a = tt
-    hears x sent to v (Reconfiguring r) is doing a = tt
-
     kept_there : (e : EventOf m) (y : Walked m) → walked_in m (after m h zs) e k ≡ Some y → Kept y.client y.work
-    kept_there e y is = stays_there m (λ q b. Unit {0}) Kept stays (after m h zs) k (λ v works. walks v (task_in m v.hand) (subst (λ (o : Option (Work m)). WorkKept m (λ p. Since k p (client m (after m h zs) k)) (client m (after m h zs) k).own o) works (waits_at_end k))) hears e y is
+    kept_there e y is = carried m Kept carries (after m h zs) e k y (λ v works. walks v (task_in m v.hand) (subst (λ (o : Option (Work m)). WorkKept m (λ p. Since k p (client m (after m h zs) k)) (client m (after m h zs) k).own o) works (waits_at_end k))) is
 
     module _ (p : ℕ) (s : Since k p (client m (after m h zs) k)) where
       abbrev Tailed : Option (Walked m) → Type 0

@@ -1,5 +1,5 @@
 -- Where an object may not be forgotten for want of a checkpoint: the client's walks are over, and none below their tail reaches the mark.
-use Rattle.std.proofs.Common.{◌≡◌, ℕ, ◌<◌, ◌≤◌, List, [], ◌∷◌, ◌++◌, refl, sym, ap, ◌∙◌, subst, inl, inr, Some}
+use Rattle.std.proofs.Common.{◌≡◌, ℕ, ◌<◌, ◌≤◌, [], ◌∷◌, ◌++◌, refl, sym, ap, ◌∙◌, subst, Some}
 use Rattle.tg_base.specs.Clusters.{Header}
 use Rattle.tg_base.specs.declared.ids.Oid.{Oid}
 use Rattle.tg_base.specs.declared.msg.Msg.TheVariants as msg
@@ -8,7 +8,7 @@ use Rattle.tg_kind.specs.Meaning.{Meaning}
 use Rattle.tg_model.specs.declared.command.Command.TheVariants as cmd
 use Rattle.tg_model.specs.declared.refusal.Refusal.TheVariants as cause
 use Rattle.tg_model.specs.declared.trace.What.TheVariants as told
-use Rattle.tg_model.specs.Kinds.{CommandOf, EventOf, WhatOf, NoteOf}
+use Rattle.tg_model.specs.Kinds.{CommandOf, EventOf, WhatOf}
 use Rattle.tg_protocol.specs.Alike.{SentNow, HasEntry}
 use Rattle.tg_protocol.specs.Answers.{walked}
 use Rattle.tg_protocol.specs.Causes.{AsksOf}
@@ -20,12 +20,12 @@ use Rattle.tg_protocol.specs.Worlds.{World, Told}
 use Rattle.tg_law_layouts.specs.Moves.After.{after}
 use Rattle.tg_law_layouts.proofs.Moves.Lists.{contained}
 use Rattle.tg_law_replies.specs.History.Worlds.{entries_in}
-use Rattle.tg_law_replies.proofs.History.Members.{Has, has_contained}
+use Rattle.tg_law_replies.proofs.History.Members.{has_contained}
 use Rattle.tg_law_walks.specs.Lists.Spared.{TrimsWereSpare}
 use Rattle.tg_law_walks.proofs.Drafts.Written.{then_takes}
 use Rattle.tg_law_syncs.specs.Finds.Left.{SavesPrecede}
-use Rattle.tg_law_causes.proofs.Stalled.{AtWalksEnd, command_waits, undecided_ends}
-use Rattle.tg_law_causes.proofs.Stalling.{Plain, Brief, EachOk, Said, hosted_entries, walked_so}
+use Rattle.tg_law_causes.proofs.Stalled.{AtWalksEnd, ends_tell, command_waits, undecided_ends}
+use Rattle.tg_law_causes.proofs.Stalling.{Plain, Brief, Said, hosted_entries, walked_so}
 use Rattle.tg_law_answers.specs.Confirmed.{IsUnsaved, UnsavedThere}
 use Rattle.tg_law_answers.proofs.Forgets.{none_below}
 use Rattle.tg_law_answers.proofs.Hosted.{asked_hosted}
@@ -42,11 +42,6 @@ module _ (m : Meaning) (h : Header) (ms : Moves m) (e : EventOf m) (before : Rea
     ok_plain d (told.Refused (cause.NoCheckpoint o)) plain = absurd plain
     ok_plain d what plain = tt
 
-    each_has : (d : Client m) (ns : List (NoteOf m)) (n : NoteOf m) → EachOk m Ok ok_plain d ns → Has ns n → Ok d n.what
-    each_has d [] n all i = absurd i
-    each_has d (y ∷ ns) n all (inl same) = subst (λ (z : NoteOf m). Ok d z.what) (sym same) all.0
-    each_has d (y ∷ ns) n all (inr i) = each_has d ns n all.1 i
-
     said : Said m Ok ok_plain (walked m k.end.client k.end.work)
     said = walked_so m Ok ok_plain k.end.client k.end.work (record {
       undecided = λ d p o kept s n none. tt;
@@ -62,7 +57,7 @@ module _ (m : Meaning) (h : Header) (ms : Moves m) (e : EventOf m) (before : Rea
     })
 
     found : (o : Oid) → t.mark.what ≡ told.Refused (cause.NoCheckpoint o) → (n : ℕ) × (k.end.work.command ≡ cmd.Forget o n) × (may_forget m (hosted_entries m k.end.client k.end.work) o n ≡ Some NoCheckpoint)
-    found o what = subst (λ (y : WhatOf m). Ok (walked m k.end.client k.end.work).now y) (sym k.is ∙ what) (each_has (walked m k.end.client k.end.work).now (walked m k.end.client k.end.work).notes k.note said.notes k.here)
+    found o what = ends_tell m Ok ok_plain h ms e r trims t k said (told.Refused (cause.NoCheckpoint o)) what
 
     is_unsaved : (o : Oid) → (n : ℕ) × (k.end.work.command ≡ cmd.Forget o n) × (may_forget m (hosted_entries m k.end.client k.end.work) o n ≡ Some NoCheckpoint) → IsUnsaved m (after m h ms) e t o
     is_unsaved o g = record {

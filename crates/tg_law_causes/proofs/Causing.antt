@@ -52,12 +52,12 @@ use Rattle.tg_law_trims.proofs.Leaves.Leaving.{mine_of}
 use Rattle.tg_law_causes.specs.Undecidings.{UndecidedTrue, LacksRecord, UnsureUnlessLacking}
 use Rattle.tg_law_causes.proofs.EndsGive.{ends_give}
 use Rattle.tg_law_causes.proofs.Judging.{never_unchanged}
-use Rattle.tg_law_causes.proofs.Stalling.{Plain, Brief, PlaysKept, widens, Unknowns, IsBlocked, blocked_there, EachOk, SeenBy, Said, hosted_entries, kept_play, walked_so}
+use Rattle.tg_law_causes.proofs.Stalling.{Plain, Brief, PlaysKept, widens, Unknowns, IsBlocked, blocked_there, SeenBy, Said, hosted_entries, kept_play, walked_so}
 use Rattle.tg_law_causes.proofs.HeardAlong.{Met}
 use Rattle.tg_law_causes.proofs.OwnAlong.{owns_commit}
 use Rattle.tg_law_causes.proofs.PastBases.{past_oid, past_up}
 use Rattle.tg_law_causes.proofs.Rescuing.{has_oid_has, trim_has, reads_trimmed, none_among, playing, rescue_stuck, stuck_trimmed}
-use Rattle.tg_law_causes.proofs.Stalled.{goes_reach, command_waits, AtWalksEnd, undecided_ends, met_of}
+use Rattle.tg_law_causes.proofs.Stalled.{goes_reach, command_waits, AtWalksEnd, ends_tell, undecided_ends, met_of}
 
 pub has_has_oid : (o : Oid) (os : List Oid) → Has os o → has_oid o os ≡ true
 has_has_oid o [] i = absurd i
@@ -189,10 +189,10 @@ module _ (m : Meaning) (h : Header) (ms : Moves m) (e : EventOf m) (r : Reaches 
     abbrev f : Oid → Base m
     f = past_base m (member_entries m k.end.client k.end.work k.end.work.oids) k.end.work.trims k.end.client.objects p
 
-    abbrev started : View m
+    abbrev pub started : View m
     started = view_start m (map (past_base m (member_entries m k.end.client k.end.work k.end.work.oids) k.end.work.trims k.end.client.objects p) k.end.work.oids)
 
-    blocked : IsBlocked m (member_entries m k.end.client k.end.work k.end.work.oids) (play m started (member_entries m k.end.client k.end.work k.end.work.oids) p).view p q b
+    pub blocked : IsBlocked m (member_entries m k.end.client k.end.work k.end.work.oids) (play m started (member_entries m k.end.client k.end.work k.end.work.oids) p).view p q b
     blocked = blocked_there m (member_entries m k.end.client k.end.work k.end.work.oids) started p q b
         (ap (λ (y : Play m). y.came) (sym (past_view (member_entries m k.end.client k.end.work k.end.work.oids) k.end.work.trims k.end.work.oids k.end.client.objects o p u view)) ∙ came)
 
@@ -290,11 +290,6 @@ module _ (m : Meaning) (h : Header) (ms : Moves m) (e : EventOf m) (r : Reaches 
     ok_plain d (told.Unsure a p) plain = absurd plain
     ok_plain d what plain = tt
 
-    each_has : (d : Client m) (ns : List (NoteOf m)) (n : NoteOf m) → EachOk m Ok ok_plain d ns → Has ns n → Ok d n.what
-    each_has d [] n all i = absurd i
-    each_has d (y ∷ ns) n all (inl same) = subst (λ (z : NoteOf m). Ok d z.what) (sym same) all.0
-    each_has d (y ∷ ns) n all (inr i) = each_has d ns n all.1 i
-
     rescue_later : (a q : ℕ) (b : Oid) → k.end.work.command ≡ cmd.Rescue a → rescue_turn m (all_entries m k.end.client k.end.work k.end.work.oids) k.end.work.trims k.end.work.oids k.end.client.objects a ≡ StuckAt q b → Later q b
     rescue_later a q b is turn =
         let s = rescue_stuck m (all_entries m k.end.client k.end.work k.end.work.oids) k.end.work.trims k.end.client.objects k.end.work.oids a q b turn in
@@ -340,13 +335,11 @@ module _ (m : Meaning) (h : Header) (ms : Moves m) (e : EventOf m) (r : Reaches 
     })
 
     pub is_unsure : (a p : ℕ) → t.mark.what ≡ told.Unsure a p → IsUnsure m (after m h ms) e t a p ⊎ ((p ≡ a) × LacksRecord m (after m h ms) e t a)
-    is_unsure a p what = subst (λ (y : WhatOf m). Ok (walked m k.end.client k.end.work).now y) (sym k.is ∙ what)
-        (each_has (walked m k.end.client k.end.work).now (walked m k.end.client k.end.work).notes k.note said.notes k.here) now_at
+    is_unsure a p what = ends_tell m Ok ok_plain h ms e r trims t k said (told.Unsure a p) what now_at
 
     pub has_cause : (p : ℕ) (o : Oid) → t.mark.what ≡ told.Refused (cause.Undecided p o) → HasCause m (after m h ms) e t (cause.Undecided p o)
     has_cause p o what =
-        let later = subst (λ (y : WhatOf m). Ok (walked m k.end.client k.end.work).now y) (sym k.is ∙ what)
-        (each_has (walked m k.end.client k.end.work).now (walked m k.end.client k.end.work).notes k.note said.notes k.here) now_at in
+        let later = ends_tell m Ok ok_plain h ms e r trims t k said (told.Refused (cause.Undecided p o)) what now_at in
         record { command = k.end.work.command; answered = waited; because = inr (subst (λ (u : World m). CantKnow m k.end.work.command u t p o) (then_takes m h ms e) later.0, later.1) }
 
 -- Of a step of a run in which trims were spare and appends end where they say.

@@ -16,7 +16,7 @@ use Rattle.tg_protocol.specs.Versions.{Changed}
 use Rattle.tg_protocol.specs.Views.{Entries, View, Commits, Aborts, decision_in, unknown_in, changed_in, by_changes, by_versions, verdict}
 use Rattle.tg_protocol.specs.Checkpoints.{view_bases}
 use Rattle.tg_protocol.specs.Past.{commit_at}
-use Rattle.tg_protocol.specs.Clients.{Task, Syncing, Walking, Appending, Trimming, Copying', Reconfiguring, Work, Client}
+use Rattle.tg_protocol.specs.Clients.{Work, Client}
 use Rattle.tg_protocol.specs.Answers.{play_target, view_or_new}
 use Rattle.tg_protocol.specs.ClientSteps.{task_in, knows, given_up_if}
 use Rattle.tg_protocol.specs.Walked.{Walked, walked_in}
@@ -36,14 +36,12 @@ use Rattle.tg_law_replies.proofs.History.Ledger.{one_entry}
 use Rattle.tg_law_replies.proofs.History.Members.{has_contained, contained_has}
 use Rattle.tg_law_replies.proofs.Pages.Read.{logs_keep_grammar}
 use Rattle.tg_law_replies.proofs.Replies.Along.{Along, moved_by, passed}
-use Rattle.tg_law_replies.proofs.Replies.Carried.{WalksBy}
+use Rattle.tg_law_replies.proofs.Replies.Carried.{Carries, carried_by, carried}
 use Rattle.tg_law_replies.proofs.Replies.Found.{each_ready}
 use Rattle.tg_law_replies.proofs.Replies.Ready.{IsReady, IsReadyToPlay, Ready, view_of, played}
 use Rattle.tg_law_replies.proofs.Replies.Telling.{RightAndKept, of_right, found_kept}
 use Rattle.tg_law_replies.proofs.Views.Plays.{verdicts_true, plays_true, played_stands, starts_true}
 use Rattle.tg_law_replies.proofs.Views.Records.{commit_there}
-use Rattle.tg_law_trims.proofs.Leaves.Walks.{feed_by}
-use Rattle.tg_law_trims.proofs.Leaves.Ended.{Stays, Tells, stays_there}
 use Rattle.tg_law_causes.proofs.EndsGive.{ends_give}
 
 -- The kept view is given up, or stays through the walks of a step.
@@ -51,14 +49,15 @@ module _ (m : Meaning) (w : World m) (k : ℕ) where
   abbrev pub SameView : Client m → Work m → Type 0
   SameView c v = (c.view ≡ (client m w k).view) ⊎ (c.view ≡ None)
 
-  view_stays : Stays m (λ q b. Unit {0}) SameView
-  view_stays = record {
+  carries : Carries m SameView
+  carries = record {
     turned = λ c v n g i. i;
-    taken = λ c v o x f i. i;
+    taken = λ c v o x i. i;
     known = λ c v s t ls lo i. known c v s i;
     given = λ c v b i. given c v b i;
     over = λ c v i. i;
-    stood = λ c v q less i. i;
+    again = λ c v i. i;
+    stood = λ c v q i. i;
   }
     where
       known : (c : Client m) (v : Work m) (s : Option (ℕ × Cell)) → SameView c v → SameView (knows m c s) v
@@ -69,24 +68,8 @@ module _ (m : Meaning) (w : World m) (k : ℕ) where
       given c v true i = inr refl
       given c v false i = i
 
-  view_walks : (v : Work m) (t : Task m) → WalksBy m SameView (client m w k) v t
-  view_walks v (Syncing s) = inl refl
-  view_walks v (Walking j os) = inl refl
-  view_walks v (Appending a y) = tt
-  view_walks v (Trimming t) = tt
-  view_walks v (Copying' y) = tt
-  view_walks v (Reconfiguring r) = tt
-
-  view_hears : (x : Packet) → Has w.packets x → x.to ≡ client_id k → Tells m (λ q b. Unit {0}) SameView (client m w k) x.from x.rid (reply x.msg)
-  view_hears x sent to v (Walking j os) is doing a = feed_by (λ b. Unit {0}) (client m w k).stand j x.from.num (reply x.msg) (client m w k).next (λ i b job ends. tt)
-  view_hears x sent to v (Syncing s) is doing a = tt
-  view_hears x sent to v (Appending s y) is doing a = tt
-  view_hears x sent to v (Trimming t) is doing a = tt
-  view_hears x sent to v (Copying' y) is doing a = tt
-  view_hears x sent to v (Reconfiguring r) is doing a = tt
-
   pub view_waits : (e : EventOf m) (y : Walked m) → walked_in m w e k ≡ Some y → SameView y.client y.work
-  view_waits e y is = stays_there m (λ q b. Unit {0}) SameView view_stays w k (λ v works. view_walks v (task_in m v.hand)) view_hears e y is
+  view_waits e y is = carried m SameView carries w e k y (λ v works. carried_by m SameView carries (client m w k) v (task_in m v.hand) (inl refl)) is
 
 -- known reads that haven't changed commit a record, as far as no decision record is looked at
 unchanged_commits : (m : Meaning) (v : View m) (p : ℕ) (d : Entry) → unknown_in m v (reads_of d) p ≡ None → changed_in m v (reads_of d) p ≡ None → verdict m v [] p d ≡ Commits

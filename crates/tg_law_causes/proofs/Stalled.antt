@@ -13,7 +13,7 @@ use Rattle.tg_model.specs.Kinds.{CommandOf, EventOf, WhatOf, NoteOf}
 use Rattle.tg_protocol.specs.Words.{client_id}
 use Rattle.tg_protocol.specs.Replies.{reply}
 use Rattle.tg_protocol.specs.Past.{StuckAt, rescue_turn}
-use Rattle.tg_protocol.specs.Clients.{Task, Syncing, Walking, Appending, Trimming, Copying', Reconfiguring, Work, Client, all_entries}
+use Rattle.tg_protocol.specs.Clients.{Work, Client, all_entries}
 use Rattle.tg_protocol.specs.Answers.{walked}
 use Rattle.tg_protocol.specs.ClientSteps.{ClientTurn, task_in}
 use Rattle.tg_protocol.specs.Walked.{Walked, walked_in}
@@ -26,14 +26,12 @@ use Rattle.tg_law_layouts.proofs.Moves.Lists.{contained}
 use Rattle.tg_law_layouts.proofs.Moves.Members.{Has, has_either, has_map}
 use Rattle.tg_law_replies.proofs.History.Members.{has_contained}
 use Rattle.tg_law_replies.proofs.Books.Worlds.{nil_right}
-use Rattle.tg_law_replies.proofs.Replies.Carried.{WalksBy}
+use Rattle.tg_law_replies.proofs.Replies.Carried.{Carries, carried_by, carried}
 use Rattle.tg_law_walks.specs.Lists.Spared.{TrimsWereSpare}
 use Rattle.tg_law_walks.proofs.Drafts.Clients.{happens_steps}
 use Rattle.tg_law_walks.proofs.Drafts.Written.{then_takes}
-use Rattle.tg_law_trims.proofs.Leaves.Walks.{feed_by}
-use Rattle.tg_law_trims.proofs.Leaves.Ended.{Stays, Tells as Tellings, stays_there}
 use Rattle.tg_law_headline.proofs.Alike.Speaks.{Speaks, Silent, Speaks', Turns, told_of, speaks}
-use Rattle.tg_law_causes.proofs.Stalling.{Plain, PlainNotes, Brief, BriefNotes, PlaysKept, EachOk, walked_so}
+use Rattle.tg_law_causes.proofs.Stalling.{Plain, PlainNotes, Brief, BriefNotes, PlaysKept, Said, each_has, walked_so}
 use Rattle.tg_law_causes.proofs.Hearing.{EndOk}
 use Rattle.tg_law_causes.proofs.Heard.{turn, Handed, deliver_hands}
 use Rattle.tg_law_causes.proofs.HeardAlong.{linked, Tail, Met, State, kept_of, Tells, Plain', AtEnd, Over, hears_tells, tells, state_at}
@@ -70,34 +68,19 @@ module _ (m : Meaning) where
     abbrev IsOf : Client m → Work m → Type 0
     IsOf c v = command_in m (client m w k).work ≡ Some v.command
 
-    stays : Stays m (λ q b. Unit {0}) IsOf
-    stays = record {
+    carries : Carries m IsOf
+    carries = record {
       turned = λ c v n g i. i;
-      taken = λ c v o x f i. i;
+      taken = λ c v o x i. i;
       known = λ c v s t ls lo i. i;
       given = λ c v b i. i;
       over = λ c v i. i;
-      stood = λ c v q less i. i;
+      again = λ c v i. i;
+      stood = λ c v q i. i;
     }
 
-    walks_of : (v : Work m) → (client m w k).work ≡ Some v → (t : Task m) → WalksBy m IsOf (client m w k) v t
-    walks_of v is (Syncing s) = ap (λ (o : Option (Work m)). command_in m o) is
-    walks_of v is (Walking j os) = ap (λ (o : Option (Work m)). command_in m o) is
-    walks_of v is (Appending a y) = tt
-    walks_of v is (Trimming t) = tt
-    walks_of v is (Copying' y) = tt
-    walks_of v is (Reconfiguring r) = tt
-
-    hears : (x : Packet) → Has w.packets x → x.to ≡ client_id k → Tellings m (λ q b. Unit {0}) IsOf (client m w k) x.from x.rid (reply x.msg)
-    hears x sent to v (Walking j os) is doing a = feed_by (λ b. Unit {0}) (client m w k).stand j x.from.num (reply x.msg) (client m w k).next (λ i b job ends. tt)
-    hears x sent to v (Syncing s) is doing a = tt
-    hears x sent to v (Appending s y) is doing a = tt
-    hears x sent to v (Trimming t) is doing a = tt
-    hears x sent to v (Copying' y) is doing a = tt
-    hears x sent to v (Reconfiguring r) is doing a = tt
-
     pub command_waits : (e : EventOf m) (y : Walked m) → walked_in m w e k ≡ Some y → command_in m (client m w k).work ≡ Some y.work.command
-    command_waits e y is = stays_there m (λ q b. Unit {0}) IsOf stays w k (λ v works. walks_of v works (task_in m v.hand)) hears e y is
+    command_waits e y is = carried m IsOf carries w e k y (λ v works. carried_by m IsOf carries (client m w k) v (task_in m v.hand) (ap (λ (o : Option (Work m)). command_in m o) works)) is
 
   -- What is told of something undecided is told at the end of walks.
 
@@ -110,6 +93,12 @@ module _ (m : Meaning) where
     pub here : Has (walked m end.client end.work).notes note
     pub is : t.mark.what ≡ note.what
     pub now : client m (happens m (after m h ms) e) t.mark.client ≡ record (walked m end.client end.work).now { calls = (walked m end.client end.work).now.calls + 1 }
+
+  -- what is told then is as all is that the client tells
+  module _ (Ok : Client m → WhatOf m → Type 0) (ok : (d : Client m) (what : WhatOf m) → Plain m what → Ok d what) (h : Header) (ms : Moves m) (e : EventOf m) (r : Reaches m h (ms ++ Takes e ∷ []) (after m h (ms ++ Takes e ∷ []))) (trims : TrimsWereSpare m h (ms ++ Takes e ∷ [])) (t : Told m)
+      (k : AtWalksEnd h ms e r trims t) (said : Said m Ok ok (walked m k.end.client k.end.work)) where
+    pub ends_tell : (what : WhatOf m) → t.mark.what ≡ what → Ok (walked m k.end.client k.end.work).now what
+    ends_tell what is = subst (λ (y : WhatOf m). Ok (walked m k.end.client k.end.work).now y) (sym k.is ∙ is) (each_has m Ok ok (walked m k.end.client k.end.work).now (walked m k.end.client k.end.work).notes k.note said.notes k.here)
 
   plain_has : (ns : List (NoteOf m)) (n : NoteOf m) → PlainNotes m ns → Has ns n → Plain m n.what
   plain_has [] n k i = absurd i
@@ -212,11 +201,6 @@ module _ (m : Meaning) where
     ok_plain end t d (told.Refused (cause.Undecided q o)) k = absurd k
     ok_plain end t d what k = tt
 
-    each_has : (end : Walked m) (t : Told m) (d : Client m) (ns : List (NoteOf m)) (n : NoteOf m) → EachOk m (Ok end t) (ok_plain end t) d ns → Has ns n → Ok end t d n.what
-    each_has end t d [] n k i = absurd i
-    each_has end t d (x ∷ ns) n k (inl same) = subst (λ (y : NoteOf m). Ok end t d y.what) (sym same) k.0
-    each_has end t d (x ∷ ns) n k (inr i) = each_has end t d ns n k.1 i
-
     kept_rescue : (x : CommandOf m) (p : ℕ) → PlaysKept m x → x ≡ cmd.Rescue p → ⊥
     kept_rescue x p k is = subst (PlaysKept m) is k
 
@@ -243,7 +227,7 @@ module _ (m : Meaning) where
           past = λ d a x ask u b y is s view came. λ z other. absurd (asked_rescue v.command a z x ask is other);
           rescue = λ d a b x is turn. λ z other. met_of t x (trimmed k a b x turn);
         }) in
-        subst (λ (y : WhatOf m). Ok k.end t (walked m k.end.client k.end.work).now y) (sym k.is ∙ what) (each_has k.end t (walked m k.end.client k.end.work).now (walked m k.end.client k.end.work).notes k.note said.notes k.here) p
+        ends_tell (Ok k.end t) (ok_plain k.end t) h ms e r trims t k said (told.Refused (cause.Undecided q o)) what p
         (same_command k.end.work.command (cmd.Rescue p) (sym (command_waits (after m h ms) t.mark.client e k.end k.ended) ∙ rescue))
       where
         same_command : (a b : CommandOf m) → Some a ≡ Some b → a ≡ b

@@ -308,6 +308,11 @@ module _ (m : Meaning) (Ok : Client m → WhatOf m → Type 0) (ok : (d : Client
   EachOk d [] = Unit {0}
   EachOk d (n ∷ ns) = Ok d n.what × EachOk d ns
 
+  pub each_has : (d : Client m) (ns : List (NoteOf m)) (n : NoteOf m) → EachOk d ns → Has ns n → Ok d n.what
+  each_has d [] n all i = absurd i
+  each_has d (y ∷ ns) n all (inl same) = subst (λ (z : NoteOf m). Ok d z.what) (sym same) all.0
+  each_has d (y ∷ ns) n all (inr i) = each_has d ns n all.1 i
+
   pub record Said (x : Moved m) : Type 0 where
     pub notes : EachOk x.now x.notes
     pub work : PlainWork m x.now.work

@@ -232,7 +232,7 @@ module _ (m : Meaning) (h : Header) (xs : Moves m) (header : IsHeader h) (give :
   back c b = cases_map m c (λ d. All m d → Ahead' d → Ahead' c) (λ d. All' d → Ahead' d → Ahead' c) (λ d g y. g y.0.0.0) (ahead_back m (config m (after m h xs)) c b.0.0.0)
 
   succ : Succ (config m (after m h xs))
-  succ = runs.succ_holds m h (after m h xs).packets X Ahead' All' (λ c b. (b.0.0.1, b.0.0.0)) all_keeps (λ g. (start_below m g, start_owned m g)) Chained chained back ready xs give
+  succ = runs.succ_holds m h (after m h xs).packets X Ahead' All' (λ c b. (b.0.0.1, b.0.0.0)) all_keeps (λ g. (start_below m g, start_owned m g)) Chained chained back (λ c z b a s k r acks hand. ready c z b a s r acks) xs give
       (record { cluster = has_header m h xs; sent = λ x i. i; ahead = record { low = λ u. omega arith; told = λ u k t less. t } })
 
   -- a unit that is new in a chain of a decided layout brings its cells

@@ -25,7 +25,7 @@ use Rattle.tg_protocol.specs.Trimming.{has_stripe}
 use Rattle.tg_protocol.specs.Sequencers.{SeqrTurn}
 use Rattle.tg_protocol.specs.Reconfiguring.{Stage, Preparing, Accepting, Later, ReconfWork, SealingSpare, LookingSpare, Sealing, LookingAgain, Agreeing, Telling, Starting, Reconf, next_epoch, ballot_of, join_asks, stage_asks, set_asks, later_asks, reconf_work_asks}
 use Rattle.tg_protocol.specs.Clients.{Task, Reconfiguring, Hand, Doing, Work, Client, new_client, refusal, tests}
-use Rattle.tg_protocol.specs.ClientSteps.{task_awaited, ClientTurn, client_command, client_deliver, client_tick}
+use Rattle.tg_protocol.specs.ClientSteps.{task_awaited, task_in, ClientTurn, client_command, client_deliver, client_tick}
 use Rattle.tg_protocol.specs.ClientSteps as step
 use Rattle.tg_protocol.specs.Worlds.{start, packet_of, answer_to}
 use Rattle.tg_law_layouts.proofs.Moves.Members.{Has, has_left, has_either, has_map, found}
@@ -185,9 +185,9 @@ module _ (m : Meaning) (h : Header) (final : List Packet) (X : Layout → Type 0
 
   -- A client's turn.
 
-  -- what a proposal is ready for, at a world of the run
+  -- what a proposal of a client is ready for, at a world of the run
   abbrev pub ReadyAt : Config m → Type 0
-  ReadyAt c = (r : Reconf) (acks : List (ℕ × ℕ)) → Sealed final K X r [] acks → IsLooked c.packets K X r → X (own_of final K X r acks)
+  ReadyAt c = (k : ℕ) (r : Reconf) (acks : List (ℕ × ℕ)) → reconf_of m (client_in m c k).work ≡ Some r → Sealed final K X r [] acks → IsLooked c.packets K X r → X (own_of final K X r acks)
 
   module _ (c : Config m) (low : Low c) (a : Early c) (s : Succ c) (ready : ReadyAt c) where
     known : (q : Layout) → IsKnown c.cluster.layouts (first_layout c.cluster) c.packets q → K q
@@ -206,9 +206,9 @@ module _ (m : Meaning) (h : Header) (final : List Packet) (X : Layout → Type 0
         no : None ≡ Some j → ⊥
         no i = cc
 
-    sealed : (r : Reconf) (x : Packet) → Has c.packets x → x.from ≡ unit_id x.from.num → (ws : Waits) (acks : List (ℕ × ℕ)) → (n : ℕ) × Has ws (x.from.num, n) → (y : Reply) → reply x.msg ≡ y → SealTold final K X r (Sealing ws acks) x.from.num y
-    sealed r x g from ws acks w (replied.IsSealed e high) i = ((record { answer = x; answered = a.sent x g; from_unit = from; is = sealed_is x.msg e high i }, seal_near x.msg e high i, w), (λ j bs y l. ready r bs y (none_looked r j)))
-    sealed r x g from ws acks w y i = tt
+    sealed : (k : ℕ) (r : Reconf) → reconf_of m (client_in m c k).work ≡ Some r → (x : Packet) → Has c.packets x → x.from ≡ unit_id x.from.num → (ws : Waits) (acks : List (ℕ × ℕ)) → (n : ℕ) × Has ws (x.from.num, n) → (y : Reply) → reply x.msg ≡ y → SealTold final K X r (Sealing ws acks) x.from.num y
+    sealed k r hand x g from ws acks w (replied.IsSealed e high) i = ((record { answer = x; answered = a.sent x g; from_unit = from; is = sealed_is x.msg e high i }, seal_near x.msg e high i, w), (λ j bs y l. ready k r bs hand y (none_looked r j)))
+    sealed k r hand x g from ws acks w y i = tt
 
     -- an answer to the last look
     looked : (k : ℕ) (r : Reconf) (n : ℕ) (x : Packet) → Has c.packets x → x.to ≡ client_id k → (later : List Out)
@@ -228,21 +228,21 @@ module _ (m : Meaning) (h : Header) (final : List Packet) (X : Layout → Type 0
     looked_later : (r : Reconf) → IsLooked c.packets K X r → IsLooked final K X r
     looked_later r l j e = let y = l j e in record { ask = y.ask; answer = y.answer; asked = a.sent y.ask y.asked; answered = a.sent y.answer y.answered; to = y.to; look = y.look; from = y.from; back = y.back; number = y.number; is = y.is }
 
-    looked_by : (k : ℕ) (r : Reconf) (n : ℕ) (acks : List (ℕ × ℕ)) (x : Packet) → Has c.packets x → x.to ≡ client_id k → (later : List Out)
+    looked_by : (k : ℕ) (r : Reconf) → reconf_of m (client_in m c k).work ≡ Some r → (n : ℕ) (acks : List (ℕ × ℕ)) (x : Packet) → Has c.packets x → x.to ≡ client_id k → (later : List Out)
         → ((o : Out) → Has (join_asks r.change.join (λ j. out (unit_id j.unit) n (has_stripe (next_epoch r) r.stand j.range j.stripe) ∷ []) ++ later) o → Has (reserved m (client_in m c k)) o)
         → awaits (join_asks r.change.join (λ j. out (unit_id j.unit) n (has_stripe (next_epoch r) r.stand j.range j.stripe) ∷ [])) x.from x.rid ≡ true → (y : Reply) → reply x.msg ≡ y → SealTold final K X r (LookingAgain n acks) x.from.num y
-    looked_by k r n acks x g to later open' i replied.IsWhole e = let l = looked k r n x g to later open' i (whole_is x.msg e) in (looked_later r l, (λ bs y z. ready r bs y l))
-    looked_by k r n acks x g to later open' i y e = tt
+    looked_by k r hand n acks x g to later open' i replied.IsWhole e = let l = looked k r n x g to later open' i (whole_is x.msg e) in (looked_later r l, (λ bs y z. ready k r bs hand y l))
+    looked_by k r hand n acks x g to later open' i y e = tt
 
-    hears_work : (k : ℕ) (r : Reconf) (w : ReconfWork) (x : Packet) → Has c.packets x → x.to ≡ client_id k → ((o : Out) → Has (reconf_work_asks r w ++ later_asks r w) o → Has (reserved m (client_in m c k)) o)
+    hears_work : (k : ℕ) (r : Reconf) → reconf_of m (client_in m c k).work ≡ Some r → (w : ReconfWork) (x : Packet) → Has c.packets x → x.to ≡ client_id k → ((o : Out) → Has (reconf_work_asks r w ++ later_asks r w) o → Has (reserved m (client_in m c k)) o)
         → awaits (reconf_work_asks r w ++ later_asks r w) x.from x.rid ≡ true → SealTold final K X r w x.from.num (reply x.msg) × PromiseTold final K X w (reply x.msg)
     unfolding reconf_work_asks
-    hears_work k r (Sealing ws acks) x g to open' i = by (awaited_either (asked_of unit_id (msg.Seal (next_epoch r)) ws) [] x.from x.rid i)
+    hears_work k r hand (Sealing ws acks) x g to open' i = by (awaited_either (asked_of unit_id (msg.Seal (next_epoch r)) ws) [] x.from x.rid i)
       where
         by : (awaits (asked_of unit_id (msg.Seal (next_epoch r)) ws) x.from x.rid ≡ true) ⊎ (awaits [] x.from x.rid ≡ true) → SealTold final K X r (Sealing ws acks) x.from.num (reply x.msg) × PromiseTold final K X (Sealing ws acks) (reply x.msg)
-        by (inl j) = (sealed r x g (asked_unit _ ws x.from x.rid j) ws acks (wait_of _ ws x.from x.rid j) (reply x.msg) refl, tt)
+        by (inl j) = (sealed k r hand x g (asked_unit _ ws x.from x.rid j) ws acks (wait_of _ ws x.from x.rid j) (reply x.msg) refl, tt)
         by (inr j) = absurd (none_awaited x.from x.rid j)
-    hears_work k r (Agreeing v) x g to open' i = (tt, promised x g (by (awaited_either (stage_asks r v.round v.stage) (set_asks r v.later) x.from x.rid i)) (reply x.msg) refl)
+    hears_work k r hand (Agreeing v) x g to open' i = (tt, promised x g (by (awaited_either (stage_asks r v.round v.stage) (set_asks r v.later) x.from x.rid i)) (reply x.msg) refl)
       where
         set_server : (l : Option Later) → awaits (set_asks r l) x.from x.rid ≡ true → x.from ≡ layout_id x.from.num
         set_server None j = absurd (none_awaited x.from x.rid j)
@@ -251,21 +251,21 @@ module _ (m : Meaning) (h : Header) (final : List Packet) (X : Layout → Type 0
         by : (awaits (stage_asks r v.round v.stage) x.from x.rid ≡ true) ⊎ (awaits (set_asks r v.later) x.from x.rid ≡ true) → x.from ≡ layout_id x.from.num
         by (inl j) = (stage_awaited r v.round v.stage x.from x.rid j).server
         by (inr j) = set_server v.later j
-    hears_work k r (LookingAgain n acks) x g to open' i = by (awaited_either (join_asks r.change.join (λ j. out (unit_id j.unit) n (has_stripe (next_epoch r) r.stand j.range j.stripe) ∷ [])) [] x.from x.rid i)
+    hears_work k r hand (LookingAgain n acks) x g to open' i = by (awaited_either (join_asks r.change.join (λ j. out (unit_id j.unit) n (has_stripe (next_epoch r) r.stand j.range j.stripe) ∷ [])) [] x.from x.rid i)
       where
         by : (awaits (join_asks r.change.join (λ j. out (unit_id j.unit) n (has_stripe (next_epoch r) r.stand j.range j.stripe) ∷ [])) x.from x.rid ≡ true) ⊎ (awaits [] x.from x.rid ≡ true)
             → SealTold final K X r (LookingAgain n acks) x.from.num (reply x.msg) × PromiseTold final K X (LookingAgain n acks) (reply x.msg)
-        by (inl j) = (looked_by k r n acks x g to [] open' j (reply x.msg) refl, tt)
+        by (inl j) = (looked_by k r hand n acks x g to [] open' j (reply x.msg) refl, tt)
         by (inr j) = absurd (none_awaited x.from x.rid j)
-    hears_work k r (SealingSpare n) x g to open' i = (tt, tt)
-    hears_work k r (LookingSpare n) x g to open' i = (tt, tt)
-    hears_work k r (Telling ws n q) x g to open' i = (tt, tt)
-    hears_work k r (Starting n) x g to open' i = (tt, tt)
+    hears_work k r hand (SealingSpare n) x g to open' i = (tt, tt)
+    hears_work k r hand (LookingSpare n) x g to open' i = (tt, tt)
+    hears_work k r hand (Telling ws n q) x g to open' i = (tt, tt)
+    hears_work k r hand (Starting n) x g to open' i = (tt, tt)
 
-    hears_task : (k : ℕ) (p : Layout) (t : Task m) (x : Packet) → Has c.packets x → x.to ≡ client_id k → ((o : Out) → Has (task_awaited m p t) o → Has (reserved m (client_in m c k)) o)
+    hears_task : (k : ℕ) (p : Layout) (t : Task m) → reconf_of m (client_in m c k).work ≡ task_reconf m t → (x : Packet) → Has c.packets x → x.to ≡ client_id k → ((o : Out) → Has (task_awaited m p t) o → Has (reserved m (client_in m c k)) o)
         → awaits (task_awaited m p t) x.from x.rid ≡ true → HearsSeal m final K X (task_reconf m t) x.from.num (reply x.msg)
-    hears_task k p (Reconfiguring r) x g to open' i = hears_work k r r.work x g to open' i
-    hears_task k p t x g to open' i = tt
+    hears_task k p (Reconfiguring r) hand x g to open' i = hears_work k r hand r.work x g to open' i
+    hears_task k p t hand x g to open' i = tt
 
     -- what the client in hand awaits is among what it may take an answer to
     awaited_here : (v : Client m) (w : Work m) (t : Task m) → v.work ≡ Some w → w.hand ≡ Doing t → (o : Out) → Has (task_awaited m v.stand t) o → Has (reserved m v) o
@@ -282,7 +282,7 @@ module _ (m : Meaning) (h : Header) (final : List Packet) (X : Layout → Type 0
     input_good : (k : ℕ) (t : ClientTurn m) → (i : ClientInput m c k t) → Given m (LawfulCommand m) c k t i → ReconfGood m final K X (reconf_of m t.now.work)
     unfolding client_command client_deliver client_tick
     input_good k t (Commanded x) q = (commanded_good m final K X (client_in m c k) x (refusal m (client_in m c k) x) (not_busy m (client_in m c k) x) (λ f y e. (no_fault (client_in m c k) x f y e, lawful_change m x q y e)) (known _ (low.0.1.clients k).stand) (s.hands k)).hand
-    input_good k t (Hears' x comes) q = (delivered_good m final K X x (client_in m c k) (client_in m c k).work refl (s.hands k) (λ w t i j o. hears_task k (client_in m c k).stand t x comes.sent comes.to_node (awaited_here (client_in m c k) w t i j) o)).hand
+    input_good k t (Hears' x comes) q = (delivered_good m final K X x (client_in m c k) (client_in m c k).work refl (s.hands k) (λ w t i j o. hears_task k (client_in m c k).stand t (ap (λ (z : Option (Work m)). reconf_of m z) i ∙ ap (λ (d : Hand m). task_reconf m (task_in m d)) j) x comes.sent comes.to_node (awaited_here (client_in m c k) w t i j) o)).hand
     input_good k t Ticks' q = tick_good (client_in m c k) (client_in m c k).work (s.hands k) refl
 
     turned : (k : ℕ) (t : ClientTurn m) → (i : ClientInput m c k t) → Given m (LawfulCommand m) c k t i → k < length c.clients → Succ (client_turn m c k t)
@@ -359,4 +359,4 @@ module _ (m : Meaning) where
       → (q ≡ first_layout h) ⊎ Good (after m h xs).packets (IsKnown h.layouts (first_layout h) (after m h xs).packets) Any q
   good_or_first h xs g q (inl e) = inl e
   good_or_first h xs g q (inr w) = inr ((succ_holds m h (after m h xs).packets Any Anywhere (λ c. (Pax m c × Lay m c) × All m c) (λ c b. b) (low_keeps m h (after m h xs).packets Any Anywhere) (λ k. ((start_pax m k, start_lay m k), start_all m k)) Anywhere (λ ys z. tt)
-      (back_any h (after m h xs).packets) (λ c z b a s r acks x l. tt) xs g (record { cluster = has_header m h xs; sent = λ x i. i; ahead = tt })).sent w.proposed.packet q.epoch w.ballot q w.proposed.sent w.proposed.is)
+      (back_any h (after m h xs).packets) (λ c z b a s k r acks hand x l. tt) xs g (record { cluster = has_header m h xs; sent = λ x i. i; ahead = tt })).sent w.proposed.packet q.epoch w.ballot q w.proposed.sent w.proposed.is)

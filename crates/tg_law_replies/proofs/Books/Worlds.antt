@@ -40,7 +40,7 @@ set_same [] i y d less = absurd (omega (arith, less))
 set_same (x ∷ xs) zero y d less = refl
 set_same (x ∷ xs) (suc i) y d less = set_same xs i y d (omega (arith, less))
 
-set_other : {X : Type 0} → (xs : List X) (i k : ℕ) (y d : X) → (i ≡ k → ⊥) → slice_index_or (slice_set xs i y) k d ≡ slice_index_or xs k d
+pub set_other : {X : Type 0} → (xs : List X) (i k : ℕ) (y d : X) → (i ≡ k → ⊥) → slice_index_or (slice_set xs i y) k d ≡ slice_index_or xs k d
 set_other [] i k y d other = refl
 set_other (x ∷ xs) zero zero y d other = absurd (other refl)
 set_other (x ∷ xs) zero (suc k) y d other = refl
@@ -85,14 +85,14 @@ compare (x ∷ xs) ys (z ∷ zs) us u e = longer x z xs zs u (head_is x z (xs ++
 module _ (m : Meaning) where
   -- Traces.
 
-  abbrev mark_in : Told m → MarkOf m
+  abbrev pub mark_in : Told m → MarkOf m
   mark_in t = t.mark
 
   marks_are : (w : World m) (n : ℕ) (ns : List (NoteOf m)) → map mark_in (map (mark_of m w n) ns) ≡ map (mark m w.event n) ns
   marks_are w n [] = refl
   marks_are w n (x ∷ ns) = ap (λ (ms : List (MarkOf m)). mark m w.event n x ∷ ms) (marks_are w n ns)
 
-  trace_after : (w : World m) (n : ℕ) (ns : List (NoteOf m)) → map mark_in (w.told ++ map (mark_of m w n) ns) ≡ trace m w ++ map (mark m w.event n) ns
+  pub trace_after : (w : World m) (n : ℕ) (ns : List (NoteOf m)) → map mark_in (w.told ++ map (mark_of m w n) ns) ≡ trace m w ++ map (mark m w.event n) ns
   trace_after w n ns = map_both mark_in w.told (map (mark_of m w n) ns) ∙ ap (λ (ms : List (MarkOf m)). trace m w ++ ms) (marks_are w n ns)
 
   abbrev pub Alone : ℕ → Trace m → Type 0

@@ -61,7 +61,13 @@ module _ (m : Meaning) (I : Client m → Work m → Type 0) (carries : Carries m
   way c w _ _ _ _ (StartsOver o os x b e f z) h = carries.over (given_up_if m true c) w (carries.given c w true h)
   way c w _ _ _ _ x h = tt
 
-  carried : (w : World m) (e : EventOf m) (k : ℕ) (y : Walked m) → ((v : Work m) → (client m w k).work ≡ Some v → WalksBy m I (client m w k) v (task_in m v.hand)) → walked_in m w e k ≡ Some y → I y.client y.work
+  -- so through those of whatever task, where it holds of the client and its work
+  pub carried_by : (c : Client m) (w : Work m) (t : Task m) → I c w → WalksBy m I c w t
+  carried_by c w (Syncing s) i = i
+  carried_by c w (Walking k os) i = i
+  carried_by c w t i = tt
+
+  pub carried : (w : World m) (e : EventOf m) (k : ℕ) (y : Walked m) → ((v : Work m) → (client m w k).work ≡ Some v → WalksBy m I (client m w k) v (task_in m v.hand)) → walked_in m w e k ≡ Some y → I y.client y.work
   carried w e k y i is =
       subst (Reached m Carried I way (λ c v h. h)) is
       (reach_event m (Reached m Carried I way (λ c v h. h)) tt w e k

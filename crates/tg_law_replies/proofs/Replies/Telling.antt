@@ -40,43 +40,16 @@ use Rattle.tg_law_replies.proofs.Replies.Runs.{Right, AreLawful, start_right, co
 use Rattle.tg_law_replies.proofs.Replies.Shape.{idle_stands}
 use Rattle.tg_law_replies.proofs.Replies.Shaping.{AllShaped, start_shaped, happens_shaped}
 use Rattle.tg_law_replies.proofs.Replies.Found.{each_ready, each_asks}
-
--- Lists.
-
-set_same : {X : Type 0} → (xs : List X) (i : ℕ) (y d : X) → i < length xs → slice_index_or (slice_set xs i y) i d ≡ y
-set_same [] i y d less = absurd (omega (arith, less))
-set_same (x ∷ xs) zero y d less = refl
-set_same (x ∷ xs) (suc i) y d less = set_same xs i y d (omega (arith, less))
-
-set_other : {X : Type 0} → (xs : List X) (i k : ℕ) (y d : X) → (i ≡ k → ⊥) → slice_index_or (slice_set xs i y) k d ≡ slice_index_or xs k d
-set_other [] i k y d other = refl
-set_other (x ∷ xs) zero zero y d other = absurd (other refl)
-set_other (x ∷ xs) zero (suc k) y d other = refl
-set_other (x ∷ xs) (suc i) zero y d other = refl
-set_other (x ∷ xs) (suc i) (suc k) y d other = set_other xs i k y d (λ e. other (ap suc e))
-
-map_both : {X Y : Type 0} → (f : X → Y) (xs ys : List X) → map f (xs ++ ys) ≡ map f xs ++ map f ys
-map_both f [] ys = refl
-map_both f (x ∷ xs) ys = ap (λ zs. f x ∷ zs) (map_both f xs ys)
+use Rattle.tg_law_replies.proofs.Books.Worlds.{set_same, set_other, trace_after, declared}
 
 module _ (m : Meaning) (objects : List Oid) (es : Entries) (rising : IsRising es) (listed : AreListed es) where
   abbrev pub IsKeptWorld : World m → Type 0
   IsKeptWorld w = (k : ℕ) → IsKept m objects es rising listed k (trace m w) (client m w k)
 
-  abbrev mark_in : Told m → MarkOf m
-  mark_in t = t.mark
-
-  marks_are : (w : World m) (n : ℕ) (ns : List (NoteOf m)) → map mark_in (map (mark_of m w n) ns) ≡ map (mark m w.event n) ns
-  marks_are w n [] = refl
-  marks_are w n (x ∷ ns) = ap (λ (ms : List (MarkOf m)). mark m w.event n x ∷ ms) (marks_are w n ns)
-
-  trace_after : (w : World m) (n : ℕ) (ns : List (NoteOf m)) → map mark_in (w.told ++ map (mark_of m w n) ns) ≡ trace m w ++ map (mark m w.event n) ns
-  trace_after w n ns = map_both mark_in w.told (map (mark_of m w n) ns) ∙ ap (λ (ms : List (MarkOf m)). trace m w ++ ms) (marks_are w n ns)
-
   turned_kept : (w : World m) (n : ℕ) (t : ClientTurn m) → n < length w.clients → IsKeptWorld w → IsEffect m objects es rising listed (client m w n) (as_moved m objects es rising listed t) → IsKeptWorld (client_turned m w n t)
   unfolding client_turned
   turned_kept w n t less h effect k =
-      subst (λ (rs : Trace m). IsKept m objects es rising listed k rs (slice_index_or (slice_set w.clients n t.now) k (new_client m w.cluster k))) (sym (trace_after w n t.notes)) (by (n == k) refl)
+      subst (λ (rs : Trace m). IsKept m objects es rising listed k rs (slice_index_or (slice_set w.clients n t.now) k (new_client m w.cluster k))) (sym (trace_after m w n t.notes)) (by (n == k) refl)
     where
       by : (b : Bool) → (n == k) ≡ b → IsKept m objects es rising listed k (trace m w ++ map (mark m w.event n) t.notes) (slice_index_or (slice_set w.clients n t.now) k (new_client m w.cluster k))
       by true e =
@@ -86,10 +59,6 @@ module _ (m : Meaning) (objects : List Oid) (es : Entries) (rising : IsRising es
       by false e =
           subst (λ (c : Client m). IsKept m objects es rising listed k (trace m w ++ map (mark m w.event n) t.notes) c) (sym (set_other w.clients n k t.now (new_client m w.cluster k) (λ s. contrary (n == k) e (number_same n k s))))
           (others_kept m objects es rising listed k (trace m w) (client m w k) w.event n t.notes (λ s. contrary (n == k) e (number_same n k s)) (h k))
-
-  -- a client that runs is declared
-  declared : (w : World m) (n : NodeId) → n.role ≡ role.Client → runs m w n ≡ true → n.num < length w.clients
-  declared w n is on = lt_of n.num (length w.clients) (ap (λ (r : Role). nat_lt n.num (count_of m w r)) (sym is) ∙ (and_both (nat_lt n.num (count_of m w n.role)) (not (has_stopped m w n)) on).0)
 
   moves_kept : (w : World m) (p : Packet) (r : Role) → IsRightWorld m objects es rising listed w → IsKeptWorld w → (r ≡ role.Client → p.to.num < length w.clients)
       → (r ≡ role.Client → IsEffect m objects es rising listed (client m w p.to.num) (as_moved m objects es rising listed (client_deliver m (client m w p.to.num) p.from p.rid p.msg))) → IsKeptWorld (moves m w p r)
@@ -105,9 +74,9 @@ module _ (m : Meaning) (objects : List Oid) (es : Entries) (rising : IsRising es
     where
       turned : (b : Bool) → runs m w (client_id k) ≡ true → IsKeptWorld (client_turned m (noted_if m b w k (client m w k)) k (client_command m (client m w k) x))
       turned true on =
-          turned_kept w k (client_command m (client m w k) x) (declared w (client_id k) refl on) h (command_right m objects es rising listed (client m w k) x (right.clients k) (stand k) lawful).1
+          turned_kept w k (client_command m (client m w k) x) (declared m w (client_id k) refl on) h (command_right m objects es rising listed (client m w k) x (right.clients k) (stand k) lawful).1
       turned false on =
-          turned_kept (noted_if m false w k (client m w k)) k (client_command m (client m w k) x) (declared w (client_id k) refl on) h (command_right m objects es rising listed (client m w k) x (right.clients k) (stand k) lawful).1
+          turned_kept (noted_if m false w k (client m w k)) k (client_command m (client m w k) x) (declared m w (client_id k) refl on) h (command_right m objects es rising listed (client m w k) x (right.clients k) (stand k) lawful).1
 
       by : (b : Bool) → runs m w (client_id k) ≡ b → IsKeptWorld (commands m b w k x)
       by true on = turned (is_some (client m w k).work) on
@@ -116,7 +85,7 @@ module _ (m : Meaning) (objects : List Oid) (es : Entries) (rising : IsRising es
     where
       comes_kept : (p : Packet) → slice_get w.packets i ≡ Some p → (b : Bool) → runs m w p.to ≡ b → IsKeptWorld (comes m b (handed m w i) p)
       comes_kept p is true on =
-          moves_kept (handed m w i) p p.to.role (record { clients = right.clients; replies = right.replies; objects_are = right.objects_are }) h (λ c. declared w p.to c on)
+          moves_kept (handed m w i) p p.to.role (record { clients = right.clients; replies = right.replies; objects_are = right.objects_are }) h (λ c. declared m w p.to c on)
           (λ c. (deliver_right m objects es rising listed (client m w p.to.num) p.from p.rid p (right.clients p.to.num) (lands_here m objects es rising listed w i p land is c on) (each p is c on)).1)
       comes_kept p is false on = h
 
@@ -131,7 +100,7 @@ module _ (m : Meaning) (objects : List Oid) (es : Entries) (rising : IsRising es
       ticks_kept role.Layout is on = h
       ticks_kept role.Seqr is on = h
       ticks_kept role.Client is on =
-          turned_kept w n.num (client_tick m (client m w n.num)) (declared w n is on) h (tick_right m objects es rising listed (client m w n.num) (right.clients n.num)).1
+          turned_kept w n.num (client_tick m (client m w n.num)) (declared m w n is on) h (tick_right m objects es rising listed (client m w n.num) (right.clients n.num)).1
 
       by : (b : Bool) → runs m w n ≡ b → IsKeptWorld (ticks_if m b w n)
       by true on = ticks_kept n.role refl on

@@ -18,23 +18,9 @@ use Rattle.tg_law_layouts.proofs.Moves.Lists.{at_set}
 use Rattle.tg_law_replies.specs.Replies.Ended.{work_ends, ended_in}
 use Rattle.tg_law_replies.proofs.Replies.Books.{mark}
 use Rattle.tg_law_replies.proofs.Replies.Steps.{ended_here}
-use Rattle.tg_law_replies.proofs.Books.Worlds.{declared}
+use Rattle.tg_law_replies.proofs.Books.Worlds.{trace_after, declared}
 
 module _ (m : Meaning) where
-  mark_in : Told m → MarkOf m
-  mark_in t = t.mark
-
-  marks_are : (w : World m) (n : ℕ) (ns : List (NoteOf m)) → map (λ (t : Told m). t.mark) (map (mark_of m w n) ns) ≡ map (mark m w.event n) ns
-  marks_are w n [] = refl
-  marks_are w n (x ∷ ns) = ap (λ (ms : List (MarkOf m)). mark m w.event n x ∷ ms) (marks_are w n ns)
-
-  map_both : (xs ys : List (Told m)) → map (λ (t : Told m). t.mark) (xs ++ ys) ≡ map (λ (t : Told m). t.mark) xs ++ map (λ (t : Told m). t.mark) ys
-  map_both [] ys = refl
-  map_both (x ∷ xs) ys = ap (λ (zs : Trace m). x.mark ∷ zs) (map_both xs ys)
-
-  traced : (w : World m) (n : ℕ) (ns : List (NoteOf m)) → map (λ (t : Told m). t.mark) (w.told ++ map (mark_of m w n) ns) ≡ trace m w ++ map (mark m w.event n) ns
-  traced w n ns = map_both w.told (map (mark_of m w n) ns) ∙ ap (λ (ms : Trace m). trace m w ++ ms) (marks_are w n ns)
-
   -- what a client is handed in a step
   pub data Input (w : World m) (e : EventOf m) (n : ℕ) : ClientTurn m → Type 0 where
     Commanded : (x : CommandOf m) → Input w e n (client_command m (client m w n) x)
@@ -57,8 +43,8 @@ module _ (m : Meaning) where
 
     commanded : (k : ℕ) (x : CommandOf m) (b : Bool) → k < length w.clients → Speaks w (Commands k x) (client_turned m (noted_if m b w k (client m w k)) k (client_command m (client m w k) x))
     unfolding client_turned
-    commanded k x true less = Speaks' k _ (Commanded x) (traced w k _) (one k _ less)
-    commanded k x false less = Speaks' k _ (Commanded x) (traced (noted_if m false w k (client m w k)) k _) (one k _ less)
+    commanded k x true less = Speaks' k _ (Commanded x) (trace_after m w k _) (one k _ less)
+    commanded k x false less = Speaks' k _ (Commanded x) (trace_after m (noted_if m false w k (client m w k)) k _) (one k _ less)
 
     commands_speak : (k : ℕ) (x : CommandOf m) (b : Bool) → runs m w (client_id k) ≡ b → Speaks w (Commands k x) (commands m b w k x)
     commands_speak k x true on = commanded k x (is_some (client m w k).work) (declared m w (client_id k) refl on)
@@ -70,14 +56,14 @@ module _ (m : Meaning) where
     moves_speak i p role.Layout is got on = Silent refl (λ j. refl)
     moves_speak i p role.Seqr is got on = Silent refl (λ j. refl)
     moves_speak i p role.Client is got on =
-        Speaks' p.to.num _ (Handed p (ended_here m w i p got is on)) (traced (handed m w i) p.to.num _) (one p.to.num _ (declared m w p.to is on))
+        Speaks' p.to.num _ (Handed p (ended_here m w i p got is on)) (trace_after m (handed m w i) p.to.num _) (one p.to.num _ (declared m w p.to is on))
 
     ticks_speak : (n : NodeId) (r : Role) → n.role ≡ r → runs m w n ≡ true → Speaks w (Tick n) (ticks m w n.num r)
     unfolding client_turned
     ticks_speak n role.Unit is on = Silent refl (λ j. refl)
     ticks_speak n role.Layout is on = Silent refl (λ j. refl)
     ticks_speak n role.Seqr is on = Silent refl (λ j. refl)
-    ticks_speak n role.Client is on = Speaks' n.num _ Ticked (traced w n.num _) (one n.num _ (declared m w n is on))
+    ticks_speak n role.Client is on = Speaks' n.num _ Ticked (trace_after m w n.num _) (one n.num _ (declared m w n is on))
 
     counted_speaks : (e : EventOf m) (v : World m) → Speaks w e v → Speaks w e (counted m v)
     counted_speaks e v (Silent t c) = Silent t c
