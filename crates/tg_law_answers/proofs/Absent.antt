@@ -18,6 +18,7 @@ use Rattle.tg_protocol.specs.Clients.{Work, Client, upto_in, member_positions, a
 use Rattle.tg_protocol.specs.Answers.{trim_above}
 use Rattle.tg_protocol.specs.ClientSteps.{fate_missing, zero_if, lo_for}
 use Rattle.tg_protocol.specs.Causes.{IsFor}
+use Rattle.tg_protocol.specs.Walked.{from_trim}
 use Rattle.tg_law_replies.proofs.Views.Settled.{IsFated}
 use Rattle.tg_law_walks.specs.Walks.Streams.{IsByPosition}
 use Rattle.tg_law_walks.specs.Walks.Rounds.{round, IsRound}
@@ -152,12 +153,20 @@ module _ (m : Meaning) where
         (of_lt p w.tail less))
         (entry_read m l byp c.cells p e h.known (known p i) (entry_there 0 l p e byp (has_contained (entries_of l) (p, e) there)))
 
-    stream_found : (p : ℕ) (e : Entry) (o : Oid) → w.lo ≤ p → trim_above m w.trims p ≡ None → Contains os o → Contains (entries_of l) (p, e) → lists e o ≡ true → p < w.tail → Has (all_entries m c w os) (p, e)
-    stream_found p e o low none i there f less = by (trim_of w.trims o) refl
+    -- a stream is walked down to where its walk met a trim, or else to where the command walks
+    pub stream_found : (p : ℕ) (e : Entry) (o : Oid) → from_trim m w.lo (trim_of w.trims o) ≤ p → Contains os o → Contains (entries_of l) (p, e) → lists e o ≡ true → p < w.tail → Has (all_entries m c w os) (p, e)
+    stream_found p e o from i there f less = by (trim_of w.trims o) refl from
       where
-        by : (t : Option ℕ) → trim_of w.trims o ≡ t → Has (all_entries m c w os) (p, e)
-        by None is = untrimmed m l byp c w h os c.own sub o i is p e low less (has_contained (entries_of l) (p, e) there) f
-        by (Some b) is = trimmed m l byp c w h os c.own sub o b i is p e (trim_low w.trims o b p is none) less (has_contained (entries_of l) (p, e) there) f
+        by : (t : Option ℕ) → trim_of w.trims o ≡ t → from_trim m w.lo t ≤ p → Has (all_entries m c w os) (p, e)
+        by None is low = untrimmed m l byp c w h os c.own sub o i is p e low less (has_contained (entries_of l) (p, e) there) f
+        by (Some b) is low = trimmed m l byp c w h os c.own sub o b i is p e low less (has_contained (entries_of l) (p, e) there) f
+
+    walked_low : (p : ℕ) (o : Oid) → w.lo ≤ p → trim_above m w.trims p ≡ None → from_trim m w.lo (trim_of w.trims o) ≤ p
+    walked_low p o low none = by (trim_of w.trims o) refl
+      where
+        by : (t : Option ℕ) → trim_of w.trims o ≡ t → from_trim m w.lo t ≤ p
+        by None is = low
+        by (Some b) is = trim_low w.trims o b p is none
 
     -- an object that it hosts
     is_hosted : (xs : List Oid) (o : Oid) → has_oid o xs ≡ true → Has xs o
@@ -171,7 +180,7 @@ module _ (m : Meaning) where
     pub none_at : (p : ℕ) → w.lo ≤ p → trim_above m w.trims p ≡ None → commit_at (all_entries m c w os) p ≡ None → Owned c.own c.cells → NoneFor (entries_of l) w.tail c p
     none_at p low none missing known e there commit less (inl i) = commit_found (all_entries m c w os) p e (own_found p e known i there less) commit missing
     none_at p low none missing known e there commit less (inr s) =
-        commit_found (all_entries m c w os) p e (stream_found p e s.0 low none (hosts s.0 (contained_has c.hosted s.0 (is_hosted c.hosted s.0 s.1))) there s.2 less) commit missing
+        commit_found (all_entries m c w os) p e (stream_found p e s.0 (walked_low p s.0 low none) (hosts s.0 (contained_has c.hosted s.0 (is_hosted c.hosted s.0 s.1))) there s.2 less) commit missing
 
   -- What a rescue's turn tells of the record.
 

@@ -5,27 +5,31 @@ use Rattle.std.specs.Prelude.{nat_lt, cond, ◌==◌, Contains, if◌then◌else
 use Rattle.tg_base.specs.Clusters.{Header}
 use Rattle.tg_base.specs.Orders.{node_eq, role_number}
 use Rattle.tg_base.specs.declared.cell.Cell.{Cell}
+use Rattle.tg_base.specs.declared.fault.Many.TheVariants as many
 use Rattle.tg_base.specs.declared.ids.NodeId.{NodeId}
 use Rattle.tg_base.specs.declared.ids.Oid.{Oid}
 use Rattle.tg_base.specs.declared.msg.Msg.{Msg}
 use Rattle.tg_base.specs.declared.msg.Msg.TheVariants as msg
 use Rattle.tg_base.specs.declared.packet.Packet.{Packet}
+use Rattle.tg_entry.specs.declared.entry.Entry.{Entry}
 use Rattle.tg_kind.specs.Meaning.{Meaning}
 use Rattle.tg_model.specs.Kinds.{CommandOf, EventOf, WhatOf, NoteOf}
 use Rattle.tg_model.specs.declared.command.Command.TheVariants as cmd
+use Rattle.tg_model.specs.declared.command.Event.TheVariants.{Tick}
 use Rattle.tg_model.specs.declared.refusal.Refusal.TheVariants as cause
 use Rattle.tg_model.specs.declared.trace.What.TheVariants as told
-use Rattle.tg_protocol.specs.Words.{client_id, numbers, cell_at, with_cell, with_num}
+use Rattle.tg_protocol.specs.Words.{client_id, numbers, cell_at, with_cell, with_num, first_some}
 use Rattle.tg_protocol.specs.Logs.{Log, entries_of}
 use Rattle.tg_protocol.specs.Replies.{reply}
+use Rattle.tg_protocol.specs.Past.{Absent, Wide}
 use Rattle.tg_protocol.specs.Views.{View}
-use Rattle.tg_protocol.specs.Clients.{Work, Client, new_client, refusal, member_entries}
+use Rattle.tg_protocol.specs.Clients.{Task, Syncing, Walking, Appending, Trimming, Copying', Reconfiguring, Work, Client, new_client, busy, tests, refusal, member_entries}
 use Rattle.tg_protocol.specs.Answers.{Moved}
-use Rattle.tg_protocol.specs.ClientSteps.{ClientTurn, feed, refused_or, client_command, client_deliver, client_tick, tick_by}
+use Rattle.tg_protocol.specs.ClientSteps.{plays_kept, task_in, ClientTurn, feed, refused_or, client_command, client_deliver, client_tick, tick_by}
 use Rattle.tg_protocol.specs.Walked.{Walked, work_end, packet_end, walked_in}
 use Rattle.tg_protocol.specs.Worlds.{CommandStart, World, Told, start, client, noted_of, log, happens, runs}
 use Rattle.tg_protocol.specs.Runs.{Move, Moves, Next, Takes, Reaches, run}
-use Rattle.tg_protocol.specs.Alike.{SentNow}
+use Rattle.tg_protocol.specs.Alike.{SentNow, HasEntry}
 use Rattle.tg_protocol.specs.Causes.{AsksOf, IsNone, SaysNone, NonesTrue, RefusalsTrue}
 use Rattle.tg_protocol.specs.Stuck.{command_in}
 use Rattle.tg_protocol.specs.Playing.{Replies}
@@ -52,17 +56,20 @@ use Rattle.tg_law_syncs.proofs.Exact.Finds.{rounds_exact}
 use Rattle.tg_law_trims.proofs.Leaves.Ends.{ends_have}
 use Rattle.tg_law_trims.proofs.Leaves.Landing.{LandInSteps, lands_in_steps}
 use Rattle.tg_law_trims.proofs.Leaves.Steps.{happens_hold}
-use Rattle.tg_law_trims.proofs.Leaves.Turns.{Lasts, AtWork, Holds, PlayHolds}
+use Rattle.tg_law_trims.proofs.Leaves.Turns.{Lasts, AtTask, AtWork, Holds, PlayHolds}
 use Rattle.tg_law_headline.proofs.Alike.Running.{starts_at, state_at as run_at}
 use Rattle.tg_law_headline.proofs.Alike.Speaks.{Noted, Before, Anew, Delivered, From, Speaks, Silent, Speaks', Turns, told_of, speaks}
 use Rattle.tg_law_answers.specs.Confirmed.{EndsWalks, IsNoneThere, NonesThere, IsAheadThere, AheadsThere, FatesForgotten, IsPastGone, PastsForgotten}
+use Rattle.tg_law_answers.specs.Rescues.{IsRescueGone, RescuesForgotten, WouldWiden, RescuesTooWide}
 use Rattle.tg_law_causes.proofs.Stalled.{command_waits}
 use Rattle.tg_law_headline.proofs.Alike.Machines.{TailTold}
 use Rattle.tg_law_headline.proofs.Alike.Refusals.{refused_at_once}
 use Rattle.tg_law_answers.proofs.Absent.{Owned}
 use Rattle.tg_law_answers.proofs.Hosted.{asked_hosted}
 use Rattle.tg_law_answers.proofs.Pasts.{gone_at, no_base_within, gone_told}
-use Rattle.tg_law_answers.proofs.Nones.{NoneTold, AheadTold, PastGoneAt, ForgottenOk, Ok, EachOk, Held, WorkHeld, Good, feed_turn, command_turn}
+use Rattle.tg_law_answers.proofs.Nones.{NoneTold, AheadTold, PastGoneAt, RescueAt, ForgottenOk, WideOk, Ok, EachOk, Held, WorkHeld, Good, feed_turn, command_turn}
+use Rattle.tg_law_answers.proofs.Rescued.{none_in_reach, ReadsOther, reads_other}
+use Rattle.tg_law_answers.proofs.WalksEnd.{TaskOwned, owned_there}
 
 -- what a reply says of a record that isn't there
 says_map : (m : Meaning) (what : WhatOf m) (P Q : ℕ → Type 0) → ((p : ℕ) → P p → Q p) → SaysNone m what P → SaysNone m what Q
@@ -123,7 +130,12 @@ module _ (m : Meaning) where
     forgotten_called : (d : Client m) (n : ℕ) (x : Option (CommandOf m)) (at below : ℕ) → ForgottenOk m objects l byp Got lo end command d x at below → ForgottenOk m objects l byp Got lo end command (record d { calls = n }) x at below
     forgotten_called d n (Some (cmd.Fate p)) at below k = k
     forgotten_called d n (Some (cmd.AskAt p o q)) at below k = k
+    forgotten_called d n (Some (cmd.Rescue p)) at below k = k
     forgotten_called d n x at below k = tt
+
+    wide_called : (d : Client m) (n : ℕ) (x : Option (CommandOf m)) → WideOk m objects l byp Got lo end command d x → WideOk m objects l byp Got lo end command (record d { calls = n }) x
+    wide_called d n (Some (cmd.Rescue p)) k = k
+    wide_called d n x k = tt
 
     ok_called : (d : Client m) (n : ℕ) (what : WhatOf m) → Ok m objects l byp Got lo end command d what → Ok m objects l byp Got lo end command (record d { calls = n }) what
     ok_called d n (told.Fate p None) k = none_called d n p k
@@ -131,6 +143,7 @@ module _ (m : Meaning) where
     ok_called d n (told.Rescued p None) k = none_called d n p k
     ok_called d n (told.Refused (cause.Ahead tail)) k = k
     ok_called d n (told.Refused (cause.Forgotten at below)) k = forgotten_called d n command at below k
+    ok_called d n (told.Refused (cause.TooMany many.Hosted)) k = wide_called d n command k
     ok_called d n what k = tt
 
     each_called : (d : Client m) (n : ℕ) (ns : List (NoteOf m)) → EachOk m objects l byp Got lo end command d ns → EachOk m objects l byp Got lo end command (record d { calls = n }) ns
@@ -201,7 +214,7 @@ module _ (m : Meaning) (h : Header) (ms : Moves m) (r : Reaches m h ms (after m 
       -- what it tells, by the end to which the step brings its walks, if it does
       record Says (t : ClientTurn m) : Type 0 where
         end : Option (Walked m)
-        comes : (y : Walked m) → end ≡ Some y → walked_in m w e n ≡ Some y
+        comes : walked_in m w e n ≡ end
         says : EachOk m h.objects (log m (after m h ms)) byp (Got n) s.next end (command_in m c.work) t.now t.notes
 
       abbrev GoodTurn : ClientTurn m → Type 0
@@ -217,12 +230,18 @@ module _ (m : Meaning) (h : Header) (ms : Moves m) (r : Reaches m h ms (after m 
           (subst (λ (y : EventOf m). EachEvent m h.objects (entries_in m (after m h ms)) Ends w y) b.event each p b.got b.of_client b.on)
 
       -- a step without an end to which walks come
-      no_end : (y : Walked m) → None ≡ Some y → walked_in m w e n ≡ Some y
-      no_end y z = absurd cc
+      ticked : (a : NodeId) → e ≡ Tick a → (o : Option (Work m)) → c.work ≡ o → GoodTurn (tick_by m c o)
+      ticked a event None is = (kept.held, record { end = None; comes = ap (λ (y : EventOf m). walked_in m w y n) event; says = tt })
+      ticked a event (Some x) is = (kept.held, record { end = None; comes = ap (λ (y : EventOf m). walked_in m w y n) event; says = tt })
 
-      ticked : (o : Option (Work m)) → c.work ≡ o → GoodTurn (tick_by m c o)
-      ticked None is = (kept.held, record { end = None; comes = no_end; says = tt })
-      ticked (Some x) is = (kept.held, record { end = None; comes = no_end; says = tt })
+      -- where the test of a command finds that it would host too many objects, none waits
+      not_wide : (x : CommandOf m) → refusal m c x ≡ Some (cause.TooMany many.Hosted) → command_in m c.work ≡ None
+      unfolding refusal
+      not_wide x is = by c.work is
+        where
+          by : (o : Option (Work m)) → first_some (busy m o ∷ tests m c x) ≡ Some (cause.TooMany many.Hosted) → command_in m o ≡ None
+          by None f = refl
+          by (Some v) f = absurd cc
 
       -- where a packet comes to the client
       ends_here : (p : Packet) → p.to ≡ client_id n → Delivered m w e n p → walked_in m w e n ≡ work_end m c c.work p.from p.rid (reply p.msg)
@@ -235,15 +254,15 @@ module _ (m : Meaning) (h : Header) (ms : Moves m) (r : Reaches m h ms (after m 
       turn_good : (t : ClientTurn m) → (i : ClientInput m (config m w) n t) → From m w e n t i → GoodTurn t
       unfolding client_command client_deliver client_tick
       turn_good t (Commanded x) b =
-          let g = given (refused_or m c x (refusal m c x)) None (command_turn m h.objects (log m (after m h ms)) byp (Got n) s.next (command_in m c.work) c x (refusal m c x) (refused_at_once m c x) (not_busy m c x) kept.next kept.held) ((refused_or m c x (refusal m c x)).now.calls + 1) in
-          (g.0, record { end = None; comes = no_end; says = g.1 })
+          let g = given (refused_or m c x (refusal m c x)) None (command_turn m h.objects (log m (after m h ms)) byp (Got n) s.next (command_in m c.work) c x (refusal m c x) (refused_at_once m c x) (not_busy m c x) (not_wide x) kept.next kept.held) ((refused_or m c x (refusal m c x)).now.calls + 1) in
+          (g.0, record { end = None; comes = ap (λ (y : EventOf m). walked_in m w y n) b; says = g.1 })
       turn_good t (Hears' p comes) b =
           let g =
           given (feed m c c.work p.from p.rid (reply p.msg)) (work_end m c c.work p.from p.rid (reply p.msg))
           (feed_turn m h.objects (log m (after m h ms)) byp (Got n) s.next p.from p.rid p.msg
           (subst (λ (z : NodeId). Has (after m h ms).packets (record { from = p.from; to = z; rid = p.rid; msg = p.msg })) comes.to_node (sent p comes.sent)) c kept.next kept.held (brought p b)) ((feed m c c.work p.from p.rid (reply p.msg)).now.calls + 1) in
-          (g.0, record { end = work_end m c c.work p.from p.rid (reply p.msg); comes = λ y is. ends_here p comes.to_node b ∙ is; says = g.1 })
-      turn_good t Ticks' b = ticked c.work refl
+          (g.0, record { end = work_end m c c.work p.from p.rid (reply p.msg); comes = ends_here p comes.to_node b; says = g.1 })
+      turn_good t Ticks' b = ticked b.0 b.1 c.work refl
 
       up : (t : ClientTurn m) → ClientInput m (config m w) n t → c.next ≤ t.now.next
       up t (Commanded x) = (command_draws m c x).is.up
@@ -271,7 +290,7 @@ module _ (m : Meaning) (h : Header) (ms : Moves m) (r : Reaches m h ms (after m 
       -- what a reply tells, by the end to which the step brings its client's walks, if it does
       record Tells (t : Told m) : Type 0 where
         end : Option (Walked m)
-        comes : (y : Walked m) → end ≡ Some y → walked_in m w e t.mark.client ≡ Some y
+        comes : walked_in m w e t.mark.client ≡ end
         ok : Ok m h.objects (log m (after m h ms)) byp (Got t.mark.client) t.noted.next end (command_in m (client m w t.mark.client).work) (client m v t.mark.client) t.mark.what
 
       abbrev there : (t : Told m) (had : Walked m) → walked_in m w e t.mark.client ≡ Some had → TailTold (Got t.mark.client) t.noted.next had.work.tail → EndsWalks m w e t
@@ -292,10 +311,10 @@ module _ (m : Meaning) (h : Header) (ms : Moves m) (r : Reaches m h ms (after m 
         };
       }
 
-      none_there : (t : Told m) (end : Option (Walked m)) (p : ℕ) → ((y : Walked m) → end ≡ Some y → walked_in m w e t.mark.client ≡ Some y)
+      none_there : (t : Told m) (end : Option (Walked m)) (p : ℕ) → walked_in m w e t.mark.client ≡ end
           → NoneTold m h.objects (log m (after m h ms)) byp (Got t.mark.client) t.noted.next end (command_in m (client m w t.mark.client).work) (client m v t.mark.client) p → IsNoneThere m w e t p
       none_there t end p comes x = record {
-        at = there t x.had (comes x.had x.ended) x.synced;
+        at = there t x.had (comes ∙ x.ended) x.synced;
         none = λ d i commit less for. x.none known d (subst (λ (u : World m). Contains (entries_of (log m u)) (p, d)) last i) commit less for;
       }
         where
@@ -317,12 +336,12 @@ module _ (m : Meaning) (h : Header) (ms : Moves m) (r : Reaches m h ms (after m 
         where
           by : AheadTold m h.objects (log m (after m h ms)) byp (Got t.mark.client) t.noted.next k.end (command_in m (client m w t.mark.client).work) tail → IsAheadThere m w e t tail
           by x = record {
-            at = there t x.had (k.comes x.had x.ended) x.synced;
+            at = there t x.had (k.comes ∙ x.ended) x.synced;
             is = x.is;
             pos = x.pos;
             oid = x.oid;
             ask = x.ask;
-            command = command_waits m w t.mark.client e x.had (k.comes x.had x.ended) ∙ ap (λ (y : CommandOf m). Some y) x.asks;
+            command = command_waits m w t.mark.client e x.had (k.comes ∙ x.ended) ∙ ap (λ (y : CommandOf m). Some y) x.asks;
             above = x.above;
           }
 
@@ -342,7 +361,7 @@ module _ (m : Meaning) (h : Header) (ms : Moves m) (r : Reaches m h ms (after m 
           by : PastGoneAt m h.objects (log m (after m h ms)) byp (Got t.mark.client) t.noted.next k.end (command_in m (client m w t.mark.client).work) p o at below → IsPastGone m w e t p o at below
           by x = record {
             named = x.named;
-            ends = there t x.had (k.comes x.had x.ended) x.synced;
+            ends = there t x.had (k.comes ∙ x.ended) x.synced;
             met = (gone_at m (member_entries m x.had.client x.had.work x.had.work.oids) x.had.work.trims x.had.work.oids x.had.client.objects o at below x.gone).0;
             gone = gone;
             none = λ n d b i less gives low high.
@@ -350,10 +369,61 @@ module _ (m : Meaning) (h : Header) (ms : Moves m) (r : Reaches m h ms (after m 
           }
             where
               asks : x.had.work.command ≡ cmd.AskAt p o q
-              asks = same x.had.work.command (cmd.AskAt p o q) (sym (command_waits m w t.mark.client e x.had (k.comes x.had x.ended)) ∙ of)
+              asks = same x.had.work.command (cmd.AskAt p o q) (sym (command_waits m w t.mark.client e x.had (k.comes ∙ x.ended)) ∙ of)
 
               asked : Contains x.had.work.oids o
-              asked = x.found.hosts o (contained x.had.client.hosted o (asked_hosted m h xs e t.mark.client x.had (k.comes x.had x.ended) o (subst (λ (y : CommandOf m). AsksOf m y o) (sym asks) refl)))
+              asked = x.found.hosts o (contained x.had.client.hosted o (asked_hosted m h xs e t.mark.client x.had (k.comes ∙ x.ended) o (subst (λ (y : CommandOf m). AsksOf m y o) (sym asks) refl)))
+
+      -- Of a rescue.
+
+      -- its own pages are known where its walks end
+      task_owned : (k : ℕ) (x : Task m) → AtTask m (K m) (K m) (client m w k).num (client m w k).own (client m w k).cells (client m w k).hosted (client m w k).view x → TaskOwned m (client m w k) x
+      task_owned k (Syncing s) g = g
+      task_owned k (Walking j os) g = g
+      task_owned k (Appending a y) g = tt
+      task_owned k (Trimming x) g = tt
+      task_owned k (Copying' y) g = tt
+      task_owned k (Reconfiguring r) g = tt
+
+      known_there : (k : ℕ) (y : Walked m) → walked_in m w e k ≡ Some y → Owned y.client.own y.client.cells
+      known_there k y is = owned_there m w k
+          (λ v works. task_owned k (task_in m v.hand) (subst (λ (o : Option (Work m)). AtWork m (K m) (K m) (client m w k).num (client m w k).own (client m w k).cells (client m w k).hosted (client m w k).view o) works (owns k))) e y is
+
+      now_there : (p : ℕ) (d : Entry) → HasEntry m v p d → Contains (entries_of (log m (after m h ms))) (p, d)
+      now_there p d i = subst (λ (u : World m). Contains (entries_of (log m u)) (p, d)) last i
+
+      rescue_gone : (t : Told m) (k : Tells t) (at p below : ℕ) (had : Walked m) → command_in m (client m w t.mark.client).work ≡ Some (cmd.Rescue at) → t.mark.what ≡ told.Refused (cause.Forgotten p below) → walked_in m w e t.mark.client ≡ Some had → IsRescueGone m w e t at
+      rescue_gone t k at p below had of what ends = by (forgets t k p below (cmd.Rescue at) what of)
+        where
+          by : (k.end ≡ None) ⊎ RescueAt m h.objects (log m (after m h ms)) byp (Got t.mark.client) t.noted.next k.end (command_in m (client m w t.mark.client).work) (client m v t.mark.client).own at Absent → IsRescueGone m w e t at
+          by (inl none) = absurd (no_end had (sym none ∙ (sym k.comes ∙ ends)))
+            where
+              no_end : (y : Walked m) → None ≡ Some y → ⊥
+              no_end y z = cc
+          by (inr x) = record {
+            ends = there t x.had (k.comes ∙ x.ended) x.synced;
+            none = λ d i commit less reach.
+                none_in_reach m (log m (after m h ms)) byp x.had.client x.had.work x.found (client m v t.mark.client) x.same at (x.found.whole (ap (λ (y : CommandOf m). plays_kept m y) x.asks)) (known_there t.mark.client x.had (k.comes ∙ x.ended)) x.turn d (now_there at d i) commit less reach;
+          }
+
+      rescue_wide : (t : Told m) (k : Tells t) (at : ℕ) → command_in m (client m w t.mark.client).work ≡ Some (cmd.Rescue at) → t.mark.what ≡ told.Refused (cause.TooMany many.Hosted) → WouldWiden m w e t at
+      rescue_wide t k at of what = by (subst (λ (y : Option (CommandOf m)). WideOk m h.objects (log m (after m h ms)) byp (Got t.mark.client) t.noted.next k.end (command_in m (client m w t.mark.client).work) (client m v t.mark.client) y) of
+          (ok_of t k (told.Refused (cause.TooMany many.Hosted)) what))
+        where
+          by : RescueAt m h.objects (log m (after m h ms)) byp (Got t.mark.client) t.noted.next k.end (command_in m (client m w t.mark.client).work) (client m v t.mark.client).own at Wide → WouldWiden m w e t at
+          by x = record {
+            ends = there t x.had (k.comes ∙ x.ended) x.synced;
+            full = g.full;
+            pos = g.pos;
+            other = g.other;
+            upto = g.upto;
+            reads = record { entry = g.entry; here = subst (λ (u : World m). HasEntry m u g.pos g.entry) (sym last) g.here; commit = g.commit; read = g.read; reads = g.reads; of = g.of };
+            outside = g.outside;
+            lacks = g.lacks;
+          }
+            where
+              g : ReadsOther m (log m (after m h ms)) x.had.client x.had.work at
+              g = reads_other m (log m (after m h ms)) byp x.had.client x.had.work x.found at x.turn
 
       silent_none : (u : World m) → u.told ≡ w.told → (y : Told m) (q : List (Told m)) → u.told ≡ w.told ++ q → Has q y → ⊥
       silent_none u x y q are i = subst (λ (zs : List (Told m)). Has zs y) (cancel w.told q [] (sym are ∙ (x ∙ sym (nil_right w.told)))) i
@@ -424,6 +494,12 @@ module _ (m : Meaning) (h : Header) (xs : Moves m) (e : EventOf m) (r : Reaches 
 
   pub fates_last : FatesForgotten m (after m h xs) e
   fates_last t p at below replies of what v is = forgets m h (xs ++ Takes e ∷ []) r trims xs [] e refl owns kept (last_is m h xs e) t (told_last t replies) at below (cmd.Fate p) what of v is
+
+  pub rescues_forgotten_last : RescuesForgotten m (after m h xs) e
+  rescues_forgotten_last t at p below had replies of what ends = rescue_gone m h (xs ++ Takes e ∷ []) r trims xs [] e refl owns kept (last_is m h xs e) t (told_last t replies) at p below had of what ends
+
+  pub rescues_wide_last : RescuesTooWide m (after m h xs) e
+  rescues_wide_last t at replies of what = rescue_wide m h (xs ++ Takes e ∷ []) r trims xs [] e refl owns kept (last_is m h xs e) t (told_last t replies) at of what
 
   pub pasts_last : SavesPrecede m (entries_in m (after m h (xs ++ Takes e ∷ []))) → RefusalsTrue m (after m h xs) e → PastsForgotten m (after m h xs) e
   pasts_last precede refusals t p o q at below replies of what = past m h (xs ++ Takes e ∷ []) r trims xs [] e refl owns kept (last_is m h xs e) precede t (told_last t replies) p o q at below of what

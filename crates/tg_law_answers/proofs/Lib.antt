@@ -15,7 +15,9 @@ pub mod OwnSince
 pub mod Pasts
 pub mod Refused
 pub mod Refusing
+pub mod Rescued
 pub mod States
 pub mod Store
+pub mod Unknown
 pub mod Unsaved
 pub mod WalksEnd

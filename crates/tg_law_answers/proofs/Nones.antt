@@ -1,6 +1,10 @@
 -- Through each of a client's turns: where it tells that no record is there, its walks are over, and there is none that is for it.
-use Rattle.std.proofs.Common.{◌≡◌, ℕ, ◌<◌, ◌≤◌, List, [], ◌∷◌, Bool, true, false, refl, sym, ap, ◌∙◌, subst, arith, Option, Some, None}
-use Rattle.std.specs.Prelude.{nat_lt}
+use Rattle.std.proofs.Common.{◌≡◌, ◌⊎◌, ℕ, ◌<◌, ◌≤◌, List, [], ◌∷◌, Bool, true, false, refl, sym, ap, ◌∙◌, subst, inl, inr, arith, Option, Some, None}
+use Rattle.std.specs.Prelude.{nat_lt, if◌then◌else◌}
+use Rattle.tg_base.specs.Layouts.{Layout}
+use Rattle.tg_base.specs.Units.{has}
+use Rattle.tg_base.specs.declared.change.Join.{Join}
+use Rattle.tg_base.specs.declared.fault.Many.TheVariants as many
 use Rattle.tg_base.specs.declared.ids.NodeId.{NodeId}
 use Rattle.tg_base.specs.declared.ids.Oid.{Oid}
 use Rattle.tg_base.specs.declared.msg.Msg.{Msg}
@@ -12,14 +16,16 @@ use Rattle.tg_model.specs.declared.refusal.Refusal.{Refusal}
 use Rattle.tg_model.specs.declared.refusal.Refusal.TheVariants as cause
 use Rattle.tg_model.specs.declared.trace.What.TheVariants as told
 use Rattle.tg_model.specs.Kinds.{CommandOf, WhatOf, NoteOf}
+use Rattle.tg_proj.specs.Refusals.{is_not_closed, has_no_stripe, stands_there}
+use Rattle.tg_proj.specs.declared.fault.ProjFault.TheVariants as layout
 use Rattle.tg_protocol.specs.Logs.{Log, entries_of}
 use Rattle.tg_protocol.specs.Requests.{awaits}
 use Rattle.tg_protocol.specs.Replies.{reply}
 use Rattle.tg_protocol.specs.Appending.{append_start}
 use Rattle.tg_protocol.specs.Syncing.{sync_start}
 use Rattle.tg_protocol.specs.Views.{Entries, View, play, fate_of}
-use Rattle.tg_protocol.specs.Past.{PastGone, commit_at, past_at}
-use Rattle.tg_protocol.specs.Clients.{Purpose, Decides, Rescues, Task, Syncing, Walking, Appending, Trimming, Copying', Reconfiguring, Hand, Doing, Learning, Work, Client, all_entries, member_entries}
+use Rattle.tg_protocol.specs.Past.{PastGone, commit_at, past_at, RescueTurn, Absent, Wide, rescue_turn}
+use Rattle.tg_protocol.specs.Clients.{Purpose, Decides, Rescues, Task, Syncing, Walking, Appending, Trimming, Copying', Reconfiguring, Hand, Doing, Learning, Work, Client, all_entries, member_entries, by_layout, copy_fault}
 use Rattle.tg_protocol.specs.Answers.{Moved, keeps, pruned, closed, replies, refuses, took_over, answers, appends, syncs, view_or_new, own_view, play_target, trim_above}
 use Rattle.tg_protocol.specs.ClientSteps.{plays_kept, stands, task_in, task_awaited, task_asks, feed, accepts, refused_or}
 use Rattle.tg_protocol.specs.Stuck.{command_in}
@@ -35,7 +41,7 @@ use Rattle.tg_law_headline.proofs.Alike.Machines.{TailTold, SyncOk, SyncNext, sy
 use Rattle.tg_law_answers.proofs.Absent.{Owned, fewer_owned, HasFate, LowFor, zero_low, lo_low, NoneFor, none_at, RescueFits, rescue_fits}
 use Rattle.tg_law_steps.proofs.Places.{Place, Feeds, Newer, OnSync, OnWalk, OnAppend, Over, Walks, Plays, Looks, Rescues as Rescues'}
 use Rattle.tg_law_steps.proofs.Ways.{Way, FeedsSync, NewerSync, Confirms, Settles, MetHigh, StartsOver, sync_fed, AllWalked, HasPlayed, LooksBack, IsRescue}
-use Rattle.tg_law_steps.proofs.Ends.{End, GoesOn, LearnsNewer, Syncs, Appends, Refuses, Answers, Tells, IsGoing, TrimsGo, TrimsBegin, CopyGoes, ReconfGoes, IsLearning, WalkLearns, AppendLearns, IsSynced, JudgedAt, IsAppended, EndDecides, DecideDecides, SaveBegins, MarkBegins, RescueDecides, Commit', IsRefused, RecordForgotten, OtherForgotten, CopyFault, FateForgotten, DecideForgotten, LooksAhead, LooksForgotten, RescueForgotten, IsAnswered, FateNone, DecideNone, DecidedAt, DecidedLost, JudgedSo, JudgedLost, EndJudged, IsTold, RescueAbsent, RescueMissing, IsRescued, IsMarked, PlaysOther}
+use Rattle.tg_law_steps.proofs.Ends.{End, GoesOn, LearnsNewer, Syncs, Appends, Refuses, Answers, Tells, IsGoing, TrimsGo, TrimsBegin, CopyGoes, ReconfGoes, IsLearning, WalkLearns, AppendLearns, IsSynced, JudgedAt, IsAppended, EndDecides, DecideDecides, SaveBegins, MarkBegins, RescueDecides, Commit', IsRefused, RecordForgotten, OtherForgotten, CopyFault, FateForgotten, DecideForgotten, LooksAhead, LooksForgotten, RescueForgotten, RescueWide, IsAnswered, FateNone, DecideNone, DecidedAt, DecidedLost, JudgedSo, JudgedLost, EndJudged, IsTold, RescueAbsent, RescueMissing, IsRescued, IsMarked, PlaysOther}
 use Rattle.tg_law_steps.proofs.Takes.{IsSaid, Begins, Taken, SaidAtOnce, SyncsFirst, AppendsRecord, ForWrites, said_work, taken}
 use Rattle.tg_law_steps.proofs.Along.{delivered, over_walks}
 use Rattle.tg_law_steps.proofs.Reaches.{reaches, reach_way, reach_fed, reach_newer}
@@ -59,6 +65,21 @@ module _ (m : Meaning) where
   NoNones (n ∷ ns) = NotNone n.what × NoNones ns
 
 module _ (m : Meaning) where
+  -- a copy isn't refused for a number of objects
+  copies_few : (p : Layout) (u r s : ℕ) → copy_fault m p u r s ≡ Some (cause.TooMany many.Hosted) → ⊥
+  unfolding copy_fault
+  copies_few p u r s is = by (is_not_closed p j) (has_no_stripe p j) (stands_there p j) (has p.gone j.unit) is
+    where
+      j : Join
+      j = record { unit = u; range = r; stripe = s }
+
+      by : (a b c d : Bool) → by_layout m (if a then Some (layout.NotClosed r) else if b then Some (layout.NoStripe r s) else if c then Some (layout.InChain u) else if d then Some (layout.Returned u) else None) ≡ Some (cause.TooMany many.Hosted) → ⊥
+      by true b c d e = cc
+      by false true c d e = cc
+      by false false true d e = cc
+      by false false false true e = cc
+      by false false false false e = cc
+
   -- a command that may append something where its streams are walked
   abbrev pub MayAppend : CommandOf m → Type 0
   MayAppend (cmd.Fate p) = ⊥
@@ -144,10 +165,25 @@ module _ (m : Meaning) (objects : List Oid) (l : Log) (byp : IsByPosition l) (Go
     abbrev pub NoFate : Client m → ℕ → Type 0
     NoFate d at = (v : View m) → d.view ≡ Some v → fate_of m v at ≡ None
 
+    -- what the turn of a rescue came to, and of which own records
+    pub record RescueAt (own : List ℕ) (p : ℕ) (r : RescueTurn m) : Type 0 where
+      pub had : Walked m
+      pub ended : end ≡ Some had
+      pub synced : TailTold Got lo had.work.tail
+      pub found : IsRound m l (round m had.client had.work had.client.cells) []
+      pub asks : had.work.command ≡ cmd.Rescue p
+      pub same : own ≡ had.client.own
+      pub turn : rescue_turn m (all_entries m had.client had.work had.work.oids) had.work.trims had.work.oids had.client.objects p ≡ r
+
     abbrev pub ForgottenOk : Client m → Option (CommandOf m) → ℕ → ℕ → Type 0
     ForgottenOk d (Some (cmd.Fate p)) at below = NoFate d at
     ForgottenOk d (Some (cmd.AskAt p o q)) at below = PastGoneAt p o at below
+    ForgottenOk d (Some (cmd.Rescue p)) at below = (end ≡ None) ⊎ RescueAt d.own p Absent
     ForgottenOk d x at below = Unit {0}
+
+    abbrev pub WideOk : Client m → Option (CommandOf m) → Type 0
+    WideOk d (Some (cmd.Rescue p)) = RescueAt d.own p Wide
+    WideOk d x = Unit {0}
 
     abbrev pub Ok : Client m → WhatOf m → Type 0
     Ok d (told.Fate p None) = NoneTold d p
@@ -155,23 +191,27 @@ module _ (m : Meaning) (objects : List Oid) (l : Log) (byp : IsByPosition l) (Go
     Ok d (told.Rescued p None) = NoneTold d p
     Ok d (told.Refused (cause.Ahead tail)) = AheadTold tail
     Ok d (told.Refused (cause.Forgotten at below)) = ForgottenOk d command at below
+    Ok d (told.Refused (cause.TooMany many.Hosted)) = WideOk d command
     Ok d what = Unit {0}
 
     -- what isn't told of what walks found
-    forgotten_ok : (d : Client m) (x : CommandOf m) (at below : ℕ) → MayAppend m x → ForgottenOk d (Some x) at below
-    forgotten_ok d (cmd.Fate p) at below h = absurd h
-    forgotten_ok d (cmd.AskAt p o q) at below h = absurd h
-    forgotten_ok d x at below h = tt
+    forgotten_ok : (d : Client m) (x : CommandOf m) (at below : ℕ) → MayAppend m x → end ≡ None → ForgottenOk d (Some x) at below
+    forgotten_ok d (cmd.Fate p) at below h none = absurd h
+    forgotten_ok d (cmd.AskAt p o q) at below h none = absurd h
+    forgotten_ok d (cmd.Rescue p) at below h none = inl none
+    forgotten_ok d x at below h none = tt
 
-    at_once_ok : (d : Client m) (why : Refusal) → IsAtOnce (Some why) → Ok d (told.Refused why)
-    at_once_ok d (cause.Ahead tail) h = absurd h
-    at_once_ok d (cause.Forgotten at below) h = absurd h
-    at_once_ok d why h = tt
+    at_once_ok : (d : Client m) (why : Refusal) → IsAtOnce (Some why) → (why ≡ cause.TooMany many.Hosted → command ≡ None) → Ok d (told.Refused why)
+    at_once_ok d (cause.Ahead tail) h free = absurd h
+    at_once_ok d (cause.Forgotten at below) h free = absurd h
+    at_once_ok d (cause.TooMany many.Hosted) h free = subst (WideOk d) (sym (free refl)) tt
+    at_once_ok d why h free = tt
 
-    layout_ok : (d : Client m) (why : Refusal) → IsByLayout (Some why) → Ok d (told.Refused why)
-    layout_ok d (cause.Ahead tail) h = absurd h
-    layout_ok d (cause.Forgotten at below) h = absurd h
-    layout_ok d why h = tt
+    layout_ok : (d : Client m) (why : Refusal) → IsByLayout (Some why) → (why ≡ cause.TooMany many.Hosted → ⊥) → Ok d (told.Refused why)
+    layout_ok d (cause.Ahead tail) h few = absurd h
+    layout_ok d (cause.Forgotten at below) h few = absurd h
+    layout_ok d (cause.TooMany many.Hosted) h few = absurd (few refl)
+    layout_ok d why h few = tt
 
     plain : (d : Client m) (what : WhatOf m) → NotNone m what → Ok d what
     plain d (told.Fate p None) h = absurd h
@@ -275,14 +315,14 @@ module _ (m : Meaning) (objects : List Oid) (l : Log) (byp : IsByPosition l) (Go
     Here c w (Walks os) = Walking' c w
     Here c w (Plays es p) = TailTold Got lo w.tail × Wants c w es p.view w.command × (c.view ≡ Some p.view)
     Here c w (Looks at o q) = TailTold Got lo w.tail × IsRound m l (round m c w c.cells) [] × (w.command ≡ cmd.AskAt at o q)
-    Here c w (Rescues' at) = TailTold Got lo w.tail × (w.command ≡ cmd.Rescue at) × (commit_at (all_entries m c w w.oids) at ≡ None → trim_above m w.trims at ≡ None → NoneHere c w at)
+    Here c w (Rescues' at) = TailTold Got lo w.tail × IsRound m l (round m c w c.cells) [] × (w.command ≡ cmd.Rescue at)
     Here c w p = Unit {0}
 
     -- the walks of the turn come to that end from there, or it is the work's
     abbrev Comes : Client m → Work m → Place m → Type 0
     Comes c w (Plays es p) = IsHad w
     Comes c w (Looks at o q) = end ≡ Some (record { client = c; work = w })
-    Comes c w (Rescues' at) = IsHad w
+    Comes c w (Rescues' at) = end ≡ Some (record { client = c; work = w })
     Comes c w p = end ≡ reaches m c w p
 
     abbrev At' : Client m → Work m → Place m → Type 0
@@ -326,7 +366,7 @@ module _ (m : Meaning) (objects : List Oid) (l : Log) (byp : IsByPosition l) (Go
     walked_way : (c : Client m) (w : Work m) (d : Client m) (q : Place m) → AllWalked m c w d q → At' c w (Walks []) → At' d w q
     walked_way c w _ _ (HasPlayed k) h = (h.0, (h.1.0, wants c w h.2 w.command h.1.1, refl), tt, had c w h.3, h.4)
     walked_way c w _ _ (LooksBack at o q of) h = (h.0, (h.1.0, h.2, of), tt, ended c w h.3, h.4)
-    walked_way c w _ _ (IsRescue at of) h = (h.0, (h.1.0, of, rescued c w h.2 at of), tt, had c w h.3, h.4)
+    walked_way c w _ _ (IsRescue at of) h = (h.0, (h.1.0, h.2, of), tt, ended c w h.3, h.4)
 
     -- What a turn comes to.
 
@@ -355,7 +395,7 @@ module _ (m : Meaning) (objects : List Oid) (l : Log) (byp : IsByPosition l) (Go
     appended_held c w _ _ _ _ _ (DecideDecides es p at e d so of t came i is says k) h = ((tt, may w (cmd.Decide at) of tt), tt)
     appended_held c w _ _ _ _ _ (SaveBegins es p upto o of came fits) h = ((tt, may w (cmd.Checkpoint o) of tt), tt)
     appended_held c w _ _ _ _ _ (MarkBegins es p upto o n of came fits) h = ((tt, may w (cmd.Forget o n) of tt), (tt, (tt, (tt, tt))))
-    appended_held c w _ _ _ _ _ (RescueDecides at so e is there) h = ((tt, may w (cmd.Rescue at) h.1 tt), tt)
+    appended_held c w _ _ _ _ _ (RescueDecides at so e is there) h = ((tt, may w (cmd.Rescue at) h.2 tt), tt)
 
     answered_so : (c : Client m) (w : Work m) (p : Place m) (d : Client m) (n : ℕ) (what : WhatOf m) → IsAnswered m c w p d n what → Here c w p → Comes c w p → Ok (answers m d n what).now what
     answered_so c w _ _ _ _ (FateNone es p at of k f i t) h y = took_none c c.view w at y h.0 (subst (λ (x : CommandOf m). Wants c w es p.view x) of h.1 f i t)
@@ -375,10 +415,13 @@ module _ (m : Meaning) (objects : List Oid) (l : Log) (byp : IsByPosition l) (Go
     one_view : (a b : View m) → Some a ≡ Some b → a ≡ b
     one_view a b z = cc
 
+    rescue_at : (c : Client m) (w : Work m) (at : ℕ) (r : RescueTurn m) → Here c w (Rescues' at) → Comes c w (Rescues' at) → rescue_turn m (all_entries m c w w.oids) w.trims w.oids c.objects at ≡ r → RescueAt c.own at r
+    rescue_at c w at r h z is = record { had = record { client = c; work = w }; ended = z; synced = h.0; found = h.1; asks = h.2; same = refl; turn = is }
+
     refused_so : (c : Client m) (w : Work m) (p : Place m) (d : Client m) (n : ℕ) (why : Refusal) → IsRefused m c w p d n why → Here c w p → Comes c w p → Some w.command ≡ command → Ok (refuses m d n why).now (told.Refused why)
-    refused_so c w _ _ _ _ (RecordForgotten y bs p b of) h z same = of_command (pruned m (closed m c)) w w.command p b same refl (forgotten_ok (pruned m (closed m c)) w.command p b h.1)
-    refused_so c w _ _ _ _ (OtherForgotten y bs n p b of) h z same = of_command (pruned m c) w w.command p b same refl (forgotten_ok (pruned m c) w.command p b h.1)
-    refused_so c w _ _ _ _ (CopyFault x n rid q why e) h z same = layout_ok (pruned m (stands m c q)) why (subst IsByLayout e (copy_by_layout m q x.unit x.range x.stripe))
+    refused_so c w _ _ _ _ (RecordForgotten y bs p b of) h z same = of_command (pruned m (closed m c)) w w.command p b same refl (forgotten_ok (pruned m (closed m c)) w.command p b h.1 z)
+    refused_so c w _ _ _ _ (OtherForgotten y bs n p b of) h z same = of_command (pruned m c) w w.command p b same refl (forgotten_ok (pruned m c) w.command p b h.1 z)
+    refused_so c w _ _ _ _ (CopyFault x n rid q why e) h z same = layout_ok (pruned m (stands m c q)) why (subst IsByLayout e (copy_by_layout m q x.unit x.range x.stripe)) (λ is. copies_few m q x.unit x.range x.stripe (e ∙ ap (λ (y : Refusal). Some y) is))
     refused_so c w _ _ _ _ (FateForgotten es p at b of came none met) h z same =
         of_command (pruned m c) w (cmd.Fate at) at b same of (λ v is. subst (λ (u : View m). fate_of m u at ≡ None) (one_view p.view v (sym h.2 ∙ is)) none)
     refused_so c w _ _ _ _ (DecideForgotten es p at b of met) h z same = of_command (pruned m c) w (cmd.Decide at) at b same of tt
@@ -395,11 +438,12 @@ module _ (m : Meaning) (objects : List Oid) (l : Log) (byp : IsByPosition l) (Go
     }
     refused_so c w _ _ _ _ (LooksForgotten at o q b low gone) h z same =
         of_command (pruned m c) w (cmd.AskAt at o q) at b same h.2 (record { had = record { client = c; work = w }; ended = z; synced = h.0; found = h.1; named = refl; gone = gone })
-    refused_so c w _ _ _ _ (RescueForgotten at b absent met) h z same = of_command (pruned m c) w (cmd.Rescue at) at b same h.1 tt
+    refused_so c w _ _ _ _ (RescueForgotten at b absent met) h z same = of_command (pruned m c) w (cmd.Rescue at) at b same h.2 (inr (rescue_at c w at Absent h z absent))
+    refused_so c w _ _ _ _ (RescueWide at wide) h z same = subst (WideOk (pruned m c)) (ap (λ (y : CommandOf m). Some y) (sym h.2) ∙ same) (rescue_at c w at Wide h z wide)
     refused_so c w _ _ _ _ x h z same = tt
 
     told_so : (c : Client m) (w : Work m) (p : Place m) (d : Client m) (ns : List (NoteOf m)) → IsTold m c w p d ns → Here c w p → Comes c w p → EachOk (replies m d ns).now ns
-    told_so c w _ _ _ (RescueAbsent at e t) h y = (pruned_none c w at y h.0 (h.2 (subst (RescueFits m (all_entries m c w w.oids) at) e (rescue_fits m (all_entries m c w w.oids) w.trims w.oids c.objects at)) t), tt)
+    told_so c w _ _ _ (RescueAbsent at e t) h y = (pruned_none c w at (record { client = c; ended = y }) h.0 (rescued c w h.1 at h.2 (subst (RescueFits m (all_entries m c w w.oids) at) e (rescue_fits m (all_entries m c w w.oids) w.trims w.oids c.objects at)) t), tt)
     told_so c w _ _ _ (RescueMissing at so e i) h y = absurd (subst (RescueFits m (all_entries m c w w.oids) at) e (rescue_fits m (all_entries m c w w.oids) w.trims w.oids c.objects at) i)
     told_so c w _ _ _ (IsRescued x bs p d) h y = (plain _ x h.0, tt)
     told_so c w _ _ _ (IsMarked n o mark bs p d) h y = (tt, (tt, tt))
@@ -465,6 +509,6 @@ module _ (m : Meaning) (objects : List Oid) (l : Log) (byp : IsByPosition l) (Go
   takes_good command c _ free le _ (AppendsRecord t _ has some k) = record { held = (tt, tt); says = (tt, tt) }
   takes_good command c _ free le _ x = record { held = tt; says = tt }
 
-  pub command_turn : (command : Option (CommandOf m)) (c : Client m) (x : CommandOf m) (o : Option Refusal) → IsAtOnce o → (o ≡ None → c.work ≡ None) → lo ≤ c.next → Held c → Good None command (refused_or m c x o)
-  command_turn command c x None once free le h = takes_good command c x (free refl) le (accepts m c x) (taken m c x)
-  command_turn command c x (Some why) once free le h = record { held = h; says = (at_once_ok None command c why once, tt) }
+  pub command_turn : (command : Option (CommandOf m)) (c : Client m) (x : CommandOf m) (o : Option Refusal) → IsAtOnce o → (o ≡ None → c.work ≡ None) → (o ≡ Some (cause.TooMany many.Hosted) → command ≡ None) → lo ≤ c.next → Held c → Good None command (refused_or m c x o)
+  command_turn command c x None once free few le h = takes_good command c x (free refl) le (accepts m c x) (taken m c x)
+  command_turn command c x (Some why) once free few le h = record { held = h; says = (at_once_ok None command c why once (λ is. few (ap (λ (y : Refusal). Some y) is)), tt) }

@@ -15,16 +15,18 @@ use Rattle.tg_law_walks.proofs.Drafts.Clients.{happens_steps}
 use Rattle.tg_law_walks.proofs.Walks.Reading.{reaches_later}
 use Rattle.tg_law_store.proofs.Store.Steps.{store_trims_are_spare}
 use Rattle.tg_law_store.proofs.Joint.Holding.{steps_hold}
-use Rattle.tg_law_causes.specs.Undecidings.{UnsureUnlessLacking}
+use Rattle.tg_law_causes.specs.Undecidings.{UndecidedTrue, UnsureUnlessLacking}
 use Rattle.tg_law_headline.proofs.Runs.Finding.{ends}
 use Rattle.tg_law_causes.proofs.Store.{directories_true}
-use Rattle.tg_law_causes.proofs.StoreStalled.{unsure_unless_lacking}
+use Rattle.tg_law_causes.proofs.StoreStalled.{undecided_true, unsure_unless_lacking}
 use Rattle.tg_law_answers.specs.Confirmed.{NonesThere, AheadsThere, FatesForgotten, PastsForgotten, UnsavedThere}
-use Rattle.tg_law_answers.specs.Undecided.{UnsureUnlessYes}
-use Rattle.tg_law_answers.proofs.Along.{nones_last, aheads_last, fates_last, pasts_last, some_tail}
+use Rattle.tg_law_answers.specs.Rescues.{RescuesForgotten, RescuesTooWide}
+use Rattle.tg_law_answers.specs.Undecided.{UnsureUnlessYes, PastsUndecided, RescuesUndecided}
+use Rattle.tg_law_answers.proofs.Along.{nones_last, aheads_last, fates_last, pasts_last, rescues_forgotten_last, rescues_wide_last, some_tail}
 use Rattle.tg_law_answers.proofs.Lacking.{unsure_there, no_yes_there as unsure_unless_yes}
 use Rattle.tg_law_answers.proofs.Refused.{refusals_true}
 use Rattle.tg_law_answers.proofs.Refusing.{causes_refuse_here}
+use Rattle.tg_law_answers.proofs.Unknown.{pasts_undecided_there, rescues_undecided_there}
 use Rattle.tg_law_answers.proofs.Unsaved.{unsaved_there as unsaved_last}
 use Rattle.tg_law_walks.proofs.Checkpoints.Checkpoints.{entries_own}
 use Rattle.tg_law_syncs.proofs.Follow.Saves.{saves_precede}
@@ -93,6 +95,32 @@ pasts_forgotten h ms w e r lawful few =
     let p = saves_precede all_kinds h (ms ++ Takes e ∷ []) (after all_kinds h (ms ++ Takes e ∷ [])) z t.were (entries_own all_kinds kinds_touch_parts h (ms ++ Takes e ∷ []) (after all_kinds h (ms ++ Takes e ∷ [])) z) in
     subst (λ (u : World all_kinds). PastsForgotten all_kinds u e) (sym r.goes.is)
     (pasts_last all_kinds h ms e z t.were p (subst (λ (u : World all_kinds). RefusalsTrue all_kinds u e) r.goes.is (refusals_true h ms w e r lawful few)))
+
+pub pasts_undecided : EachStep all_kinds (PastsUndecided all_kinds)
+pasts_undecided h ms w e r lawful few =
+    let z = reached all_kinds h ms w e r lawful few in
+    let t = store_trims_are_spare h (ms ++ Takes e ∷ []) (after all_kinds h (ms ++ Takes e ∷ [])) z (steps_hold h (ms ++ Takes e ∷ []) (after all_kinds h (ms ++ Takes e ∷ [])) z) in
+    subst (λ (u : World all_kinds). PastsUndecided all_kinds u e) (sym r.goes.is)
+    (pasts_undecided_there all_kinds h ms e z t.were (subst (λ (u : World all_kinds). UndecidedTrue all_kinds u e) r.goes.is (undecided_true h ms w e r lawful few)))
+
+pub rescues_undecided : EachStep all_kinds (RescuesUndecided all_kinds)
+rescues_undecided h ms w e r lawful few =
+    let z = reached all_kinds h ms w e r lawful few in
+    let t = store_trims_are_spare h (ms ++ Takes e ∷ []) (after all_kinds h (ms ++ Takes e ∷ [])) z (steps_hold h (ms ++ Takes e ∷ []) (after all_kinds h (ms ++ Takes e ∷ [])) z) in
+    subst (λ (u : World all_kinds). RescuesUndecided all_kinds u e) (sym r.goes.is)
+    (rescues_undecided_there all_kinds h ms e z t.were (subst (λ (u : World all_kinds). UndecidedTrue all_kinds u e) r.goes.is (undecided_true h ms w e r lawful few)))
+
+pub rescues_forgotten : EachStep all_kinds (RescuesForgotten all_kinds)
+rescues_forgotten h ms w e r lawful few =
+    let z = reached all_kinds h ms w e r lawful few in
+    let t = store_trims_are_spare h (ms ++ Takes e ∷ []) (after all_kinds h (ms ++ Takes e ∷ [])) z (steps_hold h (ms ++ Takes e ∷ []) (after all_kinds h (ms ++ Takes e ∷ [])) z) in
+    subst (λ (u : World all_kinds). RescuesForgotten all_kinds u e) (sym r.goes.is) (rescues_forgotten_last all_kinds h ms e z t.were)
+
+pub rescues_too_wide : EachStep all_kinds (RescuesTooWide all_kinds)
+rescues_too_wide h ms w e r lawful few =
+    let z = reached all_kinds h ms w e r lawful few in
+    let t = store_trims_are_spare h (ms ++ Takes e ∷ []) (after all_kinds h (ms ++ Takes e ∷ [])) z (steps_hold h (ms ++ Takes e ∷ []) (after all_kinds h (ms ++ Takes e ∷ [])) z) in
+    subst (λ (u : World all_kinds). RescuesTooWide all_kinds u e) (sym r.goes.is) (rescues_wide_last all_kinds h ms e z t.were)
 
 pub unsaved_there : EachStep all_kinds (UnsavedThere all_kinds)
 unsaved_there h ms w e r lawful few =

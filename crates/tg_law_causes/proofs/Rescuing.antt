@@ -213,6 +213,45 @@ module _ (m : Meaning) where
           by None none k = absurd (free_by at q x (playing at).came none k)
           by (Some b) some k = in_set b (blocks_by at (playing at).came b refl some) (has_oid b.1 oids) refl k
 
+      -- a rescue that would take one object more than there may be: a record at its position or below reads another
+      pub record IsWide (at : ℕ) : Type 0 where
+        pub pos : ℕ
+        pub other : Oid
+        pub unknowns : Unknowns m es (playing at).view pos other
+        pub undecided : decision_in es pos ≡ None
+        pub upto : pos ≤ at
+        pub outside : has_oid other oids ≡ false
+        pub full : nat_le 128 (length oids) ≡ true
+
+      known_wide : (at : ℕ) (e : Entry) (d : Verdict) → known_by m es at e d ≡ Wide → ⊥
+      known_wide at e Commits k = cc
+      known_wide at e Aborts k = cc
+      known_wide at e (Unknown o) k = cc
+
+      record_wide : (v : View m) (at : ℕ) (b : Option (ℕ × Oid)) (e : Option Entry) → at_record m v es at b e ≡ Wide → ⊥
+      record_wide v at b None k = cc
+      record_wide v at (Some b) (Some e) k = cc
+      record_wide v at None (Some e) k = known_wide at e (view_outcome m v es at e) k
+
+      grows_wide : (o : Oid) → grows m oids o ≡ Wide → nat_le 128 (length oids) ≡ true
+      grows_wide o k = by (nat_le 128 (length oids)) k
+        where
+          by : (b : Bool) → ◌≡◌ {A = RescueTurn m} (if b then Wide else Wider o) Wide → b ≡ true
+          by true e = refl
+          by false e = absurd cc
+
+      pub rescue_wide : (at : ℕ) → rescue_turn m es gone oids objects at ≡ Wide → IsWide at
+      unfolding rescue_turn
+      rescue_wide at h = by (block_in m (playing at) es at (playing at).came) refl h
+        where
+          in_set : (b : ℕ × Oid) → Blocks at b.0 b.1 → (c : Bool) → has_oid b.1 oids ≡ c → (if c then at_record m (playing at).view es at (Some b) (commit_at es at) else grows m oids b.1) ≡ Wide → IsWide at
+          in_set b k true set is = absurd (record_wide (playing at).view at (Some b) (commit_at es at) is)
+          in_set b k false set is = record { pos = b.0; other = b.1; unknowns = k.0; undecided = k.1; upto = k.2; outside = set; full = grows_wide b.1 is }
+
+          by : (b : Option (ℕ × Oid)) → block_in m (playing at) es at (playing at).came ≡ b → rescue_by m (playing at) es oids at b ≡ Wide → IsWide at
+          by None none k = absurd (record_wide (playing at).view at None (commit_at es at) k)
+          by (Some b) some k = in_set b (blocks_by at (playing at).came b refl some) (has_oid b.1 oids) refl k
+
       -- its walk met a trim
       pub stuck_trimmed : (at q : ℕ) (x : Oid) → IsStuck at q x → (below : ℕ) × (trim_of gone x ≡ Some below)
       unfolding view_start view_bases

@@ -56,7 +56,7 @@ module _ (ps : List Packet) (p : Layout) where
   AppendClaims (Judging j) y = Claims ps j.place j.work y
 
   append_turn : (n : ℕ) (y : Msg) (next : ℕ) (a : Append) (t : Turn Append AppendEnd) → appends.Fed p n (reply y) next a t → AppendOk a.work → AppendClaims a.work y → AppendNext t.to
-  append_turn n y next _ _ (appends.Issues d o r pos ls is e) k h = record { place = refl; work = λ i less. absurd (omega (arith, less)) }
+  append_turn n y next _ _ (appends.Issues d o r pos ls is e) k h = record { place = refl; work = (λ past. absurd (omega (arith, past)), λ i less. absurd (omega (arith, less))) }
   append_turn n y next _ _ (appends.PutGoes d t j x e) k h = turned j x y n next k h e
   append_turn n y next _ _ (appends.JudgeGoes d t j x e) k h = turned j x y n next k h e
   append_turn n y next _ _ (appends.JobPasses d t w j e of is) k h = k

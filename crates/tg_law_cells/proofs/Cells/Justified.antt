@@ -110,8 +110,8 @@ module _ (ps : List Packet) where
   Upto a c i = (k : ℕ) → k < i → ToldBy (unit_at a k) a.epoch a.pos c
 
   abbrev pub WorkOk : Place → CellWork → Type 0
-  WorkOk a (Puts r d i) = Upto a (Data d) i
-  WorkOk a (Copies r c i) = (0 < i) × Upto a c i
+  WorkOk a (Puts r d i) = (0 < i → i < length a.chain) × Upto a (Data d) i
+  WorkOk a (Copies r c i) = (0 < i) × (i < length a.chain) × Upto a c i
   WorkOk a w = Unit {0}
 
   -- what its end tells: all units have told the cell, or the last one has
@@ -134,6 +134,9 @@ module _ (ps : List Packet) where
       by : (k < i) ⊎ (k ≡ i) → ToldBy (unit_at a k) a.epoch a.pos c
       by (inl l) = u k l
       by (inr e) = subst (λ (j : ℕ). ToldBy (unit_at a j) a.epoch a.pos c) (sym e) t
+
+  less_of : (i n : ℕ) → nat_lt i n ≡ true → i < n
+  less_of i n h = grind arith
 
   not_less : (i n : ℕ) → nat_lt i n ≡ false → n ≤ i
   not_less i n h = grind arith
@@ -182,10 +185,10 @@ module _ (ps : List Packet) where
   copied u y next a _ _ _ (cells.FillTaken r c is) ok h =
       (omega arith, upto_more a c 0 (λ k less. absurd (omega (arith, less))) (told (unit_at a 0) a.epoch a.pos c (msg.Fill a.epoch a.pos) y h (ap (λ (z : Msg). claimed (unit_ask (msg.Fill a.epoch a.pos)) z) (is_taken y c is))))
   copied u y next a _ _ _ (cells.CopyHeld r c i is) ok h =
-      (omega arith, upto_more a c i ok.1 (told (unit_at a i) a.epoch a.pos c (msg.Copy a.epoch a.pos c) y h (ap (λ (z : Msg). claimed (unit_ask (msg.Copy a.epoch a.pos c)) z) (is_held y is))))
+      (omega arith, upto_more a c i ok.2 (told (unit_at a i) a.epoch a.pos c (msg.Copy a.epoch a.pos c) y h (ap (λ (z : Msg). claimed (unit_ask (msg.Copy a.epoch a.pos c)) z) (is_held y is))))
   copied u y next a _ _ _ (cells.CopySame r c i x is e) ok h =
       let t = told (unit_at a i) a.epoch a.pos x (msg.Copy a.epoch a.pos c) y h (ap (λ (z : Msg). claimed (unit_ask (msg.Copy a.epoch a.pos c)) z) (is_taken y x is)) in
-      (omega arith, upto_more a c i ok.1 (subst (λ (z : Cell). ToldBy (unit_at a i) a.epoch a.pos z) (equal_cells x c e) t))
+      (omega arith, upto_more a c i ok.2 (subst (λ (z : Cell). ToldBy (unit_at a i) a.epoch a.pos z) (equal_cells x c e) t))
 
   put_told : (y : Msg) (a : Place) (d : List ℕ) (i : ℕ) → reply y ≡ replied.IsHeld → Upto a (Data d) i → ClaimsOf (unit_at a i) (msg.Write a.epoch a.pos d) y → Upto a (Data d) (i + 1)
   unfolding claimed unit_ask
@@ -193,13 +196,13 @@ module _ (ps : List Packet) where
 
   pub turn_ok : (u : ℕ) (y : Msg) (next : ℕ) (j : CellJob) (t : CellTurn) → cells.Fed u (reply y) next j t → WorkOk j.place j.work → Claims j.place j.work y → NextOk j.place t.to
   unfolding claimed unit_ask
-  turn_ok u y next _ _ (cells.PutsOn a r d i is f) ok h = (refl, put_told y a d i is ok h)
-  turn_ok u y next _ _ (cells.PutsLast a r d i is f) ok h = inl (upto_less a (Data d) (i + 1) (length a.chain) (not_less (i + 1) (length a.chain) f) (put_told y a d i is ok h))
+  turn_ok u y next _ _ (cells.PutsOn a r d i is f) ok h = (refl, ((λ past. less_of (i + 1) (length a.chain) f), put_told y a d i is ok.1 h))
+  turn_ok u y next _ _ (cells.PutsLast a r d i is f) ok h = inl (upto_less a (Data d) (i + 1) (length a.chain) (not_less (i + 1) (length a.chain) f) (put_told y a d i is ok.1 h))
   turn_ok u y next _ _ (cells.PutRefused a r d i c is f) ok h = subst (λ (k : ℕ). ToldBy (unit_at a k) a.epoch a.pos c) (same_number i 0 (both (i == 0) (not (cell_eq c (Data d))) f).0)
       (told (unit_at a i) a.epoch a.pos c (msg.Write a.epoch a.pos d) y h (ap (λ (z : Msg). claimed (unit_ask (msg.Write a.epoch a.pos d)) z) (is_taken y c is)))
   turn_ok u y next _ _ (cells.ReadsCell a r c is) ok h = inr (told (last_unit a) a.epoch a.pos c (msg.Read a.epoch a.pos) y h (ap (λ (z : Msg). claimed (unit_ask (msg.Read a.epoch a.pos)) z) (is_taken y c is)))
   turn_ok u y next _ _ (cells.ReadsNone a r is) ok h = (refl, tt)
-  turn_ok u y next _ _ (cells.CopiesOn a w c i k f) ok h = (refl, copied u y next a w c i k ok h)
+  turn_ok u y next _ _ (cells.CopiesOn a w c i k f) ok h = let g = copied u y next a w c i k ok h in (refl, (g.0, less_of i (length a.chain) f, g.1))
   turn_ok u y next _ _ (cells.CopiesLast a w c i k f) ok h = inl (upto_less a c i (length a.chain) (not_less i (length a.chain) f) (copied u y next a w c i k ok h).1)
   turn_ok u y next _ _ (cells.ProbesOn a ws v vs k e) ok h = (refl, tt)
   turn_ok u y next _ _ (cells.Nothing j) ok h = (refl, ok)

@@ -1,5 +1,5 @@
 -- What is sent to units is justified: a page or a cell goes down a chain, one unit after the other.
-use Rattle.std.proofs.Common.{◌≡◌, ◌⊎◌, ℕ, ◌<◌, List, [], ◌∷◌, ◌++◌, true, refl, sym, ap, ◌∙◌, subst, inl, inr, arith, Some, None, Option}
+use Rattle.std.proofs.Common.{◌≡◌, ◌⊎◌, ℕ, ◌<◌, List, [], ◌∷◌, ◌++◌, length, true, refl, sym, ap, ◌∙◌, subst, inl, inr, arith, Some, None, Option}
 use Rattle.tg_base.specs.Layouts.{Layout}
 use Rattle.tg_base.specs.declared.cell.Cell.{Cell}
 use Rattle.tg_base.specs.declared.cell.Cell.TheVariants.{Junk, Data}
@@ -42,6 +42,7 @@ module _ (ps : List Packet) (K : Layout → Type 0) where
     pub epoch : e ≡ place.epoch
     pub pos : p ≡ place.pos
     pub index : ℕ
+    pub within : 0 < index → index < length place.chain
     pub unit : to ≡ unit_id (unit_at place index)
     pub told : Upto ps place c index
 
@@ -84,10 +85,10 @@ module _ (ps : List Packet) (K : Layout → Type 0) where
 
   cell_just : (p : Layout) → K p → (a : Place) (w : CellWork) → a ≡ place_in p a.pos → WorkOk ps a w → AllJust (work_asks a w)
   unfolding work_asks
-  cell_just p n a (Puts r d i) at k = one_just _ r _ (record { layout = p; known = n; place = a; at = at; epoch = refl; pos = refl; index = i; unit = refl; told = k })
+  cell_just p n a (Puts r d i) at k = one_just _ r _ (record { layout = p; known = n; place = a; at = at; epoch = refl; pos = refl; index = i; within = k.0; unit = refl; told = k.1 })
   cell_just p n a (Gets r) at k = one_just _ r (msg.Read a.epoch a.pos) tt
-  cell_just p n a (Fills r) at k = one_just _ r _ (record { layout = p; known = n; place = a; at = at; epoch = refl; pos = refl; index = 0; unit = refl; told = λ i less. absurd (omega (arith, less)) })
-  cell_just p n a (Copies r c i) at k = one_just _ r _ (inl (record { layout = p; known = n; place = a; at = at; epoch = refl; pos = refl; index = i; unit = refl; told = k.1 }, k.0))
+  cell_just p n a (Fills r) at k = one_just _ r _ (record { layout = p; known = n; place = a; at = at; epoch = refl; pos = refl; index = 0; within = λ past. absurd (omega (arith, past)); unit = refl; told = λ i less. absurd (omega (arith, less)) })
+  cell_just p n a (Copies r c i) at k = one_just _ r _ (inl (record { layout = p; known = n; place = a; at = at; epoch = refl; pos = refl; index = i; within = λ past. k.1; unit = refl; told = k.2 }, k.0))
   cell_just p n a (Probes ws) at k = asked_just unit_id (msg.Has a.epoch a.pos a.pos 1) ws (λ to. tt)
 
   job_just : (p : Layout) → K p → (j : CellJob) → JobOk ps p j → AllJust (cell_asks j)
@@ -142,8 +143,8 @@ module _ (ps qs : List Packet) (more : (x : Packet) → Has ps x → Has qs x) w
   told_grows u e p c t = record { claim = t.claim; tells = tells_grows ps qs u t.claim more t.tells; epoch = t.epoch; pos = t.pos; cell = t.cell }
 
   work_grows : (a : Place) (w : CellWork) → WorkOk ps a w → WorkOk qs a w
-  work_grows a (Puts r d i) k = λ n less. told_grows _ _ _ _ (k n less)
-  work_grows a (Copies r c i) k = (k.0, λ n less. told_grows _ _ _ _ (k.1 n less))
+  work_grows a (Puts r d i) k = (k.0, λ n less. told_grows _ _ _ _ (k.1 n less))
+  work_grows a (Copies r c i) k = (k.0, k.1, λ n less. told_grows _ _ _ _ (k.2 n less))
   work_grows a (Gets r) k = tt
   work_grows a (Fills r) k = tt
   work_grows a (Probes ws) k = tt
@@ -178,7 +179,7 @@ module _ (ps qs : List Packet) (more : (x : Packet) → Has ps x → Has qs x) w
 
   module _ (K L : Layout → Type 0) (up : (p : Layout) → K p → L p) where
     down_grows : (to : NodeId) (e p : ℕ) (c : Cell) → GoesDown ps K to e p c → GoesDown qs L to e p c
-    down_grows to e p c g = record { layout = g.layout; known = up g.layout g.known; place = g.place; at = g.at; epoch = g.epoch; pos = g.pos; index = g.index; unit = g.unit; told = λ n less. told_grows _ _ _ _ (g.told n less) }
+    down_grows to e p c g = record { layout = g.layout; known = up g.layout g.known; place = g.place; at = g.at; epoch = g.epoch; pos = g.pos; index = g.index; within = g.within; unit = g.unit; told = λ n less. told_grows _ _ _ _ (g.told n less) }
 
     pub just_grows : (to : NodeId) (x : Msg) → Justified ps K to x → Justified qs L to x
     unfolding down_grows

@@ -1,5 +1,5 @@
 -- The law on what is sent to units.
-use Rattle.std.proofs.Common.{◌⊎◌, ℕ, List, [], length, subst, inl, inr}
+use Rattle.std.proofs.Common.{◌⊎◌, ℕ, zero, suc, ◌<◌, List, [], length, sym, subst, inl, inr, arith}
 use Rattle.tg_base.specs.Clusters.{Header, IsHeader}
 use Rattle.tg_base.specs.Layouts.{Layout}
 use Rattle.tg_base.specs.declared.cell.Cell.{Cell}
@@ -25,13 +25,14 @@ use Rattle.tg_law_layouts.proofs.Moves.Lists.{contained, at_map}
 use Rattle.tg_law_layouts.proofs.Layouts.Decisions.{Pax}
 use Rattle.tg_law_layouts.proofs.Layouts.Layouts.{start_pax, has_header}
 use Rattle.tg_law_layouts.proofs.Layouts.Standing.{IsKnown}
-use Rattle.tg_law_layouts.proofs.Layouts.Deciding.{decided_for}
+use Rattle.tg_law_layouts.proofs.Layouts.Deciding.{decided_for, rules}
 use Rattle.tg_law_layouts.proofs.Layouts.Decided.{Lay, start_lay, keeps as lay_keeps}
 use Rattle.tg_law_layouts.proofs.Moves.Moves.{AllGive, Keeps, cases_map, keeps_above, both_keep, run_keeps}
 use Rattle.tg_law_layouts.proofs.Moves.Always.{always_lawful}
 use Rattle.tg_law_layouts.proofs.Requests.Told.{Tells}
 use Rattle.tg_law_layouts.proofs.Requests.Starts.{All, all_keeps, start_all}
 use Rattle.tg_law_cells.proofs.Cells.Justified.{ToldBy, Upto}
+use Rattle.tg_law_cells.proofs.Cells.Successors.{some_there}
 use Rattle.tg_law_cells.proofs.Cells.Jobs.{MaybeOk, CellOk}
 use Rattle.tg_law_cells.proofs.Cells.Hands as hands
 use Rattle.tg_law_cells.proofs.Cells.Sent.{Justified, GoesDown, GoesAside}
@@ -60,9 +61,13 @@ up_to ps u e p c t = record { claim = t.claim; told = told_of ps u t.claim t.tel
 pub first_told : (ps : List Packet) (a : Place) (c : Cell) (n : ℕ) → Upto ps a c n → FirstTold ps a c n
 first_told ps a c n f k less = up_to ps _ _ _ c (f k less)
 
-module _ (m : Meaning) (w : World m) (K : Layout → Type 0) (decided : (q : Layout) → K q → IsOfDecided m w q) where
+module _ (m : Meaning) (w : World m) (K : Layout → Type 0) (decided : (q : Layout) → K q → IsOfDecided m w q) (some : (q : Layout) (p : ℕ) → K q → 0 < length (place_in q p).chain) where
   down : (to : NodeId) (e p : ℕ) (c : Cell) → GoesDown w.packets K to e p c → says.GoesDown m w to e p c
-  down to e p c g = record { layout = g.layout; decided = decided g.layout g.known; place = g.place; at = g.at; epoch_is = g.epoch; pos_is = g.pos; index = g.index; unit = g.unit; told = first_told w.packets g.place c g.index g.told }
+  down to e p c g = record { layout = g.layout; decided = decided g.layout g.known; place = g.place; at = g.at; epoch_is = g.epoch; pos_is = g.pos; index = g.index; within = by g.index g.within; unit = g.unit; told = first_told w.packets g.place c g.index g.told }
+    where
+      by : (i : ℕ) → (0 < i → i < length g.place.chain) → i < length g.place.chain
+      by zero within = subst (λ (a : Place). 0 < length a.chain) (sym g.at) (some g.layout g.place.pos g.known)
+      by (suc i) within = within (omega arith)
 
   aside : (e p : ℕ) (c : Cell) → GoesAside w.packets K e p c → says.GoesAside m w e p c
   aside e p c g = record { layout = g.layout; decided = decided g.layout g.known; epoch_is = g.epoch; told = by g.told }
@@ -115,7 +120,10 @@ module _ (m : Meaning) where
   cells_hold h xs = (run_keeps m (λ c. Below c × Cells m c) keeps xs (start m h) (start_below h)).1
 
   justified_here : (h : Header) (xs : Moves m) → IsHeader h → AllGive m (LawfulCommand m) xs → StoresJustified m (after m h xs)
-  justified_here h xs a b x g = justified m (after m h xs) _ (λ q k. decided_for m h xs a b q (subst (λ (y : Header). IsKnown y.layouts (first_layout y) (after m h xs).packets q) (has_header m h xs) k)) x.to x.msg ((cells_hold h xs).sent x (has_contained _ x g))
+  justified_here h xs a b x g = justified m (after m h xs) _ (λ q k. decided_for m h xs a b q (known q k)) (λ q p k. some_there q p (rules m h xs a b q (known q k))) x.to x.msg ((cells_hold h xs).sent x (has_contained _ x g))
+    where
+      known : (q : Layout) → IsKnown (after m h xs).cluster.layouts (first_layout (after m h xs).cluster) (after m h xs).packets q → IsKnown h.layouts (first_layout h) (after m h xs).packets q
+      known q k = subst (λ (y : Header). IsKnown y.layouts (first_layout y) (after m h xs).packets q) (has_header m h xs) k
 
   pub stores_are_justified : Always m (StoresJustified m)
   stores_are_justified = always_lawful m (StoresJustified m) justified_here

@@ -37,6 +37,7 @@ module _ (m : Meaning) where
     pub epoch_is : epoch ≡ place.epoch
     pub pos_is : pos ≡ place.pos
     pub index : ℕ
+    pub within : index < length place.chain
     pub unit : to ≡ unit_id (unit_at place index)
     pub told : FirstTold w.packets place c index
 

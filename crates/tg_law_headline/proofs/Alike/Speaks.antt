@@ -53,9 +53,9 @@ module _ (m : Meaning) where
     pub on : runs m w p.to ≡ true
 
   abbrev pub From : (w : World m) → EventOf m → (n : ℕ) (t : ClientTurn m) → ClientInput m (config m w) n t → Type 0
-  From w e n t (Commanded x) = Unit {0}
+  From w e n t (Commanded x) = e ≡ Commands n x
   From w e n t (Hears' p comes) = Delivered w e n p
-  From w e n t Ticks' = Unit {0}
+  From w e n t Ticks' = (a : NodeId) × (e ≡ Tick a)
 
   -- what a step makes of the clients, and of what is told and noted
   pub data Speaks (w : World m) (e : EventOf m) (v : World m) : Type 0 where
@@ -88,10 +88,10 @@ module _ (m : Meaning) where
         by (inl f) = Anew (none (client m w n).work e) f
         by (inr f) = Before f
 
-    commanded : (n : ℕ) (x : CommandOf m) (b : Bool) → is_some (client m w n).work ≡ b → n < length w.clients → (e : EventOf m) → Speaks w e (client_turned m (noted_if m b w n (client m w n)) n (client_command m (client m w n) x))
+    commanded : (n : ℕ) (x : CommandOf m) (b : Bool) → is_some (client m w n).work ≡ b → n < length w.clients → Speaks w (Commands n x) (client_turned m (noted_if m b w n (client m w n)) n (client_command m (client m w n) x))
     unfolding client_turned
-    commanded n x true e less at = Speaks' n (client_command m (client m w n) x) (noted_of m w n) (Commanded x) (Before refl) refl (kept n (client_command m (client m w n) x) less) tt
-    commanded n x false e less at = Speaks' n (client_command m (client m w n) x) (noted_of m u n) (Commanded x) (noted_now false n e) refl turned tt
+    commanded n x true e less = Speaks' n (client_command m (client m w n) x) (noted_of m w n) (Commanded x) (Before refl) refl (kept n (client_command m (client m w n) x) less) refl
+    commanded n x false e less = Speaks' n (client_command m (client m w n) x) (noted_of m u n) (Commanded x) (noted_now false n e) refl turned refl
       where
         u : World m
         u = noted_if m false w n (client m w n)
@@ -106,9 +106,9 @@ module _ (m : Meaning) where
             by (inl f) = inl (f.0, f.1, ap (noted_of m u) f.0)
             by (inr f) = inr (f.1, set_other w.noted n _ k _ f.0, f.0)
 
-    commands_speak : (n : ℕ) (x : CommandOf m) (b : Bool) → runs m w (client_id n) ≡ b → (e : EventOf m) → Speaks w e (commands m b w n x)
-    commands_speak n x true on e = commanded n x (is_some (client m w n).work) refl (declared m w (client_id n) refl on) e
-    commands_speak n x false on e = Silent refl (λ j. refl) (λ j. refl)
+    commands_speak : (n : ℕ) (x : CommandOf m) (b : Bool) → runs m w (client_id n) ≡ b → Speaks w (Commands n x) (commands m b w n x)
+    commands_speak n x true on = commanded n x (is_some (client m w n).work) refl (declared m w (client_id n) refl on)
+    commands_speak n x false on = Silent refl (λ j. refl) (λ j. refl)
 
     client_is : (a : NodeId) → a.role ≡ role.Client → a ≡ client_id a.num
     client_is a e = ap (λ (r : Role). record { role = r; num = a.num }) e
@@ -127,7 +127,7 @@ module _ (m : Meaning) where
     ticks_speak n role.Unit is on = Silent refl (λ j. refl) (λ j. refl)
     ticks_speak n role.Layout is on = Silent refl (λ j. refl) (λ j. refl)
     ticks_speak n role.Seqr is on = Silent refl (λ j. refl) (λ j. refl)
-    ticks_speak n role.Client is on = Speaks' n.num (client_tick m (client m w n.num)) (noted_of m w n.num) Ticks' (Before refl) refl (kept n.num (client_tick m (client m w n.num)) (declared m w n is on)) tt
+    ticks_speak n role.Client is on = Speaks' n.num (client_tick m (client m w n.num)) (noted_of m w n.num) Ticks' (Before refl) refl (kept n.num (client_tick m (client m w n.num)) (declared m w n is on)) (n, refl)
 
     counted_speaks : (e : EventOf m) (v : World m) → Speaks w e v → Speaks w e (counted m v)
     counted_speaks e v (Silent t c n) = Silent t c n
@@ -135,7 +135,7 @@ module _ (m : Meaning) where
 
     pub speaks : (e : EventOf m) → Speaks w e (happens m w e)
     unfolding happens
-    speaks (Commands k x) = counted_speaks _ _ (commands_speak k x (runs m w (client_id k)) refl (Commands k x))
+    speaks (Commands k x) = counted_speaks _ _ (commands_speak k x (runs m w (client_id k)) refl)
     speaks (Deliver i) = counted_speaks _ _ (by (slice_get w.packets i) refl)
       where
         comes_speak : (p : Packet) → slice_get w.packets i ≡ Some p → (b : Bool) → runs m w p.to ≡ b → Speaks w (Deliver i) (comes m b (handed m w i) p)

@@ -1,0 +1,163 @@
+-- Where a past view or a rescue stays undecided: what its view begins with doesn't tell the version of what a record reads.
+use Rattle.std.proofs.Common.{◌≡◌, ◌⊎◌, ℕ, ◌+◌, ◌<◌, ◌≤◌, List, [], ◌∷◌, ◌++◌, true, sym, ap, ◌∙◌, subst, inl, inr, Option, Some, None}
+use Rattle.std.specs.Prelude.{Contains}
+use Rattle.tg_base.specs.Clusters.{Header}
+use Rattle.tg_base.specs.declared.ids.Oid.{Oid}
+use Rattle.tg_base.specs.declared.msg.Msg.TheVariants as msg
+use Rattle.tg_entry.specs.Needs.{reads_of}
+use Rattle.tg_kind.specs.Meaning.{Meaning}
+use Rattle.tg_model.specs.declared.command.Command.TheVariants as cmd
+use Rattle.tg_model.specs.declared.play.PlayEnd.TheVariants.{Blocked}
+use Rattle.tg_model.specs.declared.refusal.Refusal.TheVariants as cause
+use Rattle.tg_model.specs.declared.trace.What.TheVariants as told
+use Rattle.tg_model.specs.Kinds.{CommandOf, EventOf, WhatOf}
+use Rattle.tg_protocol.specs.Alike.{SentNow}
+use Rattle.tg_protocol.specs.Answers.{walked}
+use Rattle.tg_protocol.specs.Causes.{HasReadOf, LacksDecision, CauseAtOnce, CauseLater, HasCause}
+use Rattle.tg_protocol.specs.Clients.{Client, entries_at, all_entries, member_entries}
+use Rattle.tg_protocol.specs.Playing.{Replies}
+use Rattle.tg_protocol.specs.Past.{PastView, past_at, StuckAt, rescue_turn}
+use Rattle.tg_protocol.specs.Runs.{Moves, Takes, Reaches}
+use Rattle.tg_protocol.specs.Stuck.{command_in}
+use Rattle.tg_protocol.specs.Views.{Base, View, Play, base_of, unknown_by, decision_in, play}
+use Rattle.tg_protocol.specs.Walked.{Walked, entries_had}
+use Rattle.tg_protocol.specs.Worlds.{World, Told, client, happens}
+use Rattle.tg_law_layouts.specs.Moves.After.{after}
+use Rattle.tg_law_layouts.proofs.Moves.Lists.{contained}
+use Rattle.tg_law_replies.specs.Plays.Sound.{base_among}
+use Rattle.tg_law_replies.proofs.History.Members.{has_contained, contained_has}
+use Rattle.tg_law_replies.proofs.Views.Settled.{plays_further}
+use Rattle.tg_law_walks.specs.Lists.Spared.{TrimsWereSpare}
+use Rattle.tg_law_walks.proofs.Drafts.Written.{then_takes}
+use Rattle.tg_law_causes.specs.Undecidings.{UndecidedTrue}
+use Rattle.tg_law_causes.proofs.Causing as causing
+use Rattle.tg_law_causes.proofs.Rescuing.{has_oid_has, IsStuck, playing, rescue_stuck}
+use Rattle.tg_law_causes.proofs.Stalled.{AtWalksEnd, ends_tell, command_waits, undecided_ends}
+use Rattle.tg_law_causes.proofs.Stalling.{Plain, Brief, PlaysKept, Unknowns, IsBlocked, Said, walked_so}
+use Rattle.tg_law_answers.specs.Confirmed.{EndsWalks}
+use Rattle.tg_law_answers.specs.Undecided.{past_begins, rescue_begins, IsOutOf, PastsUndecided, RescuesUndecided}
+
+module _ (m : Meaning) (h : Header) (ms : Moves m) (e : EventOf m) (r : Reaches m h (ms ++ Takes e ∷ []) (after m h (ms ++ Takes e ∷ []))) (trims : TrimsWereSpare m h (ms ++ Takes e ∷ [])) where
+  module _ (t : Told m) (k : AtWalksEnd m h ms e r trims t) where
+    -- a record reads of an object what the view that begins so doesn't tell
+    record Reads (v : View m) (p : ℕ) (o : Oid) : Type 0 where
+      read : HasReadOf m (after m h (ms ++ Takes e ∷ [])) p o
+      unknown : unknown_by m p (base_of m v o) read.read ≡ true
+
+    -- a play keeps the bases with which it began
+    reads : (ps : List ℕ) (u v : View m) (p : ℕ) (o : Oid) → u.bases ≡ v.bases → Unknowns m (entries_at m k.end.client.cells ps) u p o → Reads v p o
+    reads ps u v p o bases n = record {
+      read = record { entry = n.entry; here = causing.entry_there m h ms e r trims t k ps p n.entry n.here; commit = n.commit; read = n.read; reads = contained_has (reads_of n.entry) n.read n.reads; of = n.of };
+      unknown = subst (λ (b : Option (Base m)). unknown_by m p b n.read ≡ true) (ap (λ (bs : List (Base m)). base_among m bs o) bases) n.unknown;
+    }
+
+    record PastReads (at p : ℕ) (o : Oid) : Type 0 where
+      below : p < at
+      is : Reads (past_begins m k.end at) p o
+
+    record RescueReads (at p : ℕ) (o : Oid) : Type 0 where
+      upto : p ≤ at
+      walks : Contains k.end.work.oids o
+      is : Reads (rescue_begins m k.end) p o
+
+    past_reads : (at : ℕ) (x : Oid) (u : Play m) (p : ℕ) (o : Oid) → past_at m (member_entries m k.end.client k.end.work k.end.work.oids) k.end.work.trims k.end.work.oids k.end.client.objects x at ≡ PastView u → u.came ≡ Blocked p o → PastReads at p o
+    past_reads at x u p o view came = record {
+      below = b.below;
+      is = reads _ (play m (past_begins m k.end at) (member_entries m k.end.client k.end.work k.end.work.oids) at).view (past_begins m k.end at) p o
+          (plays_further m (member_entries m k.end.client k.end.work k.end.work.oids) (past_begins m k.end at) at).bases b.unknowns;
+    }
+      where
+        b : IsBlocked m (member_entries m k.end.client k.end.work k.end.work.oids) (play m (past_begins m k.end at) (member_entries m k.end.client k.end.work k.end.work.oids) at).view at p o
+        b = causing.blocked m h ms e r trims t k at x u p o view came
+
+    rescue_reads : (at p : ℕ) (o : Oid) → rescue_turn m (all_entries m k.end.client k.end.work k.end.work.oids) k.end.work.trims k.end.work.oids k.end.client.objects at ≡ StuckAt p o → RescueReads at p o
+    rescue_reads at p o turn = record {
+      upto = s.upto;
+      walks = contained k.end.work.oids o (has_oid_has o k.end.work.oids s.among);
+      is = reads _ (playing m (entries_had m k.end) k.end.work.trims k.end.client.objects k.end.work.oids at).view (rescue_begins m k.end) p o
+          (plays_further m (entries_had m k.end) (rescue_begins m k.end) (at + 1)).bases s.unknowns;
+    }
+      where
+        s : IsStuck m (entries_had m k.end) k.end.work.trims k.end.client.objects k.end.work.oids at p o
+        s = rescue_stuck m (entries_had m k.end) k.end.work.trims k.end.client.objects k.end.work.oids at p o turn
+
+    -- by the command
+    abbrev Fits : CommandOf m → ℕ → Oid → Type 0
+    Fits (cmd.AskAt at x q) p o = PastReads at p o
+    Fits (cmd.Rescue at) p o = RescueReads at p o
+    Fits y p o = Unit {0}
+
+    abbrev Ok : Client m → WhatOf m → Type 0
+    Ok d (told.Refused (cause.Undecided p o)) = Fits k.end.work.command p o
+    Ok d what = Unit {0}
+
+    ok_plain : (d : Client m) (what : WhatOf m) → Plain m what → Ok d what
+    ok_plain d (told.Refused (cause.Undecided p o)) plain = absurd plain
+    ok_plain d what plain = tt
+
+    kept_fits : (y : CommandOf m) (p : ℕ) (o : Oid) → PlaysKept m y → Fits y p o
+    kept_fits (cmd.AskAt at x q) p o kept = absurd kept
+    kept_fits (cmd.Rescue at) p o kept = absurd kept
+    kept_fits y p o kept = tt
+
+    said : Said m Ok ok_plain (walked m k.end.client k.end.work)
+    said = walked_so m Ok ok_plain k.end.client k.end.work (record {
+      undecided = λ d p o kept s n none. kept_fits k.end.work.command p o kept;
+      unsure = λ d q o ending s n le f. tt;
+      none = λ d a ending came none. tt;
+      same = λ d a y ending came at says known eq. tt;
+      past = λ d at x q u p o is hosted view came. subst (λ (y : CommandOf m). Fits y p o) (sym is) (past_reads at x u p o view came);
+      no_save = λ d o n is s none. tt;
+      is_open = λ d o n p is s some. tt;
+      no_state = λ d o q is s none. tt;
+      no_past = λ d p o q u is view none. tt;
+      rescue = λ d at p o is turn. subst (λ (y : CommandOf m). Fits y p o) (sym is) (rescue_reads at p o turn);
+    })
+
+    fits : (y : CommandOf m) (p : ℕ) (o : Oid) → command_in m (client m (after m h ms) t.mark.client).work ≡ Some y → t.mark.what ≡ told.Refused (cause.Undecided p o) → Fits y p o
+    fits y p o of what = subst (λ (z : CommandOf m). Fits z p o) (same k.end.work.command y (sym (command_waits m (after m h ms) t.mark.client e k.end k.ended) ∙ of))
+        (ends_tell m Ok ok_plain h ms e r trims t k said (told.Refused (cause.Undecided p o)) what)
+      where
+        same : (a b : CommandOf m) → Some a ≡ Some b → a ≡ b
+        same a b z = cc
+
+    -- nor has it a decision
+    lacks : (p : ℕ) (o : Oid) → HasCause m (after m h ms) e t (cause.Undecided p o) → decision_in (entries_had m k.end) p ≡ None
+    lacks p o g = by g.because
+      where
+        one : (y z : Walked m) → Some y ≡ Some z → y ≡ z
+        one y z is = cc
+
+        of : LacksDecision m (after m h ms) e t p → decision_in (entries_had m k.end) p ≡ None
+        of n = subst (λ (y : Walked m). decision_in (entries_had m y) p ≡ None) (one n.had k.end (sym n.walked ∙ k.ended)) n.none
+
+        by : CauseAtOnce m (after m h ms) t.mark.client g.command (cause.Undecided p o) ⊎ CauseLater m (after m h ms) e t g.command (cause.Undecided p o) → decision_in (entries_had m k.end) p ≡ None
+        by (inl x) = absurd x
+        by (inr x) = of x.1
+
+    abbrev ends : EndsWalks m (after m h ms) e t
+    ends = record {
+      had = k.end;
+      walked = k.ended;
+      links = k.end.work.lasts;
+      synced = subst (λ (u : World m). SentNow m u t (msg.Tail k.end.work.tail k.end.work.lasts)) (then_takes m h ms e) (record { rid = k.heard.tail.rid; now = k.heard.tail.now; sent = k.heard.tail.sent });
+    }
+
+    out_of : (v : View m) (p : ℕ) (o : Oid) → Reads v p o → decision_in (entries_had m k.end) p ≡ None → IsOutOf m (happens m (after m h ms) e) k.end v p o
+    out_of v p o n none = subst (λ (u : World m). IsOutOf m u k.end v p o) (then_takes m h ms e) (record { reads = n.read; unknown = n.unknown; lacks = none })
+
+  module _ (causes : UndecidedTrue m (after m h ms) e) where
+    there : (t : Told m) (p : ℕ) (o : Oid) → Replies m (after m h ms) e t → t.mark.what ≡ told.Refused (cause.Undecided p o) → AtWalksEnd m h ms e r trims t
+    there t p o replies what = undecided_ends m h ms e r trims replies.replies t replies.are (has_contained replies.replies t replies.here) (λ brief. subst (Brief m) what brief)
+
+    pub pasts_undecided_there : PastsUndecided m (after m h ms) e
+    pasts_undecided_there t at x q p o replies of what =
+        let k = there t p o replies what in
+        let n = fits t k (cmd.AskAt at x q) p o of what in
+        record { ends = ends t k; below = n.below; is = out_of t k (past_begins m k.end at) p o n.is (lacks t k p o (causes t p o replies what)) }
+
+    pub rescues_undecided_there : RescuesUndecided m (after m h ms) e
+    rescues_undecided_there t at p o replies of what =
+        let k = there t p o replies what in
+        let n = fits t k (cmd.Rescue at) p o of what in
+        record { ends = ends t k; upto = n.upto; walks = n.walks; is = out_of t k (rescue_begins m k.end) p o n.is (lacks t k p o (causes t p o replies what)) }
