@@ -162,7 +162,7 @@ module _ (m : Meaning) (h : Header) (zs : Moves m) (r : Reaches m h zs (after m 
   put_stands a pl (Puts j d zero) shape e told own t has = in_hand a pl.pos 0 t has (first_there pl.pos) (issued pl d e own)
   put_stands a pl (Puts j d (suc i)) shape e told own t has = (
     in_hand a pl.pos (suc i) t has (in_chain pl (suc i) e shape) (issued pl d e own),
-    no_other pl.pos (Data d) (suc i) (told_head pl (Data d) e (told 0 (omega arith))),
+    no_other pl.pos (Data d) (suc i) (told_head pl (Data d) e (told.1 0 (omega arith))),
   )
   put_stands a pl (Gets j) shape e told own t has = absurd shape
   put_stands a pl (Fills j) shape e told own t has = absurd shape
@@ -173,7 +173,7 @@ module _ (m : Meaning) (h : Header) (zs : Moves m) (r : Reaches m h zs (after m 
   judge_stands a pl (Fills j) low shape e told t has = let b = past m h zs r serves in in_hand a pl.pos 0 t has (first_there pl.pos) (omega (arith, low, b))
   judge_stands a pl (Copies j c i) low shape e told t has = let b = past m h zs r serves in (
     in_hand a pl.pos i t has (in_chain pl i e shape) (omega (arith, low, b)),
-    no_other pl.pos c i (told_head pl c e (told.1 0 told.0)),
+    no_other pl.pos c i (told_head pl c e (told.2 0 told.0)),
   )
   judge_stands a pl (Puts j d i) low shape e told t has = absurd shape
   judge_stands a pl (Gets j) low shape e told t has = absurd shape
@@ -268,7 +268,7 @@ module _ (m : Meaning) (h : Header) (zs : Moves m) (r : Reaches m h zs (after m 
   cell_stands : (pl : Place) (y : CellWork) → ReadShape pl y → pl ≡ place_in q pl.pos → justified.WorkOk (after m h zs).packets pl y → CellStands m (after m h zs) q pl.pos y
   cell_stands pl (Gets j) shape e told = tt
   cell_stands pl (Fills j) shape e told = tt
-  cell_stands pl (Copies j c i) shape e told = (in_chain pl i e shape, carries pl.pos c (up_to (after m h zs).packets (head q pl.pos) q.epoch pl.pos c (told_head pl c e (told.1 0 told.0))))
+  cell_stands pl (Copies j c i) shape e told = (in_chain pl i e shape, carries pl.pos c (up_to (after m h zs).packets (head q pl.pos) q.epoch pl.pos c (told_head pl c e (told.2 0 told.0))))
   cell_stands pl (Puts j d i) shape e told = absurd shape
   cell_stands pl (Probes ws) shape e told = absurd shape
 
@@ -278,7 +278,7 @@ module _ (m : Meaning) (h : Header) (zs : Moves m) (r : Reaches m h zs (after m 
       → PutStands m (after m h zs) q pl.pos y × (pl.pos < s.next)
   page_stands pl (Puts j d zero) shape e told own = (tt, issued pl d e own)
   page_stands pl (Puts j d (suc i)) shape e told own = (
-    (in_chain pl (suc i) e shape, carries pl.pos (Data d) (up_to (after m h zs).packets (head q pl.pos) q.epoch pl.pos (Data d) (told_head pl (Data d) e (told 0 (omega arith))))),
+    (in_chain pl (suc i) e shape, carries pl.pos (Data d) (up_to (after m h zs).packets (head q pl.pos) q.epoch pl.pos (Data d) (told_head pl (Data d) e (told.1 0 (omega arith))))),
     issued pl d e own,
   )
   page_stands pl (Gets j) shape e told own = absurd shape
@@ -288,7 +288,7 @@ module _ (m : Meaning) (h : Header) (zs : Moves m) (r : Reaches m h zs (after m 
 
   judged_stands : (pl : Place) (y : CellWork) → JudgeShape pl y → pl ≡ place_in q pl.pos → justified.WorkOk (after m h zs).packets pl y → CellStands m (after m h zs) q pl.pos y
   judged_stands pl (Fills j) shape e told = tt
-  judged_stands pl (Copies j c i) shape e told = (in_chain pl i e shape, carries pl.pos c (up_to (after m h zs).packets (head q pl.pos) q.epoch pl.pos c (told_head pl c e (told.1 0 told.0))))
+  judged_stands pl (Copies j c i) shape e told = (in_chain pl i e shape, carries pl.pos c (up_to (after m h zs).packets (head q pl.pos) q.epoch pl.pos c (told_head pl c e (told.2 0 told.0))))
   judged_stands pl (Gets j) shape e told = absurd shape
   judged_stands pl (Puts j d i) shape e told = absurd shape
   judged_stands pl (Probes ws) shape e told = absurd shape
