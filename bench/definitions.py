@@ -7,9 +7,9 @@
 
 A law is worth something only where a wrong definition breaks it. An edit names a file of `tg_protocol` (`file:`), the law
 crate that has to refuse it (`law:`), and what stands in place of what (`old:`, `new:`, one line each, in pairs). This copies
-the repository to a folder of its own, makes the edit there, and checks that law crate's functions with `tg_protocol` and all
-crates between as source, over the libraries below that the last `rt ci` in this checkout left (without them these are source too,
-and it takes longer). What the check finds wrong first is what refuses.
+the repository to a folder of its own, makes the edit there, and checks that law crate's functions with `tg_protocol` and
+all crates between as source, over the libraries below that the last `rt ci` in this checkout left (without them these are
+source too, and it takes longer). What the check finds wrong first is what refuses.
 
 What came of each edit is a line of bench/definitions.txt: the edit, the crate that refused it (or `none`, where the law is
 still proved, or `not read`, where the edit is no definition), and the commit that was checked out. The status is 1 where an
@@ -47,8 +47,8 @@ def read_kept():
 
 
 def checked(copy, law):
-    """What a check of a law crate's functions says, with all from `tg_protocol` on as source. Their proofs are all that stands
-    on the laws; the functions of code between would take longer than all of these, and no law rests on them."""
+    """What a check of a law crate's functions says, with all from `tg_protocol` on as source. The functions of code between
+    would take longer than all laws, and no law rests on them."""
     named = libraries.names_of(copy)
     is_turned = lambda it: it == "tg_protocol" or "tg_protocol" in libraries.below(it, named)
     told = libraries.words(law, f"{copy}/crates/{law}/src/lib.rt", named, is_turned, copy)

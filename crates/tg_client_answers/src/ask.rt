@@ -17,8 +17,8 @@ use tg_kind::Registry;
 use tg_model::{PlayEnd, Refusal, What};
 use tg_play::View;
 
-// The answer of a hosted object, whose read is noted in the open transaction. An `Err` is want of memory, or a read that
-// the transaction doesn't take.
+// The answer of a hosted object, whose read is noted in the open transaction. An `Err` is want of memory, or a read
+// that the transaction doesn't take.
 fn asked<K: Registry>(
     state: State<K>,
     alloc: Global,
