@@ -1,6 +1,5 @@
 -- Through each of a client's turns: its walks go down the paths of a tail that it was told, and its copies stay in their stripes.
-use Rattle.std.proofs.Common.{◌≡◌, ℕ, ◌<◌, List, [], ◌∷◌, length, Bool, true, false, refl, sym, ◌∙◌, subst, Option, Some, None}
-use Rattle.std.specs.Prelude.{nat_lt}
+use Rattle.std.proofs.Common.{◌≡◌, ℕ, ◌<◌, List, [], ◌∷◌, length, true, refl, sym, ◌∙◌, subst, Option, Some, None}
 use Rattle.tg_base.specs.Layouts.{Layout}
 use Rattle.tg_base.specs.declared.ids.NodeId.{NodeId}
 use Rattle.tg_base.specs.declared.ids.Oid.{Oid}
@@ -13,20 +12,20 @@ use Rattle.tg_proj.specs.Places.{range_at}
 use Rattle.tg_protocol.specs.Words.{first_some}
 use Rattle.tg_protocol.specs.Entries.{link_of, backs_of}
 use Rattle.tg_protocol.specs.Requests.{awaits, Next, Goes, Learns, Ends}
-use Rattle.tg_protocol.specs.Replies.{Reply, IsTail, IsOldEpoch, IsMissing}
-use Rattle.tg_protocol.specs.Cells.{CellJob, CellEnd, Done, Seen, Lost, Fenced, Gone, place_in, fill_cell, probe, cell_feed}
-use Rattle.tg_protocol.specs.Appending.{append_start, names_all, on_older, on_newer}
-use Rattle.tg_protocol.specs.Syncing.{Answer, SyncWork, Checking, Settling, Probing, Sync, Confirmed, sync_start, sync_feed, probe_next, settle_next, confirm_by, on_tail, checking_feed}
+use Rattle.tg_protocol.specs.Replies.{Reply, IsTail, IsMissing}
+use Rattle.tg_protocol.specs.Appending.{append_start}
+use Rattle.tg_protocol.specs.Syncing.{SyncWork, Checking, Settling, Probing, Sync, Confirmed, SyncTurn, sync_start, sync_feed}
 use Rattle.tg_protocol.specs.Walking.{Walk}
 use Rattle.tg_protocol.specs.Trimming.{Looking, copy_start}
 use Rattle.tg_protocol.specs.Clients.{Task, Syncing, Walking, Appending, Trimming, Copying', Reconfiguring, Hand, Doing, Work, Client, copy_fault, busy, tx_open, tests, refusal}
 use Rattle.tg_protocol.specs.Answers.{Moved, moved, appends, syncs}
 use Rattle.tg_protocol.specs.ClientSteps as step
-use Rattle.tg_protocol.specs.ClientSteps.{after_turn, met, goes_on, start_walk, takes_back, found_by, lends, knows, synced, sync_to, on_sync, gives_up, given_up_if, starts_over, at_trim, walk_ended_by, walk_to, on_walk, decided_for, append_ended, append_to, on_append, page_known, owns, trim_to, on_trims, copy_to, on_copy, stands, task_in, task_awaited, reconf_to, on_reconf, task_feed, task_again, copies_again, hosts_more, accepts, refused_or, new_work, lo_for, lasts_of}
+use Rattle.tg_protocol.specs.ClientSteps.{task_in, task_awaited, accepts, refused_or, lasts_of}
 use Rattle.tg_law_playing.proofs.Quiet.{SyncQuiet, sync_quiet, AppendQuiet, AppendNext, append_quiet, append_again_quiet}
 use Rattle.tg_law_playing.proofs.Quiet as quiet
 use Rattle.tg_law_playing.proofs.Treading.{IsTreading, NextTreads, goes_treads, starts_treads, feed_treads}
 use Rattle.tg_law_playing.proofs.Stripes.{IsOfStripe, IsCopying, CopyNext, copy_starts, copy_fed, stripe_there}
+use Rattle.tg_law_steps.proofs.Machines.Syncs.{Fed, SettlesLast, ProbesLast, sync_fed}
 use Rattle.tg_law_steps.proofs.Places.{Place, Feeds, Newer, OnSync, OnWalk, OnAppend, OnCopy, Over, Walks}
 use Rattle.tg_law_steps.proofs.Ways.{Way, FeedsSync, FeedsWalk, FeedsAppend, FeedsCopy, NewerSync, NewerWalk, NewerAppend, NewerCopy, Confirms, Settles, EndsAtOnce, WalkEnds, MetNone, MetLow, MetHigh, StartsOver, AllWalked, HasPlayed}
 use Rattle.tg_law_steps.proofs.Ends.{End, GoesOn, LearnsNewer, Syncs, SyncGoes, WalkGoes, WalkBegins, AppendGoes, CopyGoes, SyncLearns, WalkLearns, AppendLearns, CopyLearns}
@@ -45,55 +44,13 @@ module _ (Heard : List StreamLink → Type 0) where
   SyncTells (Learns s) = SyncTold s.work
   SyncTells (Ends x) = Heard x.lasts
 
-  module _ (p : Layout) (s : Sync) (ok : SyncTold s.work) where
-    probe_tells : (a : Answer) (to : Next CellJob CellEnd) (next : ℕ) → Heard a.lasts → SyncTells (probe_next s a to next).to
-    probe_tells a (Goes j) next k = k
-    probe_tells a (Learns j) next k = ok
-    probe_tells a (Ends Seen) next k = k
-    probe_tells a (Ends (Fenced u e)) next k = ok
-    probe_tells a (Ends (Done c)) next k = ok
-    probe_tells a (Ends (Lost c)) next k = ok
-    probe_tells a (Ends (Gone b)) next k = ok
+  sync_turn : (p : Layout) (n : ℕ) (x : Reply) (next : ℕ) → ((t : ℕ) (ls : List StreamLink) → x ≡ IsTail t ls → Heard ls) → (s : Sync) (t : SyncTurn) → Fed p n x next s t → SyncTold s.work → SyncTells t.to
+  sync_turn p n x next tells _ _ (SettlesLast os r t ls is names more) ok = tells t ls is
+  sync_turn p n x next tells _ _ (ProbesLast os r t ls is names less) ok = tells t ls is
+  sync_turn p n x next tells _ _ came ok = ok
 
-    settle_tells : (a : Answer) (to : Next CellJob CellEnd) (next : ℕ) → Heard a.lasts → SyncTells (settle_next p s a to next).to
-    settle_tells a (Goes j) next k = k
-    settle_tells a (Learns j) next k = ok
-    settle_tells a (Ends (Done c)) next k = k
-    settle_tells a (Ends (Gone b)) next k = probe_tells a (probe (place_in p _) next).to (probe (place_in p _) next).next k
-    settle_tells a (Ends (Fenced u e)) next k = ok
-    settle_tells a (Ends Seen) next k = ok
-    settle_tells a (Ends (Lost c)) next k = ok
-
-    confirm_tells : (a : Answer) (next : ℕ) (b : Bool) → Heard a.lasts → SyncTells (confirm_by p s a next b).to
-    confirm_tells a next true k = settle_tells a (fill_cell (place_in p _) next).to (fill_cell (place_in p _) next).next k
-    confirm_tells a next false k = probe_tells a (probe (place_in p _) next).to (probe (place_in p _) next).next k
-
-    tail_tells : (a : Answer) (next : ℕ) (b : Bool) → Heard a.lasts → SyncTells (on_tail p s a next b).to
-    tail_tells a next true k = confirm_tells a next (nat_lt p.start a.tail) k
-    tail_tells a next false k = ok
-
-    older_tells : (next : ℕ) (b : Bool) → SyncTells (on_older p next s b).to
-    older_tells next true = ok
-    older_tells next false = ok
-
-    newer_tells : (e next : ℕ) (b : Bool) → SyncTells (on_newer p e next s b).to
-    newer_tells e next true = ok
-    newer_tells e next false = older_tells next (nat_lt e p.epoch)
-
-    module _ (x : Reply) (tells : (t : ℕ) (ls : List StreamLink) → x ≡ IsTail t ls → Heard ls) where
-      checking_tells : (y : Reply) (next : ℕ) → x ≡ y → SyncTells (checking_feed p s y next).to
-      checking_tells (IsTail t ls) next is = tail_tells (record { tail = t; lasts = ls }) next (names_all s.oids ls) (tells t ls is)
-      checking_tells (IsOldEpoch e) next is = newer_tells e next (nat_lt p.epoch e)
-      checking_tells y next is = ok
-
-      work_tells : (w : SyncWork) (n next : ℕ) → SyncTold w → SyncTells (sync_feed p s w n x next).to
-      unfolding sync_feed
-      work_tells (Checking r) n next k = checking_tells x next refl
-      work_tells (Settling a j) n next k = settle_tells a (cell_feed j n x next).to (cell_feed j n x next).next k
-      work_tells (Probing a j) n next k = probe_tells a (cell_feed j n x next).to (cell_feed j n x next).next k
-
-      pub sync_tells : (n next : ℕ) → SyncTells (sync_feed p s s.work n x next).to
-      sync_tells n next = work_tells s.work n next ok
+  pub sync_tells : (p : Layout) (s : Sync) → SyncTold s.work → (x : Reply) → ((t : ℕ) (ls : List StreamLink) → x ≡ IsTail t ls → Heard ls) → (n next : ℕ) → SyncTells (sync_feed p s s.work n x next).to
+  sync_tells p s ok x tells n next = sync_turn p n x next tells s _ (sync_fed p n x next s) ok
 
 -- A client was told these links, and was given these copies to make.
 module _ (m : Meaning) (Heard : List StreamLink → Type 0) (Given : ℕ → ℕ → ℕ → Type 0) where

@@ -1,17 +1,18 @@
 -- What answers tell is within 64 bits: positions of cells, of appends and of walks.
-use Rattle.std.proofs.Common.{◌≡◌, ℕ, zero, suc, ◌<◌, ◌^◌, List, [], ◌∷◌, Bool, true, false, refl, arith, Some, None, Option}
+use Rattle.std.proofs.Common.{◌≡◌, ℕ, ◌<◌, ◌^◌, List, [], refl, subst, arith, Some, None, Option}
 use Rattle.tg_base.specs.Layouts.{Layout}
 use Rattle.tg_base.specs.declared.cell.Cell.{Cell}
-use Rattle.tg_base.specs.declared.cell.Cell.TheVariants.{Junk}
 use Rattle.tg_base.specs.declared.ids.Oid.{Oid}
 use Rattle.tg_base.specs.declared.marks.StreamLink.{StreamLink}
 use Rattle.tg_base.specs.declared.msg.Msg.{Msg}
-use Rattle.tg_protocol.specs.Words.{cell_at}
-use Rattle.tg_protocol.specs.Requests.{Waits, Next, Goes, Learns, Ends}
-use Rattle.tg_protocol.specs.Replies.{Reply, IsHeld, IsTaken, IsUnwritten, IsGone, IsFenced, IsMissing, IsWhole, IsLatest, IsIssued, IsOldEpoch, IsFull, reply}
-use Rattle.tg_protocol.specs.Cells.{Place, CellWork, Puts, Gets, Fills, Copies, Probes, CellJob, CellEnd, Done, Seen, Lost, Fenced, Gone, place_in, put_cell, fill_cell, get_cell, put_on, copy_on, end_if, copy_if_same, probe_on, work_feed, cell_feed}
-use Rattle.tg_protocol.specs.Appending.{AppendWork, Asking, Putting, Judging, Token, Append, AppendEnd, At, Full, Forgotten, put_next, own_or_not, judge_next, on_issued, asking_feed, by_token, append_feed, dead_or_judged, again_with, append_again, on_older, on_newer}
-use Rattle.tg_protocol.specs.Walking.{Walk, Members, walk_start, walk_feed, walk_again, walk_on, walk_next, reads_next, next_visit, visited, read_at}
+use Rattle.tg_protocol.specs.Requests.{Next, Goes, Learns, Ends, Turn}
+use Rattle.tg_protocol.specs.Replies.{Reply, IsGone, IsMissing, IsLatest, IsIssued, IsFull, reply}
+use Rattle.tg_protocol.specs.Cells.{CellJob, CellEnd, Gone, cell_feed}
+use Rattle.tg_protocol.specs.Appending.{AppendWork, Asking, Token, Append, AppendEnd, At, Full, Forgotten, append_feed, append_again}
+use Rattle.tg_protocol.specs.Walking.{trail, Walk, Members, WalkTurn, with_job, read_at, walk_start, walk_feed, walk_from, walk_again}
+use Rattle.tg_law_steps.proofs.Machines.Appends as appends
+use Rattle.tg_law_steps.proofs.Machines.Cells as cells
+use Rattle.tg_law_steps.proofs.Machines.Walks as walks
 
 -- a number of 64 bits
 abbrev pub Near : ℕ → Type 0
@@ -57,50 +58,12 @@ abbrev pub CellNear : Next CellJob CellEnd → Type 0
 CellNear (Ends (Gone b)) = Near b
 CellNear x = Unit {0}
 
-module _ (j : CellJob) (next : ℕ) where
-  if_other : (t : Bool) (e : CellEnd) → CellNear (Ends e) → CellNear (end_if t j next e).to
-  if_other true e k = k
-  if_other false e k = tt
+cell_turn : (u : ℕ) (x : Reply) (next : ℕ) → ReplyNear x → (j : CellJob) (t : Turn CellJob CellEnd) → cells.Fed u x next j t → CellNear t.to
+cell_turn u x next k _ _ (cells.IsTrim a w b one is past) = subst ReplyNear is k
+cell_turn u x next k _ _ came = tt
 
-  puts_near : (a : Place) (d : List ℕ) (i : ℕ) (t : Bool) → CellNear (put_on a d i next t).to
-  unfolding put_cell
-  puts_near a d i true = tt
-  puts_near a d i false = tt
-
-  copies_near : (a : Place) (c : Cell) (i : ℕ) (t : Bool) → CellNear (copy_on a c i next t).to
-  copies_near a c i true = tt
-  copies_near a c i false = tt
-
-  same_near : (c : Cell) (i : ℕ) (t : Bool) → CellNear (copy_if_same j c i next t).to
-  same_near c i true = copies_near j.place c _ _
-  same_near c i false = tt
-
-  probes_near : (a : Place) (ws : Waits) → CellNear (probe_on a ws next).to
-  probes_near a [] = tt
-  probes_near a (w ∷ ws) = tt
-
-  work_near : (w : CellWork) (u : ℕ) (x : Reply) → ReplyNear x → CellNear (work_feed j w u x next).to
-  unfolding work_feed fill_cell
-  work_near w u (IsFenced e) k = if_other _ (Fenced u e) tt
-  work_near (Puts r d i) u IsHeld k = puts_near j.place d _ _
-  work_near (Puts r d i) u (IsTaken c) k = if_other _ (Lost c) tt
-  work_near (Puts r d i) u (IsGone b) k = if_other _ (Gone b) k
-  work_near (Gets r) u (IsTaken c) k = tt
-  work_near (Gets r) u IsUnwritten k = tt
-  work_near (Gets r) u (IsGone b) k = if_other _ (Gone b) k
-  work_near (Fills r) u IsHeld k = copies_near j.place Junk _ _
-  work_near (Fills r) u (IsTaken c) k = copies_near j.place c _ _
-  work_near (Fills r) u (IsGone b) k = if_other _ (Gone b) k
-  work_near (Copies r c i) u IsHeld k = copies_near j.place c _ _
-  work_near (Copies r c i) u (IsTaken x) k = same_near c i _
-  work_near (Copies r c i) u (IsGone b) k = if_other _ (Gone b) k
-  work_near (Probes ws) u IsWhole k = probes_near j.place _
-  work_near (Probes ws) u (IsMissing p) k = probes_near j.place _
-  work_near w u x k = tt
-
-  pub cell_near : (u : ℕ) (x : Reply) → ReplyNear x → CellNear (cell_feed j u x next).to
-  unfolding cell_feed
-  cell_near u x k = work_near j.work u x k
+pub cell_near : (j : CellJob) (next u : ℕ) (x : Reply) → ReplyNear x → CellNear (cell_feed j u x next).to
+cell_near j next u x k = cell_turn u x next k j _ (cells.cell_fed u x next j)
 
 -- Appends: the position of a token, and the limit that a sequencer tells where the log is full.
 
@@ -126,72 +89,25 @@ AppendNear (Goes a) = TokenNear a.token
 AppendNear (Learns a) = TokenNear a.token
 AppendNear (Ends e) = EndNear e
 
+append_turn : (p : Layout) (n : ℕ) (x : Reply) (next : ℕ) → ReplyNear x → (a : Append) (t : Turn Append AppendEnd) → appends.Fed p n x next a t → FullNear a.work x → TokenNear a.token → AppendNear t.to
+append_turn p n x next k _ _ (appends.Issues d o r pos ls is names) f ok = subst ReplyNear is k
+append_turn p n x next k _ _ (appends.IsFilled d o r l is) f ok = subst LimitNear is f
+append_turn p n x next k _ _ (appends.PutLost d t j c e) f ok = tt
+append_turn p n x next k _ _ (appends.PutGone d t j b e) f ok = (ok, subst CellNear e (cell_near j next n x k))
+append_turn p n x next k _ _ (appends.JudgeOther d t j c e other) f ok = tt
+append_turn p n x next k _ _ (appends.JudgeGone d t j b e) f ok = (ok, subst CellNear e (cell_near j next n x k))
+append_turn p n x next k _ _ came f ok = ok
+
+again_turn : (p : Layout) (next : ℕ) (a : Append) (t : Turn Append AppendEnd) → appends.Anew p next a t → TokenNear a.token → AppendNear t.to
+again_turn p next _ _ (appends.Settles d t w less) ok = ok
+again_turn p next _ _ came ok = tt
+
 module _ (p : Layout) (a : Append) (ok : TokenNear a.token) (next : ℕ) where
-  put_near : (t : Token) → Near t.pos → (to : Next CellJob CellEnd) (n : ℕ) → CellNear to → AppendNear (put_next a t to n).to
-  put_near t l (Goes j) n k = l
-  put_near t l (Learns j) n k = ok
-  put_near t l (Ends (Done c)) n k = l
-  put_near t l (Ends (Lost c)) n k = tt
-  put_near t l (Ends (Gone b)) n k = (l, k)
-  put_near t l (Ends (Fenced u e)) n k = ok
-  put_near t l (Ends Seen) n k = ok
-
-  own_near : (t : Token) → Near t.pos → (n : ℕ) (b : Bool) → AppendNear (own_or_not a t n b).to
-  own_near t l n true = l
-  own_near t l n false = tt
-
-  judge_near : (t : Token) → Near t.pos → (to : Next CellJob CellEnd) (n : ℕ) → CellNear to → AppendNear (judge_next a t to n).to
-  judge_near t l (Goes j) n k = l
-  judge_near t l (Learns j) n k = ok
-  judge_near t l (Ends (Done c)) n k = own_near t l n _
-  judge_near t l (Ends (Lost c)) n k = ok
-  judge_near t l (Ends (Gone b)) n k = (l, k)
-  judge_near t l (Ends (Fenced u e)) n k = ok
-  judge_near t l (Ends Seen) n k = ok
-
-  issued_near : (pos : ℕ) (ls : List StreamLink) (b : Bool) → Near pos → AppendNear (on_issued p a pos ls next b).to
-  unfolding put_cell
-  issued_near pos ls true k = k
-  issued_near pos ls false k = ok
-
-  older_near : (b : Bool) → AppendNear (on_older {M = Append} {E = AppendEnd} p next a b).to
-  older_near true = ok
-  older_near false = ok
-
-  newer_near : (e : ℕ) (b : Bool) → AppendNear (on_newer {M = Append} {E = AppendEnd} p e next a b).to
-  newer_near e true = ok
-  newer_near e false = older_near _
-
-  asking_near : (x : Reply) → ReplyNear x → LimitNear x → AppendNear (asking_feed p a x next).to
-  asking_near (IsIssued pos ls) k f = issued_near pos ls _ k
-  asking_near (IsFull l) k f = f
-  asking_near (IsOldEpoch e) k f = newer_near e _
-  asking_near x k f = ok
-
-  by_token_near : (t : Option Token) → TokenNear t → (f : Token → Rattle.tg_protocol.specs.Appending.AppendTurn) → ((s : Token) → Near s.pos → AppendNear (f s).to) → AppendNear (by_token a next t f).to
-  by_token_near None l f g = ok
-  by_token_near (Some s) l f g = g s l
-
-  fed_near : (w : AppendWork) (n : ℕ) (x : Reply) → ReplyNear x → FullNear w x → AppendNear (append_feed p a w n x next).to
-  unfolding append_feed
-  fed_near (Asking r) n x k f = asking_near x k f
-  fed_near (Putting j) n x k f = by_token_near a.token ok _ (λ s l. put_near s l _ _ (cell_near j next n x k))
-  fed_near (Judging j) n x k f = by_token_near a.token ok _ (λ s l. judge_near s l _ _ (cell_near j next n x k))
-
   pub append_near : (n : ℕ) (x : Reply) → ReplyNear x → FullNear a.work x → AppendNear (append_feed p a a.work n x next).to
-  append_near n x k f = fed_near a.work n x k f
+  append_near n x k f = append_turn p n x next k a _ (appends.append_fed p n x next a) f ok
 
   pub again_near : AppendNear (append_again p a next).to
-  unfolding append_again fill_cell
-  again_near = by a.token ok
-    where
-      judged : (t : Token) → Near t.pos → (b : Bool) → AppendNear (dead_or_judged p a t next b).to
-      judged t l true = tt
-      judged t l false = l
-
-      by : (t : Option Token) → TokenNear t → AppendNear (again_with p a next t).to
-      by None l = tt
-      by (Some t) l = judged t l _
+  again_near = again_turn p next a _ (appends.append_anew p next a) ok
 
 -- Walks: where they met a trim.
 
@@ -203,53 +119,20 @@ abbrev pub WalkNear : Next Walk Members → Type 0
 WalkNear (Ends x) = MetNear x.gone
 WalkNear x = Unit {0}
 
-reads_near : (w : Walk) (to : Next CellJob CellEnd) (n : ℕ) → WalkNear (reads_next w to n).to
-reads_near w (Goes j) n = tt
-reads_near w (Learns j) n = tt
-reads_near w (Ends e) n = tt
-
-on_near : (p : Layout) (next n : ℕ) (w : Walk) → WalkNear (walk_on p next n w).to
-unfolding walk_on
-on_near p next zero w = tt
-on_near p next (suc n) w = by (next_visit w) (λ v. on_near p next n v)
-  where
-    read : ((v : Walk) → WalkNear (walk_on p next n v).to) → (q : ℕ) (c : Option Cell) → WalkNear (elim c as (λ _. Rattle.tg_protocol.specs.Walking.WalkTurn) [
-      | Some c ↦ walk_on p next n (visited w q c)
-      | None ↦ Rattle.tg_protocol.specs.Walking.reads_turn w (get_cell (place_in p q) next)
-    ]).to
-    read rest q (Some c) = rest (visited w q c)
-    read rest q None = reads_near w _ _
-
-    by : (v : Option ℕ) → ((v : Walk) → WalkNear (walk_on p next n v).to) → WalkNear (elim v as (λ _. Rattle.tg_protocol.specs.Walking.WalkTurn) [
-      | None ↦ Rattle.tg_protocol.specs.Requests.ends next (Rattle.tg_protocol.specs.Walking.walk_members w None)
-      | Some q ↦ elim (cell_at w.cells q) as (λ _. Rattle.tg_protocol.specs.Walking.WalkTurn) [
-        | Some c ↦ walk_on p next n (visited w q c)
-        | None ↦ Rattle.tg_protocol.specs.Walking.reads_turn w (get_cell (place_in p q) next)
-      ]
-    ]).to
-    by None rest = tt
-    by (Some q) rest = read rest q (cell_at w.cells q)
+on_near : (p : Layout) (next : ℕ) (w : Walk) → WalkNear (walk_from p next w).to
+on_near p next w = walks.goes_on p next (λ v. Unit {0}) (λ t. WalkNear t.to) (λ v q c e f k. tt) (λ v k. tt) (λ v q e f k. tt) _ w tt
 
 pub start_near : (p : Layout) (o : Oid) (lasts : List ℕ) (lo : ℕ) (cells : List (ℕ × Cell)) (next : ℕ) → WalkNear (walk_start p o lasts lo cells next).to
 unfolding walk_start
-start_near p o lasts lo cells next = on_near p next _ _
+start_near p o lasts lo cells next = on_near p next (record { oid = o; lo = lo; cells = cells; trail = trail lasts 0; members = []; job = None })
 
 pub walk_again_near : (p : Layout) (w : Walk) (next : ℕ) → WalkNear (walk_again p w next).to
-walk_again_near p w next = on_near p next _ w
+walk_again_near p w next = on_near p next w
+
+walk_turn : (p : Layout) (n : ℕ) (x : Reply) (next : ℕ) → ReplyNear x → (w : Walk) (t : WalkTurn) → walks.Fed p n x next w t → WalkNear t.to
+walk_turn p n x next k _ _ (walks.ReadDone w j c e) = on_near p _ (read_at (with_job w j) j.place.pos c)
+walk_turn p n x next k _ _ (walks.ReadGone w j b e) = subst CellNear e (cell_near j next n x k)
+walk_turn p n x next k _ _ came = tt
 
 pub walk_near : (p : Layout) (w : Walk) (n : ℕ) (x : Reply) (next : ℕ) → ReplyNear x → WalkNear (walk_feed p w w.job n x next).to
-unfolding walk_feed
-walk_near p w n x next k = by w.job
-  where
-    met : (q : ℕ) (to : Next CellJob CellEnd) (m : ℕ) → CellNear to → WalkNear (walk_next p w q to m).to
-    met q (Goes j) m l = tt
-    met q (Learns j) m l = tt
-    met q (Ends (Done c)) m l = on_near p m _ (read_at w q c)
-    met q (Ends (Gone b)) m l = l
-    met q (Ends (Fenced u e)) m l = tt
-    met q (Ends (Lost c)) m l = tt
-    met q (Ends Seen) m l = tt
-
-    by : (o : Option CellJob) → WalkNear (walk_feed p w o n x next).to
-    by None = tt
-    by (Some j) = met j.place.pos _ _ (cell_near j next n x k)
+walk_near p w n x next k = walk_turn p n x next k w _ (walks.walk_fed p n x next w)

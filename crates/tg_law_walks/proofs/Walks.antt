@@ -1,6 +1,7 @@
 pub mod Members
 pub mod Cells
 pub mod Stretches
+pub mod Down
 pub mod Turns
 pub mod Positions
 pub mod Rising

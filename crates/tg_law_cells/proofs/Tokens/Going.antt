@@ -1,7 +1,6 @@
 -- How a sequencer goes on, and what it issues.
 use Rattle.std.proofs.Common.{◌≡◌, ◌⊎◌, ℕ, ◌+◌, ◌<◌, ◌≤◌, List, [], ◌∷◌, Bool, true, false, refl, sym, ap, ◌∙◌, subst, inl, inr, arith, Some, None, Option}
 use Rattle.std.specs.Prelude.{min, nat_lt, ◌==◌}
-use Rattle.tg_base.specs.declared.cell.Cell.TheVariants.{Junk}
 use Rattle.tg_base.specs.Layouts.{Layout}
 use Rattle.tg_base.specs.declared.cell.Cell.{Cell}
 use Rattle.tg_base.specs.declared.ids.NodeId.{NodeId}
@@ -12,10 +11,10 @@ use Rattle.tg_base.specs.declared.msg.Msg.TheVariants as msg
 use Rattle.tg_base.specs.declared.packet.Out.{Out}
 use Rattle.tg_protocol.specs.Words.{unit_id}
 use Rattle.tg_protocol.specs.Replies.{Reply, reply}
-use Rattle.tg_protocol.specs.Replies as replied
-use Rattle.tg_protocol.specs.Requests.{Waits, out, drawn_from, Next, Goes, Learns, Ends}
-use Rattle.tg_protocol.specs.Cells.{Place, CellWork, Puts, Gets, Fills, Copies, Probes, CellJob, CellEnd, Done, Fenced, Gone, Lost, Seen, cell_feed, work_asks, works, put_on, copy_on, end_if, copy_if_same, probe_on, fill_cell, get_cell, work_feed}
+use Rattle.tg_protocol.specs.Requests.{out, drawn_from, Next, Goes, Learns, Ends}
+use Rattle.tg_protocol.specs.Cells.{Place, CellWork, Puts, Gets, Fills, Copies, Probes, CellJob, CellTurn, CellEnd, Done, Fenced, Gone, Lost, Seen, cell_feed, work_asks, get_cell}
 use Rattle.tg_protocol.specs.Sequencers.{SeqrState, SeqrTurn, with_positions, cell_streams, links_of, scan_asks, seqr_asks, scanning, scan_on, scan_ended, scan_next, fed_if, scan_fed, begun, stand_answer, issue, on_token, issued, learns, unfenced, own_epoch, on_learn, learn_or_old, answers, seqr_step, seqr_tick}
+use Rattle.tg_law_steps.proofs.Machines.Cells as cells
 use Rattle.tg_law_layouts.proofs.Moves.Members.{Has, has_filter, has_map}
 use Rattle.tg_law_cells.specs.Tokens.Issuing.{is_issued}
 
@@ -68,56 +67,17 @@ NextAt a (Learns j) = j.place ≡ a
 NextAt a (Ends (Gone b)) = a.pos < b
 NextAt a (Ends e) = Unit {0}
 
-put_at : (a : Place) (d : List ℕ) (i next : ℕ) (b : Bool) → NextAt a (put_on a d i next b).to
-put_at a d i next true = refl
-put_at a d i next false = tt
-
-copied_at : (a : Place) (c : Cell) (i next : ℕ) (b : Bool) → NextAt a (copy_on a c i next b).to
-copied_at a c i next true = refl
-copied_at a c i next false = tt
-
-fenced_at : (b : Bool) (a : Place) (w : CellWork) (u e next : ℕ) → NextAt a (end_if b (works a w) next (Fenced u e)).to
-fenced_at true a w u e next = tt
-fenced_at false a w u e next = refl
-
-lost_at : (b : Bool) (a : Place) (w : CellWork) (c : Cell) (next : ℕ) → NextAt a (end_if b (works a w) next (Lost c)).to
-lost_at true a w c next = tt
-lost_at false a w c next = refl
-
-gone_at : (b : Bool) (a : Place) (w : CellWork) (x next : ℕ) → nat_lt a.pos x ≡ b → NextAt a (end_if b (works a w) next (Gone x)).to
-gone_at true a w x next e = less_of a.pos x e
-gone_at false a w x next e = refl
-
-probe_at : (a : Place) (ws : Waits) (next : ℕ) → NextAt a (probe_on a ws next).to
-probe_at a [] next = tt
-probe_at a (w ∷ ws) next = refl
-
-same_at : (a : Place) (r : ℕ) (c : Cell) (i next : ℕ) (b : Bool) → NextAt a (copy_if_same (works a (Copies r c i)) c i next b).to
-same_at a r c i next true = copied_at a c (i + 1) next _
-same_at a r c i next false = refl
-
-work_at : (a : Place) (w : CellWork) (u : ℕ) (x : Reply) (next : ℕ) → NextAt a (work_feed (works a w) w u x next).to
-unfolding work_feed fill_cell
-work_at a w u (replied.IsFenced e) next = fenced_at _ a w u e next
-work_at a (Puts r d i) u replied.IsHeld next = put_at a d (i + 1) next _
-work_at a (Puts r d i) u (replied.IsTaken c) next = lost_at _ a (Puts r d i) c next
-work_at a (Puts r d i) u (replied.IsGone b) next = gone_at _ a (Puts r d i) b next refl
-work_at a (Gets r) u (replied.IsTaken c) next = tt
-work_at a (Gets r) u replied.IsUnwritten next = refl
-work_at a (Gets r) u (replied.IsGone b) next = gone_at _ a (Gets r) b next refl
-work_at a (Fills r) u replied.IsHeld next = copied_at a Junk 1 next _
-work_at a (Fills r) u (replied.IsTaken c) next = copied_at a c 1 next _
-work_at a (Fills r) u (replied.IsGone b) next = gone_at _ a (Fills r) b next refl
-work_at a (Copies r c i) u replied.IsHeld next = copied_at a c (i + 1) next _
-work_at a (Copies r c i) u (replied.IsTaken x) next = same_at a r c i next _
-work_at a (Copies r c i) u (replied.IsGone b) next = gone_at _ a (Copies r c i) b next refl
-work_at a (Probes ws) u replied.IsWhole next = probe_at a _ next
-work_at a (Probes ws) u (replied.IsMissing p) next = probe_at a _ next
-work_at a w u x next = refl
+turn_at : (u : ℕ) (x : Reply) (next : ℕ) (j : CellJob) (t : CellTurn) → cells.Fed u x next j t → NextAt j.place t.to
+turn_at u x next _ _ (cells.IsTrim a w b one is past) = less_of a.pos b past
+turn_at u x next _ _ (cells.PutsOn a r d i is more) = refl
+turn_at u x next _ _ (cells.ReadsNone a r is) = refl
+turn_at u x next _ _ (cells.CopiesOn a w c i of more) = refl
+turn_at u x next _ _ (cells.ProbesOn a ws v vs of left) = refl
+turn_at u x next _ _ (cells.Nothing j) = refl
+turn_at u x next _ _ came = tt
 
 cell_at : (j : CellJob) (u : ℕ) (x : Reply) (next : ℕ) → NextAt j.place (cell_feed j u x next).to
-unfolding cell_feed
-cell_at j u x next = work_at j.place j.work u x next
+cell_at j u x next = turn_at u x next j _ (cells.cell_fed u x next j)
 
 -- What it asks of units.
 

@@ -1,6 +1,6 @@
 -- What a reconfiguration knows of its change, its acks and its proposals: the machine's part of how layouts follow each other.
 use Rattle.std.proofs.Common.{◌≡◌, ◌⊎◌, ℕ, ◌+◌, ◌^◌, ◌≤◌, ◌<◌, List, [], ◌∷◌, ◌++◌, map, Bool, true, false, not, cond, refl, sym, ap, ◌∙◌, subst, inl, inr, arith, Some, None, Option}
-use Rattle.std.specs.Prelude.{if◌then◌else◌, ◌==◌, ◌&&◌, nat_lt, max}
+use Rattle.std.specs.Prelude.{if◌then◌else◌, ◌==◌, nat_lt, max}
 use Rattle.tg_base.specs.Layouts.{Layout}
 use Rattle.tg_base.specs.Changes.{Changed, IsChange}
 use Rattle.tg_base.specs.declared.change.Join.{Join}
@@ -13,12 +13,13 @@ use Rattle.tg_proj.proofs.Allowed.{later_start}
 use Rattle.tg_proj.proofs.Chains.{units_of-append, units_of-opened}
 use Rattle.tg_protocol.specs.Words.{unit_id, with_num, with_nums}
 use Rattle.tg_protocol.specs.Layouts.{units_of, next_of, next_units, change_fault}
-use Rattle.tg_protocol.specs.Requests.{Waits, waits_for, without_wait, Next, Goes, Learns, Ends, passes, awaits}
+use Rattle.tg_protocol.specs.Requests.{Waits, waits_for, without_wait, Next, Goes, Learns, Ends, awaits}
 use Rattle.tg_protocol.specs.Replies.{Reply, reply}
 use Rattle.tg_protocol.specs.Replies as replied
-use Rattle.tg_protocol.specs.Trimming.{has_stripe, learns_if}
+use Rattle.tg_protocol.specs.Trimming.{has_stripe}
 use Rattle.tg_protocol.specs.Following.{acks_of}
-use Rattle.tg_protocol.specs.Reconfiguring.{Acks, Before, Stage, Preparing, Accepting, Later, Voting, ReconfWork, SealingSpare, LookingSpare, Sealing, LookingAgain, Agreeing, Telling, Starting, Reconf, ReconfEnd, Installed, Overtaken, NotWhole, reconf_start, ReconfTurn, next_epoch, seals, looks_if, seals_if, first_step, proposes, after_seals, seals_left, sealed_if, greater, greatest, value_or, promised_on, accepted_on, sets_if, nacked, same_vote, is_of_epoch, promised, accepted, stage_feed, begun, is_answer, later_feed, has_rid, vote_feed, started_if, reconf_feed, adopts, heard_on, heard, own_decided, on_newer, is_own, reconf_latest}
+use Rattle.tg_protocol.specs.Reconfiguring.{Acks, Before, Stage, Preparing, Accepting, Voting, ReconfWork, SealingSpare, LookingSpare, Sealing, LookingAgain, Agreeing, Reconf, ReconfEnd, Installed, Overtaken, NotWhole, reconf_start, ReconfTurn, next_epoch, seals, first_step, proposes, greater, greatest, value_or, at_work, reconf_feed, reconf_latest}
+use Rattle.tg_law_steps.proofs.Machines.Reconfs as reconfs
 use Rattle.tg_law_layouts.proofs.Moves.Members.{Has, has_map, has_filter}
 use Rattle.tg_law_layouts.proofs.Requests.Told.{Seals}
 use Rattle.tg_kind.specs.Meaning.{Meaning}
@@ -375,13 +376,6 @@ module _ (ps : List Packet) (K : Layout → Type 0) (X : Layout → Type 0) wher
 
   -- The steps before the votes.
 
-  passes_good : (r : Reconf) (next : ℕ) → WorkGood r r.work → NextGood (passes {E = ReconfEnd} next r).to
-  passes_good r next k = k
-
-  learns_good : (b : Bool) (r : Reconf) (next : ℕ) → WorkGood r r.work → NextGood (learns_if {E = ReconfEnd} b r next).to
-  learns_good true r next k = k
-  learns_good false r next k = k
-
   seals_good : (r : Reconf) (next : ℕ) → Early r → NextGood (seals r next).to
   seals_good r next e = record {
     early = record { known = e.known; allowed = e.allowed; lawful = e.lawful };
@@ -391,14 +385,6 @@ module _ (ps : List Packet) (K : Layout → Type 0) (X : Layout → Type 0) wher
     acked = λ u h g. absurd g;
   }
 
-  seals_if_good : (b : Bool) (r : Reconf) (next : ℕ) → Early r → WorkGood r r.work → NextGood (seals_if r next b).to
-  seals_if_good true r next e k = seals_good r next e
-  seals_if_good false r next e k = k
-
-  looks_good : (b : Bool) (r : Reconf) (next : ℕ) → Early r → WorkGood r r.work → NextGood (looks_if r next b).to
-  looks_good true r next e k = record { known = e.known; allowed = e.allowed; lawful = e.lawful }
-  looks_good false r next e k = k
-
   proposes_good : (r : Reconf) (acks : Acks) (next : ℕ) → Sealed r [] acks → IsLooked r → Ready r → NextGood (proposes r acks next).to
   proposes_good r acks next s w x = (own_good r acks s w (x acks s w), (λ b g. absurd g))
 
@@ -406,37 +392,28 @@ module _ (ps : List Packet) (K : Layout → Type 0) (X : Layout → Type 0) wher
   sealed_still : (r : Reconf) (w : ReconfWork) (ws : Waits) (acks : Acks) → Sealed r ws acks → Sealed (record r { work = w }) ws acks
   sealed_still r w ws acks s = record { early = record { known = s.early.known; allowed = s.early.allowed; lawful = s.early.lawful }; ok = s.ok; cover = s.cover; waited = s.waited; acked = s.acked }
 
-  after_good : (r : Reconf) (acks : Acks) (next : ℕ) (j : Option Join) → r.change.join ≡ j → (r.change.join ≡ None → Ready r) → Sealed r [] acks → NextGood (after_seals r acks next j).to
-  after_good r acks next None e x s = proposes_good r acks next s (λ i f. absurd (no i (sym e ∙ f))) (x e)
-    where
-      no : (i : Join) → None ≡ Some i → ⊥
-      no i e = cc
-  after_good r acks next (Some j) e x s = sealed_still r (LookingAgain next acks) [] acks s
-
-  left_good : (r : Reconf) (ws : Waits) (acks : Acks) (next : ℕ) → (r.change.join ≡ None → Ready r) → Sealed r ws acks → NextGood (seals_left r ws acks next).to
-  left_good r [] acks next x s = after_good r acks next r.change.join refl x s
-  left_good r (w ∷ ws) acks next x s = sealed_still r (Sealing (w ∷ ws) acks) (w ∷ ws) acks s
+  early_still : (r : Reconf) (w : ReconfWork) → Early r → Early (record r { work = w })
+  early_still r w e = record { known = e.known; allowed = e.allowed; lawful = e.lawful }
 
   -- a wait that is left was there before
   left_waits : (n : ℕ) (ws : Waits) (x : ℕ × ℕ) → Has (without_wait n ws) x → Has ws x
   left_waits n ws x h = has_filter (λ (w : ℕ × ℕ). not (w.0 == n)) ws x h
 
-  sealed_good : (r : Reconf) (u e h : ℕ) (ws : Waits) (acks : Acks) (next : ℕ) (b : Bool) → (e == next_epoch r) ≡ b → Seals ps u e h × (h < 2 ^ 62) × Among ws u → (r.change.join ≡ None → Ready r) → Sealed r ws acks → WorkGood r r.work → NextGood (sealed_if r u h ws acks next b).to
-  sealed_good r u e h ws acks next true i s x y k = left_good r (without_wait u ws) ((u, h) ∷ acks) next x (record {
+  sealed_more : (r : Reconf) (w : ReconfWork) (u e h : ℕ) (ws vs : Waits) (acks : Acks) → (e == next_epoch r) ≡ true → without_wait u ws ≡ vs → Seals ps u e h × (h < 2 ^ 62) × Among ws u → Sealed r ws acks → Sealed (record r { work = w }) vs ((u, h) ∷ acks)
+  sealed_more r w u e h ws vs acks i left s y = subst (λ (zs : Waits). Sealed (record r { work = w }) zs ((u, h) ∷ acks)) left (sealed_still r w (without_wait u ws) ((u, h) ∷ acks) (record {
     early = y.early;
     ok = acks_more (next_epoch r) acks u h (subst (λ (f : ℕ). Seals ps u f h × (h < 2 ^ 62)) (same e (next_epoch r) i) (s.0, s.1)) y.ok;
     cover = covers_more _ ws acks u h y.cover;
     waited = λ v n g. y.waited v n (left_waits u ws (v, n) g);
     acked = within_more _ acks u h (y.waited u s.2.0 s.2.1) y.acked;
-  })
+  }))
     where
       same : (x y : ℕ) → (x == y) ≡ true → x ≡ y
       same x y e = grind arith
-  sealed_good r u e h ws acks next false i s x y k = k
 
   pub first_good : (r : Reconf) (next : ℕ) (j : Option Join) → Early r → NextGood (first_step r next j).to
   first_good r next None e = seals_good r next e
-  first_good r next (Some j) e = record { known = e.known; allowed = e.allowed; lawful = e.lawful }
+  first_good r next (Some j) e = early_still r (SealingSpare next) e
 
   -- The votes.
 
@@ -461,22 +438,6 @@ module _ (ps : List Packet) (K : Layout → Type 0) (X : Layout → Type 0) wher
       by None h = g
       by (Some y) h = f y (h y refl)
 
-  promised_good : (r : Reconf) (v : Voting) (ws : Waits) (hs : List Before) (next : ℕ) (b : Bool) → Good v.own → ((x : Ballot × Layout) → Has hs (Some x) → Good x.1) → NextGood (promised_on r v ws hs next b).to
-  promised_good r v ws hs next true g f = (g, greatest_good hs v.own g f)
-  promised_good r v ws hs next false g f = (g, f)
-
-  accepted_good : (r : Reconf) (v : Voting) (ws : Waits) (n : ℕ) (q : Layout) (next : ℕ) (b : Bool) → Good v.own → Good q → NextGood (accepted_on r v ws n q next b).to
-  accepted_good r v ws n q next true g f = tt
-  accepted_good r v ws n q next false g f = (g, f)
-
-  sets_good : (r : Reconf) (v : Voting) (round next : ℕ) (b : Bool) → Good v.own → StageGood v.stage → NextGood (sets_if r v round next b).to
-  sets_good r v round next true g f = (g, f)
-  sets_good r v round next false g f = (g, f)
-
-  if_good : (b : Bool) (t u : ReconfTurn) → NextGood t.to → NextGood u.to → NextGood (if b then t else u).to
-  if_good true t u f g = f
-  if_good false t u f g = g
-
   -- what a reply promises
   abbrev pub Promises : Reply → Type 0
   Promises (replied.IsPromise e b (Some a)) = Good a.1
@@ -490,20 +451,6 @@ module _ (ps : List Packet) (K : Layout → Type 0) (X : Layout → Type 0) wher
       same a x e = cc
   heard_more e b a hs p f x (inr h) = f x h
 
-  stage_good : (r : Reconf) (v : Voting) (s : Stage) (n : ℕ) (x : Reply) (next : ℕ) → WorkGood r r.work → Good v.own → StageGood v.stage → StageGood s → Promises x → NextGood (stage_feed r v s n x next).to
-  stage_good r v (Preparing ws hs) n (replied.IsPromise e b a) next k g t f p = if_good (same_vote r v.round e b && is_of_epoch e a) (promised r v n a ws hs next) (passes next r) (promised_good r v (without_wait n ws) (a ∷ hs) next _ g (heard_more e b a hs p f)) k
-  stage_good r v (Accepting ws m q) n (replied.IsAccepted e b) next k g t f p = if_good (same_vote r v.round e b) (accepted r v n ws m q next) (passes next r) (accepted_good r v (without_wait n ws) (m + 1) q next _ g f) k
-  stage_good r v s n (replied.IsNack e b) next k g t f p = if_good (e == next_epoch r) (nacked r v b next) (passes next r) (sets_good r v _ next _ g t) k
-  stage_good r v s n x next k g t f p = k
-
-  later_good : (r : Reconf) (v : Voting) (l : Later) (n : ℕ) (x : Reply) (next : ℕ) (b : Bool) → WorkGood r r.work → Good v.own → Promises x → NextGood (later_feed r v l n x next b).to
-  later_good r v l n x next true k g p = stage_good r (begun v l) (Preparing l.waits []) n x next k g (λ y h. absurd h) (λ y h. absurd h) p
-  later_good r v l n x next false k g p = k
-
-  vote_good : (r : Reconf) (v : Voting) (o : Option Later) (n rid : ℕ) (x : Reply) (next : ℕ) → WorkGood r r.work → Good v.own → StageGood v.stage → Promises x → NextGood (vote_feed r v o n rid x next).to
-  vote_good r v None n rid x next k g t p = stage_good r v v.stage n x next k g t t p
-  vote_good r v (Some l) n rid x next k g t p = if_good (has_rid n rid l.waits) (later_feed r v l n x next (is_answer r l x)) (stage_feed r v v.stage n x next) (later_good r v l n x next _ k g p) (stage_good r v v.stage n x next k g t t p)
-
   -- An awaited answer, and a newer layout.
 
   abbrev pub SealTold : Reconf → ReconfWork → ℕ → Reply → Type 0
@@ -515,48 +462,52 @@ module _ (ps : List Packet) (K : Layout → Type 0) (X : Layout → Type 0) wher
   PromiseTold (Agreeing v) x = Promises x
   PromiseTold w x = Unit {0}
 
-  pub feed_good : (r : Reconf) (w : ReconfWork) (n rid : ℕ) (x : Reply) (next : ℕ) → WorkGood r r.work → WorkGood r w → SealTold r w n x → PromiseTold w x → NextGood (reconf_feed r w n rid x next).to
-  unfolding reconf_feed
-  feed_good r (SealingSpare i) n rid (replied.IsSealed e h) next k g s p = looks_good _ r next g k
-  feed_good r (SealingSpare i) n rid (replied.IsFenced e) next k g s p = seals_if_good _ r next g k
-  feed_good r (LookingSpare i) n rid replied.IsWhole next k g s p = seals_good r next g
-  feed_good r (LookingSpare i) n rid (replied.IsMissing q) next k g s p = tt
-  feed_good r (LookingSpare i) n rid (replied.IsFenced e) next k g s p = seals_if_good _ r next g k
-  feed_good r (Sealing ws acks) n rid (replied.IsSealed e h) next k g s p = sealed_good r n e h ws acks next _ refl s.0 s.1 g k
-  feed_good r (Sealing ws acks) n rid (replied.IsFenced e) next k g s p = learns_good _ r next k
-  feed_good r (LookingAgain i acks) n rid replied.IsWhole next k g s p = proposes_good r acks next g s.0 s.1
-  feed_good r (LookingAgain i acks) n rid (replied.IsMissing q) next k g s p = tt
-  feed_good r (LookingAgain i acks) n rid (replied.IsFenced e) next k g s p = learns_good _ r next k
-  feed_good r (Agreeing v) n rid x next k g s p = vote_good r v v.later n rid x next k g.0 g.1 p
-  feed_good r (Starting i) n rid (replied.IsTail t ls) next k g s p = started _ r next k
-    where
-      started : (b : Bool) (r : Reconf) (next : ℕ) → WorkGood r r.work → NextGood (started_if r next b).to
-      started true r next k = tt
-      started false r next k = k
-  feed_good r (Starting i) n rid (replied.IsOldEpoch e) next k g s p = learns_good _ r next k
-  feed_good r w n rid x next k g s p = k
+  spare_early : (r : Reconf) (w : ReconfWork) → reconfs.IsSpare w → WorkGood r w → Early r
+  spare_early r _ (reconfs.OfSeal i) e = e
+  spare_early r _ (reconfs.OfLook i) e = e
 
-  own_decided_good : (r : Reconf) (w : ReconfWork) (q : Layout) (next : ℕ) → WorkGood r r.work → NextGood (own_decided r w q next).to
-  own_decided_good r (Telling ws n p) q next k = k
-  own_decided_good r w q next k = tt
+  module _ (n rid : ℕ) (x : Reply) (next : ℕ) where
+    voting_good : (r : Reconf) (v u : Voting) → reconfs.IsVoting n rid x next r v u → Good v.own × StageGood v.stage → Good u.own × StageGood u.stage
+    voting_good r v _ (reconfs.Present none) g = g
+    voting_good r v _ (reconfs.IsBegun l is has answers) g = (g.0, λ y h. absurd h)
 
-  newer_good : (b : Bool) (r : Reconf) (q : Layout) (next : ℕ) → WorkGood r r.work → NextGood (on_newer r q next b).to
-  newer_good true r q next k = own_decided_good r r.work q next k
-  newer_good false r q next k = tt
+    promised : (r : Reconf) (v u : Voting) (ws : Waits) (hs : List Before) (e : ℕ) (b : Ballot) (a : Before) → reconfs.IsVoting n rid x next r v u → u.stage ≡ Preparing ws hs → x ≡ replied.IsPromise e b a → Good v.own × StageGood v.stage → Promises x
+        → Good u.own × ((y : Ballot × Layout) → Has (a ∷ hs) (Some y) → Good y.1)
+    promised r v u ws hs e b a of st is k p = let g = voting_good r v u of k in (g.0, heard_more e b a hs (subst Promises is p) (subst StageGood st g.1))
 
-  adopts_good : (b : Bool) (r : Reconf) (q : Layout) (next : ℕ) → NextGood (adopts r q next b).to
-  adopts_good true r q next = tt
-  adopts_good false r q next = tt
+    fed_good : (r : Reconf) (t : ReconfTurn) → reconfs.Fed n rid x next r t → WorkGood r r.work → SealTold r r.work n x → PromiseTold r.work x → NextGood t.to
+    fed_good _ _ (reconfs.Nothing r) k s p = k
+    fed_good _ _ (reconfs.LooksSpare r i e h is same) k s p = early_still (at_work r (SealingSpare i)) (LookingSpare next) k
+    fed_good _ _ (reconfs.SpareWhole r i is) k s p = seals_good (at_work r (LookingSpare i)) next k
+    fed_good _ _ (reconfs.SpareFenced r w e of is past) k s p = seals_good (at_work r w) next (spare_early (at_work r w) w of k)
+    fed_good _ _ (reconfs.SealsMore r ws acks e h w vs is same left) k s p =
+        sealed_more (at_work r (Sealing ws acks)) (Sealing (w ∷ vs) ((n, h) ∷ acks)) n e h ws (w ∷ vs) acks same left (subst (SealTold (at_work r (Sealing ws acks)) (Sealing ws acks) n) is s).0 k
+    fed_good _ _ (reconfs.SealsLast r ws acks e h is same left none) k s p =
+        let t = subst (SealTold (at_work r (Sealing ws acks)) (Sealing ws acks) n) is s in
+        proposes_good (at_work r (Sealing ws acks)) ((n, h) ∷ acks) next (sealed_more (at_work r (Sealing ws acks)) (Sealing ws acks) n e h ws [] acks same left t.0 k) (λ j has. absurd (no j (sym none ∙ has))) (t.1 none)
+      where
+        no : (j : Join) → None ≡ Some j → ⊥
+        no j e = cc
+    fed_good _ _ (reconfs.LooksAgain r ws acks e h j is same left has) k s p =
+        sealed_more (at_work r (Sealing ws acks)) (LookingAgain next ((n, h) ∷ acks)) n e h ws [] acks same left (subst (SealTold (at_work r (Sealing ws acks)) (Sealing ws acks) n) is s).0 k
+    fed_good _ _ (reconfs.AgainWhole r i acks is) k s p = let t = subst (SealTold (at_work r (LookingAgain i acks)) (LookingAgain i acks) n) is s in proposes_good (at_work r (LookingAgain i acks)) acks next k t.0 t.1
+    fed_good _ _ (reconfs.NextFenced r w e of is past) k s p = k
+    fed_good _ _ (reconfs.Promises r v u ws hs e b a of st is same few) k s p = promised r v u ws hs e b a of st is k p
+    fed_good _ _ (reconfs.PromisesMost r v u ws hs e b a of st is same most) k s p = let g = promised r v u ws hs e b a of st is k p in (g.0, greatest_good (a ∷ hs) u.own g.0 g.1)
+    fed_good _ _ (reconfs.Accepts r v u ws i q e b of st is same few) k s p = let g = voting_good r v u of k in (g.0, subst StageGood st g.1)
+    fed_good _ _ (reconfs.Nacks r v u e b of is same higher) k s p = voting_good r v u of k
+    fed_good _ _ (reconfs.NacksLow r v u e b of is same low) k s p = voting_good r v u of k
+    fed_good _ _ came k s p = tt
 
-  heard_good : (b : Bool) (r : Reconf) (ws : Waits) (n : ℕ) (q : Layout) (next : ℕ) → NextGood (heard_on r ws n q next b).to
-  heard_good true r ws n q next = adopts_good _ r q next
-  heard_good false r ws n q next = tt
+    pub feed_good : (r : Reconf) → WorkGood r r.work → SealTold r r.work n x → PromiseTold r.work x → NextGood (reconf_feed r r.work n rid x next).to
+    feed_good r k s p = fed_good r _ (reconfs.reconf_fed n rid x next r) k s p
 
-  pub latest_good : (r : Reconf) (w : ReconfWork) (n rid : ℕ) (q : Layout) (next : ℕ) → WorkGood r r.work → NextGood (reconf_latest r w n rid q next).to
-  unfolding reconf_latest
-  latest_good r (Starting i) n rid q next k = tt
-  latest_good r (Telling ws i p) n rid q next k = if_good (has_rid n rid ws && (q.epoch == next_epoch r)) (heard r n ws i p next) (on_newer r q next (is_own r q)) (heard_good _ r _ (i + 1) p next) (newer_good _ r q next k)
-  latest_good r w n rid q next k = newer_good _ r q next k
+  heard_good : (n rid : ℕ) (q : Layout) (next : ℕ) (r : Reconf) (t : ReconfTurn) → reconfs.Heard n rid q next r t → NextGood t.to
+  heard_good n rid q next _ _ (reconfs.StartedBefore r i) = tt
+  heard_good n rid q next _ _ came = tt
+
+  pub latest_good : (n rid : ℕ) (q : Layout) (next : ℕ) (r : Reconf) → NextGood (reconf_latest r r.work n rid q next).to
+  latest_good n rid q next r = heard_good n rid q next r _ (reconfs.reconf_heard n rid q next r)
 
 -- A client's step.
 
@@ -591,11 +542,11 @@ module _ (m : Meaning) (ps : List Packet) (K : Layout → Type 0) (X : Layout �
 
   module _ (x : Packet) where
     task_good : (c : Client m) (w : Work m) (t : Task m) → ReconfGood (task_reconf m t) → HearsSeal (task_reconf m t) x.from.num (reply x.msg) → Fed m MovedGood c w t x.from.num x.rid (reply x.msg)
-    task_good c w (Reconfiguring r) h s = turn_good c w (reconf_feed r r.work x.from.num x.rid (reply x.msg) c.next) (feed_good ps K X r r.work x.from.num x.rid (reply x.msg) c.next h h s.0 s.1)
+    task_good c w (Reconfiguring r) h s = turn_good c w (reconf_feed r r.work x.from.num x.rid (reply x.msg) c.next) (feed_good ps K X x.from.num x.rid (reply x.msg) c.next r h s.0 s.1)
     task_good c w t h s = plain_good c
 
     again_good : (c : Client m) (w : Work m) (t : Task m) (q : Layout) → ReconfGood (task_reconf m t) → Heard m MovedGood c w t x.from.num x.rid q
-    again_good c w (Reconfiguring r) q h = turn_good c w (reconf_latest r r.work x.from.num x.rid q c.next) (latest_good ps K X r r.work x.from.num x.rid q c.next h)
+    again_good c w (Reconfiguring r) q h = turn_good c w (reconf_latest r r.work x.from.num x.rid q c.next) (latest_good ps K X x.from.num x.rid q c.next r)
     again_good c w t q h = plain_good (stands m c q)
 
     pub delivered_good : (c : Client m) (o : Option (Work m)) → c.work ≡ o → ReconfGood (reconf_of m c.work) → ((w : Work m) (t : Task m) → o ≡ Some w → w.hand ≡ Doing t → awaits (task_awaited m c.stand t) x.from x.rid ≡ true → HearsSeal (task_reconf m t) x.from.num (reply x.msg))

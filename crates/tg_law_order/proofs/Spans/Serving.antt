@@ -3,12 +3,12 @@ use Rattle.std.proofs.Common.{◌≡◌, ◌⊎◌, ℕ, ◌+◌, ◌<◌, ◌�
 use Rattle.std.specs.Prelude.{nat_lt, not, ◌==◌, zip, if◌then◌else◌}
 use Rattle.std.proofs.lemmas.Bool.Decides.{nat_tests}
 use Rattle.tg_base.specs.declared.cell.Cell.{Cell}
-use Rattle.tg_base.specs.declared.cell.Cell.TheVariants.{Junk}
 use Rattle.tg_protocol.specs.Words.{numbers}
-use Rattle.tg_protocol.specs.Requests.{Waits, without_wait, Next, Goes, Learns, Ends}
+use Rattle.tg_protocol.specs.Requests.{Waits, waits_for, without_wait, Next, Goes, Learns, Ends}
 use Rattle.tg_protocol.specs.Replies.{Reply}
 use Rattle.tg_protocol.specs.Replies as replied
-use Rattle.tg_protocol.specs.Cells.{Place, CellWork, Puts, Gets, Fills, Copies, Probes, CellJob, CellEnd, Done, Seen, Fenced, Gone, unit_at, works, fill_cell, probe, copy_on, end_if, copy_if_same, probe_on, work_feed, cell_feed}
+use Rattle.tg_protocol.specs.Cells.{Place, CellWork, Puts, Gets, Fills, Copies, Probes, CellJob, CellEnd, CellTurn, Done, Seen, unit_at, cell_feed}
+use Rattle.tg_law_steps.proofs.Machines.Cells.{IsCopied, FillHeld, FillTaken, CopyHeld, CopySame, IsProbed, HasWhole, HasMissing, Fed, IsFence, IsTrim, PutsOn, PutsLast, PutRefused, ReadsCell, ReadsNone, CopiesOn, CopiesLast, ProbesLast, ProbesOn, Nothing, cell_fed}
 use Rattle.tg_law_layouts.proofs.Moves.Members.{Has}
 use Rattle.tg_law_cells.proofs.Cells.Befores.{at_has}
 
@@ -78,13 +78,6 @@ module _ (S : ℕ → ℕ → Type 0) where
   at_last : (q i : ℕ) → q < i + 1 → (q < i) ⊎ (q ≡ i)
   at_last q i less = grind arith
 
-  copied : (a : Place) (c : Cell) (i next : ℕ) (b : Bool) → nat_lt i (length a.chain) ≡ b → FirstServed a i → NextServed a (copy_on a c i next b).to
-  copied a c i next true e k = (refl, k)
-  copied a c i next false e k = λ n h. let x = at_has a.chain n h in
-      let within = x.1.within in
-      let le = not_less i (length a.chain) e in
-      subst (λ (v : ℕ). S v a.epoch) x.1.is (k x.0 (omega (arith, within, le)))
-
   one_more : (a : Place) (i : ℕ) → FirstServed a i → S (unit_at a i) a.epoch → FirstServed a (i + 1)
   one_more a i k s q less = by (at_last q i less)
     where
@@ -98,59 +91,57 @@ module _ (S : ℕ → ℕ → Type 0) where
       zero_is : (v : ℕ) → v < 1 → v ≡ 0
       zero_is v l = grind arith
 
-  ended : (b : Bool) (a : Place) (w : CellWork) (next : ℕ) (e : CellEnd) → WorkServed a w → EndServed a e → NextServed a (end_if b (works a w) next e).to
-  ended true a w next e k f = f
-  ended false a w next e k f = (refl, k)
+  module _ (u : ℕ) (x : Reply) (next : ℕ) where
+    -- the units that a cell has been copied to
+    copied : (a : Place) (w : CellWork) (c : Cell) (i : ℕ) → IsCopied u x next w c i → WorkServed a w → WorkHears a w u x → FirstServed a i
+    copied a _ _ _ (FillHeld r is) k h = none_yet a (h (λ e i. cc))
+    copied a _ _ _ (FillTaken r c is) k h = none_yet a (h (λ e i. cc))
+    copied a _ _ _ (CopyHeld r c i is) k h = one_more a i k (h (λ e j. cc))
+    copied a _ _ _ (CopySame r c i y is same) k h = one_more a i k (h (λ e j. cc))
 
-  same_copied : (a : Place) (r : ℕ) (c : Cell) (i next : ℕ) (b : Bool) → FirstServed a i → S (unit_at a i) a.epoch → NextServed a (copy_if_same (works a (Copies r c i)) c i next b).to
-  same_copied a r c i next true k s = copied a c (i + 1) next _ refl (one_more a i k s)
-  same_copied a r c i next false k s = (refl, k)
+    all_of : (a : Place) (i : ℕ) → nat_lt i (length a.chain) ≡ false → FirstServed a i → AllServed a
+    all_of a i e k n h = let y = at_has a.chain n h in
+        let within = y.1.within in
+        let le = not_less i (length a.chain) e in
+        subst (λ (v : ℕ). S v a.epoch) y.1.is (k y.0 (omega (arith, within, le)))
 
-  probed : (a : Place) (u : ℕ) (ws vs : Waits) (next : ℕ) → without_wait u ws ≡ vs → ((n : ℕ) → Has a.chain n → ((i : ℕ) × Has ws (n, i)) ⊎ S n a.epoch) → S u a.epoch → NextServed a (probe_on a vs next).to
-  probed a u ws vs next e k s = by vs e
-    where
-      left : (n : ℕ) → Has a.chain n → ((i : ℕ) × Has (without_wait u ws) (n, i)) ⊎ S n a.epoch
-      left n h = on (k n h)
-        where
-          out : (i : ℕ) → (n ≡ u) ⊎ Has (without_wait u ws) (n, i) → ((i : ℕ) × Has (without_wait u ws) (n, i)) ⊎ S n a.epoch
-          out i (inl g) = inr (subst (λ (v : ℕ). S v a.epoch) (sym g) s)
-          out i (inr g) = inl (i, g)
+    -- those that are left of a probe, but for one that answers now
+    probed : (a : Place) (ws vs : Waits) → IsProbed u x next ws → without_wait u ws ≡ vs → WorkServed a (Probes ws) → WorkHears a (Probes ws) u x → WorkServed a (Probes vs)
+    probed a ws vs is left k h n has = by (k n has)
+      where
+        answers : IsProbed u x next ws → S u a.epoch
+        answers (HasWhole _ is) = h (λ e j. cc)
+        answers (HasMissing _ q is) = h (λ e j. cc)
 
-          on : ((i : ℕ) × Has ws (n, i)) ⊎ S n a.epoch → ((i : ℕ) × Has (without_wait u ws) (n, i)) ⊎ S n a.epoch
-          on (inl g) = out g.0 (taken_out u ws n g.0 g.1)
-          on (inr g) = inr g
+        out : (i : ℕ) → (n ≡ u) ⊎ Has (without_wait u ws) (n, i) → ((i : ℕ) × Has vs (n, i)) ⊎ S n a.epoch
+        out i (inl g) = inr (subst (λ (v : ℕ). S v a.epoch) (sym g) (answers is))
+        out i (inr g) = inl (i, subst (λ (zs : Waits). Has zs (n, i)) left g)
 
-      none : (n : ℕ) → ((i : ℕ) × Has {X = ℕ × ℕ} [] (n, i)) ⊎ S n a.epoch → S n a.epoch
-      none n (inl g) = absurd g.1
-      none n (inr g) = g
+        by : ((i : ℕ) × Has ws (n, i)) ⊎ S n a.epoch → ((i : ℕ) × Has vs (n, i)) ⊎ S n a.epoch
+        by (inl g) = out g.0 (taken_out u ws n g.0 g.1)
+        by (inr g) = inr g
 
-      by : (zs : Waits) → without_wait u ws ≡ zs → NextServed a (probe_on a zs next).to
-      by [] f = λ n h. none n (subst (λ (zs : Waits). ((i : ℕ) × Has zs (n, i)) ⊎ S n a.epoch) f (left n h))
-      by (z ∷ zs) f = (refl, λ n h. subst (λ (ys : Waits). ((i : ℕ) × Has ys (n, i)) ⊎ S n a.epoch) f (left n h))
-
-  pub work_served : (a : Place) (w : CellWork) (u : ℕ) (x : Reply) (next : ℕ) → WorkServed a w → WorkHears a w u x → NextServed a (work_feed (works a w) w u x next).to
-  unfolding work_feed
-  work_served a w u (replied.IsFenced e) next k h = ended _ a w next (Fenced u e) k tt
-  work_served a (Puts r d i) u x next k h = absurd k
-  work_served a (Gets r) u x next k h = absurd k
-  work_served a (Fills r) u replied.IsHeld next k h = copied a Junk 1 next _ refl (none_yet a (h (λ e i. cc)))
-  work_served a (Fills r) u (replied.IsTaken c) next k h = copied a c 1 next _ refl (none_yet a (h (λ e i. cc)))
-  work_served a (Fills r) u (replied.IsGone b) next k h = ended _ a (Fills r) next (Gone b) k tt
-  work_served a (Copies r c i) u replied.IsHeld next k h = copied a c (i + 1) next _ refl (one_more a i k (h (λ e j. cc)))
-  work_served a (Copies r c i) u (replied.IsTaken x) next k h = same_copied a r c i next _ k (h (λ e j. cc))
-  work_served a (Copies r c i) u (replied.IsGone b) next k h = ended _ a (Copies r c i) next (Gone b) k tt
-  work_served a (Probes ws) u replied.IsWhole next k h = probed a u ws _ next refl k (h (λ e j. cc))
-  work_served a (Probes ws) u (replied.IsMissing p) next k h = probed a u ws _ next refl k (h (λ e j. cc))
-  work_served a w u x next k h = (refl, k)
+    turn_served : (j : CellJob) (t : CellTurn) → Fed u x next j t → WorkServed j.place j.work → WorkHears j.place j.work u x → NextServed j.place t.to
+    turn_served _ _ (IsFence j e is past) k h = tt
+    turn_served _ _ (IsTrim a w b one is past) k h = tt
+    turn_served _ _ (PutsOn a r d i is more) k h = absurd k
+    turn_served _ _ (PutsLast a r d i is last) k h = absurd k
+    turn_served _ _ (PutRefused a r d i c is other) k h = absurd k
+    turn_served _ _ (ReadsCell a r c is) k h = absurd k
+    turn_served _ _ (ReadsNone a r is) k h = absurd k
+    turn_served _ _ (CopiesOn a w c i of more) k h = (refl, copied a w c i of k h)
+    turn_served _ _ (CopiesLast a w c i of last) k h = all_of a i last (copied a w c i of k h)
+    turn_served _ _ (ProbesLast a ws of left) k h = λ n has. none n (probed a ws [] of left k h n has)
+      where
+        none : (n : ℕ) → ((i : ℕ) × Has {X = ℕ × ℕ} [] (n, i)) ⊎ S n a.epoch → S n a.epoch
+        none n (inl g) = absurd g.1
+        none n (inr g) = g
+    turn_served _ _ (ProbesOn a ws v vs of left) k h = (refl, probed a ws (v ∷ vs) of left k h)
+    turn_served _ _ (Nothing j) k h = (refl, k)
 
   pub cell_served : (j : CellJob) (u : ℕ) (x : Reply) (next : ℕ) → WorkServed j.place j.work → WorkHears j.place j.work u x → NextServed j.place (cell_feed j u x next).to
-  unfolding cell_feed
-  cell_served j u x next k h = work_served j.place j.work u x next k h
+  cell_served j u x next k h = turn_served u x next j _ (cell_fed u x next j) k h
 
-  pub probe_served : (a : Place) (next : ℕ) → NextServed a (probe a next).to
-  unfolding probe
-  probe_served a next = (refl, λ n h. inl (waits_in a.chain next n h))
-
-  pub fill_served : (a : Place) (next : ℕ) → NextServed a (fill_cell a next).to
-  unfolding fill_cell
-  fill_served a next = (refl, tt)
+  -- a chain whose probe begins
+  pub probe_served : (a : Place) (next : ℕ) → WorkServed a (Probes (waits_for a.chain next))
+  probe_served a next n h = inl (waits_in a.chain next n h)

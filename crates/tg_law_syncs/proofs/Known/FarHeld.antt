@@ -221,7 +221,7 @@ module _ (m : Meaning) (h : Header) (zs : Moves m) (r : Reaches m h zs (after m 
         },
         record {
           up = sync_up p s x.from.num (reply x.msg) cl.next;
-          gone = met_ok w (Syncing s) works hand awaited (SyncHas s.work) _ (λ j y. (job y.0 j y.1, sync_cells p s s.work y.0 j y.1)) (sync_met x.from.num (reply x.msg) cl.next p s s.work);
+          gone = met_ok w (Syncing s) works hand awaited (SyncHas s.work) _ (λ j y. (job y.0 j y.1, sync_cells p s s.work y.0 j y.1)) (sync_met x.from.num (reply x.msg) cl.next p s);
         },
       )
         where

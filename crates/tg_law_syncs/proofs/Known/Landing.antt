@@ -1,5 +1,5 @@
 -- An append ends with its token's page, which is the log's where the cell is that its machine ends with.
-use Rattle.std.proofs.Common.{◌≡◌, ◌⊎◌, ℕ, ◌+◌, List, Bool, true, false, refl, sym, ap, ◌∙◌, subst, inl, inr, Option, Some}
+use Rattle.std.proofs.Common.{◌≡◌, ◌⊎◌, ℕ, ◌+◌, List, Bool, true, false, refl, ap, ◌∙◌, subst, inl, inr, Option, Some}
 use Rattle.tg_base.specs.Layouts.{Layout}
 use Rattle.tg_base.specs.declared.cell.Cell.{Cell}
 use Rattle.tg_base.specs.declared.cell.Cell.TheVariants.{Data}
@@ -8,13 +8,13 @@ use Rattle.tg_entry.specs.Records.{linked}
 use Rattle.tg_protocol.specs.Pages.{page_of}
 use Rattle.tg_protocol.specs.Requests.{Next, Goes, Learns, Ends}
 use Rattle.tg_protocol.specs.Replies.{Reply}
-use Rattle.tg_protocol.specs.Replies as replied
-use Rattle.tg_protocol.specs.Cells.{Place, place_in, CellWork, Puts, CellJob, CellEnd, Done, Seen, Lost, Fenced, Gone, works, put_on, end_if, work_feed, cell_feed}
+use Rattle.tg_protocol.specs.Cells.{place_in, CellWork, Puts, Gets, Probes, CellJob, CellEnd, CellTurn, Done, works, cell_feed}
 use Rattle.tg_protocol.specs.Appending.{AppendWork, Asking, Putting, Judging, Token, Append, AppendEnd, At, append_feed, append_again}
 use Rattle.tg_protocol.specs.Logs.{Log}
 use Rattle.tg_law_layouts.proofs.Moves.Units.{cell_same}
 use Rattle.tg_law_walks.specs.Walks.Walks.{EndsAs}
 use Rattle.tg_law_walks.proofs.Walks.Turns.{Fine, cell_fine}
+use Rattle.tg_law_steps.proofs.Machines.Cells as cells
 use Rattle.tg_law_steps.proofs.Machines.Appends.{AppendCame, Waits as AppendWaits, NewerCame as NewerForAppend, PutsAt, LogFull, PutsOn, IsPut as PageIsPut, LostTo, PutTrimmed, JudgesOn, IsOwn, IsAnothers, JudgedTrimmed, append_came, AppendAgain, AsksAgain, Judges, append_again_came}
 
 -- A machine that puts a page puts that page, and ends with it.
@@ -30,37 +30,29 @@ NextPut d (Learns x) = IsPut x d
 NextPut d (Ends (Done c)) = c ≡ Data d
 NextPut d (Ends e) = Unit {0}
 
-abbrev NoDone : CellEnd → Type 0
-NoDone (Done c) = ⊥
-NoDone e = Unit {0}
+module _ (d : List ℕ) (u : ℕ) (x : Reply) (next : ℕ) where
+  same_page : (r s i k : ℕ) (e : List ℕ) → Puts r e i ≡ Puts s d k → e ≡ d
+  same_page r s i k e is = cc
 
-module _ (a : Place) (r : ℕ) (d : List ℕ) (i next : ℕ) where
-  same_put : IsPut (works a (Puts r d i)) d
-  same_put = record { rid = r; index = i; is = refl }
+  no_put : (w : CellWork) (c : Cell) (i : ℕ) → cells.IsCopied u x next w c i → (r k : ℕ) → w ≡ Puts r d k → ⊥
+  no_put _ _ _ (cells.FillHeld r is) s k e = cc
+  no_put _ _ _ (cells.FillTaken r c is) s k e = cc
+  no_put _ _ _ (cells.CopyHeld r c i is) s k e = cc
+  no_put _ _ _ (cells.CopySame r c i y is same) s k e = cc
 
-  end_put : (b : Bool) (e : CellEnd) → NoDone e → NextPut d (end_if b (works a (Puts r d i)) next e).to
-  end_put true (Done c) h = absurd h
-  end_put true Seen h = tt
-  end_put true (Lost c) h = tt
-  end_put true (Fenced u f) h = tt
-  end_put true (Gone b) h = tt
-  end_put false e h = same_put
-
-  on_put : (k : ℕ) (b : Bool) → NextPut d (put_on a d k next b).to
-  on_put k true = record { rid = next; index = k; is = refl }
-  on_put k false = refl
-
-  fed_put : (u : ℕ) (x : Reply) → NextPut d (work_feed (works a (Puts r d i)) (Puts r d i) u x next).to
-  unfolding work_feed
-  fed_put u (replied.IsFenced e) = end_put _ (Fenced u e) tt
-  fed_put u replied.IsHeld = on_put (i + 1) _
-  fed_put u (replied.IsTaken c) = end_put _ (Lost c) tt
-  fed_put u (replied.IsGone b) = end_put _ (Gone b) tt
-  fed_put u x = same_put
+  fed_put : (j : CellJob) (t : CellTurn) → cells.Fed u x next j t → IsPut j d → NextPut d t.to
+  fed_put _ _ (cells.PutsOn a r e i is more) p = record { rid = next; index = i + 1; is = ap (λ (y : List ℕ). Puts next y (i + 1)) (same_page r p.rid i p.index e p.is) }
+  fed_put _ _ (cells.PutsLast a r e i is last) p = ap (λ (y : List ℕ). Data y) (same_page r p.rid i p.index e p.is)
+  fed_put _ _ (cells.ReadsCell a r c is) p = let e : Gets r ≡ Puts p.rid d p.index = p.is in absurd (cc)
+  fed_put _ _ (cells.ReadsNone a r is) p = let e : Gets r ≡ Puts p.rid d p.index = p.is in absurd (cc)
+  fed_put _ _ (cells.CopiesOn a w c i of more) p = absurd (no_put w c i of p.rid p.index p.is)
+  fed_put _ _ (cells.CopiesLast a w c i of last) p = absurd (no_put w c i of p.rid p.index p.is)
+  fed_put _ _ (cells.ProbesOn a ws v vs of left) p = let e : Probes ws ≡ Puts p.rid d p.index = p.is in absurd (cc)
+  fed_put _ _ (cells.Nothing j) p = p
+  fed_put _ _ came p = tt
 
 pub put_stays : (j : CellJob) (d : List ℕ) (u : ℕ) (x : Reply) (next : ℕ) → IsPut j d → NextPut d (cell_feed j u x next).to
-unfolding cell_feed
-put_stays j d u x next p = subst (λ (w : CellWork). NextPut d (work_feed (works j.place w) w u x next).to) (sym p.is) (fed_put j.place p.rid d p.index next u x)
+put_stays j d u x next p = fed_put d u x next j _ (cells.cell_fed u x next j) p
 
 -- Appends.
 

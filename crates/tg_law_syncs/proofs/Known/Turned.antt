@@ -1,16 +1,17 @@
 -- Of a machine's turn: its numbers only grow, and a trim that it met was told to the cell's machine that it had.
-use Rattle.std.proofs.Common.{◌≡◌, ◌⊎◌, ℕ, ◌≤◌, List, [], Bool, true, false, refl, inl, inr, arith, Option, Some, None}
+use Rattle.std.proofs.Common.{◌≡◌, ◌⊎◌, ℕ, ◌≤◌, List, [], refl, inl, inr, Option, Some}
 use Rattle.tg_base.specs.Layouts.{Layout}
 use Rattle.tg_base.specs.declared.packet.Out.{Out}
-use Rattle.tg_entry.specs.declared.entry.Entry.{Entry}
 use Rattle.tg_protocol.specs.Requests.{Next, Goes, Learns, Ends}
 use Rattle.tg_protocol.specs.Replies.{Reply}
-use Rattle.tg_protocol.specs.Cells.{CellJob, CellEnd, Done, Seen, Lost, Fenced, Gone, cell_feed, fill_cell, put_cell, probe}
-use Rattle.tg_protocol.specs.Appending.{AppendWork, Asking, Putting, Judging, Token, Append, put_next, judge_next, append_asks, asking_feed, append_feed, dead_or_judged, again_with, append_again}
-use Rattle.tg_protocol.specs.Syncing.{Answer, SyncWork, Checking, Settling, Probing, Sync, sync_asks, sync_feed, probe_next, settle_next, checking_feed}
+use Rattle.tg_protocol.specs.Cells.{CellJob, Gone, cell_feed}
+use Rattle.tg_protocol.specs.Appending.{AppendWork, Putting, Judging, Append, AppendTurn, append_asks, append_feed, append_again}
+use Rattle.tg_protocol.specs.Syncing.{Answer, SyncWork, Settling, Sync, SyncTurn, sync_asks, sync_feed}
 use Rattle.tg_protocol.specs.Walking.{Walk, WalkTurn, walk_asks, read_at, walk_from, walk_feed, walk_again}
 use Rattle.tg_law_layouts.proofs.Moves.Draws.{NextDraws}
 use Rattle.tg_law_layouts.proofs.Moves.Machines.{append_draws, append_again_draws, sync_draws, walk_draws, walk_again_draws}
+use Rattle.tg_law_steps.proofs.Machines.Appends as appends
+use Rattle.tg_law_steps.proofs.Machines.Syncs as syncs
 use Rattle.tg_law_steps.proofs.Machines.Walks.{goes_on, WalkCame, HasRead, MetTrim, walk_came}
 
 -- Numbers.
@@ -56,66 +57,14 @@ WalkHas o j = o ≡ Some j
 abbrev pub AppendHas : AppendWork → CellJob → Type 0
 AppendHas w j = (w ≡ Putting j) ⊎ (w ≡ Judging j)
 
-module _ (n : ℕ) (x : Reply) (next : ℕ) where
-  settle_met : (p : Layout) (s : Sync) (a : Answer) (j : CellJob) (to : Next CellJob CellEnd) (next' : ℕ) → (cell_feed j n x next).to ≡ to → Met (SyncHas (Settling a j)) n x next (settle_next p s a to next').gone
-  unfolding probe
-  settle_met p s a j (Goes i) next' e = inl refl
-  settle_met p s a j (Learns i) next' e = inl refl
-  settle_met p s a j (Ends (Done c)) next' e = inl refl
-  settle_met p s a j (Ends Seen) next' e = inl refl
-  settle_met p s a j (Ends (Lost c)) next' e = inl refl
-  settle_met p s a j (Ends (Fenced u f)) next' e = inl refl
-  settle_met p s a j (Ends (Gone b)) next' e = inr (record { job = j; has = (a, refl); ends = e })
+sync_turn : (n : ℕ) (x : Reply) (next : ℕ) (p : Layout) (s : Sync) (t : SyncTurn) → syncs.Fed p n x next s t → Met (SyncHas s.work) n x next t.gone
+sync_turn n x next p _ _ (syncs.SettleGone os a j b e) = inr (record { job = j; has = (a, refl); ends = e })
+sync_turn n x next p _ _ came = inl refl
 
-  probe_none : (s : Sync) (a : Answer) (to : Next CellJob CellEnd) (next' : ℕ) → (probe_next s a to next').gone ≡ 0
-  probe_none s a to next' = grind arith
-
-  checking_none : (p : Layout) (s : Sync) (next' : ℕ) → (checking_feed p s x next').gone ≡ 0
-  unfolding fill_cell probe
-  checking_none p s next' = grind arith
-
-  pub sync_met : (p : Layout) (s : Sync) (w : SyncWork) → Met (SyncHas w) n x next (sync_feed p s w n x next).gone
-  unfolding sync_feed
-  sync_met p s (Checking r) = inl (checking_none p s next)
-  sync_met p s (Settling a j) = settle_met p s a j (cell_feed j n x next).to _ refl
-  sync_met p s (Probing a j) = inl (probe_none s a _ _)
-
-  put_met : (a : Append) (t : Token) (j : CellJob) (to : Next CellJob CellEnd) (next' : ℕ) → (cell_feed j n x next).to ≡ to → Met (AppendHas (Putting j)) n x next (put_next a t to next').gone
-  put_met a t j (Goes i) next' e = inl refl
-  put_met a t j (Learns i) next' e = inl refl
-  put_met a t j (Ends (Done c)) next' e = inl refl
-  put_met a t j (Ends Seen) next' e = inl refl
-  put_met a t j (Ends (Lost c)) next' e = inl refl
-  put_met a t j (Ends (Fenced u f)) next' e = inl refl
-  put_met a t j (Ends (Gone b)) next' e = inr (record { job = j; has = inl refl; ends = e })
-
-  own_none : (a : Append) (t : Token) (next' : ℕ) (b : Bool) → (Rattle.tg_protocol.specs.Appending.own_or_not a t next' b).gone ≡ 0
-  own_none a t next' true = refl
-  own_none a t next' false = refl
-
-  judge_met : (a : Append) (t : Token) (j : CellJob) (to : Next CellJob CellEnd) (next' : ℕ) → (cell_feed j n x next).to ≡ to → Met (AppendHas (Judging j)) n x next (judge_next a t to next').gone
-  judge_met a t j (Goes i) next' e = inl refl
-  judge_met a t j (Learns i) next' e = inl refl
-  judge_met a t j (Ends (Done c)) next' e = inl (own_none a t next' _)
-  judge_met a t j (Ends Seen) next' e = inl refl
-  judge_met a t j (Ends (Lost c)) next' e = inl refl
-  judge_met a t j (Ends (Fenced u f)) next' e = inl refl
-  judge_met a t j (Ends (Gone b)) next' e = inr (record { job = j; has = inr refl; ends = e })
-
-  asking_none : (p : Layout) (a : Append) (next' : ℕ) → (asking_feed p a x next').gone ≡ 0
-  unfolding put_cell
-  asking_none p a next' = grind arith
-
-  append_met_at : (p : Layout) (d : Entry) (t : Option Token) (w : AppendWork) → Met (AppendHas w) n x next (append_feed p (record { draft = d; token = t; work = w }) w n x next).gone
-  unfolding append_feed
-  append_met_at p d t (Asking r) = inl (asking_none p _ next)
-  append_met_at p d None (Putting j) = inl refl
-  append_met_at p d (Some t) (Putting j) = put_met _ t j (cell_feed j n x next).to _ refl
-  append_met_at p d None (Judging j) = inl refl
-  append_met_at p d (Some t) (Judging j) = judge_met _ t j (cell_feed j n x next).to _ refl
-
-  pub append_met : (p : Layout) (a : Append) → Met (AppendHas a.work) n x next (append_feed p a a.work n x next).gone
-  append_met p a = append_met_at p a.draft a.token a.work
+append_turn : (n : ℕ) (x : Reply) (next : ℕ) (p : Layout) (a : Append) (t : AppendTurn) → appends.Fed p n x next a t → Met (AppendHas a.work) n x next t.gone
+append_turn n x next p _ _ (appends.PutGone d t j b e) = inr (record { job = j; has = inl refl; ends = e })
+append_turn n x next p _ _ (appends.JudgeGone d t j b e) = inr (record { job = j; has = inr refl; ends = e })
+append_turn n x next p _ _ came = inl refl
 
 -- a walk that goes on over known cells meets none
 
@@ -126,6 +75,12 @@ pub walk_again_none : (p : Layout) (w : Walk) (next : ℕ) → (walk_again p w n
 walk_again_none p w next = walks_none p next w
 
 module _ (n : ℕ) (x : Reply) (next : ℕ) where
+  pub sync_met : (p : Layout) (s : Sync) → Met (SyncHas s.work) n x next (sync_feed p s s.work n x next).gone
+  sync_met p s = sync_turn n x next p s _ (syncs.sync_fed p n x next s)
+
+  pub append_met : (p : Layout) (a : Append) → Met (AppendHas a.work) n x next (append_feed p a a.work n x next).gone
+  append_met p a = append_turn n x next p a _ (appends.append_fed p n x next a)
+
   pub walk_met : (p : Layout) (w : Walk) → Met (WalkHas w.job) n x next (walk_feed p w w.job n x next).gone
   walk_met p w = by w.job _ (walk_came p w n x next w.job)
     where
@@ -135,15 +90,9 @@ module _ (n : ℕ) (x : Reply) (next : ℕ) where
       by _ _ y = inl refl
 
 -- an append that goes on in a newer layout meets none
-judged_none : (q : Layout) (a : Append) (t : Token) (next : ℕ) (b : Bool) → (dead_or_judged q a t next b).gone ≡ 0
-unfolding fill_cell
-judged_none q a t next true = refl
-judged_none q a t next false = refl
+again_none : (q : Layout) (next : ℕ) (a : Append) (t : AppendTurn) → appends.Anew q next a t → t.gone ≡ 0
+again_none q next _ _ (appends.HasNone d w) = refl
+again_none q next _ _ came = refl
 
 pub append_again_none : (q : Layout) (a : Append) (next : ℕ) → (append_again q a next).gone ≡ 0
-unfolding append_again
-append_again_none q a next = by a.token
-  where
-    by : (t : Option Token) → (again_with q a next t).gone ≡ 0
-    by None = refl
-    by (Some t) = judged_none q a t next _
+append_again_none q a next = again_none q next a _ (appends.append_anew q next a)

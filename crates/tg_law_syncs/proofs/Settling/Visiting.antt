@@ -1,5 +1,5 @@
 -- A walk comes to each position that was issued to its stream, over a log that is fixed.
-use Rattle.std.proofs.Common.{◌≡◌, ◌⊎◌, ℕ, zero, suc, ◌+◌, ◌-◌, ◌<◌, ◌≤◌, List, [], ◌∷◌, length, Bool, true, false, refl, sym, ap, ◌∙◌, subst, inl, inr, arith, Option, Some, None}
+use Rattle.std.proofs.Common.{◌≡◌, ◌⊎◌, ℕ, ◌+◌, ◌-◌, ◌<◌, ◌≤◌, List, [], ◌∷◌, length, Bool, true, false, refl, sym, ap, ◌∙◌, subst, inl, inr, arith, Option, Some, None}
 use Rattle.std.specs.Prelude.{nat_lt, nat_le, ◌==◌, is_some, Contains}
 use Rattle.std.proofs.lemmas.Bool.Decides.{nat_tests}
 use Rattle.tg_base.specs.Layouts.{Layout}
@@ -9,13 +9,15 @@ use Rattle.tg_kind.specs.Meaning.{Meaning}
 use Rattle.tg_protocol.specs.Words.{cell_at, with_cell, where_true}
 use Rattle.tg_protocol.specs.Requests.{Next, Goes, Learns, Ends, ends}
 use Rattle.tg_protocol.specs.Replies.{Reply}
-use Rattle.tg_protocol.specs.Cells.{place_in, Gets, CellJob, CellEnd, Done, Seen, Lost, Fenced, Gone, get_cell}
-use Rattle.tg_protocol.specs.Walking.{Trail, go_down, next_on, next_of_trail, pointers_at, trail_after, Walk, Members, WalkTurn, visited, walk_members, with_job, reads_turn, at_least, next_visit, walk_on, steps_left, walk_from, walk_start, read_at, walk_end, walk_next, walk_feed}
+use Rattle.tg_protocol.specs.Cells.{place_in, works, Gets, CellJob}
+use Rattle.tg_protocol.specs.Walking.{Trail, go_down, next_on, next_of_trail, pointers_at, trail_after, Walk, Members, WalkTurn, visited, with_job, at_least, next_visit, walk_from, walk_start, read_at}
 use Rattle.tg_protocol.specs.Logs.{Log}
+use Rattle.tg_law_steps.proofs.Machines.Walks.{WalkCame, Waits as WalkWaits, NewerCame, ReadsOn, HasRead, MetTrim, walk_came}
 use Rattle.tg_law_walks.specs.Walks.Streams.{AreKnown, AreFalling}
 use Rattle.tg_law_walks.specs.Walks.Walks.{EndsAs, JobEndsAs}
 use Rattle.tg_law_walks.proofs.Walks.Members.{Has, has_contained, contained_has, lt_of, not_lt}
 use Rattle.tg_law_walks.proofs.Walks.Cells.{known_at, more_known, more_some, cell_here}
+use Rattle.tg_law_walks.proofs.Walks.Down.{goes_down}
 use Rattle.tg_law_walks.proofs.Walks.Turns.{Fine, cell_fine, same_pos}
 use Rattle.tg_law_syncs.specs.Settling.Visits.{Issues, IsFullBelow, IsFull, AreFull, IsFullTrail, AreSeen, IsVisiting, Visits, IsIssuedTo, WalksVisit, WalksVisitOn, WalksVisitAgain}
 
@@ -198,58 +200,11 @@ module _ (l : Log) (is : Issues) (tail : ℕ) (full : AreFull l is tail) where
   abbrev Then : Walk → Next Walk Members → Type 0
   Then w x = Visits l is w.oid w.lo tail w.cells x
 
-  reads_on : (p : Layout) (next : ℕ) (w : Walk) (q : ℕ) → IsOn w → next_visit w ≡ Some q → Then w (reads_turn w (get_cell (place_in p q) next)).to
-  unfolding get_cell
-  reads_on p next w q h e = (refl, refl, λ r i. i, with_job_on w (record { place = place_in p q; work = Gets next }) h e)
-
-  fuel_if : (b : Bool) (lo q r n : ℕ) → nat_le lo r ≡ b → q + 2 ≤ suc n → r < q → steps_left (where_true b r) ≤ n
-  fuel_if true lo q r n e le lt = omega (arith, le, lt)
-  fuel_if false lo q r n e le lt = omega (arith, le)
-
-  fuel_by : (lo q n : ℕ) (x : Option ℕ) → q + 2 ≤ suc n → ((r : ℕ) → x ≡ Some r → r < q) → steps_left (at_least lo x) ≤ n
-  fuel_by lo q n None le k = omega (arith, le)
-  fuel_by lo q n (Some r) le k = let lt : r < q = k r refl in fuel_if (nat_le lo r) lo q r n refl le lt
-
-  no_step : (x : Option ℕ) → steps_left x ≤ 0 → ⊥
-  no_step None le = omega (arith, le)
-  no_step (Some q) le = omega (arith, le)
-
-  at_cell : Layout → ℕ → ℕ → Walk → ℕ → Option Cell → WalkTurn
-  at_cell p next n w q o = elim o as (λ _. WalkTurn) [
-    | Some c ↦ walk_on p next n (visited w q c)
-    | None ↦ reads_turn w (get_cell (place_in p q) next)
-  ]
-
-  at_visit : Layout → ℕ → ℕ → Walk → Option ℕ → WalkTurn
-  at_visit p next n w o = elim o as (λ _. WalkTurn) [
-    | None ↦ ends next (walk_members w None)
-    | Some q ↦ at_cell p next n w q (cell_at w.cells q)
-  ]
-
-  walk_on_is : (p : Layout) (next n : ℕ) (w : Walk) → walk_on p next (suc n) w ≡ at_visit p next n w (next_visit w)
-  unfolding walk_on at_visit at_cell
-  walk_on_is p next n w = refl
-
-  on_step : (p : Layout) (next n : ℕ) (w : Walk) → ((v : Walk) → IsOn v → steps_left (next_visit v) ≤ n → Then v (walk_on p next n v).to) → IsOn w → steps_left (next_visit w) ≤ suc n →
-      (x : Option ℕ) → next_visit w ≡ x → Then w (at_visit p next n w x).to
-  unfolding at_visit at_cell visit_on
-  on_step p next n w rest h le None e = (λ r i. i, h.known, end_none w h e)
-  on_step p next n w rest h le (Some q) e = at (cell_at w.cells q) refl
-    where
-      at : (o : Option Cell) → cell_at w.cells q ≡ o → Then w (at_cell p next n w q o).to
-      at None f = reads_on p next w q h e
-      at (Some c) f =
-          let v = visit_on w q c h e f in
-          rest (visited w q c) v
-          (fuel_by w.lo q n (next_of_trail (visited w q c).trail) (subst (λ x. steps_left x ≤ suc n) e le) (λ r g. (down (is w.oid) q (visited w q c).trail r v.trail g).less))
-
-  on_all : (p : Layout) (next n : ℕ) (w : Walk) → IsOn w → steps_left (next_visit w) ≤ n → Then w (walk_on p next n w).to
-  on_all p next zero w h le = absurd (no_step (next_visit w) le)
-  on_all p next (suc n) w h le =
-      subst (λ (t : WalkTurn). Then w t.to) (sym (walk_on_is p next n w)) (on_step p next n w (λ v i k. on_all p next n v i k) h le (next_visit w) refl)
-
   visits_on : (p : Layout) (next : ℕ) (w : Walk) → IsOn w → Then w (walk_from p next w).to
-  visits_on p next w h = on_all p next (steps_left (next_visit w)) w h (omega arith)
+  unfolding visit_on
+  visits_on p next w h = goes_down p next IsOn (λ v t. Then v t.to) (λ v q c e k i. visit_on v q c i e k)
+      (λ v q c e k i r g. (down (is v.oid) q (visited v q c).trail r (visit_on v q c i e k).trail g).less) (λ v q c t g. g)
+      (λ v e i. (λ r j. j, i.known, end_none v i e)) (λ v q e k i. (refl, refl, λ r j. j, with_job_on v (works (place_in p q) (Gets next)) i e)) w h
 
   started : (p : Layout) (o : Oid) (lasts : List ℕ) (lo : ℕ) (cells : List (ℕ × Cell)) (next : ℕ) → IsFull (is o) tail lasts → AreKnown l cells → Visits l is o lo tail cells (walk_start p o lasts lo cells next).to
   unfolding walk_start
@@ -282,29 +237,19 @@ module _ (l : Log) (is : Issues) (tail : ℕ) (full : AreFull l is tail) where
       (record { known = more_known l w.cells q c h.known k; at = h.at; within = h.within; trail = h.trail; seen = λ r i le less. more_some w.cells q c r (h.seen r i le less) })
       e (cell_here w.cells q c)))
 
-  ended : (p : Layout) (w : Walk) (q : ℕ) (x : CellEnd) (next : ℕ) → IsVisiting l is tail w → next_visit w ≡ Some q → Fine q (Ends x) → EndsAs l q (Ends x) → Then w (walk_end p w q x next).to
-  ended p w q (Done c) next h e f k = read_on p w q c next (on_of w h) e k
-  ended p w q (Gone b) next h e f k = (λ r i. i, h.known, end_gone w q b (on_of w h) e f)
-  ended p w q (Fenced u d) next h e f k = (refl, refl, λ r i. i, h)
-  ended p w q Seen next h e f k = (refl, refl, λ r i. i, h)
-  ended p w q (Lost c) next h e f k = (refl, refl, λ r i. i, h)
-
-  turned : (p : Layout) (w : Walk) (q : ℕ) (x : Next CellJob CellEnd) (next : ℕ) → IsVisiting l is tail w → next_visit w ≡ Some q → Fine q x → EndsAs l q x → Then w (walk_next p w q x next).to
-  turned p w q (Goes j) next h e f k = (refl, refl, λ r i. i, with_job_on w j (on_of w h) (e ∙ ap (λ (n : ℕ). Some n) (sym f)))
-  turned p w q (Learns j) next h e f k = (refl, refl, λ r i. i, h)
-  turned p w q (Ends x) next h e f k = ended p w q x next h e f k
-
-  fed_by : (p : Layout) (w : Walk) (o : Option CellJob) (n : ℕ) (x : Reply) (next : ℕ) → w.job ≡ o → IsVisiting l is tail w → JobEndsAs l o n x next → Then w (walk_feed p w o n x next).to
-  unfolding walk_feed
-  fed_by p w None n x next same h k = (refl, refl, λ r i. i, h)
-  fed_by p w (Some j) n x next same h k = turned p w j.place.pos _ _ h (h.job j same) (cell_fine j n x next) k
+  came_on : (p : Layout) (w : Walk) (n : ℕ) (x : Reply) (next : ℕ) → IsVisiting l is tail w → (o : Option CellJob) (t : WalkTurn) → WalkCame p w n x next o t → w.job ≡ o → JobEndsAs l o n x next → Then w t.to
+  came_on p w n x next h _ _ (ReadsOn j i e) has k = (refl, refl, λ r y. y, with_job_on w i (on_of w h) (h.job j has ∙ ap (λ (q : ℕ). Some q) (sym (subst (Fine j.place.pos) e (cell_fine j n x next)))))
+  came_on p w n x next h _ _ (HasRead j c e) has k = read_on p w j.place.pos c _ (on_of w h) (h.job j has) (subst (EndsAs l j.place.pos) e k)
+  came_on p w n x next h _ _ (MetTrim j b e) has k = (λ r y. y, h.known, end_gone w j.place.pos b (on_of w h) (h.job j has) (subst (Fine j.place.pos) e (cell_fine j n x next)))
+  came_on p w n x next h _ _ (WalkWaits o next') has k = (refl, refl, λ r y. y, h)
+  came_on p w n x next h _ _ (NewerCame o next') has k = (refl, refl, λ r y. y, h)
 
 module _ (m : Meaning) where
   pub walks_visit : WalksVisit m
   walks_visit w epoch l p o lasts lo cells next tail full so known = started l (IsIssuedTo m w epoch) tail full p o lasts lo cells next so known
 
   pub walks_visit_on : WalksVisitOn m
-  walks_visit_on w epoch l p k n x next tail full h e = fed_by l (IsIssuedTo m w epoch) tail full p k k.job n x next refl h e
+  walks_visit_on w epoch l p k n x next tail full h e = came_on l (IsIssuedTo m w epoch) tail full p k n x next h k.job _ (walk_came p k n x next k.job) refl e
 
   pub walks_visit_again : WalksVisitAgain m
   walks_visit_again w epoch l p k next tail full h = visits_on l (IsIssuedTo m w epoch) tail full p next k (on_of l (IsIssuedTo m w epoch) tail full k h)

@@ -5,13 +5,14 @@ use Rattle.tg_base.specs.declared.cell.Cell.{Cell}
 use Rattle.tg_kind.specs.Meaning.{Meaning}
 use Rattle.tg_protocol.specs.Words.{cell_at, with_cell}
 use Rattle.tg_protocol.specs.Requests.{Next, Goes, Learns, Ends}
-use Rattle.tg_protocol.specs.Replies.{Reply, IsTail, IsOldEpoch}
-use Rattle.tg_protocol.specs.Cells.{CellJob, CellEnd, Done, Seen, Lost, Fenced, Gone, cell_feed, fill_cell, probe}
-use Rattle.tg_protocol.specs.Appending.{on_older, on_newer, AppendWork, Asking, Putting, Judging}
-use Rattle.tg_protocol.specs.Syncing.{Answer, SyncWork, Checking, Settling, Probing, Sync, Confirmed, confirmed, confirm_by, on_tail, checking_feed, settle_next, probe_next, sync_feed}
+use Rattle.tg_protocol.specs.Replies.{Reply}
+use Rattle.tg_protocol.specs.Cells.{CellJob, CellEnd, Done, Seen, Lost, Fenced, Gone, cell_feed}
+use Rattle.tg_protocol.specs.Appending.{AppendWork, Asking, Putting, Judging}
+use Rattle.tg_protocol.specs.Syncing.{Answer, Settling, Sync, SyncTurn, confirmed, sync_feed}
 use Rattle.tg_protocol.specs.Logs.{Log}
 use Rattle.tg_protocol.specs.Clients.{Task, Syncing, Walking, Appending, Trimming, Copying', Reconfiguring, Hand, Doing, Learning, Work, Client, work_cells, hand_cells, task_cells}
 use Rattle.tg_protocol.specs.ClientSteps.{task_in}
+use Rattle.tg_law_steps.proofs.Machines.Syncs.{Fed, SettleDone, ProbeSeen, sync_fed}
 use Rattle.tg_law_walks.specs.Walks.Streams.{AreKnown}
 use Rattle.tg_law_walks.specs.Walks.Walks.{EndsAs, JobEndsAs}
 use Rattle.tg_law_walks.proofs.Walks.Cells.{cell_stored, cell_here, known_at}
@@ -89,60 +90,19 @@ module _ (S : ℕ → Cell → Type 0) (one : (q : ℕ) (c d : Cell) → S q c �
       append_learns (Judging j) f = ends_learn j.place.pos (cell_feed j n x next).to (λ d e. f j d (inr refl) e)
 
       -- of a sync
-      module _ (m : Meaning) (p : Layout) (s : Sync) where
-        abbrev SyncLearns : Next Sync Confirmed → Type 0
-        SyncLearns to = Learnt l (λ y. Settles m y to)
+      module _ (m : Meaning) (p : Layout) where
+        -- the cell that it settles is of these
+        abbrev SettlesOf : Sync → Type 0
+        SettlesOf s = (a : Answer) (j : CellJob) (d : Cell) → s.work ≡ Settling a j → (cell_feed j n x next).to ≡ Ends (Done d) → S (a.tail - 1) d
 
-        none : (a : Answer) → SyncLearns (Ends (confirmed a None))
-        none a = still (λ y. Settles m y (Ends (confirmed a None))) (λ q d e. absurd (no_pair (q, d) e))
+        sync_turn : (s : Sync) (t : SyncTurn) → Fed p n x next s t → SettlesOf s → Learnt l (λ y. Settles m y t.to)
+        sync_turn _ _ (SettleDone os a j c e) f = reads (λ y. Settles m y (Ends (confirmed a (Some (a.tail - 1, c))))) (a.tail - 1) c (f a j c refl e)
+            (λ q d i. subst (λ (z : ℕ × Cell). cell_at (with_cell l (a.tail - 1) c) z.0 ≡ Some z.1) (same_pair (a.tail - 1, c) (q, d) i) (cell_here l (a.tail - 1) c))
+        sync_turn _ _ (ProbeSeen os a j e) f = still (λ y. Settles m y (Ends (confirmed a None))) (λ q d i. absurd (no_pair (q, d) i))
+        sync_turn _ t came f = still (λ y. Settles m y t.to) tt
 
-        confirm_learns : (a : Answer) (i : ℕ) (b : Bool) → SyncLearns (confirm_by p s a i b).to
-        unfolding fill_cell probe
-        confirm_learns a i true = still (λ y. Settles m y (confirm_by p s a i true).to) tt
-        confirm_learns a i false = still (λ y. Settles m y (confirm_by p s a i false).to) tt
-
-        tail_learns : (a : Answer) (b : Bool) → SyncLearns (on_tail p s a next b).to
-        tail_learns a true = confirm_learns a next _
-        tail_learns a false = still (λ y. Settles m y (on_tail p s a next false).to) tt
-
-        older_learns : (b : Bool) → SyncLearns (on_older {M = Sync} {E = Confirmed} p next s b).to
-        older_learns true = still (λ y. Settles m y (on_older {M = Sync} {E = Confirmed} p next s true).to) tt
-        older_learns false = still (λ y. Settles m y (on_older {M = Sync} {E = Confirmed} p next s false).to) tt
-
-        newer_learns : (f : ℕ) (b : Bool) → SyncLearns (on_newer {M = Sync} {E = Confirmed} p f next s b).to
-        newer_learns f true = still (λ y. Settles m y (on_newer {M = Sync} {E = Confirmed} p f next s true).to) tt
-        newer_learns f false = older_learns _
-
-        checking_learns : (y : Reply) → SyncLearns (checking_feed p s y next).to
-        checking_learns (IsTail t ls) = tail_learns (record { tail = t; lasts = ls }) _
-        checking_learns (IsOldEpoch f) = newer_learns f _
-        checking_learns y = still (λ z. Settles m z (Goes s)) tt
-
-        settle_learns : (a : Answer) (y : Next CellJob CellEnd) (i : ℕ) → ((d : Cell) → y ≡ Ends (Done d) → S (a.tail - 1) d) → SyncLearns (settle_next p s a y i).to
-        unfolding probe
-        settle_learns a (Goes j) i f = still (λ z. Settles m z (settle_next p s a (Goes j) i).to) tt
-        settle_learns a (Learns j) i f = still (λ z. Settles m z (settle_next p s a (Learns j) i).to) tt
-        settle_learns a (Ends (Done c)) i f = reads (λ z. Settles m z (Ends (confirmed a (Some (a.tail - 1, c))))) (a.tail - 1) c (f c refl)
-            (λ q d e. subst (λ (z : ℕ × Cell). cell_at (with_cell l (a.tail - 1) c) z.0 ≡ Some z.1) (same_pair (a.tail - 1, c) (q, d) e) (cell_here l (a.tail - 1) c))
-        settle_learns a (Ends (Gone b)) i f = still (λ z. Settles m z (settle_next p s a (Ends (Gone b)) i).to) tt
-        settle_learns a (Ends (Fenced u e)) i f = still (λ z. Settles m z (settle_next p s a (Ends (Fenced u e)) i).to) tt
-        settle_learns a (Ends Seen) i f = still (λ z. Settles m z (settle_next p s a (Ends Seen) i).to) tt
-        settle_learns a (Ends (Lost d)) i f = still (λ z. Settles m z (settle_next p s a (Ends (Lost d)) i).to) tt
-
-        probe_learns : (a : Answer) (y : Next CellJob CellEnd) (i : ℕ) → SyncLearns (probe_next s a y i).to
-        probe_learns a (Ends Seen) i = none a
-        probe_learns a (Ends (Done c)) i = still (λ z. Settles m z (probe_next s a (Ends (Done c)) i).to) tt
-        probe_learns a (Ends (Lost c)) i = still (λ z. Settles m z (probe_next s a (Ends (Lost c)) i).to) tt
-        probe_learns a (Ends (Fenced u e)) i = still (λ z. Settles m z (probe_next s a (Ends (Fenced u e)) i).to) tt
-        probe_learns a (Ends (Gone b)) i = still (λ z. Settles m z (probe_next s a (Ends (Gone b)) i).to) tt
-        probe_learns a (Goes j) i = still (λ z. Settles m z (probe_next s a (Goes j) i).to) tt
-        probe_learns a (Learns j) i = still (λ z. Settles m z (probe_next s a (Learns j) i).to) tt
-
-        pub sync_learns : (w : SyncWork) → ((a : Answer) (j : CellJob) (d : Cell) → w ≡ Settling a j → (cell_feed j n x next).to ≡ Ends (Done d) → S (a.tail - 1) d) → SyncLearns (sync_feed p s w n x next).to
-        unfolding sync_feed
-        sync_learns (Checking r) f = checking_learns x
-        sync_learns (Settling a j) f = settle_learns a (cell_feed j n x next).to _ (λ d e. f a j d refl e)
-        sync_learns (Probing a j) f = probe_learns a (cell_feed j n x next).to _
+        pub sync_learns : (s : Sync) → SettlesOf s → Learnt l (λ y. Settles m y (sync_feed p s s.work n x next).to)
+        sync_learns s f = sync_turn s _ (sync_fed p n x next s) f
 
 -- What a client knows of a log it knows of a greater one.
 module _ (m : Meaning) where

@@ -126,7 +126,7 @@ module _ (m : Meaning) (h : Header) (zs : Moves m) (r : Reaches m h zs (after m 
         by j d (inr e) is = at (Judging j) j d e (λ f. f) (λ g. g) is
 
     sync_heard : (w : Work m) (s : Sync) → cl.work ≡ Some w → w.hand ≡ Doing (Syncing s) → awaits (task_awaited m p (Syncing s)) x.from x.rid ≡ true → Learns' (λ l. TaskHeard m l cl (Syncing s) x.from.num (reply x.msg))
-    sync_heard w s works hand awaited = sync_learns E (one p.epoch) known.of known.each x.from.num (reply x.msg) cl.next m p s s.work by
+    sync_heard w s works hand awaited = sync_learns E (one p.epoch) known.of known.each x.from.num (reply x.msg) cl.next m p s by
       where
         fine : SyncFine (log m (after m h zs)) (Counts m (after m h zs)) p.epoch s.oids s.work
         fine = subst (λ (d : Hand m). hands.HandOk m (log m (after m h zs)) (Counts m (after m h zs)) p d) hand

@@ -1,5 +1,5 @@
 -- Which positions the machines of a client name: those below what their layouts and the sequencer's answers give.
-use Rattle.std.proofs.Common.{◌≡◌, ℕ, ◌+◌, ◌<◌, ◌≤◌, List, [], ◌∷◌, Bool, true, false, refl, sym, subst, arith, Some, None, Option}
+use Rattle.std.proofs.Common.{◌≡◌, ℕ, ◌<◌, ◌≤◌, List, [], ◌∷◌, Bool, true, false, refl, sym, subst, arith, Some, None, Option}
 use Rattle.std.specs.Prelude.{nat_lt, nat_le, filter}
 use Rattle.std.proofs.lemmas.Bool.Decides.{nat_tests}
 use Rattle.tg_base.specs.Layouts.{Layout}
@@ -12,11 +12,11 @@ use Rattle.tg_protocol.specs.Words.{where_true}
 use Rattle.tg_base.specs.Orders.{oid_eq}
 use Rattle.tg_protocol.specs.Entries.{link_of, backs_of, backs_in, lists}
 use Rattle.tg_protocol.specs.Pages.{entry_of}
-use Rattle.tg_protocol.specs.Requests.{Waits, Next, Goes, Learns, Ends, Turn}
+use Rattle.tg_protocol.specs.Requests.{Next, Goes, Learns, Ends, Turn}
 use Rattle.tg_protocol.specs.Replies.{Reply}
-use Rattle.tg_protocol.specs.Replies as replied
-use Rattle.tg_protocol.specs.Cells.{Place, CellWork, Puts, Gets, Fills, Copies, Probes, CellJob, CellEnd, works, put_on, copy_on, copy_if_same, end_if, probe_on, fill_cell, work_feed, cell_feed}
+use Rattle.tg_protocol.specs.Cells.{Place, CellWork, Probes, CellJob, CellEnd, CellTurn, cell_feed}
 use Rattle.tg_protocol.specs.Walking.{Trail, go_down, next_on, next_of_trail, rest_of, listed, pointers_at, trail_after, Walk, Members, visited, at_least, next_visit, walk_from, walk_start, walk_feed, read_at}
+use Rattle.tg_law_steps.proofs.Machines.Cells.{IsCopied, FillHeld, Fed, PutsOn, ReadsNone, CopiesOn, ProbesOn, Nothing, cell_fed}
 use Rattle.tg_law_steps.proofs.Machines.Walks.{goes_on, WalkCame, Waits as WalkWaits, NewerCame as NewerForWalk, ReadsOn, HasRead, MetTrim, walk_came}
 
 less_of : (a b : ℕ) → nat_lt a b ≡ true → a < b
@@ -120,51 +120,20 @@ abbrev pub Kept : Place → CellWork → Next CellJob CellEnd → Type 0
 Kept a w (Goes j) = (j.place ≡ a) × (OnlyProbes w → OnlyProbes j.work)
 Kept a w x = Unit {0}
 
-abbrev Stays : Place → CellWork → Type 0
-Stays a w = (works a w).place ≡ a
+none_probes : (u : ℕ) (x : Reply) (next : ℕ) (w : CellWork) (c : Cell) (i : ℕ) → IsCopied u x next w c i → OnlyProbes w → ⊥
+none_probes u x next _ _ _ (FillHeld r is) p = p
+none_probes u x next _ _ _ came p = p
 
-put_kept : (a : Place) (v : CellWork) (d : List ℕ) (i next : ℕ) (b : Bool) → (OnlyProbes v → ⊥) → Kept a v (put_on a d i next b).to
-put_kept a v d i next true none = (refl, λ p. absurd (none p))
-put_kept a v d i next false none = tt
-
-copied_kept : (a : Place) (v : CellWork) (c : Cell) (i next : ℕ) (b : Bool) → (OnlyProbes v → ⊥) → Kept a v (copy_on a c i next b).to
-copied_kept a v c i next true none = (refl, λ p. absurd (none p))
-copied_kept a v c i next false none = tt
-
-end_kept : (b : Bool) (a : Place) (w : CellWork) (e : CellEnd) (next : ℕ) → Kept a w (end_if b (works a w) next e).to
-end_kept true a w e next = tt
-end_kept false a w e next = (refl, λ p. p)
-
-probe_kept : (a : Place) (vs ws : Waits) (next : ℕ) → Kept a (Probes vs) (probe_on a ws next).to
-probe_kept a vs [] next = tt
-probe_kept a vs (w ∷ ws) next = (refl, λ p. tt)
-
-same_kept : (a : Place) (r : ℕ) (c : Cell) (i next : ℕ) (b : Bool) → Kept a (Copies r c i) (copy_if_same (works a (Copies r c i)) c i next b).to
-same_kept a r c i next true = copied_kept a (Copies r c i) c (i + 1) next _ (λ p. p)
-same_kept a r c i next false = (refl, λ p. p)
-
-work_kept : (a : Place) (w : CellWork) (u : ℕ) (x : Reply) (next : ℕ) → Kept a w (work_feed (works a w) w u x next).to
-unfolding work_feed fill_cell
-work_kept a w u (replied.IsFenced e) next = end_kept _ a w _ next
-work_kept a (Puts r d i) u replied.IsHeld next = put_kept a (Puts r d i) d (i + 1) next _ (λ p. p)
-work_kept a (Puts r d i) u (replied.IsTaken c) next = end_kept _ a _ _ next
-work_kept a (Puts r d i) u (replied.IsGone b) next = end_kept _ a _ _ next
-work_kept a (Gets r) u (replied.IsTaken c) next = tt
-work_kept a (Gets r) u replied.IsUnwritten next = (refl, λ p. absurd p)
-work_kept a (Gets r) u (replied.IsGone b) next = end_kept _ a _ _ next
-work_kept a (Fills r) u replied.IsHeld next = copied_kept a (Fills r) Junk 1 next _ (λ p. p)
-work_kept a (Fills r) u (replied.IsTaken c) next = copied_kept a (Fills r) c 1 next _ (λ p. p)
-work_kept a (Fills r) u (replied.IsGone b) next = end_kept _ a _ _ next
-work_kept a (Copies r c i) u replied.IsHeld next = copied_kept a (Copies r c i) c (i + 1) next _ (λ p. p)
-work_kept a (Copies r c i) u (replied.IsTaken x) next = same_kept a r c i next _
-work_kept a (Copies r c i) u (replied.IsGone b) next = end_kept _ a _ _ next
-work_kept a (Probes ws) u replied.IsWhole next = probe_kept a ws _ next
-work_kept a (Probes ws) u (replied.IsMissing p) next = probe_kept a ws _ next
-work_kept a w u x next = (refl, λ p. p)
+turn_kept : (u : ℕ) (x : Reply) (next : ℕ) (j : CellJob) (t : CellTurn) → Fed u x next j t → Kept j.place j.work t.to
+turn_kept u x next _ _ (PutsOn a r d i is more) = (refl, λ p. absurd p)
+turn_kept u x next _ _ (ReadsNone a r is) = (refl, λ p. absurd p)
+turn_kept u x next _ _ (CopiesOn a w c i of more) = (refl, λ p. absurd (none_probes u x next w c i of p))
+turn_kept u x next _ _ (ProbesOn a ws v vs of left) = (refl, λ p. tt)
+turn_kept u x next _ _ (Nothing j) = (refl, λ p. p)
+turn_kept u x next _ _ came = tt
 
 pub cell_kept : (j : CellJob) (u : ℕ) (x : Reply) (next : ℕ) → Kept j.place j.work (cell_feed j u x next).to
-unfolding cell_feed
-cell_kept j u x next = work_kept j.place j.work u x next
+cell_kept j u x next = turn_kept u x next j _ (cell_fed u x next j)
 
 -- What may be named: B of an epoch and a position. And what later layouts start past: L of an epoch and a bound.
 module _ (B : ℕ → ℕ → Type 0) (L : ℕ → ℕ → Type 0) where

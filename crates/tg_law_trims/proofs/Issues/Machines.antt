@@ -1,5 +1,5 @@
 -- Likewise of syncs, appends and copies.
-use Rattle.std.proofs.Common.{◌≡◌, ℕ, ◌+◌, ◌-◌, ◌<◌, ◌≤◌, List, Bool, true, false, refl, sym, ap, ◌∙◌, subst, arith}
+use Rattle.std.proofs.Common.{◌≡◌, ℕ, ◌-◌, ◌<◌, ◌≤◌, List, true, false, refl, sym, ap, ◌∙◌, subst, arith}
 use Rattle.std.specs.Prelude.{nat_lt, nat_le}
 use Rattle.std.proofs.lemmas.Bool.Decides.{nat_tests}
 use Rattle.tg_base.specs.Layouts.{Layout}
@@ -7,13 +7,13 @@ use Rattle.tg_base.specs.declared.cell.Cell.{Cell}
 use Rattle.tg_base.specs.declared.marks.StreamLink.{StreamLink}
 use Rattle.tg_protocol.specs.Requests.{Next, Goes, Learns, Ends}
 use Rattle.tg_protocol.specs.Replies.{Reply, IsTail, IsIssued}
-use Rattle.tg_protocol.specs.Replies as replied
 use Rattle.tg_protocol.specs.Layouts.{range_end}
-use Rattle.tg_protocol.specs.Cells.{Place, CellWork, CellJob, CellEnd, Done, Seen, Lost, Fenced, Gone, get_cell, cell_feed}
+use Rattle.tg_protocol.specs.Cells.{Place, CellJob, Done, Gone, cell_feed}
 use Rattle.tg_protocol.specs.Appending.{AppendWork, Asking, Putting, Judging, Append, AppendEnd, append_feed, append_again}
 use Rattle.tg_protocol.specs.Syncing.{Answer, SyncWork, Checking, Settling, Probing, Sync, Confirmed, sync_feed}
-use Rattle.tg_protocol.specs.Trimming.{CopyWork, Sealing, Reading, Storing, Trimming, Looking, Copying, CopyEnd, learns_if, copy_from, copies_past, read_end, read_next, stored_if, skipped_if, sealed_if, copy_feed, copy_start}
+use Rattle.tg_protocol.specs.Trimming.{CopyWork, Reading, Storing, Copying, CopyEnd, CopyTurn, copy_feed, copy_start}
 use Rattle.tg_law_trims.proofs.Issues.Bounds.{LinksBelow, OnlyProbes, Kept, cell_kept, Fits, AllFit}
+use Rattle.tg_law_steps.proofs.Machines.Copies as copies
 use Rattle.tg_law_steps.proofs.Machines.Syncs.{SyncCame, Waits, NewerCame, FillsBelow, ProbesBelow, SettlesOn, IsSettled, ProbesTrimmed, ProbesOn, IsProbed, sync_came}
 use Rattle.tg_law_steps.proofs.Machines.Appends.{AppendCame, Waits as AppendWaits, PutsAt, PutsOn, JudgesOn, append_came, AppendAgain, AsksAgain, Judges, append_again_came}
 
@@ -118,61 +118,17 @@ module _ (B : ℕ → ℕ → Type 0) (L : ℕ → ℕ → Type 0) where
   CopyNext e x = Unit {0}
 
   -- a copy goes no further than the range's end
-  module _ (p : Layout) (c : Copying) (n : ℕ) (x : Reply) (next : ℕ) (range : AllFit B L p.epoch (range_end p c.range)) (k : CopyOk p.epoch c.work) where
-    from_ok : (pos next' : ℕ) (b : Bool) → nat_lt pos (range_end p c.range) ≡ b → CopyNext p.epoch (copy_from p c pos next' b).to
-    unfolding get_cell
-    from_ok pos next' true e = (range pos (less_of pos _ e), refl)
-    from_ok pos next' false e = tt
+  module _ (p : Layout) (n : ℕ) (x : Reply) (next : ℕ) where
+    copied : (c : Copying) (t : CopyTurn) → copies.Fed p n x next c t → AllFit B L p.epoch (range_end p c.range) → CopyOk p.epoch c.work → CopyNext p.epoch t.to
+    copied _ _ (copies.Nothing c) range k = k
+    copied _ _ (copies.ReadGoes c j i e) range k = subst (λ (b : Place). Fits B L b × (b.epoch ≡ p.epoch)) (sym (subst (Kept j.place j.work) e (cell_kept j n x next)).0) k
+    copied _ _ (copies.Stores c j y e) range k = subst (λ (f : ℕ). B f j.place.pos) k.1 k.0
+    copied _ _ (copies.JobPasses c j e is) range k = k
+    copied _ _ (copies.Reads c w at gone on less) range k = (range at (less_of at _ less), refl)
+    copied _ _ came range k = tt
 
-    past_ok : (pos next' : ℕ) → CopyNext p.epoch (copies_past p c pos next').to
-    past_ok pos next' = from_ok _ next' _ refl
-
-    read_end_ok : (a : Place) (e : CellEnd) (next' : ℕ) → B p.epoch a.pos → CopyNext p.epoch (read_end p c a.pos e next').to
-    read_end_ok a (Done y) next' f = f
-    read_end_ok a (Gone b) next' f = tt
-    read_end_ok a (Fenced u e) next' f = tt
-    read_end_ok a Seen next' f = k
-    read_end_ok a (Lost y) next' f = k
-
-    read_next_ok : (a : Place) (v : CellWork) (to : Next CellJob CellEnd) (next' : ℕ) → Kept a v to → Fits B L a × (a.epoch ≡ p.epoch) → CopyNext p.epoch (read_next p c a.pos to next').to
-    read_next_ok a v (Goes i) next' at f = subst (λ (b : Place). Fits B L b × (b.epoch ≡ p.epoch)) (sym at.0) f
-    read_next_ok a v (Learns i) next' at f = tt
-    read_next_ok a v (Ends e) next' at f = read_end_ok a e next' (subst (λ e. B e a.pos) f.1 f.0)
-
-    learns_ok : (b : Bool) → CopyNext p.epoch (learns_if {M = Copying} {E = CopyEnd} b c next).to
-    learns_ok true = tt
-    learns_ok false = k
-
-    stored_ok : (pos next' : ℕ) (b : Bool) → CopyNext p.epoch (stored_if p c pos next' b).to
-    stored_ok pos next' true = past_ok (pos + 1) next'
-    stored_ok pos next' false = k
-
-    skipped_ok : (b next' : ℕ) (y : Bool) → CopyNext p.epoch (skipped_if p c b next' y).to
-    skipped_ok b next' true = past_ok b next'
-    skipped_ok b next' false = k
-
-    sealed_ok : (next' : ℕ) (b : Bool) → CopyNext p.epoch (sealed_if p c next' b).to
-    sealed_ok next' true = past_ok 0 next'
-    sealed_ok next' false = k
-
-    copy_work_ok : (w : CopyWork) (y : Reply) → CopyOk p.epoch w → CopyNext p.epoch (copy_feed p c w n y next).to
-    unfolding copy_feed
-    copy_work_ok (Reading j) y f = read_next_ok j.place j.work (cell_feed j n y next).to _ (cell_kept j n y next) f
-    copy_work_ok (Sealing r) (replied.IsFenced e) f = learns_ok _
-    copy_work_ok (Storing r pos z) (replied.IsFenced e) f = learns_ok _
-    copy_work_ok (Trimming r b) (replied.IsFenced e) f = learns_ok _
-    copy_work_ok (Looking r) (replied.IsFenced e) f = learns_ok _
-    copy_work_ok (Sealing r) (replied.IsSealed e h) f = sealed_ok next _
-    copy_work_ok (Storing r pos z) replied.IsHeld f = past_ok (pos + 1) next
-    copy_work_ok (Storing r pos z) (replied.IsTaken y) f = stored_ok pos next _
-    copy_work_ok (Storing r pos z) (replied.IsGone b) f = skipped_ok b next _
-    copy_work_ok (Trimming r b) (replied.IsGone d) f = past_ok b next
-    copy_work_ok (Looking r) replied.IsWhole f = tt
-    copy_work_ok (Looking r) (replied.IsMissing pos) f = from_ok pos next _ refl
-    copy_work_ok w y f = k
-
-    pub copy_ok : CopyNext p.epoch (copy_feed p c c.work n x next).to
-    copy_ok = copy_work_ok c.work x k
+  pub copy_ok : (p : Layout) (c : Copying) (n : ℕ) (x : Reply) (next : ℕ) → AllFit B L p.epoch (range_end p c.range) → CopyOk p.epoch c.work → CopyNext p.epoch (copy_feed p c c.work n x next).to
+  copy_ok p c n x next range k = copied p n x next c _ (copies.copy_fed p n x next c) range k
 
   pub start_copies : (e u r s next : ℕ) → CopyNext e (copy_start u r s next).to
   unfolding copy_start

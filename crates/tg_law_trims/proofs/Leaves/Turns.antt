@@ -1,6 +1,6 @@
 -- What holds of a client's kept view, with the objects that it hosts, its own records and the cells that it knows, stays so through
 -- each of its turns: K until its command has played, and J from then on, where plays make J of K.
-use Rattle.std.proofs.Common.{◌≡◌, ℕ, ◌≤◌, List, [], Bool, true, false, sym, ◌∙◌, subst, Option, Some, None}
+use Rattle.std.proofs.Common.{◌≡◌, ℕ, ◌≤◌, List, [], true, sym, ◌∙◌, subst, Option, Some, None}
 use Rattle.std.specs.Prelude.{is_some, Contains}
 use Rattle.tg_base.specs.Layouts.{Layout}
 use Rattle.tg_base.specs.declared.cell.Cell.{Cell}
@@ -13,10 +13,9 @@ use Rattle.tg_model.specs.Kinds.{CommandOf, WhatOf, NoteOf}
 use Rattle.tg_model.specs.declared.refusal.Refusal.{Refusal}
 use Rattle.tg_base.specs.Orders.{with_oid}
 use Rattle.tg_protocol.specs.Words.{cell_at, with_cell, with_num}
-use Rattle.tg_protocol.specs.Cells.{fill_cell}
 use Rattle.tg_protocol.specs.Requests.{awaits, Next, Ends}
 use Rattle.tg_protocol.specs.Replies.{Reply, reply}
-use Rattle.tg_protocol.specs.Appending.{Token, Append, AppendEnd, At, append_start, append_feed, append_again, again_with, dead_or_judged}
+use Rattle.tg_protocol.specs.Appending.{Append, AppendEnd, AppendTurn, At, append_start, append_feed, append_again}
 use Rattle.tg_protocol.specs.Syncing.{sync_start}
 use Rattle.tg_protocol.specs.Views.{Entries, View}
 use Rattle.tg_protocol.specs.Clients.{Purpose, Writes, Judged, Decides, Rescues, Saves, Marks, Task, Syncing, Walking, Appending, Trimming, Copying', Reconfiguring, Hand, Doing, Work, Client, upto_in, upto}
@@ -30,6 +29,7 @@ use Rattle.tg_law_syncs.proofs.Known.Ways.{played_view}
 use Rattle.tg_law_replies.proofs.Replies.Ways.{EachAt, each_way, each_fed, each_newer}
 use Rattle.tg_law_trims.proofs.Leaves.Ways.{Keeps, keeps_same, pruned_keeps, took_keeps}
 use Rattle.tg_law_trims.proofs.Leaves.Walks.{WalkMore, starts_more, walks_more, feed_more}
+use Rattle.tg_law_steps.proofs.Machines.Appends.{Anew, HasNone, append_anew}
 use Rattle.tg_law_steps.proofs.Places.{Place, Feeds, Newer, OnSync, OnWalk, OnAppend, Over, Walks, Rescues as RescuesAt}
 use Rattle.tg_law_steps.proofs.Ways.{Way, FeedsSync, FeedsWalk, FeedsTrims, FeedsCopy, FeedsReconf, NewerWalk, NewerAppend, Settles, EndsAtOnce, WalkEnds, MetHigh, StartsOver, AllWalked, HasPlayed, LooksBack, IsRescue}
 use Rattle.tg_law_steps.proofs.Ends.{WalkGoes, WalkBegins, AppendGoes, WalkLearns, AppendLearns, JudgedAt, StaleHigh, RescueDecides, IsRefused, RescueWide, RescueForgotten, RescueStuck, RecordFull, RecordForgotten, OtherFull, OtherForgotten, IsAnswered, DecidedAt, DecidedLost, JudgedSo, JudgedLost, IsSaved, IsTold, IsCommitted, IsRescued, IsMarked, IsCopied, IsInstalled, PlaysOther, LooksFound, End, GoesOn, LearnsNewer, Syncs, Appends, Refuses, Answers, Tells}
@@ -45,19 +45,13 @@ abbrev pub LandsPast : ℕ → Next Append AppendEnd → Type 0
 LandsPast u (Ends (At p d)) = u ≤ p
 LandsPast u to = Unit {0}
 
-judged_past : (q : Layout) (a : Append) (t : Token) (next u : ℕ) (b : Bool) → LandsPast u (dead_or_judged q a t next b).to
-unfolding fill_cell
-judged_past q a t next u true = tt
-judged_past q a t next u false = tt
+again_turn : (q : Layout) (next u : ℕ) (a : Append) (t : AppendTurn) → Anew q next a t → LandsPast u t.to
+again_turn q next u _ _ (HasNone d w) = tt
+again_turn q next u _ _ came = tt
 
 -- an append that goes on in a newer layout doesn't end at once
 again_past : (q : Layout) (a : Append) (next u : ℕ) → LandsPast u (append_again q a next).to
-unfolding append_again
-again_past q a next u = by a.token
-  where
-    by : (t : Option Token) → LandsPast u (again_with q a next t).to
-    by None = tt
-    by (Some t) = judged_past q a t next u _
+again_past q a next u = again_turn q next u a _ (append_anew q next a)
 
 module _ (m : Meaning) (K : ℕ → List ℕ → List (ℕ × Cell) → List Oid → Option (View m) → Type 0) where
   -- it stays where the view is given up, where no known cell of the client's own records is, and where a record lands past the view

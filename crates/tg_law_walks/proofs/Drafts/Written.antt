@@ -1,5 +1,5 @@
 -- Each page that a client sends is that of a draft which it had in hand, with the links that were issued to it.
-use Rattle.std.proofs.Common.{◌≡◌, ◌⊎◌, ℕ, ◌<◌, ◌≤◌, List, [], ◌∷◌, ◌++◌, length, map, Bool, true, false, refl, sym, ap, ◌∙◌, subst, inl, inr, Option, Some, None, arith, append-nil}
+use Rattle.std.proofs.Common.{◌≡◌, ◌⊎◌, ℕ, ◌<◌, ◌≤◌, List, [], ◌∷◌, ◌++◌, length, map, true, refl, sym, ap, ◌∙◌, subst, inl, inr, Option, Some, None, arith, append-nil}
 use Rattle.std.specs.Prelude.{slice_index_or}
 use Rattle.tg_base.specs.Layouts.{Layout}
 use Rattle.tg_base.specs.Clusters.{Header, IsHeader}
@@ -18,10 +18,10 @@ use Rattle.tg_protocol.specs.Entries.{streams_of}
 use Rattle.tg_entry.specs.Records.{linked}
 use Rattle.tg_protocol.specs.Pages.{page_of}
 use Rattle.tg_protocol.specs.Requests.{awaits, Next, Goes, Learns, Ends}
-use Rattle.tg_protocol.specs.Replies.{Reply, reply}
+use Rattle.tg_protocol.specs.Replies.{reply}
 use Rattle.tg_protocol.specs.Replies as replied
-use Rattle.tg_protocol.specs.Cells.{Place, Puts, CellJob, CellEnd, Done, Seen, Lost, Fenced, Gone, put_cell, fill_cell}
-use Rattle.tg_protocol.specs.Appending.{names_all, on_older, on_newer, AppendWork, Asking, Putting, Judging, Token, Append, AppendEnd, append_work_asks, append_asks, put_end, put_next, own_or_not, judge_end, judge_next, on_issued, asking_feed, append_feed, dead_or_judged, again_with, append_again}
+use Rattle.tg_protocol.specs.Cells.{Place, Puts, CellJob}
+use Rattle.tg_protocol.specs.Appending.{names_all, AppendWork, Asking, Putting, Judging, Append, AppendEnd, AppendTurn, append_work_asks, append_asks, append_feed, append_again}
 use Rattle.tg_protocol.specs.Clients.{Appending, Hand, Doing, Work, Client, new_client}
 use Rattle.tg_protocol.specs.ClientSteps.{task_asks, task_in, ClientTurn}
 use Rattle.tg_protocol.specs.Worlds.{World, start, packet_of, happens, next_event}
@@ -40,6 +40,7 @@ use Rattle.tg_law_cells.proofs.Tokens.Owning.{Pair}
 use Rattle.tg_law_cells.proofs.Tokens.Pages.{Low, input_fine, issued_to}
 use Rattle.tg_law_cells.proofs.Tokens.Own.{low_of, both_hold}
 use Rattle.tg_law_replies.proofs.Replies.Turns.{Keeps, feed_keeps, again_keeps}
+use Rattle.tg_law_steps.proofs.Machines.Appends as appends
 use Rattle.tg_law_walks.proofs.Drafts.Sound.{DraftOk, TaskOk, HandOk, IsAsking}
 use Rattle.tg_law_walks.proofs.Drafts.Became.{Holds, NextIs, Became, Fresh, Same, Fed, Again, became}
 use Rattle.tg_law_walks.proofs.Drafts.Clients.{State, few_in, state_hold, more_steps}
@@ -152,34 +153,6 @@ module _ (m : Meaning) (h : Header) (zs : Moves m) (header : IsHeader h) (give :
     kept_puts : (j x : CellJob) → ((r : ℕ) (d : List ℕ) (i : ℕ) → x.work ≡ Puts r d i → PutBefore j x d) → PutsOk (Putting j) → PutsOk (Putting x)
     kept_puts j x f k' r d i is = let b = f r d i is in subst (λ (a : Place). Ours a.epoch a.pos d) (sym b.place) (k' b.rid d b.index b.was)
 
-    put_end_puts : (a : Append) (t : Token) (e : CellEnd) (next : ℕ) → PutsOk a.work → AppendPuts (put_end a t e next).to
-    put_end_puts a t (Done c) next h = tt
-    put_end_puts a t (Lost c) next h = tt
-    put_end_puts a t (Gone b) next h = tt
-    put_end_puts a t (Fenced u e) next h = h
-    put_end_puts a t Seen next h = h
-
-    put_next_puts : (a : Append) (t : Token) (j : CellJob) (to : Next CellJob CellEnd) (next : ℕ) → PutsOk (Putting j) → PutsOk a.work → NextPuts j to → AppendPuts (put_next a t to next).to
-    put_next_puts a t j (Goes x) next o h f = kept_puts j x f.1 o
-    put_next_puts a t j (Learns x) next o h f = h
-    put_next_puts a t j (Ends e) next o h f = put_end_puts a t e next h
-
-    own_puts : (a : Append) (t : Token) (next : ℕ) (b : Bool) → AppendPuts (own_or_not a t next b).to
-    own_puts a t next true = tt
-    own_puts a t next false = tt
-
-    judge_end_puts : (a : Append) (t : Token) (e : CellEnd) (next : ℕ) → PutsOk a.work → AppendPuts (judge_end a t e next).to
-    judge_end_puts a t (Done c) next h = own_puts a t next _
-    judge_end_puts a t (Gone b) next h = tt
-    judge_end_puts a t (Fenced u e) next h = h
-    judge_end_puts a t Seen next h = h
-    judge_end_puts a t (Lost c) next h = h
-
-    judge_next_puts : (a : Append) (t : Token) (to : Next CellJob CellEnd) (next : ℕ) → PutsOk a.work → AppendPuts (judge_next a t to next).to
-    judge_next_puts a t (Goes x) next h = tt
-    judge_next_puts a t (Learns x) next h = h
-    judge_next_puts a t (Ends e) next h = judge_end_puts a t e next h
-
     -- what is made of links that are issued
     abbrev pub Makes : Layout → Entry → AppendWork → Msg → Type 0
     Makes p d (Asking r) y = (pos : ℕ) (ls : List StreamLink) → y ≡ msg.Issued pos ls → names_all (streams_of d) ls ≡ true → Ours p.epoch pos (page_of (linked d ls))
@@ -188,52 +161,27 @@ module _ (m : Meaning) (h : Header) (zs : Moves m) (header : IsHeader h) (give :
     same_page : (r s i j : ℕ) (d x : List ℕ) → Puts r d i ≡ Puts s x j → d ≡ x
     same_page r s i j d x e = cc
 
-    issued_puts : (p : Layout) (a : Append) (pos : ℕ) (ls : List StreamLink) (next : ℕ) (b : Bool) → names_all (streams_of a.draft) ls ≡ b → PutsOk a.work → (names_all (streams_of a.draft) ls ≡ true → Ours p.epoch pos (page_of (linked a.draft ls))) → AppendPuts (on_issued p a pos ls next b).to
-    unfolding put_cell
-    issued_puts p a pos ls next true e h f = λ r d i is. subst (Ours p.epoch pos) (same_page next r 0 i (page_of (linked a.draft ls)) d is) (f e)
-    issued_puts p a pos ls next false e h f = h
-
-    older_puts : (p : Layout) (a : Append) (next : ℕ) (b : Bool) → PutsOk a.work → AppendPuts (on_older {M = Append} {E = AppendEnd} p next a b).to
-    older_puts p a next true h = h
-    older_puts p a next false h = h
-
-    newer_puts : (p : Layout) (a : Append) (e next : ℕ) (b : Bool) → PutsOk a.work → AppendPuts (on_newer {M = Append} {E = AppendEnd} p e next a b).to
-    newer_puts p a e next true h = h
-    newer_puts p a e next false h = older_puts p a next _ h
-
     is_issued : (y : Msg) (pos : ℕ) (ls : List StreamLink) → reply y ≡ replied.IsIssued pos ls → y ≡ msg.Issued pos ls
     unfolding reply
     is_issued y pos ls e = grind arith
 
-    asked_puts : (p : Layout) (a : Append) (r : ℕ) (y : Msg) (x : Reply) (next : ℕ) → reply y ≡ x → PutsOk a.work → Makes p a.draft (Asking r) y → AppendPuts (asking_feed p a x next).to
-    asked_puts p a r y (replied.IsIssued pos ls) next is h f = issued_puts p a pos ls next _ refl h (λ e. f pos ls (is_issued y pos ls is) e)
-    asked_puts p a r y (replied.IsFull l) next is h f = tt
-    asked_puts p a r y (replied.IsOldEpoch e) next is h f = newer_puts p a e next _ h
-    asked_puts p a r y x next is h f = h
-
-    feed_puts_at : (p : Layout) (d : Entry) (t : Option Token) (w : AppendWork) (n : ℕ) (y : Msg) (next : ℕ) → PutsOk w → Makes p d w y → AppendPuts (append_feed p (record { draft = d; token = t; work = w }) w n (reply y) next).to
-    unfolding append_feed
-    feed_puts_at p d t (Asking r) n y next h f = asked_puts p _ r y (reply y) next refl h f
-    feed_puts_at p d None (Putting j) n y next h f = h
-    feed_puts_at p d (Some t) (Putting j) n y next h f = put_next_puts _ t j _ _ h h (cell_puts j n (reply y) next)
-    feed_puts_at p d None (Judging j) n y next h f = h
-    feed_puts_at p d (Some t) (Judging j) n y next h f = judge_next_puts _ t _ _ h
+    turn_puts : (p : Layout) (n : ℕ) (y : Msg) (next : ℕ) (a : Append) (t : AppendTurn) → appends.Fed p n (reply y) next a t → PutsOk a.work → Makes p a.draft a.work y → AppendPuts t.to
+    turn_puts p n y next _ _ (appends.Issues d o r pos ls is names) h f = λ s x i e. subst (Ours p.epoch pos) (same_page next s 0 i (page_of (linked d ls)) x e) (f pos ls (is_issued y pos ls is) names)
+    turn_puts p n y next _ _ (appends.PutGoes d t j i e) h f = kept_puts j i (subst (NextPuts j) e (cell_puts j n (reply y) next)).1 h
+    turn_puts p n y next _ _ (appends.PutDone d t j c e) h f = tt
+    turn_puts p n y next _ _ (appends.PutLost d t j c e) h f = tt
+    turn_puts p n y next _ _ (appends.PutGone d t j b e) h f = tt
+    turn_puts p n y next _ _ came h f = h
 
     feed_puts : (p : Layout) (a : Append) (n : ℕ) (y : Msg) (next : ℕ) → PutsOk a.work → Makes p a.draft a.work y → AppendPuts (append_feed p a a.work n (reply y) next).to
-    feed_puts p a n y next h f = feed_puts_at p a.draft a.token a.work n y next h f
+    feed_puts p a n y next h f = turn_puts p n y next a _ (appends.append_fed p n (reply y) next a) h f
 
-    judged_puts : (p : Layout) (a : Append) (t : Token) (next : ℕ) (b : Bool) → AppendPuts (dead_or_judged p a t next b).to
-    unfolding fill_cell
-    judged_puts p a t next true = tt
-    judged_puts p a t next false = tt
+    again_turn : (p : Layout) (next : ℕ) (a : Append) (t : AppendTurn) → appends.Anew p next a t → AppendPuts t.to
+    again_turn p next _ _ (appends.HasNone d w) = tt
+    again_turn p next _ _ came = tt
 
     again_puts : (p : Layout) (a : Append) (next : ℕ) → AppendPuts (append_again p a next).to
-    unfolding append_again
-    again_puts p a next = by a.token
-      where
-        by : (t : Option Token) → AppendPuts (again_with p a next t).to
-        by None = tt
-        by (Some t) = judged_puts p a t next _
+    again_puts p a next = again_turn p next a _ (appends.append_anew p next a)
 
   -- A world of the run.
 

@@ -1,12 +1,12 @@
 -- What a scan's cell ends with is true of the log that the run ends with, and a trim that it meets leaves each stream
 -- something past it.
-use Rattle.std.proofs.Common.{◌≡◌, ◌⊎◌, ℕ, zero, suc, ◌+◌, ◌<◌, ◌≤◌, List, [], ◌∷◌, ◌++◌, Bool, true, false, refl, sym, ap, ◌∙◌, subst, inl, inr, arith, Some, Option}
+use Rattle.std.proofs.Common.{◌≡◌, ◌⊎◌, ℕ, zero, suc, ◌+◌, ◌<◌, ◌≤◌, List, [], ◌∷◌, ◌++◌, true, refl, sym, ap, ◌∙◌, subst, inl, inr, arith, Some, Option}
 use Rattle.std.specs.Prelude.{Contains, nat_lt}
 use Rattle.std.proofs.lemmas.Bool.Decides.{nat_tests}
 use Rattle.tg_base.specs.Clusters.{Header}
 use Rattle.tg_base.specs.Layouts.{Layout}
 use Rattle.tg_base.specs.declared.cell.Cell.{Cell}
-use Rattle.tg_base.specs.declared.cell.Cell.TheVariants.{Junk, Data}
+use Rattle.tg_base.specs.declared.cell.Cell.TheVariants.{Data}
 use Rattle.tg_base.specs.declared.ids.Oid.{Oid}
 use Rattle.tg_base.specs.declared.msg.Msg.{Msg}
 use Rattle.tg_base.specs.declared.msg.Msg.TheVariants as msg
@@ -18,10 +18,10 @@ use Rattle.tg_protocol.specs.Words.{seqr_id, unit_id, cell_at}
 use Rattle.tg_protocol.specs.Entries.{streams_of}
 use Rattle.tg_protocol.specs.Pages.{cell_entry}
 use Rattle.tg_protocol.specs.Units.{unit_ask}
-use Rattle.tg_protocol.specs.Requests.{awaits, Next, Goes, Ends}
+use Rattle.tg_protocol.specs.Requests.{awaits, Next, Ends}
 use Rattle.tg_protocol.specs.Replies.{Reply, reply}
 use Rattle.tg_protocol.specs.Replies as replied
-use Rattle.tg_protocol.specs.Cells.{Place, CellWork, Puts, Gets, Fills, Copies, Probes, CellJob, CellEnd, Done, Lost, Fenced, Gone, cell_asks, cell_feed, work_feed, work_asks, works, end_if, put_on, copy_on, copy_if_same, probe_on, fill_cell}
+use Rattle.tg_protocol.specs.Cells.{Place, CellWork, CellJob, CellTurn, CellEnd, Done, Gone, cell_asks, cell_feed, work_asks, works}
 use Rattle.tg_protocol.specs.Sequencers.{SeqrState, scanning, scan_asks}
 use Rattle.tg_protocol.specs.Worlds.{World, start, log}
 use Rattle.tg_protocol.specs.Chosen.{IsDecided}
@@ -36,6 +36,7 @@ use Rattle.tg_law_layouts.proofs.Requests.Numbers.{numbers_once}
 use Rattle.tg_law_layouts.proofs.Requests.Starts.{All, all_hold}
 use Rattle.tg_law_layouts.specs.Layouts.Decisions.{IsOfDecided}
 use Rattle.tg_law_layouts.proofs.Layouts.Deciding.{layouts_are_known, one_layout}
+use Rattle.tg_law_steps.proofs.Machines.Cells.{IsOne, OnePut, OneGet, OneFill, OneCopy, Fed, IsTrim, cell_fed}
 use Rattle.tg_law_cells.specs.Cells.Settled.{IsSettled}
 use Rattle.tg_law_cells.proofs.Cells.Justified.{Awaited, awaited_ask}
 use Rattle.tg_law_cells.proofs.Cells.Jobs.{JobOk, MaybeOk}
@@ -74,94 +75,25 @@ one_asks : (to : ℕ) (r : ℕ) (y : Msg) (epoch : ℕ) → epoch_asked (unit_as
 one_asks to r y epoch e o (inl i) = subst (OfUnit epoch) (sym i) (e, (to, refl))
 one_asks to r y epoch e o (inr i) = absurd i
 
-abbrev IsProbe : CellWork → Type 0
-IsProbe (Probes ws) = Unit {0}
-IsProbe w = ⊥
-
-gone_asks : (a : Place) (w : CellWork) → (IsProbe w → ⊥) → (o : Out) → Has (cell_asks (works a w)) o → OfUnit a.epoch o
+gone_asks : (a : Place) (w : CellWork) → IsOne w → (o : Out) → Has (cell_asks (works a w)) o → OfUnit a.epoch o
 unfolding work_asks epoch_asked unit_ask
-gone_asks a (Puts r d i) none o h = one_asks _ r _ a.epoch refl o h
-gone_asks a (Gets r) none o h = one_asks _ r _ a.epoch refl o h
-gone_asks a (Fills r) none o h = one_asks _ r _ a.epoch refl o h
-gone_asks a (Copies r c i) none o h = one_asks _ r _ a.epoch refl o h
-gone_asks a (Probes ws) none o h = absurd (none tt)
+gone_asks a _ (OnePut r d i) o h = one_asks _ r _ a.epoch refl o h
+gone_asks a _ (OneGet r) o h = one_asks _ r _ a.epoch refl o h
+gone_asks a _ (OneFill r) o h = one_asks _ r _ a.epoch refl o h
+gone_asks a _ (OneCopy r c i) o h = one_asks _ r _ a.epoch refl o h
 
 abbrev gone_end : ℕ → Next CellJob CellEnd
 gone_end b = Ends (Gone b)
 
--- how it ends so
-abbrev GoneAt : Place → CellWork → Reply → ℕ → Next CellJob CellEnd → Type 0
-GoneAt a w x b to = to ≡ Ends (Gone b) → (x ≡ replied.IsGone b) × (a.pos < b)
+same_end : (b c : ℕ) → gone_end b ≡ gone_end c → b ≡ c
+same_end b c e = cc
 
-no_end : {X : Type 0} (j : CellJob) (b : ℕ) → Goes j ≡ Ends (Gone b) → X
-no_end j b e = absurd (cc)
-
-if_gone_at : (t : Bool) (a : Place) (w : CellWork) (c b next : ℕ) → nat_lt a.pos c ≡ t → GoneAt a w (replied.IsGone c) b (end_if t (works a w) next (Gone c)).to
-if_gone_at true a w c b next e i = let k = same c b i in (ap (λ n. replied.IsGone n) k, (let l = less_of a.pos c e in omega (arith, l, k)))
-  where
-    same : (x y : ℕ) → gone_end x ≡ gone_end y → x ≡ y
-    same x y i = cc
-if_gone_at false a w c b next e i = no_end _ b i
-
-fenced_at : (t : Bool) (a : Place) (w : CellWork) (x : Reply) (u e b next : ℕ) → GoneAt a w x b (end_if t (works a w) next (Fenced u e)).to
-fenced_at true a w x u e b next i = absurd (cc)
-fenced_at false a w x u e b next i = no_end _ b i
-
-lost_at : (t : Bool) (a : Place) (w : CellWork) (x : Reply) (c : Cell) (b next : ℕ) → GoneAt a w x b (end_if t (works a w) next (Lost c)).to
-lost_at true a w x c b next i = absurd (cc)
-lost_at false a w x c b next i = no_end _ b i
-
-put_at : (t : Bool) (a : Place) (w : CellWork) (x : Reply) (d : List ℕ) (i b next : ℕ) → GoneAt a w x b (put_on a d i next t).to
-put_at true a w x d i b next e = no_end _ b e
-put_at false a w x d i b next e = absurd (cc)
-
-copy_at : (t : Bool) (a : Place) (w : CellWork) (x : Reply) (c : Cell) (i b next : ℕ) → GoneAt a w x b (copy_on a c i next t).to
-copy_at true a w x c i b next e = no_end _ b e
-copy_at false a w x c i b next e = absurd (cc)
-
-same_at : (t : Bool) (a : Place) (r : ℕ) (x : Reply) (c : Cell) (i b next : ℕ) → GoneAt a (Copies r c i) x b (copy_if_same (works a (Copies r c i)) c i next t).to
-same_at true a r x c i b next e = copy_at _ a (Copies r c i) x c (i + 1) b next e
-same_at false a r x c i b next e = no_end _ b e
-
-probe_at : (a : Place) (w : CellWork) (x : Reply) (ws : _) (b next : ℕ) → GoneAt a w x b (probe_on a ws next).to
-probe_at a w x [] b next e = absurd (cc)
-probe_at a w x (v ∷ ws) b next e = no_end _ b e
-
-work_gone : (a : Place) (w : CellWork) (u : ℕ) (x : Reply) (next b : ℕ) → GoneAt a w x b (work_feed (works a w) w u x next).to
-unfolding work_feed fill_cell
-work_gone a w u (replied.IsFenced e) next b i = fenced_at _ a w _ u e b next i
-work_gone a (Puts r d k) u replied.IsHeld next b i = put_at _ a (Puts r d k) _ d (k + 1) b next i
-work_gone a (Puts r d k) u (replied.IsTaken c) next b i = lost_at _ a (Puts r d k) _ c b next i
-work_gone a (Puts r d k) u (replied.IsGone c) next b i = if_gone_at _ a (Puts r d k) c b next refl i
-work_gone a (Gets r) u (replied.IsTaken c) next b i = absurd (cc)
-work_gone a (Gets r) u replied.IsUnwritten next b i = no_end _ b i
-work_gone a (Gets r) u (replied.IsGone c) next b i = if_gone_at _ a (Gets r) c b next refl i
-work_gone a (Fills r) u replied.IsHeld next b i = copy_at _ a (Fills r) _ Junk 1 b next i
-work_gone a (Fills r) u (replied.IsTaken c) next b i = copy_at _ a (Fills r) _ c 1 b next i
-work_gone a (Fills r) u (replied.IsGone c) next b i = if_gone_at _ a (Fills r) c b next refl i
-work_gone a (Copies r c k) u replied.IsHeld next b i = copy_at _ a (Copies r c k) _ c (k + 1) b next i
-work_gone a (Copies r c k) u (replied.IsTaken y) next b i = same_at _ a r _ c k b next i
-work_gone a (Copies r c k) u (replied.IsGone y) next b i = if_gone_at _ a (Copies r c k) y b next refl i
-work_gone a (Probes ws) u replied.IsWhole next b i = probe_at a (Probes ws) _ _ b next i
-work_gone a (Probes ws) u (replied.IsMissing p) next b i = probe_at a (Probes ws) _ _ b next i
-work_gone a w u x next b i = no_end _ b i
-
--- a probe doesn't end so
-no_probe : (a : Place) (ws : _) (u : ℕ) (x : Reply) (next b : ℕ) → x ≡ replied.IsGone b → (work_feed (works a (Probes ws)) (Probes ws) u x next).to ≡ Ends (Gone b) → ⊥
-unfolding work_feed
-no_probe a ws u x next b e i = no_end (works a (Probes ws)) b (sym (ap (λ (y : Reply). (work_feed (works a (Probes ws)) (Probes ws) u y next).to) e) ∙ i)
+turn_trim : (u : ℕ) (x : Reply) (next b : ℕ) (j : CellJob) (t : CellTurn) → Fed u x next j t → t.to ≡ Ends (Gone b) → AtTrim j x b
+turn_trim u x next b _ _ (IsTrim a w c one is past) e = subst (AtTrim (works a w) x) (same_end c b e) (record { says = is; past = less_of a.pos c past; asks = gone_asks a w one })
+turn_trim u x next b _ _ came e = absurd (cc)
 
 pub at_trim : (j : CellJob) (u : ℕ) (x : Reply) (next b : ℕ) → (cell_feed j u x next).to ≡ Ends (Gone b) → AtTrim j x b
-unfolding cell_feed
-at_trim j u x next b i = record {
-  says = (work_gone j.place j.work u x next b i).0;
-  past = (work_gone j.place j.work u x next b i).1;
-  asks = gone_asks j.place j.work (by j.work (work_gone j.place j.work u x next b i).0 i);
-}
-  where
-    by : (w : CellWork) → x ≡ replied.IsGone b → (work_feed (works j.place w) w u x next).to ≡ Ends (Gone b) → IsProbe w → ⊥
-    by (Probes ws) e f p = no_probe j.place ws u x next b e f
-    by w e f p = absurd p
+at_trim j u x next b e = turn_trim u x next b j _ (cell_fed u x next j) e
 
 pub is_gone : (y : Msg) (b : ℕ) → reply y ≡ replied.IsGone b → y ≡ msg.Gone b
 unfolding reply

@@ -1,5 +1,5 @@
 -- A walk's turns, over a log that is fixed.
-use Rattle.std.proofs.Common.{◌≡◌, ◌⊎◌, ℕ, zero, suc, ◌+◌, ◌-◌, ◌<◌, ◌≤◌, List, [], ◌∷◌, length, Bool, true, false, refl, sym, ap, ◌∙◌, subst, inl, inr, arith, Option, Some, None}
+use Rattle.std.proofs.Common.{◌≡◌, ◌⊎◌, ℕ, ◌+◌, ◌-◌, ◌<◌, ◌≤◌, List, [], ◌∷◌, length, Bool, true, false, refl, sym, ap, ◌∙◌, subst, inl, inr, arith, Option, Some, None}
 use Rattle.std.specs.Prelude.{nat_lt, nat_le, ◌==◌, is_some, if◌then◌else◌}
 use Rattle.std.proofs.lemmas.Bool.Decides.{nat_tests}
 use Rattle.tg_base.specs.Layouts.{Layout}
@@ -10,16 +10,18 @@ use Rattle.tg_entry.specs.declared.entry.Entry.{Entry}
 use Rattle.tg_protocol.specs.Words.{cell_at, with_cell, where_true}
 use Rattle.tg_protocol.specs.Entries.{lists}
 use Rattle.tg_protocol.specs.Pages.{entry_of, entry_in, cell_entry}
-use Rattle.tg_protocol.specs.Requests.{Next, Goes, Learns, Ends, ends, Waits}
+use Rattle.tg_protocol.specs.Requests.{Next, Goes, Learns, Ends, ends}
 use Rattle.tg_protocol.specs.Replies.{Reply}
-use Rattle.tg_protocol.specs.Replies as replied
-use Rattle.tg_protocol.specs.Cells.{Place, place_in, CellWork, Puts, Gets, Fills, Copies, Probes, CellJob, CellEnd, Done, Seen, Lost, Fenced, Gone, end_if, put_on, copy_on, copy_if_same, probe_on, work_feed, cell_feed, get_cell, fill_cell}
-use Rattle.tg_protocol.specs.Walking.{Trail, go_down, next_on, next_of_trail, listed, pointers_at, trail_after, member_after, Walk, Members, WalkTurn, visited, walk_members, with_job, reads_turn, at_least, next_visit, walk_on, steps_left, walk_from, walk_start, read_at, walk_end, walk_next, walk_feed}
+use Rattle.tg_protocol.specs.Cells.{place_in, Gets, CellJob, CellTurn, CellEnd, Gone, works, cell_feed}
+use Rattle.tg_protocol.specs.Walking.{Trail, go_down, next_on, next_of_trail, listed, pointers_at, trail_after, member_after, Walk, Members, WalkTurn, visited, walk_members, with_job, at_least, next_visit, walk_from, walk_start, read_at}
 use Rattle.tg_protocol.specs.Logs.{Log, entry_at, members}
+use Rattle.tg_law_steps.proofs.Machines.Cells as cells
+use Rattle.tg_law_steps.proofs.Machines.Walks.{WalkCame, Waits as WalkWaits, NewerCame, ReadsOn, HasRead, MetTrim, walk_came}
 use Rattle.tg_law_walks.specs.Walks.Streams.{IsByPosition, entry_lists, stands_in, AreKnown, AreFalling, told_to, IsListBelow, IsGood, AreLinked}
 use Rattle.tg_law_walks.specs.Walks.Walks.{AreRead, IsTrailBelow, IsWalking, IsExact, Walks, Begins, EndsAs, JobEndsAs, WalksStart, WalksFeed, WalksAgain}
 use Rattle.tg_law_walks.proofs.Walks.Members.{Has, has_contained, contained_has, either, contrary, lt_of, not_lt}
 use Rattle.tg_law_walks.proofs.Walks.Cells.{known_at, more_known, more_some, more_read, cell_here}
+use Rattle.tg_law_walks.proofs.Walks.Down.{goes_down}
 use Rattle.tg_law_walks.proofs.Walks.Stretches.{same_stretch, next_stretch, empty_stretch}
 
 -- What the cell at a position says of a stream.
@@ -208,56 +210,17 @@ Fine pos (Learns k) = k.place.pos ≡ pos
 Fine pos (Ends (Gone b)) = pos < b
 Fine pos (Ends e) = Unit {0}
 
-fenced_fine : (j : CellJob) (u e next : ℕ) (b : Bool) → Fine j.place.pos (end_if b j next (Fenced u e)).to
-fenced_fine j u e next true = tt
-fenced_fine j u e next false = refl
-
-gone_fine : (j : CellJob) (b next : ℕ) (t : Bool) → nat_lt j.place.pos b ≡ t → Fine j.place.pos (end_if t j next (Gone b)).to
-gone_fine j b next true h = lt_of j.place.pos b h
-gone_fine j b next false h = refl
-
-lost_fine : (j : CellJob) (c : Cell) (next : ℕ) (b : Bool) → Fine j.place.pos (end_if b j next (Lost c)).to
-lost_fine j c next true = tt
-lost_fine j c next false = refl
-
-put_fine : (a : Place) (d : List ℕ) (i next : ℕ) (b : Bool) → Fine a.pos (put_on a d i next b).to
-put_fine a d i next true = refl
-put_fine a d i next false = tt
-
-copy_fine : (a : Place) (c : Cell) (i next : ℕ) (b : Bool) → Fine a.pos (copy_on a c i next b).to
-copy_fine a c i next true = refl
-copy_fine a c i next false = tt
-
-same_fine : (j : CellJob) (c : Cell) (i next : ℕ) (b : Bool) → Fine j.place.pos (copy_if_same j c i next b).to
-same_fine j c i next true = copy_fine j.place c _ next _
-same_fine j c i next false = refl
-
-probe_fine : (a : Place) (ws : Waits) (next : ℕ) → Fine a.pos (probe_on a ws next).to
-probe_fine a [] next = tt
-probe_fine a (w ∷ ws) next = refl
-
-work_fine : (j : CellJob) (w : CellWork) (u : ℕ) (r : Reply) (next : ℕ) → Fine j.place.pos (work_feed j w u r next).to
-unfolding work_feed fill_cell
-work_fine j w u (replied.IsFenced e) next = fenced_fine j u e next _
-work_fine j (Puts r d i) u replied.IsHeld next = put_fine j.place d _ next _
-work_fine j (Puts r d i) u (replied.IsTaken c) next = lost_fine j c next _
-work_fine j (Puts r d i) u (replied.IsGone b) next = gone_fine j b next _ refl
-work_fine j (Gets r) u (replied.IsTaken c) next = tt
-work_fine j (Gets r) u replied.IsUnwritten next = refl
-work_fine j (Gets r) u (replied.IsGone b) next = gone_fine j b next _ refl
-work_fine j (Fills r) u replied.IsHeld next = copy_fine j.place Junk _ next _
-work_fine j (Fills r) u (replied.IsTaken c) next = copy_fine j.place c _ next _
-work_fine j (Fills r) u (replied.IsGone b) next = gone_fine j b next _ refl
-work_fine j (Copies r c i) u replied.IsHeld next = copy_fine j.place c _ next _
-work_fine j (Copies r c i) u (replied.IsTaken x) next = same_fine j c i next _
-work_fine j (Copies r c i) u (replied.IsGone b) next = gone_fine j b next _ refl
-work_fine j (Probes waits) u replied.IsWhole next = probe_fine j.place _ next
-work_fine j (Probes waits) u (replied.IsMissing p) next = probe_fine j.place _ next
-work_fine j _ u _ next = refl
+turn_fine : (u : ℕ) (x : Reply) (next : ℕ) (j : CellJob) (t : CellTurn) → cells.Fed u x next j t → Fine j.place.pos t.to
+turn_fine u x next _ _ (cells.IsTrim a w b one is past) = lt_of a.pos b past
+turn_fine u x next _ _ (cells.PutsOn a r d i is more) = refl
+turn_fine u x next _ _ (cells.ReadsNone a r is) = refl
+turn_fine u x next _ _ (cells.CopiesOn a w c i of more) = refl
+turn_fine u x next _ _ (cells.ProbesOn a ws v vs of left) = refl
+turn_fine u x next _ _ (cells.Nothing j) = refl
+turn_fine u x next _ _ came = tt
 
 pub cell_fine : (j : CellJob) (u : ℕ) (r : Reply) (next : ℕ) → Fine j.place.pos (cell_feed j u r next).to
-unfolding cell_feed
-cell_fine j u r next = work_fine j j.work u r next
+cell_fine j u r next = turn_fine u r next j _ (cells.cell_fed u r next j)
 
 -- A visit to the next position, whose cell is known.
 module _ (l : Log) (by : IsByPosition l) (linked : AreLinked l) where
@@ -378,59 +341,11 @@ module _ (l : Log) (by : IsByPosition l) (linked : AreLinked l) where
   then_first tail w (Learns v) h = absurd h
   then_first tail w (Ends x) h = (h.0, h.1)
 
-  reads_on : (p : Layout) (tail next : ℕ) (w : Walk) (q : ℕ) → IsOn tail w → next_visit w ≡ Some q → First tail w (reads_turn w (get_cell (place_in p q) next)).to
-  unfolding get_cell
-  reads_on p tail next w q h e = (refl, refl, λ r i. i, with_job_on tail w (record { place = place_in p q; work = Gets next }) h e)
-
-  fuel_if : (b : Bool) (lo q r n : ℕ) → nat_le lo r ≡ b → q + 2 ≤ suc n → r < q → steps_left (where_true b r) ≤ n
-  fuel_if true lo q r n e le lt = omega (arith, le, lt)
-  fuel_if false lo q r n e le lt = omega (arith, le)
-
-  fuel_by : (lo q n : ℕ) (x : Option ℕ) → q + 2 ≤ suc n → ((r : ℕ) → x ≡ Some r → r < q) → steps_left (at_least lo x) ≤ n
-  fuel_by lo q n None le k = omega (arith, le)
-  fuel_by lo q n (Some r) le k = let lt : r < q = k r refl in fuel_if (nat_le lo r) lo q r n refl le lt
-
-  no_step : (x : Option ℕ) → steps_left x ≤ 0 → ⊥
-  no_step None le = omega (arith, le)
-  no_step (Some q) le = omega (arith, le)
-
-  -- at a position
-  at_cell : Layout → ℕ → ℕ → Walk → ℕ → Option Cell → WalkTurn
-  at_cell p next n w q o = elim o as (λ _. WalkTurn) [
-    | Some c ↦ walk_on p next n (visited w q c)
-    | None ↦ reads_turn w (get_cell (place_in p q) next)
-  ]
-
-  at_visit : Layout → ℕ → ℕ → Walk → Option ℕ → WalkTurn
-  at_visit p next n w o = elim o as (λ _. WalkTurn) [
-    | None ↦ ends next (walk_members w None)
-    | Some q ↦ at_cell p next n w q (cell_at w.cells q)
-  ]
-
-  walk_on_is : (p : Layout) (next n : ℕ) (w : Walk) → walk_on p next (suc n) w ≡ at_visit p next n w (next_visit w)
-  unfolding walk_on at_visit at_cell
-  walk_on_is p next n w = refl
-
-  on_step : (p : Layout) (tail next n : ℕ) (w : Walk) → ((v : Walk) → IsOn tail v → steps_left (next_visit v) ≤ n → First tail v (walk_on p next n v).to) → IsOn tail w → steps_left (next_visit w) ≤ suc n →
-      (x : Option ℕ) → next_visit w ≡ x → First tail w (at_visit p next n w x).to
-  unfolding at_visit at_cell visit_on
-  on_step p tail next n w rest h le None e = (λ r i. i, end_none tail w h e, refl)
-  on_step p tail next n w rest h le (Some q) e = at (cell_at w.cells q) refl
-    where
-      at : (o : Option Cell) → cell_at w.cells q ≡ o → First tail w (at_cell p next n w q o).to
-      at None f = reads_on p tail next w q h e
-      at (Some c) f =
-          let v = visit_on tail w q c h e f in
-          rest (visited w q c) v
-          (fuel_by w.lo q n (next_of_trail (visited w q c).trail) (subst (λ x. steps_left x ≤ suc n) e le) (λ r g. (down l w.oid q (visited w q c).trail r v.trail g).less))
-
-  on_all : (p : Layout) (tail next n : ℕ) (w : Walk) → IsOn tail w → steps_left (next_visit w) ≤ n → First tail w (walk_on p next n w).to
-  on_all p tail next zero w h le = absurd (no_step (next_visit w) le)
-  on_all p tail next (suc n) w h le =
-      subst (λ (t : WalkTurn). First tail w t.to) (sym (walk_on_is p next n w)) (on_step p tail next n w (λ v i k. on_all p tail next n v i k) h le (next_visit w) refl)
-
   pub walks_on : (p : Layout) (tail next : ℕ) (w : Walk) → IsOn tail w → First tail w (walk_from p next w).to
-  walks_on p tail next w h = on_all p tail next (steps_left (next_visit w)) w h (omega arith)
+  unfolding visit_on
+  walks_on p tail next w h = goes_down p next (IsOn tail) (λ v t. First tail v t.to) (λ v q c e k i. visit_on tail v q c i e k)
+      (λ v q c e k i r g. (down l v.oid q (visited v q c).trail r (visit_on tail v q c i e k).trail g).less) (λ v q c t g. g)
+      (λ v e i. (λ r j. j, end_none tail v i e, refl)) (λ v q e k i. (refl, refl, λ r j. j, with_job_on tail v (works (place_in p q) (Gets next)) i e)) w h
 
   pub started : (p : Layout) (o : Oid) (lasts : List ℕ) (lo : ℕ) (cells : List (ℕ × Cell)) (next tail : ℕ) → IsGood l o tail lasts → AreKnown l cells → Begins l o lo tail cells (walk_start p o lasts lo cells next).to
   unfolding walk_start
@@ -468,28 +383,18 @@ module _ (l : Log) (by : IsByPosition l) (linked : AreLinked l) where
       (record { known = more_known l w.cells q c h.known k; at = h.at; within = h.within; low = h.low; trail = h.trail; found = h.found; read = more_read w.cells q c w.members h.read })
       e (cell_here w.cells q c))))
 
-  ended : (p : Layout) (tail : ℕ) (w : Walk) (q : ℕ) (x : CellEnd) (next : ℕ) → IsWalking l tail w → next_visit w ≡ Some q → Fine q (Ends x) → EndsAs l q (Ends x) → Then tail w (walk_end p w q x next).to
-  ended p tail w q (Done c) next h e f k = read_on p tail w q c next (on_of tail w h) e k
-  ended p tail w q (Gone b) next h e f k = (λ r i. i, end_gone tail w q b (on_of tail w h) e f)
-  ended p tail w q (Fenced u d) next h e f k = (refl, refl, λ r i. i, h)
-  ended p tail w q Seen next h e f k = (refl, refl, λ r i. i, h)
-  ended p tail w q (Lost c) next h e f k = (refl, refl, λ r i. i, h)
-
-  turned : (p : Layout) (tail : ℕ) (w : Walk) (q : ℕ) (x : Next CellJob CellEnd) (next : ℕ) → IsWalking l tail w → next_visit w ≡ Some q → Fine q x → EndsAs l q x → Then tail w (walk_next p w q x next).to
-  turned p tail w q (Goes j) next h e f k = (refl, refl, λ r i. i, with_job_on tail w j (on_of tail w h) (e ∙ ap (λ (n : ℕ). Some n) (sym f)))
-  turned p tail w q (Learns j) next h e f k = (refl, refl, λ r i. i, h)
-  turned p tail w q (Ends x) next h e f k = ended p tail w q x next h e f k
-
-  fed_by : (p : Layout) (tail : ℕ) (w : Walk) (o : Option CellJob) (n : ℕ) (x : Reply) (next : ℕ) → w.job ≡ o → IsWalking l tail w → JobEndsAs l o n x next → Then tail w (walk_feed p w o n x next).to
-  unfolding walk_feed
-  fed_by p tail w None n x next is h k = (refl, refl, λ r i. i, h)
-  fed_by p tail w (Some j) n x next is h k = turned p tail w j.place.pos _ _ h (h.job j is) (cell_fine j n x next) k
+  came_on : (p : Layout) (tail : ℕ) (w : Walk) (n : ℕ) (x : Reply) (next : ℕ) → IsWalking l tail w → (o : Option CellJob) (t : WalkTurn) → WalkCame p w n x next o t → w.job ≡ o → JobEndsAs l o n x next → Then tail w t.to
+  came_on p tail w n x next h _ _ (ReadsOn j i e) is k = (refl, refl, λ r y. y, with_job_on tail w i (on_of tail w h) (h.job j is ∙ ap (λ (q : ℕ). Some q) (sym (subst (Fine j.place.pos) e (cell_fine j n x next)))))
+  came_on p tail w n x next h _ _ (HasRead j c e) is k = read_on p tail w j.place.pos c _ (on_of tail w h) (h.job j is) (subst (EndsAs l j.place.pos) e k)
+  came_on p tail w n x next h _ _ (MetTrim j b e) is k = (λ r y. y, end_gone tail w j.place.pos b (on_of tail w h) (h.job j is) (subst (Fine j.place.pos) e (cell_fine j n x next)))
+  came_on p tail w n x next h _ _ (WalkWaits o next') is k = (refl, refl, λ r y. y, h)
+  came_on p tail w n x next h _ _ (NewerCame o next') is k = (refl, refl, λ r y. y, h)
 
 pub walks_start : WalksStart
 walks_start l p o lasts lo cells next tail by linked good known = started l by linked p o lasts lo cells next tail good known
 
 pub walks_feed : WalksFeed
-walks_feed l p w n x next tail by linked h k = fed_by l by linked p tail w w.job n x next refl h k
+walks_feed l p w n x next tail by linked h k = came_on l by linked p tail w n x next h w.job _ (walk_came p w n x next w.job) refl k
 
 pub walks_again : WalksAgain
 walks_again l p w next tail by linked h = walks_on l by linked p tail next w (on_of l by linked tail w h)
