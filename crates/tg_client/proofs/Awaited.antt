@@ -1,5 +1,6 @@
 -- A machine in hand takes what it awaits. A message that isn't awaited changes nothing: the machine passes it by, and the client with it.
 use Rattle.std.proofs.Common.{◌≡◌, ℕ, Bool, true, false, List, [], Option, Some, None, Result, refl, sym, ap, subst, ◌∙◌}
+use Rattle.std.specs.Global.{Box}
 use Rattle.std.specs.Prelude.{max, IfOk}
 use Rattle.std.proofs.Math.Nat.{max-zero}
 use Rattle.tg_base.specs.declared.fault.NoMemory.{NoMemory}
@@ -182,10 +183,10 @@ module _ (m : Meaning) where
   reconf-fed x s r w from rid y a f k h =
       subst (λ (v : Moved m). IfOk x (λ z. KeepsMoved m s.rids.next z v)) (reconf-if (awaits (reconf_awaited a) from rid) s r w a from rid y h k.fit) f
 
-  pub reconf_fed_as : (x : Result (MovedOf m) NoMemory) (s : StateOf m) (r : Rest m) (w : told.Work m) (from : NodeId) (rid : ℕ) (y : Msg) (t : TaskOf m) (a : Reconf) → t ≡ task.Reconf a →
-      IfOk x (λ z. KeepsMoved m s.rids.next z (on_reconf m (client_of m s r) w (reconfs.fed a from rid y s.rids.next))) →
+  pub reconf_fed_as : (x : Result (MovedOf m) NoMemory) (s : StateOf m) (r : Rest m) (w : told.Work m) (from : NodeId) (rid : ℕ) (y : Msg) (t : TaskOf m) (a : Box Reconf) → t ≡ task.Reconf a →
+      IfOk x (λ z. KeepsMoved m s.rids.next z (on_reconf m (client_of m s r) w (reconfs.fed a.value from rid y s.rids.next))) →
       Feeds x s r w from rid y (told_task m t)
-  reconf_fed_as x s r w from rid y t a e f = feeds-by x s r w from rid y t (task.Reconf a) e (reconf-fed x s r w from rid y a f)
+  reconf_fed_as x s r w from rid y t a e f = feeds-by x s r w from rid y t (task.Reconf a) e (reconf-fed x s r w from rid y a.value f)
 
   -- What the machine in hand keeps.
 
@@ -195,5 +196,5 @@ module _ (m : Meaning) where
   pub copy_kept : (s : StateOf m) (t : TaskOf m) (a : Copying) → t ≡ task.Copy a → IsTaskKept m s (told_task m t) → HasStripe s.stand (spare_of a)
   copy_kept s t a e h = (subst (λ (v : TaskOf m). IsTaskKept m s (told_task m v)) e h).fit
 
-  pub reconf_kept : (s : StateOf m) (t : TaskOf m) (a : Reconf) → t ≡ task.Reconf a → IsTaskKept m s (told_task m t) → AreDrawn s.rids.next a
+  pub reconf_kept : (s : StateOf m) (t : TaskOf m) (a : Box Reconf) → t ≡ task.Reconf a → IsTaskKept m s (told_task m t) → AreDrawn s.rids.next a.value
   reconf_kept s t a e h = record { all = (subst (λ (v : TaskOf m). IsTaskKept m s (told_task m v)) e h).drawn }

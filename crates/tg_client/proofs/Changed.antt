@@ -1,5 +1,6 @@
 -- The turn of a change of the layout.
-use Rattle.std.proofs.Common.{◌≡◌, ◌≤◌, ℕ, List, [], ◌++◌, refl, sym, ap, subst, ◌∙◌, arith}
+use Rattle.std.proofs.Common.{◌≡◌, ◌≤◌, ℕ, List, [], ◌++◌, sym, ap, subst, ◌∙◌, arith}
+use Rattle.std.specs.Global.{Box}
 use Rattle.tg_base.specs.declared.packet.Out.{Out}
 use Rattle.tg_base.specs.declared.packet.Rids.{Rids}
 use Rattle.tg_kind.specs.Meaning.{Meaning}
@@ -69,17 +70,17 @@ module _ (m : Meaning) where
       (subst (λ to. Told rids old step.outs to → P (reconf_to m (client_of m (after s rids) r) w to)) (sym (ap next_of is) ∙ ap (λ v. v.to) sh.turn)
       (λ q. f (holds-on s j r w rids old step t h sh) (changed rids old step.outs a q)) (tells s rids old step t sh))
 
-  learns-left : (s : StateOf m) (rids : Rids) (old : ℕ) (outs : List Out) (a : Reconf) → Told rids old outs (Learns a) → Leaves m (after s rids) (left.Reconf a) (told.Reconfiguring a)
-  learns-left s rids old outs a h = record { goes = refl; drawn = h.drawn; fit = tt }
+  learns-left : (s : StateOf m) (rids : Rids) (old : ℕ) (outs : List Out) (a : Reconf) (b : Box Reconf) → b.value ≡ a → Told rids old outs (Learns a) → Leaves m (after s rids) (left.Reconf b) (told.Reconfiguring a)
+  learns-left s rids old outs a b e h = record { goes = e; drawn = h.drawn; fit = tt }
 
-  pub reconf_learns : (P : Moved m → Type 0) (s : StateOf m) (j : JobOf m) (rids : Rids) (step : Step) (a : Reconf) (r : Rest m) (w : told.Work m) (old : ℕ) (t : ReconfTurn) →
-      step.next ≡ given.Learns a → Holds m s j r w old → ReconfShown old s.rids.next rids.next step t →
-      (Holds m (after s rids) j r w old → Leaves m (after s rids) (left.Reconf a) (told.Reconfiguring a) → P (learns_for m (client_of m (after s rids) r) w (told.Reconfiguring a))) →
+  pub reconf_learns : (P : Moved m → Type 0) (s : StateOf m) (j : JobOf m) (rids : Rids) (step : Step) (a : Reconf) (b : Box Reconf) (r : Rest m) (w : told.Work m) (old : ℕ) (t : ReconfTurn) →
+      step.next ≡ given.Learns a → b.value ≡ a → Holds m s j r w old → ReconfShown old s.rids.next rids.next step t →
+      (Holds m (after s rids) j r w old → Leaves m (after s rids) (left.Reconf b) (told.Reconfiguring a) → P (learns_for m (client_of m (after s rids) r) w (told.Reconfiguring a))) →
       P (on_reconf m (client_of m s r) w t)
-  reconf_learns P s j rids step a r w old t is h sh f =
+  reconf_learns P s j rids step a b r w old t is e h sh f =
       at-numbers P s rids r w t (ap (λ v. v.next) sh.turn)
       (subst (λ to. Told rids old step.outs to → P (reconf_to m (client_of m (after s rids) r) w to)) (sym (ap next_of is) ∙ ap (λ v. v.to) sh.turn)
-      (λ q. f (holds-on s j r w rids old step t h sh) (learns-left s rids old step.outs a q)) (tells s rids old step t sh))
+      (λ q. f (holds-on s j r w rids old step t h sh) (learns-left s rids old step.outs a b e q)) (tells s rids old step t sh))
 
   pub reconf_ends : (P : Moved m → Type 0) (s : StateOf m) (j : JobOf m) (rids : Rids) (step : Step) (e : GivenEnd) (r : Rest m) (w : told.Work m) (old : ℕ) (t : ReconfTurn) →
       step.next ≡ given.Ends e → Holds m s j r w old → ReconfShown old s.rids.next rids.next step t →

@@ -1,5 +1,6 @@
 -- What goes on of a machine in a newer layout, in a step that may have begun before.
 use Rattle.std.proofs.Common.{◌≡◌, ◌≤◌, ℕ, zero, suc, true, List, [], Option, Some, None, Result, refl, sym, ap, subst, ◌∙◌}
+use Rattle.std.specs.Global.{Box}
 use Rattle.std.specs.Prelude.{IfOk}
 use Rattle.tg_base.specs.Layouts.{Layout}
 use Rattle.tg_base.specs.declared.change.Join.{Join}
@@ -217,13 +218,13 @@ module _ (m : Meaning) where
       let goes : GoesOn m u t = subst (λ (v : PausedOf m). GoesOn m v t) e g in
       newer-as P u t (client_of m s r) w server rid q i goes (f (record { since = h.since; view = h.view; job = h.job }) goes)
 
-  change-newer : (P : Moved m → Type 0) (t : told.Task m) (s : StateOf m) (r : Rest m) (w : told.Work m) (server rid : ℕ) (q : Layout) (a : Reconf) → GoesOn m (given.Reconf a) t →
-      P (on_reconf m (client_of m s r) w (reconf_latest a a.work server rid q s.rids.next)) → P (on_newer m (client_of m s r) w t server rid q)
+  change-newer : (P : Moved m → Type 0) (t : told.Task m) (s : StateOf m) (r : Rest m) (w : told.Work m) (server rid : ℕ) (q : Layout) (a : Box Reconf) → GoesOn m (given.Reconf a) t →
+      P (on_reconf m (client_of m s r) w (reconf_latest a.value a.value.work server rid q s.rids.next)) → P (on_newer m (client_of m s r) w t server rid q)
   change-newer P (told.Reconfiguring b) s r w server rid q a g h = subst (λ (k : Reconf). P (on_reconf m (client_of m s r) w (reconf_latest k k.work server rid q s.rids.next))) g h
   change-newer P _ s r w server rid q a g h = absurd g
 
-  pub change_newer : (P : Moved m → Type 0) (t : told.Task m) (s : StateOf m) (r : Rest m) (w : told.Work m) (server rid : ℕ) (q : Layout) (p : PausedOf m) (a : Reconf) → p ≡ given.Reconf a → GoesOn m p t →
-      P (on_reconf m (client_of m s r) w (reconf_latest a a.work server rid q s.rids.next)) → P (on_newer m (client_of m s r) w t server rid q)
+  pub change_newer : (P : Moved m → Type 0) (t : told.Task m) (s : StateOf m) (r : Rest m) (w : told.Work m) (server rid : ℕ) (q : Layout) (p : PausedOf m) (a : Box Reconf) → p ≡ given.Reconf a → GoesOn m p t →
+      P (on_reconf m (client_of m s r) w (reconf_latest a.value a.value.work server rid q s.rids.next)) → P (on_newer m (client_of m s r) w t server rid q)
   change_newer P t s r w server rid q p a e g h = change-newer P t s r w server rid q a (subst (λ (v : PausedOf m). GoesOn m v t) e g) h
 
   -- What is kept of a machine while a newer layout is learnt.
@@ -235,9 +236,9 @@ module _ (m : Meaning) where
   pub walk_left : (s : StateOf m) (p : PausedOf m) (a : Course) (os : List Oid) → p ≡ given.Walk a os → IsLeftKept m s p → IsCourseFit m s.known a
   walk_left s p a os e h = course-fit s.known a os h.task (subst (λ (v : PausedOf m). GoesOn m v h.task) e h.goes) h.fit
 
-  drawn-left : (s : StateOf m) (a : Reconf) (t : told.Task m) → GoesOn m (given.Reconf a) t → all_below m s.rids.next (task_awaited m s.stand t) ≡ true → AreDrawn s.rids.next a
+  drawn-left : (s : StateOf m) (a : Box Reconf) (t : told.Task m) → GoesOn m (given.Reconf a) t → all_below m s.rids.next (task_awaited m s.stand t) ≡ true → AreDrawn s.rids.next a.value
   drawn-left s a (told.Reconfiguring b) g d = record { all = subst (λ (k : Reconf). all_below m s.rids.next (reconf_awaited k) ≡ true) (sym g) d }
   drawn-left s a _ g d = absurd g
 
-  pub reconf_left : (s : StateOf m) (p : PausedOf m) (a : Reconf) → p ≡ given.Reconf a → IsLeftKept m s p → AreDrawn s.rids.next a
+  pub reconf_left : (s : StateOf m) (p : PausedOf m) (a : Box Reconf) → p ≡ given.Reconf a → IsLeftKept m s p → AreDrawn s.rids.next a.value
   reconf_left s p a e h = drawn-left s a h.task (subst (λ (v : PausedOf m). GoesOn m v h.task) e h.goes) h.drawn

@@ -60,15 +60,13 @@ fn hosts<K: Registry>(state: State<K>, alloc: Global, oid: Oid) -> Result<Moved<
     ensures { (v : Option (View (meaning_of K.Registry))) (n : ℕ) → KeepsViewIf (meaning_of K.Registry) state.view v → IfOk result (λ x. KeepsMoved (meaning_of K.Registry) state.rids.next x (told.hosts_more (meaning_of K.Registry) (idle (meaning_of K.Registry) state v n) oid (has_oid oid state.hosted))) }
 {
     let notes = one_note::<K>(alloc, 0, What::Hosted { oid })?;
-    if has(&state.hosted, oid) {
+    if has(&state.parts.hosted, oid) {
         return Ok(says(state, alloc, notes));
     }
-    let hosted = with_oid(alloc, &state.hosted, oid)?;
-    let state = State {
-        hosted,
-        view: None,
-        ..state
-    };
+    let hosted = with_oid(alloc, &state.parts.hosted, oid)?;
+    let mut state = state;
+    state.parts.hosted = hosted;
+    state.parts.view = None;
     Ok(says(state, alloc, notes))
 }
 
@@ -76,10 +74,12 @@ fn hosts<K: Registry>(state: State<K>, alloc: Global, oid: Oid) -> Result<Moved<
 fn begins<K: Registry>(state: State<K>, alloc: Global) -> Result<Moved<K>, NoMemory>
     ensures { (v : Option (View (meaning_of K.Registry))) (n : ℕ) → KeepsViewIf (meaning_of K.Registry) state.view v → IfOk result (λ x. KeepsMoved (meaning_of K.Registry) state.rids.next x (told.begins (meaning_of K.Registry) (idle (meaning_of K.Registry) state v n))) }
 {
-    let begun = next_count(state.begun)?;
+    let begun = next_count(state.parts.begun)?;
     let notes = one_note::<K>(alloc, begun, What::Begin)?;
     let tx = Some(Tx::open(alloc, begun));
-    let state = State { tx, begun, ..state };
+    let mut state = state;
+    state.parts.tx = tx;
+    state.parts.begun = begun;
     Ok(says(state, alloc, notes))
 }
 
@@ -88,7 +88,7 @@ fn begins<K: Registry>(state: State<K>, alloc: Global) -> Result<Moved<K>, NoMem
 fn drops<K: Registry>(state: State<K>, alloc: Global) -> Result<Moved<K>, NoMemory>
     ensures { (v : Option (View (meaning_of K.Registry))) (n : ℕ) → KeepsViewIf (meaning_of K.Registry) state.view v → IfOk result (λ x. KeepsMoved (meaning_of K.Registry) state.rids.next x (told.accepts (meaning_of K.Registry) (idle (meaning_of K.Registry) state v n) cmd.Drop)) }
 {
-    let number = tx_number::<K>(&state.tx);
+    let number = tx_number::<K>(&state.parts.tx);
     let notes = one_note::<K>(alloc, number, What::Dropped)?;
     Ok(says(state.closed(), alloc, notes))
 }
@@ -104,7 +104,7 @@ fn changes<K: Registry>(
     ensures { (v : Option (View (meaning_of K.Registry))) (n : ℕ) → KeepsViewIf (meaning_of K.Registry) state.view v → IfOk result (λ x. KeepsMoved (meaning_of K.Registry) state.rids.next x (told.accepts (meaning_of K.Registry) (idle (meaning_of K.Registry) state v n) (cmd.Reconf change))) }
 {
     let kept = change.copy()?;
-    let job = new_job(alloc, Command::Reconf { change: kept });
+    let job = new_job(alloc, Command::Reconf { change: kept })?;
     reconfigures(state, alloc, job, change)
 }
 
@@ -123,7 +123,7 @@ fn brings<K: Registry>(state: State<K>, alloc: Global, spare: Join) -> Result<Mo
         range,
         stripe,
     };
-    let job = new_job(alloc, command);
+    let job = new_job(alloc, command)?;
     copies(state, alloc, job, spare)
 }
 

@@ -36,9 +36,9 @@ fn syncs_again<K: Registry>(
     ensures { (r : Rest (meaning_of K.Registry)) (w : told.Work (meaning_of K.Registry)) (old : ℕ) (t : told.Task (meaning_of K.Registry)) → Holds (meaning_of K.Registry) state job r w old → GoesOn (meaning_of K.Registry) (given.Sync oids) t → IfOk result (λ x. KeepsMoved (meaning_of K.Registry) old x (steps.task_again (meaning_of K.Registry) (client_of (meaning_of K.Registry) state r) w t)) }
 {
     let mut job = job;
-    job.gone_before = job.gone;
-    let mut rids = drawing(state.rids)?;
-    let step = Sync::start(alloc, &state.stand, oids, &mut rids)?;
+    job.parts.gone_before = job.parts.gone;
+    let mut rids = drawing(state.parts.rids)?;
+    let step = Sync::start(alloc, &state.parts.stand, oids, &mut rids)?;
     on_sync(state, alloc, job, rids, step)
 }
 
@@ -53,9 +53,9 @@ fn walks_again<K: Registry>(
     requires { IsCourseFit (meaning_of K.Registry) state.known walk }
     ensures { (r : Rest (meaning_of K.Registry)) (w : told.Work (meaning_of K.Registry)) (old : ℕ) (t : told.Task (meaning_of K.Registry)) → Holds (meaning_of K.Registry) state job r w old → GoesOn (meaning_of K.Registry) (given.Walk walk rest) t → IfOk result (λ x. KeepsMoved (meaning_of K.Registry) old x (steps.task_again (meaning_of K.Registry) (client_of (meaning_of K.Registry) state r) w t)) }
 {
-    let mut rids = drawing(state.rids)?;
+    let mut rids = drawing(state.parts.rids)?;
     let oid = walk.oid();
-    let step = walk.resume(alloc, &state.stand, &mut rids)?;
+    let step = walk.resume(alloc, &state.parts.stand, &mut rids)?;
     on_walk(state, alloc, job, oid, rest, rids, step)
 }
 
@@ -69,8 +69,8 @@ fn appends_again<K: Registry>(
 ) -> Result<Moved<K>, NoMemory>
     ensures { (r : Rest (meaning_of K.Registry)) (w : told.Work (meaning_of K.Registry)) (old : ℕ) (t : told.Task (meaning_of K.Registry)) → Holds (meaning_of K.Registry) state job r w old → GoesOn (meaning_of K.Registry) (given.Append append purpose) t → IsLeftFit (meaning_of K.Registry) state.known t → IfOk result (λ x. KeepsMoved (meaning_of K.Registry) old x (steps.task_again (meaning_of K.Registry) (client_of (meaning_of K.Registry) state r) w t)) }
 {
-    let mut rids = drawing(state.rids)?;
-    let step = append.resume(alloc, &state.stand, &mut rids)?;
+    let mut rids = drawing(state.parts.rids)?;
+    let step = append.resume(alloc, &state.parts.stand, &mut rids)?;
     on_append(state, alloc, job, purpose, rids, step)
 }
 
@@ -83,8 +83,8 @@ fn trims_again<K: Registry>(
 ) -> Result<Moved<K>, NoMemory>
     ensures { (r : Rest (meaning_of K.Registry)) (w : told.Work (meaning_of K.Registry)) (old : ℕ) (t : told.Task (meaning_of K.Registry)) → Holds (meaning_of K.Registry) state job r w old → GoesOn (meaning_of K.Registry) (given.Trim below) t → IfOk result (λ x. KeepsMoved (meaning_of K.Registry) old x (steps.task_again (meaning_of K.Registry) (client_of (meaning_of K.Registry) state r) w t)) }
 {
-    let mut rids = drawing(state.rids)?;
-    let step = Trims::start(alloc, &state.stand, below, &mut rids)?;
+    let mut rids = drawing(state.parts.rids)?;
+    let step = Trims::start(alloc, &state.parts.stand, below, &mut rids)?;
     on_trims(state, alloc, job, below, rids, step)
 }
 
@@ -101,7 +101,7 @@ fn changes_again<K: Registry>(
     requires { AreDrawn state.rids.next reconf }
     ensures { (r : Rest (meaning_of K.Registry)) (w : told.Work (meaning_of K.Registry)) → Holds (meaning_of K.Registry) state job r w state.rids.next → IfOk result (λ x. KeepsMoved (meaning_of K.Registry) state.rids.next x (steps.on_reconf (meaning_of K.Registry) (client_of (meaning_of K.Registry) state r) w (reconf_latest reconf reconf.work server rid proj state.rids.next))) }
 {
-    let mut rids = drawing(state.rids)?;
+    let mut rids = drawing(state.parts.rids)?;
     let step = reconf.latest(alloc, server, rid, proj, &mut rids)?;
     on_reconf(state, alloc, job, rids, step)
 }
@@ -121,40 +121,33 @@ pub fn goes_on_in<K: Registry>(
 {
     match paused {
         Paused::Sync { oids } => {
-            let state = State {
-                stand: proj,
-                ..state
-            };
+            let mut state = state;
+            state.parts.stand = proj;
             syncs_again(state, alloc, job, oids)
         }
         Paused::Walk { walk, rest } => {
-            let state = State {
-                stand: proj,
-                ..state
-            };
+            let mut state = state;
+            state.parts.stand = proj;
             walks_again(state, alloc, job, walk, rest)
         }
         Paused::Append { append, purpose } => {
-            let state = State {
-                stand: proj,
-                ..state
-            };
+            let mut state = state;
+            state.parts.stand = proj;
             appends_again(state, alloc, job, append, purpose)
         }
         Paused::Trim { below } => {
-            let state = State {
-                stand: proj,
-                ..state
-            };
+            let mut state = state;
+            state.parts.stand = proj;
             trims_again(state, alloc, job, below)
         }
         Paused::Copy { spare } => {
-            let state = State {
-                stand: proj,
-                ..state
-            };
+            let mut state = state;
+            state.parts.stand = proj;
             copies_again(state, alloc, job, spare)
         }
-        Paused::Reconf { reconf } => { changes_again(state, alloc, job, reconf, server, rid, proj) }
+        Paused::Reconf { reconf } => {
+            let reconf = Box::into_inner(reconf);
+            changes_again(state, alloc, job, reconf, server, rid, proj)
+        }
     }
 }

@@ -32,7 +32,7 @@ fn committed<K: Registry>(
     ensures { (r : Rest (meaning_of K.Registry)) (w : told.Work (meaning_of K.Registry)) (old : ℕ) → KeepsViewIf (meaning_of K.Registry) state.view r.view → IfOk result (λ x. KeepsMoved (meaning_of K.Registry) old x (steps.append_ended (meaning_of K.Registry) (client_of (meaning_of K.Registry) state r) w told.Writes (At pos page))) }
 {
     let notes = one_note::<K>(alloc, tx_number(&state), What::Committed { at: pos })?;
-    let state = owns(state, pos, page)?;
+    let state = owns(state, alloc, pos, page)?;
     state.closed().replies(alloc, notes)
 }
 
@@ -41,7 +41,7 @@ fn hosted_by<K: Registry>(state: &State<K>, alloc: Global) -> Result<List<Oid>, 
     ensures { IfOk result (λ l. l ≡ state.now.hosted) }
 {
     let mut oids = List::new(alloc);
-    oids.extend(state.hosted.as_slice())?;
+    oids.extend(state.parts.hosted.as_slice())?;
     Ok(oids)
 }
 
@@ -56,9 +56,9 @@ fn judges<K: Registry>(
     ensures { (r : Rest (meaning_of K.Registry)) (w : told.Work (meaning_of K.Registry)) (old : ℕ) → Holds (meaning_of K.Registry) state job r w old → IfOk result (λ x. KeepsMoved (meaning_of K.Registry) old x (steps.append_ended (meaning_of K.Registry) (client_of (meaning_of K.Registry) state r) w told.Judged (At pos page))) }
 {
     let oids = hosted_by(&state, alloc)?;
-    let state = owns(state, pos, page)?;
+    let state = owns(state, alloc, pos, page)?;
     let mut job = job;
-    job.at = pos;
+    job.parts.at = pos;
     state.syncs(alloc, job, oids)
 }
 
@@ -111,7 +111,7 @@ fn marked<K: Registry>(
     ensures { (r : Rest (meaning_of K.Registry)) (w : told.Work (meaning_of K.Registry)) (old : ℕ) → KeepsViewIf (meaning_of K.Registry) state.view r.view → IfOk result (λ x. KeepsMoved (meaning_of K.Registry) old x (steps.append_ended (meaning_of K.Registry) (client_of (meaning_of K.Registry) state r) w (told.Marks number oid mark) (At pos page))) }
 {
     let notes = mark_notes::<K>(alloc, number, oid, mark, pos)?;
-    let state = owns(state, pos, page)?;
+    let state = owns(state, alloc, pos, page)?;
     state.takes_over()?.replies(alloc, notes)
 }
 
@@ -126,7 +126,7 @@ fn rescued<K: Registry>(
     ensures { (r : Rest (meaning_of K.Registry)) (w : told.Work (meaning_of K.Registry)) (old : ℕ) → KeepsViewIf (meaning_of K.Registry) state.view r.view → IfOk result (λ x. KeepsMoved (meaning_of K.Registry) old x (steps.append_ended (meaning_of K.Registry) (client_of (meaning_of K.Registry) state r) w (told.Rescues answer) (At pos page))) }
 {
     let notes = one_note::<K>(alloc, 0, answer)?;
-    let state = knows_page(state, pos, page)?;
+    let state = knows_page(state, alloc, pos, page)?;
     state.replies(alloc, notes)
 }
 
@@ -141,7 +141,7 @@ fn saved<K: Registry>(
 ) -> Result<Moved<K>, NoMemory>
     ensures { (r : Rest (meaning_of K.Registry)) (w : told.Work (meaning_of K.Registry)) (old : ℕ) → KeepsViewIf (meaning_of K.Registry) state.view r.view → IfOk result (λ x. KeepsMoved (meaning_of K.Registry) old x (steps.append_ended (meaning_of K.Registry) (client_of (meaning_of K.Registry) state r) w (told.Saves oid upto) (At pos page))) }
 {
-    let state = knows_page(state, pos, page)?;
+    let state = knows_page(state, alloc, pos, page)?;
     let what = What::Saved { oid, at: pos, upto };
     state.answers(alloc, 0, what)
 }
@@ -161,8 +161,8 @@ fn stands_at<K: Registry>(
         Purpose::Writes => committed(state, alloc, pos, page),
         Purpose::Judged => judges(state, alloc, job, pos, page),
         Purpose::Decides { answer } => {
-            let state = knows_page(state, pos, page)?;
-            decided(state, alloc, &job.command, answer)
+            let state = knows_page(state, alloc, pos, page)?;
+            decided(state, alloc, &job.parts.command, answer)
         }
         Purpose::Rescues { answer } => rescued(state, alloc, answer, pos, page),
         Purpose::Saves { oid, upto } => saved(state, alloc, oid, upto, pos, page),
@@ -187,7 +187,7 @@ fn full<K: Registry>(
     match purpose {
         Purpose::Writes => state.refuses(alloc, tx, why),
         Purpose::Judged => state.refuses(alloc, tx, why),
-        Purpose::Decides { answer } => decided(state, alloc, &job.command, answer),
+        Purpose::Decides { answer } => decided(state, alloc, &job.parts.command, answer),
         Purpose::Rescues { .. } => state.refuses(alloc, 0, why),
         Purpose::Saves { .. } => state.refuses(alloc, 0, why),
         Purpose::Marks { number, .. } => state.refuses(alloc, number, why),
@@ -210,7 +210,7 @@ fn forgotten<K: Registry>(
     match purpose {
         Purpose::Writes => state.closed().refuses(alloc, tx, why),
         Purpose::Judged => state.closed().refuses(alloc, tx, why),
-        Purpose::Decides { answer } => decided(state, alloc, &job.command, answer),
+        Purpose::Decides { answer } => decided(state, alloc, &job.parts.command, answer),
         Purpose::Rescues { .. } => state.refuses(alloc, 0, why),
         Purpose::Saves { .. } => state.refuses(alloc, 0, why),
         Purpose::Marks { number, .. } => state.refuses(alloc, number, why),
@@ -248,7 +248,7 @@ pub fn on_append<K: Registry>(
 {
     let AppendStep { next, gone, outs } = step;
     let mut state = state;
-    state.rids = rids;
+    state.parts.rids = rids;
     let job = meets(job, gone);
     match next {
         Next::Goes { machine } => {

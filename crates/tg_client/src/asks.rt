@@ -102,7 +102,7 @@ fn asked<K: Registry>(
     ensures { (t : txs.Tx) (w : View (meaning_of K.Registry)) (s : K) → state.tx ≡ Some t → answer ≡ K.answered s ask → version ≡ view_version (meaning_of K.Registry) w oid (K.looked ask) → (v : Option (View (meaning_of K.Registry))) (n : ℕ) → KeepsViewIf (meaning_of K.Registry) state.view v → IfOk result (λ x. KeepsMoved (meaning_of K.Registry) state.rids.next x (told.asked_of_state (meaning_of K.Registry) (idle (meaning_of K.Registry) state v n) t at oid ask w (Some s))) }
 {
     let part = looked_at::<K>(alloc, &ask)?;
-    let number = tx_number::<K>(&state.tx);
+    let number = tx_number::<K>(&state.parts.tx);
     let notes = one_note::<K>(
         alloc,
         number,
@@ -113,8 +113,9 @@ fn asked<K: Registry>(
             ans: answer,
         },
     )?;
-    let tx = read_in::<K>(state.tx, oid, part, at, version)?;
-    let state = State { tx, ..state };
+    let mut state = state;
+    let tx = read_in::<K>(state.parts.tx.take(), oid, part, at, version)?;
+    state.parts.tx = tx;
     Ok(says(state, alloc, notes))
 }
 
@@ -130,7 +131,7 @@ fn asks_view<K: Registry>(
     requires { IsSome state.tx }
     ensures { (t : txs.Tx) → state.tx ≡ Some t → (v : Option (View (meaning_of K.Registry))) (n : ℕ) → KeepsViewIf (meaning_of K.Registry) state.view v → IfOk result (λ x. KeepsMoved (meaning_of K.Registry) state.rids.next x (told.asks_view (meaning_of K.Registry) (idle (meaning_of K.Registry) state v n) t at oid ask v)) }
 {
-    match answer_in::<K>(&state.view, alloc, oid, &ask)? {
+    match answer_in::<K>(&state.parts.view, alloc, oid, &ask)? {
         None => Ok(says(state, alloc, List::new(alloc))),
         Some((answer, version)) => asked(state, alloc, oid, ask, at, answer, version),
     }
@@ -148,7 +149,7 @@ pub fn asks<K: Registry>(
 ) -> Result<Moved<K>, NoMemory>
     ensures { (v : Option (View (meaning_of K.Registry))) (n : ℕ) → KeepsViewIf (meaning_of K.Registry) state.view v → IfOk result (λ x. KeepsMoved (meaning_of K.Registry) state.rids.next x (told.asks (meaning_of K.Registry) (idle (meaning_of K.Registry) state v n) (cmd.Ask oid ask) oid ask state.tx)) }
 {
-    match &state.tx {
+    match &state.parts.tx {
         None => Ok(says(state, alloc, List::new(alloc))),
         Some(tx) => match tx.snapshot() {
             None => works_on(state, alloc, Command::Ask { oid, ask }),

@@ -31,7 +31,8 @@ fn changes_on<K: Registry>(
 {
     let stand = reconf.stand().copy()?;
     let mut state = state;
-    state.stand = stand;
+    state.parts.stand = stand;
+    let reconf = Box::new(alloc, reconf)?;
     Ok(goes_on(state, alloc, job, Task::Reconf { reconf }, outs))
 }
 
@@ -46,15 +47,18 @@ fn reconf_ended<K: Registry>(
     match end {
         ReconfEnd::Installed { epoch, stand } => {
             let notes = one_note::<K>(alloc, 0, What::Installed { epoch })?;
-            let state = State { stand, ..state };
+            let mut state = state;
+            state.parts.stand = stand;
             state.replies(alloc, notes)
         }
         ReconfEnd::Overtaken { epoch, stand } => {
-            let state = State { stand, ..state };
+            let mut state = state;
+            state.parts.stand = stand;
             state.refuses(alloc, 0, Refusal::Overtaken { epoch })
         }
         ReconfEnd::NotWhole { unit, pos, stand } => {
-            let state = State { stand, ..state };
+            let mut state = state;
+            state.parts.stand = stand;
             state.refuses(alloc, 0, Refusal::NotWhole { unit, pos })
         }
     }
@@ -73,11 +77,12 @@ pub fn on_reconf<K: Registry>(
 {
     let Step { next, outs } = step;
     let mut state = state;
-    state.rids = rids;
+    state.parts.rids = rids;
     match next {
         Next::Goes { machine } => changes_on(state, alloc, job, machine, outs),
         Next::Learns { machine } => {
-            learns(state, alloc, job, Paused::Reconf { reconf: machine })
+            let reconf = Box::new(alloc, machine)?;
+            learns(state, alloc, job, Paused::Reconf { reconf })
         }
         Next::Ends { end } => reconf_ended(state, alloc, end),
     }
@@ -101,13 +106,13 @@ fn begins_change<K: Registry>(
     requires allowed { change_fault state.stand change ≡ None }
     ensures { (r : Rest (meaning_of K.Registry)) (w : told.Work (meaning_of K.Registry)) (old : ℕ) → old ≤ state.rids.next → KeepsViewIf (meaning_of K.Registry) state.view r.view → KeepsJob (meaning_of K.Registry) job w → IfOk result (λ x. KeepsMoved (meaning_of K.Registry) old x (steps.on_reconf (meaning_of K.Registry) (client_of (meaning_of K.Registry) state r) w (reconf_start state.stand state.layouts change state.num state.rids.next))) }
 {
-    let mut rids = drawing(state.rids)?;
-    let proj = state.stand.copy()?;
+    let mut rids = drawing(state.parts.rids)?;
+    let proj = state.parts.stand.copy()?;
     let stand = Stand {
-        layouts: state.layouts,
+        layouts: state.parts.layouts,
         proj,
     };
-    let step = Reconf::start(alloc, stand, change, state.num, &mut rids)?;
+    let step = Reconf::start(alloc, stand, change, state.parts.num, &mut rids)?;
     on_reconf(state, alloc, job, rids, step)
 }
 
@@ -121,7 +126,7 @@ pub fn reconfigures<K: Registry>(
     requires { change_fault state.stand change ≡ None }
     ensures { (r : Rest (meaning_of K.Registry)) (w : told.Work (meaning_of K.Registry)) (old : ℕ) → old ≤ state.rids.next → KeepsViewIf (meaning_of K.Registry) state.view r.view → KeepsJob (meaning_of K.Registry) job w → IfOk result (λ x. KeepsMoved (meaning_of K.Registry) old x (steps.on_reconf (meaning_of K.Registry) (client_of (meaning_of K.Registry) state r) w (reconf_start state.stand state.layouts change state.num state.rids.next))) }
 {
-    if !counts_on(&state.stand) {
+    if !counts_on(&state.parts.stand) {
         return Err(NoMemory);
     }
     begins_change(state, alloc, job, change)

@@ -15,7 +15,7 @@ use std::alloc::Global;
 use tg_base::{Cell, Cluster, Epoch, List, Msg, NoMemory, NodeId, Oid, Out, Pos, Rids};
 use tg_chain::header_layout;
 use tg_client_cells::Known;
-use tg_client_state::{HeaderObjects, Moved, State, Work};
+use tg_client_state::{HeaderObjects, Moved, State, StateParts, Work};
 use tg_kind::Registry;
 use tg_model::{CommandOf, NoteOf};
 
@@ -62,7 +62,7 @@ impl<K: Registry> Client<K> {
         let dir = K::fresh(alloc, Oid(0), objects.as_slice())?;
         let stand = header_layout(alloc, cluster)?;
         let hosted = directory_alone(alloc)?;
-        let state = State {
+        let parts = StateParts {
             num,
             layouts: cluster.layouts,
             objects,
@@ -78,6 +78,7 @@ impl<K: Registry> Client<K> {
             decisions: 0,
             checkpoints: 0,
         };
+        let state = State::new(alloc, parts)?;
         Ok(Client { state, work: None })
     }
 
@@ -85,21 +86,24 @@ impl<K: Registry> Client<K> {
     pub fn calls(&self) -> u32
         ensures { (c : told.Client (meaning_of K.Registry)) → KeepsClient (meaning_of K.Registry) self.now c → result ≡ c.calls }
     {
-        self.state.calls
+        let state = &self.state;
+        state.parts.calls
     }
 
     /// The next request number. It takes no memory.
     pub fn next(&self) -> u64
         ensures { (c : told.Client (meaning_of K.Registry)) → KeepsClient (meaning_of K.Registry) self.now c → result ≡ c.next }
     {
-        self.state.rids.next
+        let state = &self.state;
+        state.parts.rids.next
     }
 
     /// The epoch of its layout. It takes no memory.
     pub fn epoch(&self) -> Epoch
         ensures { (c : told.Client (meaning_of K.Registry)) → KeepsClient (meaning_of K.Registry) self.now c → result ≡ c.stand.epoch }
     {
-        self.state.stand.epoch
+        let state = &self.state;
+        state.parts.stand.epoch
     }
 
     /// Where the play of its view came to; 0 where it keeps none. It takes no memory.
@@ -113,7 +117,8 @@ impl<K: Registry> Client<K> {
     pub fn known(&self, pos: Pos) -> Option<&Cell>
         ensures { (c : told.Client (meaning_of K.Registry)) → KeepsClient (meaning_of K.Registry) self.now c → option_copied result ≡ told.known (meaning_of K.Registry) c pos }
     {
-        known_cell(&self.state.known, &self.work, pos)
+        let state = &self.state;
+        known_cell(&state.parts.known, &self.work, pos)
     }
 
     /// Whether a command waits for its reply. It takes no memory.

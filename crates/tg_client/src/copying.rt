@@ -52,7 +52,7 @@ pub fn on_copy<K: Registry>(
 {
     let CopyStep { next, gone, outs } = step;
     let mut state = state;
-    state.rids = rids;
+    state.parts.rids = rids;
     let job = meets(job, gone);
     match next {
         Next::Goes { machine } => Ok(goes_on(
@@ -110,8 +110,8 @@ fn copies_there<K: Registry>(
     requires { HasStripe state.stand spare }
     ensures { (r : Rest (meaning_of K.Registry)) (w : told.Work (meaning_of K.Registry)) (old : ℕ) (c : Copying) → old ≤ state.rids.next → KeepsViewIf (meaning_of K.Registry) state.view r.view → KeepsJob (meaning_of K.Registry) job w → spare_of c ≡ spare → IfOk result (λ x. KeepsMoved (meaning_of K.Registry) old x (steps.copies_again (meaning_of K.Registry) (client_of (meaning_of K.Registry) state r) w c None)) }
 {
-    let mut rids = drawing(state.rids)?;
-    let step = CopyRange::start(alloc, &state.stand, spare, &mut rids)?;
+    let mut rids = drawing(state.parts.rids)?;
+    let step = CopyRange::start(alloc, &state.parts.stand, spare, &mut rids)?;
     on_copy(state, alloc, job, spare, rids, step)
 }
 
@@ -125,7 +125,7 @@ pub fn copies<K: Registry>(
 ) -> Result<Moved<K>, NoMemory>
     ensures { (r : Rest (meaning_of K.Registry)) (w : told.Work (meaning_of K.Registry)) (old : ℕ) (c : Copying) → old ≤ state.rids.next → KeepsViewIf (meaning_of K.Registry) state.view r.view → KeepsJob (meaning_of K.Registry) job w → spare_of c ≡ spare → IfOk result (λ x. KeepsMoved (meaning_of K.Registry) old x (steps.copies_again (meaning_of K.Registry) (client_of (meaning_of K.Registry) state r) w c None)) }
 {
-    if !has_stripe(&state.stand, spare) {
+    if !has_stripe(&state.parts.stand, spare) {
         return Err(NoMemory);
     }
     copies_there(state, alloc, job, spare)
@@ -141,7 +141,7 @@ pub fn copies_again<K: Registry>(
 ) -> Result<Moved<K>, NoMemory>
     ensures { (r : Rest (meaning_of K.Registry)) (w : told.Work (meaning_of K.Registry)) (old : ℕ) (c : Copying) → Holds (meaning_of K.Registry) state job r w old → spare_of c ≡ spare → IfOk result (λ x. KeepsMoved (meaning_of K.Registry) old x (steps.copies_again (meaning_of K.Registry) (client_of (meaning_of K.Registry) state r) w c (told.copy_fault (meaning_of K.Registry) state.stand c.unit c.range c.stripe))) }
 {
-    match spare_fault(&state.stand, spare) {
+    match spare_fault(&state.parts.stand, spare) {
         None => copies(state, alloc, job, spare),
         Some(fault) => state.refuses(alloc, 0, layout_refusal::<K>(fault)),
     }

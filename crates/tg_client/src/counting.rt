@@ -17,8 +17,19 @@ use tg_kind::Registry;
 pub fn given<K: Registry>(moved: Moved<K>) -> Result<Moved<K>, NoMemory>
     ensures { (c : clients.Client (meaning_of K.Registry)) (x : told.Moved (meaning_of K.Registry)) (old : ℕ) → c.next ≡ old → KeepsMoved (meaning_of K.Registry) old moved x → IfOk result (λ r. KeepsStep (meaning_of K.Registry) r (steps.given (meaning_of K.Registry) c x)) }
 {
-    let calls = next_count(moved.state.calls)?;
-    let mut moved = moved;
-    moved.state.calls = calls;
-    Ok(moved)
+    let Moved {
+        state,
+        work,
+        sends,
+        notes,
+    } = moved;
+    let calls = next_count(state.parts.calls)?;
+    let mut state = state;
+    state.parts.calls = calls;
+    Ok(Moved {
+        state,
+        work,
+        sends,
+        notes,
+    })
 }

@@ -45,7 +45,7 @@ fn is_layout_server(node: NodeId) -> bool
 fn is_newer<K: Registry>(state: &State<K>, from: NodeId, proj: &Projection) -> bool
     ensures { result ≡ (node_eq from (layout_id from.num) && nat_lt state.now.stand.epoch proj.now.epoch) }
 {
-    is_layout_server(from) && state.stand.epoch < proj.epoch
+    is_layout_server(from) && state.parts.stand.epoch < proj.epoch
 }
 
 /// What is left of what is in hand. It takes no memory.

@@ -68,7 +68,7 @@ fn ends_writes<K: Registry>(
     ensures { (t : txs.Tx) → number ≡ t.number → draft ≡ txs.commit_record t state.num → told_purpose (meaning_of K.Registry) purpose ≡ told.purpose_of (meaning_of K.Registry) t → (v : Option (View (meaning_of K.Registry))) (n : ℕ) → KeepsViewIf (meaning_of K.Registry) state.view v → IfOk result (λ x. KeepsMoved (meaning_of K.Registry) state.rids.next x (told.end_by (meaning_of K.Registry) (idle (meaning_of K.Registry) state v n) cmd.End t false)) }
 {
     let notes = one_note::<K>(alloc, number, What::End)?;
-    let job = new_job(alloc, Command::End);
+    let job = new_job(alloc, Command::End)?;
     state.appends(alloc, job, draft, purpose, notes)
 }
 
@@ -76,7 +76,7 @@ fn ends_writes<K: Registry>(
 pub fn ends<K: Registry>(state: State<K>, alloc: Global) -> Result<Moved<K>, NoMemory>
     ensures { (v : Option (View (meaning_of K.Registry))) (n : ℕ) → KeepsViewIf (meaning_of K.Registry) state.view v → IfOk result (λ x. KeepsMoved (meaning_of K.Registry) state.rids.next x (told.ends (meaning_of K.Registry) (idle (meaning_of K.Registry) state v n) cmd.End state.tx)) }
 {
-    match &state.tx {
+    match &state.parts.tx {
         None => Ok(says(state, alloc, List::new(alloc))),
         Some(tx) => {
             let number = tx.number();
@@ -84,7 +84,7 @@ pub fn ends<K: Registry>(state: State<K>, alloc: Global) -> Result<Moved<K>, NoM
                 let at = place_of(tx);
                 return ends_reads(state, alloc, number, at);
             }
-            let draft = tx.commit_record(alloc, state.num)?;
+            let draft = tx.commit_record(alloc, state.parts.num)?;
             let purpose = purpose_of(tx);
             ends_writes(state, alloc, number, draft, purpose)
         }

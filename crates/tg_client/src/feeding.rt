@@ -52,8 +52,8 @@ fn feeds_sync<K: Registry>(
 ) -> Result<Moved<K>, NoMemory>
     ensures { (r : Rest (meaning_of K.Registry)) (w : told.Work (meaning_of K.Registry)) → Holds (meaning_of K.Registry) state job r w state.rids.next → all_drawn state.rids.next (sync_asks state.stand sync) ≡ true → NearAnswer (answer_in sync.work) → IfOk result (λ x. KeepsMoved (meaning_of K.Registry) state.rids.next x (steps.on_sync (meaning_of K.Registry) (client_of (meaning_of K.Registry) state r) w (sync_fed state.stand sync from rid msg.now state.rids.next))) }
 {
-    let mut rids = drawing(state.rids)?;
-    let step = sync.feed(alloc, &state.stand, from, rid, msg, &mut rids)?;
+    let mut rids = drawing(state.parts.rids)?;
+    let step = sync.feed(alloc, &state.parts.stand, from, rid, msg, &mut rids)?;
     on_sync(state, alloc, job, rids, step)
 }
 
@@ -71,9 +71,9 @@ fn feeds_walk<K: Registry>(
     requires { WalksOn (meaning_of K.Registry) state.known walk }
     ensures { (r : Rest (meaning_of K.Registry)) (w : told.Work (meaning_of K.Registry)) → Holds (meaning_of K.Registry) state job r w state.rids.next → all_drawn state.rids.next (walk_asks walk) ≡ true → IfOk result (λ x. KeepsMoved (meaning_of K.Registry) state.rids.next x (steps.on_walk (meaning_of K.Registry) (client_of (meaning_of K.Registry) state r) w walk.oid rest (walk_fed state.stand walk from rid msg.now state.rids.next))) }
 {
-    let mut rids = drawing(state.rids)?;
+    let mut rids = drawing(state.parts.rids)?;
     let oid = walk.oid();
-    let step = walk.feed(alloc, &state.stand, from, rid, msg, &mut rids)?;
+    let step = walk.feed(alloc, &state.parts.stand, from, rid, msg, &mut rids)?;
     on_walk(state, alloc, job, oid, rest, rids, step)
 }
 
@@ -90,8 +90,8 @@ fn feeds_append<K: Registry>(
 ) -> Result<Moved<K>, NoMemory>
     ensures { (r : Rest (meaning_of K.Registry)) (w : told.Work (meaning_of K.Registry)) → Holds (meaning_of K.Registry) state job r w state.rids.next → all_drawn state.rids.next (append_asks state.stand append) ≡ true → NearToken append.token → IfOk result (λ x. KeepsMoved (meaning_of K.Registry) state.rids.next x (steps.on_append (meaning_of K.Registry) (client_of (meaning_of K.Registry) state r) w (told_purpose (meaning_of K.Registry) purpose) (append_fed state.stand append from rid msg.now state.rids.next))) }
 {
-    let mut rids = drawing(state.rids)?;
-    let step = append.feed(alloc, &state.stand, from, rid, msg, &mut rids)?;
+    let mut rids = drawing(state.parts.rids)?;
+    let step = append.feed(alloc, &state.parts.stand, from, rid, msg, &mut rids)?;
     on_append(state, alloc, job, purpose, rids, step)
 }
 
@@ -107,9 +107,9 @@ fn feeds_trims<K: Registry>(
 ) -> Result<Moved<K>, NoMemory>
     ensures { (r : Rest (meaning_of K.Registry)) (w : told.Work (meaning_of K.Registry)) → Holds (meaning_of K.Registry) state job r w state.rids.next → all_drawn state.rids.next (trim_asks state.stand trims) ≡ true → IfOk result (λ x. KeepsMoved (meaning_of K.Registry) state.rids.next x (steps.on_trims (meaning_of K.Registry) (client_of (meaning_of K.Registry) state r) w trims.below (trim_fed state.stand trims from rid msg.now state.rids.next))) }
 {
-    let rids = state.rids;
+    let rids = state.parts.rids;
     let below = trims.below();
-    let step = trims.feed(alloc, &state.stand, from, rid, msg)?;
+    let step = trims.feed(alloc, &state.parts.stand, from, rid, msg)?;
     on_trims(state, alloc, job, below, rids, step)
 }
 
@@ -126,9 +126,9 @@ fn feeds_copy<K: Registry>(
     requires { HasStripe state.stand (spare_of copy) }
     ensures { (r : Rest (meaning_of K.Registry)) (w : told.Work (meaning_of K.Registry)) → Holds (meaning_of K.Registry) state job r w state.rids.next → all_drawn state.rids.next (copy_asks state.stand copy) ≡ true → IfOk result (λ x. KeepsMoved (meaning_of K.Registry) state.rids.next x (steps.on_copy (meaning_of K.Registry) (client_of (meaning_of K.Registry) state r) w copy (copy_fed state.stand copy from rid msg.now state.rids.next))) }
 {
-    let mut rids = drawing(state.rids)?;
+    let mut rids = drawing(state.parts.rids)?;
     let spare = copy.spare();
-    let step = copy.feed(alloc, &state.stand, from, rid, msg, &mut rids)?;
+    let step = copy.feed(alloc, &state.parts.stand, from, rid, msg, &mut rids)?;
     on_copy(state, alloc, job, spare, rids, step)
 }
 
@@ -145,7 +145,7 @@ fn feeds_reconf<K: Registry>(
     requires { AreDrawn state.rids.next reconf }
     ensures { (r : Rest (meaning_of K.Registry)) (w : told.Work (meaning_of K.Registry)) → Holds (meaning_of K.Registry) state job r w state.rids.next → IfOk result (λ x. KeepsMoved (meaning_of K.Registry) state.rids.next x (steps.on_reconf (meaning_of K.Registry) (client_of (meaning_of K.Registry) state r) w (fed reconf from rid msg.now state.rids.next))) }
 {
-    let mut rids = drawing(state.rids)?;
+    let mut rids = drawing(state.parts.rids)?;
     let step = reconf.feed(alloc, from, rid, msg, &mut rids)?;
     on_reconf(state, alloc, job, rids, step)
 }
@@ -171,6 +171,9 @@ pub fn feeds<K: Registry>(
         }
         Task::Trim { trims } => feeds_trims(state, alloc, job, trims, from, rid, msg),
         Task::Copy { copy } => feeds_copy(state, alloc, job, copy, from, rid, msg),
-        Task::Reconf { reconf } => feeds_reconf(state, alloc, job, reconf, from, rid, msg),
+        Task::Reconf { reconf } => {
+            let reconf = Box::into_inner(reconf);
+            feeds_reconf(state, alloc, job, reconf, from, rid, msg)
+        }
     }
 }

@@ -91,10 +91,8 @@ fn puts_in<K: Registry>(
     let number = tx.number();
     let kept = K::copy_op(&op)?;
     let (tx, why) = put_in(tx, alloc, oid, op)?;
-    let state = State {
-        tx: Some(tx),
-        ..state
-    };
+    let mut state = state;
+    state.parts.tx = Some(tx);
     put_said(state, alloc, number, oid, kept, why)
 }
 
@@ -112,8 +110,8 @@ pub fn puts<K: Registry>(
     if !is_object(oid) {
         return Err(NoMemory);
     }
-    let open = state.tx;
-    let state = State { tx: None, ..state };
+    let mut state = state;
+    let open = state.parts.tx.take();
     match open {
         None => Ok(says(state, alloc, List::new(alloc))),
         Some(tx) => puts_in(state, alloc, tx, oid, op),

@@ -73,13 +73,13 @@ pub fn by_tx<K: Registry>(judged: Result<(), TxFault>) -> Result<Option<Refusal>
 fn no_tx<K: Registry>(state: &State<K>) -> Option<Refusal>
     ensures { (r : Rest (meaning_of K.Registry)) → result ≡ told.no_tx (meaning_of K.Registry) (client_of (meaning_of K.Registry) state.now r) }
 {
-    where_true(state.tx.is_none(), Refusal::NoTx)
+    where_true(state.parts.tx.is_none(), Refusal::NoTx)
 }
 
 fn tx_open<K: Registry>(state: &State<K>) -> Option<Refusal>
     ensures { (r : Rest (meaning_of K.Registry)) → result ≡ told.tx_open (meaning_of K.Registry) (client_of (meaning_of K.Registry) state.now r) }
 {
-    where_true(state.tx.is_some(), Refusal::TxOpen)
+    where_true(state.parts.tx.is_some(), Refusal::TxOpen)
 }
 
 fn wrong_kind(allowed: bool, oid: Oid) -> Option<Refusal>
@@ -91,19 +91,22 @@ fn wrong_kind(allowed: bool, oid: Oid) -> Option<Refusal>
 fn not_registered<K: Registry>(state: &State<K>, oid: Oid) -> Option<Refusal>
     ensures { (r : Rest (meaning_of K.Registry)) → result ≡ told.not_registered (meaning_of K.Registry) (client_of (meaning_of K.Registry) state.now r) oid }
 {
-    where_true(!state.dir.registered(oid), Refusal::NotRegistered { oid })
+    where_true(
+        !state.parts.dir.registered(oid),
+        Refusal::NotRegistered { oid },
+    )
 }
 
 fn not_hosted<K: Registry>(state: &State<K>, oid: Oid) -> Option<Refusal>
     ensures { (r : Rest (meaning_of K.Registry)) → result ≡ told.not_hosted (meaning_of K.Registry) (client_of (meaning_of K.Registry) state.now r) oid }
 {
-    where_true(!has(&state.hosted, oid), Refusal::NotHosted { oid })
+    where_true(!has(&state.parts.hosted, oid), Refusal::NotHosted { oid })
 }
 
 fn too_many_hosted<K: Registry>(state: &State<K>, oid: Oid) -> Option<Refusal>
     ensures { (r : Rest (meaning_of K.Registry)) → result ≡ told.too_many_hosted (meaning_of K.Registry) (client_of (meaning_of K.Registry) state.now r) oid }
 {
-    let full = !has(&state.hosted, oid) && state.hosted.len() >= MOST_HOSTED;
+    let full = !has(&state.parts.hosted, oid) && state.parts.hosted.len() >= MOST_HOSTED;
     where_true(full, Refusal::TooMany { what: Many::Hosted })
 }
 
@@ -167,7 +170,7 @@ pub fn refusal<K: Registry>(
             not_registered(state, *oid),
         ])),
         Command::Ask { oid, ask } => {
-            let fault = ask_fault(alloc, &state.tx, *oid, ask)?;
+            let fault = ask_fault(alloc, &state.parts.tx, *oid, ask)?;
             Ok(first(&[
                 no_tx(state),
                 wrong_kind(K::allows_ask(*oid, ask), *oid),
@@ -184,7 +187,7 @@ pub fn refusal<K: Registry>(
         Command::Trim => Ok(tx_open(state)),
         Command::Reconf { change } => Ok(first(&[
             tx_open(state),
-            reconf_fault::<K>(&state.stand, change),
+            reconf_fault::<K>(&state.parts.stand, change),
         ])),
         Command::Copy {
             unit,
@@ -196,7 +199,7 @@ pub fn refusal<K: Registry>(
                 range: *range,
                 stripe: *stripe,
             };
-            Ok(first(&[tx_open(state), copy_fault::<K>(&state.stand, spare)]))
+            Ok(first(&[tx_open(state), copy_fault::<K>(&state.parts.stand, spare)]))
         }
         Command::AskAt { oid, ask, .. } => Ok(first(&[
             tx_open(state),
@@ -215,7 +218,7 @@ pub fn number_on<K: Registry>(state: &State<K>, why: Refusal) -> u32
         Refusal::Busy { .. } => 0,
         Refusal::NoTx => 0,
         Refusal::TxOpen => 0,
-        _ => tx_number::<K>(&state.tx),
+        _ => tx_number::<K>(&state.parts.tx),
     }
 }
 

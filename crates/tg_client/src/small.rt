@@ -18,7 +18,7 @@ ghost use Rattle.tg_client.specs.Idle.{idle};
 use std::alloc::Global;
 use tg_base::{Blob, List, NoMemory, Oid, Part};
 use tg_client_cells::StreamPositions;
-use tg_client_state::{Job, Moved, State};
+use tg_client_state::{Job, JobParts, Moved, State};
 use tg_kind::{Key, Registry, Scope};
 use tg_model::{CommandOf, NoteOf};
 
@@ -34,11 +34,11 @@ pub fn says<K: Registry>(state: State<K>, alloc: Global, notes: List<NoteOf<K>>)
     }
 }
 
-/// A command that waits. It takes no memory.
-pub fn new_job<K: Registry>(alloc: Global, command: CommandOf<K>) -> Job<K>
-    ensures { KeepsJob (meaning_of K.Registry) result (new_work (meaning_of K.Registry) command) }
+/// A command that waits. An `Err` is want of memory.
+pub fn new_job<K: Registry>(alloc: Global, command: CommandOf<K>) -> Result<Job<K>, NoMemory>
+    ensures { IfOk result (λ j. KeepsJob (meaning_of K.Registry) j (new_work (meaning_of K.Registry) command)) }
 {
-    Job {
+    let parts = JobParts {
         command,
         gone: 0,
         gone_before: 0,
@@ -49,7 +49,8 @@ pub fn new_job<K: Registry>(alloc: Global, command: CommandOf<K>) -> Job<K>
         found: StreamPositions::new(alloc),
         trims: List::new(alloc),
         at: 0,
-    }
+    };
+    Job::new(alloc, parts)
 }
 
 /// One more. An `Err` is want of numbers.
@@ -114,7 +115,7 @@ pub fn works_on<K: Registry>(
 ) -> Result<Moved<K>, NoMemory>
     ensures { (v : Option (View (meaning_of K.Registry))) (n : ℕ) → KeepsViewIf (meaning_of K.Registry) state.view v → IfOk result (λ x. KeepsMoved (meaning_of K.Registry) state.rids.next x (steps.works_on (meaning_of K.Registry) (idle (meaning_of K.Registry) state v n) command)) }
 {
-    let hosted = copied(&state.hosted)?;
-    let job = new_job(alloc, command);
+    let hosted = copied(&state.parts.hosted)?;
+    let job = new_job(alloc, command)?;
     state.syncs(alloc, job, hosted)
 }

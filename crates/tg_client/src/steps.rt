@@ -42,13 +42,14 @@ fn tested<K: Registry>(
 fn busy<K: Registry>(state: State<K>, alloc: Global, work: Work<K>) -> Result<Moved<K>, NoMemory>
     ensures { (c : told.Client (meaning_of K.Registry)) (command : CommandOf (meaning_of K.Registry)) → KeepsClient (meaning_of K.Registry) state (Some work) c → IfOk result (λ r. KeepsStep (meaning_of K.Registry) r (client_command (meaning_of K.Registry) c command)) }
 {
+    let Work { job, hand } = work;
     let why = Refusal::Busy {
-        command: work.job.command.word(),
+        command: job.parts.command.word(),
     };
     let notes = one_note::<K>(alloc, 0, What::Refused { why })?;
     given(Moved {
         state,
-        work: Some(work),
+        work: Some(Work { job, hand }),
         sends: List::new(alloc),
         notes,
     })

@@ -37,8 +37,8 @@ fn outstanding<K: Registry>(
     if rids.next >= MOST {
         return Err(NoMemory);
     }
-    let mut sends = hand.again(alloc, &state.stand, rids)?;
-    let waits = ask_servers(alloc, state.layouts, rids)?;
+    let mut sends = hand.again(alloc, &state.parts.stand, rids)?;
+    let waits = ask_servers(alloc, state.parts.layouts, rids)?;
     ask_alike(Role::Layout, &Msg::AskLatest, waits.as_slice(), &mut sends)?;
     Ok(sends)
 }
@@ -53,12 +53,10 @@ fn asked<K: Registry>(
 ) -> Result<Moved<K>, NoMemory>
     ensures { (c : told.Client (meaning_of K.Registry)) → Draws (meaning_of K.Registry) state.stand state.layouts state.rids.next rids.next work sends → KeepsClient (meaning_of K.Registry) state (Some work) c → IfOk result (λ r. KeepsStep (meaning_of K.Registry) r (client_tick (meaning_of K.Registry) c)) }
 {
-    let calls = next_count(state.calls)?;
-    let state = State {
-        rids,
-        calls,
-        ..state
-    };
+    let calls = next_count(state.parts.calls)?;
+    let mut state = state;
+    state.parts.rids = rids;
+    state.parts.calls = calls;
     Ok(Moved {
         state,
         work: Some(work),
@@ -76,7 +74,7 @@ fn asks_again<K: Registry>(
     requires { IsKept (meaning_of K.Registry) state (Some work) }
     ensures { (c : told.Client (meaning_of K.Registry)) → KeepsClient (meaning_of K.Registry) state (Some work) c → IfOk result (λ r. KeepsStep (meaning_of K.Registry) r (client_tick (meaning_of K.Registry) c)) }
 {
-    let mut rids = state.rids;
+    let mut rids = state.parts.rids;
     let sends = outstanding(&state, alloc, &work.hand, &mut rids)?;
     asked(state, alloc, work, rids, sends)
 }
@@ -85,8 +83,9 @@ fn asks_again<K: Registry>(
 fn rests<K: Registry>(state: State<K>, alloc: Global) -> Result<Moved<K>, NoMemory>
     ensures { (c : told.Client (meaning_of K.Registry)) → KeepsClient (meaning_of K.Registry) state None c → IfOk result (λ r. KeepsStep (meaning_of K.Registry) r (client_tick (meaning_of K.Registry) c)) }
 {
-    let calls = next_count(state.calls)?;
-    let state = State { calls, ..state };
+    let calls = next_count(state.parts.calls)?;
+    let mut state = state;
+    state.parts.calls = calls;
     Ok(says(state, alloc, List::new(alloc)))
 }
 

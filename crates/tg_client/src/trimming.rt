@@ -31,7 +31,7 @@ pub fn on_trims<K: Registry>(
 {
     let TrimStep { next, gone, outs } = step;
     let mut state = state;
-    state.rids = rids;
+    state.parts.rids = rids;
     let job = meets(job, gone);
     match next {
         Next::Goes { machine } => Ok(goes_on(

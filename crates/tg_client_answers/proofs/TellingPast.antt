@@ -1,10 +1,9 @@
 -- What is told of the past and of a record, in the words of the rules.
-use Rattle.std.proofs.Common.{◌≡◌, ℕ, Bool, true, false, List, [], ◌∷◌, Option, Some, None, Result, refl, sym, ap, ◌∙◌, subst, arith}
+use Rattle.std.proofs.Common.{◌≡◌, ℕ, true, false, List, [], ◌∷◌, Option, Some, None, Result, sym, ap, ◌∙◌, subst, arith}
 use Rattle.std.specs.Prelude.{IfOk, ◌<◌, ◌≤◌, nat_lt}
 use Rattle.std.proofs.lemmas.Bool.Decides.{nat_tests}
 use Rattle.tg_base.specs.declared.fault.NoMemory.{NoMemory}
 use Rattle.tg_base.specs.declared.ids.Oid.{Oid}
-use Rattle.tg_entry.specs.declared.entry.Entry.{Entry}
 use Rattle.tg_kind.specs.Meaning.{Meaning}
 use Rattle.tg_model.specs.Kinds.{NoteOf}
 use Rattle.tg_model.specs.declared.play.PlayEnd.{PlayEnd}
@@ -14,7 +13,6 @@ use Rattle.tg_model.specs.declared.trace.What.TheVariants as marks
 use Rattle.tg_protocol.specs.Clients as rules
 use Rattle.tg_protocol.specs.Clients.{Client, Work}
 use Rattle.tg_protocol.specs.Past.{PastTurn, PastView, PastGone, past_at, rescue_turn}
-use Rattle.tg_protocol.specs.Past as views
 use Rattle.tg_protocol.specs.Views.{Entries, Play, state_of}
 use Rattle.tg_base.specs.Orders.{with_oid}
 use Rattle.tg_protocol.specs.Answers.{Moved, note, replies, refuses, syncs, trim_above, past_answer, past_played, past_turn, ahead_or, on_ask_at, absent, rescue_by}

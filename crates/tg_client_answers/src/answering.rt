@@ -27,9 +27,9 @@ pub fn answered<K: Registry>(
     requires { IsSome state.view }
     ensures { Moves (meaning_of K.Registry) state job result (λ c w v. told.answer_by (meaning_of K.Registry) c w entries.now (record { view = v; came = came }) w.command) }
 {
-    match &job.command {
+    match &job.parts.command {
         Command::Ask { oid, ask } => {
-            let (tail, oid) = (job.tail, *oid);
+            let (tail, oid) = (job.parts.tail, *oid);
             let ask = K::copy_ask(ask)?;
             on_ask(state, alloc, tail, oid, ask, came)
         }

@@ -32,10 +32,10 @@ fn asked<K: Registry>(
     ensures { Tells (meaning_of K.Registry) state result (λ c. asked_told (meaning_of K.Registry) c tail oid ask answer c.tx) }
 {
     let Answer { ans, part, version } = answer;
-    let number = tx_number(&state.tx);
+    let number = tx_number(&state.parts.tx);
     let mut state = state;
-    let tx = noted(state.tx, oid, part, tail, version)?;
-    state.tx = tx;
+    let tx = noted(state.parts.tx.take(), oid, part, tail, version)?;
+    state.parts.tx = tx;
     let what = What::Asked {
         oid,
         ask,
@@ -59,7 +59,7 @@ fn asks<K: Registry>(
     requires open { IsSome state.tx }
     ensures { (t : Tx) → state.tx ≡ Some t → number ≡ t.number → Asks (meaning_of K.Registry) state tail result (λ c w v. told.ask_answer (meaning_of K.Registry) c w t oid ask v (views.state_of (meaning_of K.Registry) v oid)) }
 {
-    match &state.view {
+    match &state.parts.view {
         None => unreachable!(),
         Some(view) => match answer_of(view, alloc, oid, &ask)? {
             None => state.refuses(alloc, number, Refusal::NotHosted { oid }),
@@ -79,7 +79,7 @@ fn ask_in<K: Registry>(
     requires { IsSome state.view }
     ensures { Asks (meaning_of K.Registry) state tail result (λ c w v. told.ask_in (meaning_of K.Registry) c w oid ask v c.tx) }
 {
-    match &state.tx {
+    match &state.parts.tx {
         None => state.refuses(alloc, 0, Refusal::NoTx),
         Some(tx) => {
             let number = tx.number();
@@ -107,7 +107,7 @@ pub fn on_ask<K: Registry>(
     match came {
         PlayEnd::Played { .. } => ask_in(state, alloc, tail, oid, ask),
         PlayEnd::Blocked { pos, missing } => {
-            let number = tx_number(&state.tx);
+            let number = tx_number(&state.parts.tx);
             state.refuses(alloc, number, Refusal::Undecided { pos, missing })
         }
     }

@@ -31,7 +31,7 @@ pub fn closes<K: Registry>(
 ) -> Result<Moved<K>, NoMemory>
     ensures { Tells (meaning_of K.Registry) state result (λ c. told.answer_closed (meaning_of K.Registry) c (clients.tx_number (meaning_of K.Registry) c.tx) what) }
 {
-    let number = tx_number(&state.tx);
+    let number = tx_number(&state.parts.tx);
     state.closed().answers(alloc, number, what)
 }
 

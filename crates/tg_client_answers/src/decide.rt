@@ -80,7 +80,7 @@ fn judged<K: Registry>(
     requires { IsSome state.view }
     ensures { Moves (meaning_of K.Registry) state job result (λ c w v. told.decide_verdict (meaning_of K.Registry) c w entries.now at entry.now (views.view_outcome (meaning_of K.Registry) v entries.now at entry.now)) }
 {
-    match &state.view {
+    match &state.parts.view {
         None => unreachable!(),
         Some(view) => {
             let answer = decision::<K>(view.outcome(entries, at, entry), at);
@@ -140,7 +140,7 @@ pub fn on_decide<K: Registry>(
     requires { IsSome state.view }
     ensures { Moves (meaning_of K.Registry) state job result (λ c w v. told.on_decide (meaning_of K.Registry) c w entries.now v at came (told.trim_above (meaning_of K.Registry) w.trims at)) }
 {
-    match trim_above::<K>(job.trims.as_slice(), at) {
+    match trim_above::<K>(job.parts.trims.as_slice(), at) {
         None => played(state, alloc, job, entries, at, came),
         Some(below) => state.refuses(alloc, 0, Refusal::Forgotten { at, below }),
     }

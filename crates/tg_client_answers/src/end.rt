@@ -74,7 +74,7 @@ fn judged<K: Registry>(
     requires { IsSome state.view }
     ensures { Moves (meaning_of K.Registry) state job result (λ c w v. told.end_by (meaning_of K.Registry) c w entries.now v entry.now at (views.verdict (meaning_of K.Registry) v entries.now at entry.now)) }
 {
-    match &state.view {
+    match &state.parts.view {
         None => unreachable!(),
         Some(view) => {
             let answer = ended(view, entries, at, entry)?;
@@ -115,7 +115,7 @@ pub fn on_end<K: Registry>(
     requires { IsSome state.view }
     ensures { Moves (meaning_of K.Registry) state job result (λ c w v. told.on_end (meaning_of K.Registry) c w entries.now v came) }
 {
-    let at = job.at;
+    let at = job.parts.at;
     match came {
         PlayEnd::Played { .. } => ends(state, alloc, job, entries, at),
         PlayEnd::Blocked { pos, .. } => unsure(state, alloc, at, pos),

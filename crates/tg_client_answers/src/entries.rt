@@ -51,10 +51,22 @@ pub fn entries_of<K: Registry>(
     ensures suffice { (r : Rest (meaning_of K.Registry)) (w : clients.Work (meaning_of K.Registry)) → KeepsViewIf (meaning_of K.Registry) state.now.view r.view → KeepsJob (meaning_of K.Registry) job.now w → IfOk result (λ es. Suffice (meaning_of K.Registry) (client_of (meaning_of K.Registry) state.now r) w es) }
     ensures spelled { IfOk result (λ es. AreSpelled es) }
 {
-    let known = &state.known;
+    let known = &state.parts.known;
     let settled = known.settled();
-    if plays_from(&state.view, settled) && goes_by_new::<K>(&job.command, job.at, settled) {
-        return known.entries_from_settled(alloc, &job.found, state.hosted.as_slice(), job.tail);
+    if plays_from(&state.parts.view, settled)
+        && goes_by_new::<K>(&job.parts.command, job.parts.at, settled)
+    {
+        return known.entries_from_settled(
+            alloc,
+            &job.parts.found,
+            state.parts.hosted.as_slice(),
+            job.parts.tail,
+        );
     }
-    known.entries(alloc, &job.found, state.hosted.as_slice(), job.tail)
+    known.entries(
+        alloc,
+        &job.parts.found,
+        state.parts.hosted.as_slice(),
+        job.parts.tail,
+    )
 }

@@ -105,10 +105,10 @@ fn known<K: Registry>(
     requires { IsSome state.view }
     ensures { Moves (meaning_of K.Registry) state job result (λ c w v. told.fate_known (meaning_of K.Registry) c w entries.now v at (views.fate_of (meaning_of K.Registry) v at)) }
 {
-    match &state.view {
+    match &state.parts.view {
         None => unreachable!(),
         Some(view) => {
-            let fate = fate(view, entries, job.trims.as_slice(), at);
+            let fate = fate(view, entries, job.parts.trims.as_slice(), at);
             tells(state, alloc, at, fate)
         }
     }

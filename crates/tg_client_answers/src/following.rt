@@ -33,8 +33,8 @@ fn plays<K: Registry>(state: State<K>, alloc: Global, job: Job<K>) -> Result<Mov
     ensures { Follows (meaning_of K.Registry) state job result (λ c w. told.plays_own (meaning_of K.Registry) c w (clients.all_entries (meaning_of K.Registry) c w c.hosted)) }
 {
     let entries = entries_of(&state, alloc, &job)?;
-    let target = target_of::<K>(&job.command, job.at, job.tail);
-    let (state, came) = played(state, alloc, &entries, job.trims.as_slice(), target)?;
+    let target = target_of::<K>(&job.parts.command, job.parts.at, job.parts.tail);
+    let (state, came) = played(state, alloc, &entries, job.parts.trims.as_slice(), target)?;
     answered(state, alloc, job, &entries, came)
 }
 
@@ -50,7 +50,7 @@ pub fn walked<K: Registry>(
 ) -> Result<Moved<K>, NoMemory>
     ensures { (r : Rest (meaning_of K.Registry)) (w : clients.Work (meaning_of K.Registry)) (old : ℕ) → old ≤ state.rids.next → KeepsViewIf (meaning_of K.Registry) state.view r.view → KeepsJob (meaning_of K.Registry) job w → IfOk result (λ x. KeepsMoved (meaning_of K.Registry) old x (told.walked (meaning_of K.Registry) (client_of (meaning_of K.Registry) state r) w)) }
 {
-    match &job.command {
+    match &job.parts.command {
         Command::AskAt { at, oid, ask } => {
             let (at, oid) = (*at, *oid);
             let ask = K::copy_ask(ask)?;

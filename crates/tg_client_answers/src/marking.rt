@@ -122,9 +122,9 @@ fn next_marking<K: Registry>(
     ensures notes { IfOk result (λ x. x.notes ≡ told.mark_notes (meaning_of K.Registry) (state.now.begun + 1) oid mark) }
     ensures numbers { IfOk result (λ _. state.now.begun + 1 < 2 ^ 32) }
 {
-    match state.begun.checked_add(1) {
+    match state.parts.begun.checked_add(1) {
         None => Err(NoMemory),
-        Some(number) => transaction(alloc, state.num, number, oid, mark),
+        Some(number) => transaction(alloc, state.parts.num, number, oid, mark),
     }
 }
 
@@ -139,14 +139,14 @@ fn marks<K: Registry>(
     ensures { (r : Rest (meaning_of K.Registry)) (w : rules.Work (meaning_of K.Registry)) (old : ℕ) → old ≤ state.rids.next → KeepsViewIf (meaning_of K.Registry) state.view r.view → KeepsJob (meaning_of K.Registry) job w → IfOk result (λ x. KeepsMoved (meaning_of K.Registry) old x (told.forget_by (meaning_of K.Registry) (client_of (meaning_of K.Registry) state r) w oid mark None)) }
 {
     let marking = next_marking(&state, alloc, oid, mark)?;
-    let begun = state.begun + 1;
+    let begun = state.parts.begun + 1;
     let purpose = Purpose::Marks {
         number: begun,
         oid,
         mark,
     };
     let mut state = state;
-    state.begun = begun;
+    state.parts.begun = begun;
     state.appends(alloc, job, marking.draft, purpose, marking.notes)
 }
 

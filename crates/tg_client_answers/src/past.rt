@@ -26,9 +26,12 @@ fn entries<K: Registry>(state: &State<K>, alloc: Global, job: &Job<K>) -> Result
     ensures entries { (r : Rest (meaning_of K.Registry)) (w : rules.Work (meaning_of K.Registry)) → KeepsJob (meaning_of K.Registry) job.now w → IfOk result (λ es. es ≡ rules.member_entries (meaning_of K.Registry) (client_of (meaning_of K.Registry) state.now r) w w.oids) }
     ensures spelled { IfOk result (λ es. AreSpelled es) }
 {
-    state
-        .known
-        .member_entries(alloc, &job.found, job.oids.as_slice(), job.tail)
+    state.parts.known.member_entries(
+        alloc,
+        &job.parts.found,
+        job.parts.oids.as_slice(),
+        job.parts.tail,
+    )
 }
 
 /// What becomes of the ask. An `Err` is want of memory.
@@ -45,9 +48,9 @@ fn turn<K: Registry>(
     past_at(
         alloc,
         &entries,
-        job.trims.as_slice(),
-        job.oids.as_slice(),
-        state.objects.as_slice(),
+        job.parts.trims.as_slice(),
+        job.parts.oids.as_slice(),
+        state.parts.objects.as_slice(),
         oid,
         at,
     )
@@ -135,8 +138,14 @@ pub fn on_ask_at<K: Registry>(
 ) -> Result<Moved<K>, NoMemory>
     ensures { (r : Rest (meaning_of K.Registry)) (w : rules.Work (meaning_of K.Registry)) (old : ℕ) → KeepsViewIf (meaning_of K.Registry) state.view r.view → KeepsJob (meaning_of K.Registry) job w → IfOk result (λ x. KeepsMoved (meaning_of K.Registry) old x (told.on_ask_at (meaning_of K.Registry) (client_of (meaning_of K.Registry) state r) w at oid ask)) }
 {
-    if job.tail < at {
-        return state.refuses(alloc, 0, Refusal::Ahead { tail: job.tail });
+    if job.parts.tail < at {
+        return state.refuses(
+            alloc,
+            0,
+            Refusal::Ahead {
+                tail: job.parts.tail,
+            },
+        );
     }
     let turn = turn(&state, alloc, &job, at, oid)?;
     replied(state, alloc, turn, at, oid, ask)

@@ -68,11 +68,11 @@ pub fn played<K: Registry>(
     ensures seen { IfOk result (λ x. IsSome x.0.view) }
 {
     let mut state = state;
-    let kept = state.view;
-    let objects = &state.objects;
-    let hosted = state.hosted.as_slice();
+    let kept = state.parts.view.take();
+    let objects = &state.parts.objects;
+    let hosted = state.parts.hosted.as_slice();
     let view = view_or_new(kept, alloc, entries, trims, objects, hosted)?;
     let (view, came) = view.play(alloc, entries, target)?;
-    state.view = Some(view);
+    state.parts.view = Some(view);
     Ok((state, came))
 }

@@ -29,9 +29,12 @@ fn entries<K: Registry>(state: &State<K>, alloc: Global, job: &Job<K>) -> Result
     ensures spelled { IfOk result (λ es. AreSpelled es) }
     ensures below { IfOk result (λ es. all_below job.now.tail es ≡ true) }
 {
-    state
-        .known
-        .entries(alloc, &job.found, job.oids.as_slice(), job.tail)
+    state.parts.known.entries(
+        alloc,
+        &job.parts.found,
+        job.parts.oids.as_slice(),
+        job.parts.tail,
+    )
 }
 
 /// A turn of the rescue. An `Err` is want of memory.
@@ -47,10 +50,10 @@ fn turn<K: Registry>(
     rescue_turn::<K>(
         alloc,
         &entries,
-        job.tail,
-        job.trims.as_slice(),
-        job.oids.as_slice(),
-        state.objects.as_slice(),
+        job.parts.tail,
+        job.parts.trims.as_slice(),
+        job.parts.oids.as_slice(),
+        state.parts.objects.as_slice(),
         at,
     )
 }
@@ -106,9 +109,13 @@ fn record<K: Registry>(
 ) -> Result<Option<Entry>, NoMemory>
     ensures { (r : Rest (meaning_of K.Registry)) (w : rules.Work (meaning_of K.Registry)) → KeepsJob (meaning_of K.Registry) job.now w → IfOk result (λ e. e ≡ views.commit_at (rules.all_entries (meaning_of K.Registry) (client_of (meaning_of K.Registry) state.now r) w w.oids) at) }
 {
-    state
-        .known
-        .commit_at(alloc, &job.found, job.oids.as_slice(), job.tail, at)
+    state.parts.known.commit_at(
+        alloc,
+        &job.parts.found,
+        job.parts.oids.as_slice(),
+        job.parts.tail,
+        at,
+    )
 }
 
 /// The decision record of a record is appended, where there is one. An `Err` is want of memory, or of numbers.
@@ -187,7 +194,7 @@ fn wider<K: Registry>(
 ) -> Result<Moved<K>, NoMemory>
     ensures { (r : Rest (meaning_of K.Registry)) (w : rules.Work (meaning_of K.Registry)) (old : ℕ) → old ≤ state.rids.next → KeepsViewIf (meaning_of K.Registry) state.view r.view → KeepsJob (meaning_of K.Registry) job w → IfOk result (λ x. KeepsMoved (meaning_of K.Registry) old x (told.syncs (meaning_of K.Registry) (client_of (meaning_of K.Registry) state r) w (with_oid added job.oids))) }
 {
-    let oids = widened(alloc, job.oids.as_slice(), added)?;
+    let oids = widened(alloc, job.parts.oids.as_slice(), added)?;
     state.syncs(alloc, job, oids)
 }
 
@@ -208,7 +215,7 @@ fn after<K: Registry>(
             state.refuses(alloc, 0, Refusal::TooMany { what })
         }
         RescueTurn::Absent => {
-            let above = trim_above::<K>(job.trims.as_slice(), at);
+            let above = trim_above::<K>(job.parts.trims.as_slice(), at);
             absent(state, alloc, above, at)
         }
         RescueTurn::Stuck { pos, missing } => {

@@ -56,9 +56,16 @@ fn saved<K: Registry>(
     ensures saves { (v : views.View (meaning_of K.Registry)) → KeepsViewIf (meaning_of K.Registry) state.now.view (Some v) → Saves result (ckpts.checkpoint (meaning_of K.Registry) v oid upto state.now.num (state.now.checkpoints + 1)) }
     ensures numbers { IfOk result (λ _. state.now.checkpoints + 1 < 2 ^ 32) }
 {
-    match &state.view {
+    match &state.parts.view {
         None => unreachable!(),
-        Some(view) => saved_by(alloc, view, oid, upto, state.num, state.checkpoints),
+        Some(view) => saved_by(
+            alloc,
+            view,
+            oid,
+            upto,
+            state.parts.num,
+            state.parts.checkpoints,
+        ),
     }
 }
 
@@ -73,13 +80,13 @@ fn puts<K: Registry>(
     requires { state.checkpoints + 1 < 2 ^ 32 }
     ensures { (r : Rest (meaning_of K.Registry)) (w : rules.Work (meaning_of K.Registry)) (old : ℕ) → old ≤ state.rids.next → KeepsViewIf (meaning_of K.Registry) state.view r.view → KeepsJob (meaning_of K.Registry) job w → IfOk result (λ x. KeepsMoved (meaning_of K.Registry) old x (told.appends (meaning_of K.Registry) (record (client_of (meaning_of K.Registry) state r) { checkpoints = state.checkpoints + 1 }) w draft (rules.Saves oid job.tail) [])) }
 {
-    let checkpoints = state.checkpoints + 1;
+    let checkpoints = state.parts.checkpoints + 1;
     let purpose = Purpose::Saves {
         oid,
-        upto: job.tail,
+        upto: job.parts.tail,
     };
     let mut state = state;
-    state.checkpoints = checkpoints;
+    state.parts.checkpoints = checkpoints;
     state.appends(alloc, job, draft, purpose, List::new(alloc))
 }
 
@@ -121,7 +128,7 @@ fn saves<K: Registry>(
     requires { IsSome state.view }
     ensures { (r : Rest (meaning_of K.Registry)) (w : rules.Work (meaning_of K.Registry)) (v : views.View (meaning_of K.Registry)) (old : ℕ) → r.view ≡ Some v → old ≤ state.rids.next → KeepsViewIf (meaning_of K.Registry) state.view r.view → KeepsJob (meaning_of K.Registry) job w → IfOk result (λ x. KeepsMoved (meaning_of K.Registry) old x (told.saves (meaning_of K.Registry) (client_of (meaning_of K.Registry) state r) w oid (ckpts.checkpoint (meaning_of K.Registry) v oid w.tail state.num (state.checkpoints + 1)))) }
 {
-    match saved(&state, alloc, oid, job.tail) {
+    match saved(&state, alloc, oid, job.parts.tail) {
         Ok(draft) => puts(state, alloc, job, oid, draft),
         Err(fault) => unsaved(state, alloc, fault),
     }

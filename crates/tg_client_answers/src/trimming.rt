@@ -19,7 +19,7 @@ use tg_model::{PlayEnd, Refusal};
 fn floor<K: Registry>(state: &State<K>) -> Pos
     ensures { (v : views.View (meaning_of K.Registry)) → KeepsViewIf (meaning_of K.Registry) state.now.view (Some v) → result ≡ told.floor_of (meaning_of K.Registry) (views.state_of (meaning_of K.Registry) v directory) }
 {
-    match &state.view {
+    match &state.parts.view {
         None => 0,
         Some(view) => match view.state(Oid(0)) {
             None => 0,

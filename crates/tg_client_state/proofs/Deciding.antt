@@ -1,6 +1,6 @@
 -- A decision record in the streams of an entry has a spelling.
 use Rattle.std.proofs.Common.{◌≡◌, ◌<◌, ◌≤◌, ◌^◌, ℕ, Bool, true, List, [], ◌∷◌, refl, sym, ap, ◌∙◌, subst, arith}
-use Rattle.std.specs.Prelude.{◌&&◌, ◌==◌, nat_le, length, map}
+use Rattle.std.specs.Prelude.{◌==◌, nat_le, length, map}
 use Rattle.std.specs.List.{list_all}
 use Rattle.std.proofs.lemmas.Bool.Decides.{nat_tests}
 use Rattle.tg_base.specs.Units.{is_rising}
@@ -9,10 +9,10 @@ use Rattle.tg_entry.specs.declared.entry.Head.{Head}
 use Rattle.tg_entry.specs.declared.entry.Entry.{Entry}
 use Rattle.tg_entry.specs.declared.entry.Body.TheVariants.{Decision}
 use Rattle.tg_entry.specs.Drafts.{IsDraft}
-use Rattle.tg_entry.specs.Records.{is_object, is_stream, IsHead}
+use Rattle.tg_entry.specs.Records.{is_stream, IsHead}
 use Rattle.tg_entry.specs.Writes.{stream_numbers}
 use Rattle.tg_entry.proofs.Fits.{records_fit}
-use Rattle.tg_protocol.specs.Entries.{unlinked, oid_of_link, draft}
+use Rattle.tg_protocol.specs.Entries.{unlinked, oid_of_link}
 use Rattle.tg_client_state.specs.Drafts.{are_streams, of_object}
 use Rattle.tg_client_state.proofs.Headers.{first_true, rest_true, both}
 

@@ -1,10 +1,9 @@
 -- The objects of a header that keeps the rules are such as a directory lists at first.
-use Rattle.std.proofs.Common.{◌≡◌, ℕ, Bool, true, false, List, [], ◌∷◌, refl, sym, ap, ◌∙◌, subst, arith}
-use Rattle.std.specs.Prelude.{not, ◌&&◌, ◌||◌, ◌==◌, nat_lt, nat_le, length, map, IsTrue}
-use Rattle.std.specs.List.{list_all, list_any}
+use Rattle.std.proofs.Common.{◌≡◌, Bool, true, false, List, [], ◌∷◌, refl, sym, ap, ◌∙◌, arith}
+use Rattle.std.specs.Prelude.{not, ◌&&◌, ◌||◌, ◌==◌, nat_le, length, map}
+use Rattle.std.specs.List.{list_all}
 use Rattle.std.proofs.lemmas.Bool.{true≢false}
 use Rattle.std.proofs.lemmas.Bool.Decides.{nat_tests}
-use Rattle.tg_base.specs.Clusters as clusters
 use Rattle.tg_base.specs.Clusters.{Header, IsHeader, number_of, is_user_object, are_objects}
 use Rattle.tg_base.specs.Units.{has, is_distinct}
 use Rattle.tg_base.specs.declared.ids.Oid.{Oid}

@@ -1,7 +1,6 @@
 -- The command waits with a task that has begun.
-use Rattle.std.proofs.Common.{◌≡◌, ◌≤◌, ℕ, Bool, true, List, [], ◌∷◌, filter, Some, cond, refl, sym, ap, ◌∙◌, subst, arith}
-use Rattle.std.specs.Prelude.{nat_le, ◌&&◌}
-use Rattle.std.specs.List.{list_all}
+use Rattle.std.proofs.Common.{◌≡◌, ◌≤◌, ℕ, Bool, true, List, [], ◌∷◌, Some, cond, refl, sym, ap, ◌∙◌, arith}
+use Rattle.std.specs.Prelude.{nat_le}
 use Rattle.std.proofs.lemmas.Bool.Decides.{nat_tests}
 use Rattle.tg_base.specs.declared.packet.Out.{Out}
 use Rattle.tg_kind.specs.Meaning.{Meaning}
@@ -11,7 +10,7 @@ use Rattle.tg_protocol.specs.Clients as told
 use Rattle.tg_protocol.specs.ClientSteps.{client_asks, task_asks}
 use Rattle.tg_protocol.specs.Answers.{holds}
 use Rattle.tg_client_state.specs.Numbers.{all_from}
-use Rattle.tg_client_state.specs.Tasks.{TaskOf, JobOf, told_task, work_of, KeepsJob}
+use Rattle.tg_client_state.specs.Tasks.{TaskOf, JobOf, told_task, KeepsJob}
 use Rattle.tg_client_state.specs.declared.hand.Hand.TheVariants.{Doing}
 use Rattle.tg_client_state.specs.declared.begin.Begun.{Begun}
 use Rattle.tg_client_state.specs.States.{StateOf, Rest, client_of, KeepsViewIf, KeepsMoved, IsBegun}

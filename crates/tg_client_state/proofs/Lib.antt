@@ -1,4 +1,5 @@
 pub mod Answered
+pub mod Boxed
 pub mod Deciding
 pub mod Drawn
 pub mod Headers

@@ -1,5 +1,5 @@
 -- Machines that have begun.
-use Rattle.std.proofs.Common.{◌≡◌, ◌<◌, ◌^◌, ℕ, Bool, true, false, List, [], Option, Some, None, refl, sym, ap, ◌∙◌, subst}
+use Rattle.std.proofs.Common.{◌≡◌, ℕ, false, List, [], Option, Some, None, sym, ap, ◌∙◌, subst}
 use Rattle.std.specs.Prelude.{◌==◌}
 use Rattle.tg_base.specs.declared.ids.Oid.{Oid}
 use Rattle.tg_base.specs.declared.packet.Out.{Out}
@@ -8,13 +8,13 @@ use Rattle.tg_base.specs.Layouts.{Layout}
 use Rattle.tg_entry.specs.declared.entry.Entry.{Entry}
 use Rattle.tg_kind.specs.Meaning.{Meaning}
 use Rattle.tg_model.specs.Kinds.{NoteOf}
-use Rattle.tg_protocol.specs.Requests.{drawn_from, Goes, Turn, turn}
+use Rattle.tg_protocol.specs.Requests.{drawn_from, Goes, turn}
 use Rattle.tg_protocol.specs.Appending.{Append, AppendEnd, AppendTurn, Token, append_asks, append_start}
 use Rattle.tg_protocol.specs.Syncing.{Sync, SyncTurn, Answer, Confirmed, sync_asks, sync_start}
 use Rattle.tg_protocol.specs.Trimming.{Trims, TrimTurn, Trimmed, trim_asks, trim_start}
 use Rattle.tg_protocol.specs.Clients as told
 use Rattle.tg_protocol.specs.ClientSteps.{task_asks}
-use Rattle.tg_protocol.specs.Answers.{Moved, holds, append_begun, appends, sync_begun, syncs, trim_begun, trims_if}
+use Rattle.tg_protocol.specs.Answers.{holds, append_begun, appends, sync_begun, syncs, trim_begun, trims_if}
 use Rattle.tg_append.specs.SyncLaws.{answer_in}
 use Rattle.tg_client_cells.specs.Known.{Knowledge}
 use Rattle.tg_client_state.specs.Numbers.{BeginsNumbers}

@@ -1,11 +1,10 @@
 -- What is sent of a machine's turn.
-use Rattle.std.proofs.Common.{◌≡◌, ℕ, ◌≤◌, true, List, [], ◌++◌, refl, sym, ap, subst, ◌∙◌, arith}
+use Rattle.std.proofs.Common.{◌≡◌, ℕ, ◌≤◌, List, ◌++◌, refl, sym, ap, subst, ◌∙◌, arith}
 use Rattle.std.specs.Prelude.{⊤}
 use Rattle.tg_base.specs.declared.packet.Out.{Out}
-use Rattle.tg_chain.specs.Turns.{drawn_between}
 use Rattle.tg_protocol.specs.Requests.{Next, Goes, Learns, Ends, Turn, drawn_from}
 use Rattle.tg_append.specs.Turns.{Then, On, Paused, Over, ruled_to, new_asks, after}
-use Rattle.tg_client_state.specs.Numbers.{all_from, ThenNew, ThenDrawn, ThenFresh, FitsNumbers, BeginsNumbers}
+use Rattle.tg_client_state.specs.Numbers.{ThenNew, ThenFresh, FitsNumbers, BeginsNumbers}
 use Rattle.tg_client_state.specs.Steps.{ThenAlike, Fits}
 use Rattle.tg_client_state.proofs.Waiting.{all_kept}
 

@@ -1,5 +1,5 @@
 -- A command that waits on.
-use Rattle.std.proofs.Common.{◌≡◌, ℕ, ◌+◌, ◌≤◌, true, false, Bool, ◌&&◌, List, [], ◌∷◌, ◌++◌, length, Option, Some, None, Result, refl, sym, ap, subst, ◌∙◌, arith}
+use Rattle.std.proofs.Common.{◌≡◌, ℕ, ◌+◌, ◌≤◌, true, false, Bool, List, [], ◌∷◌, Option, Some, None, Result, refl, sym, ap, subst, ◌∙◌, arith}
 use Rattle.std.specs.Prelude.{nat_le, nat_lt, max, if◌then◌else◌, IfOk}
 use Rattle.tg_base.specs.declared.fault.NoMemory.{NoMemory}
 use Rattle.std.specs.List.{list_all}
@@ -27,7 +27,7 @@ use Rattle.tg_client_state.specs.Tasks as tasks
 use Rattle.tg_client_state.proofs.Steps.{more_drawn, each_below, each_from}
 use Rattle.tg_client_state.specs.Tasks.{JobOf, HandOf, WorkOf, PausedOf, work_of, KeepsJob, KeepsWork, KeepsHand, KeepsMaybe}
 use Rattle.tg_client_state.specs.declared.hand.Hand.TheVariants as hand
-use Rattle.tg_client_state.specs.States.{StateOf, MovedOf, Rest, client_of, rest_of, all_below, are_drawn, AreDrawn, KeepsViewIf, KeepsClient, KeepsMoved}
+use Rattle.tg_client_state.specs.States.{StateOf, MovedOf, Rest, client_of, all_below, are_drawn, AreDrawn, KeepsViewIf, KeepsClient, KeepsMoved}
 use Rattle.tg_client_state.specs.Moves.{Holds, Carries, Leaves}
 
 -- Numbers.

@@ -17,7 +17,7 @@ use Rattle.tg_client_cells.specs.Known.{Knowledge}
 use Rattle.tg_client_cells.specs.Walks.{OverSettled, FindsDown}
 use Rattle.tg_client_state.specs.Numbers.{all_from}
 use Rattle.tg_client_state.specs.Tasks.{TaskOf, WorkOf, told_task, KeepsMaybe, IsFit, IsPausedFit}
-use Rattle.tg_client_state.specs.declared.state.State.{State}
+use Rattle.tg_client_state.specs.declared.state.StateParts.{StateParts as State}
 use Rattle.tg_client_state.specs.declared.moved.Moved.{Moved}
 use Rattle.tg_client_state.specs.declared.begin.Begun.{Begun}
 

@@ -19,7 +19,7 @@ use Rattle.tg_client_state.specs.declared.paused.Paused.{Paused}
 use Rattle.tg_client_state.specs.declared.paused.Paused.TheVariants as given
 use Rattle.tg_client_state.specs.declared.hand.Hand.{Hand}
 use Rattle.tg_client_state.specs.declared.hand.Hand.TheVariants as hand
-use Rattle.tg_client_state.specs.declared.work.Job.{Job}
+use Rattle.tg_client_state.specs.declared.work.JobParts.{JobParts as Job}
 use Rattle.tg_client_state.specs.declared.work.Work.{Work}
 
 module _ (m : Meaning) where
@@ -55,7 +55,7 @@ module _ (m : Meaning) where
   told_task (task.Append a x) = told.Appending a (told_purpose x)
   told_task (task.Trim t) = told.Trimming t
   told_task (task.Copy c) = told.Copying' c
-  told_task (task.Reconf r) = told.Reconfiguring r
+  told_task (task.Reconf r) = told.Reconfiguring r.value
 
   -- what goes on of a task of the rules in a newer layout
   abbrev pub GoesOn : PausedOf → told.Task m → Type 0
@@ -64,7 +64,7 @@ module _ (m : Meaning) where
   GoesOn (given.Append a x) (told.Appending b y) = (a ≡ paused b) × (told_purpose x ≡ y)
   GoesOn (given.Trim n) (told.Trimming t) = n ≡ t.below
   GoesOn (given.Copy j) (told.Copying' c) = j ≡ spare_of c
-  GoesOn (given.Reconf r) (told.Reconfiguring s) = r ≡ s
+  GoesOn (given.Reconf r) (told.Reconfiguring s) = r.value ≡ s
   GoesOn _ _ = ⊥
 
   abbrev pub KeepsHand : HandOf → told.Hand m → Type 0

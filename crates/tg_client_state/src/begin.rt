@@ -33,10 +33,10 @@ impl<K: Registry> State<K> {
         ensures same { IfOk result (λ n. n ≡ self.now.rids) }
         ensures left { IfOk result (λ n. n.next < 2 ^ 62) }
     {
-        if self.rids.next >= MOST {
+        if self.parts.rids.next >= MOST {
             return Err(NoMemory);
         }
-        Ok(self.rids)
+        Ok(self.parts.rids)
     }
 
     /// An append begins. An `Err` is want of memory, or of numbers; and a draft whose page would have more than 4,096
@@ -61,7 +61,7 @@ impl<K: Registry> State<K> {
         ensures drawn { IfOk result (λ b. b.rids.next ≤ self.now.rids.next + 1) }
     {
         let mut rids = self.numbers()?;
-        let step = Append::start(alloc, &self.stand, draft, &mut rids)?;
+        let step = Append::start(alloc, &self.parts.stand, draft, &mut rids)?;
         let sends = step.outs;
         match step.next {
             Next::Goes { machine } => Ok(Begun {
@@ -82,7 +82,7 @@ impl<K: Registry> State<K> {
     {
         let mut rids = self.numbers()?;
         let oids = oids.clone()?;
-        let step = Sync::start(alloc, &self.stand, oids, &mut rids)?;
+        let step = Sync::start(alloc, &self.parts.stand, oids, &mut rids)?;
         let sends = step.outs;
         match step.next {
             Next::Goes { machine } => Ok(Begun {
@@ -102,7 +102,7 @@ impl<K: Registry> State<K> {
         ensures drawn { IfOk result (λ b. b.rids.next ≤ self.now.rids.next + 64) }
     {
         let mut rids = self.numbers()?;
-        let step = Trims::start(alloc, &self.stand, below, &mut rids)?;
+        let step = Trims::start(alloc, &self.parts.stand, below, &mut rids)?;
         let sends = step.outs;
         match step.next {
             Next::Goes { machine } => Ok(Begun {

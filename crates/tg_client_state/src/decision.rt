@@ -106,11 +106,11 @@ impl<K: Registry> State<K> {
         ensures draft { IfOk result (λ d. d ≡ draft self.now.num (self.now.decisions + 1) (streams_of entry.now) (Decision at yes)) }
         ensures numbers { IfOk result (λ _. self.now.decisions + 1 < 2 ^ 32) }
     {
-        match self.decisions.checked_add(1) {
+        match self.parts.decisions.checked_add(1) {
             None => Err(NoMemory),
             Some(number) => drafted(
                 alloc,
-                self.num,
+                self.parts.num,
                 number,
                 entry.head.streams.as_slice(),
                 at,

@@ -31,6 +31,6 @@ pub use objects::HeaderObjects;
 pub use paused::Paused;
 pub use purpose::Purpose;
 pub use replies::one_note;
-pub use state::State;
+pub use state::{State, StateParts};
 pub use task::Task;
-pub use work::{Job, Work};
+pub use work::{Job, JobParts, Work};

@@ -75,7 +75,7 @@ fn waits_for_layout<K: Registry>(
     let Asked { waits, sends, rids } = asked;
     let hand = Hand::Learning { waits, paused };
     let mut state = state;
-    state.rids = rids;
+    state.parts.rids = rids;
     Moved {
         state,
         work: Some(Work { job, hand }),
@@ -94,7 +94,7 @@ pub fn learns<K: Registry>(
 ) -> Result<Moved<K>, NoMemory>
     ensures { (r : Rest (meaning_of K.Registry)) (w : told.Work (meaning_of K.Registry)) (old : ℕ) (t : told.Task (meaning_of K.Registry)) → Holds (meaning_of K.Registry) state job r w old → Leaves (meaning_of K.Registry) state paused t → IfOk result (λ x. KeepsMoved (meaning_of K.Registry) old x (steps.learns_for (meaning_of K.Registry) (client_of (meaning_of K.Registry) state r) w t)) }
 {
-    let asked = asks_servers(alloc, state.layouts, state.rids)?;
+    let asked = asks_servers(alloc, state.parts.layouts, state.parts.rids)?;
     Ok(waits_for_layout(state, alloc, job, paused, asked))
 }
 
@@ -115,6 +115,6 @@ pub fn meets<K: Registry>(job: Job<K>, gone: Pos) -> Job<K>
     ensures { result ≡ record job { gone = max job.gone gone } }
 {
     let mut job = job;
-    job.gone = job.gone.max(gone);
+    job.parts.gone = job.parts.gone.max(gone);
     job
 }

@@ -34,6 +34,6 @@ pub enum Paused<K: Kind> {
     },
     /// A reconfiguration is as it was.
     Reconf {
-        reconf: Reconf,
+        reconf: Box<Reconf>,
     },
 }

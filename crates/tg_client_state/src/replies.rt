@@ -10,7 +10,9 @@ ghost use Rattle.tg_client_state.specs.States.{Rest, client_of, rest_of, directo
 use crate::moved::Moved;
 use crate::state::State;
 use std::alloc::Global;
+use std::mem;
 use tg_base::{List, NoMemory, Oid, Pos};
+use tg_client_cells::Known;
 use tg_kind::Registry;
 use tg_model::{Note, NoteOf, Refusal, What, WhatOf};
 
@@ -32,7 +34,7 @@ impl<K: Registry> State<K> {
     pub fn upto(&self) -> Pos
         ensures { (r : Rest (meaning_of K.Registry)) → KeepsViewIf (meaning_of K.Registry) self.now.view r.view → result ≡ upto_of (meaning_of K.Registry) (client_of (meaning_of K.Registry) self.now r) }
     {
-        match &self.view {
+        match &self.parts.view {
             None => 0,
             Some(view) => view.upto(),
         }
@@ -44,8 +46,9 @@ impl<K: Registry> State<K> {
     {
         let upto = self.upto();
         let mut state = self;
-        let known = state.known.give_up(alloc, upto)?;
-        state.known = known;
+        let taken = mem::replace(&mut state.parts.known, Known::new(alloc));
+        let known = taken.give_up(alloc, upto)?;
+        state.parts.known = known;
         Ok(Moved {
             state,
             work: None,
@@ -66,7 +69,7 @@ impl<K: Registry> State<K> {
     fn played_directory(&self) -> Result<Option<K>, NoMemory>
         ensures { (v : Option (View (meaning_of K.Registry))) → KeepsViewIf (meaning_of K.Registry) self.now.view v → IfOk result (λ d. d ≡ directory_in (meaning_of K.Registry) v) }
     {
-        match &self.view {
+        match &self.parts.view {
             None => Ok(None),
             Some(view) => match view.state(Oid(0)) {
                 None => Ok(None),
@@ -85,7 +88,7 @@ impl<K: Registry> State<K> {
             None => Ok(self),
             Some(dir) => {
                 let mut state = self;
-                state.dir = dir;
+                state.parts.dir = dir;
                 Ok(state)
             }
         }
@@ -104,7 +107,7 @@ impl<K: Registry> State<K> {
         ensures { result ≡ record self { tx = None } }
     {
         let mut state = self;
-        state.tx = None;
+        state.parts.tx = None;
         state
     }
 }

@@ -30,7 +30,7 @@ pub enum Task<K: Registry> {
     /// A stripe is brought to a spare unit.
     Copy { copy: CopyRange },
     /// The layout is changed.
-    Reconf { reconf: Reconf },
+    Reconf { reconf: Box<Reconf> },
 }
 
 impl<K: Registry> Task<K> {

@@ -30,7 +30,7 @@ impl<K: Registry> State<K> {
         } = begun;
         let hand = Hand::Doing { task: machine };
         let mut state = self;
-        state.rids = rids;
+        state.parts.rids = rids;
         Moved {
             state,
             work: Some(Work { job, hand }),
@@ -94,7 +94,7 @@ impl<K: Registry> State<K> {
     {
         let draft = self.decision(alloc, entry, at, yes)?;
         let mut state = self;
-        state.decisions += 1;
+        state.parts.decisions += 1;
         state.appends(alloc, job, draft, purpose, List::new(alloc))
     }
 
@@ -130,9 +130,9 @@ fn over_streams<K: Registry>(alloc: Global, job: Job<K>, oids: List<Oid>) -> Job
     ensures { result ≡ record job { oids = oids; gone_before = job.gone; trims = []; found = [] } }
 {
     let mut job = job;
-    job.gone_before = job.gone;
-    job.oids = oids;
-    job.found = StreamPositions::new(alloc);
-    job.trims = List::new(alloc);
+    job.parts.gone_before = job.parts.gone;
+    job.parts.oids = oids;
+    job.parts.found = StreamPositions::new(alloc);
+    job.parts.trims = List::new(alloc);
     job
 }

@@ -1,15 +1,18 @@
 //! A command that waits for its reply.
 
-ghost use Rattle.std.specs.Prelude.{◌≡◌};
+ghost use Rattle.std.specs.Prelude.{◌≡◌, IfOk};
 
 use crate::hand::Hand;
-use tg_base::{List, Oid, Pos, StreamLink};
+use std::alloc::Global;
+use std::marker::Model;
+use tg_base::{List, NoMemory, Oid, Pos, StreamLink};
 use tg_client_cells::StreamPositions;
 use tg_kind::Registry;
 use tg_model::CommandOf;
 
-/// A command that waits for its reply, and how far it has come, but for what it has in hand.
-pub struct Job<K: Registry> {
+/// The parts of a command that waits for its reply.
+#[derive(Drop)]
+pub struct JobParts<K: Registry> {
     pub command: CommandOf<K>,
     /// The greatest position below which a unit has said, while this command waits, that all is trimmed.
     pub gone: Pos,
@@ -31,30 +34,42 @@ pub struct Job<K: Registry> {
     pub at: Pos,
 }
 
+/// A command that waits for its reply, and how far it has come, but for what it has in hand. Contracts see its parts,
+/// which stand on the heap.
+pub struct Job<K: Registry> {
+    pub parts: Box<JobParts<K>>,
+}
+
 // By hand, since a derived drop is proved anew wherever a value is dropped.
 impl<K: Registry> Drop for Job<K> {
     fn drop(self) {
-        let Job {
-            command: _,
-            gone: _,
-            gone_before: _,
-            tail: _,
-            lasts: _,
-            oids: _,
-            lo: _,
-            found: _,
-            trims: _,
-            at: _,
-        } = self;
+        let Job { parts: _ } = self;
     }
 }
 
+impl<K: Registry> Model for Job<K> {
+    ghost use Rattle.tg_client_state.specs.declared.work.JobParts.{JobParts};
+
+    ghost Value = { JobParts K K.Op K.Ask K.Ans };
+
+    ghost view = { λ j. j.parts.value };
+}
+
 impl<K: Registry> Job<K> {
+    /// A command of these parts. An `Err` is want of memory.
+    pub fn new(alloc: Global, parts: JobParts<K>) -> Result<Job<K>, NoMemory>
+        ensures { IfOk result (λ j. j ≡ parts) }
+    {
+        let parts = Box::new(alloc, parts)?;
+        Ok(Job { parts })
+    }
+
     /// Its command.
     pub fn into_command(self) -> CommandOf<K>
         ensures { result ≡ self.command }
     {
-        let Job {
+        let Job { parts } = self;
+        let JobParts {
             command,
             gone: _,
             gone_before: _,
@@ -65,7 +80,7 @@ impl<K: Registry> Job<K> {
             found: _,
             trims: _,
             at: _,
-        } = self;
+        } = Box::into_inner(parts);
         command
     }
 }

@@ -33,9 +33,7 @@ pub fn lend<K: Registry>(state: State<K>, alloc: Global, lo: Pos) -> (State<K>, 
     ensures settled { IsSettled state.known.own (lent state.known lo).settled result.1 }
 {
     let mut state = state;
-    let mut known = state.known;
-    let cells = known.lend(alloc, lo);
-    state.known = known;
+    let cells = state.parts.known.lend(alloc, lo);
     (state, cells)
 }
 
@@ -45,9 +43,7 @@ pub fn take_back<K: Registry>(state: State<K>, cells: Cells) -> State<K>
     ensures { result ≡ record state { known = returned state.known cells } }
 {
     let mut state = state;
-    let mut known = state.known;
-    known.take_back(cells);
-    state.known = known;
+    state.parts.known.take_back(cells);
     state
 }
 
@@ -62,10 +58,12 @@ pub fn finds<K: Registry>(
     ensures { IfOk result (λ j. j ≡ found_in (meaning_of K.Registry) job oid list.now gone) }
 {
     let mut job = job;
-    let found = mem::replace(&mut job.found, StreamPositions::new(alloc));
-    job.found = found.keep(alloc, oid, list)?;
-    let trims = mem::replace(&mut job.trims, List::new(alloc));
-    job.trims = with_trim(trims, oid, gone)?;
+    let taken = mem::replace(&mut job.parts.found, StreamPositions::new(alloc));
+    let found = taken.keep(alloc, oid, list)?;
+    job.parts.found = found;
+    let before = mem::replace(&mut job.parts.trims, List::new(alloc));
+    let trims = with_trim(before, oid, gone)?;
+    job.parts.trims = trims;
     Ok(job)
 }
 

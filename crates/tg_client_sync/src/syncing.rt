@@ -17,6 +17,7 @@ ghost use Rattle.tg_client_sync.specs.Syncs.{SyncShown, knowing};
 use crate::copies::copied;
 use crate::walking::walks;
 use std::alloc::Global;
+use std::mem;
 use tg_append::{Confirmed, SyncStep};
 use tg_base::{Cell, NoMemory, Pos, Rids};
 use tg_chain::Next;
@@ -39,13 +40,15 @@ fn knows(known: Known, settled: Option<(Pos, Cell)>) -> Result<Known, NoMemory>
 /// Likewise of a client.
 fn knows_settled<K: Registry>(
     state: State<K>,
+    alloc: Global,
     settled: Option<(Pos, Cell)>,
 ) -> Result<State<K>, NoMemory>
     ensures { IfOk result (λ s. s ≡ record state { known = knowing state.known settled }) }
 {
     let mut state = state;
-    let known = knows(state.known, settled)?;
-    state.known = known;
+    let taken = mem::replace(&mut state.parts.known, Known::new(alloc));
+    let known = knows(taken, settled)?;
+    state.parts.known = known;
     Ok(state)
 }
 
@@ -61,7 +64,7 @@ fn tells_no_fate<K: Registry>(view: &View<K>, pos: Pos) -> bool
 fn lacks_fate<K: Registry>(state: &State<K>, pos: Pos) -> bool
     ensures { (r : Rest (meaning_of K.Registry)) → KeepsViewIf (meaning_of K.Registry) state.now.view r.view → result ≡ steps.fate_missing (meaning_of K.Registry) r.view pos }
 {
-    match &state.view {
+    match &state.parts.view {
         None => true,
         Some(view) => tells_no_fate(view, pos),
     }
@@ -105,13 +108,13 @@ fn synced<K: Registry>(
         lasts,
         settled,
     } = end;
-    let oids = copied(alloc, &job.oids)?;
-    let lo = lo_for(&state, &job.command);
-    let state = knows_settled(state, settled)?;
+    let oids = copied(alloc, &job.parts.oids)?;
+    let lo = lo_for(&state, &job.parts.command);
+    let state = knows_settled(state, alloc, settled)?;
     let mut job = job;
-    job.tail = tail;
-    job.lasts = lasts;
-    job.lo = lo;
+    job.parts.tail = tail;
+    job.parts.lasts = lasts;
+    job.parts.lo = lo;
     walks(state, alloc, job, oids)
 }
 
@@ -128,7 +131,7 @@ pub fn on_sync<K: Registry>(
 {
     let SyncStep { next, gone, outs } = step;
     let mut state = state;
-    state.rids = rids;
+    state.parts.rids = rids;
     let job = meets(job, gone);
     match next {
         Next::Goes { machine } => Ok(goes_on(

@@ -68,6 +68,6 @@ fn plays_kept<K: Registry>(command: &CommandOf<K>) -> bool
 pub fn gives_view_up<K: Registry>(state: &State<K>, command: &CommandOf<K>, below: Pos) -> bool
     ensures { (r : Rest (meaning_of K.Registry)) → KeepsViewIf (meaning_of K.Registry) state.now.view r.view → result ≡ (steps.plays_kept (meaning_of K.Registry) command.now && is_some r.view && nat_lt (upto_of (meaning_of K.Registry) (client_of (meaning_of K.Registry) state.now r)) below) }
 {
-    let is_kept = state.view.is_some();
+    let is_kept = state.parts.view.is_some();
     plays_kept::<K>(command) && is_kept && state.upto() < below
 }

@@ -39,9 +39,17 @@ fn begins_walk<K: Registry>(
 ) -> Result<(WalkStep, Rids), NoMemory>
     ensures { IfOk result (λ b. shown b.0 b.1.next ≡ by_walk state.now.rids.next (walk_start state.now.stand oid (backs_of (link_of oid job.now.lasts)) job.now.lo cells state.now.rids.next)) }
 {
-    let mut rids = drawing(state.rids)?;
-    let lasts = lasts_of(job.lasts.as_slice(), oid);
-    let step = Walk::start(alloc, &state.stand, oid, lasts, job.lo, cells, &mut rids)?;
+    let mut rids = drawing(state.parts.rids)?;
+    let lasts = lasts_of(job.parts.lasts.as_slice(), oid);
+    let step = Walk::start(
+        alloc,
+        &state.parts.stand,
+        oid,
+        lasts,
+        job.parts.lo,
+        cells,
+        &mut rids,
+    )?;
     Ok((step, rids))
 }
 
@@ -76,7 +84,7 @@ pub fn walks<K: Registry>(
     let Some((oid, rest)) = first_of(oids) else {
         return walked(state, alloc, job);
     };
-    let (state, cells) = lend(state, alloc, job.lo);
+    let (state, cells) = lend(state, alloc, job.parts.lo);
     let (step, rids) = begins_walk(&state, alloc, &job, oid, cells)?;
     let WalkStep { next, outs, .. } = step;
     match next {
@@ -86,7 +94,7 @@ pub fn walks<K: Registry>(
                 rest,
             };
             let mut state = state;
-            state.rids = rids;
+            state.parts.rids = rids;
             Ok(goes_on(state, alloc, job, task, outs))
         }
         Next::Learns { .. } => unreachable!(),
@@ -111,11 +119,11 @@ fn starts_over<K: Registry>(
     if !is_over {
         return walks(state, alloc, job, rest);
     }
-    let oids = copied(alloc, &job.oids)?;
+    let oids = copied(alloc, &job.parts.oids)?;
     let mut job = job;
-    job.lo = 0;
-    job.found = StreamPositions::new(alloc);
-    job.trims = List::new(alloc);
+    job.parts.lo = 0;
+    job.parts.found = StreamPositions::new(alloc);
+    job.parts.trims = List::new(alloc);
     walks(state, alloc, job, oids)
 }
 
@@ -127,7 +135,7 @@ fn syncs_again<K: Registry>(
 ) -> Result<Moved<K>, NoMemory>
     ensures { (r : Rest (meaning_of K.Registry)) (w : told.Work (meaning_of K.Registry)) (old : ℕ) → Holds (meaning_of K.Registry) state job r w old → IfOk result (λ y. KeepsMoved (meaning_of K.Registry) old y (synced_by.syncs (meaning_of K.Registry) (client_of (meaning_of K.Registry) state r) w w.oids)) }
 {
-    let oids = copied(alloc, &job.oids)?;
+    let oids = copied(alloc, &job.parts.oids)?;
     state.syncs(alloc, job, oids)
 }
 
@@ -162,13 +170,20 @@ fn at_trim<K: Registry>(
     ensures { (r : Rest (meaning_of K.Registry)) (w : told.Work (meaning_of K.Registry)) (old : ℕ) (x : ToldMembers) → x.list ≡ list → Holds (meaning_of K.Registry) state job r w old → IfOk result (λ y. KeepsMoved (meaning_of K.Registry) old y (steps.walk_ended_by (meaning_of K.Registry) (client_of (meaning_of K.Registry) state r) w oid rest x (Some below))) }
 {
     let list = list.as_slice();
-    let is_old = is_stale::<K>(&state.known, alloc, job.gone_before, oid, list, below)?;
-    if !gives_view_up(&state, &job.command, below) {
+    let is_old = is_stale::<K>(
+        &state.parts.known,
+        alloc,
+        job.parts.gone_before,
+        oid,
+        list,
+        below,
+    )?;
+    if !gives_view_up(&state, &job.parts.command, below) {
         return goes_on_from(state, alloc, job, rest, is_old, false);
     }
-    let is_over = job.lo != 0;
+    let is_over = job.parts.lo != 0;
     let mut state = state;
-    state.view = None;
+    state.parts.view = None;
     goes_on_from(state, alloc, job, rest, is_old, is_over)
 }
 
@@ -209,7 +224,7 @@ pub fn on_walk<K: Registry>(
 {
     let WalkStep { next, gone, outs } = step;
     let mut state = state;
-    state.rids = rids;
+    state.parts.rids = rids;
     let job = meets(job, gone);
     match next {
         Next::Goes { machine } => {

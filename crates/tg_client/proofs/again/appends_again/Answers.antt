@@ -1,7 +1,11 @@
+use Rattle.std.proofs.Common.{ap, ◌∙◌}
 use Rattle.tg_play.proofs.Means.{means}
 use Rattle.tg_client.proofs.Resumed.{append_resumes}
+use Rattle.tg_client_state.specs.States.{StateOf}
+use Rattle.tg_append.specs.Appends.{append_at, by_append}
+use Rattle.tg_protocol.specs.Appending.{append_again}
 use Rattle.tg_client.proofs.again.appends_again.Goals as goal
 
 pub returns : goal.returns
 returns g c = λ r w old t h k f.
-    append_resumes (means g.K.Kind g.K.Registry) t c.on_append.result c.args.state c.args.job r w old c.args.append c.args.purpose c.in_ok-rids.rids c.resume.new.rids.next c.in_ok-step.step h k f c.in_ok-rids.ensures.same c.in_ok-step.ensures.turn (λ u l. c.on_append.ensures r w old u h l)
+    append_resumes (means g.K.Kind g.K.Registry) t c.on_append.result c.args.state c.args.job r w old c.args.append c.args.purpose c.in_ok-rids.rids c.resume.new.rids.next c.in_ok-step.step h k f (c.in_ok-rids.ensures.same ∙ ap (λ (s : StateOf (means g.K.Kind g.K.Registry)). s.rids) (c.deref.ensures ∙ c.state.view_is)) (λ b. c.in_ok-step.ensures.turn b ∙ ap (λ (s : StateOf (means g.K.Kind g.K.Registry)). by_append s.stand c.in_ok-rids.rids.next (append_again s.stand (append_at c.args.append.draft c.args.append.token b) c.in_ok-rids.rids.next)) (c.deref-2.ensures ∙ c.state.view_is)) (λ u l. c.on_append.ensures r w old u h l)

@@ -1,4 +1,4 @@
-use Rattle.std.proofs.Common.{ℕ, refl}
+use Rattle.std.proofs.Common.{ℕ, refl, ◌∙◌}
 use Rattle.std.specs.Prelude.{IfOk}
 use Rattle.tg_play.proofs.Means.{means}
 use Rattle.tg_model.specs.Kinds.{CommandOf}
@@ -10,6 +10,7 @@ use Rattle.tg_client_state.specs.declared.purpose.Purpose.TheVariants as purpose
 use Rattle.tg_client_state.specs.States.{client_of, KeepsMoved}
 use Rattle.tg_client_state.proofs.Waiting.{moved_at}
 use Rattle.tg_client.proofs.Deciding.{by_purpose, command_is}
+use Rattle.tg_client_state.proofs.Boxed.{job_read}
 use Rattle.tg_client.proofs.appending.full.Goals as goal
 
 pub returns-in-Writes : goal.returns-in-Writes
@@ -25,7 +26,7 @@ returns-in-Judged g c = λ r w old h.
 pub returns-in-Decides : goal.returns-in-Decides
 returns-in-Decides g c = λ r w old h.
     by_purpose (means g.K.Kind g.K.Registry) (λ p. IfOk c.decided.result (λ y. KeepsMoved (means g.K.Kind g.K.Registry) old y (append_ended (means g.K.Kind g.K.Registry) (client_of (means g.K.Kind g.K.Registry) c.args.state r) w p (Full c.args.limit)))) c.args.purpose (purpose.Decides c.in-Decides.answer) c.in-Decides.is
-    (moved_at (means g.K.Kind g.K.Registry) (λ (x : CommandOf (means g.K.Kind g.K.Registry)) d. decided_for (means g.K.Kind g.K.Registry) d x c.in-Decides.answer) c.decided.result c.args.state c.args.state c.args.job.command w.command r old refl (command_is (means g.K.Kind g.K.Registry) c.args.job w h.job) c.decided.ensures h.view)
+    (moved_at (means g.K.Kind g.K.Registry) (λ (x : CommandOf (means g.K.Kind g.K.Registry)) d. decided_for (means g.K.Kind g.K.Registry) d x c.in-Decides.answer) c.decided.result c.args.state c.args.state c.deref.result.now.command w.command r old refl (command_is (means g.K.Kind g.K.Registry) c.deref.result.now w (job_read (means g.K.Kind g.K.Registry) c.deref.result.now c.args.job w (c.deref.ensures ∙ c.job.view_is) h.job)) c.decided.ensures h.view)
 
 pub returns-in-Rescues : goal.returns-in-Rescues
 returns-in-Rescues g c = λ r w old h.

@@ -1,3 +1,4 @@
+use Rattle.std.proofs.Common.{◌∙◌}
 use Rattle.std.specs.Prelude.{IfOk}
 use Rattle.tg_play.proofs.Means.{means}
 use Rattle.tg_model.specs.Kinds.{CommandOf}
@@ -7,6 +8,7 @@ use Rattle.tg_client_state.specs.declared.purpose.Purpose.TheVariants as purpose
 use Rattle.tg_client_state.specs.States.{client_of, KeepsMoved}
 use Rattle.tg_client_state.proofs.Waiting.{moved_at}
 use Rattle.tg_client.proofs.Deciding.{by_purpose, command_is}
+use Rattle.tg_client_state.proofs.Boxed.{job_read}
 use Rattle.tg_client.proofs.appending.stands_at.Goals as goal
 
 pub returns-in-Writes : goal.returns-in-Writes
@@ -22,7 +24,7 @@ returns-in-Judged g c = λ r w old h.
 pub returns-in_ok-state-in-Decides : goal.returns-in_ok-state-in-Decides
 returns-in_ok-state-in-Decides g c = λ r w old h.
     by_purpose (means g.K.Kind g.K.Registry) (λ p. IfOk c.decided.result (λ y. KeepsMoved (means g.K.Kind g.K.Registry) old y (append_ended (means g.K.Kind g.K.Registry) (client_of (means g.K.Kind g.K.Registry) c.args.state r) w p (At c.args.pos c.args.page)))) c.args.purpose (purpose.Decides c.in-Decides.answer) c.in-Decides.is
-    (moved_at (means g.K.Kind g.K.Registry) (λ (x : CommandOf (means g.K.Kind g.K.Registry)) d. decided_for (means g.K.Kind g.K.Registry) d x c.in-Decides.answer) c.decided.result c.in_ok-state-in-Decides.state _ c.args.job.command w.command r old c.in_ok-state-in-Decides.ensures (command_is (means g.K.Kind g.K.Registry) c.args.job w h.job) c.decided.ensures h.view)
+    (moved_at (means g.K.Kind g.K.Registry) (λ (x : CommandOf (means g.K.Kind g.K.Registry)) d. decided_for (means g.K.Kind g.K.Registry) d x c.in-Decides.answer) c.decided.result c.in_ok-state-in-Decides.state _ c.deref.result.now.command w.command r old c.in_ok-state-in-Decides.ensures (command_is (means g.K.Kind g.K.Registry) c.deref.result.now w (job_read (means g.K.Kind g.K.Registry) c.deref.result.now c.args.job w (c.deref.ensures ∙ c.job.view_is) h.job)) c.decided.ensures h.view)
 
 pub returns-in-Rescues : goal.returns-in-Rescues
 returns-in-Rescues g c = λ r w old h.

@@ -11,4 +11,4 @@ returns g c = λ t hk hd hp v n h.
     let old : ℕ = c.args.state.rids.next in
     let le : old ≤ old = omega arith in
     ended_writes_if (means g.K.Kind g.K.Registry) c.args.state v n old c.args.number t c.args.draft (told_purpose (means g.K.Kind g.K.Registry) c.args.purpose) c.in_ok-notes.notes c.appends.result hk hd hp c.in_ok-notes.ensures
-    (c.appends.ensures (record { view = v; played = n; work = None }) (new_work (means g.K.Kind g.K.Registry) cmd.End) old le h c.new_job-job.ensures)
+    (c.appends.ensures (record { view = v; played = n; work = None }) (new_work (means g.K.Kind g.K.Registry) cmd.End) old le h c.in_ok-job.ensures)

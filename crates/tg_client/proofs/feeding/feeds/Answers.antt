@@ -1,5 +1,11 @@
+use Rattle.std.proofs.Common.{sym, subst}
 use Rattle.tg_play.proofs.Means.{means}
 use Rattle.tg_client.proofs.Awaited.{sync_fed_as, walk_fed_as, append_fed_as, trims_fed_as, copy_fed_as, reconf_fed_as, walk_kept, copy_kept, reconf_kept}
+use Rattle.std.specs.Prelude.{IfOk}
+use Rattle.tg_protocol.specs.Reconfiguring.{Reconf}
+use Rattle.tg_protocol.specs.ClientSteps.{on_reconf}
+use Rattle.tg_reconf.specs.Turns.{AreDrawn, fed}
+use Rattle.tg_client_state.specs.States.{client_of, KeepsMoved}
 use Rattle.tg_client.proofs.feeding.feeds.Goals as goal
 
 pub feeds_walk-requires : goal.feeds_walk-requires
@@ -9,7 +15,8 @@ pub feeds_copy-requires : goal.feeds_copy-requires
 feeds_copy-requires g c = copy_kept (means g.K.Kind g.K.Registry) c.args.state c.args.task c.in-Copy.copy c.in-Copy.is c.requires
 
 pub feeds_reconf-requires : goal.feeds_reconf-requires
-feeds_reconf-requires g c = reconf_kept (means g.K.Kind g.K.Registry) c.args.state c.args.task c.in-Reconf.reconf c.in-Reconf.is c.requires
+feeds_reconf-requires g c =
+    subst (λ (a : Reconf). AreDrawn c.args.state.rids.next a) (sym c.into_inner-reconf.ensures) (reconf_kept (means g.K.Kind g.K.Registry) c.args.state c.args.task c.in-Reconf.reconf c.in-Reconf.is c.requires)
 
 pub returns-in-Sync : goal.returns-in-Sync
 returns-in-Sync g c = λ r w h i.
@@ -33,4 +40,5 @@ returns-in-Copy g c = λ r w h i.
 
 pub returns-in-Reconf : goal.returns-in-Reconf
 returns-in-Reconf g c = λ r w h i.
-    reconf_fed_as (means g.K.Kind g.K.Registry) c.feeds_reconf.result c.args.state r w c.args.from c.args.rid c.args.msg.now c.args.task c.in-Reconf.reconf c.in-Reconf.is (c.feeds_reconf.ensures r w h) c.requires i
+    reconf_fed_as (means g.K.Kind g.K.Registry) c.feeds_reconf.result c.args.state r w c.args.from c.args.rid c.args.msg.now c.args.task c.in-Reconf.reconf c.in-Reconf.is
+    (subst (λ (a : Reconf). IfOk c.feeds_reconf.result (λ x. KeepsMoved (means g.K.Kind g.K.Registry) c.args.state.rids.next x (on_reconf (means g.K.Kind g.K.Registry) (client_of (means g.K.Kind g.K.Registry) c.args.state r) w (fed a c.args.from c.args.rid c.args.msg.now c.args.state.rids.next)))) c.into_inner-reconf.ensures (c.feeds_reconf.ensures r w h)) c.requires i

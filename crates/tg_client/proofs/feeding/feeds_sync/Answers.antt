@@ -1,11 +1,16 @@
-use Rattle.std.proofs.Common.{◌≡◌, subst}
-use Rattle.tg_base.specs.declared.packet.Rids.{Rids}
-use Rattle.tg_append.specs.Turns.{shown}
-use Rattle.tg_append.specs.Syncs.{confirmed_of, sync_fed, by_sync}
+use Rattle.std.proofs.Common.{◌≡◌, ap, ◌∙◌}
+use Rattle.tg_append.specs.Syncs.{sync_fed, by_sync}
 use Rattle.tg_client.proofs.Fed.{sync_shown}
+use Rattle.tg_play.proofs.Means.{means}
+use Rattle.tg_client_state.specs.States.{StateOf}
 use Rattle.tg_client.proofs.feeding.feeds_sync.Goals as goal
 
 pub returns : goal.returns
 returns g c = λ r w h d near.
+    let rids : c.in_ok-rids.rids ≡ c.args.state.rids = c.in_ok-rids.ensures.same ∙ ap (λ (s : StateOf (means g.K.Kind g.K.Registry)). s.rids) (c.deref.ensures ∙ c.state.view_is) in
+    let stand : c.deref-2.result.now ≡ c.args.state = c.deref-2.ensures ∙ c.state.view_is in
+    let turn : by_sync c.deref-2.result.now.stand c.in_ok-rids.rids.next (sync_fed c.deref-2.result.now.stand c.args.sync c.args.from c.args.rid c.args.msg.now c.in_ok-rids.rids.next)
+    ≡ by_sync c.args.state.stand c.args.state.rids.next (sync_fed c.args.state.stand c.args.sync c.args.from c.args.rid c.args.msg.now c.args.state.rids.next)
+    = λ i. by_sync (stand i).stand (rids i).next (sync_fed (stand i).stand c.args.sync c.args.from c.args.rid c.args.msg.now (rids i).next) in
     c.on_sync.ensures r w c.args.state.rids.next (sync_fed c.args.state.stand c.args.sync c.args.from c.args.rid c.args.msg.now c.args.state.rids.next) h
-    (sync_shown c.args.state.stand c.args.sync c.args.from c.args.rid c.args.msg.now c.args.state.rids.next c.feed.new.rids.next c.in_ok-step.step (subst (λ (i : Rids). shown confirmed_of c.in_ok-step.step c.feed.new.rids.next ≡ by_sync c.args.state.stand i.next (sync_fed c.args.state.stand c.args.sync c.args.from c.args.rid c.args.msg.now i.next)) c.in_ok-rids.ensures.same c.in_ok-step.ensures.turn) d near)
+    (sync_shown c.args.state.stand c.args.sync c.args.from c.args.rid c.args.msg.now c.args.state.rids.next c.feed.new.rids.next c.in_ok-step.step (c.in_ok-step.ensures.turn ∙ turn) d near)

@@ -2,8 +2,9 @@ use Rattle.std.proofs.Common.{refl, ap, not, ◌∙◌, Bool}
 use Rattle.tg_model.specs.declared.command.Command.TheVariants as cmd
 use Rattle.tg_model.specs.declared.refusal.Refusal.TheVariants as cause
 use Rattle.tg_protocol.specs.Words.{where_true}
-use Rattle.tg_protocol.specs.Clients.{tests, copy_fault}
-use Rattle.tg_client_state.specs.States.{client_of}
+use Rattle.tg_protocol.specs.Layouts.{change_fault, spare_fault}
+use Rattle.tg_protocol.specs.Clients.{tests, copy_fault, by_layout, ask_fault}
+use Rattle.tg_client_state.specs.States.{StateOf, client_of}
 use Rattle.tg_play.proofs.Means.{means}
 use Rattle.tg_client.proofs.Early.{early_one, early_two, early_three, early_four}
 use Rattle.tg_client.proofs.refusals.refusal.Goals as goal
@@ -22,7 +23,7 @@ returns-in-Put g c = λ r. early_three (means g.K.Kind g.K.Registry) (client_of 
 
 pub returns-in_ok-fault-in-Ask : goal.returns-in_ok-fault-in-Ask
 unfolding tests copy_fault
-returns-in_ok-fault-in-Ask g c = λ r. early_four (means g.K.Kind g.K.Registry) (client_of (means g.K.Kind g.K.Registry) c.args.state.now r) c.args.command.now (cmd.Ask c.in-Ask.oid c.in-Ask.ask) _ _ _ _ _ _ _ _ _ c.in-Ask.is refl c.first-in-Ask.ensures (c.no_tx-in-Ask.ensures r) (c.wrong_kind-in-Ask.ensures ∙ ap (λ (b : Bool). where_true (not b) (cause.WrongKind c.in-Ask.oid)) c.allows_ask.ensures) (c.not_hosted.ensures r) c.in_ok-fault-in-Ask.ensures
+returns-in_ok-fault-in-Ask g c = λ r. early_four (means g.K.Kind g.K.Registry) (client_of (means g.K.Kind g.K.Registry) c.args.state.now r) c.args.command.now (cmd.Ask c.in-Ask.oid c.in-Ask.ask) _ _ _ _ _ _ _ _ _ c.in-Ask.is refl c.first-in-Ask.ensures (c.no_tx-in-Ask.ensures r) (c.wrong_kind-in-Ask.ensures ∙ ap (λ (b : Bool). where_true (not b) (cause.WrongKind c.in-Ask.oid)) c.allows_ask.ensures) (c.not_hosted.ensures r) (c.in_ok-fault-in-Ask.ensures ∙ ap (λ (s : StateOf (means g.K.Kind g.K.Registry)). ask_fault (means g.K.Kind g.K.Registry) s.tx c.in-Ask.oid ((means g.K.Kind g.K.Registry).look c.in-Ask.ask)) (c.deref.ensures ∙ c.state.view_is))
 
 pub returns-in-End : goal.returns-in-End
 unfolding tests
@@ -54,11 +55,11 @@ returns-in-Trim g c = λ r. early_one (means g.K.Kind g.K.Registry) (client_of (
 
 pub returns-in-Reconf : goal.returns-in-Reconf
 unfolding tests copy_fault
-returns-in-Reconf g c = λ r. early_two (means g.K.Kind g.K.Registry) (client_of (means g.K.Kind g.K.Registry) c.args.state.now r) c.args.command.now (cmd.Reconf c.in-Reconf.change) _ _ _ _ _ c.in-Reconf.is refl c.first-in-Reconf.ensures (c.tx_open-in-Reconf.ensures r) c.reconf_fault.ensures
+returns-in-Reconf g c = λ r. early_two (means g.K.Kind g.K.Registry) (client_of (means g.K.Kind g.K.Registry) c.args.state.now r) c.args.command.now (cmd.Reconf c.in-Reconf.change) _ _ _ _ _ c.in-Reconf.is refl c.first-in-Reconf.ensures (c.tx_open-in-Reconf.ensures r) (c.reconf_fault.ensures ∙ ap (λ (s : StateOf (means g.K.Kind g.K.Registry)). by_layout (means g.K.Kind g.K.Registry) (change_fault s.stand c.in-Reconf.change)) (c.deref-in-Reconf.ensures ∙ c.state.view_is))
 
 pub returns-in-Copy : goal.returns-in-Copy
 unfolding tests copy_fault
-returns-in-Copy g c = λ r. early_two (means g.K.Kind g.K.Registry) (client_of (means g.K.Kind g.K.Registry) c.args.state.now r) c.args.command.now (cmd.Copy c.in-Copy.unit c.in-Copy.range c.in-Copy.stripe) _ _ _ _ _ c.in-Copy.is refl c.first-in-Copy.ensures (c.tx_open-in-Copy.ensures r) c.copy_fault.ensures
+returns-in-Copy g c = λ r. early_two (means g.K.Kind g.K.Registry) (client_of (means g.K.Kind g.K.Registry) c.args.state.now r) c.args.command.now (cmd.Copy c.in-Copy.unit c.in-Copy.range c.in-Copy.stripe) _ _ _ _ _ c.in-Copy.is refl c.first-in-Copy.ensures (c.tx_open-in-Copy.ensures r) (c.copy_fault.ensures ∙ ap (λ (s : StateOf (means g.K.Kind g.K.Registry)). by_layout (means g.K.Kind g.K.Registry) (spare_fault s.stand (record { unit = c.in-Copy.unit; range = c.in-Copy.range; stripe = c.in-Copy.stripe }))) (c.deref-in-Copy.ensures ∙ c.state.view_is))
 
 pub returns-in-AskAt : goal.returns-in-AskAt
 unfolding tests copy_fault

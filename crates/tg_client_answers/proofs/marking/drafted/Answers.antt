@@ -1,6 +1,4 @@
-use Rattle.std.proofs.Common.{◌≡◌, ◌<◌, ◌≤◌, ◌^◌, ◌++◌, ◌∷◌, [], ℕ, List, length, sym, ap, ◌∙◌, subst, arith, rules}
-use Rattle.tg_base.specs.declared.marks.StreamLink.{StreamLink}
-use Rattle.tg_entry.specs.declared.entry.WriteOp.{WriteOp}
+use Rattle.std.proofs.Common.{◌≡◌, ◌<◌, ◌≤◌, ◌^◌, ℕ, List, length, subst, arith, rules}
 use Rattle.tg_client_answers.proofs.Marked.{links, written, mark_kept}
 use Rattle.tg_client_answers.proofs.marking.drafted.Goals as goal
 

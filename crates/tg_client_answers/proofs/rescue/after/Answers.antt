@@ -1,8 +1,10 @@
+use Rattle.std.proofs.Common.{ap, ◌∙◌}
 use Rattle.tg_play.proofs.Means.{means}
 use Rattle.tg_protocol.specs.Clients.{all_entries}
 use Rattle.tg_rescue.specs.declared.rescue.RescueTurn.TheVariants as rescue
 use Rattle.tg_client_state.specs.States.{client_of}
 use Rattle.tg_client_answers.proofs.TellingPast.{moves_same, widens, comes_to, is_absent}
+use Rattle.tg_client_state.specs.Tasks.{JobOf}
 use Rattle.tg_client_answers.proofs.rescue.after.Goals as goal
 
 pub returns-in-Wider : goal.returns-in-Wider
@@ -21,7 +23,7 @@ pub returns-in-Absent : goal.returns-in-Absent
 returns-in-Absent g c = λ r w old le hv hj.
     let m = means g.K.Kind g.K.Registry in
     let es = all_entries m (client_of m c.args.state r) w w.oids in
-    moves_same m c.absent.result old _ _ (is_absent m (client_of m c.args.state r) c.args.job w es c.args.at c.args.turn c.as_slice.result.now c.trim_above-above.result hj c.in-Absent.is c.as_slice.ensures c.trim_above-above.ensures) (c.absent.ensures r old hv)
+    moves_same m c.absent.result old _ _ (is_absent m (client_of m c.args.state r) c.args.job w es c.args.at c.args.turn c.as_slice.result.now c.trim_above-above.result hj c.in-Absent.is (c.as_slice.ensures ∙ ap (λ (j : JobOf m). j.trims) (c.deref.ensures ∙ c.job.view_is)) c.trim_above-above.ensures) (c.absent.ensures r old hv)
 
 pub returns-in-Stuck : goal.returns-in-Stuck
 returns-in-Stuck g c = λ r w old le hv hj.
