@@ -54,7 +54,7 @@ use Rattle.tg_client_state.proofs.Nears.{append_stays_near, sync_stays_near}
 use Rattle.tg_client_state.proofs.NearNumbers.{copy_stays}
 use Rattle.tg_client_state.specs.States.{WalksOn}
 use Rattle.tg_client_state.proofs.Turning.{fits_now}
-use Rattle.tg_client.specs.Shown.{AppendShown, TrimShown, CopyShown, ReconfShown}
+use Rattle.tg_client_tasks.specs.Shown.{AppendShown, TrimShown, CopyShown, ReconfShown}
 use Rattle.tg_client_sync.specs.Syncs.{SyncShown}
 use Rattle.tg_client_sync.specs.Walks.{WalkShown, IsStepFit}
 

@@ -52,7 +52,7 @@ use Rattle.tg_client_state.specs.declared.paused.Paused.TheVariants as given
 use Rattle.tg_client_state.specs.States.{StateOf, MovedOf, Rest, WalksOn, IsLeftFit, all_below, client_of, KeepsMoved}
 use Rattle.tg_client_state.specs.Moves.{Holds}
 use Rattle.tg_client_state.proofs.Turning.{fits_later}
-use Rattle.tg_client.specs.Shown.{AppendShown, TrimShown}
+use Rattle.tg_client_tasks.specs.Shown.{AppendShown, TrimShown}
 use Rattle.tg_client_sync.specs.Syncs.{SyncShown}
 use Rattle.tg_client_sync.specs.Walks.{WalkShown, IsStepFit}
 use Rattle.tg_client.specs.Feeding.{IsCourseFit, IsLeftKept}

@@ -11,7 +11,7 @@ use Rattle.tg_protocol.specs.Words.{first_some}
 use Rattle.tg_protocol.specs.Clients.{Client, Work, by_layout, busy, tests, refusal, number_on, tx_open, no_tx, wrong_kind, not_registered, put_fault, write_of}
 use Rattle.tg_protocol.specs.Answers.{moved, note}
 use Rattle.tg_protocol.specs.ClientSteps.{refused_or}
-use Rattle.tg_client.specs.Tests.{early_tests, early, taken, IsFine}
+use Rattle.tg_client_tasks.specs.Tests.{early_tests, early, taken, IsFine}
 
 -- the first of some tests and of further ones
 

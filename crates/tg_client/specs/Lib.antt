@@ -1,5 +1,2 @@
 pub mod Kept
-pub mod Shown
-pub mod Idle
-pub mod Tests
 pub mod Feeding

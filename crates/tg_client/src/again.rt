@@ -12,15 +12,12 @@ ghost use Rattle.tg_client_state.specs.States.{Rest, client_of, IsLeftFit, Keeps
 ghost use Rattle.tg_client_state.specs.Moves.{Holds};
 ghost use Rattle.tg_client.specs.Feeding.{IsCourseFit, IsLeftKept};
 
-use crate::appending::on_append;
-use crate::changing::on_reconf;
-use crate::copying::copies_again;
-use crate::trimming::on_trims;
 use std::alloc::Global;
 use tg_append::{PausedAppend, Sync};
 use tg_base::{List, NoMemory, Oid, Pos, Projection};
 use tg_client_state::{Job, Moved, Paused, Purpose, State, drawing};
 use tg_client_sync::{on_sync, on_walk};
+use tg_client_tasks::{copies_again, on_append, on_reconf, on_trims};
 use tg_kind::Registry;
 use tg_reconf::Reconf;
 use tg_stream::PausedWalk;

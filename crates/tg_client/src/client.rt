@@ -8,14 +8,13 @@ ghost use Rattle.tg_protocol.specs.ClientSteps.{client_command, client_deliver, 
 ghost use Rattle.tg_protocol.specs.Words.{directory};
 ghost use Rattle.tg_client.specs.Kept.{KeepsClient, IsClient};
 
-use crate::knows::known_cell;
 use crate::steps::{commanded, delivered};
-use crate::ticks::ticked;
 use std::alloc::Global;
 use tg_base::{Cell, Cluster, Epoch, List, Msg, NoMemory, NodeId, Oid, Out, Pos, Rids};
 use tg_chain::header_layout;
 use tg_client_cells::Known;
 use tg_client_state::{HeaderObjects, Moved, State, StateParts, Work};
+use tg_client_tasks::{known_cell, ticked};
 use tg_kind::Registry;
 use tg_model::{CommandOf, NoteOf};
 

@@ -25,15 +25,12 @@ ghost use Rattle.tg_client_state.specs.States.{Rest, WalksOn, client_of, KeepsMo
 ghost use Rattle.tg_client_state.specs.Moves.{Holds};
 ghost use Rattle.tg_client.specs.Feeding.{InHand, IsTaskKept};
 
-use crate::appending::on_append;
-use crate::changing::on_reconf;
-use crate::copying::on_copy;
-use crate::trimming::on_trims;
 use std::alloc::Global;
 use tg_append::{Append, Sync};
 use tg_base::{List, Msg, NoMemory, NodeId, Oid};
 use tg_client_state::{Job, Moved, Purpose, State, Task, drawing};
 use tg_client_sync::{on_sync, on_walk};
+use tg_client_tasks::{on_append, on_copy, on_reconf, on_trims};
 use tg_copy::CopyRange;
 use tg_kind::Registry;
 use tg_reconf::Reconf;

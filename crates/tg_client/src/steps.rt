@@ -8,18 +8,14 @@ ghost use Rattle.tg_protocol.specs.ClientSteps.{refused_or, client_command, clie
 ghost use Rattle.tg_protocol.specs.Views.{View};
 ghost use Rattle.tg_client_state.specs.States.{KeepsViewIf, KeepsClient, KeepsMoved};
 ghost use Rattle.tg_client_state.specs.Moves.{IsKept};
-ghost use Rattle.tg_client.specs.Idle.{idle};
-ghost use Rattle.tg_client.specs.Kept.{KeepsStep};
+ghost use Rattle.tg_client_tasks.specs.Idle.{idle};
+ghost use Rattle.tg_client_tasks.specs.Steps.{KeepsStep};
 
-use crate::accepting::accepts;
-use crate::counting::given;
 use crate::delivering::deliver;
-use crate::puts::refuses;
-use crate::refusals::refusal;
-use crate::small::says;
 use std::alloc::Global;
 use tg_base::{List, Msg, NoMemory, NodeId};
 use tg_client_state::{Moved, State, Work, one_note};
+use tg_client_tasks::{accepts, given, refusal, refuses, says};
 use tg_kind::Registry;
 use tg_model::{CommandOf, Refusal, What};
 

@@ -6,8 +6,8 @@ use Rattle.tg_model.specs.Words.{word_of}
 use Rattle.tg_protocol.specs.Answers.{moved, note}
 use Rattle.tg_protocol.specs.ClientSteps.{given, client_command}
 use Rattle.tg_play.proofs.Means.{means}
-use Rattle.tg_client.proofs.Said.{as_was, next_is}
-use Rattle.tg_client.proofs.Stepping.{step_as, busy_told}
+use Rattle.tg_client_tasks.proofs.Said.{as_was, next_is}
+use Rattle.tg_client_tasks.proofs.Stepping.{step_as, busy_told}
 use Rattle.tg_client_state.specs.Tasks.{JobOf}
 use Rattle.tg_client.proofs.steps.busy.Goals as goal
 

@@ -4,9 +4,9 @@ use Rattle.tg_client_state.specs.States.{KeepsClient}
 use Rattle.tg_play.proofs.Means.{means}
 use Rattle.tg_protocol.specs.Clients.{refusal}
 use Rattle.tg_protocol.specs.ClientSteps.{refused_or}
-use Rattle.tg_client.specs.Idle.{idle}
-use Rattle.tg_client.proofs.Said.{is_idle}
-use Rattle.tg_client.proofs.Stepping.{step_as, command_told}
+use Rattle.tg_client_tasks.specs.Idle.{idle}
+use Rattle.tg_client_tasks.proofs.Said.{is_idle}
+use Rattle.tg_client_tasks.proofs.Stepping.{step_as, command_told}
 use Rattle.tg_client.proofs.steps.commanded.Goals as goal
 
 pub returns-in-Some : goal.returns-in-Some

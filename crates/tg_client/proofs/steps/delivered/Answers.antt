@@ -6,9 +6,9 @@ use Rattle.tg_protocol.specs.Answers.{moved}
 use Rattle.tg_protocol.specs.ClientSteps.{feed}
 use Rattle.tg_protocol.specs.Replies.{reply}
 use Rattle.tg_client_state.specs.Moves.{IsKept}
-use Rattle.tg_client.specs.Idle.{idle}
-use Rattle.tg_client.proofs.Said.{is_idle, next_is}
-use Rattle.tg_client.proofs.Stepping.{step_as, says_as, delivery_told, fed_told}
+use Rattle.tg_client_tasks.specs.Idle.{idle}
+use Rattle.tg_client_tasks.proofs.Said.{is_idle, next_is}
+use Rattle.tg_client_tasks.proofs.Stepping.{step_as, says_as, delivery_told, fed_told}
 use Rattle.tg_client.proofs.steps.delivered.Goals as goal
 
 pub returns-in-None : goal.returns-in-None

@@ -2,9 +2,9 @@ use Rattle.std.proofs.Common.{None, sym, ◌∙◌}
 use Rattle.tg_model.specs.declared.trace.What.TheVariants as what
 use Rattle.tg_play.proofs.Means.{means}
 use Rattle.tg_client_state.specs.States.{client_of}
-use Rattle.tg_client.specs.Idle.{idle}
+use Rattle.tg_client_tasks.specs.Idle.{idle}
 use Rattle.tg_client.proofs.Testing.{fine, refused_told, taken_told}
-use Rattle.tg_client.proofs.Stepping.{moved_as}
+use Rattle.tg_client_tasks.proofs.Stepping.{moved_as}
 use Rattle.tg_client.proofs.steps.tested.Goals as goal
 
 pub accepts-requires : goal.accepts-requires

@@ -1,0 +1,12 @@
+pub mod Stepping
+pub mod Ticking
+pub mod Appended
+pub mod Trimmed
+pub mod Copied
+pub mod Changed
+pub mod Deciding
+pub mod Starting
+pub mod Accepted
+pub mod Early
+pub mod Putting
+pub mod Said

@@ -1,0 +1,4 @@
+pub mod Steps
+pub mod Shown
+pub mod Idle
+pub mod Tests

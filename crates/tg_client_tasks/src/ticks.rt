@@ -1,0 +1,105 @@
+//! Ticks.
+
+ghost use Rattle.std.specs.Prelude.{◌≡◌, ◌++◌, ◌+◌, Some, None, OnOk, IfOk};
+ghost use Rattle.tg_kind.specs.Of.{meaning_of};
+ghost use Rattle.tg_protocol.specs.Clients as told;
+ghost use Rattle.tg_protocol.specs.ClientSteps.{asks_latest, hand_again_asks, client_tick};
+ghost use Rattle.tg_protocol.specs.Requests.{waits_for};
+ghost use Rattle.tg_protocol.specs.Words.{numbers};
+ghost use Rattle.tg_client_state.specs.Tasks.{KeepsHand, IsGivenFit};
+ghost use Rattle.tg_client_state.specs.States.{KeepsClient};
+ghost use Rattle.tg_client_state.specs.Moves.{IsKept};
+ghost use Rattle.tg_client_tasks.specs.Steps.{Draws, KeepsStep};
+
+use crate::small::{next_count, says};
+use std::alloc::Global;
+use tg_base::{List, Msg, NoMemory, Out, Rids, Role};
+use tg_chain::{ask_alike, ask_servers};
+use tg_client_state::{Hand, Moved, State, Work};
+use tg_kind::Registry;
+
+/// Request numbers from here on aren't drawn.
+const MOST: u64 = 1 << 62;
+
+/// What a tick sends: the outstanding requests once more, and requests for the latest layout under new numbers.
+///
+/// An `Err` is want of memory, or of numbers.
+fn outstanding<K: Registry>(
+    state: &State<K>,
+    alloc: Global,
+    hand: &Hand<K>,
+    rids: &mut Rids,
+) -> Result<List<Out>, NoMemory>
+    requires { IsGivenFit (meaning_of K.Registry) state.now.stand hand.now }
+    ensures sends { (h : told.Hand (meaning_of K.Registry)) → KeepsHand (meaning_of K.Registry) hand.now h → IfOk result (λ outs. outs ≡ hand_again_asks (meaning_of K.Registry) state.now.stand h ++ asks_latest (meaning_of K.Registry) (waits_for (numbers state.now.layouts 0) rids.old.next)) }
+    ensures next { OnOk result (rids.new.next ≡ rids.old.next + state.now.layouts) }
+{
+    if rids.next >= MOST {
+        return Err(NoMemory);
+    }
+    let mut sends = hand.again(alloc, &state.parts.stand, rids)?;
+    let waits = ask_servers(alloc, state.parts.layouts, rids)?;
+    ask_alike(Role::Layout, &Msg::AskLatest, waits.as_slice(), &mut sends)?;
+    Ok(sends)
+}
+
+/// A client whose command waits, after a tick that sends this and draws these numbers. An `Err` is want of numbers.
+fn asked<K: Registry>(
+    state: State<K>,
+    alloc: Global,
+    work: Work<K>,
+    rids: Rids,
+    sends: List<Out>,
+) -> Result<Moved<K>, NoMemory>
+    ensures { (c : told.Client (meaning_of K.Registry)) → Draws (meaning_of K.Registry) state.stand state.layouts state.rids.next rids.next work sends → KeepsClient (meaning_of K.Registry) state (Some work) c → IfOk result (λ r. KeepsStep (meaning_of K.Registry) r (client_tick (meaning_of K.Registry) c)) }
+{
+    let calls = next_count(state.parts.calls)?;
+    let mut state = state;
+    state.parts.rids = rids;
+    state.parts.calls = calls;
+    Ok(Moved {
+        state,
+        work: Some(work),
+        sends,
+        notes: List::new(alloc),
+    })
+}
+
+/// A client whose command waits, after a tick. An `Err` is want of memory, or of numbers.
+fn asks_again<K: Registry>(
+    state: State<K>,
+    alloc: Global,
+    work: Work<K>,
+) -> Result<Moved<K>, NoMemory>
+    requires { IsKept (meaning_of K.Registry) state (Some work) }
+    ensures { (c : told.Client (meaning_of K.Registry)) → KeepsClient (meaning_of K.Registry) state (Some work) c → IfOk result (λ r. KeepsStep (meaning_of K.Registry) r (client_tick (meaning_of K.Registry) c)) }
+{
+    let mut rids = state.parts.rids;
+    let sends = outstanding(&state, alloc, &work.hand, &mut rids)?;
+    asked(state, alloc, work, rids, sends)
+}
+
+/// A client for which no command waits, after a tick. An `Err` is want of numbers.
+fn rests<K: Registry>(state: State<K>, alloc: Global) -> Result<Moved<K>, NoMemory>
+    ensures { (c : told.Client (meaning_of K.Registry)) → KeepsClient (meaning_of K.Registry) state None c → IfOk result (λ r. KeepsStep (meaning_of K.Registry) r (client_tick (meaning_of K.Registry) c)) }
+{
+    let calls = next_count(state.parts.calls)?;
+    let mut state = state;
+    state.parts.calls = calls;
+    Ok(says(state, alloc, List::new(alloc)))
+}
+
+/// A client after a tick. An `Err` is want of memory, or of numbers.
+pub fn ticked<K: Registry>(
+    state: State<K>,
+    work: Option<Work<K>>,
+    alloc: Global,
+) -> Result<Moved<K>, NoMemory>
+    requires { IsKept (meaning_of K.Registry) state work }
+    ensures { (c : told.Client (meaning_of K.Registry)) → KeepsClient (meaning_of K.Registry) state work c → IfOk result (λ r. KeepsStep (meaning_of K.Registry) r (client_tick (meaning_of K.Registry) c)) }
+{
+    match work {
+        None => rests(state, alloc),
+        Some(work) => asks_again(state, alloc, work),
+    }
+}
