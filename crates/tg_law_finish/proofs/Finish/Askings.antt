@@ -875,7 +875,7 @@ module _ (m : Meaning) (h : Header) (stopped : List NodeId) (k : ℕ) (p : Layou
     calls = reads_called;
     again = reads_again;
     ticked = reads_ticked;
-    asked = λ s o is n ready x. one_told s o is (Ask o ∷ is) n ready x refl;
+    asked = λ s o is n fair ready x. one_told s o is (Ask o ∷ is) n ready x refl;
     answered = λ s from rid y is n ready x. any_answered s from rid y is (Tell from rid y ∷ is) n ready x refl;
   }
 

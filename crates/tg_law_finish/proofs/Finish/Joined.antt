@@ -1,5 +1,6 @@
 -- Pieces of work one after the other: where one comes to its exit another begins, with what is left.
 use Rattle.std.proofs.Common.{◌≡◌, ◌⊎◌, ℕ, ◌+◌, ◌≤◌, List, [], ◌∷◌, sym, subst, inl, inr, arith}
+use Rattle.std.specs.Prelude.{⊤}
 use Rattle.tg_base.specs.Layouts.{Layout}
 use Rattle.tg_base.specs.Clusters.{Header}
 use Rattle.tg_base.specs.declared.ids.NodeId.{NodeId}
@@ -10,7 +11,7 @@ use Rattle.tg_protocol.specs.Clients.{Client}
 use Rattle.tg_protocol.specs.ClientSteps.{client_deliver, called, ClientTurn}
 use Rattle.tg_law_finish.proofs.Finish.Nets.{Net, client_of}
 use Rattle.tg_law_finish.proofs.Finish.Others.{Ready, Keeps}
-use Rattle.tg_law_finish.proofs.Finish.Lines.{Item, Ask, Tell, asks, Busied, Again, Talk, Told, Goes}
+use Rattle.tg_law_finish.proofs.Finish.Lines.{Item, Ask, Tell, asks, Busied, Again, TalkOf, Talk, Told, Goes}
 
 module _ (m : Meaning) (h : Header) (stopped : List NodeId) (k : ℕ) (p : Layout) where
   abbrev pub StageOf : Type 1
@@ -34,7 +35,7 @@ module _ (m : Meaning) (h : Header) (stopped : List NodeId) (k : ℕ) (p : Layou
     module _ (talk : Talk m h stopped k p A Exit) where
       roomy_told : (s : Net m) (o : Out) (is : List Item) (n : ℕ) → Ready m h stopped k p s → Roomy s (client_of m h s k) (Ask o ∷ is) n → Told m h stopped k p Roomy s o is n
       roomy_told s o is n ready x =
-          let a = talk.asked s o is x.left ready x.stage in
+          let a = talk.asked s o is x.left tt ready x.stage in
           record { running = a.running; from = a.from; rid = a.rid; says = a.says; sent = a.sent; no_client = a.no_client; ready = a.ready; client = a.client; stage = record { left = x.left; stage = a.stage; few = x.few } }
 
       roomy_answered : (s : Net m) (from : NodeId) (rid : ℕ) (y : Msg) (is : List Item) (n left : ℕ) → left + extra ≤ n
@@ -51,7 +52,7 @@ module _ (m : Meaning) (h : Header) (stopped : List NodeId) (k : ℕ) (p : Layou
         calls = λ s c is n x. record { left = x.left; stage = talk.calls s c is x.left x.stage; few = x.few };
         again = λ s c is os n x. talk.again s c is os x.left x.stage;
         ticked = λ s c is os n x e. record { left = x.left; stage = talk.ticked s c is os x.left x.stage e; few = x.few };
-        asked = roomy_told;
+        asked = λ s o is n fair ready x. roomy_told s o is n ready x;
         answered = λ s from rid y is n ready x. roomy_answered s from rid y is n x.left x.few (talk.answered s from rid y is x.left ready x.stage);
       }
 
@@ -64,7 +65,7 @@ module _ (m : Meaning) (h : Header) (stopped : List NodeId) (k : ℕ) (p : Layou
     abbrev pub Begins : Type 0
     Begins = (s : Net m) (c : Client m) (t : ClientTurn m) (n : ℕ) → Ready m h stopped k p s → ExitA s c t n → ExitB s c t n ⊎ Goes m h stopped k p B s t [] n
 
-    module _ (first : Talk m h stopped k p A ExitA) (second : Talk m h stopped k p B ExitB) (begins : Begins) where
+    module _ (Fair : Msg → Type 0) (first : TalkOf m h stopped k p A Fair ExitA) (second : TalkOf m h stopped k p B Fair ExitB) (begins : Begins) where
       either_facts : (s : Net m) (c : Client m) (is : List Item) (n : ℕ) → Either s c is n → Busied m h stopped k p c
       either_facts s c is n (inl x) = first.facts s c is n x
       either_facts s c is n (inr x) = second.facts s c is n x
@@ -89,12 +90,12 @@ module _ (m : Meaning) (h : Header) (stopped : List NodeId) (k : ℕ) (p : Layou
       either_ticked s c is os n (inl x) e = inl (first.ticked s c is os n x e)
       either_ticked s c is os n (inr x) e = inr (second.ticked s c is os n x e)
 
-      either_asked : (s : Net m) (o : Out) (is : List Item) (n : ℕ) → Ready m h stopped k p s → Either s (client_of m h s k) (Ask o ∷ is) n → Told m h stopped k p Either s o is n
-      either_asked s o is n ready (inl x) =
-          let a = first.asked s o is n ready x in
+      either_asked : (s : Net m) (o : Out) (is : List Item) (n : ℕ) → Fair o.msg → Ready m h stopped k p s → Either s (client_of m h s k) (Ask o ∷ is) n → Told m h stopped k p Either s o is n
+      either_asked s o is n fair ready (inl x) =
+          let a = first.asked s o is n fair ready x in
           record { running = a.running; from = a.from; rid = a.rid; says = a.says; sent = a.sent; no_client = a.no_client; ready = a.ready; client = a.client; stage = inl a.stage }
-      either_asked s o is n ready (inr x) =
-          let a = second.asked s o is n ready x in
+      either_asked s o is n fair ready (inr x) =
+          let a = second.asked s o is n fair ready x in
           record { running = a.running; from = a.from; rid = a.rid; says = a.says; sent = a.sent; no_client = a.no_client; ready = a.ready; client = a.client; stage = inr a.stage }
 
       begun : (s : Net m) (c : Client m) (t : ClientTurn m) (is : List Item) (n : ℕ) → is ≡ [] → ExitB s c t n ⊎ Goes m h stopped k p B s t [] n → (ExitB s c t n × (is ≡ [])) ⊎ Goes m h stopped k p Either s t is n
@@ -114,8 +115,24 @@ module _ (m : Meaning) (h : Header) (stopped : List NodeId) (k : ℕ) (p : Layou
       either_answered s from rid y is n ready (inl x) = first_answered s _ _ is n ready (first.answered s from rid y is n ready x)
       either_answered s from rid y is n ready (inr x) = second_answered s _ _ is n (second.answered s from rid y is n ready x)
 
-      pub joined : Talk m h stopped k p Either ExitB
-      joined = record { facts = either_facts; some = either_some; stays = either_stays; calls = either_calls; again = either_again; ticked = either_ticked; asked = either_asked; answered = either_answered }
+      pub joined_of : TalkOf m h stopped k p Either Fair ExitB
+      joined_of = record { facts = either_facts; some = either_some; stays = either_stays; calls = either_calls; again = either_again; ticked = either_ticked; asked = either_asked; answered = either_answered }
+
+    pub joined : Talk m h stopped k p A ExitA → Talk m h stopped k p B ExitB → Begins → Talk m h stopped k p Either ExitB
+    joined first second begins = joined_of (λ x. ⊤) first second begins
+
+  -- where more is known of what is asked
+  pub any_fair : (A : StageOf) (Exit : ExitOf) (Fair : Msg → Type 0) → Talk m h stopped k p A Exit → TalkOf m h stopped k p A Fair Exit
+  any_fair A Exit Fair talk = record {
+    facts = talk.facts;
+    some = talk.some;
+    stays = talk.stays;
+    calls = talk.calls;
+    again = talk.again;
+    ticked = talk.ticked;
+    asked = λ s o is n fair ready x. talk.asked s o is n tt ready x;
+    answered = talk.answered;
+  }
 
   -- Another exit.
   module _ (A : StageOf) (ExitA ExitB : ExitOf) (leads : (s : Net m) (c : Client m) (t : ClientTurn m) (n : ℕ) → ExitA s c t n → ExitB s c t n) (talk : Talk m h stopped k p A ExitA) where

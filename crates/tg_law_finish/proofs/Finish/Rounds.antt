@@ -1,12 +1,13 @@
 -- A settling of a world in which one client waits: its requests are on their way, or the first round of ticks sends
 -- them again.
 use Rattle.std.proofs.Common.{◌≡◌, ◌⊎◌, ℕ, zero, suc, ◌+◌, ◌≤◌, List, [], ◌∷◌, ◌++◌, length, map, Bool, true, false, refl, ap, ◌∙◌, sym, subst, inl, inr, arith, Some, None, eqb}
-use Rattle.std.specs.Prelude.{slice_set}
+use Rattle.std.specs.Prelude.{slice_set, ⊤}
 use Rattle.tg_base.specs.Layouts.{Layout}
 use Rattle.tg_base.specs.Clusters.{Header}
 use Rattle.tg_base.specs.declared.ids.NodeId.{NodeId}
 use Rattle.tg_base.specs.declared.ids.Role.{Role}
 use Rattle.tg_base.specs.declared.ids.Role.TheVariants as role
+use Rattle.tg_base.specs.declared.msg.Msg.{Msg}
 use Rattle.tg_base.specs.declared.msg.Msg.TheVariants as msg
 use Rattle.tg_base.specs.declared.packet.Out.{Out}
 use Rattle.tg_base.specs.declared.packet.Packet.{Packet}
@@ -23,8 +24,8 @@ use Rattle.tg_law_finish.proofs.Finish.Counted.{Finishes}
 use Rattle.tg_law_finish.proofs.Finish.Nets.{Net, net, net_ticked, sent_ticked, on_in, client_alike, client_of}
 use Rattle.tg_law_finish.proofs.Finish.Lists.{Each, each_both}
 use Rattle.tg_law_finish.proofs.Finish.Others.{Stray, AsksLatest, weigh, weigh_both, Ready, Passes, from_weighs, other_ticks, client_turns, idle_ticks, nothing_sent, keeps_same}
-use Rattle.tg_law_finish.proofs.Finish.Settles.{Drained, Rounding, settles, settles_from}
-use Rattle.tg_law_finish.proofs.Finish.Lines.{Item, asks, Talk, Over, Busy, Idle, Inv, line_more, line_behind, line_strays, line_asks, weigh_asks, idle_passes, stage_passes, any_step, is_idle}
+use Rattle.tg_law_finish.proofs.Finish.Settles.{Facts, no_facts, Drained, Rounding, settles, settles_from}
+use Rattle.tg_law_finish.proofs.Finish.Lines.{Item, asks, TalkOf, Talk, Over, Busy, Idle, Inv, line_more, line_behind, line_strays, line_asks, weigh_asks, idle_passes, stage_passes, any_step, is_idle}
 
 code_client : (r : Role) (n k : ℕ) → node_eq (record { role = r; num = n }) (client_id k) ≡ true → record { role = r; num = n } ≡ client_id k
 unfolding node_eq
@@ -92,7 +93,7 @@ module _ (m : Meaning) (h : Header) (stopped : List NodeId) (k : ℕ) (p : Layou
     abbrev pub Pre : List NodeId → Net m → List Packet → ℕ → Type 0
     Pre xs s q n = Idle m h stopped k p Stage s q n ⊎ (After xs s q n ⊎ Waiting xs s q n)
 
-    module _ (talk : Talk m h stopped k p Stage (Over m h stopped k p)) where
+    module _ (Fair : Msg → Type 0) (talk : TalkOf m h stopped k p Stage Fair (Over m h stopped k p)) where
       idle_other : (s t : Net m) (q sent : List Packet) (n : ℕ) → Passes m h stopped k p s t sent 0 0 → Idle m h stopped k p Stage s q n → Idle m h stopped k p Stage t (q ++ sent) n
       idle_other s t q sent n pass i =
           let both = weigh_both m h stopped k p q sent in
@@ -110,7 +111,7 @@ module _ (m : Meaning) (h : Header) (stopped : List NodeId) (k : ℕ) (p : Layou
             items = b.items;
             left = b.left;
             line = line_behind m h stopped k p q sent b.items b.line pass.strays;
-            stage = stage_passes m h stopped k p Stage talk s t sent b.items 0 0 b.left pass b.stage;
+            stage = stage_passes m h stopped k p Stage Fair talk s t sent b.items 0 0 b.left pass b.stage;
             few = omega (arith, both, w, few);
           }
 
@@ -131,7 +132,7 @@ module _ (m : Meaning) (h : Header) (stopped : List NodeId) (k : ℕ) (p : Layou
             ready = pass.ready;
             os = w.os;
             left = w.left;
-            stage = stage_passes m h stopped k p Stage talk s t sent (asks w.os) 0 0 w.left pass w.stage;
+            stage = stage_passes m h stopped k p Stage Fair talk s t sent (asks w.os) 0 0 w.left pass w.stage;
             strays = each_both (Stray m h stopped k p) q sent w.strays pass.strays;
             layouts = w.layouts;
             same = layouts_pass s t sent pass ∙ w.same;
@@ -247,22 +248,19 @@ module _ (m : Meaning) (h : Header) (stopped : List NodeId) (k : ℕ) (p : Layou
       all_ticked s q n (inr (inl a)) = inr a.busy
       all_ticked s q n (inr (inr w)) = absurd (no_middle w.front (client_id k) w.back w.is)
 
-      rounding : Rounding m k h stopped (Inv m h stopped k p Stage) Pre
+      rounding : Rounding m k h stopped (Inv m h stopped k p Stage) Pre Fair
       rounding = record {
-        keeps = λ s x q n i. any_step m h stopped k p Stage talk s x q n i;
+        keeps = λ s x q n fair i. any_step m h stopped k p Stage Fair talk s x q n fair i;
         ticking = record { one = one_ticks; other = off_ticks; all = all_ticked };
-        again = λ w n i. inl (is_idle m h stopped k p Stage talk (net m w) n i);
+        again = λ w n i. inl (is_idle m h stopped k p Stage Fair talk (net m w) n i);
       }
 
       -- the client has its answer
       has_answer : (w v : World m) (n : ℕ) → Drained m k h stopped (Inv m h stopped k p Stage) w v n → Finishes m k n w v
       has_answer w v n d =
-          let i = is_idle m h stopped k p Stage talk (net m v) d.left d.holds.inv in
+          let i = is_idle m h stopped k p Stage Fair talk (net m v) d.left d.holds.inv in
           let few = d.spent.few in
           record { done = d.spent.done; since = d.spent.since; few = omega (arith, few); answered = subst (λ (x : Header). (client_of m x (net m v) k).work ≡ None) (sym d.holds.cluster) i.none }
-
-      pub finishes : (w : World m) (n : ℕ) → w.waiting ≡ [] → w.cluster ≡ h → w.stopped ≡ stopped → Waiting (nodes m w) (net m w) [] n → (settle m w).stopped ≡ None → Finishes m k n w (settle m w).world
-      finishes w n quiet cluster stops waits none = has_answer w (settle m w).world n (settles m k h stopped (Inv m h stopped k p Stage) Pre rounding w n quiet (inr (inr waits)) cluster stops none)
 
       -- Its requests are on their way, and nothing else: the first drain ends its command.
 
@@ -280,9 +278,18 @@ module _ (m : Meaning) (h : Header) (stopped : List NodeId) (k : ℕ) (p : Layou
           record { ready = x.ready; items = asks x.os; left = x.left; line = line_asks m h stopped k p x.os; stage = x.stage; few = omega (arith, heavy, few) }
 
       -- nothing is on its way, or its requests alone
+      pub finishes_of : (Fact : World m → Type 0) → Facts m Fact Fair → (w : World m) (n : ℕ) → Fact w → (w.waiting ≡ []) ⊎ Queue m w (own_requests m w k) → w.cluster ≡ h → w.stopped ≡ stopped → Waiting (nodes m w) (net m w) [] n → (settle m w).stopped ≡ None
+          → Finishes m k n w (settle m w).world
+      finishes_of Fact facts w n fact (inl quiet) cluster stops waits none = has_answer w (settle m w).world n
+          (settles m k h stopped (Inv m h stopped k p Stage) Pre Fact Fair facts rounding w n quiet fact (inr (inr waits)) cluster stops none).0
+      finishes_of Fact facts w n fact (inr sent) cluster stops waits none = has_answer w (settle m w).world n
+          (settles_from m k h stopped (Inv m h stopped k p Stage) Pre Fact Fair facts rounding w n (map (packet_of m (client_id k)) waits.os) fact
+          (record { queue = subst (λ q. Queue m w q) (own_are w n cluster waits) sent; inv = inr (sent_once w n waits); cluster = cluster; stops = stops }) none).0
+
+    module _ (talk : Talk m h stopped k p Stage (Over m h stopped k p)) where
       pub finishes_from : (w : World m) (n : ℕ) → (w.waiting ≡ []) ⊎ Queue m w (own_requests m w k) → w.cluster ≡ h → w.stopped ≡ stopped → Waiting (nodes m w) (net m w) [] n → (settle m w).stopped ≡ None
           → Finishes m k n w (settle m w).world
-      finishes_from w n (inl quiet) cluster stops waits none = finishes w n quiet cluster stops waits none
-      finishes_from w n (inr sent) cluster stops waits none = has_answer w (settle m w).world n
-          (settles_from m k h stopped (Inv m h stopped k p Stage) Pre rounding w n (map (packet_of m (client_id k)) waits.os)
-          (record { queue = subst (λ q. Queue m w q) (own_are w n cluster waits) sent; inv = inr (sent_once w n waits); cluster = cluster; stops = stops }) none)
+      finishes_from w n on_way cluster stops waits none = finishes_of (λ x. ⊤) talk (λ v. ⊤) (no_facts m) w n tt on_way cluster stops waits none
+
+      pub finishes : (w : World m) (n : ℕ) → w.waiting ≡ [] → w.cluster ≡ h → w.stopped ≡ stopped → Waiting (nodes m w) (net m w) [] n → (settle m w).stopped ≡ None → Finishes m k n w (settle m w).world
+      finishes w n quiet cluster stops waits none = finishes_from w n (inl quiet) cluster stops waits none

@@ -4,6 +4,7 @@ use Rattle.std.specs.Prelude.{slice_get, ⊤}
 use Rattle.tg_base.specs.Clusters.{Header}
 use Rattle.tg_base.specs.declared.fault.Which.{Which}
 use Rattle.tg_base.specs.declared.ids.NodeId.{NodeId}
+use Rattle.tg_base.specs.declared.msg.Msg.{Msg}
 use Rattle.tg_base.specs.declared.packet.Packet.{Packet}
 use Rattle.tg_kind.specs.Meaning.{Meaning}
 use Rattle.tg_model.specs.declared.command.Event.TheVariants.{Deliver, Tick}
@@ -41,6 +42,17 @@ counted_both k ps (i ∷ is) js = let a = counted_both k ps is js in omega (arit
 both_both : {X : Type 0} → (xs ys zs : List X) → (xs ++ ys) ++ zs ≡ xs ++ (ys ++ zs)
 both_both [] ys zs = refl
 both_both (x ∷ xs) ys zs = ap (λ l. x ∷ l) (both_both xs ys zs)
+
+module _ (m : Meaning) where
+  -- A fact of worlds that a delivery and a tick keep while no limit is reached, and what it says of packets that were
+  -- sent.
+  pub record Facts (Fact : World m → Type 0) (Fair : Msg → Type 0) : Type 0 where
+    pub delivered : (w : World m) (i : ℕ) → limit_of m w ≡ None → Fact w → Fact (happens m w (Deliver i))
+    pub ticked : (w : World m) (x : NodeId) → runs m w x ≡ true → limit_of m w ≡ None → Fact w → Fact (happens m w (Tick x))
+    pub fair : (w : World m) (i : ℕ) (p : Packet) → Fact w → slice_get w.packets i ≡ Some p → Fair p.msg
+
+  pub no_facts : Facts (λ w. ⊤) (λ x. ⊤)
+  no_facts = record { delivered = λ w i free f. tt; ticked = λ w x on free f. tt; fair = λ w i p f e. tt }
 
 module _ (m : Meaning) (k : ℕ) where
   -- from one world to a later one, of n deliveries that may be counted n' are left
@@ -88,6 +100,10 @@ module _ (m : Meaning) (k : ℕ) where
     abbrev pub Keeps : Type 0
     Keeps = (s : Net m) (p : Packet) (q : List Packet) (n : ℕ) → Inv s (p ∷ q) n → Step (net_if m (on_in m stopped s p.to) h s p) (q ++ sent_if m (on_in m stopped s p.to) h s p) p n
 
+    -- where what is delivered is known to be such
+    abbrev pub KeepsOf : (Msg → Type 0) → Type 0
+    KeepsOf Fair = (s : Net m) (p : Packet) (q : List Packet) (n : ℕ) → Fair p.msg → Inv s (p ∷ q) n → Step (net_if m (on_in m stopped s p.to) h s p) (q ++ sent_if m (on_in m stopped s p.to) h s p) p n
+
     pub record Holds (w : World m) (q : List Packet) (n : ℕ) : Type 0 where
       pub queue : Queue m w q
       pub inv : Inv (net m w) q n
@@ -116,71 +132,77 @@ module _ (m : Meaning) (k : ℕ) where
         by [] c = refl
         by (p ∷ q) c = absurd c
 
-    step_on : Keeps → (w : World m) (i : ℕ) (is : List ℕ) (p : Packet) (q : List Packet) (n : ℕ) → w.waiting ≡ i ∷ is → Holds w (p ∷ q) n → Steps w (happens m w (Deliver i)) n
-    unfolding counted
-    step_on keep w i is p q n e holds =
-        let v = happens m w (Deliver i) in
-        let b = on_in m stopped (net m w) p.to in
-        let running = runs_on m w p.to ∙ ap (λ (x : List NodeId). on_in m x (net m w) p.to) holds.stops in
-        let l = subst (λ (c : Header). Later m w v is (i ∷ []) (net_if m b c (net m w) p) (sent_if m b c (net m w) p)) holds.cluster
-        (subst (λ (c : Bool). Later m w v is (i ∷ []) (net_if m c w.cluster (net m w) p) (sent_if m c w.cluster (net m w) p)) running (first_delivered m w i is p q e holds.queue)) in
-        let one = keep (net m w) p q n holds.inv in
-        let c = subst (λ js. Carries w.packets js (p ∷ q)) e holds.queue.carries in
-        let r = subst (λ js. RisesWithin 0 js (length w.packets)) e holds.queue.rises in
-        let got = subst (λ ps. slice_get ps i ≡ Some p) (sym l.packets) (got_more w.packets _ i p c.0) in
-        let pays = one.pays in
-        let costs = ap (λ o. cost k o) got in
-        record {
-          q = q ++ sent_if m b h (net m w) p;
-          left = one.left;
-          holds = record {
-            queue = later_queue m w v is (i ∷ []) _ _ q (weaker (suc i) (length w.packets) is r.1) c.1 l;
-            inv = subst (λ (s : Net m). Inv s (q ++ sent_if m b h (net m w) p) one.left) (sym l.nodes) one.keeps;
-            cluster = l.cluster ∙ holds.cluster;
-            stops = l.stopped ∙ holds.stops;
-          };
-          spent = later_spent w v is (i ∷ []) _ _ n one.left l ((p, got), tt) (omega (arith, pays, costs));
-        }
-      where
-        weaker : (lo hi : ℕ) (is : List ℕ) → RisesWithin lo is hi → RisesWithin 0 is hi
-        weaker lo hi [] r = omega arith
-        weaker lo hi (i ∷ is) r = (omega arith, r.1)
+    module _ (Fact : World m → Type 0) (Fair : Msg → Type 0) (facts : Facts m Fact Fair) where
+      step_on : KeepsOf Fair → (w : World m) (i : ℕ) (is : List ℕ) (p : Packet) (q : List Packet) (n : ℕ) → w.waiting ≡ i ∷ is → Fact w → Holds w (p ∷ q) n → Steps w (happens m w (Deliver i)) n
+      unfolding counted
+      step_on keep w i is p q n e fact holds =
+          let v = happens m w (Deliver i) in
+          let b = on_in m stopped (net m w) p.to in
+          let running = runs_on m w p.to ∙ ap (λ (x : List NodeId). on_in m x (net m w) p.to) holds.stops in
+          let l = subst (λ (c : Header). Later m w v is (i ∷ []) (net_if m b c (net m w) p) (sent_if m b c (net m w) p)) holds.cluster
+          (subst (λ (c : Bool). Later m w v is (i ∷ []) (net_if m c w.cluster (net m w) p) (sent_if m c w.cluster (net m w) p)) running (first_delivered m w i is p q e holds.queue)) in
+          let c = subst (λ js. Carries w.packets js (p ∷ q)) e holds.queue.carries in
+          let one = keep (net m w) p q n (facts.fair w i p fact c.0) holds.inv in
+          let r = subst (λ js. RisesWithin 0 js (length w.packets)) e holds.queue.rises in
+          let got = subst (λ ps. slice_get ps i ≡ Some p) (sym l.packets) (got_more w.packets _ i p c.0) in
+          let pays = one.pays in
+          let costs = ap (λ o. cost k o) got in
+          record {
+            q = q ++ sent_if m b h (net m w) p;
+            left = one.left;
+            holds = record {
+              queue = later_queue m w v is (i ∷ []) _ _ q (weaker (suc i) (length w.packets) is r.1) c.1 l;
+              inv = subst (λ (s : Net m). Inv s (q ++ sent_if m b h (net m w) p) one.left) (sym l.nodes) one.keeps;
+              cluster = l.cluster ∙ holds.cluster;
+              stops = l.stopped ∙ holds.stops;
+            };
+            spent = later_spent w v is (i ∷ []) _ _ n one.left l ((p, got), tt) (omega (arith, pays, costs));
+          }
+        where
+          weaker : (lo hi : ℕ) (is : List ℕ) → RisesWithin lo is hi → RisesWithin 0 is hi
+          weaker lo hi [] r = omega arith
+          weaker lo hi (i ∷ is) r = (omega arith, r.1)
 
-    step_any : Keeps → (w : World m) (i : ℕ) (is : List ℕ) (q : List Packet) (n : ℕ) → w.waiting ≡ i ∷ is → Holds w q n → Steps w (happens m w (Deliver i)) n
-    step_any keep w i is [] n e holds = absurd (subst (λ js. Carries w.packets js []) e holds.queue.carries)
-    step_any keep w i is (p ∷ q) n e holds = step_on keep w i is p q n e holds
+      step_any : KeepsOf Fair → (w : World m) (i : ℕ) (is : List ℕ) (q : List Packet) (n : ℕ) → w.waiting ≡ i ∷ is → Fact w → Holds w q n → Steps w (happens m w (Deliver i)) n
+      step_any keep w i is [] n e fact holds = absurd (subst (λ js. Carries w.packets js []) e holds.queue.carries)
+      step_any keep w i is (p ∷ q) n e fact holds = step_on keep w i is p q n e fact holds
 
-    abbrev DrainsTo : World m → ℕ → Ran m → Type 0
-    DrainsTo w n r = r.stopped ≡ None → Drained w r.world n
+      abbrev DrainsTo : World m → ℕ → Ran m → Type 0
+      DrainsTo w n r = r.stopped ≡ None → Drained w r.world n × Fact r.world
 
-    by_limit : (w : World m) (n : ℕ) (next : Ran m) (o : Option Which) → DrainsTo w n next → DrainsTo w n (elim o as (λ _. Ran m) [ Some x ↦ record { world = w; stopped = Some x } | None ↦ next ])
-    by_limit w n next None t = t
-    by_limit w n next (Some x) t = λ none. absurd cc
+      by_limit : (w : World m) (n : ℕ) (next : Ran m) (o : Option Which) → limit_of m w ≡ o → (limit_of m w ≡ None → DrainsTo w n next) → DrainsTo w n (elim o as (λ _. Ran m) [ Some x ↦ record { world = w; stopped = Some x } | None ↦ next ])
+      by_limit w n next None e t = t e
+      by_limit w n next (Some x) e t = λ none. absurd cc
 
-    by_lowest : (fuel : ℕ) (w : World m) (n : ℕ) (q : List Packet) → Holds w q n → (is : List ℕ) → w.waiting ≡ is → ((i : ℕ) (js : List ℕ) → w.waiting ≡ i ∷ js → DrainsTo w n (drain_on m fuel (happens m w (Deliver i)))) → DrainsTo w n (elim (lowest m is) as (λ _. Ran m) [
-      | None ↦ record { world = w; stopped = None }
-      | Some i ↦ elim (limit_of m w) as (λ _. Ran m) [ Some x ↦ record { world = w; stopped = Some x } | None ↦ drain_on m fuel (happens m w (Deliver i)) ]
-    ])
-    by_lowest fuel w n q holds [] e t = λ none. record { left = n; holds = subst (λ r. Holds w r n) (queue_empty w q e holds.queue) holds; spent = spent_none w n }
-    by_lowest fuel w n q holds (i ∷ is) e t = by_limit w n (drain_on m fuel (happens m w (Deliver i))) (limit_of m w) (t i is e)
+      by_lowest : (fuel : ℕ) (w : World m) (n : ℕ) (q : List Packet) → Fact w → Holds w q n → (is : List ℕ) → w.waiting ≡ is
+          → ((i : ℕ) (js : List ℕ) → w.waiting ≡ i ∷ js → limit_of m w ≡ None → DrainsTo w n (drain_on m fuel (happens m w (Deliver i)))) → DrainsTo w n (elim (lowest m is) as (λ _. Ran m) [
+        | None ↦ record { world = w; stopped = None }
+        | Some i ↦ elim (limit_of m w) as (λ _. Ran m) [ Some x ↦ record { world = w; stopped = Some x } | None ↦ drain_on m fuel (happens m w (Deliver i)) ]
+      ])
+      by_lowest fuel w n q fact holds [] e t = λ none. (record { left = n; holds = subst (λ r. Holds w r n) (queue_empty w q e holds.queue) holds; spent = spent_none w n }, fact)
+      by_lowest fuel w n q fact holds (i ∷ is) e t = by_limit w n (drain_on m fuel (happens m w (Deliver i))) (limit_of m w) refl (t i is e)
 
-    at_end : (w : World m) (n : ℕ) (q : List Packet) → Holds w q n → (200000 ≤ w.steps) → DrainsTo w n (record { world = w; stopped = limit_of m w })
-    unfolding limit_of
-    at_end w n q holds le = λ none. absurd (grind arith)
+      at_end : (w : World m) (n : ℕ) (q : List Packet) → Holds w q n → (200000 ≤ w.steps) → DrainsTo w n (record { world = w; stopped = limit_of m w })
+      unfolding limit_of
+      at_end w n q holds le = λ none. absurd (grind arith)
 
-    drains_on : Keeps → (fuel : ℕ) (w : World m) (n : ℕ) (q : List Packet) → 200001 ≤ fuel + w.steps → Holds w q n → DrainsTo w n (drain_on m fuel w)
-    unfolding drain_on
-    drains_on keep zero w n q le holds = at_end w n q holds (omega (arith, le))
-    drains_on keep (suc fuel) w n q le holds = by_lowest fuel w n q holds w.waiting refl (λ i js e none.
-        let one = step_any keep w i js q n e holds in
-        drained_later w _ _ n one.left one.spent (drains_on keep fuel (happens m w (Deliver i)) one.left one.q (steps_up w i le) one.holds none))
-      where
-        steps_up : (w : World m) (i : ℕ) → 200001 ≤ suc fuel + w.steps → 200001 ≤ fuel + (happens m w (Deliver i)).steps
-        steps_up w i le = let e = happens_counts m w i in omega (arith, le, e)
+      drains_on : KeepsOf Fair → (fuel : ℕ) (w : World m) (n : ℕ) (q : List Packet) → 200001 ≤ fuel + w.steps → Fact w → Holds w q n → DrainsTo w n (drain_on m fuel w)
+      unfolding drain_on
+      drains_on keep zero w n q le fact holds = at_end w n q holds (omega (arith, le))
+      drains_on keep (suc fuel) w n q le fact holds = by_lowest fuel w n q fact holds w.waiting refl (λ i js e free none.
+          let one = step_any keep w i js q n e fact holds in
+          let rest = drains_on keep fuel (happens m w (Deliver i)) one.left one.q (steps_up w i le) (facts.delivered w i free fact) one.holds none in
+          (drained_later w _ _ n one.left one.spent rest.0, rest.1))
+        where
+          steps_up : (w : World m) (i : ℕ) → 200001 ≤ suc fuel + w.steps → 200001 ≤ fuel + (happens m w (Deliver i)).steps
+          steps_up w i le = let e = happens_counts m w i in omega (arith, le, e)
 
-    pub drain_to : Keeps → (w : World m) (n : ℕ) (q : List Packet) → Holds w q n → DrainsTo w n (drain m w)
-    unfolding drain
-    drain_to keep w n q holds = drains_on keep (200001 - w.steps) w n q (omega arith) holds
+      drain_by : KeepsOf Fair → (w : World m) (n : ℕ) (q : List Packet) → Fact w → Holds w q n → DrainsTo w n (drain m w)
+      unfolding drain
+      drain_by keep w n q fact holds = drains_on keep (200001 - w.steps) w n q (omega arith) fact holds
+
+    pub drain_to : Keeps → (w : World m) (n : ℕ) (q : List Packet) → Holds w q n → (drain m w).stopped ≡ None → Drained w (drain m w).world n
+    drain_to keep w n q holds none = (drain_by (λ v. ⊤) (λ x. ⊤) (no_facts m) (λ s p r i f x. keep s p r i x) w n q tt holds none).0
 
     -- A round of ticks: a fact of the nodes that haven't ticked yet.
     module _ (Pre : List NodeId → Net m → List Packet → ℕ → Type 0) where
@@ -200,13 +222,6 @@ module _ (m : Meaning) (k : ℕ) where
         pub q : List Packet
         pub holds : Holds v q n
         pub spent : Spent w v n n
-
-      abbrev TicksTo : World m → ℕ → Ran m → Type 0
-      TicksTo w n r = r.stopped ≡ None → Ticked w r.world n
-
-      ticks_limit : (w : World m) (n : ℕ) (next : Ran m) (o : Option Which) → TicksTo w n next → TicksTo w n (elim o as (λ _. Ran m) [ Some x ↦ record { world = w; stopped = Some x } | None ↦ next ])
-      ticks_limit w n next None t = t
-      ticks_limit w n next (Some x) t = λ none. absurd cc
 
       running : (w : World m) (x : NodeId) → w.stopped ≡ stopped → runs m w x ≡ on_in m stopped (net m w) x
       running w x e = runs_on m w x ∙ ap (λ (y : List NodeId). on_in m y (net m w) x) e
@@ -229,96 +244,115 @@ module _ (m : Meaning) (k : ℕ) where
       ticked_later : (w v u : World m) (n : ℕ) → Spent w v n n → Ticked v u n → Ticked w u n
       ticked_later w v u n a b = record { q = b.q; holds = b.holds; spent = spent_then w v u n n n a b.spent }
 
-      if_runs : (w : World m) (x : NodeId) (xs : List NodeId) (q : List Packet) (n : ℕ) (b : Bool) → runs m w x ≡ b → Ticking → Before (x ∷ xs) w q n
-          → ((v : World m) (r : List Packet) → Before xs v r n → TicksTo v n (tick_all m xs v)) → TicksTo w n (elim b as (λ _. Ran m) [
-            | false ↦ tick_all m xs w
-            | true ↦ elim (limit_of m w) as (λ _. Ran m) [ Some y ↦ record { world = w; stopped = Some y } | None ↦ tick_all m xs (happens m w (Tick x)) ]
-          ])
-      if_runs w x xs q n false e t b rest = rest w q (record { queue = b.queue; pre = t.other x xs (net m w) q n b.pre (sym (running w x b.stops) ∙ e); cluster = b.cluster; stops = b.stops })
-      if_runs w x xs q n true e t b rest = ticks_limit w n (tick_all m xs (happens m w (Tick x))) (limit_of m w) (λ none.
-          let one = tick_on t w x xs q n e b in
-          ticked_later w _ _ n one.1 (rest _ _ one.0 none))
-
-      pub ticks_all : Ticking → (xs : List NodeId) (w : World m) (q : List Packet) (n : ℕ) → Before xs w q n → TicksTo w n (tick_all m xs w)
-      unfolding tick_all
-      ticks_all t [] w q n b = λ none. record { q = q; holds = record { queue = b.queue; inv = t.all (net m w) q n b.pre; cluster = b.cluster; stops = b.stops }; spent = spent_none w n }
-      ticks_all t (x ∷ xs) w q n b = if_runs w x xs q n (runs m w x) refl t b (λ v r. ticks_all t xs v r n)
-
       -- Rounds.
 
       -- what is to be shown: with nothing on its way the fact is that of a world whose nodes may tick again
-      pub record Rounding : Type 0 where
-        pub keeps : Keeps
+      pub record Rounding (Fair : Msg → Type 0) : Type 0 where
+        pub keeps : KeepsOf Fair
         pub ticking : Ticking
         pub again : (w : World m) (n : ℕ) → Inv (net m w) [] n → Pre (nodes m w) (net m w) [] n
 
-      unless : (w : World m) (n : ℕ) (r : Ran m) (f : World m → Ran m) (o : Option Which) → r.stopped ≡ o → (o ≡ None → DrainsTo w n (f r.world)) → DrainsTo w n (elim o as (λ _. Ran m) [ Some x ↦ r | None ↦ f r.world ])
-      unless w n r f None e t = t refl
-      unless w n r f (Some x) e t = λ none. absurd cc
+      module _ (Fact : World m → Type 0) (Fair : Msg → Type 0) (facts : Facts m Fact Fair) where
+        abbrev TicksTo : World m → ℕ → Ran m → Type 0
+        TicksTo w n r = r.stopped ≡ None → Ticked w r.world n × Fact r.world
 
-      abbrev after_ticks : ℕ → World m → Bool → Ran m
-      after_ticks n v b = elim b as (λ _. Ran m) [ true ↦ drain m v | false ↦ unless_stopped m (drain m v) (λ u. rounds m n u) ]
+        ticks_limit : (w : World m) (n : ℕ) (next : Ran m) (o : Option Which) → limit_of m w ≡ o → (limit_of m w ≡ None → TicksTo w n next) → TicksTo w n (elim o as (λ _. Ran m) [ Some x ↦ record { world = w; stopped = Some x } | None ↦ next ])
+        ticks_limit w n next None e t = t e
+        ticks_limit w n next (Some x) e t = λ none. absurd cc
 
-      after : (r n : ℕ) (v : World m) (b : Bool) → DrainsTo v n (drain m v) → DrainsTo v n (unless_stopped m (drain m v) (λ u. rounds m r u)) → DrainsTo v n (after_ticks r v b)
-      after r n v true d e = d
-      after r n v false d e = e
+        if_runs : (w : World m) (x : NodeId) (xs : List NodeId) (q : List Packet) (n : ℕ) (b : Bool) → runs m w x ≡ b → Ticking → Fact w → Before (x ∷ xs) w q n
+            → ((v : World m) (r : List Packet) → Fact v → Before xs v r n → TicksTo v n (tick_all m xs v)) → TicksTo w n (elim b as (λ _. Ran m) [
+              | false ↦ tick_all m xs w
+              | true ↦ elim (limit_of m w) as (λ _. Ran m) [ Some y ↦ record { world = w; stopped = Some y } | None ↦ tick_all m xs (happens m w (Tick x)) ]
+            ])
+        if_runs w x xs q n false e t fact b rest = rest w q fact (record { queue = b.queue; pre = t.other x xs (net m w) q n b.pre (sym (running w x b.stops) ∙ e); cluster = b.cluster; stops = b.stops })
+        if_runs w x xs q n true e t fact b rest = ticks_limit w n (tick_all m xs (happens m w (Tick x))) (limit_of m w) refl (λ free none.
+            let one = tick_on t w x xs q n e b in
+            let more = rest _ _ (facts.ticked w x e free fact) one.0 none in
+            (ticked_later w _ _ n one.1 more.0, more.1))
 
-      before : Rounding → (w : World m) (n : ℕ) → Holds w [] n → Before (nodes m w) w [] n
-      before t w n holds = record { queue = holds.queue; pre = t.again w n holds.inv; cluster = holds.cluster; stops = holds.stops }
+        ticks_by : Ticking → (xs : List NodeId) (w : World m) (q : List Packet) (n : ℕ) → Fact w → Before xs w q n → TicksTo w n (tick_all m xs w)
+        unfolding tick_all
+        ticks_by t [] w q n fact b = λ none. (record { q = q; holds = record { queue = b.queue; inv = t.all (net m w) q n b.pre; cluster = b.cluster; stops = b.stops }; spent = spent_none w n }, fact)
+        ticks_by t (x ∷ xs) w q n fact b = if_runs w x xs q n (runs m w x) refl t fact b (λ v r f. ticks_by t xs v r n f)
 
-      round : Rounding → (r : ℕ) (w : World m) (n : ℕ) → Before (nodes m w) w [] n → ((u : World m) (left : ℕ) → Holds u [] left → DrainsTo u left (rounds m r u)) → DrainsTo w n (rounds m (suc r) w)
-      unfolding rounds
-      round t r w n b rest = unless w n (tick_all m (nodes m w) w) (λ v. after_ticks r v (eqb (length v.packets) (length w.packets))) (tick_all m (nodes m w) w).stopped refl (λ none.
-          let v = (tick_all m (nodes m w) w).world in
-          let x = ticks_all t.ticking (nodes m w) w [] n b none in
-          let d = drain_to t.keeps v n x.q x.holds in
-          λ still. drained_later w v _ n n x.spent (after r n v (eqb (length v.packets) (length w.packets)) d (unless v n (drain m v) (λ u. rounds m r u) (drain m v).stopped refl (λ calm.
-          let y = d calm in
-          λ quiet. drained_later v _ _ n y.left y.spent (rest (drain m v).world y.left y.holds quiet))) still))
+        abbrev Drains : World m → ℕ → Ran m → Type 0
+        Drains w n r = DrainsTo Fact Fair facts w n r
 
-      rounds_to : Rounding → (r : ℕ) (w : World m) (n : ℕ) → Holds w [] n → DrainsTo w n (rounds m r w)
-      unfolding rounds
-      rounds_to t zero w n holds = λ none. record { left = n; holds = holds; spent = spent_none w n }
-      rounds_to t (suc r) w n holds = round t r w n (before t w n holds) (λ u left h. rounds_to t r u left h)
+        unless : (w : World m) (n : ℕ) (r : Ran m) (f : World m → Ran m) (o : Option Which) → r.stopped ≡ o → (o ≡ None → Drains w n (f r.world)) → Drains w n (elim o as (λ _. Ran m) [ Some x ↦ r | None ↦ f r.world ])
+        unless w n r f None e t = t refl
+        unless w n r f (Some x) e t = λ none. absurd cc
 
-      -- A quiet world: the first drain delivers nothing.
+        abbrev after_ticks : ℕ → World m → Bool → Ran m
+        after_ticks n v b = elim b as (λ _. Ran m) [ true ↦ drain m v | false ↦ unless_stopped m (drain m v) (λ u. rounds m n u) ]
 
-      quiet_drains : (fuel : ℕ) (w : World m) (next : World m → Ran m) (n : ℕ) → w.waiting ≡ [] → DrainsTo w n (next w) → DrainsTo w n (unless_stopped m (drain_on m (suc fuel) w) next)
-      unfolding drain_on
-      quiet_drains fuel w next n e t = by w.waiting e
-        where
-          by : (is : List ℕ) → is ≡ [] → DrainsTo w n (unless_stopped m (elim (lowest m is) as (λ _. Ran m) [
-            | None ↦ record { world = w; stopped = None }
-            | Some i ↦ elim (limit_of m w) as (λ _. Ran m) [ Some x ↦ record { world = w; stopped = Some x } | None ↦ drain_on m fuel (happens m w (Deliver i)) ]
-          ]) next)
-          by [] e = t
-          by (i ∷ is) e = absurd cc
+        after : (r n : ℕ) (v : World m) (b : Bool) → Drains v n (drain m v) → Drains v n (unless_stopped m (drain m v) (λ u. rounds m r u)) → Drains v n (after_ticks r v b)
+        after r n v true d e = d
+        after r n v false d e = e
 
-      at_limit : (w : World m) → 200000 ≤ w.steps → limit_of m w ≡ None → ⊥
-      unfolding limit_of
-      at_limit w le none = grind arith
+        before : Rounding Fair → (w : World m) (n : ℕ) → Holds w [] n → Before (nodes m w) w [] n
+        before t w n holds = record { queue = holds.queue; pre = t.again w n holds.inv; cluster = holds.cluster; stops = holds.stops }
 
-      over : (w : World m) (next : World m → Ran m) (n : ℕ) → 200000 ≤ w.steps → DrainsTo w n (unless_stopped m (drain_on m zero w) next)
-      unfolding drain_on
-      over w next n le = by (limit_of m w) refl
-        where
-          by : (o : Option Which) → limit_of m w ≡ o → DrainsTo w n (elim o as (λ _. Ran m) [ Some x ↦ record { world = w; stopped = limit_of m w } | None ↦ next w ])
-          by None e = absurd (at_limit w le e)
-          by (Some x) e = λ none. absurd cc
+        later_drained : (w v u : World m) (n left : ℕ) → Spent w v n left → Drained v u left × Fact u → Drained w u n × Fact u
+        later_drained w v u n left a b = (drained_later w v u n left a b.0, b.1)
 
-      first_drain : (fuel : ℕ) (w : World m) (next : World m → Ran m) (n : ℕ) → w.waiting ≡ [] → 200001 ≤ fuel + w.steps → DrainsTo w n (next w) → DrainsTo w n (unless_stopped m (drain_on m fuel w) next)
-      first_drain zero w next n e le t = over w next n (omega (arith, le))
-      first_drain (suc fuel) w next n e le t = quiet_drains fuel w next n e t
+        round : Rounding Fair → (r : ℕ) (w : World m) (n : ℕ) → Fact w → Before (nodes m w) w [] n → ((u : World m) (left : ℕ) → Fact u → Holds u [] left → Drains u left (rounds m r u)) → Drains w n (rounds m (suc r) w)
+        unfolding rounds
+        round t r w n fact b rest = unless w n (tick_all m (nodes m w) w) (λ v. after_ticks r v (eqb (length v.packets) (length w.packets))) (tick_all m (nodes m w) w).stopped refl (λ none.
+            let v = (tick_all m (nodes m w) w).world in
+            let y = ticks_by t.ticking (nodes m w) w [] n fact b none in
+            let x = y.0 in
+            let d = drain_by Fact Fair facts t.keeps v n x.q y.1 x.holds in
+            λ still. later_drained w v _ n n x.spent (after r n v (eqb (length v.packets) (length w.packets)) d (unless v n (drain m v) (λ u. rounds m r u) (drain m v).stopped refl (λ calm.
+            let z = d calm in
+            λ quiet. later_drained v _ _ n z.0.left z.0.spent (rest (drain m v).world z.0.left z.1 z.0.holds quiet))) still))
 
-      -- what a settling comes to
-      pub settles_from : Rounding → (w : World m) (n : ℕ) (q : List Packet) → Holds w q n → DrainsTo w n (settle m w)
-      unfolding settle
-      settles_from t w n q holds = unless w n (drain m w) (λ v. rounds m 8 v) (drain m w).stopped refl (λ calm.
-          let y = drain_to t.keeps w n q holds calm in
-          λ none. drained_later w _ _ n y.left y.spent (rounds_to t 8 (drain m w).world y.left y.holds none))
+        rounds_to : Rounding Fair → (r : ℕ) (w : World m) (n : ℕ) → Fact w → Holds w [] n → Drains w n (rounds m r w)
+        unfolding rounds
+        rounds_to t zero w n fact holds = λ none. (record { left = n; holds = holds; spent = spent_none w n }, fact)
+        rounds_to t (suc r) w n fact holds = round t r w n fact (before t w n holds) (λ u left f h. rounds_to t r u left f h)
 
-      -- what a settling of a quiet world comes to
-      pub settles : Rounding → (w : World m) (n : ℕ) → w.waiting ≡ [] → Pre (nodes m w) (net m w) [] n → w.cluster ≡ h → w.stopped ≡ stopped → DrainsTo w n (settle m w)
-      unfolding settle drain
-      settles t w n e pre cluster stops = first_drain (200001 - w.steps) w (λ v. rounds m 8 v) n e (omega arith)
-          (round t 7 w n (record { queue = record { rises = subst (λ is. RisesWithin 0 is (length w.packets)) (sym e) (omega arith); carries = subst (λ is. Carries w.packets is []) (sym e) tt }; pre = pre; cluster = cluster; stops = stops }) (λ u left holds. rounds_to t 7 u left holds))
+        -- A quiet world: the first drain delivers nothing.
+
+        quiet_drains : (fuel : ℕ) (w : World m) (next : World m → Ran m) (n : ℕ) → w.waiting ≡ [] → Drains w n (next w) → Drains w n (unless_stopped m (drain_on m (suc fuel) w) next)
+        unfolding drain_on
+        quiet_drains fuel w next n e t = by w.waiting e
+          where
+            by : (is : List ℕ) → is ≡ [] → Drains w n (unless_stopped m (elim (lowest m is) as (λ _. Ran m) [
+              | None ↦ record { world = w; stopped = None }
+              | Some i ↦ elim (limit_of m w) as (λ _. Ran m) [ Some x ↦ record { world = w; stopped = Some x } | None ↦ drain_on m fuel (happens m w (Deliver i)) ]
+            ]) next)
+            by [] e = t
+            by (i ∷ is) e = absurd cc
+
+        at_limit : (w : World m) → 200000 ≤ w.steps → limit_of m w ≡ None → ⊥
+        unfolding limit_of
+        at_limit w le none = grind arith
+
+        over : (w : World m) (next : World m → Ran m) (n : ℕ) → 200000 ≤ w.steps → Drains w n (unless_stopped m (drain_on m zero w) next)
+        unfolding drain_on
+        over w next n le = by (limit_of m w) refl
+          where
+            by : (o : Option Which) → limit_of m w ≡ o → Drains w n (elim o as (λ _. Ran m) [ Some x ↦ record { world = w; stopped = limit_of m w } | None ↦ next w ])
+            by None e = absurd (at_limit w le e)
+            by (Some x) e = λ none. absurd cc
+
+        first_drain : (fuel : ℕ) (w : World m) (next : World m → Ran m) (n : ℕ) → w.waiting ≡ [] → 200001 ≤ fuel + w.steps → Drains w n (next w) → Drains w n (unless_stopped m (drain_on m fuel w) next)
+        first_drain zero w next n e le t = over w next n (omega (arith, le))
+        first_drain (suc fuel) w next n e le t = quiet_drains fuel w next n e t
+
+        -- what a settling comes to
+        pub settles_from : Rounding Fair → (w : World m) (n : ℕ) (q : List Packet) → Fact w → Holds w q n → (settle m w).stopped ≡ None → Drained w (settle m w).world n × Fact (settle m w).world
+        unfolding settle
+        settles_from t w n q fact holds = unless w n (drain m w) (λ v. rounds m 8 v) (drain m w).stopped refl (λ calm.
+            let y = drain_by Fact Fair facts t.keeps w n q fact holds calm in
+            λ none. later_drained w _ _ n y.0.left y.0.spent (rounds_to t 8 (drain m w).world y.0.left y.1 y.0.holds none))
+
+        -- what a settling of a quiet world comes to
+        pub settles : Rounding Fair → (w : World m) (n : ℕ) → w.waiting ≡ [] → Fact w → Pre (nodes m w) (net m w) [] n → w.cluster ≡ h → w.stopped ≡ stopped → (settle m w).stopped ≡ None → Drained w (settle m w).world n × Fact (settle m w).world
+        unfolding settle drain
+        settles t w n e fact pre cluster stops = first_drain (200001 - w.steps) w (λ v. rounds m 8 v) n e (omega arith)
+            (round t 7 w n fact (record { queue = record { rises = subst (λ is. RisesWithin 0 is (length w.packets)) (sym e) (omega arith); carries = subst (λ is. Carries w.packets is []) (sym e) tt }; pre = pre; cluster = cluster; stops = stops }) (λ u left f holds. rounds_to t 7 u left f holds))
+
+      pub ticks_all : Ticking → (xs : List NodeId) (w : World m) (q : List Packet) (n : ℕ) → Before xs w q n → (tick_all m xs w).stopped ≡ None → Ticked w (tick_all m xs w).world n
+      ticks_all t xs w q n b none = (ticks_by (λ v. ⊤) (λ x. ⊤) (no_facts m) t xs w q n tt b none).0

@@ -136,6 +136,6 @@ module _ (m : Meaning) (h : Header) (stopped : List NodeId) (k : ℕ) (p : Layou
         calls = one_called;
         again = one_again;
         ticked = one_ticked;
-        asked = λ s o is n ready x. one_asked s o is (Ask o ∷ is) n ready x refl;
+        asked = λ s o is n fair ready x. one_asked s o is (Ask o ∷ is) n ready x refl;
         answered = λ s x rid y is n ready stage. one_answered s x rid y is (Tell x rid y ∷ is) n ready stage refl;
       }
