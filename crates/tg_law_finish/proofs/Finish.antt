@@ -25,6 +25,7 @@ pub mod Readers
 pub mod Tasks
 pub mod Askers
 pub mod Probes
+pub mod AtOnce
 pub mod Midway
 pub mod Suiting
 pub mod Askings
@@ -50,6 +51,10 @@ pub mod Walked
 pub mod Recorded
 pub mod Issued
 pub mod Below
+pub mod Sized
+pub mod Reached
+pub mod Trimmers
+pub mod Trimmings
 pub mod Named
 pub mod Shapes
 pub mod Shaped

@@ -53,7 +53,7 @@ use Rattle.tg_law_finish.proofs.Finish.Waits.{asks_finish, makes_finish, ends_fi
 use Rattle.tg_law_finish.proofs.Finish.Walked.{asks_finish_by, makes_finish_by, rescues_finish_by}
 use Rattle.tg_law_finish.proofs.Finish.Recorded.{records_finish_by}
 use Rattle.tg_law_finish.proofs.Finish.Hosting.{WorkFew, hosting}
-use Rattle.tg_law_finish.proofs.Finish.Standing.{numbers_hold, cells_always, pax_always, working, lawful, next_near, names_below, once_there, units_are, cluster_is, header_limits}
+use Rattle.tg_law_finish.proofs.Finish.Standing.{numbers_hold, cells_always, pax_always, working, lawful, next_near, names_below, once_there, units_rise, some_unit, units_are, cluster_is, header_limits}
 use Rattle.tg_law_finish.proofs.Finish.Writing.{Writes, Stands, InHand, PutStands, JudgeStands}
 
 -- Counting.
@@ -218,8 +218,8 @@ module _ (m : Meaning) (h : Header) (ms : Moves m) (w : World m) (r : Reaches m 
       is_less : (a b : ℕ) → a < b → nat_lt a b ≡ true
       is_less a b less = grind arith
 
-  walkable : HeldWhereTrimmed m w p → Walkable m w p
-  walkable held = record { near = next_near m h ms w r; backs = λ o os. names_below m h ms w r o os; once = λ pos. once_there m h ms w r pos; held = held }
+  walkable : IsReadyFor m w k → HeldWhereTrimmed m w p → Walkable m w p
+  walkable b held = record { near = next_near m h ms w r; backs = λ o os. names_below m h ms w r o os; once = λ pos. once_there m h ms w r pos; units = units_rise m h ms w r k b; some_unit = some_unit m h ms w r; held = held }
 
   none_trimmed : NothingTrimmed m w → HeldWhereTrimmed m w p
   none_trimmed u pos j less e = absurd (never pos _ (u _) e)
@@ -304,7 +304,7 @@ module _ (m : Meaning) (h : Header) (ms : Moves m) (w : World m) (r : Reaches m 
   pub ask_answered : (x : CommandOf m) → IsAlone m w k x → IsReadyFor m w k → Granted m w → NothingTrimmed m w → HasIssued m w → WaitsForSync m w k → IsAnswered m w k (2 * ((longest_chain p + 1) * ((seqr m w p.seq).next + 1)) + 2 * w.cluster.layouts)
   unfolding asks synced
   ask_answered x a b g u n f =
-      let c = asks_finish m w k p (longest_chain p) (working m h ms w r k x a b) (lawful m h ms w r k x a b g) (walkable (none_trimmed u)) (untrimmed u n) (asks f) f.asks a.within in
+      let c = asks_finish m w k p (longest_chain p) (working m h ms w r k x a b) (lawful m h ms w r k x a b g) (walkable b (none_trimmed u)) (untrimmed u n) (asks f) f.asks a.within in
       answered_of m k _ w _ (subst (λ l. Counted m k (2 * ((longest_chain p + 1) * ((seqr m w p.seq).next + 1)) + 2 * l) w (settle m w).world) layouts_are c) (replied f.work f.waits (asks_play f.work.command f.asks) c.answered)
 
   pub ask_in_time : (x : CommandOf m) → IsAlone m w k x → IsReadyFor m w k → Granted m w → NothingTrimmed m w → HasIssued m w → WaitsForSync m w k → IsAnswered m w k (most_deliveries_in m w x)
@@ -313,7 +313,7 @@ module _ (m : Meaning) (h : Header) (ms : Moves m) (w : World m) (r : Reaches m 
   pub make_answered : (x : CommandOf m) → IsAlone m w k x → IsReadyFor m w k → Granted m w → NothingTrimmed m w → HasIssued m w → MakesSync m w k → IsAnswered m w k (make_bound m w)
   unfolding made synced
   make_answered x a b g u n f =
-      let c = makes_finish m w k p (longest_chain p) (working m h ms w r k x a b) (lawful m h ms w r k x a b g) (walkable (none_trimmed u)) (untrimmed u n) (made f) f.makes_it a.within in
+      let c = makes_finish m w k p (longest_chain p) (working m h ms w r k x a b) (lawful m h ms w r k x a b g) (walkable b (none_trimmed u)) (untrimmed u n) (made f) f.makes_it a.within in
       answered_of m k _ w _ (subst (λ l. Counted m k (2 * ((longest_chain p + 1) * ((seqr m w p.seq).next + 1)) + 2 * l + 2 * (longest_chain p + 1)) w (settle m w).world) layouts_are c) (replied f.work f.waits (makes_play f.work.command f.makes_it) c.answered)
 
   pub make_in_time : (x : CommandOf m) → IsAlone m w k x → IsReadyFor m w k → Granted m w → NothingTrimmed m w → HasIssued m w → MakesSync m w k → IsAnswered m w k (most_deliveries_in m w x)
@@ -346,7 +346,7 @@ module _ (m : Meaning) (h : Header) (ms : Moves m) (w : World m) (r : Reaches m 
   ask_by : (x : CommandOf m) → IsAlone m w k x → IsReadyFor m w k → Granted m w → HeldWhereTrimmed m w p → (f : WaitsForRead m w k) → TaskStands m w p f.work f.task → is_ask m f.work.command ≡ true → IsAnswered m w k (walk_bound m w (streams m f.work))
   unfolding reading
   ask_by x a b g held f stands is =
-      let c = asks_finish_by m w k p (longest_chain p) (working m h ms w r k x a b) (lawful m h ms w r k x a b g) (walkable held) (reading b.stand f stands) is a.within in
+      let c = asks_finish_by m w k p (longest_chain p) (working m h ms w r k x a b) (lawful m h ms w r k x a b g) (walkable b held) (reading b.stand f stands) is a.within in
       answered_of m k _ w _ (subst (λ n. Counted m k (2 * ((longest_chain p + 1) * (seqr m w p.seq).next) + 2 * w.cluster.layouts + 2 * ((2 * longest_chain p + 1 + length f.work.oids) * (n + 2))) w (settle m w).world) (units_are m h ms w r)
       (subst (λ l. Counted m k (2 * ((longest_chain p + 1) * (seqr m w p.seq).next) + 2 * l + 2 * ((2 * longest_chain p + 1 + length f.work.oids) * (length w.units + 2))) w (settle m w).world) layouts_are c))
       (replied f.work f.waits (asks_play f.work.command is) c.answered)
@@ -355,7 +355,7 @@ module _ (m : Meaning) (h : Header) (ms : Moves m) (w : World m) (r : Reaches m 
       → IsAnswered m w k (walk_bound m w (streams m f.work) + 2 * (longest_chain p + 1))
   unfolding reading
   make_by x a b g held f stands is =
-      let c = makes_finish_by m w k p (longest_chain p) (working m h ms w r k x a b) (lawful m h ms w r k x a b g) (walkable held) (reading b.stand f stands) is a.within in
+      let c = makes_finish_by m w k p (longest_chain p) (working m h ms w r k x a b) (lawful m h ms w r k x a b g) (walkable b held) (reading b.stand f stands) is a.within in
       answered_of m k _ w _ (subst (λ n. Counted m k (2 * ((longest_chain p + 1) * (seqr m w p.seq).next) + 2 * w.cluster.layouts + 2 * ((2 * longest_chain p + 1 + length f.work.oids) * (n + 2)) + 2 * (longest_chain p + 1)) w (settle m w).world) (units_are m h ms w r)
       (subst (λ l. Counted m k (2 * ((longest_chain p + 1) * (seqr m w p.seq).next) + 2 * l + 2 * ((2 * longest_chain p + 1 + length f.work.oids) * (length w.units + 2)) + 2 * (longest_chain p + 1)) w (settle m w).world) layouts_are c))
       (replied f.work f.waits (makes_play f.work.command is) c.answered)
@@ -379,7 +379,7 @@ module _ (m : Meaning) (h : Header) (ms : Moves m) (w : World m) (r : Reaches m 
   rescue_by : (x : CommandOf m) → IsAlone m w k x → IsReadyFor m w k → Granted m w → HeldWhereTrimmed m w p → (f : WaitsForRead m w k) → TaskStands m w p f.work f.task → is_rescue m f.work.command ≡ true → IsAnswered m w k (rescue_bound m w (streams m f.work))
   unfolding reading
   rescue_by x a b g held f stands is =
-      let c = rescues_finish_by m w k p (longest_chain p) (working m h ms w r k x a b) (lawful m h ms w r k x a b g) (walkable held) (reading b.stand f stands) is (few_streams f.work f.waits) a.within in
+      let c = rescues_finish_by m w k p (longest_chain p) (working m h ms w r k x a b) (lawful m h ms w r k x a b g) (walkable b held) (reading b.stand f stands) is (few_streams f.work f.waits) a.within in
       answered_of m k _ w _
       (subst (λ n. Counted m k ((2 * ((longest_chain p + 1) * (seqr m w p.seq).next) + 2 * w.cluster.layouts + 2 * ((2 * longest_chain p + 1 + 128) * (n + 2))) * ((128 - length f.work.oids) + 1) + 2 * (longest_chain p + 1)) w (settle m w).world) (units_are m h ms w r)
       (subst (λ l. Counted m k ((2 * ((longest_chain p + 1) * (seqr m w p.seq).next) + 2 * l + 2 * ((2 * longest_chain p + 1 + 128) * (length w.units + 2))) * ((128 - length f.work.oids) + 1) + 2 * (longest_chain p + 1)) w (settle m w).world) layouts_are c))
@@ -395,7 +395,7 @@ module _ (m : Meaning) (h : Header) (ms : Moves m) (w : World m) (r : Reaches m 
 
   end_by : (x : CommandOf m) → IsAlone m w k x → IsReadyFor m w k → Granted m w → HeldWhereTrimmed m w p → Owns m w k p → IsAnswered m w k (end_bound m w)
   end_by x a b g held f =
-      let c = ends_finish_by m w k p (longest_chain p) (working m h ms w r k x a b) (lawful m h ms w r k x a b g) (walkable held) f a.within in
+      let c = ends_finish_by m w k p (longest_chain p) (working m h ms w r k x a b) (lawful m h ms w r k x a b g) (walkable b held) f a.within in
       answered_of m k _ w _
       (subst (λ n. Counted m k (2 * ((longest_chain p + 1) * (seqr m w p.seq).next) + 2 * w.cluster.layouts + 2 * ((2 * longest_chain p + 1 + 128) * (n + 2)) + 6 * (longest_chain p + 1)) w (settle m w).world) (units_are m h ms w r)
       (subst (λ l. Counted m k (2 * ((longest_chain p + 1) * (seqr m w p.seq).next) + 2 * l + 2 * ((2 * longest_chain p + 1 + 128) * (length w.units + 2)) + 6 * (longest_chain p + 1)) w (settle m w).world) layouts_are c))
@@ -413,7 +413,7 @@ module _ (m : Meaning) (h : Header) (ms : Moves m) (w : World m) (r : Reaches m 
 
   record_by : (x : CommandOf m) → IsAlone m w k x → IsReadyFor m w k → Granted m w → HeldWhereTrimmed m w p → Holds m w k p → IsAnswered m w k (record_bound m w)
   record_by x a b g held f =
-      let c = records_finish_by m w k p (longest_chain p) (working m h ms w r k x a b) (lawful m h ms w r k x a b g) (walkable held) f a.within in
+      let c = records_finish_by m w k p (longest_chain p) (working m h ms w r k x a b) (lawful m h ms w r k x a b g) (walkable b held) f a.within in
       answered_of m k _ w _
       (subst (λ n. Counted m k (2 * ((longest_chain p + 1) * (seqr m w p.seq).next) + 2 * w.cluster.layouts + 2 * ((2 * longest_chain p + 1 + 128) * (n + 2)) + 8 * (longest_chain p + 1)) w (settle m w).world) (units_are m h ms w r)
       (subst (λ l. Counted m k (2 * ((longest_chain p + 1) * (seqr m w p.seq).next) + 2 * l + 2 * ((2 * longest_chain p + 1 + 128) * (length w.units + 2)) + 8 * (longest_chain p + 1)) w (settle m w).world) layouts_are c))

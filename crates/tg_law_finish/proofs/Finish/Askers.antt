@@ -22,7 +22,7 @@ use Rattle.tg_law_finish.proofs.Finish.Lists.{Each}
 use Rattle.tg_law_finish.proofs.Finish.Nets.{Net, seqr_of, on_in, on_alike}
 use Rattle.tg_law_finish.proofs.Finish.Others.{Keeps}
 use Rattle.tg_law_finish.proofs.Finish.Stores.{Put}
-use Rattle.tg_law_finish.proofs.Finish.Places.{CanIssue, keeps_issue, puts_issue}
+use Rattle.tg_law_finish.proofs.Finish.Places.{CanIssue, AllServe, keeps_unit, keeps_issue, puts_unit, puts_issue}
 use Rattle.tg_law_finish.proofs.Finish.Readings.{Stable, Clean, Trimmed, GoodAt, Good, Sort, CellStage, CellWell, CellDone, CellGoes, CellGone, good_keeps, good_put}
 use Rattle.tg_law_finish.proofs.Finish.Trails.{unknown, unknown_less, Low, TrailLow, Walked, walk_goes, visit_low}
 
@@ -123,9 +123,10 @@ module _ (m : Meaning) (h : Header) (stopped : List NodeId) (k : ℕ) (p : Layou
     pub named : (os : List Oid) → names_all os (links_of (seqr_of m h s p.seq).lists os) ≡ true
     pub lasts : (o : Oid) (os : List Oid) → Low p tail (backs_of (link_of o (links_of (seqr_of m h s p.seq).lists os)))
     pub issue : (d : Entry) → CanIssue m h stopped k p longest s d
+    pub units : AllServe m h stopped k p longest s
 
-  here_with : (s t : Net m) → seqr_of m h t p.seq ≡ seqr_of m h s p.seq → on_in m stopped t (seqr_id p.seq) ≡ on_in m stopped s (seqr_id p.seq) → Good m h stopped k p longest low_at many t → ((d : Entry) → CanIssue m h stopped k p longest t d) → Here s → Here t
-  here_with s t same on good issue x = record {
+  here_with : (s t : Net m) → seqr_of m h t p.seq ≡ seqr_of m h s p.seq → on_in m stopped t (seqr_id p.seq) ≡ on_in m stopped s (seqr_id p.seq) → Good m h stopped k p longest low_at many t → ((d : Entry) → CanIssue m h stopped k p longest t d) → AllServe m h stopped k p longest t → Here s → Here t
+  here_with s t same on good issue units x = record {
     good = good;
     on = on ∙ x.on;
     epoch = ap (λ (y : SeqrState). y.epoch) same ∙ x.epoch;
@@ -137,10 +138,11 @@ module _ (m : Meaning) (h : Header) (stopped : List NodeId) (k : ℕ) (p : Layou
     named = λ os. ap (λ (y : SeqrState). names_all os (links_of y.lists os)) same ∙ x.named os;
     lasts = λ o os. subst (λ (y : SeqrState). Low p tail (backs_of (link_of o (links_of y.lists os)))) (sym same) (x.lasts o os);
     issue = issue;
+    units = units;
   }
 
   pub here_keeps : (s t : Net m) → Keeps m h stopped k p s t → Here s → Here t
-  here_keeps s t keep x = here_with s t keep.seqr (on_alike m stopped s t keep.alike (seqr_id p.seq)) (good_keeps m h stopped k p longest low_at many s t keep x.good) (λ d. keeps_issue m h stopped k p longest s t d keep (x.issue d)) x
+  here_keeps s t keep x = here_with s t keep.seqr (on_alike m stopped s t keep.alike (seqr_id p.seq)) (good_keeps m h stopped k p longest low_at many s t keep x.good) (λ d. keeps_issue m h stopped k p longest s t d keep (x.issue d)) (λ u g. keeps_unit m h stopped k p longest s t u keep (x.units u g)) x
 
   off : (n pos : ℕ) → n ≡ tail → pos < tail → eqb n pos ≡ false
   off n pos e less = grind (arith, e, less)
@@ -148,7 +150,7 @@ module _ (m : Meaning) (h : Header) (stopped : List NodeId) (k : ℕ) (p : Layou
   pub here_put : (s t : Net m) (pl : Place) (c : Cell) → pl ≡ place_in p pl.pos → pl.pos < tail → Put m stopped s t pl.pos c → (GoodAt m h stopped k p longest low_at many s pl → GoodAt m h stopped k p longest low_at many t pl)
       → seqr_of m h t p.seq ≡ seqr_of m h s p.seq → Here s → Here t
   here_put s t pl c is less put good same x =
-      here_with s t same (put.on (seqr_id p.seq)) (good_put m h stopped k p longest low_at many s t pl c is put good x.good) (λ d. puts_issue m h stopped k p longest s t pl.pos c d put same (off _ pl.pos x.next less) (x.issue d)) x
+      here_with s t same (put.on (seqr_id p.seq)) (good_put m h stopped k p longest low_at many s t pl c is put good x.good) (λ d. puts_issue m h stopped k p longest s t pl.pos c d put same (off _ pl.pos x.next less) (x.issue d)) (λ u g. puts_unit m h stopped k p longest s t pl.pos c u put (x.units u g)) x
 
   pub stable_at : (s : Net m) (pl : Place) → pl ≡ place_in p pl.pos → Here s → Stable m h stopped k p longest low_at many s pl
   stable_at s pl e x = subst (λ (y : Place). Stable m h stopped k p longest low_at many s y) (sym e) (x.good pl.pos).stable

@@ -11,18 +11,20 @@ use Rattle.tg_kind.specs.Meaning.{Meaning}
 use Rattle.tg_protocol.specs.Words.{cell_at, too_far}
 use Rattle.tg_model.specs.declared.command.Command.TheVariants as cmd
 use Rattle.tg_protocol.specs.Entries.{streams_of, link_of, backs_of}
-use Rattle.tg_protocol.specs.Layouts.{chain_of}
+use Rattle.tg_protocol.specs.Layouts.{chain_of, units_of}
 use Rattle.tg_protocol.specs.Sequencers.{links_of, with_positions}
 use Rattle.tg_protocol.specs.Appending.{Append, AppendWork, Asking, Putting, Judging, Token, append_asks, names_all}
 use Rattle.tg_protocol.specs.Cells.{CellWork, Puts, Gets, Fills, Copies, Probes, CellJob, place_in}
 use Rattle.tg_protocol.specs.Requests.{Waits}
 use Rattle.tg_protocol.specs.Syncing.{Sync, SyncWork, Checking, Settling, Probing}
+use Rattle.tg_protocol.specs.Trimming.{Trims, trim_asks}
 use Rattle.tg_protocol.specs.Walking.{Walk}
 use Rattle.tg_protocol.specs.Clients.{Judged, Task, Appending, Syncing, Walking, Trimming, Copying', Reconfiguring, Doing, Work}
 use Rattle.tg_protocol.specs.ClientSteps.{task_awaited}
 use Rattle.tg_protocol.specs.Worlds.{World, unit, seqr, client}
 use Rattle.tg_law_layouts.proofs.Moves.Members.{Has}
 use Rattle.tg_law_trims.proofs.Issues.Bounds.{AllBelow}
+use Rattle.tg_law_finish.specs.Finish.Queues.{RisesWithin}
 use Rattle.tg_law_finish.proofs.Finish.Askers.{Distinct}
 use Rattle.tg_law_finish.proofs.Finish.Probes.{Asked}
 use Rattle.tg_law_finish.proofs.Finish.Working.{at_chain}
@@ -34,11 +36,13 @@ module _ (m : Meaning) where
   HeldWhereTrimmed w p = (pos j : ℕ) → j < length (chain_of p pos) → nat_lt pos (unit m w (at_chain m p pos j)).low ≡ true
       → (c : Cell) × ((i : ℕ) → i < length (chain_of p pos) → (cell_at (unit m w (at_chain m p pos i)).cells pos ≡ Some c) ⊎ (nat_lt pos (unit m w (at_chain m p pos i)).low ≡ true))
 
-  -- what a client walks: lists name positions that were issued, and no unit stands twice in a chain
+  -- what a client walks: lists name positions that were issued, and no unit stands twice in a chain, or twice among all
   pub record Walkable (w : World m) (p : Layout) : Type 0 where
     pub near : too_far (seqr m w p.seq).next ≡ false
     pub backs : (o : Oid) (os : List Oid) → AllBelow (seqr m w p.seq).next (backs_of (link_of o (links_of (seqr m w p.seq).lists os)))
     pub once : (pos : ℕ) → Distinct (chain_of p pos)
+    pub units : RisesWithin 0 (units_of p) (length w.units)
+    pub some_unit : 0 < length (units_of p)
     pub held : HeldWhereTrimmed w p
 
   -- a log of which nothing is trimmed, and to which this epoch has added
@@ -66,6 +70,15 @@ module _ (m : Meaning) where
     pub below : rid < (client m w k).next
     pub hosted : length (client m w k).hosted ≤ 128
     pub grows : Grows w p append.draft
+
+  -- the client waits for units to trim
+  pub record Trims' (w : World m) (k : ℕ) (p : Layout) : Type 0 where
+    pub work : Work m
+    pub waits : (client m w k).work ≡ Some work
+    pub trims : Trims
+    pub hand : work.hand ≡ Doing (Trimming trims)
+    pub asked : Asked (units_of p) trims.waits
+    pub below : (o : Out) → Has (trim_asks p trims) o → o.rid < (client m w k).next
 
   -- the command's sync is outstanding
   pub record Syncs (w : World m) (k : ℕ) : Type 0 where
@@ -137,7 +150,7 @@ module _ (m : Meaning) where
     pub place : j.place ≡ place_in p j.place.pos
     pub waits : Waits
     pub work : j.work ≡ Probes waits
-    pub asked : Asked j.place waits
+    pub asked : Asked j.place.chain waits
 
   -- the last positions of each stream were issued
   abbrev pub LastsBelow : World m → Layout → List StreamLink → Type 0

@@ -43,7 +43,8 @@ use Rattle.tg_law_finish.proofs.Finish.Readings.{Sort, CellAsk, cell_ask, cell_k
 use Rattle.tg_law_finish.proofs.Finish.Trails.{unknown, unknown_fewer, Low, TrailLow, Walked, WalkReads, WalkEnds}
 use Rattle.tg_law_finish.proofs.Finish.Readers.{Way, Walks, WalksTo, ToOver, ToReads, walks_to, seen}
 use Rattle.tg_law_finish.proofs.Finish.Tasks.{TaskShape, Below, Away, none_drawn, shape_called, shape_ticked, again_is, busied, task_fed}
-use Rattle.tg_law_finish.proofs.Finish.Probes.{AskedOnce, each_at, each_waits, all_once, waits_some}
+use Rattle.tg_law_finish.proofs.Finish.AtOnce.{long_asked, all_drawn, all_below, without_first, nest, each_mid, all_away, first_awaited}
+use Rattle.tg_law_finish.proofs.Finish.Probes.{AskedOnce, each_at, each_waits, all_once, waits_some, waits_long}
 use Rattle.tg_law_finish.proofs.Finish.Askers.{Kind, extra, extra_less, extra_is, above, above_fewer, budget, passes, passes_less, passes_fewer, rest, Here, here_keeps, here_put, stable_at, sort_of, Reading, WalkStage, WalkWell, CellOn, WalkOn, WalkGone, cell_walks, Settles, SyncStage, SyncWell, SyncOn, SyncEnds, SyncProbes, cell_settles, tail_well}
 
 -- Of commands that go on in such a way once all is walked.
@@ -345,27 +346,6 @@ module _ (m : Meaning) (h : Header) (stopped : List NodeId) (k : ℕ) (p : Layou
   task_well t c w (Copying' z) num rid y n stand x = absurd x
   task_well t c w (Reconfiguring z) num rid y n stand x = absurd x
 
-  -- Units that are asked at once.
-
-  one_drawn : (o : Out) (os : List Out) (low : ℕ) → low ≤ o.rid → drawn_from low os ≡ os → drawn_from low (o ∷ os) ≡ o ∷ os
-  one_drawn o os low le e = grind (arith, le, e)
-
-  all_drawn : (pl : Place) (us : List ℕ) (rid low : ℕ) → low ≤ rid → drawn_from low (looks pl (waits_for us rid)) ≡ looks pl (waits_for us rid)
-  all_drawn pl [] rid low le = refl
-  all_drawn pl (u ∷ us) rid low le = one_drawn (out (unit_id u) rid (look pl)) (looks pl (waits_for us (rid + 1))) low le (all_drawn pl us (rid + 1) low (omega (arith, le)))
-
-  all_below : (pl : Place) (us : List ℕ) (rid n : ℕ) → rid + length us ≤ n → Each (Below n) (looks pl (waits_for us rid))
-  all_below pl [] rid n le = tt
-  all_below pl (u ∷ us) rid n le = (omega (arith, le), all_below pl us (rid + 1) n (omega (arith, le)))
-
-  pub all_away : (pl : Place) (ws : Waits) → Each Away (looks pl ws)
-  all_away pl [] = tt
-  all_away pl (w ∷ ws) = ((λ l. unit_away m h stopped k p longest w.0 l), all_away pl ws)
-
-  looks_long : (pl : Place) (us : List ℕ) (rid : ℕ) → length (looks pl (waits_for us rid)) ≡ length us
-  looks_long pl [] rid = refl
-  looks_long pl (u ∷ us) rid = ap suc (looks_long pl us (rid + 1))
-
   -- The client's turn.
 
   fed_turns : (s : Net m) (c : Client m) (n : ℕ) (x : Moved m) → Fed s n c.next x → (EndsWalks s c (given m c x) n × (◌≡◌ {A = List Item} [] [])) ⊎ Goes m h stopped k p Reads s (given m c x) [] n
@@ -383,11 +363,11 @@ module _ (m : Meaning) (h : Header) (stopped : List NodeId) (k : ℕ) (p : Layou
       let waits = waits_for pl.chain c.next in
       let stable = (here.good (a.tail - 1)).stable in
       let task : Task m = Syncing (record { oids = oids; work = Probing a (works pl (Probes waits)) }) in
-      let long = looks_long pl pl.chain c.next in
+      let long = long_asked (look pl) waits ∙ waits_long pl.chain c.next in
       inr (record {
         os = looks pl waits;
         left = left;
-        sends = all_drawn pl pl.chain c.next c.next (omega arith);
+        sends = all_drawn (look pl) pl.chain c.next c.next (omega arith);
         stage = ProbesAll (asks (looks pl waits)) left (record {
           sync = record { oids = oids; work = Probing a (works pl (Probes waits)) };
           answer = a;
@@ -398,7 +378,7 @@ module _ (m : Meaning) (h : Header) (stopped : List NodeId) (k : ℕ) (p : Layou
           asked = waits;
           split = refl;
           work = refl;
-          shape = record { stand = stand; work = record w { hand = Doing task }; waits = refl; hand = refl; awaited = refl; again = refl; asks = refl; below = all_below pl pl.chain c.next _ (omega (arith, next)); away = all_away pl waits };
+          shape = record { stand = stand; work = record w { hand = Doing task }; waits = refl; hand = refl; awaited = refl; again = refl; asks = refl; below = all_below (look pl) pl.chain c.next _ (omega (arith, next)); away = all_away m h stopped k p longest (look pl) waits };
           items = sym (append-nil _);
           some = λ e. waits_some pl.chain c.next stable.serves.some e;
           units = each_waits (λ u. UnitServes m h stopped k p longest s u) pl.chain c.next (each_at (λ u. UnitServes m h stopped k p longest s u) pl.chain (λ j l. stable.serves.unit j l));
@@ -421,22 +401,6 @@ module _ (m : Meaning) (h : Header) (stopped : List NodeId) (k : ℕ) (p : Layou
       (fed_turns s c n _ (task_well s c g.shape.work g.task from.num rid y n g.shape.stand g.well))
 
   -- An answer to a probe.
-
-  first_awaited : (o : Out) (os : List Out) → awaits (o ∷ os) o.to o.rid ≡ true
-  first_awaited o os = let e = awaited_itself m h stopped k p longest o in grind (arith, e)
-
-  without_none : (u : ℕ) (ws : Waits) → Each (λ (v : ℕ × ℕ). eqb v.0 u ≡ false) ws → without_wait u ws ≡ ws
-  without_none u [] a = refl
-  without_none u (w ∷ ws) a = one u w ws a.0 (without_none u ws a.1)
-    where
-      one : (u : ℕ) (w : ℕ × ℕ) (ws : Waits) → eqb w.0 u ≡ false → without_wait u ws ≡ ws → without_wait u (w ∷ ws) ≡ w ∷ ws
-      one u w ws e f = grind (arith, e, f)
-
-  without_first : (w : ℕ × ℕ) (ws : Waits) → Each (λ (v : ℕ × ℕ). eqb v.0 w.0 ≡ false) ws → without_wait w.0 (w ∷ ws) ≡ ws
-  without_first w ws a = one w ws (without_none w.0 ws a)
-    where
-      one : (w : ℕ × ℕ) (ws : Waits) → without_wait w.0 ws ≡ ws → without_wait w.0 (w ∷ ws) ≡ ws
-      one w ws f = grind (arith, f)
 
   abbrev probed : Client m → Work m → Sync → Answer → Place → Waits → Moved m
   probed c w sy a pl ws = on_sync m c w (probe_turn sy a (probe_on pl ws c.next))
@@ -513,7 +477,7 @@ module _ (m : Meaning) (h : Header) (stopped : List NodeId) (k : ℕ) (p : Layou
           heard w ws work g units once =
               let same = same_work x.shape.work g.work (sym x.shape.waits ∙ g.waits) in
               subst (λ (z : Moved m). (EndsWalks s c (given m c z) n × (wholes ws ≡ [])) ⊎ Goes m h stopped k p Reads s (given m c z) (wholes ws) n)
-              (sym (task_fed m h stopped k p longest c (Syncing x.sync) (looks x.pl (w ∷ ws)) (unit_id w.0) w.1 (reply msg.Whole) g (first_awaited (out (unit_id w.0) w.1 (look x.pl)) (looks x.pl ws)) refl ∙ probe_fed c g.work x.sync x.answer x.pl w ws g.stand work once.0))
+              (sym (task_fed m h stopped k p longest c (Syncing x.sync) (looks x.pl (w ∷ ws)) (unit_id w.0) w.1 (reply msg.Whole) g (first_awaited m h stopped k p longest (out (unit_id w.0) w.1 (look x.pl)) (looks x.pl ws)) refl ∙ probe_fed c g.work x.sync x.answer x.pl w ws g.stand work once.0))
               (probe_goes s c n x.sync x.answer x.pl w ws g x.epoch units once.1 x.lasts x.here (subst IsSuch same x.such) (subst (λ (v : Work m). Budget (unknown c.cells tail) + extra kind.trims (after_of v (seen c.view)) ≤ n) same x.few))
 
   -- A request comes to its node.
@@ -683,14 +647,6 @@ module _ (m : Meaning) (h : Header) (stopped : List NodeId) (k : ℕ) (p : Layou
   each_keeps s t [] keep a = tt
   each_keeps s t (w ∷ ws) keep a = (keeps_unit m h stopped k p longest s t w.0 keep a.0, each_keeps s t ws keep a.1)
 
-  each_mid : (s : Net m) (xs : Waits) (w : ℕ × ℕ) (ys : Waits) → Each (Answering s) (xs ++ w ∷ ys) → Answering s w
-  each_mid s [] w ys a = a.0
-  each_mid s (x ∷ xs) w ys a = each_mid s xs w ys a.1
-
-  nest : (xs : Waits) (w : ℕ × ℕ) (ys : Waits) → xs ++ w ∷ ys ≡ (xs ++ w ∷ []) ++ ys
-  nest [] w ys = refl
-  nest (x ∷ xs) w ys = ap (λ (l : Waits). x ∷ l) (nest xs w ys)
-
   -- its answer comes behind
   told_behind : (xs : List Item) (ws : Waits) (w : ℕ × ℕ) → (xs ++ wholes ws) ++ Tell (unit_id w.0) w.1 msg.Whole ∷ [] ≡ xs ++ wholes (ws ++ w ∷ [])
   told_behind [] [] w = refl
@@ -708,7 +664,7 @@ module _ (m : Meaning) (h : Header) (stopped : List NodeId) (k : ℕ) (p : Layou
       let w = f.0 in
       let q = out (unit_id w.0) w.1 (look x.pl) in
       let split = x.split ∙ ap (λ (ys : Waits). x.told ++ ys) f.2 in
-      let serves = each_mid s x.told w f.1 (subst (λ (ys : Waits). Each (Answering s) ys) split x.units) in
+      let serves = each_mid (Answering s) x.told w f.1 (subst (λ (ys : Waits). Each (Answering s) ys) split x.units) in
       let step = looked (unit_of m s w.0) x.pl (serves.epoch ∙ sym x.epoch) in
       let t = with_unit m stopped s w.0 (unit_step (unit_of m s w.0) (look x.pl)).now in
       let keep = same_keeps s w.0 (unit_step (unit_of m s w.0) (look x.pl)).now (ap (λ y. y.now) step) in

@@ -1,5 +1,5 @@
 -- What is settled lies below what a serving sequencer issues next, and so does all that units have trimmed.
-use Rattle.std.proofs.Common.{◌≡◌, ◌⊎◌, ℕ, ◌<◌, ◌≤◌, List, Bool, true, false, refl, sym, ap, ◌∙◌, subst, inl, inr, arith, Some, None, Option}
+use Rattle.std.proofs.Common.{◌≡◌, ◌⊎◌, ℕ, zero, suc, ◌<◌, ◌≤◌, List, Bool, true, false, refl, sym, ap, ◌∙◌, subst, inl, inr, arith, Some, None, Option}
 use Rattle.std.specs.Prelude.{nat_lt, Contains}
 use Rattle.tg_base.specs.Clusters.{Header}
 use Rattle.tg_base.specs.Layouts.{Layout}
@@ -105,6 +105,81 @@ module _ (m : Meaning) (h : Header) (zs : Moves m) (r : Reaches m h zs (after m 
   epoch_some e p (WasIssued l d os ls i) = one_of e l d
   epoch_some e p (BelowTail l d t i less) = one_of e l d
 
+  -- its sequencer stands in no later epoch
+  seqr_up : s.epoch ≤ q.epoch
+  seqr_up = by s.epoch refl
+    where
+      by : (e : ℕ) → s.epoch ≡ e → s.epoch ≤ q.epoch
+      by zero is = omega (arith, is)
+      by (suc e) is =
+          let k = ((naming_holds m h zs).seqs q.seq).own (omega (arith, is)) in
+          let same = k.0 in
+          let up = greatest s.proj ((layouts_are_known m h zs (after m h zs) r).seqrs q.seq) in
+          omega (arith, same, up)
+
+  -- A position past the epoch's start, and past what its sequencer issues next where that stands in the epoch.
+  module _ (top : ℕ) (starts : q.start ≤ top) (next : s.epoch ≡ q.epoch → s.next ≤ top) where
+    issued_under : (e p : ℕ) (os : List Oid) (ls : List StreamLink) → Issued m (after m h zs) q.seq e p os ls → e ≡ q.epoch → p < top
+    issued_under e p os ls i at =
+        let o = (low_holds m h zs).1.ours q.seq i.answer p ls (has_contained _ i.answer i.answered) i.from_seqr i.issues in
+        let same = token_epoch o.epoch e o.os os (same_asked (after m h zs).packets numbers i.answer o.epoch e o.os os o.asked (asked_of m (after m h zs) q.seq e p os ls i)) in
+        let up = o.up in
+        let low = seqr_up in
+        let is : s.epoch ≡ q.epoch = omega (arith, same, at, up, low) in
+        let less = (o.here (same ∙ (at ∙ sym is))).1 in
+        let le = next is in
+        omega (arith, less, le)
+
+    tail_under : (e t : ℕ) → TailTold m (after m h zs) q.seq e t → e ≡ q.epoch → t ≤ top
+    tail_under e t i at =
+        let o = (tails_hold m h zs).told q.seq i.answer t i.links (has_contained _ i.answer i.answered) i.from_seqr (ap tells_links i.tells ∙ tail_tells t i.links) in
+        let same : o.ask.msg ≡ i.ask.msg = numbers.same o.ask i.ask o.has (has_contained _ i.ask i.asked) o.request (ap is_request i.asks ∙ check_requests e i.streams) (o.from ∙ i.back) (o.to ∙ (i.from_seqr ∙ sym i.to_seqr)) (o.rid ∙ i.number) in
+        let told = o.up e i.streams (ap asks_links (same ∙ i.asks) ∙ check_asks e i.streams) in
+        let up = told.0 in
+        let low = seqr_up in
+        let is : s.epoch ≡ q.epoch = omega (arith, at, up, low) in
+        let less = told.1 (at ∙ sym is) in
+        let le = next is in
+        omega (arith, less, le)
+
+    none_under : (e p : ℕ) → IsBelow m (after m h zs) e p → e ≡ q.epoch → p < top
+    none_under e p (BelowStart l d less) at = let a = ap (λ (x : Layout). x.start) (once l e d at) in omega (arith, less, a, starts)
+    none_under e p (WasIssued l d os ls i) at = issued_under e p os ls (subst (λ n. Issued m (after m h zs) n e p os ls) (ap (λ (x : Layout). x.seq) (once l e d at)) i) at
+    none_under e p (BelowTail l d t i less) at = let a = tail_under e t (subst (λ n. TailTold m (after m h zs) n e t) (ap (λ (x : Layout). x.seq) (once l e d at)) i) at in omega (arith, less, a)
+
+    module _ (trims : TrimsInTime m (after m h zs)) where
+      -- what a unit of the latest layout's chain has told
+      told_under : (pos : ℕ) (c : Cell) → ToldUpTo (after m h zs).packets (unit_at (place_in q pos) 0) q.epoch pos c → pos < top
+      told_under pos c t = by (which t.claim.epoch q.epoch t.up_to)
+        where
+          named : IsBelow m (after m h zs) t.claim.epoch t.claim.pos
+          named = below_here m h zs r trims t.told.ask t.claim.epoch t.claim.pos t.told.asked (claim_names t.told.ask.msg t.told.answer.msg t.claim.epoch t.claim.pos t.claim.cell t.told.tells)
+
+          tells : ToldBy (after m h zs).packets (unit_at (place_in q pos) 0) q.epoch pos c
+          tells = told_by (after m h zs).packets (unit_at (place_in q pos) 0) q.epoch pos c t
+
+          by : (t.claim.epoch < q.epoch) ⊎ (t.claim.epoch ≡ q.epoch) → pos < top
+          by (inl less) =
+              let line = facts m h zs r.header give (told_here m h zs r.header give) in
+              let kq = (known m h zs q.epoch q decided).0 in
+              let first = epoch_some t.claim.epoch t.claim.pos named in
+              let le = tells.epoch in
+              let old = line.sealed q (unit_at (place_in q pos) 0) t.claim kq (omega (arith, first, less)) (line.stands q pos (unit_at (place_in q pos) 0) kq (has_at (chain_of q pos) 0 (line.some q pos kq))) (tells_it t) less in
+              let at = t.at in
+              omega (arith, old, starts, at)
+            where
+              tells_it : (x : ToldUpTo (after m h zs).packets (unit_at (place_in q pos) 0) q.epoch pos c) → Tells (after m h zs).packets (unit_at (place_in q pos) 0) x.claim
+              tells_it x = record { ask = x.told.ask; answer = x.told.answer; asked = has_contained _ x.told.ask x.told.asked; answered = has_contained _ x.told.answer x.told.answered; to_unit = x.told.to_unit; from_unit = x.told.from_unit; back = x.told.back; number = x.told.number; tells = x.told.tells }
+          by (inr same) = let a = none_under t.claim.epoch t.claim.pos named same in let at = t.at in omega (arith, a, at)
+
+      pub settled_under : (pos : ℕ) (c : Cell) → IsSettled m (after m h zs) pos c → pos < top
+      settled_under pos c g = by (which g.layout.epoch q.epoch (greatest g.layout g.decided))
+        where
+          by : (g.layout.epoch < q.epoch) ⊎ (g.layout.epoch ≡ q.epoch) → pos < top
+          by (inl less) = let a = settled_is_below m h zs (after m h zs) r pos c g q decided less in omega (arith, a, starts)
+          by (inr same) = told_under pos c (subst (λ (l : Layout). ToldUpTo (after m h zs).packets (unit_at (place_in l pos) 0) l.epoch pos c) (once g.layout g.layout.epoch g.decided same)
+              (g.told 0 (some_there g.layout pos (layouts_are_sound m h zs (after m h zs) r g.layout.epoch g.layout g.decided).rules)))
+
   module _ (serves : IsServing s q.epoch) where
     own : s.proj ≡ q
     own =
@@ -116,49 +191,16 @@ module _ (m : Meaning) (h : Header) (zs : Moves m) (r : Reaches m h zs (after m 
     pub past : q.start ≤ s.next
     past = subst (λ (p : Layout). p.start ≤ s.next) own serves.scanned
 
-    pub issued_below : (e p : ℕ) (os : List Oid) (ls : List StreamLink) → Issued m (after m h zs) q.seq e p os ls → e ≡ q.epoch → p < s.next
-    issued_below e p os ls i at =
-        let o = (low_holds m h zs).1.ours q.seq i.answer p ls (has_contained _ i.answer i.answered) i.from_seqr i.issues in
-        let same = token_epoch o.epoch e o.os os (same_asked (after m h zs).packets numbers i.answer o.epoch e o.os os o.asked (asked_of m (after m h zs) q.seq e p os ls i)) in
-        (o.here (same ∙ (at ∙ sym serves.epoch))).1
+    itself : s.epoch ≡ q.epoch → s.next ≤ s.next
+    itself e = omega arith
 
-    tail_below : (e t : ℕ) → TailTold m (after m h zs) q.seq e t → e ≡ q.epoch → t ≤ s.next
-    tail_below e t i at =
-        let o = (tails_hold m h zs).told q.seq i.answer t i.links (has_contained _ i.answer i.answered) i.from_seqr (ap tells_links i.tells ∙ tail_tells t i.links) in
-        let same : o.ask.msg ≡ i.ask.msg = numbers.same o.ask i.ask o.has (has_contained _ i.ask i.asked) o.request (ap is_request i.asks ∙ check_requests e i.streams) (o.from ∙ i.back) (o.to ∙ (i.from_seqr ∙ sym i.to_seqr)) (o.rid ∙ i.number) in
-        (o.up e i.streams (ap asks_links (same ∙ i.asks) ∙ check_asks e i.streams)).1 (at ∙ sym serves.epoch)
+    pub issued_below : (e p : ℕ) (os : List Oid) (ls : List StreamLink) → Issued m (after m h zs) q.seq e p os ls → e ≡ q.epoch → p < s.next
+    issued_below = issued_under s.next past itself
 
     pub none_below : (e p : ℕ) → IsBelow m (after m h zs) e p → e ≡ q.epoch → p < s.next
-    none_below e p (BelowStart l d less) at = let a = ap (λ (x : Layout). x.start) (once l e d at) in let b = past in omega (arith, less, a, b)
-    none_below e p (WasIssued l d os ls i) at = issued_below e p os ls (subst (λ n. Issued m (after m h zs) n e p os ls) (ap (λ (x : Layout). x.seq) (once l e d at)) i) at
-    none_below e p (BelowTail l d t i less) at = let a = tail_below e t (subst (λ n. TailTold m (after m h zs) n e t) (ap (λ (x : Layout). x.seq) (once l e d at)) i) at in omega (arith, less, a)
+    none_below = none_under s.next past itself
 
     module _ (trims : TrimsInTime m (after m h zs)) where
-      -- what a unit of the latest layout's chain has told
-      told_below : (pos : ℕ) (c : Cell) → ToldUpTo (after m h zs).packets (unit_at (place_in q pos) 0) q.epoch pos c → pos < s.next
-      told_below pos c t = by (which t.claim.epoch q.epoch t.up_to)
-        where
-          named : IsBelow m (after m h zs) t.claim.epoch t.claim.pos
-          named = below_here m h zs r trims t.told.ask t.claim.epoch t.claim.pos t.told.asked (claim_names t.told.ask.msg t.told.answer.msg t.claim.epoch t.claim.pos t.claim.cell t.told.tells)
-
-          tells : ToldBy (after m h zs).packets (unit_at (place_in q pos) 0) q.epoch pos c
-          tells = told_by (after m h zs).packets (unit_at (place_in q pos) 0) q.epoch pos c t
-
-          by : (t.claim.epoch < q.epoch) ⊎ (t.claim.epoch ≡ q.epoch) → pos < s.next
-          by (inl less) =
-              let line = facts m h zs r.header give (told_here m h zs r.header give) in
-              let kq = (known m h zs q.epoch q decided).0 in
-              let first = epoch_some t.claim.epoch t.claim.pos named in
-              let le = tells.epoch in
-              let old = line.sealed q (unit_at (place_in q pos) 0) t.claim kq (omega (arith, first, less)) (line.stands q pos (unit_at (place_in q pos) 0) kq (has_at (chain_of q pos) 0 (line.some q pos kq))) (tells_it t) less in
-              let b = past in
-              let at = t.at in
-              omega (arith, old, b, at)
-            where
-              tells_it : (x : ToldUpTo (after m h zs).packets (unit_at (place_in q pos) 0) q.epoch pos c) → Tells (after m h zs).packets (unit_at (place_in q pos) 0) x.claim
-              tells_it x = record { ask = x.told.ask; answer = x.told.answer; asked = has_contained _ x.told.ask x.told.asked; answered = has_contained _ x.told.answer x.told.answered; to_unit = x.told.to_unit; from_unit = x.told.from_unit; back = x.told.back; number = x.told.number; tells = x.told.tells }
-          by (inr same) = let a = none_below t.claim.epoch t.claim.pos named same in let at = t.at in omega (arith, a, at)
-
       -- what a unit of the latest layout holds lies below
       pub unwritten_past : (u pos : ℕ) → s.next ≤ pos → Contains (chain_of q pos) u → (unit m (after m h zs) u).epoch ≡ q.epoch → cell_at (unit m (after m h zs) u).cells pos ≡ None
       unwritten_past u pos from there stands = by (cell_at (unit m (after m h zs) u).cells pos) refl
@@ -185,13 +227,8 @@ module _ (m : Meaning) (h : Header) (zs : Moves m) (r : Reaches m h zs (after m 
           by None e = refl
           by (Some c) e = absurd (stored c (((stored_hold m h zs) u).1 pos c e))
 
-      pub settled_below : (pos : ℕ) (c : Cell) → IsSettled m (after m h zs) pos c → pos < s.next
-      settled_below pos c g = by (which g.layout.epoch q.epoch (greatest g.layout g.decided))
-        where
-          by : (g.layout.epoch < q.epoch) ⊎ (g.layout.epoch ≡ q.epoch) → pos < s.next
-          by (inl less) = let a = settled_is_below m h zs (after m h zs) r pos c g q decided less in let b = past in omega (arith, a, b)
-          by (inr same) = told_below pos c (subst (λ (l : Layout). ToldUpTo (after m h zs).packets (unit_at (place_in l pos) 0) l.epoch pos c) (once g.layout g.layout.epoch g.decided same)
-              (g.told 0 (some_there g.layout pos (layouts_are_sound m h zs (after m h zs) r g.layout.epoch g.layout g.decided).rules)))
+      settled_below : (pos : ℕ) (c : Cell) → IsSettled m (after m h zs) pos c → pos < s.next
+      settled_below = settled_under s.next past itself trims
 
       module _ (safe : TrimsWereSafe m h zs) where
         pub trimmed_settled : (u p : ℕ) → p < (unit m (after m h zs) u).low → (c : Cell) × IsSettled m (after m h zs) p c

@@ -16,6 +16,7 @@ use Rattle.tg_protocol.specs.Syncing.{SyncWork, Checking, Settling, Probing}
 use Rattle.tg_protocol.specs.Walking.{Walk}
 use Rattle.tg_protocol.specs.Sequencers.{SeqrState}
 use Rattle.tg_protocol.specs.Appending.{Append, AppendWork, Asking, Putting, Judging, Token}
+use Rattle.tg_protocol.specs.Trimming.{Trims}
 use Rattle.tg_protocol.specs.Clients.{Purpose, Task, Appending, Syncing, Walking, Trimming, Copying', Reconfiguring, Hand, Doing, Work}
 use Rattle.tg_protocol.specs.ClientSteps.{task_in}
 use Rattle.tg_protocol.specs.Worlds.{World, unit, seqr, client, latest}
@@ -59,7 +60,7 @@ use Rattle.tg_law_finish.specs.Finish.Reads.{IsRead}
 use Rattle.tg_law_finish.specs.Finish.Appends.{InHand, NoOther, AppendStands, PuttingStands, JudgingStands}
 use Rattle.tg_law_finish.proofs.Finish.Asking.{CarriesDown, CellStands, JobStands, PutStands, PageStands, ProbeStands, LastsBelow, SyncStands, WalkStands, TaskStands}
 use Rattle.tg_law_finish.proofs.Finish.Midway as midway
-use Rattle.tg_law_finish.proofs.Finish.Midway.{ReadShape, SyncShape, WalkShape}
+use Rattle.tg_law_finish.proofs.Finish.Midway.{ReadShape, SyncShape, WalkShape, TrimShape}
 use Rattle.tg_law_finish.proofs.Finish.Probes.{ProbeShape}
 use Rattle.tg_law_finish.proofs.Finish.Working.{Working, at_chain}
 use Rattle.tg_law_finish.proofs.Finish.Issued.{clients_here}
@@ -346,7 +347,7 @@ module _ (m : Meaning) (h : Header) (zs : Moves m) (r : Reaches m h zs (after m 
         fewer = fewer;
       }
 
-  task_stands : (v : Work m) (t : Task m) → IsRead m t → midway.TaskStands m v t → hands.TaskOk m (after m h zs).packets q t → naming.TaskOk m (B m h zs r trims.in_time) (L m h zs r trims.in_time) q v t → TaskStands m (after m h zs) q v t
+  task_stands : (v : Work m) (t : Task m) → IsRead m t → midway.TaskStands m q v t → hands.TaskOk m (after m h zs).packets q t → naming.TaskOk m (B m h zs r trims.in_time) (L m h zs r trims.in_time) q v t → TaskStands m (after m h zs) q v t
   task_stands v (Syncing y) is shape ok k = sync_stands y.work shape ok k
   task_stands v (Walking x os) is shape ok k = walk_stands v x os x.job refl shape.0 shape.1 ok k.0 k.1.trail k.1.job
   task_stands v (Appending x y) is shape ok k = absurd is
@@ -354,9 +355,18 @@ module _ (m : Meaning) (h : Header) (zs : Moves m) (r : Reaches m h zs (after m 
   task_stands v (Copying' x) is shape ok k = absurd is
   task_stands v (Reconfiguring x) is shape ok k = absurd is
 
+  shaped : (v : Work m) (t : Task m) → (client m (after m h zs) k).work ≡ Some v → v.hand ≡ Doing t → midway.TaskStands m q v t
+  shaped v t has hand = subst (λ (l : Layout). midway.TaskStands m l v t) ready.client_stands
+      (subst (λ (d : Hand m). midway.HandStands m (client m (after m h zs) k).stand v d) hand
+      (subst (λ (o : Option (Work m)). midway.WorkStands m (client m (after m h zs) k).stand o) has (midway.all_stand m h zs (after m h zs) r k)))
+
+  -- which units a trim waits for
+  pub trims_stand : (v : Work m) (t : Trims) → (client m (after m h zs) k).work ≡ Some v → v.hand ≡ Doing (Trimming t) → TrimShape q t
+  trims_stand v t has hand = shaped v (Trimming t) has hand
+
   pub reads_stand : (v : Work m) (t : Task m) → (client m (after m h zs) k).work ≡ Some v → v.hand ≡ Doing t → IsRead m t → TaskStands m (after m h zs) q v t
   reads_stand v t has hand is = task_stands v t is
-      (subst (λ (d : Hand m). midway.HandStands m v d) hand (subst (λ (o : Option (Work m)). midway.WorkStands m o) has (midway.all_stand m h zs (after m h zs) r k)))
+      (shaped v t has hand)
       (subst (λ (l : Layout). hands.TaskOk m (after m h zs).packets l t) ready.client_stands
       (subst (λ (d : Hand m). hands.HandOk m (after m h zs).packets (client m (after m h zs) k).stand d) hand
       (subst (λ (o : Option (Work m)). hands.WorkOk m (after m h zs).packets (client m (after m h zs) k).stand o) has ((cells_hold m h zs).hands k))))

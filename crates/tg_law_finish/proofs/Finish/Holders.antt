@@ -33,7 +33,7 @@ use Rattle.tg_law_finish.proofs.Finish.Lines.{Item, IsOver, Talk}
 use Rattle.tg_law_finish.proofs.Finish.Nets.{Net, unit_of, seqr_of, client_of, on_in}
 use Rattle.tg_law_finish.proofs.Finish.Others.{Keeps, Ready}
 use Rattle.tg_law_finish.proofs.Finish.Owners.{is_at, lost_over, Before, before_keeps, Own, own_called, own_ticked, own_at, own_fed, now_over, Owning}
-use Rattle.tg_law_finish.proofs.Finish.Places.{puts_issue}
+use Rattle.tg_law_finish.proofs.Finish.Places.{puts_unit, puts_issue}
 use Rattle.tg_law_finish.proofs.Finish.Readings.{two, one_cell, Stable, BelowHead, Held, GoodAt, Sort, Carries, Carrying, CellStage, CellWell, CellDone, CellGoes, CellGone, held_stays, good_here, good_put, below_put, untrimmed, stored_there, sort_keeps, carries_keeps, cell_keeps, cell_ask}
 use Rattle.tg_law_finish.proofs.Finish.Stores.{Kept, Outcome, IsGone', IsHeld', IsTaken', Put, cell_itself, stores, unit_same, with_unit}
 use Rattle.tg_law_finish.proofs.Finish.Talks.{One, More, Asked, Machine, one_talk}
@@ -252,6 +252,7 @@ module _ (m : Meaning) (h : Header) (stopped : List NodeId) (k : ℕ) (p : Layou
   grows_put : (s t : Net m) (d : Entry) (pl : Place) (c : Cell) → pl ≡ place_in p pl.pos → pl.pos < tail → Put m stopped s t pl.pos c → (Good' s pl → Good' t pl) → seqr_of m h t p.seq ≡ seqr_of m h s p.seq → CanGrow s d → CanGrow t d
   grows_put s t d pl c is less put good same x = record {
     issue = puts_issue m h stopped k p longest s t pl.pos c d put same (off (seqr_of m h s p.seq).next pl.pos (let e = x.next in omega (arith, e)) less) x.issue;
+    units = λ u g. puts_unit m h stopped k p longest s t pl.pos c u put (x.units u g);
     good = good_put m h stopped k p longest low_at many s t pl c is put good x.good;
     next = ap (λ (y : SeqrState). y.next) same ∙ x.next;
     limit = subst (λ (y : SeqrState). y.limit < 2 ^ 62) (sym same) x.limit;

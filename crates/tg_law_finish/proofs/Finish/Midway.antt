@@ -1,4 +1,5 @@
--- Through each of a client's turns: what a sync or a walk in hand asks of its chain, and how many streams are left to a walk.
+-- Through each of a client's turns: what a sync or a walk in hand asks of its chain, how many streams are left to a walk,
+-- and of which units a trim waits.
 use Rattle.std.proofs.Common.{◌≡◌, ℕ, ◌<◌, ◌≤◌, List, [], true, refl, sym, ◌∙◌, subst, arith, Option, Some, None}
 use Rattle.std.specs.Prelude.{nat_lt, length}
 use Rattle.std.proofs.lemmas.Bool.Decides.{nat_tests}
@@ -16,6 +17,8 @@ use Rattle.tg_protocol.specs.Replies.{Reply, reply}
 use Rattle.tg_protocol.specs.Cells.{Place, CellWork, Puts, Gets, Fills, Copies, Probes, CellJob, CellEnd, cell_feed}
 use Rattle.tg_protocol.specs.Appending.{append_start}
 use Rattle.tg_protocol.specs.Syncing.{SyncWork, Checking, Settling, Probing, Sync, Confirmed, sync_start, sync_feed}
+use Rattle.tg_protocol.specs.Layouts.{units_of}
+use Rattle.tg_protocol.specs.Trimming.{Trims, Trimmed, TrimTurn, trim_start, trim_feed}
 use Rattle.tg_protocol.specs.Walking.{Walk, Members, WalkTurn, trail, walk_from, walk_start, walk_feed, read_at}
 use Rattle.tg_protocol.specs.Clients.{Task, Syncing, Walking, Appending, Trimming, Copying', Reconfiguring, Hand, Doing, Learning, Work, Client, new_client}
 use Rattle.tg_protocol.specs.Answers.{Moved, appends, syncs}
@@ -28,13 +31,14 @@ use Rattle.tg_law_layouts.proofs.Moves.Moves.{ClientInput, Commanded, Hears', Ti
 use Rattle.tg_law_layouts.proofs.Moves.Turns.{not_busy}
 use Rattle.tg_law_steps.proofs.Machines.Cells as cells
 use Rattle.tg_law_steps.proofs.Machines.Syncs as syncing
+use Rattle.tg_law_steps.proofs.Machines.Trims as trimming
 use Rattle.tg_law_steps.proofs.Machines.Walks as walking
-use Rattle.tg_law_steps.proofs.Places.{Place as At, Feeds, Newer, OnSync, OnWalk, Over, Walks}
-use Rattle.tg_law_steps.proofs.Ways.{Way, FeedsSync, FeedsWalk, NewerSync, NewerWalk, Confirms, Settles, EndsAtOnce, WalkEnds, MetNone, MetLow, MetHigh, StartsOver, AllWalked, HasPlayed}
-use Rattle.tg_law_steps.proofs.Ends.{SyncGoes, WalkGoes, WalkBegins, WalkLearns, End, GoesOn, LearnsNewer}
+use Rattle.tg_law_steps.proofs.Places.{Place as At, Feeds, Newer, OnSync, OnWalk, OnTrims, Over, Walks}
+use Rattle.tg_law_steps.proofs.Ways.{Way, FeedsSync, FeedsWalk, FeedsTrims, NewerSync, NewerWalk, NewerTrims, Confirms, Settles, EndsAtOnce, WalkEnds, MetNone, MetLow, MetHigh, StartsOver, AllWalked, HasPlayed}
+use Rattle.tg_law_steps.proofs.Ends.{SyncGoes, WalkGoes, WalkBegins, TrimsGo, TrimsBegin, WalkLearns, End, GoesOn, LearnsNewer}
 use Rattle.tg_law_steps.proofs.Takes.{Taken, SaidAtOnce, said_work}
 use Rattle.tg_law_steps.proofs.Along.{delivered, commanded, ticked, over_walks}
-use Rattle.tg_law_finish.proofs.Finish.Probes.{ProbeShape, asks_all, asks_rest}
+use Rattle.tg_law_finish.proofs.Finish.Probes.{ProbeShape, Asked, asks_all, asks_rest}
 
 less_of : (a b : ℕ) → nat_lt a b ≡ true → a < b
 less_of a b e = grind (arith, nat_tests)
@@ -79,7 +83,7 @@ module _ (u : ℕ) (x : Reply) (next : ℕ) where
   probe_turn _ _ (cells.PutsOn a r d i is e) k = absurd k
   probe_turn _ _ (cells.ReadsNone a r is) k = absurd k
   probe_turn _ _ (cells.CopiesOn a w c i is e) k = absurd (no_copy a w c i is k)
-  probe_turn _ _ (cells.ProbesOn a ws v vs is e) k = asks_rest a ws u v vs e k
+  probe_turn _ _ (cells.ProbesOn a ws v vs is e) k = asks_rest a.chain ws u v vs e k
   probe_turn _ _ (cells.Nothing j) k = k
   probe_turn _ _ y k = tt
 
@@ -137,44 +141,69 @@ module _ (p : Layout) (w : Walk) (n : ℕ) (x : Reply) (next : ℕ) (k : WalkSha
   walk_ok : WalkNext (walk_feed p w w.job n x next).to
   walk_ok = walk_came w.job _ (walking.walk_came p w n x next w.job) k
 
+-- Trims.
+
+-- some of the layout's units are waited for
+abbrev pub TrimShape : Layout → Trims → Type 0
+TrimShape p t = Asked (units_of p) t.waits
+
+abbrev TrimNext : Layout → Next Trims Trimmed → Type 0
+TrimNext p (Goes t) = TrimShape p t
+TrimNext p to = Unit {0}
+
+trim_begins : (p : Layout) (b next : ℕ) → TrimNext p (trim_start p b next).to
+unfolding trim_start
+trim_begins p b next = asks_all (units_of p) next
+
+module _ (p : Layout) (u : ℕ) (x : Reply) (next : ℕ) where
+  trim_turn : (t : Trims) (y : TrimTurn) → trimming.Fed p u x next t y → TrimShape p t → TrimNext p y.to
+  trim_turn _ _ (trimming.TrimsOn b ws d w vs is left) k = asks_rest (units_of p) ws u w vs left k
+  trim_turn _ _ (trimming.Nothing t) k = k
+  trim_turn _ _ y k = tt
+
+  trim_ok : (t : Trims) → TrimShape p t → TrimNext p (trim_feed p t u x next).to
+  trim_ok t k = trim_turn t _ (trimming.trims_fed p u x next t) k
+
 -- A client.
 module _ (m : Meaning) where
-  abbrev pub TaskStands : Work m → Task m → Type 0
-  TaskStands w (Syncing s) = SyncShape s.work
-  TaskStands w (Walking k os) = WalkShape k.job × (length os < length w.oids)
-  TaskStands w t = Unit {0}
+  abbrev pub TaskStands : Layout → Work m → Task m → Type 0
+  TaskStands p w (Syncing s) = SyncShape s.work
+  TaskStands p w (Walking k os) = WalkShape k.job × (length os < length w.oids)
+  TaskStands p w (Trimming t) = TrimShape p t
+  TaskStands p w t = Unit {0}
 
   -- while it learns a newer layout
   abbrev LearnStands : Work m → Task m → Type 0
   LearnStands w (Walking k os) = length os < length w.oids
   LearnStands w t = Unit {0}
 
-  abbrev pub HandStands : Work m → Hand m → Type 0
-  HandStands w (Doing t) = TaskStands w t
-  HandStands w (Learning ws t) = LearnStands w t
+  abbrev pub HandStands : Layout → Work m → Hand m → Type 0
+  HandStands p w (Doing t) = TaskStands p w t
+  HandStands p w (Learning ws t) = LearnStands w t
 
-  abbrev pub WorkStands : Option (Work m) → Type 0
-  WorkStands None = Unit {0}
-  WorkStands (Some w) = HandStands w w.hand
+  abbrev pub WorkStands : Layout → Option (Work m) → Type 0
+  WorkStands p None = Unit {0}
+  WorkStands p (Some w) = HandStands p w w.hand
 
   abbrev Good : Moved m → Type 0
-  Good x = WorkStands x.now.work
+  Good x = WorkStands x.now.stand x.now.work
 
-  learns : (w : Work m) (h : Hand m) → HandStands w h → LearnStands w (task_in m h)
-  learns w (Doing (Walking k os)) x = x.1
-  learns w (Doing (Syncing s)) x = tt
-  learns w (Doing (Appending a y)) x = tt
-  learns w (Doing (Trimming t)) x = tt
-  learns w (Doing (Copying' c)) x = tt
-  learns w (Doing (Reconfiguring r)) x = tt
-  learns w (Learning ws t) x = x
+  learns : (p : Layout) (w : Work m) (h : Hand m) → HandStands p w h → LearnStands w (task_in m h)
+  learns p w (Doing (Walking k os)) x = x.1
+  learns p w (Doing (Syncing s)) x = tt
+  learns p w (Doing (Appending a y)) x = tt
+  learns p w (Doing (Trimming t)) x = tt
+  learns p w (Doing (Copying' c)) x = tt
+  learns p w (Doing (Reconfiguring r)) x = tt
+  learns p w (Learning ws t) x = x
 
   -- Along a turn.
 
   abbrev Here : Client m → Work m → At m → Type 0
-  Here c w (Feeds t n rid x) = TaskStands w t
+  Here c w (Feeds t n rid x) = TaskStands c.stand w t
   Here c w (Newer t n rid q) = LearnStands w t
   Here c w (OnSync bs to) = SyncNext to
+  Here c w (OnTrims b to) = TrimNext c.stand to
   Here c w (OnWalk o os to) = WalkNext to × (length os < length w.oids)
   Here c w (Over o os x g) = length os < length w.oids
   Here c w (Walks os) = length os ≤ length w.oids
@@ -190,7 +219,9 @@ module _ (m : Meaning) where
   unfolding sync_start
   way c w _ _ _ _ (FeedsSync s n rid x) k = sync_ok c.stand s n x c.next k
   way c w _ _ _ _ (FeedsWalk y os n rid x) k = (walk_ok c.stand y n x c.next k.0, k.1)
+  way c w _ _ _ _ (FeedsTrims t n rid x) k = trim_ok c.stand n x c.next t k
   way c w _ _ _ _ (NewerSync s n rid q) k = tt
+  way c w _ _ _ _ (NewerTrims t n rid q) k = trim_begins q t.below c.next
   way c w _ _ _ _ (NewerWalk y os n rid q) k = (walks_ok q c.next y, k)
   way c w _ _ _ _ (Confirms bs t ls) k = all_left _
   way c w _ _ _ _ (Settles bs t ls s) k = all_left _
@@ -210,6 +241,8 @@ module _ (m : Meaning) where
   unfolding appends append_start syncs sync_start
   ends c w _ _ (GoesOn _ _ _ (SyncGoes bs s)) k = k
   ends c w _ _ (GoesOn _ _ _ (WalkGoes o os x)) k = k
+  ends c w _ _ (GoesOn _ _ _ (TrimsGo b t)) k = k
+  ends c w _ _ (GoesOn _ _ _ (TrimsBegin es p upto of came z)) k = asks_all (units_of c.stand) c.next
   ends c w _ _ (GoesOn _ _ _ (WalkBegins o os x e)) k = (subst WalkNext e (start_ok c.stand o _ w.lo c.cells c.next), k)
   ends c w _ _ (GoesOn _ _ _ x) k = tt
   ends c w _ _ (LearnsNewer _ (WalkLearns o os x)) k = k.1
@@ -218,13 +251,13 @@ module _ (m : Meaning) where
 
   takes : (c : Client m) (x : CommandOf m) → c.work ≡ None → (y : Moved m) → Taken m c x y → Good y
   unfolding appends append_start syncs sync_start
-  takes c _ free _ (SaidAtOnce x d ns s) = subst WorkStands (sym (said_work m c x d ns s ∙ free)) tt
+  takes c _ free _ (SaidAtOnce x d ns s) = subst (WorkStands d.stand) (sym (said_work m c x d ns s ∙ free)) tt
   takes c _ free _ x = tt
 
   -- The turns.
 
   abbrev Stands : Client m → Type 0
-  Stands c = WorkStands c.work
+  Stands c = WorkStands c.stand c.work
 
   commands : (c : Client m) (x : CommandOf m) → Stands c → Stands (client_command m c x).now
   unfolding client_command
@@ -233,8 +266,8 @@ module _ (m : Meaning) where
   hears : (c : Client m) (from : NodeId) (rid : ℕ) (y : Msg) → Stands c → Stands (client_deliver m c from rid y).now
   unfolding client_deliver
   hears c from rid y k = delivered m Here Good ends way (over_walks m Here Good ends walked_way) c from rid (reply y) k
-      (λ w t has doing a other. subst (HandStands w) doing (subst WorkStands has k))
-      (λ w q has is a. learns w w.hand (subst WorkStands has k))
+      (λ w t has doing a other. subst (HandStands c.stand w) doing (subst (WorkStands c.stand) has k))
+      (λ w q has is a. learns c.stand w w.hand (subst (WorkStands c.stand) has k))
 
   ticks : (c : Client m) → Stands c → Stands (client_tick m c).now
   ticks c k = ticked m (λ (t : ClientTurn m). Stands t.now) c (λ none. k) (λ w has. k)

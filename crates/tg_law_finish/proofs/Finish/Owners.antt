@@ -36,7 +36,7 @@ use Rattle.tg_law_finish.proofs.Finish.Lines.{Item, IsOver, Talk}
 use Rattle.tg_law_finish.proofs.Finish.Lists.{set_there, set_other}
 use Rattle.tg_law_finish.proofs.Finish.Nets.{Net, unit_of, seqr_of, client_of, on_in, on_alike, seqr_alike}
 use Rattle.tg_law_finish.proofs.Finish.Others.{Keeps, Ready}
-use Rattle.tg_law_finish.proofs.Finish.Places.{Serves, Clear, CanIssue, Issues, keeps_clear, keeps_issue, puts_clear}
+use Rattle.tg_law_finish.proofs.Finish.Places.{Serves, AllServe, Clear, CanIssue, Issues, keeps_unit, keeps_clear, keeps_issue, puts_unit, puts_clear}
 use Rattle.tg_law_finish.proofs.Finish.Readings.{Good, good_keeps, good_put, good_here, below_put}
 use Rattle.tg_law_finish.proofs.Finish.Stores.{Outcome, IsGone', IsHeld', IsTaken', Put, stores, with_unit}
 use Rattle.tg_law_finish.proofs.Finish.Strays.{Old}
@@ -63,6 +63,7 @@ module _ (m : Meaning) (h : Header) (stopped : List NodeId) (k : ℕ) (p : Layou
   -- Before the token: no unit has a cell at the next position or past it, and the lists can grow by it.
   pub record Before (s : Net m) (d : Entry) : Type 0 where
     pub issue : CanIssue m h stopped k p longest s d
+    pub units : AllServe m h stopped k p longest s
     pub good : Good m h stopped k p longest low_at many s
     pub next : (seqr_of m h s p.seq).next ≡ tail
     pub limit : (seqr_of m h s p.seq).limit < 2 ^ 62
@@ -73,6 +74,7 @@ module _ (m : Meaning) (h : Header) (stopped : List NodeId) (k : ℕ) (p : Layou
   pub before_keeps : (s t : Net m) (d : Entry) → Keeps m h stopped k p s t → Before s d → Before t d
   before_keeps s t d keep x = record {
     issue = keeps_issue m h stopped k p longest s t d keep x.issue;
+    units = λ u g. keeps_unit m h stopped k p longest s t u keep (x.units u g);
     good = good_keeps m h stopped k p longest low_at many s t keep x.good;
     next = ap (λ (y : SeqrState). y.next) keep.seqr ∙ x.next;
     limit = subst (λ (y : SeqrState). y.limit < 2 ^ 62) (sym keep.seqr) x.limit;
@@ -282,6 +284,7 @@ module _ (m : Meaning) (h : Header) (stopped : List NodeId) (k : ℕ) (p : Layou
           serves = (good x.next).stable.serves;
           unwritten = λ j less. f.ahead x.next j (omega (arith, next)) less;
         });
+        units = λ u g. puts_unit m h stopped k p longest s t tail (Data []) u (same_put s x tail (Data [])) (f.units u g);
       }
     where
       after_it : (a : ℕ) → a ≡ tail → a + 1 ≡ suc tail

@@ -9,9 +9,11 @@ use Rattle.tg_entry.specs.declared.entry.Entry.{Entry}
 use Rattle.tg_kind.specs.Meaning.{Meaning}
 use Rattle.tg_protocol.specs.Words.{cell_at, cell_eq, too_far, unit_id, seqr_id}
 use Rattle.tg_protocol.specs.Entries.{streams_of}
+use Rattle.tg_protocol.specs.Layouts.{units_of}
 use Rattle.tg_protocol.specs.Sequencers.{SeqrState, scanning, links_of}
 use Rattle.tg_protocol.specs.Appending.{names_all}
 use Rattle.tg_protocol.specs.Cells.{Place, place_in, unit_at}
+use Rattle.tg_law_layouts.proofs.Moves.Members.{Has}
 use Rattle.tg_law_finish.proofs.Finish.Nets.{Net, unit_of, seqr_of, on_in, on_alike}
 use Rattle.tg_law_finish.proofs.Finish.Others.{Keeps}
 use Rattle.tg_law_finish.proofs.Finish.Stores.{Put, cell_itself}
@@ -53,6 +55,10 @@ module _ (m : Meaning) (h : Header) (stopped : List NodeId) (k : ℕ) (p : Layou
   abbrev pub CanIssue : Net m → Entry → Type 0
   CanIssue s d = Issues s (seqr_of m h s p.seq) d
 
+  -- each unit that stands in the layout serves
+  abbrev pub AllServe : Net m → Type 0
+  AllServe s = (u : ℕ) → Has (units_of p) u → UnitServes s u
+
   -- Other packets.
 
   pub keeps_unit : (s t : Net m) (u : ℕ) → Keeps m h stopped k p s t → UnitServes s u → UnitServes t u
@@ -88,7 +94,7 @@ module _ (m : Meaning) (h : Header) (stopped : List NodeId) (k : ℕ) (p : Layou
 
   -- A store at one unit.
 
-  puts_unit : (s t : Net m) (pos : ℕ) (c : Cell) (u : ℕ) → Put m stopped s t pos c → UnitServes s u → UnitServes t u
+  pub puts_unit : (s t : Net m) (pos : ℕ) (c : Cell) (u : ℕ) → Put m stopped s t pos c → UnitServes s u → UnitServes t u
   puts_unit s t pos c u put a = record {
     on = put.on (unit_id u) ∙ a.on;
     epoch = put.epochs u ∙ a.epoch;

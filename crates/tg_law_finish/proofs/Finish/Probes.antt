@@ -1,8 +1,8 @@
--- Units of a chain that are asked at once, each once.
+-- Units that are asked at once, each once.
 use Rattle.std.proofs.Common.{◌≡◌, ℕ, suc, ◌+◌, ◌<◌, ◌≤◌, List, [], ◌∷◌, length, filter, cond, Bool, true, false, refl, ap, subst, arith, eqb}
 use Rattle.std.specs.Prelude.{slice_index, ⊤}
 use Rattle.tg_protocol.specs.Requests.{Waits, waits_for, without_wait}
-use Rattle.tg_protocol.specs.Cells.{Place, CellWork, Probes, unit_at}
+use Rattle.tg_protocol.specs.Cells.{Place, CellWork, Probes}
 use Rattle.tg_law_finish.proofs.Finish.Askers.{Distinct}
 use Rattle.tg_law_finish.proofs.Finish.Lists.{Each, each_filter}
 
@@ -27,7 +27,7 @@ pub waits_some : (us : List ℕ) (rid : ℕ) → 0 < length us → waits_for us 
 waits_some [] rid less e = absurd (omega (arith, less))
 waits_some (u ∷ us) rid less e = absurd cc
 
-waits_long : (us : List ℕ) (rid : ℕ) → length (waits_for us rid) ≡ length us
+pub waits_long : (us : List ℕ) (rid : ℕ) → length (waits_for us rid) ≡ length us
 waits_long [] rid = refl
 waits_long (u ∷ us) rid = ap suc (waits_long us (rid + 1))
 
@@ -49,34 +49,34 @@ filter_short f (w ∷ ws) = by (f w) (filter_short f ws)
     by true le = omega (arith, le)
     by false le = omega (arith, le)
 
--- a unit stands in a chain
-abbrev pub StandsIn : Place → ℕ → Type 0
-StandsIn a u = (j : ℕ) × (j < length a.chain) × (unit_at a j ≡ u)
+-- a unit stands among these
+abbrev pub StandsIn : List ℕ → ℕ → Type 0
+StandsIn us u = (j : ℕ) × (j < length us) × (slice_index us j ≡ u)
 
--- These are waited for in a probe of a chain: some of its units, and none twice, unless it stands there twice.
-pub record Asked (a : Place) (ws : Waits) : Type 0 where
-  pub some : 0 < length a.chain → ws ≡ [] → ⊥
-  pub units : Each (λ (w : ℕ × ℕ). StandsIn a w.0) ws
-  pub once : Distinct a.chain → AskedOnce ws
-  pub short : length ws ≤ length a.chain
+-- These are waited for where so many units are asked at once: some of them, and none twice, unless it stands there twice.
+pub record Asked (us : List ℕ) (ws : Waits) : Type 0 where
+  pub some : 0 < length us → ws ≡ [] → ⊥
+  pub units : Each (λ (w : ℕ × ℕ). StandsIn us w.0) ws
+  pub once : Distinct us → AskedOnce ws
+  pub short : length ws ≤ length us
 
-pub asks_all : (a : Place) (rid : ℕ) → Asked a (waits_for a.chain rid)
-asks_all a rid = record {
-  some = λ less e. waits_some a.chain rid less e;
-  units = each_waits (StandsIn a) a.chain rid (each_at (StandsIn a) a.chain (λ j less. (j, less, refl)));
-  once = λ d. all_once a.chain rid d;
-  short = let e = waits_long a.chain rid in omega (arith, e);
+pub asks_all : (us : List ℕ) (rid : ℕ) → Asked us (waits_for us rid)
+asks_all us rid = record {
+  some = λ less e. waits_some us rid less e;
+  units = each_waits (StandsIn us) us rid (each_at (StandsIn us) us (λ j less. (j, less, refl)));
+  once = λ d. all_once us rid d;
+  short = let e = waits_long us rid in omega (arith, e);
 }
 
-pub asks_rest : (a : Place) (ws : Waits) (u : ℕ) (v : ℕ × ℕ) (vs : Waits) → without_wait u ws ≡ v ∷ vs → Asked a ws → Asked a (v ∷ vs)
-asks_rest a ws u v vs e k = record {
+pub asks_rest : (us : List ℕ) (ws : Waits) (u : ℕ) (v : ℕ × ℕ) (vs : Waits) → without_wait u ws ≡ v ∷ vs → Asked us ws → Asked us (v ∷ vs)
+asks_rest us ws u v vs e k = record {
   some = λ less f. absurd cc;
-  units = subst (λ (ys : Waits). Each (λ (w : ℕ × ℕ). StandsIn a w.0) ys) e (each_filter _ _ ws k.units);
+  units = subst (λ (ys : Waits). Each (λ (w : ℕ × ℕ). StandsIn us w.0) ys) e (each_filter _ _ ws k.units);
   once = λ d. subst AskedOnce e (once_filter _ ws (k.once d));
   short = let x = k.short in let y = subst (λ (ys : Waits). length ys ≤ length ws) e (filter_short _ ws) in omega (arith, x, y);
 }
 
 -- what is asked of a chain that is probed
 abbrev pub ProbeShape : Place → CellWork → Type 0
-ProbeShape a (Probes ws) = Asked a ws
+ProbeShape a (Probes ws) = Asked a.chain ws
 ProbeShape a w = ⊥

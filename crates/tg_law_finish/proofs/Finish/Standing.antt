@@ -43,10 +43,12 @@ use Rattle.tg_law_trims.proofs.Issues.Tails.{Tails, tails_hold, links_below}
 use Rattle.tg_law_trims.proofs.Issues.Unwritten.{next_is_unwritten}
 use Rattle.tg_law_finish.specs.Finish.Alone.{IsAlone}
 use Rattle.tg_law_finish.specs.Finish.Granted.{Granted}
+use Rattle.tg_law_finish.specs.Finish.Queues.{RisesWithin}
 use Rattle.std.proofs.lemmas.List.{length-replicate}
 use Rattle.tg_law_finish.proofs.Finish.Askers.{Distinct}
 use Rattle.tg_law_finish.proofs.Finish.Lists.{Each}
 use Rattle.tg_law_finish.proofs.Finish.Scans.{Seqrs, seqrs_hold}
+use Rattle.tg_law_finish.proofs.Finish.Sized.{all_sized}
 use Rattle.tg_law_finish.proofs.Finish.Working.{Working, Lawful, JobOff}
 use Rattle.tg_protocol.specs.Chosen.{IsDecided}
 
@@ -94,6 +96,30 @@ nums_have : (xs : List ℕ) (u : ℕ) → Has xs u → Has (with_nums xs []) u
 nums_have [] u h = absurd h
 nums_have (x ∷ xs) u (inl e) = subst (λ v. Has (with_num x (with_nums xs [])) v) (sym e) (num_here x (with_nums xs []))
 nums_have (x ∷ xs) u (inr h) = num_more x u (with_nums xs []) (nums_have xs u h)
+
+-- they rise
+num_rises : (x lo hi : ℕ) (ys : List ℕ) → lo ≤ x → x < hi → RisesWithin lo ys hi → RisesWithin lo (with_num x ys) hi
+num_rises x lo hi [] le less r = (le, omega (arith, less))
+num_rises x lo hi (y ∷ ys) le less r = by (nat_lt x y) (eqb x y) refl refl (λ l. num_rises x (suc y) hi ys l less r.1)
+  where
+    below : (x y : ℕ) → nat_lt x y ≡ true → suc x ≤ y
+    below x y e = grind arith
+
+    above : (x y : ℕ) → nat_lt x y ≡ false → eqb x y ≡ false → suc y ≤ x
+    above x y e f = grind arith
+
+    by : (a b : Bool) → nat_lt x y ≡ a → eqb x y ≡ b → (suc y ≤ x → RisesWithin (suc y) (with_num x ys) hi) → RisesWithin lo (if a then x ∷ y ∷ ys else (if b then y ∷ ys else y ∷ with_num x ys)) hi
+    by true b e f rest = (le, (below x y e, r.1))
+    by false true e f rest = r
+    by false false e f rest = (r.0, rest (above x y e f))
+
+nums_rise : (xs : List ℕ) (hi : ℕ) → ((u : ℕ) → Has xs u → u < hi) → RisesWithin 0 (with_nums xs []) hi
+nums_rise [] hi f = omega arith
+nums_rise (x ∷ xs) hi f = num_rises x 0 hi (with_nums xs []) (omega arith) (f x (inl refl)) (nums_rise xs hi (λ u g. f u (inr g)))
+
+one_there : (xs : List ℕ) (x : ℕ) → Has xs x → 0 < length xs
+one_there [] x h = absurd h
+one_there (y ∷ ys) x h = omega arith
 
 longer : (n : ℕ) (cs : List (List ℕ)) → n ≤ fold (λ k (chain : List ℕ). max k (length chain)) n cs
 longer n [] = omega arith
@@ -168,17 +194,8 @@ module _ (m : Meaning) where
   tails_always : Always m (λ w. Tails m (config m w))
   tails_always = always m (λ w. Tails m (config m w)) (λ h ms. tails_hold m h ms)
 
-  -- units stay as many as the header declares
-
-  units_stay : (n : ℕ) → Keeps m (λ c. length c.units ≡ n)
-  units_stay n c s = record { idle = s; unit = λ u p a less. set_long c.units u _ ∙ s; layout = λ l p a less. s; seqr = λ k t i less. s; client = λ k t i less. s }
-
-  units_start : (h : Header) → length (start m h).units ≡ h.units
-  unfolding start
-  units_start h = length-replicate h.units _
-
   pub units_are : (h : Header) (ms : Moves m) (w : World m) → Reaches m h ms w → length w.units ≡ w.cluster.units
-  units_are h ms w r = (subst (λ (v : World m). length v.units ≡ h.units) (sym r.goes.is) (run_keeps m (λ c. length c.units ≡ h.units) (units_stay h.units) ms (start m h) (units_start h))) ∙ ap (λ (y : Header). y.units) (sym (cluster_is h ms w r))
+  units_are h ms w r = (all_sized m h ms w r).units ∙ ap (λ (y : Header). y.units) (sym (cluster_is h ms w r))
 
   module _ (h : Header) (ms : Moves m) (w : World m) (r : Reaches m h ms w) where
     abbrev p : Layout
@@ -194,6 +211,9 @@ module _ (m : Meaning) where
     -- no unit stands twice in a chain
     pub once_there : (pos : ℕ) → Distinct (chain_of p pos)
     once_there pos = distinct_of (chain_of p pos) (λ u. single_there p pos u rules)
+
+    pub some_unit : 0 < length (units_of p)
+    some_unit = one_there (units_of p) _ (in_units 0 0 (some_there p 0 rules))
 
     limit_near : w.cluster.limit < 2 ^ 62
     limit_near = subst (λ (y : Header). y.limit < 2 ^ 62) (sym (cluster_is h ms w r)) (header_limits h r.header).1
@@ -211,6 +231,13 @@ module _ (m : Meaning) where
 
     pub names_below : (o : Oid) (os : List Oid) → AllBelow (seqr m w p.seq).next (backs_of (link_of o (links_of (seqr m w p.seq).lists os)))
     names_below o os = lasts_below (seqr m w p.seq).next o _ (links_below (seqr m w p.seq).next (seqr m w p.seq).lists os (λ n. (tails_always h ms w r).below p.seq n))
+
+    unit_there : (u : ℕ) → runs m w (unit_id u) ≡ true → u < length w.units
+    unit_there u e = grind arith
+
+    pub units_rise : (k : ℕ) → IsReadyFor m w k → RisesWithin 0 (units_of p) (length w.units)
+    unfolding units_of
+    units_rise k b = nums_rise (units_in p.ranges) (length w.units) (λ u g. unit_there u (b.units u (contained (units_of p) u (nums_have (units_in p.ranges) u g))).0)
 
     module _ (k : ℕ) (x : CommandOf m) (a : IsAlone m w k x) (b : IsReadyFor m w k) where
       ready_unit : (pos i : ℕ) → i < length (chain_of p pos) → (runs m w (unit_id (slice_index (chain_of p pos) i)) ≡ true) × ((unit m w (slice_index (chain_of p pos) i)).epoch ≡ p.epoch)
@@ -231,6 +258,7 @@ module _ (m : Meaning) where
         newest = refl;
         units_run = λ pos i less. (ready_unit pos i less).0;
         units_stand = λ pos i less. (ready_unit pos i less).1;
+        all_stand = λ u g. b.units u (contained (units_of p) u g);
         seqr_runs = b.seqr_runs;
         seqr_stands = b.serves.epoch;
         seqr_unfenced = b.serves.unfenced;

@@ -22,7 +22,8 @@ use Rattle.tg_protocol.specs.ClientSteps.{task_asks, task_awaited, task_again_as
 use Rattle.tg_protocol.specs.Worlds.{World, unit, seqr, client}
 use Rattle.tg_law_layouts.proofs.Moves.Members.{Has}
 use Rattle.tg_law_finish.proofs.Finish.Askers.{Distinct, Kind, above, budget, budget_less, passes, passes_less, WalkStage, SyncStage, sort_of}
-use Rattle.tg_law_finish.proofs.Finish.Askings.{Reads, AsksOne, ProbesAll, IsSuch, look, looks, all_away}
+use Rattle.tg_law_finish.proofs.Finish.Askings.{Reads, AsksOne, ProbesAll, IsSuch, look, looks}
+use Rattle.tg_law_finish.proofs.Finish.AtOnce.{long_asked, each_to, all_away}
 use Rattle.tg_law_finish.proofs.Finish.Asking as asking
 use Rattle.tg_law_finish.proofs.Finish.Asking.{Walkable, CarriesDown, CellStands, JobStands, ProbeStands, LastsBelow, SyncStands, WalkStands, TaskStands}
 use Rattle.tg_law_finish.proofs.Finish.Finishes.{serves}
@@ -54,14 +55,6 @@ within_all n x y s t z c most a b d e = omega (arith, a, b, d, e)
 
 within_walk : (n x y i s t z c most : ℕ) → x ≤ t → y ≤ z → s ≤ most → n ≤ c → i < s → 1 + (n + x + (suc i + y)) ≤ suc (c + t + (c + (most + z)))
 within_walk n x y i s t z c most a b d e f = omega (arith, a, b, d, e, f)
-
-long_asked : (z : Msg) (ws : Waits) → length (asked_of unit_id z ws) ≡ length ws
-long_asked z [] = refl
-long_asked z (w ∷ ws) = ap suc (long_asked z ws)
-
-each_to : {X : Type 0} → (P Q : X → Type 0) → ((x : X) → P x → Q x) → (xs : List X) → Each P xs → Each Q xs
-each_to P Q f [] a = tt
-each_to P Q f (x ∷ xs) a = (f x a.0, each_to P Q f xs a.1)
 
 each_has : (P : Out → Type 0) (os : List Out) → ((o : Out) → Has os o → P o) → Each P os
 each_has P [] f = tt
@@ -145,7 +138,7 @@ module _ (m : Meaning) (w : World m) (k : ℕ) (p : Layout) (longest : ℕ) (a :
   one_asked pl pos (Probes ws) f = absurd f
 
   -- a unit of a probed chain
-  serving : (j : CellJob) → j.place ≡ place_in p j.place.pos → (n : ℕ) → StandsIn j.place n → UnitServes m w.cluster w.stopped k p longest s n
+  serving : (j : CellJob) → j.place ≡ place_in p j.place.pos → (n : ℕ) → StandsIn j.place.chain n → UnitServes m w.cluster w.stopped k p longest s n
   serving j is n i = subst (λ (v : ℕ). UnitServes m w.cluster w.stopped k p longest s v) i.2
       (subst (λ (pl : Place). (l : ℕ) → l < length pl.chain → UnitServes m w.cluster w.stopped k p longest s (unit_at pl l)) (sym is) (λ l less. (serves m w k p longest a b j.place.pos).unit l less) i.0 i.1)
 
@@ -292,10 +285,10 @@ module _ (m : Meaning) (w : World m) (k : ℕ) (p : Layout) (longest : ℕ) (a :
               asked = g.waits;
               split = refl;
               work = is ∙ ap (λ y. Probing z (works j.place y)) g.work;
-              shape = shape (Syncing sy) _ hand e e e below (all_away m w.cluster w.stopped k p longest low_at many tail most kind way j.place g.waits);
+              shape = shape (Syncing sy) _ hand e e e below (all_away m w.cluster w.stopped k p longest (look m w.cluster w.stopped k p longest low_at many tail most kind way j.place) g.waits);
               items = sym (append-nil _);
               some = g.asked.some (subst (λ (pl : Place). 0 < length pl.chain) (sym g.place) (some_at j.place.pos));
-              units = each_to (λ (v : ℕ × ℕ). StandsIn j.place v.0) _ (λ v i. serving j g.place v.0 i) g.waits g.asked.units;
+              units = each_to (λ (v : ℕ × ℕ). StandsIn j.place.chain v.0) _ (λ v i. serving j g.place v.0 i) g.waits g.asked.units;
               once = g.asked.once (subst (λ (pl : Place). Distinct pl.chain) (sym g.place) (u.once j.place.pos));
               lasts = lows z.lasts lasts;
               here = here m w k p longest a b u kind most;

@@ -36,6 +36,7 @@ use Rattle.tg_law_finish.proofs.Finish.Lines.{Ask, asks}
 use Rattle.tg_law_finish.proofs.Finish.Joined.{StageOf}
 use Rattle.tg_law_finish.proofs.Finish.Nets.{net}
 use Rattle.tg_law_finish.proofs.Finish.Others.{weigh}
+use Rattle.tg_law_finish.proofs.Finish.Places.{AllServe}
 use Rattle.tg_law_finish.proofs.Finish.Readers.{Way, asking_way, seen}
 use Rattle.tg_law_finish.proofs.Finish.Makers.{making_way}
 use Rattle.tg_law_finish.proofs.Finish.Readings.{Clean, Trimmed, Good}
@@ -92,6 +93,9 @@ module _ (m : Meaning) (w : World m) (k : ℕ) (p : Layout) (longest : ℕ) (a :
       by (inl free) = inl (record { free = free; below = λ j c less has. b.heads pos j c less has (free 0 (b.some pos)) })
       by (inr f) = let g = u.held pos f.0 f.1 f.2 in inr (record { cell = g.0; held = g.1 })
 
+  pub all_serve : AllServe m w.cluster w.stopped k p longest (net m w)
+  all_serve n g = record { on = (a.all_stand n g).0; epoch = (a.all_stand n g).1; low = b.lows n }
+
   pub here : (kind : Kind low_at p tail) (most : ℕ) → Here m w.cluster w.stopped k p longest low_at many tail most kind (net m w)
   here kind most = record {
     good = good;
@@ -105,6 +109,7 @@ module _ (m : Meaning) (w : World m) (k : ℕ) (p : Layout) (longest : ℕ) (a :
     named = b.named;
     lasts = λ o os. all_low p tail _ (u.backs o os);
     issue = λ d. issues m w k p longest a b (record { draft = d; token = None; work = Asking 0 });
+    units = all_serve;
   }
 
   -- walks may meet trims, or nothing is trimmed
@@ -225,6 +230,7 @@ module _ (m : Meaning) (w : World m) (k : ℕ) (p : Layout) (longest : ℕ) (a :
   pub can_grow : (d : Entry) → Grows m w p d → Before m w.cluster w.stopped k p longest low_at many tail 128 next_kind (net m w) d
   can_grow d f = record {
     issue = issues m w k p longest a b (record { draft = d; token = None; work = Asking 0 });
+    units = all_serve;
     good = good;
     next = refl;
     limit = f.limit;
