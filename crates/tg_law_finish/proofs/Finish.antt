@@ -48,6 +48,7 @@ pub mod Recording
 pub mod Waits
 pub mod Starts
 pub mod Walked
+pub mod Trimmed
 pub mod Recorded
 pub mod Issued
 pub mod Below

@@ -12,4 +12,5 @@ pub mod Reads
 pub mod Walks
 pub mod Rescues
 pub mod Ends
+pub mod Trims
 pub mod Anywhere

@@ -16,6 +16,7 @@ ghost use Rattle.tg_law_finish.specs.Finish.Ends.{EndFinishes, RecordFinishes};
 ghost use Rattle.tg_law_finish.specs.Finish.Makes.{MakeFinishes};
 ghost use Rattle.tg_law_finish.specs.Finish.Rescues.{RescueWalks};
 ghost use Rattle.tg_law_finish.specs.Finish.Store.{AppendFinishes, AskFinishes};
+ghost use Rattle.tg_law_finish.specs.Finish.Trims.{TrimFinishes};
 ghost use Rattle.tg_law_finish.specs.Finish.Walks.{AskWalks, MakeWalks};
 ghost use Rattle.tg_protocol.specs.Runs.{Always};
 
@@ -69,7 +70,13 @@ pub fn records_finish()
     ensures { Always all_kinds (RecordFinishes all_kinds) }
 {}
 
-/// So an `ask`, `end`, `fate`, `ask-at`, `decide`, `checkpoint`, `forget` or `rescue` is answered wherever it
+/// So is a `trim`, in a sync, in a walk, or once units are asked to trim: of the floor that the directory has at the
+/// tail, which is less than 2^62, so that the client takes their answers.
+pub fn trims_finish()
+    ensures { Always all_kinds (TrimFinishes all_kinds) }
+{}
+
+/// So an `ask`, `end`, `fate`, `ask-at`, `decide`, `checkpoint`, `forget`, `trim` or `rescue` is answered wherever it
 /// stands, but while its client waits for a newer layout: within the bound of its command, and 129 times what trims
 /// may cost walks over 128 streams.
 pub fn commands_finish()

@@ -20,7 +20,9 @@ use Rattle.tg_protocol.specs.Syncing.{Sync, SyncWork, Checking, sync_work_asks}
 use Rattle.tg_base.specs.declared.ids.Oid.{Oid}
 use Rattle.tg_protocol.specs.Entries.{streams_of}
 use Rattle.tg_model.specs.declared.command.Command.TheVariants as cmd
-use Rattle.tg_protocol.specs.Clients.{Judged, Appending, Syncing, Doing, Work, Client, Hand, Task}
+use Rattle.tg_protocol.specs.Layouts.{units_of}
+use Rattle.tg_protocol.specs.Trimming.{Trims}
+use Rattle.tg_protocol.specs.Clients.{Judged, Appending, Syncing, Trimming, Doing, Work, Client, Hand, Task}
 use Rattle.tg_protocol.specs.ClientSteps.{task_asks, task_in}
 use Rattle.tg_protocol.specs.Worlds.{World, seqr, client, latest, settle}
 use Rattle.tg_protocol.specs.Runs.{Moves, Reaches, Always}
@@ -29,6 +31,7 @@ use Rattle.tg_law_layouts.proofs.Moves.Clients.{reserved, work_reserved, hand_re
 use Rattle.tg_law_layouts.proofs.Moves.Members.{Has}
 use Rattle.tg_law_cells.proofs.Cells.Hands as hands
 use Rattle.tg_law_cells.proofs.Cells.Jobs.{AppendOk}
+use Rattle.tg_law_trims.specs.Issues.Issues.{TrimsInTime}
 use Rattle.tg_law_finish.specs.Finish.Alone.{IsAlone}
 use Rattle.tg_law_finish.specs.Finish.Drains.{drained, DrainsAnswer}
 use Rattle.tg_law_finish.specs.Finish.Granted.{Granted}
@@ -39,9 +42,10 @@ use Rattle.tg_law_finish.specs.Finish.Makes.{makes, MakesSync, make_bound}
 use Rattle.tg_law_finish.specs.Finish.Ends.{EndsAppend, end_bound, record_bound}
 use Rattle.tg_law_finish.specs.Finish.Reads.{WaitsForRead}
 use Rattle.tg_law_finish.specs.Finish.Rescues.{is_rescue, rescue_bound}
+use Rattle.tg_law_finish.specs.Finish.Trims.{trim_bound}
 use Rattle.tg_law_finish.specs.Finish.Walks.{StreamsFew, passes_bound, walk_bound, streams}
 use Rattle.tg_law_finish.specs.Finish.Laws.{IsReply, IsAnswered, AppendAnswered, AppendInTime, AskAnswered, AskInTime, EndsAreTold, RepliesAreTold}
-use Rattle.tg_law_finish.proofs.Finish.Asking.{HeldWhereTrimmed, Walkable, Untrimmed, Owns, Holds, Syncs, TaskStands, Reads}
+use Rattle.tg_law_finish.proofs.Finish.Asking.{HeldWhereTrimmed, Walkable, Untrimmed, Owns, Holds, Trims', Syncs, TaskStands, Reads}
 use Rattle.tg_law_finish.proofs.Finish.Counted.{is_of, one_if, cost, counted, Finishes as Counted}
 use Rattle.tg_law_finish.proofs.Finish.Drains.{stays_idle}
 use Rattle.tg_law_finish.proofs.Finish.Replying.{settle_replies, drain_replies, settle_tells}
@@ -51,6 +55,10 @@ use Rattle.tg_law_finish.specs.Finish.Commands.{is_ask, plays}
 use Rattle.tg_law_finish.proofs.Finish.Finishes.{writes_finish}
 use Rattle.tg_law_finish.proofs.Finish.Waits.{asks_finish, makes_finish, ends_finish_by}
 use Rattle.tg_law_finish.proofs.Finish.Walked.{asks_finish_by, makes_finish_by, rescues_finish_by}
+use Rattle.tg_law_finish.proofs.Finish.Trimmed.{trims_finish_by, units_finish_by}
+use Rattle.tg_law_finish.proofs.Finish.Probes.{Asked}
+use Rattle.tg_law_finish.proofs.Finish.Reached.{NearFloor, Reached, reached_facts}
+use Rattle.tg_law_finish.proofs.Finish.Settles.{Facts}
 use Rattle.tg_law_finish.proofs.Finish.Recorded.{records_finish_by}
 use Rattle.tg_law_finish.proofs.Finish.Hosting.{WorkFew, hosting}
 use Rattle.tg_law_finish.proofs.Finish.Standing.{numbers_hold, cells_always, pax_always, working, lawful, next_near, names_below, once_there, units_rise, some_unit, units_are, cluster_is, header_limits}
@@ -424,6 +432,61 @@ module _ (m : Meaning) (h : Header) (ms : Moves m) (w : World m) (r : Reaches m 
       let y = record_by x a b g held f in
       let room = bounds m x (longest_chain p) (seqr m w p.seq).next w.cluster.units _ (records_room (longest_chain p) (seqr m w p.seq).next w.cluster.layouts (longest g x a b) few_layouts) in
       (y, within m k _ _ w _ (omega (arith, room)) y)
+
+  -- Trims.
+
+  trims_play : (x : CommandOf m) → x ≡ cmd.Trim → plays m x ≡ true
+  unfolding plays
+  trims_play x e = ap (λ y. plays m y) e
+
+  trims_most : (x : CommandOf m) (c t n b : ℕ) → x ≡ cmd.Trim → b ≤ 16 * c * (t + 4) → b + 2 * n ≤ most_deliveries m x c t n
+  trims_most x c t n b e le = subst (λ (y : CommandOf m). b + 2 * n ≤ most_deliveries m y c t n) (sym e) (omega (arith, le))
+
+  module _ (in_time : (zs : Moves m) (v : World m) → Reaches m h zs v → TrimsInTime m v) where
+    abbrev facts : Facts m (Reached m h) NearFloor
+    facts = reached_facts m h in_time
+
+    trim_by : (x : CommandOf m) → IsAlone m w k x → IsReadyFor m w k → Granted m w → HeldWhereTrimmed m w p → (f : WaitsForRead m w k) → TaskStands m w p f.work f.task → f.work.command ≡ cmd.Trim → IsAnswered m w k (trim_bound m w (streams m f.work))
+    unfolding reading
+    trim_by x a b g held f stands is =
+        let c = trims_finish_by m w k p (longest_chain p) (working m h ms w r k x a b) (lawful m h ms w r k x a b g) (walkable b held) (Reached m h) facts (ms, r) (reading b.stand f stands) is a.within in
+        answered_of m k _ w _ (subst (λ n. Counted m k (2 * ((longest_chain p + 1) * (seqr m w p.seq).next) + 2 * w.cluster.layouts + 2 * ((2 * longest_chain p + 1 + length f.work.oids) * (n + 2)) + 2 * n) w (settle m w).world) (units_are m h ms w r)
+        (subst (λ l. Counted m k (2 * ((longest_chain p + 1) * (seqr m w p.seq).next) + 2 * l + 2 * ((2 * longest_chain p + 1 + length f.work.oids) * (length w.units + 2)) + 2 * length w.units) w (settle m w).world) layouts_are c))
+        (replied f.work f.waits (trims_play f.work.command is) c.answered)
+
+    trimming : (client m w k).stand ≡ p → (v : Work m) (t : Trims) → (client m w k).work ≡ Some v → v.hand ≡ Doing (Trimming t) → Asked (units_of p) t.waits → Trims' m w k p
+    unfolding task_asks
+    trimming e v t has hand asked = record {
+      work = v;
+      waits = has;
+      trims = t;
+      hand = hand;
+      asked = asked;
+      below = λ o g. below_next o (reserves (client m w k) v (Trimming t) o has hand (subst (λ (q : Layout). Has (hand_reserved m q (Doing (Trimming t))) o) (sym e) g));
+    }
+
+    units_by : (x : CommandOf m) → IsAlone m w k x → IsReadyFor m w k → Granted m w → HeldWhereTrimmed m w p → (v : Work m) (t : Trims) → (client m w k).work ≡ Some v → v.hand ≡ Doing (Trimming t) → Asked (units_of p) t.waits → v.command ≡ cmd.Trim
+        → IsAnswered m w k (2 * w.cluster.layouts + 2 * w.cluster.units)
+    unfolding trimming
+    units_by x a b g held v t has hand asked is =
+        let c = units_finish_by m w k p (longest_chain p) (working m h ms w r k x a b) (lawful m h ms w r k x a b g) (walkable b held) (Reached m h) facts (ms, r) (trimming b.stand v t has hand asked) a.within in
+        answered_of m k _ w _ (subst (λ n. Counted m k (2 * w.cluster.layouts + 2 * n) w (settle m w).world) (units_are m h ms w r) (subst (λ l. Counted m k (2 * l + 2 * length w.units) w (settle m w).world) layouts_are c))
+        (replied v has (trims_play v.command is) c.answered)
+
+    abbrev TrimAnswered : CommandOf m → ℕ → Type 0
+    TrimAnswered x n = IsAnswered m w k (trim_bound m w n) × IsAnswered m w k (most_deliveries_in m w x + passes_bound m w 128)
+
+    in_time_too : (x : CommandOf m) → IsAlone m w k x → IsReadyFor m w k → Granted m w → (v : Work m) → (client m w k).work ≡ Some v → v.command ≡ cmd.Trim → IsAnswered m w k (trim_bound m w (streams m v)) → TrimAnswered x (streams m v)
+    in_time_too x a b g v has is y =
+        let few = passes_few (longest_chain p) (length v.oids) w.cluster.units (few_streams v has) in
+        let room = trims_most x (longest_chain p) (seqr m w p.seq).next w.cluster.units _ (same_command x a v has ∙ is) (walks_room (longest_chain p) (seqr m w p.seq).next w.cluster.layouts (longest g x a b) few_layouts) in
+        (y, within m k _ _ w _ (omega (arith, room, few)) y)
+
+    pub trim_walks : (x : CommandOf m) → IsAlone m w k x → IsReadyFor m w k → Granted m w → HeldWhereTrimmed m w p → (f : WaitsForRead m w k) → TaskStands m w p f.work f.task → f.work.command ≡ cmd.Trim → TrimAnswered x (streams m f.work)
+    trim_walks x a b g held f stands is = in_time_too x a b g f.work f.waits is (trim_by x a b g held f stands is)
+
+    pub units_trim : (x : CommandOf m) → IsAlone m w k x → IsReadyFor m w k → Granted m w → HeldWhereTrimmed m w p → (v : Work m) (t : Trims) → (client m w k).work ≡ Some v → v.hand ≡ Doing (Trimming t) → Asked (units_of p) t.waits → v.command ≡ cmd.Trim → TrimAnswered x (streams m v)
+    units_trim x a b g held v t has hand asked is = in_time_too x a b g v has is (within m k _ _ w _ (omega arith) (units_by x a b g held v t has hand asked is))
 
 pub appends_are_answered : (m : Meaning) → Always m (AppendAnswered m)
 appends_are_answered m h ms w r k x a b g f = append_answered m h ms w r k x a b g f

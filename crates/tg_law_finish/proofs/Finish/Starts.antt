@@ -56,7 +56,7 @@ within_all n x y s t z c most a b d e = omega (arith, a, b, d, e)
 within_walk : (n x y i s t z c most : ℕ) → x ≤ t → y ≤ z → s ≤ most → n ≤ c → i < s → 1 + (n + x + (suc i + y)) ≤ suc (c + t + (c + (most + z)))
 within_walk n x y i s t z c most a b d e f = omega (arith, a, b, d, e, f)
 
-each_has : (P : Out → Type 0) (os : List Out) → ((o : Out) → Has os o → P o) → Each P os
+pub each_has : (P : Out → Type 0) (os : List Out) → ((o : Out) → Has os o → P o) → Each P os
 each_has P [] f = tt
 each_has P (x ∷ xs) f = (f x (inl refl), each_has P xs (λ o g. f o (inr g)))
 

@@ -1,5 +1,5 @@
 -- Commands of the store finish: all that the laws of settlings ask of a world is so in each run of the store.
-use Rattle.std.proofs.Common.{◌≡◌, ◌≢◌, ◌⊎◌, ℕ, ◌+◌, ◌*◌, ◌<◌, ◌≤◌, [], length, true, false, refl, ap, ◌∙◌, sym, subst, inl, inr, arith, Some, Option}
+use Rattle.std.proofs.Common.{◌≡◌, ◌⊎◌, ℕ, ◌+◌, ◌*◌, ◌<◌, ◌≤◌, [], length, true, false, refl, ap, ◌∙◌, sym, subst, inl, inr, arith, Some, Option}
 use Rattle.std.specs.Prelude.{nat_lt}
 use Rattle.std.proofs.lemmas.Bool.Decides.{nat_tests}
 use Rattle.tg_base.specs.Clusters.{Header}
@@ -24,6 +24,7 @@ use Rattle.tg_law_layouts.proofs.Layouts.Deciding.{latest_decided}
 use Rattle.tg_law_cells.specs.Cells.Settled.{IsSettled}
 use Rattle.tg_law_cells.proofs.Cells.Befores.{has_at}
 use Rattle.tg_law_cells.proofs.Cells.Settling.{settled_is_held}
+use Rattle.tg_law_trims.specs.Issues.Issues.{TrimsInTime}
 use Rattle.tg_law_trims.specs.Trims.Spare.{TrimsAre}
 use Rattle.tg_law_headline.proofs.Runs.Holding.{logs_hold}
 use Rattle.tg_law_finish.specs.Finish.Alone.{IsAlone}
@@ -31,28 +32,33 @@ use Rattle.tg_law_finish.specs.Finish.Anywhere.{CommandWalks}
 use Rattle.tg_law_finish.specs.Finish.Appends.{is_last, WaitsForAppend}
 use Rattle.tg_law_finish.specs.Finish.Commands.{is_ask, plays}
 use Rattle.tg_law_finish.specs.Finish.Granted.{Granted}
-use Rattle.tg_law_finish.proofs.Finish.Answered.{within, same_command, record_below, record_walks, append_answered, append_in_time, ask_answered, ask_in_time, make_answered, make_in_time, ask_walks, make_walks, rescue_walks, token_below, end_walks}
+use Rattle.tg_law_finish.proofs.Finish.Answered.{within, same_command, record_below, record_walks, append_answered, append_in_time, ask_answered, ask_in_time, make_answered, make_in_time, ask_walks, make_walks, rescue_walks, token_below, end_walks, trim_walks, units_trim}
 use Rattle.tg_law_finish.proofs.Finish.Standing.{next_near, limit_below, working}
 use Rattle.tg_law_finish.specs.Finish.Laws.{IsAnswered}
 use Rattle.tg_law_finish.specs.Finish.Makes.{makes, MakeFinishes}
 use Rattle.tg_law_finish.specs.Finish.Store.{AppendsLast, AppendFinishes, AskFinishes}
 use Rattle.tg_law_finish.specs.Finish.Ends.{EndsAppend, EndFinishes, EndsRecord, record_bound, RecordFinishes}
-use Rattle.tg_law_finish.specs.Finish.Reads.{WaitsForRead}
+use Rattle.tg_law_finish.specs.Finish.Reads.{IsRead, WaitsForRead}
 use Rattle.tg_law_finish.specs.Finish.Rescues.{is_rescue, RescueWalks}
-use Rattle.tg_law_finish.specs.Finish.Walks.{passes_bound, AskWalks, MakeWalks}
+use Rattle.tg_law_finish.specs.Finish.Trims.{IsTrim, trim_bound, TrimFinishes}
+use Rattle.tg_law_finish.specs.Finish.Walks.{passes_bound, streams, AskWalks, MakeWalks}
 use Rattle.tg_law_finish.proofs.Finish.Asking.{HeldWhereTrimmed, Grows, Owns, TokenStands, TaskStands}
 use Rattle.tg_law_finish.proofs.Finish.Below.{greatest, trimmed_settled, lows_below, unwritten_past}
 use Rattle.tg_law_finish.proofs.Finish.Working.{at_chain}
 use Rattle.tg_law_finish.proofs.Finish.Named.{named, grown_named, grown_below}
 use Rattle.tg_law_finish.proofs.Finish.Drafted.{drafted}
 use Rattle.tg_law_finish.proofs.Finish.Hosting.{hosting}
-use Rattle.tg_law_finish.proofs.Finish.Hands.{append_stands, HasToken, token_stands, reads_stand}
+use Rattle.tg_law_finish.proofs.Finish.Hands.{append_stands, HasToken, token_stands, trims_stand, reads_stand}
 use Rattle.tg_law_finish.proofs.Finish.Suiting.{IsCopy, IsReconf, Suits, WorkSuits, purpose_plays, all_suit}
 
 nearer : (a b : ℕ) → a ≤ b → too_far b ≡ false → too_far a ≡ false
 nearer a b le e = grind (arith, nat_tests, le, e)
 
 module _ (m : Meaning) where
+  -- in whatever world a run comes to, trims are in time
+  abbrev Timely : Header → Type 0
+  Timely h = (ms : Moves m) (v : World m) → Reaches m h ms v → TrimsInTime m v
+
   nothing_more : (h : Header) (zs : Moves m) → Reaches m h zs (after m h zs) → Goes m (after m h zs) [] (after m h zs)
   unfolding run
   nothing_more h zs r = record { lawful = λ x c. absurd (has_contained [] x c); is = refl; few = r.goes.few }
@@ -207,25 +213,47 @@ module _ (m : Meaning) where
       by (Putting j) is g = held_here_by h zs r trims k x a b f command g.0 g.1 (subst (λ (y : AppendWork). TokenStands m (after m h zs) (latest m (after m h zs)) y) (sym is) g.2)
       by (Judging j) is g = held_here_by h zs r trims k x a b f command g.0 g.1 (subst (λ (y : AppendWork). TokenStands m (after m h zs) (latest m (after m h zs)) y) (sym is) g.2)
 
+  -- A trim.
+
+  trim_here : (h : Header) (zs : Moves m) → Reaches m h zs (after m h zs) → TrimsAre m h zs (after m h zs) → Timely h → TrimFinishes m (after m h zs)
+  trim_here h zs r trims in_time k x a b f = by f.task f.hand f.trims
+    where
+      Ends' : Type 0
+      Ends' = IsAnswered m (after m h zs) k (trim_bound m (after m h zs) (streams m f.work)) × IsAnswered m (after m h zs) k (most_deliveries_in m (after m h zs) x + passes_bound m (after m h zs) 128)
+
+      reads : (t : Task m) → f.work.hand ≡ Doing t → IsRead m t → Ends'
+      reads t hand is =
+          let g : WaitsForRead m (after m h zs) k = record { work = f.work; waits = f.waits; task = t; hand = hand; reads = is } in
+          trim_walks m h zs (after m h zs) r k in_time x a b (granted h zs r trims k x a b) (held_here h zs r trims b.serves) g (stands_here h zs r trims k x a b g) f.command
+
+      by : (t : Task m) → f.work.hand ≡ Doing t → IsTrim m t → Ends'
+      by (Syncing y) hand is = reads (Syncing y) hand tt
+      by (Walking y os) hand is = reads (Walking y os) hand tt
+      by (Trimming y) hand is = units_trim m h zs (after m h zs) r k in_time x a b (granted h zs r trims k x a b) (held_here h zs r trims b.serves) f.work y f.waits hand
+          (trims_stand m h zs r trims k (working m h zs (after m h zs) r k x a b) b.serves f.work y f.waits hand) f.command
+      by (Appending y z) hand is = absurd is
+      by (Copying' y) hand is = absurd is
+      by (Reconfiguring y) hand is = absurd is
+
   -- A command that syncs and plays.
 
-  is_one : (x : CommandOf m) → plays m x ≡ true → x ≢ cmd.Trim → (is_ask m x ≡ true) ⊎ ((makes m x ≡ true) ⊎ (is_rescue m x ≡ true))
+  is_one : (x : CommandOf m) → plays m x ≡ true → (is_ask m x ≡ true) ⊎ ((makes m x ≡ true) ⊎ ((is_rescue m x ≡ true) ⊎ (x ≡ cmd.Trim)))
   unfolding plays is_ask makes is_rescue
-  is_one (cmd.Ask o q) e off = inl refl
-  is_one (cmd.Fate p) e off = inl refl
-  is_one (cmd.AskAt p o q) e off = inl refl
-  is_one cmd.End e off = inr (inl refl)
-  is_one (cmd.Decide p) e off = inr (inl refl)
-  is_one (cmd.Checkpoint o) e off = inr (inl refl)
-  is_one (cmd.Forget o n) e off = inr (inl refl)
-  is_one (cmd.Rescue p) e off = inr (inr refl)
-  is_one cmd.Trim e off = absurd (off refl)
-  is_one (cmd.Host o) e off = absurd cc
-  is_one cmd.Begin e off = absurd cc
-  is_one (cmd.Put o op) e off = absurd cc
-  is_one cmd.Drop e off = absurd cc
-  is_one (cmd.Reconf y) e off = absurd cc
-  is_one (cmd.Copy u y s) e off = absurd cc
+  is_one (cmd.Ask o q) e = inl refl
+  is_one (cmd.Fate p) e = inl refl
+  is_one (cmd.AskAt p o q) e = inl refl
+  is_one cmd.End e = inr (inl refl)
+  is_one (cmd.Decide p) e = inr (inl refl)
+  is_one (cmd.Checkpoint o) e = inr (inl refl)
+  is_one (cmd.Forget o n) e = inr (inl refl)
+  is_one (cmd.Rescue p) e = inr (inr (inl refl))
+  is_one cmd.Trim e = inr (inr (inr refl))
+  is_one (cmd.Host o) e = absurd cc
+  is_one cmd.Begin e = absurd cc
+  is_one (cmd.Put o op) e = absurd cc
+  is_one cmd.Drop e = absurd cc
+  is_one (cmd.Reconf y) e = absurd cc
+  is_one (cmd.Copy u y s) e = absurd cc
 
   -- no copy and no reconfiguration is for it
 
@@ -254,8 +282,8 @@ module _ (m : Meaning) where
   one_more : (n z : ℕ) → n + z ≤ n + 129 * z
   one_more n z = omega arith
 
-  command_here : (h : Header) (zs : Moves m) → Reaches m h zs (after m h zs) → TrimsAre m h zs (after m h zs) → CommandWalks m (after m h zs)
-  command_here h zs r trims k x a b such off f = by f.task f.hand (subst (λ (y : CommandOf m). Suits m y f.task) (sym (same_command m h zs (after m h zs) r k x a f.work f.waits)) (suits h zs r trims k x a b f.work f.task f.waits f.hand))
+  command_here : (h : Header) (zs : Moves m) → Reaches m h zs (after m h zs) → TrimsAre m h zs (after m h zs) → Timely h → CommandWalks m (after m h zs)
+  command_here h zs r trims in_time k x a b such f = by f.task f.hand (subst (λ (y : CommandOf m). Suits m y f.task) (sym (same_command m h zs (after m h zs) r k x a f.work f.waits)) (suits h zs r trims k x a b f.work f.task f.waits f.hand))
     where
       bound : ℕ
       bound = most_deliveries_in m (after m h zs) x
@@ -263,13 +291,26 @@ module _ (m : Meaning) where
       trimmed : ℕ
       trimmed = passes_bound m (after m h zs) 128
 
+      trims' : x ≡ cmd.Trim → (v : Work m) (t : Task m) → (client m (after m h zs) k).work ≡ Some v → v.hand ≡ Doing t → IsTrim m t → IsAnswered m (after m h zs) k (bound + 129 * trimmed)
+      trims' is v t has hand fits = within m k _ _ (after m h zs) _ (one_more bound trimmed)
+          (trim_here h zs r trims in_time k x a b (record { work = v; waits = has; command = sym (same_command m h zs (after m h zs) r k x a v has) ∙ is; task = t; hand = hand; trims = fits })).1
+
+      is_trim : (t : Task m) → IsRead m t → IsTrim m t
+      is_trim (Syncing y) is = tt
+      is_trim (Walking y os) is = tt
+      is_trim (Appending y z) is = absurd is
+      is_trim (Trimming y) is = absurd is
+      is_trim (Copying' y) is = absurd is
+      is_trim (Reconfiguring y) is = absurd is
+
       reads : WaitsForRead m (after m h zs) k → IsAnswered m (after m h zs) k (bound + 129 * trimmed)
-      reads g = of (is_one x such off)
+      reads g = of (is_one x such)
         where
-          of : (is_ask m x ≡ true) ⊎ ((makes m x ≡ true) ⊎ (is_rescue m x ≡ true)) → IsAnswered m (after m h zs) k (bound + 129 * trimmed)
+          of : (is_ask m x ≡ true) ⊎ ((makes m x ≡ true) ⊎ ((is_rescue m x ≡ true) ⊎ (x ≡ cmd.Trim))) → IsAnswered m (after m h zs) k (bound + 129 * trimmed)
           of (inl e) = within m k _ _ (after m h zs) _ (one_more bound trimmed) (ask_walks_here h zs r trims k x a b e g).1
           of (inr (inl e)) = within m k _ _ (after m h zs) _ (one_more bound trimmed) (make_walks_here h zs r trims k x a b e g).1
-          of (inr (inr e)) = (rescue_walks_here h zs r trims k x a b e g).1
+          of (inr (inr (inl e))) = (rescue_walks_here h zs r trims k x a b e g).1
+          of (inr (inr (inr e))) = trims' e g.work g.task g.waits g.hand (is_trim g.task g.reads)
 
       appends : (y : Append) (z : Purpose m) → f.work.hand ≡ Doing (Appending y z) → (z ≡ Judged) ⊎ (is_last m z ≡ true) → IsAnswered m (after m h zs) k (bound + 129 * trimmed)
       appends y z e (inl is) = within m k _ _ (after m h zs) _ (one_more bound trimmed) (record_here h zs r trims k x a b (record { work = f.work; waits = f.waits; append = y; hand = e ∙ ap (λ (i : Purpose m). Doing (Appending y i)) is })).1
@@ -279,7 +320,7 @@ module _ (m : Meaning) where
       by (Syncing s) e fits = reads (record { work = f.work; waits = f.waits; task = Syncing s; hand = e; reads = tt })
       by (Walking y os) e fits = reads (record { work = f.work; waits = f.waits; task = Walking y os; hand = e; reads = tt })
       by (Appending y z) e fits = appends y z e (judged_or_last z)
-      by (Trimming y) e fits = absurd (off fits)
+      by (Trimming y) e fits = trims' fits f.work (Trimming y) f.waits e tt
       by (Copying' y) e fits = absurd (no_copy x such fits)
       by (Reconfiguring y) e fits = absurd (no_reconf x such fits)
 
@@ -308,11 +349,17 @@ module _ (m : Meaning) where
   pub record_where : (h : Header) (zs : Moves m) (w : World m) → Reaches m h zs w → TrimsAre m h zs w → RecordFinishes m w
   record_where h zs w r trims = subst (λ (v : World m). Reaches m h zs v → TrimsAre m h zs v → RecordFinishes m v) (sym r.goes.is) (record_here h zs) r trims
 
-  pub command_where : (h : Header) (zs : Moves m) (w : World m) → Reaches m h zs w → TrimsAre m h zs w → CommandWalks m w
-  command_where h zs w r trims = subst (λ (v : World m). Reaches m h zs v → TrimsAre m h zs v → CommandWalks m v) (sym r.goes.is) (command_here h zs) r trims
+  pub trim_where : (h : Header) (zs : Moves m) (w : World m) → Reaches m h zs w → TrimsAre m h zs w → Timely h → TrimFinishes m w
+  trim_where h zs w r trims in_time = subst (λ (v : World m). Reaches m h zs v → TrimsAre m h zs v → TrimFinishes m v) (sym r.goes.is) (λ a b. trim_here h zs a b in_time) r trims
+
+  pub command_where : (h : Header) (zs : Moves m) (w : World m) → Reaches m h zs w → TrimsAre m h zs w → Timely h → CommandWalks m w
+  command_where h zs w r trims in_time = subst (λ (v : World m). Reaches m h zs v → TrimsAre m h zs v → CommandWalks m v) (sym r.goes.is) (λ a b. command_here h zs a b in_time) r trims
 
 pub commands_finish : Always all_kinds (CommandWalks all_kinds)
-commands_finish h zs w r = command_where all_kinds h zs w r (logs_hold h zs w r).trims
+commands_finish h zs w r = command_where all_kinds h zs w r (logs_hold h zs w r).trims (λ ms v s. (logs_hold h ms v s).trims.in_time)
+
+pub trims_finish : Always all_kinds (TrimFinishes all_kinds)
+trims_finish h zs w r = trim_where all_kinds h zs w r (logs_hold h zs w r).trims (λ ms v s. (logs_hold h ms v s).trims.in_time)
 
 pub appends_finish : Always all_kinds (AppendFinishes all_kinds)
 appends_finish h zs w r = append_where all_kinds h zs w r (logs_hold h zs w r).trims

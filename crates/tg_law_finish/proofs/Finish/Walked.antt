@@ -26,7 +26,7 @@ use Rattle.tg_law_finish.proofs.Finish.Waits.{Ends, trims_kind, waits_for}
 use Rattle.tg_law_finish.proofs.Finish.Working.{Working, Lawful}
 
 -- with o requests outstanding, and so much left
-reads_few : (l t n c s o x e : ℕ) → o + x ≤ suc (c + (c + 1) * t + (c + (s + (2 * c + 1 + s) * (n + 1))))
+pub reads_few : (l t n c s o x e : ℕ) → o + x ≤ suc (c + (c + 1) * t + (c + (s + (2 * c + 1 + s) * (n + 1))))
     → ((o + o) + (l + l)) + ((x + e) + (x + e)) ≤ 2 * ((c + 1) * t) + 2 * l + 2 * ((2 * c + 1 + s) * (n + 2)) + 2 * e
 reads_few l t n c s o x e le = let f = mul-suc (2 * c + 1 + s) (n + 1) in let g = ap (λ i. (2 * c + 1 + s) * i) (plus n) in omega (arith, f, g, le)
   where

@@ -1,7 +1,6 @@
 -- A command that syncs and plays, wherever it stands.
-use Rattle.std.specs.Prelude.{◌≡◌, ◌≢◌, ℕ, ◌+◌, ◌*◌, true, Some}
+use Rattle.std.specs.Prelude.{◌≡◌, ℕ, ◌+◌, ◌*◌, true, Some}
 use Rattle.tg_kind.specs.Meaning.{Meaning}
-use Rattle.tg_model.specs.declared.command.Command.TheVariants as cmd
 use Rattle.tg_model.specs.Kinds.{CommandOf}
 use Rattle.tg_protocol.specs.Clients.{Task, Doing, Work}
 use Rattle.tg_protocol.specs.Worlds.{World, client}
@@ -19,7 +18,7 @@ module _ (m : Meaning) where
     pub task : Task m
     pub hand : work.hand ≡ Doing task
 
-  -- each but `trim` is answered within its bound, and what trims may cost a rescue more
+  -- each is answered within its bound, and what trims may cost a rescue more
   abbrev pub CommandWalks : World m → Type 0
-  CommandWalks w = (k : ℕ) (x : CommandOf m) → IsAlone m w k x → IsReadyFor m w k → plays m x ≡ true → x ≢ cmd.Trim → IsAtWork w k →
+  CommandWalks w = (k : ℕ) (x : CommandOf m) → IsAlone m w k x → IsReadyFor m w k → plays m x ≡ true → IsAtWork w k →
       IsAnswered m w k (most_deliveries_in m w x + 129 * passes_bound m w 128)
