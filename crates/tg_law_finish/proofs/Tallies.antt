@@ -8,3 +8,4 @@ pub mod Probing
 pub mod Closing
 pub mod Saving
 pub mod Paging
+pub mod Trimming

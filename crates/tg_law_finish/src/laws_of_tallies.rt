@@ -1,6 +1,6 @@
 //! Runs for which the premises of the laws hold, computed by the definitions.
 
-ghost use Rattle.tg_law_finish.specs.Tallies.Settled.{AppendIsAnswered, AskIsAnswered, EndIsAnswered, FateIsAnswered, ProbeIsAnswered, RecordIsAnswered, RescueIsAnswered, SaveIsAnswered};
+ghost use Rattle.tg_law_finish.specs.Tallies.Settled.{AppendIsAnswered, AskIsAnswered, EndIsAnswered, FateIsAnswered, ProbeIsAnswered, RecordIsAnswered, RescueIsAnswered, SaveIsAnswered, TrimIsAnswered};
 ghost use Rattle.tg_law_finish.specs.Tallies.Books.{CommitIsBooked};
 ghost use Rattle.tg_law_finish.specs.Tallies.Tallies.{PastIsTold, CommitIsTold};
 
@@ -67,4 +67,10 @@ pub fn save_is_answered()
 /// no more than it has. A settling of it takes six deliveries with the client.
 pub fn rescue_is_answered()
     ensures { RescueIsAnswered }
+{}
+
+/// A run in which a client trims where the directory has a floor, and its request for a tail is lost, is one for which `trims_finish`
+/// asks no more than it has. A settling of it takes eight deliveries with the client, where 32 are allowed, and the unit trims.
+pub fn trim_is_answered()
+    ensures { TrimIsAnswered }
 {}

@@ -176,9 +176,9 @@ module _ (m : Meaning) (k : ℕ) where
 
       by_lowest : (fuel : ℕ) (w : World m) (n : ℕ) (q : List Packet) → Fact w → Holds w q n → (is : List ℕ) → w.waiting ≡ is
           → ((i : ℕ) (js : List ℕ) → w.waiting ≡ i ∷ js → limit_of m w ≡ None → DrainsTo w n (drain_on m fuel (happens m w (Deliver i)))) → DrainsTo w n (elim (lowest m is) as (λ _. Ran m) [
-        | None ↦ record { world = w; stopped = None }
-        | Some i ↦ elim (limit_of m w) as (λ _. Ran m) [ Some x ↦ record { world = w; stopped = Some x } | None ↦ drain_on m fuel (happens m w (Deliver i)) ]
-      ])
+            | None ↦ record { world = w; stopped = None }
+            | Some i ↦ elim (limit_of m w) as (λ _. Ran m) [ Some x ↦ record { world = w; stopped = Some x } | None ↦ drain_on m fuel (happens m w (Deliver i)) ]
+          ])
       by_lowest fuel w n q fact holds [] e t = λ none. (record { left = n; holds = subst (λ r. Holds w r n) (queue_empty w q e holds.queue) holds; spent = spent_none w n }, fact)
       by_lowest fuel w n q fact holds (i ∷ is) e t = by_limit w n (drain_on m fuel (happens m w (Deliver i))) (limit_of m w) refl (t i is e)
 

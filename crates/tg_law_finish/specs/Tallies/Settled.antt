@@ -1,11 +1,13 @@
 -- Runs that leave a client waiting, and what a settling makes of them.
 use Rattle.std.specs.Prelude.{◌≡◌, ℕ, ◌+◌, ◌*◌, [], ◌∷◌}
+use Rattle.tg_kind.specs.Meaning.{Meaning}
 use Rattle.tg_model.specs.declared.command.Command.TheVariants as cmd
 use Rattle.tg_model.specs.declared.command.Event.TheVariants.{Command as Commands, Deliver, Lose}
 use Rattle.tg_model.specs.Kinds.{CommandOf}
+use Rattle.tg_protocol.specs.Words.{directory}
 use Rattle.tg_protocol.specs.Syncing.{SyncWork, Probing}
 use Rattle.tg_protocol.specs.Clients.{Task, Syncing}
-use Rattle.tg_protocol.specs.Worlds.{World, start, latest, settle}
+use Rattle.tg_protocol.specs.Worlds.{World, start, unit, latest, settle}
 use Rattle.tg_protocol.specs.Runs.{Moves, Takes, Reaches, run}
 use Rattle.tg_protocol.specs.Finishing.{longest_chain, deliveries, is_with_client, most_deliveries_in, WaitsAlone, IsReadyFor}
 use Rattle.tg_law_finish.specs.Finish.Alone.{IsAlone}
@@ -16,14 +18,18 @@ use Rattle.tg_law_finish.specs.Finish.Ends.{EndsAppend, end_bound, EndsRecord, r
 use Rattle.tg_law_finish.specs.Finish.Laws.{append_bound, ask_bound}
 use Rattle.tg_law_finish.specs.Finish.Reads.{WaitsForRead}
 use Rattle.tg_law_finish.specs.Finish.Rescues.{rescue_bound}
+use Rattle.tg_law_finish.specs.Finish.Trims.{WaitsForTrim, trim_bound}
 use Rattle.tg_law_finish.specs.Finish.Walks.{streams, walk_bound}
-use Rattle.tg_law_finish.specs.Tallies.Tallies.{tallies, tally, with_tally}
+use Rattle.tg_law_finish.specs.Tallies.Tallies.{tallies, floored, tally, with_tally}
 
 -- how many deliveries with the client a settling takes, and how many each bound allows
-pub record Counted (w : World tallies) (taken most in_time : ℕ) (bound : World tallies → ℕ) (x : CommandOf tallies) : Type 0 where
-  pub counted : deliveries tallies (is_with_client tallies 0) w (settle tallies w).world ≡ taken
+pub record CountedIn (m : Meaning) (w : World m) (taken most in_time : ℕ) (bound : World m → ℕ) (x : CommandOf m) : Type 0 where
+  pub counted : deliveries m (is_with_client m 0) w (settle m w).world ≡ taken
   pub allowed : bound w ≡ most
-  pub in_bound : most_deliveries_in tallies w x ≡ in_time
+  pub in_bound : most_deliveries_in m w x ≡ in_time
+
+abbrev pub Counted : (w : World tallies) (taken most in_time : ℕ) (bound : World tallies → ℕ) (x : CommandOf tallies) → Type 0
+Counted w taken most in_time bound x = CountedIn tallies w taken most in_time bound x
 
 -- a client adds to a tally, and its request for a token is lost
 abbrev pub append_lost : Moves tallies
@@ -132,6 +138,20 @@ pub record RescueSettles (w : World tallies) : Type 0 where
   pub waits : WaitsForRead tallies w 0
   pub counts : Counted w 6 100868 8192 (λ v. rescue_bound tallies v (streams tallies waits.work)) (cmd.Rescue 0)
 
+-- a client adds to the directory, whose number is the floor; it trims, and its request for a tail is lost
+abbrev pub trim_lost : Moves floored
+trim_lost = Takes (Commands 0 cmd.Begin) ∷ Takes (Commands 0 (cmd.Put directory 1)) ∷ Takes (Commands 0 cmd.End)
+    ∷ Takes (Deliver 0) ∷ Takes (Deliver 1) ∷ Takes (Deliver 2) ∷ Takes (Deliver 3) ∷ Takes (Commands 0 cmd.Trim) ∷ Takes (Lose 4) ∷ []
+
+-- the settling asks the unit to trim
+pub record TrimSettles (w : World floored) : Type 0 where
+  pub reached : Reaches floored with_tally trim_lost w
+  pub alone : IsAlone floored w 0 cmd.Trim
+  pub ready : IsReadyFor floored w 0
+  pub waits : WaitsForTrim floored w 0
+  pub counts : CountedIn floored w 8 32 82 (λ v. trim_bound floored v (streams floored waits.work)) cmd.Trim
+  pub trims : (unit floored (settle floored w).world 0).low ≡ 1
+
 abbrev pub AppendIsAnswered : Type 0
 AppendIsAnswered = AppendSettles (run tallies append_lost (start tallies with_tally))
 
@@ -155,3 +175,6 @@ SaveIsAnswered = SaveSettles (run tallies save_lost (start tallies with_tally))
 
 abbrev pub RescueIsAnswered : Type 0
 RescueIsAnswered = RescueSettles (run tallies rescue_lost (start tallies with_tally))
+
+abbrev pub TrimIsAnswered : Type 0
+TrimIsAnswered = TrimSettles (run floored trim_lost (start floored with_tally))

@@ -43,6 +43,10 @@ tallies = record {
   mark_op = λ o n. 0;
 }
 
+-- likewise, and the directory's number is its floor
+abbrev pub floored : Meaning
+floored = record tallies { floor = λ s. s }
+
 abbrev pub one_of_each : Header
 one_of_each = record { units = 1; layouts = 1; seqs = 1; clients = 1; limit = 100; chains = (0 ∷ []) ∷ []; objects = [] }
 
