@@ -20,8 +20,8 @@ use Rattle.tg_law_finish.specs.Finish.Alone.{IsAlone}
 use Rattle.tg_law_finish.specs.Finish.Laws.{IsReply}
 use Rattle.tg_law_finish.proofs.Finish.Answered.{drains_answer}
 use Rattle.tg_law_finish.proofs.Finish.Drains.{drains_come_first, drains_are_runs}
-use Rattle.tg_law_finish.proofs.Finish.Store.{appends_finish, asks_finish_anyway, makes_finish_anyway, rescues_finish, ends_finish, records_finish}
-use Rattle.tg_law_settles.specs.Settles.{IsSettleLine, world_before, world_after, world_drained, Waits, ForAppend, ForAsk, ForMake, ForRescue, ForEnd, ForRecord, SettleLinesFinish, DrainedLinesFinish, DrainedLinesAnswer}
+use Rattle.tg_law_finish.proofs.Finish.Store.{appends_finish, asks_finish_anyway, makes_finish_anyway, rescues_finish, trims_finish, ends_finish, records_finish}
+use Rattle.tg_law_settles.specs.Settles.{IsSettleLine, world_before, world_after, world_drained, Waits, ForAppend, ForAsk, ForMake, ForRescue, ForTrim, ForEnd, ForRecord, SettleLinesFinish, DrainedLinesFinish, DrainedLinesAnswer}
 
 no_item : {X : Type 0} → (x : X) → None ≡ Some x → ⊥
 no_item x e = cc
@@ -86,6 +86,7 @@ answered h ms w r k most x a b (ForAppend f) = (appends_finish h ms w r k x a b 
 answered h ms w r k most x a b (ForAsk is f) = (asks_finish_anyway h ms w r k x a b is f).0
 answered h ms w r k most x a b (ForMake is f) = (makes_finish_anyway h ms w r k x a b is f).0
 answered h ms w r k most x a b (ForRescue is f) = (rescues_finish h ms w r k x a b is f).0
+answered h ms w r k most x a b (ForTrim f) = (trims_finish h ms w r k x a b f).0
 answered h ms w r k most x a b (ForEnd f) = (ends_finish h ms w r k x a b f).0
 answered h ms w r k most x a b (ForRecord f) = (records_finish h ms w r k x a b f).0
 

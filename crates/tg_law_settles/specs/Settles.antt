@@ -16,6 +16,7 @@ use Rattle.tg_law_finish.specs.Finish.Makes.{makes}
 use Rattle.tg_law_finish.specs.Finish.Reads.{WaitsForRead}
 use Rattle.tg_law_finish.specs.Finish.Ends.{EndsAppend, end_bound, EndsRecord, record_bound}
 use Rattle.tg_law_finish.specs.Finish.Rescues.{is_rescue, rescue_bound}
+use Rattle.tg_law_finish.specs.Finish.Trims.{WaitsForTrim, trim_bound}
 use Rattle.tg_law_finish.specs.Finish.Walks.{streams, walk_bound}
 
 -- event line n, counted from 0, settles, and no limit stops the script before it
@@ -41,6 +42,8 @@ pub data Waits (w : Worlds) (k : ℕ) (x : CommandOf all_kinds) : ℕ → Type 0
   ForMake : makes all_kinds x ≡ true → (f : WaitsForRead all_kinds w k) → Waits w k x (walk_bound all_kinds w (streams all_kinds f.work) + 2 * (longest_chain (latest all_kinds w) + 1))
   -- and of `rescue`
   ForRescue : is_rescue all_kinds x ≡ true → (f : WaitsForRead all_kinds w k) → Waits w k x (rescue_bound all_kinds w (streams all_kinds f.work))
+  -- of `trim`, in a sync, in a walk, or once units are asked to trim
+  ForTrim : (f : WaitsForTrim all_kinds w k) → Waits w k x (trim_bound all_kinds w (streams all_kinds f.work))
   -- for the token of the record of a transaction with reads
   ForEnd : EndsAppend all_kinds w k → Waits w k x (end_bound all_kinds w)
   -- for its append, wherever that stands

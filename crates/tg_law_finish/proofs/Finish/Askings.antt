@@ -18,7 +18,7 @@ use Rattle.tg_protocol.specs.Entries.{link_of, backs_of}
 use Rattle.tg_protocol.specs.Units.{UnitState, new_unit, says, in_epoch, on_has, first_missing, how_many, unit_step, unit_ask, on_ask}
 use Rattle.tg_protocol.specs.Sequencers.{SeqrState, scanning, links_of, new_seqr, seqr_step, own_epoch, unfenced, stand_answer, answers as seqr_answers}
 use Rattle.tg_protocol.specs.Layouts.{first_layout}
-use Rattle.tg_protocol.specs.Requests.{out, awaits, drawn_from, Waits, waits_for, asked_of, without_wait, Ends}
+use Rattle.tg_protocol.specs.Requests.{out, awaits, drawn_from, Waits, waits_for, asked_of, Ends}
 use Rattle.tg_protocol.specs.Replies.{IsTail, IsOther, IsWhole, reply}
 use Rattle.tg_protocol.specs.Cells.{CellWork, Gets, Probes, CellJob, Place, place_in, works, work_asks, cell_asks, cell_feed, work_feed, probe_on}
 use Rattle.tg_protocol.specs.Walking.{Walk, Members, WalkTurn, walk_members, with_job, walk_feed, job_asks}
@@ -42,7 +42,7 @@ use Rattle.tg_law_finish.proofs.Finish.Writers.{new_drawn, unit_away, seqr_away,
 use Rattle.tg_law_finish.proofs.Finish.Readings.{Sort, CellAsk, cell_ask, cell_keeps}
 use Rattle.tg_law_finish.proofs.Finish.Trails.{unknown, unknown_fewer, Low, TrailLow, Walked, WalkReads, WalkEnds}
 use Rattle.tg_law_finish.proofs.Finish.Readers.{Way, Walks, WalksTo, ToOver, ToReads, walks_to, seen}
-use Rattle.tg_law_finish.proofs.Finish.Tasks.{TaskShape, Below, Away, none_drawn, shape_called, shape_ticked, again_is, busied, task_fed}
+use Rattle.tg_law_finish.proofs.Finish.Tasks.{TaskShape, none_drawn, shape_called, shape_ticked, again_is, busied, task_fed}
 use Rattle.tg_law_finish.proofs.Finish.AtOnce.{long_asked, all_drawn, all_below, without_first, nest, each_mid, all_away, first_awaited}
 use Rattle.tg_law_finish.proofs.Finish.Probes.{AskedOnce, each_at, each_waits, all_once, waits_some, waits_long}
 use Rattle.tg_law_finish.proofs.Finish.Askers.{Kind, extra, extra_less, extra_is, above, above_fewer, budget, passes, passes_less, passes_fewer, rest, Here, here_keeps, here_put, stable_at, sort_of, Reading, WalkStage, WalkWell, CellOn, WalkOn, WalkGone, cell_walks, Settles, SyncStage, SyncWell, SyncOn, SyncEnds, SyncProbes, cell_settles, tail_well}

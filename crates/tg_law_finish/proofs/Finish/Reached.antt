@@ -16,7 +16,7 @@ use Rattle.tg_model.specs.declared.command.Event.TheVariants.{Deliver, Tick}
 use Rattle.tg_model.specs.Kinds.{EventOf}
 use Rattle.tg_protocol.specs.Words.{too_far}
 use Rattle.tg_protocol.specs.Worlds.{World, start, seqr, latest, client_turned, runs, count_of, ticks, ticks_if, happens, limit_of}
-use Rattle.tg_protocol.specs.Runs.{Move, Moves, Takes, Reaches, IsDeclared, LawfulEvent, LawfulMove, most_steps, run}
+use Rattle.tg_protocol.specs.Runs.{Move, Moves, Takes, Reaches, IsDeclared, LawfulEvent, LawfulMove, run}
 use Rattle.tg_law_layouts.specs.Moves.After.{after}
 use Rattle.tg_law_layouts.proofs.Moves.Lists.{contained}
 use Rattle.tg_law_layouts.proofs.Moves.Members.{Has, has_either, has_contained, has_got}

@@ -24,9 +24,9 @@ use Rattle.tg_protocol.specs.Runs.{Moves, Reaches, Always}
 use Rattle.tg_protocol.specs.Finishing.{stripes_of, longest_chain, IsReadyFor}
 use Rattle.tg_law_layouts.specs.Moves.Configs.{config}
 use Rattle.tg_law_layouts.proofs.Moves.Always.{always}
-use Rattle.tg_law_layouts.proofs.Moves.Moves.{Keeps, run_keeps}
+use Rattle.tg_law_layouts.proofs.Moves.Moves.{run_keeps}
 use Rattle.tg_law_layouts.proofs.Moves.Lists.{contained}
-use Rattle.tg_law_layouts.proofs.Moves.Members.{Has, has_left, has_right, set_long}
+use Rattle.tg_law_layouts.proofs.Moves.Members.{Has, has_left, has_right}
 use Rattle.tg_law_layouts.proofs.Requests.Numbers.{Numbers}
 use Rattle.tg_law_layouts.proofs.Requests.Starts.{all_hold}
 use Rattle.tg_law_layouts.proofs.Layouts.Decisions.{Pax, pax_keep}
@@ -44,7 +44,6 @@ use Rattle.tg_law_trims.proofs.Issues.Unwritten.{next_is_unwritten}
 use Rattle.tg_law_finish.specs.Finish.Alone.{IsAlone}
 use Rattle.tg_law_finish.specs.Finish.Granted.{Granted}
 use Rattle.tg_law_finish.specs.Finish.Queues.{RisesWithin}
-use Rattle.std.proofs.lemmas.List.{length-replicate}
 use Rattle.tg_law_finish.proofs.Finish.Askers.{Distinct}
 use Rattle.tg_law_finish.proofs.Finish.Lists.{Each}
 use Rattle.tg_law_finish.proofs.Finish.Scans.{Seqrs, seqrs_hold}

@@ -13,7 +13,7 @@ use Rattle.tg_kind.specs.Meaning.{Meaning}
 use Rattle.tg_protocol.specs.Words.{unit_id, seqr_id}
 use Rattle.tg_protocol.specs.Layouts.{chain_of}
 use Rattle.tg_protocol.specs.Entries.{link_of, backs_of}
-use Rattle.tg_protocol.specs.Requests.{out, Waits, asked_of}
+use Rattle.tg_protocol.specs.Requests.{out}
 use Rattle.tg_protocol.specs.Cells.{CellWork, Puts, Gets, Fills, Copies, Probes, CellJob, Place, place_in, works, work_asks, unit_at}
 use Rattle.tg_protocol.specs.Syncing.{Answer, Sync, SyncWork, Checking, Settling, Probing, sync_work_asks}
 use Rattle.tg_protocol.specs.Walking.{Walk, job_asks}

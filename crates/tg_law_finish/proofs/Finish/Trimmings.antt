@@ -1,5 +1,5 @@
 -- A command that trims: a sync and walks, and then all units of the layout are asked at once. Each answers by its new floor.
-use Rattle.std.proofs.Common.{◌≡◌, ◌⊎◌, ℕ, suc, ◌+◌, ◌-◌, ◌<◌, ◌≤◌, List, [], ◌∷◌, ◌++◌, length, map, cond, true, false, refl, ap, ◌∙◌, sym, subst, inl, inr, arith, Some, None, eqb, append-nil}
+use Rattle.std.proofs.Common.{◌≡◌, ◌⊎◌, ℕ, ◌+◌, ◌-◌, ◌<◌, ◌≤◌, List, [], ◌∷◌, ◌++◌, length, map, true, false, refl, ap, ◌∙◌, sym, subst, inl, inr, arith, eqb, append-nil}
 use Rattle.std.specs.Prelude.{slice_set, slice_index_or, max}
 use Rattle.std.proofs.lemmas.Bool.Decides.{nat_tests}
 use Rattle.tg_base.specs.Layouts.{Layout}
@@ -9,15 +9,14 @@ use Rattle.tg_base.specs.declared.msg.Msg.{Msg}
 use Rattle.tg_base.specs.declared.msg.Msg.TheVariants as msg
 use Rattle.tg_base.specs.declared.packet.Out.{Out}
 use Rattle.tg_kind.specs.Meaning.{Meaning}
-use Rattle.tg_model.specs.declared.trace.What.TheVariants as told
 use Rattle.tg_protocol.specs.Words.{unit_id, client_id, too_far}
 use Rattle.tg_protocol.specs.Layouts.{units_of}
 use Rattle.tg_protocol.specs.Units.{UnitState, new_unit, says, trimmed, in_epoch, on_trim, unit_step, unit_ask, on_ask}
-use Rattle.tg_protocol.specs.Requests.{out, drawn_from, Waits, waits_for, asked_of, without_wait, met_gone}
-use Rattle.tg_protocol.specs.Replies.{IsGone, reply}
-use Rattle.tg_protocol.specs.Trimming.{Trims, trim_asks, trim_start, trims_left, trim_feed}
+use Rattle.tg_protocol.specs.Requests.{out, drawn_from, Waits, waits_for, asked_of, met_gone}
+use Rattle.tg_protocol.specs.Replies.{reply}
+use Rattle.tg_protocol.specs.Trimming.{trim_start, trims_left, trim_feed}
 use Rattle.tg_protocol.specs.Clients.{Task, Trimming, Doing, Work, Client}
-use Rattle.tg_protocol.specs.Answers.{Moved, answers, trim_begun}
+use Rattle.tg_protocol.specs.Answers.{Moved, trim_begun}
 use Rattle.tg_protocol.specs.ClientSteps.{task_asks, client_asks, given, called, client_deliver, task_feed, on_trims, ClientTurn}
 use Rattle.tg_protocol.specs.Worlds.{packet_of, answer_to}
 use Rattle.tg_law_layouts.proofs.Moves.Members.{Has}

@@ -1,5 +1,5 @@
 -- A trim whose request for a tail is lost: the settling asks the unit to trim.
-use Rattle.std.proofs.Common.{◌+◌, ◌*◌, ◌≡◌, ◌≢◌, ℕ, zero, suc, ◌<◌, [], ◌∷◌, true, refl, ap, sym, ◌∙◌, subst, inl, inr, arith, None}
+use Rattle.std.proofs.Common.{◌≡◌, ◌≢◌, ℕ, zero, suc, ◌<◌, [], ◌∷◌, true, refl, ap, sym, ◌∙◌, subst, inl, inr, arith, None}
 use Rattle.std.specs.Prelude.{Contains}
 use Rattle.tg_model.specs.declared.command.Command.TheVariants as cmd
 use Rattle.tg_codec.specs.Reading.{u8_at, u16_at, u32_at, u64_at, raw_at, fixed_at}
@@ -36,7 +36,7 @@ use Rattle.tg_protocol.specs.Sizes.{fields_size}
 use Rattle.tg_protocol.specs.Logs.{decided, newest, log_of, entries_of, members, path_on, path, changes_below, version, outcome, history_of}
 use Rattle.tg_protocol.specs.Worlds.{World, unit, seqr, client, runs, start, latest, log, history, unit_moves, layout_moves, seqr_moves, client_turned, happens, limit_of, drain_on, drain, tick_all, rounds, settle, line, lines}
 use Rattle.tg_protocol.specs.Runs.{Move, LawfulMove, Reaches, run}
-use Rattle.tg_protocol.specs.Finishing.{longest_chain, IsServing, WaitsAlone, IsReadyFor, MostRun}
+use Rattle.tg_protocol.specs.Finishing.{IsServing, IsReadyFor, MostRun}
 use Rattle.tg_law_replies.proofs.History.Members.{Has, has_contained}
 use Rattle.tg_law_finish.specs.Finish.Commands.{is_ask, plays}
 use Rattle.tg_law_finish.specs.Finish.Appends.{is_last}
