@@ -21,7 +21,7 @@ use Rattle.tg_model.specs.declared.trace.What.TheVariants as told
 use Rattle.tg_protocol.specs.Words.{client_id, numbers, cell_at, with_cell, with_num, first_some}
 use Rattle.tg_protocol.specs.Logs.{Log, entries_of}
 use Rattle.tg_protocol.specs.Replies.{reply}
-use Rattle.tg_protocol.specs.Past.{Absent, Wide}
+use Rattle.tg_protocol.specs.Past.{Wide}
 use Rattle.tg_protocol.specs.Views.{View}
 use Rattle.tg_protocol.specs.Clients.{Task, Syncing, Walking, Appending, Trimming, Copying', Reconfiguring, Work, Client, new_client, busy, tests, refusal, member_entries}
 use Rattle.tg_protocol.specs.Answers.{Moved}
@@ -67,7 +67,7 @@ use Rattle.tg_law_headline.proofs.Alike.Refusals.{refused_at_once}
 use Rattle.tg_law_answers.proofs.Absent.{Owned}
 use Rattle.tg_law_answers.proofs.Hosted.{asked_hosted}
 use Rattle.tg_law_answers.proofs.Pasts.{gone_at, no_base_within, gone_told}
-use Rattle.tg_law_answers.proofs.Nones.{NoneTold, AheadTold, PastGoneAt, RescueAt, ForgottenOk, WideOk, Ok, EachOk, Held, WorkHeld, Good, feed_turn, command_turn}
+use Rattle.tg_law_answers.proofs.Nones.{NoneTold, AheadTold, PastGoneAt, RescueAt, RescueGoneAt, ForgottenOk, WideOk, Ok, EachOk, Held, WorkHeld, Good, feed_turn, command_turn}
 use Rattle.tg_law_answers.proofs.Rescued.{none_in_reach, ReadsOther, reads_other}
 use Rattle.tg_law_answers.proofs.WalksEnd.{TaskOwned, owned_there}
 
@@ -392,18 +392,23 @@ module _ (m : Meaning) (h : Header) (ms : Moves m) (r : Reaches m h ms (after m 
       now_there : (p : ℕ) (d : Entry) → HasEntry m v p d → Contains (entries_of (log m (after m h ms))) (p, d)
       now_there p d i = subst (λ (u : World m). Contains (entries_of (log m u)) (p, d)) last i
 
-      rescue_gone : (t : Told m) (k : Tells t) (at p below : ℕ) (had : Walked m) → command_in m (client m w t.mark.client).work ≡ Some (cmd.Rescue at) → t.mark.what ≡ told.Refused (cause.Forgotten p below) → walked_in m w e t.mark.client ≡ Some had → IsRescueGone m w e t at
-      rescue_gone t k at p below had of what ends = by (forgets t k p below (cmd.Rescue at) what of)
+      rescue_gone : (t : Told m) (k : Tells t) (at p below : ℕ) (had : Walked m) → command_in m (client m w t.mark.client).work ≡ Some (cmd.Rescue at) → t.mark.what ≡ told.Refused (cause.Forgotten p below) → walked_in m w e t.mark.client ≡ Some had
+          → SentNow m v t (msg.Gone below) → IsRescueGone m w e t at p below
+      rescue_gone t k at p below had of what ends gone = by (forgets t k p below (cmd.Rescue at) what of)
         where
-          by : (k.end ≡ None) ⊎ RescueAt m h.objects (log m (after m h ms)) byp (Got t.mark.client) t.noted.next k.end (command_in m (client m w t.mark.client).work) (client m v t.mark.client).own at Absent → IsRescueGone m w e t at
+          by : (k.end ≡ None) ⊎ RescueGoneAt m h.objects (log m (after m h ms)) byp (Got t.mark.client) t.noted.next k.end (command_in m (client m w t.mark.client).work) (client m v t.mark.client).own at p below → IsRescueGone m w e t at p below
           by (inl none) = absurd (no_end had (sym none ∙ (sym k.comes ∙ ends)))
             where
               no_end : (y : Walked m) → None ≡ Some y → ⊥
               no_end y z = cc
           by (inr x) = record {
-            ends = there t x.had (k.comes ∙ x.ended) x.synced;
+            named = x.named;
+            ends = there t x.was.had (k.comes ∙ x.was.ended) x.was.synced;
+            met = x.met;
+            gone = gone;
             none = λ d i commit less reach.
-                none_in_reach m (log m (after m h ms)) byp x.had.client x.had.work x.found (client m v t.mark.client) x.same at (x.found.whole (ap (λ (y : CommandOf m). plays_kept m y) x.asks)) (known_there t.mark.client x.had (k.comes ∙ x.ended)) x.turn d (now_there at d i) commit less reach;
+                none_in_reach m (log m (after m h ms)) byp x.was.had.client x.was.had.work x.was.found (client m v t.mark.client) x.was.same at (x.was.found.whole (ap (λ (y : CommandOf m). plays_kept m y) x.was.asks)) (known_there t.mark.client x.was.had (k.comes ∙ x.was.ended)) x.was.turn d (now_there at d i) commit less
+                reach;
           }
 
       rescue_wide : (t : Told m) (k : Tells t) (at : ℕ) → command_in m (client m w t.mark.client).work ≡ Some (cmd.Rescue at) → t.mark.what ≡ told.Refused (cause.TooMany many.Hosted) → WouldWiden m w e t at
@@ -417,9 +422,14 @@ module _ (m : Meaning) (h : Header) (ms : Moves m) (r : Reaches m h ms (after m 
             pos = g.pos;
             other = g.other;
             upto = g.upto;
-            reads = record { entry = g.entry; here = subst (λ (u : World m). HasEntry m u g.pos g.entry) (sym last) g.here; commit = g.commit; read = g.read; reads = g.reads; of = g.of };
             outside = g.outside;
-            lacks = g.lacks;
+            is = record {
+              reads = record { entry = g.entry; here = subst (λ (u : World m). HasEntry m u g.pos g.entry) (sym last) g.here; commit = g.commit; read = g.read; reads = g.reads; of = g.of };
+              among = g.among;
+              unknown = g.unknown;
+              lacks = g.lacks;
+            };
+            played = g.played;
           }
             where
               g : ReadsOther m (log m (after m h ms)) x.had.client x.had.work at
@@ -495,8 +505,9 @@ module _ (m : Meaning) (h : Header) (xs : Moves m) (e : EventOf m) (r : Reaches 
   pub fates_last : FatesForgotten m (after m h xs) e
   fates_last t p at below replies of what v is = forgets m h (xs ++ Takes e ∷ []) r trims xs [] e refl owns kept (last_is m h xs e) t (told_last t replies) at below (cmd.Fate p) what of v is
 
-  pub rescues_forgotten_last : RescuesForgotten m (after m h xs) e
-  rescues_forgotten_last t at p below had replies of what ends = rescue_gone m h (xs ++ Takes e ∷ []) r trims xs [] e refl owns kept (last_is m h xs e) t (told_last t replies) at p below had of what ends
+  pub rescues_forgotten_last : RefusalsTrue m (after m h xs) e → RescuesForgotten m (after m h xs) e
+  rescues_forgotten_last refusals t at p below had replies of what ends = rescue_gone m h (xs ++ Takes e ∷ []) r trims xs [] e refl owns kept (last_is m h xs e) t (told_last t replies) at p below had of what ends
+      (gone_told m (after m h xs) e t p below (refusals t (cause.Forgotten p below) replies what))
 
   pub rescues_wide_last : RescuesTooWide m (after m h xs) e
   rescues_wide_last t at replies of what = rescue_wide m h (xs ++ Takes e ∷ []) r trims xs [] e refl owns kept (last_is m h xs e) t (told_last t replies) at of what

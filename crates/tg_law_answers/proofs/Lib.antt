@@ -13,6 +13,7 @@ pub mod NoYes
 pub mod Nones
 pub mod OwnSince
 pub mod Pasts
+pub mod Played
 pub mod Refused
 pub mod Refusing
 pub mod Rescued

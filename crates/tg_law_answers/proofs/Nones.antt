@@ -175,10 +175,16 @@ module _ (m : Meaning) (objects : List Oid) (l : Log) (byp : IsByPosition l) (Go
       pub same : own ≡ had.client.own
       pub turn : rescue_turn m (all_entries m had.client had.work had.work.oids) had.work.trims had.work.oids had.client.objects p ≡ r
 
+    -- no record is there, for a trim above its position
+    pub record RescueGoneAt (own : List ℕ) (p at below : ℕ) : Type 0 where
+      pub named : at ≡ p
+      pub was : RescueAt own p Absent
+      pub met : trim_above m was.had.work.trims p ≡ Some below
+
     abbrev pub ForgottenOk : Client m → Option (CommandOf m) → ℕ → ℕ → Type 0
     ForgottenOk d (Some (cmd.Fate p)) at below = NoFate d at
     ForgottenOk d (Some (cmd.AskAt p o q)) at below = PastGoneAt p o at below
-    ForgottenOk d (Some (cmd.Rescue p)) at below = (end ≡ None) ⊎ RescueAt d.own p Absent
+    ForgottenOk d (Some (cmd.Rescue p)) at below = (end ≡ None) ⊎ RescueGoneAt d.own p at below
     ForgottenOk d x at below = Unit {0}
 
     abbrev pub WideOk : Client m → Option (CommandOf m) → Type 0
@@ -415,7 +421,7 @@ module _ (m : Meaning) (objects : List Oid) (l : Log) (byp : IsByPosition l) (Go
     one_view : (a b : View m) → Some a ≡ Some b → a ≡ b
     one_view a b z = cc
 
-    rescue_at : (c : Client m) (w : Work m) (at : ℕ) (r : RescueTurn m) → Here c w (Rescues' at) → Comes c w (Rescues' at) → rescue_turn m (all_entries m c w w.oids) w.trims w.oids c.objects at ≡ r → RescueAt c.own at r
+    abbrev rescue_at : (c : Client m) (w : Work m) (at : ℕ) (r : RescueTurn m) → Here c w (Rescues' at) → Comes c w (Rescues' at) → rescue_turn m (all_entries m c w w.oids) w.trims w.oids c.objects at ≡ r → RescueAt c.own at r
     rescue_at c w at r h z is = record { had = record { client = c; work = w }; ended = z; synced = h.0; found = h.1; asks = h.2; same = refl; turn = is }
 
     refused_so : (c : Client m) (w : Work m) (p : Place m) (d : Client m) (n : ℕ) (why : Refusal) → IsRefused m c w p d n why → Here c w p → Comes c w p → Some w.command ≡ command → Ok (refuses m d n why).now (told.Refused why)
@@ -438,7 +444,7 @@ module _ (m : Meaning) (objects : List Oid) (l : Log) (byp : IsByPosition l) (Go
     }
     refused_so c w _ _ _ _ (LooksForgotten at o q b low gone) h z same =
         of_command (pruned m c) w (cmd.AskAt at o q) at b same h.2 (record { had = record { client = c; work = w }; ended = z; synced = h.0; found = h.1; named = refl; gone = gone })
-    refused_so c w _ _ _ _ (RescueForgotten at b absent met) h z same = of_command (pruned m c) w (cmd.Rescue at) at b same h.2 (inr (rescue_at c w at Absent h z absent))
+    refused_so c w _ _ _ _ (RescueForgotten at b absent met) h z same = of_command (pruned m c) w (cmd.Rescue at) at b same h.2 (inr (record { named = refl; was = rescue_at c w at Absent h z absent; met = met }))
     refused_so c w _ _ _ _ (RescueWide at wide) h z same = subst (WideOk (pruned m c)) (ap (λ (y : CommandOf m). Some y) (sym h.2) ∙ same) (rescue_at c w at Wide h z wide)
     refused_so c w _ _ _ _ x h z same = tt
 

@@ -1,5 +1,5 @@
 -- What a rescue's walks found where its turn tells that no record is there, or that it would take too many objects.
-use Rattle.std.proofs.Common.{◌≡◌, ℕ, ◌<◌, ◌≤◌, List, [], true, false, sym, ◌∙◌, subst, inl, inr, arith, None}
+use Rattle.std.proofs.Common.{◌≡◌, ℕ, ◌+◌, ◌<◌, ◌≤◌, List, [], true, false, sym, ap, ◌∙◌, subst, inl, inr, arith, Option, None}
 use Rattle.std.specs.Prelude.{Contains, length}
 use Rattle.std.proofs.lemmas.Bool.Decides.{nat_tests}
 use Rattle.tg_base.specs.declared.ids.Oid.{Oid}
@@ -9,19 +9,24 @@ use Rattle.tg_entry.specs.Needs.{reads_of}
 use Rattle.tg_kind.specs.Meaning.{Meaning}
 use Rattle.tg_protocol.specs.Entries.{is_commit}
 use Rattle.tg_protocol.specs.Logs.{Log, entries_of}
-use Rattle.tg_protocol.specs.Views.{decision_in}
+use Rattle.tg_protocol.specs.Views.{Base, base_of, unknown_by, decision_in}
 use Rattle.tg_protocol.specs.Past.{Absent, Wide, commit_at, rescue_turn}
 use Rattle.tg_protocol.specs.Clients.{Work, Client, all_entries}
+use Rattle.tg_law_replies.specs.Plays.Sound.{base_among}
+use Rattle.tg_law_replies.proofs.Views.Settled.{plays_further}
 use Rattle.tg_law_walks.specs.Walks.Rounds.{round, IsRound}
 use Rattle.tg_law_walks.specs.Walks.Streams.{IsByPosition}
 use Rattle.tg_law_walks.proofs.Walks.Members.{Has, has_contained, contained_has}
 use Rattle.tg_law_walks.proofs.Walks.Plays.{own_only}
 use Rattle.tg_law_causes.proofs.Causing.{has_has_oid}
-use Rattle.tg_law_causes.proofs.Rescuing.{IsWide, rescue_wide}
+use Rattle.tg_law_causes.proofs.Rescuing.{Blocks, IsWide, playing, rescue_wide}
 use Rattle.tg_law_answers.specs.Rescues.{IsInReach}
+use Rattle.tg_law_answers.specs.Undecided.{rescue_begins, IsPlayed}
 use Rattle.tg_law_answers.proofs.Absent.{Owned, commit_found, own_found, stream_found, RescueFits, rescue_fits}
+use Rattle.tg_law_answers.proofs.Played.{is_played}
 
--- a commit record at a position or below reads an object other than the 128 that are walked, and isn't decided
+-- a commit record that was found at a position, or one below that isn't passed over, reads an object other than the 128 that are walked,
+-- and isn't decided
 pub record ReadsOther (m : Meaning) (l : Log) (c : Client m) (w : Work m) (at : ℕ) : Type 0 where
   pub full : 128 ≤ length w.oids
   pub pos : ℕ
@@ -33,6 +38,9 @@ pub record ReadsOther (m : Meaning) (l : Log) (c : Client m) (w : Work m) (at : 
   pub read : ReadMark
   pub reads : Contains (reads_of entry) read
   pub of : read.oid ≡ other
+  pub among : Contains (all_entries m c w w.oids) (pos, entry)
+  pub unknown : unknown_by m pos (base_of m (rescue_begins m (record { client = c; work = w })) other) read ≡ true
+  pub played : pos < at → IsPlayed m (rescue_begins m (record { client = c; work = w })) pos entry
   pub outside : Contains w.oids other → ⊥
   pub lacks : decision_in (all_entries m c w w.oids) pos ≡ None
 
@@ -53,19 +61,29 @@ module _ (m : Meaning) (l : Log) (byp : IsByPosition l) (c : Client m) (w : Work
     full = (let f = g.full in grind (arith, nat_tests, f));
     pos = g.pos;
     other = g.other;
-    upto = g.upto;
-    entry = g.unknowns.entry;
-    here = own_only m l byp c w h w.oids c.own (λ o i. i) g.pos g.unknowns.entry (contained_has (all_entries m c w w.oids) (g.pos, g.unknowns.entry) g.unknowns.here);
-    commit = g.unknowns.commit;
-    read = g.unknowns.read;
-    reads = contained_has (reads_of g.unknowns.entry) g.unknowns.read g.unknowns.reads;
-    of = g.unknowns.of;
+    upto = b.upto;
+    entry = b.unknowns.entry;
+    here = own_only m l byp c w h w.oids c.own (λ o i. i) g.pos b.unknowns.entry (contained_has (all_entries m c w w.oids) (g.pos, b.unknowns.entry) b.unknowns.here);
+    commit = b.unknowns.commit;
+    read = b.unknowns.read;
+    reads = contained_has (reads_of b.unknowns.entry) b.unknowns.read b.unknowns.reads;
+    of = b.unknowns.of;
+    among = contained_has (all_entries m c w w.oids) (g.pos, b.unknowns.entry) b.unknowns.here;
+    unknown = subst (λ (z : Option (Base m)). unknown_by m g.pos z b.unknowns.read ≡ true) (ap (λ (bs : List (Base m)). base_among m bs g.other) bases) b.unknowns.unknown;
+    played = λ below. is_played m (playing m (all_entries m c w w.oids) w.trims c.objects w.oids at).view (rescue_begins m (record { client = c; work = w })) g.pos b.unknowns.entry bases (b.played below);
     outside = λ i. differ (sym g.outside ∙ has_has_oid g.other w.oids (has_contained w.oids g.other i));
-    lacks = g.undecided;
+    lacks = b.undecided;
   }
     where
       g : IsWide m (all_entries m c w w.oids) w.trims c.objects w.oids at
       g = rescue_wide m (all_entries m c w w.oids) w.trims c.objects w.oids at is
+
+      b : Blocks m (all_entries m c w w.oids) w.trims c.objects w.oids at g.pos g.other
+      b = g.blocks
+
+      -- a play keeps the bases with which it began
+      bases : (playing m (all_entries m c w w.oids) w.trims c.objects w.oids at).view.bases ≡ (rescue_begins m (record { client = c; work = w })).bases
+      bases = (plays_further m (all_entries m c w w.oids) (rescue_begins m (record { client = c; work = w })) (at + 1)).bases
 
       differ : false ≡ true → ⊥
       differ z = cc

@@ -114,7 +114,8 @@ pub rescues_forgotten : EachStep all_kinds (RescuesForgotten all_kinds)
 rescues_forgotten h ms w e r lawful few =
     let z = reached all_kinds h ms w e r lawful few in
     let t = store_trims_are_spare h (ms ++ Takes e ∷ []) (after all_kinds h (ms ++ Takes e ∷ [])) z (steps_hold h (ms ++ Takes e ∷ []) (after all_kinds h (ms ++ Takes e ∷ [])) z) in
-    subst (λ (u : World all_kinds). RescuesForgotten all_kinds u e) (sym r.goes.is) (rescues_forgotten_last all_kinds h ms e z t.were)
+    subst (λ (u : World all_kinds). RescuesForgotten all_kinds u e) (sym r.goes.is)
+    (rescues_forgotten_last all_kinds h ms e z t.were (subst (λ (u : World all_kinds). RefusalsTrue all_kinds u e) r.goes.is (refusals_true h ms w e r lawful few)))
 
 pub rescues_too_wide : EachStep all_kinds (RescuesTooWide all_kinds)
 rescues_too_wide h ms w e r lawful few =

@@ -1,10 +1,11 @@
 -- Where a past view or a rescue stays undecided: what its view begins with doesn't tell the version of what a record reads.
-use Rattle.std.proofs.Common.{◌≡◌, ◌⊎◌, ℕ, ◌+◌, ◌<◌, ◌≤◌, List, [], ◌∷◌, ◌++◌, true, sym, ap, ◌∙◌, subst, inl, inr, Option, Some, None}
+use Rattle.std.proofs.Common.{◌≡◌, ◌⊎◌, ℕ, ◌+◌, ◌<◌, ◌≤◌, List, [], ◌∷◌, ◌++◌, true, false, sym, ap, ◌∙◌, subst, inl, inr, Option, Some, None}
 use Rattle.std.specs.Prelude.{Contains}
 use Rattle.tg_base.specs.Clusters.{Header}
 use Rattle.tg_base.specs.declared.ids.Oid.{Oid}
 use Rattle.tg_base.specs.declared.msg.Msg.TheVariants as msg
 use Rattle.tg_entry.specs.Needs.{reads_of}
+use Rattle.tg_entry.specs.declared.entry.Entry.{Entry}
 use Rattle.tg_kind.specs.Meaning.{Meaning}
 use Rattle.tg_model.specs.declared.command.Command.TheVariants as cmd
 use Rattle.tg_model.specs.declared.play.PlayEnd.TheVariants.{Blocked}
@@ -16,10 +17,10 @@ use Rattle.tg_protocol.specs.Answers.{walked}
 use Rattle.tg_protocol.specs.Causes.{HasReadOf, LacksDecision, CauseAtOnce, CauseLater, HasCause}
 use Rattle.tg_protocol.specs.Clients.{Client, entries_at, all_entries, member_entries}
 use Rattle.tg_protocol.specs.Playing.{Replies}
-use Rattle.tg_protocol.specs.Past.{PastView, past_at, StuckAt, rescue_turn}
+use Rattle.tg_protocol.specs.Past.{PastView, commit_at, past_at, StuckAt, rescue_turn}
 use Rattle.tg_protocol.specs.Runs.{Moves, Takes, Reaches}
 use Rattle.tg_protocol.specs.Stuck.{command_in}
-use Rattle.tg_protocol.specs.Views.{Base, View, Play, base_of, unknown_by, decision_in, play}
+use Rattle.tg_protocol.specs.Views.{Entries, Base, View, Play, base_of, unknown_by, decision_in, passed_over, play}
 use Rattle.tg_protocol.specs.Walked.{Walked, entries_had}
 use Rattle.tg_protocol.specs.Worlds.{World, Told, client, happens}
 use Rattle.tg_law_layouts.specs.Moves.After.{after}
@@ -35,36 +36,43 @@ use Rattle.tg_law_causes.proofs.Rescuing.{has_oid_has, IsStuck, playing, rescue_
 use Rattle.tg_law_causes.proofs.Stalled.{AtWalksEnd, ends_tell, command_waits, undecided_ends}
 use Rattle.tg_law_causes.proofs.Stalling.{Plain, Brief, PlaysKept, Unknowns, IsBlocked, Said, walked_so}
 use Rattle.tg_law_answers.specs.Confirmed.{EndsWalks}
-use Rattle.tg_law_answers.specs.Undecided.{past_begins, rescue_begins, IsOutOf, PastsUndecided, RescuesUndecided}
+use Rattle.tg_law_answers.specs.Undecided.{past_entries, past_begins, rescue_begins, IsPlayed, IsOutOf, PastsUndecided, RescuesUndecided}
+use Rattle.tg_law_answers.proofs.Played.{is_played}
 
 module _ (m : Meaning) (h : Header) (ms : Moves m) (e : EventOf m) (r : Reaches m h (ms ++ Takes e ∷ []) (after m h (ms ++ Takes e ∷ []))) (trims : TrimsWereSpare m h (ms ++ Takes e ∷ [])) where
   module _ (t : Told m) (k : AtWalksEnd m h ms e r trims t) where
-    -- a record reads of an object what the view that begins so doesn't tell
-    record Reads (v : View m) (p : ℕ) (o : Oid) : Type 0 where
+    -- one of these records reads of an object what the view that begins so doesn't tell, and below a position isn't passed over there
+    record Reads (es : Entries) (v : View m) (at p : ℕ) (o : Oid) : Type 0 where
       read : HasReadOf m (after m h (ms ++ Takes e ∷ [])) p o
+      among : Contains es (p, read.entry)
       unknown : unknown_by m p (base_of m v o) read.read ≡ true
+      played : p < at → IsPlayed m v p read.entry
 
     -- a play keeps the bases with which it began
-    reads : (ps : List ℕ) (u v : View m) (p : ℕ) (o : Oid) → u.bases ≡ v.bases → Unknowns m (entries_at m k.end.client.cells ps) u p o → Reads v p o
-    reads ps u v p o bases n = record {
+    reads : (ps : List ℕ) (u v : View m) (at p : ℕ) (o : Oid) → u.bases ≡ v.bases → (n : Unknowns m (entries_at m k.end.client.cells ps) u p o) → (p < at → passed_over m u p n.entry ≡ false) → Reads (entries_at m k.end.client.cells ps) v at p o
+    reads ps u v at p o bases n over = record {
       read = record { entry = n.entry; here = causing.entry_there m h ms e r trims t k ps p n.entry n.here; commit = n.commit; read = n.read; reads = contained_has (reads_of n.entry) n.read n.reads; of = n.of };
+      among = contained_has (entries_at m k.end.client.cells ps) (p, n.entry) n.here;
       unknown = subst (λ (b : Option (Base m)). unknown_by m p b n.read ≡ true) (ap (λ (bs : List (Base m)). base_among m bs o) bases) n.unknown;
+      played = λ below. is_played m u v p n.entry bases (over below);
     }
 
     record PastReads (at p : ℕ) (o : Oid) : Type 0 where
       below : p < at
-      is : Reads (past_begins m k.end at) p o
+      is : Reads (past_entries m k.end) (past_begins m k.end at) at p o
 
     record RescueReads (at p : ℕ) (o : Oid) : Type 0 where
+      entry : Entry
+      there : commit_at (entries_had m k.end) at ≡ Some entry
       upto : p ≤ at
       walks : Contains k.end.work.oids o
-      is : Reads (rescue_begins m k.end) p o
+      is : Reads (entries_had m k.end) (rescue_begins m k.end) at p o
 
     past_reads : (at : ℕ) (x : Oid) (u : Play m) (p : ℕ) (o : Oid) → past_at m (member_entries m k.end.client k.end.work k.end.work.oids) k.end.work.trims k.end.work.oids k.end.client.objects x at ≡ PastView u → u.came ≡ Blocked p o → PastReads at p o
     past_reads at x u p o view came = record {
       below = b.below;
-      is = reads _ (play m (past_begins m k.end at) (member_entries m k.end.client k.end.work k.end.work.oids) at).view (past_begins m k.end at) p o
-          (plays_further m (member_entries m k.end.client k.end.work k.end.work.oids) (past_begins m k.end at) at).bases b.unknowns;
+      is = reads _ (play m (past_begins m k.end at) (member_entries m k.end.client k.end.work k.end.work.oids) at).view (past_begins m k.end at) at p o
+          (plays_further m (member_entries m k.end.client k.end.work k.end.work.oids) (past_begins m k.end at) at).bases b.unknowns (λ below. b.played);
     }
       where
         b : IsBlocked m (member_entries m k.end.client k.end.work k.end.work.oids) (play m (past_begins m k.end at) (member_entries m k.end.client k.end.work k.end.work.oids) at).view at p o
@@ -72,10 +80,12 @@ module _ (m : Meaning) (h : Header) (ms : Moves m) (e : EventOf m) (r : Reaches 
 
     rescue_reads : (at p : ℕ) (o : Oid) → rescue_turn m (all_entries m k.end.client k.end.work k.end.work.oids) k.end.work.trims k.end.work.oids k.end.client.objects at ≡ StuckAt p o → RescueReads at p o
     rescue_reads at p o turn = record {
-      upto = s.upto;
+      entry = s.entry;
+      there = s.there;
+      upto = s.blocks.upto;
       walks = contained k.end.work.oids o (has_oid_has o k.end.work.oids s.among);
-      is = reads _ (playing m (entries_had m k.end) k.end.work.trims k.end.client.objects k.end.work.oids at).view (rescue_begins m k.end) p o
-          (plays_further m (entries_had m k.end) (rescue_begins m k.end) (at + 1)).bases s.unknowns;
+      is = reads _ (playing m (entries_had m k.end) k.end.work.trims k.end.client.objects k.end.work.oids at).view (rescue_begins m k.end) at p o
+          (plays_further m (entries_had m k.end) (rescue_begins m k.end) (at + 1)).bases s.blocks.unknowns s.blocks.played;
     }
       where
         s : IsStuck m (entries_had m k.end) k.end.work.trims k.end.client.objects k.end.work.oids at p o
@@ -143,8 +153,9 @@ module _ (m : Meaning) (h : Header) (ms : Moves m) (e : EventOf m) (r : Reaches 
       synced = subst (λ (u : World m). SentNow m u t (msg.Tail k.end.work.tail k.end.work.lasts)) (then_takes m h ms e) (record { rid = k.heard.tail.rid; now = k.heard.tail.now; sent = k.heard.tail.sent });
     }
 
-    out_of : (v : View m) (p : ℕ) (o : Oid) → Reads v p o → decision_in (entries_had m k.end) p ≡ None → IsOutOf m (happens m (after m h ms) e) k.end v p o
-    out_of v p o n none = subst (λ (u : World m). IsOutOf m u k.end v p o) (then_takes m h ms e) (record { reads = n.read; unknown = n.unknown; lacks = none })
+    out_of : (es : Entries) (v : View m) (at p : ℕ) (o : Oid) → Reads es v at p o → decision_in (entries_had m k.end) p ≡ None → (is : IsOutOf m (happens m (after m h ms) e) k.end es v p o) × (p < at → IsPlayed m v p is.reads.entry)
+    out_of es v at p o n none =
+        subst (λ (u : World m). (is : IsOutOf m u k.end es v p o) × (p < at → IsPlayed m v p is.reads.entry)) (then_takes m h ms e) (record { reads = n.read; among = n.among; unknown = n.unknown; lacks = none }, n.played)
 
   module _ (causes : UndecidedTrue m (after m h ms) e) where
     there : (t : Told m) (p : ℕ) (o : Oid) → Replies m (after m h ms) e t → t.mark.what ≡ told.Refused (cause.Undecided p o) → AtWalksEnd m h ms e r trims t
@@ -154,10 +165,12 @@ module _ (m : Meaning) (h : Header) (ms : Moves m) (e : EventOf m) (r : Reaches 
     pasts_undecided_there t at x q p o replies of what =
         let k = there t p o replies what in
         let n = fits t k (cmd.AskAt at x q) p o of what in
-        record { ends = ends t k; below = n.below; is = out_of t k (past_begins m k.end at) p o n.is (lacks t k p o (causes t p o replies what)) }
+        let g = out_of t k (past_entries m k.end) (past_begins m k.end at) at p o n.is (lacks t k p o (causes t p o replies what)) in
+        record { ends = ends t k; below = n.below; is = g.0; played = g.1 n.below }
 
     pub rescues_undecided_there : RescuesUndecided m (after m h ms) e
     rescues_undecided_there t at p o replies of what =
         let k = there t p o replies what in
         let n = fits t k (cmd.Rescue at) p o of what in
-        record { ends = ends t k; upto = n.upto; walks = n.walks; is = out_of t k (rescue_begins m k.end) p o n.is (lacks t k p o (causes t p o replies what)) }
+        let g = out_of t k (entries_had m k.end) (rescue_begins m k.end) at p o n.is (lacks t k p o (causes t p o replies what)) in
+        record { ends = ends t k; entry = n.entry; there = n.there; upto = n.upto; walks = n.walks; is = g.0; played = g.1 }

@@ -294,7 +294,7 @@ module _ (m : Meaning) (h : Header) (ms : Moves m) (e : EventOf m) (r : Reaches 
     rescue_later a q b is turn =
         let s = rescue_stuck m (all_entries m k.end.client k.end.work k.end.work.oids) k.end.work.trims k.end.client.objects k.end.work.oids a q b turn in
         let g = stuck_trimmed m (all_entries m k.end.client k.end.work k.end.work.oids) k.end.work.trims k.end.client.objects k.end.work.oids a q b s in
-        (subst (λ (y : CommandOf m). CantKnow m y (after m h (ms ++ Takes e ∷ [])) t q b) (sym is) (s.upto, read_of _ (playing m (all_entries m k.end.client k.end.work k.end.work.oids) k.end.work.trims k.end.client.objects k.end.work.oids a).view q b s.unknowns, met_trim b g), lacks_of q s.undecided)
+        (subst (λ (y : CommandOf m). CantKnow m y (after m h (ms ++ Takes e ∷ [])) t q b) (sym is) (s.blocks.upto, read_of _ (playing m (all_entries m k.end.client k.end.work k.end.work.oids) k.end.work.trims k.end.client.objects k.end.work.oids a).view q b s.blocks.unknowns, met_trim b g), lacks_of q s.blocks.undecided)
 
     past_later : (d : Client m) (p : ℕ) (o : Oid) (z : m.ask) (u : Play m) (q : ℕ) (b : Oid) → k.end.work.command ≡ cmd.AskAt p o z → d.hosted ≡ k.end.client.hosted
         → past_at m (member_entries m k.end.client k.end.work k.end.work.oids) k.end.work.trims k.end.work.oids k.end.client.objects o p ≡ PastView u → u.came ≡ Blocked q b

@@ -11,7 +11,7 @@ use Rattle.tg_model.specs.declared.play.PlayEnd.{PlayEnd}
 use Rattle.tg_model.specs.declared.play.PlayEnd.TheVariants.{Played, Blocked}
 use Rattle.tg_protocol.specs.Words.{has_oid}
 use Rattle.tg_protocol.specs.Versions.{version_of}
-use Rattle.tg_protocol.specs.Views.{Entries, Base, View, Play, Verdict, Commits, Aborts, Unknown, base_of, unknown_by, view_start, view_outcome, decision_in, play}
+use Rattle.tg_protocol.specs.Views.{Entries, Base, View, Play, Verdict, Commits, Aborts, Unknown, base_of, unknown_by, passed_over, view_start, view_outcome, decision_in, play}
 use Rattle.tg_protocol.specs.Checkpoints.{TrimPoints, trim_of, load_from, base_or, base_by, view_base, view_bases}
 use Rattle.tg_protocol.specs.Past.{RescueTurn, Wider, Wide, Absent, StuckAt, Known, commit_at, record_block, entry_block, block_in, known_by, at_record, grows, rescue_by, rescue_turn}
 use Rattle.tg_law_replies.specs.Plays.Sound.{base_among}
@@ -118,15 +118,19 @@ module _ (m : Meaning) where
       abbrev pub playing : ℕ → Play m
       playing at = play m (view_start m (view_bases m es gone objects oids)) es (at + 1)
 
-      -- a record at its position or below is undecided, since a read of one of its objects is unknown
-      pub record IsStuck (at q : ℕ) (x : Oid) : Type 0 where
+      -- a record at its position, or one below that isn't passed over, is undecided, since a read of this object is unknown
+      pub record Blocks (at q : ℕ) (x : Oid) : Type 0 where
         pub unknowns : Unknowns m es (playing at).view q x
         pub undecided : decision_in es q ≡ None
         pub upto : q ≤ at
-        pub among : has_oid x oids ≡ true
+        pub played : q < at → passed_over m (playing at).view q unknowns.entry ≡ false
 
-      abbrev Blocks : ℕ → ℕ → Oid → Type 0
-      Blocks at q x = Unknowns m es (playing at).view q x × (decision_in es q ≡ None) × (q ≤ at)
+      -- the object is one of those that are walked, and a commit record stands at its position
+      pub record IsStuck (at q : ℕ) (x : Oid) : Type 0 where
+        pub blocks : Blocks at q x
+        pub among : has_oid x oids ≡ true
+        pub entry : Entry
+        pub there : commit_at es at ≡ Some entry
 
       some_pair : (a b : ℕ × Oid) → Some a ≡ Some b → a ≡ b
       some_pair a b e = cc
@@ -142,7 +146,7 @@ module _ (m : Meaning) where
       record_blocks at e Aborts b here d is = absurd (none_pair b is)
       record_blocks at e (Unknown o) b here d is =
           let g = outcome_there m es (playing at).view at e o here d in
-          subst (λ (y : ℕ × Oid). Blocks at y.0 y.1) (some_pair (at, o) b is) (g.0, g.1, omega arith)
+          subst (λ (y : ℕ × Oid). Blocks at y.0 y.1) (some_pair (at, o) b is) (record { unknowns = g.0; undecided = g.1; upto = omega arith; played = λ l. absurd (omega (arith, l)) })
 
       entry_blocks : (at : ℕ) (e : Option Entry) (b : ℕ × Oid) → commit_at es at ≡ e → entry_block m (playing at).view es at e ≡ Some b → Blocks at b.0 b.1
       entry_blocks at None b here is = absurd (none_pair b is)
@@ -153,7 +157,7 @@ module _ (m : Meaning) where
       blocks_by at (Blocked q o) b came is =
           let g = blocked_there m es begun (at + 1) q o came in
           let less = g.below in
-          subst (λ (y : ℕ × Oid). Blocks at y.0 y.1) (some_pair (q, o) b is) (g.unknowns, g.undecided, omega (arith, less))
+          subst (λ (y : ℕ × Oid). Blocks at y.0 y.1) (some_pair (q, o) b is) (record { unknowns = g.unknowns; undecided = g.undecided; upto = omega (arith, less); played = λ l. g.played })
 
       -- not stuck without a block
 
@@ -199,14 +203,14 @@ module _ (m : Meaning) where
       unfolding rescue_turn
       rescue_stuck at q x h = by (block_in m (playing at) es at (playing at).came) refl h
         where
-          at_entry : (b : ℕ × Oid) → has_oid b.1 oids ≡ true → Blocks at b.0 b.1 → (e : Option Entry) → at_record m (playing at).view es at (Some b) e ≡ StuckAt q x → IsStuck at q x
-          at_entry b set k None is = absurd (absent_stuck q x is)
-          at_entry b set k (Some e) is =
+          at_entry : (b : ℕ × Oid) → has_oid b.1 oids ≡ true → Blocks at b.0 b.1 → (e : Option Entry) → commit_at es at ≡ e → at_record m (playing at).view es at (Some b) e ≡ StuckAt q x → IsStuck at q x
+          at_entry b set k None here is = absurd (absent_stuck q x is)
+          at_entry b set k (Some e) here is =
               subst (λ (n : ℕ). IsStuck at n x) (stuck_pos b.0 q b.1 x is)
-              (subst (λ (o : Oid). IsStuck at b.0 o) (stuck_oid b.0 q b.1 x is) (record { unknowns = k.0; undecided = k.1; upto = k.2; among = set }))
+              (subst (λ (o : Oid). IsStuck at b.0 o) (stuck_oid b.0 q b.1 x is) (record { blocks = k; among = set; entry = e; there = here }))
 
           in_set : (b : ℕ × Oid) → Blocks at b.0 b.1 → (c : Bool) → has_oid b.1 oids ≡ c → (if c then at_record m (playing at).view es at (Some b) (commit_at es at) else grows m oids b.1) ≡ StuckAt q x → IsStuck at q x
-          in_set b k true set is = at_entry b set k (commit_at es at) is
+          in_set b k true set is = at_entry b set k (commit_at es at) refl is
           in_set b k false set is = absurd (grows_stuck b.1 q x is)
 
           by : (b : Option (ℕ × Oid)) → block_in m (playing at) es at (playing at).came ≡ b → rescue_by m (playing at) es oids at b ≡ StuckAt q x → IsStuck at q x
@@ -217,9 +221,7 @@ module _ (m : Meaning) where
       pub record IsWide (at : ℕ) : Type 0 where
         pub pos : ℕ
         pub other : Oid
-        pub unknowns : Unknowns m es (playing at).view pos other
-        pub undecided : decision_in es pos ≡ None
-        pub upto : pos ≤ at
+        pub blocks : Blocks at pos other
         pub outside : has_oid other oids ≡ false
         pub full : nat_le 128 (length oids) ≡ true
 
@@ -246,7 +248,7 @@ module _ (m : Meaning) where
         where
           in_set : (b : ℕ × Oid) → Blocks at b.0 b.1 → (c : Bool) → has_oid b.1 oids ≡ c → (if c then at_record m (playing at).view es at (Some b) (commit_at es at) else grows m oids b.1) ≡ Wide → IsWide at
           in_set b k true set is = absurd (record_wide (playing at).view at (Some b) (commit_at es at) is)
-          in_set b k false set is = record { pos = b.0; other = b.1; unknowns = k.0; undecided = k.1; upto = k.2; outside = set; full = grows_wide b.1 is }
+          in_set b k false set is = record { pos = b.0; other = b.1; blocks = k; outside = set; full = grows_wide b.1 is }
 
           by : (b : Option (ℕ × Oid)) → block_in m (playing at) es at (playing at).came ≡ b → rescue_by m (playing at) es oids at b ≡ Wide → IsWide at
           by None none k = absurd (record_wide (playing at).view at None (commit_at es at) k)
@@ -255,7 +257,7 @@ module _ (m : Meaning) where
       -- its walk met a trim
       pub stuck_trimmed : (at q : ℕ) (x : Oid) → IsStuck at q x → (below : ℕ) × (trim_of gone x ≡ Some below)
       unfolding view_start view_bases
-      stuck_trimmed at q x k = by (reads_trimmed gone (view_base m es gone objects) base_oid base_up oids es (playing at).view q x (plays_further m es begun (at + 1)).bases k.unknowns)
+      stuck_trimmed at q x k = by (reads_trimmed gone (view_base m es gone objects) base_oid base_up oids es (playing at).view q x (plays_further m es begun (at + 1)).bases k.blocks.unknowns)
         where
           by : (base_among m (map (view_base m es gone objects) oids) x ≡ None) ⊎ ((below : ℕ) × (trim_of gone x ≡ Some below)) → (below : ℕ) × (trim_of gone x ≡ Some below)
           by (inl none) = absurd (none_among gone (view_base m es gone objects) base_oid base_up oids x (has_oid_has x oids k.among) none)

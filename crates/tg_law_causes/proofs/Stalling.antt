@@ -21,7 +21,7 @@ use Rattle.tg_protocol.specs.Entries.{is_commit}
 use Rattle.tg_protocol.specs.Versions.{Changed}
 use Rattle.tg_protocol.specs.Appending.{append_start}
 use Rattle.tg_protocol.specs.Syncing.{sync_start}
-use Rattle.tg_protocol.specs.Views.{Entries, View, Play, Step, On, Stuck, Verdict, Commits, Aborts, Unknown, base_of, state_of, changed_in, unknown_by, unknown_in, by_changes, by_versions, by_decision, said, fate_or_verdict, verdict, view_outcome, fate_of, decision_in, stands_at, decided_step, record_step, entry_step, step_at, between, play_on, play_from, play}
+use Rattle.tg_protocol.specs.Views.{Entries, View, Play, Step, On, Stuck, Verdict, Commits, Aborts, Unknown, base_of, state_of, changed_in, unknown_by, unknown_in, by_changes, by_versions, by_decision, said, fate_or_verdict, verdict, view_outcome, fate_of, decision_in, passed_over, stands_at, decided_step, record_step, entry_step, step_at, between, play_on, play_from, play}
 use Rattle.tg_protocol.specs.Checkpoints.{NoCheckpoint, OpenDecision, may_forget}
 use Rattle.tg_protocol.specs.Past.{commit_at, PastView, past_at, StuckAt, rescue_turn}
 use Rattle.tg_protocol.specs.Clients.{Purpose, Writes, Judged, Decides, Rescues, Marks, Task, Syncing, Walking, Appending, Work, Client, all_entries, member_entries, tx_number}
@@ -205,6 +205,7 @@ module _ (m : Meaning) where
       pub unknowns : Unknowns own v q o
       pub undecided : decision_in own q ≡ None
       pub below : q < upto
+      pub played : passed_over m v q unknowns.entry ≡ false
 
     not_played : (t q : ℕ) (x : Oid) → Played t ≡ Blocked q x → ⊥
     not_played t q x e = cc
@@ -222,7 +223,7 @@ module _ (m : Meaning) where
     one_stuck : (a b : Oid) → ◌≡◌ {A = Step m} (Stuck a) (Stuck b) → a ≡ b
     one_stuck a b e = cc
 
-    stuck_by : (v : View m) (p : ℕ) (e : Entry) (o : Oid) → step_at m v own p e ≡ Stuck o → (is_commit e ≡ true) × (verdict m v own p e ≡ Unknown o)
+    stuck_by : (v : View m) (p : ℕ) (e : Entry) (o : Oid) → step_at m v own p e ≡ Stuck o → (is_commit e ≡ true) × (verdict m v own p e ≡ Unknown o) × (passed_over m v p e ≡ false)
     unfolding step_at
     stuck_by v p e o h = by (is_commit e) refl h
       where
@@ -231,12 +232,12 @@ module _ (m : Meaning) where
         decided u Aborts k = absurd (cc)
         decided u (Unknown x) k = ap (λ (y : Oid). Unknown y) (one_stuck x o k)
 
-        at : (u : View m) (d : Verdict) (b : Bool) → record_step m u p e d b ≡ Stuck o → d ≡ Unknown o
+        at : (u : View m) (d : Verdict) (b : Bool) → record_step m u p e d b ≡ Stuck o → (d ≡ Unknown o) × (b ≡ false)
         at u d true k = absurd (cc)
-        at u d false k = decided u d k
+        at u d false k = (decided u d k, refl)
 
-        by : (b : Bool) → is_commit e ≡ b → entry_step m v own p e b ≡ Stuck o → (is_commit e ≡ true) × (verdict m v own p e ≡ Unknown o)
-        by true is k = (is, at _ (verdict m v own p e) _ k)
+        by : (b : Bool) → is_commit e ≡ b → entry_step m v own p e b ≡ Stuck o → (is_commit e ≡ true) × (verdict m v own p e ≡ Unknown o) × (passed_over m v p e ≡ false)
+        by true is k = let g = at _ (verdict m v own p e) (passed_over m v p e) k in (is, g.0, g.1)
         by false is k = absurd (cc)
 
     abbrev Inside : ℕ → ℕ × Entry → Type 0
@@ -251,10 +252,15 @@ module _ (m : Meaning) where
         stuck o is k =
             let s = stuck_by v y.0 y.1 o is in
             let g = unknown_verdict v own y.0 y.1 o s.1 in
-            let u = unknowns_of own v y.0 y.1 o (only y (inl refl)).0 s.0 g.1 in
+            let u = unknown_read v (reads_of y.1) y.0 o g.1 in
             subst (λ (n : ℕ). IsBlocked (stands_at m v y.0) upto n x) (same_place y.0 q o x k)
             (subst (λ (z : Oid). IsBlocked (stands_at m v y.0) upto y.0 z) (same_object y.0 q o x k)
-            (record { unknowns = record { entry = u.entry; here = u.here; commit = u.commit; read = u.read; reads = u.reads; of = u.of; unknown = u.unknown }; undecided = g.0; below = (only y (inl refl)).1 }))
+            (record {
+              unknowns = record { entry = y.1; here = (only y (inl refl)).0; commit = s.0; read = u.read; reads = u.reads; of = u.of; unknown = u.unknown };
+              undecided = g.0;
+              below = (only y (inl refl)).1;
+              played = s.2;
+            }))
 
         by : (s : Step m) → step_at m v own y.0 y.1 ≡ s
             → (elim s as (λ _. Play m) [

@@ -63,7 +63,7 @@ pub fn drains_come_first<K: Registry>()
     ensures { DrainsComeFirst (meaning_of K.Registry) }
 {}
 
-/// A run comes to the drained world too: so the laws of every run hold of it.
+/// The drained world of a run's world is a later one: so the laws of every run, and of each later world, hold of it.
 pub fn drains_are_runs<K: Registry>()
     ensures { DrainsAreRuns (meaning_of K.Registry) }
 {}

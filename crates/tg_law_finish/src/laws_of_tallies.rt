@@ -51,8 +51,8 @@ pub fn end_is_answered()
     ensures { EndIsAnswered }
 {}
 
-/// A run in which that client has its token, and the request of its page is lost, is one for which `records_finish` asks no
-/// more than it has. A settling of it takes eight deliveries with the client, where 808 are allowed.
+/// A run in which that client has its token, its page is in hand, and the page's request is lost, is one for which
+/// `records_finish` asks no more than it has. A settling of it takes eight deliveries with the client, where 808 are allowed.
 pub fn record_is_answered()
     ensures { RecordIsAnswered }
 {}

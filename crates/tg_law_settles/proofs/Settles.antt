@@ -19,7 +19,7 @@ use Rattle.tg_law_scripts.proofs.Scripts.Reaching.{each_script_reaches}
 use Rattle.tg_law_finish.specs.Finish.Alone.{IsAlone}
 use Rattle.tg_law_finish.specs.Finish.Laws.{IsReply}
 use Rattle.tg_law_finish.proofs.Finish.Answered.{drains_answer}
-use Rattle.tg_law_finish.proofs.Finish.Drains.{drains_come_first, drains_are_runs}
+use Rattle.tg_law_finish.proofs.Finish.Drains.{drains_come_first, drained_reached}
 use Rattle.tg_law_finish.proofs.Finish.Store.{appends_finish, asks_finish_anyway, makes_finish_anyway, rescues_finish, trims_finish, ends_finish, records_finish}
 use Rattle.tg_law_settles.specs.Settles.{IsSettleLine, world_before, world_after, world_drained, Waits, ForAppend, ForAsk, ForMake, ForRescue, ForTrim, ForEnd, ForRecord, SettleLinesFinish, DrainedLinesFinish, DrainedLinesAnswer}
 
@@ -114,7 +114,7 @@ drained_after s n is = settled_after s n is ∙ ap (λ (r : Runs). r.world) (sym
 pub drained_lines_finish : DrainedLinesFinish
 drained_lines_finish s n k most x is a b waits =
     let r = comes s n is in
-    let d = drains_are_runs all_kinds s.header r.moves (world_before s n) r.reaches in
+    let d = drained_reached all_kinds s.header r.moves (world_before s n) r.reaches in
     subst (λ (v : Worlds). Finishes all_kinds (world_drained s n) v k most (IsReply all_kinds)) (sym (drained_after s n is))
     (answered s.header d.0 (world_drained s n) d.1 k most x a b waits)
 

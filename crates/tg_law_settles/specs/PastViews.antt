@@ -1,5 +1,5 @@
--- The first lines of examples/past-views.script, an update and a `settle` line: they meet the premises of the laws
--- on such lines.
+-- The first lines of examples/past-views.script, an update and a `settle` line: they meet the premises of the laws on
+-- a `settle` line in whose world before a client waits alone, and on one whose drain ends the command.
 use Rattle.std.specs.Prelude.{◌≡◌, [], ◌∷◌, pos, None}
 use Rattle.tg_base.specs.declared.ids.Oid.{Oid}
 use Rattle.tg_cell.specs.declared.counter.CounterOp.TheVariants.{Add}

@@ -25,9 +25,9 @@ pub fn drained_lines_answer()
     ensures { DrainedLinesAnswer }
 {}
 
-/// The first `settle` line of `examples/past-views.script`, right after an update, is one for which these laws ask
-/// no more than there is. It takes four deliveries with the client, where eight are allowed, and its drain ends the
-/// update.
+/// The first `settle` line of `examples/past-views.script`, right after an update, is one for which
+/// `settle_lines_finish` and `drained_lines_answer` ask no more than there is. It takes four deliveries with the
+/// client, where eight are allowed, and its drain ends the update.
 pub fn update_is_settled()
     ensures { UpdateIsSettled }
 {}

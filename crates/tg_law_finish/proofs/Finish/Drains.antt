@@ -1,15 +1,16 @@
 -- A settling begins with a drain: it is a settling of the drained world, to which a run comes too.
-use Rattle.std.proofs.Common.{◌≡◌, ◌⊎◌, ℕ, zero, suc, ◌+◌, ◌-◌, ◌<◌, ◌≤◌, List, [], ◌∷◌, ◌++◌, length, refl, ap, ◌∙◌, sym, subst, inl, inr, arith, Some, None, Option}
+use Rattle.std.proofs.Common.{◌≡◌, ℕ, zero, suc, ◌+◌, ◌-◌, ◌<◌, ◌≤◌, List, [], ◌∷◌, ◌++◌, length, refl, ap, ◌∙◌, sym, subst, inl, inr, arith, Some, None, Option}
+use Rattle.tg_base.specs.Clusters.{Header}
 use Rattle.tg_base.specs.declared.fault.Which.{Which}
 use Rattle.tg_kind.specs.Meaning.{Meaning}
 use Rattle.tg_model.specs.declared.command.Event.TheVariants.{Deliver}
 use Rattle.tg_protocol.specs.Clients.{Client, new_client}
 use Rattle.tg_protocol.specs.ClientSteps.{ClientTurn}
-use Rattle.tg_protocol.specs.Worlds.{World, client, client_turned, start, happens, lowest, limit_of, Ran, ran, drain_on, drain, unless_stopped, rounds, settle}
-use Rattle.tg_protocol.specs.Runs.{Move, Moves, Takes, LawfulMove, run}
-use Rattle.tg_law_layouts.proofs.Moves.Lists.{at_set, contained}
-use Rattle.tg_law_layouts.proofs.Moves.Members.{Has, has_either, has_contained}
-use Rattle.tg_law_layouts.proofs.Moves.Scripts.{run_both}
+use Rattle.tg_protocol.specs.Worlds.{World, client, client_turned, happens, lowest, limit_of, Ran, ran, drain_on, drain, unless_stopped, rounds, settle}
+use Rattle.tg_protocol.specs.Runs.{Move, Moves, Takes, LawfulMove, Reaches, run}
+use Rattle.tg_law_layouts.proofs.Moves.Lists.{at_set}
+use Rattle.tg_law_layouts.proofs.Moves.Members.{Has, has_contained}
+use Rattle.tg_law_walks.proofs.Walks.Reading.{reaches_later}
 use Rattle.tg_law_finish.specs.Finish.Drains.{drained, DrainsComeFirst, DrainsAreRuns}
 use Rattle.tg_law_finish.proofs.Finish.Folds.{Kept, rest_keeps}
 use Rattle.tg_law_finish.proofs.Finish.Lines.{idle_deliver}
@@ -144,24 +145,17 @@ module _ (m : Meaning) where
   row w = row_in (200001 - w.steps) w
 
   pub drains_are_runs : DrainsAreRuns m
-  drains_are_runs h ms w r = (
-    ms ++ a.moves,
-    record {
-      header = r.header;
-      goes = record {
-        lawful = λ x c. by x (has_either ms a.moves x (has_contained (ms ++ a.moves) x c));
-        is = a.is ∙ (ap (λ (v : World m). run m a.moves v) r.goes.is ∙ sym (run_both m ms a.moves (start m h)));
-        few = (let f = a.few in let g = r.goes.few in omega (arith, f, g));
-      };
-    },
-  )
+  drains_are_runs h ms w r = (a.moves, record { lawful = λ x c. by x (has_contained a.moves x c); is = a.is; few = (let f = a.few in let g = r.goes.few in omega (arith, f, g)) })
     where
       a : Row w (drained m w) (200001 - w.steps)
       a = row w
 
-      by : (x : Move m) → Has ms x ⊎ Has a.moves x → LawfulMove m (start m h).cluster x
-      by x (inl i) = r.goes.lawful x (contained ms x i)
-      by x (inr i) = let d = a.deliveries x i in subst (λ (y : Move m). LawfulMove m (start m h).cluster y) (sym d.1) tt
+      by : (x : Move m) → Has a.moves x → LawfulMove m w.cluster x
+      by x i = let d = a.deliveries x i in subst (λ (y : Move m). LawfulMove m w.cluster y) (sym d.1) tt
+
+  -- so a run comes to it
+  pub drained_reached : (h : Header) (ms : Moves m) (w : World m) → Reaches m h ms w → (more : Moves m) × Reaches m h more (drained m w)
+  drained_reached h ms w r = let l = drains_are_runs h ms w r in (ms ++ l.0, reaches_later m h ms w (drained m w) r l)
 
   -- An idle client stays idle.
   module _ (k : ℕ) where

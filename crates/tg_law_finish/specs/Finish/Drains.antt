@@ -4,7 +4,7 @@ use Rattle.tg_base.specs.Clusters.{Header}
 use Rattle.tg_kind.specs.Meaning.{Meaning}
 use Rattle.tg_protocol.specs.Clients.{Work}
 use Rattle.tg_protocol.specs.Worlds.{World, client, drain, settle}
-use Rattle.tg_protocol.specs.Runs.{Moves, Reaches, IsQuiet}
+use Rattle.tg_protocol.specs.Runs.{Moves, Reaches, Later, IsQuiet}
 use Rattle.tg_protocol.specs.Finishing.{HasReply}
 use Rattle.tg_law_finish.specs.Finish.Commands.{plays}
 use Rattle.tg_law_finish.specs.Finish.Laws.{IsReply}
@@ -24,9 +24,10 @@ module _ (m : Meaning) where
   abbrev pub DrainsComeFirst : Type 0
   DrainsComeFirst = (w : World m) → DrainsFirst w
 
-  -- a run comes to the drained world too, so whatever holds of every world of every run holds of it
+  -- the drained world of a run's is a later one of it, so whatever holds of every world of every run, or of each later
+  -- world, holds of it
   abbrev pub DrainsAreRuns : Type 0
-  DrainsAreRuns = (h : Header) (ms : Moves m) (w : World m) → Reaches m h ms w → (more : Moves m) × Reaches m h more (drained w)
+  DrainsAreRuns = (h : Header) (ms : Moves m) (w : World m) → Reaches m h ms w → Later m w (drained w)
 
   -- Where the drain ends the client's command, the client has told a reply by then, and it is idle when the world
   -- has settled.

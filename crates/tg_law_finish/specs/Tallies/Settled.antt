@@ -4,6 +4,7 @@ use Rattle.tg_kind.specs.Meaning.{Meaning}
 use Rattle.tg_model.specs.declared.command.Command.TheVariants as cmd
 use Rattle.tg_model.specs.declared.command.Event.TheVariants.{Command as Commands, Deliver, Lose}
 use Rattle.tg_model.specs.Kinds.{CommandOf}
+use Rattle.tg_protocol.specs.Appending.{AppendWork, Putting}
 use Rattle.tg_protocol.specs.Words.{directory}
 use Rattle.tg_protocol.specs.Syncing.{SyncWork, Probing}
 use Rattle.tg_protocol.specs.Clients.{Task, Syncing}
@@ -109,11 +110,16 @@ abbrev pub page_lost : Moves tallies
 page_lost = Takes (Commands 0 (cmd.Host tally)) ∷ Takes (Commands 0 cmd.Begin) ∷ Takes (Commands 0 (cmd.Ask tally 0)) ∷ Takes (Deliver 0) ∷ Takes (Deliver 1) ∷ Takes (Deliver 2) ∷ Takes (Deliver 3)
     ∷ Takes (Commands 0 (cmd.Put tally 5)) ∷ Takes (Commands 0 cmd.End) ∷ Takes (Deliver 4) ∷ Takes (Deliver 5) ∷ Takes (Lose 6) ∷ []
 
+abbrev pub PutsPage : AppendWork → Type 0
+PutsPage (Putting j) = Unit {0}
+PutsPage x = ⊥
+
 pub record RecordSettles (w : World tallies) : Type 0 where
   pub reached : Reaches tallies with_tally page_lost w
   pub alone : IsAlone tallies w 0 cmd.End
   pub ready : IsReadyFor tallies w 0
   pub waits : EndsRecord tallies w 0
+  pub puts : PutsPage waits.append.work
   pub counts : Counted w 8 808 80 (record_bound tallies) cmd.End
 
 -- a client saves a tally of which nothing was written, and its request for a tail is lost
