@@ -1,6 +1,7 @@
 pub mod Absent
 pub mod Along
 pub mod Caused
+pub mod Computed
 pub mod EndsSettled
 pub mod Following
 pub mod Forgets

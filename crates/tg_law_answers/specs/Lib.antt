@@ -1,3 +1,4 @@
 pub mod Confirmed
 pub mod Undecided
 pub mod Rescues
+pub mod Worked

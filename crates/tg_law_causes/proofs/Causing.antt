@@ -14,7 +14,7 @@ use Rattle.tg_model.specs.declared.command.Event.TheVariants.{Command as Command
 use Rattle.tg_model.specs.declared.play.PlayEnd.TheVariants.{Played, Blocked}
 use Rattle.tg_model.specs.declared.refusal.Refusal.TheVariants as cause
 use Rattle.tg_model.specs.declared.trace.What.TheVariants as told
-use Rattle.tg_model.specs.Kinds.{CommandOf, EventOf, WhatOf, NoteOf}
+use Rattle.tg_model.specs.Kinds.{CommandOf, EventOf, WhatOf}
 use Rattle.tg_protocol.specs.Words.{has_oid, or_else, cell_at, with_nums}
 use Rattle.tg_protocol.specs.Pages.{cell_entry}
 use Rattle.tg_protocol.specs.Entries.{is_commit, body_commits, decides, lists}

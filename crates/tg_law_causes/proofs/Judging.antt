@@ -3,15 +3,12 @@ use Rattle.std.proofs.Common.{◌≡◌, ◌⊎◌, ℕ, [], ◌∷◌, ◌++◌
 use Rattle.tg_base.specs.Clusters.{Header}
 use Rattle.tg_base.specs.declared.cell.Cell.{Cell}
 use Rattle.tg_base.specs.declared.ids.Oid.{Oid}
-use Rattle.tg_base.specs.declared.packet.Packet.{Packet}
 use Rattle.tg_entry.specs.Needs.{reads_of}
 use Rattle.tg_entry.specs.declared.entry.Entry.{Entry}
 use Rattle.tg_kind.specs.Meaning.{Meaning}
 use Rattle.tg_model.specs.Kinds.{CommandOf, EventOf}
 use Rattle.tg_model.specs.declared.command.Command.TheVariants as cmd
 use Rattle.tg_model.specs.declared.play.PlayEnd.TheVariants.{Played}
-use Rattle.tg_protocol.specs.Words.{client_id}
-use Rattle.tg_protocol.specs.Replies.{reply}
 use Rattle.tg_protocol.specs.Versions.{Changed}
 use Rattle.tg_protocol.specs.Views.{Entries, View, Commits, Aborts, decision_in, unknown_in, changed_in, by_changes, by_versions, verdict}
 use Rattle.tg_protocol.specs.Checkpoints.{view_bases}
@@ -23,7 +20,6 @@ use Rattle.tg_protocol.specs.Walked.{Walked, walked_in}
 use Rattle.tg_protocol.specs.Worlds.{World, start, client}
 use Rattle.tg_protocol.specs.Runs.{Moves, Takes, Reaches}
 use Rattle.tg_law_layouts.specs.Moves.After.{after}
-use Rattle.tg_law_layouts.proofs.Moves.Members.{Has}
 use Rattle.tg_law_replies.specs.History.Logs.{commits, HasOutcome}
 use Rattle.tg_law_replies.specs.History.Worlds.{entries_in}
 use Rattle.tg_law_replies.specs.Views.Views.{IsTrueView, AreTrueDecisions}
