@@ -427,6 +427,8 @@ module _ (m : Meaning) (h : Header) (ms : Moves m) (r : Reaches m h ms (after m 
               reads = record { entry = g.entry; here = subst (λ (u : World m). HasEntry m u g.pos g.entry) (sym last) g.here; commit = g.commit; read = g.read; reads = g.reads; of = g.of };
               among = g.among;
               unknown = g.unknown;
+              least = g.least;
+              first = g.first;
               lacks = g.lacks;
             };
             played = g.played;

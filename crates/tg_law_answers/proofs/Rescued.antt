@@ -1,5 +1,5 @@
 -- What a rescue's walks found where its turn tells that no record is there, or that it would take too many objects.
-use Rattle.std.proofs.Common.{◌≡◌, ℕ, ◌+◌, ◌<◌, ◌≤◌, List, [], true, false, sym, ap, ◌∙◌, subst, inl, inr, arith, Option, None}
+use Rattle.std.proofs.Common.{◌≡◌, ℕ, ◌+◌, ◌<◌, ◌≤◌, List, [], true, false, sym, ap, ◌∙◌, subst, inl, inr, arith, Option, Some, None}
 use Rattle.std.specs.Prelude.{Contains, length}
 use Rattle.std.proofs.lemmas.Bool.Decides.{nat_tests}
 use Rattle.tg_base.specs.declared.ids.Oid.{Oid}
@@ -9,21 +9,22 @@ use Rattle.tg_entry.specs.Needs.{reads_of}
 use Rattle.tg_kind.specs.Meaning.{Meaning}
 use Rattle.tg_protocol.specs.Entries.{is_commit}
 use Rattle.tg_protocol.specs.Logs.{Log, entries_of}
-use Rattle.tg_protocol.specs.Views.{Base, base_of, unknown_by, decision_in}
+use Rattle.tg_protocol.specs.Views.{Base, base_of, unknown_by, unknown_in, decision_in}
 use Rattle.tg_protocol.specs.Past.{Absent, Wide, commit_at, rescue_turn}
+use Rattle.tg_protocol.specs.Checkpoints.{view_bases}
 use Rattle.tg_protocol.specs.Clients.{Work, Client, all_entries}
 use Rattle.tg_law_replies.specs.Plays.Sound.{base_among}
-use Rattle.tg_law_replies.proofs.Views.Settled.{plays_further}
+use Rattle.tg_law_replies.proofs.Views.Settled.{unknown_same, plays_further}
 use Rattle.tg_law_walks.specs.Walks.Rounds.{round, IsRound}
 use Rattle.tg_law_walks.specs.Walks.Streams.{IsByPosition}
 use Rattle.tg_law_walks.proofs.Walks.Members.{Has, has_contained, contained_has}
-use Rattle.tg_law_walks.proofs.Walks.Plays.{own_only}
+use Rattle.tg_law_walks.proofs.Walks.Plays.{own_rising, own_only}
 use Rattle.tg_law_causes.proofs.Causing.{has_has_oid}
 use Rattle.tg_law_causes.proofs.Rescuing.{Blocks, IsWide, playing, rescue_wide}
 use Rattle.tg_law_answers.specs.Rescues.{IsInReach}
-use Rattle.tg_law_answers.specs.Undecided.{rescue_begins, IsPlayed}
+use Rattle.tg_law_answers.specs.Undecided.{rescue_begins, IsPlayed, AllTold}
 use Rattle.tg_law_answers.proofs.Absent.{Owned, commit_found, own_found, stream_found, RescueFits, rescue_fits}
-use Rattle.tg_law_answers.proofs.Played.{is_played}
+use Rattle.tg_law_answers.proofs.Played.{is_played, begun_told}
 
 -- a commit record that was found at a position, or one below that isn't passed over, reads an object other than the 128 that are walked,
 -- and isn't decided
@@ -40,6 +41,8 @@ pub record ReadsOther (m : Meaning) (l : Log) (c : Client m) (w : Work m) (at : 
   pub of : read.oid ≡ other
   pub among : Contains (all_entries m c w w.oids) (pos, entry)
   pub unknown : unknown_by m pos (base_of m (rescue_begins m (record { client = c; work = w })) other) read ≡ true
+  pub least : unknown_in m (rescue_begins m (record { client = c; work = w })) (reads_of entry) pos ≡ Some other
+  pub first : AllTold m (all_entries m c w w.oids) (rescue_begins m (record { client = c; work = w })) pos
   pub played : pos < at → IsPlayed m (rescue_begins m (record { client = c; work = w })) pos entry
   pub outside : Contains w.oids other → ⊥
   pub lacks : decision_in (all_entries m c w w.oids) pos ≡ None
@@ -70,6 +73,8 @@ module _ (m : Meaning) (l : Log) (byp : IsByPosition l) (c : Client m) (w : Work
     of = b.unknowns.of;
     among = contained_has (all_entries m c w w.oids) (g.pos, b.unknowns.entry) b.unknowns.here;
     unknown = subst (λ (z : Option (Base m)). unknown_by m g.pos z b.unknowns.read ≡ true) (ap (λ (bs : List (Base m)). base_among m bs g.other) bases) b.unknowns.unknown;
+    least = unknown_same m (rescue_begins m (record { client = c; work = w })) (playing m (all_entries m c w w.oids) w.trims c.objects w.oids at).view (reads_of b.unknowns.entry) g.pos (sym bases) ∙ b.unknowns.first;
+    first = begun_told m (all_entries m c w w.oids) (view_bases m (all_entries m c w w.oids) w.trims c.objects w.oids) (at + 1) g.pos (own_rising m l byp c w h w.oids c.own (λ o i. i)) (let le = b.upto in omega (arith, le)) b.stands;
     played = λ below. is_played m (playing m (all_entries m c w w.oids) w.trims c.objects w.oids at).view (rescue_begins m (record { client = c; work = w })) g.pos b.unknowns.entry bases (b.played below);
     outside = λ i. differ (sym g.outside ∙ has_has_oid g.other w.oids (has_contained w.oids g.other i));
     lacks = b.undecided;

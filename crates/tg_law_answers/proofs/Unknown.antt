@@ -1,5 +1,5 @@
 -- Where a past view or a rescue stays undecided: what its view begins with doesn't tell the version of what a record reads.
-use Rattle.std.proofs.Common.{◌≡◌, ◌⊎◌, ℕ, ◌+◌, ◌<◌, ◌≤◌, List, [], ◌∷◌, ◌++◌, true, false, sym, ap, ◌∙◌, subst, inl, inr, Option, Some, None}
+use Rattle.std.proofs.Common.{◌≡◌, ◌⊎◌, ℕ, ◌+◌, ◌<◌, ◌≤◌, List, [], ◌∷◌, ◌++◌, map, true, false, sym, ap, ◌∙◌, subst, inl, inr, arith, Option, Some, None}
 use Rattle.std.specs.Prelude.{Contains}
 use Rattle.tg_base.specs.Clusters.{Header}
 use Rattle.tg_base.specs.declared.ids.Oid.{Oid}
@@ -17,43 +17,52 @@ use Rattle.tg_protocol.specs.Answers.{walked}
 use Rattle.tg_protocol.specs.Causes.{HasReadOf, LacksDecision, CauseAtOnce, CauseLater, HasCause}
 use Rattle.tg_protocol.specs.Clients.{Client, entries_at, all_entries, member_entries}
 use Rattle.tg_protocol.specs.Playing.{Replies}
-use Rattle.tg_protocol.specs.Past.{PastView, commit_at, past_at, StuckAt, rescue_turn}
+use Rattle.tg_protocol.specs.Checkpoints.{view_bases}
+use Rattle.tg_protocol.specs.Past.{PastView, commit_at, past_base, past_at, StuckAt, rescue_turn}
 use Rattle.tg_protocol.specs.Runs.{Moves, Takes, Reaches}
 use Rattle.tg_protocol.specs.Stuck.{command_in}
-use Rattle.tg_protocol.specs.Views.{Entries, Base, View, Play, base_of, unknown_by, decision_in, passed_over, play}
+use Rattle.tg_protocol.specs.Views.{Entries, Base, View, Play, base_of, unknown_by, unknown_in, decision_in, passed_over, play}
 use Rattle.tg_protocol.specs.Walked.{Walked, entries_had}
-use Rattle.tg_protocol.specs.Worlds.{World, Told, client, happens}
+use Rattle.tg_protocol.specs.Worlds.{World, Told, client, log, happens}
 use Rattle.tg_law_layouts.specs.Moves.After.{after}
 use Rattle.tg_law_layouts.proofs.Moves.Lists.{contained}
 use Rattle.tg_law_replies.specs.Plays.Sound.{base_among}
 use Rattle.tg_law_replies.proofs.History.Members.{has_contained, contained_has}
-use Rattle.tg_law_replies.proofs.Views.Settled.{plays_further}
+use Rattle.tg_law_replies.proofs.Views.Judges.{blocked_stands}
+use Rattle.tg_law_replies.proofs.Views.Settled.{unknown_same, plays_further}
 use Rattle.tg_law_walks.specs.Lists.Spared.{TrimsWereSpare}
 use Rattle.tg_law_walks.proofs.Drafts.Written.{then_takes}
+use Rattle.tg_law_walks.proofs.Walks.Plays.{own_rising}
+use Rattle.tg_law_walks.proofs.Walks.Syncs.{logs_by_position}
 use Rattle.tg_law_causes.specs.Undecidings.{UndecidedTrue}
 use Rattle.tg_law_causes.proofs.Causing as causing
 use Rattle.tg_law_causes.proofs.Rescuing.{has_oid_has, IsStuck, playing, rescue_stuck}
 use Rattle.tg_law_causes.proofs.Stalled.{AtWalksEnd, ends_tell, command_waits, undecided_ends}
 use Rattle.tg_law_causes.proofs.Stalling.{Plain, Brief, PlaysKept, Unknowns, IsBlocked, Said, walked_so}
 use Rattle.tg_law_answers.specs.Confirmed.{EndsWalks}
-use Rattle.tg_law_answers.specs.Undecided.{past_entries, past_begins, rescue_begins, IsPlayed, IsOutOf, PastsUndecided, RescuesUndecided}
-use Rattle.tg_law_answers.proofs.Played.{is_played}
+use Rattle.tg_law_answers.specs.Undecided.{past_entries, past_begins, rescue_begins, IsPlayed, AllTold, IsOutOf, PastsUndecided, RescuesUndecided}
+use Rattle.tg_law_answers.proofs.Played.{is_played, begun_told}
 
 module _ (m : Meaning) (h : Header) (ms : Moves m) (e : EventOf m) (r : Reaches m h (ms ++ Takes e ∷ []) (after m h (ms ++ Takes e ∷ []))) (trims : TrimsWereSpare m h (ms ++ Takes e ∷ [])) where
   module _ (t : Told m) (k : AtWalksEnd m h ms e r trims t) where
-    -- one of these records reads of an object what the view that begins so doesn't tell, and below a position isn't passed over there
+    -- the first of these records that reads what the view that begins so doesn't tell, and of which object first; below a position it
+    -- isn't passed over there
     record Reads (es : Entries) (v : View m) (at p : ℕ) (o : Oid) : Type 0 where
       read : HasReadOf m (after m h (ms ++ Takes e ∷ [])) p o
       among : Contains es (p, read.entry)
       unknown : unknown_by m p (base_of m v o) read.read ≡ true
+      least : unknown_in m v (reads_of read.entry) p ≡ Some o
+      first : AllTold m es v p
       played : p < at → IsPlayed m v p read.entry
 
     -- a play keeps the bases with which it began
-    reads : (ps : List ℕ) (u v : View m) (at p : ℕ) (o : Oid) → u.bases ≡ v.bases → (n : Unknowns m (entries_at m k.end.client.cells ps) u p o) → (p < at → passed_over m u p n.entry ≡ false) → Reads (entries_at m k.end.client.cells ps) v at p o
-    reads ps u v at p o bases n over = record {
+    reads : (ps : List ℕ) (u v : View m) (at p : ℕ) (o : Oid) → u.bases ≡ v.bases → (n : Unknowns m (entries_at m k.end.client.cells ps) u p o) → (p < at → passed_over m u p n.entry ≡ false) → AllTold m (entries_at m k.end.client.cells ps) v p → Reads (entries_at m k.end.client.cells ps) v at p o
+    reads ps u v at p o bases n over first = record {
       read = record { entry = n.entry; here = causing.entry_there m h ms e r trims t k ps p n.entry n.here; commit = n.commit; read = n.read; reads = contained_has (reads_of n.entry) n.read n.reads; of = n.of };
       among = contained_has (entries_at m k.end.client.cells ps) (p, n.entry) n.here;
       unknown = subst (λ (b : Option (Base m)). unknown_by m p b n.read ≡ true) (ap (λ (bs : List (Base m)). base_among m bs o) bases) n.unknown;
+      least = unknown_same m v u (reads_of n.entry) p (sym bases) ∙ n.first;
+      first = first;
       played = λ below. is_played m u v p n.entry bases (over below);
     }
 
@@ -72,9 +81,15 @@ module _ (m : Meaning) (h : Header) (ms : Moves m) (e : EventOf m) (r : Reaches 
     past_reads at x u p o view came = record {
       below = b.below;
       is = reads _ (play m (past_begins m k.end at) (member_entries m k.end.client k.end.work k.end.work.oids) at).view (past_begins m k.end at) at p o
-          (plays_further m (member_entries m k.end.client k.end.work k.end.work.oids) (past_begins m k.end at) at).bases b.unknowns (λ below. b.played);
+          (plays_further m (member_entries m k.end.client k.end.work k.end.work.oids) (past_begins m k.end at) at).bases b.unknowns (λ below. b.played)
+          (begun_told m (past_entries m k.end) (map (past_base m (past_entries m k.end) k.end.work.trims k.end.client.objects at) k.end.work.oids) at p
+          (own_rising m (log m (after m h (ms ++ Takes e ∷ []))) (logs_by_position m (after m h (ms ++ Takes e ∷ []))) k.end.client k.end.work (causing.found m h ms e r trims t k) k.end.work.oids [] (λ y i. i))
+          (let l = b.below in omega (arith, l)) (let n = blocked_stands m (past_entries m k.end) (past_begins m k.end at) at p o blocks in omega (arith, n)));
     }
       where
+        blocks : (play m (past_begins m k.end at) (past_entries m k.end) at).came ≡ Blocked p o
+        blocks = ap (λ (y : Play m). y.came) (sym (causing.past_view m h ms e r trims t k (past_entries m k.end) k.end.work.trims k.end.work.oids k.end.client.objects x at u view)) ∙ came
+
         b : IsBlocked m (member_entries m k.end.client k.end.work k.end.work.oids) (play m (past_begins m k.end at) (member_entries m k.end.client k.end.work k.end.work.oids) at).view at p o
         b = causing.blocked m h ms e r trims t k at x u p o view came
 
@@ -85,7 +100,10 @@ module _ (m : Meaning) (h : Header) (ms : Moves m) (e : EventOf m) (r : Reaches 
       upto = s.blocks.upto;
       walks = contained k.end.work.oids o (has_oid_has o k.end.work.oids s.among);
       is = reads _ (playing m (entries_had m k.end) k.end.work.trims k.end.client.objects k.end.work.oids at).view (rescue_begins m k.end) at p o
-          (plays_further m (entries_had m k.end) (rescue_begins m k.end) (at + 1)).bases s.blocks.unknowns s.blocks.played;
+          (plays_further m (entries_had m k.end) (rescue_begins m k.end) (at + 1)).bases s.blocks.unknowns s.blocks.played
+          (begun_told m (entries_had m k.end) (view_bases m (entries_had m k.end) k.end.work.trims k.end.client.objects k.end.work.oids) (at + 1) p
+          (own_rising m (log m (after m h (ms ++ Takes e ∷ []))) (logs_by_position m (after m h (ms ++ Takes e ∷ []))) k.end.client k.end.work (causing.found m h ms e r trims t k) k.end.work.oids k.end.client.own (λ y i. i))
+          (let l = s.blocks.upto in omega (arith, l)) s.blocks.stands);
     }
       where
         s : IsStuck m (entries_had m k.end) k.end.work.trims k.end.client.objects k.end.work.oids at p o
@@ -155,7 +173,7 @@ module _ (m : Meaning) (h : Header) (ms : Moves m) (e : EventOf m) (r : Reaches 
 
     out_of : (es : Entries) (v : View m) (at p : ℕ) (o : Oid) → Reads es v at p o → decision_in (entries_had m k.end) p ≡ None → (is : IsOutOf m (happens m (after m h ms) e) k.end es v p o) × (p < at → IsPlayed m v p is.reads.entry)
     out_of es v at p o n none =
-        subst (λ (u : World m). (is : IsOutOf m u k.end es v p o) × (p < at → IsPlayed m v p is.reads.entry)) (then_takes m h ms e) (record { reads = n.read; among = n.among; unknown = n.unknown; lacks = none }, n.played)
+        subst (λ (u : World m). (is : IsOutOf m u k.end es v p o) × (p < at → IsPlayed m v p is.reads.entry)) (then_takes m h ms e) (record { reads = n.read; among = n.among; unknown = n.unknown; least = n.least; first = n.first; lacks = none }, n.played)
 
   module _ (causes : UndecidedTrue m (after m h ms) e) where
     there : (t : Told m) (p : ℕ) (o : Oid) → Replies m (after m h ms) e t → t.mark.what ≡ told.Refused (cause.Undecided p o) → AtWalksEnd m h ms e r trims t

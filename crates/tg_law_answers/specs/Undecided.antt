@@ -3,7 +3,7 @@ use Rattle.std.specs.Prelude.{◌≡◌, ℕ, ◌<◌, ◌≤◌, true, map, Som
 use Rattle.tg_base.specs.declared.ids.Oid.{Oid}
 use Rattle.tg_entry.specs.declared.entry.Entry.{Entry}
 use Rattle.tg_entry.specs.declared.entry.WriteOp.{WriteOp}
-use Rattle.tg_entry.specs.Needs.{writes_of}
+use Rattle.tg_entry.specs.Needs.{reads_of, writes_of}
 use Rattle.tg_kind.specs.Meaning.{Meaning}
 use Rattle.tg_model.specs.declared.command.Command.TheVariants as cmd
 use Rattle.tg_model.specs.declared.refusal.Refusal.TheVariants as cause
@@ -12,10 +12,11 @@ use Rattle.tg_model.specs.Kinds.{EventOf}
 use Rattle.tg_protocol.specs.Causes.{HasReadOf}
 use Rattle.tg_protocol.specs.Checkpoints.{view_bases}
 use Rattle.tg_protocol.specs.Clients.{member_entries}
+use Rattle.tg_protocol.specs.Entries.{is_commit}
 use Rattle.tg_protocol.specs.Past.{commit_at, past_base}
 use Rattle.tg_protocol.specs.Playing.{Replies}
 use Rattle.tg_protocol.specs.Stuck.{command_in}
-use Rattle.tg_protocol.specs.Views.{Entries, Base, View, view_start, base_of, unknown_by, decision_in}
+use Rattle.tg_protocol.specs.Views.{Entries, Base, View, view_start, base_of, unknown_by, unknown_in, decision_in}
 use Rattle.tg_protocol.specs.Walked.{Walked, walked_in, entries_had}
 use Rattle.tg_protocol.specs.Worlds.{World, Told, client, happens}
 use Rattle.tg_law_answers.specs.Confirmed.{EndsWalks}
@@ -51,13 +52,21 @@ module _ (m : Meaning) where
     pub is : base_of m v write.oid ≡ Some base
     pub upto : base.upto ≤ p
 
+  -- each commit record among these entries below a position that isn't passed over is decided there, or the view tells
+  -- the versions of all that it reads
+  abbrev pub AllTold : Entries → View m → ℕ → Type 0
+  AllTold es v p = (q : ℕ) (d : Entry) → Contains es (q, d) → q < p → is_commit d ≡ true → IsPlayed v q d →
+      decision_in es q ≡ None → unknown_in m v (reads_of d) q ≡ None
+
   -- a commit record among these entries reads something of an object, whose version there that view's base doesn't
-  -- tell: the object wasn't walked, or it begins later, with a later version. Nor has the client a decision of the
-  -- record
+  -- tell: the object wasn't walked, or it begins later, with a later version. Of such reads that is the first, so of the
+  -- least object; each record below is passed over, decided, or of told versions. Nor has the client a decision of it
   pub record IsOutOf (w : World m) (had : Walked m) (es : Entries) (v : View m) (p : ℕ) (o : Oid) : Type 0 where
     pub reads : HasReadOf m w p o
     pub among : Contains es (p, reads.entry)
     pub unknown : unknown_by m p (base_of m v o) reads.read ≡ true
+    pub least : unknown_in m v (reads_of reads.entry) p ≡ Some o
+    pub first : AllTold es v p
     pub lacks : decision_in (entries_had m had) p ≡ None
 
   -- `undecided` of `ask-at`: a record below the past position, which the past view doesn't pass over, reads what that

@@ -14,8 +14,8 @@ pub fn rescues_forgotten()
 
 /// Where a rescue of the store has too many objects, it has walked 128, and of the entries that it found a commit record
 /// at its position, or one below it that isn't passed over, reads an object that isn't among them, and has no decision
-/// there. That the record could commit isn't said, since another of its reads may have changed, nor that one stands at
-/// the rescue's position.
+/// there: the first record of which the rescue's view can't know all that it reads. That the record could commit isn't
+/// said, since another of its reads may have changed, nor that one stands at the rescue's position.
 pub fn rescues_too_wide()
     ensures { EachStep all_kinds (RescuesTooWide all_kinds) }
 {}

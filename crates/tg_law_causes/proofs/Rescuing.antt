@@ -18,6 +18,8 @@ use Rattle.tg_law_replies.specs.Plays.Sound.{base_among}
 use Rattle.tg_law_replies.proofs.History.Members.{Has, same_oid}
 use Rattle.tg_law_replies.proofs.Views.Bases.{loaded_of, oid_loaded}
 use Rattle.tg_law_replies.proofs.Views.Exact.{made_there}
+use Rattle.tg_law_replies.proofs.Views.Judges.{blocked_stands}
+use Rattle.tg_law_replies.proofs.Views.Plays.{played_stands}
 use Rattle.tg_law_replies.proofs.Views.Settled.{plays_further}
 use Rattle.tg_law_causes.proofs.Stalling.{Unknowns, blocked_there, outcome_there}
 
@@ -124,6 +126,7 @@ module _ (m : Meaning) where
         pub undecided : decision_in es q ≡ None
         pub upto : q ≤ at
         pub played : q < at → passed_over m (playing at).view q unknowns.entry ≡ false
+        pub stands : q ≤ (playing at).view.upto
 
       -- the object is one of those that are walked, and a commit record stands at its position
       pub record IsStuck (at q : ℕ) (x : Oid) : Type 0 where
@@ -141,23 +144,28 @@ module _ (m : Meaning) where
       pair_none : (b : ℕ × Oid) → Some b ≡ None → ⊥
       pair_none b e = cc
 
-      record_blocks : (at : ℕ) (e : Entry) (d : Verdict) (b : ℕ × Oid) → commit_at es at ≡ Some e → view_outcome m (playing at).view es at e ≡ d → record_block m (playing at).view es at d ≡ Some b → Blocks at b.0 b.1
-      record_blocks at e Commits b here d is = absurd (none_pair b is)
-      record_blocks at e Aborts b here d is = absurd (none_pair b is)
-      record_blocks at e (Unknown o) b here d is =
+      record_blocks : (at : ℕ) (e : Entry) (d : Verdict) (b : ℕ × Oid) → at ≤ (playing at).view.upto → commit_at es at ≡ Some e → view_outcome m (playing at).view es at e ≡ d → record_block m (playing at).view es at d ≡ Some b → Blocks at b.0 b.1
+      record_blocks at e Commits b stands here d is = absurd (none_pair b is)
+      record_blocks at e Aborts b stands here d is = absurd (none_pair b is)
+      record_blocks at e (Unknown o) b stands here d is =
           let g = outcome_there m es (playing at).view at e o here d in
-          subst (λ (y : ℕ × Oid). Blocks at y.0 y.1) (some_pair (at, o) b is) (record { unknowns = g.0; undecided = g.1; upto = omega arith; played = λ l. absurd (omega (arith, l)) })
+          subst (λ (y : ℕ × Oid). Blocks at y.0 y.1) (some_pair (at, o) b is) (record { unknowns = g.0; undecided = g.1; upto = omega arith; played = λ l. absurd (omega (arith, l)); stands = stands })
 
-      entry_blocks : (at : ℕ) (e : Option Entry) (b : ℕ × Oid) → commit_at es at ≡ e → entry_block m (playing at).view es at e ≡ Some b → Blocks at b.0 b.1
-      entry_blocks at None b here is = absurd (none_pair b is)
-      entry_blocks at (Some e) b here is = record_blocks at e (view_outcome m (playing at).view es at e) b here refl is
+      entry_blocks : (at : ℕ) (e : Option Entry) (b : ℕ × Oid) → at ≤ (playing at).view.upto → commit_at es at ≡ e → entry_block m (playing at).view es at e ≡ Some b → Blocks at b.0 b.1
+      entry_blocks at None b stands here is = absurd (none_pair b is)
+      entry_blocks at (Some e) b stands here is = record_blocks at e (view_outcome m (playing at).view es at e) b stands here refl is
+
+      begun_stands : (at t : ℕ) → (playing at).came ≡ Played t → (playing at).view.upto ≡ at + 1
+      unfolding view_start
+      begun_stands at t came = played_stands m es (at + 1) t begun (omega arith) came
 
       blocks_by : (at : ℕ) (came : PlayEnd) (b : ℕ × Oid) → (playing at).came ≡ came → block_in m (playing at) es at came ≡ Some b → Blocks at b.0 b.1
-      blocks_by at (Played t) b came is = entry_blocks at (commit_at es at) b refl is
+      blocks_by at (Played t) b came is = let n = begun_stands at t came in entry_blocks at (commit_at es at) b (omega (arith, n)) refl is
       blocks_by at (Blocked q o) b came is =
           let g = blocked_there m es begun (at + 1) q o came in
           let less = g.below in
-          subst (λ (y : ℕ × Oid). Blocks at y.0 y.1) (some_pair (q, o) b is) (record { unknowns = g.unknowns; undecided = g.undecided; upto = omega (arith, less); played = λ l. g.played })
+          let n = blocked_stands m es begun (at + 1) q o came in
+          subst (λ (y : ℕ × Oid). Blocks at y.0 y.1) (some_pair (q, o) b is) (record { unknowns = g.unknowns; undecided = g.undecided; upto = omega (arith, less); played = λ l. g.played; stands = omega (arith, n) })
 
       -- not stuck without a block
 

@@ -1,6 +1,6 @@
 -- What a command tells whose streams are walked: where something stays undecided, the play was blocked, or a read is unknown; and why
 -- it may not forget, or has no state of an object.
-use Rattle.std.proofs.Common.{◌≡◌, ℕ, ◌<◌, ◌≤◌, List, [], ◌∷◌, Bool, true, false, refl, sym, ap, subst, inl, inr, arith, Option, Some, None}
+use Rattle.std.proofs.Common.{◌≡◌, ℕ, ◌<◌, ◌≤◌, List, [], ◌∷◌, Bool, true, false, refl, sym, ap, ◌∙◌, subst, inl, inr, arith, Option, Some, None}
 use Rattle.std.specs.Prelude.{nat_lt, nat_le, ◌&&◌, if◌then◌else◌}
 use Rattle.std.proofs.lemmas.Bool.Decides.{nat_tests}
 use Rattle.tg_base.specs.declared.ids.Oid.{Oid}
@@ -29,6 +29,7 @@ use Rattle.tg_protocol.specs.Answers.{Moved, replies, refuses, answers, closed, 
 use Rattle.tg_protocol.specs.ClientSteps.{plays_kept, goes_on, learns_for, task_in}
 use Rattle.tg_law_replies.proofs.History.Members.{Has}
 use Rattle.tg_law_replies.proofs.Views.Records.{commit_there}
+use Rattle.tg_law_replies.proofs.Views.Settled.{unknown_same}
 use Rattle.tg_law_steps.proofs.Places.{Place}
 use Rattle.tg_law_steps.proofs.Ways.{AllWalked, HasPlayed, LooksBack, IsRescue}
 use Rattle.tg_law_steps.proofs.Ends.{Judges, Commit', Abort', CannotJudge, NoRecord, NoVerdict, NoVersion, NoChange, End, GoesOn, LearnsNewer, Syncs, Appends, Refuses, Answers, Tells, IsGoing, TrimsBegin, IsLearning, SyncLearns, IsSynced, Widens, IsAppended, EndDecides, MarkBegins, IsRefused, CopyFault, AskBlocked, AskMissing, FateBlocked, FateUnknown, DecideBlocked, DecideUnknown, SaveBlocked, ForgetBlocked, ForgetUnsaved, ForgetOpen, TrimBlocked, LooksBlocked, LooksMissing, RescueStuck, IsAnswered, DecidedAt, DecidedLost, JudgedSo, JudgedLost, EndBlocked, EndUnsure, EndJudged, IsTold, IsRescued, IsMarked, PlaysOther}
@@ -126,7 +127,7 @@ module _ (m : Meaning) where
   PlaysKept (cmd.Rescue p) = ⊥
   PlaysKept x = Unit {0}
 
-  -- A commit record among entries, of which a view doesn't know a read.
+  -- A commit record among entries, of which a view doesn't know a read, and the first such.
   pub record Unknowns (own : Entries) (v : View m) (p : ℕ) (o : Oid) : Type 0 where
     pub entry : Entry
     pub here : Has own (p, entry)
@@ -135,6 +136,7 @@ module _ (m : Meaning) where
     pub reads : Has (reads_of entry) read
     pub of : read.oid ≡ o
     pub unknown : unknown_by m p (base_of m v o) read ≡ true
+    pub first : unknown_in m v (reads_of entry) p ≡ Some o
 
   pub record UnknownRead (v : View m) (rs : List ReadMark) (p : ℕ) (o : Oid) : Type 0 where
     pub read : ReadMark
@@ -179,7 +181,7 @@ module _ (m : Meaning) where
       by None is k = (is, versions (unknown_in m v (reads_of e) p) k)
 
   unknowns_of : (own : Entries) (v : View m) (p : ℕ) (e : Entry) (o : Oid) → Has own (p, e) → is_commit e ≡ true → unknown_in m v (reads_of e) p ≡ Some o → Unknowns own v p o
-  unknowns_of own v p e o i c h = let g = unknown_read v (reads_of e) p o h in record { entry = e; here = i; commit = c; read = g.read; reads = g.reads; of = g.of; unknown = g.unknown }
+  unknowns_of own v p e o i c h = let g = unknown_read v (reads_of e) p o h in record { entry = e; here = i; commit = c; read = g.read; reads = g.reads; of = g.of; unknown = g.unknown; first = h }
 
   pub unknown_there : (own : Entries) (v : View m) (p : ℕ) (e : Entry) (o : Oid) → commit_at own p ≡ Some e → unknown_in m v (reads_of e) p ≡ Some o → Unknowns own v p o
   unknown_there own v p e o at h = let g = commit_there m own p e at in unknowns_of own v p e o g.0 g.1 h
@@ -256,7 +258,7 @@ module _ (m : Meaning) where
             subst (λ (n : ℕ). IsBlocked (stands_at m v y.0) upto n x) (same_place y.0 q o x k)
             (subst (λ (z : Oid). IsBlocked (stands_at m v y.0) upto y.0 z) (same_object y.0 q o x k)
             (record {
-              unknowns = record { entry = y.1; here = (only y (inl refl)).0; commit = s.0; read = u.read; reads = u.reads; of = u.of; unknown = u.unknown };
+              unknowns = record { entry = y.1; here = (only y (inl refl)).0; commit = s.0; read = u.read; reads = u.reads; of = u.of; unknown = u.unknown; first = unknown_same m (stands_at m v y.0) v (reads_of y.1) y.0 refl ∙ g.1 };
               undecided = g.0;
               below = (only y (inl refl)).1;
               played = s.2;
