@@ -13,3 +13,4 @@ mod Ticking
 mod Rounds
 mod Parts
 mod Boxed
+pub mod Numbering

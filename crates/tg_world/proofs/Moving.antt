@@ -1,5 +1,5 @@
 -- Rows of clients.
-use Rattle.std.specs.Prelude.{◌≡◌, ℕ, zero, suc, ◌+◌, ◌<◌, ◌≤◌, true, false, nat_lt, List, [], ◌∷◌, ◌++◌, length, insert, remove, slice_get, slice_set, slice_index_or, Option, Some, None, is_some, IfSome, option_copied, refl}
+use Rattle.std.specs.Prelude.{◌≡◌, ℕ, zero, suc, ◌+◌, ◌<◌, ◌≤◌, true, false, nat_lt, List, [], ◌∷◌, ◌++◌, length, slice_get, slice_set, slice_index_or, Option, Some, None, is_some, IfSome, option_copied, refl}
 use Rattle.std.proofs.Common.{Bor, sym, ap, ◌∙◌, arith}
 use Rattle.std.proofs.lemmas.Bool.Decides.{nat_tests}
 use Rattle.tg_base.specs.Clusters.{Header}
@@ -10,11 +10,6 @@ use Rattle.tg_world_servers.specs.Servers.{ServersState}
 use Rattle.tg_client.specs.Kept.{Kept, KeepsClient}
 use Rattle.tg_world.specs.Clients.{KeepsClients}
 use Rattle.tg_world.specs.Kept.{IsWhole}
-
-pub put_back : {X : Type 0} (xs : List X) (n : ℕ) (y : X) → n < length xs → insert (remove xs n) n y ≡ slice_set xs n y
-put_back [] n y h = absurd (omega (arith, h))
-put_back (x ∷ xs) zero y h = refl
-put_back (x ∷ xs) (suc n) y h = let k : n < length xs = omega (arith, h) in λ i. x ∷ put_back xs n y k i
 
 pub same_read : {X : Type 0} (xs : List X) (n : ℕ) (d e : X) → n < length xs → slice_index_or xs n d ≡ slice_index_or xs n e
 same_read [] n d e h = absurd (omega (arith, h))
@@ -48,13 +43,10 @@ pub copied_there : {X : Type 0} (xs : List X) (n : ℕ) (r : Option (Bor X)) →
 copied_there xs n None e h = none_at xs n (not_below n (length xs) e)
 copied_there xs n (Some x) e h = some_at xs n x.now (is_below n (length xs) e) h
 
--- what was taken out, and the row after it is put back
+-- what was taken out
 
 pub was_there : {X : Type 0} (xs : List X) (n : ℕ) (x d : X) → n < length xs → x ≡ slice_index_or xs n x → x ≡ slice_index_or xs n d
 was_there xs n x d h e = e ∙ same_read xs n x d h
-
-pub set_back : {X : Type 0} (xs ys zs : List X) (n : ℕ) (y : X) → n < length xs → ys ≡ remove xs n → zs ≡ insert ys n y → zs ≡ slice_set xs n y
-set_back {X} xs ys zs n y h e f = f ∙ ap (λ (l : List X). insert l n y) e ∙ put_back xs n y h
 
 -- a world stays whole as its servers take a step, and a client of the row too
 

@@ -1,5 +1,6 @@
 -- A client is taken out of a row, takes a step, and is put back.
-use Rattle.std.specs.Prelude.{◌≡◌, ℕ, zero, suc, ◌+◌, ◌<◌, List, [], ◌∷◌, ◌++◌, length, insert, remove, map, slice_set, slice_index_or, refl}
+use Rattle.std.specs.Prelude.{◌≡◌, ℕ, zero, suc, ◌+◌, ◌<◌, List, [], ◌∷◌, ◌++◌, length, map, swap, slice_set, slice_index_or, refl}
+use Rattle.std.specs.List.{swap_remove}
 use Rattle.std.proofs.Common.{sym, ap, subst, ◌∙◌, arith}
 use Rattle.std.proofs.Math.Nat.{add-zero}
 use Rattle.tg_base.specs.Clusters.{Header}
@@ -7,11 +8,12 @@ use Rattle.tg_kind.specs.Meaning.{Meaning}
 use Rattle.tg_protocol.specs.Words.{numbers}
 use Rattle.tg_protocol.specs.Clients.{Client, new_client}
 use Rattle.tg_client.specs.Kept.{Kept, KeepsClient, IsClient}
+use Rattle.tg_world_servers.proofs.Swapping.{set_back}
 use Rattle.tg_world.specs.Clients.{KeepsClients, AreClients}
-use Rattle.tg_world.proofs.Moving.{set_back, length_set, keeps_read, keeps_set, keeps_last}
+use Rattle.tg_world.proofs.Moving.{length_set, keeps_read, keeps_set, keeps_last}
 
-pub length_back : {X : Type 0} (xs ys zs : List X) (n : ℕ) (y : X) → n < length xs → ys ≡ remove xs n → zs ≡ insert ys n y → length zs ≡ length xs
-length_back {X} xs ys zs n y h e f = ap (λ (l : List X). length l) (set_back xs ys zs n y h e f) ∙ length_set xs n y
+pub length_back : {X : Type 0} (xs ys zs : List X) (n : ℕ) (x y : X) → n < length xs → ys ≡ swap_remove xs n x → zs ≡ swap (ys ++ y ∷ []) n (length ys) → length zs ≡ length xs
+length_back {X} xs ys zs n x y h e f = ap (λ (l : List X). length l) (set_back xs ys zs n x y h e f) ∙ length_set xs n y
 
 pub length_last : {X : Type 0} (xs ys : List X) (y : X) (n : ℕ) → ys ≡ xs ++ y ∷ [] → length xs ≡ n → length ys ≡ n + 1
 length_last {X} xs ys y n e h = ap (λ (l : List X). length l) e ∙ more xs ∙ ap (λ (k : ℕ). k + 1) h
@@ -38,9 +40,9 @@ module _ (m : Meaning) where
       by (c ∷ cs) k = record { client = slice_index_or (c ∷ cs) n c; keeps = kept_there ks (c ∷ cs) n was c h e k }
 
   -- the row after it is put back
-  pub kept_back : (ks js ls : List (Kept m)) (cs : List (Client m)) (n : ℕ) (y : Kept m) (c : Client m) → n < length ks → js ≡ remove ks n → ls ≡ insert js n y → KeepsClients m ks cs → KeepsClient m y c
+  pub kept_back : (ks js ls : List (Kept m)) (cs : List (Client m)) (n : ℕ) (x y : Kept m) (c : Client m) → n < length ks → js ≡ swap_remove ks n x → ls ≡ swap (js ++ y ∷ []) n (length js) → KeepsClients m ks cs → KeepsClient m y c
       → KeepsClients m ls (slice_set cs n c)
-  kept_back ks js ls cs n y c h e f k q = subst (λ (l : List (Kept m)). KeepsClients m l (slice_set cs n c)) (sym (set_back ks js ls n y h e f)) (keeps_set m ks cs n y c k q)
+  kept_back ks js ls cs n x y c h e f k q = subst (λ (l : List (Kept m)). KeepsClients m l (slice_set cs n c)) (sym (set_back ks js ls n x y h e f)) (keeps_set m ks cs n y c k q)
 
   -- one client more
   numbers_last : (n first : ℕ) → numbers (suc n) first ≡ numbers n first ++ (first + n) ∷ []

@@ -1,5 +1,5 @@
 -- A client's turn, put together from its parts.
-use Rattle.std.specs.Prelude.{◌≡◌, ℕ, zero, suc, ◌+◌, ◌<◌, Bool, true, false, List, [], ◌∷◌, ◌++◌, map, length, slice_get, slice_set, slice_index_or, Option, Some, None, SomeIff, is_some, refl}
+use Rattle.std.specs.Prelude.{◌≡◌, ℕ, zero, suc, ◌+◌, ◌<◌, Bool, true, false, List, [], ◌∷◌, ◌++◌, map, length, slice_get, slice_set, slice_index_or, Some, None, is_some, refl}
 use Rattle.std.proofs.Common.{sym, ap, subst, ◌∙◌}
 use Rattle.tg_base.specs.declared.packet.Out.{Out}
 use Rattle.tg_base.specs.declared.packet.Packet.{Packet}
@@ -106,10 +106,6 @@ packet_there xs ys n x p e at is = is ∙ ap (λ (l : List Packet). slice_index_
     read (z ∷ zs) (suc j) h = read zs j h
 
 -- the next event begins
-
-pub next_number : (r : Option ℕ) (P : Type 0) (v x : ℕ) → SomeIff r P v → r ≡ Some x → x ≡ v
-next_number None P v x h e = absurd cc
-next_number (Some y) P v x h e = let same : y ≡ x = cc in sym same ∙ h.1
 
 pub next_kept : (m : Meaning) (k : KeptOf m) (w : World m) (e : ℕ) → KeepsWorld m k w → e ≡ k.event + 1 → KeepsWorld m (record k { event = e }) (world.next_event m w)
 next_kept m k w e h is = moved m k (record k { event = e }) w (λ v. world.next_event m v) w.clients h h.clients (ap (λ (x : ℕ). world_of m (record k { event = x }) w.clients) is)

@@ -1,5 +1,5 @@
 -- Why an event can't be a step.
-use Rattle.std.specs.Prelude.{ℕ, Bool, nat_lt, not, List, [], ◌∷◌, length, Option, Some, None, if◌then◌else◌}
+use Rattle.std.specs.Prelude.{ℕ, Bool, nat_lt, [], ◌∷◌, length, Option, Some, None, if◌then◌else◌}
 use Rattle.tg_base.specs.declared.fault.Which.{Which}
 use Rattle.tg_base.specs.declared.ids.NodeId.{NodeId}
 use Rattle.tg_kind.specs.Meaning.{Meaning}

@@ -1,4 +1,4 @@
-//! The step of one client of a row. The client is moved out of the row and back.
+//! The step of one client of a row. The client is moved out of the row, where the last one takes its place, and back.
 
 ghost use Rattle.std.specs.Prelude.{◌≡◌, ◌<◌, ◌+◌, ℕ, List, map, length, slice_set, slice_index_or, IfOk, OnOk};
 ghost use Rattle.tg_kind.specs.Of.{meaning_of};
@@ -13,6 +13,7 @@ use tg_base::{Cluster, List, Msg, NoMemory, NodeId, Out};
 use tg_client::{Client, Turned};
 use tg_kind::Registry;
 use tg_model::{CommandOf, NoteOf};
+use tg_world_servers::put_back;
 
 /// The clients that a header declares. An `Err` is want of memory.
 pub fn new_clients<K: Registry>(
@@ -42,9 +43,9 @@ pub fn command<K: Registry>(
     ensures notes { (cs : List (seen.Client (meaning_of K.Registry))) (d : seen.Client (meaning_of K.Registry)) → KeepsClients (meaning_of K.Registry) clients.old.items cs → IfOk result (λ r. r.1 ≡ (client_command (meaning_of K.Registry) (slice_index_or cs num d) command).notes) }
     ensures many { OnOk result (length clients.new.items ≡ length clients.old.items) }
 {
-    let client = clients.remove(num);
+    let client = clients.swap_remove(num);
     let Turned { now, sends, notes } = client.command(alloc, command)?;
-    clients.insert(num, now)?;
+    put_back(clients, num, now)?;
     Ok((sends, notes))
 }
 
@@ -64,9 +65,9 @@ pub fn deliver<K: Registry>(
     ensures notes { (cs : List (seen.Client (meaning_of K.Registry))) (d : seen.Client (meaning_of K.Registry)) → KeepsClients (meaning_of K.Registry) clients.old.items cs → IfOk result (λ r. r.1 ≡ (client_deliver (meaning_of K.Registry) (slice_index_or cs num d) from rid msg.now).notes) }
     ensures many { OnOk result (length clients.new.items ≡ length clients.old.items) }
 {
-    let client = clients.remove(num);
+    let client = clients.swap_remove(num);
     let Turned { now, sends, notes } = client.deliver(alloc, from, rid, msg)?;
-    clients.insert(num, now)?;
+    put_back(clients, num, now)?;
     Ok((sends, notes))
 }
 
@@ -83,8 +84,8 @@ pub fn tick<K: Registry>(
     ensures notes { (cs : List (seen.Client (meaning_of K.Registry))) (d : seen.Client (meaning_of K.Registry)) → KeepsClients (meaning_of K.Registry) clients.old.items cs → IfOk result (λ r. r.1 ≡ (client_tick (meaning_of K.Registry) (slice_index_or cs num d)).notes) }
     ensures many { OnOk result (length clients.new.items ≡ length clients.old.items) }
 {
-    let client = clients.remove(num);
+    let client = clients.swap_remove(num);
     let Turned { now, sends, notes } = client.tick(alloc)?;
-    clients.insert(num, now)?;
+    put_back(clients, num, now)?;
     Ok((sends, notes))
 }

@@ -1,6 +1,6 @@
 //! All nodes and all packets, and one step.
 
-ghost use Rattle.std.specs.Prelude.{◌≡◌, ◌<◌, ◌≤◌, ◌+◌, ◌^◌, Some, None, map, length, slice_get, slice_index_or, option_copied, IfOk, OnOk, IsSome, replicate, is_some, true};
+ghost use Rattle.std.specs.Prelude.{◌≡◌, ◌<◌, ◌≤◌, ◌+◌, ◌-◌, ◌^◌, Some, None, map, length, slice_get, slice_index_or, option_copied, IfOk, OnOk, IsSome, replicate, is_some, true};
 ghost use Rattle.tg_base.specs.declared.packet.Packet.{Packet};
 ghost use Rattle.tg_kind.specs.Of.{meaning_of};
 ghost use Rattle.tg_model.specs.declared.command.Event.TheVariants as event;
@@ -24,9 +24,6 @@ use tg_kind::Registry;
 use tg_model::{CommandOf, DoneOf, Event, EventOf, MarkOf};
 use tg_world_log::history_of;
 use tg_world_servers::Servers;
-
-/// How many steps a run has at most.
-const MAX_STEPS: u32 = 200_000;
 
 /// The clients of a world, and the replies so far, on the heap.
 #[derive(Drop)]
@@ -97,6 +94,13 @@ impl<K: Registry> World<K> {
         let _event = self.parts.event;
     }
 
+    /// How many events have begun. It takes no memory.
+    pub fn event(&self) -> u64
+        ensures { result ≡ self.now.event }
+    {
+        self.parts.event
+    }
+
     /// How many steps were taken. It takes no memory.
     #[tactic(auto, using(crate::proofs::Telling::steps_told))]
     pub fn steps(&self) -> u32
@@ -111,6 +115,14 @@ impl<K: Registry> World<K> {
         ensures { (w : seen.World (meaning_of K.Registry)) → KeepsWorld (meaning_of K.Registry) self.now w → result ≡ length w.packets }
     {
         self.servers.post().sent()
+    }
+
+    /// The packets that were sent, by number. It takes no memory.
+    #[tactic(auto, using(crate::proofs::Telling::packets_told))]
+    pub fn packets(&self) -> &[Packet]
+        ensures { (w : seen.World (meaning_of K.Registry)) → KeepsWorld (meaning_of K.Registry) self.now w → result.now ≡ w.packets }
+    {
+        self.servers.post().packets()
     }
 
     /// The packet with a number: None exactly where it isn't sent yet. It takes no memory.
@@ -140,7 +152,8 @@ impl<K: Registry> World<K> {
     /// The limit that was reached, if one was: the steps before the bytes. It takes no memory.
     #[tactic(auto, using(crate::proofs::Telling::limit_told))]
     pub fn limit(&self) -> Option<Which>
-        ensures { (w : seen.World (meaning_of K.Registry)) → KeepsWorld (meaning_of K.Registry) self.now w → result ≡ seen.limit_of (meaning_of K.Registry) w }
+        ensures limit { (w : seen.World (meaning_of K.Registry)) → KeepsWorld (meaning_of K.Registry) self.now w → result ≡ seen.limit_of (meaning_of K.Registry) w }
+        ensures room { result ≡ None → self.now.servers.steps < 200000 }
     {
         self.servers.limit()
     }
@@ -217,32 +230,35 @@ impl<K: Registry> World<K> {
         history_of::<K>(alloc, log.as_slice())
     }
 
-    /// The next event begins. An `Err` is want of numbers, which no run comes to.
-    pub fn next_event(self) -> Result<World<K>, NoMemory>
-        ensures { (w : seen.World (meaning_of K.Registry)) → KeepsWorld (meaning_of K.Registry) self w → IfOk result (λ r. KeepsWorld (meaning_of K.Registry) r (seen.next_event (meaning_of K.Registry) w)) }
+    /// The next event begins. It takes no memory.
+    pub fn next_event(self) -> World<K>
+        requires { self.event < 2 ^ 64 - 1 }
+        ensures { (w : seen.World (meaning_of K.Registry)) → KeepsWorld (meaning_of K.Registry) self w → KeepsWorld (meaning_of K.Registry) result (seen.next_event (meaning_of K.Registry) w) }
     {
-        let event = self.parts.event.checked_add(1).ok_or(NoMemory)?;
+        let event = self.parts.event + 1;
         let World { servers, mut parts } = self;
         parts.event = event;
-        Ok(World { servers, parts })
+        World { servers, parts }
     }
 
     /// One step: an event, which on a stopped node does nothing but count.
     ///
-    /// An `Err` is want of memory, or of numbers: no step follows the 200,000th. Nothing is left of the world then.
+    /// No step follows the 200,000th ([`World::limit`]). An `Err` is want of memory, or of numbers. Nothing is left of
+    /// the world then.
     #[tactic(auto, using(crate::proofs::Events::lose_keeps))]
     pub fn step(self, alloc: Global, event: EventOf<K>) -> Result<World<K>, NoMemory>
-        requires { IsWorld (meaning_of K.Registry) self }
+        requires kept { IsWorld (meaning_of K.Registry) self }
+        requires room { self.servers.steps < 200000 }
         ensures keeps { (w : seen.World (meaning_of K.Registry)) → KeepsWorld (meaning_of K.Registry) self w → IfOk result (λ r. KeepsWorld (meaning_of K.Registry) r (seen.happens (meaning_of K.Registry) w event)) }
         ensures steps { IfOk result (λ r. r.servers.steps ≡ self.servers.steps + 1) }
     {
-        if self.servers.steps() >= MAX_STEPS {
-            return Err(NoMemory);
-        }
         match event {
             Event::Command { client, cmd } => self.command(alloc, client, cmd),
             Event::Deliver { packet } => self.deliver(alloc, packet),
-            Event::Lose { packet } => Ok(self.lose(packet)),
+            Event::Lose { packet } => {
+                self.rules();
+                Ok(self.lose(packet))
+            }
             Event::Tick { node } => self.tick(alloc, node),
             Event::Stop { node } => self.stop(node),
         }
@@ -312,7 +328,7 @@ impl<K: Registry> World<K> {
             inner.noted[client as usize],
             notes,
         )?;
-        servers.send(client_node(client), outs.as_slice())?;
+        servers.send(client_node(client), outs)?;
         servers.count_step();
         Ok(World { servers, parts })
     }
@@ -390,7 +406,7 @@ impl<K: Registry> World<K> {
             notes,
         )?;
         servers.hand(number)?;
-        servers.send(client_node(num), outs.as_slice())?;
+        servers.send(client_node(num), outs)?;
         servers.count_step();
         Ok(World { servers, parts })
     }
@@ -455,7 +471,7 @@ impl<K: Registry> World<K> {
             inner.noted[num as usize],
             notes,
         )?;
-        servers.send(client_node(num), outs.as_slice())?;
+        servers.send(client_node(num), outs)?;
         servers.count_step();
         Ok(World { servers, parts })
     }

@@ -1,6 +1,7 @@
+pub mod Swapping
 mod Moving
 mod Starting
 mod Taking
-mod Waiting
+mod Waits
 mod Counting
 mod Boxed

@@ -1,5 +1,6 @@
--- A node is moved out of a row, and back.
-use Rattle.std.specs.Prelude.{◌≡◌, ℕ, zero, suc, ◌+◌, ◌<◌, ◌≤◌, List, [], ◌∷◌, length, insert, remove, slice_set, slice_index_or, refl}
+-- Rows of nodes: what was moved out, and what the row is afterwards.
+use Rattle.std.specs.Prelude.{◌≡◌, ℕ, zero, suc, ◌+◌, ◌<◌, ◌≤◌, List, [], ◌∷◌, ◌++◌, length, swap, slice_set, slice_index_or, refl}
+use Rattle.std.specs.List.{swap_remove}
 use Rattle.std.proofs.Common.{sym, ap, subst, ◌∙◌, arith}
 use Rattle.std.proofs.lemmas.List.{length-map}
 use Rattle.tg_base.specs.Clusters.{Header}
@@ -8,11 +9,7 @@ use Rattle.tg_protocol.specs.Sequencers.{SeqrState}
 use Rattle.tg_seqr.specs.Counted.{Counted}
 use Rattle.tg_world_servers.specs.Kept.{IsWhole}
 use Rattle.tg_world_servers.specs.Rows.{state_of, states_of, AreCounted}
-
-pub put_back : {X : Type 0} (xs : List X) (n : ℕ) (y : X) → n < length xs → insert (remove xs n) n y ≡ slice_set xs n y
-put_back [] n y h = absurd (omega (arith, h))
-put_back (x ∷ xs) zero y h = refl
-put_back (x ∷ xs) (suc n) y h = let k : n < length xs = omega (arith, h) in λ i. x ∷ put_back xs n y k i
+use Rattle.tg_world_servers.proofs.Swapping.{set_back}
 
 pub set_length : {X : Type 0} (xs : List X) (n : ℕ) (y : X) → length (slice_set xs n y) ≡ length xs
 set_length [] n y = refl
@@ -24,13 +21,10 @@ same_read [] n d e h = absurd (omega (arith, h))
 same_read (x ∷ xs) zero d e h = refl
 same_read (x ∷ xs) (suc n) d e h = let k : n < length xs = omega (arith, h) in same_read xs n d e k
 
--- what was taken out, and the row after it is put back
+-- what was moved out
 
 pub was_there : {X : Type 0} (xs : List X) (n : ℕ) (x d : X) → n < length xs → x ≡ slice_index_or xs n x → x ≡ slice_index_or xs n d
 was_there xs n x d h e = e ∙ same_read xs n x d h
-
-pub set_back : {X : Type 0} (xs ys zs : List X) (n : ℕ) (y : X) → n < length xs → ys ≡ remove xs n → zs ≡ insert ys n y → zs ≡ slice_set xs n y
-set_back {X} xs ys zs n y h e f = f ∙ ap (λ (l : List X). insert l n y) e ∙ put_back xs n y h
 
 -- ---- sequencers by their states
 
@@ -90,9 +84,9 @@ has_room c q us ls cs steps h room = counted_more steps 199999 cs (omega (arith,
 
 -- ---- a sequencer's turn in its row
 
-module _ (cs ds es : List Counted) (n : ℕ) (was now : Counted) (within : n < length cs) (there : was ≡ slice_index_or cs n was) (taken : ds ≡ remove cs n) (put : es ≡ insert ds n now) where
+module _ (cs ds es : List Counted) (n : ℕ) (was now : Counted) (within : n < length cs) (there : was ≡ slice_index_or cs n was) (taken : ds ≡ swap_remove cs n was) (put : es ≡ swap (ds ++ now ∷ []) n (length ds)) where
   row_is : es ≡ slice_set cs n now
-  row_is = set_back cs ds es n now within taken put
+  row_is = set_back cs ds es n was now within taken put
 
   pub state_was : (d : SeqrState) → was.state ≡ slice_index_or (states_of cs) n d
   state_was d = ap (λ (c : Counted). c.state) there ∙ states_read cs n was d within

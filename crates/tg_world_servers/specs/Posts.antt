@@ -1,5 +1,5 @@
 -- All packets that were ever sent, and which of them were delivered or lost.
-use Rattle.std.specs.Prelude.{◌≡◌, ℕ, ◌+◌, ◌-◌, ◌^◌, ◌≤◌, not, ◌==◌, min, List, [], ◌∷◌, ◌++◌, filter, map, length, Option, Some, None}
+use Rattle.std.specs.Prelude.{◌≡◌, ℕ, ◌+◌, ◌-◌, ◌^◌, not, ◌==◌, min, List, [], ◌∷◌, ◌++◌, filter, map, length, Option, Some, None}
 use Rattle.tg_base.specs.declared.ids.NodeId.{NodeId}
 use Rattle.tg_base.specs.declared.msg.Msg.{Msg}
 use Rattle.tg_base.specs.declared.packet.Out.{Out}
@@ -57,12 +57,7 @@ first_of (i ∷ is) = Some i
 abbrev pub capped : ℕ → ℕ
 capped n = min n (2 ^ 64 - 1)
 
--- numbers from a least one on and below a bound, rising
-abbrev pub AreWithin : ℕ → ℕ → List ℕ → Type 0
-AreWithin least bound [] = least ≤ bound
-AreWithin least bound (i ∷ is) = (least ≤ i) × AreWithin (i + 1) bound is
-
--- packets that were sent wait by their numbers, and the bytes are counted
-pub record IsCounted (packets : List Packet) (waiting : List ℕ) (bytes : ℕ) : Type 0 where
-  pub sent : AreWithin 0 (length packets) waiting
+-- the row of those that wait has a place for each packet, and the bytes are counted
+pub record IsCounted (packets : List Packet) (sent bytes : ℕ) : Type 0 where
+  pub all : sent ≡ length packets
   pub counted : bytes ≡ capped (bytes_of packets)

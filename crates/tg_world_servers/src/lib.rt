@@ -7,7 +7,9 @@ mod rows;
 mod servers;
 mod sizes;
 mod starts;
+mod waiting;
 
 pub use post::Post;
+pub use rows::put_back;
 pub use servers::Servers;
 pub use sizes::size;

@@ -4,16 +4,16 @@ ghost use Rattle.std.specs.Prelude.{◌≡◌, ◌<◌, ◌∷◌, [], length, m
 ghost use Rattle.tg_world_servers.specs.Posts.{new_post, packet_from, answer_from, posted, handed, lost, first_of, capped};
 
 use crate::sizes::size;
+use crate::waiting::Waiting;
 use std::alloc::Global;
-use std::collections::BTreeSet;
 use std::marker::Model;
-use tg_base::{Msg, NoMemory, NodeId, Out, Packet};
+use tg_base::{List, Msg, NoMemory, NodeId, Out, Packet};
 
 /// All packets that were ever sent, numbered from 0 in the order in which they were sent; which of them wait, and
 /// which were delivered.
 pub struct Post {
     packets: Vec<Packet>,
-    waiting: BTreeSet<u64>,
+    waiting: Waiting,
     // The last one stands last.
     delivered: Vec<u64>,
     bytes: u64,
@@ -37,9 +37,9 @@ impl Model for Post {
 
     ghost Value = { PostState };
 
-    ghost view = { λ s. record { packets = s.packets.items; waiting = s.waiting.keys; delivered = reverse s.delivered.items; bytes = bytes_of s.packets.items } };
+    ghost view = { λ s. record { packets = s.packets.items; waiting = s.waiting.numbers; delivered = reverse s.delivered.items; bytes = bytes_of s.packets.items } };
 
-    ghost invariant = { λ s. IsCounted s.packets.items s.waiting.keys s.bytes };
+    ghost invariant = { λ s. IsCounted s.packets.items s.waiting.sent s.bytes };
 }
 
 impl Post {
@@ -49,7 +49,7 @@ impl Post {
     {
         Post {
             packets: Vec::new(alloc),
-            waiting: BTreeSet::new(alloc),
+            waiting: Waiting::new(alloc),
             delivered: Vec::new(alloc),
             bytes: 0,
         }
@@ -80,7 +80,7 @@ impl Post {
     pub fn first_waiting(&self) -> Option<u64>
         ensures { result ≡ first_of self.now.waiting }
     {
-        self.waiting.first().copied()
+        self.waiting.first()
     }
 
     /// How many bytes all packets take, and the greatest number where there are more. It takes no memory.
@@ -90,21 +90,26 @@ impl Post {
         self.bytes
     }
 
-    /// A packet is sent. An `Err` is want of memory; the packet may be among those sent then.
+    /// A packet is sent. An `Err` is want of memory, and changes nothing.
     pub fn send(&mut self, packet: Packet) -> Result<(), NoMemory>
-        ensures { OnOk result (self.new ≡ posted self.old (packet ∷ [])) }
+        ensures ok { OnOk result (self.new ≡ posted self.old (packet ∷ [])) }
+        ensures kept { OnErr result (self.new ≡ self.old) }
     {
-        let number = self.packets.as_slice().len() as u64;
         let bytes = self.bytes.saturating_add(size(&packet));
         self.packets.push(packet)?;
-        self.bytes = bytes;
-        self.waiting.insert(number)?;
-        Ok(())
+        match self.waiting.send() {
+            Ok(()) => {
+                self.bytes = bytes;
+                Ok(())
+            }
+            Err(want) => {
+                self.packets.pop();
+                Err(want)
+            }
+        }
     }
 
-    /// The answer of a node to another one is sent, if there is one. An `Err` is want of memory; the packet may be
-    /// among those sent then.
-    #[tactic(auto, using(crate::proofs::Counting::posted_none))]
+    /// The answer of a node to another one is sent, if there is one. An `Err` is want of memory, and changes nothing.
     pub fn answer(
         &mut self,
         from: NodeId,
@@ -112,7 +117,8 @@ impl Post {
         rid: u64,
         says: Option<Msg>,
     ) -> Result<(), NoMemory>
-        ensures { OnOk result (self.new ≡ posted self.old (answer_from from to rid says)) }
+        ensures ok { OnOk result (self.new ≡ posted self.old (answer_from from to rid says)) }
+        ensures kept { OnErr result (self.new ≡ self.old) }
     {
         match says {
             None => Ok(()),
@@ -121,8 +127,8 @@ impl Post {
     }
 
     /// What a node sends, in order. An `Err` is want of memory; some of the packets may be among those sent then.
-    pub fn send_all(&mut self, from: NodeId, outs: &[Out]) -> Result<(), NoMemory>
-        ensures { OnOk result (self.new ≡ posted self.old (map (packet_from from) outs.now)) }
+    pub fn send_all(&mut self, from: NodeId, outs: List<Out>) -> Result<(), NoMemory>
+        ensures { OnOk result (self.new ≡ posted self.old (map (packet_from from) outs)) }
     {
         send_each(self, from, outs)
     }
@@ -133,7 +139,7 @@ impl Post {
         ensures kept { OnErr result (self.new ≡ self.old) }
     {
         self.delivered.push(number)?;
-        self.waiting.remove(&number);
+        self.waiting.end(number);
         Ok(())
     }
 
@@ -141,32 +147,19 @@ impl Post {
     pub fn lose(&mut self, number: u64)
         ensures { self.new ≡ lost self.old number }
     {
-        self.waiting.remove(&number);
+        self.waiting.end(number);
     }
 }
 
 // What a node sends, one after the other.
-#[tactic(auto, using(crate::proofs::Counting::posted_none, crate::proofs::Counting::posted_next))]
-fn send_each(post: &mut Post, from: NodeId, outs: &[Out]) -> Result<(), NoMemory>
-    ensures { OnOk result (post.new ≡ posted post.old (map (packet_from from) outs.now)) }
+fn send_each(post: &mut Post, from: NodeId, outs: List<Out>) -> Result<(), NoMemory>
+    ensures { OnOk result (post.new ≡ posted post.old (map (packet_from from) outs)) }
 {
-    match outs {
-        [] => Ok(()),
-        [out, others @ ..] => {
-            let packet = packet_of(from, out)?;
-            post.send(packet)?;
-            send_each(post, from, others)
-        }
+    if outs.is_empty() {
+        return Ok(());
     }
-}
-
-fn packet_of(from: NodeId, out: &Out) -> Result<Packet, NoMemory>
-    ensures { IfOk result (λ p. p ≡ packet_from from out.now) }
-{
-    Ok(Packet {
-        from,
-        to: out.to,
-        rid: out.rid,
-        msg: out.msg.copy()?,
-    })
+    let mut others = outs;
+    let Out { to, rid, msg } = others.remove(0);
+    post.send(Packet { from, to, rid, msg })?;
+    send_each(post, from, others)
 }

@@ -1,6 +1,6 @@
-//! The step of one node of a row. The node is moved out of the row and back.
+//! The step of one node of a row. The node is moved out of the row, where the last one takes its place, and back.
 
-ghost use Rattle.std.specs.Prelude.{◌≡◌, ◌<◌, ◌+◌, ℕ, length, slice_set, slice_index_or, IfOk, OnOk};
+ghost use Rattle.std.specs.Prelude.{◌≡◌, ◌<◌, ◌≤◌, ◌+◌, ◌++◌, ◌∷◌, [], ℕ, length, slice_set, slice_index_or, swap, IfOk, OnOk};
 ghost use Rattle.tg_protocol.specs.Units.{UnitState, unit_step};
 ghost use Rattle.tg_protocol.specs.LayoutServers.{LayoutState, layout_step};
 ghost use Rattle.tg_protocol.specs.Sequencers.{SeqrState, seqr_step, seqr_tick};
@@ -24,9 +24,9 @@ pub fn unit_takes(
     ensures now { (d : UnitState) → OnOk result (units.new.items ≡ slice_set units.old.items num (unit_step (slice_index_or units.old.items num d) msg.now).now) }
     ensures says { (d : UnitState) → IfOk result (λ says. says ≡ (unit_step (slice_index_or units.old.items num d) msg.now).says) }
 {
-    let unit = units.remove(num);
+    let unit = units.swap_remove(num);
     let (unit, says) = unit.step(alloc, msg)?;
-    units.insert(num, unit)?;
+    put_back(units, num, unit)?;
     Ok(says)
 }
 
@@ -40,9 +40,9 @@ pub fn layout_takes(
     ensures now { (d : LayoutState) → OnOk result (layouts.new.items ≡ slice_set layouts.old.items num (layout_step (slice_index_or layouts.old.items num d) msg.now).now) }
     ensures says { (d : LayoutState) → IfOk result (λ says. says ≡ (layout_step (slice_index_or layouts.old.items num d) msg.now).says) }
 {
-    let layout = layouts.remove(num);
+    let layout = layouts.swap_remove(num);
     let (layout, says) = layout.step(msg)?;
-    layouts.insert(num, layout)?;
+    put_back(layouts, num, layout)?;
     Ok(says)
 }
 
@@ -61,9 +61,9 @@ pub fn seqr_takes(
     ensures sends { (d : SeqrState) → IfOk result (λ outs. outs ≡ (seqr_step (slice_index_or (states_of seqrs.old.items) num d) from rid msg.now).sends) }
     ensures counted { (steps : ℕ) → AreCounted steps seqrs.old.items → OnOk result (AreCounted (steps + 1) seqrs.new.items) }
 {
-    let seqr = seqrs.remove(num);
+    let seqr = seqrs.swap_remove(num);
     let (seqr, outs) = seqr.step(alloc, from, rid, msg)?;
-    seqrs.insert(num, seqr)?;
+    put_back(seqrs, num, seqr)?;
     Ok(outs)
 }
 
@@ -75,8 +75,19 @@ pub fn seqr_ticks(alloc: Global, seqrs: &mut Vec<Seqr>, num: usize) -> Result<Li
     ensures sends { (d : SeqrState) → IfOk result (λ outs. outs ≡ (seqr_tick (slice_index_or (states_of seqrs.old.items) num d)).sends) }
     ensures counted { (steps : ℕ) → AreCounted steps seqrs.old.items → OnOk result (AreCounted (steps + 1) seqrs.new.items) }
 {
-    let seqr = seqrs.remove(num);
+    let seqr = seqrs.swap_remove(num);
     let (seqr, outs) = seqr.tick(alloc)?;
-    seqrs.insert(num, seqr)?;
+    put_back(seqrs, num, seqr)?;
     Ok(outs)
+}
+
+/// A node comes back to its place from the end of its row. An `Err` is want of memory.
+pub fn put_back<T: Drop>(row: &mut Vec<T>, num: usize, node: T) -> Result<(), NoMemory>
+    requires { num ≤ length row.old.items }
+    ensures { OnOk result (row.new.items ≡ swap (row.old.items ++ node ∷ []) num (length row.old.items)) }
+{
+    let last = row.len();
+    row.push(node)?;
+    row.swap(num, last);
+    Ok(())
 }

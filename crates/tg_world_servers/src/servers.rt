@@ -223,8 +223,8 @@ impl Servers {
     }
 
     /// What a node sends, in order. An `Err` is want of memory; some of the packets may be among those sent then.
-    pub fn send(&mut self, from: NodeId, outs: &[Out]) -> Result<(), NoMemory>
-        ensures { OnOk result (self.new ≡ sends self.old from outs.now) }
+    pub fn send(&mut self, from: NodeId, outs: List<Out>) -> Result<(), NoMemory>
+        ensures { OnOk result (self.new ≡ sends self.old from outs) }
     {
         self.parts.post.send_all(from, outs)
     }
@@ -378,7 +378,7 @@ impl Servers {
             packet.rid,
             &packet.msg,
         )?;
-        inner.post.send_all(seqr(num), outs.as_slice())?;
+        inner.post.send_all(seqr(num), outs)?;
         inner.steps += 1;
         Ok(Servers { parts })
     }
@@ -395,7 +395,7 @@ impl Servers {
         let Servers { mut parts } = self;
         let inner = &mut *parts;
         let outs = seqr_ticks(alloc, &mut inner.seqrs, num as usize)?;
-        inner.post.send_all(seqr(num), outs.as_slice())?;
+        inner.post.send_all(seqr(num), outs)?;
         inner.steps += 1;
         Ok(Servers { parts })
     }

@@ -5,7 +5,7 @@ use Rattle.tg_model.specs.declared.command.Event.TheVariants as event
 use Rattle.tg_play.proofs.Means.{means}
 use Rattle.tg_protocol.specs.Worlds.{World, Ran}
 use Rattle.tg_world.specs.Kept.{KeepsWorld}
-use Rattle.tg_world.specs.Runs.{happens_on, puts_on}
+use Rattle.tg_world.specs.Runs.{happens_on}
 use Rattle.tg_world.proofs.Parts.{stops, goes}
 use Rattle.tg_world.proofs.going.puts.Goals as goal
 

@@ -41,24 +41,24 @@ pub returns-in-Some-clause-world : goal.returns-in-Some-clause-world
 returns-in-Some-clause-world g t c = λ w h.
     let m = means g.K.Kind g.K.Registry in
     subst (λ (x : Ran m). KeepsWorld m c.args.world x.world)
-    (sym (all_stops m c.args.nodes.now _ _ w c.in-Some.which (split_nodes c.args.nodes.now _ c.in-len1-up.len_at_least) (sym (c.runs.ensures w h) ∙ c.if-not-runs.false) (sym (c.limit.ensures w h) ∙ c.in-Some.is))) h
+    (sym (all_stops m c.args.nodes.now _ _ w c.in-Some.which (split_nodes c.args.nodes.now _ c.in-len1-up.len_at_least) (sym (c.runs.ensures w h) ∙ c.if-not-runs.false) (sym (c.limit.ensures.limit w h) ∙ c.in-Some.is))) h
 
 pub returns-in-Some-clause-stopped : goal.returns-in-Some-clause-stopped
 returns-in-Some-clause-stopped g t c = λ w h.
     let m = means g.K.Kind g.K.Registry in
     ap (λ (x : Ran m). x.stopped)
-    (sym (all_stops m c.args.nodes.now _ _ w c.in-Some.which (split_nodes c.args.nodes.now _ c.in-len1-up.len_at_least) (sym (c.runs.ensures w h) ∙ c.if-not-runs.false) (sym (c.limit.ensures w h) ∙ c.in-Some.is)))
+    (sym (all_stops m c.args.nodes.now _ _ w c.in-Some.which (split_nodes c.args.nodes.now _ c.in-len1-up.len_at_least) (sym (c.runs.ensures w h) ∙ c.if-not-runs.false) (sym (c.limit.ensures.limit w h) ∙ c.in-Some.is)))
 
 pub returns-in_ok-world-in-None-clause-world : goal.returns-in_ok-world-in-None-clause-world
 returns-in_ok-world-in-None-clause-world g t c = λ w h.
     let m = means g.K.Kind g.K.Registry in
     subst (λ (x : Ran m). IfOk c.tick_all-in-None.result (λ r. KeepsWorld m r.world x.world))
-    (sym (all_next m c.args.nodes.now _ _ w (split_nodes c.args.nodes.now _ c.in-len1-up.len_at_least) (sym (c.runs.ensures w h) ∙ c.if-not-runs.false) (sym (c.limit.ensures w h) ∙ c.in-None.is)))
+    (sym (all_next m c.args.nodes.now _ _ w (split_nodes c.args.nodes.now _ c.in-len1-up.len_at_least) (sym (c.runs.ensures w h) ∙ c.if-not-runs.false) (sym (c.limit.ensures.limit w h) ∙ c.in-None.is)))
     (c.tick_all-in-None.ensures.world _ (c.in_ok-world-in-None.ensures.keeps w h))
 
 pub returns-in_ok-world-in-None-clause-stopped : goal.returns-in_ok-world-in-None-clause-stopped
 returns-in_ok-world-in-None-clause-stopped g t c = λ w h.
     let m = means g.K.Kind g.K.Registry in
     subst (λ (x : Ran m). IfOk c.tick_all-in-None.result (λ r. r.stopped ≡ x.stopped))
-    (sym (all_next m c.args.nodes.now _ _ w (split_nodes c.args.nodes.now _ c.in-len1-up.len_at_least) (sym (c.runs.ensures w h) ∙ c.if-not-runs.false) (sym (c.limit.ensures w h) ∙ c.in-None.is)))
+    (sym (all_next m c.args.nodes.now _ _ w (split_nodes c.args.nodes.now _ c.in-len1-up.len_at_least) (sym (c.runs.ensures w h) ∙ c.if-not-runs.false) (sym (c.limit.ensures.limit w h) ∙ c.in-None.is)))
     (c.tick_all-in-None.ensures.stopped _ (c.in_ok-world-in-None.ensures.keeps w h))

@@ -13,6 +13,9 @@ loop-packet-init g c = record {
   reached = λ w h. reached_start (means g.K.Kind g.K.Registry) c.args.world w h c.rules.ensures.few;
 }
 
+pub step-requires-clause-room : goal.step-requires-clause-room
+step-requires-clause-room g c = c.due.ensures.room (subst (λ (o : Option ℕ). IsSome o) (sym c.in-Some.is) refl)
+
 pub loop-packet-preserved : goal.loop-packet-preserved
 loop-packet-preserved g c =
     let m = means g.K.Kind g.K.Registry in

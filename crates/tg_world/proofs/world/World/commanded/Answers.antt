@@ -1,5 +1,4 @@
-use Rattle.std.proofs.Common.{◌≡◌, ◌<◌, ◌∙◌, List, length, refl, sym, ap, subst, arith}
-use Rattle.tg_base.specs.declared.packet.Out.{Out}
+use Rattle.std.proofs.Common.{◌≡◌, ◌<◌, ◌∙◌, length, refl, sym, ap, subst, arith}
 use Rattle.tg_base.specs.declared.ids.NodeId.{NodeId}
 use Rattle.tg_play.proofs.Means.{means}
 use Rattle.tg_protocol.specs.Words.{client_id}
@@ -32,7 +31,7 @@ invariant_of-result g c =
     let view : as_told m c.self.inside.servers q ≡ c.args.self = ap (as_told m c.self.inside.servers) c.deref_mut-inner.ensures.value ∙ c.self.view_is in
     let whole : IsWholeIn m c.self.inside.servers q = whole_in m c.self.inside.servers q _ c.deref_mut-inner.ensures.value c.self.invariant in
     let s : ServersState = c.self.inside.servers in
-    let moved : c.count_step.new.self ≡ counted (sends s c.client_node.result c.as_slice.result.now) = c.count_step.ensures ∙ ap (λ (x : ServersState). counted x) c.in_ok-send.ensures in
+    let moved : c.count_step.new.self ≡ counted (sends s c.client_node.result c.in_ok-outs.outs) = c.count_step.ensures ∙ ap (λ (x : ServersState). counted x) c.in_ok-send.ensures in
     whole_turned c.self.inside.servers c.count_step.new.self q.clients.items c.command.new.clients.items q.told.items c.tell.new.told.items q.told_noted.items c.tell.new.told_noted.items
     q.noted.items c.note_client.new.noted.items whole (ap (λ (x : ServersState). x.cluster) moved) (ap (λ (x : ServersState). x.steps) moved)
     (subst (λ (x : KeptOf m). x.servers.steps < 200000) (sym view) c.requires.room) c.in_ok-outs.ensures.many c.note_client.ensures.many c.in_ok-tell.ensures.many
@@ -52,7 +51,7 @@ returns-clause-keeps g c = λ w h.
     let many : length c.note_client.new.noted.items ≡ length q.noted.items = c.note_client.ensures.many in
     let within_noted : c.args.client < length c.note_client.new.noted.items = omega (arith, before, many) in
     let sent : c.send.new.self ≡ sends s (client_id c.args.client) c.in_ok-outs.outs =
-    c.in_ok-send.ensures ∙ ap (λ (x : NodeId). sends s x c.as_slice.result.now) c.client_node.ensures ∙ ap (λ (os : List Out). sends s (client_id c.args.client) os) c.as_slice.ensures in
+    c.in_ok-send.ensures ∙ ap (λ (x : NodeId). sends s x c.in_ok-outs.outs) c.client_node.ensures in
     let d = new_client m w.cluster c.args.client in
     commanded_keeps m k w c.args.client c.args.cmd _ hk (record {
       outs = c.in_ok-outs.outs;

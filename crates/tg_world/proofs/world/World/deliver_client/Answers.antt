@@ -1,5 +1,4 @@
-use Rattle.std.proofs.Common.{◌≡◌, ◌<◌, ◌∙◌, List, length, refl, sym, ap, subst}
-use Rattle.tg_base.specs.declared.packet.Out.{Out}
+use Rattle.std.proofs.Common.{◌≡◌, ◌<◌, ◌∙◌, length, refl, sym, ap, subst}
 use Rattle.tg_base.specs.declared.packet.Packet.{Packet}
 use Rattle.tg_base.specs.declared.ids.NodeId.{NodeId}
 use Rattle.tg_play.proofs.Means.{means}
@@ -37,8 +36,8 @@ returns-clause-keeps g c = λ w p h at to.
     c.packets.ensures ∙ ap (λ (x : PostState). x.packets) c.post.ensures ∙ ap (λ (x : KeptOf m). x.servers.post.packets) view in
     let same : c.index-packets-number.result ≡ p = packet_there c.packets.result.now c.args.self.servers.post.packets c.args.number c.index-packets-number.result p row at c.index-packets-number.is in
     let sent : c.send.new.self ≡ sends (hands s c.args.number) (client_id c.args.num) c.in_ok-outs.outs =
-    c.in_ok-send.ensures ∙ ap (λ (x : ServersState). sends x c.client_node.result c.as_slice.result.now) c.in_ok-hand.ensures.ok
-    ∙ ap (λ (x : NodeId). sends (hands s c.args.number) x c.as_slice.result.now) c.client_node.ensures ∙ ap (λ (os : List Out). sends (hands s c.args.number) (client_id c.args.num) os) c.as_slice.ensures in
+    c.in_ok-send.ensures ∙ ap (λ (x : ServersState). sends x c.client_node.result c.in_ok-outs.outs) c.in_ok-hand.ensures.ok
+    ∙ ap (λ (x : NodeId). sends (hands s c.args.number) x c.in_ok-outs.outs) c.client_node.ensures in
     let d = new_client m w.cluster c.args.num in
     subst (λ (x : Packet). KeepsWorld m l (world.counted m (world.client_moves m (world.handed m w c.args.number) c.args.num x))) same
     (delivered_keeps m k w c.args.number c.args.num c.index-packets-number.result l hk (record {

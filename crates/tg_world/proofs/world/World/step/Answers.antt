@@ -4,7 +4,6 @@ use Rattle.tg_play.proofs.Means.{means}
 use Rattle.tg_model.specs.Kinds.{EventOf}
 use Rattle.tg_protocol.specs.Worlds.{happens}
 use Rattle.tg_world.specs.Kept.{KeepsWorld}
-use Rattle.tg_world.proofs.Whole.{whole_of}
 use Rattle.tg_world.proofs.Events.{lose_keeps}
 use Rattle.tg_world.proofs.world.World.step.Goals as goal
 
@@ -22,7 +21,7 @@ pub returns-in-Lose-clause-keeps : goal.returns-in-Lose-clause-keeps
 returns-in-Lose-clause-keeps g c = λ w h.
     let m = means g.K.Kind g.K.Registry in
     subst (λ (e : EventOf m). KeepsWorld m c.lose.result (happens m w e)) (sym c.in-Lose.is)
-    (lose_keeps m c.args.self c.lose.result w (whole_of m _ c.args.self c.self.view_is c.self.invariant) h c.in-Lose.packet c.lose.ensures)
+    (lose_keeps m c.args.self c.lose.result w c.rules.ensures.whole h c.in-Lose.packet c.lose.ensures)
 
 pub returns-in-Tick-clause-keeps : goal.returns-in-Tick-clause-keeps
 returns-in-Tick-clause-keeps g c = λ w h.

@@ -1,5 +1,4 @@
-use Rattle.std.proofs.Common.{◌≡◌, ◌<◌, ◌∙◌, List, length, refl, sym, ap, subst}
-use Rattle.tg_base.specs.declared.packet.Out.{Out}
+use Rattle.std.proofs.Common.{◌≡◌, ◌<◌, ◌∙◌, length, refl, sym, ap, subst}
 use Rattle.tg_base.specs.declared.ids.NodeId.{NodeId}
 use Rattle.tg_play.proofs.Means.{means}
 use Rattle.tg_protocol.specs.Words.{client_id}
@@ -32,7 +31,7 @@ returns-clause-keeps g c = λ w h.
     let within_noted : c.args.num < length q.noted.items =
     noted_within s q.clients.items q.told.items q.told_noted.items q.noted.items c.args.num whole within in
     let sent : c.send.new.self ≡ sends s (client_id c.args.num) c.in_ok-outs.outs =
-    c.in_ok-send.ensures ∙ ap (λ (x : NodeId). sends s x c.as_slice.result.now) c.client_node.ensures ∙ ap (λ (os : List Out). sends s (client_id c.args.num) os) c.as_slice.ensures in
+    c.in_ok-send.ensures ∙ ap (λ (x : NodeId). sends s x c.in_ok-outs.outs) c.client_node.ensures in
     let d = new_client m w.cluster c.args.num in
     turned_alike m k w c.args.num (client_tick m (client m w c.args.num)) _ hk (record {
       outs = c.in_ok-outs.outs;

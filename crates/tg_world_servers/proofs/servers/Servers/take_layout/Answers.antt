@@ -18,5 +18,5 @@ returns-clause-now c = λ p at to.
     let q : Parts = c.deref_mut-inner.result.now in
     let s : ServersState = as_told q in
     let found : c.index-packets-number.result ≡ p = packet_got c.packets.result.now c.args.self.post.packets c.args.number c.index-packets-number.result p (c.packets.ensures ∙ ap (λ (x : Parts). x.post.packets) c.deref_mut-inner.ensures.value ∙ ap (λ (x : ServersState). x.post.packets) c.self.view_is) at c.index-packets-number.is in
-    layout_took s p c.index-packets-number.result c.args.num found to c.layout_takes.new.layouts.items c.in_ok-says.says c.answer.new.self c.in_ok-says.ensures.now c.in_ok-says.ensures.says c.in_ok-answer.ensures
+    layout_took s p c.index-packets-number.result c.args.num found to c.layout_takes.new.layouts.items c.in_ok-says.says c.answer.new.self c.in_ok-says.ensures.now c.in_ok-says.ensures.says c.in_ok-answer.ensures.ok
     ∙ ap (λ (x : Parts). counted (layout_takes (as_told x) p)) c.deref_mut-inner.ensures.value ∙ ap (λ (x : ServersState). counted (layout_takes x p)) c.self.view_is

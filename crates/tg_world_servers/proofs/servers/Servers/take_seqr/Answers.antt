@@ -1,7 +1,5 @@
-use Rattle.std.proofs.Common.{◌≡◌, ◌<◌, List, length, map, sym, ap, subst, ◌∙◌}
-use Rattle.tg_base.specs.declared.packet.Out.{Out}
+use Rattle.std.proofs.Common.{◌≡◌, ◌<◌, length, sym, ap, subst, ◌∙◌}
 use Rattle.tg_protocol.specs.Sequencers.{new_seqr}
-use Rattle.tg_world_servers.specs.Posts.{posted, packet_from}
 use Rattle.tg_world_servers.specs.Rows.{states_of}
 use Rattle.tg_world_servers.specs.Servers.{ServersState, counted, seqr_takes}
 use Rattle.tg_world_servers.specs.declared.servers.Parts.{Parts}
@@ -28,6 +26,5 @@ returns-clause-now c = λ p at to.
     let q : Parts = c.deref_mut-inner.result.now in
     let s : ServersState = as_told q in
     let found : c.index-packets-number.result ≡ p = packet_got c.packets.result.now c.args.self.post.packets c.args.number c.index-packets-number.result p (c.packets.ensures ∙ ap (λ (x : Parts). x.post.packets) c.deref_mut-inner.ensures.value ∙ ap (λ (x : ServersState). x.post.packets) c.self.view_is) at c.index-packets-number.is in
-    seqr_took s p c.index-packets-number.result c.args.num found to (states_of c.seqr_takes.new.seqrs.items) c.in_ok-outs.outs c.seqr.result c.send_all.new.self c.in_ok-outs.ensures.now c.in_ok-outs.ensures.sends c.seqr.ensures
-    (c.in_ok-send_all.ensures ∙ ap (λ (os : List Out). posted q.post (map (packet_from c.seqr.result) os)) c.as_slice.ensures)
+    seqr_took s p c.index-packets-number.result c.args.num found to (states_of c.seqr_takes.new.seqrs.items) c.in_ok-outs.outs c.seqr.result c.send_all.new.self c.in_ok-outs.ensures.now c.in_ok-outs.ensures.sends c.seqr.ensures c.in_ok-send_all.ensures
     ∙ ap (λ (x : Parts). counted (seqr_takes (as_told x) p)) c.deref_mut-inner.ensures.value ∙ ap (λ (x : ServersState). counted (seqr_takes x p)) c.self.view_is

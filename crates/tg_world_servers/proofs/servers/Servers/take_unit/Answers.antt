@@ -24,5 +24,5 @@ returns-clause-now c = λ p at to.
     let found : c.index-packets-number.result ≡ p = packet_got c.packets.result.now c.args.self.post.packets c.args.number c.index-packets-number.result p (c.packets.ensures ∙ ap (λ (x : Parts). x.post.packets) c.deref_mut-inner.ensures.value ∙ ap (λ (x : ServersState). x.post.packets) c.self.view_is) at c.index-packets-number.is in
     unit_took s p c.index-packets-number.result c.args.num found to (newest q.first c.packets-2.result.now c.layouts-layouts.result) c.as_slice.result.now c.unit_takes.new.units.items c.archive_after.new.archive.entries c.in_ok-says.says c.answer.new.self
     (ap (newest q.first c.packets-2.result.now) (c.layouts-layouts.ensures ∙ sym (ap (λ (x : Parts). x.cluster.layouts) c.deref_mut-inner.ensures.value ∙ ap (λ (x : ServersState). x.cluster.layouts) c.self.view_is)) ∙ ap (λ (l : Layout). newest l c.packets-2.result.now q.cluster.layouts) (whole_in q _ c.deref_mut-inner.ensures.value c.self.invariant).begins ∙ ap (λ (qs : List Packet). newest (first_layout q.cluster) qs q.cluster.layouts) c.packets-2.ensures) c.as_slice.ensures.value
-    c.in_ok-says.ensures.now c.in_ok-archive_after.ensures c.in_ok-says.ensures.says c.in_ok-answer.ensures
+    c.in_ok-says.ensures.now c.in_ok-archive_after.ensures c.in_ok-says.ensures.says c.in_ok-answer.ensures.ok
     ∙ ap (λ (x : Parts). counted (unit_takes (as_told x) p)) c.deref_mut-inner.ensures.value ∙ ap (λ (x : ServersState). counted (unit_takes x p)) c.self.view_is
