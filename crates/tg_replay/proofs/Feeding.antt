@@ -43,14 +43,14 @@ pub outside_took : (text line : List ℕ) (read more : List (List ℕ)) (r : Run
     ((m : Line) → IsLine s.header m → MayCome (world_of s) m → line ≡ line_text m → ⊥) → IsOutside r f → Took text (read ++ line ∷ []) f
 outside_took text line read more r s (Goes q) h cut none m = absurd m
 outside_took text line read more r s (Stops f) h cut none m =
-    let at : 4 + r.events ≡ 4 + length s.events = ap (λ n. 4 + n) h.events in
-    ended text f (Outside (4 + r.events)) (Some r) m.0 m.1 (
+    let at : 4 + r.world.event ≡ 4 + length s.events = ap (λ n. 4 + n) h.events in
+    ended text f (Outside (4 + r.world.event)) (Some r) m.0 m.1 (
       s,
       h.world,
       h.cluster,
-      refuses_event text line read more r s h cut none (4 + r.events) at,
+      refuses_event text line read more r s h cut none (4 + r.world.event) at,
       h.events,
-      first_event text line read more r s h cut none (4 + r.events) at,
+      first_event text line read more r s h cut none (4 + r.world.event) at,
     )
 
 pub outside_kept : (r : Run) (f : Fed) → IsOutside r f → GoesOnKept f
@@ -66,12 +66,12 @@ made_kept r x (Goes q) m = record { world = x.world; keeps = m.1.world }
 made_kept r x (Stops f) m = tt
 
 -- what is made of a line that may come
-pub made_took : (text line : List ℕ) (read more : List (List ℕ)) (r : Run) (s : Script) (l : Line) (f : Fed) → IsRunOf read r s → r.events + 4 < 2 ^ 64 → lines text ≡ read ++ line ∷ more →
+pub made_took : (text line : List ℕ) (read more : List (List ℕ)) (r : Run) (s : Script) (l : Line) (f : Fed) → IsRunOf read r s → r.world.event + 4 < 2 ^ 64 → lines text ≡ read ++ line ∷ more →
     IsLine s.header l → MayCome (world_of s) l → line ≡ line_text l → ((m : Line) → IsLine s.header m → line ≡ line_text m → m ≡ l) →
     IsMade r (line_on (world_of s) l) f → Took text (read ++ line ∷ []) f
 made_took text line read more r s l (Goes q) h room cut is comes spelled one m = (longer s l, run_goes_on read r q s line l h room is comes spelled one m.0 m.1)
 made_took text line read more r s l (Stops f) h room cut is comes spelled one m =
-    let events : m.run.events ≡ length (s.events ++ l ∷ []) = let a = h.events in let b = length_last s.events l in let e = m.after.events in omega arith in
+    let events : m.run.world.event ≡ length (s.events ++ l ∷ []) = let a = h.events in let b = length_last s.events l in let e = m.after.events in omega arith in
     ended text f (Limited m.which) (Some m.run) m.end m.is (
       longer s l,
       subst (λ (x : Runs). KeepsWorld all_kinds m.run.world x.world) (sym (run_longer s l h.within)) m.after.world,
@@ -168,7 +168,7 @@ header_outside none (Some text) (Some rest) n f e h g i =
     ended text f (Outside n) None g i (refuses_header text n is.0 is.1)
 
 pub header_opens : (none : List ℕ) (left rest : Option (List ℕ)) (h : Header) (r : Run) (result : Result Finish IoErr) → none ≡ [] → Opened (ahead none left) rest (Opens h) → TakesFeeds 3 (ahead none left) rest →
-    IsHeader h → r.cluster ≡ h → KeepsWorld all_kinds r.world (start all_kinds h) → r.events ≡ 0 →
+    IsHeader h → r.cluster ≡ h → KeepsWorld all_kinds r.world (start all_kinds h) → r.world.event ≡ 0 →
     IfSome rest (λ rest. (text : List ℕ) → Reads text r rest → IfOk result (Finished text)) → IfSome left (λ text. IfOk result (Finished text))
 header_opens none None rest h r result e is took lawful cluster world events ends = tt
 header_opens none (Some text) None h r result e is took lawful cluster world events ends = absurd is
@@ -179,7 +179,7 @@ header_opens none (Some text) (Some rest) h r result e is took lawful cluster wo
 
 -- the source failed after a header
 pub opens_first : (none : List ℕ) (left rest after : Option (List ℕ)) (h : Header) (r : Run) → none ≡ [] → Opened (ahead none left) rest (Opens h) → TakesFeeds 3 (ahead none left) rest →
-    IsHeader h → r.cluster ≡ h → KeepsWorld all_kinds r.world (start all_kinds h) → r.events ≡ 0 →
+    IsHeader h → r.cluster ≡ h → KeepsWorld all_kinds r.world (start all_kinds h) → r.world.event ≡ 0 →
     IfSome rest (λ rest. (text : List ℕ) → Reads text r rest → NoneOutside text after (IsOutsideAt text)) → IfSome left (λ text. NoneOutside text after (IsOutsideAt text))
 opens_first none None rest after h r e is took lawful cluster world events first = tt
 opens_first none (Some text) None after h r e is took lawful cluster world events first = absurd is

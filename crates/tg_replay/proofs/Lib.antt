@@ -1,5 +1,6 @@
 pub mod Lists
 pub mod Making
+pub mod Numbering
 pub mod Scripts
 pub mod Feeding
 pub mod Exact

@@ -80,11 +80,11 @@ next_line read r s h t lawful line e =
       comes = subst (λ (x : Script). MayCome (world_of x) event.0) same (lawful.comes (length s.events) event.0 event.1);
     }
 
-counted_longer : (read : List (List ℕ)) (r : Run) (s : Script) (l : Line) → IsRunOf read r s → r.events + 4 < 2 ^ 64 → IsCounted (longer s l)
+counted_longer : (read : List (List ℕ)) (r : Run) (s : Script) (l : Line) → IsRunOf read r s → r.world.event + 4 < 2 ^ 64 → IsCounted (longer s l)
 counted_longer read r s l h room = let a = h.events in let b = length_last s.events l in omega (arith, a, b, room)
 
 -- a run goes on by a line
-pub run_goes_on : (read : List (List ℕ)) (r q : Run) (s : Script) (line : List ℕ) (l : Line) → IsRunOf read r s → r.events + 4 < 2 ^ 64 → IsLine s.header l → MayCome (world_of s) l → line ≡ line_text l →
+pub run_goes_on : (read : List (List ℕ)) (r q : Run) (s : Script) (line : List ℕ) (l : Line) → IsRunOf read r s → r.world.event + 4 < 2 ^ 64 → IsLine s.header l → MayCome (world_of s) l → line ≡ line_text l →
     ((m : Line) → IsLine s.header m → line ≡ line_text m → m ≡ l) → (line_on (world_of s) l).stopped ≡ None → IsAfter r (line_on (world_of s) l).world q → IsRunOf (read ++ line ∷ []) q (longer s l)
 run_goes_on read r q s line l h room is comes spelled one within after =
     let runs : run_of (longer s l) ≡ line_on (world_of s) l = run_longer s l h.within in
@@ -186,7 +186,7 @@ refuses_header text (suc n) le h =
     }
 
 -- the run of a header alone
-pub run_opens : (h : Header) (r : Run) → IsHeader h → r.cluster ≡ h → KeepsWorld all_kinds r.world (start all_kinds h) → r.events ≡ 0 → IsRunOf (header_lines h) r (opening h)
+pub run_opens : (h : Header) (r : Run) → IsHeader h → r.cluster ≡ h → KeepsWorld all_kinds r.world (start all_kinds h) → r.world.event ≡ 0 → IsRunOf (header_lines h) r (opening h)
 unfolding lines_on
 run_opens h r lawful cluster world events = record {
   lawful = opening_lawful h lawful;
@@ -222,7 +222,7 @@ passes_limit text line read more r s l which h cut is comes spelled over =
       before = subst IsWithin (sym (at_end s l (length (s.events ++ l ∷ []) - 1) before)) h.within;
     }
 
-pub run_limited : (text line : List ℕ) (read more : List (List ℕ)) (r : Run) (s : Script) (l : Line) (which : Which) → IsRunOf read r s → r.events + 4 < 2 ^ 64 → lines text ≡ read ++ line ∷ more →
+pub run_limited : (text line : List ℕ) (read more : List (List ℕ)) (r : Run) (s : Script) (l : Line) (which : Which) → IsRunOf read r s → r.world.event + 4 < 2 ^ 64 → lines text ≡ read ++ line ∷ more →
     IsLine s.header l → MayCome (world_of s) l → line ≡ line_text l → (line_on (world_of s) l).stopped ≡ Some which → Limited text which (transcript s.header (world_of (longer s l)))
 run_limited text line read more r s l which h room cut is comes spelled over = record {
   script = longer s l;

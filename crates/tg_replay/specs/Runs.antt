@@ -1,16 +1,12 @@
 -- What a text says: a script and its world, and what a run of it comes to.
-use Rattle.std.specs.Prelude.{◌≡◌, ℕ, ◌+◌, ◌-◌, ◌<◌, ◌≤◌, ◌^◌, ◌++◌, List, [], ◌∷◌, length, map, take, nat_le, Bool, true, false, slice_get, Option, Some, None}
+use Rattle.std.specs.Prelude.{◌≡◌, ℕ, ◌+◌, ◌-◌, ◌<◌, ◌≤◌, ◌^◌, ◌++◌, List, [], ◌∷◌, length, map, take, nat_le, Bool, true, false, slice_get, Some, None}
 use Rattle.tg_base.specs.Clusters.{Header, IsHeader}
 use Rattle.tg_base.specs.declared.fault.Which.{Which}
-use Rattle.tg_base.specs.declared.ids.Oid.{Oid}
 use Rattle.tg_io.specs.declared.status.Status.{Status}
 use Rattle.tg_io.specs.declared.status.Status.TheVariants.{Done, Script as AtLine, Limit}
-use Rattle.tg_any.specs.declared.any.AnyOp.{AnyOp}
 use Rattle.tg_any.specs.Words.{joined as in_a_row}
-use Rattle.tg_model.specs.Kinds.{EventOf}
-use Rattle.tg_model.specs.declared.command.Command.TheVariants as cmd
 use Rattle.tg_model.specs.declared.command.Event.TheVariants as event
-use Rattle.tg_protocol.specs.Worlds.{World, Ran, ran, start, happens, next_event, limit_of, drain, settle, unless_stopped, trace, history}
+use Rattle.tg_protocol.specs.Worlds.{World, Ran, ran, start, next_event, drain, settle, unless_stopped, trace, history}
 use Rattle.tg_script.specs.Headers.{header_lines}
 use Rattle.tg_script.specs.Lines.{line_words, line_fits}
 use Rattle.tg_script.specs.declared.line.Line.{Line}

@@ -1,11 +1,6 @@
 -- What reading has found of a text: the lines so far, and how it ended.
 use Rattle.std.specs.Prelude.{◌≡◌, ℕ, ◌+◌, ◌++◌, List, [], length, take, Option, Some, None}
 use Rattle.tg_base.specs.declared.fault.Which.{Which}
-use Rattle.tg_base.specs.declared.ids.Oid.{Oid}
-use Rattle.tg_any.specs.declared.any.AnyOp.{AnyOp}
-use Rattle.tg_model.specs.declared.command.Command.TheVariants as cmd
-use Rattle.tg_model.specs.declared.command.Event.TheVariants as event
-use Rattle.tg_protocol.specs.Worlds.{unless_stopped}
 use Rattle.tg_io.specs.declared.status.Status.{Status}
 use Rattle.tg_io.specs.declared.status.Status.TheVariants.{Done, Script as AtLine, Limit}
 use Rattle.tg_world.specs.Kept.{IsWorld, KeepsWorld}
@@ -28,7 +23,7 @@ pub record IsRunOf (read : List (List ℕ)) (r : Run) (s : Script) : Type 0 wher
   pub lines : read ≡ text_lines s
   pub cluster : r.cluster ≡ s.header
   pub world : KeepsWorld all_kinds r.world (world_of s)
-  pub events : r.events ≡ length s.events
+  pub events : r.world.event ≡ length s.events
   pub only : (t : Script) → IsScript t → take (length read) (text_lines t) ≡ read → front (length s.events) t ≡ s
 
 -- The lines of the text that were read are those of a run's script; the rest is still to come.
@@ -56,7 +51,7 @@ EndsAt text _ s = ⊥
 abbrev pub Ends : List ℕ → Status → Option Run → Type 0
 Ends text status None = Outcome text status []
 Ends text status (Some r) = (s : Script) × KeepsWorld all_kinds r.world (world_of s) × (r.cluster ≡ s.header) × Outcome text status (transcript s.header (world_of s))
-    × (r.events ≡ length s.events) × EndsAt text status s
+    × (r.world.event ≡ length s.events) × EndsAt text status s
 
 abbrev pub Finished : List ℕ → Finish → Type 0
 Finished text f = Ends text (status_of f.end) f.run
@@ -68,14 +63,14 @@ Took text read (Stops finish) = Finished text finish
 
 -- the next event line is outside, after this run
 abbrev pub IsOutside : Run → Fed → Type 0
-IsOutside r (Stops f) = (f.end ≡ Outside (4 + r.events)) × (f.run ≡ Some r)
+IsOutside r (Stops f) = (f.end ≡ Outside (4 + r.world.event)) × (f.run ≡ Some r)
 IsOutside r (Goes q) = ⊥
 
 -- a run after one line more
 pub record IsAfter (r : Run) (w : Worlds) (q : Run) : Type 0 where
   pub cluster : q.cluster ≡ r.cluster
   pub world : KeepsWorld all_kinds q.world w
-  pub events : q.events ≡ r.events + 1
+  pub events : q.world.event ≡ r.world.event + 1
 
 -- a limit has stopped a run in the midst of a line
 pub record IsStopped (r : Run) (x : Runs) (f : Finish) : Type 0 where
@@ -98,7 +93,7 @@ GoesOnKept (Stops f) = Unit {0}
 
 -- a run that goes on has one event more
 abbrev pub CountsOn : ℕ → Fed → Type 0
-CountsOn n (Goes q) = q.events ≡ n + 1
+CountsOn n (Goes q) = q.world.event ≡ n + 1
 CountsOn n (Stops f) = Unit {0}
 
 -- One run was read up to a rest of a text, and goes on to another up to a later rest, as far as the source tells its text.

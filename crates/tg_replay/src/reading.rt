@@ -46,7 +46,7 @@ fn read_events<S: Source>(
 ) -> Result<Finish, IoErr>
     requires kept { IsWorld all_kinds run.world }
     // A source gives fewer than 2^64 bytes, and each line takes one at least.
-    requires room { run.events + 3 + (length reader.old + S.room source.old) < 2 ^ 64 }
+    requires room { run.world.event + 3 + (length reader.old + S.room source.old) < 2 ^ 64 }
     ensures finished { IfSome (ahead reader.old (S.left source.old)) (λ rest. (text : List ℕ) → Reads text run rest → IfOk result (Finished text)) }
     ensures cause { HasCause (S.faults source.old) (S.faults source.new) result }
     ensures sure { StaysSure (S.sure source.old) (S.sure source.new) (S.faults source.old) (S.faults source.new) }

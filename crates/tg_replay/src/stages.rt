@@ -8,9 +8,8 @@ use tg_world::World;
 #[derive(Drop)]
 pub struct Run {
     pub cluster: Cluster,
+    /// Its number of events is that of the event lines which were read.
     pub world: World<AnyKind>,
-    /// How many event lines were read.
-    pub events: u64,
 }
 
 /// How reading ended.

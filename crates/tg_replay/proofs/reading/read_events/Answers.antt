@@ -33,8 +33,8 @@ loop-run-preserved g c =
     let rose : g.S.Source.faults c.loop-run.source ≤ g.S.Source.faults c.next.new.source = c.in_ok-line.ensures.cause.later in
     let less : length c.next.new.self + g.S.Source.room c.next.new.source < length c.loop-run.reader + g.S.Source.room c.loop-run.source =
     subst (λ (o : Option (List ℕ)). IfSome o (λ l. length c.next.new.self + g.S.Source.room c.next.new.source < length c.loop-run.reader + g.S.Source.room c.loop-run.source)) c.in-Some.is c.in_ok-line.ensures.less in
-    let room : c.loop-run.run.events + 3 + (length c.loop-run.reader + g.S.Source.room c.loop-run.source) < 2 ^ 64 = i.room in
-    let counts : c.in-Goes.next.events ≡ c.loop-run.run.events + 1 = subst (CountsOn c.loop-run.run.events) c.in-Goes.is c.in_ok-next.ensures.counts in
+    let room : c.loop-run.run.world.event + 3 + (length c.loop-run.reader + g.S.Source.room c.loop-run.source) < 2 ^ 64 = i.room in
+    let counts : c.in-Goes.next.world.event ≡ c.loop-run.run.world.event + 1 = subst (CountsOn c.loop-run.run.world.event) c.in-Goes.is c.in_ok-next.ensures.counts in
     record {
       reads = still_more before rest after c.args.run c.loop-run.run c.in-Goes.next c.in-Some.line i.reads line c.in_ok-line.ensures.feeds feeds;
       kept = subst GoesOnKept c.in-Goes.is c.in_ok-next.ensures.kept;
@@ -63,5 +63,5 @@ pub feed-requires-clause-room : goal.feed-requires-clause-room
 feed-requires-clause-room g c =
     let less : length c.next.new.self + g.S.Source.room c.next.new.source < length c.loop-run.reader + g.S.Source.room c.loop-run.source =
     subst (λ (o : Option (List ℕ)). IfSome o (λ l. length c.next.new.self + g.S.Source.room c.next.new.source < length c.loop-run.reader + g.S.Source.room c.loop-run.source)) c.in-Some.is c.in_ok-line.ensures.less in
-    let room : c.loop-run.run.events + 3 + (length c.loop-run.reader + g.S.Source.room c.loop-run.source) < 2 ^ 64 = c.loop-run.invariant.room in
+    let room : c.loop-run.run.world.event + 3 + (length c.loop-run.reader + g.S.Source.room c.loop-run.source) < 2 ^ 64 = c.loop-run.invariant.room in
     omega (arith, less, room)

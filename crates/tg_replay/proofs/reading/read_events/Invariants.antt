@@ -10,7 +10,7 @@ abbrev pub invariant-loop-run : goal.invariant-loop-run
 invariant-loop-run g l = record {
   reads : StillReads (ahead l.fn.reader (g.S.Source.left l.fn.source)) (ahead l.reader (g.S.Source.left l.source)) l.fn.run l.run;
   kept : IsWorld all_kinds l.run.world;
-  room : l.run.events + 3 + (length l.reader + g.S.Source.room l.source) < 2 ^ 64;
+  room : l.run.world.event + 3 + (length l.reader + g.S.Source.room l.source) < 2 ^ 64;
   still : g.S.Source.faults l.source ≡ g.S.Source.faults l.fn.source;
   later : g.S.Source.faults l.fn.source ≤ g.S.Source.faults l.source;
   sure : StaysSure (g.S.Source.sure l.fn.source) (g.S.Source.sure l.source) (g.S.Source.faults l.fn.source) (g.S.Source.faults l.source);

@@ -9,7 +9,7 @@ returns-in-Some-clause-made c = λ r x same next kept over. record {
   which = c.in-Some.which;
   over = sym over ∙ c.in-Some.is;
   end = refl;
-  run = record { cluster = c.args.cluster; world = c.args.ran.world; events = c.args.events };
+  run = record { cluster = c.args.cluster; world = c.args.ran.world };
   is = refl;
   after = record { cluster = same; world = kept; events = next };
 }

@@ -27,13 +27,13 @@ pub returns-in_default-clause-kept : goal.returns-in_default-clause-kept
 returns-in_default-clause-kept c = outside_kept c.args.self c.outside.result c.outside.ensures
 
 pub returns-in_default-clause-counts : goal.returns-in_default-clause-counts
-returns-in_default-clause-counts c = outside_counts c.args.self.events c.args.self c.outside.result c.outside.ensures
+returns-in_default-clause-counts c = outside_counts c.args.self.world.event c.args.self c.outside.result c.outside.ensures
 
 pub returns-then-not-may_come-clause-kept : goal.returns-then-not-may_come-clause-kept
 returns-then-not-may_come-clause-kept c = outside_kept c.args.self c.outside-then-not-may_come.result c.outside-then-not-may_come.ensures
 
 pub returns-then-not-may_come-clause-counts : goal.returns-then-not-may_come-clause-counts
-returns-then-not-may_come-clause-counts c = outside_counts c.args.self.events c.args.self c.outside-then-not-may_come.result c.outside-then-not-may_come.ensures
+returns-then-not-may_come-clause-counts c = outside_counts c.args.self.world.event c.args.self c.outside-then-not-may_come.result c.outside-then-not-may_come.ensures
 
 pub returns-then-not-may_come-clause-took : goal.returns-then-not-may_come-clause-took
 returns-then-not-may_come-clause-took c = λ text read more s cut h.
