@@ -1,5 +1,5 @@
 -- A live run that is kept, after a line and after a datagram.
-use Rattle.std.proofs.Common.{◌≡◌, ◌∙◌, ℕ, ◌+◌, List, [], ◌∷◌, ◌++◌, map, drop, length, Option, Some, None, refl, sym, ap, subst, append_assoc}
+use Rattle.std.proofs.Common.{◌≡◌, ◌≤◌, ◌∙◌, ℕ, ◌+◌, List, [], ◌∷◌, ◌++◌, map, drop, length, Option, Some, None, refl, sym, ap, subst, append_assoc, length-append, arith}
 use Rattle.std.proofs.lemmas.List.{map-append}
 use Rattle.tg_base.specs.Clusters.{Header}
 use Rattle.tg_base.specs.declared.fault.Which.{Which}
@@ -54,6 +54,10 @@ lines_more (k ∷ ks) l = ap (λ (t : List ℕ). k ++ 10 ∷ t) (lines_more ks l
 
 pub text_more : (ls : List Line) (l : Line) → lines_text (map line_text (ls ++ l ∷ [])) ≡ lines_text (map line_text ls) ++ (line_text l ++ 10 ∷ [])
 text_more ls l = ap lines_text (map-append line_text ls (l ∷ [])) ∙ lines_more (map line_text ls) (line_text l)
+
+-- a recording is longer after a line, whose line feed it has got at least
+pub line_longer : (before after text : List ℕ) → after ≡ before ++ (text ++ 10 ∷ []) → length before + 1 ≤ length after
+line_longer before after text e = omega (arith, ap length e, length-append before (text ++ 10 ∷ []), length-append text (10 ∷ []))
 
 pub made_keeps : (h : Header) (first before after : Carried) (k v : Kept) (l : Live) (x : Line) (r : Runs) → Keeps h first before k l → v.cluster ≡ k.cluster → KeepsWorld all_kinds v.world r.world
     → IsMadeOver l.world.packets r.world.packets k.book v.book before after → v.recording ≡ k.recording ++ (line_text x ++ 10 ∷ []) → v.received ≡ k.received → Keeps h first after v (after_line l x r).live

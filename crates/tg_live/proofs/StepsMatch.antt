@@ -1,5 +1,5 @@
 -- A book after a packet was sent, and after one was delivered.
-use Rattle.std.proofs.Common.{◌≡◌, ◌∙◌, ◌⊎◌, inl, inr, ℕ, suc, zero, ◌+◌, ◌<◌, Bool, true, false, cond, ◌&&◌, List, [], ◌∷◌, ◌++◌, length, drop, slice_get, Some, None, refl, sym, ap, subst, arith, length-append}
+use Rattle.std.proofs.Common.{◌≡◌, ◌∙◌, ◌⊎◌, inl, inr, ℕ, suc, zero, ◌+◌, ◌<◌, Bool, true, false, cond, ◌&&◌, List, [], ◌∷◌, ◌++◌, length, drop, slice_get, Some, None, Result, Ok, Err, OnOk, OnErr, refl, sym, ap, subst, arith, length-append}
 use Rattle.std.specs.declared.option.Option.{Option}
 use Rattle.std.specs.Str.{bytes_eq}
 use Rattle.std.proofs.lemmas.List.{append-nil, drop-append-le}
@@ -136,11 +136,10 @@ all_below_with : (n : ℕ) (r : Option ℕ) (delivered : List ℕ) → ((i : ℕ
 all_below_with n None delivered f h = h
 all_below_with n (Some i) delivered f h = (f i refl, h)
 
-pub book_arrives : (b c : Book) (node : NodeId) (datagram : List ℕ) → c.count ≡ b.count
+pub book_arrives : (b c : Book) (node : NodeId) (datagram : List ℕ)
     → ((d : List ℕ) → found c.copies.entries d ≡ cond (bytes_eq datagram d) (handed node (found b.copies.entries d)) (found b.copies.entries d))
     → (sent : Sent) (delivered : List ℕ) → IsBook b sent delivered → IsBook c sent (with_delivered (answer node (found b.copies.entries datagram)) delivered)
-book_arrives b c node datagram count at sent delivered h = record {
-  count = count ∙ h.count;
+book_arrives b c node datagram at sent delivered h = record {
   known = all_below_with (length sent) (answer node (found b.copies.entries datagram)) delivered (λ i e. answer_below sent delivered node datagram (found b.copies.entries datagram) i (h.kept datagram) e) h.known;
   kept = λ d. subst (AreKept sent (with_delivered (answer node (found b.copies.entries datagram)) delivered) d) (sym (at d)) (by d (bytes_eq datagram d) refl);
 }
@@ -223,28 +222,29 @@ noted_there sent delivered other x (Some c) apart k = record {
   rest = k.rest;
 }
 
-pub book_notes : (b c : Book) (to : NodeId) (datagram : List ℕ) → c.count ≡ b.count + 1
-    → ((d : List ℕ) → found c.copies.entries d ≡ cond (bytes_eq datagram d) (Some (with_number to b.count (found b.copies.entries datagram))) (found b.copies.entries d))
-    → (sent : Sent) (delivered : List ℕ) → IsBook b sent delivered → GoesTo sent datagram to → IsBook c (sent ++ (to, datagram) ∷ []) delivered
-book_notes b c to datagram count at sent delivered h goes = record {
-  count = count ∙ (let e : b.count + 1 ≡ length (sent ++ (to, datagram) ∷ []) = omega (arith, length-append sent ((to, datagram) ∷ []), h.count) in e);
+pub book_notes : {X E : Type 0} (r : Result X E) (b c : Book) (number : ℕ) (to : NodeId) (datagram : List ℕ)
+    → ((d : List ℕ) → OnOk r (found c.copies.entries d ≡ cond (bytes_eq datagram d) (Some (with_number to number (found b.copies.entries datagram))) (found b.copies.entries d)))
+    → (sent : Sent) (delivered : List ℕ) → IsBook b sent delivered → number ≡ length sent → GoesTo sent datagram to → OnOk r (IsBook c (sent ++ (to, datagram) ∷ []) delivered)
+book_notes (Err e) b c number to datagram at sent delivered h next goes = tt
+book_notes (Ok r) b c number to datagram at sent delivered h next goes = record {
   known = (let e : length sent + 1 ≡ length (sent ++ (to, datagram) ∷ []) = omega (arith, length-append sent ((to, datagram) ∷ [])) in
       subst (λ (n : ℕ). AllBelow n delivered) e (all_below_more (length sent) delivered h.known));
   kept = λ d. subst (AreKept (sent ++ (to, datagram) ∷ []) delivered d) (sym (at d)) (by d (bytes_eq datagram d) refl);
 }
   where
-    by : (d : List ℕ) (t : Bool) → bytes_eq datagram d ≡ t → AreKept (sent ++ (to, datagram) ∷ []) delivered d (cond t (Some (with_number to b.count (found b.copies.entries datagram))) (found b.copies.entries d))
+    by : (d : List ℕ) (t : Bool) → bytes_eq datagram d ≡ t → AreKept (sent ++ (to, datagram) ∷ []) delivered d (cond t (Some (with_number to number (found b.copies.entries datagram))) (found b.copies.entries d))
     by d true e =
-        subst (λ (x : List ℕ). AreCopies (sent ++ (to, datagram) ∷ []) delivered x (with_number to b.count (found b.copies.entries datagram))) (bytes_same datagram d e)
-        (subst (λ (n : ℕ). AreCopies (sent ++ (to, datagram) ∷ []) delivered datagram (with_number to n (found b.copies.entries datagram))) (sym h.count)
+        subst (λ (x : List ℕ). AreCopies (sent ++ (to, datagram) ∷ []) delivered x (with_number to number (found b.copies.entries datagram))) (bytes_same datagram d e)
+        (subst (λ (n : ℕ). AreCopies (sent ++ (to, datagram) ∷ []) delivered datagram (with_number to n (found b.copies.entries datagram))) (sym next)
         (noted_here sent delivered datagram to (found b.copies.entries datagram) goes h.known (h.kept datagram)))
     by d false e = noted_there sent delivered d (to, datagram) (found b.copies.entries d) e (h.kept d)
 
 -- ---- nothing more
 
-pub book_same : (b c : Book) → c.count ≡ b.count → ((d : List ℕ) → found c.copies.entries d ≡ found b.copies.entries d) → (sent : Sent) (delivered : List ℕ) → IsBook b sent delivered → IsBook c sent delivered
-book_same b c count at sent delivered h = record {
-  count = count ∙ h.count;
+pub book_same : {X E : Type 0} (r : Result X E) (b c : Book) → ((d : List ℕ) → OnErr r (found c.copies.entries d ≡ found b.copies.entries d)) → (sent : Sent) (delivered : List ℕ) → IsBook b sent delivered
+    → OnErr r (IsBook c sent delivered)
+book_same (Ok x) b c at sent delivered h = tt
+book_same (Err e) b c at sent delivered h = record {
   known = h.known;
   kept = λ d. subst (AreKept sent delivered d) (sym (at d)) (h.kept d);
 }

@@ -39,7 +39,6 @@ found es datagram = lookup (λ k. bytes_eq datagram k.items) es
 
 -- the book of these datagrams, of which those were delivered, the last one first
 pub record IsBook (b : Book) (sent : Sent) (delivered : List ℕ) : Type 0 where
-  pub count : b.count ≡ length sent
   pub known : AllBelow (length sent) delivered
   pub kept : (datagram : List ℕ) → AreKept sent delivered datagram (found b.copies.entries datagram)
 

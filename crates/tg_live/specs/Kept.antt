@@ -1,16 +1,21 @@
 -- What is kept of a live run, and what a part of it comes to over a link.
-use Rattle.std.specs.Prelude.{◌≡◌, List, map, Option}
+use Rattle.std.specs.Prelude.{◌≡◌, ◌≤◌, ℕ, List, length, map, Option}
 use Rattle.tg_base.specs.Clusters.{Header}
 use Rattle.tg_io.specs.Bytes.{Grows}
 use Rattle.tg_live.specs.Books.{IsBook}
 use Rattle.tg_any.specs.AllKinds.{all_kinds}
 use Rattle.tg_replay.specs.Runs.{line_text}
 use Rattle.tg_script.specs.Headers.{lines_text}
-use Rattle.tg_world.specs.Kept.{KeepsWorld}
+use Rattle.tg_world.specs.Kept.{KeptOf, IsWorld, KeepsWorld}
 use Rattle.tg_live.specs.declared.live.Live.{Live as Kept}
 use Rattle.tg_live.specs.declared.live.Went.{Went}
 use Rattle.tg_live.specs.Sends.{Carried, sending, spellings, AreFit}
 use Rattle.tg_live.specs.Lives.{Answer, Live, LiveRan}
+
+-- what is kept is kept of a world, each event of which has put a line into the recording
+pub record IsSound (world : KeptOf all_kinds) (recording : List ℕ) : Type 0 where
+  pub kept : IsWorld all_kinds world
+  pub few : world.event ≤ length recording
 
 -- A live run is kept so, where `first` was done with the link before it, and `now` so far.
 pub record Keeps (h : Header) (first now : Carried) (k : Kept) (l : Live) : Type 0 where

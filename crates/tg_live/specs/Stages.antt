@@ -6,11 +6,9 @@ use Rattle.tg_io.specs.Bytes.{Grows}
 use Rattle.tg_io.specs.declared.status.Status.{Status}
 use Rattle.tg_lines.specs.Feeds.{TakesFeeds}
 use Rattle.tg_lines.specs.Lines.{lines}
-use Rattle.tg_any.specs.AllKinds.{all_kinds}
 use Rattle.tg_replay.specs.Runs.{Script, front, text_lines}
 use Rattle.tg_replay.specs.Stages.{status_of}
 use Rattle.tg_replay.specs.declared.stages.End.TheVariants.{Outside, Limited}
-use Rattle.tg_world.specs.Kept.{IsWorld}
 use Rattle.tg_live.specs.declared.live.Live.{Live as Kept}
 use Rattle.tg_live.specs.declared.live.Went.{Went}
 use Rattle.tg_live.specs.declared.stages.Running.{Running}
@@ -18,7 +16,7 @@ use Rattle.tg_live.specs.declared.stages.Finish.{Finish}
 use Rattle.tg_live.specs.declared.stages.Fed.{Fed}
 use Rattle.tg_live.specs.declared.stages.Fed.TheVariants.{Goes, Stops}
 use Rattle.tg_live.specs.Lives.{Answer, Live, IsLived, opened, goes}
-use Rattle.tg_live.specs.Kept.{Keeps}
+use Rattle.tg_live.specs.Kept.{IsSound, Keeps}
 use Rattle.tg_live.specs.Sends.{Carried}
 use Rattle.tg_live.specs.Scripts.{Over, Outcome, IsLiveScript, printed}
 
@@ -67,7 +65,7 @@ IsAfter r w (Stops f) = (which : Which) × (w.stopped ≡ Some which) × (f.end 
 
 -- the world of a run that goes on is kept of a world of the definitions
 abbrev pub GoesOnKept : Fed → Type 0
-GoesOnKept (Goes q) = IsWorld all_kinds q.live.world
+GoesOnKept (Goes q) = IsSound q.live.world q.live.recording
 GoesOnKept (Stops f) = Unit {0}
 
 -- Line by line.

@@ -1,6 +1,6 @@
 //! The datagrams that were sent, and which packet one of them delivers.
 
-ghost use Rattle.std.specs.Prelude.{◌≡◌, ◌++◌, ◌∷◌, [], ℕ, Some, None, List, OnOk, OnErr, if◌then◌else◌};
+ghost use Rattle.std.specs.Prelude.{◌≡◌, ◌++◌, ◌∷◌, [], ℕ, Some, None, List, length, OnOk, OnErr, if◌then◌else◌};
 ghost use Rattle.std.specs.Map.{lookup};
 ghost use Rattle.std.specs.Str.{bytes_eq};
 ghost use Rattle.tg_live.specs.Matching.{Sent, matched, with_delivered};
@@ -17,16 +17,12 @@ use tg_base::{NoMemory, NodeId};
 /// `delivered` the numbers that were delivered, the last one first.
 pub struct Book {
     copies: BTreeMap<Vec<u8>, Copies>,
-    count: u64,
 }
 
 // By hand, since a derived drop is proved anew wherever a value is dropped.
 impl Drop for Book {
     fn drop(self) {
-        let Book {
-            copies: _,
-            count: _,
-        } = self;
+        let Book { copies: _ } = self;
     }
 }
 
@@ -37,20 +33,22 @@ impl Book {
     {
         Book {
             copies: BTreeMap::new(alloc),
-            count: 0,
         }
     }
 
-    /// A packet was sent to a node as this datagram: the next number is its own. An `Err` is want of memory, or of
-    /// numbers, and changes nothing.
-    pub fn note(&mut self, alloc: Global, to: NodeId, datagram: &[u8]) -> Result<(), NoMemory>
-        ensures noted { (sent : Sent) (delivered : List ℕ) → IsBook self.old sent delivered → GoesTo sent datagram.now to → OnOk result (IsBook self.new (sent ++ (to, datagram.now) ∷ []) delivered) }
+    /// The packet of the next number was sent to a node as this datagram. An `Err` is want of memory, and changes
+    /// nothing.
+    pub fn note(
+        &mut self,
+        alloc: Global,
+        number: u64,
+        to: NodeId,
+        datagram: &[u8],
+    ) -> Result<(), NoMemory>
+        ensures noted { (sent : Sent) (delivered : List ℕ) → IsBook self.old sent delivered → number ≡ length sent → GoesTo sent datagram.now to → OnOk result (IsBook self.new (sent ++ (to, datagram.now) ∷ []) delivered) }
         ensures kept { (sent : Sent) (delivered : List ℕ) → IsBook self.old sent delivered → OnErr result (IsBook self.new sent delivered) }
     {
-        let count = self.count.checked_add(1).ok_or(NoMemory)?;
-        put(alloc, &mut self.copies, to, datagram, self.count)?;
-        self.count = count;
-        Ok(())
+        put(alloc, &mut self.copies, to, datagram, number)
     }
 
     /// The packet that a datagram delivers which came to a node: of the packets to that node that are spelled so the

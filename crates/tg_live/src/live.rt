@@ -1,6 +1,6 @@
 //! A live run, and one line of it.
 
-ghost use Rattle.std.specs.Prelude.{◌≡◌, ◌≤◌, ◌++◌, ◌∷◌, [], ℕ, true, List, Option, length, map, drop, take, slice_get, Some, IfOk, OnOk, OnErr};
+ghost use Rattle.std.specs.Prelude.{◌≡◌, ◌<◌, ◌≤◌, ◌+◌, ◌-◌, ◌^◌, ◌++◌, ◌∷◌, [], ℕ, true, List, Option, length, map, drop, take, slice_get, Some, IfOk, OnOk, OnErr};
 ghost use Rattle.tg_base.specs.Clusters.{Header, IsHeader};
 ghost use Rattle.tg_base.specs.declared.packet.Packet.{Packet};
 ghost use Rattle.tg_io.specs.Bytes.{Grows};
@@ -12,7 +12,7 @@ ghost use Rattle.tg_any.specs.AllKinds.{all_kinds};
 ghost use Rattle.tg_replay.specs.Runs.{line_in, line_on, line_text};
 ghost use Rattle.tg_live.specs.Sends.{Carried, carried, all_gone, AreFit, AreSent, IsMadeOver, spellings, sending};
 ghost use Rattle.tg_live.specs.Lives.{Live as live, is_steps, recorded, after_line, opened, came};
-ghost use Rattle.tg_live.specs.Kept.{Keeps, KeepsRan};
+ghost use Rattle.tg_live.specs.Kept.{IsSound, Keeps, KeepsRan};
 ghost use Rattle.tg_live.specs.Breaks.{GrowsFront};
 
 use crate::Book;
@@ -73,22 +73,22 @@ fn send_from<L: Link>(
     ensures sure { StaysSure (L.sure link.old) (L.sure link.new) (L.faults link.old) (L.faults link.new) }
     ensures still { OnOk result (L.faults link.new ≡ L.faults link.old) }
 {
-    for number in from..world.sent() {
-        let Some(packet) = world.packet(number) else {
-            return Err(IoErr::NoMemory);
-        };
-        send(alloc, link, book, packet)?;
+    let packets = world.packets();
+    for number in from as usize..packets.len() {
+        send(alloc, link, book, number as u64, &packets[number])?;
     }
     Ok(())
 }
 
 // A line's steps, as the next event.
 fn make(alloc: Global, world: World<AnyKind>, line: Line) -> Result<Ran<AnyKind>, NoMemory>
-    requires { IsWorld all_kinds world }
+    requires kept { IsWorld all_kinds world }
+    requires room { world.event < 2 ^ 64 - 1 }
+    ensures event { IfOk result (λ r. r.world.event ≡ world.event + 1) }
     ensures world { (w : seen.World all_kinds) → KeepsWorld all_kinds world w → IfOk result (λ r. KeepsWorld all_kinds r.world (line_on w line).world) }
     ensures stopped { (w : seen.World all_kinds) → KeepsWorld all_kinds world w → IfOk result (λ r. r.stopped ≡ (line_on w line).stopped) }
 {
-    play_line(alloc, world.next_event()?, line)
+    play_line(alloc, world.next_event(), line)
 }
 
 // A line's steps, as far as the limits allow.
@@ -114,8 +114,10 @@ fn make_over<L: Link>(
     line: Line,
 ) -> Result<Ran<AnyKind>, IoErr>
     requires kept { IsWorld all_kinds world }
+    requires room { world.event < 2 ^ 64 - 1 }
     requires steps { is_steps line ≡ true }
     ensures kept { IfOk result (λ r. IsWorld all_kinds r.world) }
+    ensures event { IfOk result (λ r. r.world.event ≡ world.event + 1) }
     ensures world { (w : seen.World all_kinds) → KeepsWorld all_kinds world w → IfOk result (λ r. KeepsWorld all_kinds r.world (line_on w line).world) }
     ensures stopped { (w : seen.World all_kinds) → KeepsWorld all_kinds world w → IfOk result (λ r. r.stopped ≡ (line_on w line).stopped) }
     ensures sent { (w : seen.World all_kinds) → KeepsWorld all_kinds world w → AreFit w.packets → OnOk result (IsMadeOver w.packets (line_on w line).world.packets book.old book.new (carried (L.sent link.old) (L.acts link.old)) (carried (L.sent link.new) (L.acts link.new))) }
@@ -144,7 +146,7 @@ impl Live {
     /// The run that a header opens. An `Err` is want of memory.
     pub(crate) fn start(alloc: Global, cluster: Cluster) -> Result<Live, NoMemory>
         ensures lawful { IsHeader cluster }
-        ensures kept { IfOk result (λ k. IsWorld all_kinds k.world) }
+        ensures kept { IfOk result (λ k. IsSound k.world k.recording) }
         ensures opened { (before : Carried) → IfOk result (λ k. Keeps cluster before before k (opened cluster)) }
     {
         cluster.rules();
@@ -166,9 +168,9 @@ impl Live {
         link: &mut L,
         line: Line,
     ) -> Result<Went, IoErr>
-        requires kept { IsWorld all_kinds self.world }
+        requires kept { IsSound self.world self.recording }
         requires steps { is_steps line ≡ true }
-        ensures kept { IfOk result (λ w. IsWorld all_kinds w.live.world) }
+        ensures kept { IfOk result (λ w. IsSound w.live.world w.live.recording) }
         ensures received { IfOk result (λ w. w.live.received ≡ self.received) }
         ensures recorded { (h : Header) (first : Carried) (l : live) → Keeps h first (carried (L.sent link.old) (L.acts link.old)) self l → IfOk result (λ w. KeepsRan h first (carried (L.sent link.new) (L.acts link.new)) w (recorded l line)) }
         ensures broken { (h : Header) (first : Carried) (l : live) → Keeps h first (carried (L.sent link.old) (L.acts link.old)) self l → OnErr result (GrowsFront first.acts (recorded l line).live.acts (L.acts link.new)) }
@@ -188,9 +190,9 @@ impl Live {
 
     // A line is recorded and its steps are made.
     fn made<L: Link>(self, alloc: Global, link: &mut L, line: Line) -> Result<Went, IoErr>
-        requires kept { IsWorld all_kinds self.world }
+        requires kept { IsSound self.world self.recording }
         requires steps { is_steps line ≡ true }
-        ensures kept { IfOk result (λ w. IsWorld all_kinds w.live.world) }
+        ensures kept { IfOk result (λ w. IsSound w.live.world w.live.recording) }
         ensures received { IfOk result (λ w. w.live.received ≡ self.received) }
         ensures made { (h : Header) (first : Carried) (l : live) → Keeps h first (carried (L.sent link.old) (L.acts link.old)) self l → IfOk result (λ w. KeepsRan h first (carried (L.sent link.new) (L.acts link.new)) w (after_line l line (line_on l.world line))) }
         ensures broken { (h : Header) (first : Carried) (l : live) → Keeps h first (carried (L.sent link.old) (L.acts link.old)) self l → OnErr result (GrowsFront first.acts (after_line l line (line_on l.world line)).live.acts (L.acts link.new)) }
@@ -207,6 +209,8 @@ impl Live {
             received,
         } = self;
         let noted = put_line(alloc, line, &mut recording)?;
+        // Each event has put a line feed there at least.
+        let _bytes = recording.len();
         let ran = make_over(alloc, link, &mut book, world, noted)?;
         Ok(Went {
             live: Live {
@@ -229,8 +233,8 @@ impl Live {
         node: NodeId,
         datagram: &[u8],
     ) -> Result<Went, IoErr>
-        requires { IsWorld all_kinds self.world }
-        ensures kept { IfOk result (λ w. IsWorld all_kinds w.live.world) }
+        requires { IsSound self.world self.recording }
+        ensures kept { IfOk result (λ w. IsSound w.live.world w.live.recording) }
         ensures received { IfOk result (λ w. w.live.received ≡ self.received) }
         ensures came { (h : Header) (first : Carried) (l : live) → Keeps h first (carried (L.sent link.old) (L.acts link.old)) self l → IfOk result (λ w. KeepsRan h first (carried (L.sent link.new) (L.acts link.new)) w (came l node datagram.now)) }
         ensures broken { (h : Header) (first : Carried) (l : live) → Keeps h first (carried (L.sent link.old) (L.acts link.old)) self l → OnErr result (GrowsFront first.acts (came l node datagram.now).live.acts (L.acts link.new)) }

@@ -3,10 +3,8 @@
 ghost use Rattle.std.specs.Prelude.{◌≡◌, ◌≤◌, List, Option, length, IfOk, OnOk, OnErr};
 ghost use Rattle.tg_base.specs.Clusters.{Header};
 ghost use Rattle.tg_io.specs.Faults.{HasCause, StaysSure};
-ghost use Rattle.tg_world.specs.Kept.{IsWorld};
-ghost use Rattle.tg_any.specs.AllKinds.{all_kinds};
 ghost use Rattle.tg_live.specs.Lives.{Live as live, ticked, IsDrained, IsRounds, IsSettled};
-ghost use Rattle.tg_live.specs.Kept.{Keeps, KeepsRan, Made};
+ghost use Rattle.tg_live.specs.Kept.{IsSound, Keeps, KeepsRan, Made};
 ghost use Rattle.tg_live.specs.Sends.{Carried, carried};
 ghost use Rattle.tg_live.specs.Breaks.{GrowsFront, Broken};
 
@@ -27,8 +25,8 @@ impl Live {
     /// Receives until the link has nothing at hand; a datagram that spells a packet delivers it, and others are passed
     /// by. A limit ends it. An `Err` is a fault of the link, or want of memory.
     pub(crate) fn drain<L: Link>(self, alloc: Global, link: &mut L) -> Result<Went, IoErr>
-        requires { IsWorld all_kinds self.world }
-        ensures kept { IfOk result (λ w. IsWorld all_kinds w.live.world) }
+        requires { IsSound self.world self.recording }
+        ensures kept { IfOk result (λ w. IsSound w.live.world w.live.recording) }
         ensures drained { (h : Header) (first : Carried) (l : live) → Keeps h first (carried (L.sent link.old) (L.acts link.old)) self l → IfOk result (Made IsDrained h first (carried (L.sent link.new) (L.acts link.new)) (L.handed link.old) (L.handed link.new) l) }
         ensures broken { (h : Header) (first : Carried) (l : live) → Keeps h first (carried (L.sent link.old) (L.acts link.old)) self l → OnErr result (Broken IsDrained first.acts (L.acts link.new) l) }
         ensures cause { HasCause (L.faults link.old) (L.faults link.new) result }
@@ -64,8 +62,8 @@ impl Live {
     /// A drain, and then up to eight rounds, each one tick of every running node in order and a drain; a round whose
     /// ticks sent nothing is the last. A limit ends it. An `Err` is a fault of the link, or want of memory.
     pub(crate) fn settle<L: Link>(self, alloc: Global, link: &mut L) -> Result<Went, IoErr>
-        requires { IsWorld all_kinds self.world }
-        ensures kept { IfOk result (λ w. IsWorld all_kinds w.live.world) }
+        requires { IsSound self.world self.recording }
+        ensures kept { IfOk result (λ w. IsSound w.live.world w.live.recording) }
         ensures settled { (h : Header) (first : Carried) (l : live) → Keeps h first (carried (L.sent link.old) (L.acts link.old)) self l → IfOk result (Made IsSettled h first (carried (L.sent link.new) (L.acts link.new)) (L.handed link.old) (L.handed link.new) l) }
         ensures broken { (h : Header) (first : Carried) (l : live) → Keeps h first (carried (L.sent link.old) (L.acts link.old)) self l → OnErr result (Broken IsSettled first.acts (L.acts link.new) l) }
         ensures cause { HasCause (L.faults link.old) (L.faults link.new) result }
@@ -81,8 +79,8 @@ impl Live {
 
     // So many rounds at most.
     fn rounds<L: Link>(self, alloc: Global, link: &mut L, left: u8) -> Result<Went, IoErr>
-        requires { IsWorld all_kinds self.world }
-        ensures kept { IfOk result (λ w. IsWorld all_kinds w.live.world) }
+        requires { IsSound self.world self.recording }
+        ensures kept { IfOk result (λ w. IsSound w.live.world w.live.recording) }
         ensures settled { (h : Header) (first : Carried) (l : live) → Keeps h first (carried (L.sent link.old) (L.acts link.old)) self l → IfOk result (Made (IsRounds left) h first (carried (L.sent link.new) (L.acts link.new)) (L.handed link.old) (L.handed link.new) l) }
         ensures broken { (h : Header) (first : Carried) (l : live) → Keeps h first (carried (L.sent link.old) (L.acts link.old)) self l → OnErr result (Broken (IsRounds left) first.acts (L.acts link.new) l) }
         ensures cause { HasCause (L.faults link.old) (L.faults link.new) result }
@@ -114,8 +112,8 @@ impl Live {
 
     // One tick of each of these nodes that runs.
     fn tick_all<L: Link>(self, alloc: Global, link: &mut L, nodes: &[NodeId]) -> Result<Went, IoErr>
-        requires { IsWorld all_kinds self.world }
-        ensures kept { IfOk result (λ w. IsWorld all_kinds w.live.world) }
+        requires { IsSound self.world self.recording }
+        ensures kept { IfOk result (λ w. IsSound w.live.world w.live.recording) }
         ensures ticked { (h : Header) (first : Carried) (l : live) → Keeps h first (carried (L.sent link.old) (L.acts link.old)) self l → IfOk result (λ w. KeepsRan h first (carried (L.sent link.new) (L.acts link.new)) w (ticked nodes.now l)) }
         ensures broken { (h : Header) (first : Carried) (l : live) → Keeps h first (carried (L.sent link.old) (L.acts link.old)) self l → OnErr result (GrowsFront first.acts (ticked nodes.now l).live.acts (L.acts link.new)) }
         ensures handed { L.handed link.new ≡ L.handed link.old }

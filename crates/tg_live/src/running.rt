@@ -6,12 +6,10 @@ ghost use Rattle.tg_io.specs.Faults.{HasCause, StaysSure};
 ghost use Rattle.tg_lines.specs.Feeds.{NoneOutside, TakesFeeds};
 ghost use Rattle.tg_lines.specs.Lines.{ahead, lines, TakesLine};
 ghost use Rattle.tg_lines.specs.Openings.{Opened, IsNoLine};
-ghost use Rattle.tg_any.specs.AllKinds.{all_kinds};
 ghost use Rattle.tg_script.specs.Lines.{IsLine};
 ghost use Rattle.tg_script.specs.declared.line.Line.{Line as event_line};
-ghost use Rattle.tg_world.specs.Kept.{IsWorld};
 ghost use Rattle.tg_live.specs.Causes.{of_source, of_link, HasCauses, HasReadCause, HasLinkCause};
-ghost use Rattle.tg_live.specs.Kept.{Keeps, Made};
+ghost use Rattle.tg_live.specs.Kept.{IsSound, Keeps, Made};
 ghost use Rattle.tg_live.specs.Breaks.{Broken, BreaksOff, BrokenOff, IsDone};
 ghost use Rattle.tg_live.specs.Sends.{Carried, carried};
 ghost use Rattle.tg_live.specs.Lives.{Live as live, IsFed};
@@ -72,7 +70,7 @@ fn run_lines<S: Source, L: Link>(
     source: &mut S,
     link: &mut L,
 ) -> Result<Finish, Stop>
-    requires { IsWorld all_kinds running.live.world }
+    requires { IsSound running.live.world running.live.recording }
     ensures finished { IfSome (ahead reader.old (S.left source.old)) (λ rest. (handed : Handed) (before : Carried) (text : List ℕ) → Reads (over handed (L.handed link.old) before (carried (L.sent link.old) (L.acts link.old))) text running rest → IfOk result (Finished (over handed (L.handed link.new) before (carried (L.sent link.new) (L.acts link.new))) text)) }
     ensures broken { OnErr result (IfSome (ahead reader.old (S.left source.old)) (λ rest. (handed : Handed) (first : Carried) (text : List ℕ) → Reads (over handed (L.handed link.old) first (carried (L.sent link.old) (L.acts link.old))) text running rest → BrokenOff text first.acts (L.acts link.new))) }
     ensures causes { HasCauses (S.faults source.old) (S.faults source.new) (L.faults link.old) (L.faults link.new) result }
@@ -155,7 +153,7 @@ fn link_stop(error: IoErr) -> Stop
 impl Running {
     // Takes the next line, where only the link can fail.
     fn fed<L: Link>(self, alloc: Global, link: &mut L, line: &[u8]) -> Result<Fed, Stop>
-        requires { IsWorld all_kinds self.live.world }
+        requires { IsSound self.live.world self.live.recording }
         ensures kept { IfOk result GoesOnKept }
         ensures took { IfOk result (Feeds self line.now (L.handed link.old) (L.handed link.new) (carried (L.sent link.old) (L.acts link.old)) (carried (L.sent link.new) (L.acts link.new))) }
         ensures broken { OnErr result (BreaksOff self line.now (L.handed link.old) (carried (L.sent link.old) (L.acts link.old)) (L.acts link.new)) }
@@ -171,7 +169,7 @@ impl Running {
 
     // Takes the next line. An `Err` is a fault of the link, or want of memory.
     fn feed<L: Link>(self, alloc: Global, link: &mut L, line: &[u8]) -> Result<Fed, IoErr>
-        requires { IsWorld all_kinds self.live.world }
+        requires { IsSound self.live.world self.live.recording }
         ensures kept { IfOk result GoesOnKept }
         ensures took { IfOk result (Feeds self line.now (L.handed link.old) (L.handed link.new) (carried (L.sent link.old) (L.acts link.old)) (carried (L.sent link.new) (L.acts link.new))) }
         ensures broken { OnErr result (BreaksOff self line.now (L.handed link.old) (carried (L.sent link.old) (L.acts link.old)) (L.acts link.new)) }
@@ -187,7 +185,7 @@ impl Running {
 
     // A line of the script. An `Err` is a fault of the link, or want of memory.
     fn take<L: Link>(self, alloc: Global, link: &mut L, line: Line) -> Result<Fed, IoErr>
-        requires { IsWorld all_kinds self.live.world }
+        requires { IsSound self.live.world self.live.recording }
         ensures kept { IfOk result GoesOnKept }
         ensures made { IfOk result (λ f. (h : Header) (first : Carried) (l : live) → Keeps h first (carried (L.sent link.old) (L.acts link.old)) self.live l → (w : went_so) × Made (IsFed line) h first (carried (L.sent link.new) (L.acts link.new)) (L.handed link.old) (L.handed link.new) l w × IsAfter self w f) }
         ensures broken { OnErr result ((h : Header) (first : Carried) (l : live) → Keeps h first (carried (L.sent link.old) (L.acts link.old)) self.live l → Broken (IsFed line) first.acts (L.acts link.new) l) }
@@ -216,7 +214,7 @@ impl Running {
 // A run after a line, which goes on unless a limit was reached.
 fn after(lines: u64, went: Went) -> Fed
     ensures after { (r : running) → lines ≡ r.lines + 1 → IsAfter r went result }
-    ensures kept { IsWorld all_kinds went.live.world → GoesOnKept result }
+    ensures kept { IsSound went.live.world went.live.recording → GoesOnKept result }
 {
     let Went { live, stopped } = went;
     match stopped {
@@ -231,8 +229,8 @@ fn after(lines: u64, went: Went) -> Fed
 impl Live {
     // A line's steps, as far as the limits allow. An `Err` is a fault of the link, or want of memory.
     fn play<L: Link>(self, alloc: Global, link: &mut L, line: Line) -> Result<Went, IoErr>
-        requires { IsWorld all_kinds self.world }
-        ensures kept { IfOk result (λ w. IsWorld all_kinds w.live.world) }
+        requires { IsSound self.world self.recording }
+        ensures kept { IfOk result (λ w. IsSound w.live.world w.live.recording) }
         ensures fed { (h : Header) (first : Carried) (l : live) → Keeps h first (carried (L.sent link.old) (L.acts link.old)) self l → IfOk result (Made (IsFed line) h first (carried (L.sent link.new) (L.acts link.new)) (L.handed link.old) (L.handed link.new) l) }
         ensures broken { (h : Header) (first : Carried) (l : live) → Keeps h first (carried (L.sent link.old) (L.acts link.old)) self l → OnErr result (Broken (IsFed line) first.acts (L.acts link.new) l) }
         ensures cause { HasCause (L.faults link.old) (L.faults link.new) result }

@@ -31,15 +31,16 @@ fn spelled(alloc: Global, value: &Packet) -> Result<List<u8>, NoMemory>
     Ok(datagram)
 }
 
-/// Sends a packet, and notes it in the book. An `Err` is a fault of the link, or want of memory.
+/// Sends the packet of the next number, and notes it in the book. An `Err` is a fault of the link, or want of memory.
 pub(crate) fn send<L: Link>(
     alloc: Global,
     link: &mut L,
     book: &mut Book,
+    number: u64,
     value: &Packet,
 ) -> Result<(), IoErr>
     ensures fits { OnOk result (packet.fits value.now ≡ true) }
-    ensures noted { (ps : List Packet) (delivered : List ℕ) → AreFit ps → IsBook book.old (spellings ps) delivered → OnOk result (IsBook book.new (spellings (ps ++ value.now ∷ [])) delivered) }
+    ensures noted { (ps : List Packet) (delivered : List ℕ) → AreFit ps → number ≡ length ps → IsBook book.old (spellings ps) delivered → OnOk result (IsBook book.new (spellings (ps ++ value.now ∷ [])) delivered) }
     ensures sent { OnOk result (Adds (L.sent link.old) (sending value.now) (L.sent link.new)) }
     ensures act { OnOk result (Adds (L.acts link.old) (Goes (sending value.now)) (L.acts link.new)) }
     ensures no_act { OnErr result (L.acts link.new ≡ L.acts link.old) }
@@ -50,6 +51,6 @@ pub(crate) fn send<L: Link>(
 {
     let datagram = spelled(alloc, value)?;
     no_spelling_begins_another();
-    book.note(alloc, value.to, datagram.as_slice())?;
+    book.note(alloc, number, value.to, datagram.as_slice())?;
     link.send(value.from, value.to, datagram.as_slice())
 }

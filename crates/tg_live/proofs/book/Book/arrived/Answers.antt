@@ -1,4 +1,4 @@
-use Rattle.std.proofs.Common.{◌∙◌, ℕ, Option, sym, refl, subst}
+use Rattle.std.proofs.Common.{◌∙◌, ℕ, Option, sym, subst}
 use Rattle.tg_live.specs.Matching.{with_delivered}
 use Rattle.tg_live.specs.Books.{IsBook, found}
 use Rattle.tg_live.proofs.StepsMatch.{answered, book_arrives}
@@ -10,5 +10,5 @@ returns-clause-number c = λ sent delivered h.
 
 pub returns-clause-book : goal.returns-clause-book
 returns-clause-book c = λ sent delivered h.
-    subst (λ (r : Option ℕ). IsBook (record { copies = c.deliver.new.copies; count = c.args.self.now.count }) sent (with_delivered r delivered)) (sym c.deliver.ensures.number)
-    (book_arrives c.args.self.now (record { copies = c.deliver.new.copies; count = c.args.self.now.count }) c.args.node c.args.datagram.now refl c.deliver.ensures.after sent delivered h)
+    subst (λ (r : Option ℕ). IsBook (record { copies = c.deliver.new.copies }) sent (with_delivered r delivered)) (sym c.deliver.ensures.number)
+    (book_arrives c.args.self.now (record { copies = c.deliver.new.copies }) c.args.node c.args.datagram.now c.deliver.ensures.after sent delivered h)

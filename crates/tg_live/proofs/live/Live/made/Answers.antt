@@ -1,9 +1,9 @@
-use Rattle.std.proofs.Common.{◌∙◌, length, refl, ap, subst, drop}
-use Rattle.tg_replay.specs.Runs.{line_on}
+use Rattle.std.proofs.Common.{◌≡◌, ◌≤◌, ◌+◌, ◌∙◌, length, refl, ap, subst, drop, arith}
+use Rattle.tg_replay.specs.Runs.{line_on, line_text}
 use Rattle.tg_script.specs.declared.line.Line.{Line}
 use Rattle.tg_live.specs.Lives.{is_steps, after_line}
 use Rattle.tg_live.specs.Kept.{KeepsRan}
-use Rattle.tg_live.proofs.Keeping.{made_keeps}
+use Rattle.tg_live.proofs.Keeping.{made_keeps, line_longer}
 use Rattle.tg_live.specs.Sends.{carried}
 use Rattle.tg_live.specs.Breaks.{GrowsFront}
 use Rattle.tg_live.specs.Sends.{all_gone}
@@ -12,6 +12,23 @@ use Rattle.tg_live.proofs.live.Live.made.Goals as goal
 
 pub make_over-requires-clause-steps : goal.make_over-requires-clause-steps
 make_over-requires-clause-steps g c = ap is_steps c.in_ok-noted.ensures.line ∙ c.requires.steps
+
+pub make_over-requires-clause-kept : goal.make_over-requires-clause-kept
+make_over-requires-clause-kept g c = c.requires.kept.kept
+
+pub make_over-requires-clause-room : goal.make_over-requires-clause-room
+make_over-requires-clause-room g c =
+    let few : c.args.self.world.event ≤ length c.args.self.recording = c.requires.kept.few in
+    let longer = line_longer c.args.self.recording c.put_line.new.recording (line_text c.in_ok-noted.noted) c.in_ok-noted.ensures.text in
+    let bytes : c.len-bytes.result ≡ length c.put_line.new.recording = c.len-bytes.ensures in
+    omega (arith, few, longer, bytes)
+
+pub returns-clause-kept : goal.returns-clause-kept
+returns-clause-kept g c =
+    let few : c.args.self.world.event ≤ length c.args.self.recording = c.requires.kept.few in
+    let longer = line_longer c.args.self.recording c.put_line.new.recording (line_text c.in_ok-noted.noted) c.in_ok-noted.ensures.text in
+    let one : c.in_ok-ran.ran.world.event ≡ c.args.self.world.event + 1 = c.in_ok-ran.ensures.event in
+    record { kept = c.in_ok-ran.ensures.kept; few = omega (arith, few, longer, one) }
 
 pub returns-clause-made : goal.returns-clause-made
 returns-clause-made g c = λ h first l k.
