@@ -1,5 +1,6 @@
 -- From what is written of a run to what is promised of it.
-use Rattle.std.proofs.Common.{◌≡◌, ◌⊎◌, ℕ, List, [], ◌++◌, length, refl, sym, ap, ◌∙◌, subst, inl, inr, Option, Some, None, Result, Ok, Err, IfOk}
+use Rattle.std.proofs.Common.{◌≡◌, ◌⊎◌, ℕ, List, [], ◌++◌, length, refl, sym, ap, ◌∙◌, subst, inl, inr, Option, Some, None, Result, Ok, Err, IfOk, arith}
+use Rattle.std.specs.Prelude.{◌+◌, ◌≤◌, IsSome}
 use Rattle.tg_base.specs.declared.fault.Which.{Which}
 use Rattle.tg_io.specs.Bytes.{Takes, TakesFront}
 use Rattle.tg_io.specs.declared.status.Status.{Status}
@@ -13,11 +14,14 @@ use Rattle.tg_replay.specs.declared.stages.Run.{Run}
 use Rattle.tg_replay.specs.Stages.{Ends, status_of}
 use Rattle.tg_replay.specs.Runs.{Script, Worlds, Runs, IsScript, IsWithin, Tells, run_of, world_of}
 use Rattle.tg_replay.proofs.Exact.{told_once, tells_begins}
+use Rattle.tg_trace.specs.declared.transcript.Transcript.{Transcript}
+use Rattle.tg_trace.specs.Transcripts.{rendered}
+use Rattle.tg_trace.proofs.Sizes.{rendered_within}
 use Rattle.tg_bench.specs.Loads.{last_event, summary_at, summary, IsFront, IsSummed, Written, IsOfLoad}
 use Rattle.tg_bench.proofs.Scripts.{last_whole, limit_stops}
 
 pub run_summed : (s : Script) (text : List ℕ) (end : End) (r : Run) (out : List ℕ) → IsScript s → Tells text s → Ends text (status_of end) (Some r) →
-    ((w : Worlds) → KeepsWorld all_kinds r.world w → out ≡ summary_at r.events w) → IsSummed s end out
+    ((w : Worlds) → KeepsWorld all_kinds r.world w → out ≡ summary_at r.world.event w) → IsSummed s end out
 run_summed s text Whole r out lawful tells (p, keeps, cluster, outcome, events, ends) h =
     let same : p ≡ s = told_once text p s ends.0 lawful ends.2 tells in
     record {
@@ -32,8 +36,21 @@ run_summed s text (Limited which) r out lawful tells (p, keeps, cluster, outcome
     }
 run_summed s text (Outside n) r out lawful tells (p, keeps, cluster, outcome, events, first) h = absurd (first.outside s lawful (tells_begins text n s tells))
 
+nothing_printed : (t : Transcript) → [] ≡ rendered t → ⊥
+nothing_printed t e =
+    let many : length t.trace + length t.history + 3 ≤ length (rendered t) = rendered_within t in
+    let none : 0 ≡ length (rendered t) = ap length e in
+    omega (arith, many, none)
+
+-- the header of a script's text isn't refused
+pub has_run : (s : Script) (text : List ℕ) (end : End) (o : Option Run) → IsScript s → Tells text s → Ends text (status_of end) o → IsSome o
+has_run s text end (Some r) lawful tells e = refl
+has_run s text Whole None lawful tells e = absurd (nothing_printed _ e.printed)
+has_run s text (Limited which) None lawful tells e = absurd (nothing_printed _ e.printed)
+has_run s text (Outside n) None lawful tells e = absurd (e.first.outside s lawful (tells_begins text n s tells))
+
 -- what is made of a run
-pub text_summed : {E : Type 0} (result : Result (List ℕ) E) (o : Option Run) (r : Run) → o ≡ Some r → ((w : Worlds) → KeepsWorld all_kinds r.world w → IfOk result (λ out. out ≡ summary_at r.events w)) →
+pub text_summed : {E : Type 0} (result : Result (List ℕ) E) (o : Option Run) (r : Run) → o ≡ Some r → ((w : Worlds) → KeepsWorld all_kinds r.world w → IfOk result (λ out. out ≡ summary_at r.world.event w)) →
     IfOk result (λ out. (s : Script) (text : List ℕ) (end : End) → IsScript s → Tells text s → Ends text (status_of end) o → IsSummed s end out)
 text_summed (Ok out) o r is h = λ s text end lawful tells e. run_summed s text end r out lawful tells (subst (λ (x : Option Run). Ends text (status_of end) x) is e) h
 text_summed (Err x) o r is h = tt

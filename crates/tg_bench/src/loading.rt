@@ -1,6 +1,6 @@
 //! A made load is run as a replay runs its script, and the summary of its run is written.
 
-ghost use Rattle.std.specs.Prelude.{◌≡◌, ◌≢◌, ◌≤◌, ◌⊎◌, ℕ, List, Some, IfOk, IsErrOf};
+ghost use Rattle.std.specs.Prelude.{◌≡◌, ◌≢◌, ◌≤◌, ◌⊎◌, ℕ, List, Some, IfOk, IsErrOf, IsSome};
 ghost use Rattle.tg_base.specs.declared.fault.Which.{Which};
 ghost use Rattle.tg_io.specs.Bytes.{Takes};
 ghost use Rattle.tg_io.specs.Faults.{Rose, StaysSure};
@@ -58,8 +58,9 @@ fn run_and_write<K: Sink>(alloc: Global, start: u64, count: u32, sink: &mut K) -
 {
     match run_load(alloc, start, count) {
         Ok(finish) => report(alloc, finish, sink),
+        Err(IoErr::NoMemory) => Status::NoMemory,
         // The text's source names no call that fails.
-        Err(_) => Status::NoMemory,
+        Err(IoErr::Failed) => unreachable!(),
     }
 }
 
@@ -75,6 +76,7 @@ fn run_load(alloc: Global, start: u64, count: u32) -> Result<Finish, IoErr>
 
 // Writes the summary of what reading has come to.
 fn report<K: Sink>(alloc: Global, finish: Finish, sink: &mut K) -> Status
+    requires { IsSome finish.run }
     ensures written { (s : Script) (text : List ℕ) → IsScript s → Tells text s → Finished text finish → Written s result (K.written sink.old) (K.written sink.new) }
     ensures write_fault { result ≡ WriteFault → Rose (K.faults sink.old) (K.faults sink.new) }
     ensures write_later { K.faults sink.old ≤ K.faults sink.new }
@@ -91,23 +93,24 @@ fn report<K: Sink>(alloc: Global, finish: Finish, sink: &mut K) -> Status
     }
 }
 
-// The summary of a run. An `Err` is want of memory, or of a run.
+// The summary of a run. An `Err` is want of memory.
 fn text_of(alloc: Global, run: &Option<Run>) -> Result<List<u8>, NoMemory>
+    requires { IsSome run.now }
     ensures { IfOk result (λ out. (s : Script) (text : List ℕ) (end : End) → IsScript s → Tells text s → Ends text (status_of end) run.now → IsSummed s end out) }
 {
     match run {
-        None => Err(NoMemory),
+        None => unreachable!(),
         Some(run) => summary_of(alloc, run),
     }
 }
 
 // The summary of a run's world. An `Err` is want of memory.
 fn summary_of(alloc: Global, run: &Run) -> Result<List<u8>, NoMemory>
-    ensures { (w : seen.World all_kinds) → KeepsWorld all_kinds run.now.world w → IfOk result (λ text. text ≡ summary_at run.now.events w) }
+    ensures { (w : seen.World all_kinds) → KeepsWorld all_kinds run.now.world w → IfOk result (λ text. text ≡ summary_at run.now.world.event w) }
 {
     let history = run.world.history(alloc)?;
     Summary::of::<AnyKind>(
-        run.events,
+        run.world.event(),
         run.world.sent(),
         run.world.trace(),
         history.as_slice(),
