@@ -1,3 +1,5 @@
+ghost use Rattle.std.specs.Prelude.{◌≤◌, length};
+
 use std::alloc::Global;
 use std::test::Fail;
 use tg_base::{List, NoMemory, NodeId, Role};
@@ -47,12 +49,11 @@ fn failing(alloc: Global, fails: &[u64]) -> Result<MemLink, NoMemory> {
 }
 
 /// A datagram that no node sent comes to the first node of a role.
-fn comes(alloc: Global, link: MemLink, role: Role, datagram: &[u8]) -> Result<MemLink, NoMemory> {
+fn comes(alloc: Global, link: MemLink, role: Role, datagram: &[u8]) -> Result<MemLink, NoMemory>
+    requires { length datagram.now ≤ 8192 }
+{
     let mut bytes = List::new(alloc);
     bytes.extend(datagram)?;
-    if bytes.len() > 8_192 {
-        return Err(NoMemory);
-    }
     link.inject(NodeId { role, num: 0 }, bytes)
 }
 

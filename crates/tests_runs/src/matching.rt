@@ -15,9 +15,9 @@ fn unit(num: u16) -> NodeId {
 fn equal_packets_come_in_turn_and_then_the_first_again(rt: HostRuntime) -> Result<(), Fail> {
     let alloc: Global = rt.alloc();
     let mut book = Book::new(alloc);
-    book.note(alloc, unit(0), b"a")?;
-    book.note(alloc, unit(1), b"b")?;
-    book.note(alloc, unit(0), b"a")?;
+    book.note(alloc, 0, unit(0), b"a")?;
+    book.note(alloc, 1, unit(1), b"b")?;
+    book.note(alloc, 2, unit(0), b"a")?;
     assert_eq!(rt; book.arrived(unit(0), b"a"), Some(0));
     assert_eq!(rt; book.arrived(unit(1), b"b"), Some(1));
     assert_eq!(rt; book.arrived(unit(0), b"a"), Some(2));

@@ -1,5 +1,5 @@
 -- How following a text ends, and what is promised of it.
-use Rattle.std.proofs.Common.{◌≡◌, ◌⊎◌, ℕ, ◌+◌, ◌<◌, ◌≤◌, Bool, true, false, List, [], ◌∷◌, ◌++◌, length, take, Option, Some, None, IfSome, Result, Err, sym, refl, subst, ap, ◌∙◌, arith, inl, inr, ⊎_elim}
+use Rattle.std.proofs.Common.{◌≡◌, ◌⊎◌, ℕ, ◌+◌, ◌<◌, ◌≤◌, true, List, [], ◌∷◌, ◌++◌, length, take, Option, Some, None, IfSome, Result, Err, sym, refl, subst, ap, ◌∙◌, arith, inl, inr, ⊎_elim}
 use Rattle.tg_base.specs.Clusters.{Header, IsHeader}
 use Rattle.tg_base.specs.declared.ids.NodeId.{NodeId}
 use Rattle.tg_io.specs.declared.link.Arrival.{Arrival}
@@ -21,7 +21,6 @@ use Rattle.tg_script.specs.Nodes.{is_declared}
 use Rattle.tg_node_state.specs.Nodes.{node_start}
 use Rattle.tg_node_state.specs.Kept.{KeepsNode}
 use Rattle.tg_any.specs.AllKinds.{all_kinds}
-use Rattle.tg_node.specs.Sessions.{opening}
 use Rattle.tg_node.specs.Texts.{Seen, IsText, FirstOutside, Refused, IsWithin, IsCutBetween, IsCutShort, Outcome, IsOrStops, Told, IsOfNode}
 use Rattle.tg_node.specs.Openings.{Opened}
 use Rattle.tg_node.specs.Steps.{IsSound}
@@ -328,7 +327,7 @@ line_none w l0 l1 l = let same : w ≤ w = omega arith in record { write = λ e.
 
 pub line_refuses : (w l k : ℕ) (x : Next) → IsRefused k x → LineCauses w w l l x
 line_refuses w l k (Ends (status.Script j)) h = let a : w ≤ w = omega arith in let b : l ≤ l = omega arith in record { write = λ e. absurd cc; link = λ e. absurd cc; ways = tt; write_later = a; link_later = b }
-line_refuses w l k (Ends status.NoMemory) h = let b : l ≤ l = omega arith in line_none w l l b
+line_refuses w l k (Ends status.NoMemory) h = absurd h
 line_refuses w l k (Goes q) h = absurd h
 line_refuses w l k (Ends status.Done) h = absurd h
 line_refuses w l k (Ends (status.Illegal line c)) h = absurd h

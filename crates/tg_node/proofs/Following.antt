@@ -1,5 +1,5 @@
 -- A session goes on by a line, or ends at it.
-use Rattle.std.proofs.Common.{◌≡◌, ℕ, zero, suc, ◌+◌, ◌-◌, ◌<◌, ◌≤◌, List, [], ◌∷◌, ◌++◌, length, take, drop, Option, Some, None, sym, refl, subst, ap, ◌∙◌, arith, inl, inr}
+use Rattle.std.proofs.Common.{◌≡◌, ℕ, zero, suc, ◌+◌, ◌-◌, ◌≤◌, List, [], ◌∷◌, ◌++◌, length, take, drop, Option, Some, None, sym, refl, subst, ap, ◌∙◌, arith, inl, inr}
 use Rattle.std.specs.Prelude.{MatchOption}
 use Rattle.std.proofs.lemmas.List.{append_assoc, append-nil}
 use Rattle.tg_base.specs.Clusters.{Header, IsHeader}
@@ -22,9 +22,9 @@ use Rattle.tg_node.specs.declared.asked.Asked.TheVariants.{Tick, Wait, Given, Up
 use Rattle.tg_node_state.specs.Kept.{KeepsNode}
 use Rattle.tg_node.specs.Acts.{line_acts}
 use Rattle.tg_any.specs.AllKinds.{all_kinds}
-use Rattle.tg_node.specs.Sessions.{AnyInput, Deed, Session, IsWhole, inputs_by, inputs_of, datagrams_in, answers_of, steps_of, datagrams_of, plays, plays_lines, session, opening}
+use Rattle.tg_node.specs.Sessions.{AnyInput, Deed, Session, IsWhole, inputs_by, inputs_of, datagrams_in, answers_of, steps_of, datagrams_of, plays, plays_lines, opening}
 use Rattle.tg_node.specs.Texts.{Seen, IsSeen, AreAsked, NodeText, text_lines, IsText, Begins, FirstOutside, AreDone, Point, session_at, answers_at, acts_at, line_session, acts_by, Followed, IsPart, IsPast, IsOver, Midst, Limited, IsEnded, IsCutBetween, IsCutInLine, IsCutInReplies}
-use Rattle.tg_node.specs.Steps.{Stands, after, BreaksLine, EndsLine, TookLine}
+use Rattle.tg_node.specs.Steps.{Stands, BreaksLine, EndsLine, TookLine}
 use Rattle.tg_node.specs.Stages.{seen, Follows, Follow, IsWritten, IsRefused}
 use Rattle.tg_node.specs.declared.nodes.Node.{Node}
 use Rattle.tg_node.specs.declared.nodes.Moved.{Moved}
@@ -393,7 +393,6 @@ line_refused text before now r line more (Ends (status.Script k)) f none at =
       place = at_line;
       seen = record { sent = f.seen.sent; handed = f.seen.handed; acts = f.seen.acts; written = f.seen.written };
     })
-line_refused text before now r line more (Ends status.NoMemory) f none at = inl (cut_here text before now r (line ∷ more) f)
 line_refused text before now r line more (GoesOn q) f none at = absurd at
 line_refused text before now r line more (Ends status.Done) f none at = absurd at
 line_refused text before now r line more (Ends (status.Illegal l c)) f none at = absurd at
@@ -402,6 +401,7 @@ line_refused text before now r line more (Ends status.ReadFault) f none at = abs
 line_refused text before now r line more (Ends status.WriteFault) f none at = absurd at
 line_refused text before now r line more (Ends status.LinkFault) f none at = absurd at
 line_refused text before now r line more (Ends (status.Limit w)) f none at = absurd at
+line_refused text before now r line more (Ends status.NoMemory) f none at = absurd at
 
 -- the text has ended
 pub text_ended : (text : List ℕ) (before now : Seen) (r : Run) → Follows text before now r [] → Followed text r.id before (seen now.sent now.handed now.acts now.written)

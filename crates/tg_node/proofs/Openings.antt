@@ -21,7 +21,7 @@ use Rattle.tg_script.specs.Nodes.{count_of, is_declared}
 use Rattle.tg_script.proofs.Clusters.{header_sizes, lines_again}
 use Rattle.tg_lines.specs.Feeds.{feeds, NoneOutside, TakesFeeds}
 use Rattle.tg_lines.specs.Lines.{lines, TakesLine}
-use Rattle.tg_lines.specs.Openings.{Reached}
+use Rattle.tg_lines.specs.Openings.{OnOpens, Reached}
 use Rattle.tg_lines.specs.declared.header.Opening.{Opening}
 use Rattle.tg_lines.specs.declared.header.Opening.TheVariants.{Opens, Outside}
 use Rattle.tg_lines.proofs.Feeding.{takes_more}
@@ -176,6 +176,11 @@ opened_end n (Some text) (Some rest) (Some more) ls (Opens header) h t is =
 opened_end n (Some text) (Some rest) (Some more) ls (Outside k) h t is =
     let all : lines text ≡ ls = h ∙ ap (λ (xs : List ℕ). ls ++ lines xs) t.0 ∙ append-nil ls in
     (is.0, subst (λ (xs : List (List ℕ)). FirstOutside xs n k) (sym all) is.1)
+
+-- what holds of three lines holds where these are a header
+pub on_opens : (n : NodeId) (ls : List (List ℕ)) (o : Opening) (P : Type 0) → IsOpening n ls o → (length ls ≡ 3 → P) → OnOpens o P
+on_opens n ls (Opens h) P is p = p (ap length is.0)
+on_opens n ls (Outside k) P is p = tt
 
 -- Lines of which none is outside.
 

@@ -1,5 +1,5 @@
 -- What following a text has come to.
-use Rattle.std.specs.Prelude.{◌≡◌, ℕ, ◌+◌, ◌≤◌, List, [], ◌∷◌, length, Option, Some, None}
+use Rattle.std.specs.Prelude.{◌≡◌, ℕ, ◌+◌, ◌≤◌, List, [], length, Option, Some, None}
 use Rattle.tg_base.specs.declared.ids.NodeId.{NodeId}
 use Rattle.tg_io.specs.declared.link.Arrival.{Arrival}
 use Rattle.tg_io.specs.declared.link.Sent.{Sent}
@@ -77,10 +77,9 @@ pub record LineCauses (write_before write_now link_before link_now : ℕ) (x : N
   pub write_later : write_before ≤ write_now
   pub link_later : link_before ≤ link_now
 
--- the line after so many is refused, or its number is past the greatest
+-- the line after so many is refused
 abbrev pub IsRefused : ℕ → Next → Type 0
 IsRefused followed (Ends (AtLine k)) = k ≡ 4 + followed
-IsRefused followed (Ends NoMemory) = Unit {0}
 IsRefused followed other = ⊥
 
 -- a run that goes on has followed one line more

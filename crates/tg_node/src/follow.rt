@@ -1,6 +1,6 @@
 //! What comes of a line.
 
-ghost use Rattle.std.specs.Prelude.{◌≡◌, ◌≤◌, ◌∷◌, ◌+◌, ℕ, List, IfSome, MatchOption};
+ghost use Rattle.std.specs.Prelude.{◌≡◌, ◌<◌, ◌≤◌, ◌∷◌, ◌+◌, ◌^◌, ℕ, List, MatchOption};
 ghost use Rattle.tg_io.specs.Faults.{Rose, StaysSure};
 ghost use Rattle.tg_io.specs.declared.status.Status.TheVariants.{WriteFault, Limit};
 ghost use Rattle.tg_node.specs.Lines.{IsAsked};
@@ -24,7 +24,8 @@ pub fn follow_line<K: Sink, L: Link>(
     sink: &mut K,
     link: &mut L,
 ) -> Next
-    requires { IsSound run.node }
+    requires sound { IsSound run.node }
+    requires room { run.lines + 4 < 2 ^ 64 }
     ensures follows { (text : List ℕ) (before : Seen) (more : List (List ℕ)) → Follows text before (seen (L.sent link.old) (L.handed link.old) (L.acts link.old) (K.written sink.old)) run (line.now ∷ more) → Follow text run.id before (seen (L.sent link.new) (L.handed link.new) (L.acts link.new) (K.written sink.new)) more result }
     ensures sound { GoesSound result }
     ensures next { IsNextLine run.lines result }
@@ -39,14 +40,14 @@ pub fn follow_line<K: Sink, L: Link>(
     }
 }
 
-// The line after those that were followed is outside.
+// The line after those that were followed is outside. It takes no memory.
 fn refuse(run: Run) -> Next
+    requires { run.lines + 4 < 2 ^ 64 }
     ensures { IsRefused run.lines result }
 {
-    match run.lines.checked_add(4) {
-        Some(line) => Next::Ends(Status::Script { line }),
-        None => Next::Ends(Status::NoMemory),
-    }
+    Next::Ends(Status::Script {
+        line: run.lines + 4,
+    })
 }
 
 // What a line asks is done, and its replies are written.
@@ -57,7 +58,8 @@ fn follow_asked<K: Sink, L: Link>(
     sink: &mut K,
     link: &mut L,
 ) -> Next
-    requires { IsSound run.node }
+    requires sound { IsSound run.node }
+    requires room { run.lines + 4 < 2 ^ 64 }
     ensures follows { (text : List ℕ) (before : Seen) (line : List ℕ) (more : List (List ℕ)) → IsAsked run.cluster run.id line asked → Follows text before (seen (L.sent link.old) (L.handed link.old) (L.acts link.old) (K.written sink.old)) run (line ∷ more) → Follow text run.id before (seen (L.sent link.new) (L.handed link.new) (L.acts link.new) (K.written sink.new)) more result }
     ensures sound { GoesSound result }
     ensures next { IsNextLine run.lines result }
@@ -71,22 +73,13 @@ fn follow_asked<K: Sink, L: Link>(
         lines,
         node,
     } = run;
-    let Some(event) = number_after(lines) else {
-        return Next::Ends(Status::NoMemory);
-    };
+    let event = lines + 1;
     let place = Place { node: id, event };
     match node.follow(alloc, place, link, asked) {
         Ok(moved) => write(alloc, id, cluster, event, moved, sink),
         Err(IoErr::Failed) => Next::Ends(Status::LinkFault),
         Err(IoErr::NoMemory) => Next::Ends(Status::NoMemory),
     }
-}
-
-// The number after this one; None where it is the greatest. It takes no memory.
-fn number_after(number: u64) -> Option<u64>
-    ensures { IfSome result (λ next. next ≡ number + 1) }
-{
-    number.checked_add(1)
 }
 
 // Writes the replies of a line.

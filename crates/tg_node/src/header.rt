@@ -1,11 +1,12 @@
 //! The header of a node's text.
 
-ghost use Rattle.std.specs.Prelude.{◌≡◌, ◌<◌, ◌≤◌, ◌∷◌, ◌↔◌, ℕ, [], codes, length, true, IfOk, IfSome, IfNone, IsTrue, IsErrOf};
+ghost use Rattle.std.specs.Prelude.{◌≡◌, ◌<◌, ◌≤◌, ◌∷◌, ◌+◌, ◌↔◌, ℕ, [], codes, length, true, IfOk, IfSome, IfNone, IsTrue, IsErrOf};
 ghost use Rattle.tg_base.specs.Clusters.{IsHeader};
 ghost use Rattle.tg_io.specs.Faults.{HasCause, StaysSure};
 ghost use Rattle.tg_io.specs.declared.fault.IoErr.TheVariants.{Failed};
 ghost use Rattle.tg_lines.specs.Feeds.{NoneOutside, TakesFeeds};
 ghost use Rattle.tg_lines.specs.Lines.{ahead, lines};
+ghost use Rattle.tg_lines.specs.Openings.{OnOpens};
 ghost use Rattle.tg_script.specs.Headers.{OnOutside, header_lines};
 ghost use Rattle.tg_script.specs.Nodes.{is_declared};
 ghost use Rattle.tg_node.specs.Texts.{Begins, FirstOutside};
@@ -33,6 +34,8 @@ pub fn read_own_header<S: Source>(
     ensures cause { HasCause (S.faults source.old) (S.faults source.new) result }
     ensures sure { StaysSure (S.sure source.old) (S.sure source.new) (S.faults source.old) (S.faults source.new) }
     ensures still { IfOk result (λ opening. S.faults source.new ≡ S.faults source.old) }
+    // The three lines of a header took three bytes at least of what may come.
+    ensures less { IfOk result (λ opening. OnOpens opening (length reader.new + S.room source.new + 3 ≤ length reader.old + S.room source.old)) }
     // What is taken has three line feeds at most.
     ensures feeds { IfOk result (λ opening. TakesFeeds 3 (ahead reader.old (S.left source.old)) (ahead reader.new (S.left source.new))) }
     // Where the source fails, none of the lines that came whole is outside.

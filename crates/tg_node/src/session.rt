@@ -1,7 +1,7 @@
 //! One node over a link: its lines are read from a source, its packets go over the link, and the lines of its replies
 //! are written to a sink, line by line.
 
-ghost use Rattle.std.specs.Prelude.{◌≡◌, ◌≢◌, ◌≤◌, ◌⊎◌, ◌++◌, ◌+◌, ℕ, List, Some, true, IfSome};
+ghost use Rattle.std.specs.Prelude.{◌≡◌, ◌≢◌, ◌<◌, ◌≤◌, ◌⊎◌, ◌++◌, ◌+◌, ◌^◌, ℕ, List, Some, true, length, IfSome};
 ghost use Rattle.tg_base.specs.declared.fault.Which.{Which};
 ghost use Rattle.tg_io.specs.Faults.{Rose, StaysSure};
 ghost use Rattle.tg_io.specs.declared.status.Status.TheVariants.{Done, Script as AtLine, ReadFault, WriteFault, LinkFault, Limit, NoMemory as OutOfMemory};
@@ -114,6 +114,7 @@ fn follow_header<S: Source, K: Sink, L: Link>(
     sink: &mut K,
     link: &mut L,
 ) -> Status
+    requires { 3 + (length reader.old + S.room source.old) < 2 ^ 64 }
     ensures outcome { IfSome (ahead reader.old (S.left source.old)) (λ rest. (text : List ℕ) → lines text ≡ header_lines cluster ++ lines rest → is_declared cluster id ≡ true → Outcome text id result (seen (L.sent link.old) (L.handed link.old) (L.acts link.old) (K.written sink.old)) (seen (L.sent link.new) (L.handed link.new) (L.acts link.new) (K.written sink.new))) }
     ensures causes { Causes (S.faults source.old) (S.faults source.new) (K.faults sink.old) (K.faults sink.new) (L.faults link.old) (L.faults link.new) result }
     ensures source { StaysSure (S.sure source.old) (S.sure source.new) (S.faults source.old) (S.faults source.new) }
@@ -143,7 +144,9 @@ fn follow_text<S: Source, K: Sink, L: Link>(
     sink: &mut K,
     link: &mut L,
 ) -> Status
-    requires { IsSound run.node }
+    requires sound { IsSound run.node }
+    // A source gives fewer bytes than 2^64, and a line takes one at least.
+    requires room { run.lines + 3 + (length reader.old + S.room source.old) < 2 ^ 64 }
     ensures outcome { IfSome (ahead reader.old (S.left source.old)) (λ rest. (text : List ℕ) (before : Seen) → Follows text before (seen (L.sent link.old) (L.handed link.old) (L.acts link.old) (K.written sink.old)) run (lines rest) → Outcome text run.id result before (seen (L.sent link.new) (L.handed link.new) (L.acts link.new) (K.written sink.new))) }
     ensures causes { Causes (S.faults source.old) (S.faults source.new) (K.faults sink.old) (K.faults sink.new) (L.faults link.old) (L.faults link.new) result }
     ensures source { StaysSure (S.sure source.old) (S.sure source.new) (S.faults source.old) (S.faults source.new) }

@@ -1,40 +1,31 @@
-use Rattle.std.proofs.Common.{◌≡◌, ◌+◌, ℕ, List, ◌∷◌, Option, IfSome, inl, inr, refl, subst, arith}
+use Rattle.std.proofs.Common.{◌+◌, inl, inr, refl, subst}
 use Rattle.tg_io.specs.declared.status.Status.TheVariants as status
 use Rattle.tg_node.specs.Stages.{IsWritten, seen}
 use Rattle.tg_node.specs.declared.stages.Next.{Next}
 use Rattle.tg_node.specs.declared.stages.Next.TheVariants.{Ends}
-use Rattle.tg_node.proofs.Following.{line_follows, line_cut, cut_here}
+use Rattle.tg_node.proofs.Following.{line_follows, line_cut}
 use Rattle.tg_node.proofs.Ending.{line_writes, line_link, line_none, written_next, failed}
 use Rattle.tg_node.proofs.follow.follow_asked.Goals as goal
-
-pub returns-in_default-clause-follows : goal.returns-in_default-clause-follows
-returns-in_default-clause-follows g c = λ text before line more is f.
-    inl (cut_here text before (seen (g.L.Link.sent c.args.link.now) (g.L.Link.handed c.args.link.now) (g.L.Link.acts c.args.link.now) (g.K.Sink.written c.args.sink.now)) c.args.run (line ∷ more) f)
-
-pub returns-in_default-clause-causes : goal.returns-in_default-clause-causes
-returns-in_default-clause-causes g c = line_none (g.K.Sink.faults c.args.sink.now) (g.L.Link.faults c.args.link.now) (g.L.Link.faults c.args.link.now) (omega arith)
 
 pub write-requires : goal.write-requires
 write-requires g c = c.in-Ok.ensures.took.takes.sound
 
 pub returns-in-Ok-clause-follows : goal.returns-in-Ok-clause-follows
 returns-in-Ok-clause-follows g c = λ text before line more is f.
-    let at : c.in-Some.event ≡ c.args.run.lines + 1 = subst (λ (o : Option ℕ). IfSome o (λ x. x ≡ c.args.run.lines + 1)) c.in-Some.is c.number_after.ensures in
-    line_follows text before (seen (g.L.Link.sent c.args.link.now) (g.L.Link.handed c.args.link.now) (g.L.Link.acts c.args.link.now) (g.K.Sink.written c.args.sink.now)) c.args.run line more c.args.asked c.in-Some.event c.in-Ok.moved (g.L.Link.sent c.follow.new.link)
-    (g.L.Link.handed c.follow.new.link) (g.L.Link.acts c.follow.new.link) f is at c.in-Ok.ensures.took (g.K.Sink.written c.write.new.sink) c.write.result c.write.ensures.written
+    line_follows text before (seen (g.L.Link.sent c.args.link.now) (g.L.Link.handed c.args.link.now) (g.L.Link.acts c.args.link.now) (g.K.Sink.written c.args.sink.now)) c.args.run line more c.args.asked (c.args.run.lines + 1) c.in-Ok.moved (g.L.Link.sent c.follow.new.link)
+    (g.L.Link.handed c.follow.new.link) (g.L.Link.acts c.follow.new.link) f is refl c.in-Ok.ensures.took (g.K.Sink.written c.write.new.sink) c.write.result c.write.ensures.written
 
 pub returns-in-Ok-clause-causes : goal.returns-in-Ok-clause-causes
 returns-in-Ok-clause-causes g c =
     line_writes (g.K.Sink.faults c.args.sink.now) (g.K.Sink.faults c.write.new.sink) (g.L.Link.faults c.args.link.now) (g.L.Link.faults c.follow.new.link) c.write.result c.write.ensures.ways c.write.ensures.write_fault
-    (λ e. let no : IsWritten c.args.run.id c.args.run.cluster c.in-Some.event c.in-Ok.moved (g.K.Sink.written c.args.sink.now) (g.K.Sink.written c.write.new.sink) (Ends status.LinkFault) =
-    subst (λ (x : Next). IsWritten c.args.run.id c.args.run.cluster c.in-Some.event c.in-Ok.moved (g.K.Sink.written c.args.sink.now) (g.K.Sink.written c.write.new.sink) x) e c.write.ensures.written in
+    (λ e. let no : IsWritten c.args.run.id c.args.run.cluster (c.args.run.lines + 1) c.in-Ok.moved (g.K.Sink.written c.args.sink.now) (g.K.Sink.written c.write.new.sink) (Ends status.LinkFault) =
+    subst (λ (x : Next). IsWritten c.args.run.id c.args.run.cluster (c.args.run.lines + 1) c.in-Ok.moved (g.K.Sink.written c.args.sink.now) (g.K.Sink.written c.write.new.sink) x) e c.write.ensures.written in
     no) c.write.ensures.later c.in-Ok.ensures.cause.later
 
 pub returns-in-Err-Failed-clause-follows : goal.returns-in-Err-Failed-clause-follows
 returns-in-Err-Failed-clause-follows g c = λ text before line more is f.
-    let at : c.in-Some.event ≡ c.args.run.lines + 1 = subst (λ (o : Option ℕ). IfSome o (λ x. x ≡ c.args.run.lines + 1)) c.in-Some.is c.number_after.ensures in
-    line_cut text before (seen (g.L.Link.sent c.args.link.now) (g.L.Link.handed c.args.link.now) (g.L.Link.acts c.args.link.now) (g.K.Sink.written c.args.sink.now)) c.args.run line more c.args.asked c.in-Some.event (g.L.Link.sent c.follow.new.link) (g.L.Link.handed c.follow.new.link)
-    (g.L.Link.acts c.follow.new.link) f is at c.in-Err-Failed.ensures.breaks
+    line_cut text before (seen (g.L.Link.sent c.args.link.now) (g.L.Link.handed c.args.link.now) (g.L.Link.acts c.args.link.now) (g.K.Sink.written c.args.sink.now)) c.args.run line more c.args.asked (c.args.run.lines + 1) (g.L.Link.sent c.follow.new.link) (g.L.Link.handed c.follow.new.link)
+    (g.L.Link.acts c.follow.new.link) f is refl c.in-Err-Failed.ensures.breaks
 
 pub returns-in-Err-Failed-clause-causes : goal.returns-in-Err-Failed-clause-causes
 returns-in-Err-Failed-clause-causes g c =
@@ -42,14 +33,12 @@ returns-in-Err-Failed-clause-causes g c =
 
 pub returns-clause-follows : goal.returns-clause-follows
 returns-clause-follows g c = λ text before line more is f.
-    let at : c.in-Some.event ≡ c.args.run.lines + 1 = subst (λ (o : Option ℕ). IfSome o (λ x. x ≡ c.args.run.lines + 1)) c.in-Some.is c.number_after.ensures in
-    inr (inl (line_cut text before (seen (g.L.Link.sent c.args.link.now) (g.L.Link.handed c.args.link.now) (g.L.Link.acts c.args.link.now) (g.K.Sink.written c.args.sink.now)) c.args.run line more c.args.asked c.in-Some.event (g.L.Link.sent c.follow.new.link) (g.L.Link.handed c.follow.new.link)
-    (g.L.Link.acts c.follow.new.link) f is at c.in-Err-NoMemory.ensures.breaks))
+    inr (inl (line_cut text before (seen (g.L.Link.sent c.args.link.now) (g.L.Link.handed c.args.link.now) (g.L.Link.acts c.args.link.now) (g.K.Sink.written c.args.sink.now)) c.args.run line more c.args.asked (c.args.run.lines + 1) (g.L.Link.sent c.follow.new.link) (g.L.Link.handed c.follow.new.link)
+    (g.L.Link.acts c.follow.new.link) f is refl c.in-Err-NoMemory.ensures.breaks))
 
 pub returns-clause-causes : goal.returns-clause-causes
 returns-clause-causes g c = line_none (g.K.Sink.faults c.args.sink.now) (g.L.Link.faults c.args.link.now) (g.L.Link.faults c.follow.new.link) c.in-Err-NoMemory.ensures.cause.later
 
 pub returns-in-Ok-clause-next : goal.returns-in-Ok-clause-next
 returns-in-Ok-clause-next g c =
-    let at : c.in-Some.event ≡ c.args.run.lines + 1 = subst (λ (o : Option ℕ). IfSome o (λ x. x ≡ c.args.run.lines + 1)) c.in-Some.is c.number_after.ensures in
-    written_next c.args.run.id c.args.run.cluster c.in-Some.event c.args.run.lines c.in-Ok.moved (g.K.Sink.written c.args.sink.now) (g.K.Sink.written c.write.new.sink) c.write.result at c.write.ensures.written
+    written_next c.args.run.id c.args.run.cluster (c.args.run.lines + 1) c.args.run.lines c.in-Ok.moved (g.K.Sink.written c.args.sink.now) (g.K.Sink.written c.write.new.sink) c.write.result refl c.write.ensures.written

@@ -1,4 +1,4 @@
-use Rattle.std.proofs.Common.{refl, inl, arith}
+use Rattle.std.proofs.Common.{refl, inl}
 use Rattle.tg_lines.specs.Lines.{ahead}
 use Rattle.tg_node.specs.Stages.{seen}
 use Rattle.tg_node.proofs.Ending.{if_any, if_weaker, opens, opens_sound, causes_none, nat_same}
@@ -10,8 +10,8 @@ returns-in_default-clause-outcome g c = if_any (ahead c.args.reader.now (g.S.Sou
 pub returns-in_default-clause-causes : goal.returns-in_default-clause-causes
 returns-in_default-clause-causes g c = causes_none (g.S.Source.faults c.args.source.now) (g.S.Source.faults c.args.source.now) (g.S.Source.faults c.args.source.now) _ _ _ _ (nat_same _) (nat_same _) (nat_same _) (nat_same _)
 
-pub follow_text-requires : goal.follow_text-requires
-follow_text-requires g c = opens_sound c.args.id c.args.cluster c.in-Ok.node c.in-Ok.ensures.node c.in-Ok.ensures.steps c.in-Ok.ensures.received
+pub follow_text-requires-clause-sound : goal.follow_text-requires-clause-sound
+follow_text-requires-clause-sound g c = opens_sound c.args.id c.args.cluster c.in-Ok.node c.in-Ok.ensures.node c.in-Ok.ensures.steps c.in-Ok.ensures.received
 
 pub returns-clause-outcome : goal.returns-clause-outcome
 returns-clause-outcome g c =

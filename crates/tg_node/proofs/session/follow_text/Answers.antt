@@ -1,4 +1,4 @@
-use Rattle.std.proofs.Common.{ℕ, List, Option, ◌≡◌, ◌≤◌, ◌+◌, ◌-◌, ◌∙◌, ap, sym, refl, subst, arith}
+use Rattle.std.proofs.Common.{ℕ, List, Option, ◌≡◌, ◌<◌, ◌≤◌, ◌+◌, ◌-◌, ◌^◌, ◌∙◌, length, IfSome, refl, subst, arith}
 use Rattle.tg_io.proofs.Faults.{sure_since}
 use Rattle.tg_lines.specs.Lines.{ahead, TakesLine}
 use Rattle.tg_lines.proofs.Feeding.{takes_more, takes_nothing}
@@ -11,7 +11,8 @@ use Rattle.tg_node.proofs.session.follow_text.Goals as goal
 pub loop-line-init : goal.loop-line-init
 loop-line-init g c = record {
   follows = still_none (ahead c.args.reader.now (g.S.Source.left c.args.source.now)) c.args.run (seen (g.L.Link.sent c.args.link.now) (g.L.Link.handed c.args.link.now) (g.L.Link.acts c.args.link.now) (g.K.Sink.written c.args.sink.now));
-  sound = c.requires;
+  sound = c.requires.sound;
+  room = c.requires.room;
   lines = omega arith;
   feeds = takes_nothing (ahead c.args.reader.now (g.S.Source.left c.args.source.now)) _;
   read_still = refl;
@@ -23,8 +24,8 @@ loop-line-init g c = record {
   link = record { sure = λ e. e; still = λ e. refl };
 }
 
-pub follow_line-requires : goal.follow_line-requires
-follow_line-requires g c = c.loop-line.invariant.sound
+pub follow_line-requires-clause-sound : goal.follow_line-requires-clause-sound
+follow_line-requires-clause-sound g c = c.loop-line.invariant.sound
 
 pub loop-line-preserved : goal.loop-line-preserved
 loop-line-preserved g c =
@@ -47,6 +48,10 @@ loop-line-preserved g c =
           (seen (g.L.Link.sent c.args.link.now) (g.L.Link.handed c.args.link.now) (g.L.Link.acts c.args.link.now) (g.K.Sink.written c.args.sink.now)) now later s.line i.follows (subst (λ (o : Option (List ℕ)). TakesLine (ahead c.loop-line.reader (g.S.Source.left c.loop-line.source)) (ahead c.next.new.self (g.S.Source.left c.next.new.source)) o) s.field-0-is s.ensures.line)
           (line_step c.loop-line.run now later c.as_slice.result.now s.line l.result (Goes c.in-Goes.next) c.as_slice.ensures c.in-Goes.is l.ensures.follows);
       sound = subst GoesSound c.in-Goes.is l.ensures.sound;
+      room =
+          let less : length c.next.new.self + g.S.Source.room c.next.new.source < length c.loop-line.reader + g.S.Source.room c.loop-line.source =
+          subst (λ (o : Option (List ℕ)). IfSome o (λ _. length c.next.new.self + g.S.Source.room c.next.new.source < length c.loop-line.reader + g.S.Source.room c.loop-line.source)) s.field-0-is s.ensures.less in
+          let room : c.loop-line.run.lines + 3 + (length c.loop-line.reader + g.S.Source.room c.loop-line.source) < 2 ^ 64 = i.room in omega (arith, room, less, next);
       read_later = omega (arith, r0, r1);
       lines = omega (arith, ahead_of, next);
       feeds = takes_more (ahead c.args.reader.now (g.S.Source.left c.args.source.now)) (ahead c.loop-line.reader (g.S.Source.left c.loop-line.source)) (ahead c.next.new.self (g.S.Source.left c.next.new.source)) (c.loop-line.run.lines - c.args.run.lines) 1 (c.in-Goes.next.lines - c.args.run.lines) (omega (arith, ahead_of, next)) i.feeds s.ensures.feeds;
@@ -121,3 +126,10 @@ returns-in-Err-Failed-clause-first g c = λ e.
     still_first (ahead c.args.reader.now (g.S.Source.left c.args.source.now)) (ahead c.loop-line.reader (g.S.Source.left c.loop-line.source)) (g.S.Source.left c.next.new.source) c.args.run c.loop-line.run
     (seen (g.L.Link.sent c.args.link.now) (g.L.Link.handed c.args.link.now) (g.L.Link.acts c.args.link.now) (g.K.Sink.written c.args.sink.now)) (seen (g.L.Link.sent c.loop-line.link) (g.L.Link.handed c.loop-line.link) (g.L.Link.acts c.loop-line.link) (g.K.Sink.written c.loop-line.sink))
     more many i.follows i.feeds (c.in-Err-Failed.ensures.first (failed c.in-Err-Failed.field-0 c.in-Err-Failed.field-0-is))
+
+pub follow_line-requires-clause-room : goal.follow_line-requires-clause-room
+follow_line-requires-clause-room g c =
+    let less : length c.next.new.self + g.S.Source.room c.next.new.source < length c.loop-line.reader + g.S.Source.room c.loop-line.source =
+    subst (λ (o : Option (List ℕ)). IfSome o (λ l. length c.next.new.self + g.S.Source.room c.next.new.source < length c.loop-line.reader + g.S.Source.room c.loop-line.source)) c.in-Ok-Some.field-0-is c.in-Ok-Some.ensures.less in
+    let room : c.loop-line.run.lines + 3 + (length c.loop-line.reader + g.S.Source.room c.loop-line.source) < 2 ^ 64 = c.loop-line.invariant.room in
+    omega (arith, less, room)

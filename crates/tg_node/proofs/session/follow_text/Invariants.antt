@@ -1,4 +1,4 @@
-use Rattle.std.proofs.Common.{◌≡◌, ◌≤◌, ◌+◌, ◌-◌, length}
+use Rattle.std.proofs.Common.{◌≡◌, ◌≤◌, ◌+◌, ◌-◌, ◌<◌, ◌^◌, length}
 use Rattle.tg_io.specs.Faults.{StaysSure}
 use Rattle.tg_lines.specs.Feeds.{TakesFeeds}
 use Rattle.tg_lines.specs.Lines.{ahead}
@@ -13,6 +13,7 @@ invariant-loop-line g l = record {
   lines : l.fn.run.lines ≤ l.run.lines;
   feeds : TakesFeeds (l.run.lines - l.fn.run.lines) (ahead l.fn.reader (g.S.Source.left l.fn.source)) (ahead l.reader (g.S.Source.left l.source));
   read_still : g.S.Source.faults l.source ≡ g.S.Source.faults l.fn.source;
+  room : l.run.lines + 3 + (length l.reader + g.S.Source.room l.source) < 2 ^ 64;
   read_later : g.S.Source.faults l.fn.source ≤ g.S.Source.faults l.source;
   write_later : g.K.Sink.faults l.fn.sink ≤ g.K.Sink.faults l.sink;
   link_later : g.L.Link.faults l.fn.link ≤ g.L.Link.faults l.link;

@@ -1,6 +1,7 @@
-use Rattle.std.proofs.Common.{subst, arith}
+use Rattle.std.proofs.Common.{◌≡◌, ◌≤◌, ◌+◌, ◌-◌, ◌^◌, length, ap, subst, arith}
 use Rattle.tg_lines.specs.Lines.{ahead}
 use Rattle.tg_lines.specs.declared.header.Opening.{Opening}
+use Rattle.tg_lines.specs.Openings.{OnOpens}
 use Rattle.tg_node.specs.Openings.{Opened}
 use Rattle.tg_node.specs.Stages.{seen}
 use Rattle.tg_node.proofs.Ending.{header_failed, header_followed, header_opens, header_outside, told_cut, told_none, causes_since, causes_script, causes_read, causes_none, failed, nat_same}
@@ -47,3 +48,11 @@ returns-in-Ok-Opens-clause-first g c = λ e.
 pub returns-in-Err-Failed-clause-first : goal.returns-in-Err-Failed-clause-first
 returns-in-Err-Failed-clause-first g c = λ e.
     header_failed (g.S.Source.left c.args.source.now) c.new-reader.result (g.S.Source.left c.read_own_header.new.source) c.args.id c.new-reader.ensures (c.in-Err-Failed.ensures.first (failed c.in-Err-Failed.field-0 c.in-Err-Failed.field-0-is))
+
+pub follow_header-requires : goal.follow_header-requires
+follow_header-requires g c =
+    let less : length c.read_own_header.new.reader + g.S.Source.room c.read_own_header.new.source + 3 ≤ length c.new-reader.result + g.S.Source.room c.args.source.now =
+    subst (λ (o : Opening). OnOpens o (length c.read_own_header.new.reader + g.S.Source.room c.read_own_header.new.source + 3 ≤ length c.new-reader.result + g.S.Source.room c.args.source.now)) c.in-Ok-Opens.field-0-is c.in-Ok-Opens.ensures.less in
+    let empty : length c.new-reader.result ≡ 0 = ap length c.new-reader.ensures in
+    let capped : g.S.Source.room c.args.source.now ≤ 2 ^ 64 - 1 = g.met.S.Source.capped c.args.source.now in
+    omega (arith, less, empty, capped)
