@@ -37,12 +37,12 @@ kept q f h a = by q.stopped refl
     by None e = subst GoesOnRecorded (sym (a.goes e)) h
     by (Some x) e = subst GoesOnRecorded (sym (a.stops x e)) h
 
-pub counts : (r b : Recording) (q : Went) (f : Fed) (g : Worlds → Runs) → Begins r b → Makes b g q → IsAfter q f → CountsOn r.run.events f
+pub counts : (r b : Recording) (q : Went) (f : Fed) (g : Worlds → Runs) → Begins r b → Makes b g q → IsAfter q f → CountsOn r.run.world.event f
 counts r b q f g begins makes a = by q.stopped refl
   where
-    by : (o : Option Which) → q.stopped ≡ o → CountsOn r.run.events f
-    by None e = subst (CountsOn r.run.events) (sym (a.goes e)) (makes.events ∙ begins.events)
-    by (Some x) e = subst (CountsOn r.run.events) (sym (a.stops x e)) tt
+    by : (o : Option Which) → q.stopped ≡ o → CountsOn r.run.world.event f
+    by None e = subst (CountsOn r.run.world.event) (sym (a.goes e)) (makes.events ∙ begins.events)
+    by (Some x) e = subst (CountsOn r.run.world.event) (sym (a.stops x e)) tt
 
 pub made : (r b : Recording) (q : Went) (f : Fed) (l : Line) → Begins r b → Makes b (λ w. line_in w l) q → IsAfter q f → (w : Worlds) → KeepsWorld all_kinds r.run.world w → IsMade r.run (line_on w l) (run_in f)
 made r b q f l begins makes a w k = by q.stopped refl
@@ -66,7 +66,7 @@ made r b q f l begins makes a w k = by q.stopped refl
 
 -- the header of a text, as a replay has it
 pub header_opens : (none : List ℕ) (left rest : Option (List ℕ)) (h : Header) (r : Run) (result : Result Recorded IoErr) → none ≡ [] → Opened (ahead none left) rest (Opens h) → TakesFeeds 3 (ahead none left) rest
-    → IsHeader h → r.cluster ≡ h → KeepsWorld all_kinds r.world (start all_kinds h) → r.events ≡ 0
+    → IsHeader h → r.cluster ≡ h → KeepsWorld all_kinds r.world (start all_kinds h) → r.world.event ≡ 0
     → IfSome rest (λ rest. (text : List ℕ) → Reads text r rest → IfOk result (λ f. Finished text (finish_in f))) → IfSome left (λ text. IfOk result (λ f. Finished text (finish_in f)))
 header_opens none None rest h r result e is took lawful cluster world events ends = tt
 header_opens none (Some text) None h r result e is took lawful cluster world events ends = absurd is

@@ -8,6 +8,7 @@ use Rattle.tg_picture.specs.declared.steps.Step.{Step}
 use Rattle.tg_protocol.specs.Runs.{Next, Takes, run as along}
 use Rattle.tg_protocol.specs.Worlds.{start, happens, next_event, trace}
 use Rattle.tg_world.specs.Kept.{KeptOf, KeepsWorld}
+use Rattle.tg_world.proofs.Numbering.{none_begun}
 use Rattle.tg_any.specs.AllKinds.{all_kinds}
 use Rattle.tg_replay.specs.Runs.{Worlds}
 use Rattle.space_time.specs.declared.recording.Recording.{Recording}
@@ -64,11 +65,11 @@ pub as_step : (line : ℕ) (h : Happening) (e : EventOf all_kinds) (w : Worlds) 
 as_step line h e w s is same = is ∙ ap (λ (x : Happening). step_at line x w) same
 
 -- before the first step
-pub opened : (r : Recording) → KeepsWorld all_kinds r.run.world (start all_kinds r.run.cluster) → r.steps ≡ [] → r.run.events ≡ 0 → IsRecorded r
+pub opened : (r : Recording) → KeepsWorld all_kinds r.run.world (start all_kinds r.run.cluster) → r.steps ≡ [] → IsRecorded r
 unfolding along steps_from lines_of
-opened r world steps events = record { moves = []; world = world; steps = steps; events = events }
+opened r world steps = record { moves = []; world = world; steps = steps; events = none_begun all_kinds r.run.cluster r.run.world world }
 
-pub begun : (r q : Recording) → IsRecorded r → q.run.cluster ≡ r.run.cluster → q.steps ≡ r.steps → q.run.events ≡ r.run.events + 1
+pub begun : (r q : Recording) → IsRecorded r → q.run.cluster ≡ r.run.cluster → q.steps ≡ r.steps → q.run.world.event ≡ r.run.world.event + 1
     → ((w : Worlds) → KeepsWorld all_kinds r.run.world w → KeepsWorld all_kinds q.run.world (next_event all_kinds w)) → Begins r q
 begun r q h cluster steps events keeps =
     let before = start all_kinds r.run.cluster in
@@ -85,14 +86,14 @@ begun r q h cluster steps events keeps =
       events = events;
     }
 
-pub stepped : (r q : Recording) (e : EventOf all_kinds) (s : Step) → IsRecorded r → q.run.cluster ≡ r.run.cluster → q.run.events ≡ r.run.events → q.steps ≡ r.steps ++ s ∷ []
+pub stepped : (r q : Recording) (e : EventOf all_kinds) (s : Step) → IsRecorded r → q.run.cluster ≡ r.run.cluster → q.run.world.event ≡ r.run.world.event → q.steps ≡ r.steps ++ s ∷ []
     → ((w : Worlds) → KeepsWorld all_kinds r.run.world w → KeepsWorld all_kinds q.run.world (happens all_kinds w e))
-    → ((w : Worlds) → KeepsWorld all_kinds q.run.world w → s ≡ step_of r.run.events e w) → StepsTo r e q
+    → ((w : Worlds) → KeepsWorld all_kinds q.run.world w → s ≡ step_of r.run.world.event e w) → StepsTo r e q
 stepped r q e s h cluster events steps keeps is =
     let before = start all_kinds r.run.cluster in
     let now = happens all_kinds (along all_kinds h.moves before) e in
     let kept = keeps (along all_kinds h.moves before) h.world in
-    let line : r.run.events ≡ lines_of h.moves + 0 = let a = h.events in omega arith in
+    let line : r.run.world.event ≡ lines_of h.moves + 0 = let a = h.events in omega arith in
     record {
       recorded = record {
         moves = h.moves ++ Takes e ∷ [];

@@ -55,21 +55,21 @@ pub record IsRecorded (r : Recording) : Type 0 where
   pub moves : Moves
   pub world : KeepsWorld all_kinds r.run.world (along all_kinds moves (start all_kinds r.run.cluster))
   pub steps : r.steps ≡ steps_from 0 moves (start all_kinds r.run.cluster)
-  pub events : r.run.events ≡ lines_of moves
+  pub events : r.run.world.event ≡ lines_of moves
 
 -- the next event line of a recording begins
 pub record Begins (r q : Recording) : Type 0 where
   pub recorded : IsRecorded q
   pub world : (w : Worlds) → KeepsWorld all_kinds r.run.world w → KeepsWorld all_kinds q.run.world (next_event all_kinds w)
   pub cluster : q.run.cluster ≡ r.run.cluster
-  pub events : q.run.events ≡ r.run.events + 1
+  pub events : q.run.world.event ≡ r.run.world.event + 1
 
 -- a recording goes on by one step
 pub record StepsTo (r : Recording) (e : EventOf all_kinds) (q : Recording) : Type 0 where
   pub recorded : IsRecorded q
   pub world : (w : Worlds) → KeepsWorld all_kinds r.run.world w → KeepsWorld all_kinds q.run.world (happens all_kinds w e)
   pub cluster : q.run.cluster ≡ r.run.cluster
-  pub events : q.run.events ≡ r.run.events
+  pub events : q.run.world.event ≡ r.run.world.event
 
 -- a recording goes on by the steps that f makes of its world, as far as the limits allow
 pub record Makes (r : Recording) (f : Worlds → Runs) (q : Went) : Type 0 where
@@ -77,7 +77,7 @@ pub record Makes (r : Recording) (f : Worlds → Runs) (q : Went) : Type 0 where
   pub world : (w : Worlds) → KeepsWorld all_kinds r.run.world w → KeepsWorld all_kinds q.recording.run.world (f w).world
   pub stopped : (w : Worlds) → KeepsWorld all_kinds r.run.world w → q.stopped ≡ (f w).stopped
   pub cluster : q.recording.run.cluster ≡ r.run.cluster
-  pub events : q.recording.run.events ≡ r.run.events
+  pub events : q.recording.run.world.event ≡ r.run.world.event
 
 -- What reading has come to, as a replay has it.
 
@@ -94,7 +94,7 @@ HasRecord r = IfSome r.recording IsRecorded
 
 -- a recording that goes on has one event more
 abbrev pub CountsOn : ℕ → Fed → Type 0
-CountsOn n (Goes r) = r.run.events ≡ n + 1
+CountsOn n (Goes r) = r.run.world.event ≡ n + 1
 CountsOn n (Stops r) = Unit {0}
 
 abbrev pub GoesOnRecorded : Fed → Type 0

@@ -55,7 +55,7 @@ fn record_events<S: Source>(
 ) -> Result<Recorded, IoErr>
     requires recorded { IsRecorded recording }
     // A source gives fewer than 2^64 bytes, and each line takes one at least.
-    requires room { recording.run.events + 3 + (length reader.old + S.room source.old) < 2 ^ 64 }
+    requires room { recording.run.world.event + 3 + (length reader.old + S.room source.old) < 2 ^ 64 }
     ensures finished { IfSome (ahead reader.old (S.left source.old)) (λ rest. (text : List ℕ) → Reads text recording.run rest → IfOk result (λ r. Finished text (finish_in r))) }
     ensures recorded { IfOk result HasRecord }
     ensures cause { HasCause (S.faults source.old) (S.faults source.new) result }
@@ -85,9 +85,9 @@ impl Recording {
     /// Takes the next event line. An `Err` is want of memory, or of numbers.
     fn feed(self, alloc: Global, line: List<u8>) -> Result<Fed, NoMemory>
         requires recorded { IsRecorded self }
-        requires room { self.run.events + 4 < 2 ^ 64 }
+        requires room { self.run.world.event + 4 < 2 ^ 64 }
         ensures kept { IfOk result GoesOnRecorded }
-        ensures counts { IfOk result (CountsOn self.run.events) }
+        ensures counts { IfOk result (CountsOn self.run.world.event) }
         ensures took { (text : List ℕ) (read more : List (List ℕ)) (s : Script) → lines text ≡ read ++ line ∷ more → IsRunOf read self.run s → IfOk result (λ f. Took text (read ++ line ∷ []) (run_in f)) }
     {
         let Some(event) = line_of(alloc, &self.run.cluster, &line)? else {
@@ -102,12 +102,12 @@ impl Recording {
     // The next event line is outside.
     fn outside(self) -> Fed
         requires recorded { IsRecorded self }
-        requires room { self.run.events + 4 < 2 ^ 64 }
+        requires room { self.run.world.event + 4 < 2 ^ 64 }
         ensures kept { GoesOnRecorded result }
-        ensures counts { CountsOn self.run.events result }
+        ensures counts { CountsOn self.run.world.event result }
         ensures outside { IsOutside self.run (run_in result) }
     {
-        let line = self.run.events + 4;
+        let line = self.run.world.event() + 4;
         Fed::Stops(Recorded {
             end: End::Outside { line },
             recording: Some(self),
@@ -129,9 +129,9 @@ impl Recording {
     // Makes a line's steps, as far as the limits allow.
     fn play(self, alloc: Global, text: List<u8>, line: Line) -> Result<Fed, NoMemory>
         requires recorded { IsRecorded self }
-        requires room { self.run.events + 4 < 2 ^ 64 }
+        requires room { self.run.world.event + 4 < 2 ^ 64 }
         ensures kept { IfOk result GoesOnRecorded }
-        ensures counts { IfOk result (CountsOn self.run.events) }
+        ensures counts { IfOk result (CountsOn self.run.world.event) }
         ensures made { (w : seen.World all_kinds) → KeepsWorld all_kinds self.run.world w → IfOk result (λ f. IsMade self.run (line_on w line) (run_in f)) }
     {
         let begun = self.begin(text)?;

@@ -47,34 +47,26 @@ impl Recording {
         ensures lawful { IsHeader cluster }
         ensures cluster { IfOk result (λ r. r.run.cluster ≡ cluster) }
         ensures world { IfOk result (λ r. KeepsWorld all_kinds r.run.world (seen.start all_kinds cluster)) }
-        ensures events { IfOk result (λ r. r.run.events ≡ 0) }
+        ensures events { IfOk result (λ r. r.run.world.event ≡ 0) }
         ensures recorded { IfOk result IsRecorded }
     {
         cluster.rules();
         let world = World::start(alloc, &cluster)?;
         Ok(Recording {
-            run: Run {
-                cluster,
-                world,
-                events: 0,
-            },
+            run: Run { cluster, world },
             steps: List::new(alloc),
             lines: List::new(alloc),
         })
     }
 
-    /// The next event line begins. An `Err` is want of memory, or of numbers.
+    /// The next event line begins. An `Err` is want of memory.
     pub(crate) fn begin(self, line: List<u8>) -> Result<Recording, NoMemory>
         requires recorded { IsRecorded self }
-        requires room { self.run.events + 4 < 2 ^ 64 }
+        requires room { self.run.world.event + 4 < 2 ^ 64 }
         ensures { IfOk result (Begins self) }
     {
         let Recording {
-            run: Run {
-                cluster,
-                world,
-                events,
-            },
+            run: Run { cluster, world },
             steps,
             mut lines,
         } = self;
@@ -82,8 +74,7 @@ impl Recording {
         Ok(Recording {
             run: Run {
                 cluster,
-                world: world.next_event()?,
-                events: events + 1,
+                world: world.next_event(),
             },
             steps,
             lines,
@@ -92,28 +83,22 @@ impl Recording {
 
     /// One step of the world, which is kept. An `Err` is want of memory, or of numbers.
     pub(crate) fn step(self, alloc: Global, event: EventOf<AnyKind>) -> Result<Recording, NoMemory>
-        requires { IsRecorded self }
+        requires recorded { IsRecorded self }
+        requires room { self.run.world.servers.steps < 200000 }
         ensures step { IfOk result (StepsTo self event) }
         ensures counts { IfOk result (λ r. r.run.world.servers.steps ≡ self.run.world.servers.steps + 1) }
     {
         let Recording {
-            run: Run {
-                cluster,
-                world,
-                events,
-            },
+            run: Run { cluster, world },
             mut steps,
             lines,
         } = self;
+        let line = world.event();
         let happening = happening_of(&event);
         let world = world.step(alloc, event)?;
-        steps.push(step_after(events, happening, &world))?;
+        steps.push(step_after(line, happening, &world))?;
         Ok(Recording {
-            run: Run {
-                cluster,
-                world,
-                events,
-            },
+            run: Run { cluster, world },
             steps,
             lines,
         })

@@ -28,7 +28,7 @@ pub returns-in-Some : goal.returns-in-Some
 returns-in-Some t c =
     same c.args.recording (λ (w : Worlds). ran all_kinds w (Some c.in-Some.which)) (λ (w : Worlds). tick_all all_kinds c.args.nodes.now w) (went c.args.recording (Some c.in-Some.which))
     (λ w k.
-    sym (all_stops all_kinds c.args.nodes.now _ _ w c.in-Some.which (split_nodes c.args.nodes.now _ c.in-len1-up.len_at_least) (sym (c.runs.ensures w k) ∙ c.if-not-runs.false) (sym (c.limit.ensures w k) ∙ c.in-Some.is)))
+    sym (all_stops all_kinds c.args.nodes.now _ _ w c.in-Some.which (split_nodes c.args.nodes.now _ c.in-len1-up.len_at_least) (sym (c.runs.ensures w k) ∙ c.if-not-runs.false) (sym (c.limit.ensures.limit w k) ∙ c.in-Some.is)))
     (none c.args.recording (Some c.in-Some.which) c.requires)
 
 pub returns-in_ok-recording-in-None : goal.returns-in_ok-recording-in-None
@@ -37,6 +37,6 @@ returns-in_ok-recording-in-None t c =
     (λ p h.
     same c.args.recording _ (λ (w : Worlds). tick_all all_kinds c.args.nodes.now w) p
     (λ w k.
-    sym (all_next all_kinds c.args.nodes.now _ _ w (split_nodes c.args.nodes.now _ c.in-len1-up.len_at_least) (sym (c.runs.ensures w k) ∙ c.if-not-runs.false) (sym (c.limit.ensures w k) ∙ c.in-None.is)))
+    sym (all_next all_kinds c.args.nodes.now _ _ w (split_nodes c.args.nodes.now _ c.in-len1-up.len_at_least) (sym (c.runs.ensures w k) ∙ c.if-not-runs.false) (sym (c.limit.ensures.limit w k) ∙ c.in-None.is)))
     (next c.args.recording c.in_ok-recording-in-None.recording _ _ p c.in_ok-recording-in-None.ensures.step h))
     c.tick_all-in-None.ensures

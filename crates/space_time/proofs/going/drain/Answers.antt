@@ -13,8 +13,11 @@ loop-packet-init c = record {
   events = refl;
 }
 
-pub step-requires : goal.step-requires
-step-requires c = c.loop-packet.invariant.recorded
+pub step-requires-clause-recorded : goal.step-requires-clause-recorded
+step-requires-clause-recorded c = c.loop-packet.invariant.recorded
+
+pub step-requires-clause-room : goal.step-requires-clause-room
+step-requires-clause-room c = c.due.ensures.room (subst (λ (o : Option ℕ). IsSome o) (sym c.in-Some.is) refl)
 
 pub loop-packet-preserved : goal.loop-packet-preserved
 loop-packet-preserved c =

@@ -12,7 +12,7 @@ invariant-loop-packet l = record {
   recorded : IsRecorded l.left;
   reached : (w : Worlds) → KeepsWorld all_kinds l.fn.recording.run.world w → Reached all_kinds l.left.run.world w;
   cluster : l.left.run.cluster ≡ l.fn.recording.run.cluster;
-  events : l.left.run.events ≡ l.fn.recording.run.events;
+  events : l.left.run.world.event ≡ l.fn.recording.run.world.event;
 }
 
 abbrev pub decreases-loop-packet : goal.decreases-loop-packet

@@ -34,8 +34,8 @@ loop-line-preserved g c =
     let rose : g.S.Source.faults c.loop-line.source ≤ g.S.Source.faults c.next.new.source = c.in_ok-line.ensures.cause.later in
     let less : length c.next.new.self + g.S.Source.room c.next.new.source < length c.loop-line.reader + g.S.Source.room c.loop-line.source =
     subst (λ (o : Option (List ℕ)). IfSome o (λ l. length c.next.new.self + g.S.Source.room c.next.new.source < length c.loop-line.reader + g.S.Source.room c.loop-line.source)) c.in-Some.is c.in_ok-line.ensures.less in
-    let room : c.loop-line.recording.run.events + 3 + (length c.loop-line.reader + g.S.Source.room c.loop-line.source) < 2 ^ 64 = i.room in
-    let counts : c.in-Goes.next.run.events ≡ c.loop-line.recording.run.events + 1 = subst (CountsOn c.loop-line.recording.run.events) c.in-Goes.is c.in_ok-next.ensures.counts in
+    let room : c.loop-line.recording.run.world.event + 3 + (length c.loop-line.reader + g.S.Source.room c.loop-line.source) < 2 ^ 64 = i.room in
+    let counts : c.in-Goes.next.run.world.event ≡ c.loop-line.recording.run.world.event + 1 = subst (CountsOn c.loop-line.recording.run.world.event) c.in-Goes.is c.in_ok-next.ensures.counts in
     record {
       reads = still_more before rest after c.args.recording.run c.loop-line.recording.run c.in-Goes.next.run c.in-Some.line i.reads line c.in_ok-line.ensures.feeds feeds;
       kept = subst GoesOnRecorded c.in-Goes.is c.in_ok-next.ensures.kept;
@@ -56,5 +56,5 @@ pub feed-requires-clause-room : goal.feed-requires-clause-room
 feed-requires-clause-room g c =
     let less : length c.next.new.self + g.S.Source.room c.next.new.source < length c.loop-line.reader + g.S.Source.room c.loop-line.source =
     subst (λ (o : Option (List ℕ)). IfSome o (λ l. length c.next.new.self + g.S.Source.room c.next.new.source < length c.loop-line.reader + g.S.Source.room c.loop-line.source)) c.in-Some.is c.in_ok-line.ensures.less in
-    let room : c.loop-line.recording.run.events + 3 + (length c.loop-line.reader + g.S.Source.room c.loop-line.source) < 2 ^ 64 = c.loop-line.invariant.room in
+    let room : c.loop-line.recording.run.world.event + 3 + (length c.loop-line.reader + g.S.Source.room c.loop-line.source) < 2 ^ 64 = c.loop-line.invariant.room in
     omega (arith, less, room)

@@ -9,7 +9,7 @@ abbrev pub invariant-loop-line : goal.invariant-loop-line
 invariant-loop-line g l = record {
   reads : StillReads (ahead l.fn.reader (g.S.Source.left l.fn.source)) (ahead l.reader (g.S.Source.left l.source)) l.fn.recording.run l.recording.run;
   kept : IsRecorded l.recording;
-  room : l.recording.run.events + 3 + (length l.reader + g.S.Source.room l.source) < 2 ^ 64;
+  room : l.recording.run.world.event + 3 + (length l.reader + g.S.Source.room l.source) < 2 ^ 64;
   later : g.S.Source.faults l.fn.source ≤ g.S.Source.faults l.source;
   sure : StaysSure (g.S.Source.sure l.fn.source) (g.S.Source.sure l.source) (g.S.Source.faults l.fn.source) (g.S.Source.faults l.source);
 }

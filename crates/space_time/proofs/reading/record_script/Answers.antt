@@ -30,5 +30,5 @@ record_events-requires-clause-room g c =
     subst (λ (o : Opening). OnOpens o (length c.read_header.new.reader + g.S.Source.room c.read_header.new.source + 3 ≤ length c.new-reader.result + g.S.Source.room c.args.source.now)) c.in-Opens.is c.in_ok-line.ensures.less in
     let empty : length c.new-reader.result ≡ 0 = ap length c.new-reader.ensures in
     let capped : g.S.Source.room c.args.source.now ≤ 2 ^ 64 - 1 = g.met.S.Source.capped c.args.source.now in
-    let none : c.in_ok-recording-in-Opens.recording.run.events ≡ 0 = c.in_ok-recording-in-Opens.ensures.events in
+    let none : c.in_ok-recording-in-Opens.recording.run.world.event ≡ 0 = c.in_ok-recording-in-Opens.ensures.events in
     omega (arith, less, empty, capped, none)
