@@ -49,6 +49,7 @@ pub mod Waits
 pub mod Starts
 pub mod Walked
 pub mod Trimmed
+pub mod Highs
 pub mod Recorded
 pub mod Issued
 pub mod Below
