@@ -50,6 +50,7 @@ pub mod Starts
 pub mod Walked
 pub mod Trimmed
 pub mod Highs
+pub mod Spares
 pub mod Recorded
 pub mod Issued
 pub mod Below

@@ -1,7 +1,7 @@
 -- What a unit tells as its highest position is less than 2 ^ 62: sequencers issue positions below their limit, and tell
 -- tails up to it or up to their layout's start, and no request names a position past these.
-use Rattle.std.proofs.Common.{◌≡◌, ◌⊎◌, ℕ, ◌+◌, ◌-◌, ◌^◌, ◌<◌, ◌≤◌, List, [], ◌∷◌, ◌++◌, length, map, Bool, true, false, not, ◌||◌, eqb, refl, ap, ◌∙◌, sym, subst, inl, inr, arith, Some, None, Option, append-nil}
-use Rattle.std.specs.Prelude.{slice_index_or, nat_lt, nat_le, max, min}
+use Rattle.std.proofs.Common.{◌≡◌, ◌⊎◌, ℕ, ◌+◌, ◌^◌, ◌<◌, ◌≤◌, List, [], ◌∷◌, ◌++◌, length, map, Bool, true, false, not, ◌||◌, eqb, refl, ap, ◌∙◌, sym, subst, inl, inr, arith, Some, None, Option, append-nil}
+use Rattle.std.specs.Prelude.{slice_index_or, nat_lt, nat_le, max}
 use Rattle.std.proofs.lemmas.Bool.Decides.{nat_tests}
 use Rattle.tg_base.specs.Clusters.{Header}
 use Rattle.tg_base.specs.Layouts.{Layout}
@@ -19,10 +19,9 @@ use Rattle.tg_protocol.specs.Words.{unit_id, seqr_id, cell_at, cell_eq, plus_one
 use Rattle.tg_protocol.specs.Requests.{out, awaits, drawn_from}
 use Rattle.tg_protocol.specs.Replies.{reply}
 use Rattle.tg_protocol.specs.Cells.{CellWork, Puts, Gets, Fills, Copies, Probes, CellJob, Place, work_asks, cell_asks, cell_feed}
-use Rattle.tg_protocol.specs.Sequencers.{SeqrState, SeqrTurn, scanning, scan_on, scan_asks, scan_turn, scan_fed, fed_if, begun, stand_answer, answers, issue, on_token, unfenced, own_epoch, on_learn, learn_or_old, seqr_step, seqr_tick, links_of}
-use Rattle.tg_protocol.specs.Units.{UnitState, UnitTurn, UnitAsk, Reads, Stores, Fills as FillsAt, Looks, Seals, TrimsBelow, Nothing, new_unit, unit_ask, in_epoch, not_gone, on_same, on_store, on_seal, on_ask, unit_step}
+use Rattle.tg_protocol.specs.Sequencers.{SeqrState, SeqrTurn, scanning, scan_on, scan_asks, scan_turn, scan_fed, fed_if, begun, stand_answer, issue, on_token, unfenced, own_epoch, on_learn, learn_or_old, seqr_step, seqr_tick, links_of}
+use Rattle.tg_protocol.specs.Units.{UnitState, UnitTurn, UnitAsk, Reads, Stores, Fills as FillsAt, Looks, Seals, TrimsBelow, Nothing, new_unit, unit_ask, in_epoch, not_gone, on_same, on_store, on_ask, unit_step}
 use Rattle.tg_protocol.specs.Worlds.{World, start, unit, packet_of}
-use Rattle.tg_protocol.specs.Chosen.{Sent}
 use Rattle.tg_protocol.specs.Runs.{Moves, Takes, Reaches}
 use Rattle.tg_law_layouts.specs.Moves.After.{after}
 use Rattle.tg_law_layouts.specs.Moves.Configs.{Config, config, seqr_in, unit_in}
