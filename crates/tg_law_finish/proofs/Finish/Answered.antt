@@ -443,7 +443,7 @@ module _ (m : Meaning) (h : Header) (ms : Moves m) (w : World m) (r : Reaches m 
   trims_most x c t n b e le = subst (λ (y : CommandOf m). b + 2 * n ≤ most_deliveries m y c t n) (sym e) (omega (arith, le))
 
   module _ (in_time : (zs : Moves m) (v : World m) → Reaches m h zs v → TrimsInTime m v) where
-    abbrev facts : Facts m (Reached m h) NearFloor
+    abbrev facts : Facts m (Reached m h) (λ s y. NearFloor y)
     facts = reached_facts m h in_time
 
     trim_by : (x : CommandOf m) → IsAlone m w k x → IsReadyFor m w k → Granted m w → HeldWhereTrimmed m w p → (f : WaitsForRead m w k) → TaskStands m w p f.work f.task → f.work.command ≡ cmd.Trim → IsAnswered m w k (trim_bound m w (streams m f.work))

@@ -65,7 +65,7 @@ module _ (m : Meaning) (h : Header) (stopped : List NodeId) (k : ℕ) (p : Layou
     abbrev pub Begins : Type 0
     Begins = (s : Net m) (c : Client m) (t : ClientTurn m) (n : ℕ) → Ready m h stopped k p s → ExitA s c t n → ExitB s c t n ⊎ Goes m h stopped k p B s t [] n
 
-    module _ (Fair : Msg → Type 0) (first : TalkOf m h stopped k p A Fair ExitA) (second : TalkOf m h stopped k p B Fair ExitB) (begins : Begins) where
+    module _ (Fair : Net m → Msg → Type 0) (first : TalkOf m h stopped k p A Fair ExitA) (second : TalkOf m h stopped k p B Fair ExitB) (begins : Begins) where
       either_facts : (s : Net m) (c : Client m) (is : List Item) (n : ℕ) → Either s c is n → Busied m h stopped k p c
       either_facts s c is n (inl x) = first.facts s c is n x
       either_facts s c is n (inr x) = second.facts s c is n x
@@ -90,7 +90,7 @@ module _ (m : Meaning) (h : Header) (stopped : List NodeId) (k : ℕ) (p : Layou
       either_ticked s c is os n (inl x) e = inl (first.ticked s c is os n x e)
       either_ticked s c is os n (inr x) e = inr (second.ticked s c is os n x e)
 
-      either_asked : (s : Net m) (o : Out) (is : List Item) (n : ℕ) → Fair o.msg → Ready m h stopped k p s → Either s (client_of m h s k) (Ask o ∷ is) n → Told m h stopped k p Either s o is n
+      either_asked : (s : Net m) (o : Out) (is : List Item) (n : ℕ) → Fair s o.msg → Ready m h stopped k p s → Either s (client_of m h s k) (Ask o ∷ is) n → Told m h stopped k p Either s o is n
       either_asked s o is n fair ready (inl x) =
           let a = first.asked s o is n fair ready x in
           record { running = a.running; from = a.from; rid = a.rid; says = a.says; sent = a.sent; no_client = a.no_client; ready = a.ready; client = a.client; stage = inl a.stage }
@@ -119,10 +119,10 @@ module _ (m : Meaning) (h : Header) (stopped : List NodeId) (k : ℕ) (p : Layou
       joined_of = record { facts = either_facts; some = either_some; stays = either_stays; calls = either_calls; again = either_again; ticked = either_ticked; asked = either_asked; answered = either_answered }
 
     pub joined : Talk m h stopped k p A ExitA → Talk m h stopped k p B ExitB → Begins → Talk m h stopped k p Either ExitB
-    joined first second begins = joined_of (λ x. ⊤) first second begins
+    joined first second begins = joined_of (λ s x. ⊤) first second begins
 
   -- where more is known of what is asked
-  pub any_fair : (A : StageOf) (Exit : ExitOf) (Fair : Msg → Type 0) → Talk m h stopped k p A Exit → TalkOf m h stopped k p A Fair Exit
+  pub any_fair : (A : StageOf) (Exit : ExitOf) (Fair : Net m → Msg → Type 0) → Talk m h stopped k p A Exit → TalkOf m h stopped k p A Fair Exit
   any_fair A Exit Fair talk = record {
     facts = talk.facts;
     some = talk.some;

@@ -143,20 +143,20 @@ module _ (m : Meaning) (h : Header) (stopped : List NodeId) (k : ℕ) (p : Layou
       pub less : left + length os ≤ n
 
     -- Or it has come to its exit, and nothing is on its way. Of what its nodes are asked it may be known that it is fair.
-    pub record TalkOf (Fair : Msg → Type 0) (Exit : Net m → Client m → ClientTurn m → ℕ → Type 0) : Type 0 where
+    pub record TalkOf (Fair : Net m → Msg → Type 0) (Exit : Net m → Client m → ClientTurn m → ℕ → Type 0) : Type 0 where
       pub facts : (s : Net m) (c : Client m) (is : List Item) (n : ℕ) → Stage s c is n → Busied c
       pub some : (s : Net m) (c : Client m) (is : List Item) (n : ℕ) → Stage s c is n → is ≡ [] → ⊥
       pub stays : (s t : Net m) (c : Client m) (is : List Item) (n : ℕ) → Keeps m h stopped k p s t → Stage s c is n → Stage t c is n
       pub calls : (s : Net m) (c : Client m) (is : List Item) (n : ℕ) → Stage s c is n → Stage s (called m c) is n
       pub again : (s : Net m) (c : Client m) (is : List Item) (os : List Out) (n : ℕ) → Stage s c is n → is ≡ asks os → Again c os
       pub ticked : (s : Net m) (c : Client m) (is : List Item) (os : List Out) (n : ℕ) → Stage s c is n → is ≡ asks os → Stage s (called m (record c { next = c.next + c.layouts })) is n
-      pub asked : (s : Net m) (o : Out) (is : List Item) (n : ℕ) → Fair o.msg → Ready m h stopped k p s → Stage s (client_of m h s k) (Ask o ∷ is) n → Told s o is n
+      pub asked : (s : Net m) (o : Out) (is : List Item) (n : ℕ) → Fair s o.msg → Ready m h stopped k p s → Stage s (client_of m h s k) (Ask o ∷ is) n → Told s o is n
       pub answered : (s : Net m) (x : NodeId) (rid : ℕ) (y : Msg) (is : List Item) (n : ℕ) → Ready m h stopped k p s → Stage s (client_of m h s k) (Tell x rid y ∷ is) n
           → (Exit s (client_of m h s k) (client_deliver m (client_of m h s k) x rid y) n × (is ≡ [])) ⊎ Goes s (client_deliver m (client_of m h s k) x rid y) is n
 
     -- whatever they are asked
     abbrev pub Talk : (Net m → Client m → ClientTurn m → ℕ → Type 0) → Type 0
-    Talk Exit = TalkOf (λ x. ⊤) Exit
+    Talk Exit = TalkOf (λ s x. ⊤) Exit
 
     pub record Busy (s : Net m) (q : List Packet) (n : ℕ) : Type 0 where
       pub ready : Ready m h stopped k p s
@@ -182,7 +182,7 @@ module _ (m : Meaning) (h : Header) (stopped : List NodeId) (k : ℕ) (p : Layou
         by (inl f) = subst (λ (c : Client m). c.work ≡ None) (sym f) e
         by (inr f) = subst (λ (c : Client m). c.work ≡ None) (sym f) e
 
-    module _ (Fair : Msg → Type 0) (talk : TalkOf Fair Over) where
+    module _ (Fair : Net m → Msg → Type 0) (talk : TalkOf Fair Over) where
       pub stage_passes : (s t : Net m) (sent : List Packet) (is : List Item) (a b left : ℕ) → Passes m h stopped k p s t sent a b → Stage s (client_of m h s k) is left → Stage t (client_of m h t k) is left
       stage_passes s t sent is a b left pass stage = by pass.client
         where
@@ -223,7 +223,7 @@ module _ (m : Meaning) (h : Header) (stopped : List NodeId) (k : ℕ) (p : Layou
           }
 
       -- a request comes to its node
-      request_step : (s : Net m) (q : List Packet) (n : ℕ) (o : Out) (is : List Item) (left : ℕ) → Fair o.msg → Ready m h stopped k p s → Line q is → Stage s (client_of m h s k) (Ask o ∷ is) left
+      request_step : (s : Net m) (q : List Packet) (n : ℕ) (o : Out) (is : List Item) (left : ℕ) → Fair s o.msg → Ready m h stopped k p s → Line q is → Stage s (client_of m h s k) (Ask o ∷ is) left
           → weigh m h stopped k p (packet_of m (client_id k) o ∷ q) + (left + left) ≤ n
           → Next (net_if m (on_in m stopped s o.to) h s (packet_of m (client_id k) o)) (q ++ sent_if m (on_in m stopped s o.to) h s (packet_of m (client_id k) o)) (packet_of m (client_id k) o) n
       unfolding weigh
@@ -309,19 +309,19 @@ module _ (m : Meaning) (h : Header) (stopped : List NodeId) (k : ℕ) (p : Layou
           by t (inl over) heavy costs = over_step s (answer_packet x rid y) q n left t ready over.0 (all_strays q is line over.1) costs heavy few
           by t (inr more) heavy costs = more_step s (answer_packet x rid y) q n left is t ready more line costs heavy few
 
-      busy_step : (s : Net m) (q r : List Packet) (is : List Item) (n left : ℕ) → Line r is → (x : Packet) → r ≡ x ∷ q → Fair x.msg → Ready m h stopped k p s → Stage s (client_of m h s k) is left → weigh m h stopped k p (x ∷ q) + (left + left) ≤ n
+      busy_step : (s : Net m) (q r : List Packet) (is : List Item) (n left : ℕ) → Line r is → (x : Packet) → r ≡ x ∷ q → Fair s x.msg → Ready m h stopped k p s → Stage s (client_of m h s k) is left → weigh m h stopped k p (x ∷ q) + (left + left) ≤ n
           → Next (net_if m (on_in m stopped s x.to) h s x) (q ++ sent_if m (on_in m stopped s x.to) h s x) x n
       busy_step s q r is n left Nothing x e fair ready stage few = absurd cc
       busy_step s q r is n left (Passing y z i stray l) x e fair ready stage few =
           stray_step s x q n i left ready (subst (λ (w : Packet). Stray m h stopped k p w) (first_same y x z q e) stray) (subst (λ (w : List Packet). Line w i) (rest_same y x z q e) l) stage few
       busy_step s q r is n left (Asking o z i l) x e fair ready stage few =
           subst (λ (w : Packet). weigh m h stopped k p (w ∷ q) + (left + left) ≤ n → Next (net_if m (on_in m stopped s w.to) h s w) (q ++ sent_if m (on_in m stopped s w.to) h s w) w n) (first_same (packet_of m (client_id k) o) x z q e)
-          (λ enough. request_step s q n o i left (subst (λ (w : Packet). Fair w.msg) (sym (first_same (packet_of m (client_id k) o) x z q e)) fair) ready (subst (λ (w : List Packet). Line w i) (rest_same (packet_of m (client_id k) o) x z q e) l) stage enough) few
+          (λ enough. request_step s q n o i left (subst (λ (w : Packet). Fair s w.msg) (sym (first_same (packet_of m (client_id k) o) x z q e)) fair) ready (subst (λ (w : List Packet). Line w i) (rest_same (packet_of m (client_id k) o) x z q e) l) stage enough) few
       busy_step s q r is n left (Telling from rid y z i far l) x e fair ready stage few =
           subst (λ (w : Packet). weigh m h stopped k p (w ∷ q) + (left + left) ≤ n → Next (net_if m (on_in m stopped s w.to) h s w) (q ++ sent_if m (on_in m stopped s w.to) h s w) w n) (first_same (answer_packet from rid y) x z q e)
           (λ enough. answer_step s q n from rid y i left ready far (subst (λ (w : List Packet). Line w i) (rest_same (answer_packet from rid y) x z q e) l) stage enough) few
 
-      pub any_step : (s : Net m) (x : Packet) (q : List Packet) (n : ℕ) → Fair x.msg → Inv s (x ∷ q) n → Next (net_if m (on_in m stopped s x.to) h s x) (q ++ sent_if m (on_in m stopped s x.to) h s x) x n
+      pub any_step : (s : Net m) (x : Packet) (q : List Packet) (n : ℕ) → Fair s x.msg → Inv s (x ∷ q) n → Next (net_if m (on_in m stopped s x.to) h s x) (q ++ sent_if m (on_in m stopped s x.to) h s x) x n
       any_step s x q n fair (inl i) = idle_step s x q n i
       any_step s x q n fair (inr b) = busy_step s q (x ∷ q) b.items n b.left b.line x refl fair b.ready b.stage b.few
 

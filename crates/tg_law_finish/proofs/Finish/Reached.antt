@@ -132,7 +132,7 @@ module _ (m : Meaning) (h : Header) where
   declared w n (zs, r) on = subst (λ (i : ℕ). n.num < i) (counted m h w n.role (all_sized m h zs w r)) (on_long w n on)
 
   -- what a settling may rest on
-  pub reached_facts : ((zs : Moves m) (v : World m) → Reaches m h zs v → TrimsInTime m v) → Facts m Reached NearFloor
+  pub reached_facts : ((zs : Moves m) (v : World m) → Reaches m h zs v → TrimsInTime m v) → Facts m Reached (λ s y. NearFloor y)
   reached_facts in_time = record {
     delivered = λ w i free f. goes w (Deliver i) tt (below_limit w free) (happens_counts m w i) f;
     ticked = λ w n on free f. goes w (Tick n) (declared w n f on) (below_limit w free) (tick_counts w n) f;

@@ -93,7 +93,7 @@ module _ (m : Meaning) (h : Header) (stopped : List NodeId) (k : ℕ) (p : Layou
     abbrev pub Pre : List NodeId → Net m → List Packet → ℕ → Type 0
     Pre xs s q n = Idle m h stopped k p Stage s q n ⊎ (After xs s q n ⊎ Waiting xs s q n)
 
-    module _ (Fair : Msg → Type 0) (talk : TalkOf m h stopped k p Stage Fair (Over m h stopped k p)) where
+    module _ (Fair : Net m → Msg → Type 0) (talk : TalkOf m h stopped k p Stage Fair (Over m h stopped k p)) where
       idle_other : (s t : Net m) (q sent : List Packet) (n : ℕ) → Passes m h stopped k p s t sent 0 0 → Idle m h stopped k p Stage s q n → Idle m h stopped k p Stage t (q ++ sent) n
       idle_other s t q sent n pass i =
           let both = weigh_both m h stopped k p q sent in
@@ -289,7 +289,7 @@ module _ (m : Meaning) (h : Header) (stopped : List NodeId) (k : ℕ) (p : Layou
     module _ (talk : Talk m h stopped k p Stage (Over m h stopped k p)) where
       pub finishes_from : (w : World m) (n : ℕ) → (w.waiting ≡ []) ⊎ Queue m w (own_requests m w k) → w.cluster ≡ h → w.stopped ≡ stopped → Waiting (nodes m w) (net m w) [] n → (settle m w).stopped ≡ None
           → Finishes m k n w (settle m w).world
-      finishes_from w n on_way cluster stops waits none = finishes_of (λ x. ⊤) talk (λ v. ⊤) (no_facts m) w n tt on_way cluster stops waits none
+      finishes_from w n on_way cluster stops waits none = finishes_of (λ s x. ⊤) talk (λ v. ⊤) (no_facts m) w n tt on_way cluster stops waits none
 
       pub finishes : (w : World m) (n : ℕ) → w.waiting ≡ [] → w.cluster ≡ h → w.stopped ≡ stopped → Waiting (nodes m w) (net m w) [] n → (settle m w).stopped ≡ None → Finishes m k n w (settle m w).world
       finishes w n quiet cluster stops waits none = finishes_from w n (inl quiet) cluster stops waits none

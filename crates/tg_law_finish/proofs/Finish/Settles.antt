@@ -46,12 +46,12 @@ both_both (x ∷ xs) ys zs = ap (λ l. x ∷ l) (both_both xs ys zs)
 module _ (m : Meaning) where
   -- A fact of worlds that a delivery and a tick keep while no limit is reached, and what it says of packets that were
   -- sent.
-  pub record Facts (Fact : World m → Type 0) (Fair : Msg → Type 0) : Type 0 where
+  pub record Facts (Fact : World m → Type 0) (Fair : Net m → Msg → Type 0) : Type 0 where
     pub delivered : (w : World m) (i : ℕ) → limit_of m w ≡ None → Fact w → Fact (happens m w (Deliver i))
     pub ticked : (w : World m) (x : NodeId) → runs m w x ≡ true → limit_of m w ≡ None → Fact w → Fact (happens m w (Tick x))
-    pub fair : (w : World m) (i : ℕ) (p : Packet) → Fact w → slice_get w.packets i ≡ Some p → Fair p.msg
+    pub fair : (w : World m) (i : ℕ) (p : Packet) → Fact w → slice_get w.packets i ≡ Some p → Fair (net m w) p.msg
 
-  pub no_facts : Facts (λ w. ⊤) (λ x. ⊤)
+  pub no_facts : Facts (λ w. ⊤) (λ s x. ⊤)
   no_facts = record { delivered = λ w i free f. tt; ticked = λ w x on free f. tt; fair = λ w i p f e. tt }
 
 module _ (m : Meaning) (k : ℕ) where
@@ -101,8 +101,8 @@ module _ (m : Meaning) (k : ℕ) where
     Keeps = (s : Net m) (p : Packet) (q : List Packet) (n : ℕ) → Inv s (p ∷ q) n → Step (net_if m (on_in m stopped s p.to) h s p) (q ++ sent_if m (on_in m stopped s p.to) h s p) p n
 
     -- where what is delivered is known to be such
-    abbrev pub KeepsOf : (Msg → Type 0) → Type 0
-    KeepsOf Fair = (s : Net m) (p : Packet) (q : List Packet) (n : ℕ) → Fair p.msg → Inv s (p ∷ q) n → Step (net_if m (on_in m stopped s p.to) h s p) (q ++ sent_if m (on_in m stopped s p.to) h s p) p n
+    abbrev pub KeepsOf : (Net m → Msg → Type 0) → Type 0
+    KeepsOf Fair = (s : Net m) (p : Packet) (q : List Packet) (n : ℕ) → Fair s p.msg → Inv s (p ∷ q) n → Step (net_if m (on_in m stopped s p.to) h s p) (q ++ sent_if m (on_in m stopped s p.to) h s p) p n
 
     pub record Holds (w : World m) (q : List Packet) (n : ℕ) : Type 0 where
       pub queue : Queue m w q
@@ -132,7 +132,7 @@ module _ (m : Meaning) (k : ℕ) where
         by [] c = refl
         by (p ∷ q) c = absurd c
 
-    module _ (Fact : World m → Type 0) (Fair : Msg → Type 0) (facts : Facts m Fact Fair) where
+    module _ (Fact : World m → Type 0) (Fair : Net m → Msg → Type 0) (facts : Facts m Fact Fair) where
       step_on : KeepsOf Fair → (w : World m) (i : ℕ) (is : List ℕ) (p : Packet) (q : List Packet) (n : ℕ) → w.waiting ≡ i ∷ is → Fact w → Holds w (p ∷ q) n → Steps w (happens m w (Deliver i)) n
       unfolding counted
       step_on keep w i is p q n e fact holds =
@@ -202,7 +202,7 @@ module _ (m : Meaning) (k : ℕ) where
       drain_by keep w n q fact holds = drains_on keep (200001 - w.steps) w n q (omega arith) fact holds
 
     pub drain_to : Keeps → (w : World m) (n : ℕ) (q : List Packet) → Holds w q n → (drain m w).stopped ≡ None → Drained w (drain m w).world n
-    drain_to keep w n q holds none = (drain_by (λ v. ⊤) (λ x. ⊤) (no_facts m) (λ s p r i f x. keep s p r i x) w n q tt holds none).0
+    drain_to keep w n q holds none = (drain_by (λ v. ⊤) (λ s x. ⊤) (no_facts m) (λ s p r i f x. keep s p r i x) w n q tt holds none).0
 
     -- A round of ticks: a fact of the nodes that haven't ticked yet.
     module _ (Pre : List NodeId → Net m → List Packet → ℕ → Type 0) where
@@ -247,12 +247,12 @@ module _ (m : Meaning) (k : ℕ) where
       -- Rounds.
 
       -- what is to be shown: with nothing on its way the fact is that of a world whose nodes may tick again
-      pub record Rounding (Fair : Msg → Type 0) : Type 0 where
+      pub record Rounding (Fair : Net m → Msg → Type 0) : Type 0 where
         pub keeps : KeepsOf Fair
         pub ticking : Ticking
         pub again : (w : World m) (n : ℕ) → Inv (net m w) [] n → Pre (nodes m w) (net m w) [] n
 
-      module _ (Fact : World m → Type 0) (Fair : Msg → Type 0) (facts : Facts m Fact Fair) where
+      module _ (Fact : World m → Type 0) (Fair : Net m → Msg → Type 0) (facts : Facts m Fact Fair) where
         abbrev TicksTo : World m → ℕ → Ran m → Type 0
         TicksTo w n r = r.stopped ≡ None → Ticked w r.world n × Fact r.world
 
@@ -355,4 +355,4 @@ module _ (m : Meaning) (k : ℕ) where
             (round t 7 w n fact (record { queue = record { rises = subst (λ is. RisesWithin 0 is (length w.packets)) (sym e) (omega arith); carries = subst (λ is. Carries w.packets is []) (sym e) tt }; pre = pre; cluster = cluster; stops = stops }) (λ u left f holds. rounds_to t 7 u left f holds))
 
       pub ticks_all : Ticking → (xs : List NodeId) (w : World m) (q : List Packet) (n : ℕ) → Before xs w q n → (tick_all m xs w).stopped ≡ None → Ticked w (tick_all m xs w).world n
-      ticks_all t xs w q n b none = (ticks_by (λ v. ⊤) (λ x. ⊤) (no_facts m) t xs w q n tt b none).0
+      ticks_all t xs w q n b none = (ticks_by (λ v. ⊤) (λ s x. ⊤) (no_facts m) t xs w q n tt b none).0

@@ -49,7 +49,7 @@ rises_distinct : (lo hi : ℕ) (is : List ℕ) → RisesWithin lo is hi → Dist
 rises_distinct lo hi [] r = tt
 rises_distinct lo hi (i ∷ is) r = (rises_above i (suc i) hi is (omega arith) r.1, rises_distinct (suc i) hi is r.1)
 
-module _ (m : Meaning) (w : World m) (k : ℕ) (p : Layout) (longest : ℕ) (a : Working m w k p) (b : Lawful m w p longest) (u : Walkable m w p) (Fact : World m → Type 0) (facts : Facts m Fact NearFloor) (fact : Fact w) where
+module _ (m : Meaning) (w : World m) (k : ℕ) (p : Layout) (longest : ℕ) (a : Working m w k p) (b : Lawful m w p longest) (u : Walkable m w p) (Fact : World m → Type 0) (facts : Facts m Fact (λ s y. NearFloor y)) (fact : Fact w) where
   abbrev tail : ℕ
   tail = (seqr m w p.seq).next
 
@@ -82,7 +82,7 @@ module _ (m : Meaning) (w : World m) (k : ℕ) (p : Layout) (longest : ℕ) (a :
       let x = started m w k p longest a b u s (trimming_way m) f such (whole s) in
       let few = reads_few layouts tail many longest s (length x.os) x.left us x.within in
       let short = few_units in
-      finishes_of m w.cluster w.stopped k p _ NearFloor (trims_talk m w.cluster w.stopped k p longest low_at many tail s kind u.some_unit distinct) Fact facts w _ fact a.on_way refl refl
+      finishes_of m w.cluster w.stopped k p _ (λ s y. NearFloor y) (trims_talk m w.cluster w.stopped k p longest low_at many tail s kind u.some_unit distinct) Fact facts w _ fact a.on_way refl refl
       (waits_for m w k p longest a b u x.os (TrimsStage m w.cluster w.stopped k p longest low_at many tail s kind u.some_unit distinct) (x.left + us) _ (inl (record { left = x.left; stage = x.stage; few = omega arith })) (omega (arith, few, short))) none
 
   -- where it waits for units
@@ -114,5 +114,5 @@ module _ (m : Meaning) (w : World m) (k : ℕ) (p : Layout) (longest : ℕ) (a :
         let long = long_asked (msg.Trim p.epoch f.trims.below) f.trims.waits in
         let less = f.asked.short in
         let short = few_units in
-        finishes_of m w.cluster w.stopped k p _ NearFloor (units_talk m w.cluster w.stopped k p longest) Fact facts w _ fact a.on_way refl refl
+        finishes_of m w.cluster w.stopped k p _ (λ s y. NearFloor y) (units_talk m w.cluster w.stopped k p longest) Fact facts w _ fact a.on_way refl refl
         (waits_for m w k p longest a b u os (TrimStage m w.cluster w.stopped k p longest) 0 _ staged (omega (arith, long, less, short))) none

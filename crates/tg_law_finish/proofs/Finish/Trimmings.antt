@@ -269,7 +269,7 @@ module _ (m : Meaning) (h : Header) (stopped : List NodeId) (k : ℕ) (p : Layou
       let all = x.split ∙ ap (λ (ts : List HasTrimmed). waits_of ts ++ x.asked) r.0 in
       subst (λ (ys : List Out). Again m h stopped k p c ys) (ap (λ (ys : Waits). asked_to x.below ys) all ∙ r.1) (again_is m h stopped k p longest c (Trimming (record { below = x.below; waits = x.waits })) (asked_to x.below x.waits) x.shape)
 
-  pub units_talk : TalkOf m h stopped k p TrimStage NearFloor (Over m h stopped k p)
+  pub units_talk : TalkOf m h stopped k p TrimStage (λ s y. NearFloor y) (Over m h stopped k p)
   units_talk = record {
     facts = stage_facts;
     some = stage_some;
@@ -340,7 +340,7 @@ module _ (m : Meaning) (h : Header) (stopped : List NodeId) (k : ℕ) (p : Layou
         by at x serves few up stand (TrimEnds y a) = inl (record { none = a.none; sends = ap (λ os. os ++ drawn_from c.next (client_asks m y.now)) a.besides ∙ ap (λ os. drawn_from c.next os) (over_asks m y.now a.none) })
         by at x serves few up stand (TrimAsks d w b same next) = inr (asks_begin s c d w b n some once serves (next ∙ up) (same ∙ stand) few)
 
-    pub trims_talk : TalkOf m h stopped k p TrimsStage NearFloor (Over m h stopped k p)
-    trims_talk = joined_of m h stopped k p First TrimStage FirstEnd (Over m h stopped k p) NearFloor
-        (any_fair m h stopped k p First FirstEnd NearFloor (roomy m h stopped k p TrimReads TrimEnd (length (units_of p)) (reads_talk m h stopped k p longest low_at many tail most kind (trimming_way m))))
+    pub trims_talk : TalkOf m h stopped k p TrimsStage (λ s y. NearFloor y) (Over m h stopped k p)
+    trims_talk = joined_of m h stopped k p First TrimStage FirstEnd (Over m h stopped k p) (λ s y. NearFloor y)
+        (any_fair m h stopped k p First FirstEnd (λ s y. NearFloor y) (roomy m h stopped k p TrimReads TrimEnd (length (units_of p)) (reads_talk m h stopped k p longest low_at many tail most kind (trimming_way m))))
         units_talk trims_begin
