@@ -541,7 +541,7 @@ module _ (m : Meaning) (h : Header) (stopped : List NodeId) (k : ℕ) (p : Layou
       let now = (seqr_step x (client_id k) r (msg.Check p.epoch sy.oids)).now in
       let t : Net m = record s { seqrs = slice_set s.seqrs p.seq now } in
       let same = set_there s.seqrs p.seq now (new_seqr p.seq h.limit (first_layout h)) less ∙ ap (λ t. t.now) z in
-      let keep : Keeps m h stopped k p s t = record { units = λ v e. refl; seqr = same; alike = seqr_alike m s p.seq now } in
+      let keep : Keeps m h stopped k p s t = record { units = λ v e. refl; epochs = λ v. refl; seqr = same; alike = seqr_alike m s p.seq now } in
       subst (λ (y : Out). ToldOne s y n) kept (record {
         running = f.on;
         from = seqr_id p.seq;
@@ -637,7 +637,7 @@ module _ (m : Meaning) (h : Header) (stopped : List NodeId) (k : ℕ) (p : Layou
 
   -- a unit that stays as it is
   same_keeps : (s : Net m) (u : ℕ) (x : UnitState) → x ≡ unit_of m s u → Keeps m h stopped k p s (with_unit m stopped s u x)
-  same_keeps s u x e = record { units = λ v at. by v (set_index s.units u x v new_unit); seqr = refl; alike = unit_alike m s u x }
+  same_keeps s u x e = record { units = λ v at. by v (set_index s.units u x v new_unit); epochs = λ v. ap (λ (x : UnitState). x.epoch) (by v (set_index s.units u x v new_unit)); seqr = refl; alike = unit_alike m s u x }
     where
       by : (v : ℕ) → ((v ≡ u) × (slice_index_or (slice_set s.units u x) v new_unit ≡ x)) ⊎ (slice_index_or (slice_set s.units u x) v new_unit ≡ unit_of m s v) → slice_index_or (slice_set s.units u x) v new_unit ≡ unit_of m s v
       by v (inl c) = c.1 ∙ (e ∙ ap (λ n. unit_of m s n) (sym c.0))

@@ -255,7 +255,7 @@ module _ (m : Meaning) (h : Header) (stopped : List NodeId) (k : ℕ) (p : Layou
       turned_net s t = record s { clients = slice_set s.clients k t.now }
 
       keeps_client : (s : Net m) (now : Client m) → Keeps m h stopped k p s (record s { clients = slice_set s.clients k now })
-      keeps_client s now = record { units = λ u e. refl; seqr = refl; alike = client_alike m s k now }
+      keeps_client s now = record { units = λ u e. refl; epochs = λ u. refl; seqr = refl; alike = client_alike m s k now }
 
       nothing_new : (q : List Packet) → q ≡ q ++ []
       nothing_new [] = refl

@@ -14,7 +14,7 @@ use Rattle.tg_kind.specs.Meaning.{Meaning}
 use Rattle.tg_base.specs.Orders.{node_eq}
 use Rattle.tg_protocol.specs.Words.{unit_id, layout_id, seqr_id, client_id}
 use Rattle.tg_protocol.specs.Layouts.{first_layout}
-use Rattle.tg_protocol.specs.Units.{new_unit, unit_ask, unit_step}
+use Rattle.tg_protocol.specs.Units.{UnitState, new_unit, unit_ask, unit_step}
 use Rattle.tg_protocol.specs.LayoutServers.{LayoutState, new_layout, layout_ask, on_layout_ask, layout_step}
 use Rattle.tg_protocol.specs.Sequencers.{SeqrState, SeqrTurn, new_seqr, seqr_tick, scan_asks}
 use Rattle.tg_protocol.specs.Clients.{Client, new_client}
@@ -24,7 +24,7 @@ use Rattle.tg_law_layouts.specs.Steps.Runs.{epoch_of}
 use Rattle.tg_law_finish.proofs.Finish.Counted.{one_if, cost}
 use Rattle.tg_law_finish.proofs.Finish.Nets.{Net, net_if, sent_if, net_after, net_ticked, sent_ticked, on_in, on_alike, Alike, alike_if, seqr_alike, client_alike, unit_of, layout_of, seqr_of, client_of}
 use Rattle.tg_law_finish.proofs.Finish.Lists.{Each, set_there, set_index, set_other}
-use Rattle.tg_law_finish.proofs.Finish.Strays.{AsksOf, Old, old_step, old_tick, unit_fences, unit_plain, is_plain}
+use Rattle.tg_law_finish.proofs.Finish.Strays.{AsksOf, Old, old_step, old_tick, unit_fences, same_epoch, unit_plain, is_plain}
 
 eq_flip : (a b : ℕ) → eqb a b ≡ false → eqb b a ≡ false
 eq_flip a b e = grind arith
@@ -61,9 +61,10 @@ module _ (m : Meaning) (h : Header) (stopped : List NodeId) (k : ℕ) (p : Layou
     pub layouts : (l : ℕ) → (layout_of m h s l).latest.epoch ≤ p.epoch
     pub idle : (j : ℕ) → eqb j k ≡ false → on_in m stopped s (client_id j) ≡ true → (client_of m h s j).work ≡ None
 
-  -- units of this epoch and its sequencer stay as they are
+  -- units of this epoch and its sequencer stay as they are, and no unit goes to another epoch
   pub record Keeps (s t : Net m) : Type 0 where
     pub units : (u : ℕ) → (unit_of m s u).epoch ≡ p.epoch → unit_of m t u ≡ unit_of m s u
+    pub epochs : (u : ℕ) → (unit_of m t u).epoch ≡ (unit_of m s u).epoch
     pub seqr : seqr_of m h t p.seq ≡ seqr_of m h s p.seq
     pub alike : Alike m s t
 
@@ -79,7 +80,7 @@ module _ (m : Meaning) (h : Header) (stopped : List NodeId) (k : ℕ) (p : Layou
     pub client : (client_of m h t k ≡ client_of m h s k) ⊎ (client_of m h t k ≡ called m (client_of m h s k))
 
   pub keeps_same : (s : Net m) → Keeps s s
-  keeps_same s = record { units = λ u e. refl; seqr = refl; alike = record { counts = λ r. refl } }
+  keeps_same s = record { units = λ u e. refl; epochs = λ u. refl; seqr = refl; alike = record { counts = λ r. refl } }
 
   below : (s : Net m) (j : ℕ) → on_in m stopped s (client_id j) ≡ true → j < length s.clients
   below s j e = grind arith
@@ -102,7 +103,7 @@ module _ (m : Meaning) (h : Header) (stopped : List NodeId) (k : ℕ) (p : Layou
       let w = a.1 in
       record {
         ready = record { on = r.on; rests = r.rests; old = r.old; layouts = r.layouts; idle = r.idle };
-        keeps = record { units = same; seqr = refl; alike = alike_if m true h s (record { from = seqr_id x; to = unit_id u; rid = rid; msg = y }) };
+        keeps = record { units = same; epochs = level; seqr = refl; alike = alike_if m true h s (record { from = seqr_id x; to = unit_id u; rid = rid; msg = y }) };
         strays = a.0;
         weighs = omega (arith, w);
         client = inl refl;
@@ -115,6 +116,14 @@ module _ (m : Meaning) (h : Header) (stopped : List NodeId) (k : ℕ) (p : Layou
               → slice_index_or (slice_set s.units u (unit_step (unit_of m s u) y).now) v new_unit ≡ unit_of m s v
           by (inl c) = c.1 ∙ (ap (λ t. t.now) (unit_fences (unit_of m s u) y at is (off_by (unit_of m s u).epoch at p.epoch (ap (λ n. (unit_of m s n).epoch) (sym c.0) ∙ e) off)) ∙ ap (λ n. unit_of m s n) (sym c.0))
           by (inr c) = c
+
+      level : (v : ℕ) → (slice_index_or (slice_set s.units u (unit_step (unit_of m s u) y).now) v new_unit).epoch ≡ (unit_of m s v).epoch
+      level v = by (set_index s.units u (unit_step (unit_of m s u) y).now v new_unit)
+        where
+          by : ((v ≡ u) × (slice_index_or (slice_set s.units u (unit_step (unit_of m s u) y).now) v new_unit ≡ (unit_step (unit_of m s u) y).now)) ⊎ (slice_index_or (slice_set s.units u (unit_step (unit_of m s u) y).now) v new_unit ≡ unit_of m s v)
+              → (slice_index_or (slice_set s.units u (unit_step (unit_of m s u) y).now) v new_unit).epoch ≡ (unit_of m s v).epoch
+          by (inl c) = ap (λ (x : UnitState). x.epoch) c.1 ∙ (same_epoch (unit_of m s u) y at is ∙ ap (λ n. (unit_of m s n).epoch) (sym c.0))
+          by (inr c) = ap (λ (x : UnitState). x.epoch) c
 
   light_scan : (x u rid : ℕ) (y : Msg) → weight (record { from = seqr_id x; to = unit_id u; rid = rid; msg = y }) ≡ 0
   unfolding weight node_eq
@@ -144,7 +153,7 @@ module _ (m : Meaning) (h : Header) (stopped : List NodeId) (k : ℕ) (p : Layou
       let same = set_other s.seqrs x now p.seq (new_seqr p.seq h.limit (first_layout h)) (eq_flip x p.seq other) in
       record {
         ready = record { on = r.on; rests = subst (λ (t : SeqrState). t.scan ≡ None) (sym same) r.rests; old = olds; layouts = r.layouts; idle = r.idle };
-        keeps = record { units = λ u e. refl; seqr = same; alike = alike_ticked_by s x now };
+        keeps = record { units = λ u e. refl; epochs = λ u. refl; seqr = same; alike = alike_ticked_by s x now };
         strays = a.0;
         weighs = omega (arith, w);
         client = inl refl;
@@ -182,7 +191,7 @@ module _ (m : Meaning) (h : Header) (stopped : List NodeId) (k : ℕ) (p : Layou
   unfolding layout_step layout_ask on_layout_ask weigh
   asks_layout s l rid r = record {
     ready = record { on = r.on; rests = r.rests; old = r.old; layouts = stays; idle = r.idle };
-    keeps = record { units = λ u e. refl; seqr = refl; alike = alike_if m true h s (record { from = client_id k; to = layout_id l; rid = rid; msg = msg.AskLatest }) };
+    keeps = record { units = λ u e. refl; epochs = λ u. refl; seqr = refl; alike = alike_if m true h s (record { from = client_id k; to = layout_id l; rid = rid; msg = msg.AskLatest }) };
     strays = (TellsLatest l rid (layout_of m h s l).latest (r.layouts l), tt);
     weighs = let e = told_weighs l rid (layout_of m h s l).latest in omega (arith, e);
     client = inl refl;
@@ -214,7 +223,7 @@ module _ (m : Meaning) (h : Header) (stopped : List NodeId) (k : ℕ) (p : Layou
       let e = ap (λ x. x.sends) (calm l rid q le) in
       record {
         ready = t.1;
-        keeps = record { units = λ u e. refl; seqr = refl; alike = client_alike m s k now };
+        keeps = record { units = λ u e. refl; epochs = λ u. refl; seqr = refl; alike = client_alike m s k now };
         strays = subst (λ (os : List Out). Each Stray (map (packet_of m (client_id k)) os)) (sym e) tt;
         weighs = subst (λ (os : List Out). 1 + weigh (map (packet_of m (client_id k)) os) ≤ 1) (sym e) (omega arith);
         client = inr (t.0 ∙ ap (λ x. x.now) (calm l rid q le));
@@ -267,7 +276,7 @@ module _ (m : Meaning) (h : Header) (stopped : List NodeId) (k : ℕ) (p : Layou
   rest_ticks : (s : Net m) → Ready s → Passes s (net_ticked m h s p.seq role.Seqr) (sent_ticked m h s p.seq role.Seqr) 0 0
   rest_ticks s r = subst (λ (t : SeqrTurn). Passes s (record s { seqrs = slice_set s.seqrs p.seq t.now }) (map (packet_of m (seqr_id p.seq)) t.sends) 0 0) (sym (ticks_now (seqr_of m h s p.seq) r.rests))
       (nothing_sent s _ (record { on = r.on; rests = subst (λ (t : SeqrState). t.scan ≡ None) (sym (stays p.seq)) r.rests; old = λ x off. subst (λ (t : SeqrState). Old p.epoch t) (sym (stays x)) (r.old x off); layouts = r.layouts; idle = r.idle })
-      (record { units = λ u e. refl; seqr = stays p.seq; alike = seqr_alike m s p.seq (seqr_of m h s p.seq) }) refl)
+      (record { units = λ u e. refl; epochs = λ u. refl; seqr = stays p.seq; alike = seqr_alike m s p.seq (seqr_of m h s p.seq) }) refl)
     where
       stays : (x : ℕ) → slice_index_or (slice_set s.seqrs p.seq (seqr_of m h s p.seq)) x (new_seqr x h.limit (first_layout h)) ≡ seqr_of m h s x
       stays x = by (set_index s.seqrs p.seq (seqr_of m h s p.seq) x (new_seqr x h.limit (first_layout h)))
@@ -290,7 +299,7 @@ module _ (m : Meaning) (h : Header) (stopped : List NodeId) (k : ℕ) (p : Layou
 
   client_ticks : (s : Net m) (j : ℕ) → Ready s → node_eq (client_id j) (client_id k) ≡ false → on_in m stopped s (client_id j) ≡ true → Passes s (net_ticked m h s j role.Client) (sent_ticked m h s j role.Client) 0 0
   client_ticks s j r other on = subst (λ (t : ClientTurn m). Passes s (record s { clients = slice_set s.clients j t.now }) (map (packet_of m (client_id j)) t.sends) 0 0) (sym (idle_ticks c (r.idle j off on)))
-      (nothing_sent s t (record { on = ons (client_id k) ∙ r.on; rests = r.rests; old = r.old; layouts = r.layouts; idle = idles }) (record { units = λ u e. refl; seqr = refl; alike = client_alike m s j (called m c) })
+      (nothing_sent s t (record { on = ons (client_id k) ∙ r.on; rests = r.rests; old = r.old; layouts = r.layouts; idle = idles }) (record { units = λ u e. refl; epochs = λ u. refl; seqr = refl; alike = client_alike m s j (called m c) })
       (set_other s.clients j (called m c) k (new_client m h k) (eq_flip j k off)))
     where
       off : eqb j k ≡ false

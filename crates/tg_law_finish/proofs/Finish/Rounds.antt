@@ -178,7 +178,7 @@ module _ (m : Meaning) (h : Header) (stopped : List NodeId) (k : ℕ) (p : Layou
               left = w.left;
               line = line_more m h stopped k p q (news ++ others) [] (asks w.os) (line_strays m h stopped k p q w.strays) (line_behind m h stopped k p news others (asks w.os) (line_asks m h stopped k p w.os) about.0);
               stage = subst (λ (d : Client m). Stage (record s { clients = slice_set s.clients k now }) d (asks w.os) w.left) (sym t.0)
-                  (talk.stays s (record s { clients = slice_set s.clients k now }) now (asks w.os) w.left (record { units = λ u e. refl; seqr = refl; alike = client_alike m s k now }) (talk.ticked s c (asks w.os) w.os w.left w.stage refl));
+                  (talk.stays s (record s { clients = slice_set s.clients k now }) now (asks w.os) w.left (record { units = λ u e. refl; epochs = λ u. refl; seqr = refl; alike = client_alike m s k now }) (talk.ticked s c (asks w.os) w.os w.left w.stage refl));
               few = omega (arith, both, two, heavy, light, few);
             };
           }))

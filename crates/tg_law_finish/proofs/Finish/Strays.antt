@@ -25,6 +25,15 @@ pub unit_fences : (s : UnitState) (x : Msg) (e : ℕ) → epoch_of (unit_ask x) 
 unfolding unit_step
 unit_fences s x e is off = other_epoch s (unit_ask x) e is off
 
+asked_epoch : (s : UnitState) (a : UnitAsk) (e : ℕ) → epoch_of a ≡ Some e → (on_ask s a).now.epoch ≡ s.epoch
+unfolding on_ask
+asked_epoch s a e is = grind arith
+
+-- only a seal moves a unit to another epoch
+pub same_epoch : (s : UnitState) (x : Msg) (e : ℕ) → epoch_of (unit_ask x) ≡ Some e → (unit_step s x).now.epoch ≡ s.epoch
+unfolding unit_step
+same_epoch s x e is = asked_epoch s (unit_ask x) e is
+
 -- what is no request to a sequencer
 unfoldable pub is_plain : Msg → Bool
 is_plain (msg.Learn q) = false
