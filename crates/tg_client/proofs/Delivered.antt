@@ -1,5 +1,6 @@
 -- A message comes to a client that is busy.
-use Rattle.std.proofs.Common.{◌≡◌, ℕ, Bool, true, false, ◌&&◌, [], Option, Some, None, refl, sym, ap, subst, arith}
+use Rattle.std.proofs.Common.{◌≡◌, ℕ, Bool, true, false, ◌&&◌, [], Option, Some, None, refl, sym, ap, subst, ◌∙◌, arith}
+use Rattle.std.specs.Global.{Box}
 use Rattle.std.specs.Prelude.{nat_lt}
 use Rattle.tg_base.proofs.Exact.{and-right}
 use Rattle.tg_base.specs.Layouts.{Layout}
@@ -52,37 +53,39 @@ module _ (m : Meaning) where
 
   -- A machine in hand.
 
-  doing-told : (t : TaskOf m) (h : told.Hand m) → KeepsHand m (hand.Doing t) h → h ≡ told.Doing (told_task m t)
-  doing-told t (told.Doing u) e = ap (λ x. told.Doing x) (sym e)
-  doing-told t (told.Learning ws u) e = absurd e
+  -- which was taken out of its box
+  doing-told : (b : Box (TaskOf m)) (t : TaskOf m) (h : told.Hand m) → t ≡ b.value → KeepsHand m (hand.Doing b) h → h ≡ told.Doing (told_task m t)
+  doing-told b t (told.Doing u) o e = ap (λ x. told.Doing x) (sym (ap (λ (y : TaskOf m). told_task m y) o ∙ e))
+  doing-told b t (told.Learning ws u) o e = absurd e
 
-  in-hand : (s : StateOf m) (k : WorkOf m) (r : Rest m) (w : told.Work m) (t : TaskOf m) → k.hand ≡ hand.Doing t → Busy s k r w → w.hand ≡ told.Doing (told_task m t)
-  in-hand s k r w t e b = doing-told t w.hand (subst (λ (x : HandOf m). KeepsHand m x w.hand) e b.hand)
+  in-hand : (s : StateOf m) (k : WorkOf m) (r : Rest m) (w : told.Work m) (i : Box (TaskOf m)) (t : TaskOf m) → t ≡ i.value → k.hand ≡ hand.Doing i → Busy s k r w → w.hand ≡ told.Doing (told_task m t)
+  in-hand s k r w i t o e b = doing-told i t w.hand o (subst (λ (x : HandOf m). KeepsHand m x w.hand) e b.hand)
 
-  doing-kept : (s : StateOf m) (k : WorkOf m) (r : Rest m) (w : told.Work m) (t : TaskOf m) → k.hand ≡ hand.Doing t → Busy s k r w → IsTaskKept m s (told_task m t)
-  doing-kept s k r w t e b = record {
-    drawn = subst (λ (h : told.Hand m). are_drawn m s.rids.next s.stand h ≡ true) (in-hand s k r w t e b) b.drawn;
-    fit = subst (λ (h : told.Hand m). IsClientFit m s.known s.stand h) (in-hand s k r w t e b) b.fit;
+  doing-kept : (s : StateOf m) (k : WorkOf m) (r : Rest m) (w : told.Work m) (i : Box (TaskOf m)) (t : TaskOf m) → t ≡ i.value → k.hand ≡ hand.Doing i → Busy s k r w → IsTaskKept m s (told_task m t)
+  doing-kept s k r w i t o e b = record {
+    drawn = subst (λ (h : told.Hand m). are_drawn m s.rids.next s.stand h ≡ true) (in-hand s k r w i t o e b) b.drawn;
+    fit = subst (λ (h : told.Hand m). IsClientFit m s.known s.stand h) (in-hand s k r w i t o e b) b.fit;
   }
 
-  pub task_kept : (s : StateOf m) (k : WorkOf m) (t : TaskOf m) → k.hand ≡ hand.Doing t → IsKept m s (Some k) → IsTaskKept m s (told_task m t)
-  task_kept s k t e h = by_client (λ c. IsTaskKept m s (told_task m t)) s k h.client h.keeps (λ r w b. doing-kept s k r w t e b)
+  pub task_kept : (s : StateOf m) (k : WorkOf m) (i : Box (TaskOf m)) (t : TaskOf m) → t ≡ i.value → k.hand ≡ hand.Doing i → IsKept m s (Some k) → IsTaskKept m s (told_task m t)
+  task_kept s k i t o e h = by_client (λ c. IsTaskKept m s (told_task m t)) s k h.client h.keeps (λ r w b. doing-kept s k r w i t o e b)
 
-  pub task_feeds : (P : Moved m → Type 0) (s : StateOf m) (k : WorkOf m) (r : Rest m) (w : told.Work m) (t : TaskOf m) (from : NodeId) (rid : ℕ) (x : Reply) → latest_in x ≡ None → k.hand ≡ hand.Doing t → Busy s k r w →
+  pub task_feeds : (P : Moved m → Type 0) (s : StateOf m) (k : WorkOf m) (r : Rest m) (w : told.Work m) (i : Box (TaskOf m)) (t : TaskOf m) (from : NodeId) (rid : ℕ) (x : Reply) →
+      t ≡ i.value → latest_in x ≡ None → k.hand ≡ hand.Doing i → Busy s k r w →
       (InHand m r w (told_task m t) → P (fed_if m (awaits (task_awaited m s.stand (told_task m t)) from rid) (client_of m s r) w (told_task m t) from rid x)) → P (feed m (client_of m s r) r.work from rid x)
-  task_feeds P s k r w t from rid x other e b f =
-      let d : w.hand ≡ told.Doing (told_task m t) = in-hand s k r w t e b in
+  task_feeds P s k r w i t from rid x o other e b f =
+      let d : w.hand ≡ told.Doing (told_task m t) = in-hand s k r w i t o e b in
       subst (λ o. P (feed m (client_of m s r) o from rid x)) (sym b.work)
       (subst P (other-reply x (client_of m s r) w from rid other)
       (subst (λ (h : told.Hand m). P (hand_feed m (client_of m s r) w h from rid x)) (sym d) (f (record { work = b.work; hand = d }))))
 
   -- A newer layout is learnt.
 
-  learning-feeds : (c : told.Client m) (w : told.Work m) (h : told.Hand m) (ws : Waits) (p : PausedOf m) (from : NodeId) (rid : ℕ) (x : Reply) → KeepsHand m (hand.Learning ws p) h → moved m c [] ≡ hand_feed m c w h from rid x
+  learning-feeds : (c : told.Client m) (w : told.Work m) (h : told.Hand m) (ws : Waits) (p : Box (PausedOf m)) (from : NodeId) (rid : ℕ) (x : Reply) → KeepsHand m (hand.Learning ws p) h → moved m c [] ≡ hand_feed m c w h from rid x
   learning-feeds c w (told.Doing u) ws p from rid x e = absurd e
   learning-feeds c w (told.Learning vs u) ws p from rid x e = refl
 
-  pub nothing_taken : (s : StateOf m) (k : WorkOf m) (c : told.Client m) (ws : Waits) (p : PausedOf m) (from : NodeId) (rid : ℕ) (x : Reply) → latest_in x ≡ None → k.hand ≡ hand.Learning ws p → KeepsClient m s (Some k) c →
+  pub nothing_taken : (s : StateOf m) (k : WorkOf m) (c : told.Client m) (ws : Waits) (p : Box (PausedOf m)) (from : NodeId) (rid : ℕ) (x : Reply) → latest_in x ≡ None → k.hand ≡ hand.Learning ws p → KeepsClient m s (Some k) c →
       moved m c [] ≡ feed m c c.work from rid x
   nothing_taken s k c ws p from rid x other e h = by_client (λ d. moved m d [] ≡ feed m d d.work from rid x) s k c h (λ r w b.
       subst (λ o. moved m (client_of m s r) [] ≡ feed m (client_of m s r) o from rid x) (sym b.work)
@@ -107,13 +110,13 @@ module _ (m : Meaning) where
 
   -- What is left of what is in hand.
 
-  pub paused_told : (x : HandOf m) (h : told.Hand m) (t : TaskOf m) (p : PausedOf m) → x ≡ hand.Doing t → GoesOn m p (told_task m t) → KeepsHand m x h → GoesOn m p (task_in m h)
-  paused_told x (told.Doing u) t p e g k = subst (λ v. GoesOn m p v) (subst (λ (y : HandOf m). KeepsHand m y (told.Doing u)) e k) g
-  paused_told x (told.Learning ws u) t p e g k = absurd (subst (λ (y : HandOf m). KeepsHand m y (told.Learning ws u)) e k)
+  pub paused_told : (x : HandOf m) (h : told.Hand m) (i : Box (TaskOf m)) (t : TaskOf m) (p : PausedOf m) → t ≡ i.value → x ≡ hand.Doing i → GoesOn m p (told_task m t) → KeepsHand m x h → GoesOn m p (task_in m h)
+  paused_told x (told.Doing u) i t p o e g k = subst (λ v. GoesOn m p v) (ap (λ (y : TaskOf m). told_task m y) o ∙ subst (λ (y : HandOf m). KeepsHand m y (told.Doing u)) e k) g
+  paused_told x (told.Learning ws u) i t p o e g k = absurd (subst (λ (y : HandOf m). KeepsHand m y (told.Learning ws u)) e k)
 
-  pub learning_told : (x : HandOf m) (h : told.Hand m) (ws : Waits) (p : PausedOf m) → x ≡ hand.Learning ws p → KeepsHand m x h → GoesOn m p (task_in m h)
-  learning_told x (told.Doing u) ws p e k = absurd (subst (λ (y : HandOf m). KeepsHand m y (told.Doing u)) e k)
-  learning_told x (told.Learning vs u) ws p e k = (subst (λ (y : HandOf m). KeepsHand m y (told.Learning vs u)) e k).1
+  pub learning_told : (x : HandOf m) (h : told.Hand m) (ws : Waits) (i : Box (PausedOf m)) (p : PausedOf m) → p ≡ i.value → x ≡ hand.Learning ws i → KeepsHand m x h → GoesOn m p (task_in m h)
+  learning_told x (told.Doing u) ws i p o e k = absurd (subst (λ (y : HandOf m). KeepsHand m y (told.Doing u)) e k)
+  learning_told x (told.Learning vs u) ws i p o e k = subst (λ (q : PausedOf m). GoesOn m q u) (sym o) (subst (λ (y : HandOf m). KeepsHand m y (told.Learning vs u)) e k).1
 
   fit-left : (k : Knowledge) (q : Layout) (t : told.Task m) → IsTaskFit m k q t → IsLeftFit m k t
   fit-left k q (told.Walking w os) h = h

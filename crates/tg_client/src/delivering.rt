@@ -53,8 +53,8 @@ fn paused_in<K: Registry>(hand: Hand<K>) -> Paused<K>
     ensures { (h : told.Hand (meaning_of K.Registry)) → KeepsHand (meaning_of K.Registry) hand h → GoesOn (meaning_of K.Registry) result (steps.task_in (meaning_of K.Registry) h) }
 {
     match hand {
-        Hand::Doing { task } => task.pause(),
-        Hand::Learning { paused, .. } => paused,
+        Hand::Doing { task } => Box::into_inner(task).pause(),
+        Hand::Learning { paused, .. } => Box::into_inner(paused),
     }
 }
 
@@ -73,7 +73,7 @@ fn on_answer<K: Registry>(
 {
     let Work { job, hand } = work;
     match hand {
-        Hand::Doing { task } => feeds(state, alloc, job, task, from, rid, msg),
+        Hand::Doing { task } => feeds(state, alloc, job, Box::into_inner(task), from, rid, msg),
         Hand::Learning { waits, paused } => {
             let hand = Hand::Learning { waits, paused };
             Ok(stays(state, alloc, Work { job, hand }))

@@ -1,5 +1,6 @@
 -- The command waits with a task that has begun.
 use Rattle.std.proofs.Common.{◌≡◌, ◌≤◌, ℕ, Bool, true, List, [], ◌∷◌, Some, cond, refl, sym, ap, ◌∙◌, arith}
+use Rattle.std.specs.Global.{Box}
 use Rattle.std.specs.Prelude.{nat_le}
 use Rattle.std.proofs.lemmas.Bool.Decides.{nat_tests}
 use Rattle.tg_base.specs.declared.packet.Out.{Out}
@@ -33,16 +34,16 @@ module _ (m : Meaning) where
   abbrev with-hand : told.Hand m → told.Work m → told.Work m
   with-hand h w = record w { hand = h }
 
-  pub held : (s : StateOf m) (j : JobOf m) (b : Begun (TaskOf m)) (notes : List (NoteOf m)) (r : Rest m) (w : told.Work m) (old : ℕ) →
+  pub held : (s : StateOf m) (j : JobOf m) (b : Begun (TaskOf m)) (t : Box (TaskOf m)) (notes : List (NoteOf m)) (r : Rest m) (w : told.Work m) (old : ℕ) → t.value ≡ b.machine →
       IsBegun m s.known s.stand s.rids.next b → old ≤ s.rids.next → KeepsViewIf m s.view r.view → KeepsJob m j w →
-      KeepsMoved m old (record { state = record s { rids = b.rids }; work = Some (record { job = j; hand = Doing b.machine }); sends = b.sends; notes = notes })
+      KeepsMoved m old (record { state = record s { rids = b.rids }; work = Some (record { job = j; hand = Doing t }); sends = b.sends; notes = notes })
       (holds m (client_of m s r) w (told_task m b.machine) b.rids.next notes)
   unfolding client_asks
-  held s j b notes r w old begun le hv hj = record {
+  held s j b t notes r w old is begun le hv hj = record {
     now = record {
       is = refl;
       view = hv;
-      work = record { is = ap (with-hand (told.Doing (told_task m b.machine))) hj; hand = refl };
+      work = record { is = ap (with-hand (told.Doing (told_task m b.machine))) hj; hand = ap (λ (x : TaskOf m). told_task m x) is };
       drawn = begun.drawn;
       fit = begun.fit;
     };

@@ -1,5 +1,6 @@
 -- A command that waits on.
 use Rattle.std.proofs.Common.{◌≡◌, ℕ, ◌+◌, ◌≤◌, true, false, Bool, List, [], ◌∷◌, Option, Some, None, Result, refl, sym, ap, subst, ◌∙◌, arith}
+use Rattle.std.specs.Global.{Box}
 use Rattle.std.specs.Prelude.{nat_le, nat_lt, max, if◌then◌else◌, IfOk}
 use Rattle.tg_base.specs.declared.fault.NoMemory.{NoMemory}
 use Rattle.std.specs.List.{list_all}
@@ -25,7 +26,7 @@ use Rattle.tg_client_state.specs.Numbers.{all_from}
 use Rattle.tg_client_state.specs.Near.{NearToken, NearAnswer}
 use Rattle.tg_client_state.specs.Tasks as tasks
 use Rattle.tg_client_state.proofs.Steps.{more_drawn, each_below, each_from}
-use Rattle.tg_client_state.specs.Tasks.{JobOf, HandOf, WorkOf, PausedOf, work_of, KeepsJob, KeepsWork, KeepsHand, KeepsMaybe}
+use Rattle.tg_client_state.specs.Tasks.{JobOf, HandOf, WorkOf, PausedOf, GoesOn, work_of, KeepsJob, KeepsWork, KeepsHand, KeepsMaybe}
 use Rattle.tg_client_state.specs.declared.hand.Hand.TheVariants as hand
 use Rattle.tg_client_state.specs.States.{StateOf, MovedOf, Rest, client_of, all_below, are_drawn, AreDrawn, KeepsViewIf, KeepsClient, KeepsMoved}
 use Rattle.tg_client_state.specs.Moves.{Holds, Carries, Leaves}
@@ -83,18 +84,18 @@ module _ (m : Meaning) where
     notes = hn;
   }
 
-  pub learnt : (s : StateOf m) (j : JobOf m) (p : PausedOf m) (waits : Waits) (n : ℕ) (t : Task m) (r : Rest m) (w : Work m) (old : ℕ) (sends : List Out) →
-      waits ≡ waits_for (numbers s.layouts 0) s.rids.next → n ≡ s.rids.next + s.layouts → sends ≡ asks_latest m waits → Holds m s j r w old → Leaves m s p t →
-      KeepsMoved m old (record { state = record s { rids = record { next = n } }; work = Some (record { job = j; hand = hand.Learning waits p }); sends = sends; notes = [] }) (learns_for m (client_of m s r) w t)
+  pub learnt : (s : StateOf m) (j : JobOf m) (p : PausedOf m) (b : Box (PausedOf m)) (waits : Waits) (n : ℕ) (t : Task m) (r : Rest m) (w : Work m) (old : ℕ) (sends : List Out) →
+      b.value ≡ p → waits ≡ waits_for (numbers s.layouts 0) s.rids.next → n ≡ s.rids.next + s.layouts → sends ≡ asks_latest m waits → Holds m s j r w old → Leaves m s p t →
+      KeepsMoved m old (record { state = record s { rids = record { next = n } }; work = Some (record { job = j; hand = hand.Learning waits b }); sends = sends; notes = [] }) (learns_for m (client_of m s r) w t)
   unfolding client_asks
-  learnt s j p waits n t r w old sends hw hn hs h l =
+  learnt s j p b waits n t r w old sends hb hw hn hs h l =
       let asked = waits_for (numbers s.layouts 0) s.rids.next in
       let le : s.rids.next ≤ s.rids.next + s.layouts = omega arith in
       record {
         now = record {
           is = ap (λ k. client_of m (record s { rids = record { next = k } }) (record { view = r.view; played = r.played; work = Some (record w { hand = Learning asked t }) })) (sym hn);
           view = h.view;
-          work = record { is = hand_taken j w (Learning asked t) h.job; hand = (hw, l.goes) };
+          work = record { is = hand_taken j w (Learning asked t) h.job; hand = (hw, subst (λ (q : PausedOf m). GoesOn m q t) (sym hb) l.goes) };
           drawn = both _ _ (servers-below s.layouts s.rids.next) (more_drawn (task_awaited m s.stand t) s.rids.next (s.rids.next + s.layouts) le l.drawn);
           fit = l.fit;
         };

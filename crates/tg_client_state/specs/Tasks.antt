@@ -68,8 +68,8 @@ module _ (m : Meaning) where
   GoesOn _ _ = ⊥
 
   abbrev pub KeepsHand : HandOf → told.Hand m → Type 0
-  KeepsHand (hand.Doing t) (told.Doing u) = told_task t ≡ u
-  KeepsHand (hand.Learning ws t) (told.Learning vs u) = (ws ≡ vs) × GoesOn t u
+  KeepsHand (hand.Doing t) (told.Doing u) = told_task t.value ≡ u
+  KeepsHand (hand.Learning ws t) (told.Learning vs u) = (ws ≡ vs) × GoesOn t.value u
   KeepsHand _ _ = ⊥
 
   -- a command that waits, with what it has in hand by the rules
@@ -128,5 +128,5 @@ module _ (m : Meaning) where
 
   -- likewise of what is kept in hand
   abbrev pub IsGivenFit : Layout → HandOf → Type 0
-  IsGivenFit p (hand.Doing t) = IsFit p (told_task t)
+  IsGivenFit p (hand.Doing t) = IsFit p (told_task t.value)
   IsGivenFit p (hand.Learning ws t) = Unit {0}

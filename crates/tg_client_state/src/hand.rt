@@ -20,12 +20,12 @@ use tg_kind::Registry;
 #[derive(Drop)]
 pub enum Hand<K: Registry> {
     Doing {
-        task: Task<K>,
+        task: Box<Task<K>>,
     },
     /// The layout servers that are asked, each with the number of its request.
     Learning {
         waits: List<(u16, u64)>,
-        paused: Paused<K>,
+        paused: Box<Paused<K>>,
     },
 }
 

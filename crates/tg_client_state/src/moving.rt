@@ -22,24 +22,25 @@ use tg_base::{List, NoMemory, Out, Pos, Rids};
 use tg_chain::ask_servers;
 use tg_kind::Registry;
 
-/// The machine goes on, and the command waits with it. It takes no memory.
+/// The machine goes on, and the command waits with it. An `Err` is want of memory.
 pub fn goes_on<K: Registry>(
     state: State<K>,
     alloc: Global,
     job: Job<K>,
     task: Task<K>,
     sends: List<Out>,
-) -> Moved<K>
-    ensures { (r : Rest (meaning_of K.Registry)) (w : told.Work (meaning_of K.Registry)) (old : ℕ) (besides : List Out) → Holds (meaning_of K.Registry) state job r w old → Carries (meaning_of K.Registry) state (told_task (meaning_of K.Registry) task) old besides sends → KeepsMoved (meaning_of K.Registry) old result (steps.goes_on (meaning_of K.Registry) (client_of (meaning_of K.Registry) state r) w (told_task (meaning_of K.Registry) task) besides) }
+) -> Result<Moved<K>, NoMemory>
+    ensures { (r : Rest (meaning_of K.Registry)) (w : told.Work (meaning_of K.Registry)) (old : ℕ) (besides : List Out) → Holds (meaning_of K.Registry) state job r w old → Carries (meaning_of K.Registry) state (told_task (meaning_of K.Registry) task) old besides sends → IfOk result (λ x. KeepsMoved (meaning_of K.Registry) old x (steps.goes_on (meaning_of K.Registry) (client_of (meaning_of K.Registry) state r) w (told_task (meaning_of K.Registry) task) besides)) }
 {
+    let task = Box::new(alloc, task)?;
     let hand = Hand::Doing { task };
     let work = Some(Work { job, hand });
-    Moved {
+    Ok(Moved {
         state,
         work,
         sends,
         notes: List::new(alloc),
-    }
+    })
 }
 
 /// Requests for a newer layout, with the servers that are asked and the next request number.
@@ -67,7 +68,7 @@ fn waits_for_layout<K: Registry>(
     state: State<K>,
     alloc: Global,
     job: Job<K>,
-    paused: Paused<K>,
+    paused: Box<Paused<K>>,
     asked: Asked,
 ) -> Moved<K>
     ensures { result ≡ record { state = record state { rids = asked.rids }; work = Some (record { job = job; hand = Learning asked.waits paused }); sends = asked.sends; notes = [] } }
@@ -95,6 +96,7 @@ pub fn learns<K: Registry>(
     ensures { (r : Rest (meaning_of K.Registry)) (w : told.Work (meaning_of K.Registry)) (old : ℕ) (t : told.Task (meaning_of K.Registry)) → Holds (meaning_of K.Registry) state job r w old → Leaves (meaning_of K.Registry) state paused t → IfOk result (λ x. KeepsMoved (meaning_of K.Registry) old x (steps.learns_for (meaning_of K.Registry) (client_of (meaning_of K.Registry) state r) w t)) }
 {
     let asked = asks_servers(alloc, state.parts.layouts, state.parts.rids)?;
+    let paused = Box::new(alloc, paused)?;
     Ok(waits_for_layout(state, alloc, job, paused, asked))
 }
 

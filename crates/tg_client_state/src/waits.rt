@@ -19,24 +19,31 @@ use tg_kind::Registry;
 use tg_model::{NoteOf, What};
 
 impl<K: Registry> State<K> {
-    /// The command waits with a machine that has begun. It takes no memory.
-    fn holds(self, job: Job<K>, begun: Begun<Task<K>>, notes: List<NoteOf<K>>) -> Moved<K>
-        ensures { (r : Rest (meaning_of K.Registry)) (w : rules.Work (meaning_of K.Registry)) (old : ℕ) → IsBegun (meaning_of K.Registry) self.known self.stand self.rids.next begun → old ≤ self.rids.next → KeepsViewIf (meaning_of K.Registry) self.view r.view → KeepsJob (meaning_of K.Registry) job w → KeepsMoved (meaning_of K.Registry) old result (told.holds (meaning_of K.Registry) (client_of (meaning_of K.Registry) self r) w (told_task (meaning_of K.Registry) begun.machine) begun.rids.next notes) }
+    /// The command waits with a machine that has begun. An `Err` is want of memory.
+    fn holds(
+        self,
+        alloc: Global,
+        job: Job<K>,
+        begun: Begun<Task<K>>,
+        notes: List<NoteOf<K>>,
+    ) -> Result<Moved<K>, NoMemory>
+        ensures { (r : Rest (meaning_of K.Registry)) (w : rules.Work (meaning_of K.Registry)) (old : ℕ) → IsBegun (meaning_of K.Registry) self.known self.stand self.rids.next begun → old ≤ self.rids.next → KeepsViewIf (meaning_of K.Registry) self.view r.view → KeepsJob (meaning_of K.Registry) job w → IfOk result (λ x. KeepsMoved (meaning_of K.Registry) old x (told.holds (meaning_of K.Registry) (client_of (meaning_of K.Registry) self r) w (told_task (meaning_of K.Registry) begun.machine) begun.rids.next notes)) }
     {
         let Begun {
             machine,
             sends,
             rids,
         } = begun;
-        let hand = Hand::Doing { task: machine };
+        let task = Box::new(alloc, machine)?;
+        let hand = Hand::Doing { task };
         let mut state = self;
         state.parts.rids = rids;
-        Moved {
+        Ok(Moved {
             state,
             work: Some(Work { job, hand }),
             sends,
             notes,
-        }
+        })
     }
 
     /// A record is appended, for this purpose. An `Err` is want of memory, or of numbers; and a draft whose page would
@@ -60,7 +67,7 @@ impl<K: Registry> State<K> {
             sends: begun.sends,
             rids: begun.rids,
         };
-        Ok(self.holds(job, begun, notes))
+        self.holds(alloc, job, begun, notes)
     }
 
     /// A sync over these streams, which are then walked. An `Err` is want of memory, or of numbers.
@@ -76,7 +83,7 @@ impl<K: Registry> State<K> {
             rids: begun.rids,
         };
         let job = over_streams(alloc, job, oids);
-        Ok(self.holds(job, begun, List::new(alloc)))
+        self.holds(alloc, job, begun, List::new(alloc))
     }
 
     /// The decision record for a position is appended, in an entry's streams. An `Err` is want of memory, or of numbers;
@@ -121,7 +128,7 @@ impl<K: Registry> State<K> {
             sends: begun.sends,
             rids: begun.rids,
         };
-        Ok(self.holds(job, begun, List::new(alloc)))
+        self.holds(alloc, job, begun, List::new(alloc))
     }
 }
 

@@ -134,13 +134,7 @@ pub fn on_sync<K: Registry>(
     state.parts.rids = rids;
     let job = meets(job, gone);
     match next {
-        Next::Goes { machine } => Ok(goes_on(
-            state,
-            alloc,
-            job,
-            Task::Sync { sync: machine },
-            outs,
-        )),
+        Next::Goes { machine } => goes_on(state, alloc, job, Task::Sync { sync: machine }, outs),
         Next::Learns { paused } => learns(state, alloc, job, Paused::Sync { oids: paused }),
         Next::Ends { end } => synced(state, alloc, job, end),
     }

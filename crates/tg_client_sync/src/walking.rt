@@ -95,7 +95,7 @@ pub fn walks<K: Registry>(
             };
             let mut state = state;
             state.parts.rids = rids;
-            Ok(goes_on(state, alloc, job, task, outs))
+            goes_on(state, alloc, job, task, outs)
         }
         Next::Learns { .. } => unreachable!(),
         Next::Ends { end } => {
@@ -232,7 +232,7 @@ pub fn on_walk<K: Registry>(
                 walk: machine,
                 rest,
             };
-            Ok(goes_on(state, alloc, job, task, outs))
+            goes_on(state, alloc, job, task, outs)
         }
         Next::Learns { paused } => {
             learns(state, alloc, job, Paused::Walk { walk: paused, rest })

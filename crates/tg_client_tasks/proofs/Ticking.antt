@@ -34,7 +34,7 @@ module _ (m : Meaning) where
   task-fit k p (task.Reconf r) h = tt
 
   hand-fit : (k : Knowledge) (p : Layout) (h : HandOf m) (u : Hand m) → KeepsHand m h u → IsClientFit m k p u → IsGivenFit m p h
-  hand-fit k p (hand.Doing t) (Doing u) e f = task-fit k p t (subst (λ (v : Task m). IsTaskFit m k p v) (sym e) f)
+  hand-fit k p (hand.Doing t) (Doing u) e f = task-fit k p t.value (subst (λ (v : Task m). IsTaskFit m k p v) (sym e) f)
   hand-fit k p (hand.Doing t) (Learning ws u) e f = absurd e
   hand-fit k p (hand.Learning ws t) u e f = tt
 

@@ -256,7 +256,7 @@ pub fn on_append<K: Registry>(
                 append: machine,
                 purpose,
             };
-            Ok(goes_on(state, alloc, job, task, outs))
+            goes_on(state, alloc, job, task, outs)
         }
         Next::Learns { paused } => {
             let paused = Paused::Append {

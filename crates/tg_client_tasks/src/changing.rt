@@ -33,7 +33,7 @@ fn changes_on<K: Registry>(
     let mut state = state;
     state.parts.stand = stand;
     let reconf = Box::new(alloc, reconf)?;
-    Ok(goes_on(state, alloc, job, Task::Reconf { reconf }, outs))
+    goes_on(state, alloc, job, Task::Reconf { reconf }, outs)
 }
 
 /// The change has ended.

@@ -55,13 +55,7 @@ pub fn on_copy<K: Registry>(
     state.parts.rids = rids;
     let job = meets(job, gone);
     match next {
-        Next::Goes { machine } => Ok(goes_on(
-            state,
-            alloc,
-            job,
-            Task::Copy { copy: machine },
-            outs,
-        )),
+        Next::Goes { machine } => goes_on(state, alloc, job, Task::Copy { copy: machine }, outs),
         Next::Learns { paused } => learns(state, alloc, job, Paused::Copy { spare: paused }),
         Next::Ends { .. } => copied(state, alloc, spare),
     }

@@ -30,8 +30,8 @@ fn with_hand<'a, K: Registry>(known: &'a Known, hand: &'a Hand<K>, pos: Pos) -> 
     ensures { (h : told.Hand (meaning_of K.Registry)) → KeepsHand (meaning_of K.Registry) hand.now h → option_copied result ≡ cell_at (told.hand_cells (meaning_of K.Registry) h known.now.cells) pos }
 {
     match hand {
-        Hand::Doing { task } => with_task(known, task, pos),
-        Hand::Learning { paused, .. } => with_paused(known, paused, pos),
+        Hand::Doing { task } => with_task(known, &**task, pos),
+        Hand::Learning { paused, .. } => with_paused(known, &**paused, pos),
     }
 }
 

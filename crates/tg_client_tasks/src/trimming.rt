@@ -34,13 +34,7 @@ pub fn on_trims<K: Registry>(
     state.parts.rids = rids;
     let job = meets(job, gone);
     match next {
-        Next::Goes { machine } => Ok(goes_on(
-            state,
-            alloc,
-            job,
-            Task::Trim { trims: machine },
-            outs,
-        )),
+        Next::Goes { machine } => goes_on(state, alloc, job, Task::Trim { trims: machine }, outs),
         Next::Learns { paused } => learns(state, alloc, job, Paused::Trim { below: paused }),
         Next::Ends { .. } => state.answers(alloc, 0, What::Trimmed { mark: below }),
     }

@@ -9,12 +9,12 @@ use Rattle.tg_client.proofs.Delivered.{by_client, task_kept, task_feeds, nothing
 use Rattle.tg_client.proofs.delivering.on_answer.Goals as goal
 
 pub feeds-requires : goal.feeds-requires
-feeds-requires g c = task_kept (means g.K.Kind g.K.Registry) c.args.state c.args.work c.in-Doing.task c.in-Doing.is c.requires.kept
+feeds-requires g c = task_kept (means g.K.Kind g.K.Registry) c.args.state c.args.work c.in-Doing.task c.into_inner.result c.into_inner.ensures c.in-Doing.is c.requires.kept
 
 pub returns-in-Doing : goal.returns-in-Doing
 returns-in-Doing g c = λ k h.
     by_client (means g.K.Kind g.K.Registry) (λ d. IfOk c.feeds.result (λ x. KeepsMoved (means g.K.Kind g.K.Registry) c.args.state.rids.next x (feed (means g.K.Kind g.K.Registry) d d.work c.args.from c.args.rid (reply c.args.msg.now)))) c.args.state c.args.work k h
-    (λ r w b. task_feeds (means g.K.Kind g.K.Registry) (λ z. IfOk c.feeds.result (λ x. KeepsMoved (means g.K.Kind g.K.Registry) c.args.state.rids.next x z)) c.args.state c.args.work r w c.in-Doing.task c.args.from c.args.rid (reply c.args.msg.now) c.requires.other c.in-Doing.is b
+    (λ r w b. task_feeds (means g.K.Kind g.K.Registry) (λ z. IfOk c.feeds.result (λ x. KeepsMoved (means g.K.Kind g.K.Registry) c.args.state.rids.next x z)) c.args.state c.args.work r w c.in-Doing.task c.into_inner.result c.args.from c.args.rid (reply c.args.msg.now) c.into_inner.ensures c.requires.other c.in-Doing.is b
     (λ i. c.feeds.ensures r w b.holds i))
 
 pub returns-in-Learning : goal.returns-in-Learning

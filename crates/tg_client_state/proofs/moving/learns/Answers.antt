@@ -14,6 +14,6 @@ returns g c = λ r w old t h l.
     let first : c.deref.result.now ≡ c.args.state = c.deref.ensures ∙ c.state.view_is in
     let second : c.deref-2.result.now ≡ c.args.state = c.deref-2.ensures ∙ c.state.view_is in
     subst (λ (y : MovedOf m). KeepsMoved m old y (learns_for m (client_of m c.args.state r) w t)) (sym c.waits_for_layout.ensures)
-    (learnt m c.args.state c.args.job c.args.paused c.in_ok-asked.asked.waits c.in_ok-asked.asked.rids.next t r w old c.in_ok-asked.asked.sends
-    (c.in_ok-asked.ensures.waits ∙ ap (λ (s : StateOf m). waits_for (numbers s.layouts 0) c.deref-2.result.now.rids.next) first ∙ ap (λ (s : StateOf m). waits_for (numbers c.args.state.layouts 0) s.rids.next) second)
+    (learnt m c.args.state c.args.job c.args.paused c.in_ok-paused.paused c.in_ok-asked.asked.waits c.in_ok-asked.asked.rids.next t r w old c.in_ok-asked.asked.sends
+    c.in_ok-paused.ensures.ok (c.in_ok-asked.ensures.waits ∙ ap (λ (s : StateOf m). waits_for (numbers s.layouts 0) c.deref-2.result.now.rids.next) first ∙ ap (λ (s : StateOf m). waits_for (numbers c.args.state.layouts 0) s.rids.next) second)
     (c.in_ok-asked.ensures.next ∙ ap (λ (s : StateOf m). c.deref-2.result.now.rids.next + s.layouts) first ∙ ap (λ (s : StateOf m). s.rids.next + c.args.state.layouts) second) c.in_ok-asked.ensures.sends h l)

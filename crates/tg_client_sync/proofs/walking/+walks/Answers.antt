@@ -27,9 +27,9 @@ returns-in-Goes g t c = λ r w old h.
     let u : StateOf m = c.lend-state.result.0 in
     let was : c.deref_mut.result.now ≡ u = c.deref_mut.ensures.value ∙ c.state.view_is in
     let task : Task m = Walking c.in-Goes.machine c.in-Some.rest in
-    let goes = subst (λ (s : StateOf m). Holds m (record s { rids = c.in_ok-step.rids }) c.args.job r w old → Carries m (record s { rids = c.in_ok-step.rids }) task old [] c.in_ok-step.step.outs → KeepsMoved m old c.goes_on.result (goes_on m (client_of m (record s { rids = c.in_ok-step.rids }) r) w task [])) was
+    let goes = subst (λ (s : StateOf m). Holds m (record s { rids = c.in_ok-step.rids }) c.args.job r w old → Carries m (record s { rids = c.in_ok-step.rids }) task old [] c.in_ok-step.step.outs → IfOk c.goes_on.result (λ x. KeepsMoved m old x (goes_on m (client_of m (record s { rids = c.in_ok-step.rids }) r) w task []))) was
     (λ i l. c.goes_on.ensures r w old [] i l) in
-    begins_at (means g.K.Kind g.K.Registry) (λ z. KeepsMoved (means g.K.Kind g.K.Registry) old c.goes_on.result z) c.args.state c.lend-state.result.0 c.lend-state.result.1 c.args.job c.in-Some.oid c.in-Some.rest c.args.oids c.in_ok-step.rids c.in_ok-step.step c.in-Goes.machine r w old
+    begins_at (means g.K.Kind g.K.Registry) (λ z. IfOk c.goes_on.result (λ x. KeepsMoved (means g.K.Kind g.K.Registry) old x z)) c.args.state c.lend-state.result.0 c.lend-state.result.1 c.args.job c.in-Some.oid c.in-Some.rest c.args.oids c.in_ok-step.rids c.in_ok-step.step c.in-Goes.machine r w old
     (sym c.first_of.ensures ∙ c.in-Some.is) c.lend-state.ensures.cells state settled c.in-Goes.is h c.in_ok-step.ensures
     goes
 

@@ -13,8 +13,8 @@ pub returns-in-Goes : goal.returns-in-Goes
 returns-in-Goes g c = λ r w old t h k.
     let m = means g.K.Kind g.K.Registry in
     let was : c.deref_mut.result.now ≡ c.args.state = c.deref_mut.ensures.value ∙ c.state.view_is in
-    subst (λ (s : StateOf m). Holds m s c.args.job r w old → AppendShown old s.stand s.rids.next c.args.rids.next c.args.step t → KeepsMoved m old c.goes_on.result (on_append m (client_of m s r) w (told_purpose m c.args.purpose) t)) was
-    (λ i l. append_goes m (λ z. KeepsMoved m old c.goes_on.result z) c.deref_mut.result.now c.args.job c.meets-job.result c.args.rids c.args.step c.in-Goes.machine c.args.purpose r w old t c.in-Goes.is c.meets-job.ensures i l
+    subst (λ (s : StateOf m). Holds m s c.args.job r w old → AppendShown old s.stand s.rids.next c.args.rids.next c.args.step t → IfOk c.goes_on.result (λ x. KeepsMoved m old x (on_append m (client_of m s r) w (told_purpose m c.args.purpose) t))) was
+    (λ i l. append_goes m (λ z. IfOk c.goes_on.result (λ x. KeepsMoved m old x z)) c.deref_mut.result.now c.args.job c.meets-job.result c.args.rids c.args.step c.in-Goes.machine c.args.purpose r w old t c.in-Goes.is c.meets-job.ensures i l
     (λ besides a b. c.goes_on.ensures r _ old besides a b)) h k
 
 pub returns-in-Learns : goal.returns-in-Learns

@@ -1,4 +1,5 @@
 use Rattle.std.proofs.Common.{List, sym, subst}
+use Rattle.std.specs.Prelude.{IfOk}
 use Rattle.tg_play.proofs.Means.{means}
 use Rattle.tg_model.specs.Kinds.{NoteOf}
 use Rattle.tg_protocol.specs.Answers.{Moved, holds}
@@ -11,6 +12,6 @@ pub returns : goal.returns
 returns g c = λ r w old le hv hj.
     let m = means g.K.Kind g.K.Registry in
     let b = c.in_ok-begun in
-    subst (λ (x : Moved m). KeepsMoved m old c.holds.result x) (sym (trims_by m (client_of m c.args.self r) w c.args.below b.begun.rids.next b.begun.machine c.requires b.ensures.begun))
-    (subst (λ (ns : List (NoteOf m)). KeepsMoved m old c.holds.result (holds m (client_of m c.args.self r) w (Trimming b.begun.machine) b.begun.rids.next ns)) c.new.ensures
+    subst (λ (x : Moved m). IfOk c.holds.result (λ y. KeepsMoved m old y x)) (sym (trims_by m (client_of m c.args.self r) w c.args.below b.begun.rids.next b.begun.machine c.requires b.ensures.begun))
+    (subst (λ (ns : List (NoteOf m)). IfOk c.holds.result (λ y. KeepsMoved m old y (holds m (client_of m c.args.self r) w (Trimming b.begun.machine) b.begun.rids.next ns))) c.new.ensures
     (c.holds.ensures r w old (trim_begins m c.args.self.known c.args.self.stand c.args.below c.args.self.rids.next b.begun.rids b.begun.machine b.begun.sends b.ensures.begun b.ensures.sends) le hv hj))
