@@ -18,7 +18,7 @@ use Rattle.tg_script.specs.declared.line.Line.{Line}
 use Rattle.tg_script.specs.declared.line.Line.TheVariants as line
 use Rattle.tg_live.specs.Breaks.{GrowsFront, Broken}
 use Rattle.tg_live.specs.Sends.{all_gone, sending, AreFit}
-use Rattle.tg_live.specs.Lives.{Answer, Live, LiveRan, goes, stops, recorded, recorded_by, came, heard, received, onward, ticked, Then, Makes, IsDrained, IsRounds, IsFed}
+use Rattle.tg_live.specs.Lives.{Answer, Live, LiveRan, goes, stops, recorded, recorded_by, came, heard, received, onward, ticked, Then, Makes, IsDrained, IsRounds}
 use Rattle.tg_live.proofs.Growing.{Begins}
 use Rattle.tg_live.proofs.Packets.{grows_by, first_of, no_fewer}
 use Rattle.tg_live.proofs.Parts.{follows_on, follows_not}
@@ -271,18 +271,3 @@ module _ (left n : ℕ) (e : left ≡ suc n) (before after : Option (List Act)) 
       → Broken (IsRounds n) before after end.live → Broken (IsRounds left) before after l
   later_broken taken rest mid end is on busy d still b =
       round_broken (broken_second (Ticks l) (after_ticks n l) before after l taken mid is on (more_broken n l mid.live before after rest end busy d still b))
-
--- Lines.
-
-fed_ends : (x : Line) (l : Live) → Ends (IsFed x) l l
-fed_ends line.Drain l = let d = drain_ends l in record { answers = d.answers; end = d.end; is = d.is; later = d.later }
-fed_ends line.Settle l =
-    let d = drain_ends l in
-    let t = then_ends IsDrained (IsRounds 8) d.answers l d.end d.is (λ m. rounds_end 8 m) in
-    record { answers = t.answers; end = t.end; is = t.is; later = later_both l d.end.live t.end.live d.later t.later }
-fed_ends (line.Event e) l = record { answers = []; end = recorded l (line.Event e); is = (refl, refl); later = recorded_later l (line.Event e) }
-fed_ends (line.Update c o p) l = record { answers = []; end = recorded l (line.Update c o p); is = (refl, refl); later = recorded_later l (line.Update c o p) }
-
--- a line of which nothing was done
-pub fed_broken : (x : Line) (before after : Option (List Act)) (l : Live) → Grows before l.acts after → Broken (IsFed x) before after l
-fed_broken x before after l h = broken_ends (IsFed x) before after l l (front_all before after l.acts h) (fed_ends x l)

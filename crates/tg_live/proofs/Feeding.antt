@@ -27,7 +27,7 @@ use Rattle.tg_live.specs.Lives.{IsFed, opened}
 use Rattle.tg_live.specs.Kept.{Keeps, Made}
 use Rattle.tg_live.specs.Scripts.{Over, IsLiveLine, IsOutsideAt}
 use Rattle.tg_live.specs.Sends.{Carried}
-use Rattle.tg_live.specs.Stages.{IsRunOf, Reads, Ends, Finished, Took, IsOutside, IsAfter, GoesOnKept, Handed, over, StillReads, Feeds, EndsSo}
+use Rattle.tg_live.specs.Stages.{IsRunOf, Reads, Ends, Finished, Took, IsOutside, IsAfter, GoesOnKept, CountsOn, Handed, over, StillReads, Feeds, EndsSo}
 use Rattle.tg_live.proofs.Scripts.{longer, later, opening, opening_lawful, run_opens, run_goes_on, run_ends, run_limited, refuses_event, refuses_header}
 
 -- how reading has ended, from its status and its run
@@ -52,6 +52,10 @@ outside_took o text line read more r s (Stops f) h cut none m =
 pub outside_kept : (r : Running) (f : Fed) → IsOutside r f → GoesOnKept f
 outside_kept r (Goes q) m = absurd m
 outside_kept r (Stops f) m = tt
+
+pub outside_counts : (n : ℕ) (r : Running) (f : Fed) → IsOutside r f → CountsOn n f
+outside_counts n r (Goes q) m = absurd m
+outside_counts n r (Stops f) m = tt
 
 -- what is made of a line
 pub made_took : (o : Over) (text line : List ℕ) (read more : List (List ℕ)) (r : Running) (s : Script) (l : Line) (f : Fed) (h : IsRunOf o read r s) → (handed : Handed) (now : Carried) (w : Went)

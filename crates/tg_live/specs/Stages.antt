@@ -68,6 +68,11 @@ abbrev pub GoesOnKept : Fed → Type 0
 GoesOnKept (Goes q) = IsSound q.live.world q.live.recording
 GoesOnKept (Stops f) = Unit {0}
 
+-- a run that goes on has one line more
+abbrev pub CountsOn : ℕ → Fed → Type 0
+CountsOn n (Goes q) = q.lines ≡ n + 1
+CountsOn n (Stops f) = Unit {0}
+
 -- Line by line.
 
 abbrev pub Handed : Type 0

@@ -1,11 +1,11 @@
 //! A live run, line by line of its script.
 
-ghost use Rattle.std.specs.Prelude.{◌≡◌, ◌+◌, ◌<◌, ℕ, false, List, Option, Some, length, IfOk, IfSome, IsErrOf, OnOk, OnErr};
+ghost use Rattle.std.specs.Prelude.{◌≡◌, ◌+◌, ◌≤◌, ◌<◌, ◌^◌, ℕ, false, List, Option, Some, length, IfOk, IfSome, IsErrOf, OnOk, OnErr};
 ghost use Rattle.tg_base.specs.Clusters.{Header};
 ghost use Rattle.tg_io.specs.Faults.{HasCause, StaysSure};
 ghost use Rattle.tg_lines.specs.Feeds.{NoneOutside, TakesFeeds};
 ghost use Rattle.tg_lines.specs.Lines.{ahead, lines, TakesLine};
-ghost use Rattle.tg_lines.specs.Openings.{Opened, IsNoLine};
+ghost use Rattle.tg_lines.specs.Openings.{Opened, OnOpens, IsNoLine};
 ghost use Rattle.tg_script.specs.Lines.{IsLine};
 ghost use Rattle.tg_script.specs.declared.line.Line.{Line as event_line};
 ghost use Rattle.tg_live.specs.Causes.{of_source, of_link, HasCauses, HasReadCause, HasLinkCause};
@@ -17,7 +17,7 @@ ghost use Rattle.tg_live.specs.Scripts.{IsOutsideAt, is_delivery};
 ghost use Rattle.tg_live.specs.declared.live.Went.{Went as went_so};
 ghost use Rattle.tg_live.specs.declared.stages.Stop.TheVariants.{Read, Carry};
 ghost use Rattle.tg_live.specs.declared.stages.Running.{Running as running};
-ghost use Rattle.tg_live.specs.Stages.{Finished, Reads, IsOutside, IsAfter, GoesOnKept, Handed, over, Feeds};
+ghost use Rattle.tg_live.specs.Stages.{Finished, Reads, IsOutside, IsAfter, GoesOnKept, CountsOn, Handed, over, Feeds};
 
 use crate::live::{Live, Went};
 use crate::stages::{Fed, Finish, Running, Stop};
@@ -70,7 +70,9 @@ fn run_lines<S: Source, L: Link>(
     source: &mut S,
     link: &mut L,
 ) -> Result<Finish, Stop>
-    requires { IsSound running.live.world running.live.recording }
+    requires kept { IsSound running.live.world running.live.recording }
+    // A source gives fewer bytes than 2^64, and a line takes one at least.
+    requires room { running.lines + 3 + (length reader.old + S.room source.old) < 2 ^ 64 }
     ensures finished { IfSome (ahead reader.old (S.left source.old)) (λ rest. (handed : Handed) (before : Carried) (text : List ℕ) → Reads (over handed (L.handed link.old) before (carried (L.sent link.old) (L.acts link.old))) text running rest → IfOk result (Finished (over handed (L.handed link.new) before (carried (L.sent link.new) (L.acts link.new))) text)) }
     ensures broken { OnErr result (IfSome (ahead reader.old (S.left source.old)) (λ rest. (handed : Handed) (first : Carried) (text : List ℕ) → Reads (over handed (L.handed link.old) first (carried (L.sent link.old) (L.acts link.old))) text running rest → BrokenOff text first.acts (L.acts link.new))) }
     ensures causes { HasCauses (S.faults source.old) (S.faults source.new) (L.faults link.old) (L.faults link.new) result }
@@ -98,6 +100,7 @@ fn run_lines<S: Source, L: Link>(
 // The header, where only the source can fail.
 fn open<S: Source>(alloc: Global, reader: &mut LineReader, source: &mut S) -> Result<Opening, Stop>
     ensures opened { IfOk result (Opened (ahead reader.old (S.left source.old)) (ahead reader.new (S.left source.new))) }
+    ensures less { IfOk result (λ opening. OnOpens opening (length reader.new + S.room source.new + 3 ≤ length reader.old + S.room source.old)) }
     ensures cause { HasReadCause (S.faults source.old) (S.faults source.new) result }
     ensures still { IfOk result (λ opening. S.faults source.new ≡ S.faults source.old) }
     ensures sure { StaysSure (S.sure source.old) (S.sure source.new) (S.faults source.old) (S.faults source.new) }
@@ -153,8 +156,10 @@ fn link_stop(error: IoErr) -> Stop
 impl Running {
     // Takes the next line, where only the link can fail.
     fn fed<L: Link>(self, alloc: Global, link: &mut L, line: &[u8]) -> Result<Fed, Stop>
-        requires { IsSound self.live.world self.live.recording }
+        requires kept { IsSound self.live.world self.live.recording }
+        requires room { self.lines + 4 < 2 ^ 64 }
         ensures kept { IfOk result GoesOnKept }
+        ensures counts { IfOk result (CountsOn self.lines) }
         ensures took { IfOk result (Feeds self line.now (L.handed link.old) (L.handed link.new) (carried (L.sent link.old) (L.acts link.old)) (carried (L.sent link.new) (L.acts link.new))) }
         ensures broken { OnErr result (BreaksOff self line.now (L.handed link.old) (carried (L.sent link.old) (L.acts link.old)) (L.acts link.new)) }
         ensures cause { HasLinkCause (L.faults link.old) (L.faults link.new) result }
@@ -169,8 +174,10 @@ impl Running {
 
     // Takes the next line. An `Err` is a fault of the link, or want of memory.
     fn feed<L: Link>(self, alloc: Global, link: &mut L, line: &[u8]) -> Result<Fed, IoErr>
-        requires { IsSound self.live.world self.live.recording }
+        requires kept { IsSound self.live.world self.live.recording }
+        requires room { self.lines + 4 < 2 ^ 64 }
         ensures kept { IfOk result GoesOnKept }
+        ensures counts { IfOk result (CountsOn self.lines) }
         ensures took { IfOk result (Feeds self line.now (L.handed link.old) (L.handed link.new) (carried (L.sent link.old) (L.acts link.old)) (carried (L.sent link.new) (L.acts link.new))) }
         ensures broken { OnErr result (BreaksOff self line.now (L.handed link.old) (carried (L.sent link.old) (L.acts link.old)) (L.acts link.new)) }
         ensures cause { HasCause (L.faults link.old) (L.faults link.new) result }
@@ -178,15 +185,17 @@ impl Running {
         ensures still { OnOk result (L.faults link.new ≡ L.faults link.old) }
     {
         let Some(event) = live_line(alloc, &self.live.cluster, line)? else {
-            return Ok(self.outside()?);
+            return Ok(self.outside());
         };
         self.take(alloc, link, event)
     }
 
     // A line of the script. An `Err` is a fault of the link, or want of memory.
     fn take<L: Link>(self, alloc: Global, link: &mut L, line: Line) -> Result<Fed, IoErr>
-        requires { IsSound self.live.world self.live.recording }
+        requires kept { IsSound self.live.world self.live.recording }
+        requires room { self.lines + 4 < 2 ^ 64 }
         ensures kept { IfOk result GoesOnKept }
+        ensures counts { IfOk result (CountsOn self.lines) }
         ensures made { IfOk result (λ f. (h : Header) (first : Carried) (l : live) → Keeps h first (carried (L.sent link.old) (L.acts link.old)) self.live l → (w : went_so) × Made (IsFed line) h first (carried (L.sent link.new) (L.acts link.new)) (L.handed link.old) (L.handed link.new) l w × IsAfter self w f) }
         ensures broken { OnErr result ((h : Header) (first : Carried) (l : live) → Keeps h first (carried (L.sent link.old) (L.acts link.old)) self.live l → Broken (IsFed line) first.acts (L.acts link.new) l) }
         ensures cause { HasCause (L.faults link.old) (L.faults link.new) result }
@@ -194,26 +203,27 @@ impl Running {
         ensures still { OnOk result (L.faults link.new ≡ L.faults link.old) }
     {
         let Running { live, lines } = self;
-        let lines = lines.checked_add(1).ok_or(NoMemory)?;
         let went = live.play(alloc, link, line)?;
-        Ok(after(lines, went))
+        Ok(after(lines + 1, went))
     }
 
-    // The next line is outside.
-    fn outside(self) -> Result<Fed, NoMemory>
-        ensures { IfOk result (IsOutside self) }
+    // The next line is outside. It takes no memory.
+    fn outside(self) -> Fed
+        requires { self.lines + 4 < 2 ^ 64 }
+        ensures { IsOutside self result }
     {
-        let line = self.lines.checked_add(4).ok_or(NoMemory)?;
-        Ok(Fed::Stops(Finish {
+        let line = self.lines + 4;
+        Fed::Stops(Finish {
             end: End::Outside { line },
             live: Some(self.live),
-        }))
+        })
     }
 }
 
 // A run after a line, which goes on unless a limit was reached.
 fn after(lines: u64, went: Went) -> Fed
     ensures after { (r : running) → lines ≡ r.lines + 1 → IsAfter r went result }
+    ensures counts { (n : ℕ) → lines ≡ n + 1 → CountsOn n result }
     ensures kept { IsSound went.live.world went.live.recording → GoesOnKept result }
 {
     let Went { live, stopped } = went;

@@ -1,9 +1,9 @@
-use Rattle.std.proofs.Common.{◌≤◌, ℕ, List, Option, Some, refl, subst, arith, ◌≡◌, ◌∙◌, Err, ap}
+use Rattle.std.proofs.Common.{◌≡◌, ◌<◌, ◌≤◌, ◌+◌, ◌^◌, ◌∙◌, ℕ, List, length, Option, Some, IfSome, refl, subst, arith, Err, ap}
 use Rattle.tg_io.proofs.Faults.{sure_since}
 use Rattle.tg_lines.specs.Lines.{ahead, TakesLine}
 use Rattle.tg_replay.specs.declared.stages.End.TheVariants.{Whole}
 use Rattle.tg_live.specs.declared.stages.Fed.{Fed}
-use Rattle.tg_live.specs.Stages.{GoesOnKept, Feeds}
+use Rattle.tg_live.specs.Stages.{GoesOnKept, CountsOn, Feeds}
 use Rattle.tg_live.proofs.Feeding.{still_first, still_more, still_stops, still_ends}
 use Rattle.tg_live.specs.Sends.{carried}
 use Rattle.std.proofs.lemmas.Result.{err_from_is_err_and}
@@ -37,12 +37,17 @@ loop-running-preserved g c =
     let feeds = subst (λ (f : Fed). Feeds c.loop-running.running c.in-Some.line (g.L.Link.handed c.loop-running.link) (g.L.Link.handed c.fed.new.link) (carried (g.L.Link.sent c.loop-running.link) (g.L.Link.acts c.loop-running.link)) (carried (g.L.Link.sent c.fed.new.link) (g.L.Link.acts c.fed.new.link)) f) c.in-Goes.is fed in
     let later : g.S.Source.faults c.args.source.now ≤ g.S.Source.faults c.loop-running.source = i.later in
     let rose : g.S.Source.faults c.loop-running.source ≤ g.S.Source.faults c.next_line.new.source = c.in_ok-line.ensures.cause.later in
+    let less : length c.next_line.new.reader + g.S.Source.room c.next_line.new.source < length c.loop-running.reader + g.S.Source.room c.loop-running.source =
+    subst (λ (o : Option (List ℕ)). IfSome o (λ l. length c.next_line.new.reader + g.S.Source.room c.next_line.new.source < length c.loop-running.reader + g.S.Source.room c.loop-running.source)) c.in-Some.is c.in_ok-line.ensures.less in
+    let room : c.loop-running.running.lines + 3 + (length c.loop-running.reader + g.S.Source.room c.loop-running.source) < 2 ^ 64 = i.room in
+    let counts : c.in-Goes.next.lines ≡ c.loop-running.running.lines + 1 = subst (CountsOn c.loop-running.running.lines) c.in-Goes.is c.in_ok-next.ensures.counts in
     let link_later : g.L.Link.faults c.args.link.now ≤ g.L.Link.faults c.loop-running.link = i.link_later in
     let link_rose : g.L.Link.faults c.loop-running.link ≤ g.L.Link.faults c.fed.new.link = c.in_ok-next.ensures.cause.later in
     record {
       reads = still_more before rest after c.args.running c.loop-running.running c.in-Goes.next c.in-Some.line
           (g.L.Link.handed c.args.link.now) (g.L.Link.handed c.loop-running.link) (g.L.Link.handed c.fed.new.link) (carried (g.L.Link.sent c.args.link.now) (g.L.Link.acts c.args.link.now)) (carried (g.L.Link.sent c.loop-running.link) (g.L.Link.acts c.loop-running.link)) (carried (g.L.Link.sent c.fed.new.link) (g.L.Link.acts c.fed.new.link)) i.reads line c.in_ok-line.ensures.feeds feeds;
       kept = subst GoesOnKept c.in-Goes.is c.in_ok-next.ensures.kept;
+      room = omega (arith, room, less, counts);
       still = c.in_ok-line.ensures.still ∙ i.still;
       later = omega arith;
       sure = sure_since _ _ _ _ _ _ i.sure c.in_ok-line.ensures.sure;
@@ -82,3 +87,10 @@ returns-in_err-next-clause-broken g c =
     on_err c.from_residual-in_err-next.result (still_breaks before rest after c.args.running c.loop-running.running c.in-Some.line
     (g.L.Link.handed c.args.link.now) (g.L.Link.handed c.loop-running.link) (carried (g.L.Link.sent c.args.link.now) (g.L.Link.acts c.args.link.now)) (carried (g.L.Link.sent c.loop-running.link) (g.L.Link.acts c.loop-running.link)) (g.L.Link.acts c.fed.new.link)
     c.loop-running.invariant.reads line breaks)
+
+pub fed-requires-clause-room : goal.fed-requires-clause-room
+fed-requires-clause-room g c =
+    let less : length c.next_line.new.reader + g.S.Source.room c.next_line.new.source < length c.loop-running.reader + g.S.Source.room c.loop-running.source =
+    subst (λ (o : Option (List ℕ)). IfSome o (λ l. length c.next_line.new.reader + g.S.Source.room c.next_line.new.source < length c.loop-running.reader + g.S.Source.room c.loop-running.source)) c.in-Some.is c.in_ok-line.ensures.less in
+    let room : c.loop-running.running.lines + 3 + (length c.loop-running.reader + g.S.Source.room c.loop-running.source) < 2 ^ 64 = c.loop-running.invariant.room in
+    omega (arith, less, room)

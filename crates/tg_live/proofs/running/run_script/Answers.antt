@@ -1,6 +1,6 @@
-use Rattle.std.proofs.Common.{None, refl, subst, ◌≡◌, ◌∙◌, Err, ap}
+use Rattle.std.proofs.Common.{◌≡◌, ◌≤◌, ◌+◌, ◌-◌, ◌^◌, ◌∙◌, length, None, Err, ap, refl, subst, arith}
 use Rattle.tg_lines.specs.Lines.{ahead}
-use Rattle.tg_lines.specs.Openings.{Opened}
+use Rattle.tg_lines.specs.Openings.{Opened, OnOpens}
 use Rattle.tg_lines.specs.declared.header.Opening.{Opening}
 use Rattle.tg_replay.specs.declared.stages.End.TheVariants.{Outside}
 use Rattle.tg_live.proofs.Feeding.{header_first, header_outside, header_opens, opens_first}
@@ -61,3 +61,11 @@ returns-in_ok-live-in-Opens-clause-broken g c =
     let before = carried (g.L.Link.sent c.args.link.now) (g.L.Link.acts c.args.link.now) in
     on_err_weaker c.run_lines.result (λ b. opens_broken c.new-reader.result left rest c.in-Opens.cluster (record { live = live.live; lines = 0 }) (g.L.Link.handed c.args.link.now) before (g.L.Link.acts c.run_lines.new.link) c.new-reader.ensures opened c.in_ok-line.ensures.feeds
     live.ensures.lawful (live.ensures.opened before) refl b) c.run_lines.ensures.broken
+
+pub run_lines-requires-clause-room : goal.run_lines-requires-clause-room
+run_lines-requires-clause-room g c =
+    let less : length c.open.new.reader + g.S.Source.room c.open.new.source + 3 ≤ length c.new-reader.result + g.S.Source.room c.args.source.now =
+    subst (λ (o : Opening). OnOpens o (length c.open.new.reader + g.S.Source.room c.open.new.source + 3 ≤ length c.new-reader.result + g.S.Source.room c.args.source.now)) c.in-Opens.is c.in_ok-line.ensures.less in
+    let empty : length c.new-reader.result ≡ 0 = ap length c.new-reader.ensures in
+    let capped : g.S.Source.room c.args.source.now ≤ 2 ^ 64 - 1 = g.met.S.Source.capped c.args.source.now in
+    omega (arith, less, empty, capped)

@@ -5,7 +5,7 @@ use Rattle.tg_script.specs.Lines.{IsLine as IsLineOf}
 use Rattle.tg_script.specs.declared.line.Line.{Line}
 use Rattle.tg_live.specs.Scripts.{is_delivery}
 use Rattle.tg_live.specs.Stages.{over}
-use Rattle.tg_live.proofs.Feeding.{line_of, text_of_line, outside_took, made_took}
+use Rattle.tg_live.proofs.Feeding.{line_of, text_of_line, outside_took, outside_kept, outside_counts, made_took}
 use Rattle.tg_live.specs.Sends.{carried}
 use Rattle.tg_live.proofs.Broken.{run_broken, line_broken}
 use Rattle.tg_live.proofs.Breaking.{on_err}
@@ -13,12 +13,18 @@ use Rattle.tg_live.proofs.stages.Running.feed.Goals as goal
 
 pub returns-in_default-clause-took : goal.returns-in_default-clause-took
 returns-in_default-clause-took g c = λ handed sent text read more s cut h.
-    outside_took (over handed (g.L.Link.handed c.args.link.now) sent (carried (g.L.Link.sent c.args.link.now) (g.L.Link.acts c.args.link.now))) text c.args.line.now read more c.args.self s c.in_ok-outside.field-0 h cut
+    outside_took (over handed (g.L.Link.handed c.args.link.now) sent (carried (g.L.Link.sent c.args.link.now) (g.L.Link.acts c.args.link.now))) text c.args.line.now read more c.args.self s c.outside.result h cut
     (λ l live e.
     let found : c.in_ok-event.field-0 ≡ Some l =
     c.in_ok-event.ensures.only l (subst (λ (x : Header). IsLineOf x c.args.line.now l) (sym h.kept.cluster) (text_of_line s.header c.args.line.now l live.line e)) live.free in
     let none = c.in_default.is in
-    absurd cc) c.in_ok-outside.ensures
+    absurd cc) c.outside.ensures
+
+pub returns-in_default-clause-kept : goal.returns-in_default-clause-kept
+returns-in_default-clause-kept g c = outside_kept c.args.self c.outside.result c.outside.ensures
+
+pub returns-in_default-clause-counts : goal.returns-in_default-clause-counts
+returns-in_default-clause-counts g c = outside_counts c.args.self.lines c.args.self c.outside.result c.outside.ensures
 
 pub returns-clause-took : goal.returns-clause-took
 returns-clause-took g c = IfOk-weaker c.take.result _ _ (λ f m. λ handed sent text read more s cut h.
@@ -39,10 +45,6 @@ returns-clause-took g c = IfOk-weaker c.take.result _ _ (λ f m. λ handed sent 
 
 pub returns-in_err-event-clause-broken : goal.returns-in_err-event-clause-broken
 returns-in_err-event-clause-broken g c = on_err c.from_residual.result (λ handed first text read more s cut h.
-    run_broken (over handed (g.L.Link.handed c.args.link.now) first (carried (g.L.Link.sent c.args.link.now) (g.L.Link.acts c.args.link.now))) text read (c.args.line.now ∷ more) c.args.self s h cut)
-
-pub returns-in_err-outside-clause-broken : goal.returns-in_err-outside-clause-broken
-returns-in_err-outside-clause-broken g c = on_err c.from_residual-in_err-outside.result (λ handed first text read more s cut h.
     run_broken (over handed (g.L.Link.handed c.args.link.now) first (carried (g.L.Link.sent c.args.link.now) (g.L.Link.acts c.args.link.now))) text read (c.args.line.now ∷ more) c.args.self s h cut)
 
 pub returns-clause-broken : goal.returns-clause-broken
