@@ -234,6 +234,3 @@ pub fn tango<S: Source, K: Sink, L: Link>(
         Err(NoMemory) => Status::NoMemory,
     }
 }
-
-#[cfg(test)]
-mod tests;

@@ -1,127 +1,112 @@
+//! Sessions of a node over links in memory.
+
+use crate::given::{ASKS, CLIENT, HEADER, SEQUENCER, comes, failing, joined};
 use std::alloc::Global;
 use std::test::Fail;
 use tg_base::{List, NoMemory, NodeId, Role};
-use tg_io::{MemLink, MemSink, MemSource, Sink, Status};
+use tg_io::{MemLink, MemSink, MemSource, Status};
 use tg_node::node;
 
-const HEADER: &str =
-    "cluster units 1 layouts 1 seqs 1 clients 3 limit 100\nchains u0\nobjects ctr0 ctr1\n";
+/// A session of a node with these pieces of text over a link: how it ends, what is written, and the link.
+fn session(
+    alloc: Global,
+    id: NodeId,
+    pieces: &[&str],
+    link: MemLink,
+) -> Result<(Status, MemSink, MemLink), NoMemory> {
+    let text = joined(alloc, pieces)?;
+    let source = MemSource::new(text, List::new(alloc));
+    let sink = MemSink::new(alloc, List::new(alloc));
+    Ok(over(alloc, id, source, sink, link))
+}
 
-// Client c0 asks sequencer s0, by its first request, for a position in the stream of ctr0.
-const ASKS: [u8; 31] = [
-    0x54, 0x50, 1, 3, 0, 0, 2, 0, 0, 0, 0, 0, 0, 0, 0, 0, 1, 0x32, 0, 0, 0, 0, 0, 0, 0, 1, 1, 1, 0,
-    0, 0,
-];
+// A session by itself, so that what its contract says is read in no other function.
+fn over(
+    alloc: Global,
+    id: NodeId,
+    source: MemSource,
+    sink: MemSink,
+    link: MemLink,
+) -> (Status, MemSink, MemLink) {
+    let mut source = source;
+    let mut sink = sink;
+    let mut link = link;
+    let status = node(alloc, id, &mut source, &mut sink, &mut link);
+    (status, sink, link)
+}
 
-fn text(alloc: Global, body: &str) -> Result<List<u8>, NoMemory> {
-    let mut list = List::new(alloc);
-    list.extend(HEADER.as_bytes())?;
-    list.extend(body.as_bytes())?;
-    Ok(list)
+/// The length of the only datagram that was sent, None where there were none or more.
+fn sent_length(link: &MemLink) -> Option<usize> {
+    match link.sent() {
+        [sent] => Some(sent.datagram.as_slice().len()),
+        _ => None,
+    }
+}
+
+/// Whether these bytes are the only datagram that was sent.
+fn sends(link: &MemLink, datagram: &[u8]) -> bool {
+    match link.sent() {
+        [sent] => sent.datagram.as_slice() == datagram,
+        _ => false,
+    }
 }
 
 #[test]
 fn a_sequencer_answers(rt: HostRuntime) -> Result<(), Fail> {
     let alloc = rt.alloc();
-    let mut source = MemSource::new(text(alloc, "wait 4\n")?, List::new(alloc));
-    let mut sink = MemSink::new(alloc, List::new(alloc));
-    let link = MemLink::new(alloc, List::new(alloc), List::new(alloc));
-    let id = NodeId {
-        role: Role::Seqr,
-        num: 0,
-    };
-    let mut datagram = List::new(alloc);
-    datagram.extend(&ASKS)?;
-    let mut link = link.inject(id, datagram)?;
-    let status = node(alloc, id, &mut source, &mut sink, &mut link);
-    assert_eq!(rt; status, Status::Done);
-    assert_eq!(rt; sink.written().len(), 0);
-    assert_eq!(rt; link.sent().len(), 1);
-    assert_eq!(rt; link.sent()[0].datagram.as_slice().len(), 64);
+    let link = comes(alloc, failing(alloc, &[])?, SEQUENCER, &ASKS)?;
+    let (status, sink, link) = session(alloc, SEQUENCER, &[HEADER, "wait 4\n"], link)?;
+    assert!(rt; status == Status::Done);
+    assert!(rt; sink.written().is_empty());
+    assert!(rt; sent_length(&link) == Some(64));
     Ok(())
 }
 
 #[test]
 fn a_client_asks(rt: HostRuntime) -> Result<(), Fail> {
     let alloc = rt.alloc();
-    let mut source = MemSource::new(text(alloc, "c0 update ctr0 add 5\n")?, List::new(alloc));
-    let mut sink = MemSink::new(alloc, List::new(alloc));
-    let mut link = MemLink::new(alloc, List::new(alloc), List::new(alloc));
-    let id = NodeId {
-        role: Role::Client,
-        num: 0,
-    };
-    let status = node(alloc, id, &mut source, &mut sink, &mut link);
-    assert_eq!(rt; status, Status::Done);
-    assert_eq!(rt;
-        sink.written(),
-        b"1 c0 1 begin\n1 c0 1 put ctr0 add 5\n1 c0 1 end\n".as_slice()
-    );
-    assert_eq!(rt; link.sent().len(), 1);
-    assert_eq!(rt; link.sent()[0].datagram.as_slice(), ASKS.as_slice());
+    let pieces = [HEADER, "c0 update ctr0 add 5\n"];
+    let (status, sink, link) = session(alloc, CLIENT, &pieces, failing(alloc, &[])?)?;
+    assert!(rt; status == Status::Done);
+    assert!(rt; sink.written() == b"1 c0 1 begin\n1 c0 1 put ctr0 add 5\n1 c0 1 end\n".as_slice());
+    assert!(rt; sends(&link, &ASKS));
     Ok(())
 }
 
 #[test]
 fn a_line_of_another_client(rt: HostRuntime) -> Result<(), Fail> {
     let alloc = rt.alloc();
-    let mut source = MemSource::new(
-        text(alloc, "tick\nc1 update ctr0 add 5\n")?,
-        List::new(alloc),
-    );
-    let mut sink = MemSink::new(alloc, List::new(alloc));
-    let mut link = MemLink::new(alloc, List::new(alloc), List::new(alloc));
-    let id = NodeId {
-        role: Role::Client,
-        num: 0,
-    };
-    let status = node(alloc, id, &mut source, &mut sink, &mut link);
-    assert_eq!(rt; status, Status::Script { line: 5 });
-    assert_eq!(rt; link.sent().len(), 0);
+    let pieces = [HEADER, "tick\nc1 update ctr0 add 5\n"];
+    let (status, _, link) = session(alloc, CLIENT, &pieces, failing(alloc, &[])?)?;
+    assert!(rt; status == Status::Script { line: 5 });
+    assert!(rt; link.sent().is_empty());
     Ok(())
 }
 
-// The line at which a client's header is refused, of which the second line is outside in any case; 0 where none is.
-fn refused(alloc: Global, num: u16) -> Result<u64, NoMemory> {
-    let mut lines = List::new(alloc);
-    lines.extend(
-        b"cluster units 1 layouts 1 seqs 1 clients 3 limit 100\nchains u1\nobjects ctr0\n",
-    )?;
-    let mut source = MemSource::new(lines, List::new(alloc));
-    let mut sink = MemSink::new(alloc, List::new(alloc));
-    let mut link = MemLink::new(alloc, List::new(alloc), List::new(alloc));
+/// How a session of a client ends with a header whose second line is outside in any case.
+fn refused(alloc: Global, num: u16) -> Result<Status, NoMemory> {
     let id = NodeId {
         role: Role::Client,
         num,
     };
-    match node(alloc, id, &mut source, &mut sink, &mut link) {
-        Status::Script { line } => Ok(line),
-        _ => Ok(0),
-    }
+    let lines = "cluster units 1 layouts 1 seqs 1 clients 3 limit 100\nchains u1\nobjects ctr0\n";
+    let (status, _, _) = session(alloc, id, &[lines], failing(alloc, &[])?)?;
+    Ok(status)
 }
 
 #[test]
 fn a_header_without_the_node(rt: HostRuntime) -> Result<(), Fail> {
-    let alloc = rt.alloc();
-    assert_eq!(rt; refused(alloc, 2)?, 2);
-    assert_eq!(rt; refused(alloc, 3)?, 1);
+    assert!(rt; refused(rt.alloc(), 2)? == Status::Script { line: 2 });
+    assert!(rt; refused(rt.alloc(), 3)? == Status::Script { line: 1 });
     Ok(())
 }
 
 #[test]
 fn a_link_that_fails(rt: HostRuntime) -> Result<(), Fail> {
     let alloc = rt.alloc();
-    let mut source = MemSource::new(text(alloc, "wait 1\n")?, List::new(alloc));
-    let mut sink = MemSink::new(alloc, List::new(alloc));
-    let mut fails = List::new(alloc);
-    fails.push(0)?;
-    let mut link = MemLink::new(alloc, List::new(alloc), fails);
-    let id = NodeId {
-        role: Role::Seqr,
-        num: 0,
-    };
-    let status = node(alloc, id, &mut source, &mut sink, &mut link);
-    assert_eq!(rt; status, Status::LinkFault);
-    assert_eq!(rt; sink.written().len(), 0);
+    let link = failing(alloc, &[0])?;
+    let (status, sink, _) = session(alloc, SEQUENCER, &[HEADER, "wait 1\n"], link)?;
+    assert!(rt; status == Status::LinkFault);
+    assert!(rt; sink.written().is_empty());
     Ok(())
 }

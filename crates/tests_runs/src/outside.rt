@@ -1,59 +1,57 @@
 //! Links in memory by their rules, and streams that fail.
 
-ghost use Rattle.std.specs.Prelude.{◌≡◌, IfOk};
-
+use crate::given::{CLIENT, SEQUENCER, calls, comes};
 use std::alloc::Global;
 use std::io;
 use std::io::{Error, ErrorKind, Read};
 use std::test::Fail;
-use tg_base::{List, NoMemory, NodeId, Role};
+use tg_base::{List, NoMemory, NodeId};
 use tg_io::{Datagram, IoErr, Link, MemLink, Reading, Rule, Source, Writing, write_all};
 
-const CLIENT: NodeId = NodeId {
-    role: Role::Client,
-    num: 0,
-};
+/// A link by four rules, of which the third call and the seventh fail.
+fn ruled(alloc: Global) -> Result<MemLink, NoMemory> {
+    let mut rules = List::new(alloc);
+    rules.extend(&[Rule::Keep, Rule::Lose, Rule::Twice, Rule::Late])?;
+    Ok(MemLink::new(alloc, rules, calls(alloc, &[2, 6])?))
+}
 
-const SEQUENCER: NodeId = NodeId {
-    role: Role::Seqr,
-    num: 0,
-};
+/// Sends a datagram of each byte below six, and returns whether the third send fails and no other.
+fn sends_six(link: &mut MemLink) -> bool {
+    let mut is_so = true;
+    for byte in 0..6u8 {
+        let failed = link.send(CLIENT, SEQUENCER, &[byte]).is_err();
+        is_so = is_so && failed == (byte == 2);
+    }
+    is_so
+}
 
-fn list_of<T: Copy + Drop>(alloc: Global, items: &[T]) -> Result<List<T>, NoMemory>
-    ensures { IfOk result (λ list. list ≡ items.now) }
-{
-    let mut list = List::new(alloc);
-    list.extend(items)?;
-    Ok(list)
+/// Whether the next datagram comes to this node and is this byte.
+fn hands(link: &mut MemLink, to: NodeId, byte: u8) -> bool {
+    let mut buf = [0u8; Datagram::MAX];
+    link.recv(&mut buf) == Ok(Some((to, 1))) && buf[0] == byte
+}
+
+/// How the next receive ends, and how many bytes come.
+fn handed(link: &mut MemLink) -> Result<Option<(NodeId, usize)>, IoErr> {
+    let mut buf = [0u8; Datagram::MAX];
+    link.recv(&mut buf)
 }
 
 #[test]
 fn a_link_follows_its_rules(rt: HostRuntime) -> Result<(), Fail> {
-    let alloc = rt.alloc();
-    let rules = [Rule::Keep, Rule::Lose, Rule::Twice, Rule::Late];
-    let mut link = MemLink::new(alloc, list_of(alloc, &rules)?, list_of(alloc, &[2, 6])?);
-    for byte in 0..6u8 {
-        let failed = link.send(CLIENT, SEQUENCER, &[byte]).is_err();
-        assert_eq!(rt; failed, byte == 2);
-    }
-    assert_eq!(rt; link.sent().len(), 5);
-    let link = link.inject(CLIENT, list_of(alloc, b"x")?)?;
-    let mut link = link;
-    let mut buf = [0u8; Datagram::MAX];
-    assert_eq!(rt; link.recv(&mut buf), Err(IoErr::Failed));
+    let mut link = ruled(rt.alloc())?;
+    assert!(rt; sends_six(&mut link));
+    assert!(rt; link.sent().len() == 5);
+    let mut link = comes(rt.alloc(), link, CLIENT, b"x")?;
+    assert!(rt; handed(&mut link) == Err(IoErr::Failed));
     // 0 is kept, 1 lost, 3 comes twice, 4 late, 5 is kept
-    for (to, byte) in [
-        (SEQUENCER, 0),
-        (SEQUENCER, 3),
-        (SEQUENCER, 3),
-        (SEQUENCER, 5),
-        (CLIENT, b'x'),
-        (SEQUENCER, 4),
-    ] {
-        assert_eq!(rt; link.recv(&mut buf), Ok(Some((to, 1))));
-        assert_eq!(rt; buf[0], byte);
-    }
-    assert_eq!(rt; link.recv(&mut buf), Ok(None));
+    assert!(rt; hands(&mut link, SEQUENCER, 0));
+    assert!(rt; hands(&mut link, SEQUENCER, 3));
+    assert!(rt; hands(&mut link, SEQUENCER, 3));
+    assert!(rt; hands(&mut link, SEQUENCER, 5));
+    assert!(rt; hands(&mut link, CLIENT, b'x'));
+    assert!(rt; hands(&mut link, SEQUENCER, 4));
+    assert!(rt; handed(&mut link) == Ok(None));
     Ok(())
 }
 
@@ -76,17 +74,23 @@ impl Read for Rough {
 }
 
 #[test]
-fn a_stream_fails_and_goes_on(rt: HostRuntime) -> Result<(), Fail> {
+fn a_stream_goes_on(rt: HostRuntime) -> Result<(), Fail> {
     let mut buf = [0u8; 2];
     let mut source = Reading::new(b"abc".as_slice());
-    assert_eq!(rt; source.read(&mut buf), Ok(2));
-    assert_eq!(rt; source.read(&mut buf), Ok(1));
-    assert_eq!(rt; buf.as_slice(), b"cb".as_slice());
-    let mut source = Reading::new(Rough { calls: 0 });
-    assert_eq!(rt; source.read(&mut buf), Ok(0));
-    assert_eq!(rt; source.read(&mut buf), Err(IoErr::Failed));
-    assert_eq!(rt; source.read(&mut buf), Ok(0));
+    assert!(rt; source.read(&mut buf) == Ok(2));
+    assert!(rt; source.read(&mut buf) == Ok(1));
+    assert!(rt; buf.as_slice() == b"cb".as_slice());
     let mut sink = Writing::new(io::sink());
-    assert_eq!(rt; write_all(&mut sink, b"ab"), Ok(()));
+    assert!(rt; write_all(&mut sink, b"ab") == Ok(()));
+    Ok(())
+}
+
+#[test]
+fn a_stream_fails(rt: HostRuntime) -> Result<(), Fail> {
+    let mut buf = [0u8; 2];
+    let mut source = Reading::new(Rough { calls: 0 });
+    assert!(rt; source.read(&mut buf) == Ok(0));
+    assert!(rt; source.read(&mut buf) == Err(IoErr::Failed));
+    assert!(rt; source.read(&mut buf) == Ok(0));
     Ok(())
 }

@@ -76,6 +76,7 @@ fn put_call(alloc: Global, word: &str, given: &str, out: &mut List<u8>) -> Resul
         "audit-read" => put_verdict(alloc, Fails::Read, given, out),
         "audit-write" => put_verdict(alloc, Fails::Write, given, out),
         "state" => put_object_row(alloc, given, out),
+        "no-words" => put_form(alloc, &[], out),
         "op" | "ask" | "answer" | "form" | "load" | "play" | "asked" | "unit" => {
             put_call_of_words(alloc, word, given, out)
         }
