@@ -1,7 +1,6 @@
 -- Lists of which each item is the same, but for the first ones.
 use Rattle.std.proofs.Common.{◌≡◌, ℕ, zero, suc, ◌+◌, ◌-◌, ◌*◌, ◌%◌, ◌^◌, ◌<◌, List, [], ◌∷◌, ◌++◌, length, refl, sym, ap, ◌∙◌, arith}
 use Rattle.std.proofs.Math.Nat.{suc-mul}
-use Rattle.std.proofs.lemmas.List.{append-nil}
 use Rattle.std.specs.Prelude.{replicate, slice_set, slice_index_or}
 
 at_seam : {A : Type 0} (i k : ℕ) (a b d : A) → slice_index_or (replicate i a ++ replicate (suc k) b) i d ≡ b
@@ -40,12 +39,6 @@ set_long (z ∷ zs) (suc i) x = ap suc (set_long zs i x)
 pub many_long : {A : Type 0} (n : ℕ) (a : A) → length (replicate n a) ≡ n
 many_long zero a = refl
 many_long (suc n) a = ap suc (many_long n a)
-
-none_left : (n : ℕ) → n - n ≡ 0
-none_left n = omega arith
-
-pub all_changed : {A : Type 0} (i n : ℕ) (a b : A) → i ≡ n → replicate i a ++ replicate (n - i) b ≡ replicate n a
-all_changed i n a b e = ap (λ j. replicate j a ++ replicate (n - j) b) e ∙ ap (λ k. replicate n a ++ replicate k b) (none_left n) ∙ append-nil (replicate n a)
 
 -- sums modulo 2^64
 

@@ -1,5 +1,5 @@
 -- Rows of ops, and what objects are after them.
-use Rattle.std.specs.Prelude.{ℕ, zero, suc, ◌*◌, ◌%◌, List, [], ◌∷◌, ◌++◌, Option, Some, None, ℤ, pos, codes, decimal}
+use Rattle.std.specs.Prelude.{ℕ, zero, suc, ◌*◌, ◌%◌, List, [], ◌∷◌, ◌++◌, None, ℤ, pos, codes, decimal}
 use Rattle.tg_cell.specs.Counters as counters
 use Rattle.tg_cell.specs.Registers as registers
 use Rattle.tg_map.specs.Maps as maps

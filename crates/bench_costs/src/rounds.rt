@@ -1,6 +1,6 @@
 //! So many rounds of a workload.
 
-ghost use Rattle.std.specs.Prelude.{◌≡◌, ◌*◌, ◌%◌, IfOk, IfSome};
+ghost use Rattle.std.specs.Prelude.{◌≡◌, IfOk, IfSome};
 ghost use Rattle.bench_costs.specs.Workloads.{told, total, AreWords};
 
 use crate::fault::Fault;

@@ -1,8 +1,8 @@
 //! Stores on a unit.
 
-ghost use Rattle.std.specs.Prelude.{ℕ, ◌≡◌, ◌+◌, ◌*◌, ◌%◌, ◌^◌, ◌≤◌, [], ◌∷◌, replicate, IfOk, OnOk};
+ghost use Rattle.std.specs.Prelude.{ℕ, ◌≡◌, ◌*◌, ◌%◌, ◌^◌, ◌≤◌, [], ◌∷◌, replicate, IfOk, OnOk};
 ghost use Rattle.tg_base.specs.declared.msg.Msg.TheVariants.{Write};
-ghost use Rattle.tg_protocol.specs.Units.{UnitState, new_unit, unit_step};
+ghost use Rattle.tg_protocol.specs.Units.{UnitState, new_unit};
 ghost use Rattle.bench_costs.specs.Stores.{held, is_held, sent};
 
 use crate::fault::Fault;

@@ -1,7 +1,6 @@
 -- Packets that are copied one by one.
-use Rattle.std.specs.Prelude.{◌≡◌, ℕ, zero, suc, ◌+◌, List, [], ◌∷◌, ◌++◌, take, slice_get, Option, Some, None, refl}
-use Rattle.std.proofs.Common.{sym, ap, ◌∙◌, arith}
-use Rattle.std.proofs.lemmas.List.{append-nil}
+use Rattle.std.specs.Prelude.{◌≡◌, ℕ, zero, suc, ◌+◌, List, [], ◌∷◌, ◌++◌, take, slice_get, Option, refl}
+use Rattle.std.proofs.Common.{ap, ◌∙◌, arith}
 use Rattle.tg_base.specs.declared.packet.Packet.{Packet}
 use Rattle.space_time.specs.Pictures.{copied}
 

@@ -1,6 +1,6 @@
 -- From what a line makes of a recording to what reading comes to.
-use Rattle.std.specs.Prelude.{◌≡◌, ℕ, ◌+◌, List, ◌∷◌, [], ◌++◌, length, Option, Some, None, Result, IfOk, IfSome, refl}
-use Rattle.std.proofs.Common.{sym, ap, subst, ◌∙◌}
+use Rattle.std.specs.Prelude.{◌≡◌, ℕ, ◌+◌, List, [], ◌++◌, Option, Some, None, Result, IfOk, IfSome, refl}
+use Rattle.std.proofs.Common.{sym, subst, ◌∙◌}
 use Rattle.tg_base.specs.Clusters.{Header, IsHeader}
 use Rattle.tg_base.specs.declared.fault.Which.{Which}
 use Rattle.tg_io.specs.declared.fault.IoErr.{IoErr}

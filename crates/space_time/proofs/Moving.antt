@@ -7,7 +7,7 @@ use Rattle.tg_picture.specs.declared.steps.Happening.{Happening}
 use Rattle.tg_picture.specs.declared.steps.Step.{Step}
 use Rattle.tg_protocol.specs.Runs.{Next, Takes, run as along}
 use Rattle.tg_protocol.specs.Worlds.{start, happens, next_event, trace}
-use Rattle.tg_world.specs.Kept.{KeptOf, KeepsWorld}
+use Rattle.tg_world.specs.Kept.{KeepsWorld}
 use Rattle.tg_world.proofs.Numbering.{none_begun}
 use Rattle.tg_any.specs.AllKinds.{all_kinds}
 use Rattle.tg_replay.specs.Runs.{Worlds}
@@ -53,10 +53,6 @@ steps_takes n (Next ∷ ms) e w =
     steps_takes (suc n) ms e (next_event all_kinds w)
     ∙ ap (λ (k : ℕ). steps_from (suc n) ms (next_event all_kinds w) ++ step_of k e (happens all_kinds (along all_kinds ms (next_event all_kinds w)) e) ∷ []) same
 steps_takes n (Takes d ∷ ms) e w = ap (λ (ss : List Step). step_of n d (happens all_kinds w d) ∷ ss) (steps_takes n ms e (happens all_kinds w d))
-
-no_lines : lines_of [] ≡ 0
-unfolding lines_of
-no_lines = refl
 
 abbrev step_at : ℕ → Happening → Worlds → Step
 step_at line h w = record { line = line; happening = h; sent = length w.packets; told = length (trace all_kinds w) }

@@ -1,5 +1,5 @@
 -- Several steps in a row, as far as the limits allow.
-use Rattle.std.specs.Prelude.{◌≡◌, ℕ, suc, ◌+◌, Option, Some, None, refl}
+use Rattle.std.specs.Prelude.{◌≡◌, Option, Some, None, refl}
 use Rattle.std.proofs.Common.{sym, ap, subst, ◌∙◌}
 use Rattle.tg_base.specs.declared.fault.Which.{Which}
 use Rattle.tg_model.specs.Kinds.{EventOf}

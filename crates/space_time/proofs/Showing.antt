@@ -1,5 +1,5 @@
 -- From a recording and its picture to what is written of a text.
-use Rattle.std.specs.Prelude.{◌≡◌, ◌⊎◌, ℕ, List, [], Option, Some, None, IfSome, refl}
+use Rattle.std.specs.Prelude.{◌≡◌, ℕ, List, [], Option, Some, None, IfSome}
 use Rattle.std.proofs.Common.{sym, ap, subst, ◌∙◌, inl, inr}
 use Rattle.tg_base.specs.Clusters.{Header}
 use Rattle.tg_io.specs.Bytes.{Takes}
@@ -12,9 +12,8 @@ use Rattle.tg_protocol.specs.Worlds.{start}
 use Rattle.tg_world.specs.Kept.{KeptOf, KeepsWorld}
 use Rattle.tg_any.specs.AllKinds.{all_kinds}
 use Rattle.tg_replay.specs.Outcomes.{Told}
-use Rattle.tg_replay.specs.Runs.{Worlds, Outcome, world_of}
+use Rattle.tg_replay.specs.Runs.{Worlds, world_of}
 use Rattle.tg_replay.specs.Stages.{Ends, Finished, status_of}
-use Rattle.tg_replay.specs.declared.stages.End.{End}
 use Rattle.tg_replay.specs.declared.stages.Finish.{Finish}
 use Rattle.space_time.specs.Pictures.{Says, AreAlike, IsPictured}
 use Rattle.space_time.specs.Records.{IsRecorded, steps_from}

@@ -1,6 +1,6 @@
 -- Ticks of nodes and rounds, as `tg_world` has them, by what the code tests.
 use Rattle.std.specs.Prelude.{◌≡◌, ℕ, zero, suc, ◌-◌, ◌≤◌, Bool, true, false, ◌==◌, List, [], ◌∷◌, length, take, drop, Option, Some, None, refl}
-use Rattle.std.proofs.Common.{sym, ap, subst, ◌∙◌, get_or, arith}
+use Rattle.std.proofs.Common.{sym, ap, ◌∙◌, get_or, arith}
 use Rattle.std.proofs.lemmas.Bool.Decides.{nat_tests}
 use Rattle.tg_play.proofs.Splitting.{split_first}
 use Rattle.tg_base.specs.declared.fault.Which.{Which}

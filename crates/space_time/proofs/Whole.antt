@@ -1,10 +1,9 @@
 -- All steps of a run together: the packets that came, and the replies that were told.
-use Rattle.std.specs.Prelude.{◌≡◌, ℕ, zero, suc, ◌+◌, ◌<◌, ◌≤◌, Bool, true, false, nat_lt, nat_le, List, [], ◌∷◌, ◌++◌, map, reverse, take, length, slice_get, Option, Some, None, is_some, if◌then◌else◌, refl}
-use Rattle.std.specs.List.{flat_map}
+use Rattle.std.specs.Prelude.{◌≡◌, ℕ, zero, suc, ◌+◌, ◌≤◌, Bool, true, false, nat_lt, nat_le, List, [], ◌∷◌, ◌++◌, map, reverse, take, length, slice_get, Option, Some, None, is_some, if◌then◌else◌, refl}
 use Rattle.std.proofs.Common.{sym, ap, subst, ◌∙◌, arith, append_assoc, length-append}
 use Rattle.std.proofs.lemmas.Bool.Decides.{nat_tests}
 use Rattle.std.proofs.lemmas.Grind.{flat_map-append}
-use Rattle.std.proofs.lemmas.List.{append-nil, map-append, reverse-append, take_all}
+use Rattle.std.proofs.lemmas.List.{append-nil, map-append, reverse-append}
 use Rattle.std.proofs.Math.Seq.{take-length}
 use Rattle.tg_base.specs.Clusters.{Header}
 use Rattle.tg_base.specs.declared.ids.NodeId.{NodeId}
@@ -14,7 +13,7 @@ use Rattle.tg_base.specs.declared.packet.Packet.{Packet}
 use Rattle.tg_model.specs.Kinds.{EventOf, CommandOf}
 use Rattle.tg_model.specs.declared.command.Event.TheVariants.{Command as Commands, Deliver, Lose, Tick, Stop}
 use Rattle.tg_picture.specs.Courses.{courses, course_at, course_in, course_by, course_of, came_before, delivery, listed, sent_by, sent_before, sent_in}
-use Rattle.tg_picture.specs.Replies.{told_from, told_before, told_by, told_in, tellings}
+use Rattle.tg_picture.specs.Replies.{told_from, told_before, told_by, told_in}
 use Rattle.tg_picture.specs.declared.picture.Reply.{Reply}
 use Rattle.tg_picture.specs.declared.steps.Happening.{Happening}
 use Rattle.tg_picture.specs.declared.steps.Happening.TheVariants.{Given, Came, Lost, Ticked, Stopped}
@@ -303,9 +302,6 @@ unfolding marks
 marks_append [] us rs = refl
 marks_append (t ∷ ts) us rs =
     ap (λ (ms : List Reply). mark_of t (slice_get rs t.reply) ++ ms) (marks_append ts us rs) ∙ sym (append_assoc (mark_of t (slice_get rs t.reply)) (marks ts rs) (marks us rs))
-
-lines_of_marks : List Reply → List (List ℕ)
-lines_of_marks ms = map (λ (r : Reply). r.line) ms
 
 one_more_line : (rs : List transcripts.Reply) (k : ℕ) (t : Telling) → map reply_text (take k rs) ++ map (λ (r : Reply). r.line) (mark_of t (slice_get rs k) ++ []) ≡ map reply_text (take (suc k) rs)
 one_more_line [] zero t = refl

@@ -1,6 +1,5 @@
 -- A recording of a run: the moves that were made, and the step that each of them was.
-use Rattle.std.specs.Prelude.{◌≡◌, ℕ, zero, suc, ◌+◌, List, [], ◌∷◌, length, Option, Some, None, option_map, IfSome}
-use Rattle.tg_base.specs.declared.fault.Which.{Which}
+use Rattle.std.specs.Prelude.{◌≡◌, ℕ, suc, ◌+◌, List, [], ◌∷◌, length, option_map, IfSome}
 use Rattle.tg_model.specs.Kinds.{EventOf}
 use Rattle.tg_model.specs.declared.command.Event.TheVariants.{Command as Commands, Deliver, Lose, Tick, Stop}
 use Rattle.tg_picture.specs.declared.steps.Happening.{Happening}

@@ -1,6 +1,6 @@
 //! The steps of one line of a script, as far as the limits allow.
 
-ghost use Rattle.std.specs.Prelude.{◌≡◌, IfOk};
+ghost use Rattle.std.specs.Prelude.{IfOk};
 ghost use Rattle.tg_model.specs.declared.command.Command.TheVariants as cmd;
 ghost use Rattle.tg_model.specs.declared.command.Event.TheVariants as events;
 ghost use Rattle.tg_protocol.specs.Worlds as seen;

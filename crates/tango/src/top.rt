@@ -1,6 +1,6 @@
 //! The top call: what the program does with words, a source, a sink and a link.
 
-ghost use Rattle.std.specs.Prelude.{◌≡◌, ◌≤◌, ◌⊎◌, ℕ, List, true, false, None, Some, map, IfSome, string_bytes};
+ghost use Rattle.std.specs.Prelude.{◌≡◌, ◌≤◌, ◌⊎◌, ℕ, true, false, None, Some, map, IfSome, string_bytes};
 ghost use Rattle.tg_base.specs.declared.fault.Clause.{Clause};
 ghost use Rattle.tg_base.specs.declared.fault.Which.{Which};
 ghost use Rattle.tg_base.specs.declared.ids.NodeId.{NodeId};

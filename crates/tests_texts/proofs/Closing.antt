@@ -45,10 +45,6 @@ count_all ps lines last n e len some =
     ap (λ (k : ℕ). texts (take k ps)) len ∙ ap (λ (x : List (Bor (List ℕ))). texts x) (take_all ps)
     ∙ ap (λ (x : List (Bor (List ℕ))). texts x) e ∙ map-append (λ (w : Bor (List ℕ)). w.now) lines (last ∷ []) ∙ ap (λ (x : List (List ℕ)). texts lines ++ x) (sym (some_line last.now some)) ∙ sym (whole_texts ps lines last e)
 
-pub count_none : (ps : List (Bor (List ℕ))) → length ps ≡ 0 → texts (take 0 ps) ≡ whole_lines (texts ps)
-count_none [] e = refl
-count_none (p ∷ ps) e = absurd (omega (arith, e))
-
 -- Printing.
 
 closed_pieces : (ps : List (List ℕ)) → closed_lines (whole_lines ps) ≡ join_with_byte 10 ps ++ missing_feed (last_piece ps)

@@ -84,11 +84,6 @@ script_printed lines h e =
 abbrev pub Declares : List (List ℕ) → Result Header TextFault → Type 0
 Declares lines r = (h : Header) → IsHeader h → lines ≡ header_lines h → MatchResult r (λ c. c ≡ h) (λ e. e ≡ fault.NoMemory)
 
--- where the header is outside
-pub header_refused : (lines : List (List ℕ)) (e : TextFault) → Declares (take 3 lines) (Err e) → OnOutside {A = List ℕ} (Err e) (λ _. AreScript lines → ⊥)
-header_refused lines fault.NoMemory only = tt
-header_refused lines (fault.Outside n) only = λ s. let same : fault.Outside n ≡ fault.NoMemory = only s.header s.lawful (front_is lines s.events s.header s.same) in absurd cc
-
 -- where an event is outside
 pub event_refused : (lines : List (List ℕ)) (h : Header) (e : TextFault) → Declares (take 3 lines) (Ok h) → OnOutside {A = Unit {0}} (Err e) (λ _. AreEventLines h (drop 3 lines) → ⊥) → OnOutside {A = List ℕ} (Err e) (λ _. AreScript lines → ⊥)
 event_refused lines h fault.NoMemory only bad = tt

@@ -1,4 +1,4 @@
-use Rattle.std.proofs.Common.{◌≡◌, ℕ, ◌+◌, ◌*◌, ◌%◌, ◌^◌, ap, ◌∙◌}
+use Rattle.std.proofs.Common.{◌≡◌, ◌*◌, ◌%◌, ◌^◌, ap, ◌∙◌}
 use Rattle.std.specs.Prelude.{replicate}
 use Rattle.bench_costs.specs.Stores.{stored, held, sent, is_held, position}
 use Rattle.bench_costs.proofs.Alike.{next, sum_of_many}

@@ -1,8 +1,8 @@
-use Rattle.std.proofs.Common.{◌≡◌, ℕ, ◌+◌, ◌-◌, ◌<◌, ◌*◌, ◌%◌, ◌^◌, ◌++◌, length, sym, ap, ◌∙◌, arith}
+use Rattle.std.proofs.Common.{◌≡◌, ℕ, ◌+◌, ◌-◌, ◌<◌, ◌%◌, ◌^◌, length, ap, ◌∙◌, arith}
 use Rattle.std.specs.Prelude.{replicate, slice_set}
 use Rattle.tg_protocol.specs.Units.{UnitState}
 use Rattle.bench_costs.specs.Stores.{sent, is_held}
-use Rattle.bench_costs.proofs.Alike.{item_to_come, one_more, set_twice, set_long, many_long, all_changed, sum_more}
+use Rattle.bench_costs.proofs.Alike.{item_to_come, one_more, set_twice, set_long, many_long, sum_more}
 use Rattle.bench_costs.proofs.stores.store_in_each.Goals as goal
 
 pub loop-at-preserved : goal.loop-at-preserved

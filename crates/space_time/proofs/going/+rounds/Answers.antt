@@ -1,7 +1,7 @@
-use Rattle.std.proofs.Common.{◌≡◌, ◌∙◌, ◌-◌, length, sym}
+use Rattle.std.proofs.Common.{◌∙◌, ◌-◌, sym}
 use Rattle.std.proofs.lemmas.Result.{IfOk-weaker}
 use Rattle.std.specs.Prelude.{None}
-use Rattle.tg_protocol.specs.Worlds.{ran, nodes, drain, tick_all, rounds, unless_stopped}
+use Rattle.tg_protocol.specs.Worlds.{ran, drain, tick_all, rounds, unless_stopped}
 use Rattle.tg_any.specs.AllKinds.{all_kinds}
 use Rattle.tg_replay.specs.Runs.{Worlds}
 use Rattle.space_time.proofs.Parts.{went, same, none, first, both}

@@ -1,7 +1,6 @@
 use Rattle.std.proofs.Common.{◌≡◌, ◌∙◌, length, sym, arith}
 use Rattle.std.proofs.lemmas.Result.{IfOk-weaker}
 use Rattle.std.specs.Prelude.{None, Some}
-use Rattle.tg_model.specs.declared.command.Event.TheVariants.{Tick}
 use Rattle.tg_play.proofs.Splitting.{split_none}
 use Rattle.tg_protocol.specs.Worlds.{ran, tick_all}
 use Rattle.tg_any.specs.AllKinds.{all_kinds}

@@ -1,5 +1,4 @@
 use Rattle.std.proofs.Common.{◌≡◌, ◌≤◌, ◌+◌, ◌-◌, ◌^◌, length, None, ap, refl, subst, arith}
-use Rattle.std.proofs.lemmas.Result.{IfOk-weaker}
 use Rattle.tg_lines.specs.Lines.{ahead}
 use Rattle.tg_lines.specs.Openings.{Opened, OnOpens}
 use Rattle.tg_lines.specs.declared.header.Opening.{Opening}

@@ -1,6 +1,5 @@
 use Rattle.std.proofs.Common.{◌≡◌, ◌⊎◌, ℕ, Some, map, string_bytes, IfSome}
 use Rattle.tg_base.specs.declared.fault.Which.{Which}
-use Rattle.tg_base.specs.declared.ids.NodeId.{NodeId}
 use Rattle.tg_io.specs.Bytes.{Takes}
 use Rattle.tg_io.specs.Faults.{Rose}
 use Rattle.tg_io.specs.declared.status.Status.TheVariants.{Done, Script, ReadFault, WriteFault, LinkFault, Limit, NoMemory}
