@@ -1,5 +1,5 @@
 -- The decided layouts are the same without packets that aren't votes.
-use Rattle.std.specs.Prelude.{◌≡◌, ◌≤◌, ℕ, zero, suc, ◌+◌, Bool, true, false, not, ◌&&◌, ◌||◌, ◌==◌, nat_lt, List, [], ◌∷◌, ◌++◌, take, drop, slice_get, Option, None, if◌then◌else◌, refl}
+use Rattle.std.specs.Prelude.{◌≡◌, ◌≤◌, ℕ, zero, suc, ◌+◌, Bool, true, false, not, ◌&&◌, ◌||◌, nat_lt, List, [], ◌∷◌, ◌++◌, take, drop, slice_get, Option, None, if◌then◌else◌, refl}
 use Rattle.std.specs.List.{list_any}
 use Rattle.std.proofs.Common.{sym, ap, ◌∙◌, arith}
 use Rattle.std.proofs.lemmas.Bool.Decides.{nat_tests}
@@ -16,7 +16,6 @@ use Rattle.tg_protocol.specs.Words.{layout_id, where_true}
 use Rattle.tg_picture.specs.Bands.{decision_of, decision_at, epoch_after}
 use Rattle.tg_picture.specs.Courses.{sent_by, sent_before}
 use Rattle.tg_picture.specs.Quiet.{is_vote, is_quiet}
-use Rattle.tg_picture.specs.declared.fences.Band.{Band}
 use Rattle.tg_picture.specs.declared.steps.Step.{Step}
 
 abbrev has_vote : List Packet → Bool

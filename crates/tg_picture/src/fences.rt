@@ -1,6 +1,6 @@
 //! Seals and new epochs.
 
-ghost use Rattle.std.specs.Prelude.{◌≡◌, ◌++◌, length, take, drop, slice_get, option_copied, IfOk, OnOk};
+ghost use Rattle.std.specs.Prelude.{◌≡◌, ◌++◌, length, take, drop, slice_get, IfOk, OnOk};
 ghost use Rattle.std.specs.List.{list_any};
 ghost use Rattle.tg_picture.specs.Bands as seen;
 ghost use Rattle.tg_picture.specs.Bands.{seal_of, seal_in, seal_at, seals, decision_of, decision_at, decisions, listed};

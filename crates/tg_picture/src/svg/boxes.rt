@@ -2,7 +2,7 @@
 
 ghost use Rattle.std.specs.Prelude.{◌≡◌, ◌++◌, IfOk, OnOk};
 ghost use Rattle.tg_picture.specs.Elements as seen;
-ghost use Rattle.tg_picture.specs.Elements.{box_text, boxes_text, box_rows, place_of, next_place, head_text, whole_text, standing_word, box_class, label_text};
+ghost use Rattle.tg_picture.specs.Elements.{box_text, boxes_text, box_rows, place_of, next_place, head_text, whole_text, standing_word, box_class};
 
 use crate::svg::tags::{LETTER, open_rect, put_label, put_title};
 use crate::{LogBox, Standing};

@@ -1,7 +1,6 @@
 //! Pieces of an SVG's text.
 
-ghost use Rattle.std.specs.Prelude.{◌≡◌, ◌++◌, decimal, OnOk};
-ghost use Rattle.std.specs.List.{flat_map};
+ghost use Rattle.std.specs.Prelude.{◌≡◌, ◌++◌, OnOk};
 ghost use Rattle.tg_picture.specs.Elements.{letter, escaped, short, numbered, worded, line_text, cross_text, title_text, title_if, label_text, rect_text};
 
 use tg_any::put_number;

@@ -1,9 +1,8 @@
 //! The positions of the log.
 
-ghost use Rattle.std.specs.Prelude.{◌≡◌, ◌++◌, ◌==◌, List, map, nat_lt, IfOk, OnOk};
-ghost use Rattle.std.specs.List.{list_any};
+ghost use Rattle.std.specs.Prelude.{◌≡◌, ◌++◌, ◌==◌, List, map, IfOk, OnOk};
 ghost use Rattle.tg_protocol.specs.Pages.{entry_in};
-ghost use Rattle.tg_picture.specs.Standings.{decided, decided_by, decided_if, is_in, is_done, record_standing, lacks_decision, standing, said, said_of, gone_by, gone_below};
+ghost use Rattle.tg_picture.specs.Standings.{decided, decided_if, is_in, is_done, record_standing, lacks_decision, standing, said, said_of, gone_by, gone_below};
 
 use crate::words::entries::{put_author, put_entry};
 use crate::{LogBox, Standing};
