@@ -51,9 +51,11 @@ pub fn picture_of(
         upto,
     )?;
     let boxes = log_of(alloc, world, packets.as_slice())?;
-    let lanes = lanes_of(alloc, &recording.run.cluster, steps)?;
-    let moments = moments_of(alloc, recording.lines.as_slice(), steps, from, upto)?;
-    let notes = notes_of(alloc, recording, end, from, upto)?;
+    let Frame {
+        lanes,
+        moments,
+        notes,
+    } = frame_of(alloc, recording, end, from, upto)?;
     Ok(Picture {
         lanes,
         first: from as u64,
@@ -62,6 +64,32 @@ pub fn picture_of(
         replies,
         bands,
         boxes,
+        notes,
+    })
+}
+
+// What of a picture no clause speaks of.
+#[derive(Drop)]
+struct Frame {
+    lanes: List<(NodeId, Option<u64>)>,
+    moments: List<Moment>,
+    notes: List<List<u8>>,
+}
+
+fn frame_of(
+    alloc: Global,
+    recording: &Recording,
+    end: End,
+    from: usize,
+    upto: usize,
+) -> Result<Frame, NoMemory> {
+    let steps = recording.steps.as_slice();
+    let lanes = lanes_of(alloc, &recording.run.cluster, steps)?;
+    let moments = moments_of(alloc, recording.lines.as_slice(), steps, from, upto)?;
+    let notes = notes_of(alloc, recording, end, from, upto)?;
+    Ok(Frame {
+        lanes,
+        moments,
         notes,
     })
 }
@@ -204,11 +232,7 @@ fn moment_of(
         None => (0, 0, 0),
         Some(before) => (before.line, before.sent, before.told),
     };
-    let begins = if step.line == line {
-        None
-    } else {
-        Some(line_text(alloc, lines, step.line)?)
-    };
+    let begins = begun_line(alloc, lines, line, step.line)?;
     let brings = step.sent != sent || step.told != told;
     Ok(Moment {
         line: step.line,
@@ -217,6 +241,19 @@ fn moment_of(
         node: node_of(step.happening),
         replies: step.told.saturating_sub(told),
     })
+}
+
+// The text of the line to which a step belongs, unless the step before it belongs to it too.
+fn begun_line(
+    alloc: Global,
+    lines: &[List<u8>],
+    before: u64,
+    line: u64,
+) -> Result<Option<List<u8>>, NoMemory> {
+    if line == before {
+        return Ok(None);
+    }
+    Ok(Some(line_text(alloc, lines, line)?))
 }
 
 fn is_tick(happening: Happening) -> bool {
@@ -363,35 +400,47 @@ fn notes_of(
     upto: usize,
 ) -> Result<List<List<u8>>, NoMemory> {
     let mut notes = List::new(alloc);
-    let all = recording.steps.len();
-    if from > 0 || upto < all {
-        let mut note = List::new(alloc);
-        put_left_out(recording, from, upto, &mut note)?;
-        notes.push(note)?;
+    if from > 0 || upto < recording.steps.len() {
+        notes.push(left_out_note(alloc, recording, from, upto)?)?;
     }
     match end {
         End::Whole => {}
-        End::Outside { line } => {
-            let mut note = List::new(alloc);
-            note.extend(b"Line ")?;
-            put_number(line, &mut note)?;
-            note.extend(
-                b" of the script is outside its grammar, or can't come there; what is drawn is the run before it.",
-            )?;
-            notes.push(note)?;
-        }
-        End::Limited { which } => {
-            let mut note = List::new(alloc);
-            note.extend(b"A limit stopped the run: ")?;
-            note.extend(match which {
-                Which::Steps => b"steps.",
-                Which::Bytes => b"bytes of packets.",
-                Which::Datagrams => b"datagrams.",
-            })?;
-            notes.push(note)?;
-        }
+        End::Outside { line } => notes.push(outside_note(alloc, line)?)?,
+        End::Limited { which } => notes.push(limit_note(alloc, which)?)?,
     }
     Ok(notes)
+}
+
+fn outside_note(alloc: Global, line: u64) -> Result<List<u8>, NoMemory> {
+    let mut note = List::new(alloc);
+    note.extend(b"Line ")?;
+    put_number(line, &mut note)?;
+    note.extend(
+        b" of the script is outside its grammar, or can't come there; what is drawn is the run before it.",
+    )?;
+    Ok(note)
+}
+
+fn limit_note(alloc: Global, which: Which) -> Result<List<u8>, NoMemory> {
+    let mut note = List::new(alloc);
+    note.extend(b"A limit stopped the run: ")?;
+    note.extend(match which {
+        Which::Steps => b"steps.",
+        Which::Bytes => b"bytes of packets.",
+        Which::Datagrams => b"datagrams.",
+    })?;
+    Ok(note)
+}
+
+fn left_out_note(
+    alloc: Global,
+    recording: &Recording,
+    from: usize,
+    upto: usize,
+) -> Result<List<u8>, NoMemory> {
+    let mut note = List::new(alloc);
+    put_left_out(recording, from, upto, &mut note)?;
+    Ok(note)
 }
 
 fn put_left_out(
@@ -406,6 +455,19 @@ fn put_left_out(
     note.extend(b" of ")?;
     put_number(steps.len(), note)?;
     note.extend(b" steps")?;
+    put_span(steps, from, upto, note)?;
+    note.extend(b" of ")?;
+    put_number(recording.lines.len(), note)?;
+    note.extend(b". The others are left out; the log is that at the end of the run.")
+}
+
+// The event lines of the first step that is drawn and of the last, where any is.
+fn put_span(
+    steps: &[Step],
+    from: usize,
+    upto: usize,
+    note: &mut List<u8>,
+) -> Result<(), NoMemory> {
     if from < upto
         && let Some(first) = steps.get(from)
         && let Some(last) = steps.get(upto - 1)
@@ -415,7 +477,5 @@ fn put_left_out(
         note.extend(b" to ")?;
         put_number(last.line, note)?;
     }
-    note.extend(b" of ")?;
-    put_number(recording.lines.len(), note)?;
-    note.extend(b". The others are left out; the log is that at the end of the run.")
+    Ok(())
 }
