@@ -2,7 +2,7 @@
 
 use std::alloc::Global;
 use tg_any::{AnyKind, put_number, put_object, spell_op};
-use tg_base::{List, NoMemory};
+use tg_base::{List, NoMemory, ReadMark};
 use tg_entry::{Body, Entry, WriteOp};
 use tg_play::op_of;
 
@@ -23,13 +23,7 @@ pub fn put_entry(alloc: Global, entry: &Entry, out: &mut List<u8>) -> Result<(),
     match &entry.body {
         Body::Commit { reads, writes } => {
             put_writes(alloc, writes.as_slice(), out)?;
-            for read in reads.as_slice() {
-                out.extend(b"; read ")?;
-                put_object(read.oid, out)?;
-                out.extend(b" at version ")?;
-                put_number(read.version, out)?;
-            }
-            Ok(())
+            put_reads(reads.as_slice(), out)
         }
         Body::Decision { at, yes } => {
             put_number(*at, out)?;
@@ -53,10 +47,24 @@ fn put_writes(alloc: Global, writes: &[WriteOp], out: &mut List<u8>) -> Result<(
         first = false;
         put_object(write.oid, out)?;
         out.push(b' ')?;
-        match op_of::<AnyKind>(alloc, write)? {
-            Some(op) => spell_op(alloc, &op, out)?,
-            None => out.extend(b"no op")?,
-        }
+        put_op(alloc, write, out)?;
+    }
+    Ok(())
+}
+
+fn put_op(alloc: Global, write: &WriteOp, out: &mut List<u8>) -> Result<(), NoMemory> {
+    match op_of::<AnyKind>(alloc, write)? {
+        Some(op) => spell_op(alloc, &op, out),
+        None => out.extend(b"no op"),
+    }
+}
+
+fn put_reads(reads: &[ReadMark], out: &mut List<u8>) -> Result<(), NoMemory> {
+    for read in reads {
+        out.extend(b"; read ")?;
+        put_object(read.oid, out)?;
+        out.extend(b" at version ")?;
+        put_number(read.version, out)?;
     }
     Ok(())
 }

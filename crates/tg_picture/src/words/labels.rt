@@ -5,45 +5,57 @@ use tg_base::{Cell, List, Msg, NoMemory};
 
 /// Puts a message's short label: its word, and the number that it is most about.
 pub fn put_label(msg: &Msg, out: &mut List<u8>) -> Result<(), NoMemory> {
-    match msg {
-        Msg::Read { pos, .. } => numbered(b"read ", *pos, out),
-        Msg::Write { pos, .. } => numbered(b"write ", *pos, out),
-        Msg::Fill { pos, .. } => numbered(b"fill ", *pos, out),
-        Msg::Copy { pos, .. } => numbered(b"copy ", *pos, out),
-        Msg::Has { hi, .. } => numbered(b"has below ", *hi, out),
-        Msg::Seal { epoch } => numbered(b"seal ", *epoch, out),
-        Msg::Trim { below, .. } => numbered(b"trim ", *below, out),
-        Msg::Held => out.extend(b"held"),
-        Msg::Taken { cell } => out.extend(match cell {
-            Cell::Junk => b"taken junk",
-            Cell::Data(_) => b"taken",
-        }),
-        Msg::Unwritten => out.extend(b"unwritten"),
-        Msg::Gone { below } => numbered(b"gone ", *below, out),
-        Msg::Fenced { epoch } => numbered(b"fenced ", *epoch, out),
-        Msg::Sealed { epoch, .. } => numbered(b"sealed ", *epoch, out),
-        Msg::Missing { pos } => numbered(b"missing ", *pos, out),
-        Msg::Whole => out.extend(b"whole"),
-        Msg::Prepare { epoch, .. } => numbered(b"prepare ", *epoch, out),
-        Msg::Accept { epoch, .. } => numbered(b"accept ", *epoch, out),
-        Msg::Decided { proj } => numbered(b"decided ", proj.epoch, out),
-        Msg::AskLatest => out.extend(b"latest?"),
-        Msg::Promise { epoch, .. } => numbered(b"promise ", *epoch, out),
-        Msg::Nack { epoch, .. } => numbered(b"nack ", *epoch, out),
-        Msg::Accepted { epoch, .. } => numbered(b"accepted ", *epoch, out),
-        Msg::Latest { proj } => numbered(b"latest ", proj.epoch, out),
-        Msg::Learn { proj } => numbered(b"learn ", proj.epoch, out),
-        Msg::Token { .. } => out.extend(b"token"),
-        Msg::Check { .. } => out.extend(b"check"),
-        Msg::Issued { pos, .. } => numbered(b"issued ", *pos, out),
-        Msg::Tail { tail, .. } => numbered(b"tail ", *tail, out),
-        Msg::Scanning { next, .. } => numbered(b"scanning ", *next, out),
-        Msg::OldEpoch { epoch } => numbered(b"old epoch ", *epoch, out),
-        Msg::Full { limit } => numbered(b"full ", *limit, out),
+    let (word, number) = label_of(msg);
+    out.extend(word)?;
+    match number {
+        None => Ok(()),
+        Some(number) => {
+            out.push(b' ')?;
+            put_number(number, out)
+        }
     }
 }
 
-fn numbered(word: &[u8], number: u64, out: &mut List<u8>) -> Result<(), NoMemory> {
-    out.extend(word)?;
-    put_number(number, out)
+// A message's word, and the number that it is most about.
+fn label_of(msg: &Msg) -> (&'static [u8], Option<u64>) {
+    match msg {
+        Msg::Read { pos, .. } => (b"read", Some(*pos)),
+        Msg::Write { pos, .. } => (b"write", Some(*pos)),
+        Msg::Fill { pos, .. } => (b"fill", Some(*pos)),
+        Msg::Copy { pos, .. } => (b"copy", Some(*pos)),
+        Msg::Has { hi, .. } => (b"has below", Some(*hi)),
+        Msg::Seal { epoch } => (b"seal", Some(*epoch)),
+        Msg::Trim { below, .. } => (b"trim", Some(*below)),
+        Msg::Held => (b"held", None),
+        Msg::Taken { cell } => (taken(cell), None),
+        Msg::Unwritten => (b"unwritten", None),
+        Msg::Gone { below } => (b"gone", Some(*below)),
+        Msg::Fenced { epoch } => (b"fenced", Some(*epoch)),
+        Msg::Sealed { epoch, .. } => (b"sealed", Some(*epoch)),
+        Msg::Missing { pos } => (b"missing", Some(*pos)),
+        Msg::Whole => (b"whole", None),
+        Msg::Prepare { epoch, .. } => (b"prepare", Some(*epoch)),
+        Msg::Accept { epoch, .. } => (b"accept", Some(*epoch)),
+        Msg::Decided { proj } => (b"decided", Some(proj.epoch)),
+        Msg::AskLatest => (b"latest?", None),
+        Msg::Promise { epoch, .. } => (b"promise", Some(*epoch)),
+        Msg::Nack { epoch, .. } => (b"nack", Some(*epoch)),
+        Msg::Accepted { epoch, .. } => (b"accepted", Some(*epoch)),
+        Msg::Latest { proj } => (b"latest", Some(proj.epoch)),
+        Msg::Learn { proj } => (b"learn", Some(proj.epoch)),
+        Msg::Token { .. } => (b"token", None),
+        Msg::Check { .. } => (b"check", None),
+        Msg::Issued { pos, .. } => (b"issued", Some(*pos)),
+        Msg::Tail { tail, .. } => (b"tail", Some(*tail)),
+        Msg::Scanning { next, .. } => (b"scanning", Some(*next)),
+        Msg::OldEpoch { epoch } => (b"old epoch", Some(*epoch)),
+        Msg::Full { limit } => (b"full", Some(*limit)),
+    }
+}
+
+fn taken(cell: &Cell) -> &'static [u8] {
+    match cell {
+        Cell::Junk => b"taken junk",
+        Cell::Data(_) => b"taken",
+    }
 }

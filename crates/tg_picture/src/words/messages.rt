@@ -6,7 +6,9 @@ use crate::words::labels::put_label;
 use crate::words::layouts::put_layout;
 use std::alloc::Global;
 use tg_any::{put_number, put_object};
-use tg_base::{Ballot, Blob, Cell, Epoch, List, Msg, NoMemory, Oid, Packet, StreamLink};
+use tg_base::{
+    Ballot, Blob, Cell, Epoch, List, Msg, NoMemory, Oid, Packet, Pos, Projection, StreamLink,
+};
 use tg_entry::{EntryFault, decode};
 
 /// Puts a packet in words: its number, its nodes, its request's number and its message with all fields.
@@ -16,17 +18,20 @@ pub fn put_packet(
     packet: &Packet,
     out: &mut List<u8>,
 ) -> Result<(), NoMemory> {
-    out.extend(b"packet ")?;
-    put_number(number, out)?;
-    out.extend(b", ")?;
-    put_name(packet.from, out)?;
-    out.extend(b" to ")?;
-    put_name(packet.to, out)?;
-    out.extend(b", number ")?;
-    put_number(packet.rid, out)?;
+    counted(b"packet ", number, out)?;
+    put_way(packet, out)?;
+    counted(b", number ", packet.rid, out)?;
     out.extend(b": ")?;
     put_label(&packet.msg, out)?;
     put_fields(alloc, &packet.msg, out)
+}
+
+// Puts a packet's nodes.
+fn put_way(packet: &Packet, out: &mut List<u8>) -> Result<(), NoMemory> {
+    out.extend(b", ")?;
+    put_name(packet.from, out)?;
+    out.extend(b" to ")?;
+    put_name(packet.to, out)
 }
 
 // Puts the fields that a label lacks.
@@ -55,34 +60,59 @@ fn put_fields(alloc: Global, msg: &Msg, out: &mut List<u8>) -> Result<(), NoMemo
         }
         Msg::Taken { cell } => put_cell(alloc, cell, out),
         Msg::Sealed { high, .. } => counted(b", written below ", *high, out),
+        _ => put_vote(msg, out),
+    }
+}
+
+// Puts those of what is said of layouts.
+fn put_vote(msg: &Msg, out: &mut List<u8>) -> Result<(), NoMemory> {
+    match msg {
         Msg::Prepare { ballot, .. } | Msg::Nack { ballot, .. } | Msg::Accepted { ballot, .. } => {
             put_ballot(*ballot, out)
         }
-        Msg::Accept { ballot, proj, .. } => {
-            put_ballot(*ballot, out)?;
-            out.extend(b", ")?;
-            put_layout(proj, out)
-        }
+        Msg::Accept { ballot, proj, .. } => put_proposal(*ballot, proj, out),
         Msg::Promise {
             ballot,
             accepted,
             ..
         } => {
             put_ballot(*ballot, out)?;
-            match accepted {
-                None => out.extend(b", nothing accepted"),
-                Some((by, proj)) => {
-                    out.extend(b", accepted")?;
-                    put_ballot(*by, out)?;
-                    out.extend(b", ")?;
-                    put_layout(proj, out)
-                }
-            }
+            put_accepted(accepted, out)
         }
         Msg::Decided { proj } | Msg::Latest { proj } | Msg::Learn { proj } => {
             out.extend(b", ")?;
             put_layout(proj, out)
         }
+        _ => put_issue(msg, out),
+    }
+}
+
+fn put_accepted(
+    accepted: &Option<(Ballot, Projection)>,
+    out: &mut List<u8>,
+) -> Result<(), NoMemory> {
+    match accepted {
+        None => out.extend(b", nothing accepted"),
+        Some((by, proj)) => {
+            out.extend(b", accepted")?;
+            put_proposal(*by, proj, out)
+        }
+    }
+}
+
+fn put_proposal(
+    ballot: Ballot,
+    proj: &Projection,
+    out: &mut List<u8>,
+) -> Result<(), NoMemory> {
+    put_ballot(ballot, out)?;
+    out.extend(b", ")?;
+    put_layout(proj, out)
+}
+
+// Puts those of what is said with a sequencer.
+fn put_issue(msg: &Msg, out: &mut List<u8>) -> Result<(), NoMemory> {
+    match msg {
         Msg::Token { epoch, oids } | Msg::Check { epoch, oids } => {
             in_epoch(*epoch, out)?;
             put_streams(oids.as_slice(), out)
@@ -148,12 +178,17 @@ fn put_links(links: &[StreamLink], out: &mut List<u8>) -> Result<(), NoMemory> {
         out.extend(b", ")?;
         put_object(link.oid, out)?;
         out.extend(b" last at")?;
-        if link.backs.as_slice().is_empty() {
-            out.extend(b" none")?;
-        }
-        for pos in link.backs.as_slice() {
-            counted(b" ", *pos, out)?;
-        }
+        put_backs(link.backs.as_slice(), out)?;
+    }
+    Ok(())
+}
+
+fn put_backs(backs: &[Pos], out: &mut List<u8>) -> Result<(), NoMemory> {
+    if backs.is_empty() {
+        out.extend(b" none")?;
+    }
+    for pos in backs {
+        counted(b" ", *pos, out)?;
     }
     Ok(())
 }
