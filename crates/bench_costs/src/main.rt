@@ -34,6 +34,7 @@ mod workload;
 
 use crate::fault::Fault;
 use crate::task::Task;
+use std::alloc::Global;
 use std::io;
 use std::process::ExitCode;
 
@@ -42,30 +43,34 @@ fn main(rt: HostRuntime) -> io::Result<ExitCode> {
     let alloc = rt.alloc();
     let words: Vec<String> = std::env::args(&rt)?.skip(1).collect(alloc)?;
     for asked in words.as_slice().split(|word| word.as_str() == "+") {
-        let fault = match Task::of(asked) {
-            None => Fault::Words,
-            Some(Task::Answers) => match replay::answers(alloc) {
-                Ok(answers) => {
-                    println!(rt; "ctr {}", answers.counter)?;
-                    println!(rt; "reg {}", answers.register)?;
-                    println!(rt; "map {}", answers.map)?;
-                    println!(rt; "list {}", answers.list)?;
-                    println!(rt; "tree {}", answers.tree)?;
-                    println!(rt; "set {}", answers.set)?;
-                    continue;
-                }
-                Err(fault) => fault,
-            },
-            Some(Task::Timed(timed)) => match timed.number(alloc) {
-                Ok(number) => {
-                    println!(rt; "{number}")?;
-                    continue;
-                }
-                Err(fault) => fault,
-            },
-        };
-        eprintln!(rt; "bench_costs: {fault}")?;
-        return Ok(ExitCode::FAILURE);
+        match told(alloc, asked) {
+            Ok(lines) => println!(rt; "{lines}")?,
+            Err(fault) => {
+                eprintln!(rt; "bench_costs: {fault}")?;
+                return Ok(ExitCode::FAILURE);
+            }
+        }
     }
     Ok(ExitCode::SUCCESS)
+}
+
+/// What is printed of the task that words ask for.
+fn told(alloc: Global, asked: &[String]) -> Result<String, Fault> {
+    match Task::of(asked) {
+        None => Err(Fault::Words),
+        Some(Task::Answers) => answers(alloc),
+        Some(Task::Timed(timed)) => {
+            let number = timed.number(alloc)?;
+            Ok(format!(in alloc; "{number}")?)
+        }
+    }
+}
+
+// A line for each kind.
+fn answers(alloc: Global) -> Result<String, Fault> {
+    let answers = replay::answers(alloc)?;
+    Ok(format!(in alloc;
+        "ctr {}\nreg {}\nmap {}\nlist {}\ntree {}\nset {}",
+        answers.counter, answers.register, answers.map, answers.list, answers.tree, answers.set
+    )?)
 }

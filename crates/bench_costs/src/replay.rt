@@ -118,8 +118,8 @@ fn set(alloc: Global) -> Result<bool, Fault>
 }
 
 // A text that may be missing, as an answer.
-fn shown(alloc: Global, text: &Option<Text>) -> Result<String, Fault>
-    ensures { IfOk result (λ s. string_bytes s ≡ shown text.now) }
+fn shown(alloc: Global, text: Option<Text>) -> Result<String, Fault>
+    ensures { IfOk result (λ s. string_bytes s ≡ shown text) }
 {
     match text {
         None => Ok(String::from_str(alloc, "none")?),
@@ -157,10 +157,10 @@ pub fn answers(alloc: Global) -> Result<Lines, Fault>
     ensures set { IfOk result (λ a. a.set.now ≡ yes_or_no true) }
 {
     let counter = counter(alloc)?;
-    let register = shown(alloc, &register(alloc)?)?;
-    let map = shown(alloc, &map(alloc)?)?;
-    let list = shown(alloc, &list(alloc)?)?;
-    let tree = shown(alloc, &tree(alloc)?)?;
+    let register = shown(alloc, register(alloc)?)?;
+    let map = shown(alloc, map(alloc)?)?;
+    let list = shown(alloc, list(alloc)?)?;
+    let tree = shown(alloc, tree(alloc)?)?;
     let set = yes_or_no(set(alloc)?);
     Ok(Lines {
         counter,

@@ -15,16 +15,21 @@ use tg_io::{Reading, Status, Writing};
 
 /// Runs the program on the standard streams. It ends with the status, and says on standard error why a run wasn't done.
 fn main(rt: HostRuntime) -> io::Result<ExitCode> {
-    let alloc = rt.alloc();
-    let status = match std::env::args(&rt) {
+    let status = status_of(&rt);
+    // Where there is no memory for the line, or it can't be written, the status alone tells.
+    if let Ok(Some(line)) = status.says(rt.alloc()) {
+        let _ = eprintln!(rt; "{line}");
+    }
+    Ok(ExitCode::from(status.code()))
+}
+
+/// The status with which a run of the program ends.
+fn status_of(rt: &HostRuntime) -> Status {
+    match std::env::args(rt) {
         Ok(all) => {
-            let words: Result<Vec<String>, _> = all.skip(1).collect(alloc);
+            let words: Result<Vec<String>, _> = all.skip(1).collect(rt.alloc());
             match words {
-                Ok(words) => {
-                    let mut source = Reading::new(rt.stdin());
-                    let mut sink = Writing::new(rt.stdout());
-                    top::space_time(alloc, words.as_slice(), &mut source, &mut sink)
-                }
+                Ok(words) => run(rt, words.as_slice()),
                 Err(_) => Status::NoMemory,
             }
         }
@@ -33,10 +38,11 @@ fn main(rt: HostRuntime) -> io::Result<ExitCode> {
             // A word that isn't UTF-8 is in no form.
             _ => Status::Words,
         },
-    };
-    // Where there is no memory for the line, or it can't be written, the status alone tells.
-    if let Ok(Some(line)) = status.says(alloc) {
-        let _ = eprintln!(rt; "{line}");
     }
-    Ok(ExitCode::from(status.code()))
+}
+
+fn run(rt: &HostRuntime, words: &[String]) -> Status {
+    let mut source = Reading::new(rt.stdin());
+    let mut sink = Writing::new(rt.stdout());
+    top::space_time(rt.alloc(), words, &mut source, &mut sink)
 }

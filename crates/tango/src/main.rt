@@ -12,22 +12,23 @@ use tg_base::NoMemory;
 use tg_io::{Reading, Status, Writing};
 use tg_link_udp::UdpLink;
 
-/// Runs the program on the standard streams and, where packets go over a link, on UDP sockets of this machine. It ends
-/// with the status, and says on standard error why a run wasn't done.
+/// Runs the program. It ends with the status, and says on standard error why a run wasn't done.
 fn main(rt: HostRuntime) -> io::Result<ExitCode> {
-    let alloc = rt.alloc();
-    let status = match std::env::args(&rt) {
+    let status = status_of(&rt);
+    // Where there is no memory for the line, or it can't be written, the status alone tells.
+    if let Ok(Some(line)) = status.says(rt.alloc()) {
+        let _ = eprintln!(rt; "{line}");
+    }
+    Ok(ExitCode::from(status.code()))
+}
+
+/// The status with which a run of the program ends.
+fn status_of(rt: &HostRuntime) -> Status {
+    match std::env::args(rt) {
         Ok(all) => {
-            let words: Result<Vec<String>, _> = all.skip(1).collect(alloc);
+            let words: Result<Vec<String>, _> = all.skip(1).collect(rt.alloc());
             match words {
-                Ok(words) => match link_for(alloc, &rt, words.as_slice()) {
-                    Ok(mut link) => {
-                        let mut source = Reading::new(rt.stdin());
-                        let mut sink = Writing::new(rt.stdout());
-                        top::tango(alloc, words.as_slice(), &mut source, &mut sink, &mut link)
-                    }
-                    Err(NoMemory) => Status::NoMemory,
-                },
+                Ok(words) => run(rt, words.as_slice()),
                 Err(_) => Status::NoMemory,
             }
         }
@@ -36,12 +37,19 @@ fn main(rt: HostRuntime) -> io::Result<ExitCode> {
             // A word that isn't UTF-8 is in no form.
             _ => Status::Words,
         },
-    };
-    // Where there is no memory for the line, or it can't be written, the status alone tells.
-    if let Ok(Some(line)) = status.says(alloc) {
-        let _ = eprintln!(rt; "{line}");
     }
-    Ok(ExitCode::from(status.code()))
+}
+
+/// Runs the program on the standard streams and, where packets go over a link, on UDP sockets of this machine.
+fn run(rt: &HostRuntime, words: &[String]) -> Status {
+    match link_for(rt.alloc(), rt, words) {
+        Ok(mut link) => {
+            let mut source = Reading::new(rt.stdin());
+            let mut sink = Writing::new(rt.stdout());
+            top::tango(rt.alloc(), words, &mut source, &mut sink, &mut link)
+        }
+        Err(NoMemory) => Status::NoMemory,
+    }
 }
 
 /// The link that the words ask for: of the node that they name, else of all nodes. No port is bound before its first

@@ -26,37 +26,52 @@ use tg_io::{Reading, Writing};
 
 /// Prints the texts back that the words after the program's name tell.
 fn main(rt: HostRuntime) -> io::Result<ExitCode> {
-    let alloc = rt.alloc();
-    let words: Vec<String> = std::env::args(&rt)?.skip(1).collect(alloc)?;
-    let mut sink = Writing::new(rt.stdout());
-    if let [word] = words.as_slice() {
-        if let Some(form) = Form::named(word.as_str()) {
-            let mut source = Reading::new(rt.stdin());
-            if let Err(fault) = print_again(alloc, form, &mut source, &mut sink) {
-                eprintln!(rt; "tests_texts: {fault}")?;
-                return Ok(ExitCode::FAILURE);
-            }
-            return Ok(ExitCode::SUCCESS);
-        }
+    let words: Vec<String> = std::env::args(&rt)?.skip(1).collect(rt.alloc())?;
+    if let [word] = words.as_slice()
+        && let Some(form) = Form::named(word.as_str())
+    {
+        return print_input(&rt, form);
     }
     for pair in words.as_slice().chunks(2) {
         let [word, name] = pair else {
             eprintln!(rt; "tests_texts: the words are FORM, or FORM FILE, as often as you like")?;
             return Ok(ExitCode::FAILURE);
         };
-        let mut source = Reading::new(fs::open(&rt, name.as_str())?);
-        let printed = match Form::named(word.as_str()) {
-            Some(form) => print_again(alloc, form, &mut source, &mut sink),
-            None if word.as_str() == "rows" => print_answers(alloc, &mut source, &mut sink),
-            None => {
-                eprintln!(rt; "tests_texts: {word} is no form")?;
-                return Ok(ExitCode::FAILURE);
-            }
-        };
-        if let Err(fault) = printed {
-            eprintln!(rt; "tests_texts: {name}: {fault}")?;
+        if !prints(&rt, word.as_str(), name.as_str())? {
             return Ok(ExitCode::FAILURE);
         }
     }
     Ok(ExitCode::SUCCESS)
+}
+
+/// Prints what standard input is, read as a form.
+fn print_input(rt: &HostRuntime, form: Form) -> io::Result<ExitCode> {
+    let mut source = Reading::new(rt.stdin());
+    let mut sink = Writing::new(rt.stdout());
+    match print_again(rt.alloc(), form, &mut source, &mut sink) {
+        Ok(()) => Ok(ExitCode::SUCCESS),
+        Err(fault) => {
+            eprintln!(rt; "tests_texts: {fault}")?;
+            Ok(ExitCode::FAILURE)
+        }
+    }
+}
+
+/// Prints what a word makes of a file, and tells whether it could.
+fn prints(rt: &HostRuntime, word: &str, name: &str) -> io::Result<bool> {
+    let mut source = Reading::new(fs::open(rt, name)?);
+    let mut sink = Writing::new(rt.stdout());
+    let printed = match Form::named(word) {
+        Some(form) => print_again(rt.alloc(), form, &mut source, &mut sink),
+        None if word == "rows" => print_answers(rt.alloc(), &mut source, &mut sink),
+        None => {
+            eprintln!(rt; "tests_texts: {word} is no form")?;
+            return Ok(false);
+        }
+    };
+    if let Err(fault) = printed {
+        eprintln!(rt; "tests_texts: {name}: {fault}")?;
+        return Ok(false);
+    }
+    Ok(true)
 }
