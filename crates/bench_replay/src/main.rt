@@ -3,20 +3,24 @@
 #![tactic(auto)]
 
 use std::{fs, io};
-use tg_io::{Reading, Writing};
+use tg_io::{Reading, Status, Writing};
 use tg_replay::replay;
 
 /// Prints the transcripts of the files that the words after the program's name tell.
 fn main(rt: HostRuntime) -> io::Result<()> {
-    let alloc = rt.alloc();
-    let names: Vec<String> = std::env::args(&rt)?.skip(1).collect(alloc)?;
-    let mut sink = Writing::new(rt.stdout());
+    let names: Vec<String> = std::env::args(&rt)?.skip(1).collect(rt.alloc())?;
     for name in names.as_slice() {
-        let mut source = Reading::new(fs::open(&rt, name.as_str())?);
-        let status = replay(alloc, &mut source, &mut sink);
-        if let Ok(Some(line)) = status.says(alloc) {
+        let status = print_transcript(&rt, name.as_str())?;
+        if let Ok(Some(line)) = status.says(rt.alloc()) {
             println!(rt; "{line}")?;
         }
     }
     Ok(())
+}
+
+/// Prints the transcript of a file.
+fn print_transcript(rt: &HostRuntime, name: &str) -> io::Result<Status> {
+    let mut source = Reading::new(fs::open(rt, name)?);
+    let mut sink = Writing::new(rt.stdout());
+    Ok(replay(rt.alloc(), &mut source, &mut sink))
 }
