@@ -462,12 +462,7 @@ fn put_left_out(
 }
 
 // The event lines of the first step that is drawn and of the last, where any is.
-fn put_span(
-    steps: &[Step],
-    from: usize,
-    upto: usize,
-    note: &mut List<u8>,
-) -> Result<(), NoMemory> {
+fn put_span(steps: &[Step], from: usize, upto: usize, note: &mut List<u8>) -> Result<(), NoMemory> {
     if from < upto
         && let Some(first) = steps.get(from)
         && let Some(last) = steps.get(upto - 1)

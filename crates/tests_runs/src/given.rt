@@ -51,12 +51,7 @@ pub fn failing(alloc: Global, fails: &[u64]) -> Result<MemLink, NoMemory> {
 }
 
 /// A datagram that no node sent comes to a node.
-pub fn comes(
-    alloc: Global,
-    link: MemLink,
-    to: NodeId,
-    datagram: &[u8],
-) -> Result<MemLink, NoMemory>
+pub fn comes(alloc: Global, link: MemLink, to: NodeId, datagram: &[u8]) -> Result<MemLink, NoMemory>
     requires { length datagram.now ≤ 8192 }
 {
     let mut bytes = List::new(alloc);
@@ -84,12 +79,7 @@ pub fn realistic(alloc: Global) -> Result<List<u8>, NoMemory> {
 }
 
 // Puts an update of each client for each of these numbers.
-fn put_rounds(
-    alloc: Global,
-    first: u64,
-    end: u64,
-    text: &mut List<u8>,
-) -> Result<(), NoMemory> {
+fn put_rounds(alloc: Global, first: u64, end: u64, text: &mut List<u8>) -> Result<(), NoMemory> {
     for number in first..end {
         let set = number.saturating_mul(3);
         let push = set.saturating_add(1);

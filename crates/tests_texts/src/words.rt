@@ -135,20 +135,30 @@ pub fn put_verdict(
     text: &str,
     out: &mut List<u8>,
 ) -> Result<(), NoMemory> {
-    let mut reads = List::new(alloc);
-    let mut writes = List::new(alloc);
-    match fails {
-        Fails::Nothing => {}
-        Fails::Read => reads.push(1)?,
-        Fails::Write => writes.push(0)?,
-    }
-    let source = MemSource::new(fed(alloc, text)?, reads);
-    let (status, sink) = judged(alloc, source, MemSink::new(alloc, writes));
+    let source = source_of(alloc, fails, text)?;
+    let sink = sink_of(alloc, fails)?;
+    let (status, sink) = judged(alloc, source, sink);
     put_barred(alloc, sink.written(), out)?;
     match status.says(alloc)? {
         Some(said) => out.extend(said.as_bytes()),
         None => Ok(()),
     }
+}
+
+fn source_of(alloc: Global, fails: Fails, text: &str) -> Result<MemSource, NoMemory> {
+    let mut reads = List::new(alloc);
+    if let Fails::Read = fails {
+        reads.push(1)?;
+    }
+    Ok(MemSource::new(fed(alloc, text)?, reads))
+}
+
+fn sink_of(alloc: Global, fails: Fails) -> Result<MemSink, NoMemory> {
+    let mut writes = List::new(alloc);
+    if let Fails::Write = fails {
+        writes.push(0)?;
+    }
+    Ok(MemSink::new(alloc, writes))
 }
 
 // An audit by itself, so that what its contract says is read in no other function.

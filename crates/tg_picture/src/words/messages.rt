@@ -100,11 +100,7 @@ fn put_accepted(
     }
 }
 
-fn put_proposal(
-    ballot: Ballot,
-    proj: &Projection,
-    out: &mut List<u8>,
-) -> Result<(), NoMemory> {
+fn put_proposal(ballot: Ballot, proj: &Projection, out: &mut List<u8>) -> Result<(), NoMemory> {
     put_ballot(ballot, out)?;
     out.extend(b", ")?;
     put_layout(proj, out)
