@@ -38,7 +38,7 @@ for name, module in pairs:
     old = os.path.join(crates, name)
     stems = sorted({os.path.splitext(it)[0] for it in os.listdir(os.path.join(old, "src")) if it != "lib.rt"})
     for stem in stems:
-        to = f"{stem}_of_{module.lower()}" if stem == "laws" or stem in [it.lower() for _, it in pairs] else stem
+        to = f"{stem}_of_{module.lower()}" if stem == "laws" or stem in taken or stem in [it.lower() for _, it in pairs] else stem
         if to in taken:
             sys.exit(f"{to} of {name} stands in {taken[to]}")
         taken[to] = name
