@@ -49,8 +49,9 @@ for name, module in pairs:
         if os.path.isdir(os.path.join(old, "proofs", stem)):
             shutil.move(os.path.join(old, "proofs", stem), os.path.join(room, "proofs", to))
         renames.append((rf"Rattle\.{name}\.proofs\.{stem}\b", f"Rattle.{into}.proofs.{to}"))
-        mods.append(f"mod {to};")
-        for use in re.findall(rf"pub use {stem}::[^;]*;", read(os.path.join(old, "src", "lib.rt"))):
+        root = read(os.path.join(old, "src", "lib.rt"))
+        mods.append(f"pub mod {to};" if f"\npub mod {stem};" in root else f"mod {to};")
+        for use in re.findall(rf"pub use {stem}::[^;]*;", root):
             uses.append(use.replace(f"pub use {stem}::", f"pub use {to}::"))
     docs.append(f"//! - " + " ".join(line[4:] for line in read(os.path.join(old, "src", "lib.rt")).splitlines() if line.startswith("//! ")))
     for part in ("proofs", "specs"):
@@ -77,7 +78,7 @@ for stem in taken:
     for it in glob.glob(os.path.join(room, "proofs", "*.antt")):
         if os.path.splitext(os.path.basename(it))[0].lower() == stem.lower():
             sys.exit(f"{it} is {stem} but for case")
-write(os.path.join(room, "src", "lib.rt"), "\n".join(["//! Laws over definitions, the contracts of empty functions:", "//!", *docs, "#![tactic(auto)]", "", *sorted(mods), "", *sorted(uses)]) + "\n")
+write(os.path.join(room, "src", "lib.rt"), "\n".join(["//! Laws over definitions, the contracts of empty functions:", "//!", *docs, "#![tactic(auto)]", "", *sorted(mods, key=lambda it: it.removeprefix("pub ")), "", *sorted(uses)]) + "\n")
 shutil.move(room, os.path.join(crates, into))
 for path in glob.glob(os.path.join(crates, "**", "*"), recursive=True):
     if path.endswith((".rt", ".antt", ".edit")):
