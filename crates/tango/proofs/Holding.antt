@@ -12,9 +12,9 @@ use Rattle.tg_replay.specs.Runs.{Script, IsScript, IsCounted, Replayed, Refused,
 use Rattle.tg_live.specs.Lives.{Live, goes}
 use Rattle.tg_live.specs.Scripts as lives
 use Rattle.tg_live.specs.Scripts.{Over}
-use Rattle.tg_law_scripts.specs.Headline.Headline.{EachScriptHolds, EachLiveHolds}
-use Rattle.tg_law_transcripts.specs.Auditing.{EachAudited, LiveAudited, EachLiveAudited}
-use Rattle.tg_law_transcripts.specs.Fits.{EachFits}
+use Rattle.tg_law_programs.specs.Headline.Headline.{EachScriptHolds, EachLiveHolds}
+use Rattle.tg_law_programs.specs.Transcripts.Auditing.{EachAudited, LiveAudited, EachLiveAudited}
+use Rattle.tg_law_programs.specs.Transcripts.Fits.{EachFits}
 use Rattle.tango.specs.Holding.{ReplayedTruly, RefusedTruly, LimitedTruly, LivedTruly, LiveRefusedTruly, LiveLimitedTruly, ReplayedLegally, RefusedLegally, LimitedLegally, LivedLegally, LiveRefusedLegally, LiveLimitedLegally}
 
 -- what is told of a text is told of it in other words

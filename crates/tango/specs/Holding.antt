@@ -7,7 +7,7 @@ use Rattle.tg_replay.specs.Runs.{Replayed, Refused, Limited, transcript}
 use Rattle.tg_live.specs.Lives.{Live, goes}
 use Rattle.tg_live.specs.Scripts as lives
 use Rattle.tg_live.specs.Scripts.{Over, RunsOver}
-use Rattle.tg_law_scripts.specs.Headline.Headline.{ScriptHolds, LiveHolds}
+use Rattle.tg_law_programs.specs.Headline.Headline.{ScriptHolds, LiveHolds}
 
 -- A text that was replayed to its end, by a run that holds.
 pub record ReplayedTruly (text out : List ℕ) : Type 0 where

@@ -1,3 +1,5 @@
-pub mod Answered
-pub mod Log
-pub mod Runs
+pub mod Forgetting
+pub mod Playing
+pub mod Causes
+pub mod Answers
+pub mod Whole

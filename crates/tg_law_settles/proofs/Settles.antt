@@ -15,7 +15,7 @@ use Rattle.tg_replay.proofs.Making.{lines_longer}
 use Rattle.tg_law_layouts.proofs.Moves.Lists.{contained}
 use Rattle.tg_law_layouts.proofs.Moves.Members.{Has, has_either, has_contained}
 use Rattle.tg_law_layouts.proofs.Moves.Scripts.{run_both}
-use Rattle.tg_law_scripts.proofs.Scripts.Reaching.{each_script_reaches}
+use Rattle.tg_law_programs.proofs.Scripts.Reaching.{each_script_reaches}
 use Rattle.tg_law_finish.specs.Finish.Alone.{IsAlone}
 use Rattle.tg_law_finish.specs.Finish.Laws.{IsReply}
 use Rattle.tg_law_finish.proofs.Finish.Answered.{drains_answer}

@@ -21,8 +21,8 @@ use Rattle.tg_protocol.specs.Runs.{Move, Takes, LawfulMove, most_steps, Reaches}
 use Rattle.tg_protocol.specs.Runs as runs
 use Rattle.tg_any.specs.AllKinds.{all_kinds}
 use Rattle.tg_node_state.specs.Nodes.{InputOf, node_step, node_start}
-use Rattle.tg_law_sessions.specs.Sessions.{Step, Said, session, after, given, gathered, sends_of, says_of, said, said_in, node_in, IsOrder, AreEventsOf, Shows, Keeps, run}
-use Rattle.tg_law_sessions.specs.Holding.{LawfulInput, AreSessions, moves_of, MakesARun}
+use Rattle.tg_law_programs.specs.Sessions.Sessions.{Step, Said, session, after, given, gathered, sends_of, says_of, said, said_in, node_in, IsOrder, AreEventsOf, Shows, Keeps, run}
+use Rattle.tg_law_programs.specs.Sessions.Holding.{LawfulInput, AreSessions, moves_of, MakesARun}
 use Rattle.tg_law_texts.specs.Texts.{cluster}
 use Rattle.tg_law_texts.specs.Sessions.{Sessions, Hold, begins, one_begins, in_order, idle, takes_unsent, stranger_begins}
 use Rattle.tg_law_texts.proofs.Small.{none_in, only_one}

@@ -10,8 +10,8 @@ use Rattle.tg_protocol.specs.Headline.{Holds}
 use Rattle.tg_node_state.specs.Nodes.{InputOf}
 use Rattle.tg_node_state.specs.declared.input.Input.TheVariants as input
 use Rattle.tg_any.specs.AllKinds.{all_kinds}
-use Rattle.tg_law_sessions.specs.Sessions.{Step, session, IsOrder}
-use Rattle.tg_law_sessions.specs.Holding.{AreSessions, MakesARunWhere}
+use Rattle.tg_law_programs.specs.Sessions.Sessions.{Step, session, IsOrder}
+use Rattle.tg_law_programs.specs.Sessions.Holding.{AreSessions, MakesARunWhere}
 
 abbrev pub Steps : Type 0
 Steps = List (Step all_kinds)

@@ -6,7 +6,7 @@ ghost use Rattle.tg_any.specs.AllKinds.{all_kinds};
 ghost use Rattle.tg_replay.specs.Runs.{world_of};
 ghost use Rattle.tg_replay.specs.Headline.{IsReached, IsTrueRun, TrueReplay, told_in};
 ghost use Rattle.tg_live.specs.Headline.{IsScripted, TrueLive};
-ghost use Rattle.tg_law_sessions.specs.Holding.{MakesARun};
+ghost use Rattle.tg_law_programs.specs.Sessions.Holding.{MakesARun};
 ghost use Rattle.tg_law_texts.specs.Texts.{cluster, begins, begins_nowhere, late_reply, script, script_of_a_stranger, transcript_text, another_reply, no_reply, adding_script, adding_transcript, another_op, no_history, live_script, link, unasked, recording_text, drain_recorded, lived, unrecorded, busy_link, adding_recording, AllTranscriptsFit};
 ghost use Rattle.tg_law_texts.specs.Sessions.{Sessions, Hold, one_begins, in_order, idle, takes_unsent, stranger_begins};
 

@@ -31,7 +31,7 @@ use Rattle.tg_law_layouts.proofs.Moves.Clients.{reserved, work_reserved, hand_re
 use Rattle.tg_law_layouts.proofs.Moves.Members.{Has}
 use Rattle.tg_law_cells.proofs.Cells.Hands as hands
 use Rattle.tg_law_cells.proofs.Cells.Jobs.{AppendOk}
-use Rattle.tg_law_trims.specs.Issues.Issues.{TrimsInTime}
+use Rattle.tg_law_headline.specs.Issues.Issues.{TrimsInTime}
 use Rattle.tg_law_finish.specs.Finish.Alone.{IsAlone}
 use Rattle.tg_law_finish.specs.Finish.Drains.{drained, DrainsAnswer}
 use Rattle.tg_law_finish.specs.Finish.Granted.{Granted}

@@ -23,7 +23,7 @@ use Rattle.tg_protocol.specs.Clients.{Judged, Task, Appending, Syncing, Walking,
 use Rattle.tg_protocol.specs.ClientSteps.{task_awaited}
 use Rattle.tg_protocol.specs.Worlds.{World, unit, seqr, client}
 use Rattle.tg_law_layouts.proofs.Moves.Members.{Has}
-use Rattle.tg_law_trims.proofs.Issues.Bounds.{AllBelow}
+use Rattle.tg_law_headline.proofs.Issues.Bounds.{AllBelow}
 use Rattle.tg_law_finish.specs.Finish.Queues.{RisesWithin}
 use Rattle.tg_law_finish.proofs.Finish.Askers.{Distinct}
 use Rattle.tg_law_finish.proofs.Finish.Probes.{Asked}

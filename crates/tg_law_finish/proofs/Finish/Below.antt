@@ -45,11 +45,11 @@ use Rattle.tg_law_cells.proofs.Homes.Homes.{settled_is_below}
 use Rattle.tg_law_cells.proofs.Tokens.Issues.{low_holds, asked_of, same_asked, token_epoch}
 use Rattle.tg_law_cells.proofs.Tokens.Named.{naming_holds}
 use Rattle.tg_law_walks.specs.Lists.Telling.{asks_links, tells_links}
-use Rattle.tg_law_trims.specs.Issues.Issues.{position_named, TailTold, IsBelow, BelowStart, WasIssued, BelowTail, TrimsInTime}
-use Rattle.tg_law_trims.proofs.Issues.Sent.{named_pair}
-use Rattle.tg_law_trims.proofs.Issues.Tails.{asked_pair, told_pair, tails_hold}
-use Rattle.tg_law_trims.proofs.Issues.Stored.{StoredBy, stored_hold}
-use Rattle.tg_law_trims.proofs.Issues.Positions.{below_here}
+use Rattle.tg_law_headline.specs.Issues.Issues.{position_named, TailTold, IsBelow, BelowStart, WasIssued, BelowTail, TrimsInTime}
+use Rattle.tg_law_headline.proofs.Issues.Sent.{named_pair}
+use Rattle.tg_law_headline.proofs.Issues.Tails.{asked_pair, told_pair, tails_hold}
+use Rattle.tg_law_headline.proofs.Issues.Stored.{StoredBy, stored_hold}
+use Rattle.tg_law_headline.proofs.Issues.Positions.{below_here}
 
 -- a request on whose answer a unit tells a cell names its position
 claim_names : (x y : Msg) (e p : ℕ) (c : Cell) → claimed (unit_ask x) y ≡ claim e p c → position_named x ≡ named_pair e p

@@ -50,12 +50,12 @@ use Rattle.tg_law_cells.proofs.Tokens.Owning as owning
 use Rattle.tg_law_walks.proofs.Drafts.Became.{Holds}
 use Rattle.tg_law_walks.proofs.Once.Along.{spent}
 use Rattle.tg_law_walks.proofs.Once.Feeding.{WorkToken}
-use Rattle.tg_law_trims.specs.Trims.Spare.{TrimsAre}
-use Rattle.tg_law_trims.proofs.Issues.Bounds.{AllBelow, AllFit, JobFits, TrailOk, lasts_below}
-use Rattle.tg_law_trims.proofs.Issues.Clients.{B, L}
-use Rattle.tg_law_trims.proofs.Issues.Hands as naming
-use Rattle.tg_law_trims.proofs.Issues.Machines as issues
-use Rattle.tg_law_trims.proofs.Issues.Machines.{AnswerOk, TailOk}
+use Rattle.tg_law_headline.specs.Trims.Spare.{TrimsAre}
+use Rattle.tg_law_headline.proofs.Issues.Bounds.{AllBelow, AllFit, JobFits, TrailOk, lasts_below}
+use Rattle.tg_law_headline.proofs.Issues.Clients.{B, L}
+use Rattle.tg_law_headline.proofs.Issues.Hands as naming
+use Rattle.tg_law_headline.proofs.Issues.Machines as issues
+use Rattle.tg_law_headline.proofs.Issues.Machines.{AnswerOk, TailOk}
 use Rattle.tg_law_finish.specs.Finish.Reads.{IsRead}
 use Rattle.tg_law_finish.specs.Finish.Appends.{InHand, NoOther, AppendStands, PuttingStands, JudgingStands}
 use Rattle.tg_law_finish.proofs.Finish.Asking.{CarriesDown, CellStands, JobStands, PutStands, PageStands, ProbeStands, LastsBelow, SyncStands, WalkStands, TaskStands}

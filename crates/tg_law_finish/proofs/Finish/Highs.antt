@@ -33,10 +33,10 @@ use Rattle.tg_law_layouts.proofs.Requests.Answered.{turn_on}
 use Rattle.tg_law_layouts.proofs.Layouts.Deciding.{layouts_are_known, layouts_are_sound}
 use Rattle.tg_law_layouts.proofs.Layouts.Layouts.{has_header}
 use Rattle.tg_law_walks.proofs.Lists.Reached.{before_reached}
-use Rattle.tg_law_trims.specs.Issues.Issues.{position_named, IsBelow, BelowStart, WasIssued, BelowTail, TrimsInTime}
-use Rattle.tg_law_trims.proofs.Issues.Along.{along}
-use Rattle.tg_law_trims.proofs.Issues.Positions.{below_here}
-use Rattle.tg_law_trims.proofs.Issues.Sent.{named_pair}
+use Rattle.tg_law_headline.specs.Issues.Issues.{position_named, IsBelow, BelowStart, WasIssued, BelowTail, TrimsInTime}
+use Rattle.tg_law_headline.proofs.Issues.Along.{along}
+use Rattle.tg_law_headline.proofs.Issues.Positions.{below_here}
+use Rattle.tg_law_headline.proofs.Issues.Sent.{named_pair}
 use Rattle.tg_law_finish.proofs.Finish.Scans.{seqrs_hold}
 use Rattle.tg_law_finish.proofs.Finish.Standing.{header_limits}
 

@@ -12,11 +12,11 @@ use Rattle.tg_law_layouts.specs.Moves.After.{after}
 use Rattle.tg_law_layouts.specs.Moves.Configs.{Config, config, client_in}
 use Rattle.tg_law_layouts.proofs.Moves.Lists.{at_map, at_set}
 use Rattle.tg_law_layouts.proofs.Moves.Moves.{Cases, ClientInput, Commanded, Hears', Ticks'}
-use Rattle.tg_law_trims.specs.Issues.Issues.{TrimsInTime}
-use Rattle.tg_law_trims.proofs.Issues.Hands.{ClientOk}
-use Rattle.tg_law_trims.proofs.Issues.Sent.{command_ok, deliver_ok, tick_ok}
-use Rattle.tg_law_trims.proofs.Issues.Clients.{B, L, client_hears}
-use Rattle.tg_law_trims.proofs.Issues.Along.{along}
+use Rattle.tg_law_headline.specs.Issues.Issues.{TrimsInTime}
+use Rattle.tg_law_headline.proofs.Issues.Hands.{ClientOk}
+use Rattle.tg_law_headline.proofs.Issues.Sent.{command_ok, deliver_ok, tick_ok}
+use Rattle.tg_law_headline.proofs.Issues.Clients.{B, L, client_hears}
+use Rattle.tg_law_headline.proofs.Issues.Along.{along}
 
 module _ (m : Meaning) (h : Header) (zs : Moves m) (r : Reaches m h zs (after m h zs)) (trims : TrimsInTime m (after m h zs)) where
   abbrev Ok : Client m → Type 0

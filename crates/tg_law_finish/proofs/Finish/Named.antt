@@ -23,8 +23,8 @@ use Rattle.tg_law_layouts.proofs.Layouts.Deciding.{latest_decided}
 use Rattle.tg_law_walks.specs.Walks.Streams.{stands_in, AreFalling, IsGood}
 use Rattle.tg_law_walks.specs.Walks.Lists.{backs, AreGoodLists, AreOnce}
 use Rattle.tg_law_walks.proofs.Walks.Listing.{lists_grow}
-use Rattle.tg_law_trims.proofs.Issues.Bounds.{AllBelow, lasts_below}
-use Rattle.tg_law_trims.proofs.Issues.Tails.{links_below}
+use Rattle.tg_law_headline.proofs.Issues.Bounds.{AllBelow, lasts_below}
+use Rattle.tg_law_headline.proofs.Issues.Tails.{links_below}
 use Rattle.tg_law_walks.specs.Lists.Lists.{Counts}
 use Rattle.tg_law_walks.specs.Lists.Spared.{TrimsWereSpare}
 use Rattle.tg_law_walks.proofs.Lists.Runs.{lists_are_known}

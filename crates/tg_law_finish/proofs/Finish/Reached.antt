@@ -22,7 +22,7 @@ use Rattle.tg_law_layouts.proofs.Moves.Lists.{contained}
 use Rattle.tg_law_layouts.proofs.Moves.Members.{Has, has_either, has_contained, has_got}
 use Rattle.tg_law_layouts.proofs.Moves.Scripts.{run_both}
 use Rattle.tg_law_layouts.proofs.Layouts.Deciding.{latest_decided, layouts_are_sound}
-use Rattle.tg_law_trims.specs.Issues.Issues.{TrimsInTime}
+use Rattle.tg_law_headline.specs.Issues.Issues.{TrimsInTime}
 use Rattle.tg_law_finish.proofs.Finish.Below.{settled_under}
 use Rattle.tg_law_finish.proofs.Finish.Nets.{happens_counts}
 use Rattle.tg_law_finish.proofs.Finish.Settles.{Facts}

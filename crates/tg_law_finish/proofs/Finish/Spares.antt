@@ -32,7 +32,7 @@ use Rattle.tg_law_cells.proofs.Cells.Settles.{along}
 use Rattle.tg_law_cells.proofs.Cells.Settling.{facts, told_here, last_unit_settles, settled_is_held}
 use Rattle.tg_law_cells.proofs.Cells.Stores.{stores_are_justified}
 use Rattle.tg_law_cells.proofs.Cells.Successors.{words}
-use Rattle.tg_law_trims.proofs.Issues.Stored.{StoredBy, stored_hold}
+use Rattle.tg_law_headline.proofs.Issues.Stored.{StoredBy, stored_hold}
 use Rattle.tg_law_finish.proofs.Finish.Below.{greatest}
 
 same_unit : (a b : ℕ) → unit_id a ≡ unit_id b → a ≡ b

@@ -38,9 +38,9 @@ use Rattle.tg_law_cells.proofs.Cells.Heads.{heads_have_cells}
 use Rattle.tg_law_cells.proofs.Cells.Jobs.{MaybeOk}
 use Rattle.tg_law_cells.proofs.Cells.Stores.{cells_hold}
 use Rattle.tg_law_cells.proofs.Cells.Successors.{place_of, stands_there, some_there, single_there}
-use Rattle.tg_law_trims.proofs.Issues.Bounds.{AllBelow, lasts_below}
-use Rattle.tg_law_trims.proofs.Issues.Tails.{Tails, tails_hold, links_below}
-use Rattle.tg_law_trims.proofs.Issues.Unwritten.{next_is_unwritten}
+use Rattle.tg_law_headline.proofs.Issues.Bounds.{AllBelow, lasts_below}
+use Rattle.tg_law_headline.proofs.Issues.Tails.{Tails, tails_hold, links_below}
+use Rattle.tg_law_headline.proofs.Issues.Unwritten.{next_is_unwritten}
 use Rattle.tg_law_finish.specs.Finish.Alone.{IsAlone}
 use Rattle.tg_law_finish.specs.Finish.Granted.{Granted}
 use Rattle.tg_law_finish.specs.Finish.Queues.{RisesWithin}

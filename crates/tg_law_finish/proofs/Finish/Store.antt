@@ -24,8 +24,8 @@ use Rattle.tg_law_layouts.proofs.Layouts.Deciding.{latest_decided}
 use Rattle.tg_law_cells.specs.Cells.Settled.{IsSettled}
 use Rattle.tg_law_cells.proofs.Cells.Befores.{has_at}
 use Rattle.tg_law_cells.proofs.Cells.Settling.{settled_is_held}
-use Rattle.tg_law_trims.specs.Issues.Issues.{TrimsInTime}
-use Rattle.tg_law_trims.specs.Trims.Spare.{TrimsAre}
+use Rattle.tg_law_headline.specs.Issues.Issues.{TrimsInTime}
+use Rattle.tg_law_headline.specs.Trims.Spare.{TrimsAre}
 use Rattle.tg_law_headline.proofs.Runs.Holding.{logs_hold}
 use Rattle.tg_law_finish.specs.Finish.Alone.{IsAlone}
 use Rattle.tg_law_finish.specs.Finish.Anywhere.{CommandWalks}

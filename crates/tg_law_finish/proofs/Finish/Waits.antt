@@ -22,7 +22,7 @@ use Rattle.tg_protocol.specs.ClientSteps.{task_asks}
 use Rattle.tg_protocol.specs.Worlds.{World, nodes, unit, seqr, client, runs, settle}
 use Rattle.tg_law_finish.specs.Finish.Commands.{is_ask}
 use Rattle.tg_law_finish.specs.Finish.Makes.{makes}
-use Rattle.tg_law_trims.proofs.Issues.Bounds.{AllBelow}
+use Rattle.tg_law_headline.proofs.Issues.Bounds.{AllBelow}
 use Rattle.tg_law_finish.proofs.Finish.Asking.{Walkable, Untrimmed, Grows, Owns, Syncs}
 use Rattle.tg_law_finish.proofs.Finish.Ending.{EndStage, ends_talk, round_long}
 use Rattle.tg_law_finish.proofs.Finish.Owners.{Before, OwnStage}

@@ -49,7 +49,7 @@ use Rattle.tg_law_finish.specs.Finish.Asks.{WaitsForSync}
 use Rattle.tg_law_finish.specs.Finish.Reads.{WaitsForRead}
 use Rattle.std.specs.List.{list_all}
 use Rattle.tg_base.specs.declared.packet.Packet.{Packet}
-use Rattle.tg_law_trims.proofs.Issues.Untrimmed.{is_trim, no_trims_in_time}
+use Rattle.tg_law_headline.proofs.Issues.Untrimmed.{is_trim, no_trims_in_time}
 use Rattle.tg_law_finish.specs.Tallies.Tallies.{tallies, tally, with_tally}
 use Rattle.tg_law_finish.specs.Finish.Walks.{streams, walk_bound}
 use Rattle.tg_law_finish.specs.Tallies.Settled.{Counted, append_lost, ask_lost, fate_lost, AppendIsAnswered, AskIsAnswered, FateIsAnswered}

@@ -7,7 +7,7 @@ use Rattle.tg_protocol.specs.Layouts.{chain_of}
 use Rattle.tg_protocol.specs.Sequencers.{links_of}
 use Rattle.tg_protocol.specs.Appending.{names_all}
 use Rattle.tg_protocol.specs.Worlds.{World, unit, seqr, latest}
-use Rattle.tg_law_trims.specs.Issues.Issues.{TrimsInTime}
+use Rattle.tg_law_headline.specs.Issues.Issues.{TrimsInTime}
 
 module _ (m : Meaning) where
   -- the units of a position's chain, in the latest layout

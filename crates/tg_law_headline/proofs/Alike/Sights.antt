@@ -24,8 +24,8 @@ use Rattle.tg_law_replies.proofs.Replies.Carried.{carried_more, event_more}
 use Rattle.tg_law_replies.proofs.Replies.Found.{each_ready}
 use Rattle.tg_law_replies.proofs.Replies.Ready.{Ready}
 use Rattle.tg_law_replies.proofs.Replies.Telling.{RightAndKept, of_right, found_kept}
-use Rattle.tg_law_trims.specs.Trims.Floors.{SeesDirectory, floor_at}
-use Rattle.tg_law_trims.proofs.Trims.Sights.{stays_true, walks_true, ready_sees}
+use Rattle.tg_law_headline.specs.Trims.Floors.{SeesDirectory, floor_at}
+use Rattle.tg_law_headline.proofs.Trims.Sights.{stays_true, walks_true, ready_sees}
 use Rattle.tg_law_headline.proofs.Alike.Since.{SeesFloor}
 
 front : (m : Meaning) (Q : World m → Type 0) (xs ys : Moves m) (w : World m) → Along m Q (xs ++ ys) w → Along m Q xs w

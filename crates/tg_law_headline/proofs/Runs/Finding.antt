@@ -8,16 +8,16 @@ use Rattle.tg_any.specs.AllKinds.{all_kinds}
 use Rattle.tg_law_layouts.specs.Moves.After.{after}
 use Rattle.tg_law_replies.specs.Replies.Ended.{AppendsEnd}
 use Rattle.tg_law_replies.specs.Replies.Laws.{ClientsFind}
-use Rattle.tg_law_trims.specs.Trims.Spare.{TrimsAre}
+use Rattle.tg_law_headline.specs.Trims.Spare.{TrimsAre}
 use Rattle.tg_law_walks.proofs.Lists.Reached.{before_reached}
 use Rattle.tg_law_walks.proofs.Checkpoints.Checkpoints.{entries_own, appends_end}
 use Rattle.tg_law_syncs.specs.Exact.Finds.{ViewsLeaveNone}
 use Rattle.tg_law_syncs.proofs.Exact.Fits.{finds, views_fit}
 use Rattle.tg_law_syncs.proofs.Follow.Saves.{saves_precede}
-use Rattle.tg_law_store.proofs.AllKinds.Touching.{kinds_touch_parts}
-use Rattle.tg_law_store.proofs.Store.States.{store_has_states}
-use Rattle.tg_law_store.proofs.Store.Steps.{store_trims_are_spare, views_here}
-use Rattle.tg_law_store.proofs.Joint.Holding.{steps_hold}
+use Rattle.tg_law_headline.proofs.AllKinds.Touching.{kinds_touch_parts}
+use Rattle.tg_law_headline.proofs.Store.States.{store_has_states}
+use Rattle.tg_law_headline.proofs.Store.Steps.{store_trims_are_spare, views_here}
+use Rattle.tg_law_headline.proofs.Joint.Holding.{steps_hold}
 
 module _ (h : Header) (ms : Moves all_kinds) (w : World all_kinds) (r : Reaches all_kinds h ms w) where
   pub trims : TrimsAre all_kinds h ms w

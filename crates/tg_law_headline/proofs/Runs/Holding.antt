@@ -16,9 +16,9 @@ use Rattle.tg_law_walks.proofs.Once.Once.{entries_stand_once}
 use Rattle.tg_law_walks.proofs.Once.Owning.{records_own}
 use Rattle.tg_law_syncs.specs.Follow.Laws.{SavesEnd}
 use Rattle.tg_law_syncs.proofs.Follow.Legal.{replies_recorded}
-use Rattle.tg_law_store.specs.Headline.Store.{StoreHolds}
-use Rattle.tg_law_store.proofs.Headline.Store.{store_runs_hold}
-use Rattle.tg_law_store.proofs.Joint.Holding.{steps_hold}
+use Rattle.tg_law_headline.specs.Headline.Store.{StoreHolds}
+use Rattle.tg_law_headline.proofs.Headline.Store.{store_runs_hold}
+use Rattle.tg_law_headline.proofs.Joint.Holding.{steps_hold}
 use Rattle.tg_law_headline.specs.Alike.Rows.{AlikeRows}
 use Rattle.tg_law_headline.specs.Runs.Logs.{EachLogHolds}
 use Rattle.tg_law_headline.specs.Runs.Runs.{EachRunHolds}

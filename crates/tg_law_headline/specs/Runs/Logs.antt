@@ -4,7 +4,7 @@ use Rattle.tg_protocol.specs.Holding.{EntriesOnce, EntriesOwn, RecordsOwn, Repli
 use Rattle.tg_protocol.specs.Worlds.{World}
 use Rattle.tg_protocol.specs.Runs.{Moves, Reaches}
 use Rattle.tg_any.specs.AllKinds.{all_kinds}
-use Rattle.tg_law_trims.specs.Trims.Spare.{TrimsAre}
+use Rattle.tg_law_headline.specs.Trims.Spare.{TrimsAre}
 use Rattle.tg_law_headline.specs.Alike.Rows.{AlikeRows}
 
 -- What else the log of a run has, and what replies tell of it.

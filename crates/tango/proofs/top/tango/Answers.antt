@@ -11,7 +11,7 @@ use Rattle.tg_lines.specs.Lines.{lines}
 use Rattle.tg_node.specs.Texts.{Told, Followed, FirstOutside, Refused, PassesLimit, IsWithin as WithNoLimit, Limited, IsCutBetween, IsCutInLine, IsCutInReplies, IsCutShort, IsText, IsOrStops}
 use Rattle.tango.proofs.Holding.{replayed_truly, refused_truly, limited_truly, lived_truly, live_refused_truly, live_limited_truly}
 use Rattle.tango.proofs.Holding.{replayed_legally, refused_legally, limited_legally, lived_legally, live_refused_legally, live_limited_legally}
-use Rattle.tg_law_scripts.specs.Headline.Headline.{ScriptHolds}
+use Rattle.tg_law_programs.specs.Headline.Headline.{ScriptHolds}
 use Rattle.tg_live.specs.Sends.{carried}
 use Rattle.tg_live.specs.Stages.{over}
 use Rattle.tango.proofs.Lawful.{legal_told, illegal_told}

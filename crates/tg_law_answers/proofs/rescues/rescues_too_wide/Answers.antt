@@ -1,5 +1,0 @@
-use Rattle.tg_law_answers.proofs.Store.{rescues_too_wide}
-use Rattle.tg_law_answers.proofs.rescues.rescues_too_wide.Goals as goal
-
-pub returns : goal.returns
-returns g = rescues_too_wide

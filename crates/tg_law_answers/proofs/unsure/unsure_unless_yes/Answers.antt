@@ -1,5 +1,0 @@
-use Rattle.tg_law_answers.proofs.Store.{no_yes_there}
-use Rattle.tg_law_answers.proofs.unsure.unsure_unless_yes.Goals as goal
-
-pub returns : goal.returns
-returns g = no_yes_there

@@ -1,5 +1,0 @@
-use Rattle.tg_law_answers.proofs.Computed.{past_is_undecided}
-use Rattle.tg_law_answers.proofs.worked.past_is_undecided.Goals as goal
-
-pub returns : goal.returns
-returns g = past_is_undecided

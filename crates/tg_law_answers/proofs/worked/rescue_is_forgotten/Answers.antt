@@ -1,5 +1,0 @@
-use Rattle.tg_law_answers.proofs.Computed.{rescue_is_forgotten}
-use Rattle.tg_law_answers.proofs.worked.rescue_is_forgotten.Goals as goal
-
-pub returns : goal.returns
-returns g = rescue_is_forgotten

@@ -1,5 +1,0 @@
-use Rattle.tg_law_causes.proofs.Heard.{refused_later_true}
-use Rattle.tg_law_causes.proofs.refusals.refused_later_true.Goals as goal
-
-pub returns : goal.returns
-returns g c = refused_later_true _

@@ -1,5 +1,0 @@
-use Rattle.tg_law_causes.proofs.StoreStalled.{unsure_unless_lacking}
-use Rattle.tg_law_causes.proofs.undecided.unsure_unless_lacking.Goals as goal
-
-pub returns : goal.returns
-returns g = unsure_unless_lacking

@@ -1,0 +1,5 @@
+use Rattle.tg_law_claims.proofs.Whole.Causes.Reasons.{most_refusals_true}
+use Rattle.tg_law_claims.proofs.refusals.most_refusals_true.Goals as goal
+
+pub returns : goal.returns
+returns g = most_refusals_true

@@ -1,0 +1,5 @@
+use Rattle.tg_law_claims.proofs.Whole.Answers.Store.{rescues_forgotten}
+use Rattle.tg_law_claims.proofs.rescues.rescues_forgotten.Goals as goal
+
+pub returns : goal.returns
+returns g = rescues_forgotten

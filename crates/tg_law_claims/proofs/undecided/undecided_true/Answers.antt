@@ -1,0 +1,5 @@
+use Rattle.tg_law_claims.proofs.Whole.Causes.StoreStalled.{undecided_true}
+use Rattle.tg_law_claims.proofs.undecided.undecided_true.Goals as goal
+
+pub returns : goal.returns
+returns g = undecided_true

@@ -1,0 +1,5 @@
+use Rattle.tg_law_headline.proofs.Headline.Store.{store_runs_hold}
+use Rattle.tg_law_headline.proofs.laws_of_headline.store_runs_hold.Goals as goal
+
+pub returns : goal.returns
+returns g = store_runs_hold

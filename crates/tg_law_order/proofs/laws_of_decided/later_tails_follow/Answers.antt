@@ -1,5 +1,0 @@
-use Rattle.tg_law_order.proofs.Decided.Later.{later_tails_follow}
-use Rattle.tg_law_order.proofs.laws_of_decided.later_tails_follow.Goals as goal
-
-pub returns : goal.returns
-returns g c = later_tails_follow _

@@ -1,5 +1,0 @@
-use Rattle.tg_law_order.proofs.Ordered.Histories.{histories_rise}
-use Rattle.tg_law_order.proofs.laws_of_ordered.histories_rise.Goals as goal
-
-pub returns : goal.returns
-returns g c = histories_rise _

@@ -1,5 +1,0 @@
-use Rattle.tg_law_order.proofs.Spans.Places.{places_are_new}
-use Rattle.tg_law_order.proofs.laws_of_spans.places_are_new.Goals as goal
-
-pub returns : goal.returns
-returns g c = places_are_new _

@@ -1,5 +1,0 @@
-use Rattle.tg_law_order.proofs.Trimming.Meeting.{walks_meet_told_trims}
-use Rattle.tg_law_order.proofs.laws_of_trimming.walks_meet_told_trims.Goals as goal
-
-pub returns : goal.returns
-returns g c = walks_meet_told_trims _

@@ -1,5 +1,0 @@
-use Rattle.tg_law_playing.proofs.Roads.{reads_on_path_where}
-use Rattle.tg_law_playing.proofs.paths.reads_on_path_where.Goals as goal
-
-pub returns : goal.returns
-returns g c = reads_on_path_where _

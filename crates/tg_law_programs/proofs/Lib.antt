@@ -1,0 +1,5 @@
+pub mod Scripts
+pub mod Lives
+pub mod Headline
+pub mod Sessions
+pub mod Transcripts

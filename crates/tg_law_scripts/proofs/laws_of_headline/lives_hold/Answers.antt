@@ -1,5 +1,0 @@
-use Rattle.tg_law_scripts.proofs.Headline.Holding.{lives_hold}
-use Rattle.tg_law_scripts.proofs.laws_of_headline.lives_hold.Goals as goal
-
-pub returns : goal.returns
-returns g = lives_hold

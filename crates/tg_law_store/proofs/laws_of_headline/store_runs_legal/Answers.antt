@@ -1,5 +1,0 @@
-use Rattle.tg_law_store.proofs.Headline.Store.{store_runs_legal}
-use Rattle.tg_law_store.proofs.laws_of_headline.store_runs_legal.Goals as goal
-
-pub returns : goal.returns
-returns g = store_runs_legal

@@ -1,5 +1,0 @@
-use Rattle.tg_law_store.proofs.Joint.Steps.{steps_hold_where}
-use Rattle.tg_law_store.proofs.laws_of_joint.steps_hold_where.Goals as goal
-
-pub returns : goal.returns
-returns g = steps_hold_where

@@ -1,5 +1,0 @@
-use Rattle.tg_law_store.proofs.AllKinds.Holds.{kinds_begin}
-use Rattle.tg_law_store.proofs.laws_of_kinds.kinds_begin.Goals as goal
-
-pub returns : goal.returns
-returns g = kinds_begin

@@ -1,5 +1,0 @@
-use Rattle.tg_law_store.proofs.AllKinds.Keeps.{kinds_keep_directory}
-use Rattle.tg_law_store.proofs.laws_of_kinds.kinds_keep_directory.Goals as goal
-
-pub returns : goal.returns
-returns g = kinds_keep_directory

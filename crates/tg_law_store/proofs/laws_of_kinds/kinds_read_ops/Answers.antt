@@ -1,5 +1,0 @@
-use Rattle.tg_law_store.proofs.AllKinds.Spelled.{kinds_read_ops}
-use Rattle.tg_law_store.proofs.laws_of_kinds.kinds_read_ops.Goals as goal
-
-pub returns : goal.returns
-returns g = kinds_read_ops

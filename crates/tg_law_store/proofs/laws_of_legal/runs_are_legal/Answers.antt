@@ -1,5 +1,0 @@
-use Rattle.tg_law_store.proofs.Legal.Legal.{runs_are_legal}
-use Rattle.tg_law_store.proofs.laws_of_legal.runs_are_legal.Goals as goal
-
-pub returns : goal.returns
-returns g c = runs_are_legal _ (λ s op q h. g.met.K.Kind.apart s op q h)

@@ -1,5 +1,0 @@
-use Rattle.tg_law_store.proofs.Legal.Store.{store_entries_own}
-use Rattle.tg_law_store.proofs.laws_of_legal.store_entries_own.Goals as goal
-
-pub returns : goal.returns
-returns g = store_entries_own

@@ -1,5 +1,0 @@
-use Rattle.tg_law_store.proofs.Registered.Resting.{trims_are_spare_by_marks}
-use Rattle.tg_law_store.proofs.laws_of_registered.trims_are_spare_by_marks.Goals as goal
-
-pub returns : goal.returns
-returns g c = trims_are_spare_by_marks _

@@ -1,5 +1,0 @@
-use Rattle.tg_law_store.proofs.Store.States.{store_reads_ops}
-use Rattle.tg_law_store.proofs.laws_of_store.store_reads_ops.Goals as goal
-
-pub returns : goal.returns
-returns g = store_reads_ops

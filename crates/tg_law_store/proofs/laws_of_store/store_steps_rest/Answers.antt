@@ -1,5 +1,0 @@
-use Rattle.tg_law_store.proofs.Store.Steps.{store_steps_rest}
-use Rattle.tg_law_store.proofs.laws_of_store.store_steps_rest.Goals as goal
-
-pub returns : goal.returns
-returns g = store_steps_rest

@@ -1,5 +1,0 @@
-use Rattle.tg_law_trims.proofs.Floors.Swept.{tails_are_whole}
-use Rattle.tg_law_trims.proofs.laws_of_floors.tails_are_whole.Goals as goal
-
-pub returns : goal.returns
-returns g c = tails_are_whole _

@@ -1,5 +1,0 @@
-use Rattle.tg_law_trims.proofs.Floors.Named.{tokens_name}
-use Rattle.tg_law_trims.proofs.laws_of_floors.tokens_name.Goals as goal
-
-pub returns : goal.returns
-returns g c = tokens_name _

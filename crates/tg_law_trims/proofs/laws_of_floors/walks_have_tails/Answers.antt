@@ -1,5 +1,0 @@
-use Rattle.tg_law_trims.proofs.Floors.Tails.{walks_have_tails}
-use Rattle.tg_law_trims.proofs.laws_of_floors.walks_have_tails.Goals as goal
-
-pub returns : goal.returns
-returns g c = walks_have_tails _

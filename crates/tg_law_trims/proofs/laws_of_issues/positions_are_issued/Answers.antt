@@ -1,5 +1,0 @@
-use Rattle.tg_law_trims.proofs.Issues.Positions.{positions_are_issued}
-use Rattle.tg_law_trims.proofs.laws_of_issues.positions_are_issued.Goals as goal
-
-pub returns : goal.returns
-returns g c = positions_are_issued _

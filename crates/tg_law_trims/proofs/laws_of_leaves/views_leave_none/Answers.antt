@@ -1,5 +1,0 @@
-use Rattle.tg_law_trims.proofs.Leaves.Leaving.{views_leave_none}
-use Rattle.tg_law_trims.proofs.laws_of_leaves.views_leave_none.Goals as goal
-
-pub returns : goal.returns
-returns g c = views_leave_none _

@@ -1,5 +1,0 @@
-use Rattle.tg_law_trims.proofs.Leaves.Passing.{views_pass}
-use Rattle.tg_law_trims.proofs.laws_of_leaves.views_pass.Goals as goal
-
-pub returns : goal.returns
-returns g c = views_pass _

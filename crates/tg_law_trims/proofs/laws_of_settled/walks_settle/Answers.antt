@@ -1,5 +1,0 @@
-use Rattle.tg_law_trims.proofs.Settled.Settled.{walks_settle}
-use Rattle.tg_law_trims.proofs.laws_of_settled.walks_settle.Goals as goal
-
-pub returns : goal.returns
-returns g c = walks_settle _

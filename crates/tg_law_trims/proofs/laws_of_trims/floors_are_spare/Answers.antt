@@ -1,5 +1,0 @@
-use Rattle.tg_law_trims.proofs.Trims.Floors.{floors_are_spare}
-use Rattle.tg_law_trims.proofs.laws_of_trims.floors_are_spare.Goals as goal
-
-pub returns : goal.returns
-returns g c = floors_are_spare _

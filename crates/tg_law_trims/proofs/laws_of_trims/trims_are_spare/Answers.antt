@@ -1,5 +1,0 @@
-use Rattle.tg_law_trims.proofs.Trims.Runs.{trims_are_spare}
-use Rattle.tg_law_trims.proofs.laws_of_trims.trims_are_spare.Goals as goal
-
-pub returns : goal.returns
-returns g c = trims_are_spare _
