@@ -11,7 +11,7 @@
 //! its layout's start (`NothingTrimmed`, `HasIssued` in specs/Finish/Asks.antt). Three conditions on a world are
 //! premises: `Granted` in specs/Finish/Granted.antt. Where an append stands is a premise too: `AppendStands` in
 //! specs/Finish/Appends.antt. In the store all these hold (`laws_of_store`). That the next position is unwritten,
-//! and that a sequencer names positions below it alone, is proved (`tg_law_trims::laws_of_issues`).
+//! and that a sequencer names positions below it alone, is proved (`tg_law_headline::laws_of_issues`).
 
 ghost use Rattle.tg_kind.specs.Of.{meaning_of};
 ghost use Rattle.tg_law_finish.specs.Finish.Drains.{DrainsAnswer, DrainsAreRuns, DrainsComeFirst};

@@ -1,6 +1,6 @@
 //! What the floors of a log rest on, part by part, in every run of every cluster in which trims were spare.
 //!
-//! `tg_law_trims::laws_of_trims` names the parts. Here is that a client which has walked has confirmed its tail, and that below a confirmed tail
+//! `tg_law_headline::laws_of_trims` names the parts. Here is that a client which has walked has confirmed its tail, and that below a confirmed tail
 //! all was settled up to the start of its epoch, and issued from there on.
 
 ghost use Rattle.tg_kind.specs.Of.{meaning_of};

@@ -1,5 +1,5 @@
 //! The headline of the store: its runs are legal, and what they tell and write is true of the log, by what is had of each step
-//! before which trims were spare (`StepsHold` of `tg_law_store`) alone.
+//! before which trims were spare (`StepsHold` of `tg_law_headline`) alone.
 
 ghost use Rattle.tg_law_headline.specs.Headline.Store.{StoreRunsHold, StoreRunsLegal, StoreRunsLegalBySteps};
 

@@ -1,4 +1,4 @@
-//! What is left of each step of a run of the store (`StepsHold` of `tg_law_store`) follows from the ends of walks from which the log's
+//! What is left of each step of a run of the store (`StepsHold` of `tg_law_headline`) follows from the ends of walks from which the log's
 //! checkpoints and marks come: those have settled what they walked, found decided what they let be forgotten, and met only trims that
 //! were told as floors.
 

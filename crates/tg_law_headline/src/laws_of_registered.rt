@@ -1,7 +1,7 @@
 //! What is issued to a stream stands past where its object was registered, and a mark past a checkpoint that reaches it, in every
 //! run of every cluster in which trims were spare.
 //!
-//! On the first the floors of a log rest (`FloorsRest` of `tg_law_trims`), on the second what stands below them is saved
+//! On the first the floors of a log rest (`FloorsRest` of `tg_law_headline`), on the second what stands below them is saved
 //! (`MarksAreKept` of `tg_law_replies`).
 
 ghost use Rattle.tg_kind.specs.Of.{meaning_of};

@@ -8,7 +8,7 @@ ghost use Rattle.tg_law_layouts.specs.Moves.After.{ScriptsAreRuns};
 use tg_kind::Registry;
 
 /// The world that a script makes, with its drains and settlings, is one to which moves come, each a count or a single
-/// event. That these are lawful isn't said here; of the store's scripts `scripts_reach` of tg_law_scripts says it, and
+/// event. That these are lawful isn't said here; of the store's scripts `scripts_reach` of tg_law_programs says it, and
 /// so what holds after each run holds after each of them.
 pub fn scripts_are_runs<K: Registry>()
     ensures { ScriptsAreRuns (meaning_of K.Registry) }

@@ -4,7 +4,7 @@
 //! Here is that the lists by which walks go are full: those told with a tail, and those of entries, miss of what was issued to a
 //! stream only what four later ones have pushed out (`told_lists_are_full`, `tails_are_full`, `entries_are_full`); and that a walk
 //! which goes by such lists ends with a cell of each position that was issued, from its `lo` on or from where it met a trim
-//! (`walks_visit`, `walks_visit_on`, `walks_visit_again`). That clients walk so is `walks_settle` of `tg_law_trims`.
+//! (`walks_visit`, `walks_visit_on`, `walks_visit_again`). That clients walk so is `walks_settle` of `tg_law_headline`.
 
 mod visits;
 

@@ -21,7 +21,7 @@ use Rattle.tg_law_headline.specs.Trims.Floors.{RestsOn, FindSoFar}
 use Rattle.tg_law_headline.specs.Trims.Spare.{WereSpare, TrimsAre}
 
 module _ (m : Meaning) where
-  -- each committed mark of the log rests on a checkpoint, as its floors are to rest (`FloorsRest` of tg_law_trims)
+  -- each committed mark of the log rests on a checkpoint, as its floors are to rest (`FloorsRest` of tg_law_headline)
   abbrev pub MarksRestOn : (Oid → Bool) → List Oid → World m → Type 0
   MarksRestOn is_object objects w = (pos : ℕ) (e : Entry) (x : WriteOp) (o : Oid) (mark : ℕ) → is_object o ≡ true → HasEntry m w pos e → commits m objects (entries_in m w) pos e ≡ true →
       Contains (writes_of e) x → x.oid ≡ directory → m.read directory x.op ≡ Some (m.mark_op o mark) → RestsOn m w o mark pos

@@ -85,7 +85,7 @@ module _ (m : Meaning) where
     pub past : layout.start ≤ pos
     pub whole : IsSettledFor w o saved.saves.base.upto last
 
-  -- What is to be known of a world's log. In the store it is so before each step of a run (`steps_hold` of tg_law_store).
+  -- What is to be known of a world's log. In the store it is so before each step of a run (`steps_hold` of tg_law_headline).
   pub record FloorsRest (is_object : Oid → Bool) (objects : List Oid) (w : World m) : Type 0 where
     -- by the scan of the epoch's sequencer, which goes up to the start before a tail is told
     pub tails : (epoch tail : ℕ) → ConfirmedTail m w w epoch tail → IsWhole w epoch tail
