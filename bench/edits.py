@@ -12,7 +12,11 @@ seconds, where a check of the crate takes minutes. Where they are still proved, 
 What came of each edit is a line of bench/edits.txt: the crate, the edit, the verdict, and the commit that was checked out,
 with a + where the crate had changes that weren't committed. A verdict is one of `refused`, `refused only at a name` (a proof
 file names what the edit took away, which says little of the contract), `refused only at a limit` (of the prover), `still
-proved`, `cannot be applied` and `not tried`. The status is 1 where an edit that was tried now isn't refused."""
+proved`, `cannot be applied` and `not tried`. The status is 1 where an edit that was tried now isn't refused.
+
+The edits of a crate that change different functions are tried together, in one check of these functions: a function's contract
+is what its callers are checked against, so what is said at a function's own text or proof is said of its own edit. An edit of
+which nothing is said there is tried once more by itself."""
 
 import os
 import re
@@ -29,6 +33,8 @@ PARTS = ("src", "specs", "proofs")
 FN = re.compile(r"^( *)(?:pub(?:\([a-z]+\))? )?(?:const )?fn (\w+)", re.M)
 IMPL = re.compile(r"^impl(?:<[^\n{]*?>)? ([^\n{]*?)\s*\{", re.M)
 ERROR = re.compile(r"(?:note: )?(\S+?):\d+:\d+: (?:error: )?(.*)")
+# What is said of a goal, at its place in the code, or of an answer to one.
+PLACE = re.compile(r"^(?:note: )?(\S+?):(\d+):\d+: (it is not proved that .*|error: (?!.*(?:has no field|is not in scope|has no `|was not admitted)).*)", re.M)
 # What a proof file says where the edit took away what it names, and what a text says that can't be read.
 AT_A_NAME = re.compile(r"(\./)?proofs/.*(has no field|is not in scope|has no `|was not admitted)")
 UNREAD = re.compile(r"is not in scope|has no field|is no name|operand is missing|expected the end|cannot continue")
@@ -130,29 +136,88 @@ def verdict_of(ran, changed):
     return "refused only at a name" if told and all(AT_A_NAME.match(it[0]) for it in told) else "refused"
 
 
+def copied(name, room):
+    """Copies what a check of the crate reads."""
+    for part in PARTS:
+        if os.path.isdir(os.path.join(CRATES, name, part)):
+            shutil.copytree(os.path.join(CRATES, name, part), os.path.join(room, part))
+
+
+def make(room, pairs):
+    """Makes an edit in a copy of its crate, and returns whether it could: what it replaces stands there once."""
+    texts = {}
+    for file, old, new in pairs:
+        text = texts.get(file) or read(os.path.join(room, file))
+        if text.count(old) != 1:
+            return False
+        texts[file] = text.replace(old, new)
+    for file, text in texts.items():
+        with open(os.path.join(room, file), "w", encoding="utf-8") as it:
+            it.write(text)
+    return True
+
+
+def lines_of(room, file, path):
+    """The lines of a function in a copy of its crate, with what stands right above it."""
+    text = read(os.path.join(room, file))
+    for it in FN.finditer(text):
+        if function_at(file, text, it.start()) == path:
+            start = text.rfind("\n\n", 0, it.start()) + 1
+            return range(text.count("\n", 0, start) + 1, text.count("\n", 0, end_of(text, it.end(), it[1])) + 2)
+    return range(0)
+
+
+def check(room, words, kept, *only):
+    whole = [f"{libraries.kit()}/bin/rattle", "check", *words, "--jobs", "1", "--incremental", kept, *only]
+    return subprocess.run(whole, cwd=room, stdin=subprocess.DEVNULL, stdout=subprocess.PIPE, stderr=subprocess.STDOUT, text=True, errors="replace")
+
+
+def refused_together(name, edits, words, kept):
+    """Those of the edits that are refused where as many of them as change different functions are made at once."""
+    with tempfile.TemporaryDirectory(prefix="edits-") as room:
+        copied(name, room)
+        made = {}
+        for edit in edits:
+            pairs = pairs_of(os.path.join(CRATES, name, "edits", edit))
+            try:
+                paths = {*paths_of(name, pairs)}
+            except (OSError, ValueError):
+                continue
+            if paths and not any(paths & of for of, _ in made.values()) and make(room, pairs):
+                made[edit] = paths, [file for file, _, _ in pairs if file.startswith("src/")]
+        if len(made) < 2:
+            return []
+        only = [it for paths, _ in made.values() for path in sorted(paths) for it in ("--only", path)]
+        ran = check(room, words, kept, *only)
+        told = [(it[1].removeprefix("./"), int(it[2]), it[3]) for it in PLACE.finditer(ran.stdout)]
+        if ran.returncode != 1 or any(not file.startswith("proofs/") and UNREAD.search(re.sub(r"`[^`]*`", "", said)) for file, _, said in told):
+            return []
+        return [edit for edit, (paths, files) in made.items() if any(is_of(room, file, line, files, paths) for file, line, _ in told)]
+
+
+def is_of(room, file, line, files, paths):
+    """Whether a place is in one of these functions' text, or in its proof."""
+    if file.startswith("proofs/"):
+        return os.path.dirname(file)[len("proofs/") :].replace("/", "::") in paths
+    return file in files and any(line in lines_of(room, file, path) for path in paths)
+
+
 def tried(name, edit, words, kept):
     """The verdict on one edit, over what the checks of those before it proved."""
     pairs = pairs_of(os.path.join(CRATES, name, "edits", edit))
     with tempfile.TemporaryDirectory(prefix="edit-") as room:
-        for part in PARTS:
-            if os.path.isdir(os.path.join(CRATES, name, part)):
-                shutil.copytree(os.path.join(CRATES, name, part), os.path.join(room, part))
+        copied(name, room)
         try:
             paths = paths_of(name, pairs)
         except (OSError, ValueError):
             return "cannot be applied"
-        for file, old, new in pairs:
-            text = read(os.path.join(room, file))
-            if text.count(old) != 1:
-                return "cannot be applied"
-            with open(os.path.join(room, file), "w", encoding="utf-8") as it:
-                it.write(text.replace(old, new))
-        whole = [f"{libraries.kit()}/bin/rattle", "check", *words, "--jobs", "1", "--incremental", kept]
+        if not make(room, pairs):
+            return "cannot be applied"
         # the functions by their paths, or else by the ends of these; then the crate
         ways = [[it for path in paths for it in ("--only", path)], [it for path in paths for it in ("--only", path.split("::")[-1])], []]
         verdict = "not tried"
         for only in ways if paths else [[]]:
-            ran = subprocess.run([*whole, *only], cwd=room, stdin=subprocess.DEVNULL, stdout=subprocess.PIPE, stderr=subprocess.STDOUT, text=True, errors="replace")
+            ran = check(room, words, kept, *only)
             verdict = verdict_of(ran, {file for file, _, _ in pairs})
             if verdict.startswith("refused") or verdict == "cannot be applied":
                 break
@@ -165,6 +230,12 @@ def is_old(crate, edit, commit):
     last = git("log", "-1", "--format=%H", "--", *paths)
     is_after = subprocess.run(["git", "merge-base", "--is-ancestor", last or "HEAD", commit], cwd=TOP, capture_output=True).returncode != 0
     return commit.endswith("+") or is_after or bool(git("status", "--porcelain", *paths))
+
+
+def is_open(crate, edit, kept):
+    """Whether an edit has no verdict, or one older than its crate or itself."""
+    verdict, commit = kept.get((crate, edit), ("not tried", "-"))
+    return verdict == "not tried" or is_old(crate, edit, commit)
 
 
 def tell_old():
@@ -192,17 +263,22 @@ def main():
         root = "src/main.rt" if os.path.exists(os.path.join(CRATES, name, "src", "main.rt")) else "src/lib.rt"
         told = libraries.words(name, root, named)
         head = git("rev-parse", "--short=12", "HEAD") + ("+" if git("status", "--porcelain", os.path.join("crates", name)) else "")
+        lacking = [it for it in edits_of(name) if not is_lacking or is_open(name, it, kept)]
         with tempfile.TemporaryDirectory(prefix="edits-") as work:
-            for edit in edits_of(name):
-                verdict, commit = kept.get((name, edit), ("not tried", "-"))
-                if is_lacking and verdict != "not tried" and not is_old(name, edit, commit):
-                    continue
-                verdict = tried(name, edit, told, work)
+
+            def keep(edit, verdict):
                 print(f"{name}, {edit}: {verdict}", flush=True)
-                well = well and verdict.startswith("refused")
                 # (another run beside this one may have written others)
-                kept = {**read_kept(), (name, edit): (verdict, head)}
-                write_kept(kept)
+                write_kept({**read_kept(), (name, edit): (verdict, head)})
+
+            while refused := refused_together(name, lacking, told, work):
+                for edit in refused:
+                    keep(edit, "refused")
+                lacking = [it for it in lacking if it not in refused]
+            for edit in lacking:
+                verdict = tried(name, edit, told, work)
+                keep(edit, verdict)
+                well = well and verdict.startswith("refused")
     return not well
 
 
