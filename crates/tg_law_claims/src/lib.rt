@@ -27,7 +27,9 @@ pub use causes_of_answers::refusals_true;
 pub use confirmed::{aheads_there, fates_forgotten, nones_there, pasts_forgotten, unsaved_there};
 pub use laws_of_answers::{causes_refuse, nones_true};
 pub use laws_of_causes::{aborts_name_least, directories_true, refusals_keep};
-pub use laws_of_forgetting::{floors_stay, forgetting_holds, marks_rest, serial_first, trims_spare};
+pub use laws_of_forgetting::{
+    floors_stay, forgetting_holds, marks_rest, serial_first, trims_spare,
+};
 pub use laws_of_playing::{views_fall_at_trims, views_read_on};
 pub use laws_of_whole::{causes_hold, headline_holds, one_log};
 pub use paths::{reads_on_path, reads_on_path_where};

@@ -26,4 +26,3 @@ pub mod laws_of_spans;
 pub mod laws_of_store;
 pub mod laws_of_trimming;
 pub mod laws_of_trims;
-
