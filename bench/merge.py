@@ -71,7 +71,9 @@ for name, module in pairs:
         if module:
             write(lib, (read(lib) if os.path.exists(lib) else "") + f"pub mod {module}\n")
     if os.path.isdir(os.path.join(old, "must-fail")):
-        shutil.copytree(os.path.join(old, "must-fail"), os.path.join(room, "must-fail"), dirs_exist_ok=True)
+        for it in glob.glob(os.path.join(old, "must-fail", "*.edit")):
+            text = read(it)
+            write(os.path.join(room, "must-fail", os.path.basename(it)), re.sub(r"(?m)^file: (specs|proofs)/(?=[A-Z])", rf"file: \1/{module}/", text) if module else text)
     renames.append((rf"(?m)^(use|pub use) {name}::", rf"\1 {into}::"))
     shutil.rmtree(old)
 for stem in taken:
