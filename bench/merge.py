@@ -76,6 +76,8 @@ for name, module in pairs:
             write(os.path.join(room, "must-fail", os.path.basename(it)), re.sub(r"(?m)^file: (specs|proofs)/(?=[A-Z])", rf"file: \1/{module}/", text) if module else text)
     renames.append((rf"(?m)^(use|pub use) {name}::", rf"\1 {into}::"))
     shutil.rmtree(old)
+# (what INTO named before, before what the others come to be named there)
+renames.sort(key=lambda it: it[0].split("\\.")[1] != into if it[0].startswith("Rattle") else True)
 for stem in taken:
     for it in glob.glob(os.path.join(room, "proofs", "*.antt")):
         if os.path.splitext(os.path.basename(it))[0].lower() == stem.lower():

@@ -61,15 +61,15 @@ use Rattle.tg_law_headline.proofs.Alike.Running.{starts_at, state_at as run_at}
 use Rattle.tg_law_headline.proofs.Alike.Speaks.{Noted, Before, Anew, Delivered, From, Speaks, Silent, Speaks', Turns, told_of, speaks}
 use Rattle.tg_law_claims.specs.Answers.Confirmed.{EndsWalks, IsNoneThere, NonesThere, IsAheadThere, AheadsThere, FatesForgotten, IsPastGone, PastsForgotten}
 use Rattle.tg_law_claims.specs.Answers.Rescues.{IsRescueGone, RescuesForgotten, WouldWiden, RescuesTooWide}
-use Rattle.tg_law_claims.proofs.Whole.Causes.Stalled.{command_waits}
+use Rattle.tg_law_claims.proofs.Causes.Stalled.{command_waits}
 use Rattle.tg_law_headline.proofs.Alike.Machines.{TailTold}
 use Rattle.tg_law_headline.proofs.Alike.Refusals.{refused_at_once}
-use Rattle.tg_law_claims.proofs.Whole.Answers.Absent.{Owned}
-use Rattle.tg_law_claims.proofs.Whole.Answers.Hosted.{asked_hosted}
-use Rattle.tg_law_claims.proofs.Whole.Answers.Pasts.{gone_at, no_base_within, gone_told}
-use Rattle.tg_law_claims.proofs.Whole.Answers.Nones.{NoneTold, AheadTold, PastGoneAt, RescueAt, RescueGoneAt, ForgottenOk, WideOk, Ok, EachOk, Held, WorkHeld, Good, feed_turn, command_turn}
-use Rattle.tg_law_claims.proofs.Whole.Answers.Rescued.{none_in_reach, ReadsOther, reads_other}
-use Rattle.tg_law_claims.proofs.Whole.Answers.WalksEnd.{TaskOwned, owned_there}
+use Rattle.tg_law_claims.proofs.Answers.Absent.{Owned}
+use Rattle.tg_law_claims.proofs.Answers.Hosted.{asked_hosted}
+use Rattle.tg_law_claims.proofs.Answers.Pasts.{gone_at, no_base_within, gone_told}
+use Rattle.tg_law_claims.proofs.Answers.Nones.{NoneTold, AheadTold, PastGoneAt, RescueAt, RescueGoneAt, ForgottenOk, WideOk, Ok, EachOk, Held, WorkHeld, Good, feed_turn, command_turn}
+use Rattle.tg_law_claims.proofs.Answers.Rescued.{none_in_reach, ReadsOther, reads_other}
+use Rattle.tg_law_claims.proofs.Answers.WalksEnd.{TaskOwned, owned_there}
 
 -- what a reply says of a record that isn't there
 says_map : (m : Meaning) (what : WhatOf m) (P Q : ℕ → Type 0) → ((p : ℕ) → P p → Q p) → SaysNone m what P → SaysNone m what Q

@@ -28,14 +28,14 @@ use Rattle.tg_law_replies.proofs.History.Members.{has_contained}
 use Rattle.tg_law_walks.specs.Lists.Spared.{TrimsWereSpare}
 use Rattle.tg_law_walks.proofs.Drafts.Written.{then_takes}
 use Rattle.tg_law_syncs.specs.Finds.Left.{SavesPrecede}
-use Rattle.tg_law_claims.proofs.Whole.Causes.Causing as causing
-use Rattle.tg_law_claims.proofs.Whole.Causes.Heard.{silent, lose_tells, tick_tells, stop_tells}
-use Rattle.tg_law_claims.proofs.Whole.Causes.PastBases.{past_oid}
-use Rattle.tg_law_claims.proofs.Whole.Causes.Stalled.{goes_reach, AtWalksEnd, ends_tell, handed_ends}
-use Rattle.tg_law_claims.proofs.Whole.Causes.Stalling.{Plain, widens, Said, hosted_entries, kept_play, walked_so}
-use Rattle.tg_law_claims.proofs.Whole.Answers.Forgets.{no_base, is_open}
-use Rattle.tg_law_claims.proofs.Whole.Answers.Hosted.{asked_hosted, played_has}
-use Rattle.tg_law_claims.proofs.Whole.Answers.States.{HasState, play_keeps, start_has}
+use Rattle.tg_law_claims.proofs.Causes.Causing as causing
+use Rattle.tg_law_claims.proofs.Causes.Heard.{silent, lose_tells, tick_tells, stop_tells}
+use Rattle.tg_law_claims.proofs.Causes.PastBases.{past_oid}
+use Rattle.tg_law_claims.proofs.Causes.Stalled.{goes_reach, AtWalksEnd, ends_tell, handed_ends}
+use Rattle.tg_law_claims.proofs.Causes.Stalling.{Plain, widens, Said, hosted_entries, kept_play, walked_so}
+use Rattle.tg_law_claims.proofs.Answers.Forgets.{no_base, is_open}
+use Rattle.tg_law_claims.proofs.Answers.Hosted.{asked_hosted, played_has}
+use Rattle.tg_law_claims.proofs.Answers.States.{HasState, play_keeps, start_has}
 
 -- the refusals that come of what walks find
 abbrev pub IsFound : Refusal → Type 0

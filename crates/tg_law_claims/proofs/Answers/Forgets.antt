@@ -38,10 +38,10 @@ use Rattle.tg_law_syncs.specs.Finds.Left.{SavesPrecede}
 use Rattle.tg_law_headline.proofs.Decisions.Saved.{saves_listed}
 use Rattle.tg_law_headline.specs.Decisions.Forgetting.{WalksWhole}
 use Rattle.tg_law_headline.proofs.Decisions.Wholes.{forgets_walk_whole}
-use Rattle.tg_law_claims.proofs.Whole.Causes.EndsGive.{ends_give}
-use Rattle.tg_law_claims.proofs.Whole.Causes.Stalling.{widens, hosted_entries}
-use Rattle.tg_law_claims.proofs.Whole.Causes.Stalled.{AtWalksEnd}
-use Rattle.tg_law_claims.proofs.Whole.Causes.Causing as causing
+use Rattle.tg_law_claims.proofs.Causes.EndsGive.{ends_give}
+use Rattle.tg_law_claims.proofs.Causes.Stalling.{widens, hosted_entries}
+use Rattle.tg_law_claims.proofs.Causes.Stalled.{AtWalksEnd}
+use Rattle.tg_law_claims.proofs.Causes.Causing as causing
 
 -- The test.
 

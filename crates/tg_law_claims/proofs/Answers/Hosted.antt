@@ -28,12 +28,12 @@ use Rattle.tg_law_replies.specs.Replies.Ended.{AppendsEnd}
 use Rattle.tg_law_replies.specs.Replies.Laws.{ClientsFind}
 use Rattle.tg_law_replies.proofs.Replies.Carried.{Carries, carried_by, carried}
 use Rattle.tg_law_replies.proofs.Views.Bases.{loaded_of, oid_loaded}
-use Rattle.tg_law_claims.proofs.Whole.Causes.Causing.{has_has_oid}
-use Rattle.tg_law_claims.proofs.Whole.Causes.Judging.{now, view_waits}
-use Rattle.tg_law_claims.proofs.Whole.Causes.Stalled.{command_waits}
-use Rattle.tg_law_claims.proofs.Whole.Causes.Stalling.{hosted_entries, kept_play}
-use Rattle.tg_law_claims.proofs.Whole.Answers.Hosting.{WorkHosts, ClientHosts, command_fine, deliver_fine, tick_fine}
-use Rattle.tg_law_claims.proofs.Whole.Answers.States.{HasState, play_keeps, start_has}
+use Rattle.tg_law_claims.proofs.Causes.Causing.{has_has_oid}
+use Rattle.tg_law_claims.proofs.Causes.Judging.{now, view_waits}
+use Rattle.tg_law_claims.proofs.Causes.Stalled.{command_waits}
+use Rattle.tg_law_claims.proofs.Causes.Stalling.{hosted_entries, kept_play}
+use Rattle.tg_law_claims.proofs.Answers.Hosting.{WorkHosts, ClientHosts, command_fine, deliver_fine, tick_fine}
+use Rattle.tg_law_claims.proofs.Answers.States.{HasState, play_keeps, start_has}
 
 module _ (m : Meaning) where
   record Held (c : Config m) : Type 0 where

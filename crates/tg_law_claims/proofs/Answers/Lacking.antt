@@ -25,16 +25,16 @@ use Rattle.tg_law_walks.proofs.Walks.Syncs.{logs_by_position}
 use Rattle.tg_law_syncs.proofs.Exact.Finds.{rounds_exact}
 use Rattle.tg_law_headline.proofs.Leaves.Turns.{AtTask, AtWork}
 use Rattle.tg_law_claims.specs.Causes.Undecidings.{LacksRecord, UnsureUnlessLacking}
-use Rattle.tg_law_claims.proofs.Whole.Causes.EndsGive.{ends_give}
-use Rattle.tg_law_claims.proofs.Whole.Causes.Stalling.{Plain, Brief, Said, widens, walked_so}
-use Rattle.tg_law_claims.proofs.Whole.Causes.Stalled.{AtWalksEnd, ends_tell, undecided_ends}
+use Rattle.tg_law_claims.proofs.Causes.EndsGive.{ends_give}
+use Rattle.tg_law_claims.proofs.Causes.Stalling.{Plain, Brief, Said, widens, walked_so}
+use Rattle.tg_law_claims.proofs.Causes.Stalled.{AtWalksEnd, ends_tell, undecided_ends}
 use Rattle.tg_law_claims.specs.Answers.Undecided.{HasNoYes, UnsureUnlessYes}
-use Rattle.tg_law_claims.proofs.Whole.Answers.Absent.{Owned, commit_found, own_found}
-use Rattle.tg_law_claims.proofs.Whole.Answers.Along.{K, owns_at}
-use Rattle.tg_law_claims.proofs.Whole.Causes.OwnAlong.{own_record}
-use Rattle.tg_law_claims.proofs.Whole.Answers.NoYes.{Ok as Open, each_has as open_has, walked_ok}
-use Rattle.tg_law_claims.proofs.Whole.Answers.OwnSince.{own_past}
-use Rattle.tg_law_claims.proofs.Whole.Answers.WalksEnd.{TaskOwned, owned_there}
+use Rattle.tg_law_claims.proofs.Answers.Absent.{Owned, commit_found, own_found}
+use Rattle.tg_law_claims.proofs.Answers.Along.{K, owns_at}
+use Rattle.tg_law_claims.proofs.Causes.OwnAlong.{own_record}
+use Rattle.tg_law_claims.proofs.Answers.NoYes.{Ok as Open, each_has as open_has, walked_ok}
+use Rattle.tg_law_claims.proofs.Answers.OwnSince.{own_past}
+use Rattle.tg_law_claims.proofs.Answers.WalksEnd.{TaskOwned, owned_there}
 
 module _ (m : Meaning) (h : Header) (ms : Moves m) (e : EventOf m) (before : Reaches m h ms (after m h ms)) (reach : Reaches m h (ms ++ Takes e ∷ []) (after m h (ms ++ Takes e ∷ []))) (trims : TrimsWereSpare m h (ms ++ Takes e ∷ [])) (ends : AppendsEnd m h (ms ++ Takes e ∷ []) (after m h (ms ++ Takes e ∷ []))) where
   module _ (t : Told m) (k : AtWalksEnd m h ms e reach trims t) where

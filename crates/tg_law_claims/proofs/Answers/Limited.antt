@@ -19,7 +19,7 @@ use Rattle.tg_protocol.specs.Transactions.{Tx, TxFault, read_fault, write_fault}
 use Rattle.tg_protocol.specs.Clients.{Work, Client, busy, no_tx, tx_open, wrong_kind, not_registered, not_hosted, too_many_hosted, put_fault, ask_fault, by_tx, tests, write_of, hosts_oid, refusal}
 use Rattle.tg_protocol.specs.Answers.{Moved, pruned, took_over, appends, syncs}
 use Rattle.tg_protocol.specs.ClientSteps.{owns, lost, feed, refused_or, client_command, client_deliver, client_tick, tick_by}
-use Rattle.tg_law_claims.proofs.Whole.Answers.Limits.{IsLean, AreFew, first_none, untrue, open_lean, read_lean, put_lean, host_few}
+use Rattle.tg_law_claims.proofs.Answers.Limits.{IsLean, AreFew, first_none, untrue, open_lean, read_lean, put_lean, host_few}
 use Rattle.tg_law_steps.proofs.Places.{Place}
 use Rattle.tg_law_steps.proofs.Ways.{Way, FeedsSync, AllWalked, HasPlayed}
 use Rattle.tg_law_steps.proofs.Ends.{End, GoesOn, LearnsNewer, Syncs, Appends, Refuses, Answers, Tells, SyncGoes, JudgedAt, MarkBegins, RecordForgotten, IsAnswered, IsAsked, JudgedSo, JudgedLost, EndBlocked, EndUnsure, EndJudged, IsCommitted, IsMarked}

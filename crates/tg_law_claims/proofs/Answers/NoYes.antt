@@ -16,7 +16,7 @@ use Rattle.tg_law_steps.proofs.Places.{Place}
 use Rattle.tg_law_steps.proofs.Ways.{AllWalked, HasPlayed}
 use Rattle.tg_law_steps.proofs.Ends.{Judges, Commit', Abort', CannotJudge, NoRecord, NoVerdict, NoVersion, NoChange, End, GoesOn, LearnsNewer, Syncs, Appends, Refuses, Answers, Tells, IsAppended, MarkBegins, IsAnswered, DecidedAt, DecidedLost, JudgedSo, JudgedLost, EndBlocked, EndUnsure, EndJudged, IsTold, IsRescued, IsMarked, PlaysOther}
 use Rattle.tg_law_steps.proofs.Along.{Answered, AnsweredBy, walked_is}
-use Rattle.tg_law_claims.proofs.Whole.Causes.Stalling.{verdict_there, blocked_there}
+use Rattle.tg_law_claims.proofs.Causes.Stalling.{verdict_there, blocked_there}
 
 module _ (m : Meaning) where
   -- a decision record that says yes makes a record commit

@@ -38,7 +38,7 @@ use Rattle.tg_law_walks.proofs.Walks.Members.{lt_of, not_lt}
 use Rattle.tg_law_headline.proofs.Alike.Appends.{asked}
 use Rattle.tg_law_headline.proofs.Alike.Refusals.{IsAtOnce, IsByLayout, copy_by_layout}
 use Rattle.tg_law_headline.proofs.Alike.Machines.{TailTold, SyncOk, SyncNext, sync_ok, sync_start_ok}
-use Rattle.tg_law_claims.proofs.Whole.Answers.Absent.{Owned, fewer_owned, HasFate, LowFor, zero_low, lo_low, NoneFor, none_at, RescueFits, rescue_fits}
+use Rattle.tg_law_claims.proofs.Answers.Absent.{Owned, fewer_owned, HasFate, LowFor, zero_low, lo_low, NoneFor, none_at, RescueFits, rescue_fits}
 use Rattle.tg_law_steps.proofs.Places.{Place, Feeds, Newer, OnSync, OnWalk, OnAppend, Over, Walks, Plays, Looks, Rescues as Rescues'}
 use Rattle.tg_law_steps.proofs.Ways.{Way, FeedsSync, NewerSync, Confirms, Settles, MetHigh, StartsOver, sync_fed, AllWalked, HasPlayed, LooksBack, IsRescue}
 use Rattle.tg_law_steps.proofs.Ends.{End, GoesOn, LearnsNewer, Syncs, Appends, Refuses, Answers, Tells, IsGoing, TrimsGo, TrimsBegin, CopyGoes, ReconfGoes, IsLearning, WalkLearns, AppendLearns, IsSynced, JudgedAt, IsAppended, EndDecides, DecideDecides, SaveBegins, MarkBegins, RescueDecides, Commit', IsRefused, RecordForgotten, OtherForgotten, CopyFault, FateForgotten, DecideForgotten, LooksAhead, LooksForgotten, RescueForgotten, RescueWide, IsAnswered, FateNone, DecideNone, DecidedAt, DecidedLost, JudgedSo, JudgedLost, EndJudged, IsTold, RescueAbsent, RescueMissing, IsRescued, IsMarked, PlaysOther}

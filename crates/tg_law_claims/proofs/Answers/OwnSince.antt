@@ -38,8 +38,8 @@ use Rattle.tg_law_headline.proofs.Spans.Snapshots as spans
 use Rattle.tg_law_headline.proofs.Decided.Ending.{AtTail, deliver_tail}
 use Rattle.tg_law_headline.proofs.Alike.Speaks.{Delivered, From}
 use Rattle.tg_law_headline.proofs.Alike.Running.{end_state}
-use Rattle.tg_law_claims.proofs.Whole.Answers.EndsSettled.{HasPage, ends_settled}
-use Rattle.tg_law_claims.proofs.Whole.Answers.Following.{Keep, LearnOk, WorkKept, Fresh, TaskOk, HandOk, WorkOk, EndOk', Lands, command_ok, deliver_ok, tick_ok}
+use Rattle.tg_law_claims.proofs.Answers.EndsSettled.{HasPage, ends_settled}
+use Rattle.tg_law_claims.proofs.Answers.Following.{Keep, LearnOk, WorkKept, Fresh, TaskOk, HandOk, WorkOk, EndOk', Lands, command_ok, deliver_ok, tick_ok}
 
 same_node : (a b : NodeId) → node_eq a b ≡ true → a ≡ b
 unfolding node_eq

@@ -26,7 +26,7 @@ use Rattle.tg_law_walks.specs.Walks.Streams.{IsByPosition}
 use Rattle.tg_law_walks.proofs.Walks.Cells.{entry_there}
 use Rattle.tg_law_walks.proofs.Walks.Members.{Has, has_contained}
 use Rattle.tg_law_walks.proofs.Walks.Plays.{trimmed}
-use Rattle.tg_law_claims.proofs.Whole.Answers.Forgets.{listed_in}
+use Rattle.tg_law_claims.proofs.Answers.Forgets.{listed_in}
 
 kept_has : {X : Type 0} → (f : X → Bool) (xs : List X) (x : X) → Has xs x → f x ≡ true → Has (filter f xs) x
 kept_has f [] x i is = absurd i

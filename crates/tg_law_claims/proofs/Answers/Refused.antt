@@ -16,10 +16,10 @@ use Rattle.tg_law_headline.proofs.AllKinds.Touching.{kinds_touch_parts}
 use Rattle.tg_law_headline.proofs.Joint.Holding.{steps_hold}
 use Rattle.tg_law_headline.proofs.Store.Steps.{store_trims_are_spare}
 use Rattle.tg_law_claims.specs.Causes.Sorts.{RefusedAtOnceTrue, MostRefusalsTrue}
-use Rattle.tg_law_claims.proofs.Whole.Causes.Reasons.{refused_at_once_true, most_refusals_true}
-use Rattle.tg_law_claims.proofs.Whole.Causes.Stalled.{goes_reach}
+use Rattle.tg_law_claims.proofs.Causes.Reasons.{refused_at_once_true, most_refusals_true}
+use Rattle.tg_law_claims.proofs.Causes.Stalled.{goes_reach}
 use Rattle.tg_law_headline.proofs.Runs.Finding.{ends, found}
-use Rattle.tg_law_claims.proofs.Whole.Answers.Caused.{IsFound, FoundTrue, found_true}
+use Rattle.tg_law_claims.proofs.Answers.Caused.{IsFound, FoundTrue, found_true}
 
 module _ (w : World all_kinds) (e : EventOf all_kinds) (now : RefusedAtOnceTrue all_kinds w e) (most : MostRefusalsTrue all_kinds w e) (later : FoundTrue all_kinds w e) where
   -- of what walks find, in whatever step

@@ -37,8 +37,8 @@ use Rattle.tg_law_layouts.specs.Moves.Configs.{Config, config, client_in}
 use Rattle.tg_law_layouts.proofs.Moves.Lists.{at_set, at_map, contained}
 use Rattle.tg_law_layouts.proofs.Moves.Moves.{ClientInput, Commanded, Hears', Ticks', Cases, run_keeps}
 use Rattle.tg_law_layouts.proofs.Layouts.Deciding.{layouts_are_known, layouts_are_sound}
-use Rattle.tg_law_claims.proofs.Whole.Answers.Limits.{IsWithin, first_none, untrue, none_within, read_lean, put_lean, host_few}
-use Rattle.tg_law_claims.proofs.Whole.Answers.Limited.{MaybeLean, Limited, no_fault, commanded, delivered, ticked}
+use Rattle.tg_law_claims.proofs.Answers.Limits.{IsWithin, first_none, untrue, none_within, read_lean, put_lean, host_few}
+use Rattle.tg_law_claims.proofs.Answers.Limited.{MaybeLean, Limited, no_fault, commanded, delivered, ticked}
 
 -- The layout after a change, whatever its start.
 

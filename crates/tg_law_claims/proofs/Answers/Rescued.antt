@@ -19,12 +19,12 @@ use Rattle.tg_law_walks.specs.Walks.Rounds.{round, IsRound}
 use Rattle.tg_law_walks.specs.Walks.Streams.{IsByPosition}
 use Rattle.tg_law_walks.proofs.Walks.Members.{Has, has_contained, contained_has}
 use Rattle.tg_law_walks.proofs.Walks.Plays.{own_rising, own_only}
-use Rattle.tg_law_claims.proofs.Whole.Causes.Causing.{has_has_oid}
-use Rattle.tg_law_claims.proofs.Whole.Causes.Rescuing.{Blocks, IsWide, playing, rescue_wide}
+use Rattle.tg_law_claims.proofs.Causes.Causing.{has_has_oid}
+use Rattle.tg_law_claims.proofs.Causes.Rescuing.{Blocks, IsWide, playing, rescue_wide}
 use Rattle.tg_law_claims.specs.Answers.Rescues.{IsInReach}
 use Rattle.tg_law_claims.specs.Answers.Undecided.{rescue_begins, IsPlayed, AllTold}
-use Rattle.tg_law_claims.proofs.Whole.Answers.Absent.{Owned, commit_found, own_found, stream_found, RescueFits, rescue_fits}
-use Rattle.tg_law_claims.proofs.Whole.Answers.Played.{is_played, begun_told}
+use Rattle.tg_law_claims.proofs.Answers.Absent.{Owned, commit_found, own_found, stream_found, RescueFits, rescue_fits}
+use Rattle.tg_law_claims.proofs.Answers.Played.{is_played, begun_told}
 
 -- a commit record that was found at a position, or one below that isn't passed over, reads an object other than the 128 that are walked,
 -- and isn't decided

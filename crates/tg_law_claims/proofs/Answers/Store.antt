@@ -17,17 +17,17 @@ use Rattle.tg_law_headline.proofs.Store.Steps.{store_trims_are_spare}
 use Rattle.tg_law_headline.proofs.Joint.Holding.{steps_hold}
 use Rattle.tg_law_claims.specs.Causes.Undecidings.{UndecidedTrue, UnsureUnlessLacking}
 use Rattle.tg_law_headline.proofs.Runs.Finding.{ends}
-use Rattle.tg_law_claims.proofs.Whole.Causes.Store.{directories_true}
-use Rattle.tg_law_claims.proofs.Whole.Causes.StoreStalled.{undecided_true, unsure_unless_lacking}
+use Rattle.tg_law_claims.proofs.Causes.Store.{directories_true}
+use Rattle.tg_law_claims.proofs.Causes.StoreStalled.{undecided_true, unsure_unless_lacking}
 use Rattle.tg_law_claims.specs.Answers.Confirmed.{NonesThere, AheadsThere, FatesForgotten, PastsForgotten, UnsavedThere}
 use Rattle.tg_law_claims.specs.Answers.Rescues.{RescuesForgotten, RescuesTooWide}
 use Rattle.tg_law_claims.specs.Answers.Undecided.{UnsureUnlessYes, PastsUndecided, RescuesUndecided}
-use Rattle.tg_law_claims.proofs.Whole.Answers.Along.{nones_last, aheads_last, fates_last, pasts_last, rescues_forgotten_last, rescues_wide_last, some_tail}
-use Rattle.tg_law_claims.proofs.Whole.Answers.Lacking.{unsure_there, no_yes_there as unsure_unless_yes}
-use Rattle.tg_law_claims.proofs.Whole.Answers.Refused.{refusals_true}
-use Rattle.tg_law_claims.proofs.Whole.Answers.Refusing.{causes_refuse_here}
-use Rattle.tg_law_claims.proofs.Whole.Answers.Unknown.{pasts_undecided_there, rescues_undecided_there}
-use Rattle.tg_law_claims.proofs.Whole.Answers.Unsaved.{unsaved_there as unsaved_last}
+use Rattle.tg_law_claims.proofs.Answers.Along.{nones_last, aheads_last, fates_last, pasts_last, rescues_forgotten_last, rescues_wide_last, some_tail}
+use Rattle.tg_law_claims.proofs.Answers.Lacking.{unsure_there, no_yes_there as unsure_unless_yes}
+use Rattle.tg_law_claims.proofs.Answers.Refused.{refusals_true}
+use Rattle.tg_law_claims.proofs.Answers.Refusing.{causes_refuse_here}
+use Rattle.tg_law_claims.proofs.Answers.Unknown.{pasts_undecided_there, rescues_undecided_there}
+use Rattle.tg_law_claims.proofs.Answers.Unsaved.{unsaved_there as unsaved_last}
 use Rattle.tg_law_walks.proofs.Checkpoints.Checkpoints.{entries_own}
 use Rattle.tg_law_syncs.proofs.Follow.Saves.{saves_precede}
 use Rattle.tg_law_headline.proofs.AllKinds.Touching.{kinds_touch_parts}

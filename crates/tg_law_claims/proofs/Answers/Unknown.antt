@@ -35,13 +35,13 @@ use Rattle.tg_law_walks.proofs.Drafts.Written.{then_takes}
 use Rattle.tg_law_walks.proofs.Walks.Plays.{own_rising}
 use Rattle.tg_law_walks.proofs.Walks.Syncs.{logs_by_position}
 use Rattle.tg_law_claims.specs.Causes.Undecidings.{UndecidedTrue}
-use Rattle.tg_law_claims.proofs.Whole.Causes.Causing as causing
-use Rattle.tg_law_claims.proofs.Whole.Causes.Rescuing.{has_oid_has, IsStuck, playing, rescue_stuck}
-use Rattle.tg_law_claims.proofs.Whole.Causes.Stalled.{AtWalksEnd, ends_tell, command_waits, undecided_ends}
-use Rattle.tg_law_claims.proofs.Whole.Causes.Stalling.{Plain, Brief, PlaysKept, Unknowns, IsBlocked, Said, walked_so}
+use Rattle.tg_law_claims.proofs.Causes.Causing as causing
+use Rattle.tg_law_claims.proofs.Causes.Rescuing.{has_oid_has, IsStuck, playing, rescue_stuck}
+use Rattle.tg_law_claims.proofs.Causes.Stalled.{AtWalksEnd, ends_tell, command_waits, undecided_ends}
+use Rattle.tg_law_claims.proofs.Causes.Stalling.{Plain, Brief, PlaysKept, Unknowns, IsBlocked, Said, walked_so}
 use Rattle.tg_law_claims.specs.Answers.Confirmed.{EndsWalks}
 use Rattle.tg_law_claims.specs.Answers.Undecided.{past_entries, past_begins, rescue_begins, IsPlayed, AllTold, IsOutOf, PastsUndecided, RescuesUndecided}
-use Rattle.tg_law_claims.proofs.Whole.Answers.Played.{is_played, begun_told}
+use Rattle.tg_law_claims.proofs.Answers.Played.{is_played, begun_told}
 
 module _ (m : Meaning) (h : Header) (ms : Moves m) (e : EventOf m) (r : Reaches m h (ms ++ Takes e ∷ []) (after m h (ms ++ Takes e ∷ []))) (trims : TrimsWereSpare m h (ms ++ Takes e ∷ [])) where
   module _ (t : Told m) (k : AtWalksEnd m h ms e r trims t) where

@@ -24,11 +24,11 @@ use Rattle.tg_law_replies.proofs.History.Members.{has_contained}
 use Rattle.tg_law_walks.specs.Lists.Spared.{TrimsWereSpare}
 use Rattle.tg_law_walks.proofs.Drafts.Written.{then_takes}
 use Rattle.tg_law_syncs.specs.Finds.Left.{SavesPrecede}
-use Rattle.tg_law_claims.proofs.Whole.Causes.Stalled.{AtWalksEnd, ends_tell, command_waits, undecided_ends}
-use Rattle.tg_law_claims.proofs.Whole.Causes.Stalling.{Plain, Brief, Said, hosted_entries, walked_so}
+use Rattle.tg_law_claims.proofs.Causes.Stalled.{AtWalksEnd, ends_tell, command_waits, undecided_ends}
+use Rattle.tg_law_claims.proofs.Causes.Stalling.{Plain, Brief, Said, hosted_entries, walked_so}
 use Rattle.tg_law_claims.specs.Answers.Confirmed.{IsUnsaved, UnsavedThere}
-use Rattle.tg_law_claims.proofs.Whole.Answers.Forgets.{none_below}
-use Rattle.tg_law_claims.proofs.Whole.Answers.Hosted.{asked_hosted}
+use Rattle.tg_law_claims.proofs.Answers.Forgets.{none_below}
+use Rattle.tg_law_claims.proofs.Answers.Hosted.{asked_hosted}
 
 module _ (m : Meaning) (h : Header) (ms : Moves m) (e : EventOf m) (before : Reaches m h ms (after m h ms)) (r : Reaches m h (ms ++ Takes e ∷ []) (after m h (ms ++ Takes e ∷ []))) (trims : TrimsWereSpare m h (ms ++ Takes e ∷ []))
     (precede : SavesPrecede m (entries_in m (after m h (ms ++ Takes e ∷ [])))) where

@@ -22,7 +22,7 @@ use Rattle.tg_protocol.specs.Worlds.{World, client, runs}
 use Rattle.tg_law_walks.specs.Walks.Walks.{AreMore}
 use Rattle.tg_law_walks.proofs.Walks.Cells.{more_some}
 use Rattle.tg_law_headline.proofs.Leaves.Walks.{WalkMore, starts_more, walks_more, feed_more}
-use Rattle.tg_law_claims.proofs.Whole.Answers.Absent.{Owned}
+use Rattle.tg_law_claims.proofs.Answers.Absent.{Owned}
 
 module _ (m : Meaning) where
   abbrev End : Option (Walked m) → Type 0

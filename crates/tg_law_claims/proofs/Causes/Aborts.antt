@@ -35,9 +35,9 @@ use Rattle.tg_law_replies.proofs.Replies.Found.{each_ready}
 use Rattle.tg_law_replies.proofs.Replies.Ready.{Ready}
 use Rattle.tg_law_replies.proofs.Replies.Telling.{RightAndKept, of_right, found_kept}
 use Rattle.tg_law_headline.proofs.Alike.Speaks.{Delivered, From, told_of}
-use Rattle.tg_law_claims.proofs.Whole.Causes.Aborting.{EachOk, WorkOk, Ends', GoodTurn, commanded, delivered, ticked}
-use Rattle.tg_law_claims.proofs.Whole.Causes.Rises.{log_rises}
-use Rattle.tg_law_claims.proofs.Whole.Causes.Least.{SaysLeast, plain_least, TrueViewed, none_viewed, least_end}
+use Rattle.tg_law_claims.proofs.Causes.Aborting.{EachOk, WorkOk, Ends', GoodTurn, commanded, delivered, ticked}
+use Rattle.tg_law_claims.proofs.Causes.Rises.{log_rises}
+use Rattle.tg_law_claims.proofs.Causes.Least.{SaysLeast, plain_least, TrueViewed, none_viewed, least_end}
 use Rattle.tg_law_headline.proofs.Alike.Running.{AllSay, none_say, both_say, notes_say, end_state as run_end}
 
 module _ (m : Meaning) (h : Header) (ms : Moves m) (r : Reaches m h ms (after m h ms)) (finds : ClientsFind m h ms (after m h ms)) (ends : AppendsEnd m h ms (after m h ms)) where

@@ -25,10 +25,10 @@ use Rattle.tg_law_layouts.proofs.Layouts.Layouts.{stays_sent}
 use Rattle.tg_law_walks.proofs.Lists.Reached.{before_reached}
 use Rattle.tg_law_replies.proofs.Books.Worlds.{run_both}
 use Rattle.tg_law_headline.proofs.Alike.Appends.{asked}
-use Rattle.tg_law_claims.proofs.Whole.Causes.Turns.{Fine}
-use Rattle.tg_law_claims.proofs.Whole.Causes.Keeping.{all_fine}
-use Rattle.tg_law_claims.proofs.Whole.Causes.Jobs.{Heard}
-use Rattle.tg_law_claims.proofs.Whole.Causes.Reasoning.{WorkHeld, Good, feed_good, command_held}
+use Rattle.tg_law_claims.proofs.Causes.Turns.{Fine}
+use Rattle.tg_law_claims.proofs.Causes.Keeping.{all_fine}
+use Rattle.tg_law_claims.proofs.Causes.Jobs.{Heard}
+use Rattle.tg_law_claims.proofs.Causes.Reasoning.{WorkHeld, Good, feed_good, command_held}
 use Rattle.tg_law_headline.proofs.Alike.Running.{starts_at, end_state as run_end}
 
 module _ (m : Meaning) (h : Header) (ms : Moves m) (r : Reaches m h ms (after m h ms)) (P : List Packet) (within : (p : Packet) → Has (after m h ms).packets p → Has P p) where

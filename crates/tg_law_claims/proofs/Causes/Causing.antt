@@ -50,14 +50,14 @@ use Rattle.tg_law_walks.proofs.Walks.Syncs.{logs_by_position}
 use Rattle.tg_law_syncs.proofs.Exact.Finds.{rounds_exact}
 use Rattle.tg_law_headline.proofs.Leaves.Leaving.{mine_of}
 use Rattle.tg_law_claims.specs.Causes.Undecidings.{UndecidedTrue, LacksRecord, UnsureUnlessLacking}
-use Rattle.tg_law_claims.proofs.Whole.Causes.EndsGive.{ends_give}
-use Rattle.tg_law_claims.proofs.Whole.Causes.Judging.{never_unchanged}
-use Rattle.tg_law_claims.proofs.Whole.Causes.Stalling.{Plain, Brief, PlaysKept, widens, Unknowns, IsBlocked, blocked_there, SeenBy, Said, hosted_entries, kept_play, walked_so}
-use Rattle.tg_law_claims.proofs.Whole.Causes.HeardAlong.{Met}
-use Rattle.tg_law_claims.proofs.Whole.Causes.OwnAlong.{owns_commit}
-use Rattle.tg_law_claims.proofs.Whole.Causes.PastBases.{past_oid, past_up}
-use Rattle.tg_law_claims.proofs.Whole.Causes.Rescuing.{has_oid_has, trim_has, reads_trimmed, none_among, playing, rescue_stuck, stuck_trimmed}
-use Rattle.tg_law_claims.proofs.Whole.Causes.Stalled.{goes_reach, command_waits, AtWalksEnd, ends_tell, undecided_ends, met_of}
+use Rattle.tg_law_claims.proofs.Causes.EndsGive.{ends_give}
+use Rattle.tg_law_claims.proofs.Causes.Judging.{never_unchanged}
+use Rattle.tg_law_claims.proofs.Causes.Stalling.{Plain, Brief, PlaysKept, widens, Unknowns, IsBlocked, blocked_there, SeenBy, Said, hosted_entries, kept_play, walked_so}
+use Rattle.tg_law_claims.proofs.Causes.HeardAlong.{Met}
+use Rattle.tg_law_claims.proofs.Causes.OwnAlong.{owns_commit}
+use Rattle.tg_law_claims.proofs.Causes.PastBases.{past_oid, past_up}
+use Rattle.tg_law_claims.proofs.Causes.Rescuing.{has_oid_has, trim_has, reads_trimmed, none_among, playing, rescue_stuck, stuck_trimmed}
+use Rattle.tg_law_claims.proofs.Causes.Stalled.{goes_reach, command_waits, AtWalksEnd, ends_tell, undecided_ends, met_of}
 
 pub has_has_oid : (o : Oid) (os : List Oid) → Has os o → has_oid o os ≡ true
 has_has_oid o [] i = absurd i

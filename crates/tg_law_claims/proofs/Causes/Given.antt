@@ -16,8 +16,8 @@ use Rattle.tg_protocol.specs.Causes.{DirectoryTrue, CauseAtOnce, HasCause, comma
 use Rattle.tg_law_layouts.proofs.Moves.Members.{Has, has_contained, has_map}
 use Rattle.tg_law_replies.proofs.Books.Worlds.{cancel, nil_right}
 use Rattle.tg_law_claims.specs.Causes.Sorts.{RefusedAtOnceTrue}
-use Rattle.tg_law_claims.proofs.Whole.Causes.Turns.{NotRefused, NoneRefused, Fine, Takes, Silent, Says, accept_takes}
-use Rattle.tg_law_claims.proofs.Whole.Causes.AtOnce.{Caused, refusal_caused}
+use Rattle.tg_law_claims.proofs.Causes.Turns.{NotRefused, NoneRefused, Fine, Takes, Silent, Says, accept_takes}
+use Rattle.tg_law_claims.proofs.Causes.AtOnce.{Caused, refusal_caused}
 
 module _ (m : Meaning) where
   none_has : (ns : List (NoteOf m)) (y : NoteOf m) (why : Refusal) → NoneRefused m ns → Has ns y → y.what ≡ told.Refused why → ⊥

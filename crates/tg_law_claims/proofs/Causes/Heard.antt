@@ -36,10 +36,10 @@ use Rattle.tg_law_replies.proofs.Books.Worlds.{cancel, nil_right, declared}
 use Rattle.tg_law_headline.proofs.Alike.Speaks.{told_of}
 use Rattle.tg_law_headline.proofs.Alike.Told.{overtakes_agree}
 use Rattle.tg_law_claims.specs.Causes.Sorts.{IsHeard, RefusedLaterTrue}
-use Rattle.tg_law_claims.proofs.Whole.Causes.Keeping.{refusals_keep}
-use Rattle.tg_law_claims.proofs.Whole.Causes.Jobs.{ToldNow, OwnGone}
-use Rattle.tg_law_claims.proofs.Whole.Causes.Reasoning.{NamedGone, AheadOf, LargeOf, Because, SayOk}
-use Rattle.tg_law_claims.proofs.Whole.Causes.Causal.{Got, AskSent, State, FeedOk, feed_ok, end_state}
+use Rattle.tg_law_claims.proofs.Causes.Keeping.{refusals_keep}
+use Rattle.tg_law_claims.proofs.Causes.Jobs.{ToldNow, OwnGone}
+use Rattle.tg_law_claims.proofs.Causes.Reasoning.{NamedGone, AheadOf, LargeOf, Because, SayOk}
+use Rattle.tg_law_claims.proofs.Causes.Causal.{Got, AskSent, State, FeedOk, feed_ok, end_state}
 
 module _ (m : Meaning) (w : World m) where
   -- What a step that gives no command tells.

@@ -54,10 +54,10 @@ use Rattle.tg_law_syncs.proofs.Exact.Exact.{work_ends}
 use Rattle.tg_law_syncs.proofs.Exact.Held.{goes_on, clients_work}
 use Rattle.tg_law_headline.proofs.Alike.Appends.{is_tail}
 use Rattle.tg_law_headline.proofs.Alike.Speaks.{Noted, Before, Anew, Delivered, From}
-use Rattle.tg_law_claims.proofs.Whole.Causes.OnPaths.{AsksUnit, job_reads}
-use Rattle.tg_law_claims.proofs.Whole.Causes.Refusing.{fine_refusal}
-use Rattle.tg_law_claims.proofs.Whole.Causes.Stalling.{PlainNotes, BriefNotes, brief_notes}
-use Rattle.tg_law_claims.proofs.Whole.Causes.Hearing.{AnswerTells, WorkHeld, EndOk, Comes, Plainly, Ended, comes_held, MetsBy, TaskHears, feed_comes, command_good}
+use Rattle.tg_law_claims.proofs.Causes.OnPaths.{AsksUnit, job_reads}
+use Rattle.tg_law_claims.proofs.Causes.Refusing.{fine_refusal}
+use Rattle.tg_law_claims.proofs.Causes.Stalling.{PlainNotes, BriefNotes, brief_notes}
+use Rattle.tg_law_claims.proofs.Causes.Hearing.{AnswerTells, WorkHeld, EndOk, Comes, Plainly, Ended, comes_held, MetsBy, TaskHears, feed_comes, command_good}
 use Rattle.tg_law_headline.proofs.Alike.Running.{starts_at, state_at as run_at}
 
 -- a stream's link is one of the links

@@ -37,9 +37,9 @@ use Rattle.tg_law_walks.specs.Walks.Rounds.{round, IsConfirmed, IsAtWalk, IsAtTa
 use Rattle.tg_law_walks.specs.Walks.Laws.{SyncEndsAs}
 use Rattle.tg_law_walks.proofs.Walks.Cells.{more_known}
 use Rattle.tg_law_syncs.proofs.Known.Ways.{Came, Rests, Appends, Syncs, Trims as Trims', WalkedWay, Plays, LeavesView, played_view, walked_way}
-use Rattle.tg_law_claims.proofs.Whole.Causes.OnPaths.{IsRead, next_on_path, WalkOn, NextOn, start_on, again_on, feed_on}
-use Rattle.tg_law_claims.proofs.Whole.Causes.Refusing.{NotUndecided, NotFound, Fine, FineCopy, fine_copy}
-use Rattle.tg_law_claims.proofs.Whole.Causes.Stalling.{Plain, PlainNotes, Brief, BriefNotes, brief_notes, PlainPurpose, PlainWork, widens, StreamsFit, WorkStreams, Said, walked_so}
+use Rattle.tg_law_claims.proofs.Causes.OnPaths.{IsRead, next_on_path, WalkOn, NextOn, start_on, again_on, feed_on}
+use Rattle.tg_law_claims.proofs.Causes.Refusing.{NotUndecided, NotFound, Fine, FineCopy, fine_copy}
+use Rattle.tg_law_claims.proofs.Causes.Stalling.{Plain, PlainNotes, Brief, BriefNotes, brief_notes, PlainPurpose, PlainWork, widens, StreamsFit, WorkStreams, Said, walked_so}
 use Rattle.tg_law_layouts.proofs.Moves.Ways.{way_up}
 use Rattle.tg_law_steps.proofs.Places.{Place, Feeds, Newer, OnSync, OnWalk, OnAppend, Over, Walks, Plays, Looks, Rescues as Rescues'}
 use Rattle.tg_law_steps.proofs.Ways.{Way, FeedsSync, FeedsWalk, FeedsAppend, NewerSync, NewerWalk, NewerAppend, Confirms, Settles, EndsAtOnce, WalkEnds, MetNone, MetLow, MetHigh, StartsOver}

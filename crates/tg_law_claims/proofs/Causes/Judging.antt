@@ -38,7 +38,7 @@ use Rattle.tg_law_replies.proofs.Replies.Ready.{IsReady, IsReadyToPlay, Ready, v
 use Rattle.tg_law_replies.proofs.Replies.Telling.{RightAndKept, of_right, found_kept}
 use Rattle.tg_law_replies.proofs.Views.Plays.{verdicts_true, plays_true, played_stands, starts_true}
 use Rattle.tg_law_replies.proofs.Views.Records.{commit_there}
-use Rattle.tg_law_claims.proofs.Whole.Causes.EndsGive.{ends_give}
+use Rattle.tg_law_claims.proofs.Causes.EndsGive.{ends_give}
 
 -- The kept view is given up, or stays through the walks of a step.
 module _ (m : Meaning) (w : World m) (k : ℕ) where

@@ -19,7 +19,7 @@ use Rattle.tg_law_layouts.proofs.Moves.Members.{Has, has_contained, has_map}
 use Rattle.tg_law_layouts.proofs.Moves.Moves.{ClientInput, Commanded, Hears', Ticks', Cases, run_keeps}
 use Rattle.tg_law_replies.proofs.Books.Worlds.{cancel, nil_right}
 use Rattle.tg_law_headline.proofs.Alike.Speaks.{From, Speaks, Silent, Speaks', Turns, told_of, speaks}
-use Rattle.tg_law_claims.proofs.Whole.Causes.Turns.{NotRefused, NoneRefused, Fine, Kept, Commands, AtOnce, Taken, Told as Tells, Delivers, Quiet, Replied, Refused', commanded, delivered, ticked}
+use Rattle.tg_law_claims.proofs.Causes.Turns.{NotRefused, NoneRefused, Fine, Kept, Commands, AtOnce, Taken, Told as Tells, Delivers, Quiet, Replied, Refused', commanded, delivered, ticked}
 
 module _ (m : Meaning) where
   -- No answer that waits for its decision record is a refusal.

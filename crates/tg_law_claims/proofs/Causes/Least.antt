@@ -35,7 +35,7 @@ use Rattle.tg_law_replies.proofs.History.Members.{Has, has_contained, contained_
 use Rattle.tg_law_replies.proofs.Views.Plays.{plays_true, played_stands, starts_true, changes_true}
 use Rattle.tg_law_replies.proofs.Views.Records.{commit_there}
 use Rattle.tg_law_replies.proofs.Replies.Ready.{IsReady, IsReadyToPlay, Ready, view_of, played}
-use Rattle.tg_law_claims.proofs.Whole.Causes.Aborting.{NotAborted, EndOk}
+use Rattle.tg_law_claims.proofs.Causes.Aborting.{NotAborted, EndOk}
 
 -- The order of reads.
 

@@ -34,7 +34,7 @@ use Rattle.tg_law_replies.proofs.Replies.Turns.{LandsBy}
 use Rattle.tg_law_headline.proofs.Leaves.Walks.{feed_by}
 use Rattle.tg_law_headline.proofs.Leaves.Ended.{Stays, Tells, stays_there}
 use Rattle.tg_law_headline.proofs.Alike.Speaks.{Delivered, From}
-use Rattle.tg_law_claims.proofs.Whole.Causes.Owning.{Fits, command_fits, deliver_fits, tick_fits}
+use Rattle.tg_law_claims.proofs.Causes.Owning.{Fits, command_fits, deliver_fits, tick_fits}
 use Rattle.tg_law_headline.proofs.Alike.Running.{state_at as run_at}
 
 -- What is a client's own stays so through the walks of a step.

@@ -31,7 +31,7 @@ use Rattle.tg_law_replies.specs.Replies.Ended.{EndsSo, end_of, task_ends, again_
 use Rattle.tg_law_replies.proofs.Replies.Turns.{Keeps as KeepsDraft, LandsBy, feed_keeps, again_keeps}
 use Rattle.tg_law_walks.proofs.Walks.Positions.{nums_split}
 use Rattle.tg_law_replies.proofs.Replies.Ways.{end_fed, end_newer}
-use Rattle.tg_law_claims.proofs.Whole.Causes.Stalling.{IsRecord, DraftFits, TaskDrafts, WorkDrafts}
+use Rattle.tg_law_claims.proofs.Causes.Stalling.{IsRecord, DraftFits, TaskDrafts, WorkDrafts}
 use Rattle.tg_law_steps.proofs.Places.{Place, Feeds, Newer, OnAppend, Walks}
 use Rattle.tg_law_steps.proofs.Ways.{Way, FeedsAppend, NewerAppend, AllWalked, HasPlayed}
 use Rattle.tg_law_steps.proofs.Ends.{End, GoesOn, LearnsNewer, Syncs, Appends, Refuses, Answers, Tells, IsGoing, AppendGoes, IsLearning, AppendLearns, IsSynced, JudgedAt, IsAppended, MarkBegins, IsRefused, RecordForgotten, IsAnswered, DecidedAt, IsTold, IsCommitted, IsMarked}

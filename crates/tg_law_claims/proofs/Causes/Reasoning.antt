@@ -37,10 +37,10 @@ use Rattle.tg_protocol.specs.Causes.{IsRescue, is_of_tx, layout_cause}
 use Rattle.tg_law_layouts.proofs.Moves.Members.{Has, has_either}
 use Rattle.tg_law_headline.proofs.Alike.Appends.{Asked}
 use Rattle.tg_law_headline.proofs.Alike.Machines.{TailTold, SyncOk, SyncNext, sync_ok}
-use Rattle.tg_law_claims.proofs.Whole.Causes.Turns.{NotRefused, NoneRefused, PurposeFine, TaskFine, Aims, answer_fine, told_fine}
-use Rattle.tg_law_claims.proofs.Whole.Causes.AtOnce.{spare_few}
-use Rattle.tg_law_claims.proofs.Whole.Causes.Jobs.{Heard, ToldNow, OwnGone, Places, AppendNext, append_told, append_anew, WalkNext, walk_begun, walk_anew, walk_told}
-use Rattle.tg_law_claims.proofs.Whole.Causes.Sights.{MissingNow, ReconfNext, latest_told, reconf_told, IsSame, CopyNext, copy_stays, copy_begun}
+use Rattle.tg_law_claims.proofs.Causes.Turns.{NotRefused, NoneRefused, PurposeFine, TaskFine, Aims, answer_fine, told_fine}
+use Rattle.tg_law_claims.proofs.Causes.AtOnce.{spare_few}
+use Rattle.tg_law_claims.proofs.Causes.Jobs.{Heard, ToldNow, OwnGone, Places, AppendNext, append_told, append_anew, WalkNext, walk_begun, walk_anew, walk_told}
+use Rattle.tg_law_claims.proofs.Causes.Sights.{MissingNow, ReconfNext, latest_told, reconf_told, IsSame, CopyNext, copy_stays, copy_begun}
 use Rattle.tg_law_steps.proofs.Places.{Place, Feeds, Newer, OnSync, OnWalk, OnAppend, OnTrims, OnCopy, OnReconf, Over, Walks, Plays, Looks, Rescues as Rescues'}
 use Rattle.tg_law_steps.proofs.Ways.{Way, NewerSync, NewerWalk, NewerAppend, NewerTrims, NewerCopy, NewerReconf, EndsAtOnce, WalkEnds, StartsOver, sync_fed, walk_fed, append_fed, copy_fed, reconf_fed, AllWalked, HasPlayed, LooksBack, IsRescue as IsRescue'}
 use Rattle.tg_law_steps.proofs.Ends.{End, GoesOn, LearnsNewer, Syncs, Appends, Refuses, Answers, Tells, IsGoing, SyncGoes, WalkGoes, WalkBegins, AppendGoes, CopyGoes, IsLearning, WalkLearns, AppendLearns, CopyLearns, IsAppended, MarkBegins, IsRefused, RecordFull, RecordForgotten, OtherFull, OtherForgotten, ReconfNotWhole, CopyFault, AskClosed, FateForgotten, DecideForgotten, SaveLarge, LooksAhead, LooksForgotten, RescueWide, RescueForgotten}

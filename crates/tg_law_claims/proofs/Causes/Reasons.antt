@@ -12,11 +12,11 @@ use Rattle.tg_protocol.specs.Runs.{EachStep}
 use Rattle.tg_protocol.specs.Worlds.{World, Told}
 use Rattle.tg_law_claims.specs.Causes.Sorts.{RefusedAtOnceTrue, RefusedLaterTrue, IsCaused, MostRefusalsTrue}
 use Rattle.tg_law_claims.specs.Causes.Undecidings.{UndecidedTrue}
-use Rattle.tg_law_claims.proofs.Whole.Causes.Given.{refused_at_once}
-use Rattle.tg_law_claims.proofs.Whole.Causes.Heard.{refused_later_true}
-use Rattle.tg_law_claims.proofs.Whole.Causes.Keeping.{all_fine}
-use Rattle.tg_law_claims.proofs.Whole.Causes.Store.{directories_true}
-use Rattle.tg_law_claims.proofs.Whole.Causes.StoreStalled.{undecided_true}
+use Rattle.tg_law_claims.proofs.Causes.Given.{refused_at_once}
+use Rattle.tg_law_claims.proofs.Causes.Heard.{refused_later_true}
+use Rattle.tg_law_claims.proofs.Causes.Keeping.{all_fine}
+use Rattle.tg_law_claims.proofs.Causes.Store.{directories_true}
+use Rattle.tg_law_claims.proofs.Causes.StoreStalled.{undecided_true}
 
 pub refused_at_once_true : EachStep all_kinds (RefusedAtOnceTrue all_kinds)
 refused_at_once_true h ms w e r lawful few = refused_at_once all_kinds w e (all_fine all_kinds h ms w r) (directories_true h ms w r)

@@ -21,7 +21,7 @@ use Rattle.tg_law_replies.proofs.Views.Exact.{made_there}
 use Rattle.tg_law_replies.proofs.Views.Judges.{blocked_stands}
 use Rattle.tg_law_replies.proofs.Views.Plays.{played_stands}
 use Rattle.tg_law_replies.proofs.Views.Settled.{plays_further}
-use Rattle.tg_law_claims.proofs.Whole.Causes.Stalling.{Unknowns, blocked_there, outcome_there}
+use Rattle.tg_law_claims.proofs.Causes.Stalling.{Unknowns, blocked_there, outcome_there}
 
 pub has_oid_has : (o : Oid) (os : List Oid) → has_oid o os ≡ true → Has os o
 has_oid_has o [] e = absurd (cc)

@@ -16,7 +16,7 @@ use Rattle.tg_protocol.specs.Trimming.{CopyTurn, Copying, CopyEnd, has_stripe, c
 use Rattle.tg_protocol.specs.Reconfiguring.{at_work, ReconfTurn, Acks, ReconfWork, SealingSpare, LookingSpare, LookingAgain, Reconf, ReconfEnd, NotWhole, ReconfTurn, next_epoch, first_step, reconf_start, join_asks, reconf_work_asks, later_asks, reconf_awaited, reconf_feed, reconf_latest}
 use Rattle.tg_protocol.specs.Causes.{IsLook}
 use Rattle.tg_law_layouts.proofs.Moves.Members.{Has}
-use Rattle.tg_law_claims.proofs.Whole.Causes.Jobs.{Heard}
+use Rattle.tg_law_claims.proofs.Causes.Jobs.{Heard}
 use Rattle.tg_law_steps.proofs.Machines.Copies.{Fed as CopyFed, HasAll, copy_fed}
 use Rattle.tg_law_steps.proofs.Machines.Reconfs.{Fed as ReconfFed, SpareMisses, AgainMisses, reconf_fed, Heard as ReconfHeard, StartedBefore, reconf_heard}
 

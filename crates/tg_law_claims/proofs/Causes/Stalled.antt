@@ -28,11 +28,11 @@ use Rattle.tg_law_walks.specs.Lists.Spared.{TrimsWereSpare}
 use Rattle.tg_law_walks.proofs.Drafts.Clients.{happens_steps}
 use Rattle.tg_law_walks.proofs.Drafts.Written.{then_takes}
 use Rattle.tg_law_headline.proofs.Alike.Speaks.{Speaks, Silent, Speaks', Turns, told_of, speaks}
-use Rattle.tg_law_claims.proofs.Whole.Causes.Stalling.{Plain, PlainNotes, Brief, BriefNotes, PlaysKept, Said, each_has, walked_so}
-use Rattle.tg_law_claims.proofs.Whole.Causes.Hearing.{EndOk}
-use Rattle.tg_law_claims.proofs.Whole.Causes.Heard.{turn, Handed, deliver_hands}
-use Rattle.tg_law_claims.proofs.Whole.Causes.HeardAlong.{linked, Tail, Met, State, kept_of, Tells, Plain', AtEnd, Over, hears_tells, tells, state_at}
-use Rattle.tg_law_claims.proofs.Whole.Causes.Rescuing.{trim_has, rescue_stuck, stuck_trimmed}
+use Rattle.tg_law_claims.proofs.Causes.Stalling.{Plain, PlainNotes, Brief, BriefNotes, PlaysKept, Said, each_has, walked_so}
+use Rattle.tg_law_claims.proofs.Causes.Hearing.{EndOk}
+use Rattle.tg_law_claims.proofs.Causes.Heard.{turn, Handed, deliver_hands}
+use Rattle.tg_law_claims.proofs.Causes.HeardAlong.{linked, Tail, Met, State, kept_of, Tells, Plain', AtEnd, Over, hears_tells, tells, state_at}
+use Rattle.tg_law_claims.proofs.Causes.Rescuing.{trim_has, rescue_stuck, stuck_trimmed}
 
 cancel : {X : Type 0} → (xs ys zs : List X) → xs ++ ys ≡ xs ++ zs → ys ≡ zs
 cancel [] ys zs e = e

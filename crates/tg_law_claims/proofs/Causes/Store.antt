@@ -2,8 +2,8 @@
 use Rattle.tg_any.specs.AllKinds.{all_kinds}
 use Rattle.tg_protocol.specs.Runs.{Always}
 use Rattle.tg_protocol.specs.Causes.{AbortsLeast, DirectoryTrue}
-use Rattle.tg_law_claims.proofs.Whole.Causes.Aborts.{aborts_least}
-use Rattle.tg_law_claims.proofs.Whole.Causes.Directories.{directory_is}
+use Rattle.tg_law_claims.proofs.Causes.Aborts.{aborts_least}
+use Rattle.tg_law_claims.proofs.Causes.Directories.{directory_is}
 use Rattle.tg_law_headline.proofs.Runs.Finding.{ends, found}
 
 pub directories_true : Always all_kinds (DirectoryTrue all_kinds)

@@ -5,9 +5,9 @@ use Rattle.tg_protocol.specs.Stuck.{StuckTrue}
 use Rattle.tg_protocol.specs.Worlds.{happens}
 use Rattle.tg_protocol.specs.Runs.{Takes, EachStep}
 use Rattle.tg_law_claims.specs.Causes.Undecidings.{UndecidedTrue, UnsureUnlessLacking}
-use Rattle.tg_law_claims.proofs.Whole.Causes.Causing.{undecided_true as undecided_where, unsure_unless_lacking as unsure_where}
+use Rattle.tg_law_claims.proofs.Causes.Causing.{undecided_true as undecided_where, unsure_unless_lacking as unsure_where}
 use Rattle.tg_law_headline.proofs.Runs.Finding.{trims, ends, found}
-use Rattle.tg_law_claims.proofs.Whole.Causes.Stalled.{goes_reach, stuck_true as stuck_where}
+use Rattle.tg_law_claims.proofs.Causes.Stalled.{goes_reach, stuck_true as stuck_where}
 
 pub stuck_true : EachStep all_kinds (StuckTrue all_kinds)
 stuck_true h ms w e r lawful few =

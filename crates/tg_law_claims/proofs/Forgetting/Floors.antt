@@ -31,7 +31,7 @@ use Rattle.tg_law_walks.specs.Lists.Spared.{WasSettled}
 use Rattle.tg_law_headline.specs.Trims.Floors.{directory_at, floor_at, WasRegistered, WasIssued, IsWhole, RestsOn, FloorsRest}
 use Rattle.tg_law_headline.proofs.AllKinds.Holds.{kinds_have_directory}
 use Rattle.tg_law_headline.proofs.Store.States.{store_reads_ops}
-use Rattle.tg_law_claims.proofs.Whole.Forgetting.Resting.{trims, floors_rest}
+use Rattle.tg_law_claims.proofs.Forgetting.Resting.{trims, floors_rest}
 
 less_or : (a b : ℕ) → (a < b) ⊎ (b ≤ a)
 less_or a b = grind arith

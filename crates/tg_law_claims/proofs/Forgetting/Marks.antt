@@ -45,9 +45,9 @@ use Rattle.tg_law_headline.proofs.Joint.Told.{told_decided}
 use Rattle.tg_law_headline.proofs.Store.Steps.{store_steps_rest}
 use Rattle.tg_law_headline.proofs.Alike.Ends.{AnyFloor, any_floors}
 use Rattle.tg_law_headline.proofs.Runs.Holding.{logs_hold}
-use Rattle.tg_law_claims.proofs.Whole.Forgetting.Objects.{marks_object}
-use Rattle.tg_law_claims.proofs.Whole.Forgetting.Resting.{objects_numbered, joints, owns, trims}
-use Rattle.tg_law_claims.proofs.Whole.Forgetting.Trimmed.{saved_here}
+use Rattle.tg_law_claims.proofs.Forgetting.Objects.{marks_object}
+use Rattle.tg_law_claims.proofs.Forgetting.Resting.{objects_numbered, joints, owns, trims}
+use Rattle.tg_law_claims.proofs.Forgetting.Trimmed.{saved_here}
 
 less_or : (a b : ℕ) → (a < b) ⊎ (b ≤ a)
 less_or a b = grind arith

@@ -30,7 +30,7 @@ use Rattle.tg_law_walks.proofs.Walks.Cells.{there_entry, entry_there}
 use Rattle.tg_law_walks.proofs.Walks.Syncs.{logs_by_position}
 use Rattle.tg_law_walks.specs.Lists.Spared.{IsSaved}
 use Rattle.tg_law_walks.proofs.Lists.Ends.{cell_of}
-use Rattle.tg_law_claims.proofs.Whole.Forgetting.Resting.{trims}
+use Rattle.tg_law_claims.proofs.Forgetting.Resting.{trims}
 
 -- Units trim what they were asked to trim.
 

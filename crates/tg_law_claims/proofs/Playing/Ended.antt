@@ -51,7 +51,7 @@ use Rattle.tg_law_syncs.proofs.Follow.Snapshots.{snap_run, start_snap}
 use Rattle.tg_law_headline.proofs.Alike.Running.{state_at as run_at}
 use Rattle.tg_law_headline.proofs.Alike.Speaks.{Delivered, From, Speaks, Silent, Speaks', Turns, told_of, speaks}
 use Rattle.tg_law_claims.specs.Playing.Rules.{AsksStand}
-use Rattle.tg_law_claims.proofs.Whole.Playing.Pruning.{Snapped, Says, SaysAll, LandsFor, TaskLands, WorkLands, Fits, GoodTurn, commanded, delivered, ticked}
+use Rattle.tg_law_claims.proofs.Playing.Pruning.{Snapped, Says, SaysAll, LandsFor, TaskLands, WorkLands, Fits, GoodTurn, commanded, delivered, ticked}
 
 -- a number of a list stands there
 num_in : (p : ℕ) (ps : List ℕ) → has_num p ps ≡ true → Has ps p

@@ -47,15 +47,15 @@ use Rattle.tg_law_walks.specs.Walks.Streams.{IsGood, AreLinked}
 use Rattle.tg_law_walks.specs.Walks.Rounds.{IsAtWalk, IsAtTask, IsAtWork}
 use Rattle.tg_law_walks.proofs.Walks.Cells.{known_at}
 use Rattle.tg_law_walks.proofs.Lists.Reached.{before_reached, goes_later}
-use Rattle.tg_law_claims.proofs.Whole.Playing.Moving.{Input, Commanded, Handed, Ticked, Turns, Makes, Rests, Turned, makes}
-use Rattle.tg_law_claims.proofs.Whole.Playing.Missing.{IsStep, IsMissed, misses}
-use Rattle.tg_law_claims.proofs.Whole.Playing.Trails.{ListsFall, on_path, no_path}
-use Rattle.tg_law_claims.proofs.Whole.Playing.Treading.{IsTreading}
-use Rattle.tg_law_claims.proofs.Whole.Playing.Stripes.{IsOfStripe, IsCopying, nth_of}
-use Rattle.tg_law_claims.proofs.Whole.Playing.Pathing.{TaskOn, WorkOn, IsOn, GivesCopy, TaskMisses, feed_fine, command_fine, tick_fine}
-use Rattle.tg_law_claims.proofs.Whole.Playing.Pathing as pathing
-use Rattle.tg_law_claims.proofs.Whole.Playing.Outstanding.{WalkReads, CopyReads, ReadsIt, AllRead, given_read, tick_read}
-use Rattle.tg_law_claims.proofs.Whole.Playing.Reading.{feed_quiet, command_quiet}
+use Rattle.tg_law_claims.proofs.Playing.Moving.{Input, Commanded, Handed, Ticked, Turns, Makes, Rests, Turned, makes}
+use Rattle.tg_law_claims.proofs.Playing.Missing.{IsStep, IsMissed, misses}
+use Rattle.tg_law_claims.proofs.Playing.Trails.{ListsFall, on_path, no_path}
+use Rattle.tg_law_claims.proofs.Playing.Treading.{IsTreading}
+use Rattle.tg_law_claims.proofs.Playing.Stripes.{IsOfStripe, IsCopying, nth_of}
+use Rattle.tg_law_claims.proofs.Playing.Pathing.{TaskOn, WorkOn, IsOn, GivesCopy, TaskMisses, feed_fine, command_fine, tick_fine}
+use Rattle.tg_law_claims.proofs.Playing.Pathing as pathing
+use Rattle.tg_law_claims.proofs.Playing.Outstanding.{WalkReads, CopyReads, ReadsIt, AllRead, given_read, tick_read}
+use Rattle.tg_law_claims.proofs.Playing.Reading.{feed_quiet, command_quiet}
 
 is_tail : (y : Msg) (t : ℕ) (ls : List StreamLink) → reply y ≡ IsTail t ls → y ≡ msg.Tail t ls
 unfolding reply

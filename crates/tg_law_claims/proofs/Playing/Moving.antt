@@ -18,7 +18,7 @@ use Rattle.tg_protocol.specs.Worlds.{World, client, unit, layout, seqr, packet_o
 use Rattle.tg_law_layouts.proofs.Moves.Lists.{at_set}
 use Rattle.tg_law_layouts.proofs.Moves.Members.{Has, has_got}
 use Rattle.tg_law_replies.proofs.Books.Worlds.{declared, nil_right}
-use Rattle.tg_law_claims.proofs.Whole.Playing.Acts.{OfOthers, none_sent, answers_others, not_unit, not_layout, seqrs_others}
+use Rattle.tg_law_claims.proofs.Playing.Acts.{OfOthers, none_sent, answers_others, not_unit, not_layout, seqrs_others}
 
 module _ (m : Meaning) where
   -- what a client is handed in a step

@@ -16,9 +16,9 @@ use Rattle.tg_law_walks.specs.Lists.Spared.{TrimsWereSpare}
 use Rattle.tg_law_syncs.specs.Known.Known.{KnownIsTheLogs}
 use Rattle.tg_law_syncs.proofs.Known.Held.{known_is_the_logs}
 use Rattle.tg_law_claims.specs.Playing.Rules.{AsksStand, PagesGiveUp}
-use Rattle.tg_law_claims.proofs.Whole.Playing.Ended.{reaches_on, gives_up, asks_stand_at}
-use Rattle.tg_law_claims.proofs.Whole.Playing.Steps.{views_fall_at_trims}
-use Rattle.tg_law_claims.proofs.Whole.Playing.Reading.{views_read_on}
+use Rattle.tg_law_claims.proofs.Playing.Ended.{reaches_on, gives_up, asks_stand_at}
+use Rattle.tg_law_claims.proofs.Playing.Steps.{views_fall_at_trims}
+use Rattle.tg_law_claims.proofs.Playing.Reading.{views_read_on}
 use Rattle.tg_law_headline.proofs.Runs.Finding.{trims, ends, found}
 
 module _ (h : Header) (ms : Moves all_kinds) (r : Reaches all_kinds h ms (after all_kinds h ms)) where

@@ -24,9 +24,9 @@ use Rattle.tg_protocol.specs.ClientSteps as step
 use Rattle.tg_protocol.specs.ClientSteps.{task_asks, hand_asks, hand_again_asks, client_asks, asks_latest, task_in}
 use Rattle.tg_protocol.specs.Playing.{InStripe}
 use Rattle.tg_law_layouts.proofs.Moves.Members.{Has, has_either, has_filter}
-use Rattle.tg_law_claims.proofs.Whole.Playing.Quiet.{NotGets, SyncQuiet, AppendQuiet, Quiet, none_quiet, one_quiet, all_quiet, work_quiet, job_reads}
-use Rattle.tg_law_claims.proofs.Whole.Playing.Stripes.{WorkIn, IsCopying}
-use Rattle.tg_law_claims.proofs.Whole.Playing.Pathing.{TaskOn, WorkOn, IsOn}
+use Rattle.tg_law_claims.proofs.Playing.Quiet.{NotGets, SyncQuiet, AppendQuiet, Quiet, none_quiet, one_quiet, all_quiet, work_quiet, job_reads}
+use Rattle.tg_law_claims.proofs.Playing.Stripes.{WorkIn, IsCopying}
+use Rattle.tg_law_claims.proofs.Playing.Pathing.{TaskOn, WorkOn, IsOn}
 
 -- Requests that read nothing.
 

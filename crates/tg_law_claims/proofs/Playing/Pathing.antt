@@ -21,10 +21,10 @@ use Rattle.tg_protocol.specs.Clients.{Task, Syncing, Walking, Appending, Trimmin
 use Rattle.tg_protocol.specs.Answers.{Moved, moved, appends, syncs}
 use Rattle.tg_protocol.specs.ClientSteps as step
 use Rattle.tg_protocol.specs.ClientSteps.{task_in, task_awaited, accepts, refused_or, lasts_of}
-use Rattle.tg_law_claims.proofs.Whole.Playing.Quiet.{SyncQuiet, sync_quiet, AppendQuiet, AppendNext, append_quiet, append_again_quiet}
-use Rattle.tg_law_claims.proofs.Whole.Playing.Quiet as quiet
-use Rattle.tg_law_claims.proofs.Whole.Playing.Treading.{IsTreading, NextTreads, goes_treads, starts_treads, feed_treads}
-use Rattle.tg_law_claims.proofs.Whole.Playing.Stripes.{IsOfStripe, IsCopying, CopyNext, copy_starts, copy_fed, stripe_there}
+use Rattle.tg_law_claims.proofs.Playing.Quiet.{SyncQuiet, sync_quiet, AppendQuiet, AppendNext, append_quiet, append_again_quiet}
+use Rattle.tg_law_claims.proofs.Playing.Quiet as quiet
+use Rattle.tg_law_claims.proofs.Playing.Treading.{IsTreading, NextTreads, goes_treads, starts_treads, feed_treads}
+use Rattle.tg_law_claims.proofs.Playing.Stripes.{IsOfStripe, IsCopying, CopyNext, copy_starts, copy_fed, stripe_there}
 use Rattle.tg_law_steps.proofs.Machines.Syncs.{Fed, SettlesLast, ProbesLast, sync_fed}
 use Rattle.tg_law_steps.proofs.Places.{Place, Feeds, Newer, OnSync, OnWalk, OnAppend, OnCopy, Over, Walks}
 use Rattle.tg_law_steps.proofs.Ways.{Way, FeedsSync, FeedsWalk, FeedsAppend, FeedsCopy, NewerSync, NewerWalk, NewerAppend, NewerCopy, Confirms, Settles, EndsAtOnce, WalkEnds, MetNone, MetLow, MetHigh, StartsOver, AllWalked, HasPlayed}

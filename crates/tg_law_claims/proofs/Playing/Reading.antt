@@ -34,10 +34,10 @@ use Rattle.tg_law_steps.proofs.Takes.{Taken, SaidAtOnce}
 use Rattle.tg_law_steps.proofs.Along.{delivered, over_walks, commanded}
 use Rattle.tg_law_replies.proofs.Books.Worlds.{cancel}
 use Rattle.tg_law_claims.specs.Playing.Rules.{ViewsReadOn}
-use Rattle.tg_law_claims.proofs.Whole.Playing.Quiet.{SyncQuiet, AppendQuiet, Quiet, none_quiet, one_quiet, all_quiet, work_quiet, job_reads}
-use Rattle.tg_law_claims.proofs.Whole.Playing.Turns.{Past, TaskAt, WorkAt, At'}
-use Rattle.tg_law_claims.proofs.Whole.Playing.Acts.{Turns, Acts, Others, Acts', acts}
-use Rattle.tg_law_claims.proofs.Whole.Playing.Steps.{State, start_state, state_run, stepped}
+use Rattle.tg_law_claims.proofs.Playing.Quiet.{SyncQuiet, AppendQuiet, Quiet, none_quiet, one_quiet, all_quiet, work_quiet, job_reads}
+use Rattle.tg_law_claims.proofs.Playing.Turns.{Past, TaskAt, WorkAt, At'}
+use Rattle.tg_law_claims.proofs.Playing.Acts.{Turns, Acts, Others, Acts', acts}
+use Rattle.tg_law_claims.proofs.Playing.Steps.{State, start_state, state_run, stepped}
 
 learns_quiet : (p : Layout) (os : List Out) → OnlyLearns p os → Quiet os
 learns_quiet p os f o epoch q h is = no (sym (f o h) ∙ is)

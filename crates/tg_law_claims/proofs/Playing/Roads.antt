@@ -16,7 +16,7 @@ use Rattle.tg_law_syncs.proofs.Exact.Held.{goes_on, clients_work}
 use Rattle.tg_law_headline.proofs.Store.Steps.{store_trims_are_spare}
 use Rattle.tg_law_headline.proofs.Joint.Holding.{steps_hold}
 use Rattle.tg_law_claims.specs.Playing.Reads.{ReadsOnPathBySpareTrims}
-use Rattle.tg_law_claims.proofs.Whole.Playing.Heeding.{on_paths}
+use Rattle.tg_law_claims.proofs.Playing.Heeding.{on_paths}
 
 module _ (m : Meaning) (h : Header) (ms : Moves m) (r : Reaches m h ms (after m h ms)) (trims : TrimsWereSpare m h ms) where
   works : (xs ys : Moves m) → ms ≡ xs ++ ys → (k : ℕ) → IsAtWork m (log m (after m h ms)) (client m (after m h xs) k) (client m (after m h xs) k).work

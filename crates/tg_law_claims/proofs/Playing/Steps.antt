@@ -32,8 +32,8 @@ use Rattle.tg_law_layouts.proofs.Moves.Turns.{not_busy, command_draws, deliver_d
 use Rattle.tg_law_layouts.proofs.Moves.Reconfs.{numbers_long}
 use Rattle.tg_law_replies.proofs.Books.Worlds.{nil_right}
 use Rattle.tg_law_claims.specs.Playing.Rules.{ViewsFallAtTrims}
-use Rattle.tg_law_claims.proofs.Whole.Playing.Turns.{AsGiven, WorkAt, At', work_later, Stays, Fine, WalkHears, feed_fine, tick_fine, accepts_fine}
-use Rattle.tg_law_claims.proofs.Whole.Playing.Acts.{IsCommanded, Noted, Before, Anew, IsEven, Turns, told_of, Acts, Others, Acts', acts}
+use Rattle.tg_law_claims.proofs.Playing.Turns.{AsGiven, WorkAt, At', work_later, Stays, Fine, WalkHears, feed_fine, tick_fine, accepts_fine}
+use Rattle.tg_law_claims.proofs.Playing.Acts.{IsCommanded, Noted, Before, Anew, IsEven, Turns, told_of, Acts, Others, Acts', acts}
 
 is_gone : (y : Msg) (b : ℕ) → reply y ≡ IsGone b → y ≡ msg.Gone b
 unfolding reply

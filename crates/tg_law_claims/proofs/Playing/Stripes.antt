@@ -13,7 +13,7 @@ use Rattle.tg_protocol.specs.Trimming.{CopyWork, Reading, Looking, Copying, Copy
 use Rattle.tg_protocol.specs.Clients.{copy_fault}
 use Rattle.tg_protocol.specs.Playing.{InStripe}
 use Rattle.tg_law_steps.proofs.Machines.Copies as copy
-use Rattle.tg_law_claims.proofs.Whole.Playing.Past.{same_place}
+use Rattle.tg_law_claims.proofs.Playing.Past.{same_place}
 
 -- Positions of a stripe.
 

@@ -10,8 +10,8 @@ use Rattle.tg_protocol.specs.Cells.{Place, CellJob}
 use Rattle.tg_protocol.specs.Walking.{trail, Walk, Members, WalkTurn, with_job, read_at, at_least, next_of_trail, walk_from, walk_start, walk_feed}
 use Rattle.tg_law_steps.proofs.Machines.Walks.{goes_on, Fed, ReadGoes, ReadDone, ReadGone, walk_fed}
 use Rattle.tg_law_walks.proofs.Walks.Cells.{cell_stored, cell_here}
-use Rattle.tg_law_claims.proofs.Whole.Playing.Past.{same_place}
-use Rattle.tg_law_claims.proofs.Whole.Playing.Trails.{Leads, begins, visits, more_leads}
+use Rattle.tg_law_claims.proofs.Playing.Past.{same_place}
+use Rattle.tg_law_claims.proofs.Playing.Trails.{Leads, begins, visits, more_leads}
 
 -- from a list of positions
 module _ (lasts : List ℕ) where

@@ -18,8 +18,8 @@ use Rattle.tg_protocol.specs.ClientSteps as step
 use Rattle.tg_protocol.specs.ClientSteps.{plays_kept, after_turn, met, goes_on, start_walk, takes_back, found_by, lends, knows, synced, sync_to, on_sync, gives_up, given_up_if, starts_over, at_trim, walk_ended_by, walk_to, on_walk, decided_for, append_ended, append_to, on_append, page_known, owns, knows_page, trim_to, on_trims, copy_to, on_copy, stands, task_in, task_awaited, reconf_to, on_reconf, task_feed, task_again, copies_again, on_newer, accepts, new_work, lo_for, lasts_of}
 use Rattle.tg_protocol.specs.Playing.{ReadsForView}
 use Rattle.tg_law_headline.proofs.Leaves.Walks.{MetBy, goes_by, feed_by}
-use Rattle.tg_law_claims.proofs.Whole.Playing.Quiet.{SyncQuiet, SyncNext, sync_quiet, AppendQuiet, AppendNext, append_quiet, append_again_quiet}
-use Rattle.tg_law_claims.proofs.Whole.Playing.Past.{cell_gone, WalkPast, NextPast, goes_past, starts_past, feed_past, played_high}
+use Rattle.tg_law_claims.proofs.Playing.Quiet.{SyncQuiet, SyncNext, sync_quiet, AppendQuiet, AppendNext, append_quiet, append_again_quiet}
+use Rattle.tg_law_claims.proofs.Playing.Past.{cell_gone, WalkPast, NextPast, goes_past, starts_past, feed_past, played_high}
 use Rattle.tg_law_steps.proofs.Places.{Place, Feeds, Newer, OnSync, OnWalk, OnAppend, OnCopy, OnReconf, Over, Walks as Walks', Rescues as Rescues'}
 use Rattle.tg_law_steps.proofs.Ways.{Way, FeedsSync, FeedsWalk, FeedsAppend, FeedsCopy, FeedsReconf, NewerSync, NewerWalk, NewerAppend, NewerCopy, NewerReconf, Confirms, Settles, EndsAtOnce, WalkEnds, MetNone, MetLow, MetHigh, StartsOver, own_play, AllWalked, HasPlayed, LooksBack, IsRescue}
 use Rattle.tg_law_steps.proofs.Ends.{End, GoesOn, LearnsNewer, Syncs as Syncs', Appends as Appends', Refuses, Answers, Tells, WalkGoes, WalkBegins, TrimsBegin, WalkLearns, StaleHigh, Widens, MarkBegins, RecordForgotten, IsAnswered, DecidedAt, IsMarked}

@@ -1,10 +1,10 @@
 -- Answers and their causes, in every run of the store.
 use Rattle.tg_any.specs.AllKinds.{all_kinds}
 use Rattle.tg_protocol.specs.Claims.{CausesHold}
-use Rattle.tg_law_claims.proofs.Whole.Causes.Keeping.{refusals_keep}
-use Rattle.tg_law_claims.proofs.Whole.Causes.Store.{directories_true, aborts_name_least}
-use Rattle.tg_law_claims.proofs.Whole.Answers.Refused.{refusals_true}
-use Rattle.tg_law_claims.proofs.Whole.Answers.Store.{causes_refuse, nones_true, unsure_true}
+use Rattle.tg_law_claims.proofs.Causes.Keeping.{refusals_keep}
+use Rattle.tg_law_claims.proofs.Causes.Store.{directories_true, aborts_name_least}
+use Rattle.tg_law_claims.proofs.Answers.Refused.{refusals_true}
+use Rattle.tg_law_claims.proofs.Answers.Store.{causes_refuse, nones_true, unsure_true}
 
 pub causes_hold : CausesHold all_kinds
 causes_hold = record {

@@ -12,10 +12,10 @@ use Rattle.tg_law_walks.proofs.Drafts.Drafts.{entries_are_linked}
 use Rattle.tg_law_walks.proofs.Walks.Reading.{reaches_later}
 use Rattle.tg_law_syncs.proofs.Exact.Exact.{syncs_exact}
 use Rattle.tg_law_headline.proofs.Runs.Holding.{logs_hold, runs_hold}
-use Rattle.tg_law_claims.proofs.Whole.Forgetting.Serial.{serial_first}
-use Rattle.tg_law_claims.proofs.Whole.Playing.Ended.{reaches_on}
-use Rattle.tg_law_claims.proofs.Whole.Playing.OfStore.{plays_on}
-use Rattle.tg_law_claims.proofs.Whole.Playing.Roads.{reads_on_path}
+use Rattle.tg_law_claims.proofs.Forgetting.Serial.{serial_first}
+use Rattle.tg_law_claims.proofs.Playing.Ended.{reaches_on}
+use Rattle.tg_law_claims.proofs.Playing.OfStore.{plays_on}
+use Rattle.tg_law_claims.proofs.Playing.Roads.{reads_on_path}
 
 stays : EachLater all_kinds (LogStays all_kinds)
 stays h ms w v r l = cells_stay all_kinds h ms w v r l (logs_hold h (ms ++ l.0) v (reaches_later all_kinds h ms w v r l)).trims.were.safe

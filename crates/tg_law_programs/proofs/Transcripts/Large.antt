@@ -22,7 +22,7 @@ use Rattle.tg_law_replies.proofs.Books.Worlds.{nil_right, regroup, run_both}
 use Rattle.tg_law_walks.proofs.Drafts.Clients.{happens_steps}
 use Rattle.tg_law_walks.proofs.Lists.Reached.{before_reached}
 use Rattle.tg_law_headline.proofs.Alike.Speaks.{Speaks, Silent, Speaks', told_of, speaks}
-use Rattle.tg_law_claims.proofs.Whole.Causes.Reasons.{most_refusals_true}
+use Rattle.tg_law_claims.proofs.Causes.Reasons.{most_refusals_true}
 use Rattle.tg_law_programs.proofs.Transcripts.Given.{CommandOk}
 use Rattle.tg_law_programs.proofs.Transcripts.Near.{Near}
 use Rattle.tg_law_programs.proofs.Transcripts.Numbers.{state_in}

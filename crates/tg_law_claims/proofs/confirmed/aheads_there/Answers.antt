@@ -1,4 +1,4 @@
-use Rattle.tg_law_claims.proofs.Whole.Answers.Store.{aheads_there}
+use Rattle.tg_law_claims.proofs.Answers.Store.{aheads_there}
 use Rattle.tg_law_claims.proofs.confirmed.aheads_there.Goals as goal
 
 pub returns : goal.returns

@@ -1,4 +1,4 @@
-use Rattle.tg_law_claims.proofs.Whole.Answers.Store.{nones_there}
+use Rattle.tg_law_claims.proofs.Answers.Store.{nones_there}
 use Rattle.tg_law_claims.proofs.confirmed.nones_there.Goals as goal
 
 pub returns : goal.returns

@@ -1,4 +1,4 @@
-use Rattle.tg_law_claims.proofs.Whole.Answers.Store.{nones_true}
+use Rattle.tg_law_claims.proofs.Answers.Store.{nones_true}
 use Rattle.tg_law_claims.proofs.laws_of_answers.nones_true.Goals as goal
 
 pub returns : goal.returns

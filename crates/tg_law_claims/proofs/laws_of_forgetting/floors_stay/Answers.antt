@@ -1,4 +1,4 @@
-use Rattle.tg_law_claims.proofs.Whole.Forgetting.Floors.{floors_stay}
+use Rattle.tg_law_claims.proofs.Forgetting.Floors.{floors_stay}
 use Rattle.tg_law_claims.proofs.laws_of_forgetting.floors_stay.Goals as goal
 
 pub returns : goal.returns

@@ -1,4 +1,4 @@
-use Rattle.tg_law_claims.proofs.Whole.Playing.Steps.{views_fall_at_trims}
+use Rattle.tg_law_claims.proofs.Playing.Steps.{views_fall_at_trims}
 use Rattle.tg_law_claims.proofs.laws_of_playing.views_fall_at_trims.Goals as goal
 
 pub returns : goal.returns

@@ -1,4 +1,4 @@
-use Rattle.tg_law_claims.proofs.Whole.Playing.Roads.{reads_on_path_where}
+use Rattle.tg_law_claims.proofs.Playing.Roads.{reads_on_path_where}
 use Rattle.tg_law_claims.proofs.paths.reads_on_path_where.Goals as goal
 
 pub returns : goal.returns

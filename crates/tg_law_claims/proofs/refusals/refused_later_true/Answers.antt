@@ -1,4 +1,4 @@
-use Rattle.tg_law_claims.proofs.Whole.Causes.Heard.{refused_later_true}
+use Rattle.tg_law_claims.proofs.Causes.Heard.{refused_later_true}
 use Rattle.tg_law_claims.proofs.refusals.refused_later_true.Goals as goal
 
 pub returns : goal.returns

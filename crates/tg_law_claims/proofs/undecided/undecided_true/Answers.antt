@@ -1,4 +1,4 @@
-use Rattle.tg_law_claims.proofs.Whole.Causes.StoreStalled.{undecided_true}
+use Rattle.tg_law_claims.proofs.Causes.StoreStalled.{undecided_true}
 use Rattle.tg_law_claims.proofs.undecided.undecided_true.Goals as goal
 
 pub returns : goal.returns

@@ -1,4 +1,4 @@
-use Rattle.tg_law_claims.proofs.Whole.Answers.Computed.{rescue_is_undecided}
+use Rattle.tg_law_claims.proofs.Answers.Computed.{rescue_is_undecided}
 use Rattle.tg_law_claims.proofs.worked.rescue_is_undecided.Goals as goal
 
 pub returns : goal.returns
