@@ -27,6 +27,8 @@ pub mod Askers
 pub mod Probes
 pub mod AtOnce
 pub mod Midway
+pub mod Stripes
+pub mod Brought
 pub mod Suiting
 pub mod Askings
 pub mod Scans
@@ -58,6 +60,9 @@ pub mod Sized
 pub mod Reached
 pub mod Trimmers
 pub mod Trimmings
+pub mod Copyings
+pub mod Sparing
+pub mod Copied
 pub mod Named
 pub mod Shapes
 pub mod Shaped

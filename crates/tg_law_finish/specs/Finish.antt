@@ -13,4 +13,5 @@ pub mod Walks
 pub mod Rescues
 pub mod Ends
 pub mod Trims
+pub mod Copies
 pub mod Anywhere

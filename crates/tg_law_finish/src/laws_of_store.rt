@@ -12,6 +12,7 @@
 
 ghost use Rattle.tg_any.specs.AllKinds.{all_kinds};
 ghost use Rattle.tg_law_finish.specs.Finish.Anywhere.{CommandWalks};
+ghost use Rattle.tg_law_finish.specs.Finish.Copies.{CopyFinishes};
 ghost use Rattle.tg_law_finish.specs.Finish.Ends.{EndFinishes, RecordFinishes};
 ghost use Rattle.tg_law_finish.specs.Finish.Makes.{MakeFinishes};
 ghost use Rattle.tg_law_finish.specs.Finish.Rescues.{RescueWalks};
@@ -76,9 +77,14 @@ pub fn trims_finish()
     ensures { Always all_kinds (TrimFinishes all_kinds) }
 {}
 
-/// So an `ask`, `end`, `fate`, `ask-at`, `decide`, `checkpoint`, `forget`, `trim` or `rescue` is answered wherever it
-/// stands, but while its client waits for a newer layout: within the bound of its command, and 129 times what trims
-/// may cost walks over 128 streams.
+/// So is a `copy`, wherever it stands, where its spare unit runs and isn't past the latest layout: within the bound of
+/// its command. It goes on to the end of the stripe, and once more from the first position that the spare lacks then.
+pub fn copies_finish()
+    ensures { Always all_kinds (CopyFinishes all_kinds) }
+{}
+
+/// So each command but `reconf` is answered wherever it stands, but while its client waits for a newer layout: within
+/// the bound of its command, and 129 times what trims may cost walks over 128 streams.
 pub fn commands_finish()
     ensures { Always all_kinds (CommandWalks all_kinds) }
 {}

@@ -20,8 +20,8 @@ use Rattle.tg_law_finish.specs.Finish.Alone.{IsAlone}
 use Rattle.tg_law_finish.specs.Finish.Laws.{IsReply}
 use Rattle.tg_law_finish.proofs.Finish.Answered.{drains_answer}
 use Rattle.tg_law_finish.proofs.Finish.Drains.{drains_come_first, drained_reached}
-use Rattle.tg_law_finish.proofs.Finish.Store.{appends_finish, asks_finish_anyway, makes_finish_anyway, rescues_finish, trims_finish, ends_finish, records_finish}
-use Rattle.tg_law_settles.specs.Settles.{IsSettleLine, world_before, world_after, world_drained, Waits, ForAppend, ForAsk, ForMake, ForRescue, ForTrim, ForEnd, ForRecord, SettleLinesFinish, DrainedLinesFinish, DrainedLinesAnswer}
+use Rattle.tg_law_finish.proofs.Finish.Store.{appends_finish, asks_finish_anyway, makes_finish_anyway, rescues_finish, trims_finish, copies_finish, ends_finish, records_finish}
+use Rattle.tg_law_settles.specs.Settles.{IsSettleLine, world_before, world_after, world_drained, Waits, ForAppend, ForAsk, ForMake, ForRescue, ForTrim, ForCopy, ForEnd, ForRecord, SettleLinesFinish, DrainedLinesFinish, DrainedLinesAnswer}
 
 no_item : {X : Type 0} → (x : X) → None ≡ Some x → ⊥
 no_item x e = cc
@@ -87,6 +87,7 @@ answered h ms w r k most x a b (ForAsk is f) = (asks_finish_anyway h ms w r k x 
 answered h ms w r k most x a b (ForMake is f) = (makes_finish_anyway h ms w r k x a b is f).0
 answered h ms w r k most x a b (ForRescue is f) = (rescues_finish h ms w r k x a b is f).0
 answered h ms w r k most x a b (ForTrim f) = (trims_finish h ms w r k x a b f).0
+answered h ms w r k most x a b (ForCopy spare f) = (copies_finish h ms w r k x a b spare f).0
 answered h ms w r k most x a b (ForEnd f) = (ends_finish h ms w r k x a b f).0
 answered h ms w r k most x a b (ForRecord f) = (records_finish h ms w r k x a b f).0
 

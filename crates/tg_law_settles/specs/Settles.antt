@@ -3,12 +3,13 @@ use Rattle.std.specs.Prelude.{◌≡◌, ℕ, ◌+◌, ◌*◌, true, slice_get,
 use Rattle.tg_model.specs.Kinds.{CommandOf}
 use Rattle.tg_protocol.specs.Clients.{Work}
 use Rattle.tg_protocol.specs.Worlds.{client, latest, next_event}
-use Rattle.tg_protocol.specs.Finishing.{longest_chain, IsReadyFor, Finishes, HasReply}
+use Rattle.tg_protocol.specs.Finishing.{longest_chain, IsReadyFor, IsSpareReady, Finishes, HasReply}
 use Rattle.tg_any.specs.AllKinds.{all_kinds}
 use Rattle.tg_script.specs.declared.line.Line.TheVariants as line
 use Rattle.tg_replay.specs.Runs.{Script, Worlds, IsScript, IsWithin, world_of, front}
 use Rattle.tg_law_finish.specs.Finish.Alone.{IsAlone}
 use Rattle.tg_law_finish.specs.Finish.Commands.{is_ask, plays}
+use Rattle.tg_law_finish.specs.Finish.Copies.{WaitsForCopy, copy_bound}
 use Rattle.tg_law_finish.specs.Finish.Drains.{drained}
 use Rattle.tg_law_finish.specs.Finish.Laws.{IsReply, append_bound}
 use Rattle.tg_law_finish.specs.Finish.Store.{AppendsLast}
@@ -44,6 +45,8 @@ pub data Waits (w : Worlds) (k : ℕ) (x : CommandOf all_kinds) : ℕ → Type 0
   ForRescue : is_rescue all_kinds x ≡ true → (f : WaitsForRead all_kinds w k) → Waits w k x (rescue_bound all_kinds w (streams all_kinds f.work))
   -- of `trim`, in a sync, in a walk, or once units are asked to trim
   ForTrim : (f : WaitsForTrim all_kinds w k) → Waits w k x (trim_bound all_kinds w (streams all_kinds f.work))
+  -- of `copy`, whose spare unit runs and isn't past the layout
+  ForCopy : IsSpareReady all_kinds w x → WaitsForCopy all_kinds w k → Waits w k x (copy_bound all_kinds w)
   -- for the token of the record of a transaction with reads
   ForEnd : EndsAppend all_kinds w k → Waits w k x (end_bound all_kinds w)
   -- for its append, wherever that stands

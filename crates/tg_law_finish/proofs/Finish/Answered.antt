@@ -21,23 +21,26 @@ use Rattle.tg_base.specs.declared.ids.Oid.{Oid}
 use Rattle.tg_protocol.specs.Entries.{streams_of}
 use Rattle.tg_model.specs.declared.command.Command.TheVariants as cmd
 use Rattle.tg_protocol.specs.Layouts.{units_of}
-use Rattle.tg_protocol.specs.Trimming.{Trims}
-use Rattle.tg_protocol.specs.Clients.{Judged, Appending, Syncing, Trimming, Doing, Work, Client, Hand, Task}
-use Rattle.tg_protocol.specs.ClientSteps.{task_asks, task_in}
+use Rattle.tg_protocol.specs.Trimming.{Trims, Copying}
+use Rattle.tg_protocol.specs.Clients.{Judged, Appending, Syncing, Trimming, Copying', Doing, Work, Client, Hand, Task}
+use Rattle.tg_protocol.specs.ClientSteps.{task_asks, task_awaited, task_in}
 use Rattle.tg_protocol.specs.Worlds.{World, seqr, client, latest, settle}
 use Rattle.tg_protocol.specs.Runs.{Moves, Reaches, Always}
 use Rattle.tg_protocol.specs.Finishing.{longest_chain, is_with_client, passes, IsReadyFor, most_deliveries, most_deliveries_in, Finishes, HasReply}
+use Rattle.tg_law_layouts.proofs.Layouts.Deciding.{latest_decided, layouts_are_sound}
 use Rattle.tg_law_layouts.proofs.Moves.Clients.{reserved, work_reserved, hand_reserved}
 use Rattle.tg_law_layouts.proofs.Moves.Members.{Has}
 use Rattle.tg_law_cells.proofs.Cells.Hands as hands
 use Rattle.tg_law_cells.proofs.Cells.Jobs.{AppendOk}
 use Rattle.tg_law_headline.specs.Issues.Issues.{TrimsInTime}
+use Rattle.tg_law_headline.specs.Trims.Spare.{TrimsAre}
 use Rattle.tg_law_finish.specs.Finish.Alone.{IsAlone}
 use Rattle.tg_law_finish.specs.Finish.Drains.{drained, DrainsAnswer}
 use Rattle.tg_law_finish.specs.Finish.Granted.{Granted}
 use Rattle.tg_law_finish.specs.Finish.Appends as appends
 use Rattle.tg_law_finish.specs.Finish.Appends.{WaitsForAppend, AppendStands, PuttingStands, JudgingStands}
 use Rattle.tg_law_finish.specs.Finish.Asks.{NothingTrimmed, HasIssued, WaitsForSync}
+use Rattle.tg_law_finish.specs.Finish.Copies.{copy_bound}
 use Rattle.tg_law_finish.specs.Finish.Makes.{makes, MakesSync, make_bound}
 use Rattle.tg_law_finish.specs.Finish.Ends.{EndsAppend, end_bound, record_bound}
 use Rattle.tg_law_finish.specs.Finish.Reads.{WaitsForRead}
@@ -48,13 +51,16 @@ use Rattle.tg_law_finish.specs.Finish.Laws.{IsReply, IsAnswered, AppendAnswered,
 use Rattle.tg_law_finish.proofs.Finish.Asking.{HeldWhereTrimmed, Walkable, Untrimmed, Owns, Holds, Trims', Syncs, TaskStands, Reads}
 use Rattle.tg_law_finish.proofs.Finish.Counted.{is_of, one_if, cost, counted, Finishes as Counted}
 use Rattle.tg_law_finish.proofs.Finish.Drains.{stays_idle}
-use Rattle.tg_law_finish.proofs.Finish.Replying.{settle_replies, drain_replies, settle_tells}
+use Rattle.tg_law_finish.proofs.Finish.Replying.{settle_replies, drain_replies, copy_replies, settle_tells}
 use Rattle.tg_law_finish.proofs.Finish.Suiting.{WorkSuits, task_replies, all_suit}
-use Rattle.tg_law_finish.proofs.Finish.Telling.{HasIt}
+use Rattle.tg_law_finish.proofs.Finish.Sparing.{Lasting, copy_facts}
+use Rattle.tg_law_finish.proofs.Finish.Stripes.{not_gone, stands_off}
+use Rattle.tg_law_finish.proofs.Finish.Telling.{HasIt, HasCopy}
 use Rattle.tg_law_finish.specs.Finish.Commands.{is_ask, plays}
 use Rattle.tg_law_finish.proofs.Finish.Finishes.{writes_finish}
 use Rattle.tg_law_finish.proofs.Finish.Waits.{asks_finish, makes_finish, ends_finish_by}
 use Rattle.tg_law_finish.proofs.Finish.Walked.{asks_finish_by, makes_finish_by, rescues_finish_by}
+use Rattle.tg_law_finish.proofs.Finish.Copied.{Brings, copies_finish_by}
 use Rattle.tg_law_finish.proofs.Finish.Trimmed.{trims_finish_by, units_finish_by}
 use Rattle.tg_law_finish.proofs.Finish.Probes.{Asked}
 use Rattle.tg_law_finish.proofs.Finish.Reached.{NearFloor, Reached, reached_facts}
@@ -142,6 +148,12 @@ records_room c t l one few =
     let b = mul-le (16 * c) t (16 * c) t (omega arith) (omega arith) in
     omega (arith, one, few, a, b)
 
+copies_room : (c t l : ℕ) → 1 ≤ c → l ≤ 7 → 4 * ((c + 2) * t) + 2 * l + 6 ≤ 16 * c * (t + 4)
+copies_room c t l one few =
+    let a = mul-le (c + 2) t (3 * c) t (omega (arith, one)) (omega arith) in
+    let b = mul-le (16 * c) t (16 * c) t (omega arith) (omega arith) in
+    omega (arith, one, few, a, b)
+
 -- a walk's bound taken j + 1 times
 rescues_room : (c t l z j : ℕ) → 1 ≤ c → l ≤ 7 → j ≤ 128 → (2 * ((c + 1) * t) + 2 * l + z) * (j + 1) + 2 * (c + 1) ≤ 128 * (16 * c * (t + 4)) + 129 * z
 rescues_room c t l z j one few le =
@@ -168,6 +180,9 @@ module _ (m : Meaning) (h : Header) (ms : Moves m) (w : World m) (r : Reaches m 
 
   reserves : (c : Client m) (work : Work m) (t : Task m) (o : Out) → c.work ≡ Some work → work.hand ≡ Doing t → Has (hand_reserved m c.stand (Doing t)) o → Has (reserved m c) o
   reserves c work t o e f g = subst (λ (y : Option (Work m)). Has (work_reserved m c.stand y) o) (sym e) (subst (λ (y : Hand m). Has (hand_reserved m c.stand y) o) (sym f) g)
+
+  pub task_below : (client m w k).stand ≡ p → (v : Work m) (t : Task m) → (client m w k).work ≡ Some v → v.hand ≡ Doing t → (o : Out) → Has (task_awaited m p t) o → o.rid < (client m w k).next
+  task_below e v t has hand o g = below_next o (reserves (client m w k) v t o has hand (subst (λ (q : Layout). Has (hand_reserved m q (Doing t)) o) (sym e) g))
 
   -- Appends.
 
@@ -487,6 +502,30 @@ module _ (m : Meaning) (h : Header) (ms : Moves m) (w : World m) (r : Reaches m 
 
     pub units_trim : (x : CommandOf m) → IsAlone m w k x → IsReadyFor m w k → Granted m w → HeldWhereTrimmed m w p → (v : Work m) (t : Trims) → (client m w k).work ≡ Some v → v.hand ≡ Doing (Trimming t) → Asked (units_of p) t.waits → v.command ≡ cmd.Trim → TrimAnswered x (streams m v)
     units_trim x a b g held v t has hand asked is = in_time_too x a b g v has is (within m k _ _ w _ (omega arith) (units_by x a b g held v t has hand asked is))
+
+  -- Copies.
+
+  module _ (trims : (zs : Moves m) (v : World m) → Reaches m h zs v → TrimsAre m h zs v) where
+    copied : (v : Work m) (y : Copying) → (client m w k).work ≡ Some v → v.hand ≡ Doing (Copying' y) → HasCopy m (IsReply m) (client m w k).work
+    copied v y has hand = subst (λ (o : Option (Work m)). HasCopy m (IsReply m) o) (sym has) (subst (λ (d : Hand m). HasCopy m (IsReply m) (Some (record v { hand = d }))) (sym hand) tt)
+
+    copy_by : (x : CommandOf m) → IsAlone m w k x → IsReadyFor m w k → Granted m w → HeldWhereTrimmed m w p → p.start ≤ (seqr m w p.seq).next → (f : Brings m w k p) → IsAnswered m w k (copy_bound m w)
+    copy_by x a b g held past f =
+        let decided = (latest_decided m h ms w r).decided in
+        let sound = layouts_are_sound m h ms w r p.epoch p decided in
+        let u = f.copying.unit in
+        let i = f.copying.range in
+        let s = f.copying.stripe in
+        let off = stands_off m p u i s f.fault sound.rules in
+        let stays = not_gone m p u i s f.fault in
+        let c = copies_finish_by m w k p (longest_chain p) (working m h ms w r k x a b) (lawful m h ms w r k x a b g) (walkable b held) sound.rules sound.near past f (Lasting m h p u i s off stays) (copy_facts m h p u i s off stays trims) ((ms, r), decided) a.within in
+        answered_of m k _ w _ (subst (λ l. Counted m k (4 * ((longest_chain p + 2) * (seqr m w p.seq).next) + 2 * l + 6) w (settle m w).world) layouts_are c)
+        (copy_replies m (IsReply m) (λ what i. i) k w (copied f.work f.copying f.waits f.hand) c.answered)
+
+    pub copy_walks : (x : CommandOf m) → IsAlone m w k x → IsReadyFor m w k → Granted m w → HeldWhereTrimmed m w p → p.start ≤ (seqr m w p.seq).next → (f : Brings m w k p) → IsAnswered m w k (copy_bound m w) × IsAnswered m w k (most_deliveries_in m w x)
+    copy_walks x a b g held past f =
+        let y = copy_by x a b g held past f in
+        (y, within m k _ _ w _ (bounds m x (longest_chain p) (seqr m w p.seq).next w.cluster.units _ (copies_room (longest_chain p) (seqr m w p.seq).next w.cluster.layouts (longest g x a b) few_layouts)) y)
 
 pub appends_are_answered : (m : Meaning) → Always m (AppendAnswered m)
 appends_are_answered m h ms w r k x a b g f = append_answered m h ms w r k x a b g f

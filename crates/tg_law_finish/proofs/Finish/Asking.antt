@@ -17,7 +17,7 @@ use Rattle.tg_protocol.specs.Appending.{Append, AppendWork, Asking, Putting, Jud
 use Rattle.tg_protocol.specs.Cells.{CellWork, Puts, Gets, Fills, Copies, Probes, CellJob, place_in}
 use Rattle.tg_protocol.specs.Requests.{Waits}
 use Rattle.tg_protocol.specs.Syncing.{Sync, SyncWork, Checking, Settling, Probing}
-use Rattle.tg_protocol.specs.Trimming.{Trims, trim_asks}
+use Rattle.tg_protocol.specs.Trimming.{Trims, trim_asks, CopyWork, Reading, Storing}
 use Rattle.tg_protocol.specs.Walking.{Walk}
 use Rattle.tg_protocol.specs.Clients.{Judged, Task, Appending, Syncing, Walking, Trimming, Copying', Reconfiguring, Doing, Work}
 use Rattle.tg_protocol.specs.ClientSteps.{task_awaited}
@@ -27,6 +27,7 @@ use Rattle.tg_law_headline.proofs.Issues.Bounds.{AllBelow}
 use Rattle.tg_law_finish.specs.Finish.Queues.{RisesWithin}
 use Rattle.tg_law_finish.proofs.Finish.Askers.{Distinct}
 use Rattle.tg_law_finish.proofs.Finish.Probes.{Asked}
+use Rattle.tg_law_finish.proofs.Finish.Stripes.{InStripe}
 use Rattle.tg_law_finish.proofs.Finish.Working.{at_chain}
 
 module _ (m : Meaning) where
@@ -111,6 +112,12 @@ module _ (m : Meaning) where
     pub place : j.place ≡ place_in p j.place.pos
     pub less : j.place.pos < (seqr m w p.seq).next
     pub work : CellStands w p j.place.pos j.work
+
+  -- what a copy reads and stores is of its stripe
+  abbrev pub CopyStands : World m → Layout → ℕ → ℕ → CopyWork → Type 0
+  CopyStands w p r s (Reading j) = JobStands w p j × InStripe p r s j.place.pos
+  CopyStands w p r s (Storing i pos c) = InStripe p r s pos
+  CopyStands w p r s y = ⊤
 
   -- a page goes down a chain, whose first unit has it, or has trimmed it, where another is asked
   abbrev pub PutStands : World m → Layout → ℕ → CellWork → Type 0

@@ -9,14 +9,15 @@ use Rattle.tg_base.specs.declared.ids.Oid.{Oid}
 use Rattle.tg_base.specs.declared.marks.StreamLink.{StreamLink}
 use Rattle.tg_kind.specs.Meaning.{Meaning}
 use Rattle.tg_protocol.specs.Words.{cell_at, cell_eq, client_id}
-use Rattle.tg_protocol.specs.Layouts.{chain_of}
+use Rattle.tg_protocol.specs.Layouts.{chain_of, range_end}
 use Rattle.tg_protocol.specs.Entries.{streams_of}
 use Rattle.tg_protocol.specs.Cells.{Place, place_in, unit_at, CellJob, CellWork, Puts, Gets, Fills, Copies, Probes}
 use Rattle.tg_protocol.specs.Syncing.{SyncWork, Checking, Settling, Probing}
 use Rattle.tg_protocol.specs.Walking.{Walk}
 use Rattle.tg_protocol.specs.Sequencers.{SeqrState}
 use Rattle.tg_protocol.specs.Appending.{Append, AppendWork, Asking, Putting, Judging, Token}
-use Rattle.tg_protocol.specs.Trimming.{Trims}
+use Rattle.tg_protocol.specs.Trimming as copying
+use Rattle.tg_protocol.specs.Trimming.{Trims, CopyWork, Sealing, Reading, Storing, Looking, Copying}
 use Rattle.tg_protocol.specs.Clients.{Purpose, Task, Appending, Syncing, Walking, Trimming, Copying', Reconfiguring, Hand, Doing, Work}
 use Rattle.tg_protocol.specs.ClientSteps.{task_in}
 use Rattle.tg_protocol.specs.Worlds.{World, unit, seqr, client, latest}
@@ -58,7 +59,9 @@ use Rattle.tg_law_headline.proofs.Issues.Machines as issues
 use Rattle.tg_law_headline.proofs.Issues.Machines.{AnswerOk, TailOk}
 use Rattle.tg_law_finish.specs.Finish.Reads.{IsRead}
 use Rattle.tg_law_finish.specs.Finish.Appends.{InHand, NoOther, AppendStands, PuttingStands, JudgingStands}
-use Rattle.tg_law_finish.proofs.Finish.Asking.{CarriesDown, CellStands, JobStands, PutStands, PageStands, ProbeStands, LastsBelow, SyncStands, WalkStands, TaskStands}
+use Rattle.tg_law_finish.proofs.Finish.Asking.{CarriesDown, CellStands, JobStands, CopyStands, PutStands, PageStands, ProbeStands, LastsBelow, SyncStands, WalkStands, TaskStands}
+use Rattle.tg_law_finish.proofs.Finish.Brought as brought
+use Rattle.tg_law_finish.proofs.Finish.Brought.{WorkShape, CopyShape, OfCommand, copies_stand}
 use Rattle.tg_law_finish.proofs.Finish.Midway as midway
 use Rattle.tg_law_finish.proofs.Finish.Midway.{ReadShape, SyncShape, WalkShape, TrimShape}
 use Rattle.tg_law_finish.proofs.Finish.Probes.{ProbeShape}
@@ -67,6 +70,7 @@ use Rattle.tg_law_finish.proofs.Finish.Issued.{clients_here}
 use Rattle.tg_law_finish.proofs.Finish.Below.{once, greatest, some, past, issued_below, none_below, trimmed_settled}
 use Rattle.tg_law_finish.proofs.Finish.Shapes.{Shape, PutShape, JudgeShape}
 use Rattle.tg_law_finish.proofs.Finish.Shaped.{shaped_hold}
+use Rattle.tg_law_finish.proofs.Finish.Stripes.{ends_low, is_closed, is_there}
 
 is_less : (x y : ℕ) → x < y → nat_lt x y ≡ true
 is_less x y less = grind arith
@@ -373,3 +377,35 @@ module _ (m : Meaning) (h : Header) (zs : Moves m) (r : Reaches m h zs (after m 
       (subst (λ (l : Layout). naming.TaskOk m (B m h zs r trims.in_time) (L m h zs r trims.in_time) l v t) ready.client_stands
       (subst (λ (d : Hand m). naming.HandOk m (B m h zs r trims.in_time) (L m h zs r trims.in_time) (client m (after m h zs) k).stand v d) hand
       (subst (λ (o : Option (Work m)). naming.WorkOk m (B m h zs r trims.in_time) (L m h zs r trims.in_time) (client m (after m h zs) k).stand o) has (clients_here m h zs r trims.in_time k))))
+
+  -- A copy.
+
+  pub copy_shape : (v : Work m) (y : Copying) → (client m (after m h zs) k).work ≡ Some v → v.hand ≡ Doing (Copying' y) → CopyShape m (λ u. (unit m (after m h zs) u).epoch) q y × OfCommand m v.command y
+  copy_shape v y has hand = subst (λ (l : Layout). brought.TaskStands m (λ u. (unit m (after m h zs) u).epoch) l v (Copying' y)) ready.client_stands
+      (subst (λ (d : Hand m). brought.HandStands m (λ u. (unit m (after m h zs) u).epoch) (client m (after m h zs) k).stand v d) hand
+      (subst (λ (o : Option (Work m)). brought.WorkStands m (λ u. (unit m (after m h zs) u).epoch) (client m (after m h zs) k).stand o) has (copies_stand m h zs k)))
+
+  copy_work : (r' s' : ℕ) (y : CopyWork) → range_end q r' ≤ q.start → WorkShape q r' s' y → jobs.CopyOk (after m h zs).packets q y → CopyStands m (after m h zs) q r' s' y
+  copy_work r' s' (Reading j) low shape ok = (
+    record {
+      place = ok.place;
+      less = (let b = past m h zs r serves in let i = shape.1.below in omega (arith, low, b, i));
+      work = cell_stands j.place j.work shape.0 ok.place ok.work;
+    },
+    shape.1,
+  )
+  copy_work r' s' (Storing i pos c) low shape ok = shape
+  copy_work r' s' (Sealing i) low shape ok = tt
+  copy_work r' s' (copying.Trimming i b) low shape ok = tt
+  copy_work r' s' (Looking i) low shape ok = tt
+
+  -- where it stands
+  pub copy_stands : (v : Work m) (y : Copying) → (client m (after m h zs) k).work ≡ Some v → v.hand ≡ Doing (Copying' y) → CopyStands m (after m h zs) q y.range y.stripe y.work
+  copy_stands v y has hand =
+      let x = (copy_shape v y has hand).0 in
+      let rules = (layouts_are_sound m h zs (after m h zs) r q.epoch q decided).rules in
+      let low = ends_low q y.range y.stripe rules (is_closed m q y.unit y.range y.stripe x.fault) (is_there m q y.unit y.range y.stripe x.fault) in
+      copy_work y.range y.stripe y.work low x.work
+      (subst (λ (l : Layout). hands.TaskOk m (after m h zs).packets l (Copying' y)) ready.client_stands
+      (subst (λ (d : Hand m). hands.HandOk m (after m h zs).packets (client m (after m h zs) k).stand d) hand
+      (subst (λ (o : Option (Work m)). hands.WorkOk m (after m h zs).packets (client m (after m h zs) k).stand o) has ((cells_hold m h zs).hands k))))

@@ -53,7 +53,7 @@ ReadShape a (Copies r c i) = i < length a.chain
 ReadShape a (Puts r d i) = ⊥
 ReadShape a (Probes ws) = ⊥
 
-abbrev ReadNext : Next CellJob CellEnd → Type 0
+abbrev pub ReadNext : Next CellJob CellEnd → Type 0
 ReadNext (Goes j) = ReadShape j.place j.work
 ReadNext to = Unit {0}
 
@@ -70,7 +70,7 @@ module _ (u : ℕ) (x : Reply) (next : ℕ) where
   read_turn _ _ (cells.Nothing j) k = k
   read_turn _ _ y k = tt
 
-  read_job : (j : CellJob) → ReadShape j.place j.work → ReadNext (cell_feed j u x next).to
+  pub read_job : (j : CellJob) → ReadShape j.place j.work → ReadNext (cell_feed j u x next).to
   read_job j k = read_turn j _ (cells.cell_fed u x next j) k
 
   no_copy : (a : Place) (w : CellWork) (c : Cell) (i : ℕ) → cells.IsCopied u x next w c i → ProbeShape a w → ⊥

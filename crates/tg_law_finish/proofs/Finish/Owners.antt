@@ -524,7 +524,7 @@ module _ (m : Meaning) (h : Header) (stopped : List NodeId) (k : ℕ) (p : Layou
     stage_called = λ s c o n x. record { append = x.append; own = own_called c x.append o x.own; stage = x.stage };
     hears_called = λ s c from rid y n x. record { append = x.append; o = x.o; own = own_called c x.append x.o x.own; awaited = x.awaited; no_latest = x.no_latest; well = x.well };
     stage_ticked = λ s c o n x. record { append = x.append; own = own_ticked c x.append o x.own; stage = x.stage };
-    asked = λ s o n ready x. own_asked s x.append o x.append.work n refl x.own.shape.asks ready x.own x.stage;
+    asked = λ s o n fair ready x. own_asked s x.append o x.append.work n refl x.own.shape.asks ready x.own x.stage;
     answered = λ s from rid y n ready x. answered s (client_of m h s k) from rid y n x;
   }
 

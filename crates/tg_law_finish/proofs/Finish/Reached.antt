@@ -34,7 +34,7 @@ abbrev pub NearFloor : Msg → Type 0
 NearFloor (msg.Trim e b) = too_far b ≡ false
 NearFloor x = Unit {0}
 
-near_floor : (x : Msg) → ((e b : ℕ) → x ≡ msg.Trim e b → too_far b ≡ false) → NearFloor x
+pub near_floor : (x : Msg) → ((e b : ℕ) → x ≡ msg.Trim e b → too_far b ≡ false) → NearFloor x
 near_floor (msg.Trim e b) f = f e b refl
 near_floor x f = tt
 
@@ -86,7 +86,7 @@ module _ (m : Meaning) (h : Header) where
 
   -- A step in which no limit was reached.
 
-  below_limit : (w : World m) → limit_of m w ≡ None → w.steps < 200000
+  pub below_limit : (w : World m) → limit_of m w ≡ None → w.steps < 200000
   unfolding limit_of
   below_limit w e = grind arith
 
@@ -101,11 +101,11 @@ module _ (m : Meaning) (h : Header) where
   ticks_if_count true w n = ticks_count w n.num n.role
   ticks_if_count false w n = refl
 
-  tick_counts : (w : World m) (n : NodeId) → (happens m w (Tick n)).steps ≡ w.steps + 1
+  pub tick_counts : (w : World m) (n : NodeId) → (happens m w (Tick n)).steps ≡ w.steps + 1
   unfolding happens
   tick_counts w n = ap (λ (i : ℕ). i + 1) (ticks_if_count (runs m w n) w n)
 
-  goes : (w : World m) (e : EventOf m) → LawfulEvent m (start m h).cluster e → w.steps < 200000 → (happens m w e).steps ≡ w.steps + 1 → Reached w → Reached (happens m w e)
+  pub goes : (w : World m) (e : EventOf m) → LawfulEvent m (start m h).cluster e → w.steps < 200000 → (happens m w e).steps ≡ w.steps + 1 → Reached w → Reached (happens m w e)
   unfolding run
   goes w e lawful less count (zs, r) = (
     zs ++ Takes e ∷ [],
@@ -127,7 +127,7 @@ module _ (m : Meaning) (h : Header) where
   on_long : (w : World m) (n : NodeId) → runs m w n ≡ true → n.num < count_of m w n.role
   on_long w n e = grind arith
 
-  declared : (w : World m) (n : NodeId) → Reached w → runs m w n ≡ true → IsDeclared (start m h).cluster n
+  pub declared : (w : World m) (n : NodeId) → Reached w → runs m w n ≡ true → IsDeclared (start m h).cluster n
   unfolding start
   declared w n (zs, r) on = subst (λ (i : ℕ). n.num < i) (counted m h w n.role (all_sized m h zs w r)) (on_long w n on)
 

@@ -9,17 +9,18 @@ use Rattle.tg_base.specs.declared.cell.Cell.TheVariants.{Junk}
 use Rattle.tg_base.specs.declared.ids.NodeId.{NodeId}
 use Rattle.tg_base.specs.declared.msg.Msg.{Msg}
 use Rattle.tg_base.specs.declared.msg.Msg.TheVariants as msg
+use Rattle.tg_base.specs.declared.packet.Out.{Out}
 use Rattle.tg_kind.specs.Meaning.{Meaning}
-use Rattle.tg_protocol.specs.Words.{cell_at, cell_eq, unit_id}
+use Rattle.tg_protocol.specs.Words.{cell_at, cell_eq, too_far, unit_id}
 use Rattle.tg_protocol.specs.Units.{UnitState, UnitTurn, new_unit, says, at_cell, in_epoch, not_gone, on_read, unit_step, unit_ask, on_ask}
 use Rattle.tg_protocol.specs.Requests.{out, Goes, Ends}
 use Rattle.tg_protocol.specs.Replies.{IsGone, reply}
-use Rattle.tg_protocol.specs.Cells.{Place, CellWork, Puts, Gets, Fills, Copies, Probes, Done, Gone, CellTurn, works, place_in, unit_at, work_asks, work_feed, copy_on, end_if, fill_cell}
+use Rattle.tg_protocol.specs.Cells.{Place, CellWork, Puts, Gets, Fills, Copies, Probes, Done, Gone, CellTurn, works, place_in, unit_at, last_unit, work_asks, work_feed, copy_on, end_if, fill_cell}
 use Rattle.tg_law_finish.proofs.Finish.Nets.{Net, unit_of, on_in}
 use Rattle.tg_law_finish.proofs.Finish.Others.{Keeps}
 use Rattle.tg_law_finish.proofs.Finish.Lists.{set_there}
 use Rattle.tg_law_finish.proofs.Finish.Stores.{Kept, Outcome, IsGone', IsHeld', IsTaken', Put, with_unit, unit_same, stores, equal_cell, cell_itself}
-use Rattle.tg_law_finish.proofs.Finish.Places.{Serves, keeps_serves, puts_serves}
+use Rattle.tg_law_finish.proofs.Finish.Places.{UnitServes, Serves, keeps_serves, puts_serves}
 use Rattle.tg_law_finish.proofs.Finish.Appends.{is_latest, gone_near, unit_back, held_put}
 
 pub two : {b : Bool} → b ≡ true → b ≡ false → ⊥
@@ -27,6 +28,12 @@ two e f = grind arith
 
 pub one_cell : (x y : Cell) → Some x ≡ Some y → x ≡ y
 one_cell x y e = cc
+
+asked_num : (v u i r : ℕ) (x z : Msg) → out (unit_id v) i x ∷ [] ≡ out (unit_id u) r z ∷ [] → v ≡ u
+asked_num v u i r x z e = ap (λ (o : Out). o.to.num) (one (out (unit_id v) i x) (out (unit_id u) r z) e)
+  where
+    one : (a b : Out) → a ∷ [] ≡ b ∷ [] → a ≡ b
+    one a b e = cc
 
 -- Of units that have trimmed so far.
 module _ (m : Meaning) (h : Header) (stopped : List NodeId) (k : ℕ) (p : Layout) (longest : ℕ) (low_at : ℕ → ℕ) (many : ℕ) where
@@ -82,12 +89,38 @@ module _ (m : Meaning) (h : Header) (stopped : List NodeId) (k : ℕ) (p : Layou
       by j less (inl e) = inl (ap (λ u. cell_at u.cells pl.pos) (same_unit s t pl keep x j less) ∙ e)
       by j less (inr e) = inr e
 
-  pub good_keeps : (s t : Net m) → Keeps m h stopped k p s t → Good s → Good t
-  good_keeps s t keep good = λ n. record { stable = stable_keeps s t (place_in p n) keep (good n).stable; sort = by n (good n).sort }
+  pub at_keeps : (s t : Net m) (pl : Place) → Keeps m h stopped k p s t → GoodAt s pl → GoodAt t pl
+  at_keeps s t pl keep g = record { stable = stable_keeps s t pl keep g.stable; sort = by g.sort }
     where
-      by : (n : ℕ) → Clean s (place_in p n) ⊎ Trimmed s (place_in p n) → Clean t (place_in p n) ⊎ Trimmed t (place_in p n)
-      by n (inl c) = inl (clean_keeps s t (place_in p n) keep (good n).stable.serves c)
-      by n (inr x) = inr (record { cell = x.cell; held = held_keeps s t (place_in p n) x.cell keep (good n).stable.serves x.held })
+      by : Clean s pl ⊎ Trimmed s pl → Clean t pl ⊎ Trimmed t pl
+      by (inl c) = inl (clean_keeps s t pl keep g.stable.serves c)
+      by (inr x) = inr (record { cell = x.cell; held = held_keeps s t pl x.cell keep g.stable.serves x.held })
+
+  pub good_keeps : (s t : Net m) → Keeps m h stopped k p s t → Good s → Good t
+  good_keeps s t keep good = λ n. at_keeps s t (place_in p n) keep (good n)
+
+  -- or where the units of the chain are as they were
+  pub at_same : (s t : Net m) (pl : Place) → ((n : NodeId) → on_in m stopped t n ≡ on_in m stopped s n) → ((j : ℕ) → j < length pl.chain → unit_of m t (unit_at pl j) ≡ unit_of m s (unit_at pl j)) → GoodAt s pl → GoodAt t pl
+  at_same s t pl on same g = record {
+    stable = record {
+      serves = record { epoch = g.stable.serves.epoch; some = g.stable.serves.some; short = g.stable.serves.short; unit = λ j less. serving j less (g.stable.serves.unit j less) };
+      lows = λ j less. ap (λ u. u.low) (same j less) ∙ g.stable.lows j less;
+      few = g.stable.few;
+    };
+    sort = by g.sort;
+  }
+    where
+      serving : (j : ℕ) → j < length pl.chain → UnitServes m h stopped k p longest s (unit_at pl j) → UnitServes m h stopped k p longest t (unit_at pl j)
+      serving j less a = record { on = on (unit_id (unit_at pl j)) ∙ a.on; epoch = ap (λ u. u.epoch) (same j less) ∙ a.epoch; low = ap (λ u. too_far u.low) (same j less) ∙ a.low }
+
+      of : (c : Cell) (j : ℕ) → j < length pl.chain → (cell_at (unit_of m s (unit_at pl j)).cells pl.pos ≡ Some c) ⊎ (nat_lt pl.pos (low_at (unit_at pl j)) ≡ true)
+          → (cell_at (unit_of m t (unit_at pl j)).cells pl.pos ≡ Some c) ⊎ (nat_lt pl.pos (low_at (unit_at pl j)) ≡ true)
+      of c j less (inl e) = inl (ap (λ u. cell_at u.cells pl.pos) (same j less) ∙ e)
+      of c j less (inr e) = inr e
+
+      by : Clean s pl ⊎ Trimmed s pl → Clean t pl ⊎ Trimmed t pl
+      by (inl c) = inl (record { free = c.free; below = λ j x less e. ap (λ u. cell_at u.cells pl.pos) (same 0 g.stable.serves.some) ∙ c.below j x less (sym (ap (λ u. cell_at u.cells pl.pos) (same j less)) ∙ e) })
+      by (inr x) = inr (record { cell = x.cell; held = λ j less. of x.cell j less (x.held j less) })
 
   -- A store of one cell.
 
@@ -130,15 +163,18 @@ module _ (m : Meaning) (h : Header) (stopped : List NodeId) (k : ℕ) (p : Layou
       by (inl x) = inl (record { free = x.free; below = λ j y less e. put.others _ n off ∙ x.below j y less (sym (put.others (unit_at (place_in p n) j) n off) ∙ e) })
       by (inr x) = inr (record { cell = x.cell; held = λ j less. held x.cell j (x.held j less) })
 
-  pub good_put : (s t : Net m) (pl : Place) (c : Cell) → pl ≡ place_in p pl.pos → Put m stopped s t pl.pos c → (GoodAt s pl → GoodAt t pl) → Good s → Good t
-  good_put s t pl c e put here good = λ n. by n (eqb n pl.pos) refl
+  pub good_at_put : (s t : Net m) (pl : Place) (c : Cell) (n : ℕ) → pl ≡ place_in p pl.pos → Put m stopped s t pl.pos c → (GoodAt s pl → GoodAt t pl) → GoodAt s (place_in p pl.pos) → GoodAt s (place_in p n) → GoodAt t (place_in p n)
+  good_at_put s t pl c n e put here own other = by (eqb n pl.pos) refl
     where
       same : (a b : ℕ) → eqb a b ≡ true → a ≡ b
       same a b e = grind arith
 
-      by : (n : ℕ) (b : Bool) → eqb n pl.pos ≡ b → GoodAt t (place_in p n)
-      by n true is = subst (λ (q : ℕ). GoodAt t (place_in p q)) (sym (same n pl.pos is)) (subst (λ (x : Place). GoodAt t x) e (here (subst (λ (x : Place). GoodAt s x) (sym e) (good pl.pos))))
-      by n false off = good_other s t pl.pos c n put off (good n)
+      by : (b : Bool) → eqb n pl.pos ≡ b → GoodAt t (place_in p n)
+      by true is = subst (λ (q : ℕ). GoodAt t (place_in p q)) (sym (same n pl.pos is)) (subst (λ (x : Place). GoodAt t x) e (here (subst (λ (x : Place). GoodAt s x) (sym e) own)))
+      by false off = good_other s t pl.pos c n put off other
+
+  pub good_put : (s t : Net m) (pl : Place) (c : Cell) → pl ≡ place_in p pl.pos → Put m stopped s t pl.pos c → (GoodAt s pl → GoodAt t pl) → Good s → Good t
+  good_put s t pl c e put here good = λ n. good_at_put s t pl c n e put here (good pl.pos) (good n)
 
   -- Where a job stands: of a position that no unit has trimmed, or of one that some may have.
 
@@ -165,6 +201,15 @@ module _ (m : Meaning) (h : Header) (stopped : List NodeId) (k : ℕ) (p : Layou
   CellStage s pl b (Fills r) n = Sort s pl b × (length pl.chain ≤ n + 1)
   CellStage s pl b (Copies r c i) n = Carrying s pl b c i n
   CellStage s pl b _ n = ⊥
+
+  -- it asks a unit of the chain
+  pub asks_chain : (s : Net m) (pl : Place) (b : Bool) (y : CellWork) (n u r : ℕ) (z : Msg) → 0 < length pl.chain → CellStage s pl b y n → work_asks pl y ≡ out (unit_id u) r z ∷ [] → (j : ℕ) × (j < length pl.chain) × (u ≡ unit_at pl j)
+  unfolding work_asks
+  asks_chain s pl b (Gets i) n u r z some x e = (length pl.chain - 1, omega (arith, some), sym (asked_num (last_unit pl) u i r _ z e))
+  asks_chain s pl b (Fills i) n u r z some x e = (0, some, sym (asked_num (unit_at pl 0) u i r _ z e))
+  asks_chain s pl b (Copies i c j) n u r z some x e = (j, x.less, sym (asked_num (unit_at pl j) u i r _ z e))
+  asks_chain s pl b (Puts i d j) n u r z some x e = absurd x
+  asks_chain s pl b (Probes ws) n u r z some x e = absurd x
 
   -- an answer that ends the job with the cell, or with a trim, or makes it go on by one request
   pub data CellWell (t : Net m) (pl : Place) (b : Bool) (n next : ℕ) : CellTurn → Type 0 where

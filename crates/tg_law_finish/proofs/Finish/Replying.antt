@@ -1,10 +1,12 @@
 -- What a settling tells: a client whose command it ends has told a reply.
 use Rattle.std.proofs.Common.{◌≡◌, ◌⊎◌, ℕ, ◌<◌, List, [], ◌∷◌, ◌++◌, length, map, true, refl, ap, ◌∙◌, sym, subst, inl, inr, Some, None, Option, append_assoc}
 use Rattle.std.specs.Prelude.{slice_set, slice_index_or}
+use Rattle.tg_base.specs.declared.ids.NodeId.{NodeId}
+use Rattle.tg_base.specs.declared.msg.Msg.{Msg}
 use Rattle.tg_kind.specs.Meaning.{Meaning}
 use Rattle.tg_model.specs.Kinds.{CommandOf, WhatOf, NoteOf}
 use Rattle.tg_protocol.specs.Clients.{Writes, Judged, Decides, Rescues, Saves, Marks, Task, Syncing, Walking, Appending, Trimming, Copying', Reconfiguring, Client, Work, new_client}
-use Rattle.tg_protocol.specs.ClientSteps.{ClientTurn, task_in}
+use Rattle.tg_protocol.specs.ClientSteps.{ClientTurn, task_in, client_deliver, client_tick}
 use Rattle.tg_protocol.specs.Worlds.{World, Told, client, mark_of, client_turned, drain, settle}
 use Rattle.tg_protocol.specs.Finishing.{HasReply}
 use Rattle.tg_law_layouts.proofs.Moves.Lists.{at_set, contained}
@@ -12,12 +14,12 @@ use Rattle.tg_law_layouts.proofs.Moves.Members.{Has, has_left, has_right}
 use Rattle.tg_law_finish.specs.Finish.Commands.{plays}
 use Rattle.tg_law_finish.specs.Finish.Laws.{IsReply}
 use Rattle.tg_law_finish.proofs.Finish.Folds.{Kept, drain_keeps, settle_keeps}
-use Rattle.tg_law_finish.proofs.Finish.Telling.{Says, Sound, HasIt, deliver_told, tick_told}
+use Rattle.tg_law_finish.proofs.Finish.Telling.{Says, Sound, HasIt, deliver_told, tick_told, HasCopy, deliver_copied, tick_copied}
 
-module _ (m : Meaning) (P : WhatOf m → Type 0) (replies : (what : WhatOf m) → IsReply m what → P what) (k : ℕ) (x : CommandOf m) (good : plays m x ≡ true) where
-  abbrev CommandIs : Option (Work m) → Type 0
-  CommandIs o = HasIt m P x o
-
+-- where the client has a command in hand, that stays in hand until it tells a reply
+module _ (m : Meaning) (P : WhatOf m → Type 0) (k : ℕ) (CommandIs : Option (Work m) → Type 0) (never : CommandIs None → ⊥)
+    (hears : (c : Client m) (from : NodeId) (rid : ℕ) (y : Msg) → CommandIs c.work → CommandIs (client_deliver m c from rid y).now.work ⊎ Says m P (client_deliver m c from rid y).notes)
+    (ticks : (c : Client m) → CommandIs c.work → CommandIs (client_tick m c).now.work) where
   -- a reply of the client
   pub record Replied (ts : List (Told m)) : Type 0 where
     pub told : Told m
@@ -87,8 +89,8 @@ module _ (m : Meaning) (P : WhatOf m → Type 0) (replies : (what : WhatOf m) �
   kept = record {
     same = λ w v e f. same w v e (f k);
     then = λ w v u a b. then w v u a b;
-    delivered = λ w n p less. turned w n _ less (λ h. deliver_told m P replies x good (client m w n) p.from p.rid p.msg h);
-    ticked = λ w n less. turned w n _ less (λ h. inl (tick_told m P replies x good (client m w n) h));
+    delivered = λ w n p less. turned w n _ less (λ h. hears (client m w n) p.from p.rid p.msg h);
+    ticked = λ w n less. turned w n _ less (λ h. inl (ticks (client m w n) h));
   }
 
   -- where the command has ended, the client has replied
@@ -96,14 +98,27 @@ module _ (m : Meaning) (P : WhatOf m → Type 0) (replies : (what : WhatOf m) �
   replies_by w v r h idle = by (r.goes h)
     where
       by : CommandIs (client m v k).work ⊎ Replied r.more → HasReply m w v k P
-      by (inl g) = absurd (subst (λ (o : Option (Work m)). CommandIs o) idle g)
+      by (inl g) = absurd (never (subst (λ (o : Option (Work m)). CommandIs o) idle g))
       by (inr y) = record { replies = r.more; are = r.is; told = y.told; here = contained r.more y.told y.here; client = y.client; holds = y.holds }
 
-  pub settle_replies : (w : World m) → CommandIs (client m w k).work → (client m (settle m w).world k).work ≡ None → HasReply m w (settle m w).world k P
-  settle_replies w h idle = replies_by w (settle m w).world (settle_keeps m R kept w) h idle
+  pub settle_replies_of : (w : World m) → CommandIs (client m w k).work → (client m (settle m w).world k).work ≡ None → HasReply m w (settle m w).world k P
+  settle_replies_of w h idle = replies_by w (settle m w).world (settle_keeps m R kept w) h idle
 
-  pub drain_replies : (w : World m) → CommandIs (client m w k).work → (client m (drain m w).world k).work ≡ None → HasReply m w (drain m w).world k P
-  drain_replies w h idle = replies_by w (drain m w).world (drain_keeps m R kept w) h idle
+  pub drain_replies_of : (w : World m) → CommandIs (client m w k).work → (client m (drain m w).world k).work ≡ None → HasReply m w (drain m w).world k P
+  drain_replies_of w h idle = replies_by w (drain m w).world (drain_keeps m R kept w) h idle
+
+module _ (m : Meaning) (P : WhatOf m → Type 0) (replies : (what : WhatOf m) → IsReply m what → P what) (k : ℕ) where
+  -- a command that plays
+  module _ (x : CommandOf m) (good : plays m x ≡ true) where
+    pub settle_replies : (w : World m) → HasIt m P x (client m w k).work → (client m (settle m w).world k).work ≡ None → HasReply m w (settle m w).world k P
+    settle_replies w h idle = settle_replies_of m P k (λ o. HasIt m P x o) (λ f. f) (λ c from rid y i. deliver_told m P replies x good c from rid y i) (λ c i. tick_told m P replies x good c i) w h idle
+
+    pub drain_replies : (w : World m) → HasIt m P x (client m w k).work → (client m (drain m w).world k).work ≡ None → HasReply m w (drain m w).world k P
+    drain_replies w h idle = drain_replies_of m P k (λ o. HasIt m P x o) (λ f. f) (λ c from rid y i. deliver_told m P replies x good c from rid y i) (λ c i. tick_told m P replies x good c i) w h idle
+
+  -- a copy
+  pub copy_replies : (w : World m) → HasCopy m P (client m w k).work → (client m (settle m w).world k).work ≡ None → HasReply m w (settle m w).world k P
+  copy_replies w h idle = settle_replies_of m P k (λ o. HasCopy m P o) (λ f. f) (λ c from rid y i. deliver_copied m P replies c from rid y i) (λ c i. tick_copied m P replies c i) w h idle
 
 -- whatever counts as a reply, in any world
 any_sound : (m : Meaning) (t : Task m) → Sound m (λ what. Unit {0}) t

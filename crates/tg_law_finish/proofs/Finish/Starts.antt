@@ -81,7 +81,7 @@ module _ (m : Meaning) (w : World m) (k : ℕ) (p : Layout) (longest : ℕ) (a :
 
   -- The job of a position that is read.
 
-  abbrev StageAt : Place → CellWork → Type 0
+  abbrev pub StageAt : Place → CellWork → Type 0
   StageAt pl y = (d : Bool) × (n : ℕ) × CellStage m w.cluster w.stopped k p longest low_at many s pl d y n × (n ≤ longest)
 
   pub some_at : (pos : ℕ) → 0 < length (chain_of p pos)
@@ -126,10 +126,10 @@ module _ (m : Meaning) (w : World m) (k : ℕ) (p : Layout) (longest : ℕ) (a :
   job_stage j f = subst (λ (pl : Place). StageAt pl j.work) (sym f.place) (cell_stage j.place.pos j.work f.work)
 
   -- it asks one unit
-  abbrev OneAsked : Place → CellWork → Type 0
+  abbrev pub OneAsked : Place → CellWork → Type 0
   OneAsked pl y = (n : ℕ) × (r : ℕ) × (z : Msg) × (work_asks pl y ≡ out (unit_id n) r z ∷ [])
 
-  one_asked : (pl : Place) (pos : ℕ) (y : CellWork) → CellStands m w p pos y → OneAsked pl y
+  pub one_asked : (pl : Place) (pos : ℕ) (y : CellWork) → CellStands m w p pos y → OneAsked pl y
   unfolding work_asks
   one_asked pl pos (Gets r) f = (_, r, _, refl)
   one_asked pl pos (Fills r) f = (_, r, _, refl)

@@ -8,15 +8,15 @@ use Rattle.tg_kind.specs.Meaning.{Meaning}
 use Rattle.tg_model.specs.declared.command.Command.TheVariants as cmd
 use Rattle.tg_model.specs.Kinds.{CommandOf}
 use Rattle.tg_base.specs.declared.cell.Cell.{Cell}
-use Rattle.tg_protocol.specs.Words.{cell_at, too_far}
+use Rattle.tg_protocol.specs.Words.{cell_at, too_far, unit_id}
 use Rattle.tg_protocol.specs.Layouts.{chain_of}
 use Rattle.tg_protocol.specs.Entries.{streams_of}
 use Rattle.tg_protocol.specs.Appending.{Append, AppendWork, Asking, Putting, Judging, Token}
 use Rattle.tg_protocol.specs.Clients.{Purpose, Writes, Judged, Decides, Rescues, Saves, Marks, Task, Syncing, Walking, Appending, Trimming, Copying', Reconfiguring, Hand, Doing, Work}
 use Rattle.tg_protocol.specs.ClientSteps.{task_in}
-use Rattle.tg_protocol.specs.Worlds.{World, unit, seqr, client, latest}
+use Rattle.tg_protocol.specs.Worlds.{World, unit, seqr, client, latest, runs}
 use Rattle.tg_protocol.specs.Runs.{Moves, Goes, Reaches, Always, run}
-use Rattle.tg_protocol.specs.Finishing.{longest_chain, IsServing, IsReadyFor, most_deliveries_in}
+use Rattle.tg_protocol.specs.Finishing.{longest_chain, IsServing, IsReadyFor, IsSpareReady, NoReconf, most_deliveries_in}
 use Rattle.tg_law_layouts.specs.Moves.After.{after}
 use Rattle.tg_law_layouts.proofs.Moves.Lists.{contained}
 use Rattle.tg_law_layouts.proofs.Moves.Members.{has_contained}
@@ -31,8 +31,9 @@ use Rattle.tg_law_finish.specs.Finish.Alone.{IsAlone}
 use Rattle.tg_law_finish.specs.Finish.Anywhere.{CommandWalks}
 use Rattle.tg_law_finish.specs.Finish.Appends.{is_last, WaitsForAppend}
 use Rattle.tg_law_finish.specs.Finish.Commands.{is_ask, plays}
+use Rattle.tg_law_finish.specs.Finish.Copies.{CopyFinishes}
 use Rattle.tg_law_finish.specs.Finish.Granted.{Granted}
-use Rattle.tg_law_finish.proofs.Finish.Answered.{within, same_command, record_below, record_walks, append_answered, append_in_time, ask_answered, ask_in_time, make_answered, make_in_time, ask_walks, make_walks, rescue_walks, token_below, end_walks, trim_walks, units_trim}
+use Rattle.tg_law_finish.proofs.Finish.Answered.{within, same_command, record_below, record_walks, append_answered, append_in_time, ask_answered, ask_in_time, make_answered, make_in_time, ask_walks, make_walks, rescue_walks, token_below, end_walks, trim_walks, units_trim, task_below, copy_walks}
 use Rattle.tg_law_finish.proofs.Finish.Standing.{next_near, limit_below, working}
 use Rattle.tg_law_finish.specs.Finish.Laws.{IsAnswered}
 use Rattle.tg_law_finish.specs.Finish.Makes.{makes, MakeFinishes}
@@ -43,13 +44,14 @@ use Rattle.tg_law_finish.specs.Finish.Rescues.{is_rescue, RescueWalks}
 use Rattle.tg_law_finish.specs.Finish.Trims.{IsTrim, trim_bound, TrimFinishes}
 use Rattle.tg_law_finish.specs.Finish.Walks.{passes_bound, streams, AskWalks, MakeWalks}
 use Rattle.tg_law_finish.proofs.Finish.Asking.{HeldWhereTrimmed, Grows, Owns, TokenStands, TaskStands}
-use Rattle.tg_law_finish.proofs.Finish.Below.{greatest, trimmed_settled, lows_below, unwritten_past}
-use Rattle.tg_law_finish.proofs.Finish.Working.{at_chain}
+use Rattle.tg_law_finish.proofs.Finish.Below.{greatest, past, trimmed_settled, lows_below, unwritten_past}
+use Rattle.tg_law_finish.proofs.Finish.Brought.{CopyShape, OfCommand}
+use Rattle.tg_law_finish.proofs.Finish.Working.{Working, at_chain}
 use Rattle.tg_law_finish.proofs.Finish.Named.{named, grown_named, grown_below}
 use Rattle.tg_law_finish.proofs.Finish.Drafted.{drafted}
 use Rattle.tg_law_finish.proofs.Finish.Hosting.{hosting}
-use Rattle.tg_law_finish.proofs.Finish.Hands.{append_stands, HasToken, token_stands, trims_stand, reads_stand}
-use Rattle.tg_law_finish.proofs.Finish.Suiting.{IsCopy, IsReconf, Suits, WorkSuits, purpose_plays, all_suit}
+use Rattle.tg_law_finish.proofs.Finish.Hands.{append_stands, HasToken, token_stands, trims_stand, reads_stand, copy_shape, copy_stands}
+use Rattle.tg_law_finish.proofs.Finish.Suiting.{IsReconf, Suits, WorkSuits, purpose_plays, all_suit}
 
 nearer : (a b : ℕ) → a ≤ b → too_far b ≡ false → too_far a ≡ false
 nearer a b le e = grind (arith, nat_tests, le, e)
@@ -58,6 +60,10 @@ module _ (m : Meaning) where
   -- in whatever world a run comes to, trims are in time
   abbrev Timely : Header → Type 0
   Timely h = (ms : Moves m) (v : World m) → Reaches m h ms v → TrimsInTime m v
+
+  -- and they leave what is needed
+  abbrev AllTrims : Header → Type 0
+  AllTrims h = (ms : Moves m) (v : World m) → Reaches m h ms v → TrimsAre m h ms v
 
   nothing_more : (h : Header) (zs : Moves m) → Reaches m h zs (after m h zs) → Goes m (after m h zs) [] (after m h zs)
   unfolding run
@@ -235,7 +241,33 @@ module _ (m : Meaning) where
       by (Copying' y) hand is = absurd is
       by (Reconfiguring y) hand is = absurd is
 
-  -- A command that syncs and plays.
+  -- A copy.
+
+  copy_here : (h : Header) (zs : Moves m) → Reaches m h zs (after m h zs) → TrimsAre m h zs (after m h zs) → AllTrims h → CopyFinishes m (after m h zs)
+  copy_here h zs r trims all k x a b spare f = copy_walks m h zs (after m h zs) r k all x a b (granted h zs r trims k x a b) (held_here h zs r trims b.serves) (past m h zs r b.serves) (record {
+    work = f.work;
+    waits = f.waits;
+    copying = f.copying;
+    hand = f.hand;
+    fault = shape.0.fault;
+    stands = copy_stands m h zs r trims k ready b.serves f.work f.copying f.waits f.hand;
+    since = shape.0.since;
+    running = running.0;
+    upto = running.1;
+    below = λ o g. task_below m h zs (after m h zs) r k b.stand f.work (Copying' f.copying) f.waits f.hand o g;
+  })
+    where
+      ready : Working m (after m h zs) k (latest m (after m h zs))
+      ready = working m h zs (after m h zs) r k x a b
+
+      shape : CopyShape m (λ u. (unit m (after m h zs) u).epoch) (latest m (after m h zs)) f.copying × OfCommand m f.work.command f.copying
+      shape = copy_shape m h zs r trims k (working m h zs (after m h zs) r k x a b) b.serves f.work f.copying f.waits f.hand
+
+      -- the spare of the command
+      running : (runs m (after m h zs) (unit_id f.copying.unit) ≡ true) × ((unit m (after m h zs) f.copying.unit).epoch ≤ (latest m (after m h zs)).epoch)
+      running = subst (λ (y : CommandOf m). IsSpareReady m (after m h zs) y) (same_command m h zs (after m h zs) r k x a f.work f.waits ∙ (copy_shape m h zs r trims k (working m h zs (after m h zs) r k x a b) b.serves f.work f.copying f.waits f.hand).1) spare
+
+  -- A command wherever it stands.
 
   is_one : (x : CommandOf m) → plays m x ≡ true → (is_ask m x ≡ true) ⊎ ((makes m x ≡ true) ⊎ ((is_rescue m x ≡ true) ⊎ (x ≡ cmd.Trim)))
   unfolding plays is_ask makes is_rescue
@@ -255,16 +287,9 @@ module _ (m : Meaning) where
   is_one (cmd.Reconf y) e = absurd cc
   is_one (cmd.Copy u y s) e = absurd cc
 
-  -- no copy and no reconfiguration is for it
-
-  no_copy : (x : CommandOf m) → plays m x ≡ true → IsCopy m x → ⊥
-  unfolding plays
-  no_copy (cmd.Copy u y s) e k = cc
-  no_copy x e k = k
-
-  no_reconf : (x : CommandOf m) → plays m x ≡ true → IsReconf m x → ⊥
-  unfolding plays
-  no_reconf (cmd.Reconf y) e k = cc
+  -- no reconfiguration is for it
+  no_reconf : (x : CommandOf m) → NoReconf m x → IsReconf m x → ⊥
+  no_reconf (cmd.Reconf y) e k = e
   no_reconf x e k = k
 
   judged_or_last : (y : Purpose m) → (y ≡ Judged) ⊎ (is_last m y ≡ true)
@@ -282,8 +307,8 @@ module _ (m : Meaning) where
   one_more : (n z : ℕ) → n + z ≤ n + 129 * z
   one_more n z = omega arith
 
-  command_here : (h : Header) (zs : Moves m) → Reaches m h zs (after m h zs) → TrimsAre m h zs (after m h zs) → Timely h → CommandWalks m (after m h zs)
-  command_here h zs r trims in_time k x a b such f = by f.task f.hand (subst (λ (y : CommandOf m). Suits m y f.task) (sym (same_command m h zs (after m h zs) r k x a f.work f.waits)) (suits h zs r trims k x a b f.work f.task f.waits f.hand))
+  command_here : (h : Header) (zs : Moves m) → Reaches m h zs (after m h zs) → TrimsAre m h zs (after m h zs) → AllTrims h → CommandWalks m (after m h zs)
+  command_here h zs r trims all k x a b spare such f = by f.task f.hand (subst (λ (y : CommandOf m). Suits m y f.task) (sym (same_command m h zs (after m h zs) r k x a f.work f.waits)) (suits h zs r trims k x a b f.work f.task f.waits f.hand))
     where
       bound : ℕ
       bound = most_deliveries_in m (after m h zs) x
@@ -293,7 +318,7 @@ module _ (m : Meaning) where
 
       trims' : x ≡ cmd.Trim → (v : Work m) (t : Task m) → (client m (after m h zs) k).work ≡ Some v → v.hand ≡ Doing t → IsTrim m t → IsAnswered m (after m h zs) k (bound + 129 * trimmed)
       trims' is v t has hand fits = within m k _ _ (after m h zs) _ (one_more bound trimmed)
-          (trim_here h zs r trims in_time k x a b (record { work = v; waits = has; command = sym (same_command m h zs (after m h zs) r k x a v has) ∙ is; task = t; hand = hand; trims = fits })).1
+          (trim_here h zs r trims (λ ms v s. (all ms v s).in_time) k x a b (record { work = v; waits = has; command = sym (same_command m h zs (after m h zs) r k x a v has) ∙ is; task = t; hand = hand; trims = fits })).1
 
       is_trim : (t : Task m) → IsRead m t → IsTrim m t
       is_trim (Syncing y) is = tt
@@ -303,8 +328,8 @@ module _ (m : Meaning) where
       is_trim (Copying' y) is = absurd is
       is_trim (Reconfiguring y) is = absurd is
 
-      reads : WaitsForRead m (after m h zs) k → IsAnswered m (after m h zs) k (bound + 129 * trimmed)
-      reads g = of (is_one x such)
+      reads : plays m x ≡ true → WaitsForRead m (after m h zs) k → IsAnswered m (after m h zs) k (bound + 129 * trimmed)
+      reads play g = of (is_one x play)
         where
           of : (is_ask m x ≡ true) ⊎ ((makes m x ≡ true) ⊎ ((is_rescue m x ≡ true) ⊎ (x ≡ cmd.Trim))) → IsAnswered m (after m h zs) k (bound + 129 * trimmed)
           of (inl e) = within m k _ _ (after m h zs) _ (one_more bound trimmed) (ask_walks_here h zs r trims k x a b e g).1
@@ -317,11 +342,11 @@ module _ (m : Meaning) where
       appends y z e (inr is) = within m k _ _ (after m h zs) _ (more bound trimmed) (append_here h zs r trims k x a b (record { work = f.work; waits = f.waits; append = y; purpose = z; hand = e; last = is })).1
 
       by : (t : Task m) → f.work.hand ≡ Doing t → Suits m x t → IsAnswered m (after m h zs) k (bound + 129 * trimmed)
-      by (Syncing s) e fits = reads (record { work = f.work; waits = f.waits; task = Syncing s; hand = e; reads = tt })
-      by (Walking y os) e fits = reads (record { work = f.work; waits = f.waits; task = Walking y os; hand = e; reads = tt })
+      by (Syncing s) e fits = reads fits (record { work = f.work; waits = f.waits; task = Syncing s; hand = e; reads = tt })
+      by (Walking y os) e fits = reads fits (record { work = f.work; waits = f.waits; task = Walking y os; hand = e; reads = tt })
       by (Appending y z) e fits = appends y z e (judged_or_last z)
       by (Trimming y) e fits = trims' fits f.work (Trimming y) f.waits e tt
-      by (Copying' y) e fits = absurd (no_copy x such fits)
+      by (Copying' y) e fits = within m k _ _ (after m h zs) _ (more bound trimmed) (copy_here h zs r trims all k x a b spare (record { work = f.work; waits = f.waits; copying = y; hand = e })).1
       by (Reconfiguring y) e fits = absurd (no_reconf x such fits)
 
   -- over any kinds, where trims left what is needed
@@ -352,11 +377,17 @@ module _ (m : Meaning) where
   pub trim_where : (h : Header) (zs : Moves m) (w : World m) → Reaches m h zs w → TrimsAre m h zs w → Timely h → TrimFinishes m w
   trim_where h zs w r trims in_time = subst (λ (v : World m). Reaches m h zs v → TrimsAre m h zs v → TrimFinishes m v) (sym r.goes.is) (λ a b. trim_here h zs a b in_time) r trims
 
-  pub command_where : (h : Header) (zs : Moves m) (w : World m) → Reaches m h zs w → TrimsAre m h zs w → Timely h → CommandWalks m w
-  command_where h zs w r trims in_time = subst (λ (v : World m). Reaches m h zs v → TrimsAre m h zs v → CommandWalks m v) (sym r.goes.is) (λ a b. command_here h zs a b in_time) r trims
+  pub copy_where : (h : Header) (zs : Moves m) (w : World m) → Reaches m h zs w → TrimsAre m h zs w → AllTrims h → CopyFinishes m w
+  copy_where h zs w r trims all = subst (λ (v : World m). Reaches m h zs v → TrimsAre m h zs v → CopyFinishes m v) (sym r.goes.is) (λ a b. copy_here h zs a b all) r trims
+
+  pub command_where : (h : Header) (zs : Moves m) (w : World m) → Reaches m h zs w → TrimsAre m h zs w → AllTrims h → CommandWalks m w
+  command_where h zs w r trims all = subst (λ (v : World m). Reaches m h zs v → TrimsAre m h zs v → CommandWalks m v) (sym r.goes.is) (λ a b. command_here h zs a b all) r trims
 
 pub commands_finish : Always all_kinds (CommandWalks all_kinds)
-commands_finish h zs w r = command_where all_kinds h zs w r (logs_hold h zs w r).trims (λ ms v s. (logs_hold h ms v s).trims.in_time)
+commands_finish h zs w r = command_where all_kinds h zs w r (logs_hold h zs w r).trims (λ ms v s. (logs_hold h ms v s).trims)
+
+pub copies_finish : Always all_kinds (CopyFinishes all_kinds)
+copies_finish h zs w r = copy_where all_kinds h zs w r (logs_hold h zs w r).trims (λ ms v s. (logs_hold h ms v s).trims)
 
 pub trims_finish : Always all_kinds (TrimFinishes all_kinds)
 trims_finish h zs w r = trim_where all_kinds h zs w r (logs_hold h zs w r).trims (λ ms v s. (logs_hold h ms v s).trims.in_time)

@@ -1,5 +1,6 @@
 -- A client that waits with one request at a time, as one that waits with several may.
 use Rattle.std.proofs.Common.{◌≡◌, ◌⊎◌, ℕ, ◌+◌, ◌≤◌, List, [], ◌∷◌, ◌++◌, true, false, refl, ◌∙◌, sym, subst, inl, inr, Some}
+use Rattle.std.specs.Prelude.{⊤}
 use Rattle.tg_base.specs.Layouts.{Layout}
 use Rattle.tg_base.specs.Clusters.{Header}
 use Rattle.tg_base.specs.declared.ids.NodeId.{NodeId}
@@ -13,7 +14,7 @@ use Rattle.tg_protocol.specs.ClientSteps.{client_deliver, called, ClientTurn, ha
 use Rattle.tg_protocol.specs.Worlds.{packet_of}
 use Rattle.tg_law_finish.proofs.Finish.Nets.{Net, net_after, sent_then, on_in, client_of}
 use Rattle.tg_law_finish.proofs.Finish.Others.{Ready, Keeps, Calm}
-use Rattle.tg_law_finish.proofs.Finish.Lines.{Item, Ask, Tell, asks, answer_packet, Busied, Again, Talk, Told, Goes}
+use Rattle.tg_law_finish.proofs.Finish.Lines.{Item, Ask, Tell, asks, answer_packet, Busied, Again, TalkOf, Talk, Told, Goes}
 
 pub no_asks : (x : NodeId) (rid : ℕ) (y : Msg) (os : List Out) → Tell x rid y ∷ [] ≡ asks os → ⊥
 no_asks x rid y [] e = absurd cc
@@ -52,7 +53,8 @@ module _ (m : Meaning) (h : Header) (stopped : List NodeId) (k : ℕ) (p : Layou
       pub stage : Stage s t.now o left
       pub less : left + 1 ≤ n
 
-    pub record Machine (Exit : Net m → Client m → ClientTurn m → ℕ → Type 0) : Type 0 where
+    -- Of what its node is asked it may be known that it is fair.
+    pub record MachineOf (Fair : Net m → Msg → Type 0) (Exit : Net m → Client m → ClientTurn m → ℕ → Type 0) : Type 0 where
       pub facts : (s : Net m) (c : Client m) (o : Out) (n : ℕ) → Stage s c o n → Facts c o
       pub hears_calm : (s : Net m) (c : Client m) (x : NodeId) (rid : ℕ) (y : Msg) (n : ℕ) → Hears s c x rid y n → Busied m h stopped k p c
       pub stage_stays : (s t : Net m) (c : Client m) (o : Out) (n : ℕ) → Keeps m h stopped k p s t → Stage s c o n → Stage t c o n
@@ -60,16 +62,20 @@ module _ (m : Meaning) (h : Header) (stopped : List NodeId) (k : ℕ) (p : Layou
       pub stage_called : (s : Net m) (c : Client m) (o : Out) (n : ℕ) → Stage s c o n → Stage s (called m c) o n
       pub hears_called : (s : Net m) (c : Client m) (x : NodeId) (rid : ℕ) (y : Msg) (n : ℕ) → Hears s c x rid y n → Hears s (called m c) x rid y n
       pub stage_ticked : (s : Net m) (c : Client m) (o : Out) (n : ℕ) → Stage s c o n → Stage s (called m (record c { next = c.next + c.layouts })) o n
-      pub asked : (s : Net m) (o : Out) (n : ℕ) → Ready m h stopped k p s → Stage s (client_of m h s k) o n → Asked s o n
+      pub asked : (s : Net m) (o : Out) (n : ℕ) → Fair s o.msg → Ready m h stopped k p s → Stage s (client_of m h s k) o n → Asked s o n
       pub answered : (s : Net m) (x : NodeId) (rid : ℕ) (y : Msg) (n : ℕ) → Ready m h stopped k p s → Hears s (client_of m h s k) x rid y n
           → Exit s (client_of m h s k) (client_deliver m (client_of m h s k) x rid y) n ⊎ More s (client_deliver m (client_of m h s k) x rid y) n
+
+    -- whatever it is asked
+    abbrev pub Machine : (Net m → Client m → ClientTurn m → ℕ → Type 0) → Type 0
+    Machine Exit = MachineOf (λ s x. ⊤) Exit
 
     -- The request or its answer is on its way.
     pub data One (s : Net m) (c : Client m) : List Item → ℕ → Type 0 where
       Request : (o : Out) (n : ℕ) → Stage s c o n → One s c (Ask o ∷ []) n
       Answer : (x : NodeId) (rid : ℕ) (y : Msg) (n : ℕ) → Hears s c x rid y n → One s c (Tell x rid y ∷ []) n
 
-    module _ (Exit : Net m → Client m → ClientTurn m → ℕ → Type 0) (machine : Machine Exit) where
+    module _ (Fair : Net m → Msg → Type 0) (Exit : Net m → Client m → ClientTurn m → ℕ → Type 0) (machine : MachineOf Fair Exit) where
       one_facts : (s : Net m) (c : Client m) (is : List Item) (n : ℕ) → One s c is n → Busied m h stopped k p c
       one_facts s c is n (Request o l x) = let f = machine.facts s c o l x in record { work = f.work; waits = f.waits; calm = f.calm }
       one_facts s c is n (Answer y rid z l x) = machine.hears_calm s c y rid z l x
@@ -94,10 +100,10 @@ module _ (m : Meaning) (h : Header) (stopped : List NodeId) (k : ℕ) (p : Layou
       one_ticked s c is os n (Request o l x) e = Request o l (machine.stage_ticked s c o l x)
       one_ticked s c is os n (Answer y rid z l x) e = absurd (no_asks y rid z os e)
 
-      one_asked : (s : Net m) (o : Out) (is js : List Item) (n : ℕ) → Ready m h stopped k p s → One s (client_of m h s k) js n → js ≡ Ask o ∷ is → Told m h stopped k p One s o is n
-      one_asked s o is js n ready (Request q l x) e =
+      one_asked : (s : Net m) (o : Out) (is js : List Item) (n : ℕ) → Fair s o.msg → Ready m h stopped k p s → One s (client_of m h s k) js n → js ≡ Ask o ∷ is → Told m h stopped k p One s o is n
+      one_asked s o is js n fair ready (Request q l x) e =
           subst (λ (y : Out). Told m h stopped k p One s y is l) (same q o is e) (subst (λ (ys : List Item). Told m h stopped k p One s q ys l) (none q o is e)
-          (let a = machine.asked s q l ready x in
+          (let a = machine.asked s q l (subst (λ (y : Out). Fair s y.msg) (sym (same q o is e)) fair) ready x in
           record { running = a.running; from = a.from; rid = a.rid; says = a.says; sent = a.sent; no_client = a.no_client; ready = a.ready; client = a.client; stage = Answer a.from a.rid a.says l a.hears }))
         where
           same : (q o : Out) (is : List Item) → Ask q ∷ [] ≡ Ask o ∷ is → q ≡ o
@@ -105,7 +111,7 @@ module _ (m : Meaning) (h : Header) (stopped : List NodeId) (k : ℕ) (p : Layou
 
           none : (q o : Out) (is : List Item) → Ask q ∷ [] ≡ Ask o ∷ is → [] ≡ is
           none q o is e = cc
-      one_asked s o is js n ready (Answer y rid z l x) e = absurd cc
+      one_asked s o is js n fair ready (Answer y rid z l x) e = absurd cc
 
       one_answered : (s : Net m) (x : NodeId) (rid : ℕ) (y : Msg) (is js : List Item) (n : ℕ) → Ready m h stopped k p s → One s (client_of m h s k) js n → js ≡ Tell x rid y ∷ is
           → (Exit s (client_of m h s k) (client_deliver m (client_of m h s k) x rid y) n × (is ≡ [])) ⊎ Goes m h stopped k p One s (client_deliver m (client_of m h s k) x rid y) is n
@@ -128,14 +134,17 @@ module _ (m : Meaning) (h : Header) (stopped : List NodeId) (k : ℕ) (p : Layou
           by (inl over) = inl (over, none from r z x rid y is e)
           by (inr more) = inr (record { os = more.o ∷ []; left = more.left; sends = more.sends; stage = subst (λ (ys : List Item). One s (client_deliver m (client_of m h s k) x rid y).now (ys ++ asks (more.o ∷ [])) more.left) (sym (none from r z x rid y is e)) (Request more.o more.left more.stage); less = more.less })
 
-      pub one_talk : Talk m h stopped k p One Exit
-      one_talk = record {
+      pub one_talk_of : TalkOf m h stopped k p One Fair Exit
+      one_talk_of = record {
         facts = one_facts;
         some = one_some;
         stays = one_stays;
         calls = one_called;
         again = one_again;
         ticked = one_ticked;
-        asked = λ s o is n fair ready x. one_asked s o is (Ask o ∷ is) n ready x refl;
+        asked = λ s o is n fair ready x. one_asked s o is (Ask o ∷ is) n fair ready x refl;
         answered = λ s x rid y is n ready stage. one_answered s x rid y is (Tell x rid y ∷ is) n ready stage refl;
       }
+
+    pub one_talk : (Exit : Net m → Client m → ClientTurn m → ℕ → Type 0) → Machine Exit → Talk m h stopped k p One Exit
+    one_talk Exit machine = one_talk_of (λ s x. ⊤) Exit machine

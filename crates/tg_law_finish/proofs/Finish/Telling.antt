@@ -10,12 +10,12 @@ use Rattle.tg_protocol.specs.Appending.{append_start}
 use Rattle.tg_protocol.specs.Syncing.{sync_start}
 use Rattle.tg_protocol.specs.Views.{Entries, View}
 use Rattle.tg_entry.specs.declared.entry.Entry.{Entry}
-use Rattle.tg_protocol.specs.Clients.{Purpose, Decides, Rescues as RescuesWith, Task, Appending, Hand, Doing, Work, Client}
+use Rattle.tg_protocol.specs.Clients.{Purpose, Decides, Rescues as RescuesWith, Task, Appending, Copying', Hand, Doing, Work, Client}
 use Rattle.tg_protocol.specs.Answers.{Moved, note, appends, syncs}
 use Rattle.tg_protocol.specs.ClientSteps.{ClientTurn, task_in, plays_kept, client_deliver, client_tick}
 use Rattle.tg_law_layouts.proofs.Moves.Members.{Has}
-use Rattle.tg_law_steps.proofs.Places.{Place, Feeds, Newer, OnAppend, Walks, Plays}
-use Rattle.tg_law_steps.proofs.Ways.{Way, FeedsAppend, NewerAppend, AllWalked, HasPlayed}
+use Rattle.tg_law_steps.proofs.Places.{Place, Feeds, Newer, OnAppend, OnCopy, Walks, Plays}
+use Rattle.tg_law_steps.proofs.Ways.{Way, FeedsAppend, FeedsCopy, NewerAppend, NewerCopy, AllWalked, HasPlayed}
 use Rattle.tg_law_steps.proofs.Ends as end
 use Rattle.tg_law_steps.proofs.Along.{delivered, ticked, over_walks}
 use Rattle.tg_law_finish.specs.Finish.Commands.{plays}
@@ -138,3 +138,60 @@ module _ (m : Meaning) (P : WhatOf m → Type 0) where
 
     pub tick_told : (c : Client m) → HasIt x c.work → HasIt x (client_tick m c).now.work
     tick_told c h = ticked m (λ (t : ClientTurn m). HasIt x t.now.work) c (λ none. h) (λ w has. h)
+
+-- A client that copies.
+module _ (m : Meaning) (P : WhatOf m → Type 0) where
+  abbrev IsCopy : Task m → Type 0
+  IsCopy (Copying' y) = Unit {0}
+  IsCopy t = ⊥
+
+  -- a copy is in hand
+  abbrev pub HasCopy : Option (Work m) → Type 0
+  HasCopy None = ⊥
+  HasCopy (Some w) = IsCopy (task_in m w.hand)
+
+  module _ (replies : (what : WhatOf m) → IsReply m what → P what) where
+    -- it stays in hand, or a reply is told
+    abbrev Copies : Moved m → Type 0
+    Copies y = HasCopy y.now.work ⊎ Says m P y.notes
+
+    abbrev At : Client m → Work m → Place m → Type 0
+    At c w (Feeds t n rid y) = IsCopy t
+    At c w (Newer t n rid q) = IsCopy t
+    At c w (OnCopy x to) = Unit {0}
+    At c w p = ⊥
+
+    copy_way : (c : Client m) (w : Work m) (p : Place m) (d : Client m) (v : Work m) (q : Place m) → Way m c w p d v q → At c w p → At d v q
+    copy_way c w _ _ _ _ (FeedsCopy y n rid x) k = tt
+    copy_way c w _ _ _ _ (NewerCopy x n rid q fine) k = tt
+    copy_way c w _ _ _ _ x k = absurd k
+
+    never_walked : (c : Client m) (w : Work m) (d : Client m) (q : Place m) → AllWalked m c w d q → At c w (Walks []) → At d w q
+    never_walked c w d q x k = absurd k
+
+    copy_says : (n : ℕ) (what : WhatOf m) → P what → Says m P (note m n what ∷ [])
+    copy_says n what y = record { note = note m n what; here = inl refl; holds = y }
+
+    copy_ends : (c : Client m) (w : Work m) (p : Place m) (y : Moved m) → end.End m c w p y → At c w p → Copies y
+    copy_ends c w _ _ (end.GoesOn _ _ _ (end.CopyGoes x y)) k = inl tt
+    copy_ends c w _ _ (end.GoesOn _ _ _ z) k = absurd k
+    copy_ends c w _ _ (end.LearnsNewer _ (end.CopyLearns x y)) k = inl tt
+    copy_ends c w _ _ (end.LearnsNewer _ z) k = absurd k
+    copy_ends c w _ _ (end.Refuses d n why z) k = inr (copy_says n (told.Refused why) (replies _ tt))
+    copy_ends c w _ _ (end.Tells _ _ (end.IsCopied z e)) k = inr (copy_says 0 _ (replies _ tt))
+    copy_ends c w _ _ (end.Tells _ _ z) k = absurd k
+    copy_ends c w _ _ (end.Syncs _ _ _ (end.JudgedAt bs p d)) k = absurd k
+    copy_ends c w _ _ (end.Syncs _ _ _ z) k = absurd k
+    copy_ends c w _ _ (end.Appends _ _ _ _ (end.RescueDecides at so e i f)) k = absurd k
+    copy_ends c w _ _ (end.Appends _ _ _ _ z) k = absurd k
+    copy_ends c w _ _ (end.Answers _ _ _ (end.AreTrimmed b e)) k = absurd k
+    copy_ends c w _ _ (end.Answers _ _ _ z) k = absurd k
+
+    pub deliver_copied : (c : Client m) (from : NodeId) (rid : ℕ) (y : Msg) → HasCopy c.work → HasCopy (client_deliver m c from rid y).now.work ⊎ Says m P (client_deliver m c from rid y).notes
+    unfolding client_deliver
+    deliver_copied c from rid y h = delivered m At Copies copy_ends copy_way (over_walks m At Copies copy_ends never_walked) c from rid (reply y) (inl h)
+        (λ w t has doing a other. subst (λ (d : Hand m). IsCopy (task_in m d)) doing (subst HasCopy has h))
+        (λ w q has is a. subst HasCopy has h)
+
+    pub tick_copied : (c : Client m) → HasCopy c.work → HasCopy (client_tick m c).now.work
+    tick_copied c h = ticked m (λ (t : ClientTurn m). HasCopy t.now.work) c (λ none. h) (λ w has. h)

@@ -51,7 +51,7 @@ gones ts = map (λ (t : HasTrimmed). Tell (unit_id t.0.0) t.0.1 (msg.Gone t.1)) 
 abbrev IsNear : HasTrimmed → Type 0
 IsNear t = too_far t.1 ≡ false
 
-near_most : (a b : ℕ) → too_far a ≡ false → too_far b ≡ false → too_far (max a b) ≡ false
+pub near_most : (a b : ℕ) → too_far a ≡ false → too_far b ≡ false → too_far (max a b) ≡ false
 near_most a b e f = grind (arith, nat_tests, e, f)
 
 both_waits : (xs : List HasTrimmed) (t : HasTrimmed) → waits_of xs ++ t.0 ∷ [] ≡ waits_of (xs ++ t ∷ [])
@@ -106,7 +106,7 @@ module _ (m : Meaning) (h : Header) (stopped : List NodeId) (k : ℕ) (p : Layou
 
   -- A unit trims.
 
-  trims_so : (u : UnitState) (b : ℕ) → u.epoch ≡ p.epoch → unit_step u (msg.Trim p.epoch b) ≡ says (trimmed u (max u.low b)) (msg.Gone (max u.low b))
+  pub trims_so : (u : UnitState) (b : ℕ) → u.epoch ≡ p.epoch → unit_step u (msg.Trim p.epoch b) ≡ says (trimmed u (max u.low b)) (msg.Gone (max u.low b))
   unfolding unit_step unit_ask on_ask
   trims_so u b e = ap (λ d. in_epoch d u (on_trim u (max u.low b))) (tested u.epoch p.epoch e)
     where

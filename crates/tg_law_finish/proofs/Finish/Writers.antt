@@ -402,6 +402,6 @@ module _ (m : Meaning) (h : Header) (stopped : List NodeId) (k : ℕ) (p : Layou
     stage_called = λ s c o n x. record { append = x.append; shape = shape_called c x.append o x.shape; last = x.last; stage = x.stage };
     hears_called = λ s c from rid y n x. record { append = x.append; o = x.o; shape = shape_called c x.append x.o x.shape; last = x.last; awaited = x.awaited; no_latest = x.no_latest; well = x.well };
     stage_ticked = λ s c o n x. record { append = x.append; shape = shape_ticked c x.append o x.shape; last = x.last; stage = x.stage };
-    asked = λ s o n ready x. append_asked s x.append o x.append.work n refl x.shape.asks ready x.shape x.last x.stage;
+    asked = λ s o n fair ready x. append_asked s x.append o x.append.work n refl x.shape.asks ready x.shape x.last x.stage;
     answered = λ s from rid y n ready x. answered s (client_of m h s k) from rid y n x;
   }

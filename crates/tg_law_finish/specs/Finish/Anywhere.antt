@@ -1,12 +1,11 @@
--- A command that syncs and plays, wherever it stands.
-use Rattle.std.specs.Prelude.{◌≡◌, ℕ, ◌+◌, ◌*◌, true, Some}
+-- A command wherever it stands.
+use Rattle.std.specs.Prelude.{◌≡◌, ℕ, ◌+◌, ◌*◌, Some}
 use Rattle.tg_kind.specs.Meaning.{Meaning}
 use Rattle.tg_model.specs.Kinds.{CommandOf}
 use Rattle.tg_protocol.specs.Clients.{Task, Doing, Work}
 use Rattle.tg_protocol.specs.Worlds.{World, client}
-use Rattle.tg_protocol.specs.Finishing.{IsReadyFor, most_deliveries_in}
+use Rattle.tg_protocol.specs.Finishing.{IsReadyFor, IsSpareReady, NoReconf, most_deliveries_in}
 use Rattle.tg_law_finish.specs.Finish.Alone.{IsAlone}
-use Rattle.tg_law_finish.specs.Finish.Commands.{plays}
 use Rattle.tg_law_finish.specs.Finish.Laws.{IsAnswered}
 use Rattle.tg_law_finish.specs.Finish.Walks.{passes_bound}
 
@@ -18,7 +17,7 @@ module _ (m : Meaning) where
     pub task : Task m
     pub hand : work.hand ≡ Doing task
 
-  -- each is answered within its bound, and what trims may cost a rescue more
+  -- each but a reconfiguration is answered within its bound, and what trims may cost a rescue more
   abbrev pub CommandWalks : World m → Type 0
-  CommandWalks w = (k : ℕ) (x : CommandOf m) → IsAlone m w k x → IsReadyFor m w k → plays m x ≡ true → IsAtWork w k →
+  CommandWalks w = (k : ℕ) (x : CommandOf m) → IsAlone m w k x → IsReadyFor m w k → IsSpareReady m w x → NoReconf m x → IsAtWork w k →
       IsAnswered m w k (most_deliveries_in m w x + 129 * passes_bound m w 128)
