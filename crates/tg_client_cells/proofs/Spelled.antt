@@ -5,7 +5,8 @@ use Rattle.std.proofs.lemmas.Bool.{true≢false}
 use Rattle.tg_entry.specs.declared.entry.Entry.{Entry}
 use Rattle.tg_entry.specs.Format.{entry}
 use Rattle.tg_protocol.specs.Views.{Entries, entry_if}
-use Rattle.tg_client_cells.specs.Words.{fits_by, AreSpelled}
+use Rattle.tg_stream.specs.Pages.{fits_by}
+use Rattle.tg_client_cells.specs.Words.{AreSpelled}
 
 abbrev placed-fits : ℕ × Entry → Bool
 placed-fits x = entry.fits x.1

@@ -65,11 +65,6 @@ abbrev pub entries_at : List (ℕ × Cell) → List ℕ → Entries
 entries_at cells [] = []
 entries_at cells (p ∷ ps) = entry_if p (cell_entry (cell_at cells p)) (entries_at cells ps)
 
--- the entry has a spelling, where there is one
-abbrev pub fits_by : Option Entry → Bool
-fits_by None = true
-fits_by (Some e) = entry.fits e
-
 -- each of them has a spelling
 abbrev pub AreSpelled : Entries → Type 0
 AreSpelled es = list_all (λ (x : ℕ × Entry). entry.fits x.1) es ≡ true

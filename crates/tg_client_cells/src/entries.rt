@@ -4,39 +4,17 @@ ghost use Rattle.std.specs.Prelude.{◌≡◌, ◌++◌, [], true, Some, IfOk, O
 ghost use Rattle.tg_entry.specs.Drafts.{all_below};
 ghost use Rattle.tg_protocol.specs.Words.{cell_at};
 ghost use Rattle.tg_protocol.specs.Entries.{is_commit};
-ghost use Rattle.tg_protocol.specs.Pages.{entry_of, cell_entry};
-ghost use Rattle.tg_client_cells.specs.Words.{entries_at, commits_by, commit_of, fits_by, AreSpelled};
+ghost use Rattle.tg_protocol.specs.Pages.{cell_entry};
+ghost use Rattle.tg_stream.specs.Pages.{fits_by};
+ghost use Rattle.tg_client_cells.specs.Words.{entries_at, commits_by, commit_of, AreSpelled};
 ghost use Rattle.tg_protocol.specs.Views.{entry_if};
 
 use crate::positions::Positions;
 use std::alloc::Global;
 use std::collections::BTreeMap;
-use tg_base::{Blob, Cell, NoMemory, Pos};
-use tg_entry::{Body, Entries, Entry, EntryFault, decode};
-
-/// The entry whose spelling a page is, None where it is no entry's.
-#[tactic(auto, unfolding(tg_protocol::specs::Pages::entry_of))]
-fn entry_of(alloc: Global, page: &Blob) -> Result<Option<Entry>, NoMemory>
-    ensures entry { IfOk result (λ e. e ≡ entry_of page.now) }
-    ensures spelled { IfOk result (λ e. fits_by e ≡ true) }
-{
-    match decode(alloc, page.as_slice()) {
-        Ok(entry) => Ok(Some(entry)),
-        Err(EntryFault::NoMemory) => Err(NoMemory),
-        Err(_) => Ok(None),
-    }
-}
-
-/// The entry that a cell holds, None where it holds none.
-fn entry_in(alloc: Global, cell: &Cell) -> Result<Option<Entry>, NoMemory>
-    ensures entry { IfOk result (λ e. e ≡ cell_entry (Some cell.now)) }
-    ensures spelled { IfOk result (λ e. fits_by e ≡ true) }
-{
-    match cell {
-        Cell::Junk => Ok(None),
-        Cell::Data(page) => entry_of(alloc, page),
-    }
-}
+use tg_base::{NoMemory, Pos};
+use tg_entry::{Body, Entries, Entry};
+use tg_stream::Page;
 
 /// Whether an entry decides nothing, if there is one.
 fn commits_by(entry: &Option<Entry>) -> bool
@@ -56,28 +34,33 @@ fn is_commit(entry: &Entry) -> bool
 }
 
 /// Whether a cell holds no entry but a commit record.
-pub fn commits(alloc: Global, cell: &Cell) -> Result<bool, NoMemory>
-    ensures { IfOk result (λ c. c ≡ commits_by (cell_entry (Some cell.now))) }
+pub fn commits(alloc: Global, page: &Page) -> Result<bool, NoMemory>
+    ensures { IfOk result (λ c. c ≡ commits_by (cell_entry (Some page.now))) }
 {
-    let entry = entry_in(alloc, cell)?;
-    Ok(commits_by(&entry))
+    match page.kept() {
+        None => {
+            let entry = page.entry(alloc)?;
+            Ok(commits_by(&entry))
+        }
+        Some(entry) => Ok(is_commit(entry)),
+    }
 }
 
 /// The entry at a position, None where no page of one is known there.
-fn entry_at(alloc: Global, cells: &BTreeMap<u64, Cell>, pos: Pos) -> Result<Option<Entry>, NoMemory>
+fn entry_at(alloc: Global, cells: &BTreeMap<u64, Page>, pos: Pos) -> Result<Option<Entry>, NoMemory>
     ensures entry { IfOk result (λ e. e ≡ cell_entry (cell_at cells.now.entries pos)) }
     ensures spelled { IfOk result (λ e. fits_by e ≡ true) }
 {
     match cells.get(&pos) {
         None => Ok(None),
-        Some(cell) => entry_in(alloc, cell),
+        Some(page) => page.entry(alloc),
     }
 }
 
 /// The commit record at a position, None where no page of one is known there.
 pub fn commit_at(
     alloc: Global,
-    cells: &BTreeMap<u64, Cell>,
+    cells: &BTreeMap<u64, Page>,
     pos: Pos,
 ) -> Result<Option<Entry>, NoMemory>
     ensures { IfOk result (λ e. e ≡ commit_of (cell_entry (cell_at cells.now.entries pos))) }
@@ -101,7 +84,7 @@ fn commit_of(entry: Entry) -> Option<Entry>
 /// The entries at these positions, as far as their pages are known. Each has a spelling, since it was read from a page.
 pub fn entries_at(
     alloc: Global,
-    cells: &BTreeMap<u64, Cell>,
+    cells: &BTreeMap<u64, Page>,
     positions: &Positions,
 ) -> Result<Entries, NoMemory>
     ensures entries { IfOk result (λ es. es ≡ entries_at cells.now.entries positions.now) }

@@ -17,7 +17,7 @@ use std::marker::Model;
 use std::mem;
 use tg_base::{Blob, Cell, NoMemory, Oid, Pos};
 use tg_entry::{Entries, Entry};
-use tg_stream::Cells;
+use tg_stream::{Cells, Page};
 
 /// Known cells, the positions of the client's own commit records, and a position up to which cells are settled: below
 /// it each known page is one of the client's own commit records.
@@ -25,7 +25,7 @@ use tg_stream::Cells;
 /// Own records and junk are never given up. What a command does goes by what is known from the settled position on, so
 /// a history costs it nothing.
 pub struct Known {
-    cells: BTreeMap<u64, Cell>,
+    cells: BTreeMap<u64, Page>,
     own: Positions,
     settled: Pos,
 }
@@ -67,7 +67,10 @@ impl Known {
     pub fn cell(&self, pos: Pos) -> Option<&Cell>
         ensures { option_copied result ≡ cell_at self.now.cells pos }
     {
-        self.cells.get(&pos)
+        match self.cells.get(&pos) {
+            None => None,
+            Some(page) => Some(page.cell()),
+        }
     }
 
     /// The position below which each known page is one of the client's own commit records.
@@ -86,7 +89,8 @@ impl Known {
             own,
             settled,
         } = self;
-        cells.insert(pos, cell)?;
+        let page = Page::unread(cell);
+        cells.insert(pos, page)?;
         Ok(Known {
             cells,
             own,
@@ -96,7 +100,7 @@ impl Known {
 
     /// The page at a position becomes known, as one of the client's own commit records. Where memory runs out, all is
     /// given up.
-    pub fn own_record(self, pos: Pos, page: Blob) -> Result<Known, NoMemory>
+    pub fn own_record(self, alloc: Global, pos: Pos, page: Blob) -> Result<Known, NoMemory>
         ensures { IfOk result (λ k. k ≡ owned self pos page) }
     {
         let Known {
@@ -104,7 +108,8 @@ impl Known {
             own,
             settled,
         } = self;
-        cells.insert(pos, Cell::Data(page))?;
+        let read = Page::read(alloc, Cell::Data(page))?;
+        cells.insert(pos, read)?;
         let own = own.put(pos)?;
         Ok(Known {
             cells,

@@ -15,6 +15,7 @@ use crate::positions::Positions;
 use std::alloc::Global;
 use std::collections::BTreeMap;
 use tg_base::{Cell, List, NoMemory, Pos};
+use tg_stream::Page;
 
 /// Whether a cell holds a page.
 fn is_page(cell: &Cell) -> bool
@@ -24,18 +25,18 @@ fn is_page(cell: &Cell) -> bool
 }
 
 /// Whether a cell holds a page at a position that is none of these.
-fn is_others(own: &Positions, pos: Pos, cell: &Cell) -> bool
-    ensures { result ≡ is_others own.now (pos, cell.now) }
+fn is_others(own: &Positions, pos: Pos, page: &Page) -> bool
+    ensures { result ≡ is_others own.now (pos, page.now) }
 {
-    is_page(cell) && !own.has(pos)
+    is_page(page.cell()) && !own.has(pos)
 }
 
 /// Whether a cell holds a commit record or no entry, if its position is one of these.
-fn commits_if_own(alloc: Global, own: &Positions, pos: Pos, cell: &Cell) -> Result<bool, NoMemory>
-    ensures { IfOk result (λ c. c ≡ commits_if_own own.now (pos, cell.now)) }
+fn commits_if_own(alloc: Global, own: &Positions, pos: Pos, page: &Page) -> Result<bool, NoMemory>
+    ensures { IfOk result (λ c. c ≡ commits_if_own own.now (pos, page.now)) }
 {
     if own.has(pos) {
-        return commits(alloc, cell);
+        return commits(alloc, page);
     }
     Ok(true)
 }
@@ -43,7 +44,7 @@ fn commits_if_own(alloc: Global, own: &Positions, pos: Pos, cell: &Cell) -> Resu
 /// Whether each cell in a range whose position is one of these holds a commit record or no entry.
 pub fn all_commit(
     alloc: Global,
-    cells: &BTreeMap<u64, Cell>,
+    cells: &BTreeMap<u64, Page>,
     own: &Positions,
     low: Pos,
     high: Pos,
@@ -53,8 +54,8 @@ pub fn all_commit(
     if high <= low {
         return Ok(true);
     }
-    for (pos, cell) in cells.range(low..high) {
-        if !commits_if_own(alloc, own, *pos, cell)? {
+    for (pos, page) in cells.range(low..high) {
+        if !commits_if_own(alloc, own, *pos, page)? {
             return Ok(false);
         }
     }
@@ -64,7 +65,7 @@ pub fn all_commit(
 /// The positions of the pages in a range that are none of these. It isn't empty.
 fn others_in(
     alloc: Global,
-    cells: &BTreeMap<u64, Cell>,
+    cells: &BTreeMap<u64, Page>,
     own: &Positions,
     low: Pos,
     high: Pos,
@@ -74,8 +75,8 @@ fn others_in(
     ensures ordered { IsStrictlySortedBy nat_cmp (keys_of cells.now.entries) }
 {
     let mut others = List::new(alloc);
-    for (pos, cell) in cells.range(low..high) {
-        put_if(&mut others, is_others(own, *pos, cell), *pos)?;
+    for (pos, page) in cells.range(low..high) {
+        put_if(&mut others, is_others(own, *pos, page), *pos)?;
     }
     Ok(others)
 }
@@ -91,7 +92,7 @@ fn put_if(positions: &mut List<Pos>, holds: bool, pos: Pos) -> Result<(), NoMemo
 }
 
 /// Drops the cells at these positions.
-fn drop_at(cells: &mut BTreeMap<u64, Cell>, positions: &[Pos])
+fn drop_at(cells: &mut BTreeMap<u64, Page>, positions: &[Pos])
     ensures { cells.new.entries ≡ without positions.now cells.old.entries }
 {
     for at in (0..positions.len()).rev() {
@@ -100,7 +101,7 @@ fn drop_at(cells: &mut BTreeMap<u64, Cell>, positions: &[Pos])
 }
 
 /// Drops the cell at a position.
-fn drop_one(cells: &mut BTreeMap<u64, Cell>, pos: Pos)
+fn drop_one(cells: &mut BTreeMap<u64, Page>, pos: Pos)
     ensures { cells.new.entries ≡ remove_entry (is_at (nat_cmp pos)) cells.old.entries }
 {
     let _ = cells.remove(&pos);
@@ -109,7 +110,7 @@ fn drop_one(cells: &mut BTreeMap<u64, Cell>, pos: Pos)
 /// Drops the pages in a range but those at these positions.
 pub fn drop_others(
     alloc: Global,
-    cells: &mut BTreeMap<u64, Cell>,
+    cells: &mut BTreeMap<u64, Page>,
     own: &Positions,
     low: Pos,
     high: Pos,

@@ -10,3 +10,4 @@ pub mod Few
 pub mod Ending
 pub mod Paths
 pub mod Streams
+pub mod Kept

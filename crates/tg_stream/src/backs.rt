@@ -8,6 +8,7 @@ ghost use Rattle.tg_protocol.specs.Entries.{backs_of, link_of};
 ghost use Rattle.tg_protocol.specs.Pages.{entry_of};
 ghost use Rattle.tg_protocol.specs.Walking.{listed, pointers_at};
 
+use crate::page::Page;
 use arrayvec::ArrayVec;
 use std::alloc::Global;
 use tg_base::{Backs, Blob, Cell, NoMemory, Oid, Pos, StreamLink};
@@ -15,7 +16,17 @@ use tg_entry::{EntryFault, decode};
 
 /// The pointers of the entry at a position, as far as they are below it: None where no entry of the stream
 /// stands there.
-pub fn backs_at(alloc: Global, oid: Oid, pos: Pos, cell: &Cell) -> Result<Option<Backs>, NoMemory>
+pub fn backs_at(alloc: Global, oid: Oid, pos: Pos, page: &Page) -> Result<Option<Backs>, NoMemory>
+    ensures { IfOk result (λ backs. backs ≡ pointers_at oid pos page.now) }
+{
+    match page.kept() {
+        None => backs_unread(alloc, oid, pos, page.cell()),
+        Some(entry) => Ok(backs_among(oid, pos, entry.head.streams.as_slice())),
+    }
+}
+
+/// Likewise of a cell that isn't read yet.
+fn backs_unread(alloc: Global, oid: Oid, pos: Pos, cell: &Cell) -> Result<Option<Backs>, NoMemory>
     ensures { IfOk result (λ backs. backs ≡ pointers_at oid pos cell.now) }
 {
     match cell {

@@ -3,14 +3,15 @@
 ghost use Rattle.std.specs.Prelude.{◌≡◌, [], option_copied, IfOk};
 ghost use Rattle.tg_protocol.specs.Words.{cell_at, with_cell, cells_from};
 
+use crate::page::Page;
 use std::alloc::Global;
 use std::collections::BTreeMap;
 use std::marker::Model;
 use tg_base::{Cell, NoMemory, Pos};
 
-/// Known cells by position. A cell that is final stays so, and isn't read again.
+/// Known cells by position. A cell that is final stays so, and isn't read again, nor is its page decoded again.
 pub struct Cells {
-    map: BTreeMap<u64, Cell>,
+    map: BTreeMap<u64, Page>,
 }
 
 // By hand, since a derived drop is proved anew wherever a value is dropped.
@@ -40,14 +41,14 @@ impl Cells {
     }
 
     /// The cells of a map by position. It takes no memory.
-    pub fn from_map(map: BTreeMap<u64, Cell>) -> Cells
+    pub fn from_map(map: BTreeMap<u64, Page>) -> Cells
         ensures { result ≡ map.entries }
     {
         Cells { map }
     }
 
     /// The cells as a map by position. It takes no memory.
-    pub fn into_map(self) -> BTreeMap<u64, Cell>
+    pub fn into_map(self) -> BTreeMap<u64, Page>
         ensures { result.entries ≡ self }
     {
         let Cells { map } = self;
@@ -58,15 +59,25 @@ impl Cells {
     pub fn get(&self, pos: Pos) -> Option<&Cell>
         ensures { option_copied result ≡ cell_at self.now pos }
     {
+        match self.page(pos) {
+            None => None,
+            Some(page) => Some(page.cell()),
+        }
+    }
+
+    /// The cell at a position, with what its page says: None exactly where none is known. It takes no memory.
+    pub fn page(&self, pos: Pos) -> Option<&Page>
+        ensures { option_copied result ≡ cell_at self.now pos }
+    {
         self.map.get(&pos)
     }
 
     /// The cell at a position becomes known. Where memory runs out, all are given up.
-    pub fn put(self, pos: Pos, cell: Cell) -> Result<Cells, NoMemory>
-        ensures { IfOk result (λ c. c ≡ with_cell self pos cell) }
+    pub fn put(self, pos: Pos, page: Page) -> Result<Cells, NoMemory>
+        ensures { IfOk result (λ c. c ≡ with_cell self pos page) }
     {
         let Cells { mut map } = self;
-        map.insert(pos, cell)?;
+        map.insert(pos, page)?;
         Ok(Cells { map })
     }
 
@@ -81,7 +92,7 @@ impl Cells {
 }
 
 /// Drops the entries below a position.
-fn drop_below(map: &mut BTreeMap<u64, Cell>, pos: Pos)
+fn drop_below(map: &mut BTreeMap<u64, Page>, pos: Pos)
     ensures { map.new.entries ≡ cells_from pos map.old.entries }
 {
     while let Some((first, _)) = map.first_key_value() {

@@ -8,6 +8,7 @@ mod cells;
 mod known;
 mod laws;
 mod members;
+mod page;
 mod paused;
 mod trail;
 mod walk;
@@ -18,5 +19,6 @@ pub use laws::{
     starts_are_few, steps_are_few, waits_for_answers,
 };
 pub use members::Members;
+pub use page::Page;
 pub use paused::PausedWalk;
 pub use walk::{Walk, WalkStep};

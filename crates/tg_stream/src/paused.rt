@@ -10,6 +10,7 @@ ghost use Rattle.tg_stream.specs.Walks.{begun, walk_of, seen, seen_if, read, mem
 use crate::backs::backs_at;
 use crate::cells::Cells;
 use crate::members::Members;
+use crate::page::Page;
 use crate::trail::Trail;
 use crate::walk::{Walk, WalkStep};
 use std::alloc::Global;
@@ -118,10 +119,10 @@ impl PausedWalk {
         ensures known { IfOk result (λ known. known ≡ is_some (cell_at self.old.cells pos)) }
         ensures course { OnOk result (self.new ≡ seen_if self.old pos (cell_at self.old.cells pos)) }
     {
-        match self.cells.get(pos) {
+        match self.cells.page(pos) {
             None => Ok(false),
-            Some(cell) => {
-                let pointers = backs_at(alloc, self.oid, pos, cell)?;
+            Some(page) => {
+                let pointers = backs_at(alloc, self.oid, pos, page)?;
                 self.visit(pos, pointers)?;
                 Ok(true)
             }
@@ -132,8 +133,9 @@ impl PausedWalk {
     pub(crate) fn take(self, alloc: Global, pos: Pos, cell: Cell) -> Result<PausedWalk, NoMemory>
         ensures { IfOk result (λ s. s ≡ read self pos cell) }
     {
-        let pointers = backs_at(alloc, self.oid, pos, &cell)?;
-        let mut course = self.learn(pos, cell)?;
+        let page = Page::read(alloc, cell)?;
+        let pointers = backs_at(alloc, self.oid, pos, &page)?;
+        let mut course = self.learn(pos, page)?;
         course.visit(pos, pointers)?;
         Ok(course)
     }
@@ -183,8 +185,8 @@ impl PausedWalk {
     }
 
     /// The cell at a position becomes known.
-    fn learn(self, pos: Pos, cell: Cell) -> Result<PausedWalk, NoMemory>
-        ensures { IfOk result (λ s. s ≡ record self { cells = with_cell self.cells pos cell }) }
+    fn learn(self, pos: Pos, page: Page) -> Result<PausedWalk, NoMemory>
+        ensures { IfOk result (λ s. s ≡ record self { cells = with_cell self.cells pos page }) }
     {
         let PausedWalk {
             oid,
@@ -193,7 +195,7 @@ impl PausedWalk {
             trail,
             members,
         } = self;
-        let cells = cells.put(pos, cell)?;
+        let cells = cells.put(pos, page)?;
         Ok(PausedWalk {
             oid,
             lo,
