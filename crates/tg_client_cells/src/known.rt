@@ -100,7 +100,7 @@ impl Known {
 
     /// The page at a position becomes known, as one of the client's own commit records. Where memory runs out, all is
     /// given up.
-    pub fn own_record(self, alloc: Global, pos: Pos, page: Blob) -> Result<Known, NoMemory>
+    pub fn own_record(self, pos: Pos, page: Blob) -> Result<Known, NoMemory>
         ensures { IfOk result (λ k. k ≡ owned self pos page) }
     {
         let Known {
@@ -108,8 +108,8 @@ impl Known {
             own,
             settled,
         } = self;
-        let read = Page::read(alloc, Cell::Data(page))?;
-        cells.insert(pos, read)?;
+        let page = Page::unread(Cell::Data(page));
+        cells.insert(pos, page)?;
         let own = own.put(pos)?;
         Ok(Known {
             cells,

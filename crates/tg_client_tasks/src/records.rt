@@ -40,7 +40,7 @@ pub fn owns<K: Registry>(
 {
     let mut state = state;
     let taken = mem::replace(&mut state.parts.known, Known::new(alloc));
-    let known = taken.own_record(alloc, pos, page)?;
+    let known = taken.own_record(pos, page)?;
     state.parts.known = known;
     Ok(state)
 }

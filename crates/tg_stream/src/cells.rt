@@ -72,6 +72,13 @@ impl Cells {
         self.map.get(&pos)
     }
 
+    /// The page at a position is read, where it is known and wasn't read. The cells stay as they are.
+    pub fn read(&mut self, alloc: Global, pos: Pos) -> Result<(), NoMemory>
+        ensures { self.new ≡ self.old }
+    {
+        read_at(alloc, &mut self.map, pos)
+    }
+
     /// The cell at a position becomes known. Where memory runs out, all are given up.
     pub fn put(self, pos: Pos, page: Page) -> Result<Cells, NoMemory>
         ensures { IfOk result (λ c. c ≡ with_cell self pos page) }
@@ -88,6 +95,16 @@ impl Cells {
         let Cells { mut map } = self;
         drop_below(&mut map, pos);
         Cells { map }
+    }
+}
+
+/// Reads the page at a position, where one is known.
+fn read_at(alloc: Global, map: &mut BTreeMap<u64, Page>, pos: Pos) -> Result<(), NoMemory>
+    ensures { map.new.entries ≡ map.old.entries }
+{
+    match map.get_mut(&pos) {
+        None => Ok(()),
+        Some(page) => page.look(alloc),
     }
 }
 

@@ -52,6 +52,19 @@ impl Page {
         Ok(Page { cell, entry })
     }
 
+    /// Reads the page, unless it was read. The cell stays as it is.
+    pub fn look(&mut self, alloc: Global) -> Result<(), NoMemory>
+        ensures { self.new ≡ self.old }
+    {
+        if self.entry.is_some() {
+            return Ok(());
+        }
+        let read = entry_in(alloc, &self.cell)?;
+        let entry = boxed(alloc, read)?;
+        self.entry = entry;
+        Ok(())
+    }
+
     /// The cell. It takes no memory.
     pub fn cell(&self) -> &Cell
         ensures { result.now ≡ self.now }

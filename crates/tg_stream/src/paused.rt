@@ -119,14 +119,8 @@ impl PausedWalk {
         ensures known { IfOk result (λ known. known ≡ is_some (cell_at self.old.cells pos)) }
         ensures course { OnOk result (self.new ≡ seen_if self.old pos (cell_at self.old.cells pos)) }
     {
-        match self.cells.page(pos) {
-            None => Ok(false),
-            Some(page) => {
-                let pointers = backs_at(alloc, self.oid, pos, page)?;
-                self.visit(pos, pointers)?;
-                Ok(true)
-            }
-        }
+        self.read(alloc, pos)?;
+        self.visit_read(alloc, pos)
     }
 
     /// The cell at a position has been read: it becomes known, and is visited.
@@ -158,6 +152,28 @@ impl PausedWalk {
 }
 
 impl PausedWalk {
+    /// The page at a position is read, where it is known.
+    fn read(&mut self, alloc: Global, pos: Pos) -> Result<(), NoMemory>
+        ensures { self.new ≡ self.old }
+    {
+        self.cells.read(alloc, pos)
+    }
+
+    /// Visits a position whose page has been read, where it is known, and tells whether it is.
+    fn visit_read(&mut self, alloc: Global, pos: Pos) -> Result<bool, NoMemory>
+        ensures known { IfOk result (λ known. known ≡ is_some (cell_at self.old.cells pos)) }
+        ensures course { OnOk result (self.new ≡ seen_if self.old pos (cell_at self.old.cells pos)) }
+    {
+        match self.cells.page(pos) {
+            None => Ok(false),
+            Some(page) => {
+                let pointers = backs_at(alloc, self.oid, pos, page)?;
+                self.visit(pos, pointers)?;
+                Ok(true)
+            }
+        }
+    }
+
     fn at_least(&self, pos: Pos) -> Option<Pos>
         ensures { result ≡ at_least self.now.lo (Some pos) }
     {

@@ -13,7 +13,7 @@ invariant_of-result c =
     subst (λ n. IsSettled c.in_ok-own.own n c.insert.new.self.entries) (sym c.min.ensures)
     (subst (λ (ps : List ℕ). IsSettled ps low c.insert.new.self.entries) (sym c.in_ok-own.ensures)
     (subst (λ (cs : List (ℕ × Cell)). IsSettled (with_num c.args.pos c.self.inside.own) low cs) (sym c.in_ok-insert.ensures.entries)
-    (owned_settled c.self.inside.own c.self.inside.settled c.args.pos c.in_ok-read.read c.self.inside.cells.entries c.self.invariant)))
+    (owned_settled c.self.inside.own c.self.inside.settled c.args.pos c.unread-page.result c.self.inside.cells.entries c.self.invariant)))
 
 pub returns : goal.returns
 returns c =
@@ -21,5 +21,5 @@ returns c =
     ap (λ (n : ℕ). made c.insert.new.self.entries c.in_ok-own.own n) c.min.ensures
     ∙ ap (λ (ps : List ℕ). made c.insert.new.self.entries ps low) c.in_ok-own.ensures
     ∙ ap (λ (cs : List (ℕ × Cell)). made cs (with_num c.args.pos c.self.inside.own) low) c.in_ok-insert.ensures.entries
-    ∙ ap (λ (x : Cell). made (with_cell c.self.inside.cells.entries c.args.pos x) (with_num c.args.pos c.self.inside.own) low) c.in_ok-read.ensures
+    ∙ ap (λ (x : Cell). made (with_cell c.self.inside.cells.entries c.args.pos x) (with_num c.args.pos c.self.inside.own) low) c.unread-page.ensures
     ∙ ap (λ (k : Knowledge). owned k c.args.pos c.args.page) c.self.view_is
