@@ -1,5 +1,5 @@
 -- What is kept with a cell is what it says.
-use Rattle.std.proofs.Common.{◌≡◌, ℕ, List, true, nat_lt, filter, Option, Some, None, sym, ap, ◌∙◌}
+use Rattle.std.proofs.Common.{◌≡◌, ℕ, List, true, nat_lt, filter, Option, Some, None, ap, ◌∙◌}
 use Rattle.std.specs.List.{list_any}
 use Rattle.tg_base.specs.declared.cell.Cell.{Cell}
 use Rattle.tg_base.specs.declared.cell.Cell.TheVariants.{Junk, Data}

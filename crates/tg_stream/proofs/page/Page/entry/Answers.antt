@@ -10,8 +10,8 @@ use Rattle.tg_stream.proofs.page.Page.entry.Goals as goal
 pub returns-in-None-clause-entry : goal.returns-in-None-clause-entry
 returns-in-None-clause-entry c = subst (λ (x : Cell). IfOk c.entry_in.result (λ e. e ≡ entry_in x)) c.cell.ensures c.entry_in.ensures.entry
 
-pub returns-clause-entry : goal.returns-clause-entry
-returns-clause-entry c = ap (λ (e : Entry). Some e) c.in_ok-copy.ensures ∙ (subst (Says c.args.self.now) (ap option_copied c.in-Some.is) c.kept.ensures).0
+pub returns-in_ok-copy-in-Some-clause-entry : goal.returns-in_ok-copy-in-Some-clause-entry
+returns-in_ok-copy-in-Some-clause-entry c = ap (λ (e : Entry). Some e) c.in_ok-copy-in-Some.ensures ∙ (subst (Says c.args.self.now) (ap option_copied c.in-Some.is) c.kept.ensures).0
 
-pub returns-clause-spelled : goal.returns-clause-spelled
-returns-clause-spelled c = subst (λ (e : Entry). entry.fits e ≡ true) (sym c.in_ok-copy.ensures) (subst (Says c.args.self.now) (ap option_copied c.in-Some.is) c.kept.ensures).1
+pub returns-in_ok-copy-in-Some-clause-spelled : goal.returns-in_ok-copy-in-Some-clause-spelled
+returns-in_ok-copy-in-Some-clause-spelled c = subst (λ (e : Entry). entry.fits e ≡ true) (sym c.in_ok-copy-in-Some.ensures) (subst (Says c.args.self.now) (ap option_copied c.in-Some.is) c.kept.ensures).1

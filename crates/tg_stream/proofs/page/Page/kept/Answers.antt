@@ -1,4 +1,4 @@
-use Rattle.std.proofs.Common.{Option, Some, ap, sym, subst, ◌∙◌}
+use Rattle.std.proofs.Common.{Some, ap, sym, subst, ◌∙◌}
 use Rattle.tg_base.specs.declared.cell.Cell.{Cell}
 use Rattle.tg_entry.specs.declared.entry.Entry.{Entry}
 use Rattle.tg_stream.specs.Pages.{unboxed, Says}
