@@ -171,7 +171,7 @@ module _ (m : Meaning) (h : Header) (stopped : List NodeId) (k : ℕ) (p : Layou
     stage_called = λ s c o n x. record { shape = shape_called m h stopped k p 0 c (Reconfiguring r) (o ∷ []) x.shape; here = x.here; is = x.is };
     hears_called = λ s c from i y n x. record { shape = shape_called m h stopped k p 0 c (Reconfiguring r) (learn ∷ []) x.shape; awaited = x.awaited; tail = x.tail; near = x.near; says = x.says };
     stage_ticked = λ s c o n x. record { shape = shape_ticked m h stopped k p 0 c (Reconfiguring r) (o ∷ []) x.shape; here = x.here; is = x.is };
-    asked = asked;
+    asked = λ s o n fair ready x. asked s o n ready x;
     answered = answered;
   }
 
