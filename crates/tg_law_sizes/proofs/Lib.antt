@@ -1,2 +1,5 @@
 mod Fields
 mod Packets
+mod Short
+mod Drawing
+mod Counting
