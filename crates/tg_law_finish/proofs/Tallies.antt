@@ -9,3 +9,4 @@ pub mod Closing
 pub mod Saving
 pub mod Paging
 pub mod Trimming
+pub mod Copying

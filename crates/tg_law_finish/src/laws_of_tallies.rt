@@ -1,6 +1,6 @@
 //! Runs for which the premises of the laws hold, computed by the definitions.
 
-ghost use Rattle.tg_law_finish.specs.Tallies.Settled.{AppendIsAnswered, AskIsAnswered, EndIsAnswered, FateIsAnswered, ProbeIsAnswered, RecordIsAnswered, RescueIsAnswered, SaveIsAnswered, TrimIsAnswered};
+ghost use Rattle.tg_law_finish.specs.Tallies.Settled.{AppendIsAnswered, AskIsAnswered, CopyIsAnswered, EndIsAnswered, FateIsAnswered, ProbeIsAnswered, RecordIsAnswered, RescueIsAnswered, SaveIsAnswered, TrimIsAnswered};
 ghost use Rattle.tg_law_finish.specs.Tallies.Books.{CommitIsBooked};
 ghost use Rattle.tg_law_finish.specs.Tallies.Tallies.{PastIsTold, CommitIsTold};
 
@@ -73,4 +73,11 @@ pub fn rescue_is_answered()
 /// asks no more than it has. A settling of it takes eight deliveries with the client, where 32 are allowed, and the unit trims.
 pub fn trim_is_answered()
     ensures { TrimIsAnswered }
+{}
+
+/// A run in which a client adds to a tally, opens a range, and copies the closed one's stripe to a spare unit, and the spare's seal is
+/// lost, is one for which `copies_finish` asks no more than it has. A settling of it takes ten deliveries with the client, where 20
+/// are allowed, and the spare has the stripe's cells.
+pub fn copy_is_answered()
+    ensures { CopyIsAnswered }
 {}

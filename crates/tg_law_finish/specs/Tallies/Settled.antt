@@ -1,20 +1,24 @@
 -- Runs that leave a client waiting, and what a settling makes of them.
-use Rattle.std.specs.Prelude.{◌≡◌, ℕ, ◌+◌, ◌*◌, [], ◌∷◌}
+use Rattle.std.specs.Prelude.{◌≡◌, ℕ, ◌+◌, ◌*◌, [], ◌∷◌, length, None}
+use Rattle.tg_base.specs.Layouts.{Layout}
+use Rattle.tg_base.specs.Changes.{Changed}
+use Rattle.tg_base.specs.Clusters.{Header}
 use Rattle.tg_kind.specs.Meaning.{Meaning}
 use Rattle.tg_model.specs.declared.command.Command.TheVariants as cmd
-use Rattle.tg_model.specs.declared.command.Event.TheVariants.{Command as Commands, Deliver, Lose}
+use Rattle.tg_model.specs.declared.command.Event.TheVariants.{Command as Commands, Deliver, Lose, Tick}
 use Rattle.tg_model.specs.Kinds.{CommandOf}
 use Rattle.tg_protocol.specs.Appending.{AppendWork, Putting}
-use Rattle.tg_protocol.specs.Words.{directory}
+use Rattle.tg_protocol.specs.Words.{client_id, directory}
 use Rattle.tg_protocol.specs.Syncing.{SyncWork, Probing}
 use Rattle.tg_protocol.specs.Clients.{Task, Syncing}
 use Rattle.tg_protocol.specs.Worlds.{World, start, unit, latest, settle}
 use Rattle.tg_protocol.specs.Runs.{Moves, Takes, Reaches, run}
-use Rattle.tg_protocol.specs.Finishing.{longest_chain, deliveries, is_with_client, most_deliveries_in, WaitsAlone, IsReadyFor}
+use Rattle.tg_protocol.specs.Finishing.{longest_chain, deliveries, is_with_client, most_deliveries_in, WaitsAlone, IsReadyFor, IsSpareReady}
 use Rattle.tg_law_finish.specs.Finish.Alone.{IsAlone}
 use Rattle.tg_law_finish.specs.Finish.Granted.{Granted, next_position}
 use Rattle.tg_law_finish.specs.Finish.Appends.{WaitsForAppend}
 use Rattle.tg_law_finish.specs.Finish.Asks.{NothingTrimmed, HasIssued, WaitsForSync}
+use Rattle.tg_law_finish.specs.Finish.Copies.{WaitsForCopy, copy_bound}
 use Rattle.tg_law_finish.specs.Finish.Ends.{EndsAppend, end_bound, EndsRecord, record_bound}
 use Rattle.tg_law_finish.specs.Finish.Laws.{append_bound, ask_bound}
 use Rattle.tg_law_finish.specs.Finish.Reads.{WaitsForRead}
@@ -158,6 +162,37 @@ pub record TrimSettles (w : World floored) : Type 0 where
   pub counts : CountedIn floored w 8 32 82 (λ v. trim_bound floored v (streams floored waits.work)) cmd.Trim
   pub trims : (unit floored (settle floored w).world 0).low ≡ 1
 
+-- a unit stands in no chain
+abbrev pub with_spare : Header
+with_spare = record with_tally { units = 2 }
+
+-- a further range is opened, at the same unit and sequencer
+abbrev pub opens_again : Changed
+opens_again = record { seq = 0; drop = []; opened = (0 ∷ []) ∷ []; join = None }
+
+-- the layout after it, where one position is written
+abbrev pub reopened : Layout
+reopened = record { epoch = 2; seq = 0; start = 1; by = 0; gone = []; ranges = record { lo = 0; stripes = (0 ∷ []) ∷ [] } ∷ record { lo = 1; stripes = (0 ∷ []) ∷ [] } ∷ [] }
+
+-- a client adds to a tally and opens a range: the unit is sealed, the layout agreed on, and the sequencer scans the log. It
+-- copies the closed range's stripe to the spare unit, and the spare's seal is lost.
+abbrev pub copy_lost : Moves tallies
+copy_lost = Takes (Commands 0 cmd.Begin) ∷ Takes (Commands 0 (cmd.Put tally 5)) ∷ Takes (Commands 0 cmd.End)
+    ∷ Takes (Deliver 0) ∷ Takes (Deliver 1) ∷ Takes (Deliver 2) ∷ Takes (Deliver 3) ∷ Takes (Commands 0 (cmd.Reconf opens_again))
+    ∷ Takes (Deliver 4) ∷ Takes (Deliver 5) ∷ Takes (Deliver 6) ∷ Takes (Deliver 7) ∷ Takes (Deliver 8) ∷ Takes (Deliver 9)
+    ∷ Takes (Deliver 10) ∷ Takes (Deliver 11) ∷ Takes (Deliver 12) ∷ Takes (Deliver 13) ∷ Takes (Deliver 14) ∷ Takes (Deliver 15)
+    ∷ Takes (Tick (client_id 0)) ∷ Takes (Deliver 16) ∷ Takes (Deliver 17) ∷ Takes (Deliver 18) ∷ Takes (Deliver 19) ∷ Takes (Commands 0 (cmd.Copy 1 0 0)) ∷ Takes (Lose 20) ∷ []
+
+-- the settling brings the one cell of the stripe to the spare
+pub record CopySettles (w : World tallies) : Type 0 where
+  pub reached : Reaches tallies with_spare copy_lost w
+  pub alone : IsAlone tallies w 0 (cmd.Copy 1 0 0)
+  pub ready : IsReadyFor tallies w 0
+  pub spare : IsSpareReady tallies w (cmd.Copy 1 0 0)
+  pub waits : WaitsForCopy tallies w 0
+  pub counts : Counted w 10 20 80 (copy_bound tallies) (cmd.Copy 1 0 0)
+  pub brought : length (unit tallies (settle tallies w).world 1).cells ≡ 1
+
 abbrev pub AppendIsAnswered : Type 0
 AppendIsAnswered = AppendSettles (run tallies append_lost (start tallies with_tally))
 
@@ -184,3 +219,6 @@ RescueIsAnswered = RescueSettles (run tallies rescue_lost (start tallies with_ta
 
 abbrev pub TrimIsAnswered : Type 0
 TrimIsAnswered = TrimSettles (run floored trim_lost (start floored with_tally))
+
+abbrev pub CopyIsAnswered : Type 0
+CopyIsAnswered = CopySettles (run tallies copy_lost (start tallies with_spare))
