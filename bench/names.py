@@ -17,7 +17,7 @@ import sys
 TOP = os.path.dirname(os.path.dirname(os.path.abspath(__file__)))
 PLACES = ("src", "specs", "proofs", "must-fail", "edits")
 # Commands, words of the toolchain, words of scripts and transcripts that no code spells as a word, calls of the system, and a load of bench/cost.py.
-OTHERS = set("rt git python3 NAME NAMES ID START COUNT std rattle clap sendto recvfrom mixed".split())
+OTHERS = set("rt git python3 NAME NAMES ID START COUNT RT_JOBS std rattle clap sendto recvfrom mixed".split())
 SCRIPT = re.compile(r"([ulsc]|ctr|reg|map|list|tree|set|dir)(\d+|N)$")
 NAME = re.compile(r"[A-Za-z_][\w']*(::[A-Za-z_][\w']*)*$")
 FILE = re.compile(r"[\w./-]+\.(rt|antt|md|py|txt|edit|patch|script|transcript|header)$|[\w.-]+(/[\w.-]+)+/?$")
