@@ -18,19 +18,21 @@ pub fn directory_op(
 ) -> Result<Option<DirectoryOp>, NoMemory>
     ensures { IfOk result (λ x. x ≡ op_read verb.now (texts fields.now)) }
 {
-    if verb == "name" {
-        let Some((name, oid)) = two(alloc, fields)? else {
-            return Ok(None);
-        };
-        return Ok(Some(DirectoryOp::Name { name, oid }));
+    match verb {
+        "name" => {
+            let Some((name, oid)) = two(alloc, fields)? else {
+                return Ok(None);
+            };
+            Ok(Some(DirectoryOp::Name { name, oid }))
+        }
+        "mark" => {
+            let Some((oid, mark)) = two(alloc, fields)? else {
+                return Ok(None);
+            };
+            Ok(Some(DirectoryOp::Mark { oid, mark }))
+        }
+        _ => Ok(None),
     }
-    if verb == "mark" {
-        let Some((oid, mark)) = two(alloc, fields)? else {
-            return Ok(None);
-        };
-        return Ok(Some(DirectoryOp::Mark { oid, mark }));
-    }
-    Ok(None)
 }
 
 /// The ask that has this verb and these fields.
@@ -41,19 +43,17 @@ pub fn directory_ask(
 ) -> Result<Option<DirectoryAsk>, NoMemory>
     ensures { IfOk result (λ x. x ≡ ask_read verb.now (texts fields.now)) }
 {
-    if verb == "find" {
-        let Some(name) = one(alloc, fields)? else {
-            return Ok(None);
-        };
-        return Ok(Some(DirectoryAsk::Find { name }));
+    match verb {
+        "find" => {
+            let Some(name) = one(alloc, fields)? else {
+                return Ok(None);
+            };
+            Ok(Some(DirectoryAsk::Find { name }))
+        }
+        "marks" => Ok(nothing(fields).map(|()| DirectoryAsk::Marks)),
+        "floor" => Ok(nothing(fields).map(|()| DirectoryAsk::Floor)),
+        _ => Ok(None),
     }
-    if verb == "marks" {
-        return Ok(nothing(fields).map(|()| DirectoryAsk::Marks));
-    }
-    if verb == "floor" {
-        return Ok(nothing(fields).map(|()| DirectoryAsk::Floor));
-    }
-    Ok(None)
 }
 
 /// The answer of the ask's form that has these words.

@@ -136,13 +136,11 @@ impl Field for bool {
     ghost word = { flag };
 
     fn of(_alloc: Global, spelling: &str) -> Result<Option<bool>, NoMemory> {
-        if spelling == "yes" {
-            return Ok(Some(true));
+        match spelling {
+            "yes" => Ok(Some(true)),
+            "no" => Ok(Some(false)),
+            _ => Ok(None),
         }
-        if spelling == "no" {
-            return Ok(Some(false));
-        }
-        Ok(None)
     }
 
     fn put(&self, out: &mut List<u8>) -> Result<(), NoMemory> {

@@ -14,56 +14,52 @@ use tg_list::{TextListAns, TextListAsk, TextListOp};
 pub fn list_op(alloc: Global, verb: &str, fields: &[&str]) -> Result<Option<TextListOp>, NoMemory>
     ensures { IfOk result (λ x. x ≡ op_read verb.now (texts fields.now)) }
 {
-    if verb == "push_front" {
-        let Some(text) = one(alloc, fields)? else {
-            return Ok(None);
-        };
-        return Ok(Some(TextListOp::PushFront { text }));
+    match verb {
+        "push_front" => {
+            let Some(text) = one(alloc, fields)? else {
+                return Ok(None);
+            };
+            Ok(Some(TextListOp::PushFront { text }))
+        }
+        "push_back" => {
+            let Some(text) = one(alloc, fields)? else {
+                return Ok(None);
+            };
+            Ok(Some(TextListOp::PushBack { text }))
+        }
+        "insert" => {
+            let Some((at, text)) = two(alloc, fields)? else {
+                return Ok(None);
+            };
+            Ok(Some(TextListOp::Insert { at, text }))
+        }
+        "remove" => {
+            let Some(at) = one(alloc, fields)? else {
+                return Ok(None);
+            };
+            Ok(Some(TextListOp::Remove { at }))
+        }
+        "pop_front" => Ok(nothing(fields).map(|()| TextListOp::PopFront)),
+        "pop_back" => Ok(nothing(fields).map(|()| TextListOp::PopBack)),
+        _ => Ok(None),
     }
-    if verb == "push_back" {
-        let Some(text) = one(alloc, fields)? else {
-            return Ok(None);
-        };
-        return Ok(Some(TextListOp::PushBack { text }));
-    }
-    if verb == "insert" {
-        let Some((at, text)) = two(alloc, fields)? else {
-            return Ok(None);
-        };
-        return Ok(Some(TextListOp::Insert { at, text }));
-    }
-    if verb == "remove" {
-        let Some(at) = one(alloc, fields)? else {
-            return Ok(None);
-        };
-        return Ok(Some(TextListOp::Remove { at }));
-    }
-    if verb == "pop_front" {
-        return Ok(nothing(fields).map(|()| TextListOp::PopFront));
-    }
-    if verb == "pop_back" {
-        return Ok(nothing(fields).map(|()| TextListOp::PopBack));
-    }
-    Ok(None)
 }
 
 /// The ask that has this verb and these fields.
 pub fn list_ask(alloc: Global, verb: &str, fields: &[&str]) -> Result<Option<TextListAsk>, NoMemory>
     ensures { IfOk result (λ x. x ≡ ask_read verb.now (texts fields.now)) }
 {
-    if verb == "at" {
-        let Some(at) = one(alloc, fields)? else {
-            return Ok(None);
-        };
-        return Ok(Some(TextListAsk::At { at }));
+    match verb {
+        "at" => {
+            let Some(at) = one(alloc, fields)? else {
+                return Ok(None);
+            };
+            Ok(Some(TextListAsk::At { at }))
+        }
+        "len" => Ok(nothing(fields).map(|()| TextListAsk::Len)),
+        "items" => Ok(nothing(fields).map(|()| TextListAsk::Items)),
+        _ => Ok(None),
     }
-    if verb == "len" {
-        return Ok(nothing(fields).map(|()| TextListAsk::Len));
-    }
-    if verb == "items" {
-        return Ok(nothing(fields).map(|()| TextListAsk::Items));
-    }
-    Ok(None)
 }
 
 /// The answer of the ask's form that has these words.

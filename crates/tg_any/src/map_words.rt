@@ -14,38 +14,38 @@ use tg_map::{MapAns, MapAsk, MapOp};
 pub fn map_op(alloc: Global, verb: &str, fields: &[&str]) -> Result<Option<MapOp>, NoMemory>
     ensures { IfOk result (λ x. x ≡ op_read verb.now (texts fields.now)) }
 {
-    if verb == "set" {
-        let Some((key, value)) = two(alloc, fields)? else {
-            return Ok(None);
-        };
-        return Ok(Some(MapOp::Set { key, value }));
+    match verb {
+        "set" => {
+            let Some((key, value)) = two(alloc, fields)? else {
+                return Ok(None);
+            };
+            Ok(Some(MapOp::Set { key, value }))
+        }
+        "unset" => {
+            let Some(key) = one(alloc, fields)? else {
+                return Ok(None);
+            };
+            Ok(Some(MapOp::Unset { key }))
+        }
+        _ => Ok(None),
     }
-    if verb == "unset" {
-        let Some(key) = one(alloc, fields)? else {
-            return Ok(None);
-        };
-        return Ok(Some(MapOp::Unset { key }));
-    }
-    Ok(None)
 }
 
 /// The ask that has this verb and these fields.
 pub fn map_ask(alloc: Global, verb: &str, fields: &[&str]) -> Result<Option<MapAsk>, NoMemory>
     ensures { IfOk result (λ x. x ≡ ask_read verb.now (texts fields.now)) }
 {
-    if verb == "get" {
-        let Some(key) = one(alloc, fields)? else {
-            return Ok(None);
-        };
-        return Ok(Some(MapAsk::Get { key }));
+    match verb {
+        "get" => {
+            let Some(key) = one(alloc, fields)? else {
+                return Ok(None);
+            };
+            Ok(Some(MapAsk::Get { key }))
+        }
+        "size" => Ok(nothing(fields).map(|()| MapAsk::Size)),
+        "keys" => Ok(nothing(fields).map(|()| MapAsk::Keys)),
+        _ => Ok(None),
     }
-    if verb == "size" {
-        return Ok(nothing(fields).map(|()| MapAsk::Size));
-    }
-    if verb == "keys" {
-        return Ok(nothing(fields).map(|()| MapAsk::Keys));
-    }
-    Ok(None)
 }
 
 /// The answer of the ask's form that has these words.

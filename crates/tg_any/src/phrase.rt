@@ -74,16 +74,16 @@ pub fn maybe<A: Field>(alloc: Global, words: &[&str]) -> Result<Option<Option<A>
     let [verb, fields @ ..] = words else {
         return Ok(None);
     };
-    if *verb == "some" {
-        let Some(x) = one(alloc, fields)? else {
-            return Ok(None);
-        };
-        return Ok(Some(Some(x)));
+    match *verb {
+        "some" => {
+            let Some(x) = one(alloc, fields)? else {
+                return Ok(None);
+            };
+            Ok(Some(Some(x)))
+        }
+        "none" => Ok(nothing(fields).map(|()| None)),
+        _ => Ok(None),
     }
-    if *verb == "none" {
-        return Ok(nothing(fields).map(|()| None));
-    }
-    Ok(None)
 }
 
 /// Puts `some` and the value's word, or `none`.

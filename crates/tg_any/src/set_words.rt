@@ -14,44 +14,48 @@ use tg_set::{SetAns, SetAsk, SetOp};
 pub fn set_op(alloc: Global, verb: &str, fields: &[&str]) -> Result<Option<SetOp>, NoMemory>
     ensures { IfOk result (λ x. x ≡ op_read verb.now (texts fields.now)) }
 {
-    if verb == "include" {
-        let Some(number) = one(alloc, fields)? else {
-            return Ok(None);
-        };
-        return Ok(Some(SetOp::Include { number }));
+    match verb {
+        "include" => {
+            let Some(number) = one(alloc, fields)? else {
+                return Ok(None);
+            };
+            Ok(Some(SetOp::Include { number }))
+        }
+        "exclude" => {
+            let Some(number) = one(alloc, fields)? else {
+                return Ok(None);
+            };
+            Ok(Some(SetOp::Exclude { number }))
+        }
+        _ => Ok(None),
     }
-    if verb == "exclude" {
-        let Some(number) = one(alloc, fields)? else {
-            return Ok(None);
-        };
-        return Ok(Some(SetOp::Exclude { number }));
-    }
-    Ok(None)
 }
 
 /// The ask that has this verb and these fields.
 pub fn set_ask(alloc: Global, verb: &str, fields: &[&str]) -> Result<Option<SetAsk>, NoMemory>
     ensures { IfOk result (λ x. x ≡ ask_read verb.now (texts fields.now)) }
 {
-    if verb == "member" {
-        let Some(number) = one(alloc, fields)? else {
-            return Ok(None);
-        };
-        return Ok(Some(SetAsk::Member { number }));
+    match verb {
+        "member" => {
+            let Some(number) = one(alloc, fields)? else {
+                return Ok(None);
+            };
+            Ok(Some(SetAsk::Member { number }))
+        }
+        "count" => {
+            let Some((low, high)) = two(alloc, fields)? else {
+                return Ok(None);
+            };
+            Ok(Some(SetAsk::Count { low, high }))
+        }
+        "between" => {
+            let Some((low, high)) = two(alloc, fields)? else {
+                return Ok(None);
+            };
+            Ok(Some(SetAsk::Between { low, high }))
+        }
+        _ => Ok(None),
     }
-    if verb == "count" {
-        let Some((low, high)) = two(alloc, fields)? else {
-            return Ok(None);
-        };
-        return Ok(Some(SetAsk::Count { low, high }));
-    }
-    if verb == "between" {
-        let Some((low, high)) = two(alloc, fields)? else {
-            return Ok(None);
-        };
-        return Ok(Some(SetAsk::Between { low, high }));
-    }
-    Ok(None)
 }
 
 /// The answer of the ask's form that has these words.

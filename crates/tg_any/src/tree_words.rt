@@ -14,50 +14,54 @@ use tg_tree::{TreeAns, TreeAsk, TreeOp};
 pub fn tree_op(alloc: Global, verb: &str, fields: &[&str]) -> Result<Option<TreeOp>, NoMemory>
     ensures { IfOk result (λ x. x ≡ op_read verb.now (texts fields.now)) }
 {
-    if verb == "create" {
-        let Some((path, text)) = two(alloc, fields)? else {
-            return Ok(None);
-        };
-        return Ok(Some(TreeOp::Create { path, text }));
+    match verb {
+        "create" => {
+            let Some((path, text)) = two(alloc, fields)? else {
+                return Ok(None);
+            };
+            Ok(Some(TreeOp::Create { path, text }))
+        }
+        "store" => {
+            let Some((path, text)) = two(alloc, fields)? else {
+                return Ok(None);
+            };
+            Ok(Some(TreeOp::Store { path, text }))
+        }
+        "delete" => {
+            let Some(path) = one(alloc, fields)? else {
+                return Ok(None);
+            };
+            Ok(Some(TreeOp::Delete { path }))
+        }
+        _ => Ok(None),
     }
-    if verb == "store" {
-        let Some((path, text)) = two(alloc, fields)? else {
-            return Ok(None);
-        };
-        return Ok(Some(TreeOp::Store { path, text }));
-    }
-    if verb == "delete" {
-        let Some(path) = one(alloc, fields)? else {
-            return Ok(None);
-        };
-        return Ok(Some(TreeOp::Delete { path }));
-    }
-    Ok(None)
 }
 
 /// The ask that has this verb and these fields.
 pub fn tree_ask(alloc: Global, verb: &str, fields: &[&str]) -> Result<Option<TreeAsk>, NoMemory>
     ensures { IfOk result (λ x. x ≡ ask_read verb.now (texts fields.now)) }
 {
-    if verb == "data" {
-        let Some(path) = one(alloc, fields)? else {
-            return Ok(None);
-        };
-        return Ok(Some(TreeAsk::Data { path }));
+    match verb {
+        "data" => {
+            let Some(path) = one(alloc, fields)? else {
+                return Ok(None);
+            };
+            Ok(Some(TreeAsk::Data { path }))
+        }
+        "has" => {
+            let Some(path) = one(alloc, fields)? else {
+                return Ok(None);
+            };
+            Ok(Some(TreeAsk::Has { path }))
+        }
+        "children" => {
+            let Some(path) = one(alloc, fields)? else {
+                return Ok(None);
+            };
+            Ok(Some(TreeAsk::Children { path }))
+        }
+        _ => Ok(None),
     }
-    if verb == "has" {
-        let Some(path) = one(alloc, fields)? else {
-            return Ok(None);
-        };
-        return Ok(Some(TreeAsk::Has { path }));
-    }
-    if verb == "children" {
-        let Some(path) = one(alloc, fields)? else {
-            return Ok(None);
-        };
-        return Ok(Some(TreeAsk::Children { path }));
-    }
-    Ok(None)
 }
 
 /// The answer of the ask's form that has these words.

@@ -83,16 +83,12 @@ pub fn unit(words: &[&str]) -> Option<u16>
 fn fate(word: &str) -> Option<Option<bool>>
     ensures { result ≡ fate.read word.now }
 {
-    if word == "none" {
-        return Some(None);
+    match word {
+        "none" => Some(None),
+        "yes" => Some(Some(true)),
+        "no" => Some(Some(false)),
+        _ => None,
     }
-    if word == "yes" {
-        return Some(Some(true));
-    }
-    if word == "no" {
-        return Some(Some(false));
-    }
-    None
 }
 
 // The fate that is the only word.
@@ -198,25 +194,27 @@ pub fn clash(alloc: Global, words: &[&str]) -> Result<Option<(Part, (u64, u64))>
     let [verb, fields @ ..] = words else {
         return Ok(None);
     };
-    if *verb == "all" {
-        let Some(both) = versions(alloc, fields)? else {
-            return Ok(None);
-        };
-        return Ok(Some((Part::All, both)));
+    match *verb {
+        "all" => {
+            let Some(both) = versions(alloc, fields)? else {
+                return Ok(None);
+            };
+            Ok(Some((Part::All, both)))
+        }
+        "key" => {
+            let Some((text, both)) = key_versions(alloc, fields)? else {
+                return Ok(None);
+            };
+            Ok(Some((Part::Text(text), both)))
+        }
+        "num" => {
+            let Some((number, both)) = number_versions(alloc, fields)? else {
+                return Ok(None);
+            };
+            Ok(Some((Part::Num(number), both)))
+        }
+        _ => Ok(None),
     }
-    if *verb == "key" {
-        let Some((text, both)) = key_versions(alloc, fields)? else {
-            return Ok(None);
-        };
-        return Ok(Some((Part::Text(text), both)));
-    }
-    if *verb == "num" {
-        let Some((number, both)) = number_versions(alloc, fields)? else {
-            return Ok(None);
-        };
-        return Ok(Some((Part::Num(number), both)));
-    }
-    Ok(None)
 }
 
 // The op that has these words.
@@ -257,20 +255,11 @@ pub fn write(alloc: Global, words: &[&str]) -> Result<Option<(Oid, AnyOp)>, NoMe
 fn ask_len(verb: &str) -> usize
     ensures { result ≡ ask_len verb.now }
 {
-    if verb == "count" || verb == "between" {
-        return 3;
+    match verb {
+        "count" | "between" => 3,
+        "find" | "get" | "at" | "data" | "has" | "children" | "member" => 2,
+        _ => 1,
     }
-    if verb == "find"
-        || verb == "get"
-        || verb == "at"
-        || verb == "data"
-        || verb == "has"
-        || verb == "children"
-        || verb == "member"
-    {
-        return 2;
-    }
-    1
 }
 
 // A position, and the answer there.

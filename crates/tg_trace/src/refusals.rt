@@ -15,108 +15,108 @@ use tg_model::Refusal;
 fn state_refusal(verb: &str, fields: &[&str]) -> Option<Refusal>
     ensures { result ≡ state_refusal verb.now (texts fields.now) }
 {
-    if verb == "busy" {
-        return command(fields).map(|command| Refusal::Busy { command });
+    match verb {
+        "busy" => command(fields).map(|command| Refusal::Busy { command }),
+        "no-tx" => nothing(fields).map(|()| Refusal::NoTx),
+        "tx-open" => nothing(fields).map(|()| Refusal::TxOpen),
+        "too-many" => crowd(fields).map(|what| Refusal::TooMany { what }),
+        _ => None,
     }
-    if verb == "no-tx" {
-        return nothing(fields).map(|()| Refusal::NoTx);
-    }
-    if verb == "tx-open" {
-        return nothing(fields).map(|()| Refusal::TxOpen);
-    }
-    if verb == "too-many" {
-        return crowd(fields).map(|what| Refusal::TooMany { what });
-    }
-    None
 }
 
 // A refusal that names an object.
 fn object_refusal(alloc: Global, verb: &str, fields: &[&str]) -> Result<Option<Refusal>, NoMemory>
     ensures { IfOk result (λ x. x ≡ object_refusal verb.now (texts fields.now)) }
 {
-    if verb == "not-hosted" {
-        let oid: Option<Oid> = one(alloc, fields)?;
-        return Ok(oid.map(|oid| Refusal::NotHosted { oid }));
+    match verb {
+        "not-hosted" => {
+            let oid: Option<Oid> = one(alloc, fields)?;
+            Ok(oid.map(|oid| Refusal::NotHosted { oid }))
+        }
+        "not-registered" => {
+            let oid: Option<Oid> = one(alloc, fields)?;
+            Ok(oid.map(|oid| Refusal::NotRegistered { oid }))
+        }
+        "wrong-kind" => {
+            let oid: Option<Oid> = one(alloc, fields)?;
+            Ok(oid.map(|oid| Refusal::WrongKind { oid }))
+        }
+        "no-checkpoint" => {
+            let oid: Option<Oid> = one(alloc, fields)?;
+            Ok(oid.map(|oid| Refusal::NoCheckpoint { oid }))
+        }
+        _ => Ok(None),
     }
-    if verb == "not-registered" {
-        let oid: Option<Oid> = one(alloc, fields)?;
-        return Ok(oid.map(|oid| Refusal::NotRegistered { oid }));
-    }
-    if verb == "wrong-kind" {
-        let oid: Option<Oid> = one(alloc, fields)?;
-        return Ok(oid.map(|oid| Refusal::WrongKind { oid }));
-    }
-    if verb == "no-checkpoint" {
-        let oid: Option<Oid> = one(alloc, fields)?;
-        return Ok(oid.map(|oid| Refusal::NoCheckpoint { oid }));
-    }
-    Ok(None)
 }
 
 // A refusal that names a number.
 fn number_refusal(alloc: Global, verb: &str, fields: &[&str]) -> Result<Option<Refusal>, NoMemory>
     ensures { IfOk result (λ x. x ≡ number_refusal verb.now (texts fields.now)) }
 {
-    if verb == "too-large" {
-        let bytes: Option<u64> = one(alloc, fields)?;
-        return Ok(bytes.map(|bytes| Refusal::TooLarge {
-            bytes: bytes as usize,
-        }));
+    match verb {
+        "too-large" => {
+            let bytes: Option<u64> = one(alloc, fields)?;
+            Ok(bytes.map(|bytes| Refusal::TooLarge {
+                bytes: bytes as usize,
+            }))
+        }
+        "log-full" => {
+            let limit: Option<u64> = one(alloc, fields)?;
+            Ok(limit.map(|limit| Refusal::LogFull { limit }))
+        }
+        "overtaken" => {
+            let epoch: Option<u64> = one(alloc, fields)?;
+            Ok(epoch.map(|epoch| Refusal::Overtaken { epoch }))
+        }
+        "open-decision" => {
+            let pos: Option<u64> = one(alloc, fields)?;
+            Ok(pos.map(|pos| Refusal::OpenDecision { pos }))
+        }
+        "not-closed" => {
+            let range: Option<u64> = one(alloc, fields)?;
+            Ok(range.map(|range| Refusal::NotClosed {
+                range: range as usize,
+            }))
+        }
+        "ahead" => {
+            let tail: Option<u64> = one(alloc, fields)?;
+            Ok(tail.map(|tail| Refusal::Ahead { tail }))
+        }
+        _ => Ok(None),
     }
-    if verb == "log-full" {
-        let limit: Option<u64> = one(alloc, fields)?;
-        return Ok(limit.map(|limit| Refusal::LogFull { limit }));
-    }
-    if verb == "overtaken" {
-        let epoch: Option<u64> = one(alloc, fields)?;
-        return Ok(epoch.map(|epoch| Refusal::Overtaken { epoch }));
-    }
-    if verb == "open-decision" {
-        let pos: Option<u64> = one(alloc, fields)?;
-        return Ok(pos.map(|pos| Refusal::OpenDecision { pos }));
-    }
-    if verb == "not-closed" {
-        let range: Option<u64> = one(alloc, fields)?;
-        return Ok(range.map(|range| Refusal::NotClosed {
-            range: range as usize,
-        }));
-    }
-    if verb == "ahead" {
-        let tail: Option<u64> = one(alloc, fields)?;
-        return Ok(tail.map(|tail| Refusal::Ahead { tail }));
-    }
-    Ok(None)
 }
 
 // A refusal that names two things.
 fn pair_refusal(alloc: Global, verb: &str, fields: &[&str]) -> Result<Option<Refusal>, NoMemory>
     ensures { IfOk result (λ x. x ≡ pair_refusal verb.now (texts fields.now)) }
 {
-    if verb == "undecided" {
-        let Some((pos, missing)) = two(alloc, fields)? else {
-            return Ok(None);
-        };
-        return Ok(Some(Refusal::Undecided { pos, missing }));
+    match verb {
+        "undecided" => {
+            let Some((pos, missing)) = two(alloc, fields)? else {
+                return Ok(None);
+            };
+            Ok(Some(Refusal::Undecided { pos, missing }))
+        }
+        "forgotten" => {
+            let Some((at, below)) = two(alloc, fields)? else {
+                return Ok(None);
+            };
+            Ok(Some(Refusal::Forgotten { at, below }))
+        }
+        "no-replica" => {
+            let Some((range, stripe)) = stripe(alloc, fields)? else {
+                return Ok(None);
+            };
+            Ok(Some(Refusal::NoReplica { range, stripe }))
+        }
+        "no-stripe" => {
+            let Some((range, stripe)) = stripe(alloc, fields)? else {
+                return Ok(None);
+            };
+            Ok(Some(Refusal::NoStripe { range, stripe }))
+        }
+        _ => Ok(None),
     }
-    if verb == "forgotten" {
-        let Some((at, below)) = two(alloc, fields)? else {
-            return Ok(None);
-        };
-        return Ok(Some(Refusal::Forgotten { at, below }));
-    }
-    if verb == "no-replica" {
-        let Some((range, stripe)) = stripe(alloc, fields)? else {
-            return Ok(None);
-        };
-        return Ok(Some(Refusal::NoReplica { range, stripe }));
-    }
-    if verb == "no-stripe" {
-        let Some((range, stripe)) = stripe(alloc, fields)? else {
-            return Ok(None);
-        };
-        return Ok(Some(Refusal::NoStripe { range, stripe }));
-    }
-    Ok(None)
 }
 
 /// A range and a stripe.
@@ -147,19 +147,17 @@ fn hole(alloc: Global, words: &[&str]) -> Result<Option<(u16, Pos)>, NoMemory>
 fn unit_refusal(alloc: Global, verb: &str, fields: &[&str]) -> Result<Option<Refusal>, NoMemory>
     ensures { IfOk result (λ x. x ≡ unit_refusal verb.now (texts fields.now)) }
 {
-    if verb == "returned" {
-        return Ok(unit(fields).map(|unit| Refusal::Returned { unit }));
+    match verb {
+        "returned" => Ok(unit(fields).map(|unit| Refusal::Returned { unit })),
+        "in-chain" => Ok(unit(fields).map(|unit| Refusal::InChain { unit })),
+        "not-whole" => {
+            let Some((unit, pos)) = hole(alloc, fields)? else {
+                return Ok(None);
+            };
+            Ok(Some(Refusal::NotWhole { unit, pos }))
+        }
+        _ => Ok(None),
     }
-    if verb == "in-chain" {
-        return Ok(unit(fields).map(|unit| Refusal::InChain { unit }));
-    }
-    if verb == "not-whole" {
-        let Some((unit, pos)) = hole(alloc, fields)? else {
-            return Ok(None);
-        };
-        return Ok(Some(Refusal::NotWhole { unit, pos }));
-    }
-    Ok(None)
 }
 
 /// The refusal that has these words. An `Err` is want of memory.

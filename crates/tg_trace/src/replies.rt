@@ -18,41 +18,39 @@ use tg_model::What;
 fn transaction_told(alloc: Global, verb: &str, fields: &[&str]) -> Result<Option<AnyWhat>, NoMemory>
     ensures { IfOk result (λ x. x ≡ transaction_told verb.now (texts fields.now)) }
 {
-    if verb == "begin" {
-        return Ok(nothing(fields).map(|()| What::Begin));
+    match verb {
+        "begin" => Ok(nothing(fields).map(|()| What::Begin)),
+        "put" => {
+            let Some((oid, op)) = write(alloc, fields)? else {
+                return Ok(None);
+            };
+            Ok(Some(What::Put { oid, op }))
+        }
+        "end" => Ok(nothing(fields).map(|()| What::End)),
+        "dropped" => Ok(nothing(fields).map(|()| What::Dropped)),
+        _ => Ok(None),
     }
-    if verb == "put" {
-        let Some((oid, op)) = write(alloc, fields)? else {
-            return Ok(None);
-        };
-        return Ok(Some(What::Put { oid, op }));
-    }
-    if verb == "end" {
-        return Ok(nothing(fields).map(|()| What::End));
-    }
-    if verb == "dropped" {
-        return Ok(nothing(fields).map(|()| What::Dropped));
-    }
-    Ok(None)
 }
 
 // What was answered to an ask.
 fn answer_told(alloc: Global, verb: &str, fields: &[&str]) -> Result<Option<AnyWhat>, NoMemory>
     ensures { IfOk result (λ x. x ≡ answer_told verb.now (texts fields.now)) }
 {
-    if verb == "asked" {
-        let Some((oid, (ask, (at, ans)))) = asked(alloc, fields)? else {
-            return Ok(None);
-        };
-        return Ok(Some(What::Asked { oid, ask, at, ans }));
+    match verb {
+        "asked" => {
+            let Some((oid, (ask, (at, ans)))) = asked(alloc, fields)? else {
+                return Ok(None);
+            };
+            Ok(Some(What::Asked { oid, ask, at, ans }))
+        }
+        "past" => {
+            let Some((oid, (ask, (at, ans)))) = asked(alloc, fields)? else {
+                return Ok(None);
+            };
+            Ok(Some(What::Past { oid, ask, at, ans }))
+        }
+        _ => Ok(None),
     }
-    if verb == "past" {
-        let Some((oid, (ask, (at, ans)))) = asked(alloc, fields)? else {
-            return Ok(None);
-        };
-        return Ok(Some(What::Past { oid, ask, at, ans }));
-    }
-    Ok(None)
 }
 
 // A record, an object, and the part by which the record's transaction is aborted.
@@ -78,56 +76,60 @@ fn aborted(
 fn record_told(alloc: Global, verb: &str, fields: &[&str]) -> Result<Option<AnyWhat>, NoMemory>
     ensures { IfOk result (λ x. x ≡ record_told verb.now (texts fields.now)) }
 {
-    if verb == "committed" {
-        let Some(at) = one(alloc, fields)? else {
-            return Ok(None);
-        };
-        return Ok(Some(What::Committed { at }));
+    match verb {
+        "committed" => {
+            let Some(at) = one(alloc, fields)? else {
+                return Ok(None);
+            };
+            Ok(Some(What::Committed { at }))
+        }
+        "aborted" => {
+            let Some((at, (oid, (part, (seen, now))))) = aborted(alloc, fields)? else {
+                return Ok(None);
+            };
+            Ok(Some(What::Aborted {
+                at,
+                oid,
+                part,
+                seen,
+                now,
+            }))
+        }
+        "unsure" => {
+            let Some((at, pos)) = two(alloc, fields)? else {
+                return Ok(None);
+            };
+            Ok(Some(What::Unsure { at, pos }))
+        }
+        _ => Ok(None),
     }
-    if verb == "aborted" {
-        let Some((at, (oid, (part, (seen, now))))) = aborted(alloc, fields)? else {
-            return Ok(None);
-        };
-        return Ok(Some(What::Aborted {
-            at,
-            oid,
-            part,
-            seen,
-            now,
-        }));
-    }
-    if verb == "unsure" {
-        let Some((at, pos)) = two(alloc, fields)? else {
-            return Ok(None);
-        };
-        return Ok(Some(What::Unsure { at, pos }));
-    }
-    Ok(None)
 }
 
 // What is told of a record's fate.
 fn fate_told(alloc: Global, verb: &str, fields: &[&str]) -> Result<Option<AnyWhat>, NoMemory>
     ensures { IfOk result (λ x. x ≡ fate_told verb.now (texts fields.now)) }
 {
-    if verb == "fate" {
-        let Some((at, yes)) = fate_at(alloc, fields)? else {
-            return Ok(None);
-        };
-        return Ok(Some(What::Fate { at, yes }));
+    match verb {
+        "fate" => {
+            let Some((at, yes)) = fate_at(alloc, fields)? else {
+                return Ok(None);
+            };
+            Ok(Some(What::Fate { at, yes }))
+        }
+        "decided" => {
+            let Some((at, yes)) = fate_at(alloc, fields)? else {
+                return Ok(None);
+            };
+            Ok(Some(What::Decided { at, yes }))
+        }
+        "rescued" => {
+            let Some((at, yes)) = fate_at(alloc, fields)? else {
+                return Ok(None);
+            };
+            Ok(Some(What::Rescued { at, yes }))
+        }
+        _ => Ok(None),
     }
-    if verb == "decided" {
-        let Some((at, yes)) = fate_at(alloc, fields)? else {
-            return Ok(None);
-        };
-        return Ok(Some(What::Decided { at, yes }));
-    }
-    if verb == "rescued" {
-        let Some((at, yes)) = fate_at(alloc, fields)? else {
-            return Ok(None);
-        };
-        return Ok(Some(What::Rescued { at, yes }));
-    }
-    Ok(None)
 }
 
 // An object and two positions.
@@ -147,25 +149,27 @@ fn saved(alloc: Global, words: &[&str]) -> Result<Option<(Oid, (Pos, Pos))>, NoM
 fn object_told(alloc: Global, verb: &str, fields: &[&str]) -> Result<Option<AnyWhat>, NoMemory>
     ensures { IfOk result (λ x. x ≡ object_told verb.now (texts fields.now)) }
 {
-    if verb == "hosted" {
-        let Some(oid) = one(alloc, fields)? else {
-            return Ok(None);
-        };
-        return Ok(Some(What::Hosted { oid }));
+    match verb {
+        "hosted" => {
+            let Some(oid) = one(alloc, fields)? else {
+                return Ok(None);
+            };
+            Ok(Some(What::Hosted { oid }))
+        }
+        "saved" => {
+            let Some((oid, (at, upto))) = saved(alloc, fields)? else {
+                return Ok(None);
+            };
+            Ok(Some(What::Saved { oid, at, upto }))
+        }
+        "marked" => {
+            let Some((oid, mark)) = two(alloc, fields)? else {
+                return Ok(None);
+            };
+            Ok(Some(What::Marked { oid, mark }))
+        }
+        _ => Ok(None),
     }
-    if verb == "saved" {
-        let Some((oid, (at, upto))) = saved(alloc, fields)? else {
-            return Ok(None);
-        };
-        return Ok(Some(What::Saved { oid, at, upto }));
-    }
-    if verb == "marked" {
-        let Some((oid, mark)) = two(alloc, fields)? else {
-            return Ok(None);
-        };
-        return Ok(Some(What::Marked { oid, mark }));
-    }
-    Ok(None)
 }
 
 // A unit, a range and a stripe.
@@ -185,35 +189,37 @@ fn place(alloc: Global, words: &[&str]) -> Result<Option<(u16, (usize, usize))>,
 fn layout_told(alloc: Global, verb: &str, fields: &[&str]) -> Result<Option<AnyWhat>, NoMemory>
     ensures { IfOk result (λ x. x ≡ layout_told verb.now (texts fields.now)) }
 {
-    if verb == "trimmed" {
-        let Some(mark) = one(alloc, fields)? else {
-            return Ok(None);
-        };
-        return Ok(Some(What::Trimmed { mark }));
+    match verb {
+        "trimmed" => {
+            let Some(mark) = one(alloc, fields)? else {
+                return Ok(None);
+            };
+            Ok(Some(What::Trimmed { mark }))
+        }
+        "installed" => {
+            let Some(epoch) = one(alloc, fields)? else {
+                return Ok(None);
+            };
+            Ok(Some(What::Installed { epoch }))
+        }
+        "copied" => {
+            let Some((unit, (range, stripe))) = place(alloc, fields)? else {
+                return Ok(None);
+            };
+            Ok(Some(What::Copied {
+                unit,
+                range,
+                stripe,
+            }))
+        }
+        "refused" => {
+            let Some(why) = refusal(alloc, fields)? else {
+                return Ok(None);
+            };
+            Ok(Some(What::Refused { why }))
+        }
+        _ => Ok(None),
     }
-    if verb == "installed" {
-        let Some(epoch) = one(alloc, fields)? else {
-            return Ok(None);
-        };
-        return Ok(Some(What::Installed { epoch }));
-    }
-    if verb == "copied" {
-        let Some((unit, (range, stripe))) = place(alloc, fields)? else {
-            return Ok(None);
-        };
-        return Ok(Some(What::Copied {
-            unit,
-            range,
-            stripe,
-        }));
-    }
-    if verb == "refused" {
-        let Some(why) = refusal(alloc, fields)? else {
-            return Ok(None);
-        };
-        return Ok(Some(What::Refused { why }));
-    }
-    Ok(None)
 }
 
 /// What a client told, by its words. An `Err` is want of memory.
