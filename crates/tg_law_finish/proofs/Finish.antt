@@ -67,4 +67,8 @@ pub mod Named
 pub mod Shapes
 pub mod Shaped
 pub mod Hands
+pub mod Fences
+pub mod Older
+pub mod Behind
+pub mod AtWork
 pub mod Store

@@ -14,6 +14,7 @@
 //! and that a sequencer names positions below it alone, is proved (`tg_law_headline::laws_of_issues`).
 
 ghost use Rattle.tg_kind.specs.Of.{meaning_of};
+ghost use Rattle.tg_law_finish.specs.Finish.Anywhere.{ReadyClientsWork};
 ghost use Rattle.tg_law_finish.specs.Finish.Drains.{DrainsAnswer, DrainsAreRuns, DrainsComeFirst};
 ghost use Rattle.tg_law_finish.specs.Finish.Laws.{AppendAnswered, AppendInTime, AskAnswered, AskInTime, DeliveriesTakeTurns, EndsAreTold, RepliesAreTold};
 ghost use Rattle.tg_law_finish.specs.Finish.Walks.{StreamsFew};
@@ -82,4 +83,10 @@ pub fn deliveries_take_turns<K: Registry>()
 /// A command walks 128 streams at most.
 pub fn streams_are_few<K: Registry>()
     ensures { Always (meaning_of K.Registry) (StreamsFew (meaning_of K.Registry)) }
+{}
+
+/// In a world that is ready for it, a client that waits with a command other than `reconf` has a task in hand, and doesn't
+/// wait for a newer layout. For such a client was told so by a node that it asked, which is past the client's layout.
+pub fn ready_clients_work<K: Registry>()
+    ensures { Always (meaning_of K.Registry) (ReadyClientsWork (meaning_of K.Registry)) }
 {}

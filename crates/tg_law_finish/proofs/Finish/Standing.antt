@@ -174,6 +174,11 @@ distinct_of : (xs : List ℕ) → ((u : ℕ) → Before xs u u → ⊥) → Dist
 distinct_of [] f = tt
 distinct_of (x ∷ xs) f = (none_first x xs (λ g. f x (inl (refl, g))), distinct_of xs (λ u b. f u (inr b)))
 
+-- the units of a position's chain are the layout's
+pub chain_in_units : (p : Layout) → IsLayout p → (pos i : ℕ) → i < length (chain_of p pos) → Has (units_of p) (slice_index (chain_of p pos) i)
+unfolding units_of
+chain_in_units p rules pos i less = nums_have (units_in p.ranges) _ (stands_there p pos _ rules (has_at (chain_of p pos) i less))
+
 module _ (m : Meaning) where
   pub numbers_hold : Always m (λ w. Numbers m (config m w))
   numbers_hold = always m (λ w. Numbers m (config m w)) (λ h ms. (all_hold m h ms).0.0)
@@ -204,8 +209,7 @@ module _ (m : Meaning) where
     rules = (layouts_are_sound m h ms w r p.epoch p (latest_decided m h ms w r).decided).rules
 
     in_units : (pos i : ℕ) → i < length (chain_of p pos) → Has (units_of p) (slice_index (chain_of p pos) i)
-    unfolding units_of
-    in_units pos i less = nums_have (units_in p.ranges) _ (stands_there p pos _ rules (has_at (chain_of p pos) i less))
+    in_units pos i less = chain_in_units p rules pos i less
 
     -- no unit stands twice in a chain
     pub once_there : (pos : ℕ) → Distinct (chain_of p pos)

@@ -28,11 +28,12 @@ use Rattle.tg_law_headline.specs.Issues.Issues.{TrimsInTime}
 use Rattle.tg_law_headline.specs.Trims.Spare.{TrimsAre}
 use Rattle.tg_law_headline.proofs.Runs.Holding.{logs_hold}
 use Rattle.tg_law_finish.specs.Finish.Alone.{IsAlone}
-use Rattle.tg_law_finish.specs.Finish.Anywhere.{CommandWalks}
+use Rattle.tg_law_finish.specs.Finish.Anywhere.{IsAtWork, CommandWalks}
 use Rattle.tg_law_finish.specs.Finish.Appends.{is_last, WaitsForAppend}
 use Rattle.tg_law_finish.specs.Finish.Commands.{is_ask, plays}
 use Rattle.tg_law_finish.specs.Finish.Copies.{CopyFinishes}
 use Rattle.tg_law_finish.specs.Finish.Granted.{Granted}
+use Rattle.tg_law_finish.proofs.Finish.AtWork.{ready_clients_work}
 use Rattle.tg_law_finish.proofs.Finish.Answered.{within, same_command, record_below, record_walks, append_answered, append_in_time, ask_answered, ask_in_time, make_answered, make_in_time, ask_walks, make_walks, rescue_walks, token_below, end_walks, trim_walks, units_trim, task_below, copy_walks}
 use Rattle.tg_law_finish.proofs.Finish.Standing.{next_near, limit_below, working}
 use Rattle.tg_law_finish.specs.Finish.Laws.{IsAnswered}
@@ -51,7 +52,7 @@ use Rattle.tg_law_finish.proofs.Finish.Named.{named, grown_named, grown_below}
 use Rattle.tg_law_finish.proofs.Finish.Drafted.{drafted}
 use Rattle.tg_law_finish.proofs.Finish.Hosting.{hosting}
 use Rattle.tg_law_finish.proofs.Finish.Hands.{append_stands, HasToken, token_stands, trims_stand, reads_stand, copy_shape, copy_stands}
-use Rattle.tg_law_finish.proofs.Finish.Suiting.{IsReconf, Suits, WorkSuits, purpose_plays, all_suit}
+use Rattle.tg_law_finish.proofs.Finish.Suiting.{Suits, WorkSuits, no_reconf, purpose_plays, all_suit}
 
 nearer : (a b : ℕ) → a ≤ b → too_far b ≡ false → too_far a ≡ false
 nearer a b le e = grind (arith, nat_tests, le, e)
@@ -287,11 +288,6 @@ module _ (m : Meaning) where
   is_one (cmd.Reconf y) e = absurd cc
   is_one (cmd.Copy u y s) e = absurd cc
 
-  -- no reconfiguration is for it
-  no_reconf : (x : CommandOf m) → NoReconf m x → IsReconf m x → ⊥
-  no_reconf (cmd.Reconf y) e k = e
-  no_reconf x e k = k
-
   judged_or_last : (y : Purpose m) → (y ≡ Judged) ⊎ (is_last m y ≡ true)
   unfolding is_last
   judged_or_last Judged = inl refl
@@ -307,8 +303,10 @@ module _ (m : Meaning) where
   one_more : (n z : ℕ) → n + z ≤ n + 129 * z
   one_more n z = omega arith
 
-  command_here : (h : Header) (zs : Moves m) → Reaches m h zs (after m h zs) → TrimsAre m h zs (after m h zs) → AllTrims h → CommandWalks m (after m h zs)
-  command_here h zs r trims all k x a b spare such f = by f.task f.hand (subst (λ (y : CommandOf m). Suits m y f.task) (sym (same_command m h zs (after m h zs) r k x a f.work f.waits)) (suits h zs r trims k x a b f.work f.task f.waits f.hand))
+  -- with a task in hand
+  works_here : (h : Header) (zs : Moves m) → Reaches m h zs (after m h zs) → TrimsAre m h zs (after m h zs) → AllTrims h → (k : ℕ) (x : CommandOf m) → IsAlone m (after m h zs) k x → IsReadyFor m (after m h zs) k → IsSpareReady m (after m h zs) x → NoReconf m x
+      → IsAtWork m (after m h zs) k → IsAnswered m (after m h zs) k (most_deliveries_in m (after m h zs) x + 129 * passes_bound m (after m h zs) 128)
+  works_here h zs r trims all k x a b spare such f = by f.task f.hand (subst (λ (y : CommandOf m). Suits m y f.task) (sym (same_command m h zs (after m h zs) r k x a f.work f.waits)) (suits h zs r trims k x a b f.work f.task f.waits f.hand))
     where
       bound : ℕ
       bound = most_deliveries_in m (after m h zs) x
@@ -347,7 +345,11 @@ module _ (m : Meaning) where
       by (Appending y z) e fits = appends y z e (judged_or_last z)
       by (Trimming y) e fits = trims' fits f.work (Trimming y) f.waits e tt
       by (Copying' y) e fits = within m k _ _ (after m h zs) _ (more bound trimmed) (copy_here h zs r trims all k x a b spare (record { work = f.work; waits = f.waits; copying = y; hand = e })).1
-      by (Reconfiguring y) e fits = absurd (no_reconf x such fits)
+      by (Reconfiguring y) e fits = absurd (no_reconf m x such fits)
+
+  command_here : (h : Header) (zs : Moves m) → Reaches m h zs (after m h zs) → TrimsAre m h zs (after m h zs) → AllTrims h → CommandWalks m (after m h zs)
+  command_here h zs r trims all k x a b spare such = works_here h zs r trims all k x a b spare such
+      (ready_clients_work m h zs (after m h zs) r k a.work a.waits b (subst (λ (y : CommandOf m). IsSpareReady m (after m h zs) y) (sym a.command) spare) (subst (λ (y : CommandOf m). NoReconf m y) (sym a.command) such))
 
   -- over any kinds, where trims left what is needed
   pub append_where : (h : Header) (zs : Moves m) (w : World m) → Reaches m h zs w → TrimsAre m h zs w → AppendFinishes m w

@@ -17,6 +17,7 @@ use Rattle.tg_protocol.specs.Answers.{Moved, appends, syncs}
 use Rattle.tg_protocol.specs.ClientSteps.{ClientTurn, task_in, client_command, client_deliver, client_tick}
 use Rattle.tg_protocol.specs.Worlds.{World, start}
 use Rattle.tg_protocol.specs.Runs.{Moves, Reaches}
+use Rattle.tg_protocol.specs.Finishing.{NoReconf}
 use Rattle.tg_law_layouts.specs.Moves.Configs.{Config, config, client_in}
 use Rattle.tg_law_layouts.proofs.Moves.Lists.{at_set, at_map}
 use Rattle.tg_law_layouts.proofs.Moves.Moves.{ClientInput, Commanded, Hears', Ticks', Cases, run_keeps}
@@ -90,6 +91,11 @@ module _ (m : Meaning) where
   task_replies x (Trimming y) k = tt
   task_replies x (Copying' y) k = tt
   task_replies x (Reconfiguring y) k = tt
+
+  -- no reconfiguration is for it
+  pub no_reconf : (x : CommandOf m) → NoReconf m x → IsReconf x → ⊥
+  no_reconf (cmd.Reconf y) e k = e
+  no_reconf x e k = k
 
   -- Along a turn.
 

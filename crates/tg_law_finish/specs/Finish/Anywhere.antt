@@ -17,7 +17,11 @@ module _ (m : Meaning) where
     pub task : Task m
     pub hand : work.hand ≡ Doing task
 
+  -- so has each client that waits with a command that isn't a reconfiguration, in a world that is ready for it
+  abbrev pub ReadyClientsWork : World m → Type 0
+  ReadyClientsWork w = (k : ℕ) (work : Work m) → (client m w k).work ≡ Some work → IsReadyFor m w k → IsSpareReady m w work.command → NoReconf m work.command → IsAtWork w k
+
   -- each but a reconfiguration is answered within its bound, and what trims may cost a rescue more
   abbrev pub CommandWalks : World m → Type 0
-  CommandWalks w = (k : ℕ) (x : CommandOf m) → IsAlone m w k x → IsReadyFor m w k → IsSpareReady m w x → NoReconf m x → IsAtWork w k →
+  CommandWalks w = (k : ℕ) (x : CommandOf m) → IsAlone m w k x → IsReadyFor m w k → IsSpareReady m w x → NoReconf m x →
       IsAnswered m w k (most_deliveries_in m w x + 129 * passes_bound m w 128)
