@@ -32,6 +32,7 @@ pub mod Brought
 pub mod Suiting
 pub mod Askings
 pub mod Scans
+pub mod Sends
 pub mod Standing
 pub mod Answered
 pub mod Telling

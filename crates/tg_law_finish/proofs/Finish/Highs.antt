@@ -16,17 +16,15 @@ use Rattle.tg_base.specs.declared.packet.Out.{Out}
 use Rattle.tg_base.specs.declared.packet.Packet.{Packet}
 use Rattle.tg_kind.specs.Meaning.{Meaning}
 use Rattle.tg_protocol.specs.Words.{unit_id, seqr_id, cell_at, cell_eq, plus_one}
-use Rattle.tg_protocol.specs.Requests.{out, awaits, drawn_from}
-use Rattle.tg_protocol.specs.Replies.{reply}
-use Rattle.tg_protocol.specs.Cells.{CellWork, Puts, Gets, Fills, Copies, Probes, CellJob, Place, work_asks, cell_asks, cell_feed}
-use Rattle.tg_protocol.specs.Sequencers.{SeqrState, SeqrTurn, scanning, scan_on, scan_asks, scan_turn, scan_fed, fed_if, begun, stand_answer, issue, on_token, unfenced, own_epoch, on_learn, learn_or_old, seqr_step, seqr_tick, links_of}
+use Rattle.tg_protocol.specs.Sequencers.{SeqrState, SeqrTurn, scanning, scan_on, begun, stand_answer, issue, on_token, unfenced, own_epoch, on_learn, learn_or_old, seqr_step, links_of}
 use Rattle.tg_protocol.specs.Units.{UnitState, UnitTurn, UnitAsk, Reads, Stores, Fills as FillsAt, Looks, Seals, TrimsBelow, Nothing, new_unit, unit_ask, in_epoch, not_gone, on_same, on_store, on_ask, unit_step}
 use Rattle.tg_protocol.specs.Worlds.{World, start, unit, packet_of}
 use Rattle.tg_protocol.specs.Runs.{Moves, Takes, Reaches}
 use Rattle.tg_law_layouts.specs.Moves.After.{after}
 use Rattle.tg_law_layouts.specs.Moves.Configs.{Config, config, seqr_in, unit_in}
+use Rattle.tg_law_layouts.specs.Moves.Telling.{is_request}
 use Rattle.tg_law_layouts.proofs.Moves.Lists.{contained, at_set, at_replicate}
-use Rattle.tg_law_layouts.proofs.Moves.Members.{Has, has_left, has_either, has_contained, has_map, has_filter}
+use Rattle.tg_law_layouts.proofs.Moves.Members.{Has, has_left, has_either, has_contained, has_map}
 use Rattle.tg_law_layouts.proofs.Moves.Moves.{Comes, SeqrInput, Hears, Ticks, unit_turn, seqr_turn}
 use Rattle.tg_law_layouts.proofs.Moves.Growth.{IsCalm, by_seqr, by_unit}
 use Rattle.tg_law_layouts.proofs.Requests.Answered.{turn_on}
@@ -38,6 +36,7 @@ use Rattle.tg_law_headline.proofs.Issues.Along.{along}
 use Rattle.tg_law_headline.proofs.Issues.Positions.{below_here}
 use Rattle.tg_law_headline.proofs.Issues.Sent.{named_pair}
 use Rattle.tg_law_finish.proofs.Finish.Scans.{seqrs_hold}
+use Rattle.tg_law_finish.proofs.Finish.Sends.{AllSent, one_sent, begun_sent, scan_fed_sent, tick_sent}
 use Rattle.tg_law_finish.proofs.Finish.Standing.{header_limits}
 
 -- What sequencers tell.
@@ -49,33 +48,13 @@ NearMsg (msg.Tail t ls) = t < 2 ^ 62
 NearMsg x = Unit {0}
 
 abbrev AllNear : List Out → Type 0
-AllNear os = (o : Out) → Has os o → NearMsg o.msg
+AllNear os = AllSent NearMsg os
 
-one_near : (to : NodeId) (rid : ℕ) (x : Msg) → NearMsg x → AllNear (out to rid x ∷ [])
-one_near to rid x n o (inl e) = subst (λ (y : Out). NearMsg y.msg) (sym e) n
-one_near to rid x n o (inr h) = absurd h
-
-more_near : (o : Out) (os : List Out) → NearMsg o.msg → AllNear os → AllNear (o ∷ os)
-more_near o os n f x (inl e) = subst (λ (y : Out). NearMsg y.msg) (sym e) n
-more_near o os n f x (inr h) = f x h
-
-none_near : AllNear []
-none_near o h = absurd h
-
-work_near : (a : Place) (w : CellWork) → AllNear (work_asks a w)
-unfolding work_asks
-work_near a (Puts r d i) = one_near _ r _ tt
-work_near a (Gets r) = one_near _ r _ tt
-work_near a (Fills r) = one_near _ r _ tt
-work_near a (Copies r c i) = one_near _ r _ tt
-work_near a (Probes ws) = λ o h. let i = has_map (λ (w : ℕ × ℕ). out (unit_id w.0) w.1 (msg.Has a.epoch a.pos a.pos 1)) ws o h in subst (λ (y : Out). NearMsg y.msg) (sym i.is) tt
-
-scan_near : (j : Option CellJob) → AllNear (scan_asks j)
-scan_near None = none_near
-scan_near (Some j) = work_near j.place j.work
-
-drawn_near : (low : ℕ) (os : List Out) → AllNear os → AllNear (drawn_from low os)
-drawn_near low os f o h = f o (has_filter _ os o h)
+near_asks : (y : Msg) → is_request y ≡ true → NearMsg y
+unfolding is_request
+near_asks (msg.Issued p ls) e = absurd cc
+near_asks (msg.Tail t ls) e = absurd cc
+near_asks y e = tt
 
 room_issued : (limit next : ℕ) → nat_le limit next ≡ false → limit < 2 ^ 62 → next + 1 < 2 ^ 62
 room_issued limit next e less = grind (arith, nat_tests, e, less)
@@ -85,20 +64,20 @@ stand_near s ls true less = tt
 stand_near s ls false less = less
 
 issue_near : (s : SeqrState) (os : List Oid) (from : NodeId) (rid : ℕ) (b : Bool) → nat_le s.limit s.next ≡ b → s.limit < 2 ^ 62 → AllNear (issue s os from rid b).sends
-issue_near s os from rid true e less = one_near from rid _ tt
-issue_near s os from rid false e less = one_near from rid _ (room_issued s.limit s.next e less)
+issue_near s os from rid true e less = one_sent NearMsg from rid _ tt
+issue_near s os from rid false e less = one_sent NearMsg from rid _ (room_issued s.limit s.next e less)
 
 token_near : (s : SeqrState) (os : List Oid) (from : NodeId) (rid : ℕ) (b : Bool) → s.limit < 2 ^ 62 → AllNear (on_token s os from rid b).sends
-token_near s os from rid true less = one_near from rid _ tt
+token_near s os from rid true less = one_sent NearMsg from rid _ tt
 token_near s os from rid false less = issue_near s os from rid (nat_le s.limit s.next) refl less
 
 unfenced_near : (f : Option ℕ) (s : SeqrState) (from : NodeId) (rid : ℕ) (t : SeqrTurn) → AllNear t.sends → AllNear (unfenced f s from rid t).sends
 unfenced_near None s from rid t n = n
-unfenced_near (Some e) s from rid t n = one_near from rid _ tt
+unfenced_near (Some e) s from rid t n = one_sent NearMsg from rid _ tt
 
 own_near : (b : Bool) (s : SeqrState) (from : NodeId) (rid : ℕ) (t : SeqrTurn) → AllNear t.sends → AllNear (own_epoch b s from rid t).sends
 own_near true s from rid t n = unfenced_near s.fence s from rid t n
-own_near false s from rid t n = one_near from rid _ tt
+own_near false s from rid t n = one_sent NearMsg from rid _ tt
 
 same_next : (s : SeqrState) (b : Bool) → (scan_on s b).next ≡ s.next
 same_next s true = refl
@@ -108,31 +87,19 @@ learn_near : (s : SeqrState) (q : Layout) (from : NodeId) (rid : ℕ) (b : Bool)
 learn_near s q from rid true less =
     let t = begun s q in
     let e = same_next (record s { epoch = q.epoch; proj = q; next = 0; lists = []; fence = None; scan = None }) (nat_lt 0 q.start) in
-    more_near (out from rid (stand_answer t [] (scanning t))) (drawn_from s.rids (scan_asks t.scan)) (stand_near t [] (scanning t) (omega (arith, e))) (drawn_near s.rids (scan_asks t.scan) (scan_near t.scan))
-learn_near s q from rid false less = unfenced_near s.fence s from rid _ (one_near from rid _ (stand_near s [] (scanning s) less))
+    begun_sent NearMsg near_asks s q from rid (stand_near t [] (scanning t) (omega (arith, e)))
+learn_near s q from rid false less = unfenced_near s.fence s from rid _ (one_sent NearMsg from rid _ (stand_near s [] (scanning s) less))
 
 old_near : (s : SeqrState) (q : Layout) (from : NodeId) (rid : ℕ) (b : Bool) → s.next < 2 ^ 62 → AllNear (learn_or_old s q from rid b).sends
-old_near s q from rid true less = one_near from rid _ tt
+old_near s q from rid true less = one_sent NearMsg from rid _ tt
 old_near s q from rid false less = learn_near s q from rid (nat_lt s.epoch q.epoch) less
-
-fed_near : (b : Bool) (s t : SeqrState) → AllNear (fed_if b s t).sends
-fed_near true s t = drawn_near s.rids (scan_asks t.scan) (scan_near t.scan)
-fed_near false s t = none_near
-
-scan_fed_near : (s : SeqrState) (j : Option CellJob) (from : NodeId) (rid : ℕ) (y : Msg) → AllNear (scan_fed s j from rid y).sends
-scan_fed_near s None from rid y = none_near
-scan_fed_near s (Some j) from rid y = fed_near (awaits (cell_asks j) from rid) s (scan_turn s (cell_feed j from.num (reply y) s.rids))
 
 step_near : (s : SeqrState) (from : NodeId) (rid : ℕ) (y : Msg) → s.limit < 2 ^ 62 → s.next < 2 ^ 62 → AllNear (seqr_step s from rid y).sends
 unfolding seqr_step
 step_near s from rid (msg.Learn q) limit next = old_near s q from rid (not (eqb q.seq s.num) || nat_lt q.epoch s.epoch) next
 step_near s from rid (msg.Token e os) limit next = own_near (eqb e s.epoch) s from rid _ (token_near s os from rid (scanning s) limit)
-step_near s from rid (msg.Check e os) limit next = own_near (eqb e s.epoch) s from rid _ (one_near from rid _ (stand_near s (links_of s.lists os) (scanning s) next))
-step_near s from rid y limit next = scan_fed_near s s.scan from rid y
-
-tick_near : (s : SeqrState) → AllNear (seqr_tick s).sends
-unfolding seqr_tick
-tick_near s = scan_near s.scan
+step_near s from rid (msg.Check e os) limit next = own_near (eqb e s.epoch) s from rid _ (one_sent NearMsg from rid _ (stand_near s (links_of s.lists os) (scanning s) next))
+step_near s from rid y limit next = scan_fed_sent NearMsg near_asks s s.scan from rid y
 
 -- What a unit's highest position comes from.
 
@@ -216,7 +183,7 @@ module _ (m : Meaning) where
 
   near_turn : (c : Config m) (s : ℕ) (t : SeqrTurn) → SeqrInput m c s t → (seqr_in m c s).limit < 2 ^ 62 → (seqr_in m c s).next < 2 ^ 62 → AllNear t.sends
   near_turn c s t (Hears p comes) limit next = step_near (seqr_in m c s) p.from p.rid p.msg limit next
-  near_turn c s t Ticks limit next = tick_near (seqr_in m c s)
+  near_turn c s t Ticks limit next = tick_sent NearMsg near_asks (seqr_in m c s)
 
   nears_on : (c : Config m) → Nears c → (s : ℕ) (t : SeqrTurn) → AllNear t.sends → Nears (seqr_turn m c s t)
   nears_on c h s t n a has from = by (has_either c.packets (map (packet_of m (seqr_id s)) t.sends) a has)

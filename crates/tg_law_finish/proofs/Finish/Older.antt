@@ -1,6 +1,6 @@
 -- What a sequencer told of an epoch stays so: where it told a request of a later epoch, it is past the request's own, or in it
 -- and fenced. Only a later layout takes a fence away.
-use Rattle.std.proofs.Common.{◌≡◌, ◌⊎◌, ℕ, ◌+◌, ◌<◌, List, [], ◌∷◌, length, map, Bool, true, false, not, ◌||◌, eqb, refl, ap, ◌∙◌, sym, subst, inl, inr, arith, Some, None, Option}
+use Rattle.std.proofs.Common.{◌≡◌, ◌⊎◌, ℕ, ◌+◌, ◌<◌, List, [], length, map, Bool, true, false, not, ◌||◌, eqb, refl, ap, ◌∙◌, sym, subst, inl, inr, arith, Some, None, Option}
 use Rattle.std.specs.Prelude.{nat_lt, nat_le, min, slice_index_or}
 use Rattle.tg_base.specs.Clusters.{Header}
 use Rattle.tg_base.specs.Layouts.{Layout}
@@ -13,21 +13,22 @@ use Rattle.tg_base.specs.declared.msg.Msg.TheVariants as msg
 use Rattle.tg_base.specs.declared.packet.Out.{Out}
 use Rattle.tg_base.specs.declared.packet.Packet.{Packet}
 use Rattle.tg_kind.specs.Meaning.{Meaning}
-use Rattle.tg_protocol.specs.Words.{unit_id, seqr_id}
+use Rattle.tg_protocol.specs.Words.{seqr_id}
 use Rattle.tg_protocol.specs.Layouts.{first_layout}
-use Rattle.tg_protocol.specs.Requests.{out, awaits, drawn_from, Next, Goes, Learns, Ends}
+use Rattle.tg_protocol.specs.Requests.{awaits, Next, Goes, Learns, Ends}
 use Rattle.tg_protocol.specs.Replies.{reply}
-use Rattle.tg_protocol.specs.Cells.{CellWork, Puts, Gets, Fills, Copies, Probes, CellJob, CellEnd, Done, Seen, Lost, Fenced, Gone, Place, work_asks, cell_asks, cell_feed}
-use Rattle.tg_protocol.specs.Sequencers.{SeqrState, SeqrTurn, new_seqr, with_positions, cell_streams, links_of, scanning, scan_on, scan_asks, scan_ended, scan_next, scan_turn, scan_fed, fed_if, answers, begun, stand_answer, issue, on_token, unfenced, own_epoch, on_learn, learn_or_old, seqr_step, seqr_tick}
+use Rattle.tg_protocol.specs.Cells.{CellJob, CellEnd, Done, Seen, Lost, Fenced, Gone, cell_asks, cell_feed}
+use Rattle.tg_protocol.specs.Sequencers.{SeqrState, SeqrTurn, new_seqr, with_positions, cell_streams, links_of, scanning, scan_on, scan_ended, scan_next, scan_turn, scan_fed, fed_if, answers, begun, stand_answer, issue, on_token, unfenced, own_epoch, on_learn, learn_or_old, seqr_step, seqr_tick}
 use Rattle.tg_protocol.specs.Worlds.{start, packet_of}
 use Rattle.tg_protocol.specs.Runs.{Moves}
 use Rattle.tg_law_layouts.specs.Moves.After.{after}
 use Rattle.tg_law_layouts.specs.Moves.Configs.{Config, config, seqr_in}
 use Rattle.tg_law_layouts.specs.Moves.Telling.{is_request}
 use Rattle.tg_law_layouts.proofs.Moves.Lists.{at_set}
-use Rattle.tg_law_layouts.proofs.Moves.Members.{Has, has_left, has_either, has_map, has_filter}
+use Rattle.tg_law_layouts.proofs.Moves.Members.{Has, has_left, has_either, has_map}
 use Rattle.tg_law_layouts.proofs.Moves.Moves.{Comes, SeqrInput, Hears, Ticks, seqr_turn, Keeps, run_keeps}
 use Rattle.tg_law_layouts.proofs.Moves.Growth.{IsCalm, by_seqr}
+use Rattle.tg_law_finish.proofs.Finish.Sends.{AllSent, one_sent, begun_sent, scan_fed_sent, tick_sent}
 
 -- past an epoch, or in it and fenced by a later one
 pub data IsPast (s : SeqrState) (e : ℕ) : Type 0 where
@@ -142,58 +143,24 @@ NoEpoch (msg.OldEpoch e) = ⊥
 NoEpoch x = Unit {0}
 
 abbrev Plain : List Out → Type 0
-Plain os = (o : Out) → Has os o → NoEpoch o.msg
+Plain os = AllSent NoEpoch os
 
-one_plain : (to : NodeId) (rid : ℕ) (x : Msg) → NoEpoch x → Plain (out to rid x ∷ [])
-one_plain to rid x n o (inl e) = subst (λ (y : Out). NoEpoch y.msg) (sym e) n
-one_plain to rid x n o (inr h) = absurd h
-
-more_plain : (o : Out) (os : List Out) → NoEpoch o.msg → Plain os → Plain (o ∷ os)
-more_plain o os n f x (inl e) = subst (λ (y : Out). NoEpoch y.msg) (sym e) n
-more_plain o os n f x (inr h) = f x h
-
-none_plain : Plain []
-none_plain o h = absurd h
-
-work_plain : (a : Place) (w : CellWork) → Plain (work_asks a w)
-unfolding work_asks
-work_plain a (Puts r d i) = one_plain _ r _ tt
-work_plain a (Gets r) = one_plain _ r _ tt
-work_plain a (Fills r) = one_plain _ r _ tt
-work_plain a (Copies r c i) = one_plain _ r _ tt
-work_plain a (Probes ws) = λ o h. let i = has_map (λ (w : ℕ × ℕ). out (unit_id w.0) w.1 (msg.Has a.epoch a.pos a.pos 1)) ws o h in subst (λ (y : Out). NoEpoch y.msg) (sym i.is) tt
-
-scan_plain : (j : Option CellJob) → Plain (scan_asks j)
-scan_plain None = none_plain
-scan_plain (Some j) = work_plain j.place j.work
-
-drawn_plain : (low : ℕ) (os : List Out) → Plain os → Plain (drawn_from low os)
-drawn_plain low os f o h = f o (has_filter _ os o h)
+asks_plain : (y : Msg) → is_request y ≡ true → NoEpoch y
+unfolding is_request
+asks_plain (msg.OldEpoch e) is = absurd cc
+asks_plain y is = tt
 
 stand_plain : (s : SeqrState) (ls : List StreamLink) (b : Bool) → NoEpoch (stand_answer s ls b)
 stand_plain s ls true = tt
 stand_plain s ls false = tt
 
 issue_plain : (s : SeqrState) (os : List Oid) (from : NodeId) (rid : ℕ) (b : Bool) → Plain (issue s os from rid b).sends
-issue_plain s os from rid true = one_plain from rid _ tt
-issue_plain s os from rid false = one_plain from rid _ tt
+issue_plain s os from rid true = one_sent NoEpoch from rid _ tt
+issue_plain s os from rid false = one_sent NoEpoch from rid _ tt
 
 token_plain : (s : SeqrState) (os : List Oid) (from : NodeId) (rid : ℕ) (b : Bool) → Plain (on_token s os from rid b).sends
-token_plain s os from rid true = one_plain from rid _ tt
+token_plain s os from rid true = one_sent NoEpoch from rid _ tt
 token_plain s os from rid false = issue_plain s os from rid (nat_le s.limit s.next)
-
-begun_plain : (s : SeqrState) (q : Layout) (from : NodeId) (rid : ℕ) → Plain (on_learn s q from rid true).sends
-begun_plain s q from rid =
-    let t = begun s q in
-    more_plain (out from rid (stand_answer t [] (scanning t))) (drawn_from s.rids (scan_asks t.scan)) (stand_plain t [] (scanning t)) (drawn_plain s.rids (scan_asks t.scan) (scan_plain t.scan))
-
-fed_plain : (b : Bool) (s t : SeqrState) → Plain (fed_if b s t).sends
-fed_plain true s t = drawn_plain s.rids (scan_asks t.scan) (scan_plain t.scan)
-fed_plain false s t = none_plain
-
-scan_fed_plain : (s : SeqrState) (j : Option CellJob) (from : NodeId) (rid : ℕ) (y : Msg) → Plain (scan_fed s j from rid y).sends
-scan_fed_plain s None from rid y = none_plain
-scan_fed_plain s (Some j) from rid y = fed_plain (awaits (cell_asks j) from rid) s (scan_turn s (cell_feed j from.num (reply y) s.rids))
 
 -- What it tells of an epoch answers a request.
 
@@ -234,9 +201,9 @@ module _ (from : NodeId) (rid : ℕ) (y : Msg) where
   own_tells false d s t is r of k = old_tells s s.epoch r (λ n a less. IsLater less)
 
   learn_tells : (s : SeqrState) (q : Layout) (b : Bool) → is_request y ≡ true → ((n : ℕ) → AsksIn y n → ⊥) → TellsOld from rid y (on_learn s q from rid b)
-  learn_tells s q true r never = plain_tells (on_learn s q from rid true) (begun_plain s q from rid)
+  learn_tells s q true r never = plain_tells (on_learn s q from rid true) (begun_sent NoEpoch asks_plain s q from rid (stand_plain (begun s q) [] (scanning (begun s q))))
   learn_tells s q false r never = unfenced_tells s.fence s (answers s from rid (stand_answer s [] (scanning s))) refl r (λ n a. absurd (never n a))
-      (plain_tells (answers s from rid (stand_answer s [] (scanning s))) (one_plain from rid (stand_answer s [] (scanning s)) (stand_plain s [] (scanning s))))
+      (plain_tells (answers s from rid (stand_answer s [] (scanning s))) (one_sent NoEpoch from rid (stand_answer s [] (scanning s)) (stand_plain s [] (scanning s))))
 
   learn_or_tells : (s : SeqrState) (q : Layout) (b : Bool) → is_request y ≡ true → ((n : ℕ) → AsksIn y n → ⊥) → TellsOld from rid y (learn_or_old s q from rid b)
   learn_or_tells s q true r never = old_tells s s.epoch r (λ n a less. absurd (never n a))
@@ -248,12 +215,8 @@ step_tells s from rid (msg.Learn q) = learn_or_tells from rid (msg.Learn q) s q 
 step_tells s from rid (msg.Token e os) = own_tells from rid (msg.Token e os) (eqb e s.epoch) e s (on_token s os from rid (scanning s)) refl refl (λ n a. a) (plain_tells from rid (msg.Token e os) (on_token s os from rid (scanning s)) (token_plain s os from rid (scanning s)))
 step_tells s from rid (msg.Check e os) =
     let t = answers s from rid (stand_answer s (links_of s.lists os) (scanning s)) in
-    own_tells from rid (msg.Check e os) (eqb e s.epoch) e s t refl refl (λ n a. a) (plain_tells from rid (msg.Check e os) t (one_plain from rid (stand_answer s (links_of s.lists os) (scanning s)) (stand_plain s (links_of s.lists os) (scanning s))))
-step_tells s from rid y = plain_tells from rid y (scan_fed s s.scan from rid y) (scan_fed_plain s s.scan from rid y)
-
-tick_plain : (s : SeqrState) → Plain (seqr_tick s).sends
-unfolding seqr_tick
-tick_plain s = scan_plain s.scan
+    own_tells from rid (msg.Check e os) (eqb e s.epoch) e s t refl refl (λ n a. a) (plain_tells from rid (msg.Check e os) t (one_sent NoEpoch from rid (stand_answer s (links_of s.lists os) (scanning s)) (stand_plain s (links_of s.lists os) (scanning s))))
+step_tells s from rid y = plain_tells from rid y (scan_fed s s.scan from rid y) (scan_fed_sent NoEpoch asks_plain s s.scan from rid y)
 
 -- Each sequencer of a run.
 module _ (m : Meaning) where
@@ -285,7 +248,7 @@ module _ (m : Meaning) where
 
   input_tells : (c : Config m) (s : ℕ) (t : SeqrTurn) → SeqrInput m c s t → (o : Out) (e : ℕ) → Has t.sends o → o.msg ≡ msg.OldEpoch e → (p : Packet) × Comes m c p (seqr_id s) × SaysOld p.from p.rid p.msg t.now o e
   input_tells c s _ (Hears p comes) o e h is = (p, comes, step_tells (seqr_in m c s) p.from p.rid p.msg o e h is)
-  input_tells c s _ Ticks o e h is = absurd (subst NoEpoch is (tick_plain (seqr_in m c s) o h))
+  input_tells c s _ Ticks o e h is = absurd (subst NoEpoch is (tick_sent NoEpoch asks_plain (seqr_in m c s) o h))
 
   -- of a world's sequencers and those after one of them took its turn
   pub seqr_stays : (c : Config m) (s : ℕ) (t : SeqrTurn) → SeqrInput m c s t → s < length c.seqrs → (k : ℕ) → Stays (seqr_in m c k) (seqr_in m (seqr_turn m c s t) k)
