@@ -20,8 +20,8 @@ use Rattle.tg_law_finish.specs.Finish.Alone.{IsAlone}
 use Rattle.tg_law_finish.specs.Finish.Laws.{IsReply}
 use Rattle.tg_law_finish.proofs.Finish.Answered.{drains_answer}
 use Rattle.tg_law_finish.proofs.Finish.Drains.{drains_come_first, drained_reached}
-use Rattle.tg_law_finish.proofs.Finish.Store.{appends_finish, asks_finish_anyway, makes_finish_anyway, rescues_finish, trims_finish, copies_finish, ends_finish, records_finish}
-use Rattle.tg_law_settles.specs.Settles.{IsSettleLine, world_before, world_after, world_drained, Waits, ForAppend, ForAsk, ForMake, ForRescue, ForTrim, ForCopy, ForEnd, ForRecord, SettleLinesFinish, DrainedLinesFinish, DrainedLinesAnswer}
+use Rattle.tg_law_finish.proofs.Finish.Store.{appends_finish, asks_finish_anyway, makes_finish_anyway, rescues_finish, trims_finish, copies_finish, ends_finish, records_finish, commands_finish}
+use Rattle.tg_law_settles.specs.Settles.{IsSettleLine, world_before, world_after, world_drained, Waits, ForAppend, ForAsk, ForMake, ForRescue, ForTrim, ForCopy, ForEnd, ForRecord, ForAny, SettleLinesFinish, DrainedLinesFinish, DrainedLinesAnswer}
 
 no_item : {X : Type 0} → (x : X) → None ≡ Some x → ⊥
 no_item x e = cc
@@ -80,16 +80,17 @@ counts h ms w r = record {
     by x (inr (inl e)) = subst (λ (y : Move all_kinds). LawfulMove all_kinds (start all_kinds h).cluster y) (sym e) tt
     by x (inr (inr e)) = absurd e
 
-answered : (h : Header) (ms : Moves all_kinds) (w : Worlds) → Reaches all_kinds h ms w → (k most : ℕ) (x : CommandOf all_kinds) → IsAlone all_kinds w k x → IsReadyFor all_kinds w k → Waits w k x most
+answered : (h : Header) (ms : Moves all_kinds) (w : Worlds) → Reaches all_kinds h ms w → (k : ℕ) (x : CommandOf all_kinds) (most : ℕ) → IsAlone all_kinds w k x → IsReadyFor all_kinds w k → Waits w k x most
     → Finishes all_kinds w (settle all_kinds w).world k most (IsReply all_kinds)
-answered h ms w r k most x a b (ForAppend f) = (appends_finish h ms w r k x a b f).0
-answered h ms w r k most x a b (ForAsk is f) = (asks_finish_anyway h ms w r k x a b is f).0
-answered h ms w r k most x a b (ForMake is f) = (makes_finish_anyway h ms w r k x a b is f).0
-answered h ms w r k most x a b (ForRescue is f) = (rescues_finish h ms w r k x a b is f).0
-answered h ms w r k most x a b (ForTrim f) = (trims_finish h ms w r k x a b f).0
-answered h ms w r k most x a b (ForCopy spare f) = (copies_finish h ms w r k x a b spare f).0
-answered h ms w r k most x a b (ForEnd f) = (ends_finish h ms w r k x a b f).0
-answered h ms w r k most x a b (ForRecord f) = (records_finish h ms w r k x a b f).0
+answered h ms w r k x most a b (ForAppend f) = (appends_finish h ms w r k x a b f).0
+answered h ms w r k x most a b (ForAsk is f) = (asks_finish_anyway h ms w r k x a b is f).0
+answered h ms w r k x most a b (ForMake is f) = (makes_finish_anyway h ms w r k x a b is f).0
+answered h ms w r k x most a b (ForRescue is f) = (rescues_finish h ms w r k x a b is f).0
+answered h ms w r k x most a b (ForTrim f) = (trims_finish h ms w r k x a b f).0
+answered h ms w r k x most a b (ForCopy spare f) = (copies_finish h ms w r k x a b spare f).0
+answered h ms w r k x most a b (ForEnd f) = (ends_finish h ms w r k x a b f).0
+answered h ms w r k x most a b (ForRecord f) = (records_finish h ms w r k x a b f).0
+answered h ms w r k x most a b (ForAny spare such) = commands_finish h ms w r k x a b spare such
 
 -- a run comes to the world before the line
 pub record Comes (s : Script) (n : ℕ) : Type 0 where
@@ -105,7 +106,7 @@ pub settle_lines_finish : SettleLinesFinish
 settle_lines_finish s n k most x is a b waits =
     let r = comes s n is in
     subst (λ (v : Worlds). Finishes all_kinds (world_before s n) v k most (IsReply all_kinds)) (sym (settled_after s n is))
-    (answered s.header r.moves (world_before s n) r.reaches k most x a b waits)
+    (answered s.header r.moves (world_before s n) r.reaches k x most a b waits)
 
 -- The world after the line is the drained one's settling.
 
@@ -117,7 +118,7 @@ drained_lines_finish s n k most x is a b waits =
     let r = comes s n is in
     let d = drained_reached all_kinds s.header r.moves (world_before s n) r.reaches in
     subst (λ (v : Worlds). Finishes all_kinds (world_drained s n) v k most (IsReply all_kinds)) (sym (drained_after s n is))
-    (answered s.header d.0 (world_drained s n) d.1 k most x a b waits)
+    (answered s.header d.0 (world_drained s n) d.1 k x most a b waits)
 
 pub drained_lines_answer : DrainedLinesAnswer
 drained_lines_answer s n k work is has such none =

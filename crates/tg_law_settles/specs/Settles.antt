@@ -3,7 +3,7 @@ use Rattle.std.specs.Prelude.{◌≡◌, ℕ, ◌+◌, ◌*◌, true, slice_get,
 use Rattle.tg_model.specs.Kinds.{CommandOf}
 use Rattle.tg_protocol.specs.Clients.{Work}
 use Rattle.tg_protocol.specs.Worlds.{client, latest, next_event}
-use Rattle.tg_protocol.specs.Finishing.{longest_chain, IsReadyFor, IsSpareReady, Finishes, HasReply}
+use Rattle.tg_protocol.specs.Finishing.{longest_chain, IsReadyFor, IsSpareReady, NoReconf, most_deliveries_in, Finishes, HasReply}
 use Rattle.tg_any.specs.AllKinds.{all_kinds}
 use Rattle.tg_script.specs.declared.line.Line.TheVariants as line
 use Rattle.tg_replay.specs.Runs.{Script, Worlds, IsScript, IsWithin, world_of, front}
@@ -18,7 +18,7 @@ use Rattle.tg_law_finish.specs.Finish.Reads.{WaitsForRead}
 use Rattle.tg_law_finish.specs.Finish.Ends.{EndsAppend, end_bound, EndsRecord, record_bound}
 use Rattle.tg_law_finish.specs.Finish.Rescues.{is_rescue, rescue_bound}
 use Rattle.tg_law_finish.specs.Finish.Trims.{WaitsForTrim, trim_bound}
-use Rattle.tg_law_finish.specs.Finish.Walks.{streams, walk_bound}
+use Rattle.tg_law_finish.specs.Finish.Walks.{streams, passes_bound, walk_bound}
 
 -- event line n, counted from 0, settles, and no limit stops the script before it
 pub record IsSettleLine (s : Script) (n : ℕ) : Type 0 where
@@ -51,6 +51,8 @@ pub data Waits (w : Worlds) (k : ℕ) (x : CommandOf all_kinds) : ℕ → Type 0
   ForEnd : EndsAppend all_kinds w k → Waits w k x (end_bound all_kinds w)
   -- for its append, wherever that stands
   ForRecord : EndsRecord all_kinds w k → Waits w k x (record_bound all_kinds w)
+  -- for whatever it is, with any command but a reconfiguration
+  ForAny : IsSpareReady all_kinds w x → NoReconf all_kinds x → Waits w k x (most_deliveries_in all_kinds w x + 129 * passes_bound all_kinds w 128)
 
 -- The client waits alone: nothing is on its way, or its requests alone are, as right after its command.
 abbrev pub SettleLinesFinish : Type 0
