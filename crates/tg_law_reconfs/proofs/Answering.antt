@@ -109,7 +109,7 @@ module _ (m : Meaning) (h : Header) (stopped : List NodeId) (k epoch servers top
   Fine mode s b r = ReconfFine m h stopped k epoch servers top round mode s b r
 
   -- what is waited for is awaited
-  stage_awaited : (r : Reconf) (x : ℕ) (st : Stage) (i j : ℕ) → Has (stage_waits st) (i, j) → (y : Msg) × Has (stage_asks r x st) (out (layout_id i) j y)
+  pub stage_awaited : (r : Reconf) (x : ℕ) (st : Stage) (i j : ℕ) → Has (stage_waits st) (i, j) → (y : Msg) × Has (stage_asks r x st) (out (layout_id i) j y)
   stage_awaited r x (Preparing ws ps) i j has = (_, asked_has layout_id (msg.Prepare (next_epoch r) (ballot_of r x)) ws i j has)
   stage_awaited r x (Accepting ws n q) i j has = (_, asked_has layout_id (msg.Accept (next_epoch r) (ballot_of r x) q) ws i j has)
 

@@ -1,5 +1,5 @@
 -- Between two rounds: the round that is set is sent by the next ticks, with a ballot above the promises that were heard.
-use Rattle.std.proofs.Common.{◌≡◌, ◌⊎◌, ℕ, ◌+◌, ◌*◌, ◌^◌, ◌<◌, ◌≤◌, List, [], ◌∷◌, ◌++◌, Bool, true, false, refl, ap, ◌∙◌, sym, subst, inl, inr, arith, Some, Option}
+use Rattle.std.proofs.Common.{◌≡◌, ◌⊎◌, ℕ, ◌+◌, ◌*◌, ◌^◌, ◌<◌, ◌≤◌, List, [], ◌∷◌, ◌++◌, Bool, true, false, refl, ap, ◌∙◌, sym, subst, inl, inr, arith, Some, None, Option}
 use Rattle.tg_base.specs.Clusters.{Header}
 use Rattle.tg_base.specs.declared.ids.Ballot.{Ballot}
 use Rattle.tg_base.specs.declared.ids.NodeId.{NodeId}
@@ -7,9 +7,9 @@ use Rattle.tg_base.specs.declared.msg.Msg.{Msg}
 use Rattle.tg_base.specs.declared.msg.Msg.TheVariants as msg
 use Rattle.tg_base.specs.declared.packet.Out.{Out}
 use Rattle.tg_kind.specs.Meaning.{Meaning}
-use Rattle.tg_protocol.specs.Words.{layout_id, client_id, ballot_lt}
-use Rattle.tg_protocol.specs.Requests.{Waits, asked_of}
-use Rattle.tg_protocol.specs.Reconfiguring.{Later, Voting, ReconfWork, Agreeing, Reconf, ballot_of, next_epoch, reconf_work_asks, reconf_awaited, reconf_again_asks, later_asks, set_asks, stage_asks, this_or}
+use Rattle.tg_protocol.specs.Words.{layout_id, seqr_id, client_id, ballot_lt}
+use Rattle.tg_protocol.specs.Requests.{Waits, out, asked_of}
+use Rattle.tg_protocol.specs.Reconfiguring.{Later, Voting, ReconfWork, Agreeing, Starting, Reconf, ballot_of, next_epoch, reconf_work_asks, reconf_awaited, reconf_again_asks, later_asks, set_asks, stage_asks, this_or}
 use Rattle.tg_law_layouts.proofs.Moves.Members.{Has, has_right}
 use Rattle.tg_law_finish.proofs.Finish.Lists.{Each}
 use Rattle.tg_law_finish.proofs.Finish.Nets.{Net, on_in, client_of}
@@ -25,7 +25,7 @@ above_all b p less = grind (arith, less)
 under_round : (b p : Ballot) → ballot_lt b p ≡ false → p.round ≤ b.round
 under_round b p e = grind arith
 
-some_again : (name : ℕ → NodeId) (y : Msg) (ws : Waits) (i j : ℕ) (ys : List Out) → Has ws (i, j) → this_or (asked_of name y ws) ys ≡ asked_of name y ws
+pub some_again : (name : ℕ → NodeId) (y : Msg) (ws : Waits) (i j : ℕ) (ys : List Out) → Has ws (i, j) → this_or (asked_of name y ws) ys ≡ asked_of name y ws
 some_again name y [] i j ys has = absurd has
 some_again name y (w ∷ ws) i j ys has = refl
 
@@ -58,6 +58,29 @@ module _ (m : Meaning) (h : Header) (stopped : List NodeId) (k epoch servers top
       by (inl x) = let e = under_round (ballot m h stopped k epoch servers top round) (promised m h stopped k epoch servers top round s i) x in let f = (fine.1.0.later l set).1 in omega (arith, e, f)
       by (inr (inl x)) = of_heard x
       by (inr (inr x)) = of_heard (heard i x.0 on x.1)
+
+  -- the round that is set asks all
+  pub all_asked : (i : ℕ) → on_in m stopped s (layout_id i) ≡ true → (j : ℕ) × Has (later_waits v.later) (i, j)
+  all_asked i on = let x = unanswered_has l.waits i ((fine.1.0.later l set).0.all i (b.there i on)) in (x.0, subst (λ (o : Option Later). Has (later_waits o) (i, x.0)) (sym set) x.1)
+
+  pub second : Claim m h stopped k epoch servers (top + 1) l.round Second s false v
+  second = λ i on. inr (inr (all_asked i on))
+
+  pub third : mode ≡ Second → Claim m h stopped k epoch servers (top + 1) l.round Third s false v
+  third is = ((λ i on. above_all (ballot m h stopped k epoch servers (top + 1) l.round) (promised m h stopped k epoch servers (top + 1) l.round s i) (tops i is on)), λ e. absurd (not_so e))
+    where
+      not_so : false ≡ true → ⊥
+      not_so e = cc
+
+  -- after the third round none is set
+  pub not_third : mode ≡ Third → ⊥
+  not_third is = none_some (sym ((subst (λ (mo : Mode). Claim m h stopped k epoch servers top round mo s true v) is fine.1.1).1 refl) ∙ set)
+    where
+      none_some : None ≡ Some l → ⊥
+      none_some e = cc
+
+  pub later_fits : l.round ≤ top + 1
+  later_fits = (fine.1.0.later l set).0.fits
 
   -- The next round.
   module _ (small' : (top + 1) + 1 < 2 ^ 32) (fits' : l.round ≤ top + 1) (next : Mode) (later : ℕ) (is_rest : rest ≡ later + (8 * servers + 2)) (some : 0 < servers)
@@ -107,6 +130,7 @@ module _ (m : Meaning) (h : Header) (stopped : List NodeId) (k epoch servers top
         waits = b.votes.waits;
         hand = b.votes.hand;
         stand = b.votes.stand;
+        layouts = layouts;
         fine = record {
           me = b.votes.fine.me;
           layouts = b.votes.fine.layouts;
@@ -132,3 +156,57 @@ module _ (m : Meaning) (h : Header) (stopped : List NodeId) (k epoch servers top
       not_front = not_front;
       not_back = not_back;
     }
+
+-- A client that waits for its new layout's sequencer sends that request again.
+module _ (m : Meaning) (h : Header) (stopped : List NodeId) (k epoch servers top round : ℕ) (past : 2 ≤ epoch) (near : epoch < 2 ^ 32) (small : top + 1 < 2 ^ 32) (fits : round ≤ top) (mode : Mode) (rest : ℕ)
+    (s : Net m) (n : ℕ) (b : Busy m h stopped k epoch servers top round past near small fits mode rest s [] n) (i : ℕ) (at : b.reconf.work ≡ Starting i) (stands : b.reconf.stand.epoch ≡ epoch) (later : ℕ) (room : later + (2 * servers + 2) ≤ rest)
+    (xs front back : List NodeId) (is : xs ≡ front ++ client_id k ∷ back) (not_front : Each (NotIt m h stopped k epoch servers top round past near small fits Third later) front) (not_back : Each (NotIt m h stopped k epoch servers top round past near small fits Third later) back) where
+  abbrev again_r : Reconf
+  again_r = b.reconf
+
+  abbrev learn : Out
+  learn = out (seqr_id again_r.stand.seq) i (msg.Learn again_r.stand)
+
+  learn_again : reconf_again_asks again_r ≡ learn ∷ []
+  unfolding reconf_work_asks
+  learn_again = ap (λ (w : ReconfWork). this_or (later_asks again_r w) (reconf_work_asks again_r w)) at
+
+  learn_awaited : reconf_awaited again_r ≡ learn ∷ []
+  unfolding reconf_work_asks
+  learn_awaited = ap (λ (w : ReconfWork). reconf_work_asks again_r w ++ later_asks again_r w) at
+
+  learn_ok : (o : Out) → Has (learn ∷ []) o → AskOk m h stopped k epoch servers top round o.to o.msg
+  learn_ok o (inl e) = subst (λ (z : Out). AskOk m h stopped k epoch servers top round z.to z.msg) (sym e) ((again_r.stand.seq, refl), stands)
+  learn_ok o (inr f) = absurd f
+
+  pub starts_again : Wait m h stopped k epoch servers top round past near small fits Third later xs s [] n
+  starts_again = record {
+    base = b.base;
+    there = b.there;
+    each = tt;
+    begun = true;
+    reconf = again_r;
+    votes = record {
+      work = b.votes.work;
+      waits = b.votes.waits;
+      hand = b.votes.hand;
+      stand = b.votes.stand;
+      layouts = b.votes.layouts;
+      fine = record { me = b.votes.fine.me; layouts = b.votes.fine.layouts; work = subst (λ (w : ReconfWork). WorkFine m h stopped k epoch servers top round Third s true again_r.stand w) (sym at) stands };
+    };
+    nums = b.nums;
+    layouts = b.votes.layouts;
+    laterless = subst (λ (w : ReconfWork). Rattle.tg_law_reconfs.proofs.Ticks.Laterless m h stopped k epoch servers top round past near small fits Third later true w) (sym at) tt;
+    os = learn ∷ [];
+    again = learn_again;
+    asks = λ o has. (learn_ok o has, subst (λ (os : List Out). Has os o) (sym learn_awaited) has);
+    covers = λ j l has. absurd (subst (λ (w : ReconfWork). Has (live true w) (j, l)) at has);
+    left = 0;
+    enough = subst (λ (w : ReconfWork). Rattle.tg_law_reconfs.proofs.Turns.left_of m h stopped k epoch servers top round true w ≤ 0) (sym at) (omega arith);
+    few = let all = b.few in omega (arith, all, room);
+    front = front;
+    back = back;
+    is = is;
+    not_front = not_front;
+    not_back = not_back;
+  }

@@ -9,7 +9,7 @@ use Rattle.tg_model.specs.Kinds.{WhatOf}
 use Rattle.tg_base.specs.Orders.{node_eq}
 use Rattle.tg_protocol.specs.Words.{client_id}
 use Rattle.tg_protocol.specs.Worlds.{World}
-use Rattle.tg_protocol.specs.Finishing.{is_with_client, passes, Finishes, HasReply}
+use Rattle.tg_protocol.specs.Finishing.{is_with_client, passes, deliveries, Finishes, HasReply}
 use Rattle.tg_law_finish.proofs.Finish.Counted.{is_of, one_if, cost, counted, Finishes as Counted}
 
 node_turned : (a b : NodeId) → node_eq a b ≡ node_eq b a
@@ -42,11 +42,15 @@ front_of xs ys zs e = subst (λ (l : List ℕ). take (length l - length ys) l �
     less : (xs ys : List ℕ) → length (xs ++ ys) - length ys ≡ length xs
     less xs ys = let a = length-append xs ys in omega (arith, a)
 
+-- so many deliveries at most
+pub few_by : (m : Meaning) (k n : ℕ) (w v : World m) (done : List ℕ) → v.delivered ≡ done ++ w.delivered → counted k v.packets done ≤ n → deliveries m (is_with_client m k) w v ≤ n
+few_by m k n w v done since few = subst (λ (is : List ℕ). length (filter (λ i. passes m (is_with_client m k) (slice_get v.packets i)) is) ≤ n) (sym (front_of done w.delivered v.delivered since))
+    (subst (λ c. c ≤ n) (counted_is m k v.packets done) few)
+
 -- a client that is counted as answered, and has told so
 pub finishes_by : (m : Meaning) (k n : ℕ) (w v : World m) (P : WhatOf m → Type 0) → Counted m k n w v → HasReply m w v k P → Finishes m w v k n P
 finishes_by m k n w v P f r = record {
   idle = f.answered;
   reply = r;
-  few = subst (λ (is : List ℕ). length (filter (λ i. passes m (is_with_client m k) (slice_get v.packets i)) is) ≤ n) (sym (front_of f.done w.delivered v.delivered f.since))
-      (subst (λ c. c ≤ n) (counted_is m k v.packets f.done) f.few);
+  few = few_by m k n w v f.done f.since f.few;
 }

@@ -78,6 +78,7 @@ module _ (m : Meaning) (h : Header) (stopped : List NodeId) (k epoch servers top
       pub waits : c.work ≡ Some work
       pub hand : work.hand ≡ Doing (Reconfiguring r)
       pub stand : c.stand ≡ r.stand
+      pub layouts : c.layouts ≡ servers
       pub fine : ReconfFine m h stopped k epoch servers top round mode s b r
 
     pub reserves : (s : Net m) (b : Bool) (c : Client m) (r : Reconf) → Votes s b c r → reserved m c ≡ reconf_awaited r
@@ -101,7 +102,7 @@ module _ (m : Meaning) (h : Header) (stopped : List NodeId) (k epoch servers top
       to_given : (t : ReconfTurn) (to : Next Reconf ReconfEnd) → To m h stopped k epoch servers top round mode s a rid (live b r.work) (λ i. HeardIn m h stopped k epoch servers top round b s r.work i) (left_of m h stopped k epoch servers top round b r.work) c.next to
           → Comes (given m c (reconf_to m (after_turn m c t) v.work to))
       unfolding client_asks task_asks
-      to_given t (Goes x) o = On x o (record { work = _; waits = refl; hand = refl; stand = refl; fine = o.fine }) o.drawn
+      to_given t (Goes x) o = On x o (record { work = _; waits = refl; hand = refl; stand = refl; layouts = v.layouts; fine = o.fine }) o.drawn
       to_given t (Learns x) o = absurd o
       to_given t (Ends (Installed e p)) o = Over refl refl
       to_given t (Ends (Overtaken e p)) o = Over refl refl

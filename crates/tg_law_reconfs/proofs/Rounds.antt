@@ -1,14 +1,14 @@
 -- Rounds of ticks, with a fact of their own for each: what they come to when all are over.
-use Rattle.std.proofs.Common.{◌≡◌, ℕ, zero, suc, ◌+◌, List, [], ◌∷◌, length, Bool, true, false, eqb, refl, ap, ◌∙◌, sym, subst, arith, Some, None, Option, length-append}
+use Rattle.std.proofs.Common.{◌≡◌, ℕ, zero, suc, ◌+◌, ◌-◌, ◌≤◌, List, [], ◌∷◌, length, Bool, true, false, eqb, refl, ap, ◌∙◌, sym, subst, arith, Some, None, Option, length-append}
 use Rattle.tg_base.specs.Clusters.{Header}
 use Rattle.tg_base.specs.declared.fault.Which.{Which}
 use Rattle.tg_base.specs.declared.ids.NodeId.{NodeId}
 use Rattle.tg_base.specs.declared.packet.Packet.{Packet}
 use Rattle.tg_kind.specs.Meaning.{Meaning}
-use Rattle.tg_model.specs.declared.command.Event.TheVariants.{Tick}
+use Rattle.tg_model.specs.declared.command.Event.TheVariants.{Deliver, Tick}
 use Rattle.tg_protocol.specs.Words.{numbers}
-use Rattle.tg_protocol.specs.Worlds.{World, runs, happens, Ran, drain, tick_all, nodes, unless_stopped, rounds, limit_of}
-use Rattle.tg_law_finish.specs.Finish.Queues.{Carries, Queue}
+use Rattle.tg_protocol.specs.Worlds.{World, runs, happens, Ran, drain_on, drain, tick_all, nodes, unless_stopped, rounds, settle, limit_of, lowest}
+use Rattle.tg_law_finish.specs.Finish.Queues.{RisesWithin, Carries, Queue}
 use Rattle.tg_law_finish.proofs.Finish.Nets.{Net, net, sent_ticked, one_ticked}
 use Rattle.tg_law_finish.proofs.Finish.Settles.{spent_none, Keeps, Holds, Ticking, Before, Ticked, Spent, spent_then, drain_to, ticks_all}
 
@@ -149,3 +149,41 @@ module _ (m : Meaning) where
       unfolding rounds
       rounds_end zero w n x = λ none. record { left = n; end = f.ends (net m w) n x.inv; spent = spent_none m k w n; cluster = x.cluster; stops = x.stops }
       rounds_end (suc r) w n x = round r w n (none_wait w x.queue) (record { queue = x.queue; pre = f.again r w n x.inv; cluster = x.cluster; stops = x.stops }) (λ u left y. rounds_end r u left y)
+
+      -- A quiet world: the settling's first drain delivers nothing.
+
+      quiet_drains : (fuel : ℕ) (w : World m) (next : World m → Ran m) (n : ℕ) → w.waiting ≡ [] → EndsIn w n (next w) → EndsIn w n (unless_stopped m (drain_on m (suc fuel) w) next)
+      unfolding drain_on
+      quiet_drains fuel w next n e t = by w.waiting e
+        where
+          by : (is : List ℕ) → is ≡ [] → EndsIn w n (unless_stopped m (elim (lowest m is) as (λ _. Ran m) [
+            | None ↦ record { world = w; stopped = None }
+            | Some i ↦ elim (limit_of m w) as (λ _. Ran m) [ Some x ↦ record { world = w; stopped = Some x } | None ↦ drain_on m fuel (happens m w (Deliver i)) ]
+          ]) next)
+          by [] e = t
+          by (i ∷ is) e = absurd cc
+
+      at_limit : (w : World m) → 200000 ≤ w.steps → limit_of m w ≡ None → ⊥
+      unfolding limit_of
+      at_limit w le none = grind arith
+
+      no_fuel : (w : World m) (next : World m → Ran m) (n : ℕ) → 200000 ≤ w.steps → EndsIn w n (unless_stopped m (drain_on m zero w) next)
+      unfolding drain_on
+      no_fuel w next n le = by (limit_of m w) refl
+        where
+          by : (o : Option Which) → limit_of m w ≡ o → EndsIn w n (elim o as (λ _. Ran m) [ Some x ↦ record { world = w; stopped = limit_of m w } | None ↦ next w ])
+          by None e = absurd (at_limit w le e)
+          by (Some x) e = λ none. absurd (no_which x (sym e ∙ none))
+            where
+              no_which : (x : Which) → Some x ≡ None → ⊥
+              no_which x f = cc
+
+      first_drain : (fuel : ℕ) (w : World m) (next : World m → Ran m) (n : ℕ) → w.waiting ≡ [] → 200001 ≤ fuel + w.steps → EndsIn w n (next w) → EndsIn w n (unless_stopped m (drain_on m fuel w) next)
+      first_drain zero w next n e le t = no_fuel w next n (omega (arith, le))
+      first_drain (suc fuel) w next n e le t = quiet_drains fuel w next n e t
+
+      -- what a settling of a quiet world comes to
+      pub settle_ends : (w : World m) (n : ℕ) → w.waiting ≡ [] → Pre 7 (nodes m w) (net m w) [] n → w.cluster ≡ h → w.stopped ≡ stopped → EndsIn w n (settle m w)
+      unfolding settle drain
+      settle_ends w n quiet pre cluster stops = first_drain (200001 - w.steps) w (λ v. rounds m 8 v) n quiet (omega arith)
+          (round 7 w n quiet (record { queue = record { rises = subst (λ is. RisesWithin 0 is (length w.packets)) (sym quiet) (omega arith); carries = subst (λ is. Carries w.packets is []) (sym quiet) tt }; pre = pre; cluster = cluster; stops = stops }) (λ u left y. rounds_end 7 u left y))

@@ -144,7 +144,7 @@ module _ (m : Meaning) (h : Header) (stopped : List NodeId) (k epoch servers top
   work_rises s t b p (LookingAgain n acks) g a f = f
 
   pub votes_rise : (s t : Net m) (b : Bool) (c : Client m) (r : Reconf) → Rises s t → Alike m s t → VotesOn s b c r → VotesOn t b c r
-  votes_rise s t b c r g a v = record { work = v.work; waits = v.waits; hand = v.hand; stand = v.stand; fine = record { me = v.fine.me; layouts = v.fine.layouts; work = work_rises s t b r.stand r.work g a v.fine.work } }
+  votes_rise s t b c r g a v = record { work = v.work; waits = v.waits; hand = v.hand; stand = v.stand; layouts = v.layouts; fine = record { me = v.fine.me; layouts = v.fine.layouts; work = work_rises s t b r.stand r.work g a v.fine.work } }
 
   pub work_heard : (s t : Net m) (b : Bool) (p : Layout) (w : ReconfWork) (i : ℕ) → Rises s t → WorkFine m h stopped k epoch servers top round mode s b p w → HeardOf b s w i → HeardOf b t w i
   work_heard s t true p (Agreeing v) i g f x = heard_rises s t v i f.1.0 g x
@@ -424,7 +424,7 @@ module _ (m : Meaning) (h : Header) (stopped : List NodeId) (k epoch servers top
               begun = b.begun;
               reconf = b.reconf;
               votes = subst (λ (d : Client m). VotesOn (s' (called m c)) b.begun d b.reconf) (sym (here b.base (called m c)))
-                  (votes_rise s (s' (called m c)) b.begun (called m c) b.reconf (rises_client s (called m c)) (client_alike m s k (called m c)) (record { work = v.work; waits = v.waits; hand = v.hand; stand = v.stand; fine = v.fine }));
+                  (votes_rise s (s' (called m c)) b.begun (called m c) b.reconf (rises_client s (called m c)) (client_alike m s k (called m c)) (record { work = v.work; waits = v.waits; hand = v.hand; stand = v.stand; layouts = v.layouts; fine = v.fine }));
               nums = subst (λ (d : Client m). Nums m h stopped k epoch servers top round d) (sym (here b.base (called m c))) (record { below = b.nums.below; one = b.nums.one });
               flight = λ i j on' has. by i j (off i j has) (b.flight i j (on_back s (s' (called m c)) (layout_id i) (client_alike m s k (called m c)) on') has);
               left = b.left;

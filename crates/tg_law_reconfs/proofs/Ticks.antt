@@ -278,7 +278,7 @@ module _ (m : Meaning) (h : Header) (stopped : List NodeId) (k epoch servers top
           begun = w.begun;
           reconf = w.reconf;
           votes = subst (λ (d : Client m). Votes m h stopped k epoch servers top round mode t w.begun d w.reconf) (sym here)
-              (votes_rise m h stopped k epoch servers top round past near small fits mode rest s t w.begun now w.reconf rises (client_alike m s k now) (record { work = v.work; waits = v.waits; hand = v.hand; stand = v.stand; fine = v.fine }));
+              (votes_rise m h stopped k epoch servers top round past near small fits mode rest s t w.begun now w.reconf rises (client_alike m s k now) (record { work = v.work; waits = v.waits; hand = v.hand; stand = v.stand; layouts = v.layouts; fine = v.fine }));
           nums = subst (λ (d : Client m). Nums m h stopped k epoch servers top round d) (sym here) moves.nums;
           flight = λ i j on has. let y = w.covers i j has in inl (inl (y.0, has_right q (news ++ asks) _ (has_left news asks _ (mapped (packet_of m (client_id k)) w.os (out (layout_id i) j y.0) y.1))));
           left = w.left;
@@ -394,6 +394,10 @@ module _ (m : Meaning) (h : Header) (stopped : List NodeId) (k epoch servers top
   not_few : (n c : ℕ) → servers < 2 * n → n ≤ c → nat_lt servers (c + c) ≡ false → ⊥
   not_few n c most le few = grind (arith, most, le, few)
 
+  -- what the drain has come to: the client stands at the new layout, or its vote has set a round
+  abbrev pub Comes : Bool → Layout → ReconfWork → Type 0
+  Comes c p w = ((i : ℕ) × ((w ≡ Starting i) × (p.epoch ≡ epoch))) ⊎ ((c ≡ true) × ((v : Voting) × ((w ≡ Agreeing v) × ((l : Later) × (v.later ≡ Some l)))))
+
   -- where no running server is waited for, too many have answered
   module _ (s : Net m) (most : servers < 2 * tally (λ i. on_in m stopped s (layout_id i)) servers) where
     all_answered : (ws : Waits) (c : ℕ) → ((i j : ℕ) → on_in m stopped s (layout_id i) ≡ true → Has ws (i, j) → ⊥) → Enough m h stopped k epoch servers top round ws c → ⊥
@@ -407,12 +411,8 @@ module _ (m : Meaning) (h : Header) (stopped : List NodeId) (k epoch servers top
     stage_counts (Preparing ws ps) f = (length ps, f.0)
     stage_counts (Accepting ws c q) f = (c, f.0)
 
-    -- what the drain has come to: the client stands at the new layout, or a round is set
-    abbrev Comes : Layout → ReconfWork → Type 0
-    Comes p w = (p.epoch ≡ epoch) ⊎ ((v : Voting) × ((w ≡ Agreeing v) × ((l : Later) × (v.later ≡ Some l))))
-
-    calm_votes : (p : Layout) (v : Voting) (o : Option Later) → v.later ≡ o → Begun m h stopped k epoch servers top round v → ((i j : ℕ) → on_in m stopped s (layout_id i) ≡ true → Has (stage_waits v.stage) (i, j) → Heard m h stopped k epoch servers top round s v i) → Comes p (Agreeing v)
-    calm_votes p v (Some l) e b f = inr (v, (refl, (l, e)))
+    calm_votes : (p : Layout) (v : Voting) (o : Option Later) → v.later ≡ o → Begun m h stopped k epoch servers top round v → ((i j : ℕ) → on_in m stopped s (layout_id i) ≡ true → Has (stage_waits v.stage) (i, j) → Heard m h stopped k epoch servers top round s v i) → Comes true p (Agreeing v)
+    calm_votes p v (Some l) e b f = inr (refl, (v, (refl, (l, e))))
     calm_votes p v None e b f = let c = stage_counts v.stage b.stage in absurd (all_answered (stage_waits v.stage) c.0 (λ i j on has. never (f i j on has)) c.1)
       where
         none_some : (l : Later) → None ≡ Some l → ⊥
@@ -421,7 +421,7 @@ module _ (m : Meaning) (h : Header) (stopped : List NodeId) (k epoch servers top
         never : {i : ℕ} → Heard m h stopped k epoch servers top round s v i → ⊥
         never x = none_some x.later (sym e ∙ x.has)
 
-    calm_by : (c : Bool) (p : Layout) (w : ReconfWork) → WorkFine m h stopped k epoch servers top round mode s c p w → ((i j : ℕ) → on_in m stopped s (layout_id i) ≡ true → Has (live c w) (i, j) → HeardIn m h stopped k epoch servers top round c s w i) → Comes p w
+    calm_by : (c : Bool) (p : Layout) (w : ReconfWork) → WorkFine m h stopped k epoch servers top round mode s c p w → ((i j : ℕ) → on_in m stopped s (layout_id i) ≡ true → Has (live c w) (i, j) → HeardIn m h stopped k epoch servers top round c s w i) → Comes c p w
     calm_by true p (Agreeing v) f heard = calm_votes p v v.later refl f.1.0 heard
     calm_by false p (Agreeing v) f heard =
         let x = tally_some (λ i. on_in m stopped s (layout_id i)) servers (let y = most in omega (arith, y)) in
@@ -429,14 +429,14 @@ module _ (m : Meaning) (h : Header) (stopped : List NodeId) (k epoch servers top
         let y = unanswered_has l.later.waits x.0 (l.fine.all x.0 x.1.1) in
         absurd (heard x.0 y.0 x.1.0 (subst (λ (o : Option Later). Has (later_waits o) (x.0, y.0)) (sym l.has) y.1))
     calm_by c p (Telling ws n q) f heard = absurd (all_answered ws n (λ i j on has. heard i j on has) f.1.1)
-    calm_by c p (Starting n) f heard = inl f
+    calm_by c p (Starting n) f heard = inl (n, (refl, f))
     calm_by c p (SealingSpare n) f heard = absurd f
     calm_by c p (LookingSpare n) f heard = absurd f
     calm_by c p (Sealing ws acks) f heard = absurd f
     calm_by c p (LookingAgain n acks) f heard = absurd f
 
     -- with nothing on its way the client has ended, stands at the new layout, or has set a round
-    pub calm : (n : ℕ) (b : Busy m h stopped k epoch servers top round past near small fits mode rest s [] n) → Comes b.reconf.stand b.reconf.work
+    pub calm : (n : ℕ) (b : Busy m h stopped k epoch servers top round past near small fits mode rest s [] n) → Comes b.begun b.reconf.stand b.reconf.work
     calm n b = calm_by b.begun b.reconf.stand b.reconf.work b.votes.fine.work (λ i j on has. by i j (b.flight i j on has))
       where
         by : (i j : ℕ) → Flight [] i j ⊎ HeardIn m h stopped k epoch servers top round b.begun s b.reconf.work i → HeardIn m h stopped k epoch servers top round b.begun s b.reconf.work i

@@ -2,7 +2,7 @@
 
 ghost use Rattle.tg_any.specs.AllKinds.{all_kinds};
 ghost use Rattle.tg_kind.specs.Of.{meaning_of};
-ghost use Rattle.tg_law_reconfs.specs.Reconfs.{ReconfEndsAreTold, StartedFinishes};
+ghost use Rattle.tg_law_reconfs.specs.Reconfs.{ReconfEndsAreTold, StartedFinishes, VotesFinish};
 ghost use Rattle.tg_protocol.specs.Runs.{Always};
 
 use tg_kind::Registry;
@@ -17,4 +17,11 @@ pub fn reconf_ends_are_told<K: Registry>()
 /// within two deliveries for each layout server, and two more.
 pub fn started_reconfs_finish()
     ensures { Always all_kinds (StartedFinishes all_kinds) }
+{}
+
+/// A client that votes on a layout with the layout servers, of which most run and none knows a later one, stands at the
+/// new layout after a settling, or has told how its reconfiguration ended: within 34 deliveries for each layout server,
+/// and 16 more.
+pub fn votes_finish()
+    ensures { Always all_kinds (VotesFinish all_kinds) }
 {}
