@@ -3,6 +3,7 @@ pub mod Between
 pub mod Counting
 pub mod Counts
 pub mod Drains
+pub mod Early
 pub mod Ends
 pub mod Fencing
 pub mod Laps

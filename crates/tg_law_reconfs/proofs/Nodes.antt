@@ -17,7 +17,7 @@ use Rattle.tg_protocol.specs.Words.{unit_id, layout_id, seqr_id, client_id, ball
 use Rattle.tg_protocol.specs.Layouts.{first_layout}
 use Rattle.tg_protocol.specs.Requests.{out, awaits, Waits, asked_of, Next, Goes, Learns, Ends}
 use Rattle.tg_protocol.specs.Replies.{Reply, IsFenced, IsLatest, IsOther, reply}
-use Rattle.tg_protocol.specs.Units.{UnitState, UnitAsk, Reads, Stores, Fills, Looks, new_unit, unit_ask, unit_step, on_ask}
+use Rattle.tg_protocol.specs.Units.{UnitState, UnitAsk, UnitTurn, on_seal, Reads, Stores, Fills, Looks, new_unit, unit_ask, unit_step, on_ask}
 use Rattle.tg_protocol.specs.LayoutServers.{LayoutState, LayoutTurn, Vote, vote_of, new_layout, says, tells_latest, layout_ask, on_layout_ask, layout_step, on_prepare, on_accept, on_decided, past_first}
 use Rattle.tg_protocol.specs.Cells.{Place, CellJob, CellWork, Puts, Gets, Fills as FillsCell, Copies, Probes, CellEnd, Done, Seen, Lost, Fenced, Gone, work_asks, cell_asks, cell_feed, work_feed, get_cell, fill_cell}
 use Rattle.tg_protocol.specs.Sequencers.{SeqrState, SeqrTurn, new_seqr, seqr_step, seqr_tick, seqr_asks, scan_asks, scan_fed, fed_if, scan_next, scan_ended, scan_on, scanning, with_positions, cell_streams, begun, answers, on_learn, learn_or_old, unfenced, stand_answer}
@@ -330,14 +330,14 @@ module _ (m : Meaning) (h : Header) (stopped : List NodeId) (k epoch servers top
             told = λ v same. accept_told v i q (ap (λ (b : Ballot). ballot_lt B b) (same ∙ ap (λ (v : Vote). v.promised) g) ∙ not_below_itself B);
           }
 
-      latest_is : (q : Layout) → q.epoch ≤ epoch → reply (msg.Latest q) ≡ IsLatest q
+      pub latest_is : (q : Layout) → q.epoch ≤ epoch → reply (msg.Latest q) ≡ IsLatest q
       unfolding reply
       latest_is q le = ap (λ b. cond b IsOther (IsLatest q)) (not_far q.epoch (omega (arith, le, small)))
         where
           not_far : (a : ℕ) → a < 2 ^ 32 → nat_le (2 ^ 32) a ≡ false
           not_far a less = grind (arith, nat_tests, less)
 
-      tells_low : (q : Layout) → q.epoch ≤ epoch → LatestLow m h stopped k epoch servers top round (reply (msg.Latest q))
+      pub tells_low : (q : Layout) → q.epoch ≤ epoch → LatestLow m h stopped k epoch servers top round (reply (msg.Latest q))
       tells_low q le = subst (λ (x : Reply). LatestLow m h stopped k epoch servers top round x) (sym (latest_is q le)) le
 
       told_decided : (v : Net m) (i : ℕ) (p q : Layout) → q.epoch ≡ epoch → TellOk m h stopped k epoch servers top round v (layout_id i) (msg.Decided p) (reply (msg.Latest q))
@@ -467,7 +467,7 @@ module _ (m : Meaning) (h : Header) (stopped : List NodeId) (k epoch servers top
       unfolding weigh
       to_light a rid y e = let w = (to_weighs m h stopped k (first_layout h) a rid y e).0 in omega (arith, w)
 
-      layout_far : (i : ℕ) → node_eq (layout_id i) (client_id k) ≡ false
+      pub layout_far : (i : ℕ) → node_eq (layout_id i) (client_id k) ≡ false
       unfolding node_eq
       layout_far i = refl
 
@@ -577,3 +577,50 @@ module _ (m : Meaning) (h : Header) (stopped : List NodeId) (k epoch servers top
             };
             back = inl refl;
           })
+
+      -- A seal comes to a unit.
+
+      pub unit_far : (i : ℕ) → node_eq (unit_id i) (client_id k) ≡ false
+      unfolding node_eq
+      unit_far i = refl
+
+      pub sealed_is : (s : UnitState) → s.epoch ≤ epoch → unit_step s (msg.Seal epoch) ≡ record { now = record s { epoch = epoch }; says = Some (msg.Sealed epoch s.high) }
+      unfolding unit_step unit_ask on_ask
+      sealed_is s le = ap (λ b. on_seal s epoch b) (not_past s.epoch le)
+        where
+          not_past : (a : ℕ) → a ≤ epoch → nat_lt epoch a ≡ false
+          not_past a le = grind (arith, nat_tests, le)
+
+      pub sealed_low : (x : ℕ) → LatestLow m h stopped k epoch servers top round (reply (msg.Sealed epoch x))
+      unfolding reply
+      sealed_low x = by (Rattle.tg_protocol.specs.Words.too_far x)
+        where
+          by : (b : Bool) → LatestLow m h stopped k epoch servers top round (cond b IsOther (Rattle.tg_protocol.specs.Replies.IsSealed epoch x))
+          by true = tt
+          by false = tt
+
+      pub seal_comes : (s : Net m) (next : ℕ) (aw : List Out) (u rid : ℕ) → on_in m stopped s (unit_id u) ≡ true → rid < next → ((z : Msg) → Has aw (out (unit_id u) rid z) → z ≡ msg.Seal epoch) → Fits s
+          → AskTurn s next aw (unit_id u) rid (net_after m h s (packet_of m (client_id k) (out (unit_id u) rid (msg.Seal epoch))) role.Unit) (sent_then m h s (packet_of m (client_id k) (out (unit_id u) rid (msg.Seal epoch))) role.Unit)
+      seal_comes s next aw u rid on less one b =
+          let x = unit_of m s u in
+          let now : UnitState = record x { epoch = epoch } in
+          let t : Net m = record s { units = slice_set s.units u now } in
+          let alike = unit_alike m s u now in
+          let light = to_light (unit_id u) rid (msg.Sealed epoch x.high) (unit_far u) in
+          subst (λ (z : UnitTurn). AskTurn s next aw (unit_id u) rid (record s { units = slice_set s.units u z.now }) (answer_to m (packet_of m (client_id k) (out (unit_id u) rid (msg.Seal epoch))) z.says)) (sym (sealed_is x (b.units u))) (record {
+            says = msg.Sealed epoch x.high;
+            turn = record {
+              base = record { on = on_same s t alike b.on; units = λ v. by v (set_index s.units u now v new_unit); layouts = b.layouts; seqrs = b.seqrs; idle = λ j off on. b.idle j off (sym (on_alike m stopped s t alike (client_id j)) ∙ on) };
+              grows = record { on = λ n e. on_alike m stopped s t alike n ∙ e; low = λ n e. e; high = λ n b e f. e };
+              alike = alike;
+              client = refl;
+              each = (Tells (unit_id u) rid (msg.Sealed epoch x.high) (on_alike m stopped s t alike (unit_id u) ∙ on) (unit_far u) less (sealed_low x.high) (λ z g. subst (λ (y : Msg). TellOk m h stopped k epoch servers top round t (unit_id u) y (reply (msg.Sealed epoch x.high))) (sym (one z g)) tt), tt);
+              few = omega (arith, light);
+            };
+            back = inl refl;
+          })
+        where
+          by : (v : ℕ) → ((v ≡ u) × (slice_index_or (slice_set s.units u (record (unit_of m s u) { epoch = epoch })) v new_unit ≡ record (unit_of m s u) { epoch = epoch })) ⊎ (slice_index_or (slice_set s.units u (record (unit_of m s u) { epoch = epoch })) v new_unit ≡ unit_of m s v)
+              → (slice_index_or (slice_set s.units u (record (unit_of m s u) { epoch = epoch })) v new_unit).epoch ≤ epoch
+          by v (inl c) = let e = ap (λ (z : UnitState). z.epoch) c.1 in omega (arith, e)
+          by v (inr c) = subst (λ (z : UnitState). z.epoch ≤ epoch) (sym c) (b.units v)

@@ -12,10 +12,11 @@ use Rattle.tg_base.specs.declared.packet.Out.{Out}
 use Rattle.tg_base.specs.Orders.{ballot_eq}
 use Rattle.tg_kind.specs.Meaning.{Meaning}
 use Rattle.tg_protocol.specs.Words.{seqr_id, layout_id, ballot_lt, numbers}
+use Rattle.tg_protocol.specs.Layouts.{next_of}
 use Rattle.tg_protocol.specs.Requests.{out, Waits, waits_for, asked_of, without_wait, drawn_from, Next, Goes, Learns, Ends}
 use Rattle.tg_protocol.specs.Replies.{Reply, IsPromise, IsNack, IsAccepted, IsTail, IsOldEpoch}
 use Rattle.tg_protocol.specs.Trimming.{learns_if}
-use Rattle.tg_protocol.specs.Reconfiguring.{Before, Stage, Preparing, Accepting, Later, Voting, ReconfWork, Agreeing, Telling, Starting, Reconf, ReconfEnd, next_epoch, ballot_of, is_majority, reconf_asks, reconf_work_asks, stage_asks, greater, greatest, value_or, promised_on, promised as promised_turn, tells, accepted_on, accepted as accepted_turn, round_after, round_set, sets_if, nacked, same_vote, is_of_epoch, stage_feed, is_answer, has_rid, started_if, reconf_feed, adopts, heard_on, heard, own_decided, on_newer, is_own, reconf_latest}
+use Rattle.tg_protocol.specs.Reconfiguring.{Acks, proposes, Before, Stage, Preparing, Accepting, Later, Voting, ReconfWork, Agreeing, Telling, Starting, Reconf, ReconfEnd, next_epoch, ballot_of, is_majority, reconf_asks, reconf_work_asks, stage_asks, greater, greatest, value_or, promised_on, promised as promised_turn, tells, accepted_on, accepted as accepted_turn, round_after, round_set, sets_if, nacked, same_vote, is_of_epoch, stage_feed, is_answer, has_rid, started_if, reconf_feed, adopts, heard_on, heard, own_decided, on_newer, is_own, reconf_latest}
 use Rattle.tg_law_layouts.proofs.Moves.Members.{Has}
 use Rattle.tg_law_layouts.proofs.Agreement.Proposers.{answered, AllWait}
 use Rattle.tg_law_finish.proofs.Finish.Lists.{Each}
@@ -196,6 +197,25 @@ module _ (m : Meaning) (h : Header) (stopped : List NodeId) (k epoch servers top
           few = omega (arith, few, long, all, lay);
           live = λ i j has. inl (msg.Decided q, asked_has layout_id (msg.Decided q) (everyone next) i j has);
         }
+
+    -- the votes begin
+    pub proposes_to : (from : NodeId) (rid : ℕ) (old : Waits) (was : ℕ → Type 0) (left next : ℕ) (acks : Acks) → round ≡ 1 → ((v : Voting) → Claim mode s true v) → r.stand.epoch + 1 ≡ epoch → servers + (servers + servers + 1) ≤ left → To mode s from rid old was left next (proposes r acks next).to
+    unfolding reconf_work_asks next_of
+    proposes_to from rid old was left next acks first claim stand few =
+        let y = msg.Prepare (next_epoch r) (ballot_of r 1) in
+        let long = asked_long layout_id y (everyone next) in
+        let all = all_long r.layouts next in
+        record {
+          fine = record { me = me; layouts = lay; work = (stand, (record { own = stand; stage = (fresh next 0 refl, tt); is = sym first; later = λ l e. absurd (none_some l e) }, claim _)) };
+          new = asked_of layout_id y (everyone next);
+          drawn = all_drawn layout_id y r.layouts next;
+          asks = ask_all next y (λ i. ((i, refl), (stand, own_ballot 1 (sym first))));
+          few = omega (arith, few, long, all, lay);
+          live = λ i j has. inl (y, asked_has layout_id y (everyone next) i j has);
+        }
+      where
+        none_some : (l : Later) → None ≡ Some l → ⊥
+        none_some l e = cc
 
     of_greater : (a b : Before) → Of a → Of b → Of (greater a b)
     of_greater None b f g = g
