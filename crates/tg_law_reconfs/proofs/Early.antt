@@ -173,7 +173,7 @@ module _ (m : Meaning) (h : Header) (stopped : List NodeId) (k epoch servers top
   Next' s q x n = Step m k h stopped Before s q x n
 
   -- what is awaited: seals alone
-  seals_reserved : (s : Net m) (c : Client m) (f : SealsHand s c) → reserved m c ≡ asked_of unit_id (msg.Seal (next_epoch f.reconf)) f.ws ++ []
+  pub seals_reserved : (s : Net m) (c : Client m) (f : SealsHand s c) → reserved m c ≡ asked_of unit_id (msg.Seal (next_epoch f.reconf)) f.ws ++ []
   unfolding reconf_work_asks
   seals_reserved s c f = ap (λ (w : Option (Work m)). work_reserved m c.stand w) f.waits ∙ (ap (λ (d : Hand m). hand_reserved m c.stand d) f.hand ∙ ap (λ (w : ReconfWork). reconf_work_asks f.reconf w ++ later_asks f.reconf w) f.at)
 

@@ -87,7 +87,7 @@ module _ (m : Meaning) (h : Header) (stopped : List NodeId) (k epoch servers : �
   abbrev pub End : Net m → ℕ → Type 0
   End s n = ((client_of m h s k).work ≡ None) ⊎ AtNew (client_of m h s k)
 
-  most_on : (s t : Net m) → Alike m s t → Most s → Most t
+  pub most_on : (s t : Net m) → Alike m s t → Most s → Most t
   most_on s t a most =
       let le = tally_more (λ i. on_in m stopped s (layout_id i)) (λ i. on_in m stopped t (layout_id i)) servers (λ i e. on_alike m stopped s t a (layout_id i) ∙ e) in
       omega (arith, le, most)

@@ -4,6 +4,8 @@ pub mod Counting
 pub mod Counts
 pub mod Drains
 pub mod Early
+pub mod EarlyLaps
+pub mod EarlyTicks
 pub mod Ends
 pub mod Fencing
 pub mod Laps

@@ -130,7 +130,7 @@ module _ (m : Meaning) (h : Header) (stopped : List NodeId) (k epoch servers top
       by i e (inl c) = ap (λ (d : Client m). d.work) c.1 ∙ none
       by i e (inr c) = ap (λ (d : Client m). d.work) c ∙ e
 
-  other_turned : (s : Net m) (q : List Packet) (n : ℕ) (r : Role) → Fits s → node_eq (record { role = r; num = n }) (client_id k) ≡ false → on_in m stopped s (record { role = r; num = n }) ≡ true → Turn' s (net_ticked m h s n r) q (sent_ticked m h s n r)
+  pub other_turned : (s : Net m) (q : List Packet) (n : ℕ) (r : Role) → Fits s → node_eq (record { role = r; num = n }) (client_id k) ≡ false → on_in m stopped s (record { role = r; num = n }) ≡ true → Turn' s (net_ticked m h s n r) q (sent_ticked m h s n r)
   other_turned s q n role.Unit b off on = nothing_turned s q b
   other_turned s q n role.Layout b off on = nothing_turned s q b
   other_turned s q n role.Seqr b off on = record { turn = seqr_turned m h stopped k epoch servers top round past near fits s (client_of m h s k).next (reserved m (client_of m h s k)) n _ (tick_low m h stopped k epoch servers top round (seqr_of m h s n) (b.seqrs n)) b }
@@ -232,12 +232,12 @@ module _ (m : Meaning) (h : Header) (stopped : List NodeId) (k epoch servers top
 
   -- The client ticks.
 
-  tick_is : (c : Client m) (w : Work m) (os : List Out) → c.work ≡ Some w → hand_again_asks m c.stand w.hand ≡ os
+  pub tick_is : (c : Client m) (w : Work m) (os : List Out) → c.work ≡ Some w → hand_again_asks m c.stand w.hand ≡ os
       → client_tick m c ≡ record { now = called m (record c { next = c.next + c.layouts }); sends = os ++ asked_of layout_id msg.AskLatest (waits_for (numbers c.layouts 0) c.next); notes = [] }
   unfolding client_tick
   tick_is c w os e f = ap (λ x. tick_by m c x) e ∙ ap (λ os. record { now = called m (record c { next = c.next + c.layouts }); sends = os ++ asked_of layout_id msg.AskLatest (waits_for (numbers c.layouts 0) c.next); notes = [] }) f
 
-  maps_both : (xs ys : List Out) → map (packet_of m (client_id k)) (xs ++ ys) ≡ map (packet_of m (client_id k)) xs ++ map (packet_of m (client_id k)) ys
+  pub maps_both : (xs ys : List Out) → map (packet_of m (client_id k)) (xs ++ ys) ≡ map (packet_of m (client_id k)) xs ++ map (packet_of m (client_id k)) ys
   maps_both [] ys = refl
   maps_both (x ∷ xs) ys = ap (λ l. packet_of m (client_id k) x ∷ l) (maps_both xs ys)
 
