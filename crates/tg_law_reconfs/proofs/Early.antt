@@ -1,5 +1,5 @@
 -- Before the votes: the units of the next layout are sealed, and then they begin.
-use Rattle.std.proofs.Common.{◌≡◌, ◌⊎◌, ℕ, ◌+◌, ◌^◌, ◌<◌, ◌≤◌, List, [], ◌∷◌, ◌++◌, length, map, cond, Bool, true, false, ◌&&◌, eqb, refl, ap, ◌∙◌, sym, subst, inl, inr, arith, Some, None, Option}
+use Rattle.std.proofs.Common.{◌≡◌, ◌⊎◌, ℕ, ◌+◌, ◌^◌, ◌<◌, ◌≤◌, List, [], ◌∷◌, ◌++◌, map, cond, Bool, true, false, ◌&&◌, eqb, refl, ap, ◌∙◌, sym, subst, inl, inr, arith, Some, None, Option}
 use Rattle.std.specs.Prelude.{nat_lt, slice_set, slice_index_or}
 use Rattle.std.proofs.lemmas.Bool.Decides.{nat_tests}
 use Rattle.tg_base.specs.Layouts.{Layout}
@@ -17,9 +17,9 @@ use Rattle.tg_protocol.specs.Words.{unit_id, layout_id, client_id, too_far}
 use Rattle.tg_protocol.specs.Layouts.{first_layout}
 use Rattle.tg_protocol.specs.Requests.{out, Waits, asked_of, without_wait, awaits, drawn_from, turn, Next, Goes, Learns, Ends}
 use Rattle.tg_protocol.specs.Replies.{Reply, IsSealed, IsLatest, IsOther, reply}
-use Rattle.tg_protocol.specs.Units.{UnitState, UnitTurn, new_unit, unit_step}
-use Rattle.tg_protocol.specs.LayoutServers.{LayoutState, LayoutTurn, new_layout, layout_ask, on_layout_ask, layout_step, tells_latest}
-use Rattle.tg_protocol.specs.Reconfiguring.{Acks, Voting, ReconfWork, Sealing, Reconf, ReconfEnd, Installed, Overtaken, NotWhole, ReconfTurn, next_epoch, at_work, reconf_awaited, reconf_asks, reconf_work_asks, later_asks, sealed_if, seals_left, after_seals, proposes, tells, own_decided, on_newer as on_newer_layout, is_own, reconf_feed, reconf_latest}
+use Rattle.tg_protocol.specs.Units.{UnitState, UnitTurn, new_unit}
+use Rattle.tg_protocol.specs.LayoutServers.{LayoutState, LayoutTurn, layout_ask, on_layout_ask, layout_step}
+use Rattle.tg_protocol.specs.Reconfiguring.{Acks, ReconfWork, Sealing, Reconf, ReconfEnd, Installed, Overtaken, NotWhole, ReconfTurn, next_epoch, at_work, reconf_awaited, reconf_asks, reconf_work_asks, later_asks, sealed_if, seals_left, after_seals, proposes, own_decided, on_newer as on_newer_layout, is_own, reconf_feed, reconf_latest}
 use Rattle.tg_protocol.specs.Clients.{Client, Work, Hand, Reconfiguring, Doing, new_client}
 use Rattle.tg_protocol.specs.Answers.{moved}
 use Rattle.tg_protocol.specs.ClientSteps.{ClientTurn, called, given, client_deliver, client_asks, task_asks, hand_asks, feed, reply_feed, hand_feed, fed_if, latest_if, on_newer, task_in, task_feed, after_turn, on_reconf, reconf_to}
@@ -37,9 +37,8 @@ use Rattle.tg_law_finish.proofs.Finish.Settles.{Step}
 use Rattle.tg_law_finish.proofs.Finish.Tasks.{none_drawn}
 use Rattle.tg_law_reconfs.proofs.Votes.{contrary, Base, Ok, Asks, Seals, Tells, TellOk, LatestLow, answer_packet}
 use Rattle.tg_law_reconfs.proofs.Nodes.{latest_is, tells_low, layout_far, unit_far, sealed_is, sealed_low, AskTurn, seal_comes, server_comes}
-use Rattle.tg_law_reconfs.proofs.Waits.{each_has, without_has, has_without, has_asked, asked_has}
-use Rattle.tg_law_reconfs.proofs.Turns.{First, live, left_of, HeardIn, Onward, To, tells_to, proposes_to}
-use Rattle.tg_law_reconfs.proofs.Answering.{node_same, layout_itself, awaited_one}
+use Rattle.tg_law_reconfs.proofs.Waits.{each_has, without_has, has_asked, asked_has}
+use Rattle.tg_law_reconfs.proofs.Turns.{First, left_of, HeardIn, Onward, To, tells_to, proposes_to}
 use Rattle.tg_law_reconfs.proofs.Drains.{Nums, Renumbered, renumbered, Votes, reserves}
 use Rattle.tg_law_reconfs.proofs.Steps.{nothing_new, new_each, mapped, Inv, InFlight, any_step, votes_rise, work_heard, base_client, rises_client, clients_long}
 
@@ -397,7 +396,7 @@ module _ (m : Meaning) (h : Header) (stopped : List NodeId) (k epoch servers top
         let x = unit_of m s u in
         let is = sealed_is m h stopped k epoch servers top round past near fits x (e.base.units u) in
         let a = subst (λ (z : UnitTurn). AskTurn m h stopped k epoch servers top round past near fits s (client_of m h s k).next [] (unit_id u) j (record s { units = slice_set s.units u z.now }) (answer_to m (seal_ask u j) z.says)) is
-            (seal_comes m h stopped k epoch servers top round past near fits s (client_of m h s k).next [] u j on less (λ z g. absurd g) e.base) in
+        (seal_comes m h stopped k epoch servers top round past near fits s (client_of m h s k).next [] u j on less (λ z g. absurd g) e.base) in
         subst (λ (z : UnitTurn). Next' (record s { units = slice_set s.units u z.now }) (q ++ answer_to m (seal_ask u j) z.says) (seal_ask u j) n) (sym is)
         (stays_step s (record s { units = slice_set s.units u (record x { epoch = epoch }) }) (seal_ask u j) q (told_by (unit_id u) j (msg.Sealed epoch x.high) ∷ []) n 1 e (record {
           base = a.turn.base;
@@ -439,7 +438,7 @@ module _ (m : Meaning) (h : Header) (stopped : List NodeId) (k epoch servers top
     latest_on i j less on e =
         let x = layout_of m h s i in
         let a = subst (λ (z : LayoutTurn). AskTurn m h stopped k epoch servers top round past near fits s (client_of m h s k).next [] (layout_id i) j (record s { layouts = slice_set s.layouts i z.now }) (answer_to m (latest_ask i j) z.says)) (latest_step x)
-            (server_comes m h stopped k epoch servers top round past near fits s (client_of m h s k).next [] i j msg.AskLatest on less (i, refl) (λ z g. absurd g) e.base) in
+        (server_comes m h stopped k epoch servers top round past near fits s (client_of m h s k).next [] i j msg.AskLatest on less (i, refl) (λ z g. absurd g) e.base) in
         subst (λ (z : LayoutTurn). Next' (record s { layouts = slice_set s.layouts i z.now }) (q ++ answer_to m (latest_ask i j) z.says) (latest_ask i j) n) (sym (latest_step x))
         (stays_step s (record s { layouts = slice_set s.layouts i x }) (latest_ask i j) q (told_by (layout_id i) j (msg.Latest x.latest) ∷ []) n 1 e (record {
           base = a.turn.base;

@@ -6,9 +6,8 @@ use Rattle.tg_base.specs.declared.packet.Packet.{Packet}
 use Rattle.tg_kind.specs.Meaning.{Meaning}
 use Rattle.tg_protocol.specs.Worlds.{World, nodes}
 use Rattle.tg_law_finish.proofs.Finish.Nets.{Net, net, on_in, alike_if, alike_ticked}
-use Rattle.tg_law_finish.proofs.Finish.Settles.{Keeps, Ticking, Step}
-use Rattle.tg_law_reconfs.proofs.Turns.{First, Second, Third}
-use Rattle.tg_law_reconfs.proofs.Steps.{Inv}
+use Rattle.tg_law_finish.proofs.Finish.Settles.{Keeps, Ticking}
+use Rattle.tg_law_reconfs.proofs.Turns.{First}
 use Rattle.tg_law_reconfs.proofs.Rounds.{Folds}
 use Rattle.tg_law_reconfs.proofs.Laps.{Ballots, Most, Along, JustSent, YetToTick, End, laps, most_on, folds}
 use Rattle.tg_law_reconfs.proofs.Early.{EarlyAt, Before, before_step, not_early}

@@ -12,11 +12,11 @@ use Rattle.tg_base.specs.Orders.{node_eq}
 use Rattle.tg_kind.specs.Meaning.{Meaning}
 use Rattle.tg_protocol.specs.Words.{unit_id, layout_id, seqr_id, client_id, numbers}
 use Rattle.tg_protocol.specs.Layouts.{first_layout}
-use Rattle.tg_protocol.specs.Requests.{out, Waits, waits_for, asked_of}
+use Rattle.tg_protocol.specs.Requests.{out, waits_for, asked_of}
 use Rattle.tg_protocol.specs.Sequencers.{SeqrState, new_seqr, scan_asks, seqr_tick}
 use Rattle.tg_protocol.specs.Reconfiguring.{ReconfWork, next_epoch, reconf_work_asks, later_asks, this_or}
 use Rattle.tg_protocol.specs.Clients.{Client, Hand, new_client}
-use Rattle.tg_protocol.specs.ClientSteps.{ClientTurn, called, client_tick, hand_again_asks}
+use Rattle.tg_protocol.specs.ClientSteps.{ClientTurn, called, hand_again_asks}
 use Rattle.tg_protocol.specs.Worlds.{packet_of}
 use Rattle.tg_law_layouts.proofs.Moves.Clients.{reserved}
 use Rattle.tg_law_layouts.proofs.Moves.Draws.{Drawn}
@@ -34,7 +34,7 @@ use Rattle.tg_law_reconfs.proofs.Answering.{node_same}
 use Rattle.tg_law_reconfs.proofs.Drains.{Nums, renumbered}
 use Rattle.tg_law_reconfs.proofs.Steps.{nothing_new, new_each, mapped, base_client, clients_long}
 use Rattle.tg_law_reconfs.proofs.Ticks.{NotIt, other_turned, tick_is, maps_both}
-use Rattle.tg_law_reconfs.proofs.Early.{votes_first, seal_ask, Early, AsksSeal, AsksLatest, all_early, SealsHand, Flight, EarlyFor, EarlyAt, hand_on, seals_reserved}
+use Rattle.tg_law_reconfs.proofs.Early.{votes_first, Early, AsksSeal, AsksLatest, all_early, SealsHand, EarlyFor, EarlyAt, hand_on, seals_reserved}
 
 below_from : (n a at i j : ℕ) → Has (waits_for (numbers n a) at) (i, j) → j < at + n
 below_from zero a at i j h = absurd h

@@ -1,5 +1,5 @@
 -- A settling while a client agrees with the layout servers on a layout.
-use Rattle.std.proofs.Common.{◌≡◌, ◌≢◌, ◌⊎◌, ℕ, ◌+◌, ◌*◌, ◌^◌, ◌<◌, ◌≤◌, List, [], ◌++◌, length, Bool, true, false, eqb, refl, ap, ◌∙◌, sym, subst, inl, inr, arith, Some, None, Option}
+use Rattle.std.proofs.Common.{◌≡◌, ◌≢◌, ◌⊎◌, ℕ, ◌+◌, ◌*◌, ◌^◌, ◌<◌, ◌≤◌, List, [], ◌∷◌, ◌++◌, length, Bool, true, false, eqb, refl, ap, ◌∙◌, sym, subst, inl, inr, arith, Some, None, Option}
 use Rattle.std.specs.Prelude.{slice_index_or}
 use Rattle.tg_any.specs.AllKinds.{all_kinds}
 use Rattle.tg_base.proofs.Rules.{layout_rules}
@@ -12,15 +12,15 @@ use Rattle.tg_base.specs.declared.msg.Msg.TheVariants as msg
 use Rattle.tg_base.specs.declared.packet.Out.{Out}
 use Rattle.tg_kind.specs.Meaning.{Meaning}
 use Rattle.tg_model.specs.Kinds.{CommandOf}
-use Rattle.tg_protocol.specs.Words.{layout_id, client_id}
+use Rattle.tg_protocol.specs.Words.{unit_id, layout_id, client_id}
 use Rattle.tg_protocol.specs.LayoutServers.{vote_of}
 use Rattle.tg_protocol.specs.Requests.{Waits, out, asked_of}
-use Rattle.tg_protocol.specs.Reconfiguring.{Before, Stage, Preparing, Accepting, Later, Voting, ReconfWork, SealingSpare, LookingSpare, Sealing, LookingAgain, Agreeing, Telling, Starting, Reconf, ballot_of, next_epoch, reconf_work_asks, reconf_awaited, reconf_again_asks, later_asks, set_asks, stage_asks, this_or, round_set}
-use Rattle.tg_protocol.specs.Clients.{Client, Work, Task, new_client}
+use Rattle.tg_protocol.specs.Reconfiguring.{Acks, Before, Stage, Preparing, Accepting, Later, Voting, ReconfWork, SealingSpare, LookingSpare, Sealing, LookingAgain, Agreeing, Telling, Starting, Reconf, ballot_of, next_epoch, reconf_work_asks, reconf_awaited, reconf_again_asks, later_asks, set_asks, stage_asks, this_or, round_set}
+use Rattle.tg_protocol.specs.Clients.{Client, Work, Task, Reconfiguring, Doing, new_client}
 use Rattle.tg_protocol.specs.ClientSteps.{task_in}
-use Rattle.tg_protocol.specs.Worlds.{World, nodes, layout, seqr, client, settle}
+use Rattle.tg_protocol.specs.Worlds.{World, nodes, unit, layout, seqr, client, settle}
 use Rattle.tg_protocol.specs.Runs.{Moves, Reaches, Always}
-use Rattle.tg_protocol.specs.Finishing.{WaitsAlone, HasReply, IsEnd}
+use Rattle.tg_protocol.specs.Finishing.{MostRun, NoneAbove, WaitsAlone, HasReply, IsEnd}
 use Rattle.tg_law_layouts.specs.Moves.Configs.{config}
 use Rattle.tg_law_layouts.proofs.Agreement.Proposers.{StageOk, VotingOk, WorkOk}
 use Rattle.tg_law_layouts.proofs.Layouts.Deciding.{layouts_are_known, layouts_are_sound}
@@ -28,13 +28,15 @@ use Rattle.tg_law_layouts.proofs.Layouts.Decisions.{Pax}
 use Rattle.tg_law_layouts.proofs.Layouts.Pax.{OfEpoch as IsOfEpoch, task_reconf, reconf_of, HandOk, WorkerOk}
 use Rattle.tg_law_layouts.proofs.Layouts.Phases.{told_epoch}
 use Rattle.tg_law_layouts.proofs.Moves.Clients.{reserved}
+use Rattle.tg_law_layouts.proofs.Moves.Lists.{contained}
 use Rattle.tg_law_layouts.proofs.Moves.Members.{Has, has_left, has_right}
 use Rattle.tg_law_layouts.proofs.Requests.Numbers.{Asks}
 use Rattle.tg_law_finish.proofs.Finish.Finishes.{nodes_once}
 use Rattle.tg_law_finish.proofs.Finish.Nets.{net, on_in}
 use Rattle.tg_law_finish.proofs.Finish.Others.{weigh}
+use Rattle.tg_law_finish.proofs.Finish.Settles.{Spent}
 use Rattle.tg_law_finish.proofs.Finish.Standing.{numbers_hold, pax_always}
-use Rattle.tg_law_reconfs.specs.Reconfs.{InVotes, WaitsForVotes, WaitsToStart, VotesEnd, VotesFinish}
+use Rattle.tg_law_reconfs.specs.Reconfs.{SealsFinish, InVotes, WaitsToStart, VotesEnd, VotesFinish}
 use Rattle.tg_law_reconfs.proofs.Votes.{tally, tally_some, ballot, OfEpoch, FenceLow, AskOk, Base}
 use Rattle.tg_law_reconfs.proofs.Waits.{each_has, unanswered_has, asked_has, asked_long, has_asked}
 use Rattle.tg_law_reconfs.proofs.Turns.{First, later_waits, live, left_in, left_of, Enough, StageFine, WorkFine}
@@ -42,8 +44,9 @@ use Rattle.tg_law_reconfs.proofs.Answering.{stage_awaited}
 use Rattle.tg_law_reconfs.proofs.Steps.{clients_long}
 use Rattle.tg_law_reconfs.proofs.Ticks.{Laterless}
 use Rattle.tg_law_reconfs.proofs.Between.{some_again}
-use Rattle.tg_law_reconfs.proofs.Rounds.{Ended, settle_ends}
-use Rattle.tg_law_reconfs.proofs.Laps.{Ballots, Along, JustSent, YetToTick, AtNew, End, laps, seven_laps, folds}
+use Rattle.tg_law_reconfs.proofs.Rounds.{settle_ends}
+use Rattle.tg_law_reconfs.proofs.Laps.{Ballots, YetToTick, AtNew, laps, seven_laps, folds}
+use Rattle.tg_law_reconfs.proofs.EarlyLaps.{YetAll, all_folds}
 use Rattle.tg_law_reconfs.proofs.Counting.{Counted, LaterAll, VoteCounted, WorkCounted, IsCounted, TaskCounted, HandCounted, all_counted}
 use Rattle.tg_law_reconfs.proofs.Counts.{few_by}
 use Rattle.tg_law_reconfs.proofs.Fencing.{fences_reached}
@@ -62,7 +65,16 @@ none_some l e = cc
 one_later : (x y : Later) → Some x ≡ Some y → x ≡ y
 one_later x y e = cc
 
-module _ (m : Meaning) (h : Header) (ms : Moves m) (w : World m) (reach : Reaches m h ms w) (k : ℕ) (x : CommandOf m) (a : WaitsAlone m w k x) (f : WaitsForVotes m w k) where
+-- a client that agrees on the layout after its own, from the seals on
+pub record Agrees (m : Meaning) (w : World m) (k : ℕ) : Type 0 where
+  pub work : Work m
+  pub waits : (client m w k).work ≡ Some work
+  pub reconf : Reconf
+  pub hand : work.hand ≡ Doing (Reconfiguring reconf)
+  pub layouts : MostRun m w
+  pub none_above : NoneAbove m w ((client m w k).stand.epoch + 1)
+
+module _ (m : Meaning) (h : Header) (ms : Moves m) (w : World m) (reach : Reaches m h ms w) (k : ℕ) (x : CommandOf m) (a : WaitsAlone m w k x) (f : Agrees m w k) where
   abbrev c : Client m
   c = client m w k
 
@@ -99,12 +111,12 @@ module _ (m : Meaning) (h : Header) (ms : Moves m) (w : World m) (reach : Reache
 
   -- rounds are no higher than the run has steps, and epochs not much
   abbrev top : ℕ
-  top = w.steps
+  top = w.steps + 1
 
-  low : Low m top (config m w)
+  low : Low m w.steps (config m w)
   low = all_low_in m h ms w reach
 
-  few_steps : top ≤ 23800000
+  few_steps : w.steps ≤ 23800000
   few_steps = reach.goes.few
 
   near : epoch < 2 ^ 32
@@ -116,8 +128,8 @@ module _ (m : Meaning) (h : Header) (ms : Moves m) (w : World m) (reach : Reache
   room : top + 3 < 2 ^ 32
   room = let b = few_steps in omega (arith, b)
 
-  work_is_low : WorkLow top r.work
-  work_is_low = subst (λ (t : Task m). ReconfLow m top (task_reconf m t)) (ap (task_in m) f.hand) (subst (λ (o : Option (Work m)). ReconfLow m top (reconf_of m o)) f.waits (low.hands k))
+  work_is_low : WorkLow w.steps r.work
+  work_is_low = subst (λ (t : Task m). ReconfLow m w.steps (task_reconf m t)) (ap (task_in m) f.hand) (subst (λ (o : Option (Work m)). ReconfLow m w.steps (reconf_of m o)) f.waits (low.hands k))
 
   abbrev runs_at : ℕ → Bool
   runs_at n = on_in m w.stopped (net m w) (layout_id n)
@@ -145,7 +157,7 @@ module _ (m : Meaning) (h : Header) (ms : Moves m) (w : World m) (reach : Reache
   base round = record {
     on = a.running;
     units = f.none_above.units;
-    layouts = λ n. record { latest = f.none_above.layouts n; rounds = (low.servers n).rounds epoch; accepted = accepted_by round n (vote_of (layout m w n) epoch).accepted refl };
+    layouts = λ n. record { latest = f.none_above.layouts n; rounds = (let z = (low.servers n).rounds epoch in omega (arith, z)); accepted = accepted_by round n (vote_of (layout m w n) epoch).accepted refl };
     seqrs = λ s. record { stands = f.none_above.seqrs s; fence = fence_by round s (seqr m w s).fence refl };
     idle = λ j off on. a.alone j (differ j k off) on;
   }
@@ -167,6 +179,9 @@ module _ (m : Meaning) (h : Header) (ms : Moves m) (w : World m) (reach : Reache
 
   zero_fits : 0 ≤ top
   zero_fits = omega arith
+
+  one_fits : 1 ≤ top
+  one_fits = omega arith
 
   abbrev ballots : (round : ℕ) → round ≤ top → Ballots m w.cluster w.stopped k epoch servers past near some 7
   ballots round fits = record { top = top; round = round; small = near_top; fits = fits; mode = First; lasts = inr (inr (refl, (omega arith, room))) }
@@ -225,7 +240,7 @@ module _ (m : Meaning) (h : Header) (ms : Moves m) (w : World m) (reach : Reache
     is_vote = subst (λ (y : ReconfWork). WorkCounted r.layouts y) at is_counted
 
     within : (v.round ≤ top) × (round_set v.later ≤ top)
-    within = subst (λ (y : ReconfWork). WorkLow top y) at work_is_low
+    within = let z = subst (λ (y : ReconfWork). WorkLow w.steps y) at work_is_low in let b = z.0 in let c = z.1 in (omega (arith, b), omega (arith, c))
 
     own_epoch : v.own.epoch ≡ epoch
     own_epoch = ok.own ∙ next
@@ -337,8 +352,8 @@ module _ (m : Meaning) (h : Header) (ms : Moves m) (w : World m) (reach : Reache
         (λ i j has. (tell, asked_has layout_id tell ws i j (subst (λ (y : ReconfWork). Has (live true y) (i, j)) at has)))
         1 (subst (λ (y : ReconfWork). left_of m w.cluster w.stopped k epoch servers top 0 true y ≤ 1) (sym at) (omega arith)) (omega (arith, long, most')) (omega arith)
 
-  to_tick : ToTick
-  to_tick = by r.work refl f.votes
+  to_tick : InVotes m r.work → ToTick
+  to_tick votes = by r.work refl votes
     where
       by : (y : ReconfWork) → r.work ≡ y → InVotes m y → ToTick
       by (Agreeing v) e i = vote_lap v e
@@ -349,28 +364,77 @@ module _ (m : Meaning) (h : Header) (ms : Moves m) (w : World m) (reach : Reache
       by (Sealing ws acks) e i = absurd i
       by (LookingAgain n acks) e i = absurd i
 
+  -- It seals units, and none joins.
+  module _ (ws : Waits) (acks : Acks) (at : r.work ≡ Sealing ws acks) (none : r.change.join ≡ None) (waits : (v : ℕ × ℕ) × Has ws v) (units : (u j : ℕ) → Has ws (u, j) → on_in m w.stopped (net m w) (unit_id u) ≡ true) (highs : (u : ℕ) → (unit m w u).high < 2 ^ 62) (rests : (s : ℕ) → (seqr m w s).scan ≡ None) where
+    abbrev seals_told : ℕ
+    seals_told = 2 * length ws + 34 * servers + 16
+
+    seals_tick : YetAll m w.cluster w.stopped k epoch servers past near some 7 (nodes m w) (net m w) [] seals_told
+    unfolding weigh
+    seals_tick =
+        let o = nodes_once k m w clients_many in
+        let seven = seven_laps m w.cluster w.stopped k epoch servers past near some in
+        inr (record {
+          begins = record { top = top; small = near_top; fits = one_fits; lasts = omega arith; room = room };
+          most = most;
+          pre = inr (record {
+            base = base 1;
+            there = there;
+            highs = highs;
+            rests = rests;
+            hand = record { work = f.work; waits = f.waits; reconf = r; hand = f.hand; ws = ws; acks = acks; at = at; stand = sym worker.stand; layouts = pax.layouts k; me = worker.ok.me; lays = is_long; next = next; none = none; some = waits; running = units };
+            nums = record { below = λ z has. asks_of.open' z has; one = λ y z g i e t. asks_of.one y z g i e t };
+            each = tt;
+            few = omega (arith, seven);
+            front = o.front;
+            back = o.back;
+            is = o.is;
+            not_front = o.not_front;
+            not_back = o.not_back;
+          });
+        })
+
   -- The settling.
 
   abbrev end_world : World m
   end_world = (settle m w).world
 
-  ended : Ended m k w.cluster w.stopped (Along m w.cluster w.stopped k epoch servers past near some) (JustSent m w.cluster w.stopped k epoch servers past near some) (YetToTick m w.cluster w.stopped k epoch servers past near some)
-      (End m w.cluster w.stopped k epoch servers past near some) w end_world most_told
-  ended = settle_ends m k w.cluster w.stopped _ _ _ _ (folds m w.cluster w.stopped k epoch servers past near some) w most_told a.quiet to_tick refl refl a.within
-
   -- the client, by its own cluster
   abbrev client_by : Header → Client m
   client_by g = slice_index_or end_world.clients k (new_client m g k)
 
-  end_there : ((client m end_world k).work ≡ None) ⊎ AtNew m w.cluster w.stopped k epoch servers past near some (client m end_world k)
-  end_there = subst (λ (g : Header). ((client_by g).work ≡ None) ⊎ AtNew m w.cluster w.stopped k epoch servers past near some (client_by g)) (sym ended.cluster) ended.end
+  abbrev EndThere : Client m → Type 0
+  EndThere d = (d.work ≡ None) ⊎ AtNew m w.cluster w.stopped k epoch servers past near some d
 
-  pub votes_end : VotesEnd m w end_world k most_told
-  votes_end = record { ends = by end_there; few = few_by m k most_told w end_world ended.spent.done ended.spent.since (let z = ended.spent.few in omega (arith, z)) }
+  ends_so : (most_so left : ℕ) → EndThere (client_by w.cluster) → Spent m k w end_world most_so left → end_world.cluster ≡ w.cluster → VotesEnd m w end_world k most_so
+  ends_so most_so left end spent cluster = record { ends = by (subst (λ (g : Header). EndThere (client_by g)) (sym cluster) end); few = few_by m k most_so w end_world spent.done spent.since (let z = spent.few in omega (arith, z)) }
     where
       by : ((client m end_world k).work ≡ None) ⊎ AtNew m w.cluster w.stopped k epoch servers past near some (client m end_world k) → (((client m end_world k).work ≡ None) × HasReply m w end_world k (IsEnd m)) ⊎ WaitsToStart m end_world k epoch
       by (inl none) = inl (none, reconf_ends_are_told m w k (record { work = f.work; waits = f.waits; reconf = f.reconf; hand = ap (task_in m) f.hand }) none)
       by (inr z) = inr (record { work = z.work; waits = z.waits; reconf = z.reconf; hand = z.hand; rid = z.rid; starting = z.starting; stands = z.stands })
 
+  pub votes_end : InVotes m r.work → VotesEnd m w end_world k most_told
+  votes_end votes =
+      let e = settle_ends m k w.cluster w.stopped _ _ _ _ (folds m w.cluster w.stopped k epoch servers past near some) w most_told a.quiet (to_tick votes) refl refl a.within in
+      ends_so most_told e.left e.end e.spent e.cluster
+
+  pub seals_end : (ws : Waits) (acks : Acks) → r.work ≡ Sealing ws acks → r.change.join ≡ None → (v : ℕ × ℕ) × Has ws v → ((u j : ℕ) → Has ws (u, j) → on_in m w.stopped (net m w) (unit_id u) ≡ true) → ((u : ℕ) → (unit m w u).high < 2 ^ 62) → ((s : ℕ) → (seqr m w s).scan ≡ None)
+      → VotesEnd m w end_world k (2 * length ws + 34 * servers + 16)
+  seals_end ws acks at none waits units highs rests =
+      let e = settle_ends m k w.cluster w.stopped _ _ _ _ (all_folds m w.cluster w.stopped k epoch servers past near some) w (2 * length ws + 34 * servers + 16) a.quiet (inl_or ws acks at none waits units highs rests) refl refl a.within in
+      ends_so (2 * length ws + 34 * servers + 16) e.left e.end e.spent e.cluster
+    where
+      inl_or : (ws : Waits) (acks : Acks) → r.work ≡ Sealing ws acks → r.change.join ≡ None → (v : ℕ × ℕ) × Has ws v → ((u j : ℕ) → Has ws (u, j) → on_in m w.stopped (net m w) (unit_id u) ≡ true) → ((u : ℕ) → (unit m w u).high < 2 ^ 62) → ((s : ℕ) → (seqr m w s).scan ≡ None)
+          → YetAll m w.cluster w.stopped k epoch servers past near some 7 (nodes m w) (net m w) [] (2 * length ws + 34 * servers + 16)
+      inl_or ws acks at none waits units highs rests = seals_tick ws acks at none waits units highs rests
+
 pub votes_finish : Always all_kinds (VotesFinish all_kinds)
-votes_finish h ms w reach k x a f = votes_end all_kinds h ms w reach k x a f
+votes_finish h ms w reach k x a f = votes_end all_kinds h ms w reach k x a (record { work = f.work; waits = f.waits; reconf = f.reconf; hand = f.hand; layouts = f.layouts; none_above = f.none_above }) f.votes
+
+first_of : (ws : Waits) → (ws ≡ [] → ⊥) → (v : ℕ × ℕ) × Has ws v
+first_of [] some = absurd (some refl)
+first_of (w ∷ ws) some = (w, inl refl)
+
+pub seals_finish : Always all_kinds (SealsFinish all_kinds)
+seals_finish h ms w reach k x a f = seals_end all_kinds h ms w reach k x a (record { work = f.work; waits = f.waits; reconf = f.reconf; hand = f.hand; layouts = f.layouts; none_above = f.none_above }) f.waiting f.acks f.seals f.joins (first_of f.waiting f.some)
+    (λ u j has. f.units (u, j) (contained f.waiting (u, j) has)) f.highs f.rests

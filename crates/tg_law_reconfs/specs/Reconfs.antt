@@ -1,13 +1,14 @@
 -- Reconfigurations finish: what is proved of `ReconfFinishes` (tg_protocol).
-use Rattle.std.specs.Prelude.{◌≡◌, ◌⊎◌, ℕ, ◌+◌, ◌*◌, ◌≤◌, true, None, Some}
+use Rattle.std.specs.Prelude.{◌≡◌, ◌≢◌, ◌⊎◌, ℕ, ◌+◌, ◌*◌, ◌^◌, ◌<◌, ◌≤◌, true, [], length, None, Some, Contains}
 use Rattle.tg_kind.specs.Meaning.{Meaning}
 use Rattle.tg_model.specs.declared.trace.What.TheVariants as told
 use Rattle.tg_model.specs.Kinds.{CommandOf}
-use Rattle.tg_protocol.specs.Words.{seqr_id}
-use Rattle.tg_protocol.specs.Reconfiguring.{ReconfWork, Agreeing, Telling, Starting, Reconf}
+use Rattle.tg_protocol.specs.Words.{unit_id, seqr_id}
+use Rattle.tg_protocol.specs.Requests.{Waits}
+use Rattle.tg_protocol.specs.Reconfiguring.{Acks, ReconfWork, Sealing, Agreeing, Telling, Starting, Reconf}
 use Rattle.tg_protocol.specs.Clients.{Work, Reconfiguring, Doing}
 use Rattle.tg_protocol.specs.ClientSteps.{task_in}
-use Rattle.tg_protocol.specs.Worlds.{World, layout, seqr, client, runs, settle}
+use Rattle.tg_protocol.specs.Worlds.{World, unit, layout, seqr, client, runs, settle}
 use Rattle.tg_protocol.specs.Finishing.{IsServing, MostRun, NoneAbove, WaitsAlone, Finishes, HasReply, IsEnd, deliveries, is_with_client}
 
 module _ (m : Meaning) where
@@ -78,3 +79,27 @@ module _ (m : Meaning) where
   -- three rounds of ticks end the votes; each of the others asks for the latest layout, and may ask the sequencer
   abbrev pub VotesFinish : World m → Type 0
   VotesFinish w = (k : ℕ) (x : CommandOf m) → WaitsAlone m w k x → WaitsForVotes w k → VotesEnd w (settle m w).world k (34 * w.cluster.layouts + 16)
+
+  -- The seals.
+
+  -- The client seals units of its next layout, to which none joins. Those that it waits for run; of the layout servers
+  -- most do. No node stands past the next epoch, no unit has written as far as 2 ^ 62, and no sequencer scans.
+  pub record WaitsForSeals (w : World m) (k : ℕ) : Type 0 where
+    pub work : Work m
+    pub waits : (client m w k).work ≡ Some work
+    pub reconf : Reconf
+    pub hand : work.hand ≡ Doing (Reconfiguring reconf)
+    pub waiting : Waits
+    pub acks : Acks
+    pub seals : reconf.work ≡ Sealing waiting acks
+    pub some : waiting ≢ []
+    pub joins : reconf.change.join ≡ None
+    pub units : (v : ℕ × ℕ) → Contains waiting v → runs m w (unit_id v.0) ≡ true
+    pub layouts : MostRun m w
+    pub none_above : NoneAbove m w ((client m w k).stand.epoch + 1)
+    pub highs : (u : ℕ) → (unit m w u).high < 2 ^ 62
+    pub rests : (s : ℕ) → (seqr m w s).scan ≡ None
+
+  -- two deliveries more for each unit that it waits for
+  abbrev pub SealsFinish : World m → Type 0
+  SealsFinish w = (k : ℕ) (x : CommandOf m) → WaitsAlone m w k x → (f : WaitsForSeals w k) → VotesEnd w (settle m w).world k (2 * length f.waiting + 34 * w.cluster.layouts + 16)

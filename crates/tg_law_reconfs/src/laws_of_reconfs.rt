@@ -2,7 +2,7 @@
 
 ghost use Rattle.tg_any.specs.AllKinds.{all_kinds};
 ghost use Rattle.tg_kind.specs.Of.{meaning_of};
-ghost use Rattle.tg_law_reconfs.specs.Reconfs.{ReconfEndsAreTold, StartedFinishes, VotesFinish};
+ghost use Rattle.tg_law_reconfs.specs.Reconfs.{ReconfEndsAreTold, StartedFinishes, VotesFinish, SealsFinish};
 ghost use Rattle.tg_protocol.specs.Runs.{Always};
 
 use tg_kind::Registry;
@@ -24,4 +24,10 @@ pub fn started_reconfs_finish()
 /// and 16 more.
 pub fn votes_finish()
     ensures { Always all_kinds (VotesFinish all_kinds) }
+{}
+
+/// So from the seals on, where no unit joins, those that the client waits for run, and no sequencer scans: within two
+/// deliveries more for each of these units.
+pub fn seals_finish()
+    ensures { Always all_kinds (SealsFinish all_kinds) }
 {}
