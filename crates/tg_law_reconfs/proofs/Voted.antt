@@ -32,6 +32,8 @@ use Rattle.tg_law_layouts.proofs.Moves.Lists.{contained}
 use Rattle.tg_law_layouts.proofs.Moves.Members.{Has, has_left, has_right}
 use Rattle.tg_law_layouts.proofs.Requests.Numbers.{Asks}
 use Rattle.tg_law_finish.proofs.Finish.Finishes.{nodes_once}
+use Rattle.tg_law_headline.proofs.Runs.Holding.{logs_hold}
+use Rattle.tg_law_finish.proofs.Finish.Highs.{high_near}
 use Rattle.tg_law_finish.proofs.Finish.Nets.{net, on_in}
 use Rattle.tg_law_finish.proofs.Finish.Others.{weigh}
 use Rattle.tg_law_finish.proofs.Finish.Settles.{Spent}
@@ -437,4 +439,4 @@ first_of (w ∷ ws) some = (w, inl refl)
 
 pub seals_finish : Always all_kinds (SealsFinish all_kinds)
 seals_finish h ms w reach k x a f = seals_end all_kinds h ms w reach k x a (record { work = f.work; waits = f.waits; reconf = f.reconf; hand = f.hand; layouts = f.layouts; none_above = f.none_above }) f.waiting f.acks f.seals f.joins (first_of f.waiting f.some)
-    (λ u j has. f.units (u, j) (contained f.waiting (u, j) has)) f.highs f.rests
+    (λ u j has. f.units (u, j) (contained f.waiting (u, j) has)) (high_near all_kinds h ms w reach (logs_hold h ms w reach).trims.in_time) f.rests

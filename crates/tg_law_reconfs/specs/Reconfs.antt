@@ -1,5 +1,5 @@
 -- Reconfigurations finish: what is proved of `ReconfFinishes` (tg_protocol).
-use Rattle.std.specs.Prelude.{◌≡◌, ◌≢◌, ◌⊎◌, ℕ, ◌+◌, ◌*◌, ◌^◌, ◌<◌, ◌≤◌, true, [], length, None, Some, Contains}
+use Rattle.std.specs.Prelude.{◌≡◌, ◌≢◌, ◌⊎◌, ℕ, ◌+◌, ◌*◌, ◌≤◌, true, [], length, None, Some, Contains}
 use Rattle.tg_kind.specs.Meaning.{Meaning}
 use Rattle.tg_model.specs.declared.trace.What.TheVariants as told
 use Rattle.tg_model.specs.Kinds.{CommandOf}
@@ -8,7 +8,7 @@ use Rattle.tg_protocol.specs.Requests.{Waits}
 use Rattle.tg_protocol.specs.Reconfiguring.{Acks, ReconfWork, Sealing, Agreeing, Telling, Starting, Reconf}
 use Rattle.tg_protocol.specs.Clients.{Work, Reconfiguring, Doing}
 use Rattle.tg_protocol.specs.ClientSteps.{task_in}
-use Rattle.tg_protocol.specs.Worlds.{World, unit, layout, seqr, client, runs, settle}
+use Rattle.tg_protocol.specs.Worlds.{World, layout, seqr, client, runs, settle}
 use Rattle.tg_protocol.specs.Finishing.{IsServing, MostRun, NoneAbove, WaitsAlone, Finishes, HasReply, IsEnd, deliveries, is_with_client}
 
 module _ (m : Meaning) where
@@ -83,7 +83,7 @@ module _ (m : Meaning) where
   -- The seals.
 
   -- The client seals units of its next layout, to which none joins. Those that it waits for run; of the layout servers
-  -- most do. No node stands past the next epoch, no unit has written as far as 2 ^ 62, and no sequencer scans.
+  -- most do. No node stands past the next epoch, and no sequencer scans.
   pub record WaitsForSeals (w : World m) (k : ℕ) : Type 0 where
     pub work : Work m
     pub waits : (client m w k).work ≡ Some work
@@ -97,7 +97,6 @@ module _ (m : Meaning) where
     pub units : (v : ℕ × ℕ) → Contains waiting v → runs m w (unit_id v.0) ≡ true
     pub layouts : MostRun m w
     pub none_above : NoneAbove m w ((client m w k).stand.epoch + 1)
-    pub highs : (u : ℕ) → (unit m w u).high < 2 ^ 62
     pub rests : (s : ℕ) → (seqr m w s).scan ≡ None
 
   -- two deliveries more for each unit that it waits for
