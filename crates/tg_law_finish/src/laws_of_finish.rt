@@ -85,8 +85,9 @@ pub fn streams_are_few<K: Registry>()
     ensures { Always (meaning_of K.Registry) (StreamsFew (meaning_of K.Registry)) }
 {}
 
-/// In a world that is ready for it, a client that waits with a command other than `reconf` has a task in hand, and doesn't
-/// wait for a newer layout. For such a client was told so by a node that it asked, which is past the client's layout.
+/// In a world that is ready for it, where a copy's spare unit runs and isn't past the layout, a client that waits with a
+/// command other than `reconf` has a task in hand, and doesn't wait for a newer layout. One that did would have been told
+/// of it by a node that it asked, which is past the client's layout, or a sequencer that is fenced in it.
 pub fn ready_clients_work<K: Registry>()
     ensures { Always (meaning_of K.Registry) (ReadyClientsWork (meaning_of K.Registry)) }
 {}

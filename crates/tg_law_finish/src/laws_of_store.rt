@@ -83,8 +83,8 @@ pub fn copies_finish()
     ensures { Always all_kinds (CopyFinishes all_kinds) }
 {}
 
-/// So each command but `reconf` is answered wherever it stands: within the bound of its command, and 129 times what
-/// trims may cost walks over 128 streams.
+/// So each command but `reconf` is answered wherever it stands, a copy where its spare unit runs and isn't past the latest
+/// layout: within the bound of its command, and 129 times what trims may cost walks over 128 streams.
 pub fn commands_finish()
     ensures { Always all_kinds (CommandWalks all_kinds) }
 {}

@@ -51,7 +51,7 @@ pub data Waits (w : Worlds) (k : ℕ) (x : CommandOf all_kinds) : ℕ → Type 0
   ForEnd : EndsAppend all_kinds w k → Waits w k x (end_bound all_kinds w)
   -- for its append, wherever that stands
   ForRecord : EndsRecord all_kinds w k → Waits w k x (record_bound all_kinds w)
-  -- for whatever it is, with any command but a reconfiguration
+  -- for whatever it is, with any command but a reconfiguration; the spare unit of a copy runs, and isn't past the layout
   ForAny : IsSpareReady all_kinds w x → NoReconf all_kinds x → Waits w k x (most_deliveries_in all_kinds w x + 129 * passes_bound all_kinds w 128)
 
 -- The client waits alone: nothing is on its way, or its requests alone are, as right after its command.

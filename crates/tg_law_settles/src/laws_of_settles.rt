@@ -6,9 +6,10 @@ ghost use Rattle.tg_law_settles.specs.Settles.{DrainedLinesAnswer, DrainedLinesF
 /// In the world before a script's `settle` line one client waits alone, with nothing on its way but its requests,
 /// as right after its command; the world is ready for it; and its command is one that is proved to finish
 /// (`Waits`): it waits for an append after which nothing is left, for the record of a transaction with reads, in a
-/// sync or a walk, wherever that stands, for units that are asked to trim, or in a copy to a spare unit; or, within a
-/// larger bound, for whatever it is, with any command but a reconfiguration. Then the line ends the command, the client
-/// tells a reply, and at most so many packets with it are delivered, whatever was trimmed and lost before.
+/// sync or a walk, wherever that stands, for units that are asked to trim, or in a copy to a spare unit that runs and isn't
+/// past the layout; or, within a larger bound, for whatever it is, with any command but a reconfiguration. Then the line
+/// ends the command, the client tells a reply, and at most so many packets with it are delivered, whatever was trimmed
+/// and lost before.
 pub fn settle_lines_finish()
     ensures { SettleLinesFinish }
 {}

@@ -13,7 +13,7 @@ use Rattle.tg_protocol.specs.Runs.{Moves, Reaches, Always}
 use Rattle.tg_protocol.specs.Finishing.{IsReadyFor, IsSpareReady, NoReconf}
 use Rattle.tg_law_layouts.specs.Moves.After.{after}
 use Rattle.tg_law_layouts.proofs.Moves.Lists.{contained}
-use Rattle.tg_law_finish.specs.Finish.Anywhere.{IsAtWork, ReadyClientsWork}
+use Rattle.tg_law_finish.specs.Finish.Anywhere.{HasTask, ReadyClientsWork}
 use Rattle.tg_law_finish.proofs.Finish.Behind.{Past, OfUnit, OfSeqr, OfSpare, HandPast, WorkPast, all_past}
 use Rattle.tg_law_finish.proofs.Finish.Older.{IsLater, IsFencedIn}
 use Rattle.tg_law_finish.proofs.Finish.Suiting.{Suits, WorkSuits, no_reconf, all_suit}
@@ -43,7 +43,7 @@ module _ (m : Meaning) (h : Header) (zs : Moves m) (r : Reaches m h zs (after m 
   suits : Suits m v.command (task_in m v.hand)
   suits = subst (λ (o : Option (Work m)). WorkSuits m o) has (all_suit m h zs (after m h zs) r k)
 
-  by_hand : NoReconf m v.command → (d : Hand m) → v.hand ≡ d → HandPast m epochs seqrs q v.command d → Suits m v.command (task_in m d) → IsAtWork m (after m h zs) k
+  by_hand : NoReconf m v.command → (d : Hand m) → v.hand ≡ d → HandPast m epochs seqrs q v.command d → Suits m v.command (task_in m d) → HasTask m (after m h zs) k
   by_hand such (Doing t) e past fits = record { work = v; waits = has; task = t; hand = e }
   by_hand such (Learning ws (Reconfiguring x)) e past fits = absurd (no_reconf m v.command such fits)
   by_hand such (Learning ws (Syncing x)) e past fits = absurd (none_past past)
@@ -52,7 +52,7 @@ module _ (m : Meaning) (h : Header) (zs : Moves m) (r : Reaches m h zs (after m 
   by_hand such (Learning ws (Trimming x)) e past fits = absurd (none_past past)
   by_hand such (Learning ws (Copying' x)) e past fits = absurd (none_past past)
 
-  at_work : NoReconf m v.command → IsAtWork m (after m h zs) k
+  at_work : NoReconf m v.command → HasTask m (after m h zs) k
   at_work such = by_hand such v.hand refl hand_past suits
 
 pub ready_clients_work : (m : Meaning) → Always m (ReadyClientsWork m)

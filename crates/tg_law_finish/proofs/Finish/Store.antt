@@ -28,7 +28,7 @@ use Rattle.tg_law_headline.specs.Issues.Issues.{TrimsInTime}
 use Rattle.tg_law_headline.specs.Trims.Spare.{TrimsAre}
 use Rattle.tg_law_headline.proofs.Runs.Holding.{logs_hold}
 use Rattle.tg_law_finish.specs.Finish.Alone.{IsAlone}
-use Rattle.tg_law_finish.specs.Finish.Anywhere.{IsAtWork, CommandWalks}
+use Rattle.tg_law_finish.specs.Finish.Anywhere.{HasTask, CommandWalks}
 use Rattle.tg_law_finish.specs.Finish.Appends.{is_last, WaitsForAppend}
 use Rattle.tg_law_finish.specs.Finish.Commands.{is_ask, plays}
 use Rattle.tg_law_finish.specs.Finish.Copies.{CopyFinishes}
@@ -305,7 +305,7 @@ module _ (m : Meaning) where
 
   -- with a task in hand
   works_here : (h : Header) (zs : Moves m) → Reaches m h zs (after m h zs) → TrimsAre m h zs (after m h zs) → AllTrims h → (k : ℕ) (x : CommandOf m) → IsAlone m (after m h zs) k x → IsReadyFor m (after m h zs) k → IsSpareReady m (after m h zs) x → NoReconf m x
-      → IsAtWork m (after m h zs) k → IsAnswered m (after m h zs) k (most_deliveries_in m (after m h zs) x + 129 * passes_bound m (after m h zs) 128)
+      → HasTask m (after m h zs) k → IsAnswered m (after m h zs) k (most_deliveries_in m (after m h zs) x + 129 * passes_bound m (after m h zs) 128)
   works_here h zs r trims all k x a b spare such f = by f.task f.hand (subst (λ (y : CommandOf m). Suits m y f.task) (sym (same_command m h zs (after m h zs) r k x a f.work f.waits)) (suits h zs r trims k x a b f.work f.task f.waits f.hand))
     where
       bound : ℕ

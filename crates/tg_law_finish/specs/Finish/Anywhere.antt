@@ -11,7 +11,7 @@ use Rattle.tg_law_finish.specs.Finish.Walks.{passes_bound}
 
 module _ (m : Meaning) where
   -- the client has a task in hand: it doesn't wait for a newer layout
-  pub record IsAtWork (w : World m) (k : ℕ) : Type 0 where
+  pub record HasTask (w : World m) (k : ℕ) : Type 0 where
     pub work : Work m
     pub waits : (client m w k).work ≡ Some work
     pub task : Task m
@@ -19,7 +19,7 @@ module _ (m : Meaning) where
 
   -- so has each client that waits with a command that isn't a reconfiguration, in a world that is ready for it
   abbrev pub ReadyClientsWork : World m → Type 0
-  ReadyClientsWork w = (k : ℕ) (work : Work m) → (client m w k).work ≡ Some work → IsReadyFor m w k → IsSpareReady m w work.command → NoReconf m work.command → IsAtWork w k
+  ReadyClientsWork w = (k : ℕ) (work : Work m) → (client m w k).work ≡ Some work → IsReadyFor m w k → IsSpareReady m w work.command → NoReconf m work.command → HasTask w k
 
   -- each but a reconfiguration is answered within its bound, and what trims may cost a rescue more
   abbrev pub CommandWalks : World m → Type 0
