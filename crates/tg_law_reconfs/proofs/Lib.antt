@@ -12,6 +12,7 @@ pub mod Laps
 pub mod Nodes
 pub mod Rising
 pub mod Rounds
+pub mod Scanning
 pub mod Starts
 pub mod Steps
 pub mod Ticks

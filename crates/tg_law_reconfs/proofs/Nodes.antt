@@ -63,7 +63,7 @@ reply_fence : (y : Msg) (e : ℕ) → reply y ≡ IsFenced e → y ≡ msg.Fence
 unfolding reply
 reply_fence y e is = grind arith
 
-never_learns : (j : CellJob) (u : ℕ) (x : Reply) (next : ℕ) (i : CellJob) → (cell_feed j u x next).to ≡ Learns i → ⊥
+pub never_learns : (j : CellJob) (u : ℕ) (x : Reply) (next : ℕ) (i : CellJob) → (cell_feed j u x next).to ≡ Learns i → ⊥
 unfolding cell_feed work_feed get_cell fill_cell
 never_learns j u x next i e = grind arith
 
