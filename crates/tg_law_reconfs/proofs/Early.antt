@@ -13,11 +13,12 @@ use Rattle.tg_base.specs.declared.packet.Out.{Out}
 use Rattle.tg_base.specs.declared.packet.Packet.{Packet}
 use Rattle.tg_base.specs.Orders.{node_eq}
 use Rattle.tg_kind.specs.Meaning.{Meaning}
-use Rattle.tg_protocol.specs.Words.{unit_id, layout_id, client_id, too_far}
+use Rattle.tg_protocol.specs.Words.{unit_id, layout_id, seqr_id, client_id, too_far}
 use Rattle.tg_protocol.specs.Layouts.{first_layout}
 use Rattle.tg_protocol.specs.Requests.{out, Waits, asked_of, without_wait, awaits, drawn_from, turn, Next, Goes, Learns, Ends}
 use Rattle.tg_protocol.specs.Replies.{Reply, IsSealed, IsLatest, IsOther, reply}
-use Rattle.tg_protocol.specs.Units.{UnitState, UnitTurn, new_unit}
+use Rattle.tg_protocol.specs.Units.{UnitState, UnitAsk, Reads, Stores, Fills, Looks, UnitTurn, new_unit, unit_ask, unit_step}
+use Rattle.tg_protocol.specs.Sequencers.{SeqrState, new_seqr, seqr_step}
 use Rattle.tg_protocol.specs.LayoutServers.{LayoutState, LayoutTurn, layout_ask, on_layout_ask, layout_step}
 use Rattle.tg_protocol.specs.Reconfiguring.{Acks, ReconfWork, Sealing, Reconf, ReconfEnd, Installed, Overtaken, NotWhole, ReconfTurn, next_epoch, at_work, reconf_awaited, reconf_asks, reconf_work_asks, later_asks, sealed_if, seals_left, after_seals, proposes, own_decided, on_newer as on_newer_layout, is_own, reconf_feed, reconf_latest}
 use Rattle.tg_protocol.specs.Clients.{Client, Work, Hand, Reconfiguring, Doing, new_client}
@@ -35,8 +36,9 @@ use Rattle.tg_law_finish.proofs.Finish.Nets.{Net, net_if, sent_if, net_after, se
 use Rattle.tg_law_finish.proofs.Finish.Others.{weigh, weight, weigh_both, from_weighs, to_weighs}
 use Rattle.tg_law_finish.proofs.Finish.Settles.{Step}
 use Rattle.tg_law_finish.proofs.Finish.Tasks.{none_drawn}
-use Rattle.tg_law_reconfs.proofs.Votes.{contrary, Base, Ok, Asks, Seals, Tells, TellOk, LatestLow, answer_packet}
-use Rattle.tg_law_reconfs.proofs.Nodes.{latest_is, tells_low, layout_far, unit_far, sealed_is, sealed_low, AskTurn, seal_comes, server_comes}
+use Rattle.tg_law_reconfs.proofs.Votes.{contrary, Base, Ok, Scans, Scanned, Asks, Seals, Tells, TellOk, LatestLow, IsScan, TellsLow, scan_packet, told_packet, answer_packet}
+use Rattle.tg_law_reconfs.proofs.Nodes.{latest_is, tells_low, layout_far, unit_far, sealed_is, sealed_low, AskTurn, AsksScan, scan_tells, scan_comes, told_low, seqr_turned, seal_comes, server_comes}
+use Rattle.tg_law_reconfs.proofs.Scanning.{ScanBelow, LearnsNone, PosNear, Scan, step_below, step_proj, step_sends, scans_near, scan_high}
 use Rattle.tg_law_reconfs.proofs.Waits.{each_has, without_has, has_asked, asked_has}
 use Rattle.tg_law_reconfs.proofs.Turns.{First, left_of, HeardIn, Onward, To, tells_to, proposes_to}
 use Rattle.tg_law_reconfs.proofs.Drains.{Nums, Renumbered, renumbered, Votes, reserves}
@@ -64,6 +66,18 @@ unit_client : (u k : ℕ) → unit_id u ≡ client_id k → ⊥
 unit_client u k e = no (ap (λ (n : NodeId). n.role) e)
   where
     no : role.Unit ≡ role.Client → ⊥
+    no e = cc
+
+client_seqr : (k a : ℕ) → client_id k ≡ seqr_id a → ⊥
+client_seqr k a e = no (ap (λ (n : NodeId). n.role) e)
+  where
+    no : role.Client ≡ role.Seqr → ⊥
+    no e = cc
+
+unit_seqr : (u a : ℕ) → unit_id u ≡ seqr_id a → ⊥
+unit_seqr u a e = no (ap (λ (n : NodeId). n.role) e)
+  where
+    no : role.Unit ≡ role.Seqr → ⊥
     no e = cc
 
 layout_client : (i k : ℕ) → layout_id i ≡ client_id k → ⊥
@@ -119,12 +133,20 @@ module _ (m : Meaning) (h : Header) (stopped : List NodeId) (k epoch servers top
     AsksLatest : (i j : ℕ) → j < next → Early s next (latest_ask i j)
     TellsSealed : (u j x : ℕ) → j < next → on_in m stopped s (unit_id u) ≡ true → x < 2 ^ 62 → Early s next (told_by (unit_id u) j (msg.Sealed epoch x))
     TellsLatest : (i j : ℕ) (q : Layout) → j < next → on_in m stopped s (layout_id i) ≡ true → q.epoch ≤ epoch → Early s next (told_by (layout_id i) j (msg.Latest q))
+    ScansUnit : (a u rid : ℕ) (y : Msg) → IsScan m h stopped k epoch servers top round (unit_ask y) → PosNear (unit_ask y) → Early s next (scan_packet m h stopped k epoch servers top round a u rid y)
+    UnitScanned : (a u rid : ℕ) (y : Msg) → TellsLow m h stopped k epoch servers top round y → Early s next (told_packet m h stopped k epoch servers top round a u rid y)
+
+  -- a sequencer's scan is of near positions
+  abbrev pub SeqrNear : SeqrState → Type 0
+  SeqrNear x = (x.proj.start < 2 ^ 62) × ScanBelow x
 
   early_grows : (s t : Net m) (next end : ℕ) (x : Packet) → ((n : NodeId) → on_in m stopped s n ≡ true → on_in m stopped t n ≡ true) → next ≤ end → Early s next x → Early t end x
   early_grows s t next end x on le (AsksSeal u j less) = AsksSeal u j (omega (arith, le, less))
   early_grows s t next end x on le (AsksLatest i j less) = AsksLatest i j (omega (arith, le, less))
   early_grows s t next end x on le (TellsSealed u j y less runs low) = TellsSealed u j y (omega (arith, le, less)) (on (unit_id u) runs) low
   early_grows s t next end x on le (TellsLatest i j q less runs low) = TellsLatest i j q (omega (arith, le, less)) (on (layout_id i) runs) low
+  early_grows s t next end x on le (ScansUnit a u rid y f g) = ScansUnit a u rid y f g
+  early_grows s t next end x on le (UnitScanned a u rid y low) = UnitScanned a u rid y low
 
   pub all_early : (s t : Net m) (next end : ℕ) (q : List Packet) → ((n : NodeId) → on_in m stopped s n ≡ true → on_in m stopped t n ≡ true) → next ≤ end → Each (Early s next) q → Each (Early t end) q
   all_early s t next end [] on le a = tt
@@ -155,7 +177,7 @@ module _ (m : Meaning) (h : Header) (stopped : List NodeId) (k epoch servers top
     pub base : Fits s
     pub there : (i : ℕ) → on_in m stopped s (layout_id i) ≡ true → i < servers
     pub highs : (u : ℕ) → (unit_of m s u).high < 2 ^ 62
-    pub rests : (x : ℕ) → (seqr_of m h s x).scan ≡ None
+    pub rests : (x : ℕ) → SeqrNear (seqr_of m h s x)
     pub hand : SealsHand s c
     pub nums : Nums m h stopped k epoch servers top round c
     pub each : Each (Early s c.next) q
@@ -315,6 +337,8 @@ module _ (m : Meaning) (h : Header) (stopped : List NodeId) (k epoch servers top
       (λ w g. subst (λ (z : Msg). TellOk m h stopped k epoch servers top round t (unit_id u) z (reply (msg.Sealed epoch y))) (sym (ap (λ (o : Out). o.msg) (back (out (unit_id u) j w) g less).is)) tt)
   early_ok s t next end aw ws x on le back (TellsLatest i j q less runs low) = Tells (layout_id i) j (msg.Latest q) (on (layout_id i) runs) (layout_far m h stopped k epoch servers top round past near fits i) (omega (arith, le, less)) (tells_low m h stopped k epoch servers top round past near fits q low)
       (λ w g. let z = back (out (layout_id i) j w) g less in absurd (unit_layout z.num i (sym (ap (λ (o : Out). o.to) z.is))))
+  early_ok s t next end aw ws x on le back (ScansUnit a u rid y f g) = Scans a u rid y f
+  early_ok s t next end aw ws x on le back (UnitScanned a u rid y low) = Scanned a u rid y low
 
   all_ok : (s t : Net m) (next end : ℕ) (aw : List Out) (ws : Waits) (q : List Packet) → ((n : NodeId) → on_in m stopped s n ≡ true → on_in m stopped t n ≡ true) → next ≤ end → ((o : Out) → Has aw o → o.rid < next → IsSeal ws o) → Each (Early s next) q → Each (Ok m h stopped k epoch servers top round t end aw) q
   all_ok s t next end aw ws [] on le back a = tt
@@ -346,7 +370,7 @@ module _ (m : Meaning) (h : Header) (stopped : List NodeId) (k epoch servers top
     pub alike : Alike m s t
     pub client : client_of m h t k ≡ client_of m h s k
     pub highs : (u : ℕ) → (unit_of m t u).high < 2 ^ 62
-    pub rests : (x : ℕ) → (seqr_of m h t x).scan ≡ None
+    pub rests : (x : ℕ) → SeqrNear (seqr_of m h t x)
     pub each : Each (Early t (client_of m h s k).next) sent
     pub few : heavy sent ≤ light
 
@@ -388,6 +412,10 @@ module _ (m : Meaning) (h : Header) (stopped : List NodeId) (k epoch servers top
   not_asked : (o : Out) (u j : ℕ) → (o.to ≡ unit_id u → ⊥) → OfHead (packet_of m (client_id k) o) u j → ⊥
   not_asked o u j off (inl e) = off (sym (to_of (seal_ask u j) (packet_of m (client_id k) o) e))
   not_asked o u j off (inr (y, e)) = unit_client u k (from_of (told_by (unit_id u) j (msg.Sealed epoch y)) (packet_of m (client_id k) o) e)
+
+  pub scans_early : (t : Net m) (next a : ℕ) (os : List Out) → Each (AsksScan m h stopped k epoch servers top round) os → ((o : Out) → Has os o → PosNear (unit_ask o.msg)) → Each (Early t next) (map (packet_of m (seqr_id a)) os)
+  scans_early t next a [] f g = tt
+  scans_early t next a (o ∷ os) f g = (subst (λ (z : NodeId). Early t next (record { from = seqr_id a; to = z; rid = o.rid; msg = o.msg })) (sym f.0.to) (ScansUnit a f.0.unit o.rid o.msg f.0.scan (g o (inl refl))), scans_early t next a os f.1 (λ x h. g x (inr h)))
 
   module _ (s : Net m) (q : List Packet) (n : ℕ) where
     -- a seal comes to a unit
@@ -453,6 +481,82 @@ module _ (m : Meaning) (h : Header) (stopped : List NodeId) (k epoch servers top
     latest_step' : (i j : ℕ) → j < (client_of m h s k).next → (b : Bool) → on_in m stopped s (layout_id i) ≡ b → EarlyAt s (latest_ask i j ∷ q) n → Next' (net_if m b h s (latest_ask i j)) (q ++ sent_if m b h s (latest_ask i j)) (latest_ask i j) n
     latest_step' i j less true on e = latest_on i j less on e
     latest_step' i j less false off e = off_step (latest_ask i j) e (λ v l has g. not_asked (out (layout_id i) j msg.AskLatest) v l (λ f. unit_layout v i (sym f)) g)
+
+    -- A scan comes to a unit, and its answer to a sequencer.
+
+    scan_of : (x : UnitAsk) → IsScan m h stopped k epoch servers top round x → Scan x
+    scan_of (Reads e p) f = tt
+    scan_of (Stores e p c) f = tt
+    scan_of (Fills e p) f = tt
+    scan_of (Looks e lo hi st) f = tt
+    scan_of y f = absurd f
+
+    answered : (t : Net m) (next a u rid : ℕ) (y : Msg) (o : Option Msg) → ((z : Msg) → o ≡ Some z → TellsLow m h stopped k epoch servers top round z) → Each (Early t next) (answer_to m (scan_packet m h stopped k epoch servers top round a u rid y) o)
+    answered t next a u rid y None f = tt
+    answered t next a u rid y (Some z) f = (UnitScanned a u rid z (f z refl), tt)
+
+    scan_away : (a u rid : ℕ) (y : Msg) (v i : ℕ) → OfHead (scan_packet m h stopped k epoch servers top round a u rid y) v i → ⊥
+    scan_away a u rid y v i (inl f) = client_seqr k a (from_of (seal_ask v i) (scan_packet m h stopped k epoch servers top round a u rid y) f)
+    scan_away a u rid y v i (inr (z, f)) = unit_seqr v a (from_of (told_by (unit_id v) i (msg.Sealed epoch z)) (scan_packet m h stopped k epoch servers top round a u rid y) f)
+
+    told_away : (a u rid : ℕ) (y : Msg) (v i : ℕ) → OfHead (told_packet m h stopped k epoch servers top round a u rid y) v i → ⊥
+    told_away a u rid y v i (inl f) = unit_client u k (sym (from_of (seal_ask v i) (told_packet m h stopped k epoch servers top round a u rid y) f))
+    told_away a u rid y v i (inr (z, f)) = client_seqr k a (to_of (told_by (unit_id v) i (msg.Sealed epoch z)) (told_packet m h stopped k epoch servers top round a u rid y) f)
+
+    scan_on_unit : (a u rid : ℕ) (y : Msg) → IsScan m h stopped k epoch servers top round (unit_ask y) → PosNear (unit_ask y) → EarlyAt s (scan_packet m h stopped k epoch servers top round a u rid y ∷ q) n → Next' (net_after m h s (scan_packet m h stopped k epoch servers top round a u rid y) role.Unit) (q ++ sent_then m h s (scan_packet m h stopped k epoch servers top round a u rid y) role.Unit) (scan_packet m h stopped k epoch servers top round a u rid y) n
+    unfolding unit_step
+    scan_on_unit a u rid y f g e =
+        let d = scan_comes m h stopped k epoch servers top round past near fits s (client_of m h s k).next [] a u rid y f e.base in
+        stays_step s _ (scan_packet m h stopped k epoch servers top round a u rid y) q _ n 0 e (record {
+          base = d.base;
+          alike = d.alike;
+          client = d.client;
+          highs = λ v. by v (set_index s.units u (unit_step (unit_of m s u) y).now v new_unit);
+          rests = e.rests;
+          each = answered _ (client_of m h s k).next a u rid y (unit_step (unit_of m s u) y).says (λ z i. scan_tells m h stopped k epoch servers top round (unit_of m s u) y z (e.base.units u) i);
+          few = d.few;
+        }) (cost_light (scan_packet m h stopped k epoch servers top round a u rid y)) (λ v i has o. absurd (scan_away a u rid y v i o))
+      where
+        by : (v : ℕ) → ((v ≡ u) × (slice_index_or (slice_set s.units u (unit_step (unit_of m s u) y).now) v new_unit ≡ (unit_step (unit_of m s u) y).now)) ⊎ (slice_index_or (slice_set s.units u (unit_step (unit_of m s u) y).now) v new_unit ≡ unit_of m s v)
+            → (slice_index_or (slice_set s.units u (unit_step (unit_of m s u) y).now) v new_unit).high < 2 ^ 62
+        by v (inl c) = subst (λ (z : UnitState). z.high < 2 ^ 62) (sym c.1) (scan_high (unit_of m s u) (unit_ask y) (scan_of (unit_ask y) f) g (e.highs u))
+        by v (inr c) = subst (λ (z : UnitState). z.high < 2 ^ 62) (sym c) (e.highs v)
+
+    scan_step : (a u rid : ℕ) (y : Msg) → IsScan m h stopped k epoch servers top round (unit_ask y) → PosNear (unit_ask y) → (b : Bool) → EarlyAt s (scan_packet m h stopped k epoch servers top round a u rid y ∷ q) n → Next' (net_if m b h s (scan_packet m h stopped k epoch servers top round a u rid y)) (q ++ sent_if m b h s (scan_packet m h stopped k epoch servers top round a u rid y)) (scan_packet m h stopped k epoch servers top round a u rid y) n
+    scan_step a u rid y f g true e = scan_on_unit a u rid y f g e
+    scan_step a u rid y f g false e = off_step (scan_packet m h stopped k epoch servers top round a u rid y) e (λ v i has o. scan_away a u rid y v i o)
+
+    learns_none : (y : Msg) → TellsLow m h stopped k epoch servers top round y → LearnsNone y
+    learns_none (msg.Learn q) f = f
+    learns_none (msg.Token e os) f = f
+    learns_none (msg.Check e os) f = f
+    learns_none y f = tt
+
+    told_seqr : (a u rid : ℕ) (y : Msg) → TellsLow m h stopped k epoch servers top round y → EarlyAt s (told_packet m h stopped k epoch servers top round a u rid y ∷ q) n → Next' (net_after m h s (told_packet m h stopped k epoch servers top round a u rid y) role.Seqr) (q ++ sent_then m h s (told_packet m h stopped k epoch servers top round a u rid y) role.Seqr) (told_packet m h stopped k epoch servers top round a u rid y) n
+    told_seqr a u rid y low e =
+        let x = seqr_of m h s a in
+        let t = seqr_step x (unit_id u) rid y in
+        let f = told_low m h stopped k epoch servers top round x (unit_id u) rid y low (e.base.seqrs a) in
+        let d = seqr_turned m h stopped k epoch servers top round past near fits s (client_of m h s k).next [] a t f e.base in
+        let proj = step_proj x (unit_id u) rid y (learns_none y low) in
+        let fine : SeqrNear t.now = (subst (λ (p : Layout). p.start < 2 ^ 62) (sym proj) (e.rests a).0, step_below x (unit_id u) rid y (e.rests a).1) in
+        stays_step s _ (told_packet m h stopped k epoch servers top round a u rid y) q _ n 0 e (record {
+          base = d.base;
+          alike = d.alike;
+          client = d.client;
+          highs = e.highs;
+          rests = λ v. by t.now fine v (set_index s.seqrs a t.now v (new_seqr v h.limit (first_layout h)));
+          each = scans_early (record s { seqrs = slice_set s.seqrs a t.now }) (client_of m h s k).next a t.sends f.sends (λ o has. scans_near t.now.proj t.now.scan fine.0 fine.1 o (step_sends x (unit_id u) rid y (learns_none y low) o has));
+          few = d.few;
+        }) (cost_light (told_packet m h stopped k epoch servers top round a u rid y)) (λ v i has o. absurd (told_away a u rid y v i o))
+      where
+        by : (now : SeqrState) → SeqrNear now → (v : ℕ) → ((v ≡ a) × (slice_index_or (slice_set s.seqrs a now) v (new_seqr v h.limit (first_layout h)) ≡ now)) ⊎ (slice_index_or (slice_set s.seqrs a now) v (new_seqr v h.limit (first_layout h)) ≡ seqr_of m h s v) → SeqrNear (slice_index_or (slice_set s.seqrs a now) v (new_seqr v h.limit (first_layout h)))
+        by now fine v (inl c) = subst (λ (z : SeqrState). SeqrNear z) (sym c.1) fine
+        by now fine v (inr c) = subst (λ (z : SeqrState). SeqrNear z) (sym c) (e.rests v)
+
+    told_step : (a u rid : ℕ) (y : Msg) → TellsLow m h stopped k epoch servers top round y → (b : Bool) → EarlyAt s (told_packet m h stopped k epoch servers top round a u rid y ∷ q) n → Next' (net_if m b h s (told_packet m h stopped k epoch servers top round a u rid y)) (q ++ sent_if m b h s (told_packet m h stopped k epoch servers top round a u rid y)) (told_packet m h stopped k epoch servers top round a u rid y) n
+    told_step a u rid y low true e = told_seqr a u rid y low e
+    told_step a u rid y low false e = off_step (told_packet m h stopped k epoch servers top round a u rid y) e (λ v i has o. told_away a u rid y v i o)
 
     -- The client's own turn.
     module _ (a : NodeId) (rid : ℕ) (y : Msg) (far : node_eq a (client_id k) ≡ false) (away : (v l : ℕ) → seal_ask v l ≡ told_by a rid y → ⊥) (e : EarlyAt s (told_by a rid y ∷ q) n) where
@@ -624,6 +728,8 @@ module _ (m : Meaning) (h : Header) (stopped : List NodeId) (k epoch servers top
   any_early s _ q n (TellsSealed u j y less runs low) e false off = absurd (contrary e.base.on off)
   any_early s _ q n (TellsLatest i j p less runs low) e true on = client_turn s q n (layout_id i) j (msg.Latest p) (layout_far m h stopped k epoch servers top round past near fits i) (λ v l f. told_layout v l i j (msg.Latest p) f) e (latest_comes s e.there (client_of m h s k) e.hand e.nums i j p low)
   any_early s _ q n (TellsLatest i j p less runs low) e false off = absurd (contrary e.base.on off)
+  any_early s _ q n (ScansUnit a u rid y f g) e b on = scan_step s q n a u rid y f g b e
+  any_early s _ q n (UnitScanned a u rid y low) e b on = told_step s q n a u rid y low b e
 
   pub before_step : (s : Net m) (x : Packet) (q : List Packet) (n : ℕ) → Before s (x ∷ q) n → Next' (net_if m (on_in m stopped s x.to) h s x) (q ++ sent_if m (on_in m stopped s x.to) h s x) x n
   before_step s x q n (inl i) = let y = any_step m h stopped k epoch servers top round past near small fits First rest s x q n i in record { left = y.left; keeps = inl y.keeps; pays = y.pays }

@@ -10,10 +10,10 @@ use Rattle.tg_base.specs.declared.packet.Out.{Out}
 use Rattle.tg_base.specs.declared.packet.Packet.{Packet}
 use Rattle.tg_base.specs.Orders.{node_eq}
 use Rattle.tg_kind.specs.Meaning.{Meaning}
-use Rattle.tg_protocol.specs.Words.{unit_id, layout_id, seqr_id, client_id, numbers}
+use Rattle.tg_protocol.specs.Words.{unit_id, layout_id, client_id, numbers}
 use Rattle.tg_protocol.specs.Layouts.{first_layout}
 use Rattle.tg_protocol.specs.Requests.{out, waits_for, asked_of}
-use Rattle.tg_protocol.specs.Sequencers.{SeqrState, new_seqr, scan_asks, seqr_tick}
+use Rattle.tg_protocol.specs.Sequencers.{SeqrState, new_seqr, seqr_tick}
 use Rattle.tg_protocol.specs.Reconfiguring.{ReconfWork, next_epoch, reconf_work_asks, later_asks, this_or}
 use Rattle.tg_protocol.specs.Clients.{Client, Hand, new_client}
 use Rattle.tg_protocol.specs.ClientSteps.{ClientTurn, called, hand_again_asks}
@@ -34,7 +34,9 @@ use Rattle.tg_law_reconfs.proofs.Answering.{node_same}
 use Rattle.tg_law_reconfs.proofs.Drains.{Nums, renumbered}
 use Rattle.tg_law_reconfs.proofs.Steps.{nothing_new, new_each, mapped, base_client, clients_long}
 use Rattle.tg_law_reconfs.proofs.Ticks.{NotIt, other_turned, tick_is, maps_both}
-use Rattle.tg_law_reconfs.proofs.Early.{votes_first, Early, AsksSeal, AsksLatest, all_early, SealsHand, EarlyFor, EarlyAt, hand_on, seals_reserved}
+use Rattle.tg_law_reconfs.proofs.Nodes.{tick_low}
+use Rattle.tg_law_reconfs.proofs.Scanning.{tick_sends, scans_near}
+use Rattle.tg_law_reconfs.proofs.Early.{SeqrNear, scans_early, Flight, votes_first, Early, AsksSeal, AsksLatest, all_early, SealsHand, EarlyFor, EarlyAt, hand_on, seals_reserved}
 
 below_from : (n a at i j : ℕ) → Has (waits_for (numbers n a) at) (i, j) → j < at + n
 below_from zero a at i j h = absurd h
@@ -57,6 +59,9 @@ module _ (m : Meaning) (h : Header) (stopped : List NodeId) (k epoch servers top
   abbrev EarlyIn : Net m → ℕ → Packet → Type 0
   EarlyIn s next x = Early m h stopped k epoch servers top round past near small fits first rest s next x
 
+  abbrev Near : SeqrState → Type 0
+  Near x = SeqrNear m h stopped k epoch servers top round past near small fits first rest x
+
   abbrev Off : NodeId → Type 0
   Off x = NotIt m h stopped k epoch servers top round past near small fits First rest x
 
@@ -75,7 +80,7 @@ module _ (m : Meaning) (h : Header) (stopped : List NodeId) (k epoch servers top
     pub base : Fits s
     pub there : (i : ℕ) → on_in m stopped s (layout_id i) ≡ true → i < servers
     pub highs : (u : ℕ) → (unit_of m s u).high < 2 ^ 62
-    pub rests : (x : ℕ) → (seqr_of m h s x).scan ≡ None
+    pub rests : (x : ℕ) → Near (seqr_of m h s x)
     pub hand : Hand' s c
     pub nums : Nums m h stopped k epoch servers top round c
     pub each : Each (EarlyIn s c.next) q
@@ -94,12 +99,14 @@ module _ (m : Meaning) (h : Header) (stopped : List NodeId) (k epoch servers top
   EarlyPre xs s q n = After xs s q n ⊎ WaitFor xs s (client_of m h s k) q n
 
   -- what another node's tick leaves
-  record Left (s t : Net m) : Type 0 where
+  record Left (s t : Net m) (sent : List Packet) : Type 0 where
     base : Fits t
     alike : Alike m s t
     client : client_of m h t k ≡ client_of m h s k
     highs : (u : ℕ) → (unit_of m t u).high < 2 ^ 62
-    rests : (x : ℕ) → (seqr_of m h t x).scan ≡ None
+    rests : (x : ℕ) → Near (seqr_of m h t x)
+    each : Each (EarlyIn t (client_of m h s k).next) sent
+    light : heavy sent ≤ 0
 
   on_as : (s t : Net m) → Alike m s t → (n : NodeId) → on_in m stopped s n ≡ true → on_in m stopped t n ≡ true
   on_as s t a n e = on_alike m stopped s t a n ∙ e
@@ -107,21 +114,29 @@ module _ (m : Meaning) (h : Header) (stopped : List NodeId) (k epoch servers top
   back_as : (s t : Net m) → Alike m s t → (n : NodeId) → on_in m stopped t n ≡ true → on_in m stopped s n ≡ true
   back_as s t a n e = sym (on_alike m stopped s t a n) ∙ e
 
-  early_left : (s t : Net m) (q : List Packet) (n : ℕ) → Left s t → At s q n → At t q n
-  early_left s t q n d e = subst (λ (c : Client m). EarlyFor m h stopped k epoch servers top round past near small fits first rest t c q n) (sym d.client) (record {
-    base = d.base;
-    there = λ j on. e.there j (back_as s t d.alike (layout_id j) on);
-    highs = d.highs;
-    rests = d.rests;
-    hand = hand_on m h stopped k epoch servers top round past near small fits first rest s t (client_of m h s k) (on_as s t d.alike) e.hand;
-    nums = e.nums;
-    each = all_early m h stopped k epoch servers top round past near small fits first rest s t (client_of m h s k).next (client_of m h s k).next q (on_as s t d.alike) (omega arith) e.each;
-    flight = e.flight;
-    few = e.few;
-  })
+  early_left : (s t : Net m) (q sent : List Packet) (n : ℕ) → Left s t sent → At s q n → At t (q ++ sent) n
+  early_left s t q sent n d e =
+      let both = weigh_both m h stopped k (first_layout h) q sent in
+      let light = d.light in
+      let few = e.few in
+      subst (λ (c : Client m). EarlyFor m h stopped k epoch servers top round past near small fits first rest t c (q ++ sent) n) (sym d.client) (record {
+        base = d.base;
+        there = λ j on. e.there j (back_as s t d.alike (layout_id j) on);
+        highs = d.highs;
+        rests = d.rests;
+        hand = hand_on m h stopped k epoch servers top round past near small fits first rest s t (client_of m h s k) (on_as s t d.alike) e.hand;
+        nums = e.nums;
+        each = each_both (EarlyIn t (client_of m h s k).next) q sent (all_early m h stopped k epoch servers top round past near small fits first rest s t (client_of m h s k).next (client_of m h s k).next q (on_as s t d.alike) (omega arith) e.each) d.each;
+        flight = λ u j has. more u j (e.flight u j has);
+        few = omega (arith, both, light, few);
+      })
+    where
+      more : (u j : ℕ) → Flight m h stopped k epoch servers top round past near small fits first rest q u j → Flight m h stopped k epoch servers top round past near small fits first rest (q ++ sent) u j
+      more u j (inl f) = inl (has_left q sent _ f)
+      more u j (inr f) = inr (f.0, has_left q sent _ f.1)
 
-  wait_left : (x : NodeId) (xs : List NodeId) (s t : Net m) (q : List Packet) (n : ℕ) → Off x → Left s t → WaitFor (x ∷ xs) s (client_of m h s k) q n → WaitFor xs t (client_of m h t k) q n
-  wait_left x xs s t q n off d w = by w.front refl
+  wait_left : (x : NodeId) (xs : List NodeId) (s t : Net m) (q sent : List Packet) (n : ℕ) → Off x → Left s t sent → WaitFor (x ∷ xs) s (client_of m h s k) q n → WaitFor xs t (client_of m h t k) (q ++ sent) n
+  wait_left x xs s t q sent n off d w = by w.front refl
     where
       head_is : (x y : NodeId) (xs ys : List NodeId) → x ∷ xs ≡ y ∷ ys → x ≡ y
       head_is x y xs ys e = cc
@@ -129,17 +144,17 @@ module _ (m : Meaning) (h : Header) (stopped : List NodeId) (k epoch servers top
       tail_is : (x y : NodeId) (xs ys : List NodeId) → x ∷ xs ≡ y ∷ ys → xs ≡ ys
       tail_is x y xs ys e = cc
 
-      by : (fs : List NodeId) → w.front ≡ fs → WaitFor xs t (client_of m h t k) q n
+      by : (fs : List NodeId) → w.front ≡ fs → WaitFor xs t (client_of m h t k) (q ++ sent) n
       by [] e = absurd (contrary (is_it x (head_is x (client_id k) xs w.back (subst (λ (gs : List NodeId). x ∷ xs ≡ gs ++ client_id k ∷ w.back) e w.is))) off)
-      by (y ∷ fs) e = subst (λ (c : Client m). WaitFor xs t c q n) (sym d.client) (record {
+      by (y ∷ fs) e = subst (λ (c : Client m). WaitFor xs t c (q ++ sent) n) (sym d.client) (record {
         base = d.base;
         there = λ j on. w.there j (back_as s t d.alike (layout_id j) on);
         highs = d.highs;
         rests = d.rests;
         hand = hand_on m h stopped k epoch servers top round past near small fits first rest s t (client_of m h s k) (on_as s t d.alike) w.hand;
         nums = w.nums;
-        each = all_early m h stopped k epoch servers top round past near small fits first rest s t (client_of m h s k).next (client_of m h s k).next q (on_as s t d.alike) (omega arith) w.each;
-        few = w.few;
+        each = each_both (EarlyIn t (client_of m h s k).next) q sent (all_early m h stopped k epoch servers top round past near small fits first rest s t (client_of m h s k).next (client_of m h s k).next q (on_as s t d.alike) (omega arith) w.each) d.each;
+        few = (let both = weigh_both m h stopped k (first_layout h) q sent in let light = d.light in let few = w.few in omega (arith, both, light, few));
         front = fs;
         back = w.back;
         is = tail_is x y xs (fs ++ client_id k ∷ w.back) (subst (λ (gs : List NodeId). x ∷ xs ≡ gs ++ client_id k ∷ w.back) e w.is);
@@ -147,22 +162,19 @@ module _ (m : Meaning) (h : Header) (stopped : List NodeId) (k epoch servers top
         not_back = w.not_back;
       })
 
-  pre_left : (x : NodeId) (xs : List NodeId) (s t : Net m) (q : List Packet) (n : ℕ) → Off x → Left s t → EarlyPre (x ∷ xs) s q n → EarlyPre xs t q n
-  pre_left x xs s t q n off d (inl a) = inl (record { others = a.others.1; early = early_left s t q n d a.early })
-  pre_left x xs s t q n off d (inr w) = inr (wait_left x xs s t q n off d w)
+  pre_left : (x : NodeId) (xs : List NodeId) (s t : Net m) (q sent : List Packet) (n : ℕ) → Off x → Left s t sent → EarlyPre (x ∷ xs) s q n → EarlyPre xs t (q ++ sent) n
+  pre_left x xs s t q sent n off d (inl a) = inl (record { others = a.others.1; early = early_left s t q sent n d a.early })
+  pre_left x xs s t q sent n off d (inr w) = inr (wait_left x xs s t q sent n off d w)
 
-  same_left : (s : Net m) → Fits s → ((u : ℕ) → (unit_of m s u).high < 2 ^ 62) → ((x : ℕ) → (seqr_of m h s x).scan ≡ None) → Left s s
-  same_left s b highs rests = record { base = b; alike = record { counts = λ r. refl }; client = refl; highs = highs; rests = rests }
+  same_left : (s : Net m) → Fits s → ((u : ℕ) → (unit_of m s u).high < 2 ^ 62) → ((x : ℕ) → Near (seqr_of m h s x)) → Left s s []
+  unfolding weigh
+  same_left s b highs rests = record { base = b; alike = record { counts = λ r. refl }; client = refl; highs = highs; rests = rests; each = tt; light = omega arith }
 
-  -- Another node ticks, which sends nothing.
+  -- Another node ticks.
 
-  tick_scan : (x : SeqrState) → x.scan ≡ None → (seqr_tick x).now.scan ≡ None
+  tick_near : (x : SeqrState) → Near x → Near (seqr_tick x).now
   unfolding seqr_tick
-  tick_scan x e = e
-
-  tick_quiet : (i : ℕ) (x : SeqrState) → x.scan ≡ None → map (packet_of m (seqr_id i)) (seqr_tick x).sends ≡ []
-  unfolding seqr_tick
-  tick_quiet i x e = ap (λ o. map (packet_of m (seqr_id i)) (scan_asks o)) e
+  tick_near x e = e
 
   tick_highs : (s : Net m) (i : ℕ) (r : Role) → ((u : ℕ) → (unit_of m s u).high < 2 ^ 62) → (u : ℕ) → (unit_of m (net_ticked m h s i r) u).high < 2 ^ 62
   tick_highs s i role.Unit f u = f u
@@ -170,31 +182,34 @@ module _ (m : Meaning) (h : Header) (stopped : List NodeId) (k epoch servers top
   tick_highs s i role.Seqr f u = f u
   tick_highs s i role.Client f u = f u
 
-  tick_rests : (s : Net m) (i : ℕ) (r : Role) → ((x : ℕ) → (seqr_of m h s x).scan ≡ None) → (x : ℕ) → (seqr_of m h (net_ticked m h s i r) x).scan ≡ None
+  tick_rests : (s : Net m) (i : ℕ) (r : Role) → ((x : ℕ) → Near (seqr_of m h s x)) → (x : ℕ) → Near (seqr_of m h (net_ticked m h s i r) x)
   tick_rests s i role.Unit f x = f x
   tick_rests s i role.Layout f x = f x
   tick_rests s i role.Client f x = f x
   tick_rests s i role.Seqr f x = by (set_index s.seqrs i (seqr_tick (seqr_of m h s i)).now x (new_seqr x h.limit (first_layout h)))
     where
       by : ((x ≡ i) × (slice_index_or (slice_set s.seqrs i (seqr_tick (seqr_of m h s i)).now) x (new_seqr x h.limit (first_layout h)) ≡ (seqr_tick (seqr_of m h s i)).now)) ⊎ (slice_index_or (slice_set s.seqrs i (seqr_tick (seqr_of m h s i)).now) x (new_seqr x h.limit (first_layout h)) ≡ seqr_of m h s x)
-          → (slice_index_or (slice_set s.seqrs i (seqr_tick (seqr_of m h s i)).now) x (new_seqr x h.limit (first_layout h))).scan ≡ None
-      by (inl c) = ap (λ (z : SeqrState). z.scan) c.1 ∙ tick_scan (seqr_of m h s i) (f i)
-      by (inr c) = ap (λ (z : SeqrState). z.scan) c ∙ f x
+          → Near (slice_index_or (slice_set s.seqrs i (seqr_tick (seqr_of m h s i)).now) x (new_seqr x h.limit (first_layout h)))
+      by (inl c) = subst (λ (z : SeqrState). Near z) (sym c.1) (tick_near (seqr_of m h s i) (f i))
+      by (inr c) = subst (λ (z : SeqrState). Near z) (sym c) (f x)
 
   off_num : (j : ℕ) → node_eq (client_id j) (client_id k) ≡ false → Rattle.std.proofs.Common.eqb j k ≡ false
   unfolding node_eq
   off_num j e = e
 
-  tick_sends : (s : Net m) (i : ℕ) (r : Role) → Fits s → ((x : ℕ) → (seqr_of m h s x).scan ≡ None) → node_eq (record { role = r; num = i }) (client_id k) ≡ false → on_in m stopped s (record { role = r; num = i }) ≡ true → sent_ticked m h s i r ≡ []
-  tick_sends s i role.Unit b f off on = refl
-  tick_sends s i role.Layout b f off on = refl
-  tick_sends s i role.Seqr b f off on = tick_quiet i (seqr_of m h s i) (f i)
-  tick_sends s i role.Client b f off on = ap (λ (t : ClientTurn m). map (packet_of m (client_id i)) t.sends) (idle_ticks m h stopped k (first_layout h) (client_of m h s i) (b.idle i (off_num i off) on))
+  tick_each : (s t : Net m) (next i : ℕ) (r : Role) → Fits s → ((x : ℕ) → Near (seqr_of m h s x)) → node_eq (record { role = r; num = i }) (client_id k) ≡ false → on_in m stopped s (record { role = r; num = i }) ≡ true → Each (EarlyIn t next) (sent_ticked m h s i r)
+  tick_each s t next i role.Unit b f off on = tt
+  tick_each s t next i role.Layout b f off on = tt
+  tick_each s t next i role.Seqr b f off on =
+      let x = seqr_of m h s i in
+      let n = tick_near x (f i) in
+      scans_early m h stopped k epoch servers top round past near small fits first rest t next i (seqr_tick x).sends (tick_low m h stopped k epoch servers top round x (b.seqrs i)).sends (λ o has. scans_near (seqr_tick x).now.proj (seqr_tick x).now.scan n.0 n.1 o (tick_sends x o has))
+  tick_each s t next i role.Client b f off on = subst (λ (ps : List Packet). Each (EarlyIn t next) ps) (sym (ap (λ (u : ClientTurn m). map (packet_of m (client_id i)) u.sends) (idle_ticks m h stopped k (first_layout h) (client_of m h s i) (b.idle i (off_num i off) on)))) tt
 
-  tick_left : (s : Net m) (i : ℕ) (r : Role) → Fits s → ((u : ℕ) → (unit_of m s u).high < 2 ^ 62) → ((x : ℕ) → (seqr_of m h s x).scan ≡ None) → node_eq (record { role = r; num = i }) (client_id k) ≡ false → on_in m stopped s (record { role = r; num = i }) ≡ true → Left s (net_ticked m h s i r)
+  tick_left : (s : Net m) (i : ℕ) (r : Role) → Fits s → ((u : ℕ) → (unit_of m s u).high < 2 ^ 62) → ((x : ℕ) → Near (seqr_of m h s x)) → node_eq (record { role = r; num = i }) (client_id k) ≡ false → on_in m stopped s (record { role = r; num = i }) ≡ true → Left s (net_ticked m h s i r) (sent_ticked m h s i r)
   tick_left s i r b highs rests off on =
       let d = other_turned m h stopped k epoch servers top round past near small fits First rest s [] i r b off on in
-      record { base = d.turn.base; alike = d.turn.alike; client = d.turn.client; highs = tick_highs s i r highs; rests = tick_rests s i r rests }
+      record { base = d.turn.base; alike = d.turn.alike; client = d.turn.client; highs = tick_highs s i r highs; rests = tick_rests s i r rests; each = tick_each s (net_ticked m h s i r) (client_of m h s k).next i r b rests off on; light = d.turn.few }
 
   pre_base : (xs : List NodeId) (s : Net m) (q : List Packet) (n : ℕ) → EarlyPre xs s q n → Fits s
   pre_base xs s q n (inl a) = a.early.base
@@ -204,16 +219,12 @@ module _ (m : Meaning) (h : Header) (stopped : List NodeId) (k epoch servers top
   pre_highs xs s q n (inl a) = a.early.highs
   pre_highs xs s q n (inr w) = w.highs
 
-  pre_rests : (xs : List NodeId) (s : Net m) (q : List Packet) (n : ℕ) → EarlyPre xs s q n → (x : ℕ) → (seqr_of m h s x).scan ≡ None
+  pre_rests : (xs : List NodeId) (s : Net m) (q : List Packet) (n : ℕ) → EarlyPre xs s q n → (x : ℕ) → Near (seqr_of m h s x)
   pre_rests xs s q n (inl a) = a.early.rests
   pre_rests xs s q n (inr w) = w.rests
 
   other_ticks : (x : NodeId) (xs : List NodeId) (s : Net m) (q : List Packet) (n : ℕ) → Off x → on_in m stopped s x ≡ true → EarlyPre (x ∷ xs) s q n → EarlyPre xs (net_ticked m h s x.num x.role) (q ++ sent_ticked m h s x.num x.role) n
-  other_ticks x xs s q n off on p =
-      let b = pre_base (x ∷ xs) s q n p in
-      let rests = pre_rests (x ∷ xs) s q n p in
-      subst (λ (sent : List Packet). EarlyPre xs (net_ticked m h s x.num x.role) (q ++ sent) n) (sym (tick_sends s x.num x.role b rests off on)) (subst (λ (r : List Packet). EarlyPre xs (net_ticked m h s x.num x.role) r n) (nothing_new q)
-      (pre_left x xs s (net_ticked m h s x.num x.role) q n off (tick_left s x.num x.role b (pre_highs (x ∷ xs) s q n p) rests off on) p))
+  other_ticks x xs s q n off on p = pre_left x xs s (net_ticked m h s x.num x.role) q (sent_ticked m h s x.num x.role) n off (tick_left s x.num x.role (pre_base (x ∷ xs) s q n p) (pre_highs (x ∷ xs) s q n p) (pre_rests (x ∷ xs) s q n p) off on) p
 
   -- The client ticks.
 
@@ -313,7 +324,7 @@ module _ (m : Meaning) (h : Header) (stopped : List NodeId) (k epoch servers top
     where
       by : (node_eq x (client_id k) ≡ true) ⊎ Off x → EarlyPre xs s q n
       by (inl e) = absurd (contrary (subst (λ (y : NodeId). on_in m stopped s y ≡ true) (sym (node_same x (client_id k) e)) (pre_base (x ∷ xs) s q n p).on) off)
-      by (inr not_it) = pre_left x xs s s q n not_it (same_left s (pre_base (x ∷ xs) s q n p) (pre_highs (x ∷ xs) s q n p) (pre_rests (x ∷ xs) s q n p)) p
+      by (inr not_it) = subst (λ (r : List Packet). EarlyPre xs s r n) (sym (nothing_new q)) (pre_left x xs s s q [] n not_it (same_left s (pre_base (x ∷ xs) s q n p) (pre_highs (x ∷ xs) s q n p) (pre_rests (x ∷ xs) s q n p)) p)
 
   no_middle : (fs : List NodeId) (y : NodeId) (ys : List NodeId) → [] ≡ fs ++ y ∷ ys → ⊥
   no_middle [] y ys e = absurd cc

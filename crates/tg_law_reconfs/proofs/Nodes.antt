@@ -106,7 +106,7 @@ module _ (m : Meaning) (h : Header) (stopped : List NodeId) (k epoch servers top
   low_by (msg.Check e os) p f = absurd cc
   low_by z p f = tt
 
-  scan_tells : (s : UnitState) (y z : Msg) → s.epoch ≤ epoch → (unit_step s y).says ≡ Some z → TellsLow' z
+  pub scan_tells : (s : UnitState) (y z : Msg) → s.epoch ≤ epoch → (unit_step s y).says ≡ Some z → TellsLow' z
   unfolding unit_step
   scan_tells s y z le e = low_by z (unit_plain s y z e) (λ f g. let i = fenced_is s (unit_ask y) f (e ∙ ap (λ (x : Msg). Some x) g) in omega (arith, i, le))
 

@@ -1,5 +1,5 @@
 -- A scan asks for positions below its layout's start.
-use Rattle.std.proofs.Common.{◌≡◌, ◌⊎◌, ℕ, ◌+◌, ◌^◌, ◌<◌, ◌≤◌, List, [], ◌∷◌, not, ◌||◌, Bool, true, false, eqb, refl, ap, ◌∙◌, sym, subst, inl, inr, arith, Some, None, Option}
+use Rattle.std.proofs.Common.{◌≡◌, ◌⊎◌, ℕ, ◌+◌, ◌^◌, ◌<◌, List, [], not, ◌||◌, Bool, true, false, eqb, refl, ap, sym, subst, inl, inr, arith, Some, None, Option}
 use Rattle.std.specs.Prelude.{nat_lt, nat_le, min, max, ⊤}
 use Rattle.tg_base.specs.Layouts.{Layout}
 use Rattle.tg_base.specs.Clusters.{Header}
@@ -139,6 +139,27 @@ step_proj s from rid (msg.Learn q) f = absurd f
 step_proj s from rid (msg.Token e os) f = absurd f
 step_proj s from rid (msg.Check e os) f = absurd f
 step_proj s from rid y f = fed_proj s s.scan from rid y
+
+-- What it sends, it awaits.
+
+fed_sends : (s : SeqrState) (o : Option CellJob) (from : NodeId) (rid : ℕ) (y : Msg) (x : Out) → Has (scan_fed s o from rid y).sends x → Has (Rattle.tg_protocol.specs.Sequencers.seqr_asks (scan_fed s o from rid y).now) x
+fed_sends s None from rid y x h = absurd h
+fed_sends s (Some j) from rid y x h = by (awaits (cell_asks j) from rid) h
+  where
+    by : (b : Bool) → Has (fed_if b s (scan_turn s (cell_feed j from.num (reply y) s.rids))).sends x → Has (Rattle.tg_protocol.specs.Sequencers.seqr_asks (fed_if b s (scan_turn s (cell_feed j from.num (reply y) s.rids))).now) x
+    by true h = Rattle.tg_law_layouts.proofs.Moves.Members.has_filter _ (Rattle.tg_protocol.specs.Sequencers.seqr_asks (scan_turn s (cell_feed j from.num (reply y) s.rids))) x h
+    by false h = absurd h
+
+pub step_sends : (s : SeqrState) (from : NodeId) (rid : ℕ) (y : Msg) → LearnsNone y → (x : Out) → Has (seqr_step s from rid y).sends x → Has (Rattle.tg_protocol.specs.Sequencers.seqr_asks (seqr_step s from rid y).now) x
+unfolding seqr_step
+step_sends s from rid (msg.Learn q) f x h = absurd f
+step_sends s from rid (msg.Token e os) f x h = absurd f
+step_sends s from rid (msg.Check e os) f x h = absurd f
+step_sends s from rid y f x h = fed_sends s s.scan from rid y x h
+
+pub tick_sends : (s : SeqrState) (x : Out) → Has (seqr_tick s).sends x → Has (Rattle.tg_protocol.specs.Sequencers.seqr_asks (seqr_tick s).now) x
+unfolding seqr_tick
+tick_sends s x h = h
 
 -- What it asks is near where the start is.
 

@@ -52,6 +52,7 @@ use Rattle.tg_law_reconfs.proofs.EarlyLaps.{YetAll, all_folds}
 use Rattle.tg_law_reconfs.proofs.Counting.{Counted, LaterAll, VoteCounted, WorkCounted, IsCounted, TaskCounted, HandCounted, all_counted}
 use Rattle.tg_law_reconfs.proofs.Counts.{few_by}
 use Rattle.tg_law_reconfs.proofs.Fencing.{fences_reached}
+use Rattle.tg_law_reconfs.proofs.Scanning.{ScanBelow, scans_reached}
 use Rattle.tg_law_reconfs.proofs.Rising.{WorkLow, ReconfLow, Low, all_low_in}
 use Rattle.tg_law_reconfs.proofs.Ends.{reconf_ends_are_told}
 
@@ -367,7 +368,7 @@ module _ (m : Meaning) (h : Header) (ms : Moves m) (w : World m) (reach : Reache
       by (LookingAgain n acks) e i = absurd i
 
   -- It seals units, and none joins.
-  module _ (ws : Waits) (acks : Acks) (at : r.work ≡ Sealing ws acks) (none : r.change.join ≡ None) (waits : (v : ℕ × ℕ) × Has ws v) (units : (u j : ℕ) → Has ws (u, j) → on_in m w.stopped (net m w) (unit_id u) ≡ true) (highs : (u : ℕ) → (unit m w u).high < 2 ^ 62) (rests : (s : ℕ) → (seqr m w s).scan ≡ None) where
+  module _ (ws : Waits) (acks : Acks) (at : r.work ≡ Sealing ws acks) (none : r.change.join ≡ None) (waits : (v : ℕ × ℕ) × Has ws v) (units : (u j : ℕ) → Has ws (u, j) → on_in m w.stopped (net m w) (unit_id u) ≡ true) (highs : (u : ℕ) → (unit m w u).high < 2 ^ 62) (rests : (s : ℕ) → ((seqr m w s).proj.start < 2 ^ 62) × ScanBelow (seqr m w s)) where
     abbrev seals_told : ℕ
     seals_told = 2 * length ws + 34 * servers + 16
 
@@ -420,13 +421,13 @@ module _ (m : Meaning) (h : Header) (ms : Moves m) (w : World m) (reach : Reache
       let e = settle_ends m k w.cluster w.stopped _ _ _ _ (folds m w.cluster w.stopped k epoch servers past near some) w most_told a.quiet (to_tick votes) refl refl a.within in
       ends_so most_told e.left e.end e.spent e.cluster
 
-  pub seals_end : (ws : Waits) (acks : Acks) → r.work ≡ Sealing ws acks → r.change.join ≡ None → (v : ℕ × ℕ) × Has ws v → ((u j : ℕ) → Has ws (u, j) → on_in m w.stopped (net m w) (unit_id u) ≡ true) → ((u : ℕ) → (unit m w u).high < 2 ^ 62) → ((s : ℕ) → (seqr m w s).scan ≡ None)
+  pub seals_end : (ws : Waits) (acks : Acks) → r.work ≡ Sealing ws acks → r.change.join ≡ None → (v : ℕ × ℕ) × Has ws v → ((u j : ℕ) → Has ws (u, j) → on_in m w.stopped (net m w) (unit_id u) ≡ true) → ((u : ℕ) → (unit m w u).high < 2 ^ 62) → ((s : ℕ) → ((seqr m w s).proj.start < 2 ^ 62) × ScanBelow (seqr m w s))
       → VotesEnd m w end_world k (2 * length ws + 34 * servers + 16)
   seals_end ws acks at none waits units highs rests =
       let e = settle_ends m k w.cluster w.stopped _ _ _ _ (all_folds m w.cluster w.stopped k epoch servers past near some) w (2 * length ws + 34 * servers + 16) a.quiet (inl_or ws acks at none waits units highs rests) refl refl a.within in
       ends_so (2 * length ws + 34 * servers + 16) e.left e.end e.spent e.cluster
     where
-      inl_or : (ws : Waits) (acks : Acks) → r.work ≡ Sealing ws acks → r.change.join ≡ None → (v : ℕ × ℕ) × Has ws v → ((u j : ℕ) → Has ws (u, j) → on_in m w.stopped (net m w) (unit_id u) ≡ true) → ((u : ℕ) → (unit m w u).high < 2 ^ 62) → ((s : ℕ) → (seqr m w s).scan ≡ None)
+      inl_or : (ws : Waits) (acks : Acks) → r.work ≡ Sealing ws acks → r.change.join ≡ None → (v : ℕ × ℕ) × Has ws v → ((u j : ℕ) → Has ws (u, j) → on_in m w.stopped (net m w) (unit_id u) ≡ true) → ((u : ℕ) → (unit m w u).high < 2 ^ 62) → ((s : ℕ) → ((seqr m w s).proj.start < 2 ^ 62) × ScanBelow (seqr m w s))
           → YetAll m w.cluster w.stopped k epoch servers past near some 7 (nodes m w) (net m w) [] (2 * length ws + 34 * servers + 16)
       inl_or ws acks at none waits units highs rests = seals_tick ws acks at none waits units highs rests
 
@@ -439,4 +440,4 @@ first_of (w ∷ ws) some = (w, inl refl)
 
 pub seals_finish : Always all_kinds (SealsFinish all_kinds)
 seals_finish h ms w reach k x a f = seals_end all_kinds h ms w reach k x a (record { work = f.work; waits = f.waits; reconf = f.reconf; hand = f.hand; layouts = f.layouts; none_above = f.none_above }) f.waiting f.acks f.seals f.joins (first_of f.waiting f.some)
-    (λ u j has. f.units (u, j) (contained f.waiting (u, j) has)) (high_near all_kinds h ms w reach (logs_hold h ms w reach).trims.in_time) f.rests
+    (λ u j has. f.units (u, j) (contained f.waiting (u, j) has)) (high_near all_kinds h ms w reach (logs_hold h ms w reach).trims.in_time) (λ s. ((layouts_are_sound all_kinds h ms w reach _ _ ((layouts_are_known all_kinds h ms w reach).seqrs s)).near, scans_reached all_kinds h ms w reach s))

@@ -83,7 +83,7 @@ module _ (m : Meaning) where
   -- The seals.
 
   -- The client seals units of its next layout, to which none joins. Those that it waits for run; of the layout servers
-  -- most do. No node stands past the next epoch, and no sequencer scans.
+  -- most do. No node stands past the next epoch.
   pub record WaitsForSeals (w : World m) (k : ℕ) : Type 0 where
     pub work : Work m
     pub waits : (client m w k).work ≡ Some work
@@ -97,7 +97,6 @@ module _ (m : Meaning) where
     pub units : (v : ℕ × ℕ) → Contains waiting v → runs m w (unit_id v.0) ≡ true
     pub layouts : MostRun m w
     pub none_above : NoneAbove m w ((client m w k).stand.epoch + 1)
-    pub rests : (s : ℕ) → (seqr m w s).scan ≡ None
 
   -- two deliveries more for each unit that it waits for
   abbrev pub SealsFinish : World m → Type 0

@@ -26,8 +26,8 @@ pub fn votes_finish()
     ensures { Always all_kinds (VotesFinish all_kinds) }
 {}
 
-/// So from the seals on, where no unit joins, those that the client waits for run, and no sequencer scans: within two
-/// deliveries more for each of these units.
+/// So from the seals on, where no unit joins and those that the client waits for run: within two deliveries more for
+/// each of these units.
 pub fn seals_finish()
     ensures { Always all_kinds (SealsFinish all_kinds) }
 {}
