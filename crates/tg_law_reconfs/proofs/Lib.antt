@@ -13,6 +13,7 @@ pub mod Nodes
 pub mod Rising
 pub mod Rounds
 pub mod Scanning
+pub mod Settling
 pub mod Starts
 pub mod Steps
 pub mod Ticks

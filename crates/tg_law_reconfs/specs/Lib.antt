@@ -1,1 +1,2 @@
 pub mod Reconfs
+pub mod Settled

@@ -3,6 +3,7 @@
 ghost use Rattle.tg_any.specs.AllKinds.{all_kinds};
 ghost use Rattle.tg_kind.specs.Of.{meaning_of};
 ghost use Rattle.tg_law_reconfs.specs.Reconfs.{ReconfEndsAreTold, StartedFinishes, VotesFinish, SealsFinish};
+ghost use Rattle.tg_law_reconfs.specs.Settled.{SealsAreAnswered, VotesAreAnswered};
 ghost use Rattle.tg_protocol.specs.Runs.{Always};
 
 use tg_kind::Registry;
@@ -30,4 +31,16 @@ pub fn votes_finish()
 /// each of these units.
 pub fn seals_finish()
     ensures { Always all_kinds (SealsFinish all_kinds) }
+{}
+
+/// A run in which a client opens a range at the one unit, and the unit's seal is lost, is one for which `seals_finish` asks no more
+/// than it has. A settling of it takes twelve deliveries with the client, where 52 are allowed, and the layout is installed.
+pub fn seals_are_answered()
+    ensures { SealsAreAnswered }
+{}
+
+/// A run in which that unit is sealed, and the request for the layout server's promise is lost, is one for which `votes_finish` asks
+/// no more than it has. A settling of it takes ten deliveries with the client, where 50 are allowed, and the layout is installed.
+pub fn votes_are_answered()
+    ensures { VotesAreAnswered }
 {}
