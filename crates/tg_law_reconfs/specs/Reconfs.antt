@@ -76,14 +76,14 @@ module _ (m : Meaning) where
     pub ends : (((client m v k).work ≡ None) × HasReply m w v k (IsEnd m)) ⊎ WaitsToStart v k ((client m w k).stand.epoch + 1)
     pub few : deliveries m (is_with_client m k) w v ≤ most
 
-  -- three rounds of ticks end the votes; each of the others asks for the latest layout, and may ask the sequencer
+  -- three rounds of ticks at most end the votes; each of the others asks for the latest layout, and may ask the sequencer
   abbrev pub VotesFinish : World m → Type 0
   VotesFinish w = (k : ℕ) (x : CommandOf m) → WaitsAlone m w k x → WaitsForVotes w k → VotesEnd w (settle m w).world k (34 * w.cluster.layouts + 16)
 
   -- The seals.
 
-  -- The client seals units of its next layout, to which none joins. Those that it waits for run; of the layout servers
-  -- most do. No node stands past the next epoch.
+  -- The client seals units of its next layout, to which none joins, and waits for some. Those that it waits for run; of
+  -- the layout servers most do. No node stands past the next epoch.
   pub record WaitsForSeals (w : World m) (k : ℕ) : Type 0 where
     pub work : Work m
     pub waits : (client m w k).work ≡ Some work

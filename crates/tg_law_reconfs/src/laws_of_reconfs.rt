@@ -1,4 +1,6 @@
-//! Reconfigurations finish: what is proved of it.
+//! Reconfigurations finish: what is proved of it. All but the first law ask for a quiet world, in which no other client that
+//! runs waits and no limit stops the settling, as the claim does: a request or an answer was lost before, or went to a
+//! stopped node. Right after the command its seals are on their way, and none of them speaks.
 
 ghost use Rattle.tg_any.specs.AllKinds.{all_kinds};
 ghost use Rattle.tg_kind.specs.Of.{meaning_of};
@@ -20,27 +22,29 @@ pub fn started_reconfs_finish()
     ensures { Always all_kinds (StartedFinishes all_kinds) }
 {}
 
-/// A client that votes on a layout with the layout servers, of which most run and none knows a later one, stands at the
-/// new layout after a settling, or has told how its reconfiguration ended: within 34 deliveries for each layout server,
-/// and 16 more.
+/// A client that votes on a layout, or tells that it is decided, while most layout servers run and no node stands past the
+/// next epoch, has told after a settling how its reconfiguration ended, or stands at the new layout and waits for that
+/// one's sequencer, which may not serve yet: within 34 deliveries for each layout server, and 16 more.
 pub fn votes_finish()
     ensures { Always all_kinds (VotesFinish all_kinds) }
 {}
 
-/// So from the seals on, where no unit joins and those that the client waits for run: within two deliveries more for
-/// each of these units.
+/// So from the seals on, where no unit joins, and the client waits for some unit and for none that doesn't run: within two
+/// deliveries more for each of these units.
 pub fn seals_finish()
     ensures { Always all_kinds (SealsFinish all_kinds) }
 {}
 
-/// A run in which a client opens a range at the one unit, and the unit's seal is lost, is one for which `seals_finish` asks no more
-/// than it has. A settling of it takes twelve deliveries with the client, where 52 are allowed, and the layout is installed.
+/// A run in which a client opens a range at the one unit, and the unit's seal is lost, is one for which `seals_finish` asks
+/// no more than it has. A settling of it takes twelve deliveries with the client, where 52 are allowed, and the layout is
+/// installed.
 pub fn seals_are_answered()
     ensures { SealsAreAnswered }
 {}
 
-/// A run in which that unit is sealed, and the request for the layout server's promise is lost, is one for which `votes_finish` asks
-/// no more than it has. A settling of it takes ten deliveries with the client, where 50 are allowed, and the layout is installed.
+/// A run in which that unit is sealed, and the request for the layout server's promise is lost, is one for which
+/// `votes_finish` asks no more than it has. A settling of it takes ten deliveries with the client, where 50 are allowed,
+/// and the layout is installed.
 pub fn votes_are_answered()
     ensures { VotesAreAnswered }
 {}
