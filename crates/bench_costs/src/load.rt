@@ -9,7 +9,7 @@ use crate::stores::held;
 use std::alloc::Global;
 
 /// How many new units store how many pages each, and in which order.
-#[derive(Clone, Copy, Debug)]
+#[derive(Clone, Copy)]
 pub struct Load {
     pub order: Order,
     pub count: u32,

@@ -13,7 +13,7 @@ const STEP: u64 = 2_654_435_761;
 const SPAN: u64 = 64;
 
 /// In which order so many positions are written.
-#[derive(Clone, Copy, Debug, PartialEq, Eq)]
+#[derive(Clone, Copy, PartialEq, Eq)]
 pub enum Order {
     /// The first ones, rising.
     Rising,

@@ -137,7 +137,7 @@ fn yes_or_no(yes: bool) -> &'static str
 }
 
 /// What a new object of each kind answers after an op, as it is printed.
-#[derive(Debug, Drop)]
+#[derive(Drop)]
 pub struct Lines {
     pub counter: i64,
     pub register: String,

@@ -6,7 +6,7 @@ ghost use Rattle.bench_costs.specs.Printed.{answers_named, IsTimed};
 use crate::rounds::Rounds;
 
 /// What may be asked for.
-#[derive(Clone, Copy, Debug)]
+#[derive(Clone, Copy)]
 pub enum Request {
     /// What an object of each kind answers after an op.
     Answers,

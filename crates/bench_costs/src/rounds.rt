@@ -9,7 +9,7 @@ use crate::{cells, keyed, lists};
 use std::alloc::Global;
 
 /// How often a new object takes how many ops.
-#[derive(Clone, Copy, Debug)]
+#[derive(Clone, Copy)]
 pub struct Rounds {
     pub workload: Workload,
     pub count: u32,

@@ -11,7 +11,7 @@ use tg_dir::Directory;
 use tg_kind::Registry;
 
 /// How many records are played at once, and how often ten more.
-#[derive(Clone, Copy, Debug)]
+#[derive(Clone, Copy)]
 pub struct Sizes {
     pub count: u32,
     pub more: u32,

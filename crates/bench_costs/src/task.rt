@@ -8,7 +8,7 @@ use crate::sizes::Sizes;
 use std::alloc::Global;
 
 /// What is timed.
-#[derive(Clone, Copy, Debug)]
+#[derive(Clone, Copy)]
 pub enum Timed {
     /// Ops on objects.
     Kinds(Rounds),
@@ -30,7 +30,7 @@ impl Timed {
 }
 
 /// What may be asked for.
-#[derive(Clone, Copy, Debug)]
+#[derive(Clone, Copy)]
 pub enum Task {
     /// What an object of each kind answers after an op.
     Answers,

@@ -10,7 +10,7 @@ use tg_picture::Step;
 const MOST: usize = 2000;
 
 /// The event lines from which on and up to which a run is drawn.
-#[derive(Clone, Copy, Debug, PartialEq, Eq)]
+#[derive(Clone, Copy, PartialEq, Eq)]
 pub struct Cut {
     pub from: Option<u64>,
     pub to: Option<u64>,

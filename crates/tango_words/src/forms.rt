@@ -15,7 +15,7 @@ use std::alloc::Global;
 use tg_base::{NoMemory, NodeId};
 
 /// What the program is asked to do.
-#[derive(Clone, Copy, Debug, PartialEq, Eq)]
+#[derive(Clone, Copy, PartialEq, Eq)]
 pub enum Form {
     /// Reads a script and writes its transcript.
     Replay,

@@ -28,7 +28,7 @@ pub enum AnyKind {
 }
 
 /// What changes a state. An op of another kind than the state's changes nothing.
-#[derive(Debug, Drop)]
+#[derive(Drop)]
 pub enum AnyOp {
     Directory(DirectoryOp),
     Counter(CounterOp),
@@ -40,7 +40,7 @@ pub enum AnyOp {
 }
 
 /// What looks at a state.
-#[derive(Debug, Drop)]
+#[derive(Drop)]
 pub enum AnyAsk {
     Directory(DirectoryAsk),
     Counter(CounterAsk),
@@ -52,7 +52,7 @@ pub enum AnyAsk {
 }
 
 /// What an ask is answered.
-#[derive(Debug, Drop)]
+#[derive(Drop)]
 pub enum AnyAns {
     Directory(DirectoryAns),
     Counter(CounterAns),

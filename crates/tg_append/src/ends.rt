@@ -3,7 +3,7 @@
 use tg_base::{Blob, Cell, List, Pos, StreamLink};
 
 /// How an append ends.
-#[derive(Debug, Drop)]
+#[derive(Drop)]
 pub enum AppendEnd {
     /// The entry's page stands at this position.
     At { pos: Pos, page: Blob },
@@ -15,7 +15,7 @@ pub enum AppendEnd {
 
 /// How a sync ends: the tail, the last positions of each stream below it, and the cell that was settled on the
 /// way.
-#[derive(Debug, Drop)]
+#[derive(Drop)]
 pub struct Confirmed {
     pub tail: Pos,
     pub lasts: List<StreamLink>,

@@ -3,7 +3,7 @@
 use tg_base::Clause;
 
 /// What is told of a transcript.
-#[derive(Clone, Copy, Debug, PartialEq, Eq)]
+#[derive(Clone, Copy, PartialEq, Eq)]
 pub enum Verdict {
     /// The run was legal.
     Legal,

@@ -10,7 +10,7 @@ use std::cmp::Ordering;
 use std::marker::Model;
 
 /// A page: bytes, of which there are at most 4,096.
-#[derive(Clone, Debug, Drop)]
+#[derive(Clone, Drop)]
 pub struct Blob {
     bytes: List<u8>,
 }

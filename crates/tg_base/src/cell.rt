@@ -6,7 +6,7 @@ use crate::blob::Blob;
 use crate::fault::NoMemory;
 
 /// What stands at a position: junk, or a page.
-#[derive(Clone, Debug, PartialEq, Drop)]
+#[derive(Clone, PartialEq, Drop)]
 pub enum Cell {
     Junk,
     Data(Blob),

@@ -6,7 +6,7 @@ use arrayvec::ArrayVec;
 use std::marker::Model;
 
 /// The units that hold a position, head first: at most five.
-#[derive(Clone, Debug, Drop)]
+#[derive(Clone, Drop)]
 pub struct Chain {
     units: ArrayVec<u16, 5>,
 }
@@ -74,7 +74,7 @@ impl PartialEq for Chain {
 }
 
 /// The last positions of a stream, newest first: at most four.
-#[derive(Clone, Debug, Drop)]
+#[derive(Clone, Drop)]
 pub struct Backs {
     positions: ArrayVec<u64, 4>,
 }

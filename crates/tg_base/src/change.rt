@@ -8,7 +8,7 @@ use crate::list::List;
 use std::marker::Model;
 
 /// A unit that joins a chain at its end: range and stripe count from 0.
-#[derive(Clone, Copy, Debug, PartialEq, Eq)]
+#[derive(Clone, Copy, PartialEq, Eq)]
 pub struct Join {
     pub unit: u16,
     pub range: usize,
@@ -16,7 +16,7 @@ pub struct Join {
 }
 
 /// How the next layout differs from the present one.
-#[derive(Clone, Debug, Drop)]
+#[derive(Clone, Drop)]
 pub struct Change {
     /// The next sequencer.
     pub seq: u16,

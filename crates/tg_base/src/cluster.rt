@@ -9,7 +9,7 @@ use crate::list::List;
 use std::marker::Model;
 
 /// How many nodes of each role there are, and what a run begins with.
-#[derive(Clone, Debug, Drop)]
+#[derive(Clone, Drop)]
 pub struct Cluster {
     pub units: u16,
     pub layouts: u16,

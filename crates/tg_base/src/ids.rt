@@ -32,7 +32,7 @@ pub struct NodeId {
 }
 
 /// The number of a proposal in Paxos: by round, and then by client.
-#[derive(Clone, Copy, Debug, PartialEq, Eq, PartialOrd, Ord)]
+#[derive(Clone, Copy, PartialEq, Eq, PartialOrd, Ord)]
 pub struct Ballot {
     pub round: u32,
     pub client: u16,

@@ -9,7 +9,7 @@ use crate::list::List;
 use std::marker::Model;
 
 /// Positions from `lo` on, and the chains that hold them in turn.
-#[derive(Clone, Debug, PartialEq, Drop)]
+#[derive(Clone, PartialEq, Drop)]
 pub struct Range {
     pub lo: Pos,
     pub stripes: List<Chain>,
@@ -28,7 +28,7 @@ impl Range {
 }
 
 /// The layout of an epoch. A range reaches up to the next one's `lo`, and the last is open.
-#[derive(Clone, Debug, PartialEq)]
+#[derive(Clone, PartialEq)]
 pub struct Projection {
     pub epoch: Epoch,
     /// The sequencer.

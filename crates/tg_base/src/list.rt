@@ -8,7 +8,7 @@ use std::alloc::Global;
 use std::marker::Model;
 
 /// A list over a `Vec`, whose growth is refused as [`NoMemory`].
-#[derive(Clone, Debug, Drop)]
+#[derive(Clone, Drop)]
 pub struct List<T> {
     items: Vec<T>,
 }

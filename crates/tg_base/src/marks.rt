@@ -11,7 +11,7 @@ use std::cmp::Ordering;
 
 /// A part of an object: the whole of it, or what a text or a number names.
 /// The whole stands first, then the texts by their bytes, then the numbers.
-#[derive(Clone, Debug, PartialEq, Eq, PartialOrd, Ord, Drop)]
+#[derive(Clone, PartialEq, Eq, PartialOrd, Ord, Drop)]
 pub enum Part {
     All,
     Text(Blob),
@@ -46,7 +46,7 @@ impl Part {
 }
 
 /// A read of a transaction: the part, and the version that it had.
-#[derive(Clone, Debug, Drop)]
+#[derive(Clone, Drop)]
 pub struct ReadMark {
     pub oid: Oid,
     pub part: Part,
@@ -67,7 +67,7 @@ impl ReadMark {
 }
 
 /// A stream, and its last positions below the entry that names it.
-#[derive(Clone, Debug, Drop)]
+#[derive(Clone, Drop)]
 pub struct StreamLink {
     pub oid: Oid,
     pub backs: Backs,

@@ -11,7 +11,6 @@ use crate::list::List;
 use crate::marks::StreamLink;
 
 /// What a node asks of another, or answers.
-#[derive(Debug)]
 pub enum Msg {
     // To units.
     Read {

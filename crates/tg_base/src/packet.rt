@@ -7,7 +7,7 @@ use crate::ids::NodeId;
 use crate::msg::Msg;
 
 /// A message on its way. An answer has the number of its request.
-#[derive(Debug, Drop)]
+#[derive(Drop)]
 pub struct Packet {
     pub from: NodeId,
     pub to: NodeId,
@@ -30,7 +30,7 @@ impl Packet {
 }
 
 /// A message that a node sends.
-#[derive(Debug, Drop)]
+#[derive(Drop)]
 pub struct Out {
     pub to: NodeId,
     pub rid: u64,
@@ -51,7 +51,7 @@ impl Out {
 }
 
 /// The request numbers of one node, from 1.
-#[derive(Clone, Copy, Debug, PartialEq, Eq)]
+#[derive(Clone, Copy, PartialEq, Eq)]
 pub struct Rids {
     pub next: u64,
 }

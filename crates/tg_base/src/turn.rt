@@ -8,14 +8,14 @@ use crate::list::List;
 use crate::packet::Out;
 
 /// A machine that goes on, or its end, with what is to be sent.
-#[derive(Debug, Drop)]
+#[derive(Drop)]
 pub enum Turn<M, E> {
     More { machine: M, outs: List<Out> },
     End { end: E, outs: List<Out> },
 }
 
 /// The layout that a client works by, and how many layout servers there are.
-#[derive(Clone, Debug, Drop)]
+#[derive(Clone, Drop)]
 pub struct Stand {
     pub proj: Projection,
     pub layouts: u16,

@@ -12,7 +12,7 @@ use tg_kind::Registry;
 use tg_model::{DoneOf, MarkOf};
 
 /// What a run comes to.
-#[derive(Clone, Copy, Debug, PartialEq, Eq)]
+#[derive(Clone, Copy, PartialEq, Eq)]
 pub struct Summary {
     /// The number of the last event.
     pub events: u64,

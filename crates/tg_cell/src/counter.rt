@@ -21,7 +21,7 @@ const TAG: u8 = 1;
 const ADD: u8 = 0x10;
 
 /// A signed number of 64 bits.
-#[derive(Debug, Drop)]
+#[derive(Drop)]
 pub struct Counter {
     value: i64,
 }
@@ -37,20 +37,20 @@ impl Model for Counter {
 }
 
 /// What changes a counter.
-#[derive(Debug, Drop)]
+#[derive(Drop)]
 pub enum CounterOp {
     /// Adds; a sum past an end of the type stays at that end.
     Add { by: i64 },
 }
 
 /// What looks at a counter.
-#[derive(Debug, Drop)]
+#[derive(Drop)]
 pub enum CounterAsk {
     Value,
 }
 
 /// What an ask of a counter is answered.
-#[derive(Debug, Drop)]
+#[derive(Drop)]
 pub enum CounterAns {
     Number(i64),
 }

@@ -19,7 +19,7 @@ const TAG: u8 = 2;
 const WRITE: u8 = 0x20;
 
 /// A text or nothing.
-#[derive(Debug, Drop)]
+#[derive(Drop)]
 pub struct Register {
     held: Option<Text>,
 }
@@ -35,20 +35,20 @@ impl Model for Register {
 }
 
 /// What changes a register.
-#[derive(Debug, Drop)]
+#[derive(Drop)]
 pub enum RegisterOp {
     /// Holds the text.
     Write { text: Text },
 }
 
 /// What looks at a register.
-#[derive(Debug, Drop)]
+#[derive(Drop)]
 pub enum RegisterAsk {
     Text,
 }
 
 /// What an ask of a register is answered.
-#[derive(Debug, Drop)]
+#[derive(Drop)]
 pub enum RegisterAns {
     Held(Option<Text>),
 }

@@ -3,7 +3,7 @@
 use tg_base::{Cell, Epoch, Pos, Stand};
 
 /// How a put ends.
-#[derive(Debug, Drop)]
+#[derive(Drop)]
 pub enum PutCellEnd {
     /// Each unit of the chain holds the page.
     Done,
@@ -16,7 +16,7 @@ pub enum PutCellEnd {
 }
 
 /// How a get ends.
-#[derive(Debug, Drop)]
+#[derive(Drop)]
 pub enum GetCellEnd {
     /// The position's cell.
     Done { cell: Cell },
@@ -27,7 +27,7 @@ pub enum GetCellEnd {
 }
 
 /// How a fill ends.
-#[derive(Debug, Drop)]
+#[derive(Drop)]
 pub enum FillCellEnd {
     /// The position's cell, which each unit of the chain holds.
     Done { cell: Cell },
@@ -38,7 +38,7 @@ pub enum FillCellEnd {
 }
 
 /// How a probe ends.
-#[derive(Debug, Drop)]
+#[derive(Drop)]
 pub enum ProbeEnd {
     /// Each unit of the chain has answered in the epoch.
     Seen,
@@ -47,7 +47,7 @@ pub enum ProbeEnd {
 }
 
 /// How learning ends.
-#[derive(Debug, Drop)]
+#[derive(Drop)]
 pub enum LearnEnd {
     /// A newer layout is known.
     Known { stand: Stand },

@@ -29,7 +29,7 @@ const TAG: u8 = 0;
 
 /// The registered objects by name, in order of registration, with their marks, and the floor: the position below which all objects
 /// are forgotten. There is one directory in a store, and it lists itself.
-#[derive(Debug, Drop)]
+#[derive(Drop)]
 pub struct Directory {
     entries: Vec<Listing>,
     floor: Pos,
@@ -44,7 +44,7 @@ impl Model for Directory {
 }
 
 /// What changes the directory.
-#[derive(Debug, Drop)]
+#[derive(Drop)]
 pub enum DirectoryOp {
     /// Registers an object under a name, with mark 0; no change where the name or the object is taken.
     Name { name: Text, oid: Object },
@@ -53,7 +53,7 @@ pub enum DirectoryOp {
 }
 
 /// What looks at the directory.
-#[derive(Debug, Drop)]
+#[derive(Drop)]
 pub enum DirectoryAsk {
     /// The object of this name.
     Find { name: Text },
@@ -64,7 +64,7 @@ pub enum DirectoryAsk {
 }
 
 /// What an ask of the directory is answered.
-#[derive(Debug, Drop)]
+#[derive(Drop)]
 pub enum DirectoryAns {
     Found(Option<Oid>),
     Marks(List<(Oid, Pos)>),

@@ -11,7 +11,7 @@ use tg_kind::Text;
 const MOST: usize = 0xffff_ffff;
 
 /// A registered object: its name, its number, and the position below which it is forgotten.
-#[derive(Debug, Drop)]
+#[derive(Drop)]
 pub struct Listing {
     pub name: Text,
     pub oid: Oid,

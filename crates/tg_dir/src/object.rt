@@ -8,7 +8,7 @@ use std::marker::Model;
 use tg_base::Oid;
 
 /// An object's number: 0 for the directory, or one of the tags from 1 to 6 in the top byte, and any index below.
-#[derive(Clone, Copy, Debug)]
+#[derive(Clone, Copy)]
 pub struct Object {
     oid: Oid,
 }

@@ -10,7 +10,7 @@ use std::marker::Model;
 use tg_base::{List, NoMemory, Pos};
 
 /// An entry of format 2 that isn't appended yet: its streams name no position.
-#[derive(Debug, Drop)]
+#[derive(Drop)]
 pub struct Draft {
     entry: Entry,
 }
@@ -61,7 +61,7 @@ impl Draft {
 }
 
 /// Entries, rising by position.
-#[derive(Debug, Drop)]
+#[derive(Drop)]
 pub struct Entries {
     list: List<(Pos, Entry)>,
 }

@@ -5,7 +5,7 @@ ghost use Rattle.std.specs.Prelude.{◌≡◌, IfOk};
 use tg_base::{Blob, List, NoMemory, Oid, Part, Pos, ReadMark, StreamLink};
 
 /// A write of a commit record: an object, and the bytes of an op.
-#[derive(Clone, Debug, Drop)]
+#[derive(Clone, Drop)]
 pub struct WriteOp {
     pub oid: Oid,
     pub op: Blob,
@@ -24,7 +24,7 @@ impl WriteOp {
 }
 
 /// The head of an entry: who wrote it, and the streams in which it stands, rising by object.
-#[derive(Debug, Drop)]
+#[derive(Drop)]
 pub struct Head {
     /// 1 or 2. Format 2 is the one that is written; format 1 is still read.
     pub format: u8,
@@ -50,7 +50,6 @@ impl Head {
 }
 
 /// The body of an entry.
-#[derive(Debug)]
 pub enum Body {
     /// A commit record: what was read, with versions, and what is written.
     Commit {
@@ -150,7 +149,7 @@ fn copied_bytes(bytes: &List<u8>) -> Result<List<u8>, NoMemory>
 }
 
 /// An entry of the log.
-#[derive(Debug, Drop)]
+#[derive(Drop)]
 pub struct Entry {
     pub head: Head,
     pub body: Body,

@@ -11,7 +11,7 @@ const MODULUS: u64 = 2_147_483_647;
 const FACTOR: u64 = 48_271;
 
 /// The running number of a generator, which is from 1 to 2,147,483,646.
-#[derive(Debug, Drop)]
+#[derive(Drop)]
 pub struct Numbers {
     running: u64,
 }

@@ -8,7 +8,7 @@ use crate::numbers::Numbers;
 use tg_base::Oid;
 
 /// How a round goes.
-#[derive(Clone, Copy, Debug, PartialEq, Eq)]
+#[derive(Clone, Copy, PartialEq, Eq)]
 pub enum Form {
     /// A client asks an object and puts into another one, and a rival may change the first between.
     Change,
@@ -35,7 +35,7 @@ impl Form {
 }
 
 /// An object: the first of each kind of the user's, in the order in which the header names them.
-#[derive(Clone, Copy, Debug, PartialEq, Eq)]
+#[derive(Clone, Copy, PartialEq, Eq)]
 pub enum Target {
     Counter,
     Register,
@@ -90,7 +90,7 @@ impl Target {
 }
 
 /// What a round does.
-#[derive(Clone, Copy, Debug, PartialEq, Eq)]
+#[derive(Clone, Copy, PartialEq, Eq)]
 pub struct Round {
     pub form: Form,
     pub target: Target,

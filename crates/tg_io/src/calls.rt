@@ -7,7 +7,7 @@ use std::marker::Model;
 use tg_base::List;
 
 /// How many calls were made, and the numbers (from 0) of those that fail.
-#[derive(Debug, Drop)]
+#[derive(Drop)]
 pub struct Calls {
     // a number past those of `u64`, so that each call that a list may name is counted
     made: u128,

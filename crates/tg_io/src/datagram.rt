@@ -7,7 +7,7 @@ use std::marker::Model;
 use tg_base::{List, NoMemory};
 
 /// A datagram: bytes, of which there are at most 8,192.
-#[derive(Debug, Drop)]
+#[derive(Drop)]
 pub struct Datagram {
     bytes: List<u8>,
 }

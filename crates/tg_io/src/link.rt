@@ -12,7 +12,7 @@ use crate::fault::IoErr;
 use tg_base::NodeId;
 
 /// A datagram that was sent.
-#[derive(Debug, Drop)]
+#[derive(Drop)]
 pub struct Sent {
     pub from: NodeId,
     pub to: NodeId,
@@ -20,7 +20,7 @@ pub struct Sent {
 }
 
 /// A datagram that came to a node.
-#[derive(Debug, Drop)]
+#[derive(Drop)]
 pub struct Arrival {
     pub to: NodeId,
     pub datagram: Datagram,

@@ -17,7 +17,7 @@ use tg_base::{List, NoMemory, NodeId};
 
 /// What becomes of a datagram that is sent: it is queued once, not at all, twice, or in a second
 /// queue, which is served where the first is empty.
-#[derive(Clone, Copy, Debug, PartialEq, Eq)]
+#[derive(Clone, Copy, PartialEq, Eq)]
 pub enum Rule {
     Keep,
     Lose,

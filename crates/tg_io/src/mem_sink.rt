@@ -13,7 +13,7 @@ use std::marker::Model;
 use tg_base::List;
 
 /// Keeps the bytes, and fails at the calls that a list names.
-#[derive(Debug, Drop)]
+#[derive(Drop)]
 pub struct MemSink {
     bytes: List<u8>,
     calls: Calls,

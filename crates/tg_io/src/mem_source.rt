@@ -11,7 +11,7 @@ use std::marker::Model;
 use tg_base::List;
 
 /// Gives the bytes of a list, and fails at the calls that a list names.
-#[derive(Debug, Drop)]
+#[derive(Drop)]
 pub struct MemSource {
     bytes: List<u8>,
     given: usize,

@@ -8,7 +8,7 @@ use std::alloc::Global;
 use tg_base::{Clause, NoMemory, Which};
 
 /// How a run ends.
-#[derive(Clone, Copy, Debug, PartialEq, Eq)]
+#[derive(Clone, Copy, PartialEq, Eq)]
 pub enum Status {
     /// The input was read to its end.
     Done,

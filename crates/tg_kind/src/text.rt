@@ -11,7 +11,7 @@ use tg_base::{List, NoMemory};
 use tg_codec::{ReadFault, put_text, raw_in, u16_in};
 
 /// From 1 to 4,096 of the letters, the digits, the underscore, the full stop and the hyphen.
-#[derive(Debug, Drop)]
+#[derive(Drop)]
 pub struct Text {
     text: String,
 }

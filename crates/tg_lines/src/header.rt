@@ -18,7 +18,7 @@ use tg_script::parse_header;
 const HEADER: usize = 3;
 
 /// What the first lines of a script are.
-#[derive(Debug, Drop)]
+#[derive(Drop)]
 pub enum Opening {
     /// A header, which declares a cluster.
     Opens(Cluster),

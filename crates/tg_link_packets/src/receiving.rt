@@ -14,7 +14,7 @@ use tg_io::{IoErr, Link};
 use tg_wire::{WireFault, decode};
 
 /// What an answer of a link has for a node.
-#[derive(Debug, Drop)]
+#[derive(Drop)]
 pub enum Came {
     /// Nothing was at hand.
     Nothing,

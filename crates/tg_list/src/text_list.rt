@@ -34,7 +34,6 @@ const POP_BACK: u8 = 0x45;
 
 /// Up to 4,294,967,295 texts. A push or a pop at either end takes constant time, amortized over the
 /// pushes, and a change elsewhere moves the texts on its shorter side.
-#[derive(Debug)]
 pub struct TextList {
     texts: VecDeque<Text>,
 }
@@ -58,7 +57,7 @@ impl Model for TextList {
 }
 
 /// What changes a list.
-#[derive(Debug, Drop)]
+#[derive(Drop)]
 pub enum TextListOp {
     /// Puts a text first.
     PushFront { text: Text },
@@ -75,7 +74,7 @@ pub enum TextListOp {
 }
 
 /// What looks at a list.
-#[derive(Debug, Drop)]
+#[derive(Drop)]
 pub enum TextListAsk {
     /// The text at a place, counted from 0.
     At { at: u32 },
@@ -86,7 +85,7 @@ pub enum TextListAsk {
 }
 
 /// What an ask of a list is answered.
-#[derive(Debug, Drop)]
+#[derive(Drop)]
 pub enum TextListAns {
     /// The text at the place, if there is one.
     Item(Option<Text>),

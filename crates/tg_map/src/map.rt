@@ -54,7 +54,7 @@ impl Model for Map {
 }
 
 /// What changes a map.
-#[derive(Debug, Drop)]
+#[derive(Drop)]
 pub enum MapOp {
     /// Gives a key a value. A key that is there keeps its place, and a new one goes last.
     Set { key: Text, value: Text },
@@ -63,7 +63,7 @@ pub enum MapOp {
 }
 
 /// What looks at a map.
-#[derive(Debug, Drop)]
+#[derive(Drop)]
 pub enum MapAsk {
     /// The value of a key.
     Get { key: Text },
@@ -74,7 +74,7 @@ pub enum MapAsk {
 }
 
 /// What an ask of a map is answered.
-#[derive(Debug, Drop)]
+#[derive(Drop)]
 pub enum MapAns {
     Value(Option<Text>),
     Number(u64),

@@ -15,7 +15,7 @@ use tg_base::NoMemory;
 use tg_kind::Text;
 
 /// A text that is compared and hashed by its bytes.
-#[derive(Debug, Drop)]
+#[derive(Drop)]
 pub struct Word {
     pub text: Text,
 }

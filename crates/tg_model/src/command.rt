@@ -6,7 +6,7 @@ ghost use Rattle.tg_model.specs.Words.{word_of};
 use tg_base::{Change, NodeId, Oid, Pos};
 
 /// The word of a command.
-#[derive(Clone, Copy, Debug, PartialEq, Eq)]
+#[derive(Clone, Copy, PartialEq, Eq)]
 pub enum Word {
     Host,
     Begin,
@@ -26,7 +26,7 @@ pub enum Word {
 }
 
 /// What a client is told to do.
-#[derive(Debug, Drop)]
+#[derive(Drop)]
 pub enum Command<Op, Ask> {
     /// Plays the object from now on.
     Host {
@@ -115,7 +115,7 @@ impl<Op, Ask> Command<Op, Ask> {
 }
 
 /// One input to one node.
-#[derive(Debug, Drop)]
+#[derive(Drop)]
 pub enum Event<Op, Ask> {
     /// A client is given a command.
     Command { client: u16, cmd: Command<Op, Ask> },

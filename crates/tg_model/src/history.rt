@@ -3,7 +3,7 @@
 use tg_base::{List, Oid, Pos};
 
 /// A committed transaction: its place in the history, its client and number there, and its writes.
-#[derive(Debug, Drop)]
+#[derive(Drop)]
 pub struct Done<Op> {
     pub stamp: Pos,
     pub client: u16,

@@ -3,7 +3,7 @@
 use tg_base::{Oid, Pos};
 
 /// Where the play of a view came to.
-#[derive(Clone, Copy, Debug, PartialEq, Eq)]
+#[derive(Clone, Copy, PartialEq, Eq)]
 pub enum PlayEnd {
     /// Everything below this position is played.
     Played { upto: Pos },

@@ -4,7 +4,7 @@ use crate::command::Word;
 use tg_base::{Epoch, Many, Oid, Pos};
 
 /// Why a command is refused.
-#[derive(Clone, Copy, Debug, PartialEq, Eq)]
+#[derive(Clone, Copy, PartialEq, Eq)]
 pub enum Refusal {
     /// An earlier command has no reply yet.
     Busy { command: Word },

@@ -4,7 +4,6 @@ use crate::refusal::Refusal;
 use tg_base::{Epoch, Oid, Part, Pos};
 
 /// What a client answers.
-#[derive(Debug)]
 pub enum What<Op, Ask, Ans> {
     /// A transaction was begun.
     Begin,
@@ -151,14 +150,14 @@ impl<Op: Drop, Ask: Drop, Ans: Drop> Drop for What<Op, Ask, Ans> {
 }
 
 /// What a client answers, with the number of the transaction that it speaks of, or 0.
-#[derive(Debug, Drop)]
+#[derive(Drop)]
 pub struct Note<Op, Ask, Ans> {
     pub tx: u32,
     pub what: What<Op, Ask, Ans>,
 }
 
 /// A reply: in which event, by which client, and of which of its transactions, which count from 1.
-#[derive(Debug, Drop)]
+#[derive(Drop)]
 pub struct Mark<Op, Ask, Ans> {
     pub event: u64,
     pub client: u16,

@@ -12,7 +12,7 @@ use tg_model::{Command, Event};
 use tg_script::{Line, parse_line};
 
 /// What a line asks of a node.
-#[derive(Debug, Drop)]
+#[derive(Drop)]
 pub enum Asked {
     /// A tick.
     Tick,

@@ -25,7 +25,7 @@ pub const MOST_STEPS: u32 = 200_000;
 pub const MOST_DATAGRAMS: u32 = 1_000_000;
 
 /// Which node it is, and the number of the line that it follows, from 1.
-#[derive(Clone, Copy, Debug)]
+#[derive(Clone, Copy)]
 pub struct Place {
     pub node: NodeId,
     pub event: u64,

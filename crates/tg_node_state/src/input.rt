@@ -5,7 +5,7 @@ use tg_kind::Kind;
 use tg_model::Command;
 
 /// What comes to a node.
-#[derive(Debug, Drop)]
+#[derive(Drop)]
 pub enum Input<O, Q> {
     Tick,
     /// A packet that was sent to it.

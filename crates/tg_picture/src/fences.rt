@@ -14,7 +14,7 @@ use tg_base::{Epoch, List, Msg, NoMemory, NodeId, Packet, Projection};
 use tg_world_log::newest;
 
 /// A step from which on an older epoch is refused.
-#[derive(Clone, Copy, Debug, PartialEq, Eq)]
+#[derive(Clone, Copy, PartialEq, Eq)]
 pub enum Band {
     /// A unit was sealed: from this step on it serves this epoch alone.
     Sealed {

@@ -35,7 +35,7 @@ pub struct Reply {
 }
 
 /// What came of a position of the log.
-#[derive(Clone, Copy, Debug, PartialEq, Eq)]
+#[derive(Clone, Copy, PartialEq, Eq)]
 pub enum Standing {
     /// A commit record that is committed.
     Committed,

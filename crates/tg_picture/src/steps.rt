@@ -3,7 +3,7 @@
 use tg_base::{NodeId, Role};
 
 /// What happened in a step.
-#[derive(Clone, Copy, Debug, PartialEq, Eq)]
+#[derive(Clone, Copy, PartialEq, Eq)]
 pub enum Happening {
     /// A client was given a command.
     Given { client: u16 },
@@ -18,7 +18,7 @@ pub enum Happening {
 }
 
 /// A step of a run, with what there was when it had been made.
-#[derive(Clone, Copy, Debug)]
+#[derive(Clone, Copy)]
 pub struct Step {
     /// The event line of the script that it belongs to, from 1.
     pub line: u64,

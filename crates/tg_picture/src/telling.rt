@@ -9,7 +9,7 @@ use std::alloc::Global;
 use tg_base::{List, NoMemory};
 
 /// The place of a reply: replies and steps count from 0.
-#[derive(Clone, Copy, Debug, PartialEq, Eq)]
+#[derive(Clone, Copy, PartialEq, Eq)]
 pub struct Telling {
     pub reply: u64,
     pub step: u64,

@@ -10,7 +10,7 @@ use std::alloc::Global;
 use tg_base::{List, NoMemory, NodeId, Packet};
 
 /// How the course of a packet ends.
-#[derive(Clone, Copy, Debug, PartialEq, Eq)]
+#[derive(Clone, Copy, PartialEq, Eq)]
 pub enum Ending {
     /// It came for the first time.
     First,
@@ -21,7 +21,7 @@ pub enum Ending {
 }
 
 /// The course of a packet, from the node that sent it to the one that it was sent to.
-#[derive(Clone, Copy, Debug, PartialEq, Eq)]
+#[derive(Clone, Copy, PartialEq, Eq)]
 pub struct Course {
     pub packet: u64,
     pub from: NodeId,

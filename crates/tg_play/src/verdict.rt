@@ -3,7 +3,7 @@
 use tg_base::Oid;
 
 /// Whether a commit record is committed, as far as a view can tell.
-#[derive(Clone, Copy, Debug)]
+#[derive(Clone, Copy)]
 pub enum Verdict {
     Commits,
     Aborts,

@@ -4,7 +4,7 @@ use crate::reconf::Reconf;
 use tg_base::{Epoch, List, Out, Pos, Projection};
 
 /// How a reconfiguration ends: each time with the layout on which the client then stands.
-#[derive(Debug, Drop)]
+#[derive(Drop)]
 pub enum ReconfEnd {
     /// The client's own layout was decided for this epoch, and its sequencer has started, or a newer layout is
     /// known.

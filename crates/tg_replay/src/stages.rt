@@ -13,7 +13,7 @@ pub struct Run {
 }
 
 /// How reading ended.
-#[derive(Clone, Copy, Debug, PartialEq, Eq)]
+#[derive(Clone, Copy, PartialEq, Eq)]
 pub enum End {
     /// The text was read to its end.
     Whole,

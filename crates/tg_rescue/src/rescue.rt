@@ -23,7 +23,7 @@ use tg_model::PlayEnd;
 use tg_play::{Base, Verdict, View};
 
 /// What a turn of a rescue comes to.
-#[derive(Clone, Copy, Debug, PartialEq, Eq)]
+#[derive(Clone, Copy, PartialEq, Eq)]
 pub enum RescueTurn {
     /// This object joins the set, and the work starts over.
     Wider { added: Oid },

@@ -17,7 +17,7 @@ use tg_any::{are_objects, number, object};
 use tg_base::{Chain, Cluster, List, NoMemory, Oid, TextFault};
 
 /// How many nodes of each role there are, and how many positions the log may have.
-#[derive(Clone, Copy, Debug, PartialEq, Eq)]
+#[derive(Clone, Copy, PartialEq, Eq)]
 pub struct Sizes {
     pub units: u16,
     pub layouts: u16,

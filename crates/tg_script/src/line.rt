@@ -17,7 +17,7 @@ use tg_base::{Cluster, NoMemory, NodeId, Oid};
 use tg_model::Event;
 
 /// A line of a script below its header.
-#[derive(Debug, Drop)]
+#[derive(Drop)]
 pub enum Line {
     /// An event, but an update.
     Event { event: Event<AnyOp, AnyAsk> },

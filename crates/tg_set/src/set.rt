@@ -52,7 +52,7 @@ impl Model for Set {
 }
 
 /// What changes a set.
-#[derive(Debug, Drop)]
+#[derive(Drop)]
 pub enum SetOp {
     /// Adds a number.
     Include { number: u64 },
@@ -61,7 +61,7 @@ pub enum SetOp {
 }
 
 /// What looks at a set.
-#[derive(Debug, Drop)]
+#[derive(Drop)]
 pub enum SetAsk {
     /// Whether the set has a number. It takes no memory.
     Member { number: u64 },
@@ -72,7 +72,7 @@ pub enum SetAsk {
 }
 
 /// What an ask of a set is answered.
-#[derive(Debug, Drop)]
+#[derive(Drop)]
 pub enum SetAns {
     Member(bool),
     Count(u64),

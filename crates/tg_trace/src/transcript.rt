@@ -15,7 +15,7 @@ pub type AnyDone = Done<AnyOp>;
 
 /// What a run has told: the objects of its header, the replies in order, and the committed transactions
 /// by their places.
-#[derive(Debug, Drop)]
+#[derive(Drop)]
 pub struct Transcript {
     /// The objects of the header.
     pub objects: List<Oid>,

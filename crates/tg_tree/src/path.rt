@@ -12,7 +12,7 @@ use tg_codec::{ReadFault, put_text, u8_in, u16_in};
 
 /// A slash, or one or more times a slash and a name, which is a text of the letters, the digits, the
 /// underscore, the full stop and the hyphen; at most 4,096 bytes.
-#[derive(Debug, Drop)]
+#[derive(Drop)]
 pub struct Path {
     text: String,
 }

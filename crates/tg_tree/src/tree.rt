@@ -59,7 +59,7 @@ impl Model for Tree {
 }
 
 /// What changes a tree.
-#[derive(Debug, Drop)]
+#[derive(Drop)]
 pub enum TreeOp {
     /// Adds a path with a text. It changes nothing where the path is there or its parent isn't.
     Create { path: Path, text: Text },
@@ -70,7 +70,7 @@ pub enum TreeOp {
 }
 
 /// What looks at a tree.
-#[derive(Debug, Drop)]
+#[derive(Drop)]
 pub enum TreeAsk {
     /// The text that the path holds.
     Data { path: Path },
@@ -81,7 +81,7 @@ pub enum TreeAsk {
 }
 
 /// What an ask of a tree is answered.
-#[derive(Debug, Drop)]
+#[derive(Drop)]
 pub enum TreeAns {
     Data(Option<Text>),
     Has(bool),

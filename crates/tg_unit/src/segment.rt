@@ -10,7 +10,7 @@ use std::alloc::Global;
 use tg_base::{Cell, List, NoMemory};
 
 /// The cells of 64 positions. A place is what is left of a position divided by 64.
-#[derive(Debug, Drop)]
+#[derive(Drop)]
 pub struct Segment {
     /// A bit for each place that has a cell.
     pub held: u64,

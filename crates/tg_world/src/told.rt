@@ -10,7 +10,7 @@ use tg_kind::Registry;
 use tg_model::{Mark, MarkOf, Note, NoteOf};
 
 /// What a world notes of a client when it is given a command while none waits.
-#[derive(Clone, Copy, Debug)]
+#[derive(Clone, Copy)]
 pub struct CommandStart {
     /// Its next request number: answers from there on are of this command.
     pub next: u64,
