@@ -1,15 +1,11 @@
 -- Entries that are put in order.
-use Rattle.std.proofs.Common.{◌≡◌, ℕ, Bool, true, ◌&&◌, List, [], ◌∷◌, ◌++◌, nat_lt, Less, Option, Some, None, refl, ap, ◌∙◌, arith}
-use Rattle.std.specs.List.{list_all, AllByRecursion}
-use Rattle.std.specs.List.Sorted.{IsStrictlySortedBy}
-use Rattle.std.specs.Ordering.{nat_cmp}
-use Rattle.std.proofs.lemmas.Bool.Decides.{nat_tests}
+use Rattle.std.proofs.Common.{◌≡◌, ℕ, Bool, true, ◌&&◌, List, [], ◌∷◌, ◌++◌, nat_lt, Option, Some, None, refl, ap, ◌∙◌, arith}
+use Rattle.std.specs.List.{list_all}
 use Rattle.std.proofs.lemmas.List.{append-nil}
-use Rattle.std.proofs.lemmas.Map.Keys.{sorted_head, sorted_tail}
 use Rattle.tg_entry.specs.declared.entry.Entry.{Entry}
 use Rattle.tg_entry.specs.Drafts.{all_below}
 use Rattle.tg_protocol.specs.Views.{Entries, entry_if}
-use Rattle.tg_client_cells.proofs.Unions.{rises}
+use Rattle.tg_client_cells.specs.Words.{rises}
 
 -- the positions that are left rise, and all entries stand below each
 abbrev pub left_above : Entries → List ℕ → Bool
@@ -49,13 +45,6 @@ none-above (p ∷ ps) = none-above ps
 pub above_none : (ps : List ℕ) → rises ps ≡ true → left_above [] ps ≡ true
 above_none ps h = ap (λ b. b && list_all (λ q. all_below q []) ps) h ∙ none-above ps
 
-less-all : (p : ℕ) (ps : List ℕ) → AllByRecursion (λ q. nat_cmp p q ≡ Less) ps → list_all (λ q. nat_lt p q) ps ≡ true
-less-all p [] h = refl
-less-all p (q ∷ ps) h =
-    let one : nat_lt p q ≡ true = grind (arith, nat_tests, h.0) in
-    rw one (less-all p ps h.1)
-
--- positions of a set
-pub sorted_rises : (ps : List ℕ) → IsStrictlySortedBy nat_cmp ps → rises ps ≡ true
-sorted_rises [] h = refl
-sorted_rises (p ∷ ps) h = rw (less-all p ps (sorted_head nat_cmp p ps h)) (sorted_rises ps (sorted_tail nat_cmp p ps h))
+-- the next one stands above all entries
+pub next_over : (es : Entries) (p : ℕ) (ps : List ℕ) → left_above es (p ∷ ps) ≡ true → all_below p es ≡ true
+next_over es p ps h = grind arith

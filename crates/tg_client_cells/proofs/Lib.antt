@@ -6,6 +6,7 @@ pub mod Ranges
 pub mod Streams
 pub mod Ascending
 pub mod Finding
+pub mod Rising
 pub mod Gathering
 pub mod Giving
 pub mod Settling

@@ -12,8 +12,8 @@ use Rattle.std.proofs.lemmas.Map.Keys.{sorted_head, sorted_tail}
 use Rattle.tg_base.specs.Orders.{oid_cmp}
 use Rattle.tg_base.specs.declared.ids.Oid.{Oid}
 use Rattle.tg_protocol.specs.Words.{has_num, with_nums}
-use Rattle.tg_client_cells.specs.Words.{ByStream, positions_in, with_positions, positions_of, any_has, is_within, within}
-use Rattle.tg_client_cells.proofs.Unions.{rises, rises_union, filter_union, has_all}
+use Rattle.tg_client_cells.specs.Words.{ByStream, positions_in, with_positions, positions_of, any_has, is_within, within, rises}
+use Rattle.tg_client_cells.proofs.Unions.{rises_union, filter_union, has_all}
 
 same-oid : (a b : Oid) → a.0 ≡ b.0 → a ≡ b
 same-oid a b e = ap (λ n. record { 0 = n }) e

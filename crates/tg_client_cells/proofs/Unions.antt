@@ -1,12 +1,11 @@
 -- Positions united.
-use Rattle.std.proofs.Common.{◌≡◌, ℕ, ◌<◌, Bool, true, false, cond, ◌&&◌, ◌||◌, List, [], ◌∷◌, filter, nat_lt, refl, sym, ap, ◌∙◌, inl, inr, arith}
+use Rattle.std.proofs.Common.{◌≡◌, ℕ, ◌<◌, Bool, true, false, cond, ◌||◌, List, [], ◌∷◌, filter, nat_lt, refl, sym, ap, ◌∙◌, inl, inr, arith}
 use Rattle.std.specs.Prelude.{◌==◌}
 use Rattle.std.specs.List.{list_all}
-use Rattle.std.specs.BTreeSet.{insert_key}
-use Rattle.std.specs.Ordering.{nat_cmp}
 use Rattle.std.proofs.lemmas.Bool.{cases_eq, cases_lt}
 use Rattle.std.proofs.lemmas.Bool.Decides.{nat_tests}
 use Rattle.tg_protocol.specs.Words.{has_num, with_num, with_nums}
+use Rattle.tg_client_cells.specs.Words.{rises}
 
 -- ---- one position
 
@@ -18,11 +17,6 @@ put_here x y ys h = grind (arith, nat_tests)
 
 pub put_past : (x y : ℕ) (ys : List ℕ) → y < x → with_num x (y ∷ ys) ≡ y ∷ with_num x ys
 put_past x y ys h = grind (arith, nat_tests)
-
--- as a tree set puts it
-pub as_inserted : (x : ℕ) (ys : List ℕ) → insert_key nat_cmp ys x ≡ with_num x ys
-as_inserted x [] = refl
-as_inserted x (y ∷ ys) = let more : insert_key nat_cmp ys x ≡ with_num x ys = as_inserted x ys in grind (arith, nat_tests)
 
 swap_step : (x y z : ℕ) (zs : List ℕ) → with_num x (with_num y zs) ≡ with_num y (with_num x zs) → with_num x (with_num y (z ∷ zs)) ≡ with_num y (with_num x (z ∷ zs))
 swap_step x y z zs h = grind (arith, nat_tests)
@@ -81,11 +75,7 @@ has_all p (x ∷ xs) ys = has_one p x (with_nums xs ys) ∙ ap (λ b. (p == x) |
 
 -- ---- filtered
 
-abbrev pub rises : List ℕ → Bool
-rises [] = true
-rises (x ∷ xs) = list_all (λ y. nat_lt x y) xs && rises xs
-
-above_filter : (f : ℕ → Bool) (x : ℕ) (ys : List ℕ) → list_all (λ y. nat_lt x y) ys ≡ true → list_all (λ y. nat_lt x y) (filter f ys) ≡ true
+pub above_filter : (f : ℕ → Bool) (x : ℕ) (ys : List ℕ) → list_all (λ y. nat_lt x y) ys ≡ true → list_all (λ y. nat_lt x y) (filter f ys) ≡ true
 above_filter f x [] h = refl
 above_filter f x (y ∷ ys) h = let more : list_all (λ z. nat_lt x z) ys ≡ true → list_all (λ z. nat_lt x z) (filter f ys) ≡ true = above_filter f x ys in grind (arith, nat_tests)
 
@@ -93,11 +83,11 @@ pub put_first : (x : ℕ) (ys : List ℕ) → list_all (λ y. nat_lt x y) ys ≡
 put_first x [] h = refl
 put_first x (y ∷ ys) h = grind (arith, nat_tests)
 
-above_less : (x y : ℕ) (ys : List ℕ) → x < y → list_all (λ z. nat_lt y z) ys ≡ true → list_all (λ z. nat_lt x z) ys ≡ true
+pub above_less : (x y : ℕ) (ys : List ℕ) → x < y → list_all (λ z. nat_lt y z) ys ≡ true → list_all (λ z. nat_lt x z) ys ≡ true
 above_less x y [] lt h = refl
 above_less x y (z ∷ ys) lt h = let more : list_all (λ w. nat_lt y w) ys ≡ true → list_all (λ w. nat_lt x w) ys ≡ true = above_less x y ys lt in grind (arith, nat_tests)
 
-above_put : (x y : ℕ) (ys : List ℕ) → y < x → list_all (λ z. nat_lt y z) ys ≡ true → list_all (λ z. nat_lt y z) (with_num x ys) ≡ true
+pub above_put : (x y : ℕ) (ys : List ℕ) → y < x → list_all (λ z. nat_lt y z) ys ≡ true → list_all (λ z. nat_lt y z) (with_num x ys) ≡ true
 above_put x y [] lt h = grind (arith, nat_tests)
 above_put x y (z ∷ ys) lt h = let more : list_all (λ w. nat_lt y w) ys ≡ true → list_all (λ w. nat_lt y w) (with_num x ys) ≡ true = above_put x y ys lt in grind (arith, nat_tests)
 

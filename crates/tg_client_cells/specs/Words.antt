@@ -46,6 +46,14 @@ within low high ps = filter (is_within low high) ps
 abbrev pub below : ℕ → List ℕ → List ℕ
 below high ps = filter (λ p. nat_lt p high) ps
 
+abbrev pub from : ℕ → List ℕ → List ℕ
+from low ps = filter (λ p. nat_le low p) ps
+
+-- each is above those before it
+abbrev pub rises : List ℕ → Bool
+rises [] = true
+rises (x ∷ xs) = list_all (λ y. nat_lt x y) xs && rises xs
+
 -- Cells.
 
 abbrev pub cells_within : ℕ → ℕ → List (ℕ × Cell) → List (ℕ × Cell)

@@ -102,7 +102,7 @@ impl StreamPositions {
     {
         let mut positions = Positions::new(alloc);
         for at in (0..streams.len()).rev() {
-            positions = self.gather_one(streams[at], low, high, positions)?;
+            positions = self.gather_one(alloc, streams[at], low, high, positions)?;
         }
         Ok(positions)
     }
@@ -110,6 +110,7 @@ impl StreamPositions {
     /// Puts those of one stream to others. Where memory runs out, all are given up.
     fn gather_one(
         &self,
+        alloc: Global,
         oid: Oid,
         low: Pos,
         high: Pos,
@@ -119,7 +120,7 @@ impl StreamPositions {
     {
         match self.get(oid) {
             None => Ok(positions),
-            Some(others) => positions.put_within(others, low, high),
+            Some(others) => positions.put_within(alloc, others, low, high),
         }
     }
 }

@@ -91,7 +91,8 @@ pub fn entries_at(
     ensures spelled { IfOk result (λ es. AreSpelled es) }
 {
     let mut entries = Entries::new(alloc);
-    for pos in positions.as_set() {
+    let rising = positions.as_slice();
+    for pos in rising {
         let entry = entry_at(alloc, cells, *pos)?;
         put_entry(&mut entries, *pos, entry)?;
     }

@@ -264,7 +264,7 @@ impl Known {
         ensures { IfOk result (λ p. p ≡ within low high (all_positions self.now found.now streams.now)) }
     {
         let members = found.gather(alloc, streams, low, high)?;
-        members.put_within(&self.own, low, high)
+        members.put_within(alloc, &self.own, low, high)
     }
 }
 

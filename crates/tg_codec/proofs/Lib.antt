@@ -2,6 +2,7 @@ pub mod Steps
 pub mod Laws
 pub mod Numbers
 pub mod Widths
+pub mod AtOnce
 pub mod Many
 pub mod Shapes
 pub mod Bounds

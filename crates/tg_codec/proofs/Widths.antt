@@ -35,7 +35,7 @@ wide_again {limit} {spell} n wide allowed r rest e =
     let met : meets allowed (0 + worth (spell r)) (0 + worth (spell r)) ≡ true = subst (λ k. meets allowed k k ≡ true) (sym value0) (and-left _ _ e) in
     number_again allowed n 0 (spell r) rest (wide.bytes r lt) (wide.len r lt) met ∙ ap (λ k. Ok (k, rest)) value0
 
-worth-w16 : (front : List ℕ) → length front ≡ 2 → worth front ≡ from_be_bytes w16 front
+pub worth-w16 : (front : List ℕ) → length front ≡ 2 → worth front ≡ from_be_bytes w16 front
 worth-w16 [] sized = absurd (omega (arith, sized))
 worth-w16 (a ∷ []) sized = absurd (omega (arith, sized))
 worth-w16 (a ∷ b ∷ []) sized = omega arith
@@ -58,7 +58,7 @@ pub u16_law : (allowed : List (ℕ × ℕ)) → IsCodec (u16 allowed)
 unfolding u16_at
 u16_law allowed = record { exact = record { takes = wide_takes 1 wide_w16 allowed; again = wide_again 1 wide_w16 allowed }; stops = u16_stops allowed }
 
-worth-w32 : (front : List ℕ) → length front ≡ 4 → worth front ≡ from_be_bytes w32 front
+pub worth-w32 : (front : List ℕ) → length front ≡ 4 → worth front ≡ from_be_bytes w32 front
 worth-w32 [] sized = absurd (omega (arith, sized))
 worth-w32 (a ∷ []) sized = absurd (omega (arith, sized))
 worth-w32 (a ∷ b ∷ []) sized = absurd (omega (arith, sized))
@@ -85,7 +85,7 @@ pub u32_law : (allowed : List (ℕ × ℕ)) → IsCodec (u32 allowed)
 unfolding u32_at
 u32_law allowed = record { exact = record { takes = wide_takes 3 wide_w32 allowed; again = wide_again 3 wide_w32 allowed }; stops = u32_stops allowed }
 
-worth-w64 : (front : List ℕ) → length front ≡ 8 → worth front ≡ from_be_bytes w64 front
+pub worth-w64 : (front : List ℕ) → length front ≡ 8 → worth front ≡ from_be_bytes w64 front
 worth-w64 [] sized = absurd (omega (arith, sized))
 worth-w64 (a ∷ []) sized = absurd (omega (arith, sized))
 worth-w64 (a ∷ b ∷ []) sized = absurd (omega (arith, sized))

@@ -55,7 +55,8 @@ pub fn read_items<'a, I: Item>(
     ensures exact { Gives (λ x. (x.0, x.1.now)) result (read_many I.format I.following count first bytes.now) }
     ensures len { IfOk result (λ x. length x.0 ≡ count) }
 {
-    let mut items = List::new(alloc);
+    // (a hint of the size: what the bytes could hold)
+    let mut items = Vec::with_capacity(alloc, count.min(bytes.len() as u64) as usize)?;
     let mut state = first;
     let mut rest = bytes;
     for _ in 0..count {
@@ -64,7 +65,7 @@ pub fn read_items<'a, I: Item>(
         items.push(item)?;
         rest = after;
     }
-    Ok((items, rest))
+    Ok((List::from_vec(items), rest))
 }
 
 /// Puts the spellings of the items last.

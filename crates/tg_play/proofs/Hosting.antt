@@ -2,7 +2,8 @@
 use Rattle.std.specs.Prelude.{◌≡◌, ℕ, ◌+◌, ◌≤◌, Bool, true, false, cond, nat_lt, List, [], ◌∷◌, Option, Some, None, refl}
 use Rattle.std.specs.BTreeMap.{insert_entry, is_at}
 use Rattle.std.specs.Cmp.{IsTotalOrder, nat_cmp_total, unsigned_ties, unsigned_Decides, on_total}
-use Rattle.std.specs.Map.{remove_entry}
+use Rattle.std.specs.List.Sorted.{IsStrictlySortedBy}
+use Rattle.std.specs.Map.{keys_of, remove_entry, set_value}
 use Rattle.std.specs.Ordering.{is_eq}
 use Rattle.std.proofs.Common.{sym, ap, ◌∙◌, subst, arith}
 use Rattle.std.proofs.lemmas.Bool.Decides.{nat_tests}
@@ -20,6 +21,7 @@ use Rattle.tg_play.specs.declared.hosted.Hosted.{Hosted}
 use Rattle.tg_play.specs.Kept.{Hosts, Kept, hosted_of, own_noted, own}
 use Rattle.tg_play.specs.Relations.{KeepsHosted, KeepsObject, KeepsObjects, written_state, written_noted}
 use Rattle.tg_play.proofs.Own.{own_other, own_same}
+use Rattle.tg_vers.proofs.Placing.{put_back}
 
 -- ---- objects by number
 
@@ -31,6 +33,11 @@ oid_eq_is o q = unsigned_ties o.0 q.0
 
 pub same_oid : (o q : Oid) → oid_eq o q ≡ true → o ≡ q
 same_oid o q e = let is : o.0 ≡ q.0 = (unsigned_Decides o.0 q.0).0 e in λ i. record { 0 = is i }
+
+-- an object that is taken out and put in again is one that is changed where it stands
+pub hosted_back : {S : Type 0} (o : Oid) (g h : Hosted S) (hs : Hosts S) → IsStrictlySortedBy oid_cmp (keys_of hs) → hosted_of hs o ≡ Some g
+    → insert_entry oid_cmp (remove_entry (is_at (oid_cmp o)) hs) o h ≡ set_value (is_at (oid_cmp o)) hs h
+hosted_back o g h hs sorted found = put_back oid_total (λ a b e. same_oid a b (oid_eq_is a b ∙ ap is_eq e)) o g h hs sorted found
 
 pub oid_itself : (o : Oid) → oid_eq o o ≡ true
 oid_itself o = grind arith

@@ -74,6 +74,18 @@ impl<K> Hosted<K> {
 }
 
 impl<K: Registry> Hosted<K> {
+    /// An object that was never written, to stand in another's place while that one is changed. An `Err` is want of memory.
+    pub fn blank(alloc: Global, oid: Oid) -> Result<Hosted<K>, NoMemory>
+        ensures { IfOk result (λ h. h.upto ≡ 0) }
+    {
+        Ok(Hosted {
+            state: K::fresh(alloc, oid, &[])?,
+            base: Versions::new(alloc),
+            upto: 0,
+            noted: Versions::new(alloc),
+        })
+    }
+
     /// The version of a read part at a position, as far as it is known.
     pub fn version_at(&self, read: &ReadMark, pos: Pos) -> u64
         ensures { (v : told.View (meaning_of K.Registry)) (b : told.Base (meaning_of K.Registry)) (s : Option K) → KeepsHosted (meaning_of K.Registry) read.now.oid self.now b s v.noted → result ≡ told.version_by (meaning_of K.Registry) v pos (Some b) read.now }

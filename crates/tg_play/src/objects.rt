@@ -14,6 +14,7 @@ use crate::base::Base;
 use crate::hosted::Hosted;
 use std::alloc::Global;
 use std::collections::BTreeMap;
+use std::mem;
 use tg_base::{List, NoMemory, Oid, Pos, ReadMark};
 use tg_entry::WriteOp;
 use tg_kind::Registry;
@@ -97,11 +98,12 @@ pub fn write<K: Registry>(
     ensures objects { (v : told.View (meaning_of K.Registry)) → KeepsObjects (meaning_of K.Registry) objects.old.entries v → OnOk result (KeepsObjects (meaning_of K.Registry) objects.new.entries (told.write (meaning_of K.Registry) pos v write.now)) }
     ensures lawful { AreLawful (pos + 1) objects.old.entries → OnOk result (AreLawful (pos + 1) objects.new.entries) }
 {
-    match objects.remove(&write.oid) {
+    match objects.get_mut(&write.oid) {
         None => Ok(()),
-        Some(hosted) => {
-            let hosted = hosted.write(alloc, write, pos)?;
-            objects.insert(write.oid, hosted)?;
+        Some(slot) => {
+            let blank = Hosted::blank(alloc, write.oid)?;
+            let hosted = mem::replace(slot, blank);
+            *slot = hosted.write(alloc, write, pos)?;
             Ok(())
         }
     }

@@ -19,13 +19,13 @@ use Rattle.tg_vers.proofs.Rows.{Rising, EntriesRise, Moves, rows, newer, rising_
 
 -- ---- objects
 
-oid_total : IsTotalOrder oid_cmp
+pub oid_total : IsTotalOrder oid_cmp
 oid_total = on_total (λ (o : Oid). o.0) nat_cmp_total
 
 oid_eq_is : (o q : Oid) → oid_eq o q ≡ is_eq (oid_cmp o q)
 oid_eq_is o q = unsigned_ties o.0 q.0
 
-same_oid : (o q : Oid) → is_eq (oid_cmp o q) ≡ true → o ≡ q
+pub same_oid : (o q : Oid) → is_eq (oid_cmp o q) ≡ true → o ≡ q
 same_oid o q e = let is : o.0 ≡ q.0 = (unsigned_Decides o.0 q.0).0 (oid_eq_is o q ∙ e) in λ i. record { 0 = is i }
 
 -- what an object has after a change of one

@@ -100,47 +100,33 @@ impl Object {
         }
     }
 
-    /// The object after a change of a part, which has this version then.
-    /// A change of the whole leaves no part a version of its own.
-    pub fn note(self, part: &Part, version: u64) -> Result<Object, NoMemory>
-        ensures { IfOk result (λ o. o ≡ noted_in self part.now version) }
+    /// A change of a part, which has this version then. A change of the whole leaves no part a version of its own.
+    pub fn note(&mut self, part: &Part, version: u64) -> Result<(), NoMemory>
+        ensures { OnOk result (self.new ≡ noted_in self.old part.now version) }
     {
         match part {
-            Part::All => Ok(self.note_whole(version)),
+            Part::All => {
+                self.note_whole(version);
+                Ok(())
+            }
             _ => self.note_key(part.copy()?, version),
         }
     }
 
-    fn note_whole(self, version: u64) -> Object
-        ensures { result ≡ record { version = version; whole = version; keys = [] } }
+    fn note_whole(&mut self, version: u64)
+        ensures { self.new ≡ record { version = version; whole = version; keys = [] } }
     {
-        let Object {
-            version: _,
-            whole: _,
-            mut keys,
-        } = self;
-        keys.clear();
-        Object {
-            version,
-            whole: version,
-            keys,
-        }
+        self.version = version;
+        self.whole = version;
+        self.keys.clear();
     }
 
-    fn note_key(self, part: Part, version: u64) -> Result<Object, NoMemory>
-        ensures { IfOk result (λ o. o ≡ record { version = version; whole = self.whole; keys = insert_entry part_cmp self.keys part version }) }
+    fn note_key(&mut self, part: Part, version: u64) -> Result<(), NoMemory>
+        ensures { OnOk result (self.new ≡ record { version = version; whole = self.old.whole; keys = insert_entry part_cmp self.old.keys part version }) }
     {
-        let Object {
-            version: _,
-            whole,
-            mut keys,
-        } = self;
-        keys.insert(part, version)?;
-        Ok(Object {
-            version,
-            whole,
-            keys,
-        })
+        self.version = version;
+        self.keys.insert(part, version)?;
+        Ok(())
     }
 
     /// The version that was noted last with the whole, and rising by part those of the parts

@@ -1,9 +1,6 @@
 //! The versions of objects.
 
-ghost use Rattle.std.specs.Prelude.{◌≡◌, ◌+◌, ◌^◌, ◌<◌, IfOk};
-ghost use Rattle.std.specs.BTreeMap.{is_at};
-ghost use Rattle.std.specs.Map.{remove_entry};
-ghost use Rattle.tg_base.specs.Orders.{oid_cmp};
+ghost use Rattle.std.specs.Prelude.{◌≡◌, ◌+◌, ◌^◌, ◌<◌, IfOk, OnOk};
 ghost use Rattle.tg_base.specs.declared.marks.ReadMark.{ReadMark};
 ghost use Rattle.tg_protocol.specs.Versions as told;
 ghost use Rattle.tg_protocol.specs.Versions.{no_versions, based, version_of, with_change, first_changed, parts_of};
@@ -38,14 +35,24 @@ impl Model for Versions {
     ghost view = { λ v. v.objects.entries };
 }
 
-// Takes an object out, or a new one where there is none.
-fn taken(alloc: Global, objects: &mut BTreeMap<Oid, Object>, oid: Oid) -> Object
-    ensures object { result ≡ kept_of objects.old.entries oid }
-    ensures rest { objects.new.entries ≡ remove_entry (is_at (oid_cmp oid)) objects.old.entries }
+// Notes a change of an object's part, where the object stands.
+fn note_in(
+    alloc: Global,
+    objects: &mut BTreeMap<Oid, Object>,
+    oid: Oid,
+    touch: &Part,
+    version: u64,
+) -> Result<(), NoMemory>
+    ensures { OnOk result (objects.new.entries ≡ noted objects.old.entries oid touch.now version) }
 {
-    match objects.remove(&oid) {
-        None => Object::new(alloc),
-        Some(object) => object,
+    match objects.get_mut(&oid) {
+        None => {
+            let mut object = Object::new(alloc);
+            object.note(touch, version)?;
+            objects.insert(oid, object)?;
+            Ok(())
+        }
+        Some(object) => object.note(touch, version),
     }
 }
 
@@ -120,7 +127,6 @@ impl Versions {
     }
 
     // A part's change to a version is kept.
-    #[tactic(auto, unfolding(crate::specs::Kept::noted))]
     fn noted(
         self,
         alloc: Global,
@@ -131,8 +137,7 @@ impl Versions {
         ensures { IfOk result (λ r. r ≡ noted self oid touch.now version) }
     {
         let Versions { mut objects } = self;
-        let object = taken(alloc, &mut objects, oid).note(touch, version)?;
-        objects.insert(oid, object)?;
+        note_in(alloc, &mut objects, oid, touch, version)?;
         Ok(Versions { objects })
     }
 
