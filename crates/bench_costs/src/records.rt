@@ -16,7 +16,7 @@ pub fn record_at(alloc: Global, pos: Pos) -> Result<Entry, NoMemory>
 {
     let mut bytes = List::new(alloc);
     bytes.extend(&op_at(pos))?;
-    let op = Blob::new(bytes).unwrap();
+    let op = Blob::new(alloc, bytes)?.unwrap();
     let mut writes = List::new(alloc);
     writes.push(WriteOp { oid: DIR, op })?;
     let mut reads = List::new(alloc);

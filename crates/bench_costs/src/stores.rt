@@ -91,5 +91,5 @@ fn page(alloc: Global) -> Result<Blob, NoMemory>
 {
     let mut bytes = List::new(alloc);
     bytes.push(7)?;
-    Ok(Blob::new(bytes).unwrap())
+    Ok(Blob::new(alloc, bytes)?.unwrap())
 }

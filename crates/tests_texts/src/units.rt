@@ -107,7 +107,7 @@ fn with_page(
 ) -> Result<Option<Msg>, NoMemory> {
     let mut bytes = List::new(alloc);
     bytes.push(byte.min(255) as u8)?;
-    let Some(page) = Blob::new(bytes) else {
+    let Some(page) = Blob::new(alloc, bytes)? else {
         return Ok(None);
     };
     match word {

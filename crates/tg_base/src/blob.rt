@@ -6,13 +6,15 @@ ghost use Rattle.std.specs.Cmp.Lexicographic.{pointwise, slice_cmp, nat_list_eq_
 
 use crate::fault::NoMemory;
 use crate::list::List;
+use std::alloc::Global;
 use std::cmp::Ordering;
 use std::marker::Model;
+use std::rc::Rc;
 
-/// A page: bytes, of which there are at most 4,096.
+/// A page: bytes, of which there are at most 4,096. Equal pages that are copies of one share their bytes.
 #[derive(Clone, Drop)]
 pub struct Blob {
-    bytes: List<u8>,
+    bytes: Rc<List<u8>>,
 }
 
 impl Model for Blob {
@@ -20,26 +22,25 @@ impl Model for Blob {
 
     ghost Value = { List ℕ };
 
-    ghost view = { λ s. s.bytes };
+    ghost view = { λ s. s.bytes.value };
 
-    ghost invariant = { λ s. length s.bytes ≤ 4096 };
-
-    ghost inverse = { λ xs. record { bytes = xs } };
+    ghost invariant = { λ s. length s.bytes.value ≤ 4096 };
 }
 
 impl Blob {
     /// How many bytes fit.
     pub const MAX: usize = 4096;
 
-    /// None exactly where there are more than 4,096 bytes.
-    pub fn new(bytes: List<u8>) -> Option<Blob>
-        ensures fits { IsSome result ↔ (length bytes ≤ 4096) }
-        ensures bytes { IfSome result (λ b. b ≡ bytes) }
+    /// None exactly where there are more than 4,096 bytes. An `Err` is want of memory.
+    pub fn new(alloc: Global, bytes: List<u8>) -> Result<Option<Blob>, NoMemory>
+        ensures fits { IfOk result (λ b. IsSome b ↔ (length bytes ≤ 4096)) }
+        ensures bytes { IfOk result (λ b. IfSome b (λ c. c ≡ bytes)) }
     {
         if bytes.len() > Blob::MAX {
-            return None;
+            return Ok(None);
         }
-        Some(Blob { bytes })
+        let bytes = Rc::new(alloc, bytes)?;
+        Ok(Some(Blob { bytes }))
     }
 
     /// An equal page.
@@ -54,7 +55,7 @@ impl Blob {
         ensures bytes { result.now ≡ self.now }
         ensures fits { length self.now ≤ 4096 }
     {
-        self.bytes.as_slice()
+        self.bytes.as_ref().as_slice()
     }
 
     /// Whether both have the same bytes.
@@ -73,7 +74,7 @@ impl PartialEq for Blob {
     ghost use Rattle.std.proofs.Common.{rules};
 
     fn eq(&self, other: &Self) -> bool {
-        self.bytes == other.bytes
+        self.as_slice() == other.as_slice()
     }
 }
 

@@ -32,7 +32,7 @@ fn text_part(alloc: Global, text: &[u8]) -> Result<Part, NoMemory>
 {
     let mut bytes = List::new(alloc);
     bytes.extend(text)?;
-    Ok(Part::Text(Blob::new(bytes).unwrap()))
+    Ok(Part::Text(Blob::new(alloc, bytes)?.unwrap()))
 }
 
 // The part that a scope names.

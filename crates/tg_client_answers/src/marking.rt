@@ -40,7 +40,7 @@ fn spelled<K: Registry>(alloc: Global, oid: Oid, mark: Pos) -> Result<Blob, NoMe
     let _known = K::touch(&op);
     let mut bytes = List::new(alloc);
     K::put_op(alloc, &op, &mut bytes)?;
-    let blob = Blob::new(bytes).unwrap();
+    let blob = Blob::new(alloc, bytes)?.unwrap();
     Ok(blob)
 }
 

@@ -104,7 +104,7 @@ fn text_part(alloc: Global, text: &[u8]) -> Result<Part, NoMemory>
 {
     let mut bytes = List::new(alloc);
     bytes.extend(text)?;
-    Ok(Part::Text(Blob::new(bytes).unwrap()))
+    Ok(Part::Text(Blob::new(alloc, bytes)?.unwrap()))
 }
 
 /// A command waits, and a sync over the hosted streams begins. An `Err` is want of memory, or of numbers.

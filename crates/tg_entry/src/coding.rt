@@ -85,7 +85,7 @@ pub fn encode(alloc: Global, value: &Entry) -> Result<Blob, EntryFault>
     }
     let mut out = List::new(alloc);
     put_entry(value, &mut out)?;
-    let page = Blob::new(out).unwrap();
+    let page = Blob::new(alloc, out)?.unwrap();
     Ok(page)
 }
 

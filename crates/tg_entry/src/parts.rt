@@ -65,7 +65,7 @@ fn text_above<'a>(
     let (len, rest) = u16_in(&[(tops(bound) as u64 + 1, 4096)], bytes)?;
     let (front, rest) = raw_above(bound, len as usize, rest)?;
     let list = List::from_vec(Vec::from_slice(alloc, front)?);
-    let text = Blob::new(list).unwrap();
+    let text = Blob::new(alloc, list)?.unwrap();
     Ok((text, rest))
 }
 

@@ -136,7 +136,7 @@ fn key(alloc: Global, word: &str) -> Result<Option<Blob>, NoMemory>
     }
     let mut bytes = List::new(alloc);
     bytes.extend(word.as_bytes())?;
-    Ok(Blob::new(bytes))
+    Blob::new(alloc, bytes)
 }
 
 // The version that was read, and the one that stands there now.

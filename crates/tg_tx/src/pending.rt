@@ -161,7 +161,7 @@ impl Pending {
 
     /// Takes a write of these bytes. An `Err` changes nothing.
     #[tactic(auto, unfolding(tg_protocol::specs::Transactions::write_fault))]
-    pub fn put(&mut self, oid: Oid, op: List<u8>) -> Result<(), TxFault>
+    pub fn put(&mut self, alloc: Global, oid: Oid, op: List<u8>) -> Result<(), TxFault>
         requires object { is_object oid ≡ true }
         requires some { 1 ≤ length op }
         ensures fine { OnOk result (write_fault self.old (record { oid = oid; op = op }) ≡ None) }
@@ -175,7 +175,7 @@ impl Pending {
             oid,
             op.as_slice(),
         )?;
-        let op = Blob::new(op).unwrap();
+        let op = Blob::new(alloc, op)?.unwrap();
         self.writes.push(WriteOp { oid, op })?;
         Ok(())
     }

@@ -131,7 +131,7 @@ impl<K: Kind> Tx<K> {
     {
         self.pending.room(oid)?;
         let bytes = spelled::<K>(alloc, &op)?;
-        self.pending.put(oid, bytes)
+        self.pending.put(alloc, oid, bytes)
     }
 
     /// The commit record: the reads rising by object and then part, each once, and the writes in
