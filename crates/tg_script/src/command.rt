@@ -114,53 +114,51 @@ fn object_mark(words: &[&str]) -> Option<(Oid, Pos)>
 fn transaction(alloc: Global, verb: &str, fields: &[&str]) -> Result<Option<AnyCommand>, NoMemory>
     ensures { IfOk result (λ x. x ≡ transaction_read verb.now (texts fields.now)) }
 {
-    if verb == "begin" {
-        return Ok(nothing(fields).map(|()| Command::Begin));
+    match verb {
+        "begin" => Ok(nothing(fields).map(|()| Command::Begin)),
+        "put" => {
+            let Some((oid, op)) = object_op(alloc, fields)? else {
+                return Ok(None);
+            };
+            Ok(Some(Command::Put { oid, op }))
+        }
+        "ask" => {
+            let Some((oid, ask)) = object_ask(alloc, fields)? else {
+                return Ok(None);
+            };
+            Ok(Some(Command::Ask { oid, ask }))
+        }
+        "end" => Ok(nothing(fields).map(|()| Command::End)),
+        "drop" => Ok(nothing(fields).map(|()| Command::Drop)),
+        _ => Ok(None),
     }
-    if verb == "put" {
-        let Some((oid, op)) = object_op(alloc, fields)? else {
-            return Ok(None);
-        };
-        return Ok(Some(Command::Put { oid, op }));
-    }
-    if verb == "ask" {
-        let Some((oid, ask)) = object_ask(alloc, fields)? else {
-            return Ok(None);
-        };
-        return Ok(Some(Command::Ask { oid, ask }));
-    }
-    if verb == "end" {
-        return Ok(nothing(fields).map(|()| Command::End));
-    }
-    if verb == "drop" {
-        return Ok(nothing(fields).map(|()| Command::Drop));
-    }
-    Ok(None)
 }
 
 // `fate`, `decide` and `rescue`.
 fn of_record(alloc: Global, verb: &str, fields: &[&str]) -> Result<Option<AnyCommand>, NoMemory>
     ensures { IfOk result (λ x. x ≡ record_read verb.now (texts fields.now)) }
 {
-    if verb == "fate" {
-        let Some(at) = one(alloc, fields)? else {
-            return Ok(None);
-        };
-        return Ok(Some(Command::Fate { at }));
+    match verb {
+        "fate" => {
+            let Some(at) = one(alloc, fields)? else {
+                return Ok(None);
+            };
+            Ok(Some(Command::Fate { at }))
+        }
+        "decide" => {
+            let Some(at) = one(alloc, fields)? else {
+                return Ok(None);
+            };
+            Ok(Some(Command::Decide { at }))
+        }
+        "rescue" => {
+            let Some(at) = one(alloc, fields)? else {
+                return Ok(None);
+            };
+            Ok(Some(Command::Rescue { at }))
+        }
+        _ => Ok(None),
     }
-    if verb == "decide" {
-        let Some(at) = one(alloc, fields)? else {
-            return Ok(None);
-        };
-        return Ok(Some(Command::Decide { at }));
-    }
-    if verb == "rescue" {
-        let Some(at) = one(alloc, fields)? else {
-            return Ok(None);
-        };
-        return Ok(Some(Command::Rescue { at }));
-    }
-    Ok(None)
 }
 
 // A position, an object and what it is asked.
@@ -183,28 +181,28 @@ fn position_ask(alloc: Global, words: &[&str]) -> Result<Option<(Pos, (Oid, AnyA
 fn of_object(alloc: Global, verb: &str, fields: &[&str]) -> Result<Option<AnyCommand>, NoMemory>
     ensures { IfOk result (λ x. x ≡ object_read verb.now (texts fields.now)) }
 {
-    if verb == "host" {
-        let Some(oid) = one(alloc, fields)? else {
-            return Ok(None);
-        };
-        return Ok(Some(Command::Host { oid }));
+    match verb {
+        "host" => {
+            let Some(oid) = one(alloc, fields)? else {
+                return Ok(None);
+            };
+            Ok(Some(Command::Host { oid }))
+        }
+        "checkpoint" => {
+            let Some(oid) = one(alloc, fields)? else {
+                return Ok(None);
+            };
+            Ok(Some(Command::Checkpoint { oid }))
+        }
+        "forget" => Ok(object_mark(fields).map(|(oid, mark)| Command::Forget { oid, mark })),
+        "ask-at" => {
+            let Some((at, (oid, ask))) = position_ask(alloc, fields)? else {
+                return Ok(None);
+            };
+            Ok(Some(Command::AskAt { at, oid, ask }))
+        }
+        _ => Ok(None),
     }
-    if verb == "checkpoint" {
-        let Some(oid) = one(alloc, fields)? else {
-            return Ok(None);
-        };
-        return Ok(Some(Command::Checkpoint { oid }));
-    }
-    if verb == "forget" {
-        return Ok(object_mark(fields).map(|(oid, mark)| Command::Forget { oid, mark }));
-    }
-    if verb == "ask-at" {
-        let Some((at, (oid, ask))) = position_ask(alloc, fields)? else {
-            return Ok(None);
-        };
-        return Ok(Some(Command::AskAt { at, oid, ask }));
-    }
-    Ok(None)
 }
 
 // `trim`, `reconf` and `copy`.
@@ -216,26 +214,26 @@ fn of_layout(
 ) -> Result<Option<AnyCommand>, NoMemory>
     ensures { IfOk result (λ x. x ≡ layout_read cluster.now verb.now (texts fields.now)) }
 {
-    if verb == "trim" {
-        return Ok(nothing(fields).map(|()| Command::Trim));
+    match verb {
+        "trim" => Ok(nothing(fields).map(|()| Command::Trim)),
+        "reconf" => {
+            let Some(change) = change(alloc, cluster, fields)? else {
+                return Ok(None);
+            };
+            Ok(Some(Command::Reconf { change }))
+        }
+        "copy" => {
+            let Some(place) = place(alloc, cluster, fields)? else {
+                return Ok(None);
+            };
+            Ok(Some(Command::Copy {
+                unit: place.unit,
+                range: place.range,
+                stripe: place.stripe,
+            }))
+        }
+        _ => Ok(None),
     }
-    if verb == "reconf" {
-        let Some(change) = change(alloc, cluster, fields)? else {
-            return Ok(None);
-        };
-        return Ok(Some(Command::Reconf { change }));
-    }
-    if verb == "copy" {
-        let Some(place) = place(alloc, cluster, fields)? else {
-            return Ok(None);
-        };
-        return Ok(Some(Command::Copy {
-            unit: place.unit,
-            range: place.range,
-            stripe: place.stripe,
-        }));
-    }
-    Ok(None)
 }
 
 /// The command that has these words, None where none has. An `Err` is want of memory.
