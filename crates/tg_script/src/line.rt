@@ -84,44 +84,44 @@ fn line_of(alloc: Global, cluster: &Cluster, words: &[&str]) -> Result<Option<Li
     let [word, fields @ ..] = words else {
         return Ok(None);
     };
-    match *word {
-        "drain" => Ok(nothing(fields).map(|()| Line::Drain)),
-        "settle" => Ok(nothing(fields).map(|()| Line::Settle)),
-        "deliver" => {
-            let Some(packet) = one(alloc, fields)? else {
-                return Ok(None);
-            };
-            let event = Event::Deliver { packet };
-            Ok(Some(Line::Event { event }))
-        }
-        "lose" => {
-            let Some(packet) = one(alloc, fields)? else {
-                return Ok(None);
-            };
-            let event = Event::Lose { packet };
-            Ok(Some(Line::Event { event }))
-        }
-        "tick" => {
-            let Some(node) = one_node(cluster, fields) else {
-                return Ok(None);
-            };
-            let event = Event::Tick { node };
-            Ok(Some(Line::Event { event }))
-        }
-        "stop" => {
-            let Some(node) = one_node(cluster, fields) else {
-                return Ok(None);
-            };
-            let event = Event::Stop { node };
-            Ok(Some(Line::Event { event }))
-        }
-        _ => {
-            let Some(client) = lettered(b"c", cluster.clients, word) else {
-                return Ok(None);
-            };
-            given(alloc, cluster, client, fields)
-        }
+    if *word == "drain" {
+        return Ok(nothing(fields).map(|()| Line::Drain));
     }
+    if *word == "settle" {
+        return Ok(nothing(fields).map(|()| Line::Settle));
+    }
+    if *word == "deliver" {
+        let Some(packet) = one(alloc, fields)? else {
+            return Ok(None);
+        };
+        let event = Event::Deliver { packet };
+        return Ok(Some(Line::Event { event }));
+    }
+    if *word == "lose" {
+        let Some(packet) = one(alloc, fields)? else {
+            return Ok(None);
+        };
+        let event = Event::Lose { packet };
+        return Ok(Some(Line::Event { event }));
+    }
+    if *word == "tick" {
+        let Some(node) = one_node(cluster, fields) else {
+            return Ok(None);
+        };
+        let event = Event::Tick { node };
+        return Ok(Some(Line::Event { event }));
+    }
+    if *word == "stop" {
+        let Some(node) = one_node(cluster, fields) else {
+            return Ok(None);
+        };
+        let event = Event::Stop { node };
+        return Ok(Some(Line::Event { event }));
+    }
+    let Some(client) = lettered(b"c", cluster.clients, word) else {
+        return Ok(None);
+    };
+    given(alloc, cluster, client, fields)
 }
 
 // An update that a client is given.
