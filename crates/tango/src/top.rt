@@ -1,6 +1,6 @@
 //! The top call: what the program does with words, a source, a sink and a link.
 
-ghost use Rattle.std.specs.Prelude.{◌≡◌, ◌≤◌, ◌⊎◌, ℕ, true, false, None, Some, map, IfSome, string_bytes};
+ghost use Rattle.std.specs.Prelude.{◌≡◌, ◌≢◌, ◌≤◌, ◌⊎◌, ℕ, true, false, None, Some, map, IfSome, string_bytes};
 ghost use Rattle.tg_base.specs.declared.fault.Clause.{Clause};
 ghost use Rattle.tg_base.specs.declared.fault.Which.{Which};
 ghost use Rattle.tg_base.specs.declared.ids.NodeId.{NodeId};
@@ -65,10 +65,13 @@ pub fn tango<S: Source, K: Sink, L: Link>(
     ensures words { result ≡ Words → form_of (map string_bytes words.now) ≡ None }
     ensures no_form { form_of (map string_bytes words.now) ≡ None → (result ≡ Words) ⊎ (result ≡ OutOfMemory) }
     ensures no_output { form_of (map string_bytes words.now) ≡ None → K.written sink.new ≡ K.written sink.old }
-    // No count of faults falls.
+    // No count of faults falls, and each rises only where its fault, or want of memory, is answered.
     ensures read_later { S.faults source.old ≤ S.faults source.new }
     ensures write_later { K.faults sink.old ≤ K.faults sink.new }
     ensures link_later { L.faults link.old ≤ L.faults link.new }
+    ensures read_still { result ≢ ReadFault → result ≢ OutOfMemory → S.faults source.new ≡ S.faults source.old }
+    ensures write_still { result ≢ WriteFault → result ≢ OutOfMemory → K.faults sink.new ≡ K.faults sink.old }
+    ensures link_still { result ≢ LinkFault → result ≢ OutOfMemory → L.faults link.new ≡ L.faults link.old }
     // A replay: at `Done` the text was read to its end, and what was written is the transcript of the world of its steps.
     ensures done { form_of (map string_bytes words.now) ≡ Some Replay → result ≡ Done → Told (S.left source.old) (K.written sink.old) (K.written sink.new) Replayed }
     // A line is refused that is the first outside, after the transcript of the events before it.

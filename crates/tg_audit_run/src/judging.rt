@@ -42,9 +42,10 @@ pub fn judge<S: Source, K: Sink>(alloc: Global, source: &mut S, sink: &mut K) ->
         IfSome (S.left source.old) (λ text. (t : Transcript) → is_transcript t ≡ true → text ≡ rendered t → (result ≡ told_by (judged t)) ⊎ (result ≡ OutOfMemory)) }
     ensures refuses { (Rose (S.faults source.old) (S.faults source.new) → ⊥) → (Rose (K.faults sink.old) (K.faults sink.new) → ⊥) →
         IfSome (S.left source.old) (λ text. (line : ℕ) → IsFirstOutside text line → (result ≡ AtLine line) ⊎ (result ≡ OutOfMemory)) }
-    // No count of faults falls, and that of the sink rises only where its fault, or want of memory, is answered.
+    // No count of faults falls, and each rises only where its fault, or want of memory, is answered.
     ensures read_later { S.faults source.old ≤ S.faults source.new }
     ensures write_later { K.faults sink.old ≤ K.faults sink.new }
+    ensures read_still { result ≢ ReadFault → result ≢ OutOfMemory → S.faults source.new ≡ S.faults source.old }
     ensures write_still { result ≢ WriteFault → result ≢ OutOfMemory → K.faults sink.new ≡ K.faults sink.old }
     // What is sure never to fail stays so.
     ensures source { StaysSure (S.sure source.old) (S.sure source.new) (S.faults source.old) (S.faults source.new) }
@@ -62,6 +63,7 @@ fn read_and_tell<S: Source, K: Sink>(alloc: Global, source: &mut S, sink: &mut K
     ensures ways { IsOfJudge result }
     ensures read_later { S.faults source.old ≤ S.faults source.new }
     ensures write_later { K.faults sink.old ≤ K.faults sink.new }
+    ensures read_still { result ≢ ReadFault → result ≢ OutOfMemory → S.faults source.new ≡ S.faults source.old }
     ensures write_still { result ≢ WriteFault → result ≢ OutOfMemory → K.faults sink.new ≡ K.faults sink.old }
     ensures source { StaysSure (S.sure source.old) (S.sure source.new) (S.faults source.old) (S.faults source.new) }
     ensures sink { StaysSure (K.sure sink.old) (K.sure sink.new) (K.faults sink.old) (K.faults sink.new) }

@@ -241,53 +241,68 @@ no_read s h e = let x : IsOfLine (Ends status.ReadFault) = subst (λ (y : Status
 pub nat_same : (n : ℕ) → n ≤ n
 nat_same n = omega arith
 
+status_in : Next → Status → Status
+status_in (Ends s) t = s
+status_in (Goes run) t = t
+
+ends_inv : (s t : Status) → Ends s ≡ Ends t → s ≡ t
+ends_inv s t e = ap (λ x. status_in x s) e
+
 -- a line ends a run
-pub causes_ends : (r0 r1 r2 w0 w1 w2 l0 l1 l2 : ℕ) (s : Status) → r0 ≤ r1 → r1 ≤ r2 → r2 ≡ r0 → w0 ≤ w1 → l0 ≤ l1 → LineCauses w1 w2 l1 l2 (Ends s) → Causes r0 r2 w0 w2 l0 l2 s
+pub causes_ends : (r0 r1 r2 w0 w1 w2 l0 l1 l2 : ℕ) (s : Status) → r0 ≤ r1 → r1 ≤ r2 → r2 ≡ r0 → w1 ≡ w0 → l1 ≡ l0 → LineCauses w1 w2 l1 l2 (Ends s) → Causes r0 r2 w0 w2 l0 l2 s
 causes_ends r0 r1 r2 w0 w1 w2 l0 l1 l2 s r q same w l h = record {
   read = λ e. absurd (no_read s h.ways e);
-  write = λ e. rose_since w0 w1 w2 w h.write_later (h.write (ap Ends e));
-  link = λ e. rose_since l0 l1 l2 l h.link_later (h.link (ap Ends e));
+  write = λ e. rose_since w0 w1 w2 (omega (arith, w)) h.write_later (h.write (ap Ends e));
+  link = λ e. rose_since l0 l1 l2 (omega (arith, l)) h.link_later (h.link (ap Ends e));
   ways = of_node s h.ways;
   read_later = omega (arith, r, q);
   write_later = let v : w1 ≤ w2 = h.write_later in omega (arith, w, v);
   link_later = let m : l1 ≤ l2 = h.link_later in omega (arith, l, m);
   read_still = λ a b. same;
+  write_still = λ a b. h.write_still (λ e. a (ends_inv _ _ e)) (λ e. b (ends_inv _ _ e)) ∙ w;
+  link_still = λ a b. h.link_still (λ e. a (ends_inv _ _ e)) (λ e. b (ends_inv _ _ e)) ∙ l;
 }
 
-pub causes_read : (r0 r1 r2 w0 w1 l0 l1 : ℕ) → r0 ≤ r1 → r1 ≤ r2 → w0 ≤ w1 → l0 ≤ l1 → Rose r1 r2 → Causes r0 r2 w0 w1 l0 l1 status.ReadFault
+pub causes_read : (r0 r1 r2 w0 w1 l0 l1 : ℕ) → r0 ≤ r1 → r1 ≤ r2 → w1 ≡ w0 → l1 ≡ l0 → Rose r1 r2 → Causes r0 r2 w0 w1 l0 l1 status.ReadFault
 causes_read r0 r1 r2 w0 w1 l0 l1 r q w l rose = record {
   read = λ e. rose_since r0 r1 r2 r q rose;
   write = λ e. absurd cc;
   link = λ e. absurd cc;
   ways = tt;
   read_later = omega (arith, r, q);
-  write_later = w;
-  link_later = l;
+  write_later = omega (arith, w);
+  link_later = omega (arith, l);
   read_still = λ a b. absurd (a refl);
+  write_still = λ a b. w;
+  link_still = λ a b. l;
 }
 
-pub causes_done : (r0 r1 w0 w1 l0 l1 : ℕ) → r0 ≤ r1 → r1 ≡ r0 → w0 ≤ w1 → l0 ≤ l1 → Causes r0 r1 w0 w1 l0 l1 status.Done
+pub causes_done : (r0 r1 w0 w1 l0 l1 : ℕ) → r0 ≤ r1 → r1 ≡ r0 → w1 ≡ w0 → l1 ≡ l0 → Causes r0 r1 w0 w1 l0 l1 status.Done
 causes_done r0 r1 w0 w1 l0 l1 r same w l = record {
   read = λ e. absurd cc;
   write = λ e. absurd cc;
   link = λ e. absurd cc;
   ways = tt;
   read_later = r;
-  write_later = w;
-  link_later = l;
+  write_later = omega (arith, w);
+  link_later = omega (arith, l);
   read_still = λ a b. same;
+  write_still = λ a b. w;
+  link_still = λ a b. l;
 }
 
-pub causes_none : (r0 r1 r2 w0 w1 l0 l1 : ℕ) → r0 ≤ r1 → r1 ≤ r2 → w0 ≤ w1 → l0 ≤ l1 → Causes r0 r2 w0 w1 l0 l1 status.NoMemory
+pub causes_none : (r0 r1 r2 w0 w1 l0 l1 : ℕ) → r0 ≤ r1 → r1 ≤ r2 → w1 ≡ w0 → l1 ≡ l0 → Causes r0 r2 w0 w1 l0 l1 status.NoMemory
 causes_none r0 r1 r2 w0 w1 l0 l1 r q w l = record {
   read = λ e. absurd cc;
   write = λ e. absurd cc;
   link = λ e. absurd cc;
   ways = tt;
   read_later = omega (arith, r, q);
-  write_later = w;
-  link_later = l;
+  write_later = omega (arith, w);
+  link_later = omega (arith, l);
   read_still = λ a b. absurd (b refl);
+  write_still = λ a b. absurd (b refl);
+  link_still = λ a b. absurd (b refl);
 }
 
 pub causes_script : (k r0 r1 w l : ℕ) → r0 ≤ r1 → r1 ≡ r0 → Causes r0 r1 w w l l (status.Script k)
@@ -300,6 +315,8 @@ causes_script k r0 r1 w l r same = record {
   write_later = omega arith;
   link_later = omega arith;
   read_still = λ a b. same;
+  write_still = λ a b. refl;
+  link_still = λ a b. refl;
 }
 
 -- a header was read before
@@ -313,20 +330,23 @@ causes_since r0 r1 r2 w0 w1 l0 l1 s r same h = record {
   write_later = h.write_later;
   link_later = h.link_later;
   read_still = λ a b. h.read_still a b ∙ same;
+  write_still = h.write_still;
+  link_still = h.link_still;
 }
 
 -- what a line's causes are, from those of what it does and of what it writes
-pub line_writes : (w0 w1 l0 l1 : ℕ) (x : Next) → IsOfLine x → (x ≡ Ends status.WriteFault → Rose w0 w1) → (x ≡ Ends status.LinkFault → ⊥) → w0 ≤ w1 → l0 ≤ l1 → LineCauses w0 w1 l0 l1 x
-line_writes w0 w1 l0 l1 x ways write link w l = record { write = write; link = λ e. absurd (link e); ways = ways; write_later = w; link_later = l }
+pub line_writes : (w0 w1 l0 l1 : ℕ) (x : Next) → IsOfLine x → (x ≡ Ends status.WriteFault → Rose w0 w1) → (x ≡ Ends status.LinkFault → ⊥) → w0 ≤ w1
+    → ((x ≡ Ends status.WriteFault → ⊥) → (x ≡ Ends status.NoMemory → ⊥) → w1 ≡ w0) → l1 ≡ l0 → LineCauses w0 w1 l0 l1 x
+line_writes w0 w1 l0 l1 x ways write link w still l = record { write = write; link = λ e. absurd (link e); ways = ways; write_later = w; link_later = omega (arith, l); write_still = still; link_still = λ a b. l }
 
 pub line_link : (w l0 l1 : ℕ) → l0 ≤ l1 → Rose l0 l1 → LineCauses w w l0 l1 (Ends status.LinkFault)
-line_link w l0 l1 l rose = let same : w ≤ w = omega arith in record { write = λ e. absurd cc; link = λ e. rose; ways = tt; write_later = same; link_later = l }
+line_link w l0 l1 l rose = let same : w ≤ w = omega arith in record { write = λ e. absurd cc; link = λ e. rose; ways = tt; write_later = same; link_later = l; write_still = λ a b. refl; link_still = λ a b. absurd (a refl) }
 
 pub line_none : (w l0 l1 : ℕ) → l0 ≤ l1 → LineCauses w w l0 l1 (Ends status.NoMemory)
-line_none w l0 l1 l = let same : w ≤ w = omega arith in record { write = λ e. absurd cc; link = λ e. absurd cc; ways = tt; write_later = same; link_later = l }
+line_none w l0 l1 l = let same : w ≤ w = omega arith in record { write = λ e. absurd cc; link = λ e. absurd cc; ways = tt; write_later = same; link_later = l; write_still = λ a b. refl; link_still = λ a b. absurd (b refl) }
 
 pub line_refuses : (w l k : ℕ) (x : Next) → IsRefused k x → LineCauses w w l l x
-line_refuses w l k (Ends (status.Script j)) h = let a : w ≤ w = omega arith in let b : l ≤ l = omega arith in record { write = λ e. absurd cc; link = λ e. absurd cc; ways = tt; write_later = a; link_later = b }
+line_refuses w l k (Ends (status.Script j)) h = let a : w ≤ w = omega arith in let b : l ≤ l = omega arith in record { write = λ e. absurd cc; link = λ e. absurd cc; ways = tt; write_later = a; link_later = b; write_still = λ p q. refl; link_still = λ p q. refl }
 line_refuses w l k (Ends status.NoMemory) h = absurd h
 line_refuses w l k (Goes q) h = absurd h
 line_refuses w l k (Ends status.Done) h = absurd h

@@ -68,6 +68,8 @@ pub record Causes (read_before read_now write_before write_now link_before link_
   pub write_later : write_before ≤ write_now
   pub link_later : link_before ≤ link_now
   pub read_still : (status ≡ ReadFault → ⊥) → (status ≡ NoMemory → ⊥) → read_now ≡ read_before
+  pub write_still : (status ≡ WriteFault → ⊥) → (status ≡ NoMemory → ⊥) → write_now ≡ write_before
+  pub link_still : (status ≡ LinkFault → ⊥) → (status ≡ NoMemory → ⊥) → link_now ≡ link_before
 
 -- the same of a line, which reads nothing
 pub record LineCauses (write_before write_now link_before link_now : ℕ) (x : Next) : Type 0 where
@@ -76,6 +78,8 @@ pub record LineCauses (write_before write_now link_before link_now : ℕ) (x : N
   pub ways : IsOfLine x
   pub write_later : write_before ≤ write_now
   pub link_later : link_before ≤ link_now
+  pub write_still : (x ≡ Ends WriteFault → ⊥) → (x ≡ Ends NoMemory → ⊥) → write_now ≡ write_before
+  pub link_still : (x ≡ Ends LinkFault → ⊥) → (x ≡ Ends NoMemory → ⊥) → link_now ≡ link_before
 
 -- the line after so many is refused
 abbrev pub IsRefused : ℕ → Next → Type 0

@@ -2,7 +2,7 @@
 
 ghost use Rattle.std.specs.Prelude.{◌≡◌, ◌<◌, ◌≤◌, ◌∷◌, ◌+◌, ◌^◌, ℕ, List, MatchOption};
 ghost use Rattle.tg_io.specs.Faults.{Rose, StaysSure};
-ghost use Rattle.tg_io.specs.declared.status.Status.TheVariants.{WriteFault, Limit};
+ghost use Rattle.tg_io.specs.declared.status.Status.TheVariants.{WriteFault, Limit, NoMemory as OutOfMemory};
 ghost use Rattle.tg_node.specs.Lines.{IsAsked};
 ghost use Rattle.tg_node.specs.Texts.{Seen};
 ghost use Rattle.tg_node.specs.Steps.{IsSound};
@@ -97,6 +97,7 @@ fn write<K: Sink>(
     ensures ways { IsOfLine result }
     ensures write_fault { result ≡ nexts.Ends WriteFault → Rose (K.faults sink.old) (K.faults sink.new) }
     ensures later { K.faults sink.old ≤ K.faults sink.new }
+    ensures still { (result ≡ nexts.Ends WriteFault → ⊥) → (result ≡ nexts.Ends OutOfMemory → ⊥) → K.faults sink.new ≡ K.faults sink.old }
     ensures sink { StaysSure (K.sure sink.old) (K.sure sink.new) (K.faults sink.old) (K.faults sink.new) }
 {
     let Moved { node, stopped } = moved;

@@ -28,6 +28,7 @@ impl Node {
         ensures took { IfOk result (λ m. TookLine place asked (L.handed link.old) self (L.sent link.old) m (L.handed link.new) (L.sent link.new) (L.acts link.old) (L.acts link.new)) }
         ensures breaks { OnErr result (BreaksLine place asked self (L.sent link.old) (L.acts link.old) (L.acts link.new)) }
         ensures cause { HasCause (L.faults link.old) (L.faults link.new) result }
+        ensures still { IfOk result (λ _. L.faults link.new ≡ L.faults link.old) }
         ensures sure { StaysSure (L.sure link.old) (L.sure link.new) (L.faults link.old) (L.faults link.new) }
     {
         match asked {
@@ -53,6 +54,7 @@ impl Node {
         ensures does { IfOk result (λ _. Does self (L.sent link.old) (made_acts place self (input ∷ [])) (L.acts link.old) (L.acts link.new)) }
         ensures breaks { OnErr result (Breaks self (L.sent link.old) (made_acts place self (input ∷ [])) (L.acts link.old) (L.acts link.new)) }
         ensures cause { HasCause (L.faults link.old) (L.faults link.new) result }
+        ensures still { IfOk result (λ _. L.faults link.new ≡ L.faults link.old) }
         ensures sure { StaysSure (L.sure link.old) (L.sure link.new) (L.faults link.old) (L.faults link.new) }
     {
         if self.is_at_limit() {
@@ -78,6 +80,7 @@ impl Node {
         ensures does { IfOk result (λ _. Does self (L.sent link.old) (made_acts place self (comes.Command cmd.Begin ∷ comes.Command (cmd.Put oid op) ∷ comes.Command cmd.End ∷ [])) (L.acts link.old) (L.acts link.new)) }
         ensures breaks { OnErr result (Breaks self (L.sent link.old) (made_acts place self (comes.Command cmd.Begin ∷ comes.Command (cmd.Put oid op) ∷ comes.Command cmd.End ∷ [])) (L.acts link.old) (L.acts link.new)) }
         ensures cause { HasCause (L.faults link.old) (L.faults link.new) result }
+        ensures still { IfOk result (λ _. L.faults link.new ≡ L.faults link.old) }
         ensures sure { StaysSure (L.sure link.old) (L.sure link.new) (L.faults link.old) (L.faults link.new) }
     {
         let begun = self.make(alloc, place, link, begin())?;
@@ -103,6 +106,7 @@ impl Node {
         ensures does { IfOk result (λ _. Does self (L.sent link.old) (made_acts place self (comes.Command (cmd.Put oid op) ∷ comes.Command cmd.End ∷ [])) (L.acts link.old) (L.acts link.new)) }
         ensures breaks { OnErr result (Breaks self (L.sent link.old) (made_acts place self (comes.Command (cmd.Put oid op) ∷ comes.Command cmd.End ∷ [])) (L.acts link.old) (L.acts link.new)) }
         ensures cause { HasCause (L.faults link.old) (L.faults link.new) result }
+        ensures still { IfOk result (λ _. L.faults link.new ≡ L.faults link.old) }
         ensures sure { StaysSure (L.sure link.old) (L.sure link.new) (L.faults link.old) (L.faults link.new) }
     {
         let put = self.make(alloc, place, link, put(oid, op))?;

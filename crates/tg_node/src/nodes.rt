@@ -112,6 +112,7 @@ impl Node {
         ensures does { IfOk result (λ _. Does self (L.sent link.old) (step_acts place.node input) (L.acts link.old) (L.acts link.new)) }
         ensures breaks { OnErr result (Breaks self (L.sent link.old) (step_acts place.node input) (L.acts link.old) (L.acts link.new)) }
         ensures cause { HasCause (L.faults link.old) (L.faults link.new) result }
+        ensures still { IfOk result (λ _. L.faults link.new ≡ L.faults link.old) }
         ensures sure { StaysSure (L.sure link.old) (L.sure link.new) (L.faults link.old) (L.faults link.new) }
     {
         let Node {

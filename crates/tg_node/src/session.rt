@@ -42,11 +42,13 @@ pub fn node<S: Source, K: Sink, L: Link>(
     ensures read_fault { result ≡ ReadFault → Rose (S.faults source.old) (S.faults source.new) }
     ensures write_fault { result ≡ WriteFault → Rose (K.faults sink.old) (K.faults sink.new) }
     ensures link_fault { result ≡ LinkFault → Rose (L.faults link.old) (L.faults link.new) }
-    // No count of faults falls, and that of the source rises only where a read fault, or want of memory, is answered.
+    // No count of faults falls, and each rises only where its fault, or want of memory, is answered.
     ensures read_later { S.faults source.old ≤ S.faults source.new }
     ensures write_later { K.faults sink.old ≤ K.faults sink.new }
     ensures link_later { L.faults link.old ≤ L.faults link.new }
     ensures read_still { result ≢ ReadFault → result ≢ OutOfMemory → S.faults source.new ≡ S.faults source.old }
+    ensures write_still { result ≢ WriteFault → result ≢ OutOfMemory → K.faults sink.new ≡ K.faults sink.old }
+    ensures link_still { result ≢ LinkFault → result ≢ OutOfMemory → L.faults link.new ≡ L.faults link.old }
     // A read fault is answered only where none of the lines that came whole before it is outside.
     ensures first { result ≡ ReadFault → Told (S.left source.old) (λ text. NoneOutside text (S.left source.new) (FirstOutside (lines text) id)) }
     // At a read fault the lines before it were followed whole, and nothing else was done.

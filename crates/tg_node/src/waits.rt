@@ -30,6 +30,7 @@ impl Node {
         ensures took { IfOk result (λ m. TookLine place (Wait calls) (L.handed link.old) self (L.sent link.old) m (L.handed link.new) (L.sent link.new) (L.acts link.old) (L.acts link.new)) }
         ensures breaks { OnErr result (BreaksLine place (Wait calls) self (L.sent link.old) (L.acts link.old) (L.acts link.new)) }
         ensures cause { HasCause (L.faults link.old) (L.faults link.new) result }
+        ensures still { IfOk result (λ _. L.faults link.new ≡ L.faults link.old) }
         ensures sure { StaysSure (L.sure link.old) (L.sure link.new) (L.faults link.old) (L.faults link.new) }
     {
         let mut node = self;
@@ -53,6 +54,7 @@ impl Node {
         ensures took { IfOk result (λ m. (a : Option Arrival) × Adds (L.handed link.old) a (L.handed link.new) × TakesOne place a self (L.sent link.old) m (L.sent link.new) × Does self (L.sent link.old) (asked_acts place self (Wait 1) (a ∷ [])) (L.acts link.old) (L.acts link.new)) }
         ensures breaks { OnErr result (BreaksLine place (Wait 1) self (L.sent link.old) (L.acts link.old) (L.acts link.new)) }
         ensures cause { HasCause (L.faults link.old) (L.faults link.new) result }
+        ensures still { IfOk result (λ _. L.faults link.new ≡ L.faults link.old) }
         ensures sure { StaysSure (L.sure link.old) (L.sure link.new) (L.faults link.old) (L.faults link.new) }
     {
         match receive(alloc, place.node, link)? {

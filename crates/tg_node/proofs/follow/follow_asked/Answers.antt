@@ -20,7 +20,7 @@ returns-in-Ok-clause-causes g c =
     line_writes (g.K.Sink.faults c.args.sink.now) (g.K.Sink.faults c.write.new.sink) (g.L.Link.faults c.args.link.now) (g.L.Link.faults c.follow.new.link) c.write.result c.write.ensures.ways c.write.ensures.write_fault
     (λ e. let no : IsWritten c.args.run.id c.args.run.cluster (c.args.run.lines + 1) c.in-Ok.moved (g.K.Sink.written c.args.sink.now) (g.K.Sink.written c.write.new.sink) (Ends status.LinkFault) =
     subst (λ (x : Next). IsWritten c.args.run.id c.args.run.cluster (c.args.run.lines + 1) c.in-Ok.moved (g.K.Sink.written c.args.sink.now) (g.K.Sink.written c.write.new.sink) x) e c.write.ensures.written in
-    no) c.write.ensures.later c.in-Ok.ensures.cause.later
+    no) c.write.ensures.later c.write.ensures.still c.in-Ok.ensures.still
 
 pub returns-in-Err-Failed-clause-follows : goal.returns-in-Err-Failed-clause-follows
 returns-in-Err-Failed-clause-follows g c = λ text before line more is f.

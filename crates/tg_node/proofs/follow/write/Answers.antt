@@ -39,3 +39,12 @@ returns-in-Ok-clause-write_fault g c =
     let m = c.args.moved in
     let run : Run = record { id = c.args.id; cluster = c.args.cluster; lines = c.args.event; node = record { own = m.node.own; steps = m.node.steps; received = m.node.received; replies = c.new.result } } in
     by_stop m.stopped c.go_on.result run (λ (x : Next). x ≡ Ends status.WriteFault → Rose (g.K.Sink.faults c.args.sink.now) (g.K.Sink.faults c.write_all.new.sink)) c.go_on.ensures (λ e. absurd cc) (λ w e. absurd cc)
+
+pub returns-in-Ok-clause-still : goal.returns-in-Ok-clause-still
+returns-in-Ok-clause-still g c = λ a b. c.in-Ok.ensures.still
+
+pub returns-in-Err-Failed-clause-still : goal.returns-in-Err-Failed-clause-still
+returns-in-Err-Failed-clause-still g c = λ a b. absurd (a refl)
+
+pub returns-clause-still : goal.returns-clause-still
+returns-clause-still g c = λ a b. absurd (b refl)

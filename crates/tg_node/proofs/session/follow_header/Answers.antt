@@ -8,7 +8,7 @@ pub returns-in_default-clause-outcome : goal.returns-in_default-clause-outcome
 returns-in_default-clause-outcome g c = if_any (ahead c.args.reader.now (g.S.Source.left c.args.source.now)) _ (λ rest text cut declared. inl (inl refl))
 
 pub returns-in_default-clause-causes : goal.returns-in_default-clause-causes
-returns-in_default-clause-causes g c = causes_none (g.S.Source.faults c.args.source.now) (g.S.Source.faults c.args.source.now) (g.S.Source.faults c.args.source.now) _ _ _ _ (nat_same _) (nat_same _) (nat_same _) (nat_same _)
+returns-in_default-clause-causes g c = causes_none (g.S.Source.faults c.args.source.now) (g.S.Source.faults c.args.source.now) (g.S.Source.faults c.args.source.now) _ _ _ _ (nat_same _) (nat_same _) refl refl
 
 pub follow_text-requires-clause-sound : goal.follow_text-requires-clause-sound
 follow_text-requires-clause-sound g c = opens_sound c.args.id c.args.cluster c.in-Ok.node c.in-Ok.ensures.node c.in-Ok.ensures.steps c.in-Ok.ensures.received

@@ -17,8 +17,8 @@ loop-line-init g c = record {
   feeds = takes_nothing (ahead c.args.reader.now (g.S.Source.left c.args.source.now)) _;
   read_still = refl;
   read_later = omega arith;
-  write_later = omega arith;
-  link_later = omega arith;
+  write_still = refl;
+  link_still = refl;
   source = record { sure = λ e. e; still = λ e. refl };
   sink = record { sure = λ e. e; still = λ e. refl };
   link = record { sure = λ e. e; still = λ e. refl };
@@ -38,10 +38,8 @@ loop-line-preserved g c =
     let next : c.in-Goes.next.lines ≡ c.loop-line.run.lines + 1 = subst (λ (x : Next). IsNextLine c.loop-line.run.lines x) c.in-Goes.is l.ensures.next in
     let r0 : g.S.Source.faults c.args.source.now ≤ g.S.Source.faults c.loop-line.source = i.read_later in
     let r1 : g.S.Source.faults c.loop-line.source ≤ g.S.Source.faults c.next.new.source = s.ensures.cause.later in
-    let w0 : g.K.Sink.faults c.args.sink.now ≤ g.K.Sink.faults c.loop-line.sink = i.write_later in
-    let w1 : g.K.Sink.faults c.loop-line.sink ≤ g.K.Sink.faults l.new.sink = l.ensures.causes.write_later in
-    let l0 : g.L.Link.faults c.args.link.now ≤ g.L.Link.faults c.loop-line.link = i.link_later in
-    let l1 : g.L.Link.faults c.loop-line.link ≤ g.L.Link.faults l.new.link = l.ensures.causes.link_later in
+    let causes : LineCauses (g.K.Sink.faults c.loop-line.sink) (g.K.Sink.faults l.new.sink) (g.L.Link.faults c.loop-line.link) (g.L.Link.faults l.new.link) (Goes c.in-Goes.next) =
+    subst (λ (x : Next). LineCauses (g.K.Sink.faults c.loop-line.sink) (g.K.Sink.faults l.new.sink) (g.L.Link.faults c.loop-line.link) (g.L.Link.faults l.new.link) x) c.in-Goes.is l.ensures.causes in
     record {
       follows =
           still_more (ahead c.args.reader.now (g.S.Source.left c.args.source.now)) (ahead c.loop-line.reader (g.S.Source.left c.loop-line.source)) (ahead c.next.new.self (g.S.Source.left c.next.new.source)) c.args.run c.loop-line.run c.in-Goes.next
@@ -56,8 +54,8 @@ loop-line-preserved g c =
       lines = omega (arith, ahead_of, next);
       feeds = takes_more (ahead c.args.reader.now (g.S.Source.left c.args.source.now)) (ahead c.loop-line.reader (g.S.Source.left c.loop-line.source)) (ahead c.next.new.self (g.S.Source.left c.next.new.source)) (c.loop-line.run.lines - c.args.run.lines) 1 (c.in-Goes.next.lines - c.args.run.lines) (omega (arith, ahead_of, next)) i.feeds s.ensures.feeds;
       read_still = s.ensures.still ∙ i.read_still;
-      write_later = omega (arith, w0, w1);
-      link_later = omega (arith, l0, l1);
+      write_still = causes.write_still (λ e. absurd cc) (λ e. absurd cc) ∙ i.write_still;
+      link_still = causes.link_still (λ e. absurd cc) (λ e. absurd cc) ∙ i.link_still;
       source = sure_since _ _ _ _ _ _ i.source s.ensures.sure;
       sink = sure_since _ _ _ _ _ _ i.sink l.ensures.sink;
       link = sure_since _ _ _ _ _ _ i.link l.ensures.link;
@@ -79,7 +77,7 @@ returns-in-Ends-clause-causes g c =
     let i = c.loop-line.invariant in
     let l = c.follow_line in
     causes_ends (g.S.Source.faults c.args.source.now) (g.S.Source.faults c.loop-line.source) (g.S.Source.faults c.next.new.source) (g.K.Sink.faults c.args.sink.now) (g.K.Sink.faults c.loop-line.sink) (g.K.Sink.faults l.new.sink)
-    (g.L.Link.faults c.args.link.now) (g.L.Link.faults c.loop-line.link) (g.L.Link.faults l.new.link) c.in-Ends.status i.read_later c.in-Ok-Some.ensures.cause.later (c.in-Ok-Some.ensures.still ∙ i.read_still) i.write_later i.link_later
+    (g.L.Link.faults c.args.link.now) (g.L.Link.faults c.loop-line.link) (g.L.Link.faults l.new.link) c.in-Ends.status i.read_later c.in-Ok-Some.ensures.cause.later (c.in-Ok-Some.ensures.still ∙ i.read_still) i.write_still i.link_still
     (subst (λ (x : Next). LineCauses (g.K.Sink.faults c.loop-line.sink) (g.K.Sink.faults l.new.sink) (g.L.Link.faults c.loop-line.link) (g.L.Link.faults l.new.link) x) c.in-Ends.is l.ensures.causes)
 
 pub returns-in-Ok-None-clause-outcome : goal.returns-in-Ok-None-clause-outcome
@@ -92,7 +90,7 @@ returns-in-Ok-None-clause-causes g c =
     let i = c.loop-line.invariant in
     let r0 : g.S.Source.faults c.args.source.now ≤ g.S.Source.faults c.loop-line.source = i.read_later in
     let r1 : g.S.Source.faults c.loop-line.source ≤ g.S.Source.faults c.next.new.source = c.in-Ok-None.ensures.cause.later in
-    causes_done (g.S.Source.faults c.args.source.now) (g.S.Source.faults c.next.new.source) _ _ _ _ (omega (arith, r0, r1)) (c.in-Ok-None.ensures.still ∙ i.read_still) i.write_later i.link_later
+    causes_done (g.S.Source.faults c.args.source.now) (g.S.Source.faults c.next.new.source) _ _ _ _ (omega (arith, r0, r1)) (c.in-Ok-None.ensures.still ∙ i.read_still) i.write_still i.link_still
 
 pub returns-in-Err-Failed-clause-outcome : goal.returns-in-Err-Failed-clause-outcome
 returns-in-Err-Failed-clause-outcome g c =
@@ -101,7 +99,7 @@ returns-in-Err-Failed-clause-outcome g c =
 
 pub returns-in-Err-Failed-clause-causes : goal.returns-in-Err-Failed-clause-causes
 returns-in-Err-Failed-clause-causes g c =
-    causes_read (g.S.Source.faults c.args.source.now) (g.S.Source.faults c.loop-line.source) (g.S.Source.faults c.next.new.source) _ _ _ _ c.loop-line.invariant.read_later c.in-Err-Failed.ensures.cause.later c.loop-line.invariant.write_later c.loop-line.invariant.link_later (c.in-Err-Failed.ensures.cause.failed (failed c.in-Err-Failed.field-0 c.in-Err-Failed.field-0-is))
+    causes_read (g.S.Source.faults c.args.source.now) (g.S.Source.faults c.loop-line.source) (g.S.Source.faults c.next.new.source) _ _ _ _ c.loop-line.invariant.read_later c.in-Err-Failed.ensures.cause.later c.loop-line.invariant.write_still c.loop-line.invariant.link_still (c.in-Err-Failed.ensures.cause.failed (failed c.in-Err-Failed.field-0 c.in-Err-Failed.field-0-is))
 
 pub returns-in-Err-NoMemory-clause-outcome : goal.returns-in-Err-NoMemory-clause-outcome
 returns-in-Err-NoMemory-clause-outcome g c =
@@ -112,7 +110,7 @@ returns-in-Err-NoMemory-clause-outcome g c =
 
 pub returns-in-Err-NoMemory-clause-causes : goal.returns-in-Err-NoMemory-clause-causes
 returns-in-Err-NoMemory-clause-causes g c =
-    causes_none (g.S.Source.faults c.args.source.now) (g.S.Source.faults c.loop-line.source) (g.S.Source.faults c.next.new.source) _ _ _ _ c.loop-line.invariant.read_later c.in-Err-NoMemory.ensures.cause.later c.loop-line.invariant.write_later c.loop-line.invariant.link_later
+    causes_none (g.S.Source.faults c.args.source.now) (g.S.Source.faults c.loop-line.source) (g.S.Source.faults c.next.new.source) _ _ _ _ c.loop-line.invariant.read_later c.in-Err-NoMemory.ensures.cause.later c.loop-line.invariant.write_still c.loop-line.invariant.link_still
 
 pub returns-in-Ends-clause-first : goal.returns-in-Ends-clause-first
 returns-in-Ends-clause-first g c = λ e. absurd (no_read c.in-Ends.status (subst (λ (x : Next). IsOfLine x) c.in-Ends.is c.follow_line.ensures.causes.ways) e)

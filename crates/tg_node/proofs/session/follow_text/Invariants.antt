@@ -15,8 +15,8 @@ invariant-loop-line g l = record {
   read_still : g.S.Source.faults l.source ≡ g.S.Source.faults l.fn.source;
   room : l.run.lines + 3 + (length l.reader + g.S.Source.room l.source) < 2 ^ 64;
   read_later : g.S.Source.faults l.fn.source ≤ g.S.Source.faults l.source;
-  write_later : g.K.Sink.faults l.fn.sink ≤ g.K.Sink.faults l.sink;
-  link_later : g.L.Link.faults l.fn.link ≤ g.L.Link.faults l.link;
+  write_still : g.K.Sink.faults l.sink ≡ g.K.Sink.faults l.fn.sink;
+  link_still : g.L.Link.faults l.link ≡ g.L.Link.faults l.fn.link;
   source : StaysSure (g.S.Source.sure l.fn.source) (g.S.Source.sure l.source) (g.S.Source.faults l.fn.source) (g.S.Source.faults l.source);
   sink : StaysSure (g.K.Sink.sure l.fn.sink) (g.K.Sink.sure l.sink) (g.K.Sink.faults l.fn.sink) (g.K.Sink.faults l.sink);
   link : StaysSure (g.L.Link.sure l.fn.link) (g.L.Link.sure l.link) (g.L.Link.faults l.fn.link) (g.L.Link.faults l.link);

@@ -1,10 +1,10 @@
-use Rattle.std.proofs.Common.{◌≡◌, ◌≤◌, ◌+◌, ◌-◌, ◌^◌, length, ap, subst, arith}
+use Rattle.std.proofs.Common.{◌≡◌, ◌≤◌, ◌+◌, ◌-◌, ◌^◌, length, refl, ap, subst, arith}
 use Rattle.tg_lines.specs.Lines.{ahead}
 use Rattle.tg_lines.specs.declared.header.Opening.{Opening}
 use Rattle.tg_lines.specs.Openings.{OnOpens}
 use Rattle.tg_node.specs.Openings.{Opened}
 use Rattle.tg_node.specs.Stages.{seen}
-use Rattle.tg_node.proofs.Ending.{header_failed, header_followed, header_opens, header_outside, told_cut, told_none, causes_since, causes_script, causes_read, causes_none, failed, nat_same}
+use Rattle.tg_node.proofs.Ending.{header_failed, header_followed, header_opens, header_outside, told_cut, told_none, causes_since, causes_script, causes_read, causes_none, failed}
 use Rattle.tg_node.proofs.session.run_node.Goals as goal
 
 pub returns-in-Ok-Opens-clause-outcome : goal.returns-in-Ok-Opens-clause-outcome
@@ -32,12 +32,12 @@ returns-in-Err-NoMemory-clause-outcome g c = told_none (g.S.Source.left c.args.s
 
 pub returns-in-Err-Failed-clause-causes : goal.returns-in-Err-Failed-clause-causes
 returns-in-Err-Failed-clause-causes g c =
-    causes_read (g.S.Source.faults c.args.source.now) (g.S.Source.faults c.args.source.now) (g.S.Source.faults c.read_own_header.new.source) _ _ _ _ (omega arith) c.in-Err-Failed.ensures.cause.later (nat_same _) (nat_same _)
+    causes_read (g.S.Source.faults c.args.source.now) (g.S.Source.faults c.args.source.now) (g.S.Source.faults c.read_own_header.new.source) _ _ _ _ (omega arith) c.in-Err-Failed.ensures.cause.later refl refl
     (c.in-Err-Failed.ensures.cause.failed (failed c.in-Err-Failed.field-0 c.in-Err-Failed.field-0-is))
 
 pub returns-in-Err-NoMemory-clause-causes : goal.returns-in-Err-NoMemory-clause-causes
 returns-in-Err-NoMemory-clause-causes g c =
-    causes_none (g.S.Source.faults c.args.source.now) (g.S.Source.faults c.args.source.now) (g.S.Source.faults c.read_own_header.new.source) _ _ _ _ (omega arith) c.in-Err-NoMemory.ensures.cause.later (nat_same _) (nat_same _)
+    causes_none (g.S.Source.faults c.args.source.now) (g.S.Source.faults c.args.source.now) (g.S.Source.faults c.read_own_header.new.source) _ _ _ _ (omega arith) c.in-Err-NoMemory.ensures.cause.later refl refl
 
 pub returns-in-Ok-Opens-clause-first : goal.returns-in-Ok-Opens-clause-first
 returns-in-Ok-Opens-clause-first g c = λ e.

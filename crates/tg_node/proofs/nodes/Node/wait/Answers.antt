@@ -9,7 +9,7 @@ use Rattle.tg_node.proofs.nodes.Node.wait.Goals as goal
 pub loop-call-init : goal.loop-call-init
 loop-call-init g c = record {
   waits = waits_none c.args.place c.args.self (g.L.Link.handed c.args.link.now) (g.L.Link.sent c.args.link.now) (g.L.Link.acts c.args.link.now) c.requires;
-  later = omega arith;
+  still = refl;
   sure = record { sure = λ e. e; still = λ e. refl };
 }
 
@@ -20,12 +20,10 @@ pub loop-call-preserved : goal.loop-call-preserved
 loop-call-preserved g c =
     let i = c.loop-call.invariant in
     let came = c.in_ok-moved.ensures.took in
-    let later : g.L.Link.faults c.args.link.now ≤ g.L.Link.faults c.loop-call.link = i.later in
-    let rose : g.L.Link.faults c.loop-call.link ≤ g.L.Link.faults c.take_next.new.link = c.in_ok-moved.ensures.cause.later in
     record {
       waits = waits_more c.args.place c.loop-call._call came.0 c.args.self c.loop-call.node c.in_ok-moved.moved.node _ _ _ _ _ _ (g.L.Link.acts c.args.link.now) (g.L.Link.acts c.loop-call.link) (g.L.Link.acts c.take_next.new.link) i.waits came.1
           (takes_on c.args.place came.0 c.loop-call.node c.in_ok-moved.moved _ _ c.is_some.result came.2 c.is_some.ensures c.if-is_some.false) came.3;
-      later = omega (arith, later, rose);
+      still = c.in_ok-moved.ensures.still ∙ i.still;
       sure = sure_since _ _ _ _ _ _ i.sure c.in_ok-moved.ensures.sure;
     }
 
