@@ -1,5 +1,5 @@
 -- A client before its first command, and what is told of a client.
-use Rattle.std.proofs.Common.{◌≡◌, ℕ, Bool, List, [], ◌∷◌, Option, Some, None, refl, sym, ap, ◌∙◌}
+use Rattle.std.proofs.Common.{◌≡◌, ℕ, Bool, List, [], ◌∷◌, Option, Some, None, refl, sym, ap, ◌∙◌, arith}
 use Rattle.std.specs.Prelude.{is_some}
 use Rattle.tg_base.specs.Clusters.{Header}
 use Rattle.tg_base.specs.Layouts.{Layout}
@@ -39,26 +39,29 @@ module _ (m : Meaning) where
       }) (new_client m h num)
   unfolding new_client
   fresh h num layouts objects rids stand known hosted dir hl ho hr hs hk hh hd = record {
-    is = λ i. client_of m (record {
-      num = num;
-      layouts = (sym hl) i;
-      objects = (sym ho) i;
-      calls = 0;
-      rids = (sym hr) i;
-      stand = (sym hs) i;
-      known = (sym hk) i;
-      hosted = (sym hh) i;
-      view = None;
-      dir = (sym (hd ∙ ap (m.fresh directory) ho)) i;
-      tx = None;
-      begun = 0;
-      decisions = 0;
-      checkpoints = 0;
-    }) (record { view = None; played = 0; work = None });
-    view = tt;
-    work = tt;
-    drawn = tt;
-    fit = tt;
+    kept = record {
+      is = λ i. client_of m (record {
+        num = num;
+        layouts = (sym hl) i;
+        objects = (sym ho) i;
+        calls = 0;
+        rids = (sym hr) i;
+        stand = (sym hs) i;
+        known = (sym hk) i;
+        hosted = (sym hh) i;
+        view = None;
+        dir = (sym (hd ∙ ap (m.fresh directory) ho)) i;
+        tx = None;
+        begun = 0;
+        decisions = 0;
+        checkpoints = 0;
+      }) (record { view = None; played = 0; work = None });
+      view = tt;
+      work = tt;
+      drawn = tt;
+      fit = tt;
+    };
+    counted = record { next = omega arith; begun = omega arith; decisions = omega arith; checkpoints = omega arith };
   }
 
   pub same_busy : (w : Option (WorkOf m)) (u : Option (Work m)) → KeepsMaybe m w u → is_some w ≡ is_some u

@@ -1,6 +1,6 @@
 //! A machine goes on in a newer layout.
 
-ghost use Rattle.std.specs.Prelude.{ℕ, IfOk};
+ghost use Rattle.std.specs.Prelude.{◌<◌, ◌^◌, ℕ, IfOk};
 ghost use Rattle.tg_kind.specs.Of.{meaning_of};
 ghost use Rattle.tg_protocol.specs.Clients as told;
 ghost use Rattle.tg_protocol.specs.ClientSteps as steps;
@@ -11,11 +11,12 @@ ghost use Rattle.tg_client_state.specs.declared.paused.Paused.TheVariants as giv
 ghost use Rattle.tg_client_state.specs.States.{Rest, client_of, IsLeftFit, KeepsMoved};
 ghost use Rattle.tg_client_state.specs.Moves.{Holds};
 ghost use Rattle.tg_client.specs.Feeding.{IsCourseFit, IsLeftKept};
+ghost use Rattle.tg_client_state.specs.Counts.{HasNumbers};
 
 use std::alloc::Global;
 use tg_append::{PausedAppend, Sync};
 use tg_base::{List, NoMemory, Oid, Pos, Projection};
-use tg_client_state::{Job, Moved, Paused, Purpose, State, drawing};
+use tg_client_state::{Job, Moved, Paused, Purpose, State};
 use tg_client_sync::{on_sync, on_walk};
 use tg_client_tasks::{copies_again, on_append, on_reconf, on_trims};
 use tg_kind::Registry;
@@ -30,11 +31,12 @@ fn syncs_again<K: Registry>(
     job: Job<K>,
     oids: List<Oid>,
 ) -> Result<Moved<K>, NoMemory>
+    requires { HasNumbers (meaning_of K.Registry) state }
     ensures { (r : Rest (meaning_of K.Registry)) (w : told.Work (meaning_of K.Registry)) (old : ℕ) (t : told.Task (meaning_of K.Registry)) → Holds (meaning_of K.Registry) state job r w old → GoesOn (meaning_of K.Registry) (given.Sync oids) t → IfOk result (λ x. KeepsMoved (meaning_of K.Registry) old x (steps.task_again (meaning_of K.Registry) (client_of (meaning_of K.Registry) state r) w t)) }
 {
     let mut job = job;
     job.parts.gone_before = job.parts.gone;
-    let mut rids = drawing(state.parts.rids)?;
+    let mut rids = state.parts.rids;
     let step = Sync::start(alloc, &state.parts.stand, oids, &mut rids)?;
     on_sync(state, alloc, job, rids, step)
 }
@@ -47,10 +49,11 @@ fn walks_again<K: Registry>(
     walk: PausedWalk,
     rest: List<Oid>,
 ) -> Result<Moved<K>, NoMemory>
-    requires { IsCourseFit (meaning_of K.Registry) state.known walk }
+    requires fit { IsCourseFit (meaning_of K.Registry) state.known walk }
+    requires numbers { HasNumbers (meaning_of K.Registry) state }
     ensures { (r : Rest (meaning_of K.Registry)) (w : told.Work (meaning_of K.Registry)) (old : ℕ) (t : told.Task (meaning_of K.Registry)) → Holds (meaning_of K.Registry) state job r w old → GoesOn (meaning_of K.Registry) (given.Walk walk rest) t → IfOk result (λ x. KeepsMoved (meaning_of K.Registry) old x (steps.task_again (meaning_of K.Registry) (client_of (meaning_of K.Registry) state r) w t)) }
 {
-    let mut rids = drawing(state.parts.rids)?;
+    let mut rids = state.parts.rids;
     let oid = walk.oid();
     let step = walk.resume(alloc, &state.parts.stand, &mut rids)?;
     on_walk(state, alloc, job, oid, rest, rids, step)
@@ -64,9 +67,10 @@ fn appends_again<K: Registry>(
     append: PausedAppend,
     purpose: Purpose<K>,
 ) -> Result<Moved<K>, NoMemory>
+    requires { state.rids.next < 2 ^ 61 }
     ensures { (r : Rest (meaning_of K.Registry)) (w : told.Work (meaning_of K.Registry)) (old : ℕ) (t : told.Task (meaning_of K.Registry)) → Holds (meaning_of K.Registry) state job r w old → GoesOn (meaning_of K.Registry) (given.Append append purpose) t → IsLeftFit (meaning_of K.Registry) state.known t → IfOk result (λ x. KeepsMoved (meaning_of K.Registry) old x (steps.task_again (meaning_of K.Registry) (client_of (meaning_of K.Registry) state r) w t)) }
 {
-    let mut rids = drawing(state.parts.rids)?;
+    let mut rids = state.parts.rids;
     let step = append.resume(alloc, &state.parts.stand, &mut rids)?;
     on_append(state, alloc, job, purpose, rids, step)
 }
@@ -78,9 +82,10 @@ fn trims_again<K: Registry>(
     job: Job<K>,
     below: Pos,
 ) -> Result<Moved<K>, NoMemory>
+    requires { state.rids.next < 2 ^ 61 }
     ensures { (r : Rest (meaning_of K.Registry)) (w : told.Work (meaning_of K.Registry)) (old : ℕ) (t : told.Task (meaning_of K.Registry)) → Holds (meaning_of K.Registry) state job r w old → GoesOn (meaning_of K.Registry) (given.Trim below) t → IfOk result (λ x. KeepsMoved (meaning_of K.Registry) old x (steps.task_again (meaning_of K.Registry) (client_of (meaning_of K.Registry) state r) w t)) }
 {
-    let mut rids = drawing(state.parts.rids)?;
+    let mut rids = state.parts.rids;
     let step = Trims::start(alloc, &state.parts.stand, below, &mut rids)?;
     on_trims(state, alloc, job, below, rids, step)
 }
@@ -95,10 +100,11 @@ fn changes_again<K: Registry>(
     rid: u64,
     proj: Projection,
 ) -> Result<Moved<K>, NoMemory>
-    requires { AreDrawn state.rids.next reconf }
+    requires drawn { AreDrawn state.rids.next reconf }
+    requires numbers { state.rids.next < 2 ^ 61 }
     ensures { (r : Rest (meaning_of K.Registry)) (w : told.Work (meaning_of K.Registry)) → Holds (meaning_of K.Registry) state job r w state.rids.next → IfOk result (λ x. KeepsMoved (meaning_of K.Registry) state.rids.next x (steps.on_reconf (meaning_of K.Registry) (client_of (meaning_of K.Registry) state r) w (reconf_latest reconf reconf.work server rid proj state.rids.next))) }
 {
-    let mut rids = drawing(state.parts.rids)?;
+    let mut rids = state.parts.rids;
     let step = reconf.latest(alloc, server, rid, proj, &mut rids)?;
     on_reconf(state, alloc, job, rids, step)
 }
@@ -113,7 +119,8 @@ pub fn goes_on_in<K: Registry>(
     rid: u64,
     proj: Projection,
 ) -> Result<Moved<K>, NoMemory>
-    requires { IsLeftKept (meaning_of K.Registry) state paused }
+    requires kept { IsLeftKept (meaning_of K.Registry) state paused }
+    requires numbers { HasNumbers (meaning_of K.Registry) state }
     ensures { (r : Rest (meaning_of K.Registry)) (w : told.Work (meaning_of K.Registry)) (t : told.Task (meaning_of K.Registry)) → Holds (meaning_of K.Registry) state job r w state.rids.next → GoesOn (meaning_of K.Registry) paused t → IsLeftFit (meaning_of K.Registry) state.known t → IfOk result (λ x. KeepsMoved (meaning_of K.Registry) state.rids.next x (steps.on_newer (meaning_of K.Registry) (client_of (meaning_of K.Registry) state r) w t server rid proj)) }
 {
     match paused {

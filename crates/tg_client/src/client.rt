@@ -1,6 +1,6 @@
 //! A client.
 
-ghost use Rattle.std.specs.Prelude.{◌≡◌, ◌∷◌, [], is_some, option_copied, IfOk};
+ghost use Rattle.std.specs.Prelude.{◌≡◌, ◌<◌, ◌∷◌, [], is_some, option_copied, IfOk};
 ghost use Rattle.tg_base.specs.declared.ids.Oid.{Oid};
 ghost use Rattle.tg_kind.specs.Of.{meaning_of};
 ghost use Rattle.tg_protocol.specs.Clients as told;
@@ -8,6 +8,7 @@ ghost use Rattle.tg_protocol.specs.ClientSteps.{client_command, client_deliver, 
 ghost use Rattle.tg_protocol.specs.Words.{directory};
 ghost use Rattle.tg_client.specs.Kept.{KeepsClient, IsClient};
 
+use crate::few::{asks_few, gives_few, tells_few};
 use crate::steps::{commanded, delivered};
 use std::alloc::Global;
 use tg_base::{Cell, Cluster, Epoch, List, Msg, NoMemory, NodeId, Oid, Out, Pos, Rids};
@@ -127,19 +128,22 @@ impl<K: Registry> Client<K> {
         self.work.is_some()
     }
 
-    /// The client after a command. An `Err` is want of memory, or of numbers; nothing is left of it then.
+    /// The client after a command. An `Err` is want of memory; nothing is left of it then.
     pub fn command(self, alloc: Global, command: CommandOf<K>) -> Result<Turned<K>, NoMemory>
+        requires kept { IsClient (meaning_of K.Registry) self }
+        requires room { self.state.calls < 200000 }
         ensures now { (c : told.Client (meaning_of K.Registry)) → KeepsClient (meaning_of K.Registry) self c → IfOk result (λ t. KeepsClient (meaning_of K.Registry) t.now (client_command (meaning_of K.Registry) c command).now) }
         ensures sends { (c : told.Client (meaning_of K.Registry)) → KeepsClient (meaning_of K.Registry) self c → IfOk result (λ t. t.sends ≡ (client_command (meaning_of K.Registry) c command).sends) }
         ensures notes { (c : told.Client (meaning_of K.Registry)) → KeepsClient (meaning_of K.Registry) self c → IfOk result (λ t. t.notes ≡ (client_command (meaning_of K.Registry) c command).notes) }
     {
         let Client { state, work } = self;
+        asks_few(&state, &work);
+        gives_few(&state, &command);
         let moved = commanded(state, work, alloc, command)?;
         Ok(after_step(moved))
     }
 
-    /// The client after a message from a node under a number. An `Err` is want of memory, or of numbers; nothing is left
-    /// of it then.
+    /// The client after a message from a node under a number. An `Err` is want of memory; nothing is left of it then.
     pub fn deliver(
         self,
         alloc: Global,
@@ -148,23 +152,28 @@ impl<K: Registry> Client<K> {
         msg: &Msg,
     ) -> Result<Turned<K>, NoMemory>
         requires kept { IsClient (meaning_of K.Registry) self }
+        requires room { self.state.calls < 200000 }
         ensures now { (c : told.Client (meaning_of K.Registry)) → KeepsClient (meaning_of K.Registry) self c → IfOk result (λ t. KeepsClient (meaning_of K.Registry) t.now (client_deliver (meaning_of K.Registry) c from rid msg.now).now) }
         ensures sends { (c : told.Client (meaning_of K.Registry)) → KeepsClient (meaning_of K.Registry) self c → IfOk result (λ t. t.sends ≡ (client_deliver (meaning_of K.Registry) c from rid msg.now).sends) }
         ensures notes { (c : told.Client (meaning_of K.Registry)) → KeepsClient (meaning_of K.Registry) self c → IfOk result (λ t. t.notes ≡ (client_deliver (meaning_of K.Registry) c from rid msg.now).notes) }
     {
         let Client { state, work } = self;
+        asks_few(&state, &work);
+        tells_few::<K>(msg);
         let moved = delivered(state, work, alloc, from, rid, msg)?;
         Ok(after_step(moved))
     }
 
-    /// The client after a tick. An `Err` is want of memory, or of numbers; nothing is left of it then.
+    /// The client after a tick. An `Err` is want of memory; nothing is left of it then.
     pub fn tick(self, alloc: Global) -> Result<Turned<K>, NoMemory>
         requires kept { IsClient (meaning_of K.Registry) self }
+        requires room { self.state.calls < 200000 }
         ensures now { (c : told.Client (meaning_of K.Registry)) → KeepsClient (meaning_of K.Registry) self c → IfOk result (λ t. KeepsClient (meaning_of K.Registry) t.now (client_tick (meaning_of K.Registry) c).now) }
         ensures sends { (c : told.Client (meaning_of K.Registry)) → KeepsClient (meaning_of K.Registry) self c → IfOk result (λ t. t.sends ≡ (client_tick (meaning_of K.Registry) c).sends) }
         ensures notes { (c : told.Client (meaning_of K.Registry)) → KeepsClient (meaning_of K.Registry) self c → IfOk result (λ t. t.notes ≡ (client_tick (meaning_of K.Registry) c).notes) }
     {
         let Client { state, work } = self;
+        asks_few(&state, &work);
         let moved = ticked(state, work, alloc)?;
         Ok(after_step(moved))
     }

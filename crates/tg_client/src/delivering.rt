@@ -11,6 +11,7 @@ ghost use Rattle.tg_client_state.specs.Tasks.{GoesOn, KeepsHand};
 ghost use Rattle.tg_client_state.specs.States.{KeepsClient, KeepsMoved};
 ghost use Rattle.tg_client_state.specs.Moves.{IsKept};
 ghost use Rattle.tg_client.specs.Feeding.{latest_in};
+ghost use Rattle.tg_client_state.specs.Counts.{HasNumbers};
 
 use crate::again::goes_on_in;
 use crate::feeding::feeds;
@@ -69,6 +70,7 @@ fn on_answer<K: Registry>(
 ) -> Result<Moved<K>, NoMemory>
     requires kept { IsKept (meaning_of K.Registry) state (Some work) }
     requires other { latest_in (reply msg.now) ≡ None }
+    requires numbers { HasNumbers (meaning_of K.Registry) state }
     ensures { (c : told.Client (meaning_of K.Registry)) → KeepsClient (meaning_of K.Registry) state (Some work) c → IfOk result (λ x. KeepsMoved (meaning_of K.Registry) state.rids.next x (steps.feed (meaning_of K.Registry) c c.work from rid (reply msg.now))) }
 {
     let Work { job, hand } = work;
@@ -90,7 +92,8 @@ fn on_latest<K: Registry>(
     rid: u64,
     proj: &Projection,
 ) -> Result<Moved<K>, NoMemory>
-    requires { IsKept (meaning_of K.Registry) state (Some work) }
+    requires kept { IsKept (meaning_of K.Registry) state (Some work) }
+    requires numbers { HasNumbers (meaning_of K.Registry) state }
     ensures { (c : told.Client (meaning_of K.Registry)) → KeepsClient (meaning_of K.Registry) state (Some work) c → IfOk result (λ x. KeepsMoved (meaning_of K.Registry) state.rids.next x (steps.feed (meaning_of K.Registry) c c.work from rid (IsLatest proj.now))) }
 {
     if is_newer(&state, from, proj) {
@@ -120,6 +123,7 @@ pub fn deliver<K: Registry>(
     msg: &Msg,
 ) -> Result<Moved<K>, NoMemory>
     requires kept { IsKept (meaning_of K.Registry) state (Some work) }
+    requires numbers { HasNumbers (meaning_of K.Registry) state }
     ensures { (c : told.Client (meaning_of K.Registry)) → KeepsClient (meaning_of K.Registry) state (Some work) c → IfOk result (λ x. KeepsMoved (meaning_of K.Registry) state.rids.next x (steps.feed (meaning_of K.Registry) c c.work from rid (reply msg.now))) }
 {
     match latest_in(msg) {

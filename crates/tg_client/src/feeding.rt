@@ -1,6 +1,6 @@
 //! A machine in hand is fed.
 
-ghost use Rattle.std.specs.Prelude.{◌≡◌, true, IfOk};
+ghost use Rattle.std.specs.Prelude.{◌≡◌, ◌<◌, ◌^◌, true, IfOk};
 ghost use Rattle.tg_kind.specs.Of.{meaning_of};
 ghost use Rattle.tg_protocol.specs.Appending.{append_asks};
 ghost use Rattle.tg_protocol.specs.Clients as told;
@@ -24,11 +24,12 @@ ghost use Rattle.tg_client_state.specs.Tasks.{told_purpose, told_task};
 ghost use Rattle.tg_client_state.specs.States.{Rest, WalksOn, client_of, KeepsMoved};
 ghost use Rattle.tg_client_state.specs.Moves.{Holds};
 ghost use Rattle.tg_client.specs.Feeding.{InHand, IsTaskKept};
+ghost use Rattle.tg_client_state.specs.Counts.{HasNumbers};
 
 use std::alloc::Global;
 use tg_append::{Append, Sync};
 use tg_base::{List, Msg, NoMemory, NodeId, Oid};
-use tg_client_state::{Job, Moved, Purpose, State, Task, drawing};
+use tg_client_state::{Job, Moved, Purpose, State, Task};
 use tg_client_sync::{on_sync, on_walk};
 use tg_client_tasks::{on_append, on_copy, on_reconf, on_trims};
 use tg_copy::CopyRange;
@@ -47,9 +48,10 @@ fn feeds_sync<K: Registry>(
     rid: u64,
     msg: &Msg,
 ) -> Result<Moved<K>, NoMemory>
+    requires { HasNumbers (meaning_of K.Registry) state }
     ensures { (r : Rest (meaning_of K.Registry)) (w : told.Work (meaning_of K.Registry)) → Holds (meaning_of K.Registry) state job r w state.rids.next → all_drawn state.rids.next (sync_asks state.stand sync) ≡ true → NearAnswer (answer_in sync.work) → IfOk result (λ x. KeepsMoved (meaning_of K.Registry) state.rids.next x (steps.on_sync (meaning_of K.Registry) (client_of (meaning_of K.Registry) state r) w (sync_fed state.stand sync from rid msg.now state.rids.next))) }
 {
-    let mut rids = drawing(state.parts.rids)?;
+    let mut rids = state.parts.rids;
     let step = sync.feed(alloc, &state.parts.stand, from, rid, msg, &mut rids)?;
     on_sync(state, alloc, job, rids, step)
 }
@@ -65,10 +67,11 @@ fn feeds_walk<K: Registry>(
     rid: u64,
     msg: &Msg,
 ) -> Result<Moved<K>, NoMemory>
-    requires { WalksOn (meaning_of K.Registry) state.known walk }
+    requires walks { WalksOn (meaning_of K.Registry) state.known walk }
+    requires numbers { HasNumbers (meaning_of K.Registry) state }
     ensures { (r : Rest (meaning_of K.Registry)) (w : told.Work (meaning_of K.Registry)) → Holds (meaning_of K.Registry) state job r w state.rids.next → all_drawn state.rids.next (walk_asks walk) ≡ true → IfOk result (λ x. KeepsMoved (meaning_of K.Registry) state.rids.next x (steps.on_walk (meaning_of K.Registry) (client_of (meaning_of K.Registry) state r) w walk.oid rest (walk_fed state.stand walk from rid msg.now state.rids.next))) }
 {
-    let mut rids = drawing(state.parts.rids)?;
+    let mut rids = state.parts.rids;
     let oid = walk.oid();
     let step = walk.feed(alloc, &state.parts.stand, from, rid, msg, &mut rids)?;
     on_walk(state, alloc, job, oid, rest, rids, step)
@@ -85,9 +88,10 @@ fn feeds_append<K: Registry>(
     rid: u64,
     msg: &Msg,
 ) -> Result<Moved<K>, NoMemory>
+    requires { state.rids.next < 2 ^ 61 }
     ensures { (r : Rest (meaning_of K.Registry)) (w : told.Work (meaning_of K.Registry)) → Holds (meaning_of K.Registry) state job r w state.rids.next → all_drawn state.rids.next (append_asks state.stand append) ≡ true → NearToken append.token → IfOk result (λ x. KeepsMoved (meaning_of K.Registry) state.rids.next x (steps.on_append (meaning_of K.Registry) (client_of (meaning_of K.Registry) state r) w (told_purpose (meaning_of K.Registry) purpose) (append_fed state.stand append from rid msg.now state.rids.next))) }
 {
-    let mut rids = drawing(state.parts.rids)?;
+    let mut rids = state.parts.rids;
     let step = append.feed(alloc, &state.parts.stand, from, rid, msg, &mut rids)?;
     on_append(state, alloc, job, purpose, rids, step)
 }
@@ -102,6 +106,7 @@ fn feeds_trims<K: Registry>(
     rid: u64,
     msg: &Msg,
 ) -> Result<Moved<K>, NoMemory>
+    requires { state.rids.next < 2 ^ 61 }
     ensures { (r : Rest (meaning_of K.Registry)) (w : told.Work (meaning_of K.Registry)) → Holds (meaning_of K.Registry) state job r w state.rids.next → all_drawn state.rids.next (trim_asks state.stand trims) ≡ true → IfOk result (λ x. KeepsMoved (meaning_of K.Registry) state.rids.next x (steps.on_trims (meaning_of K.Registry) (client_of (meaning_of K.Registry) state r) w trims.below (trim_fed state.stand trims from rid msg.now state.rids.next))) }
 {
     let rids = state.parts.rids;
@@ -120,10 +125,11 @@ fn feeds_copy<K: Registry>(
     rid: u64,
     msg: &Msg,
 ) -> Result<Moved<K>, NoMemory>
-    requires { HasStripe state.stand (spare_of copy) }
+    requires there { HasStripe state.stand (spare_of copy) }
+    requires numbers { state.rids.next < 2 ^ 61 }
     ensures { (r : Rest (meaning_of K.Registry)) (w : told.Work (meaning_of K.Registry)) → Holds (meaning_of K.Registry) state job r w state.rids.next → all_drawn state.rids.next (copy_asks state.stand copy) ≡ true → IfOk result (λ x. KeepsMoved (meaning_of K.Registry) state.rids.next x (steps.on_copy (meaning_of K.Registry) (client_of (meaning_of K.Registry) state r) w copy (copy_fed state.stand copy from rid msg.now state.rids.next))) }
 {
-    let mut rids = drawing(state.parts.rids)?;
+    let mut rids = state.parts.rids;
     let spare = copy.spare();
     let step = copy.feed(alloc, &state.parts.stand, from, rid, msg, &mut rids)?;
     on_copy(state, alloc, job, spare, rids, step)
@@ -139,10 +145,11 @@ fn feeds_reconf<K: Registry>(
     rid: u64,
     msg: &Msg,
 ) -> Result<Moved<K>, NoMemory>
-    requires { AreDrawn state.rids.next reconf }
+    requires drawn { AreDrawn state.rids.next reconf }
+    requires numbers { state.rids.next < 2 ^ 61 }
     ensures { (r : Rest (meaning_of K.Registry)) (w : told.Work (meaning_of K.Registry)) → Holds (meaning_of K.Registry) state job r w state.rids.next → IfOk result (λ x. KeepsMoved (meaning_of K.Registry) state.rids.next x (steps.on_reconf (meaning_of K.Registry) (client_of (meaning_of K.Registry) state r) w (fed reconf from rid msg.now state.rids.next))) }
 {
-    let mut rids = drawing(state.parts.rids)?;
+    let mut rids = state.parts.rids;
     let step = reconf.feed(alloc, from, rid, msg, &mut rids)?;
     on_reconf(state, alloc, job, rids, step)
 }
@@ -157,7 +164,8 @@ pub fn feeds<K: Registry>(
     rid: u64,
     msg: &Msg,
 ) -> Result<Moved<K>, NoMemory>
-    requires { IsTaskKept (meaning_of K.Registry) state (told_task (meaning_of K.Registry) task) }
+    requires kept { IsTaskKept (meaning_of K.Registry) state (told_task (meaning_of K.Registry) task) }
+    requires numbers { HasNumbers (meaning_of K.Registry) state }
     ensures { (r : Rest (meaning_of K.Registry)) (w : told.Work (meaning_of K.Registry)) → Holds (meaning_of K.Registry) state job r w state.rids.next → InHand (meaning_of K.Registry) r w (told_task (meaning_of K.Registry) task) → IfOk result (λ x. KeepsMoved (meaning_of K.Registry) state.rids.next x (steps.fed_if (meaning_of K.Registry) (awaits (steps.task_awaited (meaning_of K.Registry) state.stand (told_task (meaning_of K.Registry) task)) from rid) (client_of (meaning_of K.Registry) state r) w (told_task (meaning_of K.Registry) task) from rid (reply msg.now))) }
 {
     match task {

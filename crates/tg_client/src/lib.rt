@@ -5,6 +5,7 @@ mod again;
 mod client;
 mod delivering;
 mod feeding;
+mod few;
 mod steps;
 
 pub use client::{Client, Turned};

@@ -1,6 +1,6 @@
 //! Steps of a client: commands and messages.
 
-ghost use Rattle.std.specs.Prelude.{◌≡◌, ℕ, Option, Some, IfOk};
+ghost use Rattle.std.specs.Prelude.{◌≡◌, ◌<◌, ◌+◌, ◌^◌, ℕ, Option, Some, IfOk};
 ghost use Rattle.tg_kind.specs.Of.{meaning_of};
 ghost use Rattle.tg_model.specs.Kinds.{CommandOf};
 ghost use Rattle.tg_protocol.specs.Clients as told;
@@ -10,6 +10,7 @@ ghost use Rattle.tg_client_state.specs.States.{KeepsViewIf, KeepsClient, KeepsMo
 ghost use Rattle.tg_client_state.specs.Moves.{IsKept};
 ghost use Rattle.tg_client_tasks.specs.Idle.{idle};
 ghost use Rattle.tg_client_tasks.specs.Steps.{KeepsStep};
+ghost use Rattle.tg_client_state.specs.Counts.{HasNumbers};
 
 use crate::delivering::deliver;
 use std::alloc::Global;
@@ -25,6 +26,7 @@ fn tested<K: Registry>(
     alloc: Global,
     command: CommandOf<K>,
 ) -> Result<Moved<K>, NoMemory>
+    requires { HasNumbers (meaning_of K.Registry) state }
     ensures { (v : Option (View (meaning_of K.Registry))) (n : ℕ) → KeepsViewIf (meaning_of K.Registry) state.view v → IfOk result (λ x. KeepsMoved (meaning_of K.Registry) state.rids.next x (refused_or (meaning_of K.Registry) (idle (meaning_of K.Registry) state v n) command (told.refusal (meaning_of K.Registry) (idle (meaning_of K.Registry) state v n) command))) }
 {
     match refusal(&state, alloc, &command)? {
@@ -36,6 +38,7 @@ fn tested<K: Registry>(
 /// A command while another one waits is refused, and the client is as it was. An `Err` is want of memory, or of numbers.
 #[tactic(auto, unfolding(tg_protocol::specs::ClientSteps::client_command, tg_protocol::specs::Clients::refusal))]
 fn busy<K: Registry>(state: State<K>, alloc: Global, work: Work<K>) -> Result<Moved<K>, NoMemory>
+    requires { state.calls + 1 < 2 ^ 32 }
     ensures { (c : told.Client (meaning_of K.Registry)) (command : CommandOf (meaning_of K.Registry)) → KeepsClient (meaning_of K.Registry) state (Some work) c → IfOk result (λ r. KeepsStep (meaning_of K.Registry) r (client_command (meaning_of K.Registry) c command)) }
 {
     let Work { job, hand } = work;
@@ -59,6 +62,9 @@ pub fn commanded<K: Registry>(
     alloc: Global,
     command: CommandOf<K>,
 ) -> Result<Moved<K>, NoMemory>
+    requires kept { IsKept (meaning_of K.Registry) state work }
+    requires numbers { HasNumbers (meaning_of K.Registry) state }
+    requires room { state.calls + 1 < 2 ^ 32 }
     ensures { (c : told.Client (meaning_of K.Registry)) → KeepsClient (meaning_of K.Registry) state work c → IfOk result (λ r. KeepsStep (meaning_of K.Registry) r (client_command (meaning_of K.Registry) c command)) }
 {
     match work {
@@ -80,7 +86,9 @@ pub fn delivered<K: Registry>(
     rid: u64,
     msg: &Msg,
 ) -> Result<Moved<K>, NoMemory>
-    requires { IsKept (meaning_of K.Registry) state work }
+    requires kept { IsKept (meaning_of K.Registry) state work }
+    requires numbers { HasNumbers (meaning_of K.Registry) state }
+    requires room { state.calls + 1 < 2 ^ 32 }
     ensures { (c : told.Client (meaning_of K.Registry)) → KeepsClient (meaning_of K.Registry) state work c → IfOk result (λ r. KeepsStep (meaning_of K.Registry) r (client_deliver (meaning_of K.Registry) c from rid msg.now)) }
 {
     match work {

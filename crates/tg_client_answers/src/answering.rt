@@ -4,6 +4,7 @@ ghost use Rattle.std.specs.Prelude.{IsSome};
 ghost use Rattle.tg_kind.specs.Of.{meaning_of};
 ghost use Rattle.tg_protocol.specs.Answers as told;
 ghost use Rattle.tg_client_answers.specs.Fates.{Moves};
+ghost use Rattle.tg_client_state.specs.Counts.{HasNumbersLeft};
 
 use crate::{on_ask, on_checkpoint, on_decide, on_end, on_fate, on_forget, on_trim};
 use std::alloc::Global;
@@ -16,7 +17,7 @@ use tg_model::{Command, PlayEnd};
 /// The command is answered by what the view has played, and where the play came to. Commands that play nothing are
 /// answered by nothing here.
 ///
-/// An `Err` is want of memory, or of numbers.
+/// An `Err` is want of memory.
 pub fn answered<K: Registry>(
     state: State<K>,
     alloc: Global,
@@ -24,7 +25,8 @@ pub fn answered<K: Registry>(
     entries: &Entries,
     came: PlayEnd,
 ) -> Result<Moved<K>, NoMemory>
-    requires { IsSome state.view }
+    requires view { IsSome state.view }
+    requires numbers { HasNumbersLeft (meaning_of K.Registry) state }
     ensures { Moves (meaning_of K.Registry) state job result (λ c w v. told.answer_by (meaning_of K.Registry) c w entries.now (record { view = v; came = came }) w.command) }
 {
     match &job.parts.command {

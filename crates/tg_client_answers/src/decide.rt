@@ -9,6 +9,7 @@ ghost use Rattle.tg_protocol.specs.Past.{commit_at};
 ghost use Rattle.tg_protocol.specs.Views as views;
 ghost use Rattle.tg_play.specs.Relations.{told_verdict};
 ghost use Rattle.tg_client_answers.specs.Fates.{Moves, decision_told};
+ghost use Rattle.tg_client_state.specs.Counts.{HasNumbersLeft};
 
 use crate::records::{blocked_by, trim_above};
 use std::alloc::Global;
@@ -31,7 +32,7 @@ fn decision<K: Registry>(verdict: Verdict, at: Pos) -> Result<bool, Refusal>
     }
 }
 
-// A record is decided: its decision record comes first where it lacks one. An `Err` is want of memory, or of numbers.
+// A record is decided: its decision record comes first where it lacks one. An `Err` is want of memory.
 fn decided<K: Registry>(
     state: State<K>,
     alloc: Global,
@@ -41,6 +42,7 @@ fn decided<K: Registry>(
     entry: &Entry,
     yes: bool,
 ) -> Result<Moved<K>, NoMemory>
+    requires { HasNumbersLeft (meaning_of K.Registry) state }
     ensures { Moves (meaning_of K.Registry) state job result (λ c w v. told.decides_if (meaning_of K.Registry) (told.lacks_decision (meaning_of K.Registry) entries.now at entry.now) c w entry.now at yes 0 (what.Decided at (Some yes))) }
 {
     let answer = What::Decided { at, yes: Some(yes) };
@@ -50,7 +52,7 @@ fn decided<K: Registry>(
     state.answers(alloc, 0, answer)
 }
 
-// The same, or why it isn't told. An `Err` is want of memory, or of numbers.
+// The same, or why it isn't told. An `Err` is want of memory.
 fn tells<K: Registry>(
     state: State<K>,
     alloc: Global,
@@ -60,6 +62,7 @@ fn tells<K: Registry>(
     entry: &Entry,
     answer: Result<bool, Refusal>,
 ) -> Result<Moved<K>, NoMemory>
+    requires { HasNumbersLeft (meaning_of K.Registry) state }
     ensures { Moves (meaning_of K.Registry) state job result (λ c w v. decision_told (meaning_of K.Registry) c w entries.now at entry.now answer) }
 {
     match answer {
@@ -68,7 +71,7 @@ fn tells<K: Registry>(
     }
 }
 
-// A record at a position. An `Err` is want of memory, or of numbers.
+// A record at a position. An `Err` is want of memory.
 fn judged<K: Registry>(
     state: State<K>,
     alloc: Global,
@@ -77,7 +80,8 @@ fn judged<K: Registry>(
     at: Pos,
     entry: &Entry,
 ) -> Result<Moved<K>, NoMemory>
-    requires { IsSome state.view }
+    requires view { IsSome state.view }
+    requires numbers { HasNumbersLeft (meaning_of K.Registry) state }
     ensures { Moves (meaning_of K.Registry) state job result (λ c w v. told.decide_verdict (meaning_of K.Registry) c w entries.now at entry.now (views.view_outcome (meaning_of K.Registry) v entries.now at entry.now)) }
 {
     match &state.parts.view {
@@ -89,7 +93,7 @@ fn judged<K: Registry>(
     }
 }
 
-// The record at a position, if there is one. An `Err` is want of memory, or of numbers.
+// The record at a position, if there is one. An `Err` is want of memory.
 fn record<K: Registry>(
     state: State<K>,
     alloc: Global,
@@ -97,7 +101,8 @@ fn record<K: Registry>(
     entries: &Entries,
     at: Pos,
 ) -> Result<Moved<K>, NoMemory>
-    requires { IsSome state.view }
+    requires view { IsSome state.view }
+    requires numbers { HasNumbersLeft (meaning_of K.Registry) state }
     ensures { Moves (meaning_of K.Registry) state job result (λ c w v. told.decide_record (meaning_of K.Registry) c w entries.now v at (commit_at entries.now at)) }
 {
     match commit_at(entries, at) {
@@ -106,7 +111,7 @@ fn record<K: Registry>(
     }
 }
 
-// The record at a position, unless the play is blocked at or below it. An `Err` is want of memory, or of numbers.
+// The record at a position, unless the play is blocked at or below it. An `Err` is want of memory.
 fn played<K: Registry>(
     state: State<K>,
     alloc: Global,
@@ -115,7 +120,8 @@ fn played<K: Registry>(
     at: Pos,
     came: PlayEnd,
 ) -> Result<Moved<K>, NoMemory>
-    requires { IsSome state.view }
+    requires view { IsSome state.view }
+    requires numbers { HasNumbersLeft (meaning_of K.Registry) state }
     ensures { Moves (meaning_of K.Registry) state job result (λ c w v. told.decide_played (meaning_of K.Registry) c w entries.now v at came) }
 {
     match blocked_by::<K>(entries, at, came) {
@@ -128,7 +134,7 @@ fn played<K: Registry>(
 /// says so where it needs one and there is none among the entries. It is refused where a walk met a trim above the
 /// position, where the play is blocked at or below a record, and where that can't be decided.
 ///
-/// An `Err` is want of memory, or of numbers.
+/// An `Err` is want of memory.
 pub fn on_decide<K: Registry>(
     state: State<K>,
     alloc: Global,
@@ -137,7 +143,8 @@ pub fn on_decide<K: Registry>(
     at: Pos,
     came: PlayEnd,
 ) -> Result<Moved<K>, NoMemory>
-    requires { IsSome state.view }
+    requires view { IsSome state.view }
+    requires numbers { HasNumbersLeft (meaning_of K.Registry) state }
     ensures { Moves (meaning_of K.Registry) state job result (λ c w v. told.on_decide (meaning_of K.Registry) c w entries.now v at came (told.trim_above (meaning_of K.Registry) w.trims at)) }
 {
     match trim_above::<K>(job.parts.trims.as_slice(), at) {

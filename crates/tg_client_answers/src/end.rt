@@ -6,6 +6,7 @@ ghost use Rattle.tg_protocol.specs.Answers as told;
 ghost use Rattle.tg_protocol.specs.Past.{commit_at};
 ghost use Rattle.tg_protocol.specs.Views as views;
 ghost use Rattle.tg_client_answers.specs.Fates.{Moves, end_told};
+ghost use Rattle.tg_client_state.specs.Counts.{HasNumbersLeft};
 
 use crate::closing::{closes, unsure};
 use crate::ended::ended;
@@ -18,7 +19,7 @@ use tg_model::{PlayEnd, WhatOf};
 use tg_rescue::{commit_at, needs_decision};
 
 // A record of which it is known what becomes of it: its decision record comes first where it lacks one. An `Err` is want
-// of memory, or of numbers.
+// of memory.
 fn decided<K: Registry>(
     state: State<K>,
     alloc: Global,
@@ -28,6 +29,7 @@ fn decided<K: Registry>(
     entry: &Entry,
     answer: (bool, WhatOf<K>),
 ) -> Result<Moved<K>, NoMemory>
+    requires { HasNumbersLeft (meaning_of K.Registry) state }
     ensures { Moves (meaning_of K.Registry) state job result (λ c w v. told.end_decided (meaning_of K.Registry) (told.lacks_decision (meaning_of K.Registry) entries.now at entry.now) c w entry.now at answer.0 answer.1) }
 {
     let (yes, what) = answer;
@@ -44,7 +46,7 @@ fn decided<K: Registry>(
     closes(state, alloc, what)
 }
 
-// The same, or that it isn't known. An `Err` is want of memory, or of numbers.
+// The same, or that it isn't known. An `Err` is want of memory.
 fn tells<K: Registry>(
     state: State<K>,
     alloc: Global,
@@ -54,6 +56,7 @@ fn tells<K: Registry>(
     entry: &Entry,
     answer: Option<(bool, WhatOf<K>)>,
 ) -> Result<Moved<K>, NoMemory>
+    requires { HasNumbersLeft (meaning_of K.Registry) state }
     ensures { Moves (meaning_of K.Registry) state job result (λ c w v. end_told (meaning_of K.Registry) c w entries.now at entry.now answer) }
 {
     match answer {
@@ -62,7 +65,7 @@ fn tells<K: Registry>(
     }
 }
 
-// The record that `end` appended. An `Err` is want of memory, or of numbers.
+// The record that `end` appended. An `Err` is want of memory.
 fn judged<K: Registry>(
     state: State<K>,
     alloc: Global,
@@ -71,7 +74,8 @@ fn judged<K: Registry>(
     at: Pos,
     entry: &Entry,
 ) -> Result<Moved<K>, NoMemory>
-    requires { IsSome state.view }
+    requires view { IsSome state.view }
+    requires numbers { HasNumbersLeft (meaning_of K.Registry) state }
     ensures { Moves (meaning_of K.Registry) state job result (λ c w v. told.end_by (meaning_of K.Registry) c w entries.now v entry.now at (views.verdict (meaning_of K.Registry) v entries.now at entry.now)) }
 {
     match &state.parts.view {
@@ -83,7 +87,7 @@ fn judged<K: Registry>(
     }
 }
 
-// The record at a position, if it is there. An `Err` is want of memory, or of numbers.
+// The record at a position, if it is there. An `Err` is want of memory.
 fn ends<K: Registry>(
     state: State<K>,
     alloc: Global,
@@ -91,7 +95,8 @@ fn ends<K: Registry>(
     entries: &Entries,
     at: Pos,
 ) -> Result<Moved<K>, NoMemory>
-    requires { IsSome state.view }
+    requires view { IsSome state.view }
+    requires numbers { HasNumbersLeft (meaning_of K.Registry) state }
     ensures { Moves (meaning_of K.Registry) state job result (λ c w v. told.end_record (meaning_of K.Registry) c w entries.now v at (commit_at entries.now at)) }
 {
     match commit_at(entries, at) {
@@ -104,7 +109,7 @@ fn ends<K: Registry>(
 /// a read that has changed is named, or neither is known. A decision record is written first where the record needs one
 /// and there is none among the entries.
 ///
-/// An `Err` is want of memory, or of numbers.
+/// An `Err` is want of memory.
 pub fn on_end<K: Registry>(
     state: State<K>,
     alloc: Global,
@@ -112,7 +117,8 @@ pub fn on_end<K: Registry>(
     entries: &Entries,
     came: PlayEnd,
 ) -> Result<Moved<K>, NoMemory>
-    requires { IsSome state.view }
+    requires view { IsSome state.view }
+    requires numbers { HasNumbersLeft (meaning_of K.Registry) state }
     ensures { Moves (meaning_of K.Registry) state job result (λ c w v. told.on_end (meaning_of K.Registry) c w entries.now v came) }
 {
     let at = job.parts.at;

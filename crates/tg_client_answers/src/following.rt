@@ -7,6 +7,7 @@ ghost use Rattle.tg_protocol.specs.Clients as clients;
 ghost use Rattle.tg_client_state.specs.States.{Rest, client_of, KeepsViewIf, KeepsMoved};
 ghost use Rattle.tg_client_state.specs.Tasks.{KeepsJob};
 ghost use Rattle.tg_client_answers.specs.Playing.{Follows};
+ghost use Rattle.tg_client_state.specs.Counts.{HasNumbersLeft};
 
 use crate::answering::answered;
 use crate::entries::entries_of;
@@ -28,8 +29,9 @@ fn target_of<K: Registry>(command: &CommandOf<K>, at: Pos, tail: Pos) -> Pos
     }
 }
 
-// The client's own view plays, and the command is answered. An `Err` is want of memory, or of numbers.
+// The client's own view plays, and the command is answered. An `Err` is want of memory.
 fn plays<K: Registry>(state: State<K>, alloc: Global, job: Job<K>) -> Result<Moved<K>, NoMemory>
+    requires { HasNumbersLeft (meaning_of K.Registry) state }
     ensures { Follows (meaning_of K.Registry) state job result (λ c w. told.plays_own (meaning_of K.Registry) c w (clients.all_entries (meaning_of K.Registry) c w c.hosted)) }
 {
     let entries = entries_of(&state, alloc, &job)?;
@@ -42,12 +44,13 @@ fn plays<K: Registry>(state: State<K>, alloc: Global, job: Job<K>) -> Result<Mov
 /// rescue leave the kept view alone; for any other command the kept view plays, or a new one, and only what is new to it
 /// where the command allows that.
 ///
-/// An `Err` is want of memory, or of numbers.
+/// An `Err` is want of memory.
 pub fn walked<K: Registry>(
     state: State<K>,
     alloc: Global,
     job: Job<K>,
 ) -> Result<Moved<K>, NoMemory>
+    requires { HasNumbersLeft (meaning_of K.Registry) state }
     ensures { (r : Rest (meaning_of K.Registry)) (w : clients.Work (meaning_of K.Registry)) (old : ℕ) → old ≤ state.rids.next → KeepsViewIf (meaning_of K.Registry) state.view r.view → KeepsJob (meaning_of K.Registry) job w → IfOk result (λ x. KeepsMoved (meaning_of K.Registry) old x (told.walked (meaning_of K.Registry) (client_of (meaning_of K.Registry) state r) w)) }
 {
     match &job.parts.command {

@@ -12,6 +12,7 @@ ghost use Rattle.tg_protocol.specs.Entries.{draft};
 ghost use Rattle.tg_protocol.specs.Words.{directory};
 ghost use Rattle.tg_client_state.specs.Tasks.{KeepsJob};
 ghost use Rattle.tg_client_state.specs.States.{Rest, client_of, KeepsViewIf, KeepsMoved};
+ghost use Rattle.tg_client_state.specs.Counts.{HasNumbersLeft};
 
 use std::alloc::Global;
 use tg_base::{Backs, Blob, List, NoMemory, Oid, Pos, StreamLink};
@@ -111,24 +112,22 @@ fn transaction<K: Registry>(
     Ok(Marking { draft, notes })
 }
 
-/// The client's next transaction, which marks the object. An `Err` is want of memory, or of numbers.
+/// The client's next transaction, which marks the object. An `Err` is want of memory.
 fn next_marking<K: Registry>(
     state: &State<K>,
     alloc: Global,
     oid: Oid,
     mark: Pos,
 ) -> Result<Marking<K>, NoMemory>
+    requires { state.now.begun + 1 < 2 ^ 32 }
     ensures draft { (r : Rest (meaning_of K.Registry)) → IfOk result (λ x. x.draft ≡ told.mark_record (meaning_of K.Registry) (client_of (meaning_of K.Registry) state.now r) oid mark) }
     ensures notes { IfOk result (λ x. x.notes ≡ told.mark_notes (meaning_of K.Registry) (state.now.begun + 1) oid mark) }
     ensures numbers { IfOk result (λ _. state.now.begun + 1 < 2 ^ 32) }
 {
-    match state.parts.begun.checked_add(1) {
-        None => Err(NoMemory),
-        Some(number) => transaction(alloc, state.parts.num, number, oid, mark),
-    }
+    transaction(alloc, state.parts.num, state.parts.begun + 1, oid, mark)
 }
 
-/// The mark is appended. An `Err` is want of memory, or of numbers.
+/// The mark is appended. An `Err` is want of memory.
 fn marks<K: Registry>(
     state: State<K>,
     alloc: Global,
@@ -136,6 +135,7 @@ fn marks<K: Registry>(
     oid: Oid,
     mark: Pos,
 ) -> Result<Moved<K>, NoMemory>
+    requires { HasNumbersLeft (meaning_of K.Registry) state }
     ensures { (r : Rest (meaning_of K.Registry)) (w : rules.Work (meaning_of K.Registry)) (old : ℕ) → old ≤ state.rids.next → KeepsViewIf (meaning_of K.Registry) state.view r.view → KeepsJob (meaning_of K.Registry) job w → IfOk result (λ x. KeepsMoved (meaning_of K.Registry) old x (told.forget_by (meaning_of K.Registry) (client_of (meaning_of K.Registry) state r) w oid mark None)) }
 {
     let marking = next_marking(&state, alloc, oid, mark)?;
@@ -174,6 +174,7 @@ fn forgets<K: Registry>(
     oid: Oid,
     mark: Pos,
 ) -> Result<Moved<K>, NoMemory>
+    requires { HasNumbersLeft (meaning_of K.Registry) state }
     ensures { (r : Rest (meaning_of K.Registry)) (w : rules.Work (meaning_of K.Registry)) (old : ℕ) → old ≤ state.rids.next → KeepsViewIf (meaning_of K.Registry) state.view r.view → KeepsJob (meaning_of K.Registry) job w → IfOk result (λ x. KeepsMoved (meaning_of K.Registry) old x (told.forget_by (meaning_of K.Registry) (client_of (meaning_of K.Registry) state r) w oid mark (ckpts.may_forget (meaning_of K.Registry) entries.now oid mark))) }
 {
     match may_forget::<K>(alloc, entries, oid, mark) {
@@ -183,7 +184,7 @@ fn forgets<K: Registry>(
 }
 
 /// What `forget` comes to, over the entries below the tail: the object is marked by a transaction of its own, where what
-/// is below may be forgotten. An `Err` is want of memory, or of numbers.
+/// is below may be forgotten. An `Err` is want of memory.
 pub fn on_forget<K: Registry>(
     state: State<K>,
     alloc: Global,
@@ -193,6 +194,7 @@ pub fn on_forget<K: Registry>(
     mark: Pos,
     came: PlayEnd,
 ) -> Result<Moved<K>, NoMemory>
+    requires { HasNumbersLeft (meaning_of K.Registry) state }
     ensures { (r : Rest (meaning_of K.Registry)) (w : rules.Work (meaning_of K.Registry)) (old : ℕ) → old ≤ state.rids.next → KeepsViewIf (meaning_of K.Registry) state.view r.view → KeepsJob (meaning_of K.Registry) job w → IfOk result (λ x. KeepsMoved (meaning_of K.Registry) old x (told.on_forget (meaning_of K.Registry) (client_of (meaning_of K.Registry) state r) w entries.now oid mark came)) }
 {
     match came {

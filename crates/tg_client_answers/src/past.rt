@@ -109,7 +109,7 @@ fn played<K: Registry>(
     }
 }
 
-/// The reply to an ask at a position up to the tail. An `Err` is want of memory, or of numbers.
+/// The reply to an ask at a position up to the tail. An `Err` is want of memory.
 fn replied<K: Registry>(
     state: State<K>,
     alloc: Global,
@@ -127,7 +127,7 @@ fn replied<K: Registry>(
 }
 
 /// What `ask-at` comes to: the answer of the object as it stood at the position, by a view of its own. An `Err` is want
-/// of memory, or of numbers.
+/// of memory.
 pub fn on_ask_at<K: Registry>(
     state: State<K>,
     alloc: Global,

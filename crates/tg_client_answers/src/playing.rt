@@ -65,6 +65,7 @@ pub fn played<K: Registry>(
 ) -> Result<(State<K>, PlayEnd), NoMemory>
     requires { AreSpelled entries.now }
     ensures played { (r : Rest (meaning_of K.Registry)) (w : Work (meaning_of K.Registry)) → KeepsViewIf (meaning_of K.Registry) state.view r.view → w.trims ≡ trims.now → IfOk result (λ x. HasPlayed (meaning_of K.Registry) state r w entries.now target x.0 x.1) }
+    ensures others { IfOk result (λ x. x.0 ≡ record state { view = x.0.view }) }
     ensures seen { IfOk result (λ x. IsSome x.0.view) }
 {
     let mut state = state;

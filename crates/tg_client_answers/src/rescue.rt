@@ -1,6 +1,6 @@
 //! The rescue of a record.
 
-ghost use Rattle.std.specs.Prelude.{◌≡◌, ◌≤◌, ◌++◌, ◌∷◌, [], ℕ, true, OnOk, IfOk};
+ghost use Rattle.std.specs.Prelude.{◌≡◌, ◌<◌, ◌≤◌, ◌^◌, ◌++◌, ◌∷◌, [], ℕ, true, OnOk, IfOk};
 ghost use Rattle.tg_kind.specs.Of.{meaning_of};
 ghost use Rattle.tg_model.specs.declared.trace.What.TheVariants as marks;
 ghost use Rattle.tg_protocol.specs.Answers as told;
@@ -13,6 +13,7 @@ ghost use Rattle.tg_entry.specs.Drafts.{all_below};
 ghost use Rattle.tg_client_cells.specs.Words.{AreSpelled};
 ghost use Rattle.tg_client_state.specs.Tasks.{KeepsJob};
 ghost use Rattle.tg_client_state.specs.States.{Rest, client_of, KeepsViewIf, KeepsMoved};
+ghost use Rattle.tg_client_state.specs.Counts.{HasNumbersLeft};
 
 use crate::trims::trim_above;
 use std::alloc::Global;
@@ -118,7 +119,7 @@ fn record<K: Registry>(
     )
 }
 
-/// The decision record of a record is appended, where there is one. An `Err` is want of memory, or of numbers.
+/// The decision record of a record is appended, where there is one. An `Err` is want of memory.
 fn decides<K: Registry>(
     state: State<K>,
     alloc: Global,
@@ -127,6 +128,7 @@ fn decides<K: Registry>(
     yes: bool,
     found: Option<Entry>,
 ) -> Result<Moved<K>, NoMemory>
+    requires { HasNumbersLeft (meaning_of K.Registry) state }
     ensures { (es : plays.Entries) (r : Rest (meaning_of K.Registry)) (w : rules.Work (meaning_of K.Registry)) (old : ℕ) → old ≤ state.rids.next → KeepsViewIf (meaning_of K.Registry) state.view r.view → KeepsJob (meaning_of K.Registry) job w → IfOk result (λ x. KeepsMoved (meaning_of K.Registry) old x (told.rescue_decision (meaning_of K.Registry) (client_of (meaning_of K.Registry) state r) w es at yes found)) }
 {
     match found {
@@ -147,6 +149,7 @@ fn decided<K: Registry>(
     at: Pos,
     yes: bool,
 ) -> Result<Moved<K>, NoMemory>
+    requires { HasNumbersLeft (meaning_of K.Registry) state }
     ensures { (r : Rest (meaning_of K.Registry)) (w : rules.Work (meaning_of K.Registry)) (old : ℕ) → old ≤ state.rids.next → KeepsViewIf (meaning_of K.Registry) state.view r.view → KeepsJob (meaning_of K.Registry) job w → IfOk result (λ x. KeepsMoved (meaning_of K.Registry) old x (told.rescue_decision (meaning_of K.Registry) (client_of (meaning_of K.Registry) state r) w (rules.all_entries (meaning_of K.Registry) (client_of (meaning_of K.Registry) state r) w w.oids) at yes (views.commit_at (rules.all_entries (meaning_of K.Registry) (client_of (meaning_of K.Registry) state r) w w.oids) at))) }
 {
     let found = record(&state, alloc, &job, at)?;
@@ -162,6 +165,7 @@ fn known<K: Registry>(
     yes: bool,
     needs: bool,
 ) -> Result<Moved<K>, NoMemory>
+    requires { HasNumbersLeft (meaning_of K.Registry) state }
     ensures { (r : Rest (meaning_of K.Registry)) (w : rules.Work (meaning_of K.Registry)) (old : ℕ) → old ≤ state.rids.next → KeepsViewIf (meaning_of K.Registry) state.view r.view → KeepsJob (meaning_of K.Registry) job w → IfOk result (λ x. KeepsMoved (meaning_of K.Registry) old x (told.rescue_known (meaning_of K.Registry) (client_of (meaning_of K.Registry) state r) w (rules.all_entries (meaning_of K.Registry) (client_of (meaning_of K.Registry) state r) w w.oids) at yes needs)) }
 {
     if needs {
@@ -185,20 +189,21 @@ fn absent<K: Registry>(
     }
 }
 
-/// The streams of a wider set are walked. An `Err` is want of memory, or of numbers.
+/// The streams of a wider set are walked. An `Err` is want of memory.
 fn wider<K: Registry>(
     state: State<K>,
     alloc: Global,
     job: Job<K>,
     added: Oid,
 ) -> Result<Moved<K>, NoMemory>
+    requires { state.rids.next < 2 ^ 62 }
     ensures { (r : Rest (meaning_of K.Registry)) (w : rules.Work (meaning_of K.Registry)) (old : ℕ) → old ≤ state.rids.next → KeepsViewIf (meaning_of K.Registry) state.view r.view → KeepsJob (meaning_of K.Registry) job w → IfOk result (λ x. KeepsMoved (meaning_of K.Registry) old x (told.syncs (meaning_of K.Registry) (client_of (meaning_of K.Registry) state r) w (with_oid added job.oids))) }
 {
     let oids = widened(alloc, job.parts.oids.as_slice(), added)?;
     state.syncs(alloc, job, oids)
 }
 
-/// What a turn of the rescue comes to. An `Err` is want of memory, or of numbers.
+/// What a turn of the rescue comes to. An `Err` is want of memory.
 fn after<K: Registry>(
     state: State<K>,
     alloc: Global,
@@ -206,6 +211,7 @@ fn after<K: Registry>(
     at: Pos,
     turn: RescueTurn,
 ) -> Result<Moved<K>, NoMemory>
+    requires { HasNumbersLeft (meaning_of K.Registry) state }
     ensures { (r : Rest (meaning_of K.Registry)) (w : rules.Work (meaning_of K.Registry)) (old : ℕ) → old ≤ state.rids.next → KeepsViewIf (meaning_of K.Registry) state.view r.view → KeepsJob (meaning_of K.Registry) job w → IfOk result (λ x. KeepsMoved (meaning_of K.Registry) old x (told.rescue_by (meaning_of K.Registry) (client_of (meaning_of K.Registry) state r) w (rules.all_entries (meaning_of K.Registry) (client_of (meaning_of K.Registry) state r) w w.oids) at (told_turn (meaning_of K.Registry) turn))) }
 {
     match turn {
@@ -226,13 +232,14 @@ fn after<K: Registry>(
 }
 
 /// What `rescue` comes to: the record at the position is told committed or not, after a decision record where it needs
-/// one, or the set of objects grows. An `Err` is want of memory, or of numbers.
+/// one, or the set of objects grows. An `Err` is want of memory.
 pub fn on_rescue<K: Registry>(
     state: State<K>,
     alloc: Global,
     job: Job<K>,
     at: Pos,
 ) -> Result<Moved<K>, NoMemory>
+    requires { HasNumbersLeft (meaning_of K.Registry) state }
     ensures { (r : Rest (meaning_of K.Registry)) (w : rules.Work (meaning_of K.Registry)) (old : ℕ) → old ≤ state.rids.next → KeepsViewIf (meaning_of K.Registry) state.view r.view → KeepsJob (meaning_of K.Registry) job w → IfOk result (λ x. KeepsMoved (meaning_of K.Registry) old x (told.on_rescue (meaning_of K.Registry) (client_of (meaning_of K.Registry) state r) w (rules.all_entries (meaning_of K.Registry) (client_of (meaning_of K.Registry) state r) w w.oids) at)) }
 {
     let turn = turn(&state, alloc, &job, at)?;

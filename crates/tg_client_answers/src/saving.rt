@@ -13,6 +13,7 @@ ghost use Rattle.tg_play.specs.Relations.{KeepsView};
 ghost use Rattle.tg_ckpt.specs.Saving.{Saves};
 ghost use Rattle.tg_client_state.specs.Tasks.{KeepsJob};
 ghost use Rattle.tg_client_state.specs.States.{Rest, client_of, KeepsViewIf, KeepsMoved};
+ghost use Rattle.tg_client_state.specs.Counts.{HasNumbersLeft};
 
 use std::alloc::Global;
 use tg_base::{List, NoMemory, Oid, Pos};
@@ -23,8 +24,8 @@ use tg_kind::Registry;
 use tg_model::{PlayEnd, Refusal};
 use tg_play::View;
 
-/// The checkpoint of an object as a view has it, by a client that made so many before. `NoMemory` is want of memory, or
-/// of numbers; so is an object that entries can't name.
+/// The checkpoint of an object as a view has it, by a client that made so many before. `NoMemory` is want of memory,
+/// or an object that entries can't name.
 fn saved_by<K: Registry>(
     alloc: Global,
     view: &View<K>,
@@ -33,16 +34,14 @@ fn saved_by<K: Registry>(
     client: u16,
     made: u32,
 ) -> Result<Draft, SaveFault>
+    requires { made + 1 < 2 ^ 32 }
     ensures saves { (v : views.View (meaning_of K.Registry)) → KeepsView (meaning_of K.Registry) view.now v → Saves result (ckpts.checkpoint (meaning_of K.Registry) v oid upto client (made + 1)) }
     ensures numbers { IfOk result (λ _. made + 1 < 2 ^ 32) }
 {
     if !is_object(oid) {
         return Err(SaveFault::NoMemory);
     }
-    match made.checked_add(1) {
-        None => Err(SaveFault::NoMemory),
-        Some(number) => checkpoint(alloc, view, oid, upto, client, number),
-    }
+    checkpoint(alloc, view, oid, upto, client, made + 1)
 }
 
 /// Likewise as the kept view has it.
@@ -52,7 +51,8 @@ fn saved<K: Registry>(
     oid: Oid,
     upto: Pos,
 ) -> Result<Draft, SaveFault>
-    requires { IsSome state.now.view }
+    requires view { IsSome state.now.view }
+    requires count { state.now.checkpoints + 1 < 2 ^ 32 }
     ensures saves { (v : views.View (meaning_of K.Registry)) → KeepsViewIf (meaning_of K.Registry) state.now.view (Some v) → Saves result (ckpts.checkpoint (meaning_of K.Registry) v oid upto state.now.num (state.now.checkpoints + 1)) }
     ensures numbers { IfOk result (λ _. state.now.checkpoints + 1 < 2 ^ 32) }
 {
@@ -69,7 +69,7 @@ fn saved<K: Registry>(
     }
 }
 
-/// The checkpoint is appended. An `Err` is want of memory, or of numbers.
+/// The checkpoint is appended. An `Err` is want of memory.
 fn puts<K: Registry>(
     state: State<K>,
     alloc: Global,
@@ -77,7 +77,8 @@ fn puts<K: Registry>(
     oid: Oid,
     draft: Draft,
 ) -> Result<Moved<K>, NoMemory>
-    requires { state.checkpoints + 1 < 2 ^ 32 }
+    requires count { state.checkpoints + 1 < 2 ^ 32 }
+    requires numbers { state.rids.next < 2 ^ 62 }
     ensures { (r : Rest (meaning_of K.Registry)) (w : rules.Work (meaning_of K.Registry)) (old : ℕ) → old ≤ state.rids.next → KeepsViewIf (meaning_of K.Registry) state.view r.view → KeepsJob (meaning_of K.Registry) job w → IfOk result (λ x. KeepsMoved (meaning_of K.Registry) old x (told.appends (meaning_of K.Registry) (record (client_of (meaning_of K.Registry) state r) { checkpoints = state.checkpoints + 1 }) w draft (rules.Saves oid job.tail) [])) }
 {
     let checkpoints = state.parts.checkpoints + 1;
@@ -104,7 +105,7 @@ fn too_large<K: Registry>(
     state.refuses(alloc, 0, Refusal::TooLarge { bytes })
 }
 
-/// The object isn't saved. An `Err` is want of memory, or of numbers.
+/// The object isn't saved. An `Err` is want of memory.
 fn unsaved<K: Registry>(
     state: State<K>,
     alloc: Global,
@@ -125,7 +126,8 @@ fn saves<K: Registry>(
     job: Job<K>,
     oid: Oid,
 ) -> Result<Moved<K>, NoMemory>
-    requires { IsSome state.view }
+    requires view { IsSome state.view }
+    requires numbers { HasNumbersLeft (meaning_of K.Registry) state }
     ensures { (r : Rest (meaning_of K.Registry)) (w : rules.Work (meaning_of K.Registry)) (v : views.View (meaning_of K.Registry)) (old : ℕ) → r.view ≡ Some v → old ≤ state.rids.next → KeepsViewIf (meaning_of K.Registry) state.view r.view → KeepsJob (meaning_of K.Registry) job w → IfOk result (λ x. KeepsMoved (meaning_of K.Registry) old x (told.saves (meaning_of K.Registry) (client_of (meaning_of K.Registry) state r) w oid (ckpts.checkpoint (meaning_of K.Registry) v oid w.tail state.num (state.checkpoints + 1)))) }
 {
     match saved(&state, alloc, oid, job.parts.tail) {
@@ -134,7 +136,7 @@ fn saves<K: Registry>(
     }
 }
 
-/// What `checkpoint` comes to: the object is saved as the view has it. An `Err` is want of memory, or of numbers.
+/// What `checkpoint` comes to: the object is saved as the view has it. An `Err` is want of memory.
 pub fn on_checkpoint<K: Registry>(
     state: State<K>,
     alloc: Global,
@@ -142,7 +144,8 @@ pub fn on_checkpoint<K: Registry>(
     oid: Oid,
     came: PlayEnd,
 ) -> Result<Moved<K>, NoMemory>
-    requires { IsSome state.view }
+    requires view { IsSome state.view }
+    requires numbers { HasNumbersLeft (meaning_of K.Registry) state }
     ensures { (r : Rest (meaning_of K.Registry)) (w : rules.Work (meaning_of K.Registry)) (v : views.View (meaning_of K.Registry)) (old : ℕ) → r.view ≡ Some v → old ≤ state.rids.next → KeepsViewIf (meaning_of K.Registry) state.view r.view → KeepsJob (meaning_of K.Registry) job w → IfOk result (λ x. KeepsMoved (meaning_of K.Registry) old x (told.on_checkpoint (meaning_of K.Registry) (client_of (meaning_of K.Registry) state r) w v oid came)) }
 {
     match came {

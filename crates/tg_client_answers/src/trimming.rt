@@ -1,6 +1,6 @@
 //! All units trim what all objects have forgotten.
 
-ghost use Rattle.std.specs.Prelude.{◌≡◌, ◌≤◌, ℕ, Some, IfOk};
+ghost use Rattle.std.specs.Prelude.{◌≡◌, ◌<◌, ◌≤◌, ◌^◌, ℕ, Some, IfOk};
 ghost use Rattle.tg_kind.specs.Of.{meaning_of};
 ghost use Rattle.tg_protocol.specs.Answers as told;
 ghost use Rattle.tg_protocol.specs.Clients as rules;
@@ -28,14 +28,14 @@ fn floor<K: Registry>(state: &State<K>) -> Pos
     }
 }
 
-/// What `trim` comes to: all units trim what is below the floor that the view has come to. An `Err` is want of memory,
-/// or of numbers.
+/// What `trim` comes to: all units trim what is below the floor that the view has come to. An `Err` is want of memory.
 pub fn on_trim<K: Registry>(
     state: State<K>,
     alloc: Global,
     job: Job<K>,
     came: PlayEnd,
 ) -> Result<Moved<K>, NoMemory>
+    requires { state.rids.next < 2 ^ 62 }
     ensures { (r : Rest (meaning_of K.Registry)) (w : rules.Work (meaning_of K.Registry)) (v : views.View (meaning_of K.Registry)) (old : ℕ) → r.view ≡ Some v → old ≤ state.rids.next → KeepsViewIf (meaning_of K.Registry) state.view r.view → KeepsJob (meaning_of K.Registry) job w → IfOk result (λ x. KeepsMoved (meaning_of K.Registry) old x (told.on_trim (meaning_of K.Registry) (client_of (meaning_of K.Registry) state r) w v came)) }
 {
     match came {

@@ -1,5 +1,6 @@
 pub mod Drafts
 pub mod States
+pub mod Counts
 pub mod Tasks
 pub mod Moves
 pub mod Steps

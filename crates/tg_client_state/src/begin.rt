@@ -16,9 +16,6 @@ use tg_entry::Draft;
 use tg_kind::Registry;
 use tg_trim::Trims;
 
-/// Request numbers from here on aren't drawn.
-const MOST: u64 = 1 << 62;
-
 /// A machine that has begun, its requests, and the next request number.
 #[derive(Drop)]
 pub struct Begun<M> {
@@ -28,20 +25,10 @@ pub struct Begun<M> {
 }
 
 impl<K: Registry> State<K> {
-    /// The numbers that a machine draws from. An `Err` is want of numbers: the next one is 2^62 or above.
-    fn numbers(&self) -> Result<Rids, NoMemory>
-        ensures same { IfOk result (λ n. n ≡ self.now.rids) }
-        ensures left { IfOk result (λ n. n.next < 2 ^ 62) }
-    {
-        if self.parts.rids.next >= MOST {
-            return Err(NoMemory);
-        }
-        Ok(self.parts.rids)
-    }
-
-    /// An append begins. An `Err` is want of memory, or of numbers; and a draft whose page would have more than 4,096
-    /// bytes is given up.
+    /// An append begins. An `Err` is want of memory; and a draft whose page would have more than 4,096 bytes is
+    /// given up.
     pub fn begun_append(&self, alloc: Global, draft: Draft) -> Result<Begun<Append>, NoMemory>
+        requires { self.now.rids.next < 2 ^ 62 }
         ensures begun { IfOk result (λ b. append_start self.now.stand draft self.now.rids.next ≡ turn b.rids.next (Goes b.machine)) }
         ensures sends { IfOk result (λ b. b.sends ≡ drawn_from self.now.rids.next (append_asks self.now.stand b.machine)) }
         ensures drawn { IfOk result (λ b. b.rids.next ≤ self.now.rids.next + 1) }
@@ -55,12 +42,13 @@ impl<K: Registry> State<K> {
     /// An append of a draft that a page holds begins.
     #[tactic(auto, using(crate::proofs::Drawn::token_from), unfolding(tg_protocol::specs::Appending::append_start))]
     fn asked_append(&self, alloc: Global, draft: Draft) -> Result<Begun<Append>, NoMemory>
-        requires { HasRoom draft }
+        requires room { HasRoom draft }
+        requires numbers { self.now.rids.next < 2 ^ 62 }
         ensures begun { IfOk result (λ b. append_start self.now.stand draft self.now.rids.next ≡ turn b.rids.next (Goes b.machine)) }
         ensures sends { IfOk result (λ b. b.sends ≡ drawn_from self.now.rids.next (append_asks self.now.stand b.machine)) }
         ensures drawn { IfOk result (λ b. b.rids.next ≤ self.now.rids.next + 1) }
     {
-        let mut rids = self.numbers()?;
+        let mut rids = self.parts.rids;
         let step = Append::start(alloc, &self.parts.stand, draft, &mut rids)?;
         let sends = step.outs;
         match step.next {
@@ -73,14 +61,15 @@ impl<K: Registry> State<K> {
         }
     }
 
-    /// A sync over these streams begins. An `Err` is want of memory, or of numbers.
+    /// A sync over these streams begins. An `Err` is want of memory.
     #[tactic(auto, using(crate::proofs::Drawn::check_from), unfolding(tg_protocol::specs::Syncing::sync_start))]
     pub fn begun_sync(&self, alloc: Global, oids: &List<Oid>) -> Result<Begun<Sync>, NoMemory>
+        requires { self.now.rids.next < 2 ^ 62 }
         ensures begun { IfOk result (λ b. sync_start oids.now self.now.rids.next ≡ turn b.rids.next (Goes b.machine)) }
         ensures sends { IfOk result (λ b. b.sends ≡ drawn_from self.now.rids.next (sync_asks self.now.stand b.machine)) }
         ensures drawn { IfOk result (λ b. b.rids.next ≤ self.now.rids.next + 1) }
     {
-        let mut rids = self.numbers()?;
+        let mut rids = self.parts.rids;
         let oids = oids.clone()?;
         let step = Sync::start(alloc, &self.parts.stand, oids, &mut rids)?;
         let sends = step.outs;
@@ -94,14 +83,15 @@ impl<K: Registry> State<K> {
         }
     }
 
-    /// A trim of all units below a position begins. An `Err` is want of memory, or of numbers.
+    /// A trim of all units below a position begins. An `Err` is want of memory.
     #[tactic(auto, using(crate::proofs::Drawn::trims_from), unfolding(tg_protocol::specs::Trimming::trim_start))]
     pub fn begun_trims(&self, alloc: Global, below: Pos) -> Result<Begun<Trims>, NoMemory>
+        requires { self.now.rids.next < 2 ^ 62 }
         ensures begun { IfOk result (λ b. trim_start self.now.stand below self.now.rids.next ≡ turn b.rids.next (Goes b.machine)) }
         ensures sends { IfOk result (λ b. b.sends ≡ drawn_from self.now.rids.next (trim_asks self.now.stand b.machine)) }
         ensures drawn { IfOk result (λ b. b.rids.next ≤ self.now.rids.next + 64) }
     {
-        let mut rids = self.numbers()?;
+        let mut rids = self.parts.rids;
         let step = Trims::start(alloc, &self.parts.stand, below, &mut rids)?;
         let sends = step.outs;
         match step.next {

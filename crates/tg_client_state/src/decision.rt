@@ -94,8 +94,8 @@ fn drafted(
 }
 
 impl<K: Registry> State<K> {
-    /// The draft of the decision record for a position, in an entry's streams. An `Err` is want of memory, or of
-    /// numbers; and an entry that isn't in one to sixteen rising streams of objects is given up.
+    /// The draft of the decision record for a position, in an entry's streams. An `Err` is want of memory; and an entry
+    /// that isn't in one to sixteen rising streams of objects is given up.
     pub fn decision(
         &self,
         alloc: Global,
@@ -103,19 +103,17 @@ impl<K: Registry> State<K> {
         at: Pos,
         yes: bool,
     ) -> Result<Draft, NoMemory>
+        requires { self.now.decisions + 1 < 2 ^ 32 }
         ensures draft { IfOk result (λ d. d ≡ draft self.now.num (self.now.decisions + 1) (streams_of entry.now) (Decision at yes)) }
         ensures numbers { IfOk result (λ _. self.now.decisions + 1 < 2 ^ 32) }
     {
-        match self.parts.decisions.checked_add(1) {
-            None => Err(NoMemory),
-            Some(number) => drafted(
-                alloc,
-                self.parts.num,
-                number,
-                entry.head.streams.as_slice(),
-                at,
-                yes,
-            ),
-        }
+        drafted(
+            alloc,
+            self.parts.num,
+            self.parts.decisions + 1,
+            entry.head.streams.as_slice(),
+            at,
+            yes,
+        )
     }
 }

@@ -7,7 +7,6 @@ mod hand;
 mod laws;
 mod moved;
 mod moving;
-mod numbers;
 mod objects;
 mod paused;
 mod purpose;
@@ -26,7 +25,6 @@ pub use laws::{
 };
 pub use moved::Moved;
 pub use moving::{goes_on, learns, meets, stays};
-pub use numbers::drawing;
 pub use objects::HeaderObjects;
 pub use paused::Paused;
 pub use purpose::Purpose;

@@ -1,6 +1,6 @@
 //! The command waits on.
 
-ghost use Rattle.std.specs.Prelude.{◌≡◌, ℕ, ◌+◌, [], max, List, IfOk, Some};
+ghost use Rattle.std.specs.Prelude.{◌≡◌, ℕ, ◌+◌, ◌<◌, ◌^◌, [], max, List, IfOk, Some};
 ghost use Rattle.tg_base.specs.declared.packet.Out.{Out};
 ghost use Rattle.tg_kind.specs.Of.{meaning_of};
 ghost use Rattle.tg_base.specs.declared.msg.Msg.TheVariants.{AskLatest};
@@ -15,7 +15,6 @@ ghost use Rattle.tg_client_state.specs.States.{Rest, client_of, KeepsClient, Kee
 ghost use Rattle.tg_client_state.specs.Moves.{Holds, Carries, Leaves};
 
 use crate::hand::latest_requests;
-use crate::numbers::drawing;
 use crate::{Hand, Job, Moved, Paused, State, Task, Work};
 use std::alloc::Global;
 use tg_base::{List, NoMemory, Out, Pos, Rids};
@@ -53,11 +52,12 @@ struct Asked {
 
 /// All layout servers are asked for a newer layout.
 fn asks_servers(alloc: Global, layouts: u16, rids: Rids) -> Result<Asked, NoMemory>
+    requires { rids.next < 2 ^ 62 }
     ensures waits { IfOk result (λ a. a.waits ≡ waits_for (numbers layouts 0) rids.next) }
     ensures sends { IfOk result (λ a. a.sends ≡ asked_of layout_id AskLatest a.waits) }
     ensures next { IfOk result (λ a. a.rids.next ≡ rids.next + layouts) }
 {
-    let mut rids = drawing(rids)?;
+    let mut rids = rids;
     let waits = ask_servers(alloc, layouts, &mut rids)?;
     let sends = latest_requests(alloc, waits.as_slice())?;
     Ok(Asked { waits, sends, rids })
@@ -85,14 +85,14 @@ fn waits_for_layout<K: Registry>(
     }
 }
 
-/// All layout servers are asked for a newer layout, in which the machine goes on. An `Err` is want of memory, or of
-/// numbers.
+/// All layout servers are asked for a newer layout, in which the machine goes on. An `Err` is want of memory.
 pub fn learns<K: Registry>(
     state: State<K>,
     alloc: Global,
     job: Job<K>,
     paused: Paused<K>,
 ) -> Result<Moved<K>, NoMemory>
+    requires { state.rids.next < 2 ^ 62 }
     ensures { (r : Rest (meaning_of K.Registry)) (w : told.Work (meaning_of K.Registry)) (old : ℕ) (t : told.Task (meaning_of K.Registry)) → Holds (meaning_of K.Registry) state job r w old → Leaves (meaning_of K.Registry) state paused t → IfOk result (λ x. KeepsMoved (meaning_of K.Registry) old x (steps.learns_for (meaning_of K.Registry) (client_of (meaning_of K.Registry) state r) w t)) }
 {
     let asked = asks_servers(alloc, state.parts.layouts, state.parts.rids)?;

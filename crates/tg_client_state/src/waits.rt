@@ -1,11 +1,12 @@
 //! The command waits with a machine that has begun.
 
-ghost use Rattle.std.specs.Prelude.{◌≡◌, ◌≤◌, ◌==◌, ℕ, false, [], IfOk};
+ghost use Rattle.std.specs.Prelude.{◌≡◌, ◌<◌, ◌≤◌, ◌==◌, ◌^◌, ℕ, false, [], IfOk};
 ghost use Rattle.tg_kind.specs.Of.{meaning_of};
 ghost use Rattle.tg_protocol.specs.Answers as told;
 ghost use Rattle.tg_protocol.specs.Clients as rules;
 ghost use Rattle.tg_client_state.specs.Tasks.{told_purpose, told_task, KeepsJob};
 ghost use Rattle.tg_client_state.specs.States.{Rest, client_of, KeepsViewIf, KeepsMoved, IsBegun};
+ghost use Rattle.tg_client_state.specs.Counts.{HasNumbersLeft};
 
 use crate::begin::Begun;
 use crate::moved::Moved;
@@ -46,8 +47,8 @@ impl<K: Registry> State<K> {
         })
     }
 
-    /// A record is appended, for this purpose. An `Err` is want of memory, or of numbers; and a draft whose page would
-    /// have more than 4,096 bytes is given up.
+    /// A record is appended, for this purpose. An `Err` is want of memory; and a draft whose page would have more than
+    /// 4,096 bytes is given up.
     pub fn appends(
         self,
         alloc: Global,
@@ -56,6 +57,7 @@ impl<K: Registry> State<K> {
         purpose: Purpose<K>,
         notes: List<NoteOf<K>>,
     ) -> Result<Moved<K>, NoMemory>
+        requires { self.rids.next < 2 ^ 62 }
         ensures { (r : Rest (meaning_of K.Registry)) (w : rules.Work (meaning_of K.Registry)) (old : ℕ) → old ≤ self.rids.next → KeepsViewIf (meaning_of K.Registry) self.view r.view → KeepsJob (meaning_of K.Registry) job w → IfOk result (λ x. KeepsMoved (meaning_of K.Registry) old x (told.appends (meaning_of K.Registry) (client_of (meaning_of K.Registry) self r) w draft (told_purpose (meaning_of K.Registry) purpose) notes)) }
     {
         let begun = self.begun_append(alloc, draft)?;
@@ -70,8 +72,9 @@ impl<K: Registry> State<K> {
         self.holds(alloc, job, begun, notes)
     }
 
-    /// A sync over these streams, which are then walked. An `Err` is want of memory, or of numbers.
+    /// A sync over these streams, which are then walked. An `Err` is want of memory.
     pub fn syncs(self, alloc: Global, job: Job<K>, oids: List<Oid>) -> Result<Moved<K>, NoMemory>
+        requires { self.rids.next < 2 ^ 62 }
         ensures { (r : Rest (meaning_of K.Registry)) (w : rules.Work (meaning_of K.Registry)) (old : ℕ) → old ≤ self.rids.next → KeepsViewIf (meaning_of K.Registry) self.view r.view → KeepsJob (meaning_of K.Registry) job w → IfOk result (λ x. KeepsMoved (meaning_of K.Registry) old x (told.syncs (meaning_of K.Registry) (client_of (meaning_of K.Registry) self r) w oids)) }
     {
         let begun = self.begun_sync(alloc, &oids)?;
@@ -86,8 +89,8 @@ impl<K: Registry> State<K> {
         self.holds(alloc, job, begun, List::new(alloc))
     }
 
-    /// The decision record for a position is appended, in an entry's streams. An `Err` is want of memory, or of numbers;
-    /// and an entry that isn't in one to sixteen rising streams of objects is given up.
+    /// The decision record for a position is appended, in an entry's streams. An `Err` is want of memory; and an entry
+    /// that isn't in one to sixteen rising streams of objects is given up.
     pub fn decides(
         self,
         alloc: Global,
@@ -97,6 +100,7 @@ impl<K: Registry> State<K> {
         yes: bool,
         purpose: Purpose<K>,
     ) -> Result<Moved<K>, NoMemory>
+        requires { HasNumbersLeft (meaning_of K.Registry) self }
         ensures { (r : Rest (meaning_of K.Registry)) (w : rules.Work (meaning_of K.Registry)) (old : ℕ) → old ≤ self.rids.next → KeepsViewIf (meaning_of K.Registry) self.view r.view → KeepsJob (meaning_of K.Registry) job w → IfOk result (λ x. KeepsMoved (meaning_of K.Registry) old x (told.appends (meaning_of K.Registry) (told.with_decision (meaning_of K.Registry) (client_of (meaning_of K.Registry) self r)) w (told.decision (meaning_of K.Registry) (client_of (meaning_of K.Registry) self r) entry.now at yes) (told_purpose (meaning_of K.Registry) purpose) [])) }
     {
         let draft = self.decision(alloc, entry, at, yes)?;
@@ -105,8 +109,9 @@ impl<K: Registry> State<K> {
         state.appends(alloc, job, draft, purpose, List::new(alloc))
     }
 
-    /// All units trim what is below a position; nothing is sent for 0. An `Err` is want of memory, or of numbers.
+    /// All units trim what is below a position; nothing is sent for 0. An `Err` is want of memory.
     pub fn trims(self, alloc: Global, job: Job<K>, below: Pos) -> Result<Moved<K>, NoMemory>
+        requires { self.rids.next < 2 ^ 62 }
         ensures { (r : Rest (meaning_of K.Registry)) (w : rules.Work (meaning_of K.Registry)) (old : ℕ) → old ≤ self.rids.next → KeepsViewIf (meaning_of K.Registry) self.view r.view → KeepsJob (meaning_of K.Registry) job w → IfOk result (λ x. KeepsMoved (meaning_of K.Registry) old x (told.trims (meaning_of K.Registry) (client_of (meaning_of K.Registry) self r) w below)) }
     {
         if below == 0 {
@@ -117,7 +122,8 @@ impl<K: Registry> State<K> {
 
     /// Likewise below a position that isn't 0.
     fn trims_some(self, alloc: Global, job: Job<K>, below: Pos) -> Result<Moved<K>, NoMemory>
-        requires { (below == 0) ≡ false }
+        requires some { (below == 0) ≡ false }
+        requires numbers { self.rids.next < 2 ^ 62 }
         ensures { (r : Rest (meaning_of K.Registry)) (w : rules.Work (meaning_of K.Registry)) (old : ℕ) → old ≤ self.rids.next → KeepsViewIf (meaning_of K.Registry) self.view r.view → KeepsJob (meaning_of K.Registry) job w → IfOk result (λ x. KeepsMoved (meaning_of K.Registry) old x (told.trims (meaning_of K.Registry) (client_of (meaning_of K.Registry) self r) w below)) }
     {
         let begun = self.begun_trims(alloc, below)?;

@@ -13,6 +13,7 @@ ghost use Rattle.tg_client_cells.specs.Known.{learnt};
 ghost use Rattle.tg_client_state.specs.States.{Rest, client_of, KeepsViewIf, KeepsMoved};
 ghost use Rattle.tg_client_state.specs.Moves.{Holds};
 ghost use Rattle.tg_client_sync.specs.Syncs.{SyncShown, knowing};
+ghost use Rattle.tg_client_state.specs.Counts.{HasNumbersLeft};
 
 use crate::copies::copied;
 use crate::walking::walks;
@@ -101,6 +102,7 @@ fn synced<K: Registry>(
     job: Job<K>,
     end: Confirmed,
 ) -> Result<Moved<K>, NoMemory>
+    requires { HasNumbersLeft (meaning_of K.Registry) state }
     ensures { (r : Rest (meaning_of K.Registry)) (w : told.Work (meaning_of K.Registry)) (old : ℕ) → Holds (meaning_of K.Registry) state job r w old → IfOk result (λ x. KeepsMoved (meaning_of K.Registry) old x (steps.synced (meaning_of K.Registry) (client_of (meaning_of K.Registry) state r) w (confirmed_of end))) }
 {
     let Confirmed {
@@ -119,7 +121,7 @@ fn synced<K: Registry>(
 }
 
 /// What a sync's turn makes of a client: the sync goes on, a newer layout is learnt first, or the walks begin. An `Err`
-/// is want of memory, or of numbers.
+/// is want of memory.
 pub fn on_sync<K: Registry>(
     state: State<K>,
     alloc: Global,
@@ -127,6 +129,7 @@ pub fn on_sync<K: Registry>(
     rids: Rids,
     step: SyncStep,
 ) -> Result<Moved<K>, NoMemory>
+    requires { HasNumbersLeft (meaning_of K.Registry) (record state { rids = rids }) }
     ensures { (r : Rest (meaning_of K.Registry)) (w : told.Work (meaning_of K.Registry)) (old : ℕ) (t : SyncTurn) → Holds (meaning_of K.Registry) state job r w old → SyncShown old state.stand state.rids.next rids.next step t → IfOk result (λ x. KeepsMoved (meaning_of K.Registry) old x (steps.on_sync (meaning_of K.Registry) (client_of (meaning_of K.Registry) state r) w t)) }
 {
     let SyncStep { next, gone, outs } = step;

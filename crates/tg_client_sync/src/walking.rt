@@ -1,6 +1,6 @@
 //! Streams are walked one after the other.
 
-ghost use Rattle.std.specs.Prelude.{◌≡◌, ℕ, Some, IfOk};
+ghost use Rattle.std.specs.Prelude.{◌≡◌, ◌<◌, ◌^◌, ℕ, Some, IfOk};
 ghost use Rattle.tg_kind.specs.Of.{meaning_of};
 ghost use Rattle.tg_protocol.specs.Answers as synced_by;
 ghost use Rattle.tg_protocol.specs.Clients as told;
@@ -15,6 +15,7 @@ ghost use Rattle.tg_client_cells.specs.Walks.{InOrder};
 ghost use Rattle.tg_client_state.specs.States.{Rest, client_of, KeepsMoved};
 ghost use Rattle.tg_client_state.specs.Moves.{Holds};
 ghost use Rattle.tg_client_sync.specs.Walks.{WalkShown, IsStepFit};
+ghost use Rattle.tg_client_state.specs.Counts.{HasNumbersLeft};
 
 use crate::copies::copied;
 use crate::finding::{finds, first_of, lend, take_back};
@@ -25,7 +26,7 @@ use tg_base::{List, NoMemory, Oid, Pos, Rids};
 use tg_chain::Next;
 use tg_client_answers::walked;
 use tg_client_cells::StreamPositions;
-use tg_client_state::{Job, Moved, Paused, State, Task, drawing, goes_on, learns, meets};
+use tg_client_state::{Job, Moved, Paused, State, Task, goes_on, learns, meets};
 use tg_kind::Registry;
 use tg_stream::{Cells, Members, Walk, WalkStep};
 
@@ -37,9 +38,10 @@ fn begins_walk<K: Registry>(
     oid: Oid,
     cells: Cells,
 ) -> Result<(WalkStep, Rids), NoMemory>
+    requires { state.now.rids.next < 2 ^ 62 }
     ensures { IfOk result (λ b. shown b.0 b.1.next ≡ by_walk state.now.rids.next (walk_start state.now.stand oid (backs_of (link_of oid job.now.lasts)) job.now.lo cells state.now.rids.next)) }
 {
-    let mut rids = drawing(state.parts.rids)?;
+    let mut rids = state.parts.rids;
     let lasts = lasts_of(job.parts.lasts.as_slice(), oid);
     let step = Walk::start(
         alloc,
@@ -72,13 +74,14 @@ fn found<K: Registry>(
 }
 
 /// The streams are walked one after the other, each as far as known cells lead. Where all are walked the command goes
-/// on. An `Err` is want of memory, or of numbers.
+/// on. An `Err` is want of memory.
 pub fn walks<K: Registry>(
     state: State<K>,
     alloc: Global,
     job: Job<K>,
     oids: List<Oid>,
 ) -> Result<Moved<K>, NoMemory>
+    requires { HasNumbersLeft (meaning_of K.Registry) state }
     ensures { (r : Rest (meaning_of K.Registry)) (w : told.Work (meaning_of K.Registry)) (old : ℕ) → Holds (meaning_of K.Registry) state job r w old → IfOk result (λ x. KeepsMoved (meaning_of K.Registry) old x (steps.walks (meaning_of K.Registry) oids (client_of (meaning_of K.Registry) state r) w)) }
 {
     let Some((oid, rest)) = first_of(oids) else {
@@ -114,6 +117,7 @@ fn starts_over<K: Registry>(
     rest: List<Oid>,
     is_over: bool,
 ) -> Result<Moved<K>, NoMemory>
+    requires { HasNumbersLeft (meaning_of K.Registry) state }
     ensures { (r : Rest (meaning_of K.Registry)) (w : told.Work (meaning_of K.Registry)) (old : ℕ) → Holds (meaning_of K.Registry) state job r w old → IfOk result (λ x. KeepsMoved (meaning_of K.Registry) old x (steps.starts_over (meaning_of K.Registry) (client_of (meaning_of K.Registry) state r) w rest is_over)) }
 {
     if !is_over {
@@ -133,6 +137,7 @@ fn syncs_again<K: Registry>(
     alloc: Global,
     job: Job<K>,
 ) -> Result<Moved<K>, NoMemory>
+    requires { state.rids.next < 2 ^ 62 }
     ensures { (r : Rest (meaning_of K.Registry)) (w : told.Work (meaning_of K.Registry)) (old : ℕ) → Holds (meaning_of K.Registry) state job r w old → IfOk result (λ y. KeepsMoved (meaning_of K.Registry) old y (synced_by.syncs (meaning_of K.Registry) (client_of (meaning_of K.Registry) state r) w w.oids)) }
 {
     let oids = copied(alloc, &job.parts.oids)?;
@@ -148,6 +153,7 @@ fn goes_on_from<K: Registry>(
     is_old: bool,
     is_over: bool,
 ) -> Result<Moved<K>, NoMemory>
+    requires { HasNumbersLeft (meaning_of K.Registry) state }
     ensures { (r : Rest (meaning_of K.Registry)) (w : told.Work (meaning_of K.Registry)) (old : ℕ) → Holds (meaning_of K.Registry) state job r w old → IfOk result (λ x. KeepsMoved (meaning_of K.Registry) old x (steps.at_trim (meaning_of K.Registry) (client_of (meaning_of K.Registry) state r) w rest is_old is_over)) }
 {
     if is_old {
@@ -166,7 +172,8 @@ fn at_trim<K: Registry>(
     below: Pos,
     rest: List<Oid>,
 ) -> Result<Moved<K>, NoMemory>
-    requires { InOrder list }
+    requires order { InOrder list }
+    requires numbers { HasNumbersLeft (meaning_of K.Registry) state }
     ensures { (r : Rest (meaning_of K.Registry)) (w : told.Work (meaning_of K.Registry)) (old : ℕ) (x : ToldMembers) → x.list ≡ list → Holds (meaning_of K.Registry) state job r w old → IfOk result (λ y. KeepsMoved (meaning_of K.Registry) old y (steps.walk_ended_by (meaning_of K.Registry) (client_of (meaning_of K.Registry) state r) w oid rest x (Some below))) }
 {
     let list = list.as_slice();
@@ -198,6 +205,7 @@ fn walk_ended<K: Registry>(
 ) -> Result<Moved<K>, NoMemory>
     requires settled { IsSettled state.known.own state.known.settled end.cells }
     requires order { InOrder end.list }
+    requires numbers { HasNumbersLeft (meaning_of K.Registry) state }
     ensures { (r : Rest (meaning_of K.Registry)) (w : told.Work (meaning_of K.Registry)) (old : ℕ) → Holds (meaning_of K.Registry) state job r w old → IfOk result (λ x. KeepsMoved (meaning_of K.Registry) old x (steps.walk_ended (meaning_of K.Registry) (client_of (meaning_of K.Registry) state r) w oid rest (members_of end))) }
 {
     let Members { list, gone, cells } = end;
@@ -209,7 +217,7 @@ fn walk_ended<K: Registry>(
 }
 
 /// What a walk's turn makes of a client: the walk goes on, a newer layout is learnt first, or it has ended. An `Err` is
-/// want of memory, or of numbers.
+/// want of memory.
 pub fn on_walk<K: Registry>(
     state: State<K>,
     alloc: Global,
@@ -219,7 +227,8 @@ pub fn on_walk<K: Registry>(
     rids: Rids,
     step: WalkStep,
 ) -> Result<Moved<K>, NoMemory>
-    requires { IsStepFit state.known step.next }
+    requires fit { IsStepFit state.known step.next }
+    requires numbers { HasNumbersLeft (meaning_of K.Registry) (record state { rids = rids }) }
     ensures { (r : Rest (meaning_of K.Registry)) (w : told.Work (meaning_of K.Registry)) (old : ℕ) (t : WalkTurn) → Holds (meaning_of K.Registry) state job r w old → WalkShown old state.known state.rids.next rids.next step t → IfOk result (λ x. KeepsMoved (meaning_of K.Registry) old x (steps.on_walk (meaning_of K.Registry) (client_of (meaning_of K.Registry) state r) w oid rest t)) }
 {
     let WalkStep { next, gone, outs } = step;

@@ -1,6 +1,6 @@
 //! What becomes of a command that passed its tests.
 
-ghost use Rattle.std.specs.Prelude.{◌≡◌, ◌++◌, ℕ, Bool, true, false, Option, None, length, OnOk, IfOk};
+ghost use Rattle.std.specs.Prelude.{◌≡◌, ◌<◌, ◌+◌, ◌++◌, ◌^◌, ℕ, Bool, true, false, Option, None, length, OnOk, IfOk};
 ghost use Rattle.tg_kind.specs.Of.{meaning_of};
 ghost use Rattle.tg_model.specs.declared.command.Command.TheVariants as cmd;
 ghost use Rattle.tg_protocol.specs.ClientSteps as told;
@@ -18,7 +18,7 @@ use crate::copying::copies;
 use crate::ends::ends;
 use crate::puts::puts;
 use crate::refusals::tx_number;
-use crate::small::{has, new_job, next_count, says, works_on};
+use crate::small::{has, new_job, says, works_on};
 use std::alloc::Global;
 use tg_base::{Change, Join, List, NoMemory, Oid};
 use tg_client_state::{Moved, State, one_note};
@@ -70,11 +70,12 @@ fn hosts<K: Registry>(state: State<K>, alloc: Global, oid: Oid) -> Result<Moved<
     Ok(says(state, alloc, notes))
 }
 
-/// A transaction begins. An `Err` is want of memory, or of numbers.
+/// A transaction begins. An `Err` is want of memory.
 fn begins<K: Registry>(state: State<K>, alloc: Global) -> Result<Moved<K>, NoMemory>
+    requires { state.begun + 1 < 2 ^ 32 }
     ensures { (v : Option (View (meaning_of K.Registry))) (n : ℕ) → KeepsViewIf (meaning_of K.Registry) state.view v → IfOk result (λ x. KeepsMoved (meaning_of K.Registry) state.rids.next x (told.begins (meaning_of K.Registry) (idle (meaning_of K.Registry) state v n))) }
 {
-    let begun = next_count(state.parts.begun)?;
+    let begun = state.parts.begun + 1;
     let notes = one_note::<K>(alloc, begun, What::Begin)?;
     let tx = Some(Tx::open(alloc, begun));
     let mut state = state;
@@ -100,7 +101,8 @@ fn changes<K: Registry>(
     alloc: Global,
     change: Change,
 ) -> Result<Moved<K>, NoMemory>
-    requires { change_fault state.stand change ≡ None }
+    requires allowed { change_fault state.stand change ≡ None }
+    requires numbers { state.rids.next < 2 ^ 61 }
     ensures { (v : Option (View (meaning_of K.Registry))) (n : ℕ) → KeepsViewIf (meaning_of K.Registry) state.view v → IfOk result (λ x. KeepsMoved (meaning_of K.Registry) state.rids.next x (told.accepts (meaning_of K.Registry) (idle (meaning_of K.Registry) state v n) (cmd.Reconf change))) }
 {
     let kept = change.copy()?;
@@ -108,9 +110,10 @@ fn changes<K: Registry>(
     reconfigures(state, alloc, job, change)
 }
 
-/// A stripe's copy to a spare unit begins. An `Err` is want of memory, or of numbers.
+/// A stripe's copy to a spare unit begins. An `Err` is want of memory, or of a number of the stripe's position.
 #[tactic(auto, unfolding(tg_protocol::specs::ClientSteps::accepts))]
 fn brings<K: Registry>(state: State<K>, alloc: Global, spare: Join) -> Result<Moved<K>, NoMemory>
+    requires { state.rids.next < 2 ^ 61 }
     ensures { (v : Option (View (meaning_of K.Registry))) (n : ℕ) → KeepsViewIf (meaning_of K.Registry) state.view v → IfOk result (λ x. KeepsMoved (meaning_of K.Registry) state.rids.next x (told.accepts (meaning_of K.Registry) (idle (meaning_of K.Registry) state v n) (cmd.Copy spare.unit spare.range spare.stripe))) }
 {
     let Join {
@@ -134,7 +137,9 @@ pub fn accepts<K: Registry>(
     alloc: Global,
     command: CommandOf<K>,
 ) -> Result<Moved<K>, NoMemory>
-    requires { IsFine (meaning_of K.Registry) state.stand command }
+    requires fine { IsFine (meaning_of K.Registry) state.stand command }
+    requires numbers { state.rids.next < 2 ^ 61 }
+    requires count { state.begun + 1 < 2 ^ 32 }
     ensures { (v : Option (View (meaning_of K.Registry))) (n : ℕ) → KeepsViewIf (meaning_of K.Registry) state.view v → IfOk result (λ x. KeepsMoved (meaning_of K.Registry) state.rids.next x (taken (meaning_of K.Registry) (idle (meaning_of K.Registry) state v n) command)) }
 {
     match command {

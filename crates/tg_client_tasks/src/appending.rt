@@ -1,6 +1,6 @@
 //! An append that goes on or has ended.
 
-ghost use Rattle.std.specs.Prelude.{◌≡◌, ℕ, [], ◌∷◌, IfOk};
+ghost use Rattle.std.specs.Prelude.{◌≡◌, ◌<◌, ◌^◌, ℕ, [], ◌∷◌, IfOk};
 ghost use Rattle.tg_kind.specs.Of.{meaning_of};
 ghost use Rattle.tg_model.specs.declared.trace.What.TheVariants as what;
 ghost use Rattle.tg_protocol.specs.Answers.{note};
@@ -53,6 +53,7 @@ fn judges<K: Registry>(
     pos: Pos,
     page: Blob,
 ) -> Result<Moved<K>, NoMemory>
+    requires { state.rids.next < 2 ^ 62 }
     ensures { (r : Rest (meaning_of K.Registry)) (w : told.Work (meaning_of K.Registry)) (old : ℕ) → Holds (meaning_of K.Registry) state job r w old → IfOk result (λ x. KeepsMoved (meaning_of K.Registry) old x (steps.append_ended (meaning_of K.Registry) (client_of (meaning_of K.Registry) state r) w told.Judged (At pos page))) }
 {
     let oids = hosted_by(&state, alloc)?;
@@ -155,6 +156,7 @@ fn stands_at<K: Registry>(
     pos: Pos,
     page: Blob,
 ) -> Result<Moved<K>, NoMemory>
+    requires { state.rids.next < 2 ^ 62 }
     ensures { (r : Rest (meaning_of K.Registry)) (w : told.Work (meaning_of K.Registry)) (old : ℕ) → Holds (meaning_of K.Registry) state job r w old → IfOk result (λ x. KeepsMoved (meaning_of K.Registry) old x (steps.append_ended (meaning_of K.Registry) (client_of (meaning_of K.Registry) state r) w (told_purpose (meaning_of K.Registry) purpose) (At pos page))) }
 {
     match purpose {
@@ -225,6 +227,7 @@ fn append_ended<K: Registry>(
     purpose: Purpose<K>,
     end: AppendEnd,
 ) -> Result<Moved<K>, NoMemory>
+    requires { state.rids.next < 2 ^ 62 }
     ensures { (r : Rest (meaning_of K.Registry)) (w : told.Work (meaning_of K.Registry)) (old : ℕ) → Holds (meaning_of K.Registry) state job r w old → IfOk result (λ x. KeepsMoved (meaning_of K.Registry) old x (steps.append_ended (meaning_of K.Registry) (client_of (meaning_of K.Registry) state r) w (told_purpose (meaning_of K.Registry) purpose) (append_end end))) }
 {
     match end {
@@ -235,7 +238,7 @@ fn append_ended<K: Registry>(
 }
 
 /// What an append's turn makes of a client: the append goes on, a newer layout is learnt first, or it has ended. An
-/// `Err` is want of memory, or of numbers.
+/// `Err` is want of memory.
 pub fn on_append<K: Registry>(
     state: State<K>,
     alloc: Global,
@@ -244,6 +247,7 @@ pub fn on_append<K: Registry>(
     rids: Rids,
     step: AppendStep,
 ) -> Result<Moved<K>, NoMemory>
+    requires { rids.next < 2 ^ 62 }
     ensures { (r : Rest (meaning_of K.Registry)) (w : told.Work (meaning_of K.Registry)) (old : ℕ) (t : AppendTurn) → Holds (meaning_of K.Registry) state job r w old → AppendShown old state.stand state.rids.next rids.next step t → IfOk result (λ x. KeepsMoved (meaning_of K.Registry) old x (steps.on_append (meaning_of K.Registry) (client_of (meaning_of K.Registry) state r) w (told_purpose (meaning_of K.Registry) purpose) t)) }
 {
     let AppendStep { next, gone, outs } = step;

@@ -1,6 +1,6 @@
 //! Asks of the open transaction.
 
-ghost use Rattle.std.specs.Prelude.{◌≡◌, ℕ, true, Option, Some, IfOk, IsSome};
+ghost use Rattle.std.specs.Prelude.{◌≡◌, ◌<◌, ◌^◌, ℕ, true, Option, Some, IfOk, IsSome};
 ghost use Rattle.tg_kind.specs.Of.{meaning_of};
 ghost use Rattle.tg_base.specs.Parts.{is_part};
 ghost use Rattle.tg_model.specs.declared.command.Command.TheVariants as cmd;
@@ -139,7 +139,7 @@ fn asks_view<K: Registry>(
 
 /// An ask of the open transaction: the first one waits for a sync, and later ones are answered at its snapshot.
 ///
-/// An `Err` is want of memory, or of numbers, or a read that the transaction doesn't take.
+/// An `Err` is want of memory, or a read that the transaction doesn't take.
 #[tactic(auto, unfolding(tg_protocol::specs::ClientSteps::accepts))]
 pub fn asks<K: Registry>(
     state: State<K>,
@@ -147,6 +147,7 @@ pub fn asks<K: Registry>(
     oid: Oid,
     ask: K::Ask,
 ) -> Result<Moved<K>, NoMemory>
+    requires { state.rids.next < 2 ^ 62 }
     ensures { (v : Option (View (meaning_of K.Registry))) (n : ℕ) → KeepsViewIf (meaning_of K.Registry) state.view v → IfOk result (λ x. KeepsMoved (meaning_of K.Registry) state.rids.next x (told.asks (meaning_of K.Registry) (idle (meaning_of K.Registry) state v n) (cmd.Ask oid ask) oid ask state.tx)) }
 {
     match &state.parts.tx {

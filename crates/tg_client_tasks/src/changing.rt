@@ -14,7 +14,7 @@ ghost use Rattle.tg_client_tasks.specs.Shown.{ReconfShown, Changes};
 
 use std::alloc::Global;
 use tg_base::{Change, List, NoMemory, Out, Projection, Rids, Stand};
-use tg_client_state::{Job, Moved, Paused, State, Task, drawing, goes_on, learns, one_note};
+use tg_client_state::{Job, Moved, Paused, State, Task, goes_on, learns, one_note};
 use tg_kind::Registry;
 use tg_model::{Refusal, What};
 use tg_reconf::{Next, Reconf, ReconfEnd, Step};
@@ -65,7 +65,7 @@ fn reconf_ended<K: Registry>(
 }
 
 /// What the turn of a change makes of a client: the change goes on, a newer layout is learnt first, or it has ended. An
-/// `Err` is want of memory, or of numbers.
+/// `Err` is want of memory.
 pub fn on_reconf<K: Registry>(
     state: State<K>,
     alloc: Global,
@@ -73,6 +73,7 @@ pub fn on_reconf<K: Registry>(
     rids: Rids,
     step: Step,
 ) -> Result<Moved<K>, NoMemory>
+    requires { rids.next < 2 ^ 62 }
     ensures { (r : Rest (meaning_of K.Registry)) (w : told.Work (meaning_of K.Registry)) (old : ℕ) (t : ReconfTurn) → Holds (meaning_of K.Registry) state job r w old → ReconfShown old state.rids.next rids.next step t → IfOk result (λ x. KeepsMoved (meaning_of K.Registry) old x (steps.on_reconf (meaning_of K.Registry) (client_of (meaning_of K.Registry) state r) w t)) }
 {
     let Step { next, outs } = step;
@@ -104,9 +105,10 @@ fn begins_change<K: Registry>(
 ) -> Result<Moved<K>, NoMemory>
     requires few { state.stand.epoch < 2 ^ 32 }
     requires allowed { change_fault state.stand change ≡ None }
+    requires numbers { state.rids.next < 2 ^ 61 }
     ensures { (r : Rest (meaning_of K.Registry)) (w : told.Work (meaning_of K.Registry)) (old : ℕ) → old ≤ state.rids.next → KeepsViewIf (meaning_of K.Registry) state.view r.view → KeepsJob (meaning_of K.Registry) job w → IfOk result (λ x. KeepsMoved (meaning_of K.Registry) old x (steps.on_reconf (meaning_of K.Registry) (client_of (meaning_of K.Registry) state r) w (reconf_start state.stand state.layouts change state.num state.rids.next))) }
 {
-    let mut rids = drawing(state.parts.rids)?;
+    let mut rids = state.parts.rids;
     let proj = state.parts.stand.copy()?;
     let stand = Stand {
         layouts: state.parts.layouts,
@@ -116,14 +118,15 @@ fn begins_change<K: Registry>(
     on_reconf(state, alloc, job, rids, step)
 }
 
-/// A change of the layout begins. An `Err` is want of memory, or of numbers: of requests, or of epochs.
+/// A change of the layout begins. An `Err` is want of memory, or of epochs.
 pub fn reconfigures<K: Registry>(
     state: State<K>,
     alloc: Global,
     job: Job<K>,
     change: Change,
 ) -> Result<Moved<K>, NoMemory>
-    requires { change_fault state.stand change ≡ None }
+    requires allowed { change_fault state.stand change ≡ None }
+    requires numbers { state.rids.next < 2 ^ 61 }
     ensures { (r : Rest (meaning_of K.Registry)) (w : told.Work (meaning_of K.Registry)) (old : ℕ) → old ≤ state.rids.next → KeepsViewIf (meaning_of K.Registry) state.view r.view → KeepsJob (meaning_of K.Registry) job w → IfOk result (λ x. KeepsMoved (meaning_of K.Registry) old x (steps.on_reconf (meaning_of K.Registry) (client_of (meaning_of K.Registry) state r) w (reconf_start state.stand state.layouts change state.num state.rids.next))) }
 {
     if !counts_on(&state.parts.stand) {

@@ -1,6 +1,6 @@
 //! Copies of a stripe.
 
-ghost use Rattle.std.specs.Prelude.{◌≡◌, ℕ, ◌≤◌, [], ◌∷◌, None, IsTrue, IfOk};
+ghost use Rattle.std.specs.Prelude.{◌≡◌, ℕ, ◌<◌, ◌≤◌, ◌^◌, [], ◌∷◌, None, IsTrue, IfOk};
 ghost use Rattle.tg_kind.specs.Of.{meaning_of};
 ghost use Rattle.tg_model.specs.declared.trace.What.TheVariants.{Copied};
 ghost use Rattle.tg_protocol.specs.Answers.{note, replies};
@@ -17,7 +17,7 @@ ghost use Rattle.tg_client_tasks.specs.Shown.{CopyShown};
 use std::alloc::Global;
 use tg_base::{Join, List, NoMemory, Projection, Rids};
 use tg_chain::Next;
-use tg_client_state::{Job, Moved, Paused, State, Task, drawing, goes_on, learns, meets, one_note};
+use tg_client_state::{Job, Moved, Paused, State, Task, goes_on, learns, meets, one_note};
 use tg_copy::{CopyRange, CopyStep};
 use tg_kind::Registry;
 use tg_model::{Refusal, What};
@@ -39,7 +39,7 @@ pub fn layout_refusal<K: Registry>(fault: ProjFault) -> Refusal
 }
 
 /// What a copy's turn makes of a client: the copy goes on, a newer layout is learnt first, or the spare has all. An
-/// `Err` is want of memory, or of numbers.
+/// `Err` is want of memory.
 pub fn on_copy<K: Registry>(
     state: State<K>,
     alloc: Global,
@@ -48,6 +48,7 @@ pub fn on_copy<K: Registry>(
     rids: Rids,
     step: CopyStep,
 ) -> Result<Moved<K>, NoMemory>
+    requires { rids.next < 2 ^ 62 }
     ensures { (r : Rest (meaning_of K.Registry)) (w : told.Work (meaning_of K.Registry)) (old : ℕ) (c : Copying) (t : CopyTurn) → Holds (meaning_of K.Registry) state job r w old → spare_of c ≡ spare → CopyShown old state.stand state.rids.next rids.next step t → IfOk result (λ x. KeepsMoved (meaning_of K.Registry) old x (steps.on_copy (meaning_of K.Registry) (client_of (meaning_of K.Registry) state r) w c t)) }
 {
     let CopyStep { next, gone, outs } = step;
@@ -101,22 +102,24 @@ fn copies_there<K: Registry>(
     job: Job<K>,
     spare: Join,
 ) -> Result<Moved<K>, NoMemory>
-    requires { HasStripe state.stand spare }
+    requires there { HasStripe state.stand spare }
+    requires numbers { state.rids.next < 2 ^ 61 }
     ensures { (r : Rest (meaning_of K.Registry)) (w : told.Work (meaning_of K.Registry)) (old : ℕ) (c : Copying) → old ≤ state.rids.next → KeepsViewIf (meaning_of K.Registry) state.view r.view → KeepsJob (meaning_of K.Registry) job w → spare_of c ≡ spare → IfOk result (λ x. KeepsMoved (meaning_of K.Registry) old x (steps.copies_again (meaning_of K.Registry) (client_of (meaning_of K.Registry) state r) w c None)) }
 {
-    let mut rids = drawing(state.parts.rids)?;
+    let mut rids = state.parts.rids;
     let step = CopyRange::start(alloc, &state.parts.stand, spare, &mut rids)?;
     on_copy(state, alloc, job, spare, rids, step)
 }
 
-/// A copy begins, in the layout on which the client stands. An `Err` is want of memory, or of numbers: the stripe has
-/// no position.
+/// A copy begins, in the layout on which the client stands. An `Err` is want of memory, or the stripe has no
+/// position.
 pub fn copies<K: Registry>(
     state: State<K>,
     alloc: Global,
     job: Job<K>,
     spare: Join,
 ) -> Result<Moved<K>, NoMemory>
+    requires { state.rids.next < 2 ^ 61 }
     ensures { (r : Rest (meaning_of K.Registry)) (w : told.Work (meaning_of K.Registry)) (old : ℕ) (c : Copying) → old ≤ state.rids.next → KeepsViewIf (meaning_of K.Registry) state.view r.view → KeepsJob (meaning_of K.Registry) job w → spare_of c ≡ spare → IfOk result (λ x. KeepsMoved (meaning_of K.Registry) old x (steps.copies_again (meaning_of K.Registry) (client_of (meaning_of K.Registry) state r) w c None)) }
 {
     if !has_stripe(&state.parts.stand, spare) {
@@ -126,13 +129,14 @@ pub fn copies<K: Registry>(
 }
 
 /// A copy starts over in a newer layout, unless that has no such stripe or doesn't spare the unit. An `Err` is want of
-/// memory, or of numbers.
+/// memory, or the stripe has no position.
 pub fn copies_again<K: Registry>(
     state: State<K>,
     alloc: Global,
     job: Job<K>,
     spare: Join,
 ) -> Result<Moved<K>, NoMemory>
+    requires { state.rids.next < 2 ^ 61 }
     ensures { (r : Rest (meaning_of K.Registry)) (w : told.Work (meaning_of K.Registry)) (old : ℕ) (c : Copying) → Holds (meaning_of K.Registry) state job r w old → spare_of c ≡ spare → IfOk result (λ x. KeepsMoved (meaning_of K.Registry) old x (steps.copies_again (meaning_of K.Registry) (client_of (meaning_of K.Registry) state r) w c (told.copy_fault (meaning_of K.Registry) state.stand c.unit c.range c.stripe))) }
 {
     match spare_fault(&state.parts.stand, spare) {

@@ -1,6 +1,6 @@
 //! The end of a transaction.
 
-ghost use Rattle.std.specs.Prelude.{◌≡◌, ◌==◌, ℕ, Bool, true, false, Option, Some, length, IfOk};
+ghost use Rattle.std.specs.Prelude.{◌≡◌, ◌<◌, ◌==◌, ◌^◌, ℕ, Bool, true, false, Option, Some, length, IfOk};
 ghost use Rattle.tg_kind.specs.Of.{meaning_of};
 ghost use Rattle.tg_model.specs.declared.command.Command.TheVariants as cmd;
 ghost use Rattle.tg_protocol.specs.ClientSteps as told;
@@ -56,7 +56,7 @@ fn ends_reads<K: Registry>(
     Ok(says(state.closed(), alloc, notes))
 }
 
-/// The record of a transaction that writes is appended. An `Err` is want of memory, or of numbers.
+/// The record of a transaction that writes is appended. An `Err` is want of memory.
 #[tactic(auto, unfolding(tg_protocol::specs::Transactions::commit_record))]
 fn ends_writes<K: Registry>(
     state: State<K>,
@@ -65,6 +65,7 @@ fn ends_writes<K: Registry>(
     draft: Draft,
     purpose: Purpose<K>,
 ) -> Result<Moved<K>, NoMemory>
+    requires { state.rids.next < 2 ^ 62 }
     ensures { (t : txs.Tx) → number ≡ t.number → draft ≡ txs.commit_record t state.num → told_purpose (meaning_of K.Registry) purpose ≡ told.purpose_of (meaning_of K.Registry) t → (v : Option (View (meaning_of K.Registry))) (n : ℕ) → KeepsViewIf (meaning_of K.Registry) state.view v → IfOk result (λ x. KeepsMoved (meaning_of K.Registry) state.rids.next x (told.end_by (meaning_of K.Registry) (idle (meaning_of K.Registry) state v n) cmd.End t false)) }
 {
     let notes = one_note::<K>(alloc, number, What::End)?;
@@ -72,8 +73,9 @@ fn ends_writes<K: Registry>(
     state.appends(alloc, job, draft, purpose, notes)
 }
 
-/// The open transaction ends. An `Err` is want of memory, or of numbers.
+/// The open transaction ends. An `Err` is want of memory.
 pub fn ends<K: Registry>(state: State<K>, alloc: Global) -> Result<Moved<K>, NoMemory>
+    requires { state.rids.next < 2 ^ 62 }
     ensures { (v : Option (View (meaning_of K.Registry))) (n : ℕ) → KeepsViewIf (meaning_of K.Registry) state.view v → IfOk result (λ x. KeepsMoved (meaning_of K.Registry) state.rids.next x (told.ends (meaning_of K.Registry) (idle (meaning_of K.Registry) state v n) cmd.End state.tx)) }
 {
     match &state.parts.tx {

@@ -1,6 +1,6 @@
 //! Small steps.
 
-ghost use Rattle.std.specs.Prelude.{◌≡◌, ◌+◌, ◌≤◌, ℕ, true, length, Option, IfOk};
+ghost use Rattle.std.specs.Prelude.{◌≡◌, ◌<◌, ◌≤◌, ◌^◌, ℕ, true, length, Option, IfOk};
 ghost use Rattle.tg_kind.specs.Of.{meaning_of};
 ghost use Rattle.tg_kind.specs.Parts as scopes;
 ghost use Rattle.tg_base.specs.Parts.{is_part};
@@ -53,16 +53,6 @@ pub fn new_job<K: Registry>(alloc: Global, command: CommandOf<K>) -> Result<Job<
     Job::new(alloc, parts)
 }
 
-/// One more. An `Err` is want of numbers.
-pub fn next_count(count: u32) -> Result<u32, NoMemory>
-    ensures { IfOk result (λ n. n ≡ count + 1) }
-{
-    match count.checked_add(1) {
-        None => Err(NoMemory),
-        Some(next) => Ok(next),
-    }
-}
-
 /// Equal objects.
 pub fn copied(oids: &List<Oid>) -> Result<List<Oid>, NoMemory>
     ensures { IfOk result (λ c. c ≡ oids.now) }
@@ -107,12 +97,13 @@ fn text_part(alloc: Global, text: &[u8]) -> Result<Part, NoMemory>
     Ok(Part::Text(Blob::new(alloc, bytes)?.unwrap()))
 }
 
-/// A command waits, and a sync over the hosted streams begins. An `Err` is want of memory, or of numbers.
+/// A command waits, and a sync over the hosted streams begins. An `Err` is want of memory.
 pub fn works_on<K: Registry>(
     state: State<K>,
     alloc: Global,
     command: CommandOf<K>,
 ) -> Result<Moved<K>, NoMemory>
+    requires { state.rids.next < 2 ^ 62 }
     ensures { (v : Option (View (meaning_of K.Registry))) (n : ℕ) → KeepsViewIf (meaning_of K.Registry) state.view v → IfOk result (λ x. KeepsMoved (meaning_of K.Registry) state.rids.next x (steps.works_on (meaning_of K.Registry) (idle (meaning_of K.Registry) state v n) command)) }
 {
     let hosted = copied(&state.parts.hosted)?;

@@ -1,6 +1,6 @@
 //! Trims that go on or have ended.
 
-ghost use Rattle.std.specs.Prelude.{◌≡◌, ℕ, IfOk};
+ghost use Rattle.std.specs.Prelude.{◌≡◌, ◌<◌, ◌^◌, ℕ, IfOk};
 ghost use Rattle.tg_kind.specs.Of.{meaning_of};
 ghost use Rattle.tg_protocol.specs.Clients as told;
 ghost use Rattle.tg_protocol.specs.ClientSteps as steps;
@@ -18,7 +18,7 @@ use tg_model::What;
 use tg_trim::TrimStep;
 
 /// What the turn of trims makes of a client: they go on, a newer layout is learnt first, or all is trimmed. An `Err` is
-/// want of memory, or of numbers.
+/// want of memory.
 pub fn on_trims<K: Registry>(
     state: State<K>,
     alloc: Global,
@@ -27,6 +27,7 @@ pub fn on_trims<K: Registry>(
     rids: Rids,
     step: TrimStep,
 ) -> Result<Moved<K>, NoMemory>
+    requires { rids.next < 2 ^ 62 }
     ensures { (r : Rest (meaning_of K.Registry)) (w : told.Work (meaning_of K.Registry)) (old : ℕ) (t : TrimTurn) → Holds (meaning_of K.Registry) state job r w old → TrimShown old state.stand state.rids.next rids.next step t → IfOk result (λ x. KeepsMoved (meaning_of K.Registry) old x (steps.on_trims (meaning_of K.Registry) (client_of (meaning_of K.Registry) state r) w below t)) }
 {
     let TrimStep { next, gone, outs } = step;

@@ -1,5 +1,4 @@
 mod Fields
 mod Packets
 mod Short
-mod Drawing
 mod Counting

@@ -1,5 +1,5 @@
 //! The laws of sizes and numbers: what a world counts of a packet is the length of its spelling, a datagram holds each
-//! packet, and clients draw few numbers in a step, and count few things.
+//! packet, and clients count few things.
 #![tactic(auto)]
 
 ghost use Rattle.std.specs.Prelude.{◌≡◌, ◌≤◌, length, true};

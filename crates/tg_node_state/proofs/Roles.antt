@@ -1,5 +1,6 @@
 -- What keeps a node of the definitions has its role.
 use Rattle.std.proofs.Common.{◌≡◌, ℕ, ◌+◌, ◌<◌, ◌≤◌, List, [], sym, refl, subst, ap, ◌∙◌, arith}
+use Rattle.tg_base.specs.Clusters.{Header}
 use Rattle.tg_base.specs.declared.packet.Out.{Out}
 use Rattle.tg_kind.specs.Meaning.{Meaning}
 use Rattle.tg_protocol.specs.Units.{UnitState}
@@ -30,17 +31,27 @@ module _ (m : Meaning) where
   seqr_kept steps q (SeqrNode s) P e h = subst (λ (x : _). P (SeqrNode x)) e.0 (h e.1)
   seqr_kept steps q (ClientNode s) P e h = absurd e
 
-  pub client_kept : (steps : ℕ) (k : KeptClient m) (n : Node m) (P : Node m → Type 0) → KeepsNode m steps (own.Client k) n → ((c : told.Client m) → KeepsClient m k c → P (ClientNode c)) → P n
+  pub client_kept : (steps : ℕ) (k : KeptClient m) (n : Node m) (P : Node m → Type 0) → KeepsNode m steps (own.Client k) n → ((c : told.Client m) → KeepsClient m k c → c.calls ≤ steps → P (ClientNode c)) → P n
   client_kept steps k (UnitNode s) P e h = absurd e
   client_kept steps k (LayoutNode s) P e h = absurd e
   client_kept steps k (SeqrNode s) P e h = absurd e
-  client_kept steps k (ClientNode s) P e h = h s e
+  client_kept steps k (ClientNode s) P e h = h s e.0 e.1
+
+  -- a client has taken no step in the beginning
+  pub none_called : (h : Header) (n steps : ℕ) → (told.new_client m h n).calls ≤ steps
+  unfolding told.new_client
+  none_called h n steps = omega arith
 
   pub seqr_room : (q : Counted) → IsNode m 199999 (own.Seqr q) → q.calls < 200000
   seqr_room q i = seqr_kept 199999 q i.node (λ _. q.calls < 200000) i.keeps (λ le. omega (arith, le))
 
   pub client_is : (k : KeptClient m) → IsNode m 199999 (own.Client k) → IsClient m k
-  client_is k i = client_kept 199999 k i.node (λ _. IsClient m k) i.keeps (λ c h. record { client = c; keeps = h })
+  client_is k i = client_kept 199999 k i.node (λ _. IsClient m k) i.keeps (λ c h le. record { client = c; keeps = h })
+
+  pub client_room : (k : KeptClient m) → IsNode m 199999 (own.Client k) → k.state.calls < 200000
+  client_room k i = client_kept 199999 k i.node (λ _. k.state.calls < 200000) i.keeps (λ c h le.
+      let same : c.calls ≡ k.state.calls = ap (λ (d : told.Client m). d.calls) h.kept.is in
+      omega (arith, same, le))
 
   -- after more steps it is kept too
   pub kept_later : (steps more : ℕ) (k : Kept m) (n : Node m) → KeepsNode m steps k n → steps ≤ more → KeepsNode m more k n
@@ -59,7 +70,7 @@ module _ (m : Meaning) where
   kept_later steps more (own.Client k) (UnitNode s) h le = absurd h
   kept_later steps more (own.Client k) (LayoutNode s) h le = absurd h
   kept_later steps more (own.Client k) (SeqrNode s) h le = absurd h
-  kept_later steps more (own.Client k) (ClientNode s) h le = h
+  kept_later steps more (own.Client k) (ClientNode s) h le = let few : s.calls ≤ steps = h.1 in (h.0, omega (arith, few, le))
 
   pub is_later : (steps more : ℕ) (k : Kept m) → IsNode m steps k → steps ≤ more → IsNode m more k
   is_later steps more k i le = record { node = i.node; keeps = kept_later steps more k i.node i.keeps le }

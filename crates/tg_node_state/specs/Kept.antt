@@ -19,7 +19,7 @@ module _ (m : Meaning) where
   KeepsNode steps (own.Unit u) (UnitNode s) = u ≡ s
   KeepsNode steps (own.Layout l) (LayoutNode s) = l ≡ s
   KeepsNode steps (own.Seqr q) (SeqrNode s) = (q.state ≡ s) × (q.calls ≤ steps)
-  KeepsNode steps (own.Client k) (ClientNode c) = KeepsClient m k c
+  KeepsNode steps (own.Client k) (ClientNode c) = KeepsClient m k c × (c.calls ≤ steps)
   KeepsNode steps k n = ⊥
 
   -- some node of the definitions is kept so

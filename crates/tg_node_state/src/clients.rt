@@ -1,6 +1,6 @@
 //! The steps of clients.
 
-ghost use Rattle.std.specs.Prelude.{◌≡◌, ◌+◌, ℕ, IfOk};
+ghost use Rattle.std.specs.Prelude.{◌≡◌, ◌≤◌, ◌<◌, ◌+◌, ℕ, IfOk};
 ghost use Rattle.tg_kind.specs.Of.{meaning_of};
 ghost use Rattle.tg_protocol.specs.Clients as told;
 ghost use Rattle.tg_protocol.specs.ClientSteps.{client_command, client_deliver, client_tick};
@@ -27,35 +27,39 @@ pub fn new_client<K: Registry>(
     Ok(Own::Client(Client::new(alloc, cluster, num)?))
 }
 
-/// A client takes a packet. An `Err` is want of memory, or of numbers.
+/// A client takes a packet. An `Err` is want of memory.
 pub fn client_takes<K: Registry>(
     alloc: Global,
     client: Client<K>,
     packet: &Packet,
 ) -> Result<Stepped<K>, NoMemory>
-    requires { IsClient (meaning_of K.Registry) client }
-    ensures { (steps : ℕ) (c : told.Client (meaning_of K.Registry)) → KeepsClient (meaning_of K.Registry) client c → IfOk result (λ t. KeepsTurn (meaning_of K.Registry) steps t (client_turn (meaning_of K.Registry) (client_deliver (meaning_of K.Registry) c packet.now.from packet.now.rid packet.now.msg))) }
+    requires kept { IsClient (meaning_of K.Registry) client }
+    requires room { client.state.calls < 200000 }
+    ensures { (steps : ℕ) (c : told.Client (meaning_of K.Registry)) → KeepsClient (meaning_of K.Registry) client c → c.calls ≤ steps → IfOk result (λ t. KeepsTurn (meaning_of K.Registry) (steps + 1) t (client_turn (meaning_of K.Registry) (client_deliver (meaning_of K.Registry) c packet.now.from packet.now.rid packet.now.msg))) }
 {
     let turned = client.deliver(alloc, packet.from, packet.rid, &packet.msg)?;
     Ok(stepped(turned))
 }
 
-/// A client's tick. An `Err` is want of memory, or of numbers.
+/// A client's tick. An `Err` is want of memory.
 pub fn client_ticks<K: Registry>(alloc: Global, client: Client<K>) -> Result<Stepped<K>, NoMemory>
-    requires { IsClient (meaning_of K.Registry) client }
-    ensures { (steps : ℕ) (c : told.Client (meaning_of K.Registry)) → KeepsClient (meaning_of K.Registry) client c → IfOk result (λ t. KeepsTurn (meaning_of K.Registry) steps t (client_turn (meaning_of K.Registry) (client_tick (meaning_of K.Registry) c))) }
+    requires kept { IsClient (meaning_of K.Registry) client }
+    requires room { client.state.calls < 200000 }
+    ensures { (steps : ℕ) (c : told.Client (meaning_of K.Registry)) → KeepsClient (meaning_of K.Registry) client c → c.calls ≤ steps → IfOk result (λ t. KeepsTurn (meaning_of K.Registry) (steps + 1) t (client_turn (meaning_of K.Registry) (client_tick (meaning_of K.Registry) c))) }
 {
     let turned = client.tick(alloc)?;
     Ok(stepped(turned))
 }
 
-/// A client is given a command. An `Err` is want of memory, or of numbers.
+/// A client is given a command. An `Err` is want of memory.
 pub fn client_commands<K: Registry>(
     alloc: Global,
     client: Client<K>,
     command: CommandOf<K>,
 ) -> Result<Stepped<K>, NoMemory>
-    ensures { (steps : ℕ) (c : told.Client (meaning_of K.Registry)) → KeepsClient (meaning_of K.Registry) client c → IfOk result (λ t. KeepsTurn (meaning_of K.Registry) steps t (client_turn (meaning_of K.Registry) (client_command (meaning_of K.Registry) c command))) }
+    requires kept { IsClient (meaning_of K.Registry) client }
+    requires room { client.state.calls < 200000 }
+    ensures { (steps : ℕ) (c : told.Client (meaning_of K.Registry)) → KeepsClient (meaning_of K.Registry) client c → c.calls ≤ steps → IfOk result (λ t. KeepsTurn (meaning_of K.Registry) (steps + 1) t (client_turn (meaning_of K.Registry) (client_command (meaning_of K.Registry) c command))) }
 {
     let turned = client.command(alloc, command)?;
     Ok(stepped(turned))

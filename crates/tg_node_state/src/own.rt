@@ -51,7 +51,7 @@ impl<K: Registry> Own<K> {
         }
     }
 
-    /// The node after what comes to it. An `Err` is want of memory, or of numbers; nothing is left of it then.
+    /// The node after what comes to it. An `Err` is want of memory; nothing is left of it then.
     #[tactic(auto, unfolding(crate::specs::Nodes::node_step))]
     pub fn step(self, alloc: Global, input: InputOf<K>) -> Result<Stepped<K>, NoMemory>
         requires { IsNode (meaning_of K.Registry) 199999 self }
@@ -64,7 +64,7 @@ impl<K: Registry> Own<K> {
         }
     }
 
-    // The node after a packet that was sent to it. An `Err` is want of memory, or of numbers; nothing is left of it then.
+    // The node after a packet that was sent to it. An `Err` is want of memory; nothing is left of it then.
     fn deliver(self, alloc: Global, packet: &Packet) -> Result<Stepped<K>, NoMemory>
         requires { IsNode (meaning_of K.Registry) 199999 self }
         ensures { (steps : ℕ) (n : Node (meaning_of K.Registry)) → KeepsNode (meaning_of K.Registry) steps self n → IfOk result (λ t. KeepsTurn (meaning_of K.Registry) (steps + 1) t (node_takes (meaning_of K.Registry) n packet.now)) }
@@ -77,7 +77,7 @@ impl<K: Registry> Own<K> {
         }
     }
 
-    // The node after a tick. An `Err` is want of memory, or of numbers; nothing is left of it then.
+    // The node after a tick. An `Err` is want of memory; nothing is left of it then.
     fn tick(self, alloc: Global) -> Result<Stepped<K>, NoMemory>
         requires { IsNode (meaning_of K.Registry) 199999 self }
         ensures { (steps : ℕ) (n : Node (meaning_of K.Registry)) → KeepsNode (meaning_of K.Registry) steps self n → IfOk result (λ t. KeepsTurn (meaning_of K.Registry) (steps + 1) t (node_ticks (meaning_of K.Registry) n)) }
@@ -90,9 +90,9 @@ impl<K: Registry> Own<K> {
         }
     }
 
-    // The node after a command, which a client alone takes. An `Err` is want of memory, or of numbers; nothing is left
-    // of it then.
+    // The node after a command, which a client alone takes. An `Err` is want of memory; nothing is left of it then.
     fn command(self, alloc: Global, command: CommandOf<K>) -> Result<Stepped<K>, NoMemory>
+        requires { IsNode (meaning_of K.Registry) 199999 self }
         ensures { (steps : ℕ) (n : Node (meaning_of K.Registry)) → KeepsNode (meaning_of K.Registry) steps self n → IfOk result (λ t. KeepsTurn (meaning_of K.Registry) (steps + 1) t (node_commands (meaning_of K.Registry) n command)) }
     {
         match self {

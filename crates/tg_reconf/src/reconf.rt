@@ -1,6 +1,8 @@
 //! The machine.
 
-ghost use Rattle.std.specs.Prelude.{◌≡◌, IfOk};
+ghost use Rattle.std.specs.Prelude.{◌≡◌, ◌<◌, ◌^◌, IfOk};
+ghost use Rattle.tg_base.specs.Changes.{IsChange};
+ghost use Rattle.tg_base.specs.Layouts.{IsLayout};
 ghost use Rattle.tg_protocol.specs.Reconfiguring.{reconf_again_asks};
 
 use crate::job::Work;
@@ -53,6 +55,17 @@ impl Reconf {
         ensures { result.now ≡ self.now.stand }
     {
         &self.plan.stand.proj
+    }
+
+    /// Its layout and its change keep their rules, and its layout servers have a number of 16 bits.
+    pub fn rules(&self)
+        ensures servers { self.now.layouts < 2 ^ 16 }
+        ensures stand { IsLayout self.now.stand }
+        ensures change { IsChange self.now.change }
+    {
+        let _layouts = self.plan.stand.layouts;
+        self.plan.stand.proj.rules();
+        self.plan.change.rules();
     }
 
     /// A machine of this plan at this work.

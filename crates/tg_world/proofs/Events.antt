@@ -1,6 +1,6 @@
 -- Events of a kept world.
-use Rattle.std.specs.Prelude.{◌≡◌, ℕ, Bool, true, slice_get, Option, Some, None, refl}
-use Rattle.std.proofs.Common.{sym, ap, subst, ◌∙◌}
+use Rattle.std.specs.Prelude.{◌≡◌, ◌+◌, ◌≤◌, ℕ, Bool, true, slice_get, Option, Some, None, refl}
+use Rattle.std.proofs.Common.{sym, ap, subst, ◌∙◌, arith}
 use Rattle.tg_base.specs.declared.ids.NodeId.{NodeId}
 use Rattle.tg_base.specs.declared.ids.Role.{Role}
 use Rattle.tg_base.specs.declared.ids.Role.TheVariants as role
@@ -13,7 +13,12 @@ use Rattle.tg_protocol.specs.Worlds as world
 use Rattle.tg_protocol.specs.Worlds.{World, happens}
 use Rattle.tg_world_servers.specs.Servers as servers
 use Rattle.tg_world.specs.Kept.{KeptOf, IsWhole, KeepsWorld}
+use Rattle.tg_world.proofs.Counted.{taken_steps, ticked_steps}
 use Rattle.tg_world.proofs.Moves.{moved, runs_same, comes_same, ticked_same}
+
+-- one step more
+later : (a b : ℕ) → b ≡ a → a ≤ b + 1
+later a b e = omega (arith, e)
 
 module _ (m : Meaning) (k l : KeptOf m) (w : World m) (whole : IsWhole k.servers k.clients k.told k.told_noted k.noted) (h : KeepsWorld m k w) where
   -- whether a node runs
@@ -22,7 +27,7 @@ module _ (m : Meaning) (k l : KeptOf m) (w : World m) (whole : IsWhole k.servers
 
   -- a step that does nothing but count
   pub idle_keeps : l ≡ record k { servers = servers.counted k.servers } → KeepsWorld m l (world.counted m w)
-  idle_keeps e = subst (λ (j : KeptOf m). KeepsWorld m j (world.counted m w)) (sym e) (moved m k (record k { servers = servers.counted k.servers }) w (λ v. world.counted m v) w.clients h h.clients refl)
+  idle_keeps e = subst (λ (j : KeptOf m). KeepsWorld m j (world.counted m w)) (sym e) (moved m k (record k { servers = servers.counted k.servers }) w (λ v. world.counted m v) h h.clients (omega arith) refl)
 
   -- ---- commands
 
@@ -54,7 +59,8 @@ module _ (m : Meaning) (k l : KeptOf m) (w : World m) (whole : IsWhole k.servers
           subst (λ (b : Bool). KeepsWorld m (record k { servers = servers.counted (servers.taken (servers.runs k.servers p.to) (servers.hands k.servers i) p) }) (world.counted m (world.comes m b (world.handed m w i) p)))
           (runs_is p.to (servers.runs k.servers p.to) refl)
           (moved m k (record k { servers = servers.counted (servers.taken (servers.runs k.servers p.to) (servers.hands k.servers i) p) }) w
-          (λ v. world.counted m (world.comes m (servers.runs k.servers p.to) (world.handed m v i) p)) w.clients h h.clients
+          (λ v. world.counted m (world.comes m (servers.runs k.servers p.to) (world.handed m v i) p)) h h.clients
+          (later k.servers.steps (servers.taken (servers.runs k.servers p.to) (servers.hands k.servers i) p).steps (taken_steps (servers.runs k.servers p.to) (servers.hands k.servers i) p))
           (ap (λ (v : World m). world.counted m v) (comes_same m (record k { servers = servers.hands k.servers i }) w.clients p (servers.runs k.servers p.to) other)))
 
   -- to a client that runs
@@ -71,7 +77,7 @@ module _ (m : Meaning) (k l : KeptOf m) (w : World m) (whole : IsWhole k.servers
   unfolding happens
   lose_keeps i e =
       subst (λ (j : KeptOf m). KeepsWorld m j (world.counted m (world.effect m w (Lose i)))) (sym e)
-      (moved m k (record k { servers = servers.counted (servers.loses k.servers i) }) w (λ v. world.counted m (world.effect m v (Lose i))) w.clients h h.clients refl)
+      (moved m k (record k { servers = servers.counted (servers.loses k.servers i) }) w (λ v. world.counted m (world.effect m v (Lose i))) h h.clients (omega arith) refl)
 
   -- ---- ticks
 
@@ -83,7 +89,8 @@ module _ (m : Meaning) (k l : KeptOf m) (w : World m) (whole : IsWhole k.servers
       (subst (λ (b : Bool). KeepsWorld m (record k { servers = servers.counted (servers.ticked (servers.runs k.servers n) k.servers n) }) (world.counted m (world.ticks_if m b w n)))
       (runs_is n (servers.runs k.servers n) refl)
       (moved m k (record k { servers = servers.counted (servers.ticked (servers.runs k.servers n) k.servers n) }) w
-      (λ v. world.counted m (world.ticks_if m (servers.runs k.servers n) v n)) w.clients h h.clients
+      (λ v. world.counted m (world.ticks_if m (servers.runs k.servers n) v n)) h h.clients
+      (later k.servers.steps (servers.ticked (servers.runs k.servers n) k.servers n).steps (ticked_steps (servers.runs k.servers n) k.servers n))
       (ap (λ (v : World m). world.counted m v) (ticked_same m k w.clients n (servers.runs k.servers n) other))))
 
   pub tick_client : (n : NodeId) → servers.runs k.servers n ≡ true → n.role ≡ role.Client → KeepsWorld m l (world.counted m (world.ticks m w n.num role.Client)) → KeepsWorld m l (happens m w (Tick n))
@@ -101,4 +108,4 @@ module _ (m : Meaning) (k l : KeptOf m) (w : World m) (whole : IsWhole k.servers
   pub stop_on : (n : NodeId) → l ≡ record k { servers = servers.counted (servers.stops k.servers n) } → KeepsWorld m l (world.counted m (world.stops_if m true w n))
   stop_on n e =
       subst (λ (j : KeptOf m). KeepsWorld m j (world.counted m (world.stops_if m true w n))) (sym e)
-      (moved m k (record k { servers = servers.counted (servers.stops k.servers n) }) w (λ v. world.counted m (world.stops_if m true v n)) w.clients h h.clients refl)
+      (moved m k (record k { servers = servers.counted (servers.stops k.servers n) }) w (λ v. world.counted m (world.stops_if m true v n)) h h.clients (omega arith) refl)

@@ -1,6 +1,7 @@
 mod Moving
 mod Rows
 mod Whole
+mod Counted
 mod Moves
 mod Turns
 mod Turned

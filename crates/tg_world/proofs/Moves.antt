@@ -1,5 +1,5 @@
 -- Moves of servers are those of the world.
-use Rattle.std.specs.Prelude.{◌≡◌, ℕ, Bool, true, false, cond, not, ◌&&◌, nat_lt, List, [], ◌∷◌, slice_set, Option, Some, None, refl}
+use Rattle.std.specs.Prelude.{◌≡◌, ◌≤◌, ℕ, Bool, true, false, cond, not, ◌&&◌, nat_lt, List, [], ◌∷◌, slice_set, Option, Some, None, refl}
 use Rattle.std.proofs.Common.{sym, ap, subst, ◌∙◌}
 use Rattle.tg_base.specs.declared.cell.Cell.{Cell}
 use Rattle.tg_base.specs.declared.ids.NodeId.{NodeId}
@@ -19,20 +19,21 @@ use Rattle.tg_world_log.specs.Archives.{archived}
 use Rattle.tg_world_servers.specs.Posts.{answer_from}
 use Rattle.tg_world_servers.specs.Servers as servers
 use Rattle.tg_world_servers.specs.Servers.{unit_takes, layout_takes, seqr_takes, seqr_ticks}
-use Rattle.tg_world.specs.Clients.{KeepsClients}
+use Rattle.tg_world.specs.Clients.{KeepsClients, AreCounted}
 use Rattle.tg_world.specs.Kept.{KeptOf, IsWhole, world_of, KeepsWorld}
+use Rattle.tg_world.proofs.Counted.{counted_later}
 use Rattle.tg_world.proofs.Moving.{keeps_length}
 
 module _ (m : Meaning) where
   -- ---- a world that is kept so
 
-  pub keeps_at : (k : KeptOf m) (cs : List (Client m)) (w : World m) → KeepsClients m k.clients cs → world_of m k cs ≡ w → KeepsWorld m k w
-  keeps_at k cs w h e = subst (λ (v : World m). KeepsWorld m k v) e (record { clients = h; same = refl })
+  pub keeps_at : (k : KeptOf m) (cs : List (Client m)) (w : World m) → KeepsClients m k.clients cs → AreCounted m k.servers.steps cs → world_of m k cs ≡ w → KeepsWorld m k w
+  keeps_at k cs w h n e = subst (λ (v : World m). KeepsWorld m k v) e (record { clients = h; same = refl; counted = n })
 
-  -- a step of a kept world, by what it is on that world with these clients
-  pub moved : (k l : KeptOf m) (w : World m) (f : World m → World m) (cs : List (Client m)) → KeepsWorld m k w → KeepsClients m l.clients cs → world_of m l cs ≡ f (world_of m k w.clients)
+  -- a step of a kept world in which its clients stay, by what it is on that world with these clients
+  pub moved : (k l : KeptOf m) (w : World m) (f : World m → World m) → KeepsWorld m k w → KeepsClients m l.clients w.clients → k.servers.steps ≤ l.servers.steps → world_of m l w.clients ≡ f (world_of m k w.clients)
       → KeepsWorld m l (f w)
-  moved k l w f cs h c e = subst (λ (v : World m). KeepsWorld m l (f v)) h.same (keeps_at l cs (f (world_of m k w.clients)) c e)
+  moved k l w f h c le e = subst (λ (v : World m). KeepsWorld m l (f v)) h.same (keeps_at l w.clients (f (world_of m k w.clients)) c (counted_later m k w l.servers.steps h le) e)
 
   -- what is told of a kept world
   pub told_of : (k : KeptOf m) (w : World m) (P : World m → Type 0) → KeepsWorld m k w → P (world_of m k w.clients) → P w

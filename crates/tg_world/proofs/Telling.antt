@@ -18,6 +18,7 @@ use Rattle.tg_world.specs.Kept.{KeptOf, IsWhole, told_all, KeepsWorld}
 use Rattle.tg_world.specs.Runs.{due_by, due_of, end_by, end_of}
 use Rattle.tg_world.proofs.Moving.{keeps_length}
 use Rattle.tg_world.specs.Checks.{declares}
+use Rattle.tg_world.proofs.Counted.{new_counted}
 use Rattle.tg_world.proofs.Moves.{keeps_at, count_same, runs_same}
 
 module _ (m : Meaning) (k : KeptOf m) (w : World m) (h : KeepsWorld m k w) where
@@ -94,7 +95,7 @@ pub starts : (m : Meaning) (c : Header) (k : KeptOf m) → k.servers ≡ servers
     → k.noted ≡ replicate c.clients (record { next = 1; epoch = 1; upto = 0 }) → k.event ≡ 0 → KeepsWorld m k (start m c)
 unfolding start servers_start
 starts m c k e h t n v =
-    keeps_at m k (map (new_client m c) (numbers c.clients 0)) (start m c) h
+    keeps_at m k (map (new_client m c) (numbers c.clients 0)) (start m c) h (new_counted m c k.servers.steps (numbers c.clients 0))
     (λ i. record {
       cluster = (e i).cluster;
       units = (e i).units;

@@ -1,5 +1,5 @@
--- Clients of the definitions that are kept in a row.
-use Rattle.std.specs.Prelude.{List, [], ◌∷◌}
+-- Clients of the definitions that are kept in a row, and how many steps they have taken.
+use Rattle.std.specs.Prelude.{ℕ, ◌<◌, ◌≤◌, List, [], ◌∷◌}
 use Rattle.tg_kind.specs.Meaning.{Meaning}
 use Rattle.tg_protocol.specs.Clients.{Client}
 use Rattle.tg_client.specs.Kept.{Kept, KeepsClient}
@@ -14,3 +14,13 @@ module _ (m : Meaning) where
   pub record AreClients (ks : List (Kept m)) : Type 0 where
     pub clients : List (Client m)
     pub keep : KeepsClients ks clients
+
+  -- none has taken more steps than the world
+  abbrev pub AreCounted : ℕ → List (Client m) → Type 0
+  AreCounted steps [] = Unit {0}
+  AreCounted steps (c ∷ cs) = (c.calls ≤ steps) × AreCounted steps cs
+
+  -- each may take one more step
+  abbrev pub HaveRoom : List (Kept m) → Type 0
+  HaveRoom [] = Unit {0}
+  HaveRoom (k ∷ ks) = (k.state.calls < 200000) × HaveRoom ks

@@ -7,7 +7,7 @@ use Rattle.tg_protocol.specs.Worlds as world
 use Rattle.tg_client.specs.Kept.{Kept as KeptClient}
 use Rattle.tg_model.specs.Kinds.{MarkOf}
 use Rattle.tg_world_servers.specs.Servers.{ServersState}
-use Rattle.tg_world.specs.Clients.{KeepsClients}
+use Rattle.tg_world.specs.Clients.{KeepsClients, AreCounted}
 
 -- a world of clients of type C, and replies of type T
 pub record Kept (C T : Type 0) : Type 0 where
@@ -59,10 +59,11 @@ module _ (m : Meaning) where
     bytes = k.servers.post.bytes;
   }
 
-  -- a world of the definitions is kept so
+  -- a world of the definitions is kept so, and its clients have counted so
   pub record KeepsWorld (k : KeptOf) (w : world.World m) : Type 0 where
     pub clients : KeepsClients m k.clients w.clients
     pub same : world_of k w.clients ≡ w
+    pub counted : AreCounted m w.steps w.clients
 
   -- what is kept is kept of a world of the definitions
   pub record IsWorld (k : KeptOf) : Type 0 where

@@ -6,7 +6,7 @@ ghost use Rattle.tg_protocol.specs.Clients as seen;
 ghost use Rattle.tg_protocol.specs.Clients.{new_client};
 ghost use Rattle.tg_protocol.specs.ClientSteps.{client_command, client_deliver, client_tick};
 ghost use Rattle.tg_protocol.specs.Words.{numbers};
-ghost use Rattle.tg_world.specs.Clients.{AreClients, KeepsClients};
+ghost use Rattle.tg_world.specs.Clients.{AreClients, HaveRoom, KeepsClients};
 
 use std::alloc::Global;
 use tg_base::{Cluster, List, Msg, NoMemory, NodeId, Out};
@@ -38,6 +38,8 @@ pub fn command<K: Registry>(
     command: CommandOf<K>,
 ) -> Result<(List<Out>, List<NoteOf<K>>), NoMemory>
     requires within { num < length clients.old.items }
+    requires kept { AreClients (meaning_of K.Registry) clients.old.items }
+    requires room { HaveRoom (meaning_of K.Registry) clients.old.items }
     ensures keeps { (cs : List (seen.Client (meaning_of K.Registry))) (d : seen.Client (meaning_of K.Registry)) → KeepsClients (meaning_of K.Registry) clients.old.items cs → OnOk result (KeepsClients (meaning_of K.Registry) clients.new.items (slice_set cs num (client_command (meaning_of K.Registry) (slice_index_or cs num d) command).now)) }
     ensures sends { (cs : List (seen.Client (meaning_of K.Registry))) (d : seen.Client (meaning_of K.Registry)) → KeepsClients (meaning_of K.Registry) clients.old.items cs → IfOk result (λ r. r.0 ≡ (client_command (meaning_of K.Registry) (slice_index_or cs num d) command).sends) }
     ensures notes { (cs : List (seen.Client (meaning_of K.Registry))) (d : seen.Client (meaning_of K.Registry)) → KeepsClients (meaning_of K.Registry) clients.old.items cs → IfOk result (λ r. r.1 ≡ (client_command (meaning_of K.Registry) (slice_index_or cs num d) command).notes) }
@@ -60,6 +62,7 @@ pub fn deliver<K: Registry>(
 ) -> Result<(List<Out>, List<NoteOf<K>>), NoMemory>
     requires within { num < length clients.old.items }
     requires kept { AreClients (meaning_of K.Registry) clients.old.items }
+    requires room { HaveRoom (meaning_of K.Registry) clients.old.items }
     ensures keeps { (cs : List (seen.Client (meaning_of K.Registry))) (d : seen.Client (meaning_of K.Registry)) → KeepsClients (meaning_of K.Registry) clients.old.items cs → OnOk result (KeepsClients (meaning_of K.Registry) clients.new.items (slice_set cs num (client_deliver (meaning_of K.Registry) (slice_index_or cs num d) from rid msg.now).now)) }
     ensures sends { (cs : List (seen.Client (meaning_of K.Registry))) (d : seen.Client (meaning_of K.Registry)) → KeepsClients (meaning_of K.Registry) clients.old.items cs → IfOk result (λ r. r.0 ≡ (client_deliver (meaning_of K.Registry) (slice_index_or cs num d) from rid msg.now).sends) }
     ensures notes { (cs : List (seen.Client (meaning_of K.Registry))) (d : seen.Client (meaning_of K.Registry)) → KeepsClients (meaning_of K.Registry) clients.old.items cs → IfOk result (λ r. r.1 ≡ (client_deliver (meaning_of K.Registry) (slice_index_or cs num d) from rid msg.now).notes) }
@@ -79,6 +82,7 @@ pub fn tick<K: Registry>(
 ) -> Result<(List<Out>, List<NoteOf<K>>), NoMemory>
     requires within { num < length clients.old.items }
     requires kept { AreClients (meaning_of K.Registry) clients.old.items }
+    requires room { HaveRoom (meaning_of K.Registry) clients.old.items }
     ensures keeps { (cs : List (seen.Client (meaning_of K.Registry))) (d : seen.Client (meaning_of K.Registry)) → KeepsClients (meaning_of K.Registry) clients.old.items cs → OnOk result (KeepsClients (meaning_of K.Registry) clients.new.items (slice_set cs num (client_tick (meaning_of K.Registry) (slice_index_or cs num d)).now)) }
     ensures sends { (cs : List (seen.Client (meaning_of K.Registry))) (d : seen.Client (meaning_of K.Registry)) → KeepsClients (meaning_of K.Registry) clients.old.items cs → IfOk result (λ r. r.0 ≡ (client_tick (meaning_of K.Registry) (slice_index_or cs num d)).sends) }
     ensures notes { (cs : List (seen.Client (meaning_of K.Registry))) (d : seen.Client (meaning_of K.Registry)) → KeepsClients (meaning_of K.Registry) clients.old.items cs → IfOk result (λ r. r.1 ≡ (client_tick (meaning_of K.Registry) (slice_index_or cs num d)).notes) }

@@ -243,8 +243,8 @@ impl<K: Registry> World<K> {
 
     /// One step: an event, which on a stopped node does nothing but count.
     ///
-    /// No step follows the 200,000th ([`World::limit`]). An `Err` is want of memory, or of numbers. Nothing is left of
-    /// the world then.
+    /// No step follows the 200,000th ([`World::limit`]). An `Err` is want of memory. Nothing is left of the world
+    /// then.
     #[tactic(auto, using(crate::proofs::Events::lose_keeps))]
     pub fn step(self, alloc: Global, event: EventOf<K>) -> Result<World<K>, NoMemory>
         requires kept { IsWorld (meaning_of K.Registry) self }
@@ -271,7 +271,8 @@ impl<K: Registry> World<K> {
         client: u16,
         command: CommandOf<K>,
     ) -> Result<World<K>, NoMemory>
-        requires { self.servers.steps < 200000 }
+        requires kept { IsWorld (meaning_of K.Registry) self }
+        requires room { self.servers.steps < 200000 }
         ensures keeps { (w : seen.World (meaning_of K.Registry)) → KeepsWorld (meaning_of K.Registry) self w → IfOk result (λ r. KeepsWorld (meaning_of K.Registry) r (seen.happens (meaning_of K.Registry) w (event.Command client command))) }
         ensures steps { IfOk result (λ r. r.servers.steps ≡ self.servers.steps + 1) }
     {
@@ -304,6 +305,7 @@ impl<K: Registry> World<K> {
 
     // A client that runs is given a command.
     fn commanded(self, alloc: Global, client: u16, cmd: CommandOf<K>) -> Result<World<K>, NoMemory>
+        requires kept { IsWorld (meaning_of K.Registry) self }
         requires room { self.servers.steps < 200000 }
         requires within { client < length self.clients }
         ensures keeps { (w : seen.World (meaning_of K.Registry)) → KeepsWorld (meaning_of K.Registry) self w → IfOk result (λ r. KeepsWorld (meaning_of K.Registry) r (seen.counted (meaning_of K.Registry) (seen.commands (meaning_of K.Registry) true w client cmd))) }

@@ -1,4 +1,4 @@
-use Rattle.std.proofs.Common.{◌≡◌, subst, ap, ◌∙◌}
+use Rattle.std.proofs.Common.{◌≡◌, subst, ap, ◌∙◌, arith}
 use Rattle.tg_base.specs.declared.packet.Rids.{Rids}
 use Rattle.tg_protocol.specs.Reconfiguring.{reconf_latest}
 use Rattle.tg_reconf.specs.Turns.{shown, by_reconf}
@@ -11,4 +11,17 @@ pub returns : goal.returns
 returns g c = λ r w h.
     c.on_reconf.ensures r w c.args.state.rids.next (reconf_latest c.args.reconf c.args.reconf.work c.args.server c.args.rid c.args.proj c.args.state.rids.next) h
     (reconf_latest_shown c.args.reconf c.args.server c.args.rid c.args.proj c.args.state.rids.next c.latest.new.rids.next c.in_ok-step.step
-    (subst (λ (i : Rids). shown c.in_ok-step.step c.latest.new.rids.next ≡ by_reconf i.next (reconf_latest c.args.reconf c.args.reconf.work c.args.server c.args.rid c.args.proj i.next)) (c.in_ok-rids.ensures.same ∙ ap (λ (s : StateOf (means g.K.Kind g.K.Registry)). s.rids) (c.deref.ensures ∙ c.state.view_is)) c.in_ok-step.ensures.turn) c.requires.all)
+    (subst (λ (i : Rids). shown c.in_ok-step.step c.latest.new.rids.next ≡ by_reconf i.next (reconf_latest c.args.reconf c.args.reconf.work c.args.server c.args.rid c.args.proj i.next)) (ap (λ (s : StateOf (means g.K.Kind g.K.Registry)). s.rids) (c.deref.ensures ∙ c.state.view_is)) c.in_ok-step.ensures.turn) c.requires.drawn.all)
+
+pub latest-requires-clause-numbers : goal.latest-requires-clause-numbers
+latest-requires-clause-numbers g c =
+    let old : c.deref.result.now.rids.next ≡ c.args.state.rids.next = ap (λ (s : StateOf (means g.K.Kind g.K.Registry)). s.rids.next) (c.deref.ensures ∙ c.state.view_is) in
+    let near = c.requires.numbers in
+    omega (arith, old, near)
+
+pub on_reconf-requires : goal.on_reconf-requires
+on_reconf-requires g c =
+    let old : c.deref.result.now.rids.next ≡ c.args.state.rids.next = ap (λ (s : StateOf (means g.K.Kind g.K.Registry)). s.rids.next) (c.deref.ensures ∙ c.state.view_is) in
+    let drawn = c.in_ok-step.ensures.drawn in
+    let near = c.requires.numbers in
+    omega (arith, old, drawn, near)

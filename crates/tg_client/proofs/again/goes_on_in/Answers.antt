@@ -1,5 +1,5 @@
-use Rattle.std.proofs.Common.{◌≡◌, sym, subst, ◌∙◌}
-use Rattle.std.specs.Prelude.{IfOk}
+use Rattle.std.proofs.Common.{◌≡◌, sym, subst, ◌∙◌, ap, arith}
+use Rattle.std.specs.Prelude.{IfOk, ◌<◌, ◌^◌}
 use Rattle.tg_play.proofs.Means.{means}
 use Rattle.tg_client_state.specs.declared.paused.Paused.TheVariants as given
 use Rattle.tg_protocol.specs.Reconfiguring.{Reconf, reconf_latest}
@@ -13,16 +13,17 @@ use Rattle.tg_client_state.specs.States.{StateOf, client_of, KeepsMoved, IsLeftF
 use Rattle.tg_client_state.specs.Moves.{Holds}
 use Rattle.tg_client.proofs.Resumed.{copy_resumes, newer, change_newer, walk_left, reconf_left}
 use Rattle.tg_client.specs.Feeding.{IsCourseFit}
+use Rattle.tg_client_state.specs.Counts.{HasNumbers}
 use Rattle.tg_client.proofs.again.goes_on_in.Goals as goal
 
-pub walks_again-requires : goal.walks_again-requires
-walks_again-requires g c =
+pub walks_again-requires-clause-fit : goal.walks_again-requires-clause-fit
+walks_again-requires-clause-fit g c =
     subst (λ (s : StateOf (means g.K.Kind g.K.Registry)). IsCourseFit (means g.K.Kind g.K.Registry) s.known c.in-Walk.walk) (sym (c.deref_mut-in-Walk.ensures.value ∙ c.state-in-Walk.view_is))
-    (walk_left (means g.K.Kind g.K.Registry) c.args.state c.args.paused c.in-Walk.walk c.in-Walk.rest c.in-Walk.is c.requires)
+    (walk_left (means g.K.Kind g.K.Registry) c.args.state c.args.paused c.in-Walk.walk c.in-Walk.rest c.in-Walk.is c.requires.kept)
 
-pub changes_again-requires : goal.changes_again-requires
-changes_again-requires g c =
-    subst (λ (a : Reconf). AreDrawn c.args.state.rids.next a) (sym c.into_inner-reconf.ensures) (reconf_left (means g.K.Kind g.K.Registry) c.args.state c.args.paused c.in-Reconf.reconf c.in-Reconf.is c.requires)
+pub changes_again-requires-clause-drawn : goal.changes_again-requires-clause-drawn
+changes_again-requires-clause-drawn g c =
+    subst (λ (a : Reconf). AreDrawn c.args.state.rids.next a) (sym c.into_inner-reconf.ensures) (reconf_left (means g.K.Kind g.K.Registry) c.args.state c.args.paused c.in-Reconf.reconf c.in-Reconf.is c.requires.kept)
 
 pub returns-in-Sync : goal.returns-in-Sync
 returns-in-Sync g c = λ r w t h k f.
@@ -73,3 +74,36 @@ pub returns-in-Reconf : goal.returns-in-Reconf
 returns-in-Reconf g c = λ r w t h k f.
     change_newer (means g.K.Kind g.K.Registry) (λ z. IfOk c.changes_again.result (λ x. KeepsMoved (means g.K.Kind g.K.Registry) c.args.state.rids.next x z)) t c.args.state r w c.args.server c.args.rid c.args.proj c.args.paused c.in-Reconf.reconf c.in-Reconf.is k
     (subst (λ (a : Reconf). IfOk c.changes_again.result (λ x. KeepsMoved (means g.K.Kind g.K.Registry) c.args.state.rids.next x (on_reconf (means g.K.Kind g.K.Registry) (client_of (means g.K.Kind g.K.Registry) c.args.state r) w (reconf_latest a a.work c.args.server c.args.rid c.args.proj c.args.state.rids.next)))) c.into_inner-reconf.ensures (c.changes_again.ensures r w h))
+
+pub syncs_again-requires : goal.syncs_again-requires
+syncs_again-requires g c =
+    let m = means g.K.Kind g.K.Registry in
+    let was : c.deref_mut.result.now ≡ c.args.state = c.deref_mut.ensures.value ∙ c.state.view_is in
+    subst (λ (s : StateOf m). HasNumbers m (record s { stand = c.args.proj })) (sym was) c.requires.numbers
+
+pub walks_again-requires-clause-numbers : goal.walks_again-requires-clause-numbers
+walks_again-requires-clause-numbers g c =
+    let m = means g.K.Kind g.K.Registry in
+    let was : c.deref_mut-in-Walk.result.now ≡ c.args.state = c.deref_mut-in-Walk.ensures.value ∙ c.state-in-Walk.view_is in
+    subst (λ (s : StateOf m). HasNumbers m (record s { stand = c.args.proj })) (sym was) c.requires.numbers
+
+pub appends_again-requires : goal.appends_again-requires
+appends_again-requires g c =
+    let m = means g.K.Kind g.K.Registry in
+    let was : c.deref_mut-in-Append.result.now ≡ c.args.state = c.deref_mut-in-Append.ensures.value ∙ c.state-in-Append.view_is in
+    subst (λ (s : StateOf m). s.rids.next < 2 ^ 61) (sym was) c.requires.numbers.next
+
+pub trims_again-requires : goal.trims_again-requires
+trims_again-requires g c =
+    let m = means g.K.Kind g.K.Registry in
+    let was : c.deref_mut-in-Trim.result.now ≡ c.args.state = c.deref_mut-in-Trim.ensures.value ∙ c.state-in-Trim.view_is in
+    subst (λ (s : StateOf m). s.rids.next < 2 ^ 61) (sym was) c.requires.numbers.next
+
+pub copies_again-requires : goal.copies_again-requires
+copies_again-requires g c =
+    let m = means g.K.Kind g.K.Registry in
+    let was : c.deref_mut-in-Copy.result.now ≡ c.args.state = c.deref_mut-in-Copy.ensures.value ∙ c.state-in-Copy.view_is in
+    subst (λ (s : StateOf m). s.rids.next < 2 ^ 61) (sym was) c.requires.numbers.next
+
+pub changes_again-requires-clause-numbers : goal.changes_again-requires-clause-numbers
+changes_again-requires-clause-numbers g c = c.requires.numbers.next

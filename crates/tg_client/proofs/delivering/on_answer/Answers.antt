@@ -8,8 +8,8 @@ use Rattle.tg_client_state.specs.States.{KeepsClient, KeepsMoved}
 use Rattle.tg_client.proofs.Delivered.{by_client, task_kept, task_feeds, nothing_taken}
 use Rattle.tg_client.proofs.delivering.on_answer.Goals as goal
 
-pub feeds-requires : goal.feeds-requires
-feeds-requires g c = task_kept (means g.K.Kind g.K.Registry) c.args.state c.args.work c.in-Doing.task c.into_inner.result c.into_inner.ensures c.in-Doing.is c.requires.kept
+pub feeds-requires-clause-kept : goal.feeds-requires-clause-kept
+feeds-requires-clause-kept g c = task_kept (means g.K.Kind g.K.Registry) c.args.state c.args.work c.in-Doing.task c.into_inner.result c.into_inner.ensures c.in-Doing.is c.requires.kept
 
 pub returns-in-Doing : goal.returns-in-Doing
 returns-in-Doing g c = λ k h.

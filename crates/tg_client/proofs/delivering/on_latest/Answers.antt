@@ -8,8 +8,8 @@ use Rattle.tg_client_state.specs.States.{client_of, KeepsMoved}
 use Rattle.tg_client.proofs.Delivered.{by_client, left_fit, left_kept, older_passed, newer_taken}
 use Rattle.tg_client.proofs.delivering.on_latest.Goals as goal
 
-pub goes_on_in-requires : goal.goes_on_in-requires
-goes_on_in-requires g c = left_kept (means g.K.Kind g.K.Registry) c.args.state c.args.work c.paused_in.result c.paused_in.ensures c.requires
+pub goes_on_in-requires-clause-kept : goal.goes_on_in-requires-clause-kept
+goes_on_in-requires-clause-kept g c = left_kept (means g.K.Kind g.K.Registry) c.args.state c.args.work c.paused_in.result c.paused_in.ensures c.requires.kept
 
 pub returns-then-is_newer : goal.returns-then-is_newer
 returns-then-is_newer g c = λ k h.

@@ -1,4 +1,4 @@
-use Rattle.std.proofs.Common.{◌≡◌, ℕ, ap, sym, subst, ◌∙◌}
+use Rattle.std.proofs.Common.{◌≡◌, ℕ, ap, sym, subst, ◌∙◌, arith}
 use Rattle.std.specs.Prelude.{IfOk}
 use Rattle.tg_play.proofs.Means.{means}
 use Rattle.tg_protocol.specs.ClientSteps.{on_trims}
@@ -19,3 +19,9 @@ returns g c = λ r w h d.
     subst (λ (b : ℕ). IfOk c.on_trims.result (λ x. KeepsMoved m next x (on_trims m (client_of m c.args.state r) w b turn))) c.below-below.ensures
     (c.on_trims.ensures r w next turn h
     (trim_fed_shown c.args.state.stand c.args.trims c.args.from c.args.rid c.args.msg.now next c.deref.result.now.rids.next c.in_ok-step.step (subst (λ (k : ℕ). shown c.in_ok-step.step k ≡ by_trim c.args.state.stand next turn) (sym rids) told) d))
+
+pub on_trims-requires : goal.on_trims-requires
+on_trims-requires g c =
+    let old : c.deref.result.now.rids.next ≡ c.args.state.rids.next = ap (λ (s : StateOf (means g.K.Kind g.K.Registry)). s.rids.next) (c.deref.ensures ∙ c.state.view_is) in
+    let near = c.requires in
+    omega (arith, old, near)

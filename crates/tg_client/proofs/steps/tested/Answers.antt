@@ -7,8 +7,14 @@ use Rattle.tg_client.proofs.Testing.{fine, refused_told, taken_told}
 use Rattle.tg_client_tasks.proofs.Stepping.{moved_as}
 use Rattle.tg_client.proofs.steps.tested.Goals as goal
 
-pub accepts-requires : goal.accepts-requires
-accepts-requires g c = fine (means g.K.Kind g.K.Registry) (idle (means g.K.Kind g.K.Registry) c.args.state None 0) c.args.command (sym (c.in_ok-why.ensures (record { view = None; played = 0; work = None })) ∙ c.in-None.is)
+pub accepts-requires-clause-fine : goal.accepts-requires-clause-fine
+accepts-requires-clause-fine g c = fine (means g.K.Kind g.K.Registry) (idle (means g.K.Kind g.K.Registry) c.args.state None 0) c.args.command (sym (c.in_ok-why.ensures (record { view = None; played = 0; work = None })) ∙ c.in-None.is)
+
+pub accepts-requires-clause-numbers : goal.accepts-requires-clause-numbers
+accepts-requires-clause-numbers g c = c.requires.next
+
+pub accepts-requires-clause-count : goal.accepts-requires-clause-count
+accepts-requires-clause-count g c = c.requires.begun
 
 pub returns-in-Some : goal.returns-in-Some
 returns-in-Some g c = λ v n h.

@@ -42,3 +42,6 @@ returns-in_default g c = λ r w v old hv hn hk hj.
     moves_same (means g.K.Kind g.K.Registry) c.replies.result old _ _
     (nothing_told (means g.K.Kind g.K.Registry) (client_of (means g.K.Kind g.K.Registry) c.args.state r) w c.args.entries.now (record { view = v; came = c.args.came }) c.deref.result.now c.new.result (job_read (means g.K.Kind g.K.Registry) c.deref.result.now c.args.job w (c.deref.ensures ∙ c.job.view_is) hj) c.new.ensures c.in_default.not-Ask c.in_default.not-End c.in_default.not-Fate c.in_default.not-Decide c.in_default.not-Checkpoint c.in_default.not-Forget c.in_default.not-Trim)
     (c.replies.ensures r old hk)
+
+pub on_trim-requires : goal.on_trim-requires
+on_trim-requires g c = c.requires.numbers.next

@@ -1,5 +1,5 @@
-use Rattle.std.proofs.Common.{◌≡◌, ℕ, List, ◌+◌, ap, subst, ◌∙◌}
-use Rattle.std.specs.Prelude.{◌≤◌, IfOk}
+use Rattle.std.proofs.Common.{◌≡◌, ℕ, List, ◌+◌, ap, subst, ◌∙◌, sym}
+use Rattle.std.specs.Prelude.{◌≤◌, IfOk, ◌<◌, ◌^◌}
 use Rattle.tg_play.proofs.Means.{means}
 use Rattle.tg_entry.specs.declared.entry.Entry.{Entry}
 use Rattle.tg_model.specs.Kinds.{NoteOf}
@@ -19,3 +19,12 @@ returns g c = λ r w old le hv hj.
     (subst (λ (n : ℕ). IfOk c.appends.result (λ x. KeepsMoved m old x (appends m (record (client_of m c.args.state r) { begun = n }) w c.in_ok-marking.marking.draft (Marks n c.args.oid c.args.mark) c.in_ok-marking.marking.notes))) begun
     (subst (λ (s : StateOf m). old ≤ s.rids.next → KeepsViewIf m s.view r.view → IfOk c.appends.result (λ x. KeepsMoved m old x (appends m (record (client_of m s r) { begun = c.deref.result.now.begun + 1 }) w c.in_ok-marking.marking.draft (Marks (c.deref.result.now.begun + 1) c.args.oid c.args.mark) c.in_ok-marking.marking.notes))) was
     (λ since view. c.appends.ensures r w old since view hj) le hv)))
+
+pub next_marking-requires : goal.next_marking-requires
+next_marking-requires g c = c.requires.begun
+
+pub appends-requires : goal.appends-requires
+appends-requires g c =
+    let m = means g.K.Kind g.K.Registry in
+    let was : c.deref_mut.result.now ≡ c.args.state = c.deref_mut.ensures.value ∙ c.state-2.view_is in
+    subst (λ (s : StateOf m). s.rids.next < 2 ^ 62) (sym was) c.requires.next

@@ -24,3 +24,10 @@ returns-clause-played g c = λ r w hk ht.
       view = c.in_ok-view-2.ensures.view (own_view m d w c.args.entries.now) own;
       came = c.in_ok-view-2.ensures.came (own_view m d w c.args.entries.now) own;
     }
+
+pub returns-clause-others : goal.returns-clause-others
+returns-clause-others g c =
+    let m = means g.K.Kind g.K.Registry in
+    let v = Some c.in_ok-view-2.view in
+    let was : c.deref_mut.result.now ≡ c.args.state = c.deref_mut.ensures.value ∙ c.state.view_is in
+    ap (λ (s : StateOf m). record s { view = v }) c.deref_mut-2.ensures.value ∙ ap (λ (s : StateOf m). record s { view = v }) was

@@ -36,3 +36,6 @@ returns-in-Known g c = λ r w old le hv hj.
     let m = means g.K.Kind g.K.Registry in
     let es = all_entries m (client_of m c.args.state r) w w.oids in
     moves_same m c.known.result old _ _ (comes_to m (client_of m c.args.state r) w es c.args.at c.args.turn (rescue.Known c.in-Known.yes c.in-Known.needs) c.in-Known.is) (c.known.ensures r w old le hv hj)
+
+pub wider-requires : goal.wider-requires
+wider-requires g c = c.requires.next

@@ -29,3 +29,12 @@ returns-in-Err g c = λ r w v old hr le hv hj.
     let fault = subst (λ (x : Result Entry SaveFault). Saves x (checkpoint m v c.args.oid c.args.job.tail c.args.state.num (c.args.state.checkpoints + 1))) c.in-Err.is kept in
     let told = subst (λ (n : ℕ). Saves (Err c.in-Err.fault) (checkpoint m v c.args.oid n c.args.state.num (c.args.state.checkpoints + 1))) tail fault in
     c.unsaved.ensures w c.args.oid (checkpoint m v c.args.oid w.tail c.args.state.num (c.args.state.checkpoints + 1)) r old told hv
+
+pub saved-requires-clause-count : goal.saved-requires-clause-count
+saved-requires-clause-count g c = c.requires.numbers.checkpoints
+
+pub puts-requires-clause-count : goal.puts-requires-clause-count
+puts-requires-clause-count g c = c.requires.numbers.checkpoints
+
+pub puts-requires-clause-numbers : goal.puts-requires-clause-numbers
+puts-requires-clause-numbers g c = c.requires.numbers.next

@@ -1,11 +1,12 @@
-use Rattle.std.proofs.Common.{◌≡◌, ap, ◌∙◌}
+use Rattle.std.proofs.Common.{◌≡◌, ap, ◌∙◌, subst, sym}
 use Rattle.std.specs.Prelude.{IfOk}
 use Rattle.tg_play.proofs.Means.{means}
 use Rattle.tg_protocol.specs.ClientSteps.{lo_for}
 use Rattle.tg_client_state.specs.Tasks.{JobOf}
-use Rattle.tg_client_state.specs.States.{client_of, KeepsMoved}
+use Rattle.tg_client_state.specs.States.{client_of, KeepsMoved, StateOf}
 use Rattle.tg_client_state.proofs.Boxed.{holds_job}
 use Rattle.tg_client_sync.proofs.Ending.{confirmed, sync_over}
+use Rattle.tg_client_state.specs.Counts.{HasNumbersLeft}
 use Rattle.tg_client_sync.proofs.syncing.synced.Goals as goal
 
 pub returns : goal.returns
@@ -23,3 +24,6 @@ returns g c = λ r w old h.
     sync_over m (λ z. IfOk c.walks.result (λ x. KeepsMoved m old x z)) c.args.state c.in_ok-state.state c.args.job c.in_ok-oids.oids lo e r w old h
     oids low c.in_ok-state.ensures
     (λ i. c.walks.ensures r (confirmed m w e lo) old (holds_job m c.in_ok-state.state _ _ r (confirmed m w e lo) old now i))
+
+pub walks-requires : goal.walks-requires
+walks-requires g c = subst (λ (s : StateOf (means g.K.Kind g.K.Registry)). HasNumbersLeft (means g.K.Kind g.K.Registry) s) (sym c.in_ok-state.ensures) c.requires

@@ -7,6 +7,7 @@ use Rattle.tg_protocol.specs.ClientSteps.{walks, goes_on}
 use Rattle.tg_protocol.specs.Entries.{backs_of, link_of}
 use Rattle.tg_client_cells.specs.Known.{IsSettled, lent}
 use Rattle.tg_client_state.specs.Tasks.{JobOf}
+use Rattle.tg_client_state.specs.Counts.{HasNumbersLeft}
 use Rattle.tg_client_state.specs.States.{StateOf, client_of, KeepsMoved}
 use Rattle.tg_client_state.specs.Moves.{Holds, Carries}
 use Rattle.tg_client_sync.proofs.First.{none_first, fewer, begins_at, settled_at, known_at, never_learns}
@@ -59,4 +60,9 @@ pub walks-requires : goal.walks-requires
 walks-requires g t c κs within =
     let lt : length c.in-Some.rest < length c.args.oids = fewer c.args.oids c.in-Some.oid c.in-Some.rest (sym c.first_of.ensures ∙ c.in-Some.is) in
     let is : length c.args.oids ≡ t = c.decreases in
-    (subst (λ n. length c.in-Some.rest < n) is lt, within)
+    let m = means g.K.Kind g.K.Registry in
+    let read : c.deref.result.now ≡ c.args.job = c.deref.ensures ∙ c.job.view_is in
+    let state : c.lend-state.result.0 ≡ record c.args.state { known = lent c.args.state.known c.args.job.lo } = c.lend-state.ensures.state ∙ ap (λ (j : JobOf m). record c.args.state { known = lent c.args.state.known j.lo }) read in
+    let lends : HasNumbersLeft m c.lend-state.result.0 = subst (λ (s : StateOf m). HasNumbersLeft m s) (sym state) c.requires in
+    let numbers : HasNumbersLeft m c.in_ok-state-in-Ends.state = subst (λ (s : StateOf m). HasNumbersLeft m s) (sym c.in_ok-state-in-Ends.ensures.state) lends in
+    (subst (λ n. length c.in-Some.rest < n) is lt, (within.0, (within.1.0, (within.1.1.0, (within.1.1.1, numbers)))))

@@ -8,6 +8,7 @@ use Rattle.tg_client_state.specs.Tasks.{JobOf}
 use Rattle.tg_client_state.specs.States.{StateOf, Rest, client_of, KeepsMoved}
 use Rattle.tg_client_state.specs.Moves.{Holds}
 use Rattle.tg_client_sync.proofs.Ending.{stale_as, gives_as, trim_kept, trim_given}
+use Rattle.tg_client_state.specs.Counts.{HasNumbersLeft}
 use Rattle.tg_client_sync.proofs.walking.at_trim.Goals as goal
 
 pub returns-then-not-gives_view_up : goal.returns-then-not-gives_view_up
@@ -47,3 +48,9 @@ returns g c = λ r w old x hx h.
     (sym c.if-not-gives_view_up.false ∙ gives_as m c.args.state c.args.job r w c.args.below c.gives_view_up.result h.job gives)
     low
     goes
+
+pub goes_on_from-requires-2 : goal.goes_on_from-requires-2
+goes_on_from-requires-2 g c =
+    let m = means g.K.Kind g.K.Registry in
+    let was : c.deref_mut.result.now ≡ c.args.state = c.deref_mut.ensures.value ∙ c.state-2.view_is in
+    subst (λ (s : StateOf m). HasNumbersLeft m (record s { view = None })) (sym was) c.requires.numbers

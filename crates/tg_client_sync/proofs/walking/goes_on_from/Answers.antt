@@ -14,3 +14,6 @@ pub returns : goal.returns
 returns g c = λ r w old h.
     subst (λ b. IfOk c.starts_over.result (λ x. KeepsMoved (means g.K.Kind g.K.Registry) old x (at_trim (means g.K.Kind g.K.Registry) (client_of (means g.K.Kind g.K.Registry) c.args.state r) w c.args.rest b c.args.is_over)))
     (sym c.if-is_old.false) (c.starts_over.ensures r w old h)
+
+pub syncs_again-requires : goal.syncs_again-requires
+syncs_again-requires g c = c.requires.next

@@ -3,6 +3,7 @@ use Rattle.std.specs.Prelude.{IfOk, []}
 use Rattle.tg_play.proofs.Means.{means}
 use Rattle.tg_protocol.specs.ClientSteps.{on_walk}
 use Rattle.tg_client_cells.specs.Known.{IsSettled}
+use Rattle.tg_client_state.specs.Counts.{HasNumbersLeft}
 use Rattle.tg_client_state.specs.States.{StateOf, client_of, KeepsMoved}
 use Rattle.tg_client_state.specs.Moves.{Holds}
 use Rattle.tg_protocol.specs.Walking.{Walk}
@@ -41,5 +42,12 @@ pub walk_ended-requires : goal.walk_ended-requires
 walk_ended-requires g c =
     let m = means g.K.Kind g.K.Registry in
     let was : c.deref_mut.result.now ≡ c.args.state = c.deref_mut.ensures.value ∙ c.state.view_is in
-    let fit = subst (λ (n : Next Walk Course GivenEnd). IsStepFit c.args.state.known n) c.in-Ends.is c.requires in
-    record { settled = subst (λ (s : StateOf m). IsSettled s.known.own s.known.settled c.in-Ends.end.cells) (sym was) fit.0; order = fit.1 }
+    let fit = subst (λ (n : Next Walk Course GivenEnd). IsStepFit c.args.state.known n) c.in-Ends.is c.requires.fit in
+    record {
+      settled = subst (λ (s : StateOf m). IsSettled s.known.own s.known.settled c.in-Ends.end.cells) (sym was) fit.0;
+      order = fit.1;
+      numbers = subst (λ (s : StateOf m). HasNumbersLeft m (record s { rids = c.args.rids })) (sym was) c.requires.numbers;
+    }
+
+pub learns-requires : goal.learns-requires
+learns-requires g c = c.requires.numbers.next

@@ -8,8 +8,8 @@ use Rattle.tg_client_tasks.specs.Idle.{idle}
 use Rattle.tg_client_tasks.specs.Tests.{taken, IsFine}
 use Rattle.tg_client_tasks.proofs.accepting.accepts.Goals as goal
 
-pub changes-requires : goal.changes-requires
-changes-requires g c = subst (λ (x : CommandOf (means g.K.Kind g.K.Registry)). IsFine (means g.K.Kind g.K.Registry) c.args.state.stand x) c.in-Reconf.is c.requires
+pub changes-requires-clause-allowed : goal.changes-requires-clause-allowed
+changes-requires-clause-allowed g c = subst (λ (x : CommandOf (means g.K.Kind g.K.Registry)). IsFine (means g.K.Kind g.K.Registry) c.args.state.stand x) c.in-Reconf.is c.requires.fine
 
 pub returns-in-Host : goal.returns-in-Host
 unfolding accepts

@@ -10,8 +10,8 @@ use Rattle.tg_client_tasks.proofs.ticks.asked.Goals as goal
 pub returns : goal.returns
 returns g c = λ d dr h.
     let m = means g.K.Kind g.K.Registry in
-    let k = c.in_ok-calls.calls in
-    let calls : k ≡ c.args.state.calls + 1 = c.in_ok-calls.ensures ∙ ap (λ (s : StateOf m). s.calls + 1) (c.deref.ensures ∙ c.state.view_is) in
+    let k = c.deref.result.now.calls + 1 in
+    let calls : k ≡ c.args.state.calls + 1 = ap (λ (s : StateOf m). s.calls + 1) (c.deref.ensures ∙ c.state.view_is) in
     let was : c.deref_mut.result.now ≡ c.args.state = c.deref_mut.ensures.value ∙ c.state-2.view_is in
     let now : record c.deref_mut-2.result.now { calls = k } ≡ record c.args.state { rids = c.args.rids; calls = k } =
     ap (λ (s : StateOf m). record s { calls = k }) c.deref_mut-2.ensures.value ∙ ap (λ (s : StateOf m). record s { rids = c.args.rids; calls = k }) was in

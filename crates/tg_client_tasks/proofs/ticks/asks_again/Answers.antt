@@ -8,8 +8,8 @@ use Rattle.tg_client_state.specs.States.{StateOf}
 use Rattle.tg_client_tasks.proofs.Ticking.{given_fit}
 use Rattle.tg_client_tasks.proofs.ticks.asks_again.Goals as goal
 
-pub outstanding-requires : goal.outstanding-requires
-outstanding-requires g c = given_fit (means g.K.Kind g.K.Registry) c.args.state c.args.work c.requires
+pub outstanding-requires-clause-fit : goal.outstanding-requires-clause-fit
+outstanding-requires-clause-fit g c = given_fit (means g.K.Kind g.K.Registry) c.args.state c.args.work c.requires.kept
 
 pub returns : goal.returns
 returns g c = λ x h.

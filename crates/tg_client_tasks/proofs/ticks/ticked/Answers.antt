@@ -8,8 +8,8 @@ use Rattle.tg_client_tasks.proofs.ticks.ticked.Goals as goal
 pub returns-in-None : goal.returns-in-None
 returns-in-None g c = λ d h. c.rests.ensures d (subst (λ (w : Option (WorkOf (means g.K.Kind g.K.Registry))). KeepsClient (means g.K.Kind g.K.Registry) c.args.state w d) c.in-None.is h)
 
-pub asks_again-requires : goal.asks_again-requires
-asks_again-requires g c = subst (λ (w : Option (WorkOf (means g.K.Kind g.K.Registry))). IsKept (means g.K.Kind g.K.Registry) c.args.state w) c.in-Some.is c.requires
+pub asks_again-requires-clause-kept : goal.asks_again-requires-clause-kept
+asks_again-requires-clause-kept g c = subst (λ (w : Option (WorkOf (means g.K.Kind g.K.Registry))). IsKept (means g.K.Kind g.K.Registry) c.args.state w) c.in-Some.is c.requires.kept
 
 pub returns-in-Some : goal.returns-in-Some
 returns-in-Some g c = λ d h. c.asks_again.ensures d (subst (λ (w : Option (WorkOf (means g.K.Kind g.K.Registry))). KeepsClient (means g.K.Kind g.K.Registry) c.args.state w d) c.in-Some.is h)

@@ -1,15 +1,18 @@
-use Rattle.std.proofs.Common.{sym, subst, ◌∙◌}
+use Rattle.std.proofs.Common.{sym, subst, ◌∙◌, ◌≡◌, ◌+◌, ◌≤◌, arith}
 use Rattle.tg_play.proofs.Means.{means}
 use Rattle.tg_protocol.specs.ClientSteps.{client_tick}
 use Rattle.tg_node_state.specs.Nodes.{ClientNode}
 use Rattle.tg_node_state.specs.Kept.{Kept, KeepsNode}
+use Rattle.tg_client.proofs.Counted.{tick_calls}
 use Rattle.tg_node_state.proofs.clients.client_ticks.Goals as goal
 
 pub returns : goal.returns
-returns g c = λ steps d h.
+returns g c = λ steps d h le.
     let m = means g.K.Kind g.K.Registry in
+    let one : (client_tick m d).now.calls ≡ d.calls + 1 = tick_calls m d in
+    let more : (client_tick m d).now.calls ≤ steps + 1 = omega (arith, one, le) in
     record {
-      now = subst (λ (o : Kept m). KeepsNode m steps o (ClientNode (client_tick m d).now)) (sym c.stepped.ensures.own) (c.in_ok-turned.ensures.now d h);
+      now = subst (λ (o : Kept m). KeepsNode m (steps + 1) o (ClientNode (client_tick m d).now)) (sym c.stepped.ensures.own) (c.in_ok-turned.ensures.now d h, more);
       sends = c.stepped.ensures.sends ∙ c.in_ok-turned.ensures.sends d h;
       notes = c.stepped.ensures.notes ∙ c.in_ok-turned.ensures.notes d h;
     }

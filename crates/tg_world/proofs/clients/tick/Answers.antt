@@ -1,11 +1,15 @@
 use Rattle.std.specs.Prelude.{slice_index_or}
 use Rattle.tg_play.proofs.Means.{means}
 use Rattle.tg_protocol.specs.ClientSteps.{client_tick}
+use Rattle.tg_world.proofs.Counted.{room_there}
 use Rattle.tg_world.proofs.Rows.{kept_there, is_there, kept_back, length_back}
 use Rattle.tg_world.proofs.clients.tick.Goals as goal
 
 pub tick-requires : goal.tick-requires
-tick-requires g c = record { kept = is_there (means g.K.Kind g.K.Registry) c.args.clients.now.items c.args.num c.swap_remove-client.result c.requires.within c.swap_remove-client.ensures.value c.requires.kept }
+tick-requires g c = record {
+  kept = is_there (means g.K.Kind g.K.Registry) c.args.clients.now.items c.args.num c.swap_remove-client.result c.requires.within c.swap_remove-client.ensures.value c.requires.kept;
+  room = room_there (means g.K.Kind g.K.Registry) c.args.clients.now.items c.args.num c.swap_remove-client.result c.requires.within c.swap_remove-client.ensures.value c.requires.room;
+}
 
 pub returns-clause-keeps : goal.returns-clause-keeps
 returns-clause-keeps g c = λ cs d k.

@@ -5,4 +5,4 @@ use Rattle.tg_client_state.specs.States.{StateOf}
 use Rattle.tg_client.proofs.client.Client.epoch.Goals as goal
 
 pub returns : goal.returns
-returns g c = λ d h. ap (λ (s : StateOf (means g.K.Kind g.K.Registry)). s.stand.epoch) (c.behind-state.view_is ∙ c.deref.ensures ∙ c.state.view_is) ∙ sym (ap (λ (x : told.Client (means g.K.Kind g.K.Registry)). x.stand.epoch) h.is)
+returns g c = λ d h. ap (λ (s : StateOf (means g.K.Kind g.K.Registry)). s.stand.epoch) (c.behind-state.view_is ∙ c.deref.ensures ∙ c.state.view_is) ∙ sym (ap (λ (x : told.Client (means g.K.Kind g.K.Registry)). x.stand.epoch) h.kept.is)

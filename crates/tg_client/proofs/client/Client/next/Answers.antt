@@ -5,4 +5,4 @@ use Rattle.tg_client_state.specs.States.{StateOf}
 use Rattle.tg_client.proofs.client.Client.next.Goals as goal
 
 pub returns : goal.returns
-returns g c = λ d h. ap (λ (s : StateOf (means g.K.Kind g.K.Registry)). s.rids.next) (c.deref.ensures ∙ c.state.view_is) ∙ sym (ap (λ (x : told.Client (means g.K.Kind g.K.Registry)). x.next) h.is)
+returns g c = λ d h. ap (λ (s : StateOf (means g.K.Kind g.K.Registry)). s.rids.next) (c.deref.ensures ∙ c.state.view_is) ∙ sym (ap (λ (x : told.Client (means g.K.Kind g.K.Registry)). x.next) h.kept.is)

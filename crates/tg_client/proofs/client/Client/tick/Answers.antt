@@ -1,17 +1,27 @@
-use Rattle.std.proofs.Common.{sym, subst, ◌∙◌}
+use Rattle.std.proofs.Common.{sym, subst, ◌∙◌, arith}
 use Rattle.tg_protocol.specs.ClientSteps.{client_tick}
 use Rattle.tg_play.proofs.Means.{means}
 use Rattle.tg_client.specs.Kept.{Kept, KeepsClient}
+use Rattle.std.specs.Prelude.{◌<◌}
+use Rattle.tg_client.proofs.Counted.{has_numbers, tick_counted}
 use Rattle.tg_client.proofs.client.Client.tick.Goals as goal
 
 pub ticked-requires : goal.ticked-requires
-ticked-requires g c = c.requires.kept
+ticked-requires g c =
+    let m = means g.K.Kind g.K.Registry in
+    let k = c.requires.kept in
+    let room : c.args.self.state.calls < 200000 = c.requires.room in
+    let numbers = has_numbers m c.args.self.state c.args.self.work k.client k.keeps.kept k.keeps.counted c.requires.room in
+    record { kept = record { client = k.client; keeps = k.keeps.kept }; numbers = (let near = numbers.next in omega (arith, near)); room = omega (arith, room) }
 
 pub returns-clause-now : goal.returns-clause-now
-returns-clause-now g c = λ d h. subst (λ (k : Kept (means g.K.Kind g.K.Registry)). KeepsClient (means g.K.Kind g.K.Registry) k (client_tick (means g.K.Kind g.K.Registry) d).now) (sym c.after_step.ensures.now) (c.in_ok-moved.ensures d h).now
+returns-clause-now g c = λ d h.
+    let m = means g.K.Kind g.K.Registry in
+    subst (λ (k : Kept m). KeepsClient m k (client_tick m d).now) (sym c.after_step.ensures.now)
+    (record { kept = (c.in_ok-moved.ensures d h.kept).now; counted = tick_counted m d (c.asks_few.ensures d h.kept) h.counted })
 
 pub returns-clause-sends : goal.returns-clause-sends
-returns-clause-sends g c = λ d h. c.after_step.ensures.sends ∙ (c.in_ok-moved.ensures d h).sends
+returns-clause-sends g c = λ d h. c.after_step.ensures.sends ∙ (c.in_ok-moved.ensures d h.kept).sends
 
 pub returns-clause-notes : goal.returns-clause-notes
-returns-clause-notes g c = λ d h. c.after_step.ensures.notes ∙ (c.in_ok-moved.ensures d h).notes
+returns-clause-notes g c = λ d h. c.after_step.ensures.notes ∙ (c.in_ok-moved.ensures d h.kept).notes

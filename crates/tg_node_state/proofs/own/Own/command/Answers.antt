@@ -1,9 +1,15 @@
 use Rattle.std.proofs.Common.{◌≡◌, ◌+◌, ◌≤◌, IfOk, refl, sym, subst, arith}
 use Rattle.tg_play.proofs.Means.{means}
 use Rattle.tg_node_state.specs.Nodes.{Node, node_commands, UnitNode, LayoutNode, SeqrNode}
-use Rattle.tg_node_state.specs.Kept.{Kept, KeepsNode, KeepsTurn}
-use Rattle.tg_node_state.proofs.Roles.{unit_kept, layout_kept, seqr_kept, client_kept}
+use Rattle.tg_node_state.specs.Kept.{Kept, KeepsNode, KeepsTurn, IsNode}
+use Rattle.tg_node_state.proofs.Roles.{unit_kept, layout_kept, seqr_kept, client_kept, client_is, client_room}
 use Rattle.tg_node_state.proofs.own.Own.command.Goals as goal
+
+pub client_commands-requires : goal.client_commands-requires
+client_commands-requires g c =
+    let m = means g.K.Kind g.K.Registry in
+    let is = subst (λ (k : Kept m). IsNode m 199999 k) c.in-Client.is c.requires in
+    record { kept = client_is m c.in-Client.client is; room = client_room m c.in-Client.client is }
 
 pub returns-in-Unit : goal.returns-in-Unit
 returns-in-Unit g c = λ steps n k.
@@ -29,4 +35,4 @@ pub returns-in-Client : goal.returns-in-Client
 returns-in-Client g c = λ steps n k.
     let m = means g.K.Kind g.K.Registry in
     client_kept m steps c.in-Client.client n (λ (x : Node m). IfOk c.client_commands.result (λ t. KeepsTurn m (steps + 1) t (node_commands m x c.args.command)))
-    (subst (λ (o : Kept m). KeepsNode m steps o n) c.in-Client.is k) (λ d h. c.client_commands.ensures (steps + 1) d h)
+    (subst (λ (o : Kept m). KeepsNode m steps o n) c.in-Client.is k) (λ d h le. c.client_commands.ensures steps d h le)

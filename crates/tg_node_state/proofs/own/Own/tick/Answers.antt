@@ -2,14 +2,17 @@ use Rattle.std.proofs.Common.{◌≡◌, ◌+◌, IfOk, refl, sym, subst}
 use Rattle.tg_play.proofs.Means.{means}
 use Rattle.tg_node_state.specs.Nodes.{Node, node_ticks, UnitNode, LayoutNode}
 use Rattle.tg_node_state.specs.Kept.{Kept, KeepsNode, KeepsTurn, IsNode}
-use Rattle.tg_node_state.proofs.Roles.{unit_kept, layout_kept, seqr_kept, client_kept, seqr_room, client_is}
+use Rattle.tg_node_state.proofs.Roles.{unit_kept, layout_kept, seqr_kept, client_kept, seqr_room, client_is, client_room}
 use Rattle.tg_node_state.proofs.own.Own.tick.Goals as goal
 
 pub seqr_ticks-requires : goal.seqr_ticks-requires
 seqr_ticks-requires g c = let m = means g.K.Kind g.K.Registry in seqr_room m c.in-Seqr.seqr (subst (λ (k : Kept m). IsNode m 199999 k) c.in-Seqr.is c.requires)
 
 pub client_ticks-requires : goal.client_ticks-requires
-client_ticks-requires g c = let m = means g.K.Kind g.K.Registry in client_is m c.in-Client.client (subst (λ (k : Kept m). IsNode m 199999 k) c.in-Client.is c.requires)
+client_ticks-requires g c =
+    let m = means g.K.Kind g.K.Registry in
+    let is = subst (λ (k : Kept m). IsNode m 199999 k) c.in-Client.is c.requires in
+    record { kept = client_is m c.in-Client.client is; room = client_room m c.in-Client.client is }
 
 pub returns-in-Unit : goal.returns-in-Unit
 returns-in-Unit g c = λ steps n k.
@@ -33,4 +36,4 @@ pub returns-in-Client : goal.returns-in-Client
 returns-in-Client g c = λ steps n k.
     let m = means g.K.Kind g.K.Registry in
     client_kept m steps c.in-Client.client n (λ (x : Node m). IfOk c.client_ticks.result (λ t. KeepsTurn m (steps + 1) t (node_ticks m x)))
-    (subst (λ (o : Kept m). KeepsNode m steps o n) c.in-Client.is k) (λ d h. c.client_ticks.ensures (steps + 1) d h)
+    (subst (λ (o : Kept m). KeepsNode m steps o n) c.in-Client.is k) (λ d h le. c.client_ticks.ensures steps d h le)

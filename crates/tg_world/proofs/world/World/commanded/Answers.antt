@@ -6,8 +6,9 @@ use Rattle.tg_protocol.specs.Clients.{new_client}
 use Rattle.tg_protocol.specs.Worlds.{client}
 use Rattle.tg_world_servers.specs.Servers.{ServersState, counted, sends}
 use Rattle.tg_world.specs.Kept.{KeptOf, KeepsWorld}
-use Rattle.tg_world.proofs.Whole.{noted_within}
+use Rattle.tg_world.proofs.Whole.{are_of, noted_within}
 use Rattle.tg_world.proofs.Boxed.{PartsOf, as_told, IsWholeIn, whole_in}
+use Rattle.tg_world.proofs.Counted.{room_of}
 use Rattle.tg_world.proofs.Moving.{was_there, whole_turned}
 use Rattle.tg_world.proofs.Turned.{commanded_keeps, client_there}
 use Rattle.tg_world.proofs.world.World.commanded.Goals as goal
@@ -23,6 +24,16 @@ index-requires-2 g c =
     noted_within c.self.inside.servers q.clients.items q.told.items q.told_noted.items q.noted.items c.args.client whole within in
     let many : length c.note_client.new.noted.items ≡ length q.noted.items = c.note_client.ensures.many in
     omega (arith, within_noted, many)
+
+pub command-requires-clause-kept : goal.command-requires-clause-kept
+command-requires-clause-kept g c =
+    let m = means g.K.Kind g.K.Registry in
+    are_of m _ c.args.self (ap (as_told m c.self.inside.servers) c.deref_mut-inner.ensures.value ∙ c.self.view_is) c.requires.kept
+
+pub command-requires-clause-room : goal.command-requires-clause-room
+command-requires-clause-room g c =
+    let m = means g.K.Kind g.K.Registry in
+    room_of m _ c.args.self (ap (as_told m c.self.inside.servers) c.deref_mut-inner.ensures.value ∙ c.self.view_is) c.requires.kept c.requires.room
 
 pub invariant_of-result : goal.invariant_of-result
 invariant_of-result g c =

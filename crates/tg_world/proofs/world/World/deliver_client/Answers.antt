@@ -9,6 +9,7 @@ use Rattle.tg_protocol.specs.Worlds as world
 use Rattle.tg_world_servers.specs.Servers.{ServersState, counted, hands, sends}
 use Rattle.tg_world.specs.Kept.{KeptOf, KeepsWorld}
 use Rattle.tg_world.proofs.Boxed.{PartsOf, as_told, IsWholeIn, whole_in}
+use Rattle.tg_world.proofs.Counted.{room_of}
 use Rattle.tg_world.proofs.Moving.{was_there}
 use Rattle.tg_world.proofs.Whole.{are_of, noted_within}
 use Rattle.tg_world.proofs.Turned.{delivered_keeps, packet_there}
@@ -18,6 +19,11 @@ pub deliver-requires-clause-kept : goal.deliver-requires-clause-kept
 deliver-requires-clause-kept g c =
     let m = means g.K.Kind g.K.Registry in
     are_of m _ c.args.self (ap (as_told m c.self.inside.servers) c.deref_mut-inner.ensures.value ∙ c.self.view_is) c.requires.kept
+
+pub deliver-requires-clause-room : goal.deliver-requires-clause-room
+deliver-requires-clause-room g c =
+    let m = means g.K.Kind g.K.Registry in
+    room_of m _ c.args.self (ap (as_told m c.self.inside.servers) c.deref_mut-inner.ensures.value ∙ c.self.view_is) c.requires.kept c.requires.room
 
 pub returns-clause-keeps : goal.returns-clause-keeps
 returns-clause-keeps g c = λ w p h at to.

@@ -5,9 +5,11 @@ use Rattle.tg_protocol.specs.Words.{client_id}
 use Rattle.tg_protocol.specs.Clients.{new_client}
 use Rattle.tg_protocol.specs.ClientSteps.{client_tick}
 use Rattle.tg_protocol.specs.Worlds.{client}
+use Rattle.tg_client.proofs.Counted.{tick_calls}
 use Rattle.tg_world_servers.specs.Servers.{ServersState, counted, sends}
 use Rattle.tg_world.specs.Kept.{KeptOf, KeepsWorld}
 use Rattle.tg_world.proofs.Boxed.{PartsOf, as_told, IsWholeIn, whole_in}
+use Rattle.tg_world.proofs.Counted.{room_of}
 use Rattle.tg_world.proofs.Moving.{was_there}
 use Rattle.tg_world.proofs.Whole.{are_of, noted_within}
 use Rattle.tg_world.proofs.Turned.{turned_alike}
@@ -17,6 +19,11 @@ pub tick-requires-clause-kept : goal.tick-requires-clause-kept
 tick-requires-clause-kept g c =
     let m = means g.K.Kind g.K.Registry in
     are_of m _ c.args.self (ap (as_told m c.self.inside.servers) c.deref_mut-inner.ensures.value ∙ c.self.view_is) c.requires.kept
+
+pub tick-requires-clause-room : goal.tick-requires-clause-room
+tick-requires-clause-room g c =
+    let m = means g.K.Kind g.K.Registry in
+    room_of m _ c.args.self (ap (as_told m c.self.inside.servers) c.deref_mut-inner.ensures.value ∙ c.self.view_is) c.requires.kept c.requires.room
 
 pub returns-clause-keeps : goal.returns-clause-keeps
 returns-clause-keeps g c = λ w h.
@@ -44,4 +51,4 @@ returns-clause-keeps g c = λ w h.
       told = c.in_ok-tell.ensures.told;
       clients = c.in_ok-outs.ensures.keeps w.clients d hk.clients;
       event = refl;
-    }) refl
+    }) (tick_calls m (client m w c.args.num)) refl

@@ -36,7 +36,7 @@ use Rattle.tg_law_steps.proofs.Ways.{Way, FeedsSync, FeedsWalk, FeedsAppend, Fee
 use Rattle.tg_law_steps.proofs.Ends.{End, GoesOn, LearnsNewer, Syncs, Appends, Refuses, Answers, Tells, IsGoing, WalkBegins, TrimsBegin, IsLearning, SyncLearns, IsSynced, JudgedAt, IsAppended, MarkBegins, IsRefused, CopyFault, IsAnswered, IsSaved, IsTold, IsMarked}
 use Rattle.tg_law_steps.proofs.Takes.{IsSaid, Begins, Taken, SaidAtOnce, SyncsFirst, AppendsRecord, ReconfBegins, CopyBegins}
 use Rattle.tg_law_steps.proofs.Along.{delivered, over_walks, commanded, ticked}
-use Rattle.tg_law_sizes.specs.Counts.{HasFew, AsksFew, IsFew, GivesFew, TellsFew, DrawsFew, DrawFew}
+use Rattle.tg_law_numbers.specs.Counts.{HasFew, AsksFew, IsFew, GivesFew, TellsFew, DrawsFew, DrawFew}
 
 -- What each machine draws in a turn.
 
