@@ -246,6 +246,7 @@ status_in (Ends s) t = s
 status_in (Goes run) t = t
 
 ends_inv : (s t : Status) → Ends s ≡ Ends t → s ≡ t
+unfolding status_in
 ends_inv s t e = ap (λ x. status_in x s) e
 
 -- a line ends a run
