@@ -12,6 +12,7 @@ ghost use Rattle.tg_link_packets.specs.Mail.{GoesOut, IsCutOff, all_sent, packet
 use std::alloc::Global;
 use tg_base::{List, NoMemory, NodeId, Out, Packet};
 use tg_io::{Datagram, IoErr, Link};
+use tg_law_sizes::packets_are_short;
 use tg_wire::{encode, fits};
 
 /// Sends what a node has to send, in order.
@@ -105,6 +106,8 @@ fn spelled(alloc: Global, value: &Packet) -> Result<Datagram, NoMemory>
     if !fits(value) {
         return Err(NoMemory);
     }
+    packets_are_short(value);
     let bytes = encode(alloc, value)?;
-    Datagram::new(bytes).ok_or(NoMemory)
+    let datagram = Datagram::new(bytes).unwrap();
+    Ok(datagram)
 }

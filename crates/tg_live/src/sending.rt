@@ -12,7 +12,8 @@ ghost use Rattle.tg_live.specs.Sends.{sending, spellings, AreFit};
 use crate::Book;
 use std::alloc::Global;
 use tg_base::{List, NoMemory, Packet};
-use tg_io::{Datagram, IoErr, Link};
+use tg_io::{IoErr, Link};
+use tg_law_sizes::packets_are_short;
 use tg_wire::{encode, fits, no_spelling_begins_another};
 
 /// The datagram of a packet. An `Err` is want of memory, or a packet that no datagram holds, which no node sends.
@@ -24,11 +25,8 @@ fn spelled(alloc: Global, value: &Packet) -> Result<List<u8>, NoMemory>
     if !fits(value) {
         return Err(NoMemory);
     }
-    let datagram = encode(alloc, value)?;
-    if datagram.len() > Datagram::MAX {
-        return Err(NoMemory);
-    }
-    Ok(datagram)
+    packets_are_short(value);
+    encode(alloc, value)
 }
 
 /// Sends the packet of the next number, and notes it in the book. An `Err` is a fault of the link, or want of memory.
