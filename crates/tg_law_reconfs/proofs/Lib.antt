@@ -1,5 +1,8 @@
 pub mod Answering
+pub mod Arrivals
 pub mod Between
+pub mod Changes
+pub mod Changing
 pub mod Counting
 pub mod Counts
 pub mod Drains
@@ -9,7 +12,10 @@ pub mod EarlyTicks
 pub mod Ends
 pub mod Fencing
 pub mod Laps
+pub mod NextUnits
 pub mod Nodes
+pub mod Proposals
+pub mod Ready
 pub mod Rising
 pub mod Rounds
 pub mod Scanning

@@ -26,29 +26,29 @@ use Rattle.tg_law_finish.specs.Tallies.Settled.{opens_again}
 use Rattle.tg_law_reconfs.specs.Reconfs.{WaitsForVotes, WaitsForSeals}
 use Rattle.tg_law_reconfs.specs.Settled.{seal_lost, promise_lost, Installs, SealsAreAnswered, VotesAreAnswered}
 
-less_two : 1 < 2
+pub less_two : 1 < 2
 less_two = omega arith
 
 -- below the epoch after the first
 none_past : (x e : ℕ) → x ≤ 2 → e ≡ 1 → x ≤ e + 1
 none_past x e le f = omega (arith, le, f)
 
-two_most : (n x : ℕ) → x ≡ n → n ≤ 2 → x ≤ 2
+pub two_most : (n x : ℕ) → x ≡ n → n ≤ 2 → x ≤ 2
 two_most n x e le = omega (arith, e, le)
 
-first_few : (b : Bool) → first_epoch b ≤ 2
+pub first_few : (b : Bool) → first_epoch b ≤ 2
 first_few true = omega arith
 first_few false = omega arith
 
-few_steps : (n x : ℕ) → x ≡ n → n ≤ 200000 → x ≤ most_steps
+pub few_steps : (n x : ℕ) → x ≡ n → n ≤ 200000 → x ≤ most_steps
 few_steps n x e le = omega (arith, e, le)
 
-given : (x y : Move all_kinds) → x ≡ y → LawfulMove all_kinds one_of_each y → LawfulMove all_kinds one_of_each x
+pub given : (x y : Move all_kinds) → x ≡ y → LawfulMove all_kinds one_of_each y → LawfulMove all_kinds one_of_each x
 given x y e l = subst (λ (z : Move all_kinds). LawfulMove all_kinds one_of_each z) (sym e) l
 
 -- A reconfiguration whose seal is lost.
 
-abbrev unsealed : World all_kinds
+abbrev pub unsealed : World all_kinds
 unsealed = run all_kinds seal_lost (start all_kinds one_of_each)
 
 seal_steps : unsealed.steps ≡ 2
@@ -60,7 +60,7 @@ seal_lawful x (inl e) = given x _ e (omega arith, refl)
 seal_lawful x (inr (inl e)) = given x _ e tt
 seal_lawful x (inr (inr i)) = absurd i
 
-seal_reached : Reaches all_kinds one_of_each seal_lost unsealed
+pub seal_reached : Reaches all_kinds one_of_each seal_lost unsealed
 unfolding start
 seal_reached = record {
   header = refl;
@@ -76,15 +76,15 @@ seal_within : (settle all_kinds unsealed).stopped ≡ None
 unfolding run start node_eq units_of next_of change_fault new_unit unit_ask on_ask unit_step new_layout layout_ask on_layout_ask layout_step reply new_seqr seqr_step seqr_tick reconf_work_asks reconf_start reconf_feed reconf_latest new_client tests refusal task_asks client_asks task_feed task_again accepts client_command client_deliver client_tick fields_size unit_moves layout_moves seqr_moves client_turned happens limit_of drain_on drain tick_all rounds settle any.first
 seal_within = refl
 
-seal_alone : WaitsAlone all_kinds unsealed 0 (cmd.Reconf opens_again)
+pub seal_alone : WaitsAlone all_kinds unsealed 0 (cmd.Reconf opens_again)
 unfolding run start node_eq units_of next_of change_fault new_unit unit_ask on_ask unit_step new_layout layout_ask on_layout_ask layout_step reply new_seqr seqr_step seqr_tick reconf_work_asks reconf_start reconf_feed reconf_latest new_client tests refusal task_asks client_asks task_feed task_again accepts client_command client_deliver client_tick fields_size unit_moves layout_moves seqr_moves client_turned happens limit_of drain_on drain tick_all rounds settle any.first
 seal_alone = record { quiet = refl; running = refl; work = _; waits = refl; command = refl; alone = seal_others; within = seal_within }
 
-seal_most : MostRun all_kinds unsealed
+pub seal_most : MostRun all_kinds unsealed
 unfolding run start node_eq units_of next_of change_fault new_unit unit_ask on_ask unit_step new_layout layout_ask on_layout_ask layout_step reply new_seqr seqr_step seqr_tick reconf_work_asks reconf_start reconf_feed reconf_latest new_client tests refusal task_asks client_asks task_feed task_again accepts client_command client_deliver client_tick fields_size unit_moves layout_moves seqr_moves client_turned happens limit_of drain_on drain tick_all rounds settle any.first
 seal_most = less_two
 
-seal_stand : (client all_kinds unsealed 0).stand.epoch ≡ 1
+pub seal_stand : (client all_kinds unsealed 0).stand.epoch ≡ 1
 unfolding run start node_eq units_of next_of change_fault new_unit unit_ask on_ask unit_step new_layout layout_ask on_layout_ask layout_step reply new_seqr seqr_step seqr_tick reconf_work_asks reconf_start reconf_feed reconf_latest new_client tests refusal task_asks client_asks task_feed task_again accepts client_command client_deliver client_tick fields_size unit_moves layout_moves seqr_moves client_turned happens limit_of drain_on drain tick_all rounds settle any.first
 seal_stand = refl
 
@@ -112,7 +112,7 @@ unfolding run start node_eq units_of next_of change_fault new_unit unit_ask on_a
 seal_clients zero = two_most 1 _ seal_stand (omega arith)
 seal_clients (suc k) = two_most 1 _ refl (omega arith)
 
-seal_above : NoneAbove all_kinds unsealed ((client all_kinds unsealed 0).stand.epoch + 1)
+pub seal_above : NoneAbove all_kinds unsealed ((client all_kinds unsealed 0).stand.epoch + 1)
 seal_above = record {
   units = λ u. none_past _ _ (seal_units u) seal_stand;
   layouts = λ n. none_past _ _ (seal_layouts n) seal_stand;
@@ -126,7 +126,7 @@ seal_wait = (0, 1) ∷ []
 abbrev unsealed_reconf : Reconf
 unsealed_reconf = record { change = opens_again; me = 0; layouts = 1; stand = first_layout one_of_each; work = Sealing seal_wait [] }
 
-seal_runs : runs all_kinds unsealed (unit_id 0) ≡ true
+pub seal_runs : runs all_kinds unsealed (unit_id 0) ≡ true
 unfolding run start node_eq units_of next_of change_fault new_unit unit_ask on_ask unit_step new_layout layout_ask on_layout_ask layout_step reply new_seqr seqr_step seqr_tick reconf_work_asks reconf_start reconf_feed reconf_latest new_client tests refusal task_asks client_asks task_feed task_again accepts client_command client_deliver client_tick fields_size unit_moves layout_moves seqr_moves client_turned happens limit_of drain_on drain tick_all rounds settle any.first
 seal_runs = refl
 

@@ -1,2 +1,5 @@
+pub mod Changes
+pub mod Changing
+pub mod Ready
 pub mod Reconfs
 pub mod Settled

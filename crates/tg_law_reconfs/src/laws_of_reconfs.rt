@@ -4,6 +4,8 @@
 
 ghost use Rattle.tg_any.specs.AllKinds.{all_kinds};
 ghost use Rattle.tg_kind.specs.Of.{meaning_of};
+ghost use Rattle.tg_law_reconfs.specs.Changes.{ChangesWork, ChangesStart};
+ghost use Rattle.tg_law_reconfs.specs.Ready.{ChangesAreReady};
 ghost use Rattle.tg_law_reconfs.specs.Reconfs.{ReconfEndsAreTold, StartedFinishes, VotesFinish, SealsFinish};
 ghost use Rattle.tg_law_reconfs.specs.Settled.{SealsAreAnswered, VotesAreAnswered};
 ghost use Rattle.tg_protocol.specs.Runs.{Always};
@@ -47,4 +49,22 @@ pub fn seals_are_answered()
 /// and the layout is installed.
 pub fn votes_are_answered()
     ensures { VotesAreAnswered }
+{}
+
+/// A client that waits alone with a reconfiguration that is ready, at the epoch at which the change was given, works on it:
+/// its hand doesn't wait for a newer layout, and it has not adopted one of its own. It waits for units of the next layout
+/// alone, for some where it seals them, and looks at a joining unit only after that was sealed; all of these run.
+pub fn changes_work()
+    ensures { Always all_kinds (ChangesWork all_kinds) }
+{}
+
+/// Where it stands at the next epoch it waits for the new layout's sequencer, and that is the change's.
+pub fn changes_start()
+    ensures { Always all_kinds (ChangesStart all_kinds) }
+{}
+
+/// A run in which a client opens a range at the one unit, and the unit's seal is lost, is one for which `changes_work` asks no
+/// more than it has; so is for `changes_start` one in which its layout is adopted, and the request to the sequencer is lost.
+pub fn changes_are_ready()
+    ensures { ChangesAreReady }
 {}
