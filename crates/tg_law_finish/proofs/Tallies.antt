@@ -4,6 +4,7 @@ pub mod Commit
 pub mod Books
 pub mod Legal
 pub mod Settling
+pub mod Filling
 pub mod Probing
 pub mod Closing
 pub mod Saving

@@ -7,9 +7,8 @@
 //!
 //! Proved for a command that waits for an append after which nothing is left to do (of a transaction without reads,
 //! a decision record, a checkpoint or a mark), from wherever the append stands; and for `ask`, `fate` and `ask-at`
-//! whose sync waits for its first answer, where nothing is trimmed and the sequencer has issued a position since
-//! its layout's start (`NothingTrimmed`, `HasIssued` in specs/Finish/Asks.antt). Three conditions on a world are
-//! premises: `Granted` in specs/Finish/Granted.antt. Where an append stands is a premise too: `AppendStands` in
+//! whose sync waits for its first answer, where nothing is trimmed (`NothingTrimmed` in specs/Finish/Asks.antt). Three
+//! conditions on a world are premises: `Granted` in specs/Finish/Granted.antt. Where an append stands is a premise too: `AppendStands` in
 //! specs/Finish/Appends.antt. In the store all these hold (`laws_of_store`). That the next position is unwritten,
 //! and that a sequencer names positions below it alone, is proved (`tg_law_headline::laws_of_issues`).
 
@@ -36,8 +35,8 @@ pub fn appends_are_answered_in_time<K: Registry>()
 
 /// A client whose `ask`, `fate` or `ask-at` still waits for its sync's first answer is answered, within two
 /// deliveries for each unit of the longest chain and one more, at each position and once more, and two for each
-/// layout server. Conditions: the client waits alone in a world which is ready for it; `Granted`; nothing is
-/// trimmed; and the latest layout's sequencer has issued a position since that layout's start.
+/// layout server. Conditions: the client waits alone in a world which is ready for it; `Granted`; and nothing is
+/// trimmed.
 pub fn asks_are_answered<K: Registry>()
     ensures { Always (meaning_of K.Registry) (AskAnswered (meaning_of K.Registry)) }
 {}

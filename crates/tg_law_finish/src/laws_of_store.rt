@@ -7,11 +7,10 @@
 //!
 //! Of the world it is asked that it is ready, and no more: what `Granted` asks (specs/Finish/Granted.antt), and
 //! where an append stands, is so in each run of the store. Commands that walk take fewer deliveries where nothing
-//! is trimmed and the latest layout's sequencer has issued a position since that layout's start (`asks_finish`,
-//! `makes_finish`).
+//! is trimmed (`asks_finish`, `makes_finish`).
 
 ghost use Rattle.tg_any.specs.AllKinds.{all_kinds};
-ghost use Rattle.tg_law_finish.specs.Finish.Anywhere.{CommandWalks};
+ghost use Rattle.tg_law_finish.specs.Finish.Anywhere.{CalmCommand, CommandWalks, LongCommand};
 ghost use Rattle.tg_law_finish.specs.Finish.Copies.{CopyFinishes};
 ghost use Rattle.tg_law_finish.specs.Finish.Ends.{EndFinishes, RecordFinishes};
 ghost use Rattle.tg_law_finish.specs.Finish.Makes.{MakeFinishes};
@@ -27,23 +26,22 @@ pub fn appends_finish()
     ensures { Always all_kinds (AppendFinishes all_kinds) }
 {}
 
-/// A client whose `ask`, `fate` or `ask-at` still waits for its sync's first answer is answered, where nothing is
-/// trimmed and the latest layout's sequencer has issued a position since that layout's start.
+/// A client whose `ask`, `fate` or `ask-at` waits in a sync or in a walk, wherever that stands, is answered within the
+/// bound of its command where nothing is trimmed. Where no position was issued the sync probes.
 pub fn asks_finish()
     ensures { Always all_kinds (AskFinishes all_kinds) }
 {}
 
-/// A client whose `decide`, `checkpoint` or `forget` still waits for its sync's first answer is answered, likewise:
-/// once all is walked it is refused, or appends a decision record, a checkpoint or a mark. So is one whose `end`
-/// has appended its record, and syncs to judge it.
+/// So is one whose `decide`, `checkpoint` or `forget` does: once all is walked it is refused, or appends a decision
+/// record, a checkpoint or a mark. So is one whose `end` has appended its record, and syncs to judge it.
 pub fn makes_finish()
     ensures { Always all_kinds (MakeFinishes all_kinds) }
 {}
 
 /// An `ask`, `fate` or `ask-at` that waits in a sync or in a walk, wherever that stands, is answered whatever is
 /// trimmed, and whether or not the sequencer has issued a position since its layout's start. Its walks may meet trims,
-/// find the tail stale and sync again, and give up the kept view and start over: in so many passes more as there are
-/// units, and two.
+/// find the tail stale and sync again, and give up the kept view and start over: in so many passes as there are units
+/// that have trimmed anything, and two.
 pub fn asks_finish_anyway()
     ensures { Always all_kinds (AskWalks all_kinds) }
 {}
@@ -87,4 +85,16 @@ pub fn copies_finish()
 /// layout: within the bound of its command, and 129 times what trims may cost walks over 128 streams.
 pub fn commands_finish()
     ensures { Always all_kinds (CommandWalks all_kinds) }
+{}
+
+/// Where nothing is trimmed, each is answered within the bound of its command alone: of `trim`, `rescue`, `copy`, and an
+/// `end` whose record is appended, too.
+pub fn calm_commands_finish()
+    ensures { Always all_kinds (CalmCommand all_kinds) }
+{}
+
+/// And so where the log is long: the sequencer's next position is no less than 23 times the number of units that have trimmed
+/// anything, and 46 more.
+pub fn long_commands_finish()
+    ensures { Always all_kinds (LongCommand all_kinds) }
 {}

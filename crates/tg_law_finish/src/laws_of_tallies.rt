@@ -1,6 +1,6 @@
 //! Runs for which the premises of the laws hold, computed by the definitions.
 
-ghost use Rattle.tg_law_finish.specs.Tallies.Settled.{AppendIsAnswered, AskIsAnswered, CopyIsAnswered, EndIsAnswered, FateIsAnswered, ProbeIsAnswered, RecordIsAnswered, RescueIsAnswered, SaveIsAnswered, TrimIsAnswered};
+ghost use Rattle.tg_law_finish.specs.Tallies.Settled.{AppendIsAnswered, AskIsAnswered, CopyIsAnswered, EndIsAnswered, FateIsAnswered, FillIsAnswered, ProbeIsAnswered, RecordIsAnswered, RescueIsAnswered, SaveIsAnswered, TrimIsAnswered};
 ghost use Rattle.tg_law_finish.specs.Tallies.Books.{CommitIsBooked};
 ghost use Rattle.tg_law_finish.specs.Tallies.Tallies.{PastIsTold, CommitIsTold};
 
@@ -31,8 +31,15 @@ pub fn ask_is_answered()
     ensures { AskIsAnswered }
 {}
 
+/// A run in which a client is told the tail, and its request to fill the last position is lost, is one for which `asks_finish`
+/// and `calm_commands_finish` ask no more than it has: it is in the middle of its sync, and nothing is trimmed. A settling of
+/// it takes four deliveries with the client, where ten are allowed, and 80 by the bound of its command.
+pub fn fill_is_answered()
+    ensures { FillIsAnswered }
+{}
+
 /// A run in which nothing was issued, and a client's request for a tail is lost, is one for which `asks_finish_anyway` asks
-/// no more than it has: the sync probes the chain of position 0. A settling of it takes six deliveries with the client, where 26
+/// no more than it has: the sync probes the chain of position 0. A settling of it takes six deliveries with the client, where six
 /// are allowed.
 pub fn fate_is_answered()
     ensures { FateIsAnswered }
@@ -40,25 +47,25 @@ pub fn fate_is_answered()
 
 /// A run in which nothing was issued, a client is told so, and its probe of the chain of position 0 is lost, is one for
 /// which `asks_finish_anyway` asks no more than it has: it is in the middle of its sync. A settling of it takes four
-/// deliveries with the client, where 26 are allowed.
+/// deliveries with the client, where six are allowed.
 pub fn probe_is_answered()
     ensures { ProbeIsAnswered }
 {}
 
 /// A run in which a client asks within a transaction and ends it, and its record's request for a token is lost, is one for which
-/// `ends_finish` asks no more than it has. A settling of it takes ten deliveries with the client, where 800 are allowed.
+/// `ends_finish` asks no more than it has. A settling of it takes ten deliveries with the client, where 18 are allowed.
 pub fn end_is_answered()
     ensures { EndIsAnswered }
 {}
 
 /// A run in which that client has its token, its page is in hand, and the page's request is lost, is one for which
-/// `records_finish` asks no more than it has. A settling of it takes eight deliveries with the client, where 808 are allowed.
+/// `records_finish` asks no more than it has. A settling of it takes eight deliveries with the client, where 26 are allowed.
 pub fn record_is_answered()
     ensures { RecordIsAnswered }
 {}
 
 /// A run in which a client saves a tally while nothing was issued, and its request for a tail is lost, is one for which
-/// `makes_finish_anyway` asks no more than it has. A settling of it takes ten deliveries with the client, where 36 are allowed.
+/// `makes_finish_anyway` asks no more than it has. A settling of it takes ten deliveries with the client, where ten are allowed.
 pub fn save_is_answered()
     ensures { SaveIsAnswered }
 {}
@@ -70,7 +77,7 @@ pub fn rescue_is_answered()
 {}
 
 /// A run in which a client trims where the directory has a floor, and its request for a tail is lost, is one for which `trims_finish`
-/// asks no more than it has. A settling of it takes eight deliveries with the client, where 32 are allowed, and the unit trims.
+/// asks no more than it has. A settling of it takes eight deliveries with the client, where 12 are allowed, and the unit trims.
 pub fn trim_is_answered()
     ensures { TrimIsAnswered }
 {}

@@ -1,5 +1,5 @@
 -- The laws, from what is proved of a settling.
-use Rattle.std.proofs.Common.{◌≡◌, ◌≢◌, ℕ, zero, suc, ◌+◌, ◌-◌, ◌*◌, ◌<◌, ◌≤◌, List, [], ◌∷◌, ◌++◌, length, filter, take, cond, Bool, true, false, ◌||◌, eqb, refl, ap, ◌∙◌, sym, subst, inl, arith, Some, None, Option, length-append}
+use Rattle.std.proofs.Common.{◌≡◌, ◌≢◌, ◌⊎◌, ℕ, zero, suc, ◌+◌, ◌-◌, ◌*◌, ◌<◌, ◌≤◌, List, [], ◌∷◌, ◌++◌, length, filter, take, cond, Bool, true, false, ◌||◌, eqb, refl, ap, ◌∙◌, sym, subst, inl, inr, arith, Some, None, Option, length-append}
 use Rattle.std.proofs.Math.Seq.{take-append_seam}
 use Rattle.std.proofs.lemmas.Nat.{mul-le}
 use Rattle.std.specs.Prelude.{slice_get, nat_lt}
@@ -16,8 +16,7 @@ use Rattle.tg_protocol.specs.Requests.{out}
 use Rattle.tg_base.specs.declared.msg.Msg.TheVariants as msg
 use Rattle.tg_protocol.specs.Cells.{CellWork, Puts, Gets, Fills, Copies, Probes, place_in, work_asks, Place}
 use Rattle.tg_protocol.specs.Appending.{Append, AppendWork, Asking, Putting, Judging, append_work_asks, append_asks}
-use Rattle.tg_protocol.specs.Syncing.{Sync, SyncWork, Checking, sync_work_asks}
-use Rattle.tg_base.specs.declared.ids.Oid.{Oid}
+use Rattle.tg_protocol.specs.Syncing.{SyncWork}
 use Rattle.tg_protocol.specs.Entries.{streams_of}
 use Rattle.tg_model.specs.declared.command.Command.TheVariants as cmd
 use Rattle.tg_protocol.specs.Layouts.{units_of}
@@ -39,16 +38,16 @@ use Rattle.tg_law_finish.specs.Finish.Drains.{drained, DrainsAnswer}
 use Rattle.tg_law_finish.specs.Finish.Granted.{Granted}
 use Rattle.tg_law_finish.specs.Finish.Appends as appends
 use Rattle.tg_law_finish.specs.Finish.Appends.{WaitsForAppend, AppendStands, PuttingStands, JudgingStands}
-use Rattle.tg_law_finish.specs.Finish.Asks.{NothingTrimmed, HasIssued, WaitsForSync}
+use Rattle.tg_law_finish.specs.Finish.Asks.{NothingTrimmed, WaitsForSync}
 use Rattle.tg_law_finish.specs.Finish.Copies.{copy_bound}
-use Rattle.tg_law_finish.specs.Finish.Makes.{makes, MakesSync, make_bound}
+use Rattle.tg_law_finish.specs.Finish.Makes.{makes, make_bound}
 use Rattle.tg_law_finish.specs.Finish.Ends.{EndsAppend, end_bound, record_bound}
 use Rattle.tg_law_finish.specs.Finish.Reads.{WaitsForRead}
 use Rattle.tg_law_finish.specs.Finish.Rescues.{is_rescue, rescue_bound}
 use Rattle.tg_law_finish.specs.Finish.Trims.{trim_bound}
-use Rattle.tg_law_finish.specs.Finish.Walks.{StreamsFew, passes_bound, walk_bound, streams}
-use Rattle.tg_law_finish.specs.Finish.Laws.{IsReply, IsAnswered, AppendAnswered, AppendInTime, AskAnswered, AskInTime, EndsAreTold, RepliesAreTold}
-use Rattle.tg_law_finish.proofs.Finish.Asking.{HeldWhereTrimmed, Walkable, Untrimmed, Owns, Holds, Trims', Syncs, TaskStands, Reads}
+use Rattle.tg_law_finish.specs.Finish.Walks.{StreamsFew, passes_of, floors, passes_bound, walk_bound, streams}
+use Rattle.tg_law_finish.specs.Finish.Laws.{IsReply, IsAnswered, append_bound, ask_bound, AppendAnswered, AppendInTime, AskAnswered, AskInTime, EndsAreTold, RepliesAreTold}
+use Rattle.tg_law_finish.proofs.Finish.Asking.{HeldWhereTrimmed, Walkable, Owns, Holds, Trims', SyncStands, TaskStands, Reads}
 use Rattle.tg_law_finish.proofs.Finish.Counted.{is_of, one_if, cost, counted, Finishes as Counted}
 use Rattle.tg_law_finish.proofs.Finish.Drains.{stays_idle}
 use Rattle.tg_law_finish.proofs.Finish.Replying.{settle_replies, drain_replies, copy_replies, settle_tells}
@@ -58,7 +57,8 @@ use Rattle.tg_law_finish.proofs.Finish.Stripes.{not_gone, stands_off}
 use Rattle.tg_law_finish.proofs.Finish.Telling.{HasIt, HasCopy}
 use Rattle.tg_law_finish.specs.Finish.Commands.{is_ask, plays}
 use Rattle.tg_law_finish.proofs.Finish.Finishes.{writes_finish}
-use Rattle.tg_law_finish.proofs.Finish.Waits.{asks_finish, makes_finish, ends_finish_by}
+use Rattle.tg_law_finish.proofs.Finish.Waits.{ends_finish_by}
+use Rattle.tg_law_finish.proofs.Finish.Waited.{no_floors, pays_less}
 use Rattle.tg_law_finish.proofs.Finish.Walked.{asks_finish_by, makes_finish_by, rescues_finish_by}
 use Rattle.tg_law_finish.proofs.Finish.Copied.{Brings, copies_finish_by}
 use Rattle.tg_law_finish.proofs.Finish.Trimmed.{trims_finish_by, units_finish_by}
@@ -162,6 +162,33 @@ rescues_room c t l z j one few le =
     let e = mul-le (2 * ((c + 1) * t) + 2 * l + z) (j + 1) (2 * ((c + 1) * t) + 2 * l + z) 129 (omega arith) (omega (arith, le)) in
     omega (arith, one, few, a, b, e)
 
+-- where nothing is trimmed a walk takes no more than an ask
+calm_room : (c t l s f : ℕ) → f ≡ 0 → 2 * ((c + 1) * t) + 2 * l + passes_of c s f ≤ 2 * ((c + 1) * (t + 1)) + 2 * l
+calm_room c t l s f none = subst (λ n. 2 * ((c + 1) * t) + 2 * l + passes_of c s n ≤ 2 * ((c + 1) * (t + 1)) + 2 * l) (sym none) (omega arith)
+
+-- Nothing is trimmed, or the log is long for the units that have trimmed anything.
+abbrev pub IsLong : ℕ → ℕ → Type 0
+IsLong f t = (f ≡ 0) ⊎ (23 * (f + 2) ≤ t)
+
+few_passes : (c t s f : ℕ) → 1 ≤ c → s ≤ 128 → IsLong f t → 23 * passes_of c s f ≤ 262 * (c * t) + 92 * c
+few_passes c t s f one few (inl none) = subst (λ n. 23 * passes_of c s n ≤ 262 * (c * t) + 92 * c) (sym none) (omega (arith, one))
+few_passes c t s zero one few (inr long) = omega (arith, one)
+few_passes c t s (suc f) one few (inr long) =
+    let a = mul-le (2 * c + 1 + s) (suc f + 2) (131 * c) (suc f + 2) (omega (arith, one, few)) (omega arith) in
+    let b = mul-le c (23 * (suc f + 2)) c t (omega arith) long in
+    omega (arith, a, b)
+
+long_room : (c t l p : ℕ) → 1 ≤ c → l ≤ 7 → 23 * p ≤ 262 * (c * t) + 92 * c → 2 * ((c + 1) * t) + 2 * l + p + 8 * (c + 1) ≤ 16 * c * (t + 4)
+long_room c t l p one few le =
+    let a = mul-le (c + 1) t (2 * c) t (omega (arith, one)) (omega arith) in
+    omega (arith, one, few, a, le)
+
+long_rescues : (c t l p j : ℕ) → 1 ≤ c → l ≤ 7 → j ≤ 128 → 23 * p ≤ 262 * (c * t) + 92 * c → (2 * ((c + 1) * t) + 2 * l + p) * (j + 1) + 2 * (c + 1) ≤ 128 * (16 * c * (t + 4))
+long_rescues c t l p j one few le pay =
+    let a = mul-le (c + 1) t (2 * c) t (omega (arith, one)) (omega arith) in
+    let e = mul-le (2 * ((c + 1) * t) + 2 * l + p) (j + 1) (2 * ((c + 1) * t) + 2 * l + p) 129 (omega arith) (omega (arith, le)) in
+    omega (arith, one, few, a, e, pay)
+
 rescues_most : (m : Meaning) (x : CommandOf m) (c t n : ℕ) → is_rescue m x ≡ true → most_deliveries m x c t n ≡ 128 * (16 * c * (t + 4))
 unfolding is_rescue
 rescues_most m x c t n e = grind arith
@@ -235,12 +262,6 @@ module _ (m : Meaning) (h : Header) (ms : Moves m) (w : World m) (r : Reaches m 
 
   -- Asks.
 
-  untrimmed : NothingTrimmed m w → HasIssued m w → Untrimmed m w p
-  untrimmed u n = record { lows = u; past = is_less _ _ n }
-    where
-      is_less : (a b : ℕ) → a < b → nat_lt a b ≡ true
-      is_less a b less = grind arith
-
   walkable : IsReadyFor m w k → HeldWhereTrimmed m w p → Walkable m w p
   walkable b held = record { near = next_near m h ms w r; backs = λ o os. names_below m h ms w r o os; once = λ pos. once_there m h ms w r pos; units = units_rise m h ms w r k b; some_unit = some_unit m h ms w r; held = held }
 
@@ -249,22 +270,6 @@ module _ (m : Meaning) (h : Header) (ms : Moves m) (w : World m) (r : Reaches m 
     where
       never : (n low : ℕ) → low ≡ 0 → nat_lt n low ≡ true → ⊥
       never n low e less = grind arith
-
-  abbrev asked : ℕ → List Oid → Out
-  asked rid oids = out (seqr_id (client m w k).stand.seq) rid (msg.Check (client m w k).stand.epoch oids)
-
-  synced : (work : Work m) (sync : Sync) (rid : ℕ) → (client m w k).work ≡ Some work → work.hand ≡ Doing (Syncing sync) → sync.work ≡ Checking rid → Syncs m w k
-  unfolding task_asks sync_work_asks
-  synced work sync rid waits hand first = record {
-    work = work;
-    waits = waits;
-    sync = sync;
-    rid = rid;
-    hand = hand;
-    first = first;
-    below = below_next (asked rid sync.oids) (reserves (client m w k) work (Syncing sync) (asked rid sync.oids) waits hand
-        (subst (λ (y : SyncWork). Has (sync_work_asks (client m w k).stand sync y) (asked rid sync.oids)) (sym first) (inl refl)));
-  }
 
   abbrev token_of : ℕ → Append → Out
   token_of rid x = out (seqr_id (client m w k).stand.seq) rid (msg.Token (client m w k).stand.epoch (streams_of x.draft))
@@ -277,12 +282,6 @@ module _ (m : Meaning) (h : Header) (ms : Moves m) (w : World m) (r : Reaches m 
   ends_play : (x : CommandOf m) → x ≡ cmd.End → plays m x ≡ true
   unfolding plays
   ends_play x e = ap (λ y. plays m y) e
-
-  asks : WaitsForSync m w k → Syncs m w k
-  asks f = synced f.work f.sync f.rid f.waits f.hand f.first
-
-  made : MakesSync m w k → Syncs m w k
-  made f = synced f.work f.sync f.rid f.waits f.hand f.first
 
   rescues_play : (x : CommandOf m) → is_rescue m x ≡ true → plays m x ≡ true
   unfolding is_rescue plays
@@ -324,24 +323,6 @@ module _ (m : Meaning) (h : Header) (ms : Moves m) (w : World m) (r : Reaches m 
   pub append_in_time : (x : CommandOf m) → IsAlone m w k x → IsReadyFor m w k → Granted m w → WaitsForAppend m w k → IsAnswered m w k (most_deliveries_in m w x)
   append_in_time x a b g f = within m k _ _ w _ (bounds m x _ _ _ _ (rooms _ _ _ (longest g x a b) few_layouts)) (append_answered x a b g f)
 
-  pub ask_answered : (x : CommandOf m) → IsAlone m w k x → IsReadyFor m w k → Granted m w → NothingTrimmed m w → HasIssued m w → WaitsForSync m w k → IsAnswered m w k (2 * ((longest_chain p + 1) * ((seqr m w p.seq).next + 1)) + 2 * w.cluster.layouts)
-  unfolding asks synced
-  ask_answered x a b g u n f =
-      let c = asks_finish m w k p (longest_chain p) (working m h ms w r k x a b) (lawful m h ms w r k x a b g) (walkable b (none_trimmed u)) (untrimmed u n) (asks f) f.asks a.within in
-      answered_of m k _ w _ (subst (λ l. Counted m k (2 * ((longest_chain p + 1) * ((seqr m w p.seq).next + 1)) + 2 * l) w (settle m w).world) layouts_are c) (replied f.work f.waits (asks_play f.work.command f.asks) c.answered)
-
-  pub ask_in_time : (x : CommandOf m) → IsAlone m w k x → IsReadyFor m w k → Granted m w → NothingTrimmed m w → HasIssued m w → WaitsForSync m w k → IsAnswered m w k (most_deliveries_in m w x)
-  ask_in_time x a b g u n f = within m k _ _ w _ (bounds m x _ _ _ _ (each_room _ _ _ (longest g x a b) few_layouts)) (ask_answered x a b g u n f)
-
-  pub make_answered : (x : CommandOf m) → IsAlone m w k x → IsReadyFor m w k → Granted m w → NothingTrimmed m w → HasIssued m w → MakesSync m w k → IsAnswered m w k (make_bound m w)
-  unfolding made synced
-  make_answered x a b g u n f =
-      let c = makes_finish m w k p (longest_chain p) (working m h ms w r k x a b) (lawful m h ms w r k x a b g) (walkable b (none_trimmed u)) (untrimmed u n) (made f) f.makes_it a.within in
-      answered_of m k _ w _ (subst (λ l. Counted m k (2 * ((longest_chain p + 1) * ((seqr m w p.seq).next + 1)) + 2 * l + 2 * (longest_chain p + 1)) w (settle m w).world) layouts_are c) (replied f.work f.waits (makes_play f.work.command f.makes_it) c.answered)
-
-  pub make_in_time : (x : CommandOf m) → IsAlone m w k x → IsReadyFor m w k → Granted m w → NothingTrimmed m w → HasIssued m w → MakesSync m w k → IsAnswered m w k (most_deliveries_in m w x)
-  make_in_time x a b g u n f = within m k _ _ w _ (bounds m x _ _ _ _ (made_room _ _ _ (longest g x a b) few_layouts)) (make_answered x a b g u n f)
-
   -- Whatever is trimmed.
 
   one_work : (v u : Work m) → Some v ≡ Some u → v ≡ u
@@ -360,18 +341,14 @@ module _ (m : Meaning) (h : Header) (ms : Moves m) (w : World m) (r : Reaches m 
   pub same_command : (x : CommandOf m) → IsAlone m w k x → (v : Work m) → (client m w k).work ≡ Some v → x ≡ v.command
   same_command x a v e = sym (ap (λ (u : Work m). u.command) (one_work v a.work (sym e ∙ a.waits)) ∙ a.command)
 
-  few_streams : (v : Work m) → (client m w k).work ≡ Some v → length v.oids ≤ 128
+  pub few_streams : (v : Work m) → (client m w k).work ≡ Some v → length v.oids ≤ 128
   few_streams v e = subst (λ (o : Option (Work m)). WorkFew m o) e (hosting m h ms w r k).work
-
-  passes_few : (c s n : ℕ) → s ≤ 128 → 2 * ((2 * c + 1 + s) * (n + 2)) ≤ 2 * ((2 * c + 1 + 128) * (n + 2))
-  passes_few c s n le = let a = mul-le (2 * c + 1 + s) (n + 2) (2 * c + 1 + 128) (n + 2) (omega (arith, le)) (omega arith) in omega (arith, a)
 
   ask_by : (x : CommandOf m) → IsAlone m w k x → IsReadyFor m w k → Granted m w → HeldWhereTrimmed m w p → (f : WaitsForRead m w k) → TaskStands m w p f.work f.task → is_ask m f.work.command ≡ true → IsAnswered m w k (walk_bound m w (streams m f.work))
   unfolding reading
   ask_by x a b g held f stands is =
       let c = asks_finish_by m w k p (longest_chain p) (working m h ms w r k x a b) (lawful m h ms w r k x a b g) (walkable b held) (reading b.stand f stands) is a.within in
-      answered_of m k _ w _ (subst (λ n. Counted m k (2 * ((longest_chain p + 1) * (seqr m w p.seq).next) + 2 * w.cluster.layouts + 2 * ((2 * longest_chain p + 1 + length f.work.oids) * (n + 2))) w (settle m w).world) (units_are m h ms w r)
-      (subst (λ l. Counted m k (2 * ((longest_chain p + 1) * (seqr m w p.seq).next) + 2 * l + 2 * ((2 * longest_chain p + 1 + length f.work.oids) * (length w.units + 2))) w (settle m w).world) layouts_are c))
+      answered_of m k _ w _ (subst (λ l. Counted m k (2 * ((longest_chain p + 1) * (seqr m w p.seq).next) + 2 * l + passes_of (longest_chain p) (length f.work.oids) (floors m w)) w (settle m w).world) layouts_are c)
       (replied f.work f.waits (asks_play f.work.command is) c.answered)
 
   make_by : (x : CommandOf m) → IsAlone m w k x → IsReadyFor m w k → Granted m w → HeldWhereTrimmed m w p → (f : WaitsForRead m w k) → TaskStands m w p f.work f.task → makes m f.work.command ≡ true
@@ -379,15 +356,14 @@ module _ (m : Meaning) (h : Header) (ms : Moves m) (w : World m) (r : Reaches m 
   unfolding reading
   make_by x a b g held f stands is =
       let c = makes_finish_by m w k p (longest_chain p) (working m h ms w r k x a b) (lawful m h ms w r k x a b g) (walkable b held) (reading b.stand f stands) is a.within in
-      answered_of m k _ w _ (subst (λ n. Counted m k (2 * ((longest_chain p + 1) * (seqr m w p.seq).next) + 2 * w.cluster.layouts + 2 * ((2 * longest_chain p + 1 + length f.work.oids) * (n + 2)) + 2 * (longest_chain p + 1)) w (settle m w).world) (units_are m h ms w r)
-      (subst (λ l. Counted m k (2 * ((longest_chain p + 1) * (seqr m w p.seq).next) + 2 * l + 2 * ((2 * longest_chain p + 1 + length f.work.oids) * (length w.units + 2)) + 2 * (longest_chain p + 1)) w (settle m w).world) layouts_are c))
+      answered_of m k _ w _ (subst (λ l. Counted m k (2 * ((longest_chain p + 1) * (seqr m w p.seq).next) + 2 * l + passes_of (longest_chain p) (length f.work.oids) (floors m w) + 2 * (longest_chain p + 1)) w (settle m w).world) layouts_are c)
       (replied f.work f.waits (makes_play f.work.command is) c.answered)
 
   pub ask_walks : (x : CommandOf m) → IsAlone m w k x → IsReadyFor m w k → Granted m w → HeldWhereTrimmed m w p → is_ask m x ≡ true → (f : WaitsForRead m w k) → TaskStands m w p f.work f.task
       → IsAnswered m w k (walk_bound m w (streams m f.work)) × IsAnswered m w k (most_deliveries_in m w x + passes_bound m w 128)
   ask_walks x a b g held is f stands =
       let y = ask_by x a b g held f stands (subst (λ (z : CommandOf m). is_ask m z ≡ true) (same_command x a f.work f.waits) is) in
-      let few = passes_few (longest_chain p) (length f.work.oids) w.cluster.units (few_streams f.work f.waits) in
+      let few = pays_less (longest_chain p) (length f.work.oids) 128 (floors m w) (few_streams f.work f.waits) in
       let room = bounds m x (longest_chain p) (seqr m w p.seq).next w.cluster.units _ (walks_room (longest_chain p) (seqr m w p.seq).next w.cluster.layouts (longest g x a b) few_layouts) in
       (y, within m k _ _ w _ (omega (arith, room, few)) y)
 
@@ -395,17 +371,41 @@ module _ (m : Meaning) (h : Header) (ms : Moves m) (w : World m) (r : Reaches m 
       → IsAnswered m w k (walk_bound m w (streams m f.work) + 2 * (longest_chain p + 1)) × IsAnswered m w k (most_deliveries_in m w x + passes_bound m w 128)
   make_walks x a b g held is f stands =
       let y = make_by x a b g held f stands (subst (λ (z : CommandOf m). makes m z ≡ true) (same_command x a f.work f.waits) is) in
-      let few = passes_few (longest_chain p) (length f.work.oids) w.cluster.units (few_streams f.work f.waits) in
+      let few = pays_less (longest_chain p) (length f.work.oids) 128 (floors m w) (few_streams f.work f.waits) in
       let room = bounds m x (longest_chain p) (seqr m w p.seq).next w.cluster.units _ (walks_room (longest_chain p) (seqr m w p.seq).next w.cluster.layouts (longest g x a b) few_layouts) in
       (y, within m k _ _ w _ (omega (arith, room, few)) y)
+
+  -- Nothing is trimmed.
+
+  calm : (s : ℕ) → NothingTrimmed m w → walk_bound m w s ≤ ask_bound m w
+  calm s u = calm_room (longest_chain p) (seqr m w p.seq).next w.cluster.layouts s (floors m w) (no_floors w.units u)
+
+  pub ask_calm : (x : CommandOf m) → IsAlone m w k x → IsReadyFor m w k → Granted m w → NothingTrimmed m w → (f : WaitsForRead m w k) → TaskStands m w p f.work f.task → is_ask m f.work.command ≡ true
+      → IsAnswered m w k (ask_bound m w) × IsAnswered m w k (most_deliveries_in m w x)
+  ask_calm x a b g u f stands is =
+      let y = within m k _ _ w _ (calm (length f.work.oids) u) (ask_by x a b g (none_trimmed u) f stands is) in
+      (y, within m k _ _ w _ (bounds m x _ _ _ _ (each_room _ _ _ (longest g x a b) few_layouts)) y)
+
+  pub make_calm : (x : CommandOf m) → IsAlone m w k x → IsReadyFor m w k → Granted m w → NothingTrimmed m w → (f : WaitsForRead m w k) → TaskStands m w p f.work f.task → makes m f.work.command ≡ true
+      → IsAnswered m w k (make_bound m w) × IsAnswered m w k (most_deliveries_in m w x)
+  make_calm x a b g u f stands is =
+      let le = calm (length f.work.oids) u in
+      let y = within m k _ (make_bound m w) w _ (omega (arith, le)) (make_by x a b g (none_trimmed u) f stands is) in
+      (y, within m k _ _ w _ (bounds m x _ _ _ _ (made_room _ _ _ (longest g x a b) few_layouts)) y)
+
+  syncing : WaitsForSync m w k → WaitsForRead m w k
+  syncing f = record { work = f.work; waits = f.waits; task = Syncing f.sync; hand = f.hand; reads = tt }
+
+  pub ask_answered : (x : CommandOf m) → IsAlone m w k x → IsReadyFor m w k → Granted m w → NothingTrimmed m w → WaitsForSync m w k → IsAnswered m w k (ask_bound m w) × IsAnswered m w k (most_deliveries_in m w x)
+  unfolding syncing
+  ask_answered x a b g u f = ask_calm x a b g u (syncing f) (subst (λ (y : SyncWork). SyncStands m w p y) (sym f.first) tt) f.asks
 
   rescue_by : (x : CommandOf m) → IsAlone m w k x → IsReadyFor m w k → Granted m w → HeldWhereTrimmed m w p → (f : WaitsForRead m w k) → TaskStands m w p f.work f.task → is_rescue m f.work.command ≡ true → IsAnswered m w k (rescue_bound m w (streams m f.work))
   unfolding reading
   rescue_by x a b g held f stands is =
       let c = rescues_finish_by m w k p (longest_chain p) (working m h ms w r k x a b) (lawful m h ms w r k x a b g) (walkable b held) (reading b.stand f stands) is (few_streams f.work f.waits) a.within in
       answered_of m k _ w _
-      (subst (λ n. Counted m k ((2 * ((longest_chain p + 1) * (seqr m w p.seq).next) + 2 * w.cluster.layouts + 2 * ((2 * longest_chain p + 1 + 128) * (n + 2))) * ((128 - length f.work.oids) + 1) + 2 * (longest_chain p + 1)) w (settle m w).world) (units_are m h ms w r)
-      (subst (λ l. Counted m k ((2 * ((longest_chain p + 1) * (seqr m w p.seq).next) + 2 * l + 2 * ((2 * longest_chain p + 1 + 128) * (length w.units + 2))) * ((128 - length f.work.oids) + 1) + 2 * (longest_chain p + 1)) w (settle m w).world) layouts_are c))
+      (subst (λ l. Counted m k ((2 * ((longest_chain p + 1) * (seqr m w p.seq).next) + 2 * l + passes_of (longest_chain p) 128 (floors m w)) * ((128 - length f.work.oids) + 1) + 2 * (longest_chain p + 1)) w (settle m w).world) layouts_are c)
       (replied f.work f.waits (rescues_play f.work.command is) c.answered)
 
   pub rescue_walks : (x : CommandOf m) → IsAlone m w k x → IsReadyFor m w k → Granted m w → HeldWhereTrimmed m w p → is_rescue m x ≡ true → (f : WaitsForRead m w k) → TaskStands m w p f.work f.task
@@ -419,9 +419,7 @@ module _ (m : Meaning) (h : Header) (ms : Moves m) (w : World m) (r : Reaches m 
   end_by : (x : CommandOf m) → IsAlone m w k x → IsReadyFor m w k → Granted m w → HeldWhereTrimmed m w p → Owns m w k p → IsAnswered m w k (end_bound m w)
   end_by x a b g held f =
       let c = ends_finish_by m w k p (longest_chain p) (working m h ms w r k x a b) (lawful m h ms w r k x a b g) (walkable b held) f a.within in
-      answered_of m k _ w _
-      (subst (λ n. Counted m k (2 * ((longest_chain p + 1) * (seqr m w p.seq).next) + 2 * w.cluster.layouts + 2 * ((2 * longest_chain p + 1 + 128) * (n + 2)) + 6 * (longest_chain p + 1)) w (settle m w).world) (units_are m h ms w r)
-      (subst (λ l. Counted m k (2 * ((longest_chain p + 1) * (seqr m w p.seq).next) + 2 * l + 2 * ((2 * longest_chain p + 1 + 128) * (length w.units + 2)) + 6 * (longest_chain p + 1)) w (settle m w).world) layouts_are c))
+      answered_of m k _ w _ (subst (λ l. Counted m k (2 * ((longest_chain p + 1) * (seqr m w p.seq).next) + 2 * l + passes_of (longest_chain p) 128 (floors m w) + 6 * (longest_chain p + 1)) w (settle m w).world) layouts_are c)
       (replied f.work f.waits (ends_play f.work.command f.command) c.answered)
 
   pub end_walks : (x : CommandOf m) → IsAlone m w k x → IsReadyFor m w k → Granted m w → HeldWhereTrimmed m w p → Owns m w k p → IsAnswered m w k (end_bound m w) × IsAnswered m w k (most_deliveries_in m w x + passes_bound m w 128)
@@ -437,9 +435,7 @@ module _ (m : Meaning) (h : Header) (ms : Moves m) (w : World m) (r : Reaches m 
   record_by : (x : CommandOf m) → IsAlone m w k x → IsReadyFor m w k → Granted m w → HeldWhereTrimmed m w p → Holds m w k p → IsAnswered m w k (record_bound m w)
   record_by x a b g held f =
       let c = records_finish_by m w k p (longest_chain p) (working m h ms w r k x a b) (lawful m h ms w r k x a b g) (walkable b held) f a.within in
-      answered_of m k _ w _
-      (subst (λ n. Counted m k (2 * ((longest_chain p + 1) * (seqr m w p.seq).next) + 2 * w.cluster.layouts + 2 * ((2 * longest_chain p + 1 + 128) * (n + 2)) + 8 * (longest_chain p + 1)) w (settle m w).world) (units_are m h ms w r)
-      (subst (λ l. Counted m k (2 * ((longest_chain p + 1) * (seqr m w p.seq).next) + 2 * l + 2 * ((2 * longest_chain p + 1 + 128) * (length w.units + 2)) + 8 * (longest_chain p + 1)) w (settle m w).world) layouts_are c))
+      answered_of m k _ w _ (subst (λ l. Counted m k (2 * ((longest_chain p + 1) * (seqr m w p.seq).next) + 2 * l + passes_of (longest_chain p) 128 (floors m w) + 8 * (longest_chain p + 1)) w (settle m w).world) layouts_are c)
       (replied f.work f.waits (ends_play f.work.command f.command) c.answered)
 
   pub record_walks : (x : CommandOf m) → IsAlone m w k x → IsReadyFor m w k → Granted m w → HeldWhereTrimmed m w p → Holds m w k p → IsAnswered m w k (record_bound m w) × IsAnswered m w k (most_deliveries_in m w x + passes_bound m w 128)
@@ -465,8 +461,8 @@ module _ (m : Meaning) (h : Header) (ms : Moves m) (w : World m) (r : Reaches m 
     unfolding reading
     trim_by x a b g held f stands is =
         let c = trims_finish_by m w k p (longest_chain p) (working m h ms w r k x a b) (lawful m h ms w r k x a b g) (walkable b held) (Reached m h) facts (ms, r) (reading b.stand f stands) is a.within in
-        answered_of m k _ w _ (subst (λ n. Counted m k (2 * ((longest_chain p + 1) * (seqr m w p.seq).next) + 2 * w.cluster.layouts + 2 * ((2 * longest_chain p + 1 + length f.work.oids) * (n + 2)) + 2 * n) w (settle m w).world) (units_are m h ms w r)
-        (subst (λ l. Counted m k (2 * ((longest_chain p + 1) * (seqr m w p.seq).next) + 2 * l + 2 * ((2 * longest_chain p + 1 + length f.work.oids) * (length w.units + 2)) + 2 * length w.units) w (settle m w).world) layouts_are c))
+        answered_of m k _ w _ (subst (λ n. Counted m k (2 * ((longest_chain p + 1) * (seqr m w p.seq).next) + 2 * w.cluster.layouts + passes_of (longest_chain p) (length f.work.oids) (floors m w) + 2 * n) w (settle m w).world) (units_are m h ms w r)
+        (subst (λ l. Counted m k (2 * ((longest_chain p + 1) * (seqr m w p.seq).next) + 2 * l + passes_of (longest_chain p) (length f.work.oids) (floors m w) + 2 * length w.units) w (settle m w).world) layouts_are c))
         (replied f.work f.waits (trims_play f.work.command is) c.answered)
 
     trimming : (client m w k).stand ≡ p → (v : Work m) (t : Trims) → (client m w k).work ≡ Some v → v.hand ≡ Doing (Trimming t) → Asked (units_of p) t.waits → Trims' m w k p
@@ -493,7 +489,7 @@ module _ (m : Meaning) (h : Header) (ms : Moves m) (w : World m) (r : Reaches m 
 
     in_time_too : (x : CommandOf m) → IsAlone m w k x → IsReadyFor m w k → Granted m w → (v : Work m) → (client m w k).work ≡ Some v → v.command ≡ cmd.Trim → IsAnswered m w k (trim_bound m w (streams m v)) → TrimAnswered x (streams m v)
     in_time_too x a b g v has is y =
-        let few = passes_few (longest_chain p) (length v.oids) w.cluster.units (few_streams v has) in
+        let few = pays_less (longest_chain p) (length v.oids) 128 (floors m w) (few_streams v has) in
         let room = trims_most x (longest_chain p) (seqr m w p.seq).next w.cluster.units _ (same_command x a v has ∙ is) (walks_room (longest_chain p) (seqr m w p.seq).next w.cluster.layouts (longest g x a b) few_layouts) in
         (y, within m k _ _ w _ (omega (arith, room, few)) y)
 
@@ -502,6 +498,56 @@ module _ (m : Meaning) (h : Header) (ms : Moves m) (w : World m) (r : Reaches m 
 
     pub units_trim : (x : CommandOf m) → IsAlone m w k x → IsReadyFor m w k → Granted m w → HeldWhereTrimmed m w p → (v : Work m) (t : Trims) → (client m w k).work ≡ Some v → v.hand ≡ Doing (Trimming t) → Asked (units_of p) t.waits → v.command ≡ cmd.Trim → TrimAnswered x (streams m v)
     units_trim x a b g held v t has hand asked is = in_time_too x a b g v has is (within m k _ _ w _ (omega arith) (units_by x a b g held v t has hand asked is))
+
+  -- A bound of a command allows as much, whatever its client waits for.
+
+  pub record Allows (x : CommandOf m) (most : ℕ) : Type 0 where
+    pub appends : append_bound m w ≤ most
+    pub copies : copy_bound m w ≤ most
+    pub walks : record_bound m w ≤ most
+    pub trims : x ≡ cmd.Trim → trim_bound m w 128 ≤ most
+    pub rescues : is_rescue m x ≡ true → (s : ℕ) → rescue_bound m w s ≤ most
+
+  allows_where : (x : CommandOf m) (b n : ℕ) → 1 ≤ longest_chain p → 16 * longest_chain p * ((seqr m w p.seq).next + 4) ≤ b → b ≤ n → (x ≡ cmd.Trim → b + 2 * w.cluster.units ≤ n) → record_bound m w ≤ b → (is_rescue m x ≡ true → (s : ℕ) → rescue_bound m w s ≤ n)
+      → Allows x n
+  allows_where x b n one room up trim walks rescues = record {
+    appends = let y = rooms (longest_chain p) (seqr m w p.seq).next w.cluster.layouts one few_layouts in omega (arith, y, room, up);
+    copies = let y = copies_room (longest_chain p) (seqr m w p.seq).next w.cluster.layouts one few_layouts in omega (arith, y, room, up);
+    walks = omega (arith, walks, up);
+    trims = λ is. let y = trim is in omega (arith, walks, y);
+    rescues = rescues;
+  }
+
+  abbrev most : ℕ
+  most = 16 * longest_chain p * ((seqr m w p.seq).next + 4)
+
+  of_trim : (x : CommandOf m) → x ≡ cmd.Trim → most + 2 * w.cluster.units ≤ most_deliveries_in m w x
+  of_trim x e = trims_most x (longest_chain p) (seqr m w p.seq).next w.cluster.units most e (omega arith)
+
+  pub allows_all : (x : CommandOf m) → IsAlone m w k x → IsReadyFor m w k → Granted m w → Allows x (most_deliveries_in m w x + 129 * passes_bound m w 128)
+  allows_all x a b g =
+      let one = longest g x a b in
+      let any = bounds m x (longest_chain p) (seqr m w p.seq).next w.cluster.units most (omega arith) in
+      let rest = records_room (longest_chain p) (seqr m w p.seq).next w.cluster.layouts one few_layouts in
+      allows_where x (most + passes_bound m w 128) _ one (omega arith) (omega (arith, any)) (λ e. let y = of_trim x e in omega (arith, y)) (omega (arith, rest))
+      (λ e s.
+          let y = rescues_most m x (longest_chain p) (seqr m w p.seq).next w.cluster.units e in
+          let z = rescues_room (longest_chain p) (seqr m w p.seq).next w.cluster.layouts (passes_bound m w 128) (128 - s) one few_layouts (omega arith) in
+          omega (arith, y, z))
+
+  pub allows_few : (x : CommandOf m) → IsAlone m w k x → IsReadyFor m w k → Granted m w → IsLong (floors m w) (seqr m w p.seq).next → Allows x (most_deliveries_in m w x)
+  allows_few x a b g long =
+      let one = longest g x a b in
+      let any = bounds m x (longest_chain p) (seqr m w p.seq).next w.cluster.units most (omega arith) in
+      let pay = few_passes (longest_chain p) (seqr m w p.seq).next 128 (floors m w) one (omega arith) long in
+      allows_where x most _ one (omega arith) any (of_trim x) (long_room (longest_chain p) (seqr m w p.seq).next w.cluster.layouts (passes_bound m w 128) one few_layouts pay)
+      (λ e s.
+          let y = rescues_most m x (longest_chain p) (seqr m w p.seq).next w.cluster.units e in
+          let z = long_rescues (longest_chain p) (seqr m w p.seq).next w.cluster.layouts (passes_bound m w 128) (128 - s) one few_layouts (omega arith) pay in
+          omega (arith, y, z))
+
+  pub allows_calm : (x : CommandOf m) → IsAlone m w k x → IsReadyFor m w k → Granted m w → NothingTrimmed m w → Allows x (most_deliveries_in m w x)
+  allows_calm x a b g u = allows_few x a b g (inl (no_floors w.units u))
 
   -- Copies.
 
@@ -534,10 +580,10 @@ pub appends_in_time : (m : Meaning) → Always m (AppendInTime m)
 appends_in_time m h ms w r k x a b g f = append_in_time m h ms w r k x a b g f
 
 pub asks_are_answered : (m : Meaning) → Always m (AskAnswered m)
-asks_are_answered m h ms w r k x a b g u n f = ask_answered m h ms w r k x a b g u n f
+asks_are_answered m h ms w r k x a b g u f = (ask_answered m h ms w r k x a b g u f).0
 
 pub asks_in_time : (m : Meaning) → Always m (AskInTime m)
-asks_in_time m h ms w r k x a b g u n f = ask_in_time m h ms w r k x a b g u n f
+asks_in_time m h ms w r k x a b g u f = (ask_answered m h ms w r k x a b g u f).1
 
 pub ends_are_told : (m : Meaning) → EndsAreTold m
 ends_are_told m w k work e g idle = settle_tells m k w work g e idle

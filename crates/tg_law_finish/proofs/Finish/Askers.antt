@@ -31,13 +31,6 @@ abbrev pub Distinct : List ℕ → Type 0
 Distinct [] = ⊤
 Distinct (x ∷ xs) = Each (λ y. eqb y x ≡ false) xs × Distinct xs
 
--- whether walks meet trims: where they don't, nothing is trimmed, and the sequencer has issued a position since its layout's start
-pub record Kind (low_at : ℕ → ℕ) (p : Layout) (tail : ℕ) : Type 0 where
-  pub trims : Bool
-  pub calm : trims ≡ false → (u : ℕ) → low_at u ≡ 0
-  pub past : trims ≡ false → nat_lt p.start tail ≡ true
-  pub once : (n : ℕ) → Distinct (place_in p n).chain
-
 -- what is counted where walks meet trims
 abbrev pub extra : Bool → ℕ → ℕ
 extra true n = n
@@ -82,7 +75,15 @@ module _ (low_at : ℕ → ℕ) where
       by (inl e) more = let a = subst (λ i. one_if (nat_lt h (low_at i)) + 1 ≤ one_if (nat_lt g (low_at i))) e (one_fewer g h (low_at u) past reach) in let b = above_less g h n le in omega (arith, a, b)
       by (inr l) more = let a = one_less g h (low_at n) le in let b = more l in omega (arith, a, b)
 
-module _ (m : Meaning) (h : Header) (stopped : List NodeId) (k : ℕ) (p : Layout) (longest : ℕ) (low_at : ℕ → ℕ) (many tail most : ℕ) (kind : Kind low_at p tail) where
+-- whether walks meet trims, and how many units have trimmed anything
+pub record Kind (low_at : ℕ → ℕ) (p : Layout) : Type 0 where
+  pub trims : Bool
+  pub calm : trims ≡ false → (u : ℕ) → low_at u ≡ 0
+  pub floors : ℕ
+  pub few : (g n : ℕ) → above low_at g n ≤ floors
+  pub once : (n : ℕ) → Distinct (place_in p n).chain
+
+module _ (m : Meaning) (h : Header) (stopped : List NodeId) (k : ℕ) (p : Layout) (longest : ℕ) (low_at : ℕ → ℕ) (many tail most : ℕ) (kind : Kind low_at p) where
   -- what so many unknown positions cost
   abbrev pub budget : ℕ → ℕ
   budget zero = 0
@@ -301,21 +302,9 @@ module _ (m : Meaning) (h : Header) (stopped : List NodeId) (k : ℕ) (p : Layou
   unfolding probe
   tail_well s cells after sy a n next is lasts here few = by (nat_lt p.start a.tail) refl
     where
-      never : (b : Bool) → b ≡ true → b ≡ false → ⊥
-      never b e f = grind arith
-
-      trims : nat_lt p.start a.tail ≡ false → kind.trims ≡ true
-      trims none = of kind.trims refl
-        where
-          of : (b : Bool) → kind.trims ≡ b → kind.trims ≡ true
-          of true e = e
-          of false e = absurd (never (nat_lt p.start a.tail) (ap (λ n. nat_lt p.start n) is ∙ kind.past e) none)
-
       by : (b : Bool) → nat_lt p.start a.tail ≡ b → SyncWell s cells after n next (confirm_by p sy a next b)
       by true e = fills s cells after sy a n next is lasts here (ap (λ n. nat_lt p.start n) (sym is) ∙ e) few
       by false e =
-          let they = trims e in
-          let one = extra_is kind.trims (longest + after) they in
-          let other = extra_is kind.trims after they in
+          let more = extra_less kind.trims after (longest + after) (omega arith) in
           let short = chain_short s (a.tail - 1) here in
-          SyncProbes sy.oids a 0 lasts here (omega (arith, few, one, other, short))
+          SyncProbes sy.oids a 0 lasts here (omega (arith, few, more, short))

@@ -46,11 +46,6 @@ module _ (m : Meaning) where
     pub some_unit : 0 < length (units_of p)
     pub held : HeldWhereTrimmed w p
 
-  -- a log of which nothing is trimmed, and to which this epoch has added
-  pub record Untrimmed (w : World m) (p : Layout) : Type 0 where
-    pub lows : (u : ℕ) → (unit m w u).low ≡ 0
-    pub past : nat_lt p.start (seqr m w p.seq).next ≡ true
-
   -- the next position can be issued to a draft's streams: the lists can grow by it, and no unit has a cell there or
   -- past it
   pub record Grows (w : World m) (p : Layout) (d : Entry) : Type 0 where
@@ -80,16 +75,6 @@ module _ (m : Meaning) where
     pub hand : work.hand ≡ Doing (Trimming trims)
     pub asked : Asked (units_of p) trims.waits
     pub below : (o : Out) → Has (trim_asks p trims) o → o.rid < (client m w k).next
-
-  -- the command's sync is outstanding
-  pub record Syncs (w : World m) (k : ℕ) : Type 0 where
-    pub work : Work m
-    pub waits : (client m w k).work ≡ Some work
-    pub sync : Sync
-    pub rid : ℕ
-    pub hand : work.hand ≡ Doing (Syncing sync)
-    pub first : sync.work ≡ Checking rid
-    pub below : rid < (client m w k).next
 
   -- A client in a sync or in a walk.
 

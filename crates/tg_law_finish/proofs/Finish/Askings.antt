@@ -48,7 +48,7 @@ use Rattle.tg_law_finish.proofs.Finish.Probes.{AskedOnce, each_at, each_waits, a
 use Rattle.tg_law_finish.proofs.Finish.Askers.{Kind, extra, extra_less, extra_is, above, above_fewer, budget, passes, passes_less, passes_fewer, rest, Here, here_keeps, here_put, stable_at, sort_of, Reading, WalkStage, WalkWell, CellOn, WalkOn, WalkGone, cell_walks, Settles, SyncStage, SyncWell, SyncOn, SyncEnds, SyncProbes, cell_settles, tail_well}
 
 -- Of commands that go on in such a way once all is walked.
-module _ (m : Meaning) (h : Header) (stopped : List NodeId) (k : ℕ) (p : Layout) (longest : ℕ) (low_at : ℕ → ℕ) (many tail most : ℕ) (kind : Kind low_at p tail) (way : Way m) where
+module _ (m : Meaning) (h : Header) (stopped : List NodeId) (k : ℕ) (p : Layout) (longest : ℕ) (low_at : ℕ → ℕ) (many tail most : ℕ) (kind : Kind low_at p) (way : Way m) where
   abbrev HereIn : Net m → Type 0
   HereIn s = Here m h stopped k p longest low_at many tail most kind s
 

@@ -23,7 +23,7 @@ use Rattle.tg_law_finish.proofs.Finish.Readers.{asking_way}
 use Rattle.tg_law_finish.proofs.Finish.Talks.{One, Request, one_talk}
 use Rattle.tg_law_finish.proofs.Finish.Writers.{Writing, Hearing, writes_machine, over_asks, new_drawn, seqr_away}
 
-module _ (m : Meaning) (h : Header) (stopped : List NodeId) (k : ℕ) (p : Layout) (longest : ℕ) (low_at : ℕ → ℕ) (many tail most : ℕ) (kind : Kind low_at p tail) where
+module _ (m : Meaning) (h : Header) (stopped : List NodeId) (k : ℕ) (p : Layout) (longest : ℕ) (low_at : ℕ → ℕ) (many tail most : ℕ) (kind : Kind low_at p) where
   -- A command that asks.
 
   abbrev pub AsksStage : StageOf m h stopped k p

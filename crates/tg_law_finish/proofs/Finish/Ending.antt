@@ -21,10 +21,10 @@ use Rattle.tg_law_finish.proofs.Finish.Others.{Ready}
 use Rattle.tg_law_finish.proofs.Finish.Owners.{OwnsStage, OwnEnds, OwnOver, OwnSyncs, owns_talk}
 use Rattle.tg_law_finish.proofs.Finish.Readers.{seen}
 use Rattle.tg_law_finish.proofs.Finish.Rescuing.{round}
-use Rattle.tg_law_finish.proofs.Finish.Waited.{budget_within, passes_within}
+use Rattle.tg_law_finish.proofs.Finish.Waited.{for_trims, budget_within, trims_within}
 
 -- how much a round takes, and what begins with one
-module _ (m : Meaning) (h : Header) (stopped : List NodeId) (k : ℕ) (p : Layout) (longest : ℕ) (low_at : ℕ → ℕ) (many tail most : ℕ) (kind : Kind low_at p tail) (wide : 128 ≤ most) where
+module _ (m : Meaning) (h : Header) (stopped : List NodeId) (k : ℕ) (p : Layout) (longest : ℕ) (low_at : ℕ → ℕ) (many tail most : ℕ) (kind : Kind low_at p) (wide : 128 ≤ most) where
   budget_is : (t : ℕ) → budget m h stopped k p longest low_at many tail most kind t ≡ (longest + 1) * t
   budget_is zero = sym (mul-zero (longest + 1))
   budget_is (suc t) = let e = budget_is t in let f = mul-suc (longest + 1) t in omega (arith, e, f)
@@ -33,33 +33,23 @@ module _ (m : Meaning) (h : Header) (stopped : List NodeId) (k : ℕ) (p : Layou
   passes_are zero = sym (mul-zero (2 * longest + 1 + most))
   passes_are (suc n) = let e = passes_are n in let f = mul-suc (2 * longest + 1 + most) n in omega (arith, e, f)
 
-  pub round_long : suc (round m h stopped k p longest low_at many tail most kind wide) ≡ (longest + 1) * tail + (2 * longest + 1 + most) * (many + 2)
+  pub round_long : suc (round m h stopped k p longest low_at many tail most kind wide) ≡ (longest + 1) * tail + (longest + 1) + for_trims m h stopped k p longest low_at many tail most kind
   round_long =
       let a = budget_is tail in
-      let b = passes_are (many + 1) in
-      let e = mul-suc (2 * longest + 1 + most) (many + 1) in
-      let g = ap (λ i. (2 * longest + 1 + most) * i) (plus many) in
-      omega (arith, a, b, e, g)
-    where
-      plus : (n : ℕ) → n + 2 ≡ suc (n + 1)
-      plus n = omega arith
-
-  at_most : (b : Bool) (n : ℕ) → extra b n ≤ n
-  at_most true n = omega arith
-  at_most false n = omega arith
+      let b = ap (λ i. extra kind.trims (longest + (most + i))) (passes_are (kind.floors + 1)) in
+      omega (arith, a, b)
 
   -- a sync, the walks and a decision record
   pub syncs_makes : (s : Net m) (c d : Client m) (w : Work m) (os : List Oid) (n : ℕ) → Here m h stopped k p longest low_at many tail most kind s → d.next ≡ c.next → d.stand ≡ p → makes m w.command ≡ true → length os ≤ most
       → suc (round m h stopped k p longest low_at many tail most kind wide) + suc longest ≤ n → Goes m h stopped k p (MakesStage m h stopped k p longest low_at many tail most kind) s (given m c (syncs m d w os)) [] n
   syncs_makes s c d w os n here up stand such short few =
       let a = budget_within m h stopped k p longest low_at many tail most kind d.cells in
-      let b = passes_within m h stopped k p longest low_at many tail most kind w.gone d.view in
-      let z = at_most kind.trims (longest + rest m h stopped k p longest low_at many tail most kind (length os) w.gone (seen d.view)) in
-      let goes = sync_begins m h stopped k p longest low_at many tail most kind (making_way m) s c d w os (suc (round m h stopped k p longest low_at many tail most kind wide)) up stand such short here (omega (arith, a, b, z, short)) in
+      let z = trims_within m h stopped k p longest low_at many tail most kind (length os) w.gone d.view short in
+      let goes = sync_begins m h stopped k p longest low_at many tail most kind (making_way m) s c d w os (suc (round m h stopped k p longest low_at many tail most kind wide)) up stand such short here (omega (arith, a, z)) in
       let fewer = goes.less in
       record { os = goes.os; left = goes.left + suc longest; sends = goes.sends; stage = inl (record { left = goes.left; stage = goes.stage; few = omega arith }); less = omega (arith, fewer, few) }
 
-module _ (m : Meaning) (h : Header) (stopped : List NodeId) (k : ℕ) (p : Layout) (longest : ℕ) (low_at : ℕ → ℕ) (many tail most : ℕ) (kind : Kind low_at p (suc tail)) (wide : 128 ≤ most) where
+module _ (m : Meaning) (h : Header) (stopped : List NodeId) (k : ℕ) (p : Layout) (longest : ℕ) (low_at : ℕ → ℕ) (many tail most : ℕ) (kind : Kind low_at p) (wide : 128 ≤ most) where
   -- what comes behind the record
   abbrev pub behind : ℕ
   behind = suc (round m h stopped k p longest low_at many (suc tail) most kind wide) + suc longest

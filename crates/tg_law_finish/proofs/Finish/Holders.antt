@@ -40,13 +40,13 @@ use Rattle.tg_law_finish.proofs.Finish.Talks.{One, More, Asked, Machine, one_tal
 use Rattle.tg_law_finish.proofs.Finish.Trails.{Low}
 use Rattle.tg_law_finish.proofs.Finish.Writers.{again_is, calm_shape, new_drawn, unit_away, seqr_away, awaited_itself, unit_no_client, same_out}
 
-module _ (m : Meaning) (h : Header) (stopped : List NodeId) (k : ℕ) (p : Layout) (longest : ℕ) (low_at : ℕ → ℕ) (many tail most : ℕ) (kind : Kind low_at p tail) (next_kind : Kind low_at p (suc tail)) where
+module _ (m : Meaning) (h : Header) (stopped : List NodeId) (k : ℕ) (p : Layout) (longest : ℕ) (low_at : ℕ → ℕ) (many tail most : ℕ) (kind : Kind low_at p) where
   -- the tail as it is, and what a token needs
   abbrev pub HereNow : Net m → Type 0
   HereNow s = Here m h stopped k p longest low_at many tail most kind s
 
   abbrev pub CanGrow : Net m → Entry → Type 0
-  CanGrow s d = Before m h stopped k p longest low_at many tail most next_kind s d
+  CanGrow s d = Before m h stopped k p longest low_at many tail most kind s d
 
   abbrev Good' : Net m → Place → Type 0
   Good' s pl = GoodAt m h stopped k p longest low_at many s pl
@@ -236,7 +236,7 @@ module _ (m : Meaning) (h : Header) (stopped : List NodeId) (k : ℕ) (p : Layou
     place = x.place;
     less = x.less;
     here = here_keeps m h stopped k p longest low_at many tail most kind s t keep x.here;
-    grows = before_keeps m h stopped k p longest low_at many tail most next_kind s t a.draft keep x.grows;
+    grows = before_keeps m h stopped k p longest low_at many tail most kind s t a.draft keep x.grows;
   }
 
   stage_keeps : (s t : Net m) (a : Append) (y : AppendWork) (n : ℕ) → Keeps m h stopped k p s t → HoldStage s a y n → HoldStage t a y n
@@ -271,7 +271,7 @@ module _ (m : Meaning) (h : Header) (stopped : List NodeId) (k : ℕ) (p : Layou
   well_keeps : (s t : Net m) (n next : ℕ) (x : AppendTurn) → Keeps m h stopped k p s t → Well s n next x → Well t n next x
   well_keeps s t n next x keep (IsLost gone e l) = IsLost gone e l
   well_keeps s t n next x keep (IsAt pos page here) = IsAt pos page (here_keeps m h stopped k p longest low_at many tail most kind s t keep here)
-  well_keeps s t n next x keep (AsksAnew d grows) = AsksAnew d (before_keeps m h stopped k p longest low_at many tail most next_kind s t d keep grows)
+  well_keeps s t n next x keep (AsksAnew d grows) = AsksAnew d (before_keeps m h stopped k p longest low_at many tail most kind s t d keep grows)
   well_keeps s t n next x keep (GoesOn a u z left asks stage few) = GoesOn a u z left asks (stage_keeps s t a a.work left keep stage) few
 
   abbrev with_token : Append → Token → AppendWork → Append
@@ -376,17 +376,17 @@ module _ (m : Meaning) (h : Header) (stopped : List NodeId) (k : ℕ) (p : Layou
   -- The client.
 
   abbrev Mine : Client m → Append → Out → Type 0
-  Mine c a o = Own m h stopped k p longest low_at many tail most next_kind c a o
+  Mine c a o = Own m h stopped k p longest low_at many tail most kind c a o
 
   pub record Holding (s : Net m) (c : Client m) (o : Out) (n : ℕ) : Type 0 where
     pub append : Append
-    pub own : Own m h stopped k p longest low_at many tail most next_kind c append o
+    pub own : Own m h stopped k p longest low_at many tail most kind c append o
     pub stage : HoldStage s append append.work n
 
   pub record Hearing (s : Net m) (c : Client m) (from : NodeId) (rid : ℕ) (y : Msg) (n : ℕ) : Type 0 where
     pub append : Append
     pub o : Out
-    pub own : Own m h stopped k p longest low_at many tail most next_kind c append o
+    pub own : Own m h stopped k p longest low_at many tail most kind c append o
     pub awaited : awaits (o ∷ []) from rid ≡ true
     pub no_latest : is_latest (reply y) ≡ false
     pub well : (u next : ℕ) → Well s n next (append_feed p append append.work u (reply y) next)
@@ -395,7 +395,7 @@ module _ (m : Meaning) (h : Header) (stopped : List NodeId) (k : ℕ) (p : Layou
   pub data HoldEnds (s : Net m) (c : Client m) (t : ClientTurn m) (n : ℕ) : Type 0 where
     HoldOver : IsOver m h stopped k p t → HoldEnds s c t n
     HoldSyncs : (d : Client m) (w : Work m) (os : List Oid) → HereNow s → d.next ≡ c.next → d.stand ≡ p → makes m w.command ≡ true → length os ≤ most → t ≡ given m c (syncs m d w os) → HoldEnds s c t n
-    HoldAsks : (o : Out) → t.sends ≡ o ∷ [] → Owning m h stopped k p longest low_at many tail most next_kind s t.now o longest → HoldEnds s c t n
+    HoldAsks : (o : Out) → t.sends ≡ o ∷ [] → Owning m h stopped k p longest low_at many tail most kind s t.now o longest → HoldEnds s c t n
 
   abbrev Comes : Net m → Client m → ClientTurn m → ℕ → Type 0
   Comes s c t n = HoldEnds s c t n ⊎ More m h stopped k p Holding Hearing s t n
@@ -404,7 +404,7 @@ module _ (m : Meaning) (h : Header) (stopped : List NodeId) (k : ℕ) (p : Layou
   unfolding client_asks task_asks append_work_asks
   turned s c a o x t n (IsLost gone e l) =
       let f = lost_over m (record c { next = c.next }) (record x.shape.work { gone = max x.shape.work.gone gone }) e l in
-      inl (HoldOver (now_over m h stopped k p longest low_at many tail most next_kind c _ f.0 f.1))
+      inl (HoldOver (now_over m h stopped k p longest low_at many tail most kind c _ f.0 f.1))
   turned s c a o x t n (IsAt pos page here) = inl (HoldSyncs (owns m (record c { next = c.next }) pos page) (record x.shape.work { gone = max x.shape.work.gone 0; at = pos }) c.hosted here refl x.shape.stand x.such x.hosted refl)
   turned s c a o x t n (AsksAnew d grows) =
       let q = out (seqr_id p.seq) c.next (msg.Token p.epoch (streams_of d)) in
@@ -431,7 +431,7 @@ module _ (m : Meaning) (h : Header) (stopped : List NodeId) (k : ℕ) (p : Layou
   answered : (s : Net m) (c : Client m) (from : NodeId) (rid : ℕ) (y : Msg) (n : ℕ) → Hearing s c from rid y n → Comes s c (client_deliver m c from rid y) n
   unfolding client_deliver
   answered s c from rid y n g =
-      subst (λ (z : Moved m). Comes s c (given m c z) n) (sym (own_fed m h stopped k p longest low_at many tail most next_kind c g.append g.o from rid (reply y) g.own.shape g.own.judged g.awaited g.no_latest))
+      subst (λ (z : Moved m). Comes s c (given m c z) n) (sym (own_fed m h stopped k p longest low_at many tail most kind c g.append g.o from rid (reply y) g.own.shape g.own.judged g.awaited g.no_latest))
       (turned s c g.append g.o g.own (append_feed p g.append g.append.work from.num (reply y) c.next) n (g.well from.num c.next))
 
   abbrev Told' : Net m → Out → ℕ → Type 0
@@ -456,7 +456,7 @@ module _ (m : Meaning) (h : Header) (stopped : List NodeId) (k : ℕ) (p : Layou
         hears = record {
           append = a;
           o = q;
-          own = own_at m h stopped k p longest low_at many tail most next_kind _ a q o e own;
+          own = own_at m h stopped k p longest low_at many tail most kind _ a q o e own;
           awaited = awaited_itself m h stopped k p longest q;
           no_latest = f.no_latest;
           well = f.well;
@@ -469,9 +469,9 @@ module _ (m : Meaning) (h : Header) (stopped : List NodeId) (k : ℕ) (p : Layou
     hears_calm = λ s c from rid y n x. record { work = x.own.shape.work; waits = x.own.shape.waits; calm = calm_shape m h stopped k p longest c x.append x.o x.own.shape };
     stage_stays = λ s t c o n keep x. record { append = x.append; own = x.own; stage = stage_keeps s t x.append x.append.work n keep x.stage };
     hears_stays = λ s t c from rid y n keep x. record { append = x.append; o = x.o; own = x.own; awaited = x.awaited; no_latest = x.no_latest; well = λ u next. well_keeps s t n next _ keep (x.well u next) };
-    stage_called = λ s c o n x. record { append = x.append; own = own_called m h stopped k p longest low_at many tail most next_kind c x.append o x.own; stage = x.stage };
-    hears_called = λ s c from rid y n x. record { append = x.append; o = x.o; own = own_called m h stopped k p longest low_at many tail most next_kind c x.append x.o x.own; awaited = x.awaited; no_latest = x.no_latest; well = x.well };
-    stage_ticked = λ s c o n x. record { append = x.append; own = own_ticked m h stopped k p longest low_at many tail most next_kind c x.append o x.own; stage = x.stage };
+    stage_called = λ s c o n x. record { append = x.append; own = own_called m h stopped k p longest low_at many tail most kind c x.append o x.own; stage = x.stage };
+    hears_called = λ s c from rid y n x. record { append = x.append; o = x.o; own = own_called m h stopped k p longest low_at many tail most kind c x.append x.o x.own; awaited = x.awaited; no_latest = x.no_latest; well = x.well };
+    stage_ticked = λ s c o n x. record { append = x.append; own = own_ticked m h stopped k p longest low_at many tail most kind c x.append o x.own; stage = x.stage };
     asked = λ s o n fair ready x. asked s x.append o n x.own.shape.asks ready x.own x.stage;
     answered = λ s from rid y n ready x. answered s (client_of m h s k) from rid y n x;
   }

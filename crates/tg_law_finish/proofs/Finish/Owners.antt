@@ -55,7 +55,7 @@ module _ (m : Meaning) where
   lost_over c w (Full b) l = (refl, refl)
   lost_over c w (Forgotten p b) l = (refl, refl)
 
-module _ (m : Meaning) (h : Header) (stopped : List NodeId) (k : ℕ) (p : Layout) (longest : ℕ) (low_at : ℕ → ℕ) (many tail most : ℕ) (kind : Kind low_at p (suc tail)) where
+module _ (m : Meaning) (h : Header) (stopped : List NodeId) (k : ℕ) (p : Layout) (longest : ℕ) (low_at : ℕ → ℕ) (many tail most : ℕ) (kind : Kind low_at p) where
   -- what the reads need, once the position is issued
   abbrev pub Then : Net m → Type 0
   Then s = Here m h stopped k p longest low_at many (suc tail) most kind s

@@ -19,22 +19,22 @@ use Rattle.tg_law_finish.proofs.Finish.Others.{Ready}
 use Rattle.tg_law_finish.proofs.Finish.Rescuing.{round}
 use Rattle.tg_law_finish.proofs.Finish.Talks.{Request}
 
-module _ (m : Meaning) (h : Header) (stopped : List NodeId) (k : ℕ) (p : Layout) (longest : ℕ) (low_at : ℕ → ℕ) (many tail most : ℕ) (kind : Kind low_at p tail) (next_kind : Kind low_at p (suc tail)) (wide : 128 ≤ most) where
+module _ (m : Meaning) (h : Header) (stopped : List NodeId) (k : ℕ) (p : Layout) (longest : ℕ) (low_at : ℕ → ℕ) (many tail most : ℕ) (kind : Kind low_at p) (wide : 128 ≤ most) where
   -- another token, and what comes behind it
   abbrev pub anew : ℕ
-  anew = suc (longest + behind m h stopped k p longest low_at many tail most next_kind wide)
+  anew = suc (longest + behind m h stopped k p longest low_at many tail most kind wide)
 
   abbrev First : StageOf m h stopped k p
-  First = Roomy m h stopped k p (HoldsStage m h stopped k p longest low_at many tail most kind next_kind) (HoldEnds m h stopped k p longest low_at many tail most kind next_kind) anew
+  First = Roomy m h stopped k p (HoldsStage m h stopped k p longest low_at many tail most kind) (HoldEnds m h stopped k p longest low_at many tail most kind) anew
 
   abbrev FirstEnd : ExitOf m h stopped k p
-  FirstEnd = RoomyExit m h stopped k p (HoldsStage m h stopped k p longest low_at many tail most kind next_kind) (HoldEnds m h stopped k p longest low_at many tail most kind next_kind) anew
+  FirstEnd = RoomyExit m h stopped k p (HoldsStage m h stopped k p longest low_at many tail most kind) (HoldEnds m h stopped k p longest low_at many tail most kind) anew
 
   abbrev Synced : StageOf m h stopped k p
   Synced = MakesStage m h stopped k p longest low_at many tail most kind
 
   abbrev Anew : StageOf m h stopped k p
-  Anew = EndStage m h stopped k p longest low_at many tail most next_kind wide
+  Anew = EndStage m h stopped k p longest low_at many tail most kind wide
 
   abbrev Ended : ExitOf m h stopped k p
   Ended = Over m h stopped k p
@@ -46,20 +46,20 @@ module _ (m : Meaning) (h : Header) (stopped : List NodeId) (k : ℕ) (p : Layou
   RecordStage = Either m h stopped k p First Second FirstEnd Ended
 
   second_talk : Talk m h stopped k p Second Ended
-  second_talk = joined m h stopped k p Synced Anew Ended Ended (makes_talk m h stopped k p longest low_at many tail most kind) (ends_talk m h stopped k p longest low_at many tail most next_kind wide) (λ s c t n ready over. inl over)
+  second_talk = joined m h stopped k p Synced Anew Ended Ended (makes_talk m h stopped k p longest low_at many tail most kind) (ends_talk m h stopped k p longest low_at many tail most kind wide) (λ s c t n ready over. inl over)
 
   -- a sync at the tail as it is takes no more
   sooner : suc (round m h stopped k p longest low_at many tail most kind wide) + suc longest ≤ anew
   sooner =
       let a = round_long m h stopped k p longest low_at many tail most kind wide in
-      let b = round_long m h stopped k p longest low_at many (suc tail) most next_kind wide in
+      let b = round_long m h stopped k p longest low_at many (suc tail) most kind wide in
       let e = mul-suc (longest + 1) tail in
       omega (arith, a, b, e)
 
   record_begins : (s : Net m) (c : Client m) (t : ClientTurn m) (n : ℕ) → Ready m h stopped k p s → FirstEnd s c t n → Ended s c t n ⊎ Goes m h stopped k p Second s t [] n
   record_begins s c t n ready e = by e.exit
     where
-      by : HoldEnds m h stopped k p longest low_at many tail most kind next_kind s c t e.left → Ended s c t n ⊎ Goes m h stopped k p Second s t [] n
+      by : HoldEnds m h stopped k p longest low_at many tail most kind s c t e.left → Ended s c t n ⊎ Goes m h stopped k p Second s t [] n
       by (HoldOver over) = inl over
       by (HoldSyncs d w os here up stand such short is) =
           let few = e.few in
@@ -70,7 +70,7 @@ module _ (m : Meaning) (h : Header) (stopped : List NodeId) (k : ℕ) (p : Layou
           let few = e.few in
           inr (record {
             os = o ∷ [];
-            left = longest + behind m h stopped k p longest low_at many tail most next_kind wide;
+            left = longest + behind m h stopped k p longest low_at many tail most kind wide;
             sends = sends;
             stage = inr (inl (record { left = longest; stage = Request o longest owning; few = omega arith }));
             less = omega (arith, few);
@@ -78,5 +78,5 @@ module _ (m : Meaning) (h : Header) (stopped : List NodeId) (k : ℕ) (p : Layou
 
   pub record_talk : Talk m h stopped k p RecordStage Ended
   record_talk = joined m h stopped k p First Second FirstEnd Ended
-      (roomy m h stopped k p (HoldsStage m h stopped k p longest low_at many tail most kind next_kind) (HoldEnds m h stopped k p longest low_at many tail most kind next_kind) anew (holds_talk m h stopped k p longest low_at many tail most kind next_kind))
+      (roomy m h stopped k p (HoldsStage m h stopped k p longest low_at many tail most kind) (HoldEnds m h stopped k p longest low_at many tail most kind) anew (holds_talk m h stopped k p longest low_at many tail most kind))
       second_talk record_begins

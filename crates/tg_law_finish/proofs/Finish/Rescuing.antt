@@ -20,12 +20,12 @@ use Rattle.tg_law_finish.proofs.Finish.Nets.{Net}
 use Rattle.tg_law_finish.proofs.Finish.Others.{Ready}
 use Rattle.tg_law_finish.proofs.Finish.Readers.{seen}
 use Rattle.tg_law_finish.proofs.Finish.Rescuers.{Rescues', RescueEnds, RescueGrows, rescuing_way, one_more}
-use Rattle.tg_law_finish.proofs.Finish.Waited.{budget_within, passes_within}
+use Rattle.tg_law_finish.proofs.Finish.Waited.{budget_within, trims_within}
 
-module _ (m : Meaning) (h : Header) (stopped : List NodeId) (k : ℕ) (p : Layout) (longest : ℕ) (low_at : ℕ → ℕ) (many tail most : ℕ) (kind : Kind low_at p tail) (wide : 128 ≤ most) where
+module _ (m : Meaning) (h : Header) (stopped : List NodeId) (k : ℕ) (p : Layout) (longest : ℕ) (low_at : ℕ → ℕ) (many tail most : ℕ) (kind : Kind low_at p) (wide : 128 ≤ most) where
   -- what a sync and its walks may cost, whatever is known
   abbrev pub round : ℕ
-  round = longest + budget m h stopped k p longest low_at many tail most kind tail + (longest + (most + passes m h stopped k p longest low_at many tail most kind (many + 1)))
+  round = longest + budget m h stopped k p longest low_at many tail most kind tail + extra kind.trims (longest + (most + passes m h stopped k p longest low_at many tail most kind (kind.floors + 1)))
 
   -- where so many streams may still join
   abbrev pub for_rounds : ℕ → ℕ
@@ -85,15 +85,10 @@ module _ (m : Meaning) (h : Header) (stopped : List NodeId) (k : ℕ) (p : Layou
       let os = with_oid o w.oids in
       let long = one_more o w.oids none in
       let a = budget_within m h stopped k p longest low_at many tail most kind d.cells in
-      let b = passes_within m h stopped k p longest low_at many tail most kind w.gone d.view in
-      let z = at_most kind.trims (longest + rest m h stopped k p longest low_at many tail most kind (length os) w.gone (seen d.view)) in
-      let goes = sync_begins m h stopped k p longest low_at many tail most kind (rescuing_way m j) s c d w os (suc round) up stand (is, omega (arith, room, long)) (omega (arith, long, less, wide)) here (omega (arith, a, b, z, long, less, wide)) in
+      let z = trims_within m h stopped k p longest low_at many tail most kind (length os) w.gone d.view (omega (arith, long, less, wide)) in
+      let goes = sync_begins m h stopped k p longest low_at many tail most kind (rescuing_way m j) s c d w os (suc round) up stand (is, omega (arith, room, long)) (omega (arith, long, less, wide)) here (omega (arith, a, z)) in
       let fewer = goes.less in
       record { os = goes.os; left = goes.left + for_rounds j; sends = goes.sends; stage = first_stage j s (given m c (syncs m d w os)).now ([] ++ asks goes.os) (goes.left + for_rounds j) (record { left = goes.left; stage = goes.stage; few = omega arith }); less = omega (arith, fewer, few) }
-    where
-      at_most : (b : Bool) (n : ℕ) → extra b n ≤ n
-      at_most true n = omega arith
-      at_most false n = omega arith
 
   more_begins : (j : ℕ) (s : Net m) (c : Client m) (t : ClientTurn m) (n : ℕ) → Ready m h stopped k p s → FirstEnd (suc j) s c t n → Over' s c t n ⊎ Goes m h stopped k p (Either m h stopped k p Writes (RescueStage j) Over' Over') s t [] n
   more_begins j s c t n ready e =

@@ -21,7 +21,7 @@ use Rattle.tg_protocol.specs.Clients.{Task, Syncing, Walking, Appending, Trimmin
 use Rattle.tg_protocol.specs.ClientSteps.{task_asks, task_awaited, task_again_asks}
 use Rattle.tg_protocol.specs.Worlds.{World, unit, seqr, client}
 use Rattle.tg_law_layouts.proofs.Moves.Members.{Has}
-use Rattle.tg_law_finish.proofs.Finish.Askers.{Distinct, Kind, above, budget, budget_less, passes, passes_less, WalkStage, SyncStage, sort_of}
+use Rattle.tg_law_finish.proofs.Finish.Askers.{Distinct, Kind, extra, extra_less, extra_is, above, budget, budget_less, passes, passes_less, WalkStage, SyncStage, sort_of}
 use Rattle.tg_law_finish.proofs.Finish.Askings.{Reads, AsksOne, ProbesAll, IsSuch, look, looks}
 use Rattle.tg_law_finish.proofs.Finish.AtOnce.{long_asked, each_to, all_away}
 use Rattle.tg_law_finish.proofs.Finish.Asking as asking
@@ -36,8 +36,8 @@ use Rattle.tg_law_finish.proofs.Finish.Readers.{Way, seen}
 use Rattle.tg_law_finish.proofs.Finish.Readings.{CellStage, Sort}
 use Rattle.tg_law_finish.proofs.Finish.Tasks.{TaskShape, Below, Away}
 use Rattle.tg_law_finish.proofs.Finish.Trails.{unknown, unknown_less, Low}
-use Rattle.tg_law_finish.proofs.Finish.Waited.{few_unknown, few_above, few_seen}
-use Rattle.tg_law_finish.proofs.Finish.Waits.{trims_kind, here, good, looked, all_low}
+use Rattle.tg_law_finish.proofs.Finish.Waited.{for_trims, few_unknown, few_seen}
+use Rattle.tg_law_finish.proofs.Finish.Waits.{world_kind, here, good, looked, all_low}
 use Rattle.tg_law_finish.proofs.Finish.Working.{Working, Lawful, at_chain}
 use Rattle.tg_law_finish.proofs.Finish.Writers.{unit_away, seqr_away}
 
@@ -47,14 +47,11 @@ itself n = omega arith
 one_fewer : (a b n p : ℕ) → a + b + (n + p) ≤ a + b + (suc n + p)
 one_fewer a b n p = omega arith
 
-within_one : (n x y s t z c most : ℕ) → x ≤ t → y ≤ z → s ≤ most → n ≤ c → 1 + (n + x + (c + (s + y))) ≤ suc (c + t + (c + (most + z)))
-within_one n x y s t z c most a b d e = omega (arith, a, b, d, e)
+within_one : (n x y t z c : ℕ) → x ≤ t → y ≤ z → n ≤ c → 1 + (n + x + y) ≤ suc (c + t + z)
+within_one n x y t z c a b d = omega (arith, a, b, d)
 
-within_all : (n x y s t z c most : ℕ) → x ≤ t → y ≤ z → s ≤ most → n ≤ c → n + (x + (s + y)) ≤ suc (c + t + (c + (most + z)))
-within_all n x y s t z c most a b d e = omega (arith, a, b, d, e)
-
-within_walk : (n x y i s t z c most : ℕ) → x ≤ t → y ≤ z → s ≤ most → n ≤ c → i < s → 1 + (n + x + (suc i + y)) ≤ suc (c + t + (c + (most + z)))
-within_walk n x y i s t z c most a b d e f = omega (arith, a, b, d, e, f)
+within_all : (n x y t z c : ℕ) → x ≤ t → y ≤ z → n ≤ c → n + (x + y) ≤ suc (c + t + z)
+within_all n x y t z c a b d = omega (arith, a, b, d)
 
 pub each_has : (P : Out → Type 0) (os : List Out) → ((o : Out) → Has os o → P o) → Each P os
 each_has P [] f = tt
@@ -73,8 +70,8 @@ module _ (m : Meaning) (w : World m) (k : ℕ) (p : Layout) (longest : ℕ) (a :
   abbrev many : ℕ
   many = length w.units
 
-  abbrev kind : Kind (λ n. (unit m w n).low) p (seqr m w p.seq).next
-  kind = trims_kind m w k p longest a b u
+  abbrev kind : Kind (λ n. (unit m w n).low) p
+  kind = world_kind m w k p longest a b u
 
   abbrev s : Net m
   s = net m w
@@ -151,9 +148,12 @@ module _ (m : Meaning) (w : World m) (k : ℕ) (p : Layout) (longest : ℕ) (a :
     abbrev Passes : ℕ → ℕ
     Passes n = passes m w.cluster w.stopped k p longest low_at many tail most kind n
 
+    abbrev Trims : ℕ
+    Trims = for_trims m w.cluster w.stopped k p longest low_at many tail most kind
+
     -- what a sync and its walks take at most
     abbrev pub all_left : ℕ
-    all_left = longest + (longest + 1) * tail + (longest + (most + (2 * longest + 1 + most) * (many + 1)))
+    all_left = longest + (longest + 1) * tail + Trims
 
     is_budget : (t : ℕ) → Budget t ≡ (longest + 1) * t
     is_budget zero = sym (mul-zero (longest + 1))
@@ -169,12 +169,12 @@ module _ (m : Meaning) (w : World m) (k : ℕ) (p : Layout) (longest : ℕ) (a :
         let g = budget_less m w.cluster w.stopped k p longest low_at many tail most kind (unknown cells tail) tail (few_unknown cells tail) in
         omega (arith, e, g)
 
-    all_pass : (g : ℕ) → Passes (above low_at g many + seen c.view) ≤ (2 * longest + 1 + most) * (many + 1)
+    all_pass : (g : ℕ) → Passes (above low_at g many + seen c.view) ≤ (2 * longest + 1 + most) * (kind.floors + 1)
     all_pass g =
-        let e = is_passes (many + 1) in
-        let x = few_above low_at g many in
+        let e = is_passes (kind.floors + 1) in
+        let x = kind.few g many in
         let y = few_seen m c.view in
-        let z = passes_less m w.cluster w.stopped k p longest low_at many tail most kind (above low_at g many + seen c.view) (many + 1) (omega (arith, x, y)) in
+        let z = passes_less m w.cluster w.stopped k p longest low_at many tail most kind (above low_at g many + seen c.view) (kind.floors + 1) (omega (arith, x, y)) in
         omega (arith, e, z)
 
     module _ (way : Way m) (f : asking.Reads m w k p) (such : way.Is f.work.command (length f.work.oids)) (few : length f.work.oids ≤ most) where
@@ -217,6 +217,9 @@ module _ (m : Meaning) (w : World m) (k : ℕ) (p : Layout) (longest : ℕ) (a :
       abbrev after : ℕ
       after = length f.work.oids + for_passes
 
+      room : (n : ℕ) → n ≤ longest + after → extra kind.trims n ≤ Trims
+      room n le = let y = all_pass f.work.gone_before in extra_less kind.trims n (longest + (most + (2 * longest + 1 + most) * (kind.floors + 1))) (omega (arith, le, y, few))
+
       lows : (ls : List StreamLink) → LastsBelow m w p ls → (o : Oid) → Low p tail (backs_of (link_of o ls))
       lows ls l o = all_low p tail _ (l o)
 
@@ -225,9 +228,7 @@ module _ (m : Meaning) (w : World m) (k : ℕ) (p : Layout) (longest : ℕ) (a :
       check_start sy r is hand below =
           let o = out (seqr_id p.seq) r (msg.Check p.epoch sy.oids) in
           let e = ap (λ y. sync_work_asks p sy y) is in
-          let left = longest + for_reads + (longest + after) in
-          let x = all_read c.cells in
-          let y = all_pass f.work.gone_before in
+          let left = longest + for_reads + extra kind.trims (longest + after) in
           record {
             os = o ∷ [];
             left = left;
@@ -236,7 +237,7 @@ module _ (m : Meaning) (w : World m) (k : ℕ) (p : Layout) (longest : ℕ) (a :
               shape = shape (Syncing sy) (o ∷ []) hand e e e below ((λ l. seqr_away m w.cluster w.stopped k p longest p.seq l), tt);
               stage = (subst (λ (z : SyncWork). SyncStage m w.cluster w.stopped k p longest low_at many tail most kind s c.cells after sy z left) (sym is) (here m w k p longest a b u kind most, itself left), is_such);
             });
-            within = within_one longest for_reads for_passes (length f.work.oids) ((longest + 1) * tail) ((2 * longest + 1 + most) * (many + 1)) longest most x y few (omega arith);
+            within = within_one longest for_reads (extra kind.trims (longest + after)) ((longest + 1) * tail) Trims longest (all_read c.cells) (room (longest + after) (itself (longest + after))) (itself longest);
           }
 
       settle_start : (sy : Sync) (z : Answer) (j : CellJob) → sy.work ≡ Settling z j → LastsBelow m w p z.lasts → JobStands m w p j → f.work.hand ≡ Doing (Syncing sy) → Below' (Syncing sy) → Started
@@ -246,9 +247,7 @@ module _ (m : Meaning) (w : World m) (k : ℕ) (p : Layout) (longest : ℕ) (a :
           let q = one_asked j.place j.place.pos j.work job.work in
           let o = out (unit_id q.0) q.1 q.2 in
           let e = ap (λ y. sync_work_asks p sy y) is ∙ q.3 in
-          let left = st.1 + for_reads + (longest + after) in
-          let x = all_read c.cells in
-          let y = all_pass f.work.gone_before in
+          let left = st.1 + for_reads + extra kind.trims (longest + after) in
           record {
             os = o ∷ [];
             left = left;
@@ -261,16 +260,14 @@ module _ (m : Meaning) (w : World m) (k : ℕ) (p : Layout) (longest : ℕ) (a :
                 is_such,
               );
             });
-            within = within_one st.1 for_reads for_passes (length f.work.oids) ((longest + 1) * tail) ((2 * longest + 1 + most) * (many + 1)) longest most x y few st.3;
+            within = within_one st.1 for_reads (extra kind.trims (longest + after)) ((longest + 1) * tail) Trims longest (all_read c.cells) (room (longest + after) (itself (longest + after))) st.3;
           }
 
       probe_start : (sy : Sync) (z : Answer) (j : CellJob) → sy.work ≡ Probing z j → LastsBelow m w p z.lasts → ProbeStands m p j → f.work.hand ≡ Doing (Syncing sy) → Below' (Syncing sy) → Started
       unfolding task_asks sync_work_asks work_asks
       probe_start sy z j is lasts g hand below =
           let e = ap (λ y. sync_work_asks p sy y) is ∙ ap (λ y. work_asks j.place y) g.work in
-          let left = for_reads + after in
-          let x = all_read c.cells in
-          let y = all_pass f.work.gone_before in
+          let left = for_reads + extra kind.trims after in
           let chain = subst (λ (pl : Place). length pl.chain ≤ longest) (sym g.place) (short_at j.place.pos) in
           record {
             os = looks m w.cluster w.stopped k p longest low_at many tail most kind way j.place g.waits;
@@ -295,7 +292,7 @@ module _ (m : Meaning) (w : World m) (k : ℕ) (p : Layout) (longest : ℕ) (a :
               such = is_such;
               few = itself left;
             });
-            within = within_all _ for_reads for_passes (length f.work.oids) ((longest + 1) * tail) ((2 * longest + 1 + most) * (many + 1)) longest most x y few
+            within = within_all _ for_reads (extra kind.trims after) ((longest + 1) * tail) Trims longest (all_read c.cells) (room after (omega arith))
                 (let n = long_asked (look m w.cluster w.stopped k p longest low_at many tail most kind way j.place) g.waits in let short = g.asked.short in omega (arith, n, short, chain));
           }
 
@@ -307,9 +304,8 @@ module _ (m : Meaning) (w : World m) (k : ℕ) (p : Layout) (longest : ℕ) (a :
           let q = one_asked j.place j.place.pos j.work g.stands.work in
           let o = out (unit_id q.0) q.1 q.2 in
           let e = ap (λ y. job_asks y) g.has ∙ q.3 in
-          let left = st.1 + Budget (unknown v.cells tail) + (suc (length os) + for_passes) in
-          let x = all_read v.cells in
-          let y = all_pass f.work.gone_before in
+          let walked = suc (length os) + for_passes in
+          let left = st.1 + Budget (unknown v.cells tail) + extra kind.trims walked in
           let fewer = g.fewer in
           record {
             os = o ∷ [];
@@ -329,12 +325,12 @@ module _ (m : Meaning) (w : World m) (k : ℕ) (p : Layout) (longest : ℕ) (a :
                   left = unknown v.cells tail;
                   fewer = λ d. unknown_less v.cells j.place.pos d tail;
                   few = itself left;
-                  gone = λ d t. one_fewer st.1 (Budget (unknown v.cells tail)) (length os) for_passes;
+                  gone = λ d t. subst (λ n. st.1 + Budget (unknown v.cells tail) + (length os + for_passes) ≤ st.1 + Budget (unknown v.cells tail) + n) (sym (extra_is kind.trims walked t)) (one_fewer st.1 (Budget (unknown v.cells tail)) (length os) for_passes);
                 }),
                 record { asks = such; lasts = lows f.work.lasts g.lasts; few = few },
               );
             });
-            within = within_walk st.1 (Budget (unknown v.cells tail)) for_passes (length os) (length f.work.oids) ((longest + 1) * tail) ((2 * longest + 1 + most) * (many + 1)) longest most x y few st.3 fewer;
+            within = within_one st.1 (Budget (unknown v.cells tail)) (extra kind.trims walked) ((longest + 1) * tail) Trims longest (all_read v.cells) (room walked (omega (arith, fewer))) st.3;
           }
 
       sync_start : (sy : Sync) (y : SyncWork) → sy.work ≡ y → SyncStands m w p y → f.work.hand ≡ Doing (Syncing sy) → Below' (Syncing sy) → Started

@@ -28,13 +28,13 @@ use Rattle.tg_law_headline.specs.Issues.Issues.{TrimsInTime}
 use Rattle.tg_law_headline.specs.Trims.Spare.{TrimsAre}
 use Rattle.tg_law_headline.proofs.Runs.Holding.{logs_hold}
 use Rattle.tg_law_finish.specs.Finish.Alone.{IsAlone}
-use Rattle.tg_law_finish.specs.Finish.Anywhere.{HasTask, CommandWalks}
+use Rattle.tg_law_finish.specs.Finish.Anywhere.{HasTask, CommandWalks, CalmCommand, LongCommand}
 use Rattle.tg_law_finish.specs.Finish.Appends.{is_last, WaitsForAppend}
 use Rattle.tg_law_finish.specs.Finish.Commands.{is_ask, plays}
 use Rattle.tg_law_finish.specs.Finish.Copies.{CopyFinishes}
 use Rattle.tg_law_finish.specs.Finish.Granted.{Granted}
 use Rattle.tg_law_finish.proofs.Finish.AtWork.{ready_clients_work}
-use Rattle.tg_law_finish.proofs.Finish.Answered.{within, same_command, record_below, record_walks, append_answered, append_in_time, ask_answered, ask_in_time, make_answered, make_in_time, ask_walks, make_walks, rescue_walks, token_below, end_walks, trim_walks, units_trim, task_below, copy_walks}
+use Rattle.tg_law_finish.proofs.Finish.Answered.{within, same_command, record_below, record_walks, append_answered, append_in_time, ask_calm, make_calm, few_streams, Allows, allows_all, allows_few, allows_calm, ask_walks, make_walks, rescue_walks, token_below, end_walks, trim_walks, units_trim, task_below, copy_walks}
 use Rattle.tg_law_finish.proofs.Finish.Standing.{next_near, limit_below, working}
 use Rattle.tg_law_finish.specs.Finish.Laws.{IsAnswered}
 use Rattle.tg_law_finish.specs.Finish.Makes.{makes, MakeFinishes}
@@ -43,7 +43,8 @@ use Rattle.tg_law_finish.specs.Finish.Ends.{EndsAppend, EndFinishes, EndsRecord,
 use Rattle.tg_law_finish.specs.Finish.Reads.{IsRead, WaitsForRead}
 use Rattle.tg_law_finish.specs.Finish.Rescues.{is_rescue, RescueWalks}
 use Rattle.tg_law_finish.specs.Finish.Trims.{IsTrim, trim_bound, TrimFinishes}
-use Rattle.tg_law_finish.specs.Finish.Walks.{passes_bound, streams, AskWalks, MakeWalks}
+use Rattle.tg_law_finish.specs.Finish.Walks.{floors, passes_bound, streams, AskWalks, MakeWalks}
+use Rattle.tg_law_finish.proofs.Finish.Waited.{pays_less}
 use Rattle.tg_law_finish.proofs.Finish.Asking.{HeldWhereTrimmed, Grows, Owns, TokenStands, TaskStands}
 use Rattle.tg_law_finish.proofs.Finish.Below.{greatest, past, trimmed_settled, lows_below, unwritten_past}
 use Rattle.tg_law_finish.proofs.Finish.Brought.{CopyShape, OfCommand}
@@ -102,16 +103,6 @@ module _ (m : Meaning) where
       let i = waits h zs r trims k x a b f in
       (append_answered m h zs (after m h zs) r k x a b g i, append_in_time m h zs (after m h zs) r k x a b g i)
 
-  ask_here : (h : Header) (zs : Moves m) → Reaches m h zs (after m h zs) → TrimsAre m h zs (after m h zs) → AskFinishes m (after m h zs)
-  ask_here h zs r trims k x a b u n f =
-      let g = granted h zs r trims k x a b in
-      (ask_answered m h zs (after m h zs) r k x a b g u n f, ask_in_time m h zs (after m h zs) r k x a b g u n f)
-
-  make_here : (h : Header) (zs : Moves m) → Reaches m h zs (after m h zs) → TrimsAre m h zs (after m h zs) → MakeFinishes m (after m h zs)
-  make_here h zs r trims k x a b u n f =
-      let g = granted h zs r trims k x a b in
-      (make_answered m h zs (after m h zs) r k x a b g u n f, make_in_time m h zs (after m h zs) r k x a b g u n f)
-
   -- what a unit of the latest layout's chains has trimmed is settled, so the others have it, or have trimmed it
   held_here : (h : Header) (zs : Moves m) (r : Reaches m h zs (after m h zs)) → TrimsAre m h zs (after m h zs) → IsServing (seqr m (after m h zs) (latest m (after m h zs)).seq) (latest m (after m h zs)).epoch
       → HeldWhereTrimmed m (after m h zs) (latest m (after m h zs))
@@ -149,6 +140,15 @@ module _ (m : Meaning) where
 
   make_walks_here : (h : Header) (zs : Moves m) → Reaches m h zs (after m h zs) → TrimsAre m h zs (after m h zs) → MakeWalks m (after m h zs)
   make_walks_here h zs r trims k x a b is f = make_walks m h zs (after m h zs) r k x a b (granted h zs r trims k x a b) (held_here h zs r trims b.serves) is f (stands_here h zs r trims k x a b f)
+
+  -- nothing is trimmed
+  ask_here : (h : Header) (zs : Moves m) → Reaches m h zs (after m h zs) → TrimsAre m h zs (after m h zs) → AskFinishes m (after m h zs)
+  ask_here h zs r trims k x a b u is f =
+      ask_calm m h zs (after m h zs) r k x a b (granted h zs r trims k x a b) u f (stands_here h zs r trims k x a b f) (subst (λ (y : CommandOf m). is_ask m y ≡ true) (same_command m h zs (after m h zs) r k x a f.work f.waits) is)
+
+  make_here : (h : Header) (zs : Moves m) → Reaches m h zs (after m h zs) → TrimsAre m h zs (after m h zs) → MakeFinishes m (after m h zs)
+  make_here h zs r trims k x a b u is f =
+      make_calm m h zs (after m h zs) r k x a b (granted h zs r trims k x a b) u f (stands_here h zs r trims k x a b f) (subst (λ (y : CommandOf m). makes m y ≡ true) (same_command m h zs (after m h zs) r k x a f.work f.waits) is)
 
   rescue_walks_here : (h : Header) (zs : Moves m) → Reaches m h zs (after m h zs) → TrimsAre m h zs (after m h zs) → RescueWalks m (after m h zs)
   rescue_walks_here h zs r trims k x a b is f = rescue_walks m h zs (after m h zs) r k x a b (granted h zs r trims k x a b) (held_here h zs r trims b.serves) is f (stands_here h zs r trims k x a b f)
@@ -297,26 +297,21 @@ module _ (m : Meaning) where
   judged_or_last (Saves o upto) = inr refl
   judged_or_last (Marks n o mark) = inr refl
 
-  more : (n z : ℕ) → n ≤ n + 129 * z
-  more n z = omega arith
-
-  one_more : (n z : ℕ) → n + z ≤ n + 129 * z
-  one_more n z = omega arith
-
   -- with a task in hand
-  works_here : (h : Header) (zs : Moves m) → Reaches m h zs (after m h zs) → TrimsAre m h zs (after m h zs) → AllTrims h → (k : ℕ) (x : CommandOf m) → IsAlone m (after m h zs) k x → IsReadyFor m (after m h zs) k → IsSpareReady m (after m h zs) x → NoReconf m x
-      → HasTask m (after m h zs) k → IsAnswered m (after m h zs) k (most_deliveries_in m (after m h zs) x + 129 * passes_bound m (after m h zs) 128)
-  works_here h zs r trims all k x a b spare such f = by f.task f.hand (subst (λ (y : CommandOf m). Suits m y f.task) (sym (same_command m h zs (after m h zs) r k x a f.work f.waits)) (suits h zs r trims k x a b f.work f.task f.waits f.hand))
+  works_here : (h : Header) (zs : Moves m) (r : Reaches m h zs (after m h zs)) → TrimsAre m h zs (after m h zs) → AllTrims h → (k : ℕ) (x : CommandOf m) (most : ℕ) → IsAlone m (after m h zs) k x → IsReadyFor m (after m h zs) k → IsSpareReady m (after m h zs) x → NoReconf m x
+      → Allows m h zs (after m h zs) r k x most → HasTask m (after m h zs) k → IsAnswered m (after m h zs) k most
+  works_here h zs r trims all k x most a b spare such room f = by f.task f.hand (subst (λ (y : CommandOf m). Suits m y f.task) (sym (same_command m h zs (after m h zs) r k x a f.work f.waits)) (suits h zs r trims k x a b f.work f.task f.waits f.hand))
     where
-      bound : ℕ
-      bound = most_deliveries_in m (after m h zs) x
+      -- its walks are over 128 streams at most
+      streams_few : (v : Work m) → (client m (after m h zs) k).work ≡ Some v → passes_bound m (after m h zs) (streams m v) ≤ passes_bound m (after m h zs) 128
+      streams_few v has = pays_less (longest_chain (latest m (after m h zs))) (streams m v) 128 (floors m (after m h zs)) (few_streams m h zs (after m h zs) r k v has)
 
-      trimmed : ℕ
-      trimmed = passes_bound m (after m h zs) 128
-
-      trims' : x ≡ cmd.Trim → (v : Work m) (t : Task m) → (client m (after m h zs) k).work ≡ Some v → v.hand ≡ Doing t → IsTrim m t → IsAnswered m (after m h zs) k (bound + 129 * trimmed)
-      trims' is v t has hand fits = within m k _ _ (after m h zs) _ (one_more bound trimmed)
-          (trim_here h zs r trims (λ ms v s. (all ms v s).in_time) k x a b (record { work = v; waits = has; command = sym (same_command m h zs (after m h zs) r k x a v has) ∙ is; task = t; hand = hand; trims = fits })).1
+      trims' : x ≡ cmd.Trim → (v : Work m) (t : Task m) → (client m (after m h zs) k).work ≡ Some v → v.hand ≡ Doing t → IsTrim m t → IsAnswered m (after m h zs) k most
+      trims' is v t has hand fits =
+          let few = streams_few v has in
+          let le = room.trims is in
+          within m k _ _ (after m h zs) _ (omega (arith, few, le))
+          (trim_here h zs r trims (λ ms v s. (all ms v s).in_time) k x a b (record { work = v; waits = has; command = sym (same_command m h zs (after m h zs) r k x a v has) ∙ is; task = t; hand = hand; trims = fits })).0
 
       is_trim : (t : Task m) → IsRead m t → IsTrim m t
       is_trim (Syncing y) is = tt
@@ -326,30 +321,41 @@ module _ (m : Meaning) where
       is_trim (Copying' y) is = absurd is
       is_trim (Reconfiguring y) is = absurd is
 
-      reads : plays m x ≡ true → WaitsForRead m (after m h zs) k → IsAnswered m (after m h zs) k (bound + 129 * trimmed)
+      reads : plays m x ≡ true → WaitsForRead m (after m h zs) k → IsAnswered m (after m h zs) k most
       reads play g = of (is_one x play)
         where
-          of : (is_ask m x ≡ true) ⊎ ((makes m x ≡ true) ⊎ ((is_rescue m x ≡ true) ⊎ (x ≡ cmd.Trim))) → IsAnswered m (after m h zs) k (bound + 129 * trimmed)
-          of (inl e) = within m k _ _ (after m h zs) _ (one_more bound trimmed) (ask_walks_here h zs r trims k x a b e g).1
-          of (inr (inl e)) = within m k _ _ (after m h zs) _ (one_more bound trimmed) (make_walks_here h zs r trims k x a b e g).1
-          of (inr (inr (inl e))) = (rescue_walks_here h zs r trims k x a b e g).1
+          of : (is_ask m x ≡ true) ⊎ ((makes m x ≡ true) ⊎ ((is_rescue m x ≡ true) ⊎ (x ≡ cmd.Trim))) → IsAnswered m (after m h zs) k most
+          of (inl e) = let few = streams_few g.work g.waits in let le = room.walks in within m k _ _ (after m h zs) _ (omega (arith, few, le)) (ask_walks_here h zs r trims k x a b e g).0
+          of (inr (inl e)) = let few = streams_few g.work g.waits in let le = room.walks in within m k _ _ (after m h zs) _ (omega (arith, few, le)) (make_walks_here h zs r trims k x a b e g).0
+          of (inr (inr (inl e))) = within m k _ _ (after m h zs) _ (room.rescues e (streams m g.work)) (rescue_walks_here h zs r trims k x a b e g).0
           of (inr (inr (inr e))) = trims' e g.work g.task g.waits g.hand (is_trim g.task g.reads)
 
-      appends : (y : Append) (z : Purpose m) → f.work.hand ≡ Doing (Appending y z) → (z ≡ Judged) ⊎ (is_last m z ≡ true) → IsAnswered m (after m h zs) k (bound + 129 * trimmed)
-      appends y z e (inl is) = within m k _ _ (after m h zs) _ (one_more bound trimmed) (record_here h zs r trims k x a b (record { work = f.work; waits = f.waits; append = y; hand = e ∙ ap (λ (i : Purpose m). Doing (Appending y i)) is })).1
-      appends y z e (inr is) = within m k _ _ (after m h zs) _ (more bound trimmed) (append_here h zs r trims k x a b (record { work = f.work; waits = f.waits; append = y; purpose = z; hand = e; last = is })).1
+      appends : (y : Append) (z : Purpose m) → f.work.hand ≡ Doing (Appending y z) → (z ≡ Judged) ⊎ (is_last m z ≡ true) → IsAnswered m (after m h zs) k most
+      appends y z e (inl is) = within m k _ _ (after m h zs) _ room.walks (record_here h zs r trims k x a b (record { work = f.work; waits = f.waits; append = y; hand = e ∙ ap (λ (i : Purpose m). Doing (Appending y i)) is })).0
+      appends y z e (inr is) = within m k _ _ (after m h zs) _ room.appends (append_here h zs r trims k x a b (record { work = f.work; waits = f.waits; append = y; purpose = z; hand = e; last = is })).0
 
-      by : (t : Task m) → f.work.hand ≡ Doing t → Suits m x t → IsAnswered m (after m h zs) k (bound + 129 * trimmed)
+      by : (t : Task m) → f.work.hand ≡ Doing t → Suits m x t → IsAnswered m (after m h zs) k most
       by (Syncing s) e fits = reads fits (record { work = f.work; waits = f.waits; task = Syncing s; hand = e; reads = tt })
       by (Walking y os) e fits = reads fits (record { work = f.work; waits = f.waits; task = Walking y os; hand = e; reads = tt })
       by (Appending y z) e fits = appends y z e (judged_or_last z)
       by (Trimming y) e fits = trims' fits f.work (Trimming y) f.waits e tt
-      by (Copying' y) e fits = within m k _ _ (after m h zs) _ (more bound trimmed) (copy_here h zs r trims all k x a b spare (record { work = f.work; waits = f.waits; copying = y; hand = e })).1
+      by (Copying' y) e fits = within m k _ _ (after m h zs) _ room.copies (copy_here h zs r trims all k x a b spare (record { work = f.work; waits = f.waits; copying = y; hand = e })).0
       by (Reconfiguring y) e fits = absurd (no_reconf m x such fits)
 
-  command_here : (h : Header) (zs : Moves m) → Reaches m h zs (after m h zs) → TrimsAre m h zs (after m h zs) → AllTrims h → CommandWalks m (after m h zs)
-  command_here h zs r trims all k x a b spare such = works_here h zs r trims all k x a b spare such
+  -- within whatever bound allows as much
+  allowed : (h : Header) (zs : Moves m) (r : Reaches m h zs (after m h zs)) → TrimsAre m h zs (after m h zs) → AllTrims h → (k : ℕ) (x : CommandOf m) (most : ℕ) → IsAlone m (after m h zs) k x → IsReadyFor m (after m h zs) k → IsSpareReady m (after m h zs) x → NoReconf m x
+      → (Granted m (after m h zs) → Allows m h zs (after m h zs) r k x most) → IsAnswered m (after m h zs) k most
+  allowed h zs r trims all k x most a b spare such room = works_here h zs r trims all k x most a b spare such (room (granted h zs r trims k x a b))
       (ready_clients_work m h zs (after m h zs) r k a.work a.waits b (subst (λ (y : CommandOf m). IsSpareReady m (after m h zs) y) (sym a.command) spare) (subst (λ (y : CommandOf m). NoReconf m y) (sym a.command) such))
+
+  command_here : (h : Header) (zs : Moves m) → Reaches m h zs (after m h zs) → TrimsAre m h zs (after m h zs) → AllTrims h → CommandWalks m (after m h zs)
+  command_here h zs r trims all k x a b spare such = allowed h zs r trims all k x _ a b spare such (allows_all m h zs (after m h zs) r k x a b)
+
+  calm_here : (h : Header) (zs : Moves m) → Reaches m h zs (after m h zs) → TrimsAre m h zs (after m h zs) → AllTrims h → CalmCommand m (after m h zs)
+  calm_here h zs r trims all k x a b spare such u = allowed h zs r trims all k x _ a b spare such (λ g. allows_calm m h zs (after m h zs) r k x a b g u)
+
+  long_here : (h : Header) (zs : Moves m) → Reaches m h zs (after m h zs) → TrimsAre m h zs (after m h zs) → AllTrims h → LongCommand m (after m h zs)
+  long_here h zs r trims all k x a b spare such long = allowed h zs r trims all k x _ a b spare such (λ g. allows_few m h zs (after m h zs) r k x a b g (inr long))
 
   -- over any kinds, where trims left what is needed
   pub append_where : (h : Header) (zs : Moves m) (w : World m) → Reaches m h zs w → TrimsAre m h zs w → AppendFinishes m w
@@ -384,6 +390,18 @@ module _ (m : Meaning) where
 
   pub command_where : (h : Header) (zs : Moves m) (w : World m) → Reaches m h zs w → TrimsAre m h zs w → AllTrims h → CommandWalks m w
   command_where h zs w r trims all = subst (λ (v : World m). Reaches m h zs v → TrimsAre m h zs v → CommandWalks m v) (sym r.goes.is) (λ a b. command_here h zs a b all) r trims
+
+  pub calm_where : (h : Header) (zs : Moves m) (w : World m) → Reaches m h zs w → TrimsAre m h zs w → AllTrims h → CalmCommand m w
+  calm_where h zs w r trims all = subst (λ (v : World m). Reaches m h zs v → TrimsAre m h zs v → CalmCommand m v) (sym r.goes.is) (λ a b. calm_here h zs a b all) r trims
+
+  pub long_where : (h : Header) (zs : Moves m) (w : World m) → Reaches m h zs w → TrimsAre m h zs w → AllTrims h → LongCommand m w
+  long_where h zs w r trims all = subst (λ (v : World m). Reaches m h zs v → TrimsAre m h zs v → LongCommand m v) (sym r.goes.is) (λ a b. long_here h zs a b all) r trims
+
+pub calm_commands_finish : Always all_kinds (CalmCommand all_kinds)
+calm_commands_finish h zs w r = calm_where all_kinds h zs w r (logs_hold h zs w r).trims (λ ms v s. (logs_hold h ms v s).trims)
+
+pub long_commands_finish : Always all_kinds (LongCommand all_kinds)
+long_commands_finish h zs w r = long_where all_kinds h zs w r (logs_hold h zs w r).trims (λ ms v s. (logs_hold h ms v s).trims)
 
 pub commands_finish : Always all_kinds (CommandWalks all_kinds)
 commands_finish h zs w r = command_where all_kinds h zs w r (logs_hold h zs w r).trims (λ ms v s. (logs_hold h ms v s).trims)

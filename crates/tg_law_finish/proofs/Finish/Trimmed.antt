@@ -12,6 +12,7 @@ use Rattle.tg_protocol.specs.Worlds.{World, unit, seqr, client}
 use Rattle.tg_law_layouts.proofs.Moves.Members.{Has}
 use Rattle.tg_law_cells.proofs.Cells.Befores.{has_at}
 use Rattle.tg_law_finish.specs.Finish.Queues.{RisesWithin}
+use Rattle.tg_law_finish.specs.Finish.Walks.{passes_of, floors}
 use Rattle.tg_law_finish.proofs.Finish.Askers.{Kind, Distinct}
 use Rattle.tg_law_finish.proofs.Finish.Asking.{Walkable, Reads, Trims'}
 use Rattle.tg_law_finish.proofs.Finish.AtOnce.{long_asked, each_to, all_away}
@@ -27,8 +28,8 @@ use Rattle.tg_law_finish.proofs.Finish.Starts.{each_has, started}
 use Rattle.tg_law_finish.proofs.Finish.Tasks.{Below}
 use Rattle.tg_law_finish.proofs.Finish.Trimmers.{trimming_way}
 use Rattle.tg_law_finish.proofs.Finish.Trimmings.{TrimStage, units_talk, TrimsStage, trims_talk}
-use Rattle.tg_law_finish.proofs.Finish.Waited.{whole}
-use Rattle.tg_law_finish.proofs.Finish.Waits.{Ends, trims_kind, all_serve, waits_for}
+use Rattle.tg_law_finish.proofs.Finish.Waited.{whole, for_trims, pays}
+use Rattle.tg_law_finish.proofs.Finish.Waits.{Ends, world_kind, all_serve, waits_for}
 use Rattle.tg_law_finish.proofs.Finish.Walked.{reads_few}
 use Rattle.tg_law_finish.proofs.Finish.Working.{Working, Lawful}
 
@@ -62,8 +63,8 @@ module _ (m : Meaning) (w : World m) (k : ℕ) (p : Layout) (longest : ℕ) (a :
   abbrev layouts : ℕ
   layouts = (client m w k).layouts
 
-  abbrev kind : Kind (λ n. (unit m w n).low) p (seqr m w p.seq).next
-  kind = trims_kind m w k p longest a b u
+  abbrev kind : Kind (λ n. (unit m w n).low) p
+  kind = world_kind m w k p longest a b u
 
   abbrev EndsIn : ℕ → Type 0
   EndsIn n = Ends m w k p longest a b u n
@@ -75,12 +76,12 @@ module _ (m : Meaning) (w : World m) (k : ℕ) (p : Layout) (longest : ℕ) (a :
   few_units = let e = rises_long 0 (length w.units) (units_of p) u.units in omega (arith, e)
 
   -- from a sync or a walk on
-  pub trims_finish_by : (f : Reads m w k p) → f.work.command ≡ cmd.Trim → EndsIn (2 * ((longest + 1) * tail) + 2 * layouts + 2 * ((2 * longest + 1 + length f.work.oids) * (many + 2)) + 2 * many)
+  pub trims_finish_by : (f : Reads m w k p) → f.work.command ≡ cmd.Trim → EndsIn (2 * ((longest + 1) * tail) + 2 * layouts + passes_of longest (length f.work.oids) (floors m w) + 2 * many)
   trims_finish_by f such none =
       let s = length f.work.oids in
       let us = length (units_of p) in
       let x = started m w k p longest a b u s (trimming_way m) f such (whole s) in
-      let few = reads_few layouts tail many longest s (length x.os) x.left us x.within in
+      let few = reads_few layouts tail longest (for_trims m w.cluster w.stopped k p longest low_at many tail s kind) (passes_of longest s (floors m w)) (length x.os) x.left us x.within (pays longest s (floors m w)) in
       let short = few_units in
       finishes_of m w.cluster w.stopped k p _ (λ s y. NearFloor y) (trims_talk m w.cluster w.stopped k p longest low_at many tail s kind u.some_unit distinct) Fact facts w _ fact a.on_way refl refl
       (waits_for m w k p longest a b u x.os (TrimsStage m w.cluster w.stopped k p longest low_at many tail s kind u.some_unit distinct) (x.left + us) _ (inl (record { left = x.left; stage = x.stage; few = omega arith })) (omega (arith, few, short))) none

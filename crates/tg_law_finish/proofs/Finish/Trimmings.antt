@@ -314,7 +314,7 @@ module _ (m : Meaning) (h : Header) (stopped : List NodeId) (k : ℕ) (p : Layou
       })
 
   -- The whole command.
-  module _ (low_at : ℕ → ℕ) (many tail most : ℕ) (kind : Kind low_at p tail) (some : 0 < length (units_of p)) (once : Distinct (units_of p)) where
+  module _ (low_at : ℕ → ℕ) (many tail most : ℕ) (kind : Kind low_at p) (some : 0 < length (units_of p)) (once : Distinct (units_of p)) where
     abbrev TrimReads : StageOf m h stopped k p
     TrimReads = Reads m h stopped k p longest low_at many tail most kind (trimming_way m)
 

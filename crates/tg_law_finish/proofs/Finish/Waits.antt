@@ -1,6 +1,6 @@
--- A settling ends a command whose sync waits for its first answer.
+-- The world as one in which a client waits; and a settling ends a transaction with reads whose record asks for its token.
 use Rattle.std.proofs.Common.{◌≡◌, ◌⊎◌, ℕ, zero, suc, ◌+◌, ◌*◌, ◌<◌, ◌≤◌, List, [], ◌∷◌, length, Bool, true, false, refl, ap, sym, subst, inl, inr, arith, None}
-use Rattle.std.proofs.Math.Nat.{mul-suc, mul-zero}
+use Rattle.std.proofs.Math.Nat.{mul-suc}
 use Rattle.std.specs.Prelude.{nat_lt}
 use Rattle.tg_base.specs.Layouts.{Layout}
 use Rattle.tg_base.specs.declared.msg.Msg.TheVariants as msg
@@ -22,8 +22,9 @@ use Rattle.tg_protocol.specs.ClientSteps.{task_asks}
 use Rattle.tg_protocol.specs.Worlds.{World, nodes, unit, seqr, client, runs, settle}
 use Rattle.tg_law_finish.specs.Finish.Commands.{is_ask}
 use Rattle.tg_law_finish.specs.Finish.Makes.{makes}
+use Rattle.tg_law_finish.specs.Finish.Walks.{passes_of, floors}
 use Rattle.tg_law_headline.proofs.Issues.Bounds.{AllBelow}
-use Rattle.tg_law_finish.proofs.Finish.Asking.{Walkable, Untrimmed, Grows, Owns, Syncs}
+use Rattle.tg_law_finish.proofs.Finish.Asking.{Walkable, Grows, Owns}
 use Rattle.tg_law_finish.proofs.Finish.Ending.{EndStage, ends_talk, round_long}
 use Rattle.tg_law_finish.proofs.Finish.Owners.{Before, OwnStage}
 use Rattle.tg_law_finish.proofs.Finish.Talks.{Request}
@@ -42,13 +43,10 @@ use Rattle.tg_law_finish.proofs.Finish.Makers.{making_way}
 use Rattle.tg_law_finish.proofs.Finish.Readings.{Clean, Trimmed, Good}
 use Rattle.tg_law_finish.proofs.Finish.Rounds.{Waiting, finishes_from}
 use Rattle.tg_law_finish.proofs.Finish.Trails.{unknown, Low}
-use Rattle.tg_law_finish.proofs.Finish.Waited.{whole, few_unknown}
+use Rattle.tg_law_finish.proofs.Finish.Waited.{for_trims, few_above, all_calm, pays}
 use Rattle.tg_law_finish.proofs.Finish.Rescuing.{round}
 use Rattle.tg_law_finish.proofs.Finish.Working.{Working, Lawful, at_chain}
 use Rattle.tg_law_finish.proofs.Finish.Writers.{seqr_away}
-
-pub true_not : true ≡ false → ⊥
-true_not e = cc
 
 pub all_low : (p : Layout) (tail : ℕ) (qs : List ℕ) → AllBelow tail qs → Low p tail qs
 all_low p tail [] l = tt
@@ -96,7 +94,7 @@ module _ (m : Meaning) (w : World m) (k : ℕ) (p : Layout) (longest : ℕ) (a :
   pub all_serve : AllServe m w.cluster w.stopped k p longest (net m w)
   all_serve n g = record { on = (a.all_stand n g).0; epoch = (a.all_stand n g).1; low = b.lows n }
 
-  pub here : (kind : Kind low_at p tail) (most : ℕ) → Here m w.cluster w.stopped k p longest low_at many tail most kind (net m w)
+  pub here : (kind : Kind low_at p) (most : ℕ) → Here m w.cluster w.stopped k p longest low_at many tail most kind (net m w)
   here kind most = record {
     good = good;
     on = a.seqr_runs;
@@ -112,12 +110,12 @@ module _ (m : Meaning) (w : World m) (k : ℕ) (p : Layout) (longest : ℕ) (a :
     units = all_serve;
   }
 
-  -- walks may meet trims, or nothing is trimmed
-  abbrev pub trims_kind : Kind low_at p tail
-  trims_kind = record { trims = true; calm = λ e. absurd (true_not e); past = λ e. absurd (true_not e); once = u.once }
+  pub few_floors : (g n : ℕ) → above low_at g n ≤ floors m w
+  few_floors g n = few_above w.units g n
 
-  abbrev pub calm_kind : Untrimmed m w p → Kind low_at p tail
-  calm_kind x = record { trims = false; calm = λ e. x.lows; past = λ e. x.past; once = u.once }
+  -- what walks may meet there
+  abbrev pub world_kind : Kind low_at p
+  world_kind = record { trims = nat_lt 0 (floors m w); calm = all_calm low_at (floors m w) few_floors; floors = floors m w; few = few_floors; once = u.once }
 
   -- the world as one in which a piece of work waits
   pub waits_for : (os : List Out) (Stage : StageOf m w.cluster w.stopped k p) (left n : ℕ) → Stage (net m w) (client m w k) (asks os) left
@@ -141,93 +139,12 @@ module _ (m : Meaning) (w : World m) (k : ℕ) (p : Layout) (longest : ℕ) (a :
         not_back = once.not_back;
       }
 
-  -- Where the command stands.
-  module _ (kind : Kind low_at p tail) (f : Syncs m w k) (most : ℕ) (few : length f.work.oids ≤ most) where
-    abbrev walked : ℕ
-    walked = length f.work.oids
-
-    abbrev Budget : ℕ → ℕ
-    Budget n = budget m w.cluster w.stopped k p longest low_at many tail most kind n
-
-    -- for reads, and where walks meet trims
-    abbrev pub for_reads : ℕ
-    for_reads = Budget (unknown (client m w k).cells tail)
-
-    abbrev pub for_passes : ℕ
-    for_passes = passes m w.cluster w.stopped k p longest low_at many tail most kind (above low_at f.work.gone_before many + seen (client m w k).view)
-
-    abbrev pub for_trims : ℕ
-    for_trims = extra kind.trims (longest + rest m w.cluster w.stopped k p longest low_at many tail most kind walked f.work.gone_before (seen (client m w k).view))
-
-    abbrev pub left : ℕ
-    left = longest + for_reads + for_trims
-
-    abbrev check : Out
-    check = out (seqr_id p.seq) f.rid (msg.Check p.epoch f.sync.oids)
-
-    pub reads : (way : Way m) → way.Is f.work.command (length f.work.oids) → Reads m w.cluster w.stopped k p longest low_at many tail most kind way (net m w) (client m w k) (Ask check ∷ []) left
-    unfolding task_asks sync_work_asks
-    reads way such =
-        let asked = ap (λ y. sync_work_asks p f.sync y) f.first in
-        AsksOne check left (record {
-          task = Syncing f.sync;
-          shape = record { stand = a.client_stands; work = f.work; waits = f.waits; hand = f.hand; awaited = asked; again = asked; asks = asked; below = (f.below, tt); away = ((λ l. seqr_away m w.cluster w.stopped k p longest p.seq l), tt) };
-          stage = (
-            subst (λ (y : SyncWork). SyncStage m w.cluster w.stopped k p longest low_at many tail most kind (net m w) (client m w k).cells (rest m w.cluster w.stopped k p longest low_at many tail most kind walked f.work.gone_before (seen (client m w k).view)) f.sync y left) (sym f.first)
-                (here kind most, omega arith),
-            (such, few),
-          );
-        })
-
-    pub waits : (Stage : StageOf m w.cluster w.stopped k p) (extras n : ℕ) → Stage (net m w) (client m w k) (Ask check ∷ []) (left + extras) → (2 + ((client m w k).layouts + (client m w k).layouts)) + ((left + extras) + (left + extras)) ≤ n
-        → Waiting m w.cluster w.stopped k p Stage (nodes m w) (net m w) [] n
-    waits Stage extras n stage few = waits_for (check ∷ []) Stage (left + extras) n stage few
-
-    is_budget : (t : ℕ) → Budget t ≡ (longest + 1) * t
-    is_budget zero = sym (mul-zero (longest + 1))
-    is_budget (suc t) = let e = is_budget t in let f = mul-suc (longest + 1) t in omega (arith, e, f)
-
-    pub all_read : Budget (unknown (client m w k).cells tail) ≤ (longest + 1) * tail
-    all_read =
-        let e = is_budget tail in
-        let g = budget_less m w.cluster w.stopped k p longest low_at many tail most kind (unknown (client m w k).cells tail) tail (few_unknown (client m w k).cells tail) in
-        omega (arith, e, g)
-
   abbrev pub Ends : ℕ → Type 0
   Ends n = (settle m w).stopped ≡ None → Finishes m k n w (settle m w).world
 
-  -- Nothing is trimmed.
-
-  calm_few : (t l x z e : ℕ) → x ≤ (longest + 1) * t → z ≡ 0 → (2 + (l + l)) + ((longest + x + z + e) + (longest + x + z + e)) ≤ 2 * ((longest + 1) * (t + 1)) + 2 * l + 2 * e
-  calm_few t l x z e le none = let f = mul-suc (longest + 1) t in let g = ap (λ n. (longest + 1) * n) (plus t) in omega (arith, f, g, le, none)
-    where
-      plus : (n : ℕ) → n + 1 ≡ suc n
-      plus n = omega arith
-
-  pub asks_finish : Untrimmed m w p → (f : Syncs m w k) → is_ask m f.work.command ≡ true → Ends (2 * ((longest + 1) * (tail + 1)) + 2 * (client m w k).layouts)
-  asks_finish x f such none =
-      let kind = calm_kind x in
-      let few = calm_few tail (client m w k).layouts (for_reads kind f (length f.work.oids) (whole (length f.work.oids))) (for_trims kind f (length f.work.oids) (whole (length f.work.oids))) 0 (all_read kind f (length f.work.oids) (whole (length f.work.oids))) refl in
-      finishes_from m w.cluster w.stopped k p _ (asks_talk m w.cluster w.stopped k p longest low_at many tail (length f.work.oids) kind) w _ a.on_way refl refl
-      (waits kind f (length f.work.oids) (whole (length f.work.oids)) (AsksStage m w.cluster w.stopped k p longest low_at many tail (length f.work.oids) kind) 0 _ (more kind (reads kind f (length f.work.oids) (whole (length f.work.oids)) (asking_way m) such)) (omega (arith, few))) none
-    where
-      more : (kind : Kind low_at p tail) → AsksStage m w.cluster w.stopped k p longest low_at many tail (length f.work.oids) kind (net m w) (client m w k) (Ask (check kind f (length f.work.oids) (whole (length f.work.oids))) ∷ []) (left kind f (length f.work.oids) (whole (length f.work.oids)))
-          → AsksStage m w.cluster w.stopped k p longest low_at many tail (length f.work.oids) kind (net m w) (client m w k) (Ask (check kind f (length f.work.oids) (whole (length f.work.oids))) ∷ []) (left kind f (length f.work.oids) (whole (length f.work.oids)) + 0)
-      more kind s = subst (λ n. AsksStage m w.cluster w.stopped k p longest low_at many tail (length f.work.oids) kind (net m w) (client m w k) (Ask (check kind f (length f.work.oids) (whole (length f.work.oids))) ∷ []) n) (omega arith) s
-
-  pub makes_finish : Untrimmed m w p → (f : Syncs m w k) → makes m f.work.command ≡ true → Ends (2 * ((longest + 1) * (tail + 1)) + 2 * (client m w k).layouts + 2 * (longest + 1))
-  makes_finish x f such none =
-      let kind = calm_kind x in
-      let few = calm_few tail (client m w k).layouts (for_reads kind f (length f.work.oids) (whole (length f.work.oids))) (for_trims kind f (length f.work.oids) (whole (length f.work.oids))) (longest + 1) (all_read kind f (length f.work.oids) (whole (length f.work.oids))) refl in
-      finishes_from m w.cluster w.stopped k p _ (makes_talk m w.cluster w.stopped k p longest low_at many tail (length f.work.oids) kind) w _ a.on_way refl refl
-      (waits kind f (length f.work.oids) (whole (length f.work.oids)) (MakesStage m w.cluster w.stopped k p longest low_at many tail (length f.work.oids) kind) (longest + 1) _ (inl (record { left = left kind f (length f.work.oids) (whole (length f.work.oids)); stage = reads kind f (length f.work.oids) (whole (length f.work.oids)) (making_way m) such; few = omega arith })) (omega (arith, few))) none
-
   -- A transaction with reads is ended.
 
-  pub next_kind : Kind low_at p (suc tail)
-  next_kind = record { trims = true; calm = λ e. absurd (true_not e); past = λ e. absurd (true_not e); once = u.once }
-
-  pub can_grow : (d : Entry) → Grows m w p d → Before m w.cluster w.stopped k p longest low_at many tail 128 next_kind (net m w) d
+  pub can_grow : (d : Entry) → Grows m w p d → Before m w.cluster w.stopped k p longest low_at many tail 128 world_kind (net m w) d
   can_grow d f = record {
     issue = issues m w k p longest a b (record { draft = d; token = None; work = Asking 0 });
     units = all_serve;
@@ -242,19 +159,19 @@ module _ (m : Meaning) (w : World m) (k : ℕ) (p : Layout) (longest : ℕ) (a :
       plus : (n : ℕ) → n + 1 ≡ suc n
       plus n = omega arith
 
-  ends_few : (l c t n r : ℕ) → r ≡ (c + 1) * (suc t) + (2 * c + 1 + 128) * (n + 2) → (2 + (l + l)) + ((c + (r + suc c)) + (c + (r + suc c))) ≤ 2 * ((c + 1) * t) + 2 * l + 2 * ((2 * c + 1 + 128) * (n + 2)) + 6 * (c + 1)
-  ends_few l c t n r e = let f = mul-suc (c + 1) t in omega (arith, e, f)
+  ends_few : (l c t z y r : ℕ) → r ≡ (c + 1) * (suc t) + (c + 1) + z → 2 * ((c + 1) + z) ≡ y → (2 + (l + l)) + ((c + (r + suc c)) + (c + (r + suc c))) ≤ 2 * ((c + 1) * t) + 2 * l + y + 6 * (c + 1)
+  ends_few l c t z y r e pay = let f = mul-suc (c + 1) t in omega (arith, e, f, pay)
 
   pub ends_made : (x : CommandOf m) → x ≡ cmd.End → makes m x ≡ true
   unfolding makes
   ends_made x e = ap (λ y. makes m y) e
 
-  pub ends_finish_by : (f : Owns m w k p) → Ends (2 * ((longest + 1) * tail) + 2 * (client m w k).layouts + 2 * ((2 * longest + 1 + 128) * (many + 2)) + 6 * (longest + 1))
+  pub ends_finish_by : (f : Owns m w k p) → Ends (2 * ((longest + 1) * tail) + 2 * (client m w k).layouts + passes_of longest 128 (floors m w) + 6 * (longest + 1))
   unfolding task_asks append_work_asks
   ends_finish_by f none =
       let most : ℕ = 128 in
       let wide : 128 ≤ 128 = omega arith in
-      let kind = next_kind in
+      let kind = world_kind in
       let r = suc (round m w.cluster w.stopped k p longest low_at many (suc tail) most kind wide) in
       let is = round_long m w.cluster w.stopped k p longest low_at many (suc tail) most kind wide in
       let o = out (seqr_id p.seq) f.rid (msg.Token p.epoch (streams_of f.append.draft)) in
@@ -274,4 +191,4 @@ module _ (m : Meaning) (w : World m) (k : ℕ) (p : Layout) (longest : ℕ) (a :
         });
         few = omega arith;
       }))
-      (let l = ends_few (client m w k).layouts longest tail many r is in omega (arith, l))) none
+      (let l = ends_few (client m w k).layouts longest tail (for_trims m w.cluster w.stopped k p longest low_at many (suc tail) most kind) (passes_of longest 128 (floors m w)) r is (pays longest 128 (floors m w)) in omega (arith, l))) none

@@ -9,6 +9,7 @@ use Rattle.tg_protocol.specs.Worlds.{World, unit, seqr, client}
 use Rattle.tg_law_finish.specs.Finish.Commands.{is_ask}
 use Rattle.tg_law_finish.specs.Finish.Makes.{makes}
 use Rattle.tg_law_finish.specs.Finish.Rescues.{is_rescue}
+use Rattle.tg_law_finish.specs.Finish.Walks.{passes_of, floors}
 use Rattle.tg_law_finish.proofs.Finish.Askers.{Kind}
 use Rattle.tg_law_finish.proofs.Finish.Asking.{Walkable, Reads}
 use Rattle.tg_law_finish.proofs.Finish.Both.{AsksStage, asks_talk, MakesStage, makes_talk}
@@ -21,17 +22,13 @@ use Rattle.tg_law_finish.proofs.Finish.Rescuers.{rescuing_way}
 use Rattle.tg_law_finish.proofs.Finish.Rescuing.{round, for_rounds, RescueStage, first_stage, rescue_talk}
 use Rattle.tg_law_finish.proofs.Finish.Rounds.{finishes_from}
 use Rattle.tg_law_finish.proofs.Finish.Starts.{started}
-use Rattle.tg_law_finish.proofs.Finish.Waited.{whole}
-use Rattle.tg_law_finish.proofs.Finish.Waits.{Ends, trims_kind, waits_for}
+use Rattle.tg_law_finish.proofs.Finish.Waited.{whole, for_trims, pays}
+use Rattle.tg_law_finish.proofs.Finish.Waits.{Ends, world_kind, waits_for}
 use Rattle.tg_law_finish.proofs.Finish.Working.{Working, Lawful}
 
 -- with o requests outstanding, and so much left
-pub reads_few : (l t n c s o x e : ℕ) → o + x ≤ suc (c + (c + 1) * t + (c + (s + (2 * c + 1 + s) * (n + 1))))
-    → ((o + o) + (l + l)) + ((x + e) + (x + e)) ≤ 2 * ((c + 1) * t) + 2 * l + 2 * ((2 * c + 1 + s) * (n + 2)) + 2 * e
-reads_few l t n c s o x e le = let f = mul-suc (2 * c + 1 + s) (n + 1) in let g = ap (λ i. (2 * c + 1 + s) * i) (plus n) in omega (arith, f, g, le)
-  where
-    plus : (n : ℕ) → n + 2 ≡ suc (n + 1)
-    plus n = omega arith
+pub reads_few : (l t c z y o x e : ℕ) → o + x ≤ suc (c + (c + 1) * t + z) → 2 * ((c + 1) + z) ≡ y → ((o + o) + (l + l)) + ((x + e) + (x + e)) ≤ 2 * ((c + 1) * t) + 2 * l + y + 2 * e
+reads_few l t c z y o x e le pay = omega (arith, le, pay)
 
 rescues_few : (l j r c a o x : ℕ) → a ≡ r * j + suc c → o + x ≤ r → ((o + o) + (l + l)) + ((x + a) + (x + a)) ≤ (2 * l + 2 * r) * (j + 1) + 2 * (c + 1)
 rescues_few l j r c a o x is less =
@@ -46,13 +43,6 @@ rescues_few l j r c a o x is less =
     twice : (l r j : ℕ) → r * j + r * j ≤ (2 * l + 2 * r) * j
     twice l r j = let a = mul-le (2 * r) j (2 * l + 2 * r) j (omega arith) (omega arith) in omega (arith, a)
 
--- a round takes as much
-round_few : (c t n most r : ℕ) → r ≡ (c + 1) * t + (2 * c + 1 + most) * (n + 2) → suc (c + (c + 1) * t + (c + (most + (2 * c + 1 + most) * (n + 1)))) ≤ r
-round_few c t n most r is = let f = mul-suc (2 * c + 1 + most) (n + 1) in let g = ap (λ i. (2 * c + 1 + most) * i) (plus n) in omega (arith, f, g, is)
-  where
-    plus : (n : ℕ) → n + 2 ≡ suc (n + 1)
-    plus n = omega arith
-
 module _ (m : Meaning) (w : World m) (k : ℕ) (p : Layout) (longest : ℕ) (a : Working m w k p) (b : Lawful m w p longest) (u : Walkable m w p) where
   abbrev tail : ℕ
   tail = (seqr m w p.seq).next
@@ -66,26 +56,29 @@ module _ (m : Meaning) (w : World m) (k : ℕ) (p : Layout) (longest : ℕ) (a :
   abbrev layouts : ℕ
   layouts = (client m w k).layouts
 
-  abbrev kind : Kind (λ n. (unit m w n).low) p (seqr m w p.seq).next
-  kind = trims_kind m w k p longest a b u
+  abbrev kind : Kind (λ n. (unit m w n).low) p
+  kind = world_kind m w k p longest a b u
+
+  abbrev Trims : ℕ → ℕ
+  Trims most = for_trims m w.cluster w.stopped k p longest low_at many tail most kind
 
   abbrev EndsIn : ℕ → Type 0
   EndsIn n = Ends m w k p longest a b u n
 
-  pub asks_finish_by : (f : Reads m w k p) → is_ask m f.work.command ≡ true → EndsIn (2 * ((longest + 1) * tail) + 2 * layouts + 2 * ((2 * longest + 1 + length f.work.oids) * (many + 2)))
+  pub asks_finish_by : (f : Reads m w k p) → is_ask m f.work.command ≡ true → EndsIn (2 * ((longest + 1) * tail) + 2 * layouts + passes_of longest (length f.work.oids) (floors m w))
   asks_finish_by f such none =
       let s = length f.work.oids in
       let x = started m w k p longest a b u s (asking_way m) f such (whole s) in
-      let few = reads_few layouts tail many longest s (length x.os) x.left 0 x.within in
+      let few = reads_few layouts tail longest (Trims s) (passes_of longest s (floors m w)) (length x.os) x.left 0 x.within (pays longest s (floors m w)) in
       finishes_from m w.cluster w.stopped k p _ (asks_talk m w.cluster w.stopped k p longest low_at many tail s kind) w _ a.on_way refl refl
       (waits_for m w k p longest a b u x.os (AsksStage m w.cluster w.stopped k p longest low_at many tail s kind) x.left _ x.stage (omega (arith, few))) none
 
   pub makes_finish_by : (f : Reads m w k p) → makes m f.work.command ≡ true
-      → EndsIn (2 * ((longest + 1) * tail) + 2 * layouts + 2 * ((2 * longest + 1 + length f.work.oids) * (many + 2)) + 2 * (longest + 1))
+      → EndsIn (2 * ((longest + 1) * tail) + 2 * layouts + passes_of longest (length f.work.oids) (floors m w) + 2 * (longest + 1))
   makes_finish_by f such none =
       let s = length f.work.oids in
       let x = started m w k p longest a b u s (making_way m) f such (whole s) in
-      let few = reads_few layouts tail many longest s (length x.os) x.left (longest + 1) x.within in
+      let few = reads_few layouts tail longest (Trims s) (passes_of longest s (floors m w)) (length x.os) x.left (longest + 1) x.within (pays longest s (floors m w)) in
       finishes_from m w.cluster w.stopped k p _ (makes_talk m w.cluster w.stopped k p longest low_at many tail s kind) w _ a.on_way refl refl
       (waits_for m w k p longest a b u x.os (MakesStage m w.cluster w.stopped k p longest low_at many tail s kind) (x.left + (longest + 1)) _ (inl (record { left = x.left; stage = x.stage; few = omega arith })) few) none
 
@@ -96,7 +89,7 @@ module _ (m : Meaning) (w : World m) (k : ℕ) (p : Layout) (longest : ℕ) (a :
   rounds_few (suc j) most wide = let e = rounds_few j most wide in let f = mul-suc (suc (round m w.cluster w.stopped k p longest low_at many tail most kind wide)) j in omega (arith, e, f)
 
   pub rescues_finish_by : (f : Reads m w k p) → is_rescue m f.work.command ≡ true → length f.work.oids ≤ 128
-      → EndsIn ((2 * ((longest + 1) * tail) + 2 * layouts + 2 * ((2 * longest + 1 + 128) * (many + 2))) * ((128 - length f.work.oids) + 1) + 2 * (longest + 1))
+      → EndsIn ((2 * ((longest + 1) * tail) + 2 * layouts + passes_of longest 128 (floors m w)) * ((128 - length f.work.oids) + 1) + 2 * (longest + 1))
   rescues_finish_by f such few none =
       let s = length f.work.oids in
       let most : ℕ = 128 in
@@ -106,9 +99,8 @@ module _ (m : Meaning) (w : World m) (k : ℕ) (p : Layout) (longest : ℕ) (a :
       let is = round_long m w.cluster w.stopped k p longest low_at many tail most kind wide in
       let x = started m w k p longest a b u most (rescuing_way m j) f (such, room s) few in
       let within = x.within in
-      let long = round_few longest tail many most r is in
-      let enough = rescues_few layouts j r longest (for_rounds m w.cluster w.stopped k p longest low_at many tail most kind wide j) (length x.os) x.left (rounds_few j most wide) (omega (arith, within, long)) in
-      let whole = ap (λ i. i * (j + 1)) (both layouts r ((longest + 1) * tail) ((2 * longest + 1 + most) * (many + 2)) is) in
+      let enough = rescues_few layouts j r longest (for_rounds m w.cluster w.stopped k p longest low_at many tail most kind wide j) (length x.os) x.left (rounds_few j most wide) (omega (arith, within, is)) in
+      let whole = ap (λ i. i * (j + 1)) (both layouts r ((longest + 1) * tail) longest (Trims most) (passes_of longest 128 (floors m w)) is (pays longest 128 (floors m w))) in
       finishes_from m w.cluster w.stopped k p _ (rescue_talk m w.cluster w.stopped k p longest low_at many tail most kind wide j) w _ a.on_way refl refl
       (waits_for m w k p longest a b u x.os (RescueStage m w.cluster w.stopped k p longest low_at many tail most kind wide j) (x.left + for_rounds m w.cluster w.stopped k p longest low_at many tail most kind wide j) _
       (first_stage m w.cluster w.stopped k p longest low_at many tail most kind wide j (net m w) (client m w k) (asks x.os) _ (record { left = x.left; stage = x.stage; few = omega arith }))
@@ -117,5 +109,5 @@ module _ (m : Meaning) (w : World m) (k : ℕ) (p : Layout) (longest : ℕ) (a :
       room : (n : ℕ) → 128 ≤ n + (128 - n)
       room n = omega arith
 
-      both : (l r x y : ℕ) → r ≡ x + y → 2 * l + 2 * r ≡ 2 * x + 2 * l + 2 * y
-      both l r x y e = omega (arith, e)
+      both : (l r x c z y : ℕ) → r ≡ x + (c + 1) + z → 2 * ((c + 1) + z) ≡ y → 2 * l + 2 * r ≡ 2 * x + 2 * l + y
+      both l r x c z y e pay = omega (arith, e, pay)

@@ -1,13 +1,15 @@
 -- A command wherever it stands.
-use Rattle.std.specs.Prelude.{◌≡◌, ℕ, ◌+◌, ◌*◌, Some}
+use Rattle.std.specs.Prelude.{◌≡◌, ℕ, ◌+◌, ◌*◌, ◌≤◌, Some}
 use Rattle.tg_kind.specs.Meaning.{Meaning}
 use Rattle.tg_model.specs.Kinds.{CommandOf}
 use Rattle.tg_protocol.specs.Clients.{Task, Doing, Work}
 use Rattle.tg_protocol.specs.Worlds.{World, client}
 use Rattle.tg_protocol.specs.Finishing.{IsReadyFor, IsSpareReady, NoReconf, most_deliveries_in}
 use Rattle.tg_law_finish.specs.Finish.Alone.{IsAlone}
+use Rattle.tg_law_finish.specs.Finish.Asks.{NothingTrimmed}
+use Rattle.tg_law_finish.specs.Finish.Granted.{next_position}
 use Rattle.tg_law_finish.specs.Finish.Laws.{IsAnswered}
-use Rattle.tg_law_finish.specs.Finish.Walks.{passes_bound}
+use Rattle.tg_law_finish.specs.Finish.Walks.{floors, passes_bound}
 
 module _ (m : Meaning) where
   -- the client has a task in hand: it doesn't wait for a newer layout
@@ -25,3 +27,13 @@ module _ (m : Meaning) where
   abbrev pub CommandWalks : World m → Type 0
   CommandWalks w = (k : ℕ) (x : CommandOf m) → IsAlone m w k x → IsReadyFor m w k → IsSpareReady m w x → NoReconf m x →
       IsAnswered m w k (most_deliveries_in m w x + 129 * passes_bound m w 128)
+
+  -- within its bound alone, where nothing is trimmed
+  abbrev pub CalmCommand : World m → Type 0
+  CalmCommand w = (k : ℕ) (x : CommandOf m) → IsAlone m w k x → IsReadyFor m w k → IsSpareReady m w x → NoReconf m x → NothingTrimmed m w →
+      IsAnswered m w k (most_deliveries_in m w x)
+
+  -- and where the log is long: it has 23 positions for each unit that has trimmed anything, and 46 more
+  abbrev pub LongCommand : World m → Type 0
+  LongCommand w = (k : ℕ) (x : CommandOf m) → IsAlone m w k x → IsReadyFor m w k → IsSpareReady m w x → NoReconf m x → 23 * (floors m w + 2) ≤ next_position m w →
+      IsAnswered m w k (most_deliveries_in m w x)

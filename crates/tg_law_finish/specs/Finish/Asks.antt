@@ -1,20 +1,15 @@
 -- A client that waits for a sync, walks and an answer: of `ask`, `fate` and `ask-at`.
-use Rattle.std.specs.Prelude.{◌≡◌, ℕ, ◌<◌, true, Some}
+use Rattle.std.specs.Prelude.{◌≡◌, ℕ, true, Some}
 use Rattle.tg_kind.specs.Meaning.{Meaning}
 use Rattle.tg_protocol.specs.Syncing.{Sync, Checking}
 use Rattle.tg_protocol.specs.Clients.{Syncing, Doing, Work}
-use Rattle.tg_protocol.specs.Worlds.{World, unit, client, latest}
+use Rattle.tg_protocol.specs.Worlds.{World, unit, client}
 use Rattle.tg_law_finish.specs.Finish.Commands.{is_ask}
-use Rattle.tg_law_finish.specs.Finish.Granted.{next_position}
 
 module _ (m : Meaning) where
   -- no unit has trimmed anything
   abbrev pub NothingTrimmed : World m → Type 0
   NothingTrimmed w = (u : ℕ) → (unit m w u).low ≡ 0
-
-  -- the latest layout's sequencer has issued a position since that layout's start
-  abbrev pub HasIssued : World m → Type 0
-  HasIssued w = (latest m w).start < next_position m w
 
   -- the command's sync is outstanding
   pub record WaitsForSync (w : World m) (k : ℕ) : Type 0 where

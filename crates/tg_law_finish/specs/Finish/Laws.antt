@@ -13,7 +13,7 @@ use Rattle.tg_law_finish.specs.Finish.Commands.{plays}
 use Rattle.tg_law_finish.specs.Finish.Queues.{Queue}
 use Rattle.tg_law_finish.specs.Finish.Granted.{Granted, next_position}
 use Rattle.tg_law_finish.specs.Finish.Appends.{WaitsForAppend}
-use Rattle.tg_law_finish.specs.Finish.Asks.{NothingTrimmed, HasIssued, WaitsForSync}
+use Rattle.tg_law_finish.specs.Finish.Asks.{NothingTrimmed, WaitsForSync}
 
 module _ (m : Meaning) where
   -- a reply: it doesn't only mark that a transaction has begun, that it has a write, or that its end is accepted
@@ -40,17 +40,17 @@ module _ (m : Meaning) where
   AppendInTime w = (k : ℕ) (x : CommandOf m) → IsAlone m w k x → IsReadyFor m w k → Granted m w → WaitsForAppend m w k →
       IsAnswered w k (most_deliveries_in m w x)
 
-  -- an ask of a log of which nothing is trimmed, and to which the present sequencer has added: two deliveries for
-  -- each unit of the longest chain and one more, at each position and once more, and two for each layout server
+  -- an ask of a log of which nothing is trimmed: two deliveries for each unit of the longest chain and one more, at
+  -- each position and once more, and two for each layout server
   abbrev pub ask_bound : World m → ℕ
   ask_bound w = 2 * ((longest_chain (latest m w) + 1) * (next_position m w + 1)) + 2 * w.cluster.layouts
 
   abbrev pub AskAnswered : World m → Type 0
-  AskAnswered w = (k : ℕ) (x : CommandOf m) → IsAlone m w k x → IsReadyFor m w k → Granted m w → NothingTrimmed m w → HasIssued m w → WaitsForSync m w k →
+  AskAnswered w = (k : ℕ) (x : CommandOf m) → IsAlone m w k x → IsReadyFor m w k → Granted m w → NothingTrimmed m w → WaitsForSync m w k →
       IsAnswered w k (ask_bound w)
 
   abbrev pub AskInTime : World m → Type 0
-  AskInTime w = (k : ℕ) (x : CommandOf m) → IsAlone m w k x → IsReadyFor m w k → Granted m w → NothingTrimmed m w → HasIssued m w → WaitsForSync m w k →
+  AskInTime w = (k : ℕ) (x : CommandOf m) → IsAlone m w k x → IsReadyFor m w k → Granted m w → NothingTrimmed m w → WaitsForSync m w k →
       IsAnswered w k (most_deliveries_in m w x)
 
   -- whatever the world: where a settling ends a command that plays, its client has told something

@@ -1,16 +1,15 @@
 -- A client that waits for a sync, walks and then an append: of `decide`, `checkpoint` and `forget`, and of `end`
 -- whose record is appended.
-use Rattle.std.specs.Prelude.{◌≡◌, ℕ, ◌+◌, ◌*◌, Bool, true, false, Some}
+use Rattle.std.specs.Prelude.{◌≡◌, ℕ, ◌+◌, ◌*◌, Bool, true, false}
 use Rattle.tg_kind.specs.Meaning.{Meaning}
 use Rattle.tg_model.specs.declared.command.Command.TheVariants as cmd
 use Rattle.tg_model.specs.Kinds.{CommandOf}
-use Rattle.tg_protocol.specs.Syncing.{Sync, Checking}
-use Rattle.tg_protocol.specs.Clients.{Syncing, Doing, Work}
-use Rattle.tg_protocol.specs.Worlds.{World, client, latest}
+use Rattle.tg_protocol.specs.Worlds.{World, latest}
 use Rattle.tg_protocol.specs.Finishing.{longest_chain, IsReadyFor, most_deliveries_in}
 use Rattle.tg_law_finish.specs.Finish.Alone.{IsAlone}
-use Rattle.tg_law_finish.specs.Finish.Asks.{NothingTrimmed, HasIssued}
+use Rattle.tg_law_finish.specs.Finish.Asks.{NothingTrimmed}
 use Rattle.tg_law_finish.specs.Finish.Laws.{IsAnswered, ask_bound}
+use Rattle.tg_law_finish.specs.Finish.Reads.{WaitsForRead}
 
 module _ (m : Meaning) where
   -- commands that append once, when all is walked, or are answered then (`end` syncs once its record is appended)
@@ -21,20 +20,10 @@ module _ (m : Meaning) where
   makes (cmd.Forget o n) = true
   makes _ = false
 
-  -- the command's sync is outstanding
-  pub record MakesSync (w : World m) (k : ℕ) : Type 0 where
-    pub work : Work m
-    pub waits : (client m w k).work ≡ Some work
-    pub sync : Sync
-    pub rid : ℕ
-    pub hand : work.hand ≡ Doing (Syncing sync)
-    pub first : sync.work ≡ Checking rid
-    pub makes_it : makes work.command ≡ true
-
   -- as for an ask, and two deliveries more for each unit of the longest chain, and two for the token
   abbrev pub make_bound : World m → ℕ
   make_bound w = ask_bound m w + 2 * (longest_chain (latest m w) + 1)
 
   abbrev pub MakeFinishes : World m → Type 0
-  MakeFinishes w = (k : ℕ) (x : CommandOf m) → IsAlone m w k x → IsReadyFor m w k → NothingTrimmed m w → HasIssued m w → MakesSync w k →
+  MakeFinishes w = (k : ℕ) (x : CommandOf m) → IsAlone m w k x → IsReadyFor m w k → NothingTrimmed m w → makes x ≡ true → WaitsForRead m w k →
       IsAnswered m w k (make_bound w) × IsAnswered m w k (most_deliveries_in m w x)

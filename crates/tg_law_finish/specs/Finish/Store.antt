@@ -1,4 +1,4 @@
--- In a world that is ready a settling answers the client that waits for its last append, or for its sync.
+-- In a world that is ready a settling answers the client that waits for its last append, or in a sync or a walk.
 use Rattle.std.specs.Prelude.{◌≡◌, ℕ, true, Some}
 use Rattle.tg_kind.specs.Meaning.{Meaning}
 use Rattle.tg_model.specs.Kinds.{CommandOf}
@@ -8,8 +8,10 @@ use Rattle.tg_protocol.specs.Worlds.{World, client}
 use Rattle.tg_protocol.specs.Finishing.{IsReadyFor, most_deliveries_in}
 use Rattle.tg_law_finish.specs.Finish.Alone.{IsAlone}
 use Rattle.tg_law_finish.specs.Finish.Appends.{is_last}
-use Rattle.tg_law_finish.specs.Finish.Asks.{NothingTrimmed, HasIssued, WaitsForSync}
+use Rattle.tg_law_finish.specs.Finish.Asks.{NothingTrimmed}
+use Rattle.tg_law_finish.specs.Finish.Commands.{is_ask}
 use Rattle.tg_law_finish.specs.Finish.Laws.{IsAnswered, append_bound, ask_bound}
+use Rattle.tg_law_finish.specs.Finish.Reads.{WaitsForRead}
 
 module _ (m : Meaning) where
   -- the client's command has an append in hand, and nothing is left to do after it
@@ -28,5 +30,5 @@ module _ (m : Meaning) where
 
   -- within the deliveries of an ask, and within the bound of the command
   abbrev pub AskFinishes : World m → Type 0
-  AskFinishes w = (k : ℕ) (x : CommandOf m) → IsAlone m w k x → IsReadyFor m w k → NothingTrimmed m w → HasIssued m w → WaitsForSync m w k →
+  AskFinishes w = (k : ℕ) (x : CommandOf m) → IsAlone m w k x → IsReadyFor m w k → NothingTrimmed m w → is_ask m x ≡ true → WaitsForRead m w k →
       IsAnswered m w k (ask_bound m w) × IsAnswered m w k (most_deliveries_in m w x)

@@ -1,8 +1,9 @@
 -- A client that syncs and walks, whatever is trimmed, and whether or not the sequencer has issued a position since
 -- its layout's start.
-use Rattle.std.specs.Prelude.{◌≡◌, ℕ, ◌+◌, ◌*◌, ◌≤◌, length, true, Some}
+use Rattle.std.specs.Prelude.{◌≡◌, ℕ, zero, ◌+◌, ◌*◌, ◌≤◌, nat_lt, true, filter, length, Some}
 use Rattle.tg_kind.specs.Meaning.{Meaning}
 use Rattle.tg_model.specs.Kinds.{CommandOf}
+use Rattle.tg_protocol.specs.Units.{UnitState}
 use Rattle.tg_protocol.specs.Clients.{Work}
 use Rattle.tg_protocol.specs.Worlds.{World, client, latest}
 use Rattle.tg_protocol.specs.Finishing.{longest_chain, IsReadyFor, most_deliveries_in}
@@ -13,13 +14,22 @@ use Rattle.tg_law_finish.specs.Finish.Laws.{IsAnswered}
 use Rattle.tg_law_finish.specs.Finish.Makes.{makes}
 use Rattle.tg_law_finish.specs.Finish.Reads.{WaitsForRead}
 
+-- What syncs and trims may cost, with chains of so many units, so many streams, and so many units that have trimmed
+-- anything. Where none has, there is one sync, which fills the last position or probes its chain. Else there are
+-- passes. A pass is a sync, which may do both, and one request for each stream whose walk meets a trim. A trim that was
+-- unknown before the sync makes the tail stale, and a new pass begins: at most once for each unit that has trimmed
+-- anything, since none trims meanwhile. And a kept view is given up at most once.
+abbrev pub passes_of : ℕ → ℕ → ℕ → ℕ
+passes_of c streams zero = 2 * (c + 1)
+passes_of c streams trimmed = 2 * ((2 * c + 1 + streams) * (trimmed + 2))
+
 module _ (m : Meaning) where
-  -- What trims may cost. A pass is a sync, which fills the last position and may probe its chain, and one request
-  -- for each stream whose walk meets a trim. A trim that was unknown before the sync makes the tail stale, and a
-  -- new pass begins: at most once for each unit, since no unit trims anything meanwhile. And a kept view is given
-  -- up at most once.
+  -- how many units have trimmed anything
+  abbrev pub floors : World m → ℕ
+  floors w = length (filter (λ (u : UnitState). nat_lt 0 u.low) w.units)
+
   abbrev pub passes_bound : World m → ℕ → ℕ
-  passes_bound w streams = 2 * ((2 * longest_chain (latest m w) + 1 + streams) * (w.cluster.units + 2))
+  passes_bound w streams = passes_of (longest_chain (latest m w)) streams (floors w)
 
   -- and each position is read at most once: two deliveries for each unit of the longest chain, and one more; and
   -- two for each layout server

@@ -9,7 +9,7 @@ use Rattle.tg_model.specs.declared.command.Event.TheVariants.{Command as Command
 use Rattle.tg_model.specs.Kinds.{CommandOf}
 use Rattle.tg_protocol.specs.Appending.{AppendWork, Putting}
 use Rattle.tg_protocol.specs.Words.{client_id, directory}
-use Rattle.tg_protocol.specs.Syncing.{SyncWork, Probing}
+use Rattle.tg_protocol.specs.Syncing.{SyncWork, Settling, Probing}
 use Rattle.tg_protocol.specs.Clients.{Task, Syncing}
 use Rattle.tg_protocol.specs.Worlds.{World, start, unit, latest, settle}
 use Rattle.tg_protocol.specs.Runs.{Moves, Takes, Reaches, run}
@@ -17,7 +17,7 @@ use Rattle.tg_protocol.specs.Finishing.{longest_chain, deliveries, is_with_clien
 use Rattle.tg_law_finish.specs.Finish.Alone.{IsAlone}
 use Rattle.tg_law_finish.specs.Finish.Granted.{Granted, next_position}
 use Rattle.tg_law_finish.specs.Finish.Appends.{WaitsForAppend}
-use Rattle.tg_law_finish.specs.Finish.Asks.{NothingTrimmed, HasIssued, WaitsForSync}
+use Rattle.tg_law_finish.specs.Finish.Asks.{NothingTrimmed, WaitsForSync}
 use Rattle.tg_law_finish.specs.Finish.Copies.{WaitsForCopy, copy_bound}
 use Rattle.tg_law_finish.specs.Finish.Ends.{EndsAppend, end_bound, EndsRecord, record_bound}
 use Rattle.tg_law_finish.specs.Finish.Laws.{append_bound, ask_bound}
@@ -59,9 +59,31 @@ pub record AskSettles (w : World tallies) : Type 0 where
   pub ready : IsReadyFor tallies w 0
   pub granted : Granted tallies w
   pub untrimmed : NothingTrimmed tallies w
-  pub issued : HasIssued tallies w
   pub waits : WaitsForSync tallies w 0
   pub counts : Counted w 6 10 80 (ask_bound tallies) (cmd.Fate 0)
+
+-- it is told the tail, and its request to fill the last position is lost
+abbrev pub fill_lost : Moves tallies
+fill_lost = Takes (Commands 0 cmd.Begin) ∷ Takes (Commands 0 (cmd.Put tally 5)) ∷ Takes (Commands 0 cmd.End)
+    ∷ Takes (Deliver 0) ∷ Takes (Deliver 1) ∷ Takes (Deliver 2) ∷ Takes (Deliver 3) ∷ Takes (Commands 0 (cmd.Fate 0)) ∷ Takes (Deliver 4) ∷ Takes (Deliver 5) ∷ Takes (Lose 6) ∷ []
+
+abbrev pub FillsLast : SyncWork → Type 0
+FillsLast (Settling a j) = Unit {0}
+FillsLast x = ⊥
+
+-- a sync that fills the last position
+abbrev pub IsFill : Task tallies → Type 0
+IsFill (Syncing s) = FillsLast s.work
+IsFill t = ⊥
+
+pub record FillSettles (w : World tallies) : Type 0 where
+  pub reached : Reaches tallies with_tally fill_lost w
+  pub alone : IsAlone tallies w 0 (cmd.Fate 0)
+  pub ready : IsReadyFor tallies w 0
+  pub untrimmed : NothingTrimmed tallies w
+  pub waits : WaitsForRead tallies w 0
+  pub fills : IsFill waits.task
+  pub counts : Counted w 4 10 80 (ask_bound tallies) (cmd.Fate 0)
 
 -- a client asks for a fate while nothing has been issued, and its request for a tail is lost
 abbrev pub fate_lost : Moves tallies
@@ -73,7 +95,7 @@ pub record FateSettles (w : World tallies) : Type 0 where
   pub ready : IsReadyFor tallies w 0
   pub none_issued : next_position tallies w ≡ (latest tallies w).start
   pub waits : WaitsForRead tallies w 0
-  pub counts : Counted w 6 26 64 (λ v. walk_bound tallies v (streams tallies waits.work)) (cmd.Fate 0)
+  pub counts : Counted w 6 6 64 (λ v. walk_bound tallies v (streams tallies waits.work)) (cmd.Fate 0)
 
 -- a client asks for a fate while nothing has been issued; it is told so, and its probe of position 0's chain is lost
 abbrev pub probe_lost : Moves tallies
@@ -95,7 +117,7 @@ pub record ProbeSettles (w : World tallies) : Type 0 where
   pub none_issued : next_position tallies w ≡ (latest tallies w).start
   pub waits : WaitsForRead tallies w 0
   pub probes : IsProbe waits.task
-  pub counts : Counted w 4 26 64 (λ v. walk_bound tallies v (streams tallies waits.work)) (cmd.Fate 0)
+  pub counts : Counted w 4 6 64 (λ v. walk_bound tallies v (streams tallies waits.work)) (cmd.Fate 0)
 
 -- a client asks for a tally and adds to it, and its record's request for a token is lost
 abbrev pub end_lost : Moves tallies
@@ -107,7 +129,7 @@ pub record EndSettles (w : World tallies) : Type 0 where
   pub alone : WaitsAlone tallies w 0 cmd.End
   pub ready : IsReadyFor tallies w 0
   pub waits : EndsAppend tallies w 0
-  pub counts : Counted w 10 800 64 (end_bound tallies) cmd.End
+  pub counts : Counted w 10 18 64 (end_bound tallies) cmd.End
 
 -- it has its record's token, and the request of its page is lost
 abbrev pub page_lost : Moves tallies
@@ -124,7 +146,7 @@ pub record RecordSettles (w : World tallies) : Type 0 where
   pub ready : IsReadyFor tallies w 0
   pub waits : EndsRecord tallies w 0
   pub puts : PutsPage waits.append.work
-  pub counts : Counted w 8 808 80 (record_bound tallies) cmd.End
+  pub counts : Counted w 8 26 80 (record_bound tallies) cmd.End
 
 -- a client saves a tally of which nothing was written, and its request for a tail is lost
 abbrev pub save_lost : Moves tallies
@@ -135,7 +157,7 @@ pub record SaveSettles (w : World tallies) : Type 0 where
   pub alone : WaitsAlone tallies w 0 (cmd.Checkpoint tally)
   pub ready : IsReadyFor tallies w 0
   pub waits : WaitsForRead tallies w 0
-  pub counts : Counted w 10 36 64 (λ v. walk_bound tallies v (streams tallies waits.work) + 2 * (longest_chain (latest tallies v) + 1)) (cmd.Checkpoint tally)
+  pub counts : Counted w 10 10 64 (λ v. walk_bound tallies v (streams tallies waits.work) + 2 * (longest_chain (latest tallies v) + 1)) (cmd.Checkpoint tally)
 
 -- a client rescues where nothing was issued, and its request for a tail is lost
 abbrev pub rescue_lost : Moves tallies
@@ -146,7 +168,7 @@ pub record RescueSettles (w : World tallies) : Type 0 where
   pub alone : WaitsAlone tallies w 0 (cmd.Rescue 0)
   pub ready : IsReadyFor tallies w 0
   pub waits : WaitsForRead tallies w 0
-  pub counts : Counted w 6 100868 8192 (λ v. rescue_bound tallies v (streams tallies waits.work)) (cmd.Rescue 0)
+  pub counts : Counted w 6 772 8192 (λ v. rescue_bound tallies v (streams tallies waits.work)) (cmd.Rescue 0)
 
 -- a client adds to the directory, whose number is the floor; it trims, and its request for a tail is lost
 abbrev pub trim_lost : Moves floored
@@ -159,7 +181,7 @@ pub record TrimSettles (w : World floored) : Type 0 where
   pub alone : IsAlone floored w 0 cmd.Trim
   pub ready : IsReadyFor floored w 0
   pub waits : WaitsForTrim floored w 0
-  pub counts : CountedIn floored w 8 32 82 (λ v. trim_bound floored v (streams floored waits.work)) cmd.Trim
+  pub counts : CountedIn floored w 8 12 82 (λ v. trim_bound floored v (streams floored waits.work)) cmd.Trim
   pub trims : (unit floored (settle floored w).world 0).low ≡ 1
 
 -- a unit stands in no chain
@@ -198,6 +220,9 @@ AppendIsAnswered = AppendSettles (run tallies append_lost (start tallies with_ta
 
 abbrev pub AskIsAnswered : Type 0
 AskIsAnswered = AskSettles (run tallies ask_lost (start tallies with_tally))
+
+abbrev pub FillIsAnswered : Type 0
+FillIsAnswered = FillSettles (run tallies fill_lost (start tallies with_tally))
 
 abbrev pub FateIsAnswered : Type 0
 FateIsAnswered = FateSettles (run tallies fate_lost (start tallies with_tally))
