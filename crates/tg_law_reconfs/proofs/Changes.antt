@@ -17,8 +17,8 @@ use Rattle.tg_protocol.specs.Layouts.{first_layout, next_units, change_fault}
 use Rattle.tg_protocol.specs.Reconfiguring.{ReconfWork, SealingSpare, LookingSpare, Sealing, LookingAgain, Agreeing, Telling, Starting, Reconf, next_epoch}
 use Rattle.tg_protocol.specs.Clients.{Task, Syncing, Walking, Appending, Trimming, Copying', Reconfiguring, Hand, Doing, Learning, Work, Client, new_client}
 use Rattle.tg_protocol.specs.ClientSteps.{ClientTurn, task_in}
-use Rattle.tg_protocol.specs.Worlds.{CommandStart, World, start, unit, client, noted_of, runs, happens, next_event}
-use Rattle.tg_protocol.specs.Runs.{Move, Moves, Next, Takes, run, Reaches, Always, LawfulCommand}
+use Rattle.tg_protocol.specs.Worlds.{CommandStart, World, start, unit, client, noted_of, runs, happens}
+use Rattle.tg_protocol.specs.Runs.{Move, Moves, Next, Takes, run, Reaches, Always}
 use Rattle.tg_protocol.specs.Chosen.{IsDecided}
 use Rattle.tg_protocol.specs.Finishing.{NoneAbove, WaitsAlone, IsReadyToChange}
 use Rattle.tg_law_layouts.specs.Moves.After.{after}
@@ -34,7 +34,7 @@ use Rattle.tg_law_layouts.proofs.Layouts.Deciding.{one_layout, layouts_are_known
 use Rattle.tg_law_layouts.proofs.Moves.Always.{lawful_give}
 use Rattle.tg_law_layouts.proofs.Moves.Lists.{at_map, at_replicate, contained}
 use Rattle.tg_law_layouts.proofs.Moves.Members.{Has, has_contained}
-use Rattle.tg_law_layouts.proofs.Moves.Moves.{ClientInput, Commanded, Hears', Ticks', AllGive}
+use Rattle.tg_law_layouts.proofs.Moves.Moves.{ClientInput, Commanded, Hears', Ticks'}
 use Rattle.tg_law_layouts.proofs.Moves.Reconfs.{numbers_long}
 use Rattle.tg_law_layouts.proofs.Moves.Scripts.{run_both}
 use Rattle.tg_law_layouts.proofs.Requests.Starts.{All, start_all, known}
@@ -57,9 +57,6 @@ use Rattle.tg_law_reconfs.proofs.Proposals.{WorkMine, ReconfMine, HandMine, mine
 
 -- Along a run.
 module _ (m : Meaning) (h : Header) (zs : Moves m) (r : Reaches m h zs (after m h zs)) where
-  abbrev es : List Packet
-  es = (after m h zs).packets
-
   abbrev Kept : CommandStart → Client m → Type 0
   Kept s c = WorkKept (after m h zs).packets s.epoch m c.work
 

@@ -1,11 +1,10 @@
 -- Through each of a client's turns: its reconfiguration is of the command's change, which its layout allowed where the command was
 -- taken, at the epoch that was noted then, or past its adopted layout at the next one. A hand that learns was told of a later epoch.
-use Rattle.std.proofs.Common.{◌≡◌, ◌≢◌, ◌⊎◌, ℕ, ◌+◌, ◌<◌, ◌≤◌, List, [], ◌∷◌, ◌++◌, length, Bool, true, false, refl, sym, ap, ◌∙◌, subst, inl, inr, arith, Some, None, Option}
+use Rattle.std.proofs.Common.{◌≡◌, ◌≢◌, ◌⊎◌, ℕ, ◌+◌, ◌<◌, ◌≤◌, List, [], ◌∷◌, ◌++◌, length, true, refl, sym, ap, ◌∙◌, subst, inl, inr, arith, Some, None, Option}
 use Rattle.std.specs.Prelude.{◌==◌, nat_lt}
 use Rattle.tg_base.specs.Layouts.{Layout, IsLayout}
 use Rattle.tg_base.specs.Changes.{Changed}
 use Rattle.tg_base.specs.declared.change.Join.{Join}
-use Rattle.tg_base.specs.declared.ids.NodeId.{NodeId}
 use Rattle.tg_base.specs.declared.msg.Msg.{Msg}
 use Rattle.tg_base.specs.declared.msg.Msg.TheVariants as msg
 use Rattle.tg_base.specs.declared.packet.Out.{Out}
@@ -14,13 +13,13 @@ use Rattle.tg_kind.specs.Meaning.{Meaning}
 use Rattle.tg_model.specs.Kinds.{CommandOf}
 use Rattle.tg_model.specs.declared.refusal.Refusal.{Refusal}
 use Rattle.tg_model.specs.declared.command.Command.TheVariants as cmd
-use Rattle.tg_protocol.specs.Words.{first_some, unit_id, seqr_id}
+use Rattle.tg_protocol.specs.Words.{unit_id, seqr_id}
 use Rattle.tg_protocol.specs.Layouts.{next_units, change_fault}
-use Rattle.tg_protocol.specs.Requests.{out, Waits, waits_for, without_wait, asked_of, awaits, Next, Goes, Learns, Ends}
+use Rattle.tg_protocol.specs.Requests.{out, Waits, waits_for, asked_of, awaits, Next, Goes, Learns, Ends}
 use Rattle.tg_protocol.specs.Replies.{Reply, IsSealed, IsFenced, IsOldEpoch, reply}
 use Rattle.tg_protocol.specs.Trimming.{has_stripe}
-use Rattle.tg_protocol.specs.Reconfiguring.{ReconfWork, SealingSpare, LookingSpare, Sealing, LookingAgain, Agreeing, Telling, Starting, Reconf, ReconfEnd, Installed, Overtaken, NotWhole, ReconfTurn, at_work, next_epoch, seals, join_asks, reconf_work_asks, later_asks, first_step, reconf_start, reconf_feed, reconf_latest}
-use Rattle.tg_protocol.specs.Clients.{Task, Syncing, Walking, Appending, Trimming, Copying', Reconfiguring, Hand, Doing, Learning, Work, Client, busy, tx_open, by_layout, tests, refusal}
+use Rattle.tg_protocol.specs.Reconfiguring.{ReconfWork, SealingSpare, LookingSpare, Sealing, LookingAgain, Agreeing, Telling, Starting, Reconf, ReconfEnd, Installed, Overtaken, NotWhole, ReconfTurn, at_work, next_epoch, join_asks, reconf_work_asks, later_asks, first_step, reconf_start, reconf_feed, reconf_latest}
+use Rattle.tg_protocol.specs.Clients.{Task, Syncing, Walking, Appending, Trimming, Copying', Reconfiguring, Hand, Doing, Learning, Work, Client, tests, refusal}
 use Rattle.tg_protocol.specs.Answers.{Moved}
 use Rattle.tg_protocol.specs.ClientSteps.{ClientTurn, task_in, task_awaited, stands, accepts, new_work, refused_or, reconf_to, on_reconf, after_turn, client_command, client_deliver, client_tick}
 use Rattle.tg_protocol.specs.ClientSteps as step

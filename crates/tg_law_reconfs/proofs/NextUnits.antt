@@ -1,5 +1,5 @@
 -- The units of the layout that a change makes: there are some, a unit that joins is one, and they are no more than there are.
-use Rattle.std.proofs.Common.{◌≡◌, ℕ, ◌+◌, ◌<◌, ◌≤◌, List, [], ◌∷◌, ◌++◌, length, get_or, ◌&&◌, refl, sym, ap, ◌∙◌, subst, inl, inr, arith, zero-add, Option, Some, None, true, Bool}
+use Rattle.std.proofs.Common.{◌≡◌, ℕ, ◌+◌, ◌<◌, ◌≤◌, List, [], ◌∷◌, length, get_or, ◌&&◌, refl, sym, ap, ◌∙◌, subst, inl, inr, arith, zero-add, Option, Some, None, true}
 use Rattle.std.specs.Prelude.{◌==◌, nat_le, if◌then◌else◌}
 use Rattle.tg_base.specs.declared.layout.Range.{Range}
 use Rattle.tg_base.specs.declared.change.Join.{Join}
@@ -13,7 +13,6 @@ use Rattle.tg_proj.specs.Refusals.{units_of as units_in, join_refusal, early_ref
 use Rattle.tg_proj.proofs.Ranges.{each_passes}
 use Rattle.tg_proj.proofs.Chains.{length-next_chains, length-next_ranges, get_or-next_chains, get_or-next_ranges, units_of-append}
 use Rattle.tg_proj.proofs.Allowed.{allowed, join_allowed, some_left}
-use Rattle.tg_protocol.specs.Words.{with_nums}
 use Rattle.tg_protocol.specs.Layouts.{units_of, next_of, next_units, change_fault}
 use Rattle.tg_law_layouts.proofs.Moves.Members.{Has, has_left, has_right}
 use Rattle.tg_law_cells.proofs.Cells.Successors.{units_has}

@@ -1,15 +1,13 @@
 -- A client's own layout is of its change: along a run, what a client proposes of its own comes of the reconfiguration in hand.
-use Rattle.std.proofs.Common.{◌≡◌, ◌⊎◌, ℕ, ◌+◌, ◌<◌, ◌≤◌, List, [], ◌∷◌, ◌++◌, length, map, Bool, true, false, ◌&&◌, refl, sym, ap, ◌∙◌, subst, inl, inr, arith, Some, None, Option}
-use Rattle.std.specs.Prelude.{◌==◌, nat_lt, ⊤}
+use Rattle.std.proofs.Common.{◌≡◌, ◌⊎◌, ℕ, ◌+◌, ◌<◌, ◌≤◌, List, [], ◌∷◌, ◌++◌, length, map, true, false, refl, sym, ap, ◌∙◌, subst, inl, inr, arith, Some, None, Option}
+use Rattle.std.specs.Prelude.{◌==◌, ⊤}
 use Rattle.tg_base.specs.Layouts.{Layout}
-use Rattle.tg_base.specs.Changes.{Changed}
 use Rattle.tg_base.specs.Clusters.{Header}
 use Rattle.tg_base.specs.declared.change.Join.{Join}
 use Rattle.tg_base.specs.declared.ids.Ballot.{Ballot}
 use Rattle.tg_base.specs.declared.ids.NodeId.{NodeId}
 use Rattle.tg_base.specs.declared.msg.Msg.{Msg}
 use Rattle.tg_base.specs.declared.msg.Msg.TheVariants as msg
-use Rattle.tg_base.specs.declared.packet.Out.{Out}
 use Rattle.tg_base.specs.declared.packet.Packet.{Packet}
 use Rattle.tg_kind.specs.Meaning.{Meaning}
 use Rattle.tg_model.specs.Kinds.{CommandOf}
@@ -17,16 +15,16 @@ use Rattle.tg_model.specs.declared.refusal.Refusal.{Refusal}
 use Rattle.tg_model.specs.declared.command.Command.TheVariants as cmd
 use Rattle.tg_protocol.specs.Words.{layout_id, seqr_id, client_id, numbers}
 use Rattle.tg_protocol.specs.Layouts.{first_layout, next_of}
-use Rattle.tg_protocol.specs.Requests.{Waits, awaits, Next, Goes, Learns, Ends}
+use Rattle.tg_protocol.specs.Requests.{awaits, Next, Goes, Learns, Ends}
 use Rattle.tg_protocol.specs.Replies.{Reply, IsPromise, reply}
 use Rattle.tg_protocol.specs.LayoutServers.{layout_step}
 use Rattle.tg_protocol.specs.Sequencers.{SeqrTurn}
-use Rattle.tg_protocol.specs.Reconfiguring.{Acks, Before, Stage, Preparing, Accepting, Later, Voting, ReconfWork, SealingSpare, LookingSpare, Sealing, LookingAgain, Agreeing, Telling, Starting, Reconf, ReconfEnd, Installed, Overtaken, NotWhole, ReconfTurn, next_epoch, greatest, value_or, stage_asks, set_asks, later_asks, reconf_work_asks, reconf_awaited, first_step, reconf_start, reconf_feed, reconf_latest}
-use Rattle.tg_protocol.specs.Clients.{Task, Reconfiguring, Hand, Doing, Work, Client, new_client, refusal}
+use Rattle.tg_protocol.specs.Reconfiguring.{Before, Stage, Preparing, Accepting, Later, Voting, ReconfWork, SealingSpare, LookingSpare, Sealing, LookingAgain, Agreeing, Telling, Starting, Reconf, ReconfEnd, Installed, Overtaken, NotWhole, ReconfTurn, greatest, value_or, stage_asks, set_asks, later_asks, reconf_work_asks, first_step, reconf_start, reconf_feed, reconf_latest}
+use Rattle.tg_protocol.specs.Clients.{Task, Reconfiguring, Hand, Work, Client, new_client, refusal}
 use Rattle.tg_protocol.specs.Answers.{Moved}
 use Rattle.tg_protocol.specs.ClientSteps.{ClientTurn, task_in, task_awaited, stands, accepts, new_work, refused_or, reconf_to, on_reconf, after_turn, client_command, client_deliver, client_tick}
 use Rattle.tg_protocol.specs.ClientSteps as step
-use Rattle.tg_protocol.specs.Worlds.{World, start, packet_of, answer_to}
+use Rattle.tg_protocol.specs.Worlds.{start, packet_of, answer_to}
 use Rattle.tg_protocol.specs.Runs.{Moves}
 use Rattle.tg_law_layouts.specs.Moves.After.{after}
 use Rattle.tg_law_layouts.specs.Moves.Configs.{Config, config, client_in, layout_in}
@@ -35,9 +33,9 @@ use Rattle.tg_law_layouts.proofs.Agreement.Ballots.{top_there}
 use Rattle.tg_law_layouts.proofs.Agreement.Facts.{Proposed, proposed_grows}
 use Rattle.tg_law_layouts.proofs.Agreement.Proposers.{WorkProposes, awaited_proposes}
 use Rattle.tg_law_layouts.proofs.Agreement.Votes.{NewProposal, proposed_either}
-use Rattle.tg_law_layouts.proofs.Layouts.Pax.{task_reconf, reconf_of, calm_none, Silent, WorkerOk, HandOk, TurnFine, awaited_of}
-use Rattle.tg_law_layouts.proofs.Layouts.Phases.{phase, told_epoch, IsTold}
-use Rattle.tg_law_layouts.proofs.Layouts.Plain.{WorkCalm, Plain, Fed, Heard, accepts_plain, delivered_plain, job_plain}
+use Rattle.tg_law_layouts.proofs.Layouts.Pax.{task_reconf, reconf_of, calm_none, Silent, WorkerOk, HandOk, TurnFine}
+use Rattle.tg_law_layouts.proofs.Layouts.Phases.{told_epoch}
+use Rattle.tg_law_layouts.proofs.Layouts.Plain.{WorkCalm, Fed, Heard, accepts_plain, delivered_plain, job_plain}
 use Rattle.tg_law_layouts.proofs.Layouts.Decisions.{Pax, input_fine}
 use Rattle.tg_law_layouts.proofs.Layouts.Layouts.{start_pax}
 use Rattle.tg_law_layouts.proofs.Layouts.Standing.{IsKnown}
@@ -46,7 +44,7 @@ use Rattle.tg_law_layouts.proofs.Layouts.Known.{ReconfKnown}
 use Rattle.tg_law_layouts.proofs.Layouts.Decided.{Lay, start_lay, keeps as lay_keeps}
 use Rattle.tg_law_layouts.proofs.Moves.Lists.{at_set, at_map}
 use Rattle.tg_law_layouts.proofs.Moves.Members.{Has, has_left, has_map}
-use Rattle.tg_law_layouts.proofs.Moves.Moves.{Cases, ClientInput, Commanded, Hears', Ticks', SeqrInput, client_turn, Keeps, keeps_above, run_keeps}
+use Rattle.tg_law_layouts.proofs.Moves.Moves.{Cases, ClientInput, Commanded, Hears', Ticks', SeqrInput, client_turn, keeps_above, run_keeps}
 use Rattle.tg_law_layouts.proofs.Moves.Turns.{not_busy}
 use Rattle.tg_law_layouts.proofs.Moves.Units.{says_answer}
 use Rattle.tg_law_layouts.proofs.Requests.Answered.{turn_on}
@@ -109,12 +107,6 @@ module _ (ps : List Packet) (k : ℕ) where
   own_of : (r : Reconf) (start : ℕ) → r.me ≡ k → IsOwn r (next_of r.stand r.change r.me start)
   unfolding next_of
   own_of r start me = (me, refl)
-
-  proposes_mine : (r : Reconf) (w : ReconfWork) (v : Voting) (start : ℕ) (ws : Waits) → r.me ≡ k → ReconfMine r → v.own ≡ next_of r.stand r.change r.me start → v.stage ≡ Preparing ws [] → ReconfMine (record r { work = Agreeing v })
-  proposes_mine r w v start ws me h own stage = record {
-    seqs = h.seqs;
-    work = (subst (λ (q : Layout). IsOwn r q) (sym own) (own_of r start me), subst (λ (s : Stage). StageMine r s) (sym stage) (λ b g. absurd g));
-  }
 
   value_mine : (r : Reconf) (hs : List Before) (own : Layout) → IsOwn r own → ((b : Ballot × Layout) → Has hs (Some b) → Was ps b.1) → Value r (value_or (greatest hs) own)
   value_mine r hs own mine f = by (greatest hs) (λ y e. top_there hs y e)

@@ -15,7 +15,7 @@ use Rattle.tg_protocol.specs.ClientSteps.{task_asks, client_asks, task_feed, tas
 use Rattle.tg_protocol.specs.Sizes.{fields_size}
 use Rattle.tg_protocol.specs.Worlds.{World, unit, layout, seqr, client, noted_of, runs, start, unit_moves, layout_moves, seqr_moves, client_turned, happens, limit_of, drain_on, drain, tick_all, rounds, settle}
 use Rattle.tg_protocol.specs.Runs.{Move, LawfulMove, Reaches, run}
-use Rattle.tg_protocol.specs.Finishing.{WaitsAlone, NoneAbove, MostRun, IsReadyToChange}
+use Rattle.tg_protocol.specs.Finishing.{WaitsAlone, NoneAbove, MostRun}
 use Rattle.tg_any.specs.AllKinds.{all_kinds}
 use Rattle.tg_any.specs.Anys as any
 use Rattle.tg_law_layouts.proofs.Moves.Members.{Has, has_contained}
