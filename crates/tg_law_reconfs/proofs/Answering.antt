@@ -50,7 +50,7 @@ role_same role.Client role.Client n k e = ap (λ (x : ℕ). node role.Client x) 
 pub node_same : (a b : NodeId) → node_eq a b ≡ true → a ≡ b
 node_same a b e = role_same a.role b.role a.num b.num e
 
-both_parts : (a b : Bool) → (a && b) ≡ true → (a ≡ true) × (b ≡ true)
+pub both_parts : (a b : Bool) → (a && b) ≡ true → (a ≡ true) × (b ≡ true)
 both_parts a b e = grind arith
 
 num_same : (a b : ℕ) → eqb a b ≡ true → a ≡ b
@@ -63,7 +63,7 @@ pub layout_itself : (i : ℕ) → node_eq (layout_id i) (layout_id i) ≡ true
 unfolding node_eq
 layout_itself i = num_itself i
 
-both_true : (a b : Bool) → a ≡ true → b ≡ true → (a && b) ≡ true
+pub both_true : (a b : Bool) → a ≡ true → b ≡ true → (a && b) ≡ true
 both_true a b e f = grind (arith, e, f)
 
 -- an awaited answer is one to some request

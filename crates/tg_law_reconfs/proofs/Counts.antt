@@ -16,7 +16,7 @@ node_turned : (a b : NodeId) → node_eq a b ≡ node_eq b a
 unfolding node_eq
 node_turned a b = grind arith
 
-is_same : (m : Meaning) (k : ℕ) (x : Packet) → is_of k x ≡ is_with_client m k x
+pub is_same : (m : Meaning) (k : ℕ) (x : Packet) → is_of k x ≡ is_with_client m k x
 is_same m k x = ap (λ b. b || node_eq x.to (client_id k)) (node_turned x.from (client_id k)) ∙ ap (λ b. node_eq (client_id k) x.from || b) (node_turned x.to (client_id k))
 
 cost_is : (m : Meaning) (k : ℕ) (o : Option Packet) → cost k o ≡ one_if (passes m (is_with_client m k) o)
@@ -36,7 +36,7 @@ counted_is m k ps (i ∷ is) =
     let c : length (filter (λ i. passes m (is_with_client m k) (slice_get ps i)) (i ∷ is)) ≡ one_if (passes m (is_with_client m k) (slice_get ps i)) + length (filter (λ i. passes m (is_with_client m k) (slice_get ps i)) is) = long_by (passes m (is_with_client m k) (slice_get ps i)) i (filter (λ i. passes m (is_with_client m k) (slice_get ps i)) is) in
     omega (arith, a, b, c)
 
-front_of : (xs ys zs : List ℕ) → zs ≡ xs ++ ys → take (length zs - length ys) zs ≡ xs
+pub front_of : (xs ys zs : List ℕ) → zs ≡ xs ++ ys → take (length zs - length ys) zs ≡ xs
 front_of xs ys zs e = subst (λ (l : List ℕ). take (length l - length ys) l ≡ xs) (sym e) (ap (λ n. take n (xs ++ ys)) (less xs ys) ∙ take-append_seam xs ys)
   where
     less : (xs ys : List ℕ) → length (xs ++ ys) - length ys ≡ length xs

@@ -1,4 +1,4 @@
--- Rounds of ticks from the seals on: the first drain ends them, and begins the votes.
+-- Rounds of ticks from before the votes on: the first drain comes to the votes, or ends the command.
 use Rattle.std.proofs.Common.{◌≡◌, ◌⊎◌, ℕ, suc, ◌+◌, ◌*◌, ◌^◌, ◌<◌, ◌≤◌, List, [], ◌∷◌, ◌++◌, refl, inl, inr}
 use Rattle.tg_base.specs.Clusters.{Header}
 use Rattle.tg_base.specs.declared.ids.NodeId.{NodeId}

@@ -1,4 +1,4 @@
--- A round of ticks before the votes: the client sends its seals again.
+-- A round of ticks before the votes: the client asks units again.
 use Rattle.std.proofs.Common.{◌≡◌, ◌⊎◌, ℕ, zero, suc, ◌+◌, ◌^◌, ◌<◌, ◌≤◌, List, [], ◌∷◌, ◌++◌, length, map, Bool, true, false, refl, ap, ◌∙◌, sym, subst, inl, inr, arith, Some, None, Option}
 use Rattle.std.specs.Prelude.{slice_set, slice_index_or}
 use Rattle.tg_base.specs.Clusters.{Header}
@@ -10,11 +10,11 @@ use Rattle.tg_base.specs.declared.packet.Out.{Out}
 use Rattle.tg_base.specs.declared.packet.Packet.{Packet}
 use Rattle.tg_base.specs.Orders.{node_eq}
 use Rattle.tg_kind.specs.Meaning.{Meaning}
-use Rattle.tg_protocol.specs.Words.{unit_id, layout_id, client_id, numbers}
+use Rattle.tg_protocol.specs.Words.{layout_id, client_id, numbers}
 use Rattle.tg_protocol.specs.Layouts.{first_layout}
 use Rattle.tg_protocol.specs.Requests.{out, waits_for, asked_of}
 use Rattle.tg_protocol.specs.Sequencers.{SeqrState, new_seqr, seqr_tick}
-use Rattle.tg_protocol.specs.Reconfiguring.{ReconfWork, next_epoch, reconf_work_asks, later_asks, this_or}
+use Rattle.tg_protocol.specs.Reconfiguring.{this_or}
 use Rattle.tg_protocol.specs.Clients.{Client, Hand, new_client}
 use Rattle.tg_protocol.specs.ClientSteps.{ClientTurn, called, hand_again_asks}
 use Rattle.tg_protocol.specs.Worlds.{packet_of}
@@ -28,7 +28,7 @@ use Rattle.tg_law_finish.proofs.Finish.Nets.{Net, on_in, Alike, on_alike, client
 use Rattle.tg_law_finish.proofs.Finish.Others.{weigh, weigh_both, idle_ticks}
 use Rattle.tg_law_finish.proofs.Finish.Settles.{Ticking}
 use Rattle.tg_law_reconfs.proofs.Votes.{contrary, Base}
-use Rattle.tg_law_reconfs.proofs.Waits.{has_asked, asked_has, asked_long, all_long}
+use Rattle.tg_law_reconfs.proofs.Waits.{has_asked, asked_long, all_long}
 use Rattle.tg_law_reconfs.proofs.Turns.{First}
 use Rattle.tg_law_reconfs.proofs.Answering.{node_same}
 use Rattle.tg_law_reconfs.proofs.Drains.{Nums, renumbered}
@@ -36,7 +36,8 @@ use Rattle.tg_law_reconfs.proofs.Steps.{nothing_new, new_each, mapped, base_clie
 use Rattle.tg_law_reconfs.proofs.Ticks.{NotIt, other_turned, tick_is, maps_both}
 use Rattle.tg_law_reconfs.proofs.Nodes.{tick_low}
 use Rattle.tg_law_reconfs.proofs.Scanning.{tick_sends, scans_near}
-use Rattle.tg_law_reconfs.proofs.Early.{SeqrNear, scans_early, Flight, votes_first, Early, AsksSeal, AsksLatest, all_early, SealsHand, EarlyFor, EarlyAt, hand_on, seals_reserved}
+use Rattle.tg_law_reconfs.proofs.Phases.{votes_first, units_left, asks_one, units_asked, none_later, UnitsHand, hand_again, one_reserved}
+use Rattle.tg_law_reconfs.proofs.Early.{SeqrNear, scans_early, Flight, Early, AsksOf, AsksLatest, all_early, Later, later_by, EarlyFor, EarlyAt, itself, hand_on}
 
 below_from : (n a at i j : ℕ) → Has (waits_for (numbers n a) at) (i, j) → j < at + n
 below_from zero a at i j h = absurd h
@@ -54,7 +55,19 @@ module _ (m : Meaning) (h : Header) (stopped : List NodeId) (k epoch servers top
   At s q n = EarlyAt m h stopped k epoch servers top round past near small fits first rest s q n
 
   abbrev Hand' : Net m → Client m → Type 0
-  Hand' s c = SealsHand m h stopped k epoch servers top round past near small fits first rest s c
+  Hand' s c = UnitsHand m h stopped k epoch servers top round past near small fits first s c
+
+  abbrev asked : {s : Net m} → {c : Client m} → Hand' s c → List Out
+  asked f = units_asked f.reconf
+
+  abbrev left_for : {s : Net m} → {c : Client m} → Hand' s c → ℕ
+  left_for f = units_left f.reconf f.reconf.work
+
+  abbrev votes_left : ℕ
+  votes_left = votes_first m h stopped k epoch servers top round past near small fits first
+
+  abbrev Later' : Net m → Net m → Type 0
+  Later' s t = Later m h stopped k epoch servers top round past near small fits first rest s t
 
   abbrev EarlyIn : Net m → ℕ → Packet → Type 0
   EarlyIn s next x = Early m h stopped k epoch servers top round past near small fits first rest s next x
@@ -65,15 +78,8 @@ module _ (m : Meaning) (h : Header) (stopped : List NodeId) (k epoch servers top
   abbrev Off : NodeId → Type 0
   Off x = NotIt m h stopped k epoch servers top round past near small fits First rest x
 
-  itself : node_eq (client_id k) (client_id k) ≡ true
-  unfolding node_eq
-  itself = same k
-    where
-      same : (n : ℕ) → Rattle.std.proofs.Common.eqb n n ≡ true
-      same n = grind arith
-
   is_it : (x : NodeId) → x ≡ client_id k → node_eq x (client_id k) ≡ true
-  is_it x e = subst (λ (y : NodeId). node_eq y (client_id k) ≡ true) (sym e) itself
+  is_it x e = subst (λ (y : NodeId). node_eq y (client_id k) ≡ true) (sym e) (itself m h stopped k epoch servers top round past near small fits first rest)
 
   -- the client hasn't ticked yet
   pub record WaitFor (xs : List NodeId) (s : Net m) (c : Client m) (q : List Packet) (n : ℕ) : Type 0 where
@@ -84,7 +90,7 @@ module _ (m : Meaning) (h : Header) (stopped : List NodeId) (k epoch servers top
     pub hand : Hand' s c
     pub nums : Nums m h stopped k epoch servers top round c
     pub each : Each (EarlyIn s c.next) q
-    pub few : heavy q + ((length hand.ws + length hand.ws) + (servers + servers)) + (votes_first m h stopped k epoch servers top round past near small fits first rest + votes_first m h stopped k epoch servers top round past near small fits first rest) + rest ≤ n
+    pub few : heavy q + ((length (asked hand) + length (asked hand)) + (servers + servers)) + (left_for hand + left_for hand) + (votes_left + votes_left) + rest ≤ n
     pub front : List NodeId
     pub back : List NodeId
     pub is : xs ≡ front ++ client_id k ∷ back
@@ -103,13 +109,14 @@ module _ (m : Meaning) (h : Header) (stopped : List NodeId) (k epoch servers top
     base : Fits t
     alike : Alike m s t
     client : client_of m h t k ≡ client_of m h s k
+    rises : (u : ℕ) → (unit_of m s u).epoch ≤ (unit_of m t u).epoch
     highs : (u : ℕ) → (unit_of m t u).high < 2 ^ 62
     rests : (x : ℕ) → Near (seqr_of m h t x)
     each : Each (EarlyIn t (client_of m h s k).next) sent
     light : heavy sent ≤ 0
 
-  on_as : (s t : Net m) → Alike m s t → (n : NodeId) → on_in m stopped s n ≡ true → on_in m stopped t n ≡ true
-  on_as s t a n e = on_alike m stopped s t a n ∙ e
+  later_as : (s t : Net m) (sent : List Packet) → Left s t sent → Later' s t
+  later_as s t sent d = later_by m h stopped k epoch servers top round past near small fits first rest s t d.alike d.rises
 
   back_as : (s t : Net m) → Alike m s t → (n : NodeId) → on_in m stopped t n ≡ true → on_in m stopped s n ≡ true
   back_as s t a n e = sym (on_alike m stopped s t a n) ∙ e
@@ -124,16 +131,16 @@ module _ (m : Meaning) (h : Header) (stopped : List NodeId) (k epoch servers top
         there = λ j on. e.there j (back_as s t d.alike (layout_id j) on);
         highs = d.highs;
         rests = d.rests;
-        hand = hand_on m h stopped k epoch servers top round past near small fits first rest s t (client_of m h s k) (on_as s t d.alike) e.hand;
+        hand = hand_on m h stopped k epoch servers top round past near small fits first rest s t (client_of m h s k) (later_as s t sent d) e.hand;
         nums = e.nums;
-        each = each_both (EarlyIn t (client_of m h s k).next) q sent (all_early m h stopped k epoch servers top round past near small fits first rest s t (client_of m h s k).next (client_of m h s k).next q (on_as s t d.alike) (omega arith) e.each) d.each;
-        flight = λ u j has. more u j (e.flight u j has);
+        each = each_both (EarlyIn t (client_of m h s k).next) q sent (all_early m h stopped k epoch servers top round past near small fits first rest s t (client_of m h s k).next (client_of m h s k).next q (later_as s t sent d) (omega arith) e.each) d.each;
+        flight = λ o has. more o (e.flight o has);
         few = omega (arith, both, light, few);
       })
     where
-      more : (u j : ℕ) → Flight m h stopped k epoch servers top round past near small fits first rest q u j → Flight m h stopped k epoch servers top round past near small fits first rest (q ++ sent) u j
-      more u j (inl f) = inl (has_left q sent _ f)
-      more u j (inr f) = inr (f.0, has_left q sent _ f.1)
+      more : (o : Out) → Flight m h stopped k epoch servers top round past near small fits first rest q o → Flight m h stopped k epoch servers top round past near small fits first rest (q ++ sent) o
+      more o (inl f) = inl (has_left q sent _ f)
+      more o (inr f) = inr (f.0, (has_left q sent _ f.1.0, f.1.1))
 
   wait_left : (x : NodeId) (xs : List NodeId) (s t : Net m) (q sent : List Packet) (n : ℕ) → Off x → Left s t sent → WaitFor (x ∷ xs) s (client_of m h s k) q n → WaitFor xs t (client_of m h t k) (q ++ sent) n
   wait_left x xs s t q sent n off d w = by w.front refl
@@ -151,9 +158,9 @@ module _ (m : Meaning) (h : Header) (stopped : List NodeId) (k epoch servers top
         there = λ j on. w.there j (back_as s t d.alike (layout_id j) on);
         highs = d.highs;
         rests = d.rests;
-        hand = hand_on m h stopped k epoch servers top round past near small fits first rest s t (client_of m h s k) (on_as s t d.alike) w.hand;
+        hand = hand_on m h stopped k epoch servers top round past near small fits first rest s t (client_of m h s k) (later_as s t sent d) w.hand;
         nums = w.nums;
-        each = each_both (EarlyIn t (client_of m h s k).next) q sent (all_early m h stopped k epoch servers top round past near small fits first rest s t (client_of m h s k).next (client_of m h s k).next q (on_as s t d.alike) (omega arith) w.each) d.each;
+        each = each_both (EarlyIn t (client_of m h s k).next) q sent (all_early m h stopped k epoch servers top round past near small fits first rest s t (client_of m h s k).next (client_of m h s k).next q (later_as s t sent d) (omega arith) w.each) d.each;
         few = (let both = weigh_both m h stopped k (first_layout h) q sent in let light = d.light in let few = w.few in omega (arith, both, light, few));
         front = fs;
         back = w.back;
@@ -168,7 +175,7 @@ module _ (m : Meaning) (h : Header) (stopped : List NodeId) (k epoch servers top
 
   same_left : (s : Net m) → Fits s → ((u : ℕ) → (unit_of m s u).high < 2 ^ 62) → ((x : ℕ) → Near (seqr_of m h s x)) → Left s s []
   unfolding weigh
-  same_left s b highs rests = record { base = b; alike = record { counts = λ r. refl }; client = refl; highs = highs; rests = rests; each = tt; light = omega arith }
+  same_left s b highs rests = record { base = b; alike = record { counts = λ r. refl }; client = refl; rises = λ u. omega arith; highs = highs; rests = rests; each = tt; light = omega arith }
 
   -- Another node ticks.
 
@@ -181,6 +188,12 @@ module _ (m : Meaning) (h : Header) (stopped : List NodeId) (k epoch servers top
   tick_highs s i role.Layout f u = f u
   tick_highs s i role.Seqr f u = f u
   tick_highs s i role.Client f u = f u
+
+  tick_rises : (s : Net m) (i : ℕ) (r : Role) (u : ℕ) → (unit_of m s u).epoch ≤ (unit_of m (net_ticked m h s i r) u).epoch
+  tick_rises s i role.Unit u = omega arith
+  tick_rises s i role.Layout u = omega arith
+  tick_rises s i role.Seqr u = omega arith
+  tick_rises s i role.Client u = omega arith
 
   tick_rests : (s : Net m) (i : ℕ) (r : Role) → ((x : ℕ) → Near (seqr_of m h s x)) → (x : ℕ) → Near (seqr_of m h (net_ticked m h s i r) x)
   tick_rests s i role.Unit f x = f x
@@ -209,7 +222,7 @@ module _ (m : Meaning) (h : Header) (stopped : List NodeId) (k epoch servers top
   tick_left : (s : Net m) (i : ℕ) (r : Role) → Fits s → ((u : ℕ) → (unit_of m s u).high < 2 ^ 62) → ((x : ℕ) → Near (seqr_of m h s x)) → node_eq (record { role = r; num = i }) (client_id k) ≡ false → on_in m stopped s (record { role = r; num = i }) ≡ true → Left s (net_ticked m h s i r) (sent_ticked m h s i r)
   tick_left s i r b highs rests off on =
       let d = other_turned m h stopped k epoch servers top round past near small fits First rest s [] i r b off on in
-      record { base = d.turn.base; alike = d.turn.alike; client = d.turn.client; highs = tick_highs s i r highs; rests = tick_rests s i r rests; each = tick_each s (net_ticked m h s i r) (client_of m h s k).next i r b rests off on; light = d.turn.few }
+      record { base = d.turn.base; alike = d.turn.alike; client = d.turn.client; rises = tick_rises s i r; highs = tick_highs s i r highs; rests = tick_rests s i r rests; each = tick_each s (net_ticked m h s i r) (client_of m h s k).next i r b rests off on; light = d.turn.few }
 
   pre_base : (xs : List NodeId) (s : Net m) (q : List Packet) (n : ℕ) → EarlyPre xs s q n → Fits s
   pre_base xs s q n (inl a) = a.early.base
@@ -228,18 +241,17 @@ module _ (m : Meaning) (h : Header) (stopped : List NodeId) (k epoch servers top
 
   -- The client ticks.
 
-  seals_again : (s : Net m) (c : Client m) (f : Hand' s c) → hand_again_asks m c.stand f.work.hand ≡ asked_of unit_id (msg.Seal epoch) f.ws
-  unfolding reconf_work_asks
-  seals_again s c f = ap (λ (d : Hand m). hand_again_asks m c.stand d) f.hand ∙ (ap (λ (w : ReconfWork). this_or (later_asks f.reconf w) (reconf_work_asks f.reconf w)) f.at ∙ ap (λ (e : ℕ). asked_of unit_id (msg.Seal e) f.ws) f.next)
+  asks_again : (s : Net m) (c : Client m) (f : Hand' s c) → hand_again_asks m c.stand f.work.hand ≡ asked f
+  asks_again s c f = ap (λ (d : Hand m). hand_again_asks m c.stand d) f.hand ∙ ap (λ (os : List Out). this_or os (asked f)) (none_later m h stopped k epoch servers top round past near small fits first s f.reconf f.reconf.work f.ahead)
 
   self_tick : (s : Net m) (q : List Packet) (n : ℕ) (xs : List NodeId) (w : WaitFor (client_id k ∷ xs) s (client_of m h s k) q n) → Each Off xs → After xs (net_ticked m h s k role.Client) (q ++ sent_ticked m h s k role.Client) n
   self_tick s q n xs w rest' =
       let c = client_of m h s k in
       let f = w.hand in
       let now = called m (record c { next = c.next + c.layouts }) in
-      let os = asked_of unit_id (msg.Seal epoch) f.ws in
+      let os = asked f in
       let latest = asked_of layout_id msg.AskLatest (waits_for (numbers c.layouts 0) c.next) in
-      let is = tick_is m h stopped k epoch servers top round past near small fits First rest c f.work os f.waits (seals_again s c f) in
+      let is = tick_is m h stopped k epoch servers top round past near small fits First rest c f.work os f.waits (asks_again s c f) in
       let drawn = subst (λ (t : ClientTurn m). Drawn (reserved m c) c.next (t.sends ++ reserved m t.now) t.now.next) is (tick_draws m c).is in
       let moves = renumbered m h stopped k epoch servers top round c now (os ++ latest) w.nums drawn in
       let news = map (packet_of m (client_id k)) os in
@@ -250,12 +262,11 @@ module _ (m : Meaning) (h : Header) (stopped : List NodeId) (k epoch servers top
       let two = weigh_both m h stopped k (first_layout h) news asks in
       let a = weigh_asks m h stopped k (first_layout h) os in
       let b = weigh_asks m h stopped k (first_layout h) latest in
-      let seals = asked_long unit_id (msg.Seal epoch) f.ws in
       let long = asked_long layout_id msg.AskLatest (waits_for (numbers c.layouts 0) c.next) in
       let all = all_long c.layouts c.next in
       let lay = f.layouts in
       let few = w.few in
-      let on : (z : NodeId) → on_in m stopped s z ≡ true → on_in m stopped t z ≡ true = on_as s t (client_alike m s k now) in
+      let l = later_by m h stopped k epoch servers top round past near small fits first rest s t (client_alike m s k now) (λ u. omega arith) in
       subst (λ (u : ClientTurn m). After xs (record s { clients = slice_set s.clients k u.now }) (q ++ map (packet_of m (client_id k)) u.sends) n) (sym is)
       (subst (λ (r : List Packet). After xs t (q ++ r) n) (sym (maps_both m h stopped k epoch servers top round past near small fits First rest os latest)) (record {
         others = rest';
@@ -264,24 +275,21 @@ module _ (m : Meaning) (h : Header) (stopped : List NodeId) (k epoch servers top
           there = λ j f. w.there j (back_as s t (client_alike m s k now) (layout_id j) f);
           highs = w.highs;
           rests = w.rests;
-          hand = record { work = f.work; waits = f.waits; reconf = f.reconf; hand = f.hand; ws = f.ws; acks = f.acks; at = f.at; stand = f.stand; layouts = f.layouts; me = f.me; lays = f.lays; next = f.next; none = f.none; some = f.some; running = λ u j has. on (unit_id u) (f.running u j has) };
+          hand = hand_on m h stopped k epoch servers top round past near small fits first rest s t now l (hand_again m h stopped k epoch servers top round past near small fits first s c now refl refl refl f);
           nums = moves.nums;
-          each = each_both (EarlyIn t now.next) q (news ++ asks) (all_early m h stopped k epoch servers top round past near small fits first rest s t c.next now.next q on (omega arith) w.each)
-              (each_both (EarlyIn t now.next) news asks (new_each (EarlyIn t now.next) os (λ o has. seal_new o has moves.nums.below)) (new_each (EarlyIn t now.next) latest (λ o has. latest_new o has)));
-          flight = λ u j has. inl (has_right q (news ++ asks) _ (has_left news asks _ (mapped (packet_of m (client_id k)) os (out (unit_id u) j (msg.Seal epoch)) (asked_has unit_id (msg.Seal epoch) f.ws u j has))));
-          few = omega (arith, both, two, a, b, seals, long, all, lay, few);
+          each = each_both (EarlyIn t now.next) q (news ++ asks) (all_early m h stopped k epoch servers top round past near small fits first rest s t c.next now.next q l (omega arith) w.each)
+              (each_both (EarlyIn t now.next) news asks (new_each (EarlyIn t now.next) os (λ o has. unit_new o has)) (new_each (EarlyIn t now.next) latest (λ o has. latest_new o has)));
+          flight = λ o has. inl (has_right q (news ++ asks) _ (has_left news asks _ (mapped (packet_of m (client_id k)) os o has)));
+          few = omega (arith, both, two, a, b, long, all, lay, few);
         });
       }))
     where
-      kept : (u j : ℕ) → Has w.hand.ws (u, j) → Has (reserved m (client_of m h s k)) (out (unit_id u) j (msg.Seal (next_epoch w.hand.reconf)))
-      kept u j has = subst (λ (os : List Out). Has os (out (unit_id u) j (msg.Seal (next_epoch w.hand.reconf)))) (sym (seals_reserved m h stopped k epoch servers top round past near small fits first rest s (client_of m h s k) w.hand)) (has_left (asked_of unit_id (msg.Seal (next_epoch w.hand.reconf)) w.hand.ws) [] _ (asked_has unit_id (msg.Seal (next_epoch w.hand.reconf)) w.hand.ws u j has))
-
-      seal_new : (o : Out) → Has (asked_of unit_id (msg.Seal epoch) w.hand.ws) o → ((p : Out) → Has (reserved m (called m (record (client_of m h s k) { next = (client_of m h s k).next + (client_of m h s k).layouts }))) p → p.rid < (client_of m h s k).next + (client_of m h s k).layouts)
+      unit_new : (o : Out) → Has (asked w.hand) o
           → EarlyIn (record s { clients = slice_set s.clients k (called m (record (client_of m h s k) { next = (client_of m h s k).next + (client_of m h s k).layouts })) }) ((client_of m h s k).next + (client_of m h s k).layouts) (packet_of m (client_id k) o)
-      seal_new o has below =
-          let x = has_asked unit_id (msg.Seal epoch) w.hand.ws o has in
-          let less = w.nums.below (out (unit_id x.num) x.rid (msg.Seal (next_epoch w.hand.reconf))) (kept x.num x.rid x.has) in
-          subst (λ (z : Out). EarlyIn (record s { clients = slice_set s.clients k (called m (record (client_of m h s k) { next = (client_of m h s k).next + (client_of m h s k).layouts })) }) ((client_of m h s k).next + (client_of m h s k).layouts) (packet_of m (client_id k) z)) (sym x.is) (AsksSeal x.num x.rid (omega (arith, less)))
+      unit_new o has =
+          let d = asks_one m h stopped k epoch servers top round past near small fits first s w.hand.reconf w.hand.reconf.work w.hand.next w.hand.ahead o has in
+          let less = w.nums.below o (one_reserved m h stopped k epoch servers top round past near small fits first s (client_of m h s k) w.hand o has) in
+          subst (λ (z : NodeId). EarlyIn (record s { clients = slice_set s.clients k (called m (record (client_of m h s k) { next = (client_of m h s k).next + (client_of m h s k).layouts })) }) ((client_of m h s k).next + (client_of m h s k).layouts) (packet_of m (client_id k) (out z o.rid o.msg))) (sym d.to) (AsksOf d.num o.rid o.msg (omega (arith, less)) d.of d.close)
 
       latest_new : (o : Out) → Has (asked_of layout_id msg.AskLatest (waits_for (numbers (client_of m h s k).layouts 0) (client_of m h s k).next)) o
           → EarlyIn (record s { clients = slice_set s.clients k (called m (record (client_of m h s k) { next = (client_of m h s k).next + (client_of m h s k).layouts })) }) ((client_of m h s k).next + (client_of m h s k).layouts) (packet_of m (client_id k) o)
@@ -301,7 +309,7 @@ module _ (m : Meaning) (h : Header) (stopped : List NodeId) (k epoch servers top
       head_is x y xs ys e = cc
 
   one_self : (xs : List NodeId) (s : Net m) (q : List Packet) (n : ℕ) → EarlyPre (client_id k ∷ xs) s q n → EarlyPre xs (net_ticked m h s k role.Client) (q ++ sent_ticked m h s k role.Client) n
-  one_self xs s q n (inl a) = absurd (contrary itself a.others.0)
+  one_self xs s q n (inl a) = absurd (contrary (itself m h stopped k epoch servers top round past near small fits first rest) a.others.0)
   one_self xs s q n (inr w) = inl (self_tick s q n xs w (rest_off xs s q n w w.front refl))
 
   it_or_not : (x : NodeId) → (node_eq x (client_id k) ≡ true) ⊎ Off x

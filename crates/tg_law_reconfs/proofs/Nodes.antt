@@ -17,7 +17,7 @@ use Rattle.tg_protocol.specs.Words.{unit_id, layout_id, seqr_id, client_id, ball
 use Rattle.tg_protocol.specs.Layouts.{first_layout}
 use Rattle.tg_protocol.specs.Requests.{out, awaits, Waits, asked_of, Next, Goes, Learns, Ends}
 use Rattle.tg_protocol.specs.Replies.{Reply, IsFenced, IsLatest, IsOther, reply}
-use Rattle.tg_protocol.specs.Units.{UnitState, UnitAsk, UnitTurn, on_seal, Reads, Stores, Fills, Looks, new_unit, unit_ask, unit_step, on_ask}
+use Rattle.tg_protocol.specs.Units.{UnitState, UnitAsk, UnitTurn, Reads, Stores, Fills, Looks, new_unit, unit_ask, unit_step, on_ask}
 use Rattle.tg_protocol.specs.LayoutServers.{LayoutState, LayoutTurn, Vote, vote_of, new_layout, says, tells_latest, layout_ask, on_layout_ask, layout_step, on_prepare, on_accept, on_decided, past_first}
 use Rattle.tg_protocol.specs.Cells.{Place, CellJob, CellWork, Puts, Gets, Fills as FillsCell, Copies, Probes, CellEnd, Done, Seen, Lost, Fenced, Gone, work_asks, cell_asks, cell_feed, work_feed, get_cell, fill_cell}
 use Rattle.tg_protocol.specs.Sequencers.{SeqrState, SeqrTurn, new_seqr, seqr_step, seqr_tick, seqr_asks, scan_asks, scan_fed, fed_if, scan_next, scan_ended, scan_on, scanning, with_positions, cell_streams, begun, answers, on_learn, learn_or_old, unfenced, stand_answer}
@@ -29,7 +29,8 @@ use Rattle.tg_law_finish.proofs.Finish.Lists.{Each, each_filter, set_index, set_
 use Rattle.tg_law_finish.proofs.Finish.Nets.{Net, net_after, sent_then, on_in, Alike, on_alike, unit_alike, seqr_alike, unit_of, layout_of, seqr_of, client_of}
 use Rattle.tg_law_finish.proofs.Finish.Others.{weigh, weight, to_weighs}
 use Rattle.tg_law_finish.proofs.Finish.Strays.{is_plain, unit_plain}
-use Rattle.tg_law_reconfs.proofs.Votes.{contrary, ballot, promised, OfEpoch, ServerFine, FenceLow, SeqrLow, Base, IsScan, TellsLow, AskOk, TellOk, LearnTold, LatestLow, DecidedTold, scan_packet, told_packet, answer_packet, Ok, Scans, Scanned, Tells, Grows}
+use Rattle.tg_law_reconfs.proofs.Votes.{contrary, ballot, promised, OfEpoch, ServerFine, FenceLow, SeqrLow, Base, IsScan, OfUnit, TellsLow, AskOk, TellOk, LearnTold, LatestLow, DecidedTold, scan_packet, told_packet, answer_packet, Ok, Scans, Scanned, Tells, Grows}
+use Rattle.tg_law_reconfs.proofs.Looks.{unit_says}
 
 -- A unit's answer to a scan.
 
@@ -89,7 +90,7 @@ module _ (m : Meaning) (h : Header) (stopped : List NodeId) (k epoch servers top
   abbrev TellsLow' : Msg → Type 0
   TellsLow' y = TellsLow m h stopped k epoch servers top round y
 
-  scan_epoch : (s : UnitState) (a : UnitAsk) → IsScan m h stopped k epoch servers top round a → (on_ask s a).now.epoch ≡ s.epoch
+  pub scan_epoch : (s : UnitState) (a : UnitAsk) → IsScan m h stopped k epoch servers top round a → (on_ask s a).now.epoch ≡ s.epoch
   scan_epoch s (Reads e p) f = read_epoch s e p
   scan_epoch s (Stores e p c) f = store_epoch s e p c
   scan_epoch s (Fills e p) f = fill_epoch s e p
@@ -578,49 +579,47 @@ module _ (m : Meaning) (h : Header) (stopped : List NodeId) (k epoch servers top
             back = inl refl;
           })
 
-      -- A seal comes to a unit.
+      -- What was asked before the votes comes to a unit.
 
       pub unit_far : (i : ℕ) → node_eq (unit_id i) (client_id k) ≡ false
       unfolding node_eq
       unit_far i = refl
 
-      pub sealed_is : (s : UnitState) → s.epoch ≤ epoch → unit_step s (msg.Seal epoch) ≡ record { now = record s { epoch = epoch }; says = Some (msg.Sealed epoch s.high) }
-      unfolding unit_step unit_ask on_ask
-      sealed_is s le = ap (λ b. on_seal s epoch b) (not_past s.epoch le)
-        where
-          not_past : (a : ℕ) → a ≤ epoch → nat_lt epoch a ≡ false
-          not_past a le = grind (arith, nat_tests, le)
+      -- it tells no layout
+      unit_low : (y : Msg) (r : Reply) → ((q : Layout) → reply y ≡ IsLatest q → ⊥) → reply y ≡ r → LatestLow m h stopped k epoch servers top round r
+      unit_low y (IsLatest q) never e = absurd (never q e)
+      unit_low y r never e = tt
 
-      pub sealed_low : (x : ℕ) → LatestLow m h stopped k epoch servers top round (reply (msg.Sealed epoch x))
-      unfolding reply
-      sealed_low x = by (Rattle.tg_protocol.specs.Words.too_far x)
-        where
-          by : (b : Bool) → LatestLow m h stopped k epoch servers top round (cond b IsOther (Rattle.tg_protocol.specs.Replies.IsSealed epoch x))
-          by true = tt
-          by false = tt
+      -- what it was asked it may answer as it likes
+      pub unit_tells : (t : Net m) (a : NodeId) (y : Msg) (x : Reply) → OfUnit epoch y → TellOk m h stopped k epoch servers top round t a y x
+      unit_tells t a (msg.Seal e) x of = tt
+      unit_tells t a (msg.Has e lo hi step) x of = tt
+      unit_tells t a y x of = absurd of
 
-      pub seal_comes : (s : Net m) (next : ℕ) (aw : List Out) (u rid : ℕ) → on_in m stopped s (unit_id u) ≡ true → rid < next → ((z : Msg) → Has aw (out (unit_id u) rid z) → z ≡ msg.Seal epoch) → Fits s
-          → AskTurn s next aw (unit_id u) rid (net_after m h s (packet_of m (client_id k) (out (unit_id u) rid (msg.Seal epoch))) role.Unit) (sent_then m h s (packet_of m (client_id k) (out (unit_id u) rid (msg.Seal epoch))) role.Unit)
-      seal_comes s next aw u rid on less one b =
+      pub unit_comes : (s : Net m) (next : ℕ) (aw : List Out) (u rid : ℕ) (y : Msg) → on_in m stopped s (unit_id u) ≡ true → rid < next → OfUnit epoch y
+          → ((z : Msg) → Has aw (out (unit_id u) rid z) → OfUnit epoch z) → Fits s
+          → AskTurn s next aw (unit_id u) rid (net_after m h s (packet_of m (client_id k) (out (unit_id u) rid y)) role.Unit) (sent_then m h s (packet_of m (client_id k) (out (unit_id u) rid y)) role.Unit)
+      unit_comes s next aw u rid y on less of one b =
           let x = unit_of m s u in
-          let now : UnitState = record x { epoch = epoch } in
+          let f = unit_says x y epoch of (b.units u) in
+          let now : UnitState = (unit_step x y).now in
           let t : Net m = record s { units = slice_set s.units u now } in
           let alike = unit_alike m s u now in
-          let light = to_light (unit_id u) rid (msg.Sealed epoch x.high) (unit_far u) in
-          subst (λ (z : UnitTurn). AskTurn s next aw (unit_id u) rid (record s { units = slice_set s.units u z.now }) (answer_to m (packet_of m (client_id k) (out (unit_id u) rid (msg.Seal epoch))) z.says)) (sym (sealed_is x (b.units u))) (record {
-            says = msg.Sealed epoch x.high;
+          let light = to_light (unit_id u) rid f.says (unit_far u) in
+          subst (λ (o : Option Msg). AskTurn s next aw (unit_id u) rid t (answer_to m (packet_of m (client_id k) (out (unit_id u) rid y)) o)) (sym f.is) (record {
+            says = f.says;
             turn = record {
-              base = record { on = on_same s t alike b.on; units = λ v. by v (set_index s.units u now v new_unit); layouts = b.layouts; seqrs = b.seqrs; idle = λ j off on. b.idle j off (sym (on_alike m stopped s t alike (client_id j)) ∙ on) };
+              base = record { on = on_same s t alike b.on; units = λ v. by f.below v (set_index s.units u now v new_unit); layouts = b.layouts; seqrs = b.seqrs; idle = λ j off on. b.idle j off (sym (on_alike m stopped s t alike (client_id j)) ∙ on) };
               grows = record { on = λ n e. on_alike m stopped s t alike n ∙ e; low = λ n e. e; high = λ n b e f. e };
               alike = alike;
               client = refl;
-              each = (Tells (unit_id u) rid (msg.Sealed epoch x.high) (on_alike m stopped s t alike (unit_id u) ∙ on) (unit_far u) less (sealed_low x.high) (λ z g. subst (λ (y : Msg). TellOk m h stopped k epoch servers top round t (unit_id u) y (reply (msg.Sealed epoch x.high))) (sym (one z g)) tt), tt);
+              each = (Tells (unit_id u) rid f.says (on_alike m stopped s t alike (unit_id u) ∙ on) (unit_far u) less (unit_low f.says (reply f.says) f.never refl) (λ z g. unit_tells t (unit_id u) z (reply f.says) (one z g)), tt);
               few = omega (arith, light);
             };
             back = inl refl;
           })
         where
-          by : (v : ℕ) → ((v ≡ u) × (slice_index_or (slice_set s.units u (record (unit_of m s u) { epoch = epoch })) v new_unit ≡ record (unit_of m s u) { epoch = epoch })) ⊎ (slice_index_or (slice_set s.units u (record (unit_of m s u) { epoch = epoch })) v new_unit ≡ unit_of m s v)
-              → (slice_index_or (slice_set s.units u (record (unit_of m s u) { epoch = epoch })) v new_unit).epoch ≤ epoch
-          by v (inl c) = let e = ap (λ (z : UnitState). z.epoch) c.1 in omega (arith, e)
-          by v (inr c) = subst (λ (z : UnitState). z.epoch ≤ epoch) (sym c) (b.units v)
+          by : (unit_step (unit_of m s u) y).now.epoch ≤ epoch → (v : ℕ) → ((v ≡ u) × (slice_index_or (slice_set s.units u (unit_step (unit_of m s u) y).now) v new_unit ≡ (unit_step (unit_of m s u) y).now)) ⊎ (slice_index_or (slice_set s.units u (unit_step (unit_of m s u) y).now) v new_unit ≡ unit_of m s v)
+              → (slice_index_or (slice_set s.units u (unit_step (unit_of m s u) y).now) v new_unit).epoch ≤ epoch
+          by le v (inl c) = subst (λ (z : UnitState). z.epoch ≤ epoch) (sym c.1) le
+          by le v (inr c) = subst (λ (z : UnitState). z.epoch ≤ epoch) (sym c) (b.units v)

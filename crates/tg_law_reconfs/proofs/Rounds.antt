@@ -16,9 +16,12 @@ long_numbers : (n a : ℕ) → length (numbers n a) ≡ n
 long_numbers zero a = refl
 long_numbers (suc n) a = ap suc (long_numbers n (a + 1))
 
+pub same_long : (a b : ℕ) → eqb a b ≡ true → a ≡ b
+same_long a b e = grind arith
+
 module _ (m : Meaning) where
   -- as many packets wait more as were sent
-  Balanced : World m → World m → Type 0
+  unfoldable pub Balanced : World m → World m → Type 0
   Balanced w v = length v.waiting + length w.packets ≡ length w.waiting + length v.packets
 
   one_balanced : (w : World m) (x : NodeId) → runs m w x ≡ true → Balanced w (happens m w (Tick x))
@@ -52,16 +55,16 @@ module _ (m : Meaning) where
   if_runs x xs w false e rest = rest w
   if_runs x xs w true e rest = by_limit w (tick_all m xs (happens m w (Tick x))) (limit_of m w) (balanced_then w (happens m w (Tick x)) _ (one_balanced w x e) (rest (happens m w (Tick x))))
 
-  ticks_balanced : (xs : List NodeId) (w : World m) → Balanced w (tick_all m xs w).world
+  pub ticks_balanced : (xs : List NodeId) (w : World m) → Balanced w (tick_all m xs w).world
   unfolding tick_all
   ticks_balanced [] w = same_balanced w
   ticks_balanced (x ∷ xs) w = if_runs x xs w (runs m w x) refl (λ v. ticks_balanced xs v)
 
-  none_long : (xs : List ℕ) → length xs ≡ 0 → xs ≡ []
+  pub none_long : (xs : List ℕ) → length xs ≡ 0 → xs ≡ []
   none_long [] e = refl
   none_long (x ∷ xs) e = absurd (omega (arith, e))
 
-  queue_none : (w : World m) (q : List Packet) → w.waiting ≡ [] → Queue m w q → q ≡ []
+  pub queue_none : (w : World m) (q : List Packet) → w.waiting ≡ [] → Queue m w q → q ≡ []
   queue_none w q e queue = by q (subst (λ is. Carries w.packets is q) e queue.carries)
     where
       by : (q : List Packet) → Carries w.packets [] q → q ≡ []
@@ -110,9 +113,6 @@ module _ (m : Meaning) where
 
     abbrev after_ticks : ℕ → World m → Bool → Ran m
     after_ticks r v b = elim b as (λ _. Ran m) [ true ↦ drain m v | false ↦ unless_stopped m (drain m v) (λ u. rounds m r u) ]
-
-    same_long : (a b : ℕ) → eqb a b ≡ true → a ≡ b
-    same_long a b e = grind arith
 
     module _ (f : Folds) where
       after : (r n : ℕ) (w v : World m) (b : Bool) → eqb (length v.packets) (length w.packets) ≡ b → w.waiting ≡ [] → Balanced w v → Ticked m k h stopped (Fresh r) (Pre r) w v n

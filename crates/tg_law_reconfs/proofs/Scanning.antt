@@ -46,7 +46,7 @@ goes j = Goes j
 same_job : (i j : CellJob) → goes i ≡ goes j → i ≡ j
 same_job i j e = cc
 
-place_kept : (u : ℕ) (x : Reply) (next : ℕ) (j : CellJob) (t : Turn CellJob CellEnd) → cells.Fed u x next j t → (i : CellJob) → t.to ≡ goes i → i.place ≡ j.place
+pub place_kept : (u : ℕ) (x : Reply) (next : ℕ) (j : CellJob) (t : Turn CellJob CellEnd) → cells.Fed u x next j t → (i : CellJob) → t.to ≡ goes i → i.place ≡ j.place
 place_kept u x next _ _ (cells.PutsOn a r d n is f) i h = sym (ap (λ (z : CellJob). z.place) (same_job _ i h))
 place_kept u x next _ _ (cells.ReadsNone a r is) i h = sym (ap (λ (z : CellJob). z.place) (same_job _ i h))
 place_kept u x next _ _ (cells.CopiesOn a w c n is f) i h = sym (ap (λ (z : CellJob). z.place) (same_job _ i h))

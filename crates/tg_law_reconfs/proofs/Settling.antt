@@ -1,17 +1,18 @@
--- Reconfigurations whose seal, or whose request for a promise, is lost: a settling installs the layout.
-use Rattle.std.proofs.Common.{◌≡◌, ◌≢◌, ℕ, zero, suc, ◌+◌, ◌*◌, ◌<◌, ◌≤◌, Bool, [], ◌∷◌, length, true, false, refl, sym, subst, inl, inr, arith, None}
+-- Reconfigurations whose seal, or whose request for a promise, is lost: a settling installs the layout. So where a unit joins
+-- whose seal is lost.
+use Rattle.std.proofs.Common.{◌≡◌, ◌≢◌, ℕ, zero, suc, ◌+◌, ◌*◌, ◌<◌, ◌≤◌, Bool, List, [], ◌∷◌, length, true, false, refl, sym, subst, inl, inr, arith, None, Some}
 use Rattle.std.specs.Prelude.{◌==◌}
 use Rattle.tg_model.specs.declared.command.Command.TheVariants as cmd
 use Rattle.tg_model.specs.declared.trace.What.TheVariants as told
 use Rattle.tg_base.specs.Orders.{node_eq}
 use Rattle.tg_protocol.specs.Words.{client_id, unit_id}
-use Rattle.tg_protocol.specs.Layouts.{units_of, next_of, change_fault, first_layout}
-use Rattle.tg_protocol.specs.Units.{new_unit, unit_ask, on_ask, unit_step}
+use Rattle.tg_protocol.specs.Layouts.{units_of, next_of, next_units, change_fault, first_layout}
+use Rattle.tg_protocol.specs.Units.{new_unit, unit_ask, first_missing, on_ask, unit_step}
 use Rattle.tg_protocol.specs.LayoutServers.{new_layout, layout_ask, on_layout_ask, layout_step}
 use Rattle.tg_protocol.specs.Requests.{Waits}
 use Rattle.tg_protocol.specs.Replies.{reply}
 use Rattle.tg_protocol.specs.Sequencers.{first_epoch, new_seqr, seqr_step, seqr_tick}
-use Rattle.tg_protocol.specs.Reconfiguring.{Reconf, Sealing, reconf_work_asks, reconf_start, reconf_feed, reconf_latest}
+use Rattle.tg_protocol.specs.Reconfiguring.{Reconf, SealingSpare, Sealing, reconf_work_asks, reconf_start, reconf_feed, reconf_latest}
 use Rattle.tg_protocol.specs.Clients.{new_client, tests, refusal}
 use Rattle.tg_protocol.specs.ClientSteps.{task_asks, client_asks, task_feed, task_again, accepts, client_command, client_deliver, client_tick}
 use Rattle.tg_protocol.specs.Sizes.{fields_size}
@@ -20,11 +21,14 @@ use Rattle.tg_protocol.specs.Runs.{Move, LawfulMove, Reaches, most_steps, run}
 use Rattle.tg_protocol.specs.Finishing.{WaitsAlone, NoneAbove, MostRun, deliveries, is_with_client}
 use Rattle.tg_any.specs.AllKinds.{all_kinds}
 use Rattle.tg_any.specs.Anys as any
+use Rattle.tg_base.specs.Layouts.{Layout}
+use Rattle.tg_base.specs.declared.change.Join.{Join}
 use Rattle.tg_law_layouts.proofs.Moves.Members.{Has, has_contained}
 use Rattle.tg_law_finish.specs.Tallies.Tallies.{one_of_each}
 use Rattle.tg_law_finish.specs.Tallies.Settled.{opens_again}
 use Rattle.tg_law_reconfs.specs.Reconfs.{WaitsForVotes, WaitsForSeals}
-use Rattle.tg_law_reconfs.specs.Settled.{seal_lost, promise_lost, Installs, SealsAreAnswered, VotesAreAnswered}
+use Rattle.tg_law_reconfs.specs.Changing.{WaitsToChange}
+use Rattle.tg_law_reconfs.specs.Settled.{seal_lost, promise_lost, two_units, joins_stripe, join_lost, Installs, SealsAreAnswered, VotesAreAnswered, JoinsAreAnswered}
 
 pub less_two : 1 < 2
 less_two = omega arith
@@ -277,3 +281,175 @@ promise_installs = record { counted = promise_counted; none_before = promise_bef
 
 pub votes_settle : VotesAreAnswered
 votes_settle = record { reached = promise_reached; alone = promise_alone; waits = promise_waits; allowed = promise_allowed; installs = promise_installs }
+
+-- A unit joins, and its seal is lost.
+
+abbrev unjoined : World all_kinds
+unjoined = run all_kinds join_lost (start all_kinds two_units)
+
+join_steps : unjoined.steps ≡ 13
+unfolding run start node_eq units_of next_of change_fault new_unit unit_ask first_missing on_ask unit_step new_layout layout_ask on_layout_ask layout_step reply new_seqr seqr_step seqr_tick reconf_work_asks reconf_start reconf_feed reconf_latest new_client tests refusal task_asks client_asks task_feed task_again accepts client_command client_deliver client_tick fields_size unit_moves layout_moves seqr_moves client_turned happens limit_of drain_on drain tick_all rounds settle any.first
+join_steps = refl
+
+join_given : (x y : Move all_kinds) → x ≡ y → LawfulMove all_kinds two_units y → LawfulMove all_kinds two_units x
+join_given x y e l = subst (λ (z : Move all_kinds). LawfulMove all_kinds two_units z) (sym e) l
+
+join_lawful : (x : Move all_kinds) → Has join_lost x → LawfulMove all_kinds two_units x
+join_lawful x (inl e) = join_given x _ e (omega arith, refl)
+join_lawful x (inr (inl e)) = join_given x _ e tt
+join_lawful x (inr (inr (inl e))) = join_given x _ e tt
+join_lawful x (inr (inr (inr (inl e)))) = join_given x _ e tt
+join_lawful x (inr (inr (inr (inr (inl e))))) = join_given x _ e tt
+join_lawful x (inr (inr (inr (inr (inr (inl e)))))) = join_given x _ e tt
+join_lawful x (inr (inr (inr (inr (inr (inr (inl e))))))) = join_given x _ e tt
+join_lawful x (inr (inr (inr (inr (inr (inr (inr (inl e)))))))) = join_given x _ e tt
+join_lawful x (inr (inr (inr (inr (inr (inr (inr (inr (inl e))))))))) = join_given x _ e tt
+join_lawful x (inr (inr (inr (inr (inr (inr (inr (inr (inr (inl e)))))))))) = join_given x _ e tt
+join_lawful x (inr (inr (inr (inr (inr (inr (inr (inr (inr (inr (inl e))))))))))) = join_given x _ e tt
+join_lawful x (inr (inr (inr (inr (inr (inr (inr (inr (inr (inr (inr (inl e)))))))))))) = join_given x _ e (omega arith, refl)
+join_lawful x (inr (inr (inr (inr (inr (inr (inr (inr (inr (inr (inr (inr (inl e))))))))))))) = join_given x _ e tt
+join_lawful x (inr (inr (inr (inr (inr (inr (inr (inr (inr (inr (inr (inr (inr i))))))))))))) = absurd i
+
+join_reached : Reaches all_kinds two_units join_lost unjoined
+unfolding start
+join_reached = record {
+  header = refl;
+  goes = record { lawful = λ x i. join_lawful x (has_contained join_lost x i); is = refl; few = few_steps 13 _ join_steps (omega arith) };
+}
+
+join_others : (j : ℕ) → j ≢ 0 → runs all_kinds unjoined (client_id j) ≡ true → (client all_kinds unjoined j).work ≡ None
+unfolding run start node_eq units_of next_of change_fault new_unit unit_ask first_missing on_ask unit_step new_layout layout_ask on_layout_ask layout_step reply new_seqr seqr_step seqr_tick reconf_work_asks reconf_start reconf_feed reconf_latest new_client tests refusal task_asks client_asks task_feed task_again accepts client_command client_deliver client_tick fields_size unit_moves layout_moves seqr_moves client_turned happens limit_of drain_on drain tick_all rounds settle any.first
+join_others zero off on = absurd (off refl)
+join_others (suc j) off on = refl
+
+join_within : (settle all_kinds unjoined).stopped ≡ None
+unfolding run start node_eq units_of next_of change_fault new_unit unit_ask first_missing on_ask unit_step new_layout layout_ask on_layout_ask layout_step reply new_seqr seqr_step seqr_tick reconf_work_asks reconf_start reconf_feed reconf_latest new_client tests refusal task_asks client_asks task_feed task_again accepts client_command client_deliver client_tick fields_size unit_moves layout_moves seqr_moves client_turned happens limit_of drain_on drain tick_all rounds settle any.first
+join_within = refl
+
+join_alone : WaitsAlone all_kinds unjoined 0 (cmd.Reconf joins_stripe)
+unfolding run start node_eq units_of next_of change_fault new_unit unit_ask first_missing on_ask unit_step new_layout layout_ask on_layout_ask layout_step reply new_seqr seqr_step seqr_tick reconf_work_asks reconf_start reconf_feed reconf_latest new_client tests refusal task_asks client_asks task_feed task_again accepts client_command client_deliver client_tick fields_size unit_moves layout_moves seqr_moves client_turned happens limit_of drain_on drain tick_all rounds settle any.first
+join_alone = record { quiet = refl; running = refl; work = _; waits = refl; command = refl; alone = join_others; within = join_within }
+
+join_most : MostRun all_kinds unjoined
+unfolding run start node_eq units_of next_of change_fault new_unit unit_ask first_missing on_ask unit_step new_layout layout_ask on_layout_ask layout_step reply new_seqr seqr_step seqr_tick reconf_work_asks reconf_start reconf_feed reconf_latest new_client tests refusal task_asks client_asks task_feed task_again accepts client_command client_deliver client_tick fields_size unit_moves layout_moves seqr_moves client_turned happens limit_of drain_on drain tick_all rounds settle any.first
+join_most = less_two
+
+join_stand : (client all_kinds unjoined 0).stand.epoch ≡ 2
+unfolding run start node_eq units_of next_of change_fault new_unit unit_ask first_missing on_ask unit_step new_layout layout_ask on_layout_ask layout_step reply new_seqr seqr_step seqr_tick reconf_work_asks reconf_start reconf_feed reconf_latest new_client tests refusal task_asks client_asks task_feed task_again accepts client_command client_deliver client_tick fields_size unit_moves layout_moves seqr_moves client_turned happens limit_of drain_on drain tick_all rounds settle any.first
+join_stand = refl
+
+join_sealed : (unit all_kinds unjoined 0).epoch ≡ 2
+unfolding run start node_eq units_of next_of change_fault new_unit unit_ask first_missing on_ask unit_step new_layout layout_ask on_layout_ask layout_step reply new_seqr seqr_step seqr_tick reconf_work_asks reconf_start reconf_feed reconf_latest new_client tests refusal task_asks client_asks task_feed task_again accepts client_command client_deliver client_tick fields_size unit_moves layout_moves seqr_moves client_turned happens limit_of drain_on drain tick_all rounds settle any.first
+join_sealed = refl
+
+join_spare : (unit all_kinds unjoined 1).epoch ≡ 1
+unfolding run start node_eq units_of next_of change_fault new_unit unit_ask first_missing on_ask unit_step new_layout layout_ask on_layout_ask layout_step reply new_seqr seqr_step seqr_tick reconf_work_asks reconf_start reconf_feed reconf_latest new_client tests refusal task_asks client_asks task_feed task_again accepts client_command client_deliver client_tick fields_size unit_moves layout_moves seqr_moves client_turned happens limit_of drain_on drain tick_all rounds settle any.first
+join_spare = refl
+
+join_latest : (layout all_kinds unjoined 0).latest.epoch ≡ 2
+unfolding run start node_eq units_of next_of change_fault new_unit unit_ask first_missing on_ask unit_step new_layout layout_ask on_layout_ask layout_step reply new_seqr seqr_step seqr_tick reconf_work_asks reconf_start reconf_feed reconf_latest new_client tests refusal task_asks client_asks task_feed task_again accepts client_command client_deliver client_tick fields_size unit_moves layout_moves seqr_moves client_turned happens limit_of drain_on drain tick_all rounds settle any.first
+join_latest = refl
+
+join_scanned : (seqr all_kinds unjoined 0).epoch ≡ 2
+unfolding run start node_eq units_of next_of change_fault new_unit unit_ask first_missing on_ask unit_step new_layout layout_ask on_layout_ask layout_step reply new_seqr seqr_step seqr_tick reconf_work_asks reconf_start reconf_feed reconf_latest new_client tests refusal task_asks client_asks task_feed task_again accepts client_command client_deliver client_tick fields_size unit_moves layout_moves seqr_moves client_turned happens limit_of drain_on drain tick_all rounds settle any.first
+join_scanned = refl
+
+join_units : (u : ℕ) → (unit all_kinds unjoined u).epoch ≤ 2
+unfolding run start node_eq units_of next_of change_fault new_unit unit_ask first_missing on_ask unit_step new_layout layout_ask on_layout_ask layout_step reply new_seqr seqr_step seqr_tick reconf_work_asks reconf_start reconf_feed reconf_latest new_client tests refusal task_asks client_asks task_feed task_again accepts client_command client_deliver client_tick fields_size unit_moves layout_moves seqr_moves client_turned happens limit_of drain_on drain tick_all rounds settle any.first
+join_units zero = two_most 2 _ join_sealed (omega arith)
+join_units (suc zero) = two_most 1 _ join_spare (omega arith)
+join_units (suc (suc u)) = two_most 1 _ refl (omega arith)
+
+join_layouts : (n : ℕ) → (layout all_kinds unjoined n).latest.epoch ≤ 2
+unfolding run start node_eq units_of next_of change_fault new_unit unit_ask first_missing on_ask unit_step new_layout layout_ask on_layout_ask layout_step reply new_seqr seqr_step seqr_tick reconf_work_asks reconf_start reconf_feed reconf_latest new_client tests refusal task_asks client_asks task_feed task_again accepts client_command client_deliver client_tick fields_size unit_moves layout_moves seqr_moves client_turned happens limit_of drain_on drain tick_all rounds settle any.first
+join_layouts zero = two_most 2 _ join_latest (omega arith)
+join_layouts (suc n) = two_most 1 _ refl (omega arith)
+
+join_seqrs : (s : ℕ) → (seqr all_kinds unjoined s).epoch ≤ 2
+unfolding run start node_eq units_of next_of change_fault new_unit unit_ask first_missing on_ask unit_step new_layout layout_ask on_layout_ask layout_step reply new_seqr seqr_step seqr_tick reconf_work_asks reconf_start reconf_feed reconf_latest new_client tests refusal task_asks client_asks task_feed task_again accepts client_command client_deliver client_tick fields_size unit_moves layout_moves seqr_moves client_turned happens limit_of drain_on drain tick_all rounds settle any.first
+join_seqrs zero = two_most 2 _ join_scanned (omega arith)
+join_seqrs (suc s) = first_few (suc s == 0)
+
+join_clients : (k : ℕ) → (client all_kinds unjoined k).stand.epoch ≤ 2
+unfolding run start node_eq units_of next_of change_fault new_unit unit_ask first_missing on_ask unit_step new_layout layout_ask on_layout_ask layout_step reply new_seqr seqr_step seqr_tick reconf_work_asks reconf_start reconf_feed reconf_latest new_client tests refusal task_asks client_asks task_feed task_again accepts client_command client_deliver client_tick fields_size unit_moves layout_moves seqr_moves client_turned happens limit_of drain_on drain tick_all rounds settle any.first
+join_clients zero = two_most 2 _ join_stand (omega arith)
+join_clients (suc k) = two_most 1 _ refl (omega arith)
+
+-- below the epoch after the second
+none_later : (x e : ℕ) → x ≤ 2 → e ≡ 2 → x ≤ e + 1
+none_later x e le f = omega (arith, le, f)
+
+join_above : NoneAbove all_kinds unjoined ((client all_kinds unjoined 0).stand.epoch + 1)
+join_above = record {
+  units = λ u. none_later _ _ (join_units u) join_stand;
+  layouts = λ n. none_later _ _ (join_layouts n) join_stand;
+  seqrs = λ s. none_later _ _ (join_seqrs s) join_stand;
+  clients = λ k. none_later _ _ (join_clients k) join_stand;
+}
+
+-- two ranges, of which the first is closed, and empty
+abbrev join_layout : Layout
+join_layout = record { epoch = 2; seq = 0; start = 0; by = 0; gone = []; ranges = record { lo = 0; stripes = (0 ∷ []) ∷ [] } ∷ record { lo = 0; stripes = (0 ∷ []) ∷ [] } ∷ [] }
+
+join_next : next_units join_layout joins_stripe ≡ 0 ∷ 1 ∷ []
+unfolding units_of next_of
+join_next = refl
+
+abbrev unjoined_reconf : Reconf
+unjoined_reconf = record { change = joins_stripe; me = 0; layouts = 1; stand = join_layout; work = SealingSpare 6 }
+
+join_runs : (u : ℕ) → Has (0 ∷ 1 ∷ []) u → runs all_kinds unjoined (unit_id u) ≡ true
+unfolding run start node_eq units_of next_of change_fault new_unit unit_ask first_missing on_ask unit_step new_layout layout_ask on_layout_ask layout_step reply new_seqr seqr_step seqr_tick reconf_work_asks reconf_start reconf_feed reconf_latest new_client tests refusal task_asks client_asks task_feed task_again accepts client_command client_deliver client_tick fields_size unit_moves layout_moves seqr_moves client_turned happens limit_of drain_on drain tick_all rounds settle any.first
+join_runs u (inl e) = subst (λ (v : ℕ). runs all_kinds unjoined (unit_id v) ≡ true) (sym e) refl
+join_runs u (inr (inl e)) = subst (λ (v : ℕ). runs all_kinds unjoined (unit_id v) ≡ true) (sym e) refl
+join_runs u (inr (inr i)) = absurd i
+
+join_some : ◌≢◌ {A = List ℕ} (0 ∷ 1 ∷ []) []
+join_some e = absurd cc
+
+join_two : 2 ≤ 2
+join_two = omega arith
+
+join_unit : (j : Join) → joins_stripe.join ≡ Some j → runs all_kinds unjoined (unit_id j.unit) ≡ true
+join_unit j e = join_runs j.unit (inr (inl (unit_is j e)))
+  where
+    unit_is : (j : Join) → Some (record { unit = 1; range = 0; stripe = 0 }) ≡ Some j → j.unit ≡ 1
+    unit_is j e = cc
+
+join_waits : WaitsToChange all_kinds unjoined 0 joins_stripe
+unfolding run start node_eq units_of next_of change_fault new_unit unit_ask first_missing on_ask unit_step new_layout layout_ask on_layout_ask layout_step reply new_seqr seqr_step seqr_tick reconf_work_asks reconf_start reconf_feed reconf_latest new_client tests refusal task_asks client_asks task_feed task_again accepts client_command client_deliver client_tick fields_size unit_moves layout_moves seqr_moves client_turned happens limit_of drain_on drain tick_all rounds settle any.first
+join_waits = record {
+  work = _;
+  waits = refl;
+  reconf = unjoined_reconf;
+  hand = refl;
+  change = refl;
+  stands = refl;
+  before = tt;
+  waiting = omega arith;
+  some = join_some;
+  few = join_two;
+  units = λ u i. join_runs u (has_contained (0 ∷ 1 ∷ []) u i);
+  spare = join_unit;
+  layouts = join_most;
+  none_above = join_above;
+}
+
+join_seals : (n : ℕ) × (join_waits.reconf.work ≡ SealingSpare n)
+unfolding join_waits
+join_seals = (_, refl)
+
+join_allowed : 2 * unjoined.cluster.units + 64 * unjoined.cluster.layouts + 22 ≡ 90
+unfolding run start node_eq units_of next_of change_fault new_unit unit_ask first_missing on_ask unit_step new_layout layout_ask on_layout_ask layout_step reply new_seqr seqr_step seqr_tick reconf_work_asks reconf_start reconf_feed reconf_latest new_client tests refusal task_asks client_asks task_feed task_again accepts client_command client_deliver client_tick fields_size unit_moves layout_moves seqr_moves client_turned happens limit_of drain_on drain tick_all rounds settle any.first
+join_allowed = refl
+
+join_counted : deliveries all_kinds (is_with_client all_kinds 0) unjoined (settle all_kinds unjoined).world ≡ 20
+unfolding run start node_eq units_of next_of change_fault new_unit unit_ask first_missing on_ask unit_step new_layout layout_ask on_layout_ask layout_step reply new_seqr seqr_step seqr_tick reconf_work_asks reconf_start reconf_feed reconf_latest new_client tests refusal task_asks client_asks task_feed task_again accepts client_command client_deliver client_tick fields_size unit_moves layout_moves seqr_moves client_turned happens limit_of drain_on drain tick_all rounds settle any.first
+join_counted = refl
+
+join_tells : trace all_kinds (settle all_kinds unjoined).world ≡ record { event = 0; client = 0; tx = 0; what = told.Installed 2 } ∷ record { event = 0; client = 0; tx = 0; what = told.Installed 3 } ∷ []
+unfolding run start node_eq units_of next_of change_fault new_unit unit_ask first_missing on_ask unit_step new_layout layout_ask on_layout_ask layout_step reply new_seqr seqr_step seqr_tick reconf_work_asks reconf_start reconf_feed reconf_latest new_client tests refusal task_asks client_asks task_feed task_again accepts client_command client_deliver client_tick fields_size unit_moves layout_moves seqr_moves client_turned happens limit_of drain_on drain tick_all rounds settle any.first
+join_tells = refl
+
+pub joins_settle : JoinsAreAnswered
+joins_settle = record { reached = join_reached; alone = join_alone; waits = join_waits; seals = join_seals; allowed = join_allowed; counted = join_counted; tells = join_tells }

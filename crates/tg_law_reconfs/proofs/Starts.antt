@@ -96,7 +96,7 @@ learnt p s from rid f =
     ∙ ap (λ b. seqr_answers s from rid (stand_answer s [] b)) f.ready))
 
 module _ (m : Meaning) (h : Header) (stopped : List NodeId) (k : ℕ) (p : Layout) (r : Reconf) (rid : ℕ) (starting : r.work ≡ Starting rid) (stand : r.stand ≡ p) where
-  abbrev learn : Out
+  abbrev pub learn : Out
   learn = out (seqr_id p.seq) rid (msg.Learn p)
 
   record Here (s : Net m) : Type 0 where
@@ -141,15 +141,15 @@ module _ (m : Meaning) (h : Header) (stopped : List NodeId) (k : ℕ) (p : Layou
         hears = record { shape = subst (λ (y : Out). TaskShape m h stopped k p 0 (client_of m h s k) (Reconfiguring r) (y ∷ [])) (sym f.is) f.shape; awaited = awaited_itself m h stopped k p 0 learn; tail = x.next; near = f.here.serves.near; says = refl };
       })
 
-  tail_near : (t : ℕ) → too_far t ≡ false → reply (msg.Tail t []) ≡ IsTail t []
+  pub tail_near : (t : ℕ) → too_far t ≡ false → reply (msg.Tail t []) ≡ IsTail t []
   unfolding reply
   tail_near t e = ap (λ b. cond b IsOther (IsTail t [])) e
 
-  plain_tail : (t : ℕ) → is_latest (IsTail t []) ≡ false
+  pub plain_tail : (t : ℕ) → is_latest (IsTail t []) ≡ false
   unfolding is_latest
   plain_tail t = refl
 
-  tail_ends : (c : Client m) (w : Work m) (n i t : ℕ) (x : ReconfWork) → x ≡ Starting rid → IsOver m h stopped k p (given m c (on_reconf m c w (reconf_feed r x n i (IsTail t []) c.next)))
+  pub tail_ends : (c : Client m) (w : Work m) (n i t : ℕ) (x : ReconfWork) → x ≡ Starting rid → IsOver m h stopped k p (given m c (on_reconf m c w (reconf_feed r x n i (IsTail t []) c.next)))
   unfolding reconf_feed client_asks
   tail_ends c w n i t x e = subst (λ (y : ReconfWork). IsOver m h stopped k p (given m c (on_reconf m c w (reconf_feed r y n i (IsTail t []) c.next)))) (sym e) (record { none = refl; sends = refl })
 
@@ -175,22 +175,22 @@ module _ (m : Meaning) (h : Header) (stopped : List NodeId) (k : ℕ) (p : Layou
     answered = answered;
   }
 
-  asks_learn : (x : ReconfWork) → x ≡ Starting rid → (reconf_work_asks r x ≡ learn ∷ []) × (later_asks r x ≡ [])
+  pub asks_learn : (x : ReconfWork) → x ≡ Starting rid → (reconf_work_asks r x ≡ learn ∷ []) × (later_asks r x ≡ [])
   unfolding reconf_work_asks
   asks_learn x e = subst (λ (y : ReconfWork). (reconf_work_asks r y ≡ learn ∷ []) × (later_asks r y ≡ [])) (sym e) (ap (λ (q : Layout). out (seqr_id q.seq) rid (msg.Learn q) ∷ []) stand, refl)
 
 -- What it is told.
 module _ (m : Meaning) (p : Layout) where
-  abbrev IsStarting : Reconf → Type 0
+  abbrev pub IsStarting : Reconf → Type 0
   IsStarting r = ((n : ℕ) × (r.work ≡ Starting n)) × (r.stand ≡ p)
 
-  abbrev IsInstalled : WhatOf m → Type 0
+  abbrev pub IsInstalled : WhatOf m → Type 0
   IsInstalled what = what ≡ told.Installed p.epoch
 
   told_so : (r : Reconf) → r.stand ≡ p → IsInstalled (told.Installed r.stand.epoch)
   told_so r e = ap (λ (q : Layout). told.Installed q.epoch) e
 
-  started_stays : Stays m IsStarting IsInstalled
+  pub started_stays : Stays m IsStarting IsInstalled
   unfolding reconf_feed reconf_latest
   started_stays = record {
     feeds = λ r n rid x next h. subst (λ (y : ReconfWork). NextIs m IsStarting IsInstalled (reconf_feed r y n rid x next).to) (sym h.0.1) (fed r h.0.0 n rid x next h);

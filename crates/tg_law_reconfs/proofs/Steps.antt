@@ -28,8 +28,8 @@ use Rattle.tg_law_finish.proofs.Finish.Lists.{Each, each_both, set_there, set_ot
 use Rattle.tg_law_finish.proofs.Finish.Nets.{Net, net_if, sent_if, net_after, sent_then, on_in, Alike, on_alike, client_alike, client_of}
 use Rattle.tg_law_finish.proofs.Finish.Others.{weigh, weight, weigh_both, from_weighs, to_weighs}
 use Rattle.tg_law_finish.proofs.Finish.Settles.{Step}
-use Rattle.tg_law_reconfs.proofs.Votes.{contrary, ballot, promised, NotAbove, AskOk, TellOk, LatestLow, Base, Ok, Scans, Scanned, Asks, Seals, Tells, Grows, grows_same, all_grow, scan_packet, told_packet, answer_packet}
-use Rattle.tg_law_reconfs.proofs.Nodes.{NodeTurn, scan_comes, told_low, seqr_turned, server_comes, learn_comes, seal_comes}
+use Rattle.tg_law_reconfs.proofs.Votes.{contrary, ballot, promised, NotAbove, AskOk, TellOk, LatestLow, Base, Ok, Scans, Scanned, Asks, AsksUnit, Tells, Grows, grows_same, all_grow, scan_packet, told_packet, answer_packet}
+use Rattle.tg_law_reconfs.proofs.Nodes.{NodeTurn, scan_comes, told_low, seqr_turned, server_comes, learn_comes, unit_comes}
 use Rattle.tg_law_reconfs.proofs.Turns.{Mode, First, Second, Third, live, left_of, Begun, Heard, HeardIn, Claim, WorkFine, ReconfFine, Onward}
 use Rattle.tg_law_reconfs.proofs.Drains.{Nums, Renumbered, renumbered, Votes, reserves, Comes, Over, Same, On, comes}
 
@@ -515,14 +515,14 @@ module _ (m : Meaning) (h : Header) (stopped : List NodeId) (k epoch servers top
       never i j (inl (w, e)) = client_unit u (from_of (asked_packet i j w) (told_packet m h stopped k epoch servers top round a u rid y) e)
       never i j (inr (w, e)) = layout_unit i u (from_of (told_by i j w) (told_packet m h stopped k epoch servers top round a u rid y) e)
   on_step s x q n inv (Asks o less ok one) on = ask_step s q n o.to o.rid o.msg inv on less ok one (target o.to o.msg ok)
-  on_step s x q n inv (Seals u rid less one) on =
+  on_step s x q n inv (AsksUnit u rid y less of one) on =
       let c = client_of m h s k in
-      let a = seal_comes m h stopped k epoch servers top round past near fits s c.next (reserved m c) u rid on less one (base_of s (x ∷ q) n inv) in
-      node_step s _ (packet_of m (client_id k) (out (unit_id u) rid (msg.Seal epoch))) q _ n 1 inv (record { turn = a.turn }) (ask_pays (out (unit_id u) rid (msg.Seal epoch))) (λ i j r f. absurd (never i j f))
+      let a = unit_comes m h stopped k epoch servers top round past near fits s c.next (reserved m c) u rid y on less of one (base_of s (x ∷ q) n inv) in
+      node_step s _ (packet_of m (client_id k) (out (unit_id u) rid y)) q _ n 1 inv (record { turn = a.turn }) (ask_pays (out (unit_id u) rid y)) (λ i j r f. absurd (never i j f))
     where
-      never : (i j : ℕ) → OfHead (packet_of m (client_id k) (out (unit_id u) rid (msg.Seal epoch))) i j → ⊥
-      never i j (inl (w, e)) = layout_unit i u (to_of (asked_packet i j w) (packet_of m (client_id k) (out (unit_id u) rid (msg.Seal epoch))) e)
-      never i j (inr (w, e)) = layout_client i (from_of (told_by i j w) (packet_of m (client_id k) (out (unit_id u) rid (msg.Seal epoch))) e)
+      never : (i j : ℕ) → OfHead (packet_of m (client_id k) (out (unit_id u) rid y)) i j → ⊥
+      never i j (inl (w, e)) = layout_unit i u (to_of (asked_packet i j w) (packet_of m (client_id k) (out (unit_id u) rid y)) e)
+      never i j (inr (w, e)) = layout_client i (from_of (told_by i j w) (packet_of m (client_id k) (out (unit_id u) rid y)) e)
   on_step s x q n inv (Tells a rid y on' far less low told) on = tell_step s q n a rid y on' far low told inv
 
   pub any_step : (s : Net m) (x : Packet) (q : List Packet) (n : ℕ) → Inv s (x ∷ q) n → Next (net_if m (on_in m stopped s x.to) h s x) (q ++ sent_if m (on_in m stopped s x.to) h s x) x n

@@ -5,6 +5,7 @@ use Rattle.tg_any.specs.AllKinds.{all_kinds}
 use Rattle.tg_base.proofs.Rules.{layout_rules}
 use Rattle.tg_base.specs.Layouts.{Layout}
 use Rattle.tg_base.specs.Clusters.{Header}
+use Rattle.tg_base.specs.declared.change.Join.{Join}
 use Rattle.tg_base.specs.declared.ids.Ballot.{Ballot}
 use Rattle.tg_base.specs.declared.ids.NodeId.{NodeId}
 use Rattle.tg_base.specs.declared.msg.Msg.{Msg}
@@ -48,6 +49,7 @@ use Rattle.tg_law_reconfs.proofs.Ticks.{Laterless}
 use Rattle.tg_law_reconfs.proofs.Between.{some_again}
 use Rattle.tg_law_reconfs.proofs.Rounds.{settle_ends}
 use Rattle.tg_law_reconfs.proofs.Laps.{Ballots, YetToTick, AtNew, laps, seven_laps, folds}
+use Rattle.tg_law_reconfs.proofs.Phases.{Spare, AllRun, Ahead, spares, units_left}
 use Rattle.tg_law_reconfs.proofs.EarlyLaps.{YetAll, all_folds}
 use Rattle.tg_law_reconfs.proofs.Counting.{Counted, LaterAll, VoteCounted, WorkCounted, IsCounted, TaskCounted, HandCounted, all_counted}
 use Rattle.tg_law_reconfs.proofs.Counts.{few_by}
@@ -64,6 +66,9 @@ differ j i e g = same e g
 
 none_some : (l : Later) → None ≡ Some l → ⊥
 none_some l e = cc
+
+none_join : (j : Join) → None ≡ Some j → ⊥
+none_join j e = cc
 
 one_later : (x y : Later) → Some x ≡ Some y → x ≡ y
 one_later x y e = cc
@@ -105,7 +110,7 @@ module _ (m : Meaning) (h : Header) (ms : Moves m) (w : World m) (reach : Reache
   is_long : r.layouts ≡ servers
   is_long = worker.ok.layouts
 
-  past : 2 ≤ epoch
+  pub past : 2 ≤ epoch
   past =
       let d = (layouts_are_known m h ms w reach).clients k in
       let s = layouts_are_sound m h ms w reach c.stand.epoch c.stand d in
@@ -122,10 +127,10 @@ module _ (m : Meaning) (h : Header) (ms : Moves m) (w : World m) (reach : Reache
   few_steps : w.steps ≤ 23800000
   few_steps = reach.goes.few
 
-  near : epoch < 2 ^ 32
+  pub near : epoch < 2 ^ 32
   near = let a = low.stands k in let b = few_steps in omega (arith, a, b)
 
-  near_top : top + 1 < 2 ^ 32
+  pub near_top : top + 1 < 2 ^ 32
   near_top = let b = few_steps in omega (arith, b)
 
   room : top + 3 < 2 ^ 32
@@ -183,7 +188,7 @@ module _ (m : Meaning) (h : Header) (ms : Moves m) (w : World m) (reach : Reache
   zero_fits : 0 ≤ top
   zero_fits = omega arith
 
-  one_fits : 1 ≤ top
+  pub one_fits : 1 ≤ top
   one_fits = omega arith
 
   abbrev ballots : (round : ℕ) → round ≤ top → Ballots m w.cluster w.stopped k epoch servers past near some 7
@@ -367,35 +372,51 @@ module _ (m : Meaning) (h : Header) (ms : Moves m) (w : World m) (reach : Reache
       by (Sealing ws acks) e i = absurd i
       by (LookingAgain n acks) e i = absurd i
 
-  -- It seals units, and none joins.
-  module _ (ws : Waits) (acks : Acks) (at : r.work ≡ Sealing ws acks) (none : r.change.join ≡ None) (waits : (v : ℕ × ℕ) × Has ws v) (units : (u j : ℕ) → Has ws (u, j) → on_in m w.stopped (net m w) (unit_id u) ≡ true) (highs : (u : ℕ) → (unit m w u).high < 2 ^ 62) (rests : (s : ℕ) → ((seqr m w s).proj.start < 2 ^ 62) × ScanBelow (seqr m w s)) where
-    abbrev seals_told : ℕ
-    seals_told = 2 * length ws + 34 * servers + 16
+  -- It waits for units.
 
-    seals_tick : YetAll m w.cluster w.stopped k epoch servers past near some 7 (nodes m w) (net m w) [] seals_told
-    unfolding weigh
-    seals_tick =
-        let o = nodes_once k m w clients_many in
-        let seven = seven_laps m w.cluster w.stopped k epoch servers past near some in
-        inr (record {
-          begins = record { top = top; small = near_top; fits = one_fits; lasts = omega arith; room = room };
-          most = most;
-          pre = inr (record {
-            base = base 1;
-            there = there;
-            highs = highs;
-            rests = rests;
-            hand = record { work = f.work; waits = f.waits; reconf = r; hand = f.hand; ws = ws; acks = acks; at = at; stand = sym worker.stand; layouts = pax.layouts k; me = worker.ok.me; lays = is_long; next = next; none = none; some = waits; running = units };
-            nums = record { below = λ z has. asks_of.open' z has; one = λ y z g i e t. asks_of.one y z g i e t };
-            each = tt;
-            few = omega (arith, seven);
-            front = o.front;
-            back = o.back;
-            is = o.is;
-            not_front = o.not_front;
-            not_back = o.not_back;
-          });
-        })
+  abbrev pub AheadOf : ReconfWork → Type 0
+  AheadOf y = Ahead m w.cluster w.stopped k epoch servers top 1 past near near_top one_fits refl (net m w) r y
+
+  abbrev pub SpareOf : ℕ → Type 0
+  SpareOf e = Spare m w.cluster w.stopped k epoch servers top 1 past near near_top one_fits refl (net m w) r e
+
+  abbrev pub NextRuns : Type 0
+  NextRuns = AllRun m w.cluster w.stopped k epoch servers top 1 past near near_top one_fits refl (net m w) r
+
+  -- how many requests units are sent, with those that are outstanding
+  abbrev pub units_asks : ℕ
+  units_asks = length (reconf_work_asks r r.work) + units_left r r.work
+
+  abbrev pub Highs : Type 0
+  Highs = (u : ℕ) → (unit m w u).high < 2 ^ 62
+
+  abbrev pub Rests : Type 0
+  Rests = (s : ℕ) → ((seqr m w s).proj.start < 2 ^ 62) × ScanBelow (seqr m w s)
+
+  units_tick : (most_so : ℕ) → 2 * units_asks + 34 * servers + 16 ≤ most_so → AheadOf r.work → Highs → Rests → YetAll m w.cluster w.stopped k epoch servers past near some 7 (nodes m w) (net m w) [] most_so
+  unfolding weigh
+  units_tick most_so enough' ahead highs rests =
+      let o = nodes_once k m w clients_many in
+      let seven = seven_laps m w.cluster w.stopped k epoch servers past near some in
+      inr (record {
+        begins = record { top = top; small = near_top; fits = one_fits; lasts = omega arith; room = room };
+        most = most;
+        pre = inr (record {
+          base = base 1;
+          there = there;
+          highs = highs;
+          rests = rests;
+          hand = record { work = f.work; waits = f.waits; reconf = r; hand = f.hand; stand = sym worker.stand; layouts = pax.layouts k; me = worker.ok.me; lays = is_long; next = next; ahead = ahead };
+          nums = record { below = λ z has. asks_of.open' z has; one = λ y z g i e t. asks_of.one y z g i e t };
+          each = tt;
+          few = omega (arith, seven, enough');
+          front = o.front;
+          back = o.back;
+          is = o.is;
+          not_front = o.not_front;
+          not_back = o.not_back;
+        });
+      })
 
   -- The settling.
 
@@ -421,23 +442,36 @@ module _ (m : Meaning) (h : Header) (ms : Moves m) (w : World m) (reach : Reache
       let e = settle_ends m k w.cluster w.stopped _ _ _ _ (folds m w.cluster w.stopped k epoch servers past near some) w most_told a.quiet (to_tick votes) refl refl a.within in
       ends_so most_told e.left e.end e.spent e.cluster
 
-  pub seals_end : (ws : Waits) (acks : Acks) → r.work ≡ Sealing ws acks → r.change.join ≡ None → (v : ℕ × ℕ) × Has ws v → ((u j : ℕ) → Has ws (u, j) → on_in m w.stopped (net m w) (unit_id u) ≡ true) → ((u : ℕ) → (unit m w u).high < 2 ^ 62) → ((s : ℕ) → ((seqr m w s).proj.start < 2 ^ 62) × ScanBelow (seqr m w s))
-      → VotesEnd m w end_world k (2 * length ws + 34 * servers + 16)
-  seals_end ws acks at none waits units highs rests =
-      let e = settle_ends m k w.cluster w.stopped _ _ _ _ (all_folds m w.cluster w.stopped k epoch servers past near some) w (2 * length ws + 34 * servers + 16) a.quiet (inl_or ws acks at none waits units highs rests) refl refl a.within in
-      ends_so (2 * length ws + 34 * servers + 16) e.left e.end e.spent e.cluster
+  pub units_end : (most_so : ℕ) → 2 * units_asks + 34 * servers + 16 ≤ most_so → AheadOf r.work → Highs → Rests → VotesEnd m w end_world k most_so
+  units_end most_so enough' ahead highs rests =
+      let e = settle_ends m k w.cluster w.stopped _ _ _ _ (all_folds m w.cluster w.stopped k epoch servers past near some) w most_so a.quiet (inl_or most_so enough' ahead highs rests) refl refl a.within in
+      ends_so most_so e.left e.end e.spent e.cluster
     where
-      inl_or : (ws : Waits) (acks : Acks) → r.work ≡ Sealing ws acks → r.change.join ≡ None → (v : ℕ × ℕ) × Has ws v → ((u j : ℕ) → Has ws (u, j) → on_in m w.stopped (net m w) (unit_id u) ≡ true) → ((u : ℕ) → (unit m w u).high < 2 ^ 62) → ((s : ℕ) → ((seqr m w s).proj.start < 2 ^ 62) × ScanBelow (seqr m w s))
-          → YetAll m w.cluster w.stopped k epoch servers past near some 7 (nodes m w) (net m w) [] (2 * length ws + 34 * servers + 16)
-      inl_or ws acks at none waits units highs rests = seals_tick ws acks at none waits units highs rests
+      inl_or : (most_so : ℕ) → 2 * units_asks + 34 * servers + 16 ≤ most_so → AheadOf r.work → Highs → Rests → YetAll m w.cluster w.stopped k epoch servers past near some 7 (nodes m w) (net m w) [] most_so
+      inl_or most_so enough' ahead highs rests = units_tick most_so enough' ahead highs rests
+
+  -- it seals units, and none joins
+  pub seals_end : (ws : Waits) (acks : Acks) → r.work ≡ Sealing ws acks → r.change.join ≡ None → (v : ℕ × ℕ) × Has ws v → ((u j : ℕ) → Has ws (u, j) → on_in m w.stopped (net m w) (unit_id u) ≡ true) → Highs → Rests → VotesEnd m w end_world k (2 * length ws + 34 * servers + 16)
+  unfolding reconf_work_asks
+  seals_end ws acks at none waits units highs rests =
+      let long = ap (λ (y : ReconfWork). length (reconf_work_asks r y)) at ∙ asked_long unit_id (msg.Seal (next_epoch r)) ws in
+      let left = ap (λ (y : ReconfWork). units_left r y) at ∙ ap (λ (o : Option Join). spares o) none in
+      units_end (2 * length ws + 34 * servers + 16) (omega (arith, long, left))
+      (subst (λ (y : ReconfWork). AheadOf y) (sym at) (record { some = waits; run = units; joins = λ j is. absurd (none_join j (sym none ∙ is)) })) highs rests
+
+pub never_high : (h : Header) (ms : Moves all_kinds) (w : World all_kinds) → Reaches all_kinds h ms w → (u : ℕ) → (unit all_kinds w u).high < 2 ^ 62
+never_high h ms w reach = high_near all_kinds h ms w reach (logs_hold h ms w reach).trims.in_time
+
+pub scans_near : (h : Header) (ms : Moves all_kinds) (w : World all_kinds) → Reaches all_kinds h ms w → (s : ℕ) → ((seqr all_kinds w s).proj.start < 2 ^ 62) × ScanBelow (seqr all_kinds w s)
+scans_near h ms w reach s = ((layouts_are_sound all_kinds h ms w reach _ _ ((layouts_are_known all_kinds h ms w reach).seqrs s)).near, scans_reached all_kinds h ms w reach s)
 
 pub votes_finish : Always all_kinds (VotesFinish all_kinds)
 votes_finish h ms w reach k x a f = votes_end all_kinds h ms w reach k x a (record { work = f.work; waits = f.waits; reconf = f.reconf; hand = f.hand; layouts = f.layouts; none_above = f.none_above }) f.votes
 
-first_of : (ws : Waits) → (ws ≡ [] → ⊥) → (v : ℕ × ℕ) × Has ws v
-first_of [] some = absurd (some refl)
-first_of (w ∷ ws) some = (w, inl refl)
+pub first_of : (ws : Waits) → (ws ≡ [] → ⊥) → (v : ℕ × ℕ) × Has ws v
+first_of [] filled = absurd (filled refl)
+first_of (w ∷ ws) filled = (w, inl refl)
 
 pub seals_finish : Always all_kinds (SealsFinish all_kinds)
 seals_finish h ms w reach k x a f = seals_end all_kinds h ms w reach k x a (record { work = f.work; waits = f.waits; reconf = f.reconf; hand = f.hand; layouts = f.layouts; none_above = f.none_above }) f.waiting f.acks f.seals f.joins (first_of f.waiting f.some)
-    (λ u j has. f.units (u, j) (contained f.waiting (u, j) has)) (high_near all_kinds h ms w reach (logs_hold h ms w reach).trims.in_time) (λ s. ((layouts_are_sound all_kinds h ms w reach _ _ ((layouts_are_known all_kinds h ms w reach).seqrs s)).near, scans_reached all_kinds h ms w reach s))
+    (λ u j has. f.units (u, j) (contained f.waiting (u, j) has)) (never_high h ms w reach) (scans_near h ms w reach)

@@ -114,6 +114,12 @@ some_from f (suc n) a less = by (first_of f a (numbers n (a + 1))) (λ l. some_f
 pub tally_some : (f : ℕ → Bool) (n : ℕ) → 0 < tally f n → (i : ℕ) × ((f i ≡ true) × (i < n))
 tally_some f n less = let x = some_from f n 0 less in (x.0, (x.1.0, let z = x.1.1 in omega (arith, z)))
 
+-- What units were asked for before the votes: seals, of this epoch at most, and looks.
+abbrev pub OfUnit : ℕ → Msg → Type 0
+OfUnit epoch (msg.Seal e) = e ≤ epoch
+OfUnit epoch (msg.Has e lo hi step) = ⊤
+OfUnit epoch x = ⊥
+
 -- A client of number k agrees on a layout of this epoch with so many servers; all rounds so far are at most `top`, and the ballot on
 -- its way is of this round.
 module _ (m : Meaning) (h : Header) (stopped : List NodeId) (k epoch servers top round : ℕ) where
@@ -221,12 +227,13 @@ module _ (m : Meaning) (h : Header) (stopped : List NodeId) (k epoch servers top
   abbrev pub answer_packet : NodeId → ℕ → Msg → Packet
   answer_packet a rid y = record { from = a; to = client_id k; rid = rid; msg = y }
 
-  -- scans, the client's requests, a seal that is left over, and the answers to it, by what it awaits and its next number
+  -- scans, the client's requests, what is left over of those to units, and the answers to it, by what it awaits and its
+  -- next number
   pub data Ok (s : Net m) (next : ℕ) (aw : List Out) : Packet → Type 0 where
     Scans : (x u rid : ℕ) (y : Msg) → IsScan (unit_ask y) → Ok s next aw (scan_packet x u rid y)
     Scanned : (x u rid : ℕ) (y : Msg) → TellsLow y → Ok s next aw (told_packet x u rid y)
     Asks : (o : Out) → o.rid < next → AskOk o.to o.msg → ((y : Msg) → Has aw (out o.to o.rid y) → y ≡ o.msg) → Ok s next aw (packet_of m (client_id k) o)
-    Seals : (u rid : ℕ) → rid < next → ((y : Msg) → Has aw (out (unit_id u) rid y) → y ≡ msg.Seal epoch) → Ok s next aw (packet_of m (client_id k) (out (unit_id u) rid (msg.Seal epoch)))
+    AsksUnit : (u rid : ℕ) (y : Msg) → rid < next → OfUnit epoch y → ((z : Msg) → Has aw (out (unit_id u) rid z) → OfUnit epoch z) → Ok s next aw (packet_of m (client_id k) (out (unit_id u) rid y))
     Tells : (a : NodeId) (rid : ℕ) (y : Msg) → on_in m stopped s a ≡ true → node_eq a (client_id k) ≡ false → rid < next → LatestLow (reply y)
         → ((x : Msg) → Has aw (out a rid x) → TellOk s a x (reply y)) → Ok s next aw (answer_packet a rid y)
 
@@ -258,7 +265,7 @@ module _ (m : Meaning) (h : Header) (stopped : List NodeId) (k epoch servers top
   ok_grows s t next end aw now x g le back (Scans a u rid y scan) = Scans a u rid y scan
   ok_grows s t next end aw now x g le back (Scanned a u rid y low) = Scanned a u rid y low
   ok_grows s t next end aw now x g le back (Asks o less ok one) = Asks o (omega (arith, le, less)) ok (λ y h. one y (back (out o.to o.rid y) h less))
-  ok_grows s t next end aw now x g le back (Seals u rid less one) = Seals u rid (omega (arith, le, less)) (λ y h. one y (back (out (unit_id u) rid y) h less))
+  ok_grows s t next end aw now x g le back (AsksUnit u rid y less of one) = AsksUnit u rid y (omega (arith, le, less)) of (λ z h. one z (back (out (unit_id u) rid z) h less))
   ok_grows s t next end aw now x g le back (Tells a rid y on far less low ok) = Tells a rid y (g.on a on) far (omega (arith, le, less)) low (λ z h. tell_grows s t a z (reply y) g (ok z (back (out a rid z) h less)))
 
   pub all_grow : (s t : Net m) (next end : ℕ) (aw now : List Out) (q : List Packet) → Grows s t → next ≤ end → ((o : Out) → Has now o → o.rid < next → Has aw o) → Each (Ok s next aw) q → Each (Ok t end now) q

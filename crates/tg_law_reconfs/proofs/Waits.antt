@@ -128,7 +128,7 @@ from_next (suc n) a next at i j le (inr h) = from_next n (a + 1) next (at + 1) i
 pub all_new : (n next i j : ℕ) → Has (waits_for (numbers n 0) next) (i, j) → next ≤ j
 all_new n next i j h = from_next n 0 next next i j (omega arith) h
 
-drawn_one : (o : Out) (os : List Out) (next : ℕ) → next ≤ o.rid → drawn_from next os ≡ os → drawn_from next (o ∷ os) ≡ o ∷ os
+pub drawn_one : (o : Out) (os : List Out) (next : ℕ) → next ≤ o.rid → drawn_from next os ≡ os → drawn_from next (o ∷ os) ≡ o ∷ os
 drawn_one o os next le e = grind (arith, le, e)
 
 drawn_at : (name : ℕ → NodeId) (y : Msg) (n a next at : ℕ) → next ≤ at → drawn_from next (asked_of name y (waits_for (numbers n a) at)) ≡ asked_of name y (waits_for (numbers n a) at)

@@ -1,14 +1,16 @@
 -- A client that reconfigures, before it has adopted a layout of its own.
-use Rattle.std.specs.Prelude.{◌≡◌, ◌≢◌, ℕ, ◌+◌, ◌≤◌, true, [], length, Option, None, Some, Contains}
+use Rattle.std.specs.Prelude.{◌≡◌, ◌≢◌, ℕ, ◌+◌, ◌*◌, ◌≤◌, true, [], length, Option, None, Some, Contains}
 use Rattle.tg_base.specs.Changes.{Changed}
 use Rattle.tg_base.specs.declared.change.Join.{Join}
 use Rattle.tg_kind.specs.Meaning.{Meaning}
+use Rattle.tg_model.specs.Kinds.{CommandOf}
 use Rattle.tg_protocol.specs.Words.{unit_id}
 use Rattle.tg_protocol.specs.Layouts.{next_units}
 use Rattle.tg_protocol.specs.Reconfiguring.{ReconfWork, SealingSpare, LookingSpare, Sealing, LookingAgain, Starting, Reconf}
 use Rattle.tg_protocol.specs.Clients.{Work, Reconfiguring, Doing}
-use Rattle.tg_protocol.specs.Worlds.{World, unit, client, runs}
-use Rattle.tg_protocol.specs.Finishing.{MostRun, NoneAbove}
+use Rattle.tg_protocol.specs.Worlds.{World, unit, client, runs, settle}
+use Rattle.tg_protocol.specs.Finishing.{MostRun, NoneAbove, WaitsAlone}
+use Rattle.tg_law_reconfs.specs.Reconfs.{VotesEnd}
 
 module _ (m : Meaning) where
   -- before its new layout is adopted
@@ -46,3 +48,8 @@ module _ (m : Meaning) where
     pub spare : (j : Join) → c.join ≡ Some j → runs m w (unit_id j.unit) ≡ true
     pub layouts : MostRun m w
     pub none_above : NoneAbove m w ((client m w k).stand.epoch + 1)
+
+  -- two deliveries for each unit, two to six more for a unit that joins, then the votes
+  abbrev pub JoinsFinish : World m → Type 0
+  JoinsFinish w = (k : ℕ) (x : CommandOf m) (c : Changed) → WaitsAlone m w k x → WaitsToChange w k c →
+      VotesEnd m w (settle m w).world k (2 * w.cluster.units + 64 * w.cluster.layouts + 22)

@@ -6,8 +6,10 @@ ghost use Rattle.tg_any.specs.AllKinds.{all_kinds};
 ghost use Rattle.tg_kind.specs.Of.{meaning_of};
 ghost use Rattle.tg_law_reconfs.specs.Changes.{ChangesWork, ChangesStart};
 ghost use Rattle.tg_law_reconfs.specs.Ready.{ChangesAreReady};
+ghost use Rattle.tg_law_reconfs.specs.Changing.{JoinsFinish};
 ghost use Rattle.tg_law_reconfs.specs.Reconfs.{ReconfEndsAreTold, StartedFinishes, VotesFinish, SealsFinish};
-ghost use Rattle.tg_law_reconfs.specs.Settled.{SealsAreAnswered, VotesAreAnswered};
+ghost use Rattle.tg_law_reconfs.specs.Scans.{ScansFinish, ScansInstall};
+ghost use Rattle.tg_law_reconfs.specs.Settled.{SealsAreAnswered, VotesAreAnswered, JoinsAreAnswered};
 ghost use Rattle.tg_protocol.specs.Runs.{Always};
 
 use tg_kind::Registry;
@@ -24,6 +26,19 @@ pub fn started_reconfs_finish()
     ensures { Always all_kinds (StartedFinishes all_kinds) }
 {}
 
+/// So where the sequencer may have to learn its layout and to scan the log first, as long as it runs, and the layout's units
+/// do, and no node stands past the layout's epoch: the client is told so within four deliveries for each layout server, and
+/// four more. The sequencer serves then, and its scan has taken two deliveries for each position below the layout's start
+/// and each unit of the longest chain, two more for each position, and two.
+pub fn scans_finish()
+    ensures { Always all_kinds (ScansFinish all_kinds) }
+{}
+
+/// So all that is claimed of a reconfiguration holds from there on.
+pub fn scans_install()
+    ensures { Always all_kinds (ScansInstall all_kinds) }
+{}
+
 /// A client that votes on a layout, or tells that it is decided, while most layout servers run and no node stands past the
 /// next epoch, has told after a settling how its reconfiguration ended, or stands at the new layout and waits for that
 /// one's sequencer, which may not serve yet: within 34 deliveries for each layout server, and 16 more.
@@ -35,6 +50,12 @@ pub fn votes_finish()
 /// deliveries more for each of these units.
 pub fn seals_finish()
     ensures { Always all_kinds (SealsFinish all_kinds) }
+{}
+
+/// So of whatever a client waits for before it adopts its own layout, also where a unit joins: while the units of its next
+/// layout run, and most layout servers do. Within two deliveries for each unit, 64 for each layout server, and 22 more.
+pub fn joins_finish()
+    ensures { Always all_kinds (JoinsFinish all_kinds) }
 {}
 
 /// A run in which a client opens a range at the one unit, and the unit's seal is lost, is one for which `seals_finish` asks
@@ -67,4 +88,11 @@ pub fn changes_start()
 /// more than it has; so is for `changes_start` one in which its layout is adopted, and the request to the sequencer is lost.
 pub fn changes_are_ready()
     ensures { ChangesAreReady }
+{}
+
+/// A run in which a client opens a range at one of two units, and then lets the other join the first range's stripe, while
+/// that unit's seal is lost, is one for which `joins_finish` asks no more than it has. A settling of it takes twenty
+/// deliveries with the client, where 90 are allowed, and the layout is installed.
+pub fn joins_are_answered()
+    ensures { JoinsAreAnswered }
 {}
