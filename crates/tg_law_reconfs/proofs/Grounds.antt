@@ -1,6 +1,6 @@
 -- What holds of a world to which a run comes, of a decided layout past whose epoch no unit stands: each position of it can be read, and each request
 -- of a scan's job is answered by what the job goes on with.
-use Rattle.std.proofs.Common.{◌≡◌, ◌⊎◌, ℕ, zero, suc, ◌+◌, ◌-◌, ◌^◌, ◌<◌, ◌≤◌, List, [], ◌∷◌, length, Bool, true, false, eqb, refl, ap, ◌∙◌, sym, subst, inl, inr, arith, Some, None, Option}
+use Rattle.std.proofs.Common.{◌≡◌, ◌⊎◌, ℕ, zero, suc, ◌+◌, ◌-◌, ◌^◌, ◌<◌, ◌≤◌, List, [], ◌∷◌, length, Bool, true, false, refl, ap, ◌∙◌, sym, subst, inl, inr, arith, Some}
 use Rattle.std.specs.Prelude.{nat_lt, max, fold, flat_map, slice_index, slice_index_or}
 use Rattle.std.proofs.lemmas.Bool.Decides.{nat_tests}
 use Rattle.tg_base.specs.Clusters.{Header}
@@ -9,7 +9,6 @@ use Rattle.tg_base.specs.declared.cell.Cell.{Cell}
 use Rattle.tg_base.specs.declared.ids.NodeId.{NodeId}
 use Rattle.tg_base.specs.declared.layout.Range.{Range}
 use Rattle.tg_base.specs.declared.msg.Msg.{Msg}
-use Rattle.tg_base.specs.declared.packet.Out.{Out}
 use Rattle.tg_kind.specs.Meaning.{Meaning}
 use Rattle.tg_proj.specs.Places.{range_at, chain_at}
 use Rattle.tg_protocol.specs.Words.{cell_at, too_far, unit_id}
@@ -17,10 +16,10 @@ use Rattle.tg_protocol.specs.Layouts.{chain_of, units_of}
 use Rattle.tg_protocol.specs.Units.{unit_step}
 use Rattle.tg_protocol.specs.Requests.{Next, Turn, Goes, Ends, out}
 use Rattle.tg_protocol.specs.Replies.{Reply, reply}
-use Rattle.tg_protocol.specs.Cells.{Place, CellWork, Puts, Gets, Fills, Copies, Probes, CellJob, CellEnd, CellTurn, Done, Gone, place_in, unit_at, works, work_asks, work_feed, cell_asks, cell_feed}
+use Rattle.tg_protocol.specs.Cells.{Place, CellWork, Puts, Gets, Fills, Copies, Probes, CellJob, CellEnd, CellTurn, Done, Gone, place_in, works, work_asks, work_feed, cell_asks, cell_feed}
 use Rattle.tg_protocol.specs.Worlds.{World, unit, seqr, latest}
 use Rattle.tg_protocol.specs.Runs.{Moves, Reaches, Later, run}
-use Rattle.tg_protocol.specs.Finishing.{stripes_of, longest_in, longest_chain}
+use Rattle.tg_protocol.specs.Finishing.{stripes_of, longest_chain}
 use Rattle.tg_law_layouts.specs.Moves.After.{after}
 use Rattle.tg_law_layouts.specs.Layouts.Decisions.{IsOfDecided}
 use Rattle.tg_law_layouts.specs.Requests.Laws.{IsSo}
@@ -32,7 +31,7 @@ use Rattle.tg_law_cells.specs.Cells.Chains.{ToldUpTo}
 use Rattle.tg_law_cells.specs.Cells.Settled.{IsSettled, StandsLater}
 use Rattle.tg_law_cells.proofs.Cells.Befores.{has_at}
 use Rattle.tg_law_cells.proofs.Cells.Heads.{heads_have_cells}
-use Rattle.tg_law_cells.proofs.Cells.Justified.{ToldBy, WorkOk}
+use Rattle.tg_law_cells.proofs.Cells.Justified.{WorkOk}
 use Rattle.tg_law_cells.proofs.Cells.Settling.{settled_is_held, units_tell_settled}
 use Rattle.tg_law_cells.proofs.Cells.Stores.{up_to}
 use Rattle.tg_law_cells.proofs.Cells.Successors.{place_of, some_there}
@@ -43,7 +42,7 @@ use Rattle.tg_law_steps.proofs.Machines.Cells as cells
 use Rattle.tg_law_finish.proofs.Finish.Below.{settled_under}
 use Rattle.tg_law_finish.proofs.Finish.Midway.{ReadShape}
 use Rattle.tg_law_finish.proofs.Finish.Nets.{Net, net, on_in, unit_of}
-use Rattle.tg_law_finish.proofs.Finish.Readings.{Stable, Clean, Trimmed, GoodAt, Sort, Carrying, CellStage, CellWell, CellDone, CellGoes, CellGone, CellAsk, cell_ask}
+use Rattle.tg_law_finish.proofs.Finish.Readings.{Stable, Clean, Trimmed, CellStage, CellWell, CellDone, CellGoes, CellGone, cell_ask}
 use Rattle.tg_law_finish.proofs.Finish.Standing.{next_near, chain_in_units}
 use Rattle.tg_law_finish.proofs.Finish.Working.{at_chain}
 

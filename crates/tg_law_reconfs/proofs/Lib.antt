@@ -25,6 +25,7 @@ pub mod Rising
 pub mod Rounds
 pub mod ScanDrains
 pub mod ScanEnds
+pub mod ScanSettling
 pub mod ScanSteps
 pub mod ScanTicks
 pub mod ScanTurns

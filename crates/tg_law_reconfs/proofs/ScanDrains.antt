@@ -1,6 +1,6 @@
 -- A drain while the new sequencer scans: each delivery keeps that its one request, or an answer that brings it on, is on its way.
-use Rattle.std.proofs.Common.{◌≡◌, ◌⊎◌, ℕ, zero, suc, ◌+◌, ◌*◌, ◌<◌, ◌≤◌, List, [], ◌∷◌, ◌++◌, length, map, Bool, true, false, eqb, refl, ap, ◌∙◌, sym, subst, inl, inr, arith, Some, None, Option}
-use Rattle.std.specs.Prelude.{slice_set, slice_index_or, ⊤}
+use Rattle.std.proofs.Common.{◌≡◌, ◌⊎◌, ℕ, ◌+◌, ◌*◌, ◌<◌, ◌≤◌, List, [], ◌∷◌, ◌++◌, length, map, Bool, true, false, eqb, refl, ap, ◌∙◌, sym, subst, inl, inr, arith, Some, None, Option}
+use Rattle.std.specs.Prelude.{slice_set}
 use Rattle.tg_base.specs.Clusters.{Header}
 use Rattle.tg_base.specs.Layouts.{Layout, IsLayout}
 use Rattle.tg_base.specs.declared.ids.NodeId.{NodeId}
@@ -9,18 +9,16 @@ use Rattle.tg_base.specs.declared.msg.Msg.{Msg}
 use Rattle.tg_base.specs.declared.msg.Msg.TheVariants as msg
 use Rattle.tg_base.specs.declared.packet.Out.{Out}
 use Rattle.tg_base.specs.declared.packet.Packet.{Packet}
-use Rattle.tg_base.specs.Orders.{node_eq}
 use Rattle.tg_kind.specs.Meaning.{Meaning}
 use Rattle.tg_protocol.specs.Words.{unit_id, layout_id, seqr_id, client_id, too_far}
-use Rattle.tg_protocol.specs.Layouts.{units_of, first_layout}
 use Rattle.tg_protocol.specs.Requests.{out, awaits, drawn_from}
 use Rattle.tg_protocol.specs.Replies.{IsScanning, reply}
 use Rattle.tg_protocol.specs.Units.{unit_ask, unit_step}
 use Rattle.tg_protocol.specs.LayoutServers.{layout_step}
 use Rattle.tg_protocol.specs.Cells.{CellJob, place_in, cell_asks}
-use Rattle.tg_protocol.specs.Sequencers.{SeqrState, SeqrTurn, seqr_asks, scanning, begun, learns, stand_answer, seqr_step, scan_on}
+use Rattle.tg_protocol.specs.Sequencers.{SeqrState, SeqrTurn, seqr_asks, scanning, begun, stand_answer, seqr_step, scan_on}
 use Rattle.tg_protocol.specs.Reconfiguring.{Reconf, ReconfWork, Starting, reconf_feed}
-use Rattle.tg_protocol.specs.Clients.{Client, Work, Task, Reconfiguring, Doing}
+use Rattle.tg_protocol.specs.Clients.{Client, Work, Reconfiguring, Doing}
 use Rattle.tg_protocol.specs.ClientSteps.{ClientTurn, hand_asks, task_asks, task_feed, client_asks, called, given, client_deliver, feed, on_reconf}
 use Rattle.tg_protocol.specs.ClientSteps as steps
 use Rattle.tg_protocol.specs.Worlds.{World, packet_of, answer_to}
@@ -39,9 +37,9 @@ use Rattle.tg_law_reconfs.proofs.Grounds.{Answers, FaresBy}
 use Rattle.tg_law_reconfs.proofs.Scanning.{Scan, step_sends}
 use Rattle.tg_law_reconfs.proofs.ScanSteps.{contrary, num_same, num_itself, not_itself, from_of, to_of, unit_seqr, unit_layout, unit_client, seqr_layout, seqr_client, layout_client, unit_num, seqr_num, plain_none, each_has, ask_packet, scan_packet, told_packet, latest_packet, newest_packet, stand_packet, Stand, Ok, Scans, Scanned, AsksLatest, TellsLatest, Learns, Tells, scan_cost, scan_weight, Weight, Weigh, Costs, scan_off, scan_own, told_off, told_own, from_costs, to_costs, one_weighs, none_weigh, more_weigh, Seqr, Own, Base, base_seqr, base_client, own_there, seqr_there, Side, nothing_side, unit_side, layout_side, asks_are, asks_ok, asks_weigh, asks_own, other_seqr}
 use Rattle.tg_law_reconfs.proofs.ScanSteps as it
-use Rattle.tg_law_reconfs.proofs.ScanTurns.{Learnt, Moved, Rests, Asks, togo, togo_of, span, NotAwaited, awaited_moves, passed, fresh, told_again, first_told, first_moves}
+use Rattle.tg_law_reconfs.proofs.ScanTurns.{Learnt, Moved, Rests, Asks, togo, span, NotAwaited, awaited_moves, passed, fresh, told_again, first_told, first_moves}
 use Rattle.tg_law_reconfs.proofs.Starts.{tail_near, plain_tail, tail_ends}
-use Rattle.tg_law_reconfs.proofs.Tapes.{sum_by, sum_both}
+use Rattle.tg_law_reconfs.proofs.Tapes.{sum_by, sum_both, same_append}
 
 one_out : (a b : Out) → a ∷ [] ≡ b ∷ [] → a ≡ b
 one_out a b e = cc
@@ -166,8 +164,8 @@ module _ (m : Meaning) (h : Header) (stopped : List NodeId) (k : ℕ) (p : Layou
 
   -- A step.
 
-  ends_both : (x : Packet) (q sent done : List Packet) → (W (x ∷ q) ≡ Weight m h stopped k p rules r rid starting stand servers x + W q) × (S (x ∷ q) ≡ scan_weight m h stopped k p rules r rid starting stand servers x + S q)
-  ends_both x q sent done = more_weigh m h stopped k p rules r rid starting stand servers x q
+  ends_both : (x : Packet) (q : List Packet) → (W (x ∷ q) ≡ Weight m h stopped k p rules r rid starting stand servers x + W q) × (S (x ∷ q) ≡ scan_weight m h stopped k p rules r rid starting stand servers x + S q)
+  ends_both x q = more_weigh m h stopped k p rules r rid starting stand servers x q
 
   spends : (x : Packet) (done : List Packet) → (spent (x ∷ done) ≡ cost k (Some x) + spent done) × (scanned (x ∷ done) ≡ scan_cost m h stopped k p rules r rid starting stand servers x + scanned done)
   unfolding sum_by
@@ -177,7 +175,7 @@ module _ (m : Meaning) (h : Header) (stopped : List NodeId) (k : ℕ) (p : Layou
   pub step_on : (late : Bool) (s t : Net m) (x : Packet) (q sent done : List Packet) (a b c e : ℕ) (u v : ℕ) → Price x a b c e → During late s (x ∷ q) done → Nodes t → Learnt p rules (seqr t) → ClientAt (own t) → Each Fine sent → Flows (seqr t) (q ++ sent)
       → W sent ≤ u → u + b ≤ a → S sent ≤ v → v + e + 2 * togo p rules (seqr t) ≤ c + 2 * togo p rules (seqr s) → Late late (seqr t) (own t) (q ++ sent) → During late t (q ++ sent) (x ∷ done)
   step_on late s t x q sent done a b c e u v price d base learnt client each flows light pays few less late' =
-      let w = ends_both x q sent done in
+      let w = ends_both x q in
       let w0 = w.0 in
       let w1 = w.1 in
       let o = spends x done in
@@ -263,9 +261,6 @@ module _ (m : Meaning) (h : Header) (stopped : List NodeId) (k : ℕ) (p : Layou
       by (inl n) = inl n
       by (inr g) = inr (flight g)
 
-  none_there : (z : Packet) → Has {X = Packet} [] z → ⊥
-  none_there z g = g
-
   is_told : (a : Packet) (o : Option Msg) (z : Packet) → Has (answer_to m a o) z → (z.to ≡ a.from) × (z.from ≡ a.to)
   is_told a None z g = absurd g
   is_told a (Some y) z (inl e) = (to_of z _ e, from_of z _ e)
@@ -283,17 +278,11 @@ module _ (m : Meaning) (h : Header) (stopped : List NodeId) (k : ℕ) (p : Layou
 
   -- Each kind of packet.
   module _ (late : Bool) (w : World m) (q done : List Packet) where
-    abbrev s : Net m
-    s = net m w
-
     -- another sequencer's request
     others_scan : (x u i : ℕ) (y : Msg) → eqb p.seq x ≡ false → Scan (unit_ask y) → (b : Bool) → During late (net m w) (scan_packet m h stopped k p rules r rid starting stand servers x u i y ∷ q) done
         → During late (net_if m b h (net m w) (scan_packet m h stopped k p rules r rid starting stand servers x u i y)) (q ++ sent_if m b h (net m w) (scan_packet m h stopped k p rules r rid starting stand servers x u i y)) (scan_packet m h stopped k p rules r rid starting stand servers x u i y ∷ done)
     others_scan x u i y off scan b d = by b
       where
-        z : Packet
-        z = record { from = seqr_id x; to = unit_id u; rid = i; msg = y }
-
         n1 : (v j : ℕ) (a : Msg) → Scan' v j a ≡ record { from = seqr_id x; to = unit_id u; rid = i; msg = y } → ⊥
         n1 v j a e = not_itself p.seq x (seqr_num p.seq x (from_of _ _ e)) off
 
@@ -444,12 +433,6 @@ module _ (m : Meaning) (h : Header) (stopped : List NodeId) (k : ℕ) (p : Layou
         → During late (net_after m h (net m w) (Told' u i y) role.Seqr) (q ++ sent_then m h (net m w) (Told' u i y) role.Seqr) (Told' u i y ∷ done)
     own_answer u i y plain knows older sent d = by (seqr (net m w)).scan refl
       where
-        x : SeqrState
-        x = seqr_of m h (net m w) p.seq
-
-        t : SeqrTurn
-        t = seqr_step (seqr_of m h (net m w) p.seq) (unit_id u) i y
-
         price : Price (Told' u i y) 0 0 1 1
         price = told_own m h stopped k p rules r rid starting stand servers p.seq u i y (num_itself p.seq)
 
@@ -517,9 +500,6 @@ module _ (m : Meaning) (h : Header) (stopped : List NodeId) (k : ℕ) (p : Layou
         → During late (net_after m h (net m w) Ask role.Seqr) (q ++ sent_then m h (net m w) Ask role.Seqr) (Ask ∷ done)
     learns_again knows rests d = subst (λ (t : SeqrTurn). Turned Ask t) (sym (told_again p rules (seqr_of m h (net m w) p.seq) (client_id k) rid d.learnt)) said
       where
-        y : SeqrState
-        y = seqr_of m h (net m w) p.seq
-
         said : During late (record { units = w.units; layouts = w.layouts; seqrs = slice_set w.seqrs p.seq (seqr_of m h (net m w) p.seq); clients = w.clients }) (q ++ Stand' (stand_answer (seqr_of m h (net m w) p.seq) [] (scanning (seqr_of m h (net m w) p.seq))) ∷ []) (Ask ∷ done)
         said =
             let x = seqr_of m h (net m w) p.seq in
@@ -681,10 +661,6 @@ module _ (m : Meaning) (h : Header) (stopped : List NodeId) (k : ℕ) (p : Layou
 
   -- Before it has learnt its layout.
 
-  same_append : (xs : List Packet) (y : Packet) (ys zs : List Packet) → (xs ++ y ∷ ys) ++ zs ≡ xs ++ y ∷ (ys ++ zs)
-  same_append [] y ys zs = refl
-  same_append (x ∷ xs) y ys zs = ap (λ (l : List Packet). x ∷ l) (same_append xs y ys zs)
-
   head_is : (x y : Packet) (xs ys : List Packet) → x ∷ xs ≡ y ∷ ys → x ≡ y
   head_is x y xs ys e = cc
 
@@ -693,7 +669,7 @@ module _ (m : Meaning) (h : Header) (stopped : List NodeId) (k : ℕ) (p : Layou
 
   aside : (s t : Net m) (x : Packet) (q sent done : List Packet) (a b c e u v : ℕ) (front back : List Packet) → Price x a b c e → Before s (x ∷ q) done → Apart s t sent u v → u + b ≤ a → v + e ≤ c → q ≡ front ++ Ask ∷ back → Each NotTo front → Before t (q ++ sent) (x ∷ done)
   aside s t x q sent done a b c e u v front back price d f pays less is first =
-      let w = ends_both x q sent done in
+      let w = ends_both x q in
       let w0 = w.0 in
       let w1 = w.1 in
       let o = spends x done in
@@ -775,7 +751,7 @@ module _ (m : Meaning) (h : Header) (stopped : List NodeId) (k : ℕ) (p : Layou
         let same = ap (λ (z : SeqrState). togo p rules z) there in
         let price = from_costs m h stopped k p rules r rid starting stand servers (out (seqr_id p.seq) rid (msg.Learn p)) in
         let tells = to_costs m h stopped k p rules r rid starting stand servers (seqr_id p.seq) rid a (it.seqr_far m h stopped k p rules r rid starting stand servers p.seq) in
-        let w' = ends_both Ask q [] done in
+        let w' = ends_both Ask q in
         let w0 = w'.0 in
         let w1 = w'.1 in
         let v = more_weigh m h stopped k p rules r rid starting stand servers (Stand' a) ms in
@@ -798,17 +774,13 @@ module _ (m : Meaning) (h : Header) (stopped : List NodeId) (k : ℕ) (p : Layou
           base = base_seqr m h stopped k p rules r rid starting stand servers (net m w) p.seq now d.base;
           learnt = subst (λ (z : SeqrState). Learnt p rules z) (sym there) mv.learnt;
           client = inl d.client;
-          each = each_both Fine q (Stand' a ∷ ms) d.each.1 (Tells a (stand_fits now (scanning now) (begun_near y (scanning (fresh p rules y)))), asks_ok m h stopped k p rules r rid starting stand servers p.seq os are);
+          each = each_both Fine q (Stand' a ∷ ms) d.each.1 (Tells a (stand_is false w q done now (scanning now) (begun_near y (scanning (fresh p rules y)))), asks_ok m h stopped k p rules r rid starting stand servers p.seq os are);
           flows = fresh_flows y q (Stand' a ∷ ms) (record { now = now; sends = os }) _ there mv.sort (λ z g. inr g) (λ v n z g. told_not v n z a os g) (λ v n z g. older v n z (sent (Told' v n z) (inr g)));
           few = omega (arith, w0, v0, o0, f0, f1, t0, g0, both, light);
           scans = omega (arith, w1, v1, o1, f2, f3, t2, g1, sums, long, less, same);
           late_is = λ l. absurd (contrary l refl);
         })
       where
-        stand_fits : (y : SeqrState) (b : Bool) → too_far y.next ≡ false → Stand m h stopped k p rules r rid starting stand servers (stand_answer y [] b)
-        stand_fits y true near = tt
-        stand_fits y false near = (refl, near)
-
         told_not : (u i : ℕ) (z a : Msg) (os : List Out) → Has (Stand' a ∷ map (packet_of m (seqr_id p.seq)) os) (Told' u i z) → ⊥
         told_not u i z a os (inl e) = unit_seqr u p.seq (from_of _ _ e)
         told_not u i z a os (inr g) = unit_seqr u p.seq (is_sent (seqr_id p.seq) os _ g)

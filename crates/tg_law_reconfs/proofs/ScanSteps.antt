@@ -1,5 +1,5 @@
 -- A drain while the new sequencer scans: what may be on its way, and what each delivery makes of it.
-use Rattle.std.proofs.Common.{◌≡◌, ◌⊎◌, ℕ, zero, suc, ◌+◌, ◌*◌, ◌<◌, ◌≤◌, List, [], ◌∷◌, ◌++◌, length, map, not, ◌&&◌, ◌||◌, Bool, true, false, eqb, refl, ap, ◌∙◌, sym, subst, inl, inr, arith, Some, None, Option}
+use Rattle.std.proofs.Common.{◌≡◌, ◌⊎◌, ℕ, ◌+◌, ◌*◌, ◌<◌, ◌≤◌, List, [], ◌∷◌, length, map, not, ◌&&◌, ◌||◌, Bool, true, false, eqb, refl, ap, ◌∙◌, sym, subst, inl, inr, arith, Some, None, Option}
 use Rattle.std.specs.Prelude.{slice_set, slice_index_or, ⊤}
 use Rattle.tg_base.specs.Clusters.{Header}
 use Rattle.tg_base.specs.Layouts.{Layout, IsLayout}
@@ -13,34 +13,24 @@ use Rattle.tg_base.specs.Orders.{node_eq}
 use Rattle.tg_kind.specs.Meaning.{Meaning}
 use Rattle.tg_protocol.specs.Words.{unit_id, layout_id, seqr_id, client_id, too_far}
 use Rattle.tg_protocol.specs.Layouts.{units_of, first_layout}
-use Rattle.tg_protocol.specs.Requests.{out, awaits, drawn_from}
-use Rattle.tg_protocol.specs.Replies.{IsScanning, IsTail, reply}
+use Rattle.tg_protocol.specs.Requests.{out}
 use Rattle.tg_protocol.specs.Units.{UnitState, UnitAsk, Reads, Stores, Fills, Looks, Seals, TrimsBelow, Nothing, new_unit, unit_ask, unit_step}
 use Rattle.tg_protocol.specs.LayoutServers.{LayoutState, new_layout, layout_ask, on_layout_ask, layout_step}
-use Rattle.tg_protocol.specs.Cells.{CellJob, place_in, cell_asks}
-use Rattle.tg_protocol.specs.Sequencers.{SeqrState, SeqrTurn, new_seqr, seqr_asks, scan_asks, scanning, begun, stand_answer, seqr_step, scan_on}
-use Rattle.tg_protocol.specs.Reconfiguring.{Reconf, ReconfWork, Starting, reconf_feed}
-use Rattle.tg_protocol.specs.Clients.{Client, Work, Task, Reconfiguring, Doing, new_client}
-use Rattle.tg_protocol.specs.ClientSteps.{ClientTurn, task_asks, task_feed, client_asks, called, given, client_deliver, feed, on_reconf}
-use Rattle.tg_protocol.specs.Worlds.{World, packet_of, answer_to}
+use Rattle.tg_protocol.specs.Sequencers.{SeqrState, SeqrTurn, new_seqr, seqr_asks, scan_asks}
+use Rattle.tg_protocol.specs.Reconfiguring.{Reconf, Starting}
+use Rattle.tg_protocol.specs.Clients.{Client, new_client}
+use Rattle.tg_protocol.specs.Worlds.{packet_of, answer_to}
 use Rattle.tg_protocol.specs.Finishing.{is_with, is_with_client, is_scan}
 use Rattle.tg_law_layouts.specs.Steps.Runs.{epoch_of}
-use Rattle.tg_law_layouts.proofs.Moves.Members.{Has, has_left, has_right, has_either}
-use Rattle.tg_law_finish.proofs.Finish.Appends.{is_latest}
-use Rattle.tg_law_finish.proofs.Finish.Counted.{is_of, one_if, cost}
-use Rattle.tg_law_finish.proofs.Finish.Lines.{IsOver, idle_deliver}
-use Rattle.tg_law_finish.proofs.Finish.Lists.{Each, each_both, set_there, set_index, set_other}
-use Rattle.tg_law_finish.proofs.Finish.Nets.{Net, net, net_after, net_if, sent_then, sent_if, on_in, on_alike, Alike, unit_alike, seqr_alike, client_alike, alike_if, unit_of, layout_of, seqr_of, client_of}
-use Rattle.tg_law_finish.proofs.Finish.Others.{weight, weigh, weigh_both, from_weighs, to_weighs}
+use Rattle.tg_law_layouts.proofs.Moves.Members.{Has}
+use Rattle.tg_law_finish.proofs.Finish.Counted.{one_if, cost}
+use Rattle.tg_law_finish.proofs.Finish.Lists.{Each, set_there, set_index, set_other}
+use Rattle.tg_law_finish.proofs.Finish.Nets.{Net, net_after, sent_then, on_in, on_alike, Alike, unit_alike, seqr_alike, client_alike, alike_if, unit_of, layout_of, seqr_of, client_of}
+use Rattle.tg_law_finish.proofs.Finish.Others.{weight, weigh, from_weighs, to_weighs}
 use Rattle.tg_law_finish.proofs.Finish.Strays.{is_plain, same_epoch, unit_plain}
-use Rattle.tg_law_finish.proofs.Finish.Tasks.{TaskShape, shape_called, busied, task_fed, none_drawn}
-use Rattle.tg_law_finish.proofs.Finish.Writers.{awaited_itself}
-use Rattle.tg_law_reconfs.proofs.Grounds.{Answers, FaresBy}
 use Rattle.tg_law_reconfs.proofs.Nodes.{AsksScan, scans_ask}
-use Rattle.tg_law_reconfs.proofs.Scanning.{Scan, LearnsNone, step_sends}
-use Rattle.tg_law_reconfs.proofs.ScanTurns.{Learnt, Moved, Rests, Asks, togo, togo_of, span, NotAwaited, awaited_moves, passed, told_again, first_told, first_moves}
-use Rattle.tg_law_reconfs.proofs.Starts.{learn, tail_near, plain_tail, tail_ends}
-use Rattle.tg_law_reconfs.proofs.Tapes.{sum_by, sum_both}
+use Rattle.tg_law_reconfs.proofs.Scanning.{Scan, LearnsNone}
+use Rattle.tg_law_reconfs.proofs.Tapes.{sum_by}
 
 -- Small words.
 
@@ -152,9 +142,6 @@ off_from b e = grind (arith, e)
 
 own_from : (b : Bool) → b ≡ true → one_if (b && true) ≡ 1
 own_from b e = grind (arith, e)
-
-off_to : (b : Bool) → b ≡ false → one_if (b && true) ≡ 0
-off_to b e = grind (arith, e)
 
 module _ (m : Meaning) (h : Header) (stopped : List NodeId) (k : ℕ) (p : Layout) (rules : IsLayout p) (r : Reconf) (rid : ℕ) (starting : r.work ≡ Starting rid) (stand : r.stand ≡ p) (servers : ℕ) where
   -- Packets.

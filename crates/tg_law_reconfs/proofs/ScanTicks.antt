@@ -1,5 +1,5 @@
 -- A round of ticks while the new sequencer scans: it and the client ask once more, each once.
-use Rattle.std.proofs.Common.{◌≡◌, ◌⊎◌, ℕ, zero, suc, ◌+◌, ◌*◌, ◌<◌, ◌≤◌, List, [], ◌∷◌, ◌++◌, length, map, Bool, true, false, eqb, refl, ap, ◌∙◌, sym, subst, inl, inr, arith, Some, None, Option}
+use Rattle.std.proofs.Common.{◌≡◌, ◌⊎◌, ℕ, zero, suc, ◌+◌, ◌*◌, ◌<◌, ◌≤◌, List, [], ◌∷◌, ◌++◌, length, map, Bool, true, false, eqb, refl, ap, ◌∙◌, sym, subst, inl, inr, arith, Some, None}
 use Rattle.std.specs.Prelude.{slice_set, slice_index_or}
 use Rattle.tg_base.specs.Clusters.{Header}
 use Rattle.tg_base.specs.Layouts.{Layout, IsLayout}
@@ -15,25 +15,23 @@ use Rattle.tg_kind.specs.Meaning.{Meaning}
 use Rattle.tg_protocol.specs.Words.{unit_id, layout_id, seqr_id, client_id, numbers}
 use Rattle.tg_protocol.specs.Layouts.{first_layout}
 use Rattle.tg_protocol.specs.Requests.{out, waits_for}
-use Rattle.tg_protocol.specs.Cells.{CellJob, cell_asks}
-use Rattle.tg_protocol.specs.Sequencers.{SeqrState, SeqrTurn, seqr_asks, scan_asks, seqr_tick}
+use Rattle.tg_protocol.specs.Sequencers.{SeqrState, SeqrTurn, seqr_asks, seqr_tick}
 use Rattle.tg_protocol.specs.Reconfiguring.{Reconf, Starting}
 use Rattle.tg_protocol.specs.Clients.{Client, Work, Reconfiguring, new_client}
-use Rattle.tg_protocol.specs.ClientSteps.{ClientTurn, called, client_tick, tick_by, hand_again_asks, asks_latest}
+use Rattle.tg_protocol.specs.ClientSteps.{ClientTurn, called, client_tick, tick_by, asks_latest}
 use Rattle.tg_protocol.specs.Worlds.{World, nodes, packet_of}
-use Rattle.tg_law_layouts.proofs.Moves.Members.{Has, has_left, has_right, has_either}
-use Rattle.tg_law_finish.proofs.Finish.Counted.{is_of, one_if}
-use Rattle.tg_law_finish.proofs.Finish.Finishes.{Once, nodes_once}
-use Rattle.tg_law_finish.proofs.Finish.Lists.{Each, each_both, set_index, set_other, set_there}
-use Rattle.tg_law_finish.proofs.Finish.Nets.{Net, net, net_ticked, sent_ticked, on_in, client_alike, client_of, seqr_of}
-use Rattle.tg_law_finish.proofs.Finish.Others.{idle_ticks, weigh, weigh_both}
-use Rattle.tg_law_finish.proofs.Finish.Tasks.{TaskShape, shape_ticked, again_is}
+use Rattle.tg_law_layouts.proofs.Moves.Members.{Has, has_left, has_right}
+use Rattle.tg_law_finish.proofs.Finish.Finishes.{Once}
+use Rattle.tg_law_finish.proofs.Finish.Lists.{Each, each_both, set_index, set_other}
+use Rattle.tg_law_finish.proofs.Finish.Nets.{Net, net_ticked, sent_ticked, on_in, client_alike, client_of, seqr_of}
+use Rattle.tg_law_finish.proofs.Finish.Others.{idle_ticks, weigh_both}
+use Rattle.tg_law_finish.proofs.Finish.Tasks.{shape_ticked, again_is}
 use Rattle.tg_law_reconfs.proofs.Answering.{node_same}
 use Rattle.tg_law_reconfs.proofs.Scanning.{tick_sends}
-use Rattle.tg_law_reconfs.proofs.ScanSteps.{contrary, num_same, not_itself, unit_seqr, unit_client, seqr_client, unit_layout, seqr_layout, layout_client, from_of, Ok, AsksLatest, Learns, Costs, from_costs, more_weigh, none_weigh, Base, base_of, base_seqr, base_client, own_there, seqr_there, Side, nothing_side, asks_are, asks_ok, asks_weigh, asks_own, other_seqr, ask_packet, scan_packet, told_packet, scan_weight, Weigh}
+use Rattle.tg_law_reconfs.proofs.ScanSteps.{contrary, unit_seqr, unit_client, seqr_layout, layout_client, Ok, AsksLatest, Learns, from_costs, more_weigh, none_weigh, Base, base_of, base_seqr, base_client, own_there, seqr_there, Side, nothing_side, asks_are, asks_ok, asks_weigh, asks_own, other_seqr, ask_packet, scan_packet, told_packet, scan_weight, Weigh}
 use Rattle.tg_law_reconfs.proofs.ScanTurns.{Learnt, togo, span}
-use Rattle.tg_law_reconfs.proofs.ScanDrains.{Flows, Waits, ClientAt, During, Before, NotTo, spent, scanned, rounds_left}
-use Rattle.tg_law_reconfs.proofs.Tapes.{sum_by, sum_both}
+use Rattle.tg_law_reconfs.proofs.ScanDrains.{Waits, NotTo, spent, scanned, rounds_left}
+use Rattle.tg_law_reconfs.proofs.Tapes.{sum_by, sum_both, same_append}
 
 -- Nodes that tick.
 
@@ -237,10 +235,6 @@ module _ (m : Meaning) (h : Header) (stopped : List NodeId) (k : ℕ) (p : Layou
 
   both_aside : (q sent : List Packet) → Each Aside q → Each Aside sent → Each Aside (q ++ sent)
   both_aside q sent a b = each_both Aside q sent a b
-
-  same_append : (xs : List Packet) (y : Packet) (ys zs : List Packet) → (xs ++ y ∷ ys) ++ zs ≡ xs ++ y ∷ (ys ++ zs)
-  same_append [] y ys zs = refl
-  same_append (x ∷ xs) y ys zs = ap (λ (l : List Packet). x ∷ l) (same_append xs y ys zs)
 
   client_same : (late : Bool) (x : NodeId) (xs : List NodeId) (c : Client m) (q sent done : List Packet) → W sent ≤ 0 → Each Aside sent → (Owes (client_id k) (x ∷ xs) → Owes (client_id k) xs) → ClientTurn' late (x ∷ xs) c q done → ClientTurn' late xs c (q ++ sent) done
   client_same late x xs c q sent done light aside owes (inl o) = let both = weigh_both m h stopped k p q sent in let few = o.few in inl (record { waits = o.waits; owes = owes o.owes; aside = both_aside q sent o.aside aside; few = omega (arith, both, few, light) })

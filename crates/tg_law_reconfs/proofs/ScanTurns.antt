@@ -1,17 +1,16 @@
 -- The turns of a layout's own sequencer: while it scans, each answer that is good for something brings it on, and what it may still ask gets less.
 use Rattle.std.proofs.Common.{◌≡◌, ◌⊎◌, ℕ, zero, suc, ◌+◌, ◌-◌, ◌*◌, ◌<◌, ◌≤◌, List, [], ◌∷◌, length, not, ◌||◌, Bool, true, false, eqb, refl, ap, ◌∙◌, sym, subst, inl, inr, arith, Some, None, Option}
-use Rattle.std.specs.Prelude.{nat_lt, nat_le, min, ⊤}
+use Rattle.std.specs.Prelude.{nat_lt, min}
 use Rattle.tg_base.specs.Layouts.{Layout, IsLayout}
-use Rattle.tg_base.specs.declared.cell.Cell.{Cell}
 use Rattle.tg_base.specs.declared.ids.NodeId.{NodeId}
 use Rattle.tg_base.specs.declared.msg.Msg.{Msg}
 use Rattle.tg_base.specs.declared.msg.Msg.TheVariants as msg
 use Rattle.tg_base.specs.declared.packet.Out.{Out}
 use Rattle.tg_protocol.specs.Words.{unit_id}
 use Rattle.tg_protocol.specs.Layouts.{chain_of}
-use Rattle.tg_protocol.specs.Requests.{out, awaits, drawn_from, Goes, Ends}
+use Rattle.tg_protocol.specs.Requests.{out, awaits, drawn_from}
 use Rattle.tg_protocol.specs.Replies.{reply}
-use Rattle.tg_protocol.specs.Cells.{Place, CellWork, Puts, Gets, Fills, Copies, Probes, CellJob, CellTurn, Done, Gone, place_in, last_unit, works, work_asks, get_cell, cell_asks, cell_feed}
+use Rattle.tg_protocol.specs.Cells.{Place, CellWork, Puts, Gets, Fills, Copies, Probes, CellJob, CellTurn, place_in, last_unit, works, work_asks, get_cell, cell_asks, cell_feed}
 use Rattle.tg_protocol.specs.Sequencers.{SeqrState, SeqrTurn, with_positions, cell_streams, scan_on, scan_turn, scanning, sends_new, fed_if, scan_fed, begun, learns, answers, stand_answer, unfenced, on_learn, learn_or_old, seqr_step}
 use Rattle.tg_protocol.specs.Finishing.{longest_chain}
 use Rattle.tg_law_finish.proofs.Finish.Strays.{is_plain}

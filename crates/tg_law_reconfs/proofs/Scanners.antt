@@ -1,6 +1,6 @@
 -- Of each sequencer of a run: its scan has the cell at the next position in hand, which it reads, fills or copies; it has none only where it scans no
 -- more, or was fenced; and what fenced it is past its layout's epoch.
-use Rattle.std.proofs.Common.{◌≡◌, ℕ, ◌+◌, ◌<◌, ◌≤◌, List, [], ◌∷◌, length, not, Bool, true, false, ◌||◌, eqb, refl, ap, ◌∙◌, sym, subst, arith, Some, None, Option}
+use Rattle.std.proofs.Common.{◌≡◌, ℕ, ◌+◌, ◌<◌, List, [], not, Bool, true, false, ◌||◌, eqb, refl, ap, ◌∙◌, sym, subst, arith, Some, None, Option}
 use Rattle.std.specs.Prelude.{nat_lt, nat_le, min, ⊤}
 use Rattle.tg_base.specs.Layouts.{Layout}
 use Rattle.tg_base.specs.Clusters.{Header}
@@ -13,7 +13,7 @@ use Rattle.tg_protocol.specs.Words.{numbers}
 use Rattle.tg_protocol.specs.Layouts.{first_layout}
 use Rattle.tg_protocol.specs.Requests.{awaits, Turn, Next, Goes, Learns, Ends}
 use Rattle.tg_protocol.specs.Replies.{Reply, reply}
-use Rattle.tg_protocol.specs.Cells.{Place, CellWork, CellJob, CellEnd, Done, Seen, Lost, Gone, Fenced, place_in, cell_asks, cell_feed, get_cell}
+use Rattle.tg_protocol.specs.Cells.{Place, CellJob, CellEnd, Done, Seen, Lost, Gone, Fenced, place_in, cell_asks, cell_feed, get_cell}
 use Rattle.tg_protocol.specs.Sequencers.{SeqrState, SeqrTurn, new_seqr, with_positions, cell_streams, scan_on, scan_next, scan_turn, scanning, fed_if, scan_fed, answers, stand_answer, links_of, issue, on_token, unfenced, own_epoch, on_learn, learn_or_old, seqr_step, seqr_tick}
 use Rattle.tg_protocol.specs.Worlds.{World, start, seqr}
 use Rattle.tg_protocol.specs.Runs.{Moves, Reaches}
@@ -76,10 +76,6 @@ module _ (s : SeqrState) (j : CellJob) (has : s.scan ≡ Some j) (h : Scanner s)
 
   goes : (n : ℕ) (i : CellJob) → i.place ≡ j.place → ReadShape i.place i.work → Scanner (record s { rids = n; scan = Some i })
   goes n i e shape = record { at = (e ∙ (subst (JobAt s) has h.at).0, shape); rests = λ f. absurd (contrary scans f); some = λ f g k. absurd (cc); fenced = h.fenced }
-
-  shaped : Next CellJob CellEnd → Type 0
-  shaped (Goes i) = ReadShape i.place i.work
-  shaped to = ⊤
 
   to_scanner : (n : ℕ) (to : Next CellJob CellEnd) → ((i : CellJob) → to ≡ Goes i → (i.place ≡ j.place) × ReadShape i.place i.work) → ((i : CellJob) → to ≡ Learns i → ⊥) → ((v e : ℕ) → to ≡ Ends (Fenced v e) → s.proj.epoch < e) → Scanner (scan_next (record s { rids = n }) to)
   unfolding FencedPast

@@ -1,5 +1,5 @@
 -- A settling by facts of nodes, of the packets that wait and of those that were delivered, in worlds to which a run comes.
-use Rattle.std.proofs.Common.{◌≡◌, ◌⊎◌, ℕ, zero, suc, ◌+◌, ◌-◌, ◌≤◌, List, [], ◌∷◌, ◌++◌, length, filter, cond, Bool, true, false, eqb, refl, ap, ◌∙◌, sym, subst, inl, inr, arith, Some, None, Option}
+use Rattle.std.proofs.Common.{◌≡◌, ℕ, zero, suc, ◌+◌, ◌-◌, ◌≤◌, List, [], ◌∷◌, ◌++◌, length, filter, cond, Bool, true, false, eqb, refl, ap, ◌∙◌, sym, subst, inl, inr, arith, Some, None, Option}
 use Rattle.std.specs.Prelude.{slice_get, ⊤}
 use Rattle.tg_base.specs.Clusters.{Header}
 use Rattle.tg_base.specs.declared.fault.Which.{Which}
@@ -26,6 +26,10 @@ pub sum_both : (f : Packet → ℕ) (q r : List Packet) → sum_by f (q ++ r) �
 unfolding sum_by
 sum_both f [] r = omega arith
 sum_both f (x ∷ q) r = let e = sum_both f q r in omega (arith, e)
+
+pub same_append : (xs : List Packet) (y : Packet) (ys zs : List Packet) → (xs ++ y ∷ ys) ++ zs ≡ xs ++ y ∷ (ys ++ zs)
+same_append [] y ys zs = refl
+same_append (x ∷ xs) y ys zs = ap (λ (l : List Packet). x ∷ l) (same_append xs y ys zs)
 
 carried_on : (ps more : List Packet) (is : List ℕ) (q : List Packet) → Carries ps is q → Carries (ps ++ more) is q
 carried_on ps more [] [] c = c

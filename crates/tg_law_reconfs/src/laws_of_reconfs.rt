@@ -9,7 +9,7 @@ ghost use Rattle.tg_law_reconfs.specs.Ready.{ChangesAreReady};
 ghost use Rattle.tg_law_reconfs.specs.Changing.{JoinsFinish};
 ghost use Rattle.tg_law_reconfs.specs.Reconfs.{ReconfEndsAreTold, StartedFinishes, VotesFinish, SealsFinish};
 ghost use Rattle.tg_law_reconfs.specs.Scans.{ScansFinish, ScansInstall};
-ghost use Rattle.tg_law_reconfs.specs.Settled.{SealsAreAnswered, VotesAreAnswered, JoinsAreAnswered};
+ghost use Rattle.tg_law_reconfs.specs.Settled.{SealsAreAnswered, VotesAreAnswered, JoinsAreAnswered, ScansAreAnswered};
 ghost use Rattle.tg_protocol.specs.Runs.{Always};
 
 use tg_kind::Registry;
@@ -95,4 +95,12 @@ pub fn changes_are_ready()
 /// deliveries with the client, where 90 are allowed, and the layout is installed.
 pub fn joins_are_answered()
     ensures { JoinsAreAnswered }
+{}
+
+/// A run in which a client adds to a counter twice, and then opens a range, and the request to the new layout's sequencer is
+/// lost, is one for which `scans_finish` and `scans_install` ask no more than it has. A settling of it takes eight deliveries
+/// with the client, which is as many as are allowed, and four for the scan of two positions, where ten are; and the command
+/// has ended.
+pub fn scans_are_answered()
+    ensures { ScansAreAnswered }
 {}
