@@ -10,4 +10,5 @@ pub mod Closing
 pub mod Saving
 pub mod Paging
 pub mod Trimming
+pub mod Lowered
 pub mod Copying

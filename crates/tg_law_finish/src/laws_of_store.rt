@@ -10,7 +10,7 @@
 //! is trimmed (`asks_finish`, `makes_finish`).
 
 ghost use Rattle.tg_any.specs.AllKinds.{all_kinds};
-ghost use Rattle.tg_law_finish.specs.Finish.Anywhere.{CalmCommand, CommandWalks, LongCommand};
+ghost use Rattle.tg_law_finish.specs.Finish.Anywhere.{CalmCommand, CommandWalks, FewStreams, LongCommand};
 ghost use Rattle.tg_law_finish.specs.Finish.Copies.{CopyFinishes};
 ghost use Rattle.tg_law_finish.specs.Finish.Ends.{EndFinishes, RecordFinishes};
 ghost use Rattle.tg_law_finish.specs.Finish.Makes.{MakeFinishes};
@@ -91,6 +91,13 @@ pub fn commands_finish()
 /// `end` whose record is appended, too.
 pub fn calm_commands_finish()
     ensures { Always all_kinds (CalmCommand all_kinds) }
+{}
+
+/// So is one other than `rescue` that waits in a sync or in a walk, where its streams and the units that have trimmed anything
+/// are few for the log: three more than its streams, times two more than such units, is no more than six times the next
+/// position, and 23.
+pub fn few_streams_finish()
+    ensures { Always all_kinds (FewStreams all_kinds) }
 {}
 
 /// And so where the log is long: the sequencer's next position is no less than 23 times the number of units that have trimmed

@@ -1,6 +1,6 @@
 //! Runs for which the premises of the laws hold, computed by the definitions.
 
-ghost use Rattle.tg_law_finish.specs.Tallies.Settled.{AppendIsAnswered, AskIsAnswered, CopyIsAnswered, EndIsAnswered, FateIsAnswered, FillIsAnswered, ProbeIsAnswered, RecordIsAnswered, RescueIsAnswered, SaveIsAnswered, TrimIsAnswered};
+ghost use Rattle.tg_law_finish.specs.Tallies.Settled.{AppendIsAnswered, AskIsAnswered, CopyIsAnswered, EndIsAnswered, FateIsAnswered, FillIsAnswered, GoneIsAnswered, ProbeIsAnswered, RecordIsAnswered, RescueIsAnswered, SaveIsAnswered, TrimIsAnswered};
 ghost use Rattle.tg_law_finish.specs.Tallies.Books.{CommitIsBooked};
 ghost use Rattle.tg_law_finish.specs.Tallies.Tallies.{PastIsTold, CommitIsTold};
 
@@ -80,6 +80,13 @@ pub fn rescue_is_answered()
 /// asks no more than it has. A settling of it takes eight deliveries with the client, where 12 are allowed, and the unit trims.
 pub fn trim_is_answered()
     ensures { TrimIsAnswered }
+{}
+
+/// A run in which a client trims, asks for a fate, and its request for a tail is lost, is one for which `few_streams_finish` and
+/// `asks_finish_anyway` ask no more than it has: the last position is gone, and the sync probes its chain. A settling of it takes
+/// eight deliveries with the client, where 30 are allowed, and 80 by the bound of its command.
+pub fn gone_is_answered()
+    ensures { GoneIsAnswered }
 {}
 
 /// A run in which a client adds to a tally, opens a range, and copies the closed one's stripe to a spare unit, and the spare's seal is

@@ -183,6 +183,31 @@ long_room c t l p one few le =
     let a = mul-le (c + 1) t (2 * c) t (omega (arith, one)) (omega arith) in
     omega (arith, one, few, a, le)
 
+-- Streams and units that have trimmed anything are few for the log.
+streams_room : (c t l s f : ℕ) → 1 ≤ c → l ≤ 7 → (s + 3) * (f + 2) ≤ 6 * t + 23 → 2 * ((c + 1) * t) + 2 * l + passes_of c s f + 2 * (c + 1) ≤ 16 * c * (t + 4)
+streams_room c t l s zero one few le = let a = mul-le (c + 1) t (2 * c) t (omega (arith, one)) (omega arith) in omega (arith, one, few, a)
+streams_room c t l s (suc f) one few le =
+    let a = mul-le (c + 1) t (2 * c) t (omega (arith, one)) (omega arith) in
+    let b = pass c s (suc f + 2) (6 * t + 23) one le in
+    omega (arith, one, few, a, b)
+  where
+    -- a pass takes no more than c times the streams and three
+    pass : (c s n y : ℕ) → 1 ≤ c → (s + 3) * n ≤ y → (2 * c + 1 + s) * n ≤ c * y
+    pass zero s n y one le = absurd (omega (arith, one))
+    pass (suc zero) s n y one le = let e = mul-le (2 * 1 + 1 + s) n (s + 3) n (omega arith) (omega arith) in omega (arith, e, le)
+    pass (suc (suc c)) s n y one le =
+        let e = pass (suc c) s n y (omega arith) le in
+        let g = mul-le 2 n (s + 3) n (omega arith) (omega arith) in
+        let x = split (2 * suc c + 1 + s) n in
+        let z = ap (λ i. i * n) (next c s) in
+        omega (arith, e, g, le, x, z)
+      where
+        next : (c s : ℕ) → 2 * suc (suc c) + 1 + s ≡ (2 * suc c + 1 + s) + 2
+        next c s = omega arith
+
+        split : (x n : ℕ) → (x + 2) * n ≡ x * n + 2 * n
+        split x n = omega arith
+
 long_rescues : (c t l p j : ℕ) → 1 ≤ c → l ≤ 7 → j ≤ 128 → 23 * p ≤ 262 * (c * t) + 92 * c → (2 * ((c + 1) * t) + 2 * l + p) * (j + 1) + 2 * (c + 1) ≤ 128 * (16 * c * (t + 4))
 long_rescues c t l p j one few le pay =
     let a = mul-le (c + 1) t (2 * c) t (omega (arith, one)) (omega arith) in
@@ -518,10 +543,10 @@ module _ (m : Meaning) (h : Header) (ms : Moves m) (w : World m) (r : Reaches m 
     rescues = rescues;
   }
 
-  abbrev most : ℕ
+  abbrev pub most : ℕ
   most = 16 * longest_chain p * ((seqr m w p.seq).next + 4)
 
-  of_trim : (x : CommandOf m) → x ≡ cmd.Trim → most + 2 * w.cluster.units ≤ most_deliveries_in m w x
+  pub of_trim : (x : CommandOf m) → x ≡ cmd.Trim → most + 2 * w.cluster.units ≤ most_deliveries_in m w x
   of_trim x e = trims_most x (longest_chain p) (seqr m w p.seq).next w.cluster.units most e (omega arith)
 
   pub allows_all : (x : CommandOf m) → IsAlone m w k x → IsReadyFor m w k → Granted m w → Allows x (most_deliveries_in m w x + 129 * passes_bound m w 128)
@@ -531,9 +556,9 @@ module _ (m : Meaning) (h : Header) (ms : Moves m) (w : World m) (r : Reaches m 
       let rest = records_room (longest_chain p) (seqr m w p.seq).next w.cluster.layouts one few_layouts in
       allows_where x (most + passes_bound m w 128) _ one (omega arith) (omega (arith, any)) (λ e. let y = of_trim x e in omega (arith, y)) (omega (arith, rest))
       (λ e s.
-          let y = rescues_most m x (longest_chain p) (seqr m w p.seq).next w.cluster.units e in
-          let z = rescues_room (longest_chain p) (seqr m w p.seq).next w.cluster.layouts (passes_bound m w 128) (128 - s) one few_layouts (omega arith) in
-          omega (arith, y, z))
+      let y = rescues_most m x (longest_chain p) (seqr m w p.seq).next w.cluster.units e in
+      let z = rescues_room (longest_chain p) (seqr m w p.seq).next w.cluster.layouts (passes_bound m w 128) (128 - s) one few_layouts (omega arith) in
+      omega (arith, y, z))
 
   pub allows_few : (x : CommandOf m) → IsAlone m w k x → IsReadyFor m w k → Granted m w → IsLong (floors m w) (seqr m w p.seq).next → Allows x (most_deliveries_in m w x)
   allows_few x a b g long =
@@ -542,9 +567,16 @@ module _ (m : Meaning) (h : Header) (ms : Moves m) (w : World m) (r : Reaches m 
       let pay = few_passes (longest_chain p) (seqr m w p.seq).next 128 (floors m w) one (omega arith) long in
       allows_where x most _ one (omega arith) any (of_trim x) (long_room (longest_chain p) (seqr m w p.seq).next w.cluster.layouts (passes_bound m w 128) one few_layouts pay)
       (λ e s.
-          let y = rescues_most m x (longest_chain p) (seqr m w p.seq).next w.cluster.units e in
-          let z = long_rescues (longest_chain p) (seqr m w p.seq).next w.cluster.layouts (passes_bound m w 128) (128 - s) one few_layouts (omega arith) pay in
-          omega (arith, y, z))
+      let y = rescues_most m x (longest_chain p) (seqr m w p.seq).next w.cluster.units e in
+      let z = long_rescues (longest_chain p) (seqr m w p.seq).next w.cluster.layouts (passes_bound m w 128) (128 - s) one few_layouts (omega arith) pay in
+      omega (arith, y, z))
+
+  -- what a sync and walks over few streams take, with a record
+  pub walks_few : (x : CommandOf m) → IsAlone m w k x → IsReadyFor m w k → Granted m w → (s : ℕ) → (s + 3) * (floors m w + 2) ≤ 6 * (seqr m w p.seq).next + 23 → walk_bound m w s + 2 * (longest_chain p + 1) ≤ most
+  walks_few x a b g s le = streams_room (longest_chain p) (seqr m w p.seq).next w.cluster.layouts s (floors m w) (longest g x a b) few_layouts le
+
+  pub in_bound : (x : CommandOf m) → most ≤ most_deliveries_in m w x
+  in_bound x = bounds m x (longest_chain p) (seqr m w p.seq).next w.cluster.units most (omega arith)
 
   pub allows_calm : (x : CommandOf m) → IsAlone m w k x → IsReadyFor m w k → Granted m w → NothingTrimmed m w → Allows x (most_deliveries_in m w x)
   allows_calm x a b g u = allows_few x a b g (inl (no_floors w.units u))

@@ -16,7 +16,7 @@ use Rattle.tg_protocol.specs.Sequencers.{links_of, with_positions}
 use Rattle.tg_protocol.specs.Appending.{Append, AppendWork, Asking, Putting, Judging, Token, append_asks, names_all}
 use Rattle.tg_protocol.specs.Cells.{CellWork, Puts, Gets, Fills, Copies, Probes, CellJob, place_in}
 use Rattle.tg_protocol.specs.Requests.{Waits}
-use Rattle.tg_protocol.specs.Syncing.{Sync, SyncWork, Checking, Settling, Probing}
+use Rattle.tg_protocol.specs.Syncing.{SyncWork, Checking, Settling, Probing}
 use Rattle.tg_protocol.specs.Trimming.{Trims, trim_asks, CopyWork, Reading, Storing}
 use Rattle.tg_protocol.specs.Walking.{Walk}
 use Rattle.tg_protocol.specs.Clients.{Judged, Task, Appending, Syncing, Walking, Trimming, Copying', Reconfiguring, Doing, Work}

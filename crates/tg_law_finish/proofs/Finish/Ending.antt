@@ -1,5 +1,5 @@
 -- A transaction with reads is ended: its record, and then a sync, the walks and a decision.
-use Rattle.std.proofs.Common.{◌≡◌, ◌⊎◌, ℕ, zero, suc, ◌+◌, ◌*◌, ◌≤◌, List, [], length, Bool, true, false, ap, sym, subst, inl, inr, arith}
+use Rattle.std.proofs.Common.{◌≡◌, ◌⊎◌, ℕ, zero, suc, ◌+◌, ◌*◌, ◌≤◌, List, [], length, true, ap, sym, subst, inl, inr, arith}
 use Rattle.std.proofs.Math.Nat.{mul-suc, mul-zero}
 use Rattle.tg_base.specs.Layouts.{Layout}
 use Rattle.tg_base.specs.Clusters.{Header}
@@ -10,7 +10,7 @@ use Rattle.tg_protocol.specs.Clients.{Client, Work}
 use Rattle.tg_protocol.specs.Answers.{syncs}
 use Rattle.tg_protocol.specs.ClientSteps.{ClientTurn, given}
 use Rattle.tg_law_finish.specs.Finish.Makes.{makes}
-use Rattle.tg_law_finish.proofs.Finish.Askers.{Kind, Here, extra, budget, passes, rest}
+use Rattle.tg_law_finish.proofs.Finish.Askers.{Kind, Here, extra, budget, passes}
 use Rattle.tg_law_finish.proofs.Finish.Askings.{sync_begins}
 use Rattle.tg_law_finish.proofs.Finish.Both.{MakesStage, makes_talk}
 use Rattle.tg_law_finish.proofs.Finish.Joined.{StageOf, ExitOf, Roomy, RoomyExit, roomy, Either, joined}
@@ -19,7 +19,6 @@ use Rattle.tg_law_finish.proofs.Finish.Makers.{making_way}
 use Rattle.tg_law_finish.proofs.Finish.Nets.{Net}
 use Rattle.tg_law_finish.proofs.Finish.Others.{Ready}
 use Rattle.tg_law_finish.proofs.Finish.Owners.{OwnsStage, OwnEnds, OwnOver, OwnSyncs, owns_talk}
-use Rattle.tg_law_finish.proofs.Finish.Readers.{seen}
 use Rattle.tg_law_finish.proofs.Finish.Rescuing.{round}
 use Rattle.tg_law_finish.proofs.Finish.Waited.{for_trims, budget_within, trims_within}
 

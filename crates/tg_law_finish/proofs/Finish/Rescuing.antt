@@ -1,5 +1,5 @@
 -- A rescue comes to its end, however many streams join it.
-use Rattle.std.proofs.Common.{◌≡◌, ◌⊎◌, ℕ, zero, suc, ◌+◌, ◌<◌, ◌≤◌, List, [], ◌++◌, length, Bool, true, false, sym, subst, inl, inr, arith}
+use Rattle.std.proofs.Common.{◌≡◌, ◌⊎◌, ℕ, zero, suc, ◌+◌, ◌<◌, ◌≤◌, List, [], ◌++◌, length, true, false, sym, subst, inl, inr, arith}
 use Rattle.tg_base.specs.Layouts.{Layout}
 use Rattle.tg_base.specs.Clusters.{Header}
 use Rattle.tg_base.specs.Orders.{with_oid}
@@ -11,14 +11,13 @@ use Rattle.tg_protocol.specs.Answers.{Moved, syncs}
 use Rattle.tg_protocol.specs.Words.{has_oid}
 use Rattle.tg_protocol.specs.ClientSteps.{ClientTurn, given}
 use Rattle.tg_law_finish.specs.Finish.Rescues.{is_rescue}
-use Rattle.tg_law_finish.proofs.Finish.Askers.{Kind, Here, extra, budget, passes, rest}
+use Rattle.tg_law_finish.proofs.Finish.Askers.{Kind, Here, extra, budget, passes}
 use Rattle.tg_law_finish.proofs.Finish.Askings.{Reads, EndsWalks, reads_talk, sync_begins}
 use Rattle.tg_law_finish.proofs.Finish.Both.{Second, makes_begun, writes_talk}
 use Rattle.tg_law_finish.proofs.Finish.Joined.{StageOf, ExitOf, Roomy, RoomyExit, roomy, Either, joined}
 use Rattle.tg_law_finish.proofs.Finish.Lines.{Item, asks, Over, IsOver, Talk, Goes}
 use Rattle.tg_law_finish.proofs.Finish.Nets.{Net}
 use Rattle.tg_law_finish.proofs.Finish.Others.{Ready}
-use Rattle.tg_law_finish.proofs.Finish.Readers.{seen}
 use Rattle.tg_law_finish.proofs.Finish.Rescuers.{Rescues', RescueEnds, RescueGrows, rescuing_way, one_more}
 use Rattle.tg_law_finish.proofs.Finish.Waited.{budget_within, trims_within}
 

@@ -1,5 +1,5 @@
 -- Commands of the store finish: all that the laws of settlings ask of a world is so in each run of the store.
-use Rattle.std.proofs.Common.{◌≡◌, ◌⊎◌, ℕ, ◌+◌, ◌*◌, ◌<◌, ◌≤◌, [], length, true, false, refl, ap, ◌∙◌, sym, subst, inl, inr, arith, Some, Option}
+use Rattle.std.proofs.Common.{◌≡◌, ◌⊎◌, ℕ, ◌+◌, ◌*◌, ◌<◌, ◌≤◌, [], length, Bool, true, false, refl, ap, ◌∙◌, sym, subst, inl, inr, arith, Some, Option}
 use Rattle.std.specs.Prelude.{nat_lt}
 use Rattle.std.proofs.lemmas.Bool.Decides.{nat_tests}
 use Rattle.tg_base.specs.Clusters.{Header}
@@ -28,13 +28,13 @@ use Rattle.tg_law_headline.specs.Issues.Issues.{TrimsInTime}
 use Rattle.tg_law_headline.specs.Trims.Spare.{TrimsAre}
 use Rattle.tg_law_headline.proofs.Runs.Holding.{logs_hold}
 use Rattle.tg_law_finish.specs.Finish.Alone.{IsAlone}
-use Rattle.tg_law_finish.specs.Finish.Anywhere.{HasTask, CommandWalks, CalmCommand, LongCommand}
+use Rattle.tg_law_finish.specs.Finish.Anywhere.{HasTask, CommandWalks, CalmCommand, FewStreams, LongCommand}
 use Rattle.tg_law_finish.specs.Finish.Appends.{is_last, WaitsForAppend}
 use Rattle.tg_law_finish.specs.Finish.Commands.{is_ask, plays}
 use Rattle.tg_law_finish.specs.Finish.Copies.{CopyFinishes}
 use Rattle.tg_law_finish.specs.Finish.Granted.{Granted}
 use Rattle.tg_law_finish.proofs.Finish.AtWork.{ready_clients_work}
-use Rattle.tg_law_finish.proofs.Finish.Answered.{within, same_command, record_below, record_walks, append_answered, append_in_time, ask_calm, make_calm, few_streams, Allows, allows_all, allows_few, allows_calm, ask_walks, make_walks, rescue_walks, token_below, end_walks, trim_walks, units_trim, task_below, copy_walks}
+use Rattle.tg_law_finish.proofs.Finish.Answered.{within, same_command, record_below, record_walks, append_answered, append_in_time, ask_calm, make_calm, few_streams, Allows, most, allows_all, allows_few, allows_calm, of_trim, walks_few, in_bound, ask_walks, make_walks, rescue_walks, token_below, end_walks, trim_walks, units_trim, task_below, copy_walks}
 use Rattle.tg_law_finish.proofs.Finish.Standing.{next_near, limit_below, working}
 use Rattle.tg_law_finish.specs.Finish.Laws.{IsAnswered}
 use Rattle.tg_law_finish.specs.Finish.Makes.{makes, MakeFinishes}
@@ -43,7 +43,7 @@ use Rattle.tg_law_finish.specs.Finish.Ends.{EndsAppend, EndFinishes, EndsRecord,
 use Rattle.tg_law_finish.specs.Finish.Reads.{IsRead, WaitsForRead}
 use Rattle.tg_law_finish.specs.Finish.Rescues.{is_rescue, RescueWalks}
 use Rattle.tg_law_finish.specs.Finish.Trims.{IsTrim, trim_bound, TrimFinishes}
-use Rattle.tg_law_finish.specs.Finish.Walks.{floors, passes_bound, streams, AskWalks, MakeWalks}
+use Rattle.tg_law_finish.specs.Finish.Walks.{floors, passes_bound, walk_bound, streams, AskWalks, MakeWalks}
 use Rattle.tg_law_finish.proofs.Finish.Waited.{pays_less}
 use Rattle.tg_law_finish.proofs.Finish.Asking.{HeldWhereTrimmed, Grows, Owns, TokenStands, TaskStands}
 use Rattle.tg_law_finish.proofs.Finish.Below.{greatest, past, trimmed_settled, lows_below, unwritten_past}
@@ -297,6 +297,14 @@ module _ (m : Meaning) where
   judged_or_last (Saves o upto) = inr refl
   judged_or_last (Marks n o mark) = inr refl
 
+  is_trim : (t : Task m) → IsRead m t → IsTrim m t
+  is_trim (Syncing y) is = tt
+  is_trim (Walking y os) is = tt
+  is_trim (Appending y z) is = absurd is
+  is_trim (Trimming y) is = absurd is
+  is_trim (Copying' y) is = absurd is
+  is_trim (Reconfiguring y) is = absurd is
+
   -- with a task in hand
   works_here : (h : Header) (zs : Moves m) (r : Reaches m h zs (after m h zs)) → TrimsAre m h zs (after m h zs) → AllTrims h → (k : ℕ) (x : CommandOf m) (most : ℕ) → IsAlone m (after m h zs) k x → IsReadyFor m (after m h zs) k → IsSpareReady m (after m h zs) x → NoReconf m x
       → Allows m h zs (after m h zs) r k x most → HasTask m (after m h zs) k → IsAnswered m (after m h zs) k most
@@ -312,14 +320,6 @@ module _ (m : Meaning) where
           let le = room.trims is in
           within m k _ _ (after m h zs) _ (omega (arith, few, le))
           (trim_here h zs r trims (λ ms v s. (all ms v s).in_time) k x a b (record { work = v; waits = has; command = sym (same_command m h zs (after m h zs) r k x a v has) ∙ is; task = t; hand = hand; trims = fits })).0
-
-      is_trim : (t : Task m) → IsRead m t → IsTrim m t
-      is_trim (Syncing y) is = tt
-      is_trim (Walking y os) is = tt
-      is_trim (Appending y z) is = absurd is
-      is_trim (Trimming y) is = absurd is
-      is_trim (Copying' y) is = absurd is
-      is_trim (Reconfiguring y) is = absurd is
 
       reads : plays m x ≡ true → WaitsForRead m (after m h zs) k → IsAnswered m (after m h zs) k most
       reads play g = of (is_one x play)
@@ -353,6 +353,30 @@ module _ (m : Meaning) where
 
   calm_here : (h : Header) (zs : Moves m) → Reaches m h zs (after m h zs) → TrimsAre m h zs (after m h zs) → AllTrims h → CalmCommand m (after m h zs)
   calm_here h zs r trims all k x a b spare such u = allowed h zs r trims all k x _ a b spare such (λ g. allows_calm m h zs (after m h zs) r k x a b g u)
+
+  few_here : (h : Header) (zs : Moves m) → Reaches m h zs (after m h zs) → TrimsAre m h zs (after m h zs) → Timely h → FewStreams m (after m h zs)
+  few_here h zs r trims in_time k x a b play other f few = of (is_one x play)
+    where
+      true_not : (c : Bool) → c ≡ true → c ≡ false → ⊥
+      true_not c e g = grind (arith, e, g)
+
+      room : walk_bound m (after m h zs) (streams m f.work) + 2 * (longest_chain (latest m (after m h zs)) + 1) ≤ most m h zs (after m h zs) r k
+      room = walks_few m h zs (after m h zs) r k x a b (granted h zs r trims k x a b) (streams m f.work) few
+
+      bound : most m h zs (after m h zs) r k ≤ most_deliveries_in m (after m h zs) x
+      bound = in_bound m h zs (after m h zs) r k x
+
+      trims' : x ≡ cmd.Trim → IsAnswered m (after m h zs) k (most_deliveries_in m (after m h zs) x)
+      trims' is =
+          let up = of_trim m h zs (after m h zs) r k x is in
+          within m k _ _ (after m h zs) _ (omega (arith, room, up))
+          (trim_here h zs r trims in_time k x a b (record { work = f.work; waits = f.waits; command = sym (same_command m h zs (after m h zs) r k x a f.work f.waits) ∙ is; task = f.task; hand = f.hand; trims = is_trim f.task f.reads })).0
+
+      of : (is_ask m x ≡ true) ⊎ ((makes m x ≡ true) ⊎ ((is_rescue m x ≡ true) ⊎ (x ≡ cmd.Trim))) → IsAnswered m (after m h zs) k (most_deliveries_in m (after m h zs) x)
+      of (inl e) = within m k _ _ (after m h zs) _ (omega (arith, room, bound)) (ask_walks_here h zs r trims k x a b e f).0
+      of (inr (inl e)) = within m k _ _ (after m h zs) _ (omega (arith, room, bound)) (make_walks_here h zs r trims k x a b e f).0
+      of (inr (inr (inl e))) = absurd (true_not (is_rescue m x) e other)
+      of (inr (inr (inr e))) = trims' e
 
   long_here : (h : Header) (zs : Moves m) → Reaches m h zs (after m h zs) → TrimsAre m h zs (after m h zs) → AllTrims h → LongCommand m (after m h zs)
   long_here h zs r trims all k x a b spare such long = allowed h zs r trims all k x _ a b spare such (λ g. allows_few m h zs (after m h zs) r k x a b g (inr long))
@@ -396,6 +420,12 @@ module _ (m : Meaning) where
 
   pub long_where : (h : Header) (zs : Moves m) (w : World m) → Reaches m h zs w → TrimsAre m h zs w → AllTrims h → LongCommand m w
   long_where h zs w r trims all = subst (λ (v : World m). Reaches m h zs v → TrimsAre m h zs v → LongCommand m v) (sym r.goes.is) (λ a b. long_here h zs a b all) r trims
+
+  pub few_where : (h : Header) (zs : Moves m) (w : World m) → Reaches m h zs w → TrimsAre m h zs w → Timely h → FewStreams m w
+  few_where h zs w r trims in_time = subst (λ (v : World m). Reaches m h zs v → TrimsAre m h zs v → FewStreams m v) (sym r.goes.is) (λ a b. few_here h zs a b in_time) r trims
+
+pub few_streams_finish : Always all_kinds (FewStreams all_kinds)
+few_streams_finish h zs w r = few_where all_kinds h zs w r (logs_hold h zs w r).trims (λ ms v s. (logs_hold h ms v s).trims.in_time)
 
 pub calm_commands_finish : Always all_kinds (CalmCommand all_kinds)
 calm_commands_finish h zs w r = calm_where all_kinds h zs w r (logs_hold h zs w r).trims (λ ms v s. (logs_hold h ms v s).trims)

@@ -16,11 +16,9 @@ use Rattle.tg_protocol.specs.Entries.{streams_of, link_of, backs_of}
 use Rattle.tg_protocol.specs.Sequencers.{links_of, with_positions}
 use Rattle.tg_model.specs.Kinds.{CommandOf}
 use Rattle.tg_model.specs.declared.command.Command.TheVariants as cmd
-use Rattle.tg_protocol.specs.Syncing.{SyncWork, sync_work_asks}
-use Rattle.tg_protocol.specs.Clients.{Judged, Syncing}
+use Rattle.tg_protocol.specs.Clients.{Judged}
 use Rattle.tg_protocol.specs.ClientSteps.{task_asks}
 use Rattle.tg_protocol.specs.Worlds.{World, nodes, unit, seqr, client, runs, settle}
-use Rattle.tg_law_finish.specs.Finish.Commands.{is_ask}
 use Rattle.tg_law_finish.specs.Finish.Makes.{makes}
 use Rattle.tg_law_finish.specs.Finish.Walks.{passes_of, floors}
 use Rattle.tg_law_headline.proofs.Issues.Bounds.{AllBelow}
@@ -28,21 +26,17 @@ use Rattle.tg_law_finish.proofs.Finish.Asking.{Walkable, Grows, Owns}
 use Rattle.tg_law_finish.proofs.Finish.Ending.{EndStage, ends_talk, round_long}
 use Rattle.tg_law_finish.proofs.Finish.Owners.{Before, OwnStage}
 use Rattle.tg_law_finish.proofs.Finish.Talks.{Request}
-use Rattle.tg_law_finish.proofs.Finish.Askers.{Kind, Here, extra, above, budget, budget_less, passes, rest, SyncStage}
-use Rattle.tg_law_finish.proofs.Finish.Askings.{Reads, AsksOne}
-use Rattle.tg_law_finish.proofs.Finish.Both.{AsksStage, asks_talk, MakesStage, makes_talk}
+use Rattle.tg_law_finish.proofs.Finish.Askers.{Kind, Here, above}
 use Rattle.tg_law_finish.proofs.Finish.Counted.{Finishes}
 use Rattle.tg_law_finish.proofs.Finish.Finishes.{nodes_once, ready, serves, issues, clients_long}
-use Rattle.tg_law_finish.proofs.Finish.Lines.{Ask, asks}
+use Rattle.tg_law_finish.proofs.Finish.Lines.{asks}
 use Rattle.tg_law_finish.proofs.Finish.Joined.{StageOf}
 use Rattle.tg_law_finish.proofs.Finish.Nets.{net}
 use Rattle.tg_law_finish.proofs.Finish.Others.{weigh}
 use Rattle.tg_law_finish.proofs.Finish.Places.{AllServe}
-use Rattle.tg_law_finish.proofs.Finish.Readers.{Way, asking_way, seen}
-use Rattle.tg_law_finish.proofs.Finish.Makers.{making_way}
 use Rattle.tg_law_finish.proofs.Finish.Readings.{Clean, Trimmed, Good}
 use Rattle.tg_law_finish.proofs.Finish.Rounds.{Waiting, finishes_from}
-use Rattle.tg_law_finish.proofs.Finish.Trails.{unknown, Low}
+use Rattle.tg_law_finish.proofs.Finish.Trails.{Low}
 use Rattle.tg_law_finish.proofs.Finish.Waited.{for_trims, few_above, all_calm, pays}
 use Rattle.tg_law_finish.proofs.Finish.Rescuing.{round}
 use Rattle.tg_law_finish.proofs.Finish.Working.{Working, Lawful, at_chain}

@@ -1,6 +1,6 @@
 -- A run that leaves a client at the fill of its sync meets the premises of the laws on finishing, and its settling is counted.
 use Rattle.std.proofs.Common.{◌≡◌, ◌≢◌, ℕ, zero, suc, ◌<◌, ◌≤◌, List, [], ◌∷◌, true, refl, ap, sym, ◌∙◌, subst, inl, inr, arith, None}
-use Rattle.std.specs.Prelude.{Contains, not}
+use Rattle.std.specs.Prelude.{Contains}
 use Rattle.tg_model.specs.declared.command.Command.TheVariants as cmd
 use Rattle.tg_codec.specs.Reading.{u8_at, u16_at, u32_at, u64_at, raw_at, fixed_at}
 use Rattle.tg_codec.specs.Codec.{read_many, spell_many, fit_many}
@@ -9,7 +9,7 @@ use Rattle.tg_entry.specs.Writes.{writes}
 use Rattle.tg_entry.specs.Checkpoints.{keys, new_fields, old_fields}
 use Rattle.tg_entry.specs.Format.{body, entry}
 use Rattle.tg_base.specs.Orders.{node_eq}
-use Rattle.tg_protocol.specs.Words.{bytes_eq, bytes_lt, part_lt, cell_eq, client_id, too_far, unit_id, seqr_id}
+use Rattle.tg_protocol.specs.Words.{bytes_eq, bytes_lt, part_lt, cell_eq, client_id, unit_id, seqr_id}
 use Rattle.tg_protocol.specs.Layouts.{chain_of, units_of, next_of, change_fault, first_layout}
 use Rattle.tg_protocol.specs.Units.{new_unit, unit_ask, first_missing, on_ask, unit_step}
 use Rattle.tg_protocol.specs.LayoutServers.{new_layout, layout_ask, on_layout_ask, layout_step}
@@ -18,8 +18,8 @@ use Rattle.tg_protocol.specs.Cells.{work_asks, put_cell, get_cell, fill_cell, pr
 use Rattle.tg_entry.specs.Needs.{needs_decision}
 use Rattle.tg_protocol.specs.Entries.{entry_size}
 use Rattle.tg_protocol.specs.Pages.{page_of, entry_of}
-use Rattle.tg_protocol.specs.Sequencers.{new_seqr, seqr_step, seqr_tick, links_of}
-use Rattle.tg_protocol.specs.Appending.{append_work_asks, append_start, append_feed, append_again, names_all}
+use Rattle.tg_protocol.specs.Sequencers.{new_seqr, seqr_step, seqr_tick}
+use Rattle.tg_protocol.specs.Appending.{append_work_asks, append_start, append_feed, append_again}
 use Rattle.tg_protocol.specs.Syncing.{sync_work_asks, sync_start, sync_feed}
 use Rattle.tg_protocol.specs.Walking.{walk_on, walk_start, walk_feed}
 use Rattle.tg_protocol.specs.Versions.{no_versions, based, version_of, with_change, parts_of}
@@ -34,25 +34,17 @@ use Rattle.tg_protocol.specs.Answers.{appends, syncs, walked}
 use Rattle.tg_protocol.specs.ClientSteps.{task_asks, client_asks, walks, task_feed, task_again, accepts, client_command, client_deliver, client_tick}
 use Rattle.tg_protocol.specs.Sizes.{fields_size}
 use Rattle.tg_protocol.specs.Logs.{decided, newest, log_of, entries_of, members, path_on, path, changes_below, version, outcome, history_of}
-use Rattle.tg_base.specs.declared.ids.Oid.{Oid}
-use Rattle.tg_base.specs.declared.marks.StreamLink.{StreamLink}
 use Rattle.tg_protocol.specs.Worlds.{World, unit, seqr, client, runs, start, latest, log, history, unit_moves, layout_moves, seqr_moves, client_turned, happens, limit_of, drain_on, drain, tick_all, rounds, settle, line, lines}
 use Rattle.tg_protocol.specs.Runs.{Move, LawfulMove, Reaches, run}
-use Rattle.tg_protocol.specs.Finishing.{IsServing, WaitsAlone, IsReadyFor, MostRun}
+use Rattle.tg_protocol.specs.Finishing.{IsServing, IsReadyFor, MostRun}
 use Rattle.tg_law_replies.proofs.History.Members.{Has, has_contained}
 use Rattle.tg_law_finish.specs.Finish.Commands.{is_ask, plays}
-use Rattle.tg_law_finish.specs.Finish.Granted.{Granted, next_position}
-use Rattle.tg_law_finish.specs.Finish.Appends.{is_last, WaitsForAppend}
+use Rattle.tg_law_finish.specs.Finish.Appends.{is_last}
 use Rattle.tg_law_finish.specs.Finish.Alone.{IsAlone}
-use Rattle.tg_law_finish.specs.Finish.Laws.{append_bound, ask_bound}
+use Rattle.tg_law_finish.specs.Finish.Laws.{ask_bound}
 use Rattle.tg_base.specs.Layouts.{Layout}
-use Rattle.tg_law_finish.specs.Finish.Asks.{WaitsForSync}
 use Rattle.tg_law_finish.specs.Finish.Reads.{WaitsForRead}
-use Rattle.std.specs.List.{list_all}
-use Rattle.tg_base.specs.declared.packet.Packet.{Packet}
-use Rattle.tg_law_headline.proofs.Issues.Untrimmed.{is_trim, no_trims_in_time}
-use Rattle.tg_law_finish.specs.Tallies.Tallies.{tallies, tally, with_tally}
-use Rattle.tg_law_finish.specs.Finish.Walks.{streams, walk_bound}
+use Rattle.tg_law_finish.specs.Tallies.Tallies.{tallies, with_tally}
 use Rattle.tg_law_finish.specs.Tallies.Settled.{Counted, fill_lost, IsFill, FillIsAnswered}
 
 less_two : 1 < 2

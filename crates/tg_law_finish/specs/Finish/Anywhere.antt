@@ -1,5 +1,5 @@
 -- A command wherever it stands.
-use Rattle.std.specs.Prelude.{◌≡◌, ℕ, ◌+◌, ◌*◌, ◌≤◌, Some}
+use Rattle.std.specs.Prelude.{◌≡◌, ℕ, ◌+◌, ◌*◌, ◌≤◌, true, false, Some}
 use Rattle.tg_kind.specs.Meaning.{Meaning}
 use Rattle.tg_model.specs.Kinds.{CommandOf}
 use Rattle.tg_protocol.specs.Clients.{Task, Doing, Work}
@@ -7,9 +7,12 @@ use Rattle.tg_protocol.specs.Worlds.{World, client}
 use Rattle.tg_protocol.specs.Finishing.{IsReadyFor, IsSpareReady, NoReconf, most_deliveries_in}
 use Rattle.tg_law_finish.specs.Finish.Alone.{IsAlone}
 use Rattle.tg_law_finish.specs.Finish.Asks.{NothingTrimmed}
+use Rattle.tg_law_finish.specs.Finish.Commands.{plays}
 use Rattle.tg_law_finish.specs.Finish.Granted.{next_position}
 use Rattle.tg_law_finish.specs.Finish.Laws.{IsAnswered}
-use Rattle.tg_law_finish.specs.Finish.Walks.{floors, passes_bound}
+use Rattle.tg_law_finish.specs.Finish.Reads.{WaitsForRead}
+use Rattle.tg_law_finish.specs.Finish.Rescues.{is_rescue}
+use Rattle.tg_law_finish.specs.Finish.Walks.{floors, passes_bound, streams}
 
 module _ (m : Meaning) where
   -- the client has a task in hand: it doesn't wait for a newer layout
@@ -37,3 +40,9 @@ module _ (m : Meaning) where
   abbrev pub LongCommand : World m → Type 0
   LongCommand w = (k : ℕ) (x : CommandOf m) → IsAlone m w k x → IsReadyFor m w k → IsSpareReady m w x → NoReconf m x → 23 * (floors m w + 2) ≤ next_position m w →
       IsAnswered m w k (most_deliveries_in m w x)
+
+  -- and in a sync or a walk of a command other than `rescue`, where its streams and the units that have trimmed anything are
+  -- few for the log
+  abbrev pub FewStreams : World m → Type 0
+  FewStreams w = (k : ℕ) (x : CommandOf m) → IsAlone m w k x → IsReadyFor m w k → plays m x ≡ true → is_rescue m x ≡ false → (f : WaitsForRead m w k) →
+      (streams m f.work + 3) * (floors m w + 2) ≤ 6 * next_position m w + 23 → IsAnswered m w k (most_deliveries_in m w x)

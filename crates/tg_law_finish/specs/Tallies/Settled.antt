@@ -1,5 +1,5 @@
 -- Runs that leave a client waiting, and what a settling makes of them.
-use Rattle.std.specs.Prelude.{◌≡◌, ℕ, ◌+◌, ◌*◌, [], ◌∷◌, length, None}
+use Rattle.std.specs.Prelude.{◌≡◌, ℕ, ◌+◌, ◌*◌, ◌≤◌, [], ◌∷◌, length, None}
 use Rattle.tg_base.specs.Layouts.{Layout}
 use Rattle.tg_base.specs.Changes.{Changed}
 use Rattle.tg_base.specs.Clusters.{Header}
@@ -24,7 +24,7 @@ use Rattle.tg_law_finish.specs.Finish.Laws.{append_bound, ask_bound}
 use Rattle.tg_law_finish.specs.Finish.Reads.{WaitsForRead}
 use Rattle.tg_law_finish.specs.Finish.Rescues.{rescue_bound}
 use Rattle.tg_law_finish.specs.Finish.Trims.{WaitsForTrim, trim_bound}
-use Rattle.tg_law_finish.specs.Finish.Walks.{streams, walk_bound}
+use Rattle.tg_law_finish.specs.Finish.Walks.{floors, streams, walk_bound}
 use Rattle.tg_law_finish.specs.Tallies.Tallies.{tallies, floored, tally, with_tally}
 
 -- how many deliveries with the client a settling takes, and how many each bound allows
@@ -184,6 +184,22 @@ pub record TrimSettles (w : World floored) : Type 0 where
   pub counts : CountedIn floored w 8 12 82 (λ v. trim_bound floored v (streams floored waits.work)) cmd.Trim
   pub trims : (unit floored (settle floored w).world 0).low ≡ 1
 
+-- it trims, and asks for a fate; the one position is gone from its unit, and the request for a tail is lost
+abbrev pub gone_lost : Moves floored
+gone_lost = Takes (Commands 0 cmd.Begin) ∷ Takes (Commands 0 (cmd.Put directory 1)) ∷ Takes (Commands 0 cmd.End)
+    ∷ Takes (Deliver 0) ∷ Takes (Deliver 1) ∷ Takes (Deliver 2) ∷ Takes (Deliver 3) ∷ Takes (Commands 0 cmd.Trim)
+    ∷ Takes (Deliver 4) ∷ Takes (Deliver 5) ∷ Takes (Deliver 6) ∷ Takes (Deliver 7) ∷ Takes (Deliver 8) ∷ Takes (Deliver 9) ∷ Takes (Commands 0 (cmd.Fate 0)) ∷ Takes (Lose 10) ∷ []
+
+-- the sync asks for the last position, is told that it is gone, and probes its chain
+pub record GoneSettles (w : World floored) : Type 0 where
+  pub reached : Reaches floored with_tally gone_lost w
+  pub alone : IsAlone floored w 0 (cmd.Fate 0)
+  pub ready : IsReadyFor floored w 0
+  pub trimmed : floors floored w ≡ 1
+  pub waits : WaitsForRead floored w 0
+  pub few : (streams floored waits.work + 3) * (floors floored w + 2) ≤ 6 * next_position floored w + 23
+  pub counts : CountedIn floored w 8 30 80 (λ v. walk_bound floored v (streams floored waits.work)) (cmd.Fate 0)
+
 -- a unit stands in no chain
 abbrev pub with_spare : Header
 with_spare = record with_tally { units = 2 }
@@ -244,6 +260,9 @@ RescueIsAnswered = RescueSettles (run tallies rescue_lost (start tallies with_ta
 
 abbrev pub TrimIsAnswered : Type 0
 TrimIsAnswered = TrimSettles (run floored trim_lost (start floored with_tally))
+
+abbrev pub GoneIsAnswered : Type 0
+GoneIsAnswered = GoneSettles (run floored gone_lost (start floored with_tally))
 
 abbrev pub CopyIsAnswered : Type 0
 CopyIsAnswered = CopySettles (run tallies copy_lost (start tallies with_spare))
