@@ -1,2 +1,3 @@
-pub mod Settles
+pub mod Changes
 pub mod PastViews
+pub mod Settles

@@ -20,8 +20,8 @@ use Rattle.tg_law_finish.specs.Finish.Alone.{IsAlone}
 use Rattle.tg_law_finish.specs.Finish.Laws.{IsReply}
 use Rattle.tg_law_finish.proofs.Finish.Answered.{drains_answer}
 use Rattle.tg_law_finish.proofs.Finish.Drains.{drains_come_first, drained_reached}
-use Rattle.tg_law_finish.proofs.Finish.Store.{appends_finish, asks_finish_anyway, makes_finish_anyway, rescues_finish, trims_finish, copies_finish, ends_finish, records_finish, commands_finish}
-use Rattle.tg_law_settles.specs.Settles.{IsSettleLine, world_before, world_after, world_drained, Waits, ForAppend, ForAsk, ForMake, ForRescue, ForTrim, ForCopy, ForEnd, ForRecord, ForAny, SettleLinesFinish, DrainedLinesFinish, DrainedLinesAnswer}
+use Rattle.tg_law_finish.proofs.Finish.Store.{appends_finish, asks_finish_anyway, makes_finish_anyway, rescues_finish, trims_finish, copies_finish, ends_finish, records_finish, commands_finish, calm_commands_finish, long_commands_finish, few_streams_finish}
+use Rattle.tg_law_settles.specs.Settles.{IsSettleLine, world_before, world_after, world_drained, Waits, ForAppend, ForAsk, ForMake, ForRescue, ForTrim, ForCopy, ForEnd, ForRecord, ForAny, ForCalm, ForLong, ForFew, SettleLinesFinish, DrainedLinesFinish, DrainedLinesAnswer}
 
 no_item : {X : Type 0} → (x : X) → None ≡ Some x → ⊥
 no_item x e = cc
@@ -56,7 +56,7 @@ one_more (suc n) (y ∷ xs) x e = ap (λ l. y ∷ l) (one_more n xs x e)
 line_runs : (n : ℕ) (ls : List Line) (w : Worlds) (l : Line) → slice_get ls n ≡ Some l → (lines_on (take n ls) w).stopped ≡ None → (lines_on (take (suc n) ls) w).world ≡ (line_on (lines_on (take n ls) w).world l).world
 line_runs n ls w l e none = ap (λ (r : Runs). r.world) (ap (λ (ys : List Line). lines_on ys w) (one_more n ls l e) ∙ lines_longer (take n ls) l w none)
 
-settled_after : (s : Script) (n : ℕ) → IsSettleLine s n → world_after s n ≡ (settle all_kinds (world_before s n)).world
+pub settled_after : (s : Script) (n : ℕ) → IsSettleLine s n → world_after s n ≡ (settle all_kinds (world_before s n)).world
 settled_after s n is = ap (λ i. world_of (front i s)) (plus n) ∙ line_runs n s.events (start all_kinds s.header) line.Settle is.here is.within
   where
     plus : (n : ℕ) → n + 1 ≡ suc n
@@ -91,13 +91,16 @@ answered h ms w r k x most a b (ForCopy spare f) = (copies_finish h ms w r k x a
 answered h ms w r k x most a b (ForEnd f) = (ends_finish h ms w r k x a b f).0
 answered h ms w r k x most a b (ForRecord f) = (records_finish h ms w r k x a b f).0
 answered h ms w r k x most a b (ForAny spare such) = commands_finish h ms w r k x a b spare such
+answered h ms w r k x most a b (ForCalm spare such calm) = calm_commands_finish h ms w r k x a b spare such calm
+answered h ms w r k x most a b (ForLong spare such long) = long_commands_finish h ms w r k x a b spare such long
+answered h ms w r k x most a b (ForFew is such f few) = few_streams_finish h ms w r k x a b is such f few
 
 -- a run comes to the world before the line
 pub record Comes (s : Script) (n : ℕ) : Type 0 where
   pub moves : Moves all_kinds
   pub reaches : Reaches all_kinds s.header moves (world_before s n)
 
-comes : (s : Script) (n : ℕ) → IsSettleLine s n → Comes s n
+pub comes : (s : Script) (n : ℕ) → IsSettleLine s n → Comes s n
 comes s n is =
     let r = each_script_reaches (front n s) (front_script s n is.script) in
     record { moves = r.moves ++ Next ∷ []; reaches = counts s.header r.moves (world_of (front n s)) r.reaches }

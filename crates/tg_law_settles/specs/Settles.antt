@@ -1,5 +1,5 @@
 -- A script's `settle` line, as a replay runs it: it answers the client that waits alone.
-use Rattle.std.specs.Prelude.{◌≡◌, ℕ, ◌+◌, ◌*◌, true, slice_get, Some, None}
+use Rattle.std.specs.Prelude.{◌≡◌, ℕ, ◌+◌, ◌*◌, ◌≤◌, true, false, slice_get, Some, None}
 use Rattle.tg_model.specs.Kinds.{CommandOf}
 use Rattle.tg_protocol.specs.Clients.{Work}
 use Rattle.tg_protocol.specs.Worlds.{client, latest, next_event}
@@ -8,9 +8,11 @@ use Rattle.tg_any.specs.AllKinds.{all_kinds}
 use Rattle.tg_script.specs.declared.line.Line.TheVariants as line
 use Rattle.tg_replay.specs.Runs.{Script, Worlds, IsScript, IsWithin, world_of, front}
 use Rattle.tg_law_finish.specs.Finish.Alone.{IsAlone}
+use Rattle.tg_law_finish.specs.Finish.Asks.{NothingTrimmed}
 use Rattle.tg_law_finish.specs.Finish.Commands.{is_ask, plays}
 use Rattle.tg_law_finish.specs.Finish.Copies.{WaitsForCopy, copy_bound}
 use Rattle.tg_law_finish.specs.Finish.Drains.{drained}
+use Rattle.tg_law_finish.specs.Finish.Granted.{next_position}
 use Rattle.tg_law_finish.specs.Finish.Laws.{IsReply, append_bound}
 use Rattle.tg_law_finish.specs.Finish.Store.{AppendsLast}
 use Rattle.tg_law_finish.specs.Finish.Makes.{makes}
@@ -18,7 +20,7 @@ use Rattle.tg_law_finish.specs.Finish.Reads.{WaitsForRead}
 use Rattle.tg_law_finish.specs.Finish.Ends.{EndsAppend, end_bound, EndsRecord, record_bound}
 use Rattle.tg_law_finish.specs.Finish.Rescues.{is_rescue, rescue_bound}
 use Rattle.tg_law_finish.specs.Finish.Trims.{WaitsForTrim, trim_bound}
-use Rattle.tg_law_finish.specs.Finish.Walks.{streams, passes_bound, walk_bound}
+use Rattle.tg_law_finish.specs.Finish.Walks.{floors, streams, passes_bound, walk_bound}
 
 -- event line n, counted from 0, settles, and no limit stops the script before it
 pub record IsSettleLine (s : Script) (n : ℕ) : Type 0 where
@@ -53,6 +55,12 @@ pub data Waits (w : Worlds) (k : ℕ) (x : CommandOf all_kinds) : ℕ → Type 0
   ForRecord : EndsRecord all_kinds w k → Waits w k x (record_bound all_kinds w)
   -- for whatever it is, with any command but a reconfiguration; the spare unit of a copy runs, and isn't past the layout
   ForAny : IsSpareReady all_kinds w x → NoReconf all_kinds x → Waits w k x (most_deliveries_in all_kinds w x + 129 * passes_bound all_kinds w 128)
+  -- within the bound of its command alone: where nothing is trimmed,
+  ForCalm : IsSpareReady all_kinds w x → NoReconf all_kinds x → NothingTrimmed all_kinds w → Waits w k x (most_deliveries_in all_kinds w x)
+  -- where the log is long for the units that have trimmed anything,
+  ForLong : IsSpareReady all_kinds w x → NoReconf all_kinds x → 23 * (floors all_kinds w + 2) ≤ next_position all_kinds w → Waits w k x (most_deliveries_in all_kinds w x)
+  -- or, in a sync or in a walk of a command other than `rescue`, long for these and for the streams that it walks
+  ForFew : plays all_kinds x ≡ true → is_rescue all_kinds x ≡ false → (f : WaitsForRead all_kinds w k) → (streams all_kinds f.work + 3) * (floors all_kinds w + 2) ≤ 6 * next_position all_kinds w + 23 → Waits w k x (most_deliveries_in all_kinds w x)
 
 -- The client waits alone: nothing is on its way, or its requests alone are, as right after its command.
 abbrev pub SettleLinesFinish : Type 0

@@ -1,5 +1,6 @@
 //! What a script's `settle` line does, as a replay runs it.
 
+ghost use Rattle.tg_law_settles.specs.Changes.{SettleLinesChange, SettleLinesScan};
 ghost use Rattle.tg_law_settles.specs.PastViews.{UpdateIsSettled};
 ghost use Rattle.tg_law_settles.specs.Settles.{DrainedLinesAnswer, DrainedLinesFinish, SettleLinesFinish};
 
@@ -7,7 +8,8 @@ ghost use Rattle.tg_law_settles.specs.Settles.{DrainedLinesAnswer, DrainedLinesF
 /// as right after its command; the world is ready for it; and its command is one that is proved to finish
 /// (`Waits`): it waits for an append after which nothing is left, for the record of a transaction with reads, in a
 /// sync or a walk, wherever that stands, for units that are asked to trim, or in a copy to a spare unit that runs and isn't
-/// past the layout; or, within a larger bound, for whatever it is, with any command but a reconfiguration. Then the line
+/// past the layout; or, within a larger bound, for whatever it is, with any command but a reconfiguration; and within the
+/// bound of its command alone where nothing is trimmed, or the log is long for what is. Then the line
 /// ends the command, the client tells a reply, and at most so many packets with it are delivered, whatever was trimmed
 /// and lost before.
 pub fn settle_lines_finish()
@@ -32,4 +34,17 @@ pub fn drained_lines_answer()
 /// client, where eight are allowed, and its drain ends the update.
 pub fn update_is_settled()
     ensures { UpdateIsSettled }
+{}
+
+/// In the world before the line a client waits alone with a reconfiguration that is ready, and stands at the epoch at which the
+/// change was given. Then the line ends its command, and the client has told how; or it stands at the next epoch, and waits
+/// for that layout's sequencer. At most two packets with it are delivered for each unit, 64 for each layout server, and 22.
+pub fn settle_lines_change()
+    ensures { SettleLinesChange }
+{}
+
+/// Where it waits for its new layout's sequencer, which runs, as do the layout's units, the line ends its command, and the
+/// client tells that the layout is installed; the sequencer serves then.
+pub fn settle_lines_scan()
+    ensures { SettleLinesScan }
 {}
