@@ -13,7 +13,7 @@ use Rattle.tg_kind.specs.Meaning.{Meaning}
 use Rattle.tg_model.specs.Kinds.{CommandOf, EventOf}
 use Rattle.tg_model.specs.declared.command.Command.TheVariants as cmd
 use Rattle.tg_protocol.specs.Words.{unit_id, numbers}
-use Rattle.tg_protocol.specs.Layouts.{first_layout, next_units, change_fault}
+use Rattle.tg_protocol.specs.Layouts.{first_layout, units_of, next_units, change_fault}
 use Rattle.tg_protocol.specs.Reconfiguring.{ReconfWork, SealingSpare, LookingSpare, Sealing, LookingAgain, Agreeing, Telling, Starting, Reconf, next_epoch}
 use Rattle.tg_protocol.specs.Clients.{Task, Syncing, Walking, Appending, Trimming, Copying', Reconfiguring, Hand, Doing, Learning, Work, Client, new_client}
 use Rattle.tg_protocol.specs.ClientSteps.{ClientTurn, task_in}
@@ -30,7 +30,7 @@ use Rattle.tg_law_layouts.proofs.Layouts.Layouts.{start_pax, has_header, stays_s
 use Rattle.tg_law_layouts.proofs.Layouts.Standing.{IsKnown}
 use Rattle.tg_law_layouts.proofs.Layouts.Successions.{WorkGood, ReconfGood}
 use Rattle.tg_law_layouts.proofs.Layouts.Succeeding.{Any, low_keeps, succ_holds}
-use Rattle.tg_law_layouts.proofs.Layouts.Deciding.{one_layout, layouts_are_known, layouts_are_sound}
+use Rattle.tg_law_layouts.proofs.Layouts.Deciding.{decided_for, one_layout, layouts_are_known, layouts_are_sound}
 use Rattle.tg_law_layouts.proofs.Moves.Always.{lawful_give}
 use Rattle.tg_law_layouts.proofs.Moves.Lists.{at_map, at_replicate, contained}
 use Rattle.tg_law_layouts.proofs.Moves.Members.{Has, has_contained}
@@ -53,7 +53,7 @@ use Rattle.tg_law_reconfs.specs.Changes.{ChangesWork, ChangesStart}
 use Rattle.tg_law_reconfs.proofs.Arrivals.{Arrived, OfUnit, OfSeqr, olds_reached}
 use Rattle.tg_law_reconfs.proofs.Changing.{ToldFence, ToldOld, epoch_at, Fine, Waiting, ReconfKept, Warned, TaskKept, HandWarned, WorkKept, Suited, hears_kept, commands_kept, ticks_kept}
 use Rattle.tg_law_reconfs.proofs.NextUnits.{next_some, next_few, next_joins}
-use Rattle.tg_law_reconfs.proofs.Proposals.{WorkMine, ReconfMine, HandMine, mine_hold}
+use Rattle.tg_law_reconfs.proofs.Proposals.{IsOf, Comes, WorkMine, ReconfMine, HandMine, mine_hold}
 
 -- Along a run.
 module _ (m : Meaning) (h : Header) (zs : Moves m) (r : Reaches m h zs (after m h zs)) where
@@ -364,15 +364,28 @@ module _ (m : Meaning) (h : Header) (zs : Moves m) (r : Reaches m h zs (after m 
         by (inl d) = let is = d.0 in omega (arith, is)
         by (inr d) = let less = d.0 in omega (arith, less)
 
-    sequencer : (client m (after m h zs) k).stand.seq ≡ c.seq
-    sequencer = by (subst (λ (w : ReconfWork). WorkMine ps k x w) starting.1 mine.work)
+    -- what it has adopted is made by the change of the layout of that epoch
+    made : IsOf b.old c (client m (after m h zs) k).stand
+    made = subst (λ (p : Layout). IsOf b.old c p) stands (subst (λ (z : Changed). IsOf b.old z in_hand.reconf.stand) change (by (subst (λ (w : ReconfWork). WorkMine h ps k x w) starting.1 mine.work)))
       where
-        mine : ReconfMine ps k x
-        mine = subst (λ (o : Option Reconf). HandMine ps k o) has ((mine_hold m h zs).hands k)
+        mine : ReconfMine h ps k x
+        mine = subst (λ (o : Option Reconf). HandMine h ps k o) has (subst (λ (g : Header). HandMine g ps k (reconf_of m (client m end k).work)) (has_header m h zs) ((mine_hold m h zs).hands k))
 
-        by : (x.stand.epoch ≤ 1) ⊎ (x.stand.seq ≡ x.change.seq) → (client m (after m h zs) k).stand.seq ≡ c.seq
+        by : (x.stand.epoch ≤ 1) ⊎ Comes h ps k x → IsOf b.old x.change x.stand
         by (inl low) = absurd (omega (arith, low, at, stand_at, first))
-        by (inr is) = sym (ap (λ (p : Layout). p.seq) stands) ∙ (is ∙ ap (λ (z : Changed). z.seq) change)
+        by (inr g) = subst (λ (p : Layout). IsOf p x.change x.stand) (one_layout m h zs (after m h zs) r e g.old b.old (of_epoch g.old.epoch (omega (arith, before, stand_at, at)) (decided_for m h zs r.header (lawful_give m (start m h).cluster zs r.goes.lawful) g.old g.known)) b.decided) g.is
+          where
+            before : g.old.epoch + 1 ≡ x.stand.epoch
+            before = g.before
+
+            of_epoch : (i : ℕ) → i ≡ e → IsDecided m end i g.old → IsDecided m end e g.old
+            of_epoch i is d = subst (λ (j : ℕ). IsDecided m end j g.old) is d
+
+    sequencer : (client m (after m h zs) k).stand.seq ≡ c.seq
+    sequencer = made.0
+
+    pub units_start : (u : ℕ) → Contains (units_of (client m (after m h zs) k).stand) u → runs m (after m h zs) (unit_id u) ≡ true
+    units_start u there = b.units u (subst (λ (us : List ℕ). Contains us u) made.1 there)
 
     starts : WaitsToStart m (after m h zs) k (e + 1) × ((client m (after m h zs) k).stand.seq ≡ c.seq)
     starts = (record { work = a.work; waits = a.waits; reconf = x; hand = in_hand.hand; rid = starting.0; starting = starting.1; stands = at }, sequencer)
@@ -382,3 +395,11 @@ changes_work h zs w r = subst (λ (u : World all_kinds). Reaches all_kinds h zs 
 
 pub changes_start : Always all_kinds (ChangesStart all_kinds)
 changes_start h zs w r = subst (λ (u : World all_kinds). Reaches all_kinds h zs u → ChangesStart all_kinds u) (sym r.goes.is) (λ s k e c a b at. starts all_kinds h zs s k e c a b at) r
+
+-- of the layout at which it stands then all units run
+abbrev UnitsRun : World all_kinds → Type 0
+UnitsRun w = (k e : ℕ) (c : Changed) → WaitsAlone all_kinds w k (cmd.Reconf c) → IsReadyToChange all_kinds w k e c → (client all_kinds w k).stand.epoch ≡ e + 1
+    → (u : ℕ) → Contains (units_of (client all_kinds w k).stand) u → runs all_kinds w (unit_id u) ≡ true
+
+pub units_run_then : Always all_kinds UnitsRun
+units_run_then h zs w r = subst (λ (u : World all_kinds). Reaches all_kinds h zs u → UnitsRun u) (sym r.goes.is) (λ s k e c a b at. units_start all_kinds h zs s k e c a b at) r

@@ -12,6 +12,7 @@ pub mod EarlyTicks
 pub mod Ends
 pub mod Fencing
 pub mod Grounds
+pub mod Installing
 pub mod Joining
 pub mod Laps
 pub mod Looks

@@ -1,5 +1,5 @@
 -- The units of the layout that a change makes: there are some, a unit that joins is one, and they are no more than there are.
-use Rattle.std.proofs.Common.{◌≡◌, ℕ, ◌+◌, ◌<◌, ◌≤◌, List, [], ◌∷◌, length, get_or, ◌&&◌, refl, sym, ap, ◌∙◌, subst, inl, inr, arith, zero-add, Option, Some, None, true}
+use Rattle.std.proofs.Common.{◌≡◌, ℕ, ◌+◌, ◌<◌, ◌≤◌, List, [], ◌∷◌, ◌++◌, length, get_or, ◌&&◌, refl, sym, ap, ◌∙◌, subst, inl, inr, arith, zero-add, Option, Some, None, true}
 use Rattle.std.specs.Prelude.{◌==◌, nat_le, if◌then◌else◌}
 use Rattle.tg_base.specs.declared.layout.Range.{Range}
 use Rattle.tg_base.specs.declared.change.Join.{Join}
@@ -11,8 +11,9 @@ use Rattle.tg_proj.specs.Places.{no_range, range_at, chain_at}
 use Rattle.tg_proj.specs.Next.{kept, joined, next_chain, next_range, next_ranges, opened_at, next_layout}
 use Rattle.tg_proj.specs.Refusals.{units_of as units_in, join_refusal, early_refusal}
 use Rattle.tg_proj.proofs.Ranges.{each_passes}
-use Rattle.tg_proj.proofs.Chains.{length-next_chains, length-next_ranges, get_or-next_chains, get_or-next_ranges, units_of-append}
+use Rattle.tg_proj.proofs.Chains.{length-next_chains, length-next_ranges, get_or-next_chains, get_or-next_ranges, units_of-append, units_of-opened}
 use Rattle.tg_proj.proofs.Allowed.{allowed, join_allowed, some_left}
+use Rattle.tg_protocol.specs.Words.{with_nums}
 use Rattle.tg_protocol.specs.Layouts.{units_of, next_of, next_units, change_fault}
 use Rattle.tg_law_layouts.proofs.Moves.Members.{Has, has_left, has_right}
 use Rattle.tg_law_cells.proofs.Cells.Successors.{units_has}
@@ -83,3 +84,9 @@ module _ (p : Layout) (c : Changed) where
         let closed = may.closed in
         let here : Has (joined (Some j) j.range j.stripe) j.unit = subst (λ (us : List ℕ). Has us j.unit) (sym (joins_here j.range j.stripe j.unit)) (inl refl) in
         next_has j.range j.stripe j.unit (omega (arith, closed)) may.there (has_right (kept c.drop (chain_at p.ranges j.range j.stripe)) _ j.unit (subst (λ (o : Option Join). Has (joined o j.range j.stripe) j.unit) (sym is) here))
+
+  -- which units stand doesn't hang on the client, nor on the start
+  pub next_same : (by start : ℕ) → units_of (next_of p c by start) ≡ next_units p c
+  unfolding units_of next_of
+  next_same by start = ap (λ (us : List ℕ). with_nums us [])
+      (units_of-append (next_ranges c 0 p.ranges) (opened_at c.opened start) ∙ (ap (λ (us : List ℕ). units_in (next_ranges c 0 p.ranges) ++ us) (units_of-opened c.opened start ∙ sym (units_of-opened c.opened 0)) ∙ sym (units_of-append (next_ranges c 0 p.ranges) (opened_at c.opened 0))))

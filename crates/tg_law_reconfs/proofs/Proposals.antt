@@ -14,7 +14,7 @@ use Rattle.tg_model.specs.Kinds.{CommandOf}
 use Rattle.tg_model.specs.declared.refusal.Refusal.{Refusal}
 use Rattle.tg_model.specs.declared.command.Command.TheVariants as cmd
 use Rattle.tg_protocol.specs.Words.{layout_id, seqr_id, client_id, numbers}
-use Rattle.tg_protocol.specs.Layouts.{first_layout, next_of}
+use Rattle.tg_protocol.specs.Layouts.{first_layout, units_of, next_of, next_units}
 use Rattle.tg_protocol.specs.Requests.{awaits, Next, Goes, Learns, Ends}
 use Rattle.tg_protocol.specs.Replies.{Reply, IsPromise, reply}
 use Rattle.tg_protocol.specs.LayoutServers.{layout_step}
@@ -38,7 +38,9 @@ use Rattle.tg_law_layouts.proofs.Layouts.Phases.{told_epoch}
 use Rattle.tg_law_layouts.proofs.Layouts.Plain.{WorkCalm, Fed, Heard, accepts_plain, delivered_plain, job_plain}
 use Rattle.tg_law_layouts.proofs.Layouts.Decisions.{Pax, input_fine}
 use Rattle.tg_law_layouts.proofs.Layouts.Layouts.{start_pax}
-use Rattle.tg_law_layouts.proofs.Layouts.Standing.{IsKnown}
+use Rattle.tg_law_layouts.proofs.Layouts.Standing.{IsKnown, known_grows}
+use Rattle.tg_law_reconfs.proofs.NextUnits.{next_same}
+use Rattle.tg_base.specs.Changes.{Changed}
 use Rattle.tg_law_layouts.proofs.Layouts.Tellings.{WorkKnown}
 use Rattle.tg_law_layouts.proofs.Layouts.Known.{ReconfKnown}
 use Rattle.tg_law_layouts.proofs.Layouts.Decided.{Lay, start_lay, keeps as lay_keeps}
@@ -65,10 +67,26 @@ module _ (ps : List Packet) where
     pub proposed : Proposed epoch ps ballot q
     pub by : ballot.client ≡ q.by
 
--- Of client k.
-module _ (ps : List Packet) (k : ℕ) where
+-- the change makes this layout, so far as its sequencer and its units go
+abbrev pub IsOf : Layout → Changed → Layout → Type 0
+IsOf p c q = (q.seq ≡ c.seq) × (units_of q ≡ next_units p c)
+
+-- the change makes what it makes at whatever start
+is_of : (p : Layout) (c : Changed) (by start : ℕ) → IsOf p c (next_of p c by start)
+unfolding next_of
+is_of p c by start = (refl, next_same p c by start)
+
+-- Of client k, in a cluster of this header.
+module _ (g : Header) (ps : List Packet) (k : ℕ) where
   abbrev IsOwn : Reconf → Layout → Type 0
-  IsOwn r q = (q.by ≡ k) × (q.seq ≡ r.change.seq)
+  IsOwn r q = (q.by ≡ k) × IsOf r.stand r.change q
+
+  -- the layout that it has adopted is what the change made of one that was decided
+  pub record Comes (r : Reconf) : Type 0 where
+    pub old : Layout
+    pub known : IsKnown g.layouts (first_layout g) ps old
+    pub before : old.epoch + 1 ≡ r.stand.epoch
+    pub is : IsOf old r.change r.stand
 
   -- the client's own, or one that was proposed before
   abbrev pub Value : Reconf → Layout → Type 0
@@ -80,12 +98,12 @@ module _ (ps : List Packet) (k : ℕ) where
 
   abbrev pub WorkMine : Reconf → ReconfWork → Type 0
   WorkMine r (Agreeing v) = IsOwn r v.own × StageMine r v.stage
-  WorkMine r (Starting n) = (r.stand.epoch ≤ 1) ⊎ (r.stand.seq ≡ r.change.seq)
+  WorkMine r (Starting n) = (r.stand.epoch ≤ 1) ⊎ Comes r
   WorkMine r w = ⊤
 
   pub record ReconfMine (r : Reconf) : Type 0 where
     -- all that it has proposed of its own past its layout is of the change
-    pub seqs : (q : Layout) → Was ps q → q.by ≡ k → r.stand.epoch < q.epoch → q.seq ≡ r.change.seq
+    pub seqs : (q : Layout) → Was ps q → q.by ≡ k → r.stand.epoch < q.epoch → IsOf r.stand r.change q
     pub work : WorkMine r r.work
 
   abbrev pub NextMine : Next Reconf ReconfEnd → Type 0
@@ -106,7 +124,7 @@ module _ (ps : List Packet) (k : ℕ) where
 
   own_of : (r : Reconf) (start : ℕ) → r.me ≡ k → IsOwn r (next_of r.stand r.change r.me start)
   unfolding next_of
-  own_of r start me = (me, refl)
+  own_of r start me = (me, is_of r.stand r.change r.me start)
 
   value_mine : (r : Reconf) (hs : List Before) (own : Layout) → IsOwn r own → ((b : Ballot × Layout) → Has hs (Some b) → Was ps b.1) → Value r (value_or (greatest hs) own)
   value_mine r hs own mine f = by (greatest hs) (λ y e. top_there hs y e)
@@ -169,18 +187,19 @@ origin_more : (ps new : List Packet) (q : Layout) → Origin ps q → Origin (ps
 origin_more ps new q o = record { epoch = o.epoch; ballot = o.ballot; proposed = proposed_grows o.epoch ps (ps ++ new) (λ x h. has_left ps new x h) o.ballot q o.proposed; by = o.by }
 
 -- more packets
-module _ (ps new : List Packet) (k : ℕ) where
-  value_more : (r : Reconf) (q : Layout) → Value ps k r q → Value (ps ++ new) k r q
+module _ (g : Header) (ps new : List Packet) (k : ℕ) where
+  value_more : (r : Reconf) (q : Layout) → Value g ps k r q → Value g (ps ++ new) k r q
   value_more r q (inl own) = inl own
   value_more r q (inr was) = inr (was_more ps new q was)
 
-  work_more : (r : Reconf) (w : ReconfWork) → WorkMine ps k r w → WorkMine (ps ++ new) k r w
+  work_more : (r : Reconf) (w : ReconfWork) → WorkMine g ps k r w → WorkMine g (ps ++ new) k r w
   work_more r (Agreeing v) h = (h.0, by v.stage h.1)
     where
-      by : (s : Stage) → StageMine ps k r s → StageMine (ps ++ new) k r s
-      by (Preparing ws hs) f = λ b g. was_more ps new b.1 (f b g)
+      by : (s : Stage) → StageMine g ps k r s → StageMine g (ps ++ new) k r s
+      by (Preparing ws hs) f = λ b i. was_more ps new b.1 (f b i)
       by (Accepting ws n q) f = value_more r q f
-  work_more r (Starting n) h = h
+  work_more r (Starting n) (inl low) = inl low
+  work_more r (Starting n) (inr c) = inr (record { old = c.old; known = known_grows g.layouts (first_layout g) ps (ps ++ new) (λ x i. has_left ps new x i) c.old c.known; before = c.before; is = c.is })
   work_more r (SealingSpare n) h = tt
   work_more r (LookingSpare n) h = tt
   work_more r (Sealing ws acks) h = tt
@@ -188,21 +207,21 @@ module _ (ps new : List Packet) (k : ℕ) where
   work_more r (Telling ws n q) h = tt
 
   -- of what is new all is of the change, or none is the client's
-  hand_more : (o : Option Reconf) → ((q : Layout) → Was (ps ++ new) q → q.by ≡ k → Was ps q ⊎ ((r : Reconf) → o ≡ Some r → q.seq ≡ r.change.seq)) → HandMine ps k o → HandMine (ps ++ new) k o
+  hand_more : (o : Option Reconf) → ((q : Layout) → Was (ps ++ new) q → q.by ≡ k → Was ps q ⊎ ((r : Reconf) → o ≡ Some r → IsOf r.stand r.change q)) → HandMine g ps k o → HandMine g (ps ++ new) k o
   hand_more None f h = tt
   hand_more (Some r) f h = record { seqs = λ q was mine less. by q mine less (f q was mine); work = work_more r r.work h.work }
     where
-      by : (q : Layout) → q.by ≡ k → r.stand.epoch < q.epoch → Was ps q ⊎ ((s : Reconf) → Some r ≡ Some s → q.seq ≡ s.change.seq) → q.seq ≡ r.change.seq
+      by : (q : Layout) → q.by ≡ k → r.stand.epoch < q.epoch → Was ps q ⊎ ((s : Reconf) → Some r ≡ Some s → IsOf s.stand s.change q) → IsOf r.stand r.change q
       by q mine less (inl was) = h.seqs q was mine less
-      by q mine less (inr g) = g r refl
+      by q mine less (inr f) = f r refl
 
   -- what its hand proposes
-  value_of : (r : Reconf) (w : ReconfWork) (b : Ballot) (q : Layout) → WorkMine ps k r w → WorkProposes k w b q → Value ps k r q × (b.client ≡ k)
+  value_of : (r : Reconf) (w : ReconfWork) (b : Ballot) (q : Layout) → WorkMine g ps k r w → WorkProposes k w b q → Value g ps k r q × (b.client ≡ k)
   value_of r (Agreeing v) b q h p = by v.stage h.1 p
     where
-      by : (s : Stage) → StageMine ps k r s → WorkProposes k (Agreeing (record v { stage = s })) b q → Value ps k r q × (b.client ≡ k)
-      by (Preparing ws hs) f g = absurd g
-      by (Accepting ws n y) f g = (subst (λ (z : Layout). Value ps k r z) (sym g.1) f, ap (λ (d : Ballot). d.client) g.0)
+      by : (s : Stage) → StageMine g ps k r s → WorkProposes k (Agreeing (record v { stage = s })) b q → Value g ps k r q × (b.client ≡ k)
+      by (Preparing ws hs) f i = absurd i
+      by (Accepting ws n y) f i = (subst (λ (z : Layout). Value g ps k r z) (sym i.1) f, ap (λ (d : Ballot). d.client) i.0)
   value_of r (Starting n) b q h p = absurd p
   value_of r (SealingSpare n) b q h p = absurd p
   value_of r (LookingSpare n) b q h p = absurd p
@@ -228,7 +247,7 @@ is_asked x e b q i = cc
 module _ (m : Meaning) where
   pub record Mine (c : Config m) : Type 0 where
     pub origin : (q : Layout) → Was c.packets q → Origin c.packets q
-    pub hands : (k : ℕ) → HandMine c.packets k (reconf_of m (client_in m c k).work)
+    pub hands : (k : ℕ) → HandMine c.cluster c.packets k (reconf_of m (client_in m c k).work)
 
   abbrev Low : Config m → Type 0
   Low c = Pax m c × Lay m c
@@ -238,7 +257,7 @@ module _ (m : Meaning) where
   others : (c d : Config m) (new : List Packet) → Mine c → d.packets ≡ c.packets ++ new → d.clients ≡ c.clients → d.cluster ≡ c.cluster → ((x : Packet) (e : ℕ) (b : Ballot) (q : Layout) → Has new x → x.msg ≡ msg.Accept e b q → ⊥) → Mine d
   others c d new h i j g none = record {
     origin = λ q was. subst (λ (ps : List Packet). Origin ps q) (sym i) (origin_more c.packets new q (h.origin q (old q (subst (λ (ps : List Packet). Was ps q) i was))));
-    hands = λ k. subst (λ (ps : List Packet). HandMine ps k (reconf_of m (client_in m d k).work)) (sym i) (hand_more c.packets new k _ (λ q was mine. inl (old q was)) (same k));
+    hands = λ k. subst (λ (ps : List Packet). HandMine d.cluster ps k (reconf_of m (client_in m d k).work)) (sym i) (hand_more d.cluster c.packets new k _ (λ q was mine. inl (old q was)) (same k));
   }
     where
       old : (q : Layout) → Was (c.packets ++ new) q → Was c.packets q
@@ -248,8 +267,8 @@ module _ (m : Meaning) where
           by (inl x) = x
           by (inr x) = absurd (none x.packet was.0 was.1 q x.sent x.is)
 
-      same : (k : ℕ) → HandMine c.packets k (reconf_of m (client_in m d k).work)
-      same k = subst (λ (v : Config m). HandMine c.packets k (reconf_of m (client_in m v k).work)) (λ t. record { cluster = sym g t; units = d.units; layouts = d.layouts; seqrs = d.seqrs; clients = sym j t; packets = d.packets }) (h.hands k)
+      same : (k : ℕ) → HandMine d.cluster c.packets k (reconf_of m (client_in m d k).work)
+      same k = subst (λ (v : Config m). HandMine v.cluster c.packets k (reconf_of m (client_in m v k).work)) (λ t. record { cluster = sym g t; units = d.units; layouts = d.layouts; seqrs = d.seqrs; clients = sym j t; packets = d.packets }) (h.hands k)
 
   answers_none : (p : Packet) (o : Option Msg) → ((y : Msg) → o ≡ Some y → is_request y ≡ false) → (x : Packet) (e : ℕ) (b : Ballot) (q : Layout) → Has (answer_to m p o) x → x.msg ≡ msg.Accept e b q → ⊥
   answers_none p None f x e b q g is = g
@@ -268,7 +287,7 @@ module _ (m : Meaning) where
     ps = c.packets
 
     abbrev GoodTurn : Moved m → Type 0
-    GoodTurn x = HandMine c.packets k (reconf_of m x.now.work)
+    GoodTurn x = HandMine c.cluster c.packets k (reconf_of m x.now.work)
 
     -- none of its own is past a bound past which it has proposed nothing
     none_past : (n : ℕ) → Silent ps k n → (q : Layout) → Was ps q → q.by ≡ k → n < q.epoch → ⊥
@@ -278,12 +297,12 @@ module _ (m : Meaning) where
         silent o.epoch o.ballot q (omega (arith, less, at)) o.proposed (o.by ∙ mine)
 
     calm_mine : (x : Moved m) → WorkCalm m x.now.work → GoodTurn x
-    calm_mine x calm = subst (HandMine ps k) (sym (calm_none m 0 0 ps x.now.work calm)) tt
+    calm_mine x calm = subst (HandMine c.cluster ps k) (sym (calm_none m 0 0 ps x.now.work calm)) tt
 
-    turn_mine : (d : Client m) (w : Work m) (t : ReconfTurn) → NextMine ps k t.to → GoodTurn (on_reconf m d w t)
+    turn_mine : (d : Client m) (w : Work m) (t : ReconfTurn) → NextMine c.cluster ps k t.to → GoodTurn (on_reconf m d w t)
     turn_mine d w t g = by t.to g
       where
-        by : (to : Next Reconf ReconfEnd) → NextMine ps k to → GoodTurn (reconf_to m (after_turn m d t) w to)
+        by : (to : Next Reconf ReconfEnd) → NextMine c.cluster ps k to → GoodTurn (reconf_to m (after_turn m d t) w to)
         by (Goes s) g = g
         by (Learns s) g = g
         by (Ends (Installed e p)) g = tt
@@ -298,25 +317,28 @@ module _ (m : Meaning) where
       worker : WorkerOk m c.cluster.layouts k ps v.stand r
       worker = subst (λ (o : Option Reconf). HandOk m c.cluster.layouts k ps v.stand o) hand (low.0.clients k)
 
-      mine_in : ReconfMine ps k r
-      mine_in = subst (λ (o : Option Reconf). HandMine ps k o) hand (h.hands k)
+      mine_in : ReconfMine c.cluster ps k r
+      mine_in = subst (λ (o : Option Reconf). HandMine c.cluster ps k o) hand (h.hands k)
 
       known : WorkKnown c.cluster.layouts ps (IsKnown c.cluster.layouts (first_layout c.cluster) ps) r r.work
       known = subst (λ (o : Option Reconf). ReconfKnown m c.cluster.layouts ps (IsKnown c.cluster.layouts (first_layout c.cluster) ps) o) hand (low.1.clients k).hand
 
-      adopting : (w : ReconfWork) → r.work ≡ w → Adopting ps k r w
+      adopting : (w : ReconfWork) → r.work ≡ w → Adopting c.cluster ps k r w
       unfolding told_epoch
-      adopting (Telling ws i p) is = λ mine' next. record { seqs = λ q was of less. absurd (none_past (r.stand.epoch + 1) worker.above q was of (omega (arith, less, at))); work = by mine' known' }
+      adopting (Telling ws i p) is = λ mine' next. record { seqs = λ q was of less. absurd (none_past (r.stand.epoch + 1) worker.above q was of (omega (arith, less, at))); work = by mine' known' next }
         where
           at : p.epoch ≡ r.stand.epoch + 1
           at = subst (λ (w : ReconfWork). told_epoch w (r.stand.epoch + 1) ≡ r.stand.epoch + 1) is worker.told
 
+          old : IsKnown c.cluster.layouts (first_layout c.cluster) ps r.stand
+          old = subst (λ (q : Layout). IsKnown c.cluster.layouts (first_layout c.cluster) ps q) (sym worker.stand) (low.1.clients k).stand
+
           known' : IsKnown c.cluster.layouts (first_layout c.cluster) ps p
           known' = subst (λ (w : ReconfWork). WorkKnown c.cluster.layouts ps (IsKnown c.cluster.layouts (first_layout c.cluster) ps) r w) is known
 
-          by : p.by ≡ k → IsKnown c.cluster.layouts (first_layout c.cluster) ps p → (p.epoch ≤ 1) ⊎ (p.seq ≡ r.change.seq)
-          by of (inl e) = let f = ap (λ (z : Layout). z.epoch) e in inl (omega (arith, f))
-          by of (inr won) = inr (mine_in.seqs p (p.epoch, won.ballot, won.proposed) of (omega (arith, at)))
+          by : p.by ≡ k → IsKnown c.cluster.layouts (first_layout c.cluster) ps p → (next : ℕ) → (p.epoch ≤ 1) ⊎ Comes c.cluster ps k (record r { stand = p; work = Starting next })
+          by of (inl e) next = let f = ap (λ (z : Layout). z.epoch) e in inl (omega (arith, f))
+          by of (inr won) next = inr (record { old = r.stand; known = old; before = sym at; is = mine_in.seqs p (p.epoch, won.ballot, won.proposed) of (omega (arith, at)) })
       adopting (Agreeing x) is = tt
       adopting (Starting n) is = tt
       adopting (SealingSpare n) is = tt
@@ -333,7 +355,7 @@ module _ (m : Meaning) where
         set_server None j = absurd (none_awaited x.from x.rid j)
         set_server (Some l) j = (awaited_asked _ l.waits x.from x.rid j).server
 
-        tells : (w : ReconfWork) → awaits (reconf_work_asks r w ++ later_asks r w) x.from x.rid ≡ true → Tells ps k w (reply x.msg)
+        tells : (w : ReconfWork) → awaits (reconf_work_asks r w ++ later_asks r w) x.from x.rid ≡ true → Tells c.cluster ps k w (reply x.msg)
         unfolding reconf_work_asks
         tells (Agreeing u) a = told (by (awaited_either (stage_asks r u.round u.stage) (set_asks r u.later) x.from x.rid a))
           where
@@ -350,15 +372,15 @@ module _ (m : Meaning) where
     module _ (x : Packet) (sent : Has c.packets x) where
       task_mine : (w : Work m) (t : Task m) → reconf_of m v.work ≡ task_reconf m t → awaits (task_awaited m v.stand t) x.from x.rid ≡ true → Fed m GoodTurn v w t x.from.num x.rid (reply x.msg)
       task_mine w (Reconfiguring r) hand a = turn_mine v w (reconf_feed r r.work x.from.num x.rid (reply x.msg) v.next)
-          (fed_mine ps k x.from.num x.rid (reply x.msg) v.next r _ (turns.reconf_fed x.from.num x.rid (reply x.msg) v.next r) (worker r hand).ok.me (tells r hand x sent r.work a) (mine_in r hand))
+          (fed_mine c.cluster ps k x.from.num x.rid (reply x.msg) v.next r _ (turns.reconf_fed x.from.num x.rid (reply x.msg) v.next r) (worker r hand).ok.me (tells r hand x sent r.work a) (mine_in r hand))
       task_mine w t hand a = λ y p. calm_mine y p.calm
 
       again_mine : (w : Work m) (t : Task m) (q : Layout) → reconf_of m v.work ≡ task_reconf m t → Heard m GoodTurn v w t x.from.num x.rid q
       again_mine w (Reconfiguring r) q hand = turn_mine v w (reconf_latest r r.work x.from.num x.rid q v.next)
-          (heard_mine ps k x.from.num x.rid q v.next r _ (turns.reconf_heard x.from.num x.rid q v.next r) (worker r hand).ok.me (adopting r hand r.work refl) (mine_in r hand))
+          (heard_mine c.cluster ps k x.from.num x.rid q v.next r _ (turns.reconf_heard x.from.num x.rid q v.next r) (worker r hand).ok.me (adopting r hand r.work refl) (mine_in r hand))
       again_mine w t q hand = λ y p. calm_mine y p.calm
 
-    first_mine : (r : Reconf) (next : ℕ) (j : Option Join) → ((q : Layout) → Was ps q → q.by ≡ k → r.stand.epoch < q.epoch → ⊥) → NextMine ps k (first_step r next j).to
+    first_mine : (r : Reconf) (next : ℕ) (j : Option Join) → ((q : Layout) → Was ps q → q.by ≡ k → r.stand.epoch < q.epoch → ⊥) → NextMine c.cluster ps k (first_step r next j).to
     first_mine r next None none = record { seqs = λ q was of less. absurd (none q was of less); work = tt }
     first_mine r next (Some j) none = record { seqs = λ q was of less. absurd (none q was of less); work = tt }
 
@@ -372,11 +394,11 @@ module _ (m : Meaning) where
     refused_mine x None free = accepts_mine x (free refl)
     refused_mine x (Some why) free = h.hands k
 
-    tick_mine : (o : Option (Work m)) → v.work ≡ o → HandMine ps k (reconf_of m (step.tick_by m v o).now.work)
+    tick_mine : (o : Option (Work m)) → v.work ≡ o → HandMine c.cluster ps k (reconf_of m (step.tick_by m v o).now.work)
     tick_mine None e = h.hands k
     tick_mine (Some w) e = h.hands k
 
-    input_mine : (t : ClientTurn m) → ClientInput m c k t → HandMine ps k (reconf_of m t.now.work)
+    input_mine : (t : ClientTurn m) → ClientInput m c k t → HandMine c.cluster ps k (reconf_of m t.now.work)
     unfolding client_command client_deliver client_tick
     input_mine _ (Commanded x) = refused_mine x (refusal m v x) (not_busy m v x)
     input_mine _ (Hears' x comes) = delivered_plain m GoodTurn v x.from x.rid (reply x.msg) (h.hands k)
@@ -395,7 +417,7 @@ module _ (m : Meaning) where
       record Now (q : Layout) : Type 0 where
         reconf : Reconf
         hand : reconf_of m t.now.work ≡ Some reconf
-        value : Value ps k reconf q
+        value : Value c.cluster ps k reconf q
 
       proposed_now : (e : ℕ) (b : Ballot) (q : Layout) → NewProposal e ps new b q → Now q × (b.client ≡ k)
       proposed_now e b q x =
@@ -403,8 +425,8 @@ module _ (m : Meaning) where
           let is = sym (ap (λ (z : Packet). z.msg) y.is) ∙ x.is in
           let g = fine.sends y.of e b q y.has is in
           let ok = subst (λ (o : Option Reconf). HandOk m c.cluster.layouts k ps t.now.stand o) g.hand fine.ok in
-          let own = subst (λ (o : Option Reconf). HandMine ps k o) g.hand (input_mine t i) in
-          let z = value_of ps new k g.reconf g.reconf.work b q own.work (awaited_proposes g.reconf k y.of e b q ok.ok.me g.has is) in
+          let own = subst (λ (o : Option Reconf). HandMine c.cluster ps k o) g.hand (input_mine t i) in
+          let z = value_of c.cluster ps new k g.reconf g.reconf.work b q own.work (awaited_proposes g.reconf k y.of e b q ok.ok.me g.has is) in
           (record { reconf = g.reconf; hand = g.hand; value = z.0 }, z.1)
 
       either : (q : Layout) → Was (ps ++ new) q → Was ps q ⊎ ((e : ℕ) × (b : Ballot) × Proposed e (ps ++ new) b q × Now q × (b.client ≡ k))
@@ -421,39 +443,39 @@ module _ (m : Meaning) where
           by (inl x) = origin_more ps new q (h.origin q x)
           by (inr x) = which x.3.value
             where
-              which : Value ps k x.3.reconf q → Origin (ps ++ new) q
+              which : Value c.cluster ps k x.3.reconf q → Origin (ps ++ new) q
               which (inl own) = record { epoch = x.0; ballot = x.1; proposed = x.2; by = x.4 ∙ sym own.0 }
               which (inr old) = origin_more ps new q (h.origin q old)
 
       same_reconf : (r s : Reconf) → reconf_of m t.now.work ≡ Some r → reconf_of m t.now.work ≡ Some s → r ≡ s
       same_reconf r s e f = cc
 
-      own_hand : HandMine (ps ++ new) k (reconf_of m t.now.work)
-      own_hand = hand_more ps new k (reconf_of m t.now.work) (λ q was mine. by q (either q was)) (input_mine t i)
+      own_hand : HandMine c.cluster (ps ++ new) k (reconf_of m t.now.work)
+      own_hand = hand_more c.cluster ps new k (reconf_of m t.now.work) (λ q was mine. by q (either q was)) (input_mine t i)
         where
-          by : (q : Layout) → Was ps q ⊎ ((e : ℕ) × (b : Ballot) × Proposed e (ps ++ new) b q × Now q × (b.client ≡ k)) → Was ps q ⊎ ((r : Reconf) → reconf_of m t.now.work ≡ Some r → q.seq ≡ r.change.seq)
+          by : (q : Layout) → Was ps q ⊎ ((e : ℕ) × (b : Ballot) × Proposed e (ps ++ new) b q × Now q × (b.client ≡ k)) → Was ps q ⊎ ((r : Reconf) → reconf_of m t.now.work ≡ Some r → IsOf r.stand r.change q)
           by q (inl x) = inl x
           by q (inr x) = which x.3.value
             where
-              which : Value ps k x.3.reconf q → Was ps q ⊎ ((r : Reconf) → reconf_of m t.now.work ≡ Some r → q.seq ≡ r.change.seq)
-              which (inl own) = inr (λ r e. own.1 ∙ ap (λ (z : Reconf). z.change.seq) (same_reconf x.3.reconf r x.3.hand e))
+              which : Value c.cluster ps k x.3.reconf q → Was ps q ⊎ ((r : Reconf) → reconf_of m t.now.work ≡ Some r → IsOf r.stand r.change q)
+              which (inl own) = inr (λ r e. subst (λ (z : Reconf). IsOf z.stand z.change q) (same_reconf x.3.reconf r x.3.hand e) own.1)
               which (inr old) = inl old
 
-      other_hand : (j : ℕ) → (j ≡ k → ⊥) → (o : Option Reconf) → HandMine ps j o → HandMine (ps ++ new) j o
-      other_hand j other o g = hand_more ps new j o (λ q was mine. inl (by q mine (either q was))) g
+      other_hand : (j : ℕ) → (j ≡ k → ⊥) → (o : Option Reconf) → HandMine c.cluster ps j o → HandMine c.cluster (ps ++ new) j o
+      other_hand j other o g = hand_more c.cluster ps new j o (λ q was mine. inl (by q mine (either q was))) g
         where
           by : (q : Layout) → q.by ≡ j → Was ps q ⊎ ((e : ℕ) × (b : Ballot) × Proposed e (ps ++ new) b q × Now q × (b.client ≡ k)) → Was ps q
           by q mine (inl x) = x
           by q mine (inr x) = which x.3.value
             where
-              which : Value ps k x.3.reconf q → Was ps q
+              which : Value c.cluster ps k x.3.reconf q → Was ps q
               which (inl own) = absurd (other (sym mine ∙ own.0))
               which (inr old) = old
 
       turned : k < length c.clients → Mine (client_turn m c k t)
       turned less = record {
         origin = origins;
-        hands = at_set c.clients k t.now (new_client m c.cluster) (λ j d. HandMine (ps ++ new) j (reconf_of m d.work)) less own_hand (λ j other. other_hand j other _ (h.hands j));
+        hands = at_set c.clients k t.now (new_client m c.cluster) (λ j d. HandMine c.cluster (ps ++ new) j (reconf_of m d.work)) less own_hand (λ j other. other_hand j other _ (h.hands j));
       }
 
   -- Over a run.
@@ -467,7 +489,7 @@ module _ (m : Meaning) where
     client = λ k t i less y. turned c low h k t i less;
   }
 
-  start_hand : (g : Header) (j k : ℕ) → HandMine [] k (reconf_of m (new_client m g j).work)
+  start_hand : (g : Header) (j k : ℕ) → HandMine g [] k (reconf_of m (new_client m g j).work)
   unfolding new_client
   start_hand g j k = tt
 
@@ -475,7 +497,7 @@ module _ (m : Meaning) where
   unfolding start
   start_mine g = record {
     origin = λ q was. absurd was.2.sent;
-    hands = λ k. at_map (new_client m g) (numbers g.clients 0) k (new_client m g k) (λ (d : Client m). HandMine [] k (reconf_of m d.work)) (λ j. start_hand g j k) (start_hand g k k);
+    hands = λ k. at_map (new_client m g) (numbers g.clients 0) k (new_client m g k) (λ (d : Client m). HandMine g [] k (reconf_of m d.work)) (λ j. start_hand g j k) (start_hand g k k);
   }
 
   -- in each world of each run

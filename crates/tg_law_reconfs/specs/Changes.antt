@@ -3,8 +3,8 @@ use Rattle.std.specs.Prelude.{◌≡◌, ℕ, ◌+◌}
 use Rattle.tg_base.specs.Changes.{Changed}
 use Rattle.tg_kind.specs.Meaning.{Meaning}
 use Rattle.tg_model.specs.declared.command.Command.TheVariants as cmd
-use Rattle.tg_protocol.specs.Worlds.{World, client}
-use Rattle.tg_protocol.specs.Finishing.{WaitsAlone, IsReadyToChange}
+use Rattle.tg_protocol.specs.Worlds.{World, client, settle}
+use Rattle.tg_protocol.specs.Finishing.{WaitsAlone, IsReadyToChange, ReconfFinished}
 use Rattle.tg_law_reconfs.specs.Reconfs.{WaitsToStart}
 use Rattle.tg_law_reconfs.specs.Changing.{WaitsToChange}
 
@@ -16,3 +16,7 @@ module _ (m : Meaning) where
   -- it stands at the next one: it waits for that layout's sequencer, and the sequencer is the change's
   abbrev pub ChangesStart : World m → Type 0
   ChangesStart w = (k e : ℕ) (c : Changed) → WaitsAlone m w k (cmd.Reconf c) → IsReadyToChange m w k e c → (client m w k).stand.epoch ≡ e + 1 → WaitsToStart m w k (e + 1) × ((client m w k).stand.seq ≡ c.seq)
+
+  -- and from there all that is claimed of a reconfiguration holds
+  abbrev pub ChangesInstall : World m → Type 0
+  ChangesInstall w = (k e : ℕ) (c : Changed) → WaitsAlone m w k (cmd.Reconf c) → IsReadyToChange m w k e c → (client m w k).stand.epoch ≡ e + 1 → ReconfFinished m w (settle m w).world k e c

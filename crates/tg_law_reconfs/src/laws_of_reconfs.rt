@@ -4,7 +4,7 @@
 
 ghost use Rattle.tg_any.specs.AllKinds.{all_kinds};
 ghost use Rattle.tg_kind.specs.Of.{meaning_of};
-ghost use Rattle.tg_law_reconfs.specs.Changes.{ChangesWork, ChangesStart};
+ghost use Rattle.tg_law_reconfs.specs.Changes.{ChangesWork, ChangesStart, ChangesInstall};
 ghost use Rattle.tg_law_reconfs.specs.Ready.{ChangesAreReady};
 ghost use Rattle.tg_law_reconfs.specs.Changing.{JoinsFinish};
 ghost use Rattle.tg_law_reconfs.specs.Reconfs.{ReconfEndsAreTold, StartedFinishes, VotesFinish, SealsFinish};
@@ -82,6 +82,12 @@ pub fn changes_work()
 /// Where it stands at the next epoch it waits for the new layout's sequencer, and that is the change's.
 pub fn changes_start()
     ensures { Always all_kinds (ChangesStart all_kinds) }
+{}
+
+/// From there all that is claimed of a reconfiguration holds: its new layout's units are those that the change makes of the
+/// layout before it, so they run, and a settling installs the layout.
+pub fn changes_install()
+    ensures { Always all_kinds (ChangesInstall all_kinds) }
 {}
 
 /// A run in which a client opens a range at the one unit, and the unit's seal is lost, is one for which `changes_work` asks no
