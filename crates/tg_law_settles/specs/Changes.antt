@@ -4,7 +4,7 @@ use Rattle.tg_base.specs.Changes.{Changed}
 use Rattle.tg_model.specs.declared.command.Command.TheVariants as cmd
 use Rattle.tg_model.specs.Kinds.{CommandOf}
 use Rattle.tg_protocol.specs.Worlds.{client}
-use Rattle.tg_protocol.specs.Finishing.{WaitsAlone, IsReadyToChange}
+use Rattle.tg_protocol.specs.Finishing.{WaitsAlone, IsReadyToChange, ReconfFinished}
 use Rattle.tg_any.specs.AllKinds.{all_kinds}
 use Rattle.tg_replay.specs.Runs.{Script}
 use Rattle.tg_law_reconfs.specs.Reconfs.{VotesEnd}
@@ -17,7 +17,12 @@ abbrev pub SettleLinesChange : Type 0
 SettleLinesChange = (s : Script) (n k e : ℕ) (c : Changed) → IsSettleLine s n → WaitsAlone all_kinds (world_before s n) k (cmd.Reconf c) → IsReadyToChange all_kinds (world_before s n) k e c → (client all_kinds (world_before s n) k).stand.epoch ≡ e →
     VotesEnd all_kinds (world_before s n) (world_after s n) k (2 * (world_before s n).cluster.units + 64 * (world_before s n).cluster.layouts + 22)
 
--- It waits for its new layout's sequencer. The line ends its command, the client is told that the layout is installed, and the
+-- It stands at the next epoch: all that is claimed of a reconfiguration holds of the line.
+abbrev pub SettleLinesInstall : Type 0
+SettleLinesInstall = (s : Script) (n k e : ℕ) (c : Changed) → IsSettleLine s n → WaitsAlone all_kinds (world_before s n) k (cmd.Reconf c) → IsReadyToChange all_kinds (world_before s n) k e c → (client all_kinds (world_before s n) k).stand.epoch ≡ e + 1 →
+    ReconfFinished all_kinds (world_before s n) (world_after s n) k e c
+
+-- A client waits for its new layout's sequencer, whatever it was given. The line ends its command, the client is told that the layout is installed, and the
 -- sequencer serves.
 abbrev pub SettleLinesScan : Type 0
 SettleLinesScan = (s : Script) (n k : ℕ) (x : CommandOf all_kinds) → IsSettleLine s n → WaitsAlone all_kinds (world_before s n) k x → WaitsForScan all_kinds (world_before s n) k → ScanFinishes all_kinds (world_before s n) (world_after s n) k

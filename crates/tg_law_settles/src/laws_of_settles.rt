@@ -1,6 +1,6 @@
 //! What a script's `settle` line does, as a replay runs it.
 
-ghost use Rattle.tg_law_settles.specs.Changes.{SettleLinesChange, SettleLinesScan};
+ghost use Rattle.tg_law_settles.specs.Changes.{SettleLinesChange, SettleLinesInstall, SettleLinesScan};
 ghost use Rattle.tg_law_settles.specs.PastViews.{UpdateIsSettled};
 ghost use Rattle.tg_law_settles.specs.Settles.{DrainedLinesAnswer, DrainedLinesFinish, SettleLinesFinish};
 
@@ -43,7 +43,13 @@ pub fn settle_lines_change()
     ensures { SettleLinesChange }
 {}
 
-/// Where it waits for its new layout's sequencer, which runs, as do the layout's units, the line ends its command, and the
+/// Where it stands at the next epoch, all that is claimed of a reconfiguration holds of the line: the client tells that the
+/// layout is installed, and the new sequencer serves then.
+pub fn settle_lines_install()
+    ensures { SettleLinesInstall }
+{}
+
+/// Where a client waits for its new layout's sequencer, which runs, as do the layout's units, the line ends its command, and the
 /// client tells that the layout is installed; the sequencer serves then.
 pub fn settle_lines_scan()
     ensures { SettleLinesScan }
