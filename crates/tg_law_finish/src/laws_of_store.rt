@@ -5,9 +5,10 @@
 //! Where anything else is on its way, take the world that the settling's first drain leaves (`drains_come_first`,
 //! `drains_are_runs`, `drains_answer`).
 //!
-//! Of the world it is asked that it is ready, and no more: what `Granted` asks (specs/Finish/Granted.antt), and
-//! where an append stands, is so in each run of the store. Commands that walk take fewer deliveries where nothing
-//! is trimmed (`asks_finish`, `makes_finish`).
+//! Of the world it is asked that it is ready, and of a copy that its spare unit is: what `Granted` asks
+//! (specs/Finish/Granted.antt), and where an append stands, is so in each run of the store. Fewer deliveries are taken
+//! where nothing is trimmed (`asks_finish`, `makes_finish`, `calm_commands_finish`), or the log is long for what is
+//! (`few_streams_finish`, `long_commands_finish`); these ask for that too.
 
 ghost use Rattle.tg_any.specs.AllKinds.{all_kinds};
 ghost use Rattle.tg_law_finish.specs.Finish.Anywhere.{CalmCommand, CommandWalks, FewStreams, LongCommand};
@@ -87,8 +88,8 @@ pub fn commands_finish()
     ensures { Always all_kinds (CommandWalks all_kinds) }
 {}
 
-/// Where nothing is trimmed, each is answered within the bound of its command alone: of `trim`, `rescue`, `copy`, and an
-/// `end` whose record is appended, too.
+/// Where nothing is trimmed, each is answered within the bound of its command alone: of `trim`, `rescue`, `copy`, and
+/// an `end` whose record is still being appended, too.
 pub fn calm_commands_finish()
     ensures { Always all_kinds (CalmCommand all_kinds) }
 {}

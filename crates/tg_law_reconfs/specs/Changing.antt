@@ -49,7 +49,8 @@ module _ (m : Meaning) where
     pub layouts : MostRun m w
     pub none_above : NoneAbove m w ((client m w k).stand.epoch + 1)
 
-  -- two deliveries for each unit, two to six more for a unit that joins, then the votes
+  -- Two deliveries for each unit, two to six more for a unit that joins, then the votes: no more than `ReconfFinishes`
+  -- states, which is said here.
   abbrev pub JoinsFinish : World m → Type 0
   JoinsFinish w = (k : ℕ) (x : CommandOf m) (c : Changed) → WaitsAlone m w k x → WaitsToChange w k c →
       VotesEnd m w (settle m w).world k (2 * w.cluster.units + 64 * w.cluster.layouts + 22)

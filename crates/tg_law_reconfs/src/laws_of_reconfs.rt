@@ -1,6 +1,7 @@
-//! Reconfigurations finish: what is proved of it. All but the first law ask for a quiet world, in which no other client that
-//! runs waits and no limit stops the settling, as the claim does: a request or an answer was lost before, or went to a
-//! stopped node. Right after the command its seals are on their way, and none of them speaks.
+//! Reconfigurations finish: what is proved of it. All but the first law ask for a quiet world, in which no other client
+//! that runs waits and no limit stops the settling, as the claim does: a request or an answer was lost before, or went
+//! to a stopped node; or the client waits for a tick, since its sequencer has told it that it scans, or a `Nack` has
+//! set a round. Right after the command its seals are on their way, and none of them speaks.
 
 ghost use Rattle.tg_any.specs.AllKinds.{all_kinds};
 ghost use Rattle.tg_kind.specs.Of.{meaning_of};
@@ -26,10 +27,10 @@ pub fn started_reconfs_finish()
     ensures { Always all_kinds (StartedFinishes all_kinds) }
 {}
 
-/// So where the sequencer may have to learn its layout and to scan the log first, as long as it runs, and the layout's units
-/// do, and no node stands past the layout's epoch: the client is told so within four deliveries for each layout server, and
-/// four more. The sequencer serves then, and its scan has taken two deliveries for each position below the layout's start
-/// and each unit of the longest chain, two more for each position, and two.
+/// So where the sequencer may have to learn its layout and to scan the log first, as long as it runs, and the layout's
+/// units do, and no node stands past the layout's epoch: the client is told so within four deliveries for each layout
+/// server, and four more. The sequencer serves then, and its scan has taken two deliveries at most for each position
+/// below the layout's start and each unit of the longest chain, two more for each position, and two.
 pub fn scans_finish()
     ensures { Always all_kinds (ScansFinish all_kinds) }
 {}
@@ -52,8 +53,10 @@ pub fn seals_finish()
     ensures { Always all_kinds (SealsFinish all_kinds) }
 {}
 
-/// So of whatever a client waits for before it adopts its own layout, also where a unit joins: while the units of its next
-/// layout run, and most layout servers do. Within two deliveries for each unit, 64 for each layout server, and 22 more.
+/// So of whatever a client waits for before it adopts its own layout, also where a unit joins: while the units of its
+/// next layout run, most layout servers do, and no node stands past the next epoch. Of the units that it waits for it
+/// asks what is so of a reconfiguration that is ready (`WaitsForUnits`, by `changes_work`). Within two deliveries for
+/// each unit, 64 for each layout server, and 22 more.
 pub fn joins_finish()
     ensures { Always all_kinds (JoinsFinish all_kinds) }
 {}
@@ -103,10 +106,10 @@ pub fn joins_are_answered()
     ensures { JoinsAreAnswered }
 {}
 
-/// A run in which a client adds to a counter twice, and then opens a range, and the request to the new layout's sequencer is
-/// lost, is one for which `scans_finish` and `scans_install` ask no more than it has. A settling of it takes eight deliveries
-/// with the client, which is as many as are allowed, and four for the scan of two positions, where ten are; and the command
-/// has ended.
+/// A run in which a client adds to a counter twice, and then opens a range, and the request to the new layout's
+/// sequencer is lost, is one for which `scans_finish` asks no more than it has, and `scans_install` no more but where
+/// its client stands, which `changes_start` tells. A settling of it takes eight deliveries with the client, which is as
+/// many as are allowed, and four for the scan of two positions, where ten are; and the command has ended.
 pub fn scans_are_answered()
     ensures { ScansAreAnswered }
 {}

@@ -113,7 +113,7 @@ settle_lines_finish s n k most x is a b waits =
 
 -- The world after the line is the drained one's settling.
 
-drained_after : (s : Script) (n : ℕ) → IsSettleLine s n → world_after s n ≡ (settle all_kinds (world_drained s n)).world
+pub drained_after : (s : Script) (n : ℕ) → IsSettleLine s n → world_after s n ≡ (settle all_kinds (world_drained s n)).world
 drained_after s n is = settled_after s n is ∙ ap (λ (r : Runs). r.world) (sym (drains_come_first all_kinds (world_before s n)).same)
 
 pub drained_lines_finish : DrainedLinesFinish
