@@ -17,10 +17,10 @@ use Rattle.tg_protocol.specs.Layouts.{first_layout, units_of, next_units, change
 use Rattle.tg_protocol.specs.Reconfiguring.{ReconfWork, SealingSpare, LookingSpare, Sealing, LookingAgain, Agreeing, Telling, Starting, Reconf, next_epoch}
 use Rattle.tg_protocol.specs.Clients.{Task, Syncing, Walking, Appending, Trimming, Copying', Reconfiguring, Hand, Doing, Learning, Work, Client, new_client}
 use Rattle.tg_protocol.specs.ClientSteps.{ClientTurn, task_in}
-use Rattle.tg_protocol.specs.Worlds.{CommandStart, World, start, unit, client, noted_of, runs, happens}
+use Rattle.tg_protocol.specs.Worlds.{CommandStart, World, start, unit, seqr, client, noted_of, runs, happens}
 use Rattle.tg_protocol.specs.Runs.{Move, Moves, Next, Takes, run, Reaches, Always}
 use Rattle.tg_protocol.specs.Chosen.{IsDecided}
-use Rattle.tg_protocol.specs.Finishing.{NoneAbove, WaitsAlone, IsReadyToChange}
+use Rattle.tg_protocol.specs.Finishing.{MostRun, NoneAbove, WaitsAlone, IsReadyToChange}
 use Rattle.tg_law_layouts.specs.Moves.After.{after}
 use Rattle.tg_law_layouts.specs.Moves.Configs.{Config, config}
 use Rattle.tg_law_layouts.proofs.Layouts.Pax.{task_reconf, reconf_of, HandOk}
@@ -172,7 +172,28 @@ is_reconf m c (Copying' y) fits = absurd fits
 not_none : (us : List ℕ) (u : ℕ) → Has us u → us ≢ []
 not_none us u h e = subst (λ (vs : List ℕ). Has vs u) e h
 
-module _ (m : Meaning) (h : Header) (zs : Moves m) (r : Reaches m h zs (after m h zs)) (k e : ℕ) (c : Changed) (a : WaitsAlone m (after m h zs) k (cmd.Reconf c)) (b : IsReadyToChange m (after m h zs) k e c) where
+-- the client works on the command
+pub record HasGiven (m : Meaning) (w : World m) (k : ℕ) (c : Changed) : Type 0 where
+  pub work : Work m
+  pub waits : (client m w k).work ≡ Some work
+  pub command : work.command ≡ cmd.Reconf c
+
+-- what is had of a reconfiguration that is ready, also in the middle of its settling
+pub record Prepared (m : Meaning) (w : World m) (k e : ℕ) (c : Changed) : Type 0 where
+  pub given : (noted_of m w k).epoch ≡ e
+  pub low_units : (u : ℕ) → (unit m w u).epoch ≤ e + 1
+  pub low_seqrs : (s : ℕ) → (seqr m w s).epoch ≤ e + 1
+  pub old : Layout
+  pub decided : IsDecided m w e old
+  pub units : (u : ℕ) → Contains (next_units old c) u → runs m w (unit_id u) ≡ true
+
+pub has_given : (m : Meaning) (w : World m) (k : ℕ) (c : Changed) → WaitsAlone m w k (cmd.Reconf c) → HasGiven m w k c
+has_given m w k c a = record { work = a.work; waits = a.waits; command = a.command }
+
+pub prepared : (m : Meaning) (w : World m) (k e : ℕ) (c : Changed) → IsReadyToChange m w k e c → Prepared m w k e c
+prepared m w k e c b = record { given = b.given; low_units = b.none_above.units; low_seqrs = b.none_above.seqrs; old = b.old; decided = b.decided; units = b.units }
+
+module _ (m : Meaning) (h : Header) (zs : Moves m) (r : Reaches m h zs (after m h zs)) (k e : ℕ) (c : Changed) (a : HasGiven m (after m h zs) k c) (b : Prepared m (after m h zs) k e c) where
   abbrev end : World m
   end = after m h zs
 
@@ -186,14 +207,14 @@ module _ (m : Meaning) (h : Header) (zs : Moves m) (r : Reaches m h zs (after m 
   unit_below u on = grind arith
 
   fence_low : (f : ℕ) → ToldFence (after m h zs).packets (noted_of m (after m h zs) k).epoch f → f ≤ e + 1
-  fence_low f t = let x = (fences_hold m h zs).each t.unit f t.packet t.sent t.from t.is in let y = b.none_above.units t.unit in omega (arith, x, y)
+  fence_low f t = let x = (fences_hold m h zs).each t.unit f t.packet t.sent t.from t.is in let y = b.low_units t.unit in omega (arith, x, y)
 
   old_low : (f : ℕ) → ToldOld (after m h zs).packets (noted_of m (after m h zs) k).epoch f → f ≤ e + 1
   old_low f t = by ((olds_reached m h zs r).told t.seqr f t.packet t.sent t.from t.is)
     where
       by : Arrived m (config m (after m h zs)) f → f ≤ e + 1
-      by (OfUnit u le) = let y = b.none_above.units u in omega (arith, le, y)
-      by (OfSeqr s le) = let y = b.none_above.seqrs s in omega (arith, le, y)
+      by (OfUnit u le) = let y = b.low_units u in omega (arith, le, y)
+      by (OfSeqr s le) = let y = b.low_seqrs s in omega (arith, le, y)
 
   -- no such client learns
   not_warned : (x : Reconf) (w : ReconfWork) → x.stand.epoch ≡ epoch_at (after m h zs).packets (noted_of m (after m h zs) k).epoch w → Warned (after m h zs).packets (noted_of m (after m h zs) k).epoch x w → ⊥
@@ -258,7 +279,7 @@ module _ (m : Meaning) (h : Header) (zs : Moves m) (r : Reaches m h zs (after m 
   stand_rules = subst IsLayout (sym stands) (layouts_are_sound m h zs (after m h zs) r _ _ ((layouts_are_known m h zs (after m h zs) r).clients k)).rules
 
   -- At the epoch of the change.
-  module _ (at : (client m (after m h zs) k).stand.epoch ≡ e) where
+  module _ (at : (client m (after m h zs) k).stand.epoch ≡ e) (most : MostRun m (after m h zs)) (none_above : NoneAbove m (after m h zs) (e + 1)) where
     before : IsBefore m in_hand.reconf.work
     before = by in_hand.reconf.work in_hand.kept.epoch
       where
@@ -333,8 +354,8 @@ module _ (m : Meaning) (h : Header) (zs : Moves m) (r : Reaches m h zs (after m 
       few = subst (λ (z : Changed). length (next_units x.stand z) ≤ end.cluster.units) change few;
       units = λ u there. units_run u (has_contained (next_units x.stand x.change) u (subst (λ (z : Changed). Contains (next_units x.stand z) u) (sym change) there));
       spare = λ j is. units_run j.unit (next_joins x.stand x.change fine j (ap (λ (z : Changed). z.join) change ∙ is));
-      layouts = b.layouts;
-      none_above = subst (λ (i : ℕ). NoneAbove m end (i + 1)) (sym at) b.none_above;
+      layouts = most;
+      none_above = subst (λ (i : ℕ). NoneAbove m end (i + 1)) (sym at) none_above;
     }
 
   -- At the next one.
@@ -384,22 +405,35 @@ module _ (m : Meaning) (h : Header) (zs : Moves m) (r : Reaches m h zs (after m 
     sequencer : (client m (after m h zs) k).stand.seq ≡ c.seq
     sequencer = made.0
 
-    pub units_start : (u : ℕ) → Contains (units_of (client m (after m h zs) k).stand) u → runs m (after m h zs) (unit_id u) ≡ true
+    units_start : (u : ℕ) → Contains (units_of (client m (after m h zs) k).stand) u → runs m (after m h zs) (unit_id u) ≡ true
     units_start u there = b.units u (subst (λ (us : List ℕ). Contains us u) made.1 there)
 
     starts : WaitsToStart m (after m h zs) k (e + 1) × ((client m (after m h zs) k).stand.seq ≡ c.seq)
     starts = (record { work = a.work; waits = a.waits; reconf = x; hand = in_hand.hand; rid = starting.0; starting = starting.1; stands = at }, sequencer)
 
 pub changes_work : Always all_kinds (ChangesWork all_kinds)
-changes_work h zs w r = subst (λ (u : World all_kinds). Reaches all_kinds h zs u → ChangesWork all_kinds u) (sym r.goes.is) (λ s k e c a b at. changes all_kinds h zs s k e c a b at) r
+changes_work h zs w r = subst (λ (u : World all_kinds). Reaches all_kinds h zs u → ChangesWork all_kinds u) (sym r.goes.is) (λ s k e c a b at. changes all_kinds h zs s k e c (has_given all_kinds _ k c a) (prepared all_kinds _ k e c b) at b.layouts b.none_above) r
 
 pub changes_start : Always all_kinds (ChangesStart all_kinds)
-changes_start h zs w r = subst (λ (u : World all_kinds). Reaches all_kinds h zs u → ChangesStart all_kinds u) (sym r.goes.is) (λ s k e c a b at. starts all_kinds h zs s k e c a b at) r
+changes_start h zs w r = subst (λ (u : World all_kinds). Reaches all_kinds h zs u → ChangesStart all_kinds u) (sym r.goes.is) (λ s k e c a b at. starts all_kinds h zs s k e c (has_given all_kinds _ k c a) (prepared all_kinds _ k e c b) at) r
 
--- of the layout at which it stands then all units run
-abbrev UnitsRun : World all_kinds → Type 0
-UnitsRun w = (k e : ℕ) (c : Changed) → WaitsAlone all_kinds w k (cmd.Reconf c) → IsReadyToChange all_kinds w k e c → (client all_kinds w k).stand.epoch ≡ e + 1
-    → (u : ℕ) → Contains (units_of (client all_kinds w k).stand) u → runs all_kinds w (unit_id u) ≡ true
+-- there the sequencer is the change's, and all units of the layout run
+abbrev pub StandsNext : World all_kinds → ℕ → Changed → Type 0
+StandsNext w k c = ((client all_kinds w k).stand.seq ≡ c.seq) × ((u : ℕ) → Contains (units_of (client all_kinds w k).stand) u → runs all_kinds w (unit_id u) ≡ true)
 
-pub units_run_then : Always all_kinds UnitsRun
-units_run_then h zs w r = subst (λ (u : World all_kinds). Reaches all_kinds h zs u → UnitsRun u) (sym r.goes.is) (λ s k e c a b at. units_start all_kinds h zs s k e c a b at) r
+abbrev StandNext : World all_kinds → Type 0
+StandNext w = (k e : ℕ) (c : Changed) → HasGiven all_kinds w k c → Prepared all_kinds w k e c → (client all_kinds w k).stand.epoch ≡ e + 1 → StandsNext w k c
+
+pub stands_next : Always all_kinds StandNext
+stands_next h zs w r = subst (λ (u : World all_kinds). Reaches all_kinds h zs u → StandNext u) (sym r.goes.is) (λ s k e c a b at. (sequencer all_kinds h zs s k e c a b at, units_start all_kinds h zs s k e c a b at)) r
+
+-- a reconfiguration in hand is of its command's change
+abbrev IsCommands : World all_kinds → Type 0
+IsCommands w = (k : ℕ) (y : Work all_kinds) (x : Reconf) → (client all_kinds w k).work ≡ Some y → y.hand ≡ Doing (Reconfiguring x) → y.command ≡ cmd.Reconf x.change
+
+commands_here : (h : Header) (zs : Moves all_kinds) → Reaches all_kinds h zs (after all_kinds h zs) → IsCommands (after all_kinds h zs)
+commands_here h zs s k y x is hand = (subst (TaskKept (after all_kinds h zs).packets (noted_of all_kinds (after all_kinds h zs) k).epoch all_kinds y.command) (ap (λ (d : Hand all_kinds). task_in all_kinds d) hand)
+    (subst (λ (o : Option (Work all_kinds)). WorkKept (after all_kinds h zs).packets (noted_of all_kinds (after all_kinds h zs) k).epoch all_kinds o) is (kept_here all_kinds h zs s k)).0).0
+
+pub is_commands : Always all_kinds IsCommands
+is_commands h zs w r = subst (λ (u : World all_kinds). Reaches all_kinds h zs u → IsCommands u) (sym r.goes.is) (λ s. commands_here h zs s) r

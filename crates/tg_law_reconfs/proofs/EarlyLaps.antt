@@ -1,15 +1,15 @@
 -- Rounds of ticks from before the votes on: the first drain comes to the votes, or ends the command.
-use Rattle.std.proofs.Common.{◌≡◌, ◌⊎◌, ℕ, suc, ◌+◌, ◌*◌, ◌^◌, ◌<◌, ◌≤◌, List, [], ◌∷◌, ◌++◌, refl, inl, inr}
+use Rattle.std.proofs.Common.{◌≡◌, ◌⊎◌, ℕ, suc, ◌+◌, ◌*◌, ◌^◌, ◌<◌, ◌≤◌, List, [], ◌∷◌, ◌++◌, None, refl, inl, inr}
 use Rattle.tg_base.specs.Clusters.{Header}
 use Rattle.tg_base.specs.declared.ids.NodeId.{NodeId}
 use Rattle.tg_base.specs.declared.packet.Packet.{Packet}
 use Rattle.tg_kind.specs.Meaning.{Meaning}
 use Rattle.tg_protocol.specs.Worlds.{World, nodes}
-use Rattle.tg_law_finish.proofs.Finish.Nets.{Net, net, on_in, alike_if, alike_ticked}
+use Rattle.tg_law_finish.proofs.Finish.Nets.{Net, net, client_of, on_in, alike_if, alike_ticked}
 use Rattle.tg_law_finish.proofs.Finish.Settles.{Keeps, Ticking}
 use Rattle.tg_law_reconfs.proofs.Turns.{First}
 use Rattle.tg_law_reconfs.proofs.Rounds.{Folds}
-use Rattle.tg_law_reconfs.proofs.Laps.{Ballots, Most, Along, JustSent, YetToTick, End, laps, most_on, folds}
+use Rattle.tg_law_reconfs.proofs.Laps.{Ballots, Most, Along, JustSent, YetToTick, End, laps, most_on, Low, low_of, still_none, ends_soon, folds}
 use Rattle.tg_law_reconfs.proofs.Early.{EarlyAt, Before, before_step, not_early}
 use Rattle.tg_law_reconfs.proofs.EarlyTicks.{EarlyPre, early_ticking}
 
@@ -19,7 +19,7 @@ module _ (m : Meaning) (h : Header) (stopped : List NodeId) (k epoch servers : �
     pub top : ℕ
     pub small : top + 1 < 2 ^ 32
     pub fits : 1 ≤ top
-    pub lasts : 2 ≤ r
+    pub lasts : 4 ≤ r
     pub room : top + 3 < 2 ^ 32
 
   abbrev pub early_rest : ℕ → ℕ
@@ -101,6 +101,10 @@ module _ (m : Meaning) (h : Header) (stopped : List NodeId) (k epoch servers : �
   still_all r s n (inl a) = votes.still r s n a
   still_all r s n (inr a) = absurd (never r s n a)
 
+  pub none_still : (r : ℕ) (s : Net m) (n : ℕ) → SentAll r s [] n → (client_of m h s k).work ≡ None
+  none_still r s n (inl a) = still_none m h stopped k epoch servers past near some r s n a
+  none_still r s n (inr a) = absurd (never r s n a)
+
   again_all : (r : ℕ) (w : World m) (n : ℕ) → AlongAll (suc r) (net m w) [] n → YetAll r (nodes m w) (net m w) [] n
   again_all r w n (inl a) = inl (votes.again r w n a)
   again_all r w n (inr a) = absurd (never (suc r) (net m w) n a)
@@ -108,6 +112,14 @@ module _ (m : Meaning) (h : Header) (stopped : List NodeId) (k epoch servers : �
   ends_all : (s : Net m) (n : ℕ) → AlongAll 0 s [] n → EndAll s n
   ends_all s n (inl a) = votes.ends s n a
   ends_all s n (inr a) = absurd (never 0 s n a)
+
+  pub all_end_soon : (r : ℕ) → r ≤ 2 → (s : Net m) (n : ℕ) → AlongAll r s [] n → EndAll s n
+  all_end_soon r soon s n (inl a) = ends_soon m h stopped k epoch servers past near some r soon s n a
+  all_end_soon r soon s n (inr a) = absurd (never r s n a)
+
+  pub all_low : (r : ℕ) (s : Net m) (n : ℕ) → AlongAll r s [] n → Low m h stopped k epoch servers past near some s
+  all_low r s n (inl a) = low_of m h stopped k epoch servers past near some r s [] n a
+  all_low r s n (inr a) = absurd (never r s n a)
 
   pub all_folds : Folds m k h stopped AlongAll SentAll YetAll EndAll
   all_folds = record { keeps = keeps_all; ticking = ticks_all; begins = begins_all; still = still_all; again = again_all; ends = ends_all }

@@ -122,7 +122,7 @@ module _ (m : Meaning) (k : ℕ) (InHand : Client m → Type 0) (Says : WhatOf m
     counted : (w v : World m) → R w v → R w (record v { steps = v.steps + 1 })
     counted w v r = then w v _ r (same v _ refl refl)
 
-    one_delivery : (w : World m) (i : ℕ) → R w (happens m w (Deliver i))
+    pub one_delivery : (w : World m) (i : ℕ) → R w (happens m w (Deliver i))
     unfolding happens
     one_delivery w i = counted w _ (delivered w i (slice_get w.packets i))
 
@@ -136,7 +136,7 @@ module _ (m : Meaning) (k : ℕ) (InHand : Client m → Type 0) (Says : WhatOf m
     ticked_if w n false e = none w
     ticked_if w n true e = ticked w n n.role refl e
 
-    one_tick : (w : World m) (n : NodeId) → R w (happens m w (Tick n))
+    pub one_tick : (w : World m) (n : NodeId) → R w (happens m w (Tick n))
     unfolding happens
     one_tick w n = counted w _ (ticked_if w n (runs m w n) refl)
 
@@ -188,7 +188,7 @@ module _ (m : Meaning) (k : ℕ) (InHand : Client m → Type 0) (Says : WhatOf m
     round_on n v true h = drain_reaches v
     round_on n v false h = unless v (drain m v) (λ u. rounds m n u) (drain_reaches v) h
 
-    round : (n : ℕ) (w : World m) → R w (rounds m n w).world
+    pub round : (n : ℕ) (w : World m) → R w (rounds m n w).world
     unfolding rounds
     round zero w = none w
     round (suc n) w = unless w (tick_all m (nodes m w) w) (λ v. after_ticks n v (eqb (length v.packets) (length w.packets))) (all_ticked (nodes m w) w) (λ v. round_on n v (eqb (length v.packets) (length w.packets)) (λ u. round n u))

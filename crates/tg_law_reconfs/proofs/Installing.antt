@@ -14,7 +14,7 @@ use Rattle.tg_protocol.specs.Finishing.{NoneAbove, WaitsAlone, IsReadyToChange, 
 use Rattle.tg_law_reconfs.specs.Reconfs.{WaitsToStart}
 use Rattle.tg_law_reconfs.specs.Changes.{ChangesInstall}
 use Rattle.tg_law_reconfs.specs.Scans.{WaitsForScan}
-use Rattle.tg_law_reconfs.proofs.Changes.{changes_start, units_run_then}
+use Rattle.tg_law_reconfs.proofs.Changes.{has_given, prepared, changes_start, stands_next}
 use Rattle.tg_law_reconfs.proofs.ScanEnds.{scans_install}
 
 pub changes_install : Always all_kinds (ChangesInstall all_kinds)
@@ -32,6 +32,6 @@ changes_install h ms w r k e c a b at = scans_install h ms w r k e c a b waits a
       rid = s.rid;
       starting = s.starting;
       seqr_runs = subst (λ (n : ℕ). runs all_kinds w (seqr_id n) ≡ true) (sym starts.1) b.seqr_runs;
-      units = λ u there. units_run_then h ms w r k e c a b at u there;
+      units = (stands_next h ms w r k e c (has_given all_kinds w k c a) (prepared all_kinds w k e c b) at).1;
       none_above = subst (λ (i : ℕ). NoneAbove all_kinds w i) (sym at) b.none_above;
     }

@@ -1,16 +1,16 @@
 -- Rounds of ticks from the votes on: three end them, and then the client has ended or stands at the new layout.
-use Rattle.std.proofs.Common.{◌≡◌, ◌⊎◌, ℕ, zero, suc, ◌+◌, ◌*◌, ◌^◌, ◌<◌, ◌≤◌, List, [], Bool, true, false, refl, ap, ◌∙◌, sym, subst, inl, inr, arith, Some, None}
+use Rattle.std.proofs.Common.{◌≡◌, ◌⊎◌, ℕ, zero, suc, ◌+◌, ◌*◌, ◌^◌, ◌<◌, ◌≤◌, List, [], Bool, true, false, eqb, refl, ap, ◌∙◌, sym, subst, inl, inr, arith, Some, None}
 use Rattle.tg_base.specs.Layouts.{Layout}
 use Rattle.tg_base.specs.Clusters.{Header}
 use Rattle.tg_base.specs.declared.ids.NodeId.{NodeId}
 use Rattle.tg_base.specs.declared.packet.Packet.{Packet}
 use Rattle.tg_kind.specs.Meaning.{Meaning}
-use Rattle.tg_protocol.specs.Words.{layout_id}
+use Rattle.tg_protocol.specs.Words.{layout_id, client_id}
 use Rattle.tg_protocol.specs.Reconfiguring.{Later, Voting, ReconfWork, Agreeing, Starting, Reconf}
 use Rattle.tg_protocol.specs.Clients.{Client, Work, Reconfiguring, Doing}
 use Rattle.tg_protocol.specs.Worlds.{World, nodes}
 use Rattle.tg_law_finish.proofs.Finish.Finishes.{Once, nodes_once}
-use Rattle.tg_law_finish.proofs.Finish.Nets.{Net, net, on_in, Alike, on_alike, alike_if, alike_ticked, client_of}
+use Rattle.tg_law_finish.proofs.Finish.Nets.{Net, net, on_in, Alike, on_alike, alike_if, alike_ticked, unit_of, layout_of, seqr_of, client_of}
 use Rattle.tg_law_finish.proofs.Finish.Settles.{Keeps, Ticking}
 use Rattle.tg_law_reconfs.proofs.Votes.{tally, tally_more, Base}
 use Rattle.tg_law_reconfs.proofs.Turns.{Mode, First, Second, Third, Claim}
@@ -48,7 +48,7 @@ module _ (m : Meaning) (h : Header) (stopped : List NodeId) (k epoch servers : �
     pub small : top + 1 < 2 ^ 32
     pub fits : round ≤ top
     pub mode : Mode
-    pub lasts : (mode ≡ Third) ⊎ (((mode ≡ Second) × ((1 ≤ r) × (top + 2 < 2 ^ 32))) ⊎ ((mode ≡ First) × ((2 ≤ r) × (top + 3 < 2 ^ 32))))
+    pub lasts : (mode ≡ Third) ⊎ (((mode ≡ Second) × ((3 ≤ r) × (top + 2 < 2 ^ 32))) ⊎ ((mode ≡ First) × ((4 ≤ r) × (top + 3 < 2 ^ 32))))
 
   abbrev pub rest_in : (r : ℕ) → Ballots r → ℕ
   rest_in r b = laps r + votes_left b.mode
@@ -125,6 +125,24 @@ module _ (m : Meaning) (h : Header) (stopped : List NodeId) (k epoch servers : �
       by (inl i) = inl i
       by (inr y) = inr y.busy
 
+  -- Along a drain no node that answers is past the epoch, and no other client works.
+  pub record Low (s : Net m) : Type 0 where
+    pub on : on_in m stopped s (client_id k) ≡ true
+    pub units : (u : ℕ) → (unit_of m s u).epoch ≤ epoch
+    pub layouts : (n : ℕ) → (layout_of m h s n).latest.epoch ≤ epoch
+    pub seqrs : (x : ℕ) → (seqr_of m h s x).epoch ≤ epoch
+    pub idle : (j : ℕ) → eqb j k ≡ false → on_in m stopped s (client_id j) ≡ true → (client_of m h s j).work ≡ None
+
+  pub low_of : (r : ℕ) (s : Net m) (q : List Packet) (n : ℕ) → Along r s q n → Low s
+  low_of r s q n a = by a.inv
+    where
+      low : Base m h stopped k epoch servers a.ballots.top a.ballots.round s → Low s
+      low b = record { on = b.on; units = b.units; layouts = λ n. (b.layouts n).latest; seqrs = λ x. (b.seqrs x).stands; idle = b.idle }
+
+      by : Inv m h stopped k epoch servers a.ballots.top a.ballots.round past near a.ballots.small a.ballots.fits a.ballots.mode (rest_in r a.ballots) s q n → Low s
+      by (inl i) = low i.base
+      by (inr y) = low y.base
+
   -- Where nothing is on its way.
   module _ (r : ℕ) (b : Ballots r) (s : Net m) (n : ℕ) (y : Busy m h stopped k epoch servers b.top b.round past near b.small b.fits b.mode (rest_in r b) s [] n) where
     at_new : (i : ℕ) → y.reconf.work ≡ Starting i → y.reconf.stand.epoch ≡ epoch → AtNew (client_of m h s k)
@@ -148,24 +166,36 @@ module _ (m : Meaning) (h : Header) (stopped : List NodeId) (k epoch servers : �
               (subst (λ (c : Bool). Laterless m h stopped k epoch servers a.ballots.top a.ballots.round past near a.ballots.small a.ballots.fits a.ballots.mode (rest_in r a.ballots) c y.busy.reconf.work) x.0 y.laterless) in
               absurd (none_some x.1.1.1.0 (sym e ∙ x.1.1.1.1))
 
-  ends : (s : Net m) (n : ℕ) → Along 0 s [] n → End s n
-  ends s n a = by a.inv
+  -- a client that works asks layout servers in each round
+  pub still_none : (r : ℕ) (s : Net m) (n : ℕ) → JustSent r s [] n → (client_of m h s k).work ≡ None
+  still_none r s n a = by a.fresh
     where
-      b : Ballots 0
+      by : Fresh m h stopped k epoch servers a.ballots.top a.ballots.round past near a.ballots.small a.ballots.fits a.ballots.mode (rest_in r a.ballots) s [] n → (client_of m h s k).work ≡ None
+      by (inl i) = i.none
+      by (inr y) = absurd ((y.sent some).1)
+
+  -- where two rounds are left, or fewer, the votes have ended
+  pub ends_soon : (r : ℕ) → r ≤ 2 → (s : Net m) (n : ℕ) → Along r s [] n → End s n
+  ends_soon r soon s n a = by a.inv
+    where
+      b : Ballots r
       b = a.ballots
 
-      by : Inv m h stopped k epoch servers b.top b.round past near b.small b.fits b.mode (rest_in 0 b) s [] n → End s n
+      by : Inv m h stopped k epoch servers b.top b.round past near b.small b.fits b.mode (rest_in r b) s [] n → End s n
       by (inl i) = inl i.none
-      by (inr y) = come (comes_to 0 b s n y a.most)
+      by (inr y) = come (comes_to r b s n y a.most)
         where
-          come : Comes m h stopped k epoch servers b.top b.round past near b.small b.fits b.mode (rest_in 0 b) y.begun y.reconf.stand y.reconf.work → End s n
-          come (inl x) = inr (at_new 0 b s n y x.0 x.1.0 x.1.1)
+          come : Comes m h stopped k epoch servers b.top b.round past near b.small b.fits b.mode (rest_in r b) y.begun y.reconf.stand y.reconf.work → End s n
+          come (inl x) = inr (at_new r b s n y x.0 x.1.0 x.1.1)
           come (inr x) = over b.lasts
             where
-              over : (b.mode ≡ Third) ⊎ (((b.mode ≡ Second) × ((1 ≤ 0) × (b.top + 2 < 2 ^ 32))) ⊎ ((b.mode ≡ First) × ((2 ≤ 0) × (b.top + 3 < 2 ^ 32)))) → End s n
-              over (inl is) = absurd (not_third m h stopped k epoch servers b.top b.round past near b.small b.fits b.mode (rest_in 0 b) s n y x.1.0 x.1.1.0 x.0 x.1.1.1.0 x.1.1.1.1 is)
-              over (inr (inl z)) = let le = z.1.0 in absurd (omega (arith, le))
-              over (inr (inr z)) = let le = z.1.0 in absurd (omega (arith, le))
+              over : (b.mode ≡ Third) ⊎ (((b.mode ≡ Second) × ((3 ≤ r) × (b.top + 2 < 2 ^ 32))) ⊎ ((b.mode ≡ First) × ((4 ≤ r) × (b.top + 3 < 2 ^ 32)))) → End s n
+              over (inl is) = absurd (not_third m h stopped k epoch servers b.top b.round past near b.small b.fits b.mode (rest_in r b) s n y x.1.0 x.1.1.0 x.0 x.1.1.1.0 x.1.1.1.1 is)
+              over (inr (inl z)) = let le = z.1.0 in absurd (omega (arith, le, soon))
+              over (inr (inr z)) = let le = z.1.0 in absurd (omega (arith, le, soon))
+
+  ends : (s : Net m) (n : ℕ) → Along 0 s [] n → End s n
+  ends s n a = ends_soon 0 (omega arith) s n a
 
   votes_fewer : (x next mode : Mode) → mode ≡ x → votes_left x ≡ votes_left next + 6 * servers → votes_left mode ≡ votes_left next + 6 * servers
   votes_fewer x next mode is e = ap votes_left is ∙ e
@@ -205,7 +235,7 @@ module _ (m : Meaning) (h : Header) (stopped : List NodeId) (k epoch servers : �
       fits' : l.round ≤ now.top + 1
       fits' = later_fits m h stopped k epoch servers now.top now.round past near now.small now.fits now.mode (rest_in (suc r) now) (net m w) n y v at begun l set
 
-      vote_again : (next : Mode) (small : top' + 1 < 2 ^ 32) (lasts : (next ≡ Third) ⊎ (((next ≡ Second) × ((1 ≤ r) × (top' + 2 < 2 ^ 32))) ⊎ ((next ≡ First) × ((2 ≤ r) × (top' + 3 < 2 ^ 32))))) → votes_left now.mode ≡ votes_left next + 6 * servers
+      vote_again : (next : Mode) (small : top' + 1 < 2 ^ 32) (lasts : (next ≡ Third) ⊎ (((next ≡ Second) × ((3 ≤ r) × (top' + 2 < 2 ^ 32))) ⊎ ((next ≡ First) × ((4 ≤ r) × (top' + 3 < 2 ^ 32))))) → votes_left now.mode ≡ votes_left next + 6 * servers
           → Claim m h stopped k epoch servers top' l.round next (net m w) false v → YetToTick r (nodes m w) (net m w) [] n
       vote_again next small lasts fewer claim =
           let o = once y.base in
@@ -217,7 +247,7 @@ module _ (m : Meaning) (h : Header) (stopped : List NodeId) (k epoch servers : �
                 (nodes m w) o.front o.back o.is o.not_front o.not_back));
           }
 
-      set_again : (now.mode ≡ Third) ⊎ (((now.mode ≡ Second) × ((1 ≤ suc r) × (now.top + 2 < 2 ^ 32))) ⊎ ((now.mode ≡ First) × ((2 ≤ suc r) × (now.top + 3 < 2 ^ 32)))) → YetToTick r (nodes m w) (net m w) [] n
+      set_again : (now.mode ≡ Third) ⊎ (((now.mode ≡ Second) × ((3 ≤ suc r) × (now.top + 2 < 2 ^ 32))) ⊎ ((now.mode ≡ First) × ((4 ≤ suc r) × (now.top + 3 < 2 ^ 32)))) → YetToTick r (nodes m w) (net m w) [] n
       set_again (inl is) = absurd (not_third m h stopped k epoch servers now.top now.round past near now.small now.fits now.mode (rest_in (suc r) now) (net m w) n y v at begun l set is)
       set_again (inr (inl z)) =
           let room = z.1.1 in

@@ -12,9 +12,11 @@ pub mod EarlyTicks
 pub mod Ends
 pub mod Fencing
 pub mod Grounds
+pub mod Held
 pub mod Installing
 pub mod Joining
 pub mod Laps
+pub mod Middle
 pub mod Looks
 pub mod NextUnits
 pub mod Nodes
@@ -41,3 +43,4 @@ pub mod Turns
 pub mod Voted
 pub mod Votes
 pub mod Waits
+pub mod Whole

@@ -1,6 +1,6 @@
 -- A settling before the client's own layout is adopted, whatever joins.
 use Rattle.std.proofs.Common.{◌≡◌, ◌≢◌, ◌⊎◌, ℕ, ◌+◌, ◌*◌, ◌<◌, ◌≤◌, ◌^◌, List, [], ◌∷◌, length, true, refl, ap, ◌∙◌, sym, subst, inl, inr, arith, Some, None, Option}
-use Rattle.std.specs.Prelude.{Contains}
+use Rattle.std.specs.Prelude.{Contains, ⊤}
 use Rattle.tg_any.specs.AllKinds.{all_kinds}
 use Rattle.tg_base.specs.Layouts.{Layout, IsLayout}
 use Rattle.tg_base.specs.Changes.{Changed}
@@ -15,19 +15,22 @@ use Rattle.tg_protocol.specs.Requests.{out}
 use Rattle.tg_protocol.specs.Reconfiguring.{ReconfWork, SealingSpare, LookingSpare, Sealing, LookingAgain, Agreeing, Telling, Starting, Reconf, next_epoch, join_asks, reconf_work_asks}
 use Rattle.tg_protocol.specs.Clients.{Work, Hand}
 use Rattle.tg_protocol.specs.ClientSteps.{task_in}
-use Rattle.tg_protocol.specs.Worlds.{World, unit, client, runs, settle}
+use Rattle.tg_protocol.specs.Worlds.{World, unit, client, runs, rounds, settle}
 use Rattle.tg_protocol.specs.Runs.{Moves, Reaches, Always}
 use Rattle.tg_protocol.specs.Finishing.{WaitsAlone}
 use Rattle.tg_law_layouts.proofs.Layouts.Deciding.{layouts_are_known, layouts_are_sound}
 use Rattle.tg_law_layouts.proofs.Layouts.Pax.{reconf_of, task_reconf}
 use Rattle.tg_law_layouts.proofs.Moves.Lists.{contained}
 use Rattle.tg_law_layouts.proofs.Moves.Members.{Has}
+use Rattle.tg_law_finish.proofs.Finish.Nets.{net, client_of}
+use Rattle.tg_law_finish.proofs.Finish.Settles.{Facts}
+use Rattle.tg_law_reconfs.proofs.Laps.{AtNew}
 use Rattle.tg_law_reconfs.specs.Reconfs.{InVotes, VotesEnd}
 use Rattle.tg_law_reconfs.specs.Changing.{IsBefore, JoinsSince, WaitsForUnits, WaitsToChange, JoinsFinish}
 use Rattle.tg_law_reconfs.proofs.Waits.{asked_long}
 use Rattle.tg_law_reconfs.proofs.Phases.{look_at, spares, units_left}
 use Rattle.tg_law_reconfs.proofs.Joining.{InHand, AsksUnits, changes_in_hand, is_next, lacks_near}
-use Rattle.tg_law_reconfs.proofs.Voted.{Agrees, AheadOf, SpareOf, NextRuns, units_end, votes_end, first_of, never_high, scans_near}
+use Rattle.tg_law_reconfs.proofs.Voted.{ToTickAll, Soon, settle_rests, units_tick, to_tick, most_told, past, near, some, Agrees, AheadOf, SpareOf, NextRuns, units_end, votes_end, first_of, never_high, scans_near}
 
 some_of : (us : List ℕ) → us ≢ [] → (u : ℕ) × Has us u
 some_of [] filled = absurd (filled refl)
@@ -45,7 +48,7 @@ module _ (h : Header) (ms : Moves all_kinds) (w : World all_kinds) (reach : Reac
   abbrev r : Reconf
   r = f.reconf
 
-  abbrev agrees : Agrees all_kinds w k
+  abbrev pub agrees : Agrees all_kinds w k
   agrees = record { work = f.work; waits = f.waits; reconf = f.reconf; hand = f.hand; layouts = f.layouts; none_above = f.none_above }
 
   abbrev Ahead' : ReconfWork → Type 0
@@ -137,6 +140,30 @@ module _ (h : Header) (ms : Moves all_kinds) (w : World all_kinds) (reach : Reac
       let asks' = subst AsksUnits (sym at) asks in
       let few = asks_few r.work asks' f.waiting in
       units_end all_kinds h ms w reach k x a agrees most_so (omega (arith, few)) (ahead_of r.work refl asks' f.waiting (in_hand asks')) (never_high h ms w reach) (scans_near h ms w reach)
+
+  -- what is known right before the first ticks
+  ticks_by : (y : ReconfWork) → r.work ≡ y → (n : ℕ) × ToTickAll all_kinds h ms w reach k x a agrees n
+  ticks_by y at = by y at (λ asks. units asks) (λ votes. (most_told all_kinds h ms w reach k x a agrees, inl (to_tick all_kinds h ms w reach k x a agrees votes)))
+    where
+      units : AsksUnits r.work → (n : ℕ) × ToTickAll all_kinds h ms w reach k x a agrees n
+      units asks =
+          let few = asks_few r.work asks f.waiting in
+          (most_so, units_tick all_kinds h ms w reach k x a agrees most_so (omega (arith, few)) (ahead_of r.work refl asks f.waiting (in_hand asks)) (never_high h ms w reach) (scans_near h ms w reach))
+
+      by : (y : ReconfWork) → r.work ≡ y → (AsksUnits r.work → (n : ℕ) × ToTickAll all_kinds h ms w reach k x a agrees n) → (InVotes all_kinds r.work → (n : ℕ) × ToTickAll all_kinds h ms w reach k x a agrees n) → (n : ℕ) × ToTickAll all_kinds h ms w reach k x a agrees n
+      by (SealingSpare n) at u v = u (subst AsksUnits (sym at) tt)
+      by (LookingSpare n) at u v = u (subst AsksUnits (sym at) tt)
+      by (Sealing ws acks) at u v = u (subst AsksUnits (sym at) tt)
+      by (LookingAgain n acks) at u v = u (subst AsksUnits (sym at) tt)
+      by (Agreeing d) at u v = v (subst (λ (y : ReconfWork). InVotes all_kinds y) (sym at) tt)
+      by (Telling ws n q) at u v = v (subst (λ (y : ReconfWork). InVotes all_kinds y) (sym at) tt)
+      by (Starting n) at u v = absurd (subst (λ (y : ReconfWork). IsBefore all_kinds y) at f.before)
+
+  pub rests_after : (Fact : World all_kinds → Type 0) → Facts all_kinds Fact (λ s y. ⊤) → Fact w
+      → ((u : World all_kinds) → Fact u → Soon all_kinds h ms w reach k x a agrees u → ((client_of all_kinds w.cluster (net all_kinds u) k).work ≡ None) ⊎ AtNew all_kinds w.cluster w.stopped k ((client all_kinds w k).stand.epoch + 1) w.cluster.layouts (past all_kinds h ms w reach k x a agrees) (near all_kinds h ms w reach k x a agrees) (some all_kinds h ms w reach k x a agrees) (client_of all_kinds w.cluster (net all_kinds u) k)
+      → (rounds all_kinds 2 u).stopped ≡ None → (client all_kinds (rounds all_kinds 2 u).world k).work ≡ None)
+      → (client all_kinds (settle all_kinds w).world k).work ≡ None
+  rests_after Fact facts fact ends = let t = ticks_by r.work refl in settle_rests all_kinds h ms w reach k x a agrees Fact facts fact ends t.0 t.1
 
   from_votes : InVotes all_kinds r.work → VotesEnd all_kinds w (settle all_kinds w).world k most_so
   from_votes votes = let e = votes_end all_kinds h ms w reach k x a agrees votes in let few = e.few in record { ends = e.ends; few = omega (arith, few) }

@@ -1,5 +1,5 @@
 -- Runs after which a reconfiguration is ready: its seal is lost, or the request to the new sequencer is.
-use Rattle.std.proofs.Common.{◌≡◌, ◌≢◌, ℕ, zero, suc, ◌+◌, ◌≤◌, [], ◌∷◌, true, refl, sym, subst, inl, inr, arith, None}
+use Rattle.std.proofs.Common.{◌≡◌, ◌≢◌, ℕ, zero, suc, ◌+◌, ◌*◌, ◌≤◌, [], ◌∷◌, true, refl, sym, subst, inl, inr, arith, None}
 use Rattle.std.specs.Prelude.{◌==◌, Contains}
 use Rattle.tg_model.specs.declared.command.Command.TheVariants as cmd
 use Rattle.tg_base.specs.Orders.{node_eq}
@@ -15,15 +15,15 @@ use Rattle.tg_protocol.specs.ClientSteps.{task_asks, client_asks, task_feed, tas
 use Rattle.tg_protocol.specs.Sizes.{fields_size}
 use Rattle.tg_protocol.specs.Worlds.{World, unit, layout, seqr, client, noted_of, runs, start, unit_moves, layout_moves, seqr_moves, client_turned, happens, limit_of, drain_on, drain, tick_all, rounds, settle}
 use Rattle.tg_protocol.specs.Runs.{Move, LawfulMove, Reaches, run}
-use Rattle.tg_protocol.specs.Finishing.{WaitsAlone, NoneAbove, MostRun}
+use Rattle.tg_protocol.specs.Finishing.{WaitsAlone, NoneAbove, MostRun, deliveries, is_scan}
 use Rattle.tg_any.specs.AllKinds.{all_kinds}
 use Rattle.tg_any.specs.Anys as any
 use Rattle.tg_law_layouts.proofs.Moves.Members.{Has, has_contained}
 use Rattle.tg_law_finish.specs.Tallies.Tallies.{one_of_each}
 use Rattle.tg_law_finish.specs.Tallies.Settled.{opens_again}
-use Rattle.tg_law_reconfs.specs.Ready.{IsReadyAt, learn_lost, ChangesAreReady}
+use Rattle.tg_law_reconfs.specs.Ready.{IsReadyAt, learn_lost, ChangesAreReady, ReconfIsFinished}
 use Rattle.tg_law_reconfs.specs.Settled.{seal_lost}
-use Rattle.tg_law_reconfs.proofs.Settling.{less_two, two_most, first_few, few_steps, given, unsealed, seal_reached, seal_alone, seal_most, seal_stand, seal_above, seal_runs}
+use Rattle.tg_law_reconfs.proofs.Settling.{seals_settle, less_two, two_most, first_few, few_steps, given, unsealed, seal_reached, seal_alone, seal_most, seal_stand, seal_above, seal_runs}
 
 next_is : next_units (first_layout one_of_each) opens_again ≡ 0 ∷ []
 unfolding units_of next_of
@@ -184,3 +184,37 @@ learn_ready = record {
 
 pub changes_are_ready : ChangesAreReady
 changes_are_ready = (seal_ready, learn_ready)
+
+-- What a settling makes of the first.
+
+seal_allowed : 2 * unsealed.cluster.units + 64 * unsealed.cluster.layouts + 22 ≡ 88
+unfolding run start node_eq units_of next_of change_fault new_unit unit_ask on_ask unit_step new_layout layout_ask on_layout_ask layout_step reply new_seqr seqr_step seqr_tick reconf_work_asks reconf_start reconf_feed reconf_latest new_client tests refusal task_asks client_asks task_feed task_again accepts client_command client_deliver client_tick fields_size unit_moves layout_moves seqr_moves client_turned happens limit_of drain_on drain tick_all rounds settle any.first
+seal_allowed = refl
+
+seal_epoch : (seqr all_kinds (settle all_kinds unsealed).world opens_again.seq).epoch ≡ 2
+unfolding run start node_eq units_of next_of change_fault new_unit unit_ask on_ask unit_step new_layout layout_ask on_layout_ask layout_step reply new_seqr seqr_step seqr_tick reconf_work_asks reconf_start reconf_feed reconf_latest new_client tests refusal task_asks client_asks task_feed task_again accepts client_command client_deliver client_tick fields_size unit_moves layout_moves seqr_moves client_turned happens limit_of drain_on drain tick_all rounds settle any.first
+seal_epoch = refl
+
+seal_start : (seqr all_kinds (settle all_kinds unsealed).world opens_again.seq).proj.start ≡ 0
+unfolding run start node_eq units_of next_of change_fault new_unit unit_ask on_ask unit_step new_layout layout_ask on_layout_ask layout_step reply new_seqr seqr_step seqr_tick reconf_work_asks reconf_start reconf_feed reconf_latest new_client tests refusal task_asks client_asks task_feed task_again accepts client_command client_deliver client_tick fields_size unit_moves layout_moves seqr_moves client_turned happens limit_of drain_on drain tick_all rounds settle any.first
+seal_start = refl
+
+seal_unfenced : (seqr all_kinds (settle all_kinds unsealed).world opens_again.seq).fence ≡ None
+unfolding run start node_eq units_of next_of change_fault new_unit unit_ask on_ask unit_step new_layout layout_ask on_layout_ask layout_step reply new_seqr seqr_step seqr_tick reconf_work_asks reconf_start reconf_feed reconf_latest new_client tests refusal task_asks client_asks task_feed task_again accepts client_command client_deliver client_tick fields_size unit_moves layout_moves seqr_moves client_turned happens limit_of drain_on drain tick_all rounds settle any.first
+seal_unfenced = refl
+
+seal_scanned : deliveries all_kinds (is_scan all_kinds opens_again.seq 0) unsealed (settle all_kinds unsealed).world ≡ 0
+unfolding run start node_eq units_of next_of change_fault new_unit unit_ask on_ask unit_step new_layout layout_ask on_layout_ask layout_step reply new_seqr seqr_step seqr_tick reconf_work_asks reconf_start reconf_feed reconf_latest new_client tests refusal task_asks client_asks task_feed task_again accepts client_command client_deliver client_tick fields_size unit_moves layout_moves seqr_moves client_turned happens limit_of drain_on drain tick_all rounds settle any.first
+seal_scanned = refl
+
+none_under : (a b : ℕ) → a ≡ 0 → a ≤ b
+none_under a b e = omega (arith, e)
+
+pub reconf_settles : ReconfIsFinished
+reconf_settles = record {
+  ready = seal_ready;
+  allowed = seal_allowed;
+  installs = seals_settle.installs;
+  serves = record { epoch = seal_epoch; scanned = none_under _ _ seal_start; unfenced = seal_unfenced };
+  scanned = seal_scanned;
+}

@@ -1,6 +1,6 @@
 -- A client that waits for its new sequencer, which may have to learn its layout and to scan the log first, is told that the layout is installed.
-use Rattle.std.proofs.Common.{◌≡◌, ◌≢◌, ◌⊎◌, ℕ, suc, ◌+◌, ◌*◌, ◌^◌, ◌<◌, ◌≤◌, List, [], ◌∷◌, ◌++◌, length, Bool, true, false, eqb, refl, ap, ◌∙◌, sym, subst, inl, inr, arith, Some, None, Option}
-use Rattle.std.specs.Prelude.{nat_lt, max, slice_index_or}
+use Rattle.std.proofs.Common.{◌≡◌, ◌≢◌, ◌⊎◌, ℕ, suc, ◌+◌, ◌*◌, ◌^◌, ◌<◌, ◌≤◌, List, [], ◌∷◌, ◌++◌, length, Bool, true, false, eqb, refl, ap, ◌∙◌, sym, subst, inl, inr, arith, Some, None, Option, zero}
+use Rattle.std.specs.Prelude.{nat_lt, max, slice_index_or, Contains}
 use Rattle.std.proofs.lemmas.Bool.Decides.{nat_tests}
 use Rattle.tg_any.specs.AllKinds.{all_kinds}
 use Rattle.tg_base.specs.Changes.{Changed}
@@ -22,16 +22,20 @@ use Rattle.tg_protocol.specs.Requests.{out, awaits}
 use Rattle.tg_protocol.specs.Units.{unit_ask}
 use Rattle.tg_protocol.specs.Cells.{Place, CellWork, Puts, Gets, Fills, Copies, Probes, CellJob, place_in, work_asks, cell_asks}
 use Rattle.tg_protocol.specs.Sequencers.{SeqrState, new_seqr, seqr_asks, scan_asks, scanning}
-use Rattle.tg_protocol.specs.Reconfiguring.{this_or, later_asks, reconf_work_asks}
-use Rattle.tg_protocol.specs.Clients.{Work, Task, Hand, new_client}
+use Rattle.tg_protocol.specs.Reconfiguring.{Reconf, Starting, this_or, later_asks, reconf_work_asks}
+use Rattle.tg_protocol.specs.Clients.{Client, Work, Task, Hand, Doing, Reconfiguring, new_client}
 use Rattle.tg_protocol.specs.ClientSteps.{task_in, task_asks}
-use Rattle.tg_protocol.specs.Worlds.{World, nodes, runs, seqr, client, settle}
-use Rattle.tg_protocol.specs.Runs.{Moves, Reaches, Always}
+use Rattle.tg_protocol.specs.Worlds as Worlds
+use Rattle.tg_protocol.specs.Worlds.{World, nodes, runs, unit, layout, seqr, client, settle}
+use Rattle.tg_protocol.specs.Runs.{IsQuiet, Moves, Reaches, Always}
 use Rattle.tg_protocol.specs.Chosen.{IsDecided}
-use Rattle.tg_protocol.specs.Finishing.{IsServing, WaitsAlone, HasReply, IsEnd, ReconfFinished, longest_chain, deliveries, is_with_client, is_scan}
-use Rattle.tg_law_layouts.specs.Moves.Configs.{config}
+use Rattle.tg_protocol.specs.Finishing.{IsServing, WaitsAlone, HasReply, IsEnd, ReconfFinished, longest_chain, deliveries, is_with_client, is_scan, IsReadyToChange, IsInstalled, Finishes}
+use Rattle.tg_law_finish.proofs.Finish.Tasks.{TaskShape}
+use Rattle.tg_law_finish.proofs.Finish.Settles.{Facts}
+use Rattle.tg_law_layouts.specs.Moves.After.{after}
+use Rattle.tg_law_layouts.specs.Moves.Configs.{config, Config}
 use Rattle.tg_law_layouts.specs.Moves.Telling.{is_request}
-use Rattle.tg_law_layouts.specs.Layouts.Decisions.{IsOfDecided}
+use Rattle.tg_law_layouts.specs.Layouts.Decisions.{IsOfDecided, LayoutsKnown}
 use Rattle.tg_law_layouts.proofs.Moves.Always.{always}
 use Rattle.tg_law_layouts.proofs.Moves.Clients.{work_reserved, hand_reserved}
 use Rattle.tg_law_layouts.proofs.Moves.Lists.{contained}
@@ -40,7 +44,7 @@ use Rattle.tg_law_layouts.proofs.Requests.Answered.{Units}
 use Rattle.tg_law_layouts.proofs.Requests.Starts.{all_hold}
 use Rattle.tg_law_layouts.proofs.Layouts.Deciding.{one_layout, layouts_are_known, layouts_are_sound}
 use Rattle.tg_law_layouts.proofs.Layouts.Pax.{task_reconf, reconf_of, HandOk}
-use Rattle.tg_law_cells.proofs.Cells.Jobs.{MaybeOk}
+use Rattle.tg_law_cells.proofs.Cells.Jobs.{MaybeOk, JobOk}
 use Rattle.tg_law_cells.proofs.Tokens.Named.{Naming, naming_holds}
 use Rattle.tg_law_headline.specs.Trims.Spare.{TrimsAre}
 use Rattle.tg_law_headline.proofs.Runs.Finding as finding
@@ -48,9 +52,9 @@ use Rattle.tg_law_finish.proofs.Finish.Counted.{is_of, one_if}
 use Rattle.tg_law_finish.proofs.Finish.Finishes.{nodes_once}
 use Rattle.tg_law_finish.proofs.Finish.Lists.{Each}
 use Rattle.tg_law_finish.proofs.Finish.Midway.{ReadShape}
-use Rattle.tg_law_finish.proofs.Finish.Nets.{Net, net, on_in, net_if, sent_if, net_ticked, sent_ticked, unit_of, layout_of, seqr_of, client_of}
+use Rattle.tg_law_finish.proofs.Finish.Nets.{Net, net, on_in, net_if, sent_if, net_ticked, sent_ticked, unit_of, layout_of, seqr_of, client_of, happens_counts}
 use Rattle.tg_law_finish.proofs.Finish.Reached.{Reached, below_limit, goes, declared, tick_counts}
-use Rattle.tg_law_finish.proofs.Finish.Nets.{happens_counts}
+use Rattle.tg_law_finish.proofs.Finish.Nets.{happens_counts, Net, net, on_in, net_if, sent_if, net_ticked, sent_ticked, unit_of, layout_of, seqr_of, client_of}
 use Rattle.tg_law_finish.proofs.Finish.Scans.{Fine}
 use Rattle.tg_law_finish.proofs.Finish.Standing.{numbers_hold, cells_always, pax_always, cluster_is, header_limits}
 use Rattle.tg_law_finish.proofs.Finish.Writers.{seqr_away}
@@ -59,16 +63,16 @@ use Rattle.tg_law_reconfs.proofs.Answering.{awaited_one}
 use Rattle.tg_law_reconfs.proofs.Counts.{is_same}
 use Rattle.tg_law_reconfs.proofs.Ends.{WorkIs, TaskIs, settle_says}
 use Rattle.tg_law_reconfs.proofs.Fencing.{fences_reached}
-use Rattle.tg_law_reconfs.proofs.Grounds.{Answers, answers}
+use Rattle.tg_law_reconfs.proofs.Grounds.{Answers, answers, chain_short, need}
 use Rattle.tg_law_reconfs.proofs.Scanning.{Scan}
 use Rattle.tg_law_reconfs.proofs.Scanners.{Scanner, JobAt, scanners_reached}
-use Rattle.tg_law_reconfs.proofs.ScanSteps.{contrary, Base, none_weigh, from_of, to_of, unit_client, each_has, told_packet, ask_packet, scan_weight, Weigh}
+use Rattle.tg_law_reconfs.proofs.ScanSteps.{contrary, Base, none_weigh, from_of, to_of, unit_client, each_has, told_packet, ask_packet, scan_weight, Weigh, Ok, unit_seqr, seqr_client, scan_packet}
 use Rattle.tg_law_reconfs.proofs.ScanTurns.{Learnt, togo, togo_of, togo_most, span, whole_span}
 use Rattle.tg_law_reconfs.proofs.ScanDrains.{Flows, Waits, During, Before, Knows, Older, NotTo, during_any, before_any, spent, scanned}
-use Rattle.tg_law_reconfs.proofs.ScanTicks.{Ticks, ClientTurn', SeqrTurn', SeqrAt, client_owes, nodes_owe, one_ticks, none_ticks}
+use Rattle.tg_law_reconfs.proofs.ScanTicks.{Ticks, ClientTurn', SeqrTurn', SeqrAt, client_owes, nodes_owe, one_ticks, none_ticks, Owing, Idling, Asked, HasAsked, Owes}
 use Rattle.tg_law_reconfs.proofs.Starts.{asks_learn, seqrs_always, IsStarting, started_stays}
 use Rattle.tg_law_reconfs.proofs.Starts as starts
-use Rattle.tg_law_reconfs.proofs.Tapes.{sum_by, deliveries_are, Rules, Ended, settle_ends}
+use Rattle.tg_law_reconfs.proofs.Tapes.{sum_by, Since, deliveries_are, Rules, Ended, rounds_from, settle_ends}
 
 -- a scan asks requests
 scan_request : (y : Msg) → Scan (unit_ask y) → is_request y ≡ true
@@ -110,7 +114,28 @@ which a b le = grind (arith, le)
 not_below : (a b : ℕ) → nat_lt a b ≡ false → b ≤ a
 not_below a b e = grind arith
 
-module _ (m : Meaning) (h : Header) (ms : Moves m) (w : World m) (reach : Reaches m h ms w) (trims : (zs : Moves m) (v : World m) → Reaches m h zs v → TrimsAre m h zs v) (k : ℕ) (x : CommandOf m) (a : WaitsAlone m w k x) (f : WaitsForScan m w k) where
+-- a quiet world in which no other client that runs waits
+pub record Alone (m : Meaning) (w : World m) (k : ℕ) : Type 0 where
+  pub quiet : IsQuiet m w
+  pub running : runs m w (client_id k) ≡ true
+  pub alone : (j : ℕ) → j ≢ k → runs m w (client_id j) ≡ true → (client m w j).work ≡ None
+
+-- one that waits for its new sequencer, where the layout's nodes run
+pub record Adopted (m : Meaning) (w : World m) (k : ℕ) : Type 0 where
+  pub work : Work m
+  pub waits : (client m w k).work ≡ Some work
+  pub reconf : Reconf
+  pub hand : work.hand ≡ Doing (Reconfiguring reconf)
+  pub rid : ℕ
+  pub starting : reconf.work ≡ Starting rid
+  pub seqr_runs : runs m w (seqr_id (client m w k).stand.seq) ≡ true
+  pub units : (u : ℕ) → Contains (units_of (client m w k).stand) u → runs m w (unit_id u) ≡ true
+  pub low_units : (u : ℕ) → (unit m w u).epoch ≤ (client m w k).stand.epoch
+  pub low_layouts : (n : ℕ) → (layout m w n).latest.epoch ≤ (client m w k).stand.epoch
+  pub low_seqrs : (s : ℕ) → (seqr m w s).epoch ≤ (client m w k).stand.epoch
+
+-- By how many rounds are left after the first one.
+module _ (m : Meaning) (h : Header) (ms : Moves m) (w : World m) (reach : Reaches m h ms w) (trims : (zs : Moves m) (v : World m) → Reaches m h zs v → TrimsAre m h zs v) (k : ℕ) (a : Alone m w k) (f : Adopted m w k) (top : ℕ) (many : 1 ≤ top) where
   abbrev p : Layout
   p = (client m w k).stand
 
@@ -235,10 +260,10 @@ module _ (m : Meaning) (h : Header) (ms : Moves m) (w : World m) (reach : Reache
   -- The rounds.
 
   abbrev Inv : ℕ → Net m → List Packet → List Packet → Type 0
-  Inv n s q done = ((n ≡ 7) × (Before' s q done ⊎ During' false s q done)) ⊎ ((n < 7) × During' true s q done)
+  Inv n s q done = ((n ≡ top) × (Before' s q done ⊎ During' false s q done)) ⊎ ((n < top) × During' true s q done)
 
   abbrev Pre : ℕ → List NodeId → Net m → List Packet → List Packet → Type 0
-  Pre n xs s q done = ((n ≡ 7) × Ticks' false xs s q done) ⊎ ((n < 7) × Ticks' true xs s q done)
+  Pre n xs s q done = ((n ≡ top) × Ticks' false xs s q done) ⊎ ((n < top) × Ticks' true xs s q done)
 
   record End (s : Net m) (done : List Packet) : Type 0 where
     none : (client_of m w.cluster s k).work ≡ None
@@ -431,7 +456,7 @@ module _ (m : Meaning) (h : Header) (ms : Moves m) (w : World m) (reach : Reache
       inr (omega (arith, less), late_again v done d.base d.learnt l.0 (let s = d.scans in omega (arith, s)) (inr (inl (record { none = e.none; is_late = refl; aside = tt; few = let s = d.few in omega (arith, s) }))))
 
   ends : (s : Net m) (done : List Packet) → Inv 0 s [] done → End s done
-  ends s done (inl (e, d)) = absurd (omega (arith, e))
+  ends s done (inl (e, d)) = absurd (omega (arith, e, many))
   ends s done (inr (less, d)) = at_end s done d
 
   rounds : Rules m w.cluster w.stopped (Reached m h) Inv Pre End
@@ -457,8 +482,8 @@ module _ (m : Meaning) (h : Header) (ms : Moves m) (w : World m) (reach : Reache
     on = on_of (client_id k) a.running;
     seqr_on = on_of (seqr_id (client m w k).stand.seq) f.seqr_runs;
     units_on = λ u has. on_of (unit_id u) (f.units u (contained (units_of (client m w k).stand) u has));
-    units = f.none_above.units;
-    layouts = f.none_above.layouts;
+    units = f.low_units;
+    layouts = f.low_layouts;
     idle = λ j off on. a.alone j (differ j k off) (sym (on_is (client_id j)) ∙ on);
   }
     where
@@ -509,7 +534,7 @@ module _ (m : Meaning) (h : Header) (ms : Moves m) (w : World m) (reach : Reache
           let past = (scanner ms w reach).fenced n g in
           let u = fences_reached m h ms w reach (client m w k).stand.seq n g in
           let low = u.1 in
-          let high = f.none_above.units u.0 in
+          let high = f.low_units u.0 in
           let same = ap (λ (q : Layout). q.epoch) proj in
           absurd (omega (arith, past, low, high, same))
 
@@ -518,7 +543,7 @@ module _ (m : Meaning) (h : Header) (ms : Moves m) (w : World m) (reach : Reache
   zero_sum g = refl
 
   at_first : SeqrAt m w.cluster w.stopped k (client m w k).stand rules f.reconf f.rid f.starting stood w.cluster.layouts false (Its (net m w)) []
-  at_first = (zero_sum _, by (which (Its (net m w)).epoch (client m w k).stand.epoch (f.none_above.seqrs (client m w k).stand.seq)))
+  at_first = (zero_sum _, by (which (Its (net m w)).epoch (client m w k).stand.epoch (f.low_seqrs (client m w k).stand.seq)))
     where
       most : Learnt (client m w k).stand rules (Its (net m w)) → (o : Option CellJob) → (Its (net m w)).scan ≡ o → togo (client m w k).stand rules (Its (net m w)) ≤ span (client m w k).stand rules (client m w k).stand.start
       most l None e = subst (λ (o : Option CellJob). togo_of (client m w k).stand rules (Its (net m w)).next o ≤ span (client m w k).stand rules (client m w k).stand.start) (sym e) (omega arith)
@@ -532,7 +557,7 @@ module _ (m : Meaning) (h : Header) (ms : Moves m) (w : World m) (reach : Reache
       by (inl e) = inl (learnt e, most (learnt e) (Its (net m w)).scan refl)
       by (inr less) = inr ((fine ms w reach).num, less)
 
-  first : Pre 7 (nodes m w) (net m w) [] []
+  first : Pre top (nodes m w) (net m w) [] []
   first =
       let none = none_weigh m w.cluster w.stopped k (client m w k).stand rules f.reconf f.rid f.starting stood w.cluster.layouts in
       let zero' = zero_sum (λ y. one_if (is_of k y)) in
@@ -549,80 +574,94 @@ module _ (m : Meaning) (h : Header) (ms : Moves m) (w : World m) (reach : Reache
         },
       )
 
-  ended : Ended m w.cluster w.stopped (Reached m h) Inv Pre End w (settle m w).world
-  ended = settle_ends m w.cluster w.stopped (Reached m h) Inv Pre End w rounds a.quiet (ms, reach) first refl refl a.within
+  -- where a settling comes to this world with two rounds or more left
+  pub rests_then : (Worlds.rounds m (suc top) w).stopped ≡ None → (client m (Worlds.rounds m (suc top) w).world k).work ≡ None
+  rests_then none =
+      let e = rounds_from m w.cluster w.stopped (Reached m h) Inv Pre End w rounds top a.quiet (ms, reach) first refl refl none in
+      subst (λ (c : Header). (slice_index_or (Worlds.rounds m (suc top) w).world.clients k (new_client m c k)).work ≡ None) (sym e.cluster) e.end.none
 
-  -- What it comes to.
+  -- A settling.
+  module _ (seven : top ≡ 7) (within : (settle m w).stopped ≡ None) where
+    ended : Ended m w.cluster w.stopped (Reached m h) Inv Pre End w (settle m w).world
+    ended = settle_ends m w.cluster w.stopped (Reached m h) Inv Pre End w rounds a.quiet (ms, reach) (subst (λ (n : ℕ). Pre n (nodes m w) (net m w) [] []) seven first) refl refl within
 
-  idle : (client m (settle m w).world k).work ≡ None
-  idle = subst (λ (c : Header). (slice_index_or (settle m w).world.clients k (new_client m c k)).work ≡ None) (sym ended.cluster) ended.end.none
+    -- What it comes to.
 
-  abbrev Last : SeqrState
-  Last = seqr m (settle m w).world (client m w k).stand.seq
+    idle : (client m (settle m w).world k).work ≡ None
+    idle = subst (λ (c : Header). (slice_index_or (settle m w).world.clients k (new_client m c k)).work ≡ None) (sym ended.cluster) ended.end.none
 
-  last : Its (net m (settle m w).world) ≡ seqr m (settle m w).world (client m w k).stand.seq
-  last = same_seqr ended.fact.0 (settle m w).world ended.fact.1
+    abbrev Last : SeqrState
+    Last = seqr m (settle m w).world (client m w k).stand.seq
 
-  serves : IsServing (seqr m (settle m w).world (client m w k).stand.seq) (client m w k).stand.epoch
-  serves = subst (λ (y : SeqrState). IsServing y (client m w k).stand.epoch) last (record {
-    epoch = ended.end.learnt.epoch;
-    scanned = not_below _ _ (rests ended.fact.0 (settle m w).world ended.fact.1 ended.end.learnt ended.end.stops);
-    unfenced = ended.end.learnt.fence;
-  })
+    last : Its (net m (settle m w).world) ≡ seqr m (settle m w).world (client m w k).stand.seq
+    last = same_seqr ended.fact.0 (settle m w).world ended.fact.1
 
-  same_sum : (q : List Packet) → sum_by (λ y. one_if (is_with_client m k y)) q ≡ sum_by (λ y. one_if (is_of k y)) q
-  unfolding sum_by
-  same_sum [] = refl
-  same_sum (y ∷ q) = let e = same_sum q in let g = ap one_if (is_same m k y) in omega (arith, e, g)
+    serves : IsServing (seqr m (settle m w).world (client m w k).stand.seq) (client m w k).stand.epoch
+    serves = subst (λ (y : SeqrState). IsServing y (client m w k).stand.epoch) last (record {
+      epoch = ended.end.learnt.epoch;
+      scanned = not_below _ _ (rests ended.fact.0 (settle m w).world ended.fact.1 ended.end.learnt ended.end.stops);
+      unfenced = ended.end.learnt.fence;
+    })
 
-  few_client : deliveries m (is_with_client m k) w (settle m w).world ≤ 4 * w.cluster.layouts + 4
-  few_client = let e = deliveries_are m (is_with_client m k) w (settle m w).world ended.done ended.since in let g = same_sum ended.done in let few = ended.end.few in omega (arith, e, g, few)
+    same_sum : (q : List Packet) → sum_by (λ y. one_if (is_with_client m k y)) q ≡ sum_by (λ y. one_if (is_of k y)) q
+    unfolding sum_by
+    same_sum [] = refl
+    same_sum (y ∷ q) = let e = same_sum q in let g = ap one_if (is_same m k y) in omega (arith, e, g)
 
-  few_scan : deliveries m (is_scan m (client m w k).stand.seq k) w (settle m w).world ≤ (client m w k).stand.start * (2 * longest_chain (client m w k).stand + 2) + 2
-  few_scan = let e = deliveries_are m (is_scan m (client m w k).stand.seq k) w (settle m w).world ended.done ended.since in let g = whole_span (client m w k).stand rules (client m w k).stand.start in let few = ended.end.scans in omega (arith, e, g, few)
+    few_client : deliveries m (is_with_client m k) w (settle m w).world ≤ 4 * w.cluster.layouts + 4
+    few_client = let e = deliveries_are m (is_with_client m k) w (settle m w).world ended.done ended.since in let g = same_sum ended.done in let few = ended.end.few in omega (arith, e, g, few)
 
-  pub finishes : ScanFinishes m w (settle m w).world k
-  finishes = record {
+    few_scan : deliveries m (is_scan m (client m w k).stand.seq k) w (settle m w).world ≤ (client m w k).stand.start * (2 * longest_chain (client m w k).stand + 2) + 2
+    few_scan = let e = deliveries_are m (is_scan m (client m w k).stand.seq k) w (settle m w).world ended.done ended.since in let g = whole_span (client m w k).stand rules (client m w k).stand.start in let few = ended.end.scans in omega (arith, e, g, few)
+
+    pub finishes : ScanFinishes m w (settle m w).world k
     finishes = record {
-      idle = idle;
-      reply = settle_says m (IsStarting m (client m w k).stand) (starts.IsInstalled m (client m w k).stand) k (started_stays m (client m w k).stand) w
-          (subst (λ (o : Option (Work m)). WorkIs m (IsStarting m (client m w k).stand) (starts.IsInstalled m (client m w k).stand) o) (sym f.waits) (subst (λ (d : Hand m). TaskIs m (IsStarting m (client m w k).stand) (starts.IsInstalled m (client m w k).stand) (task_in m d)) (sym f.hand) ((f.rid, f.starting), stood))) idle;
-      few = few_client;
-    };
-    serves = serves;
-    few = few_scan;
-  }
+      finishes = record {
+        idle = idle;
+        reply = settle_says m (IsStarting m (client m w k).stand) (starts.IsInstalled m (client m w k).stand) k (started_stays m (client m w k).stand) w
+            (subst (λ (o : Option (Work m)). WorkIs m (IsStarting m (client m w k).stand) (starts.IsInstalled m (client m w k).stand) o) (sym f.waits) (subst (λ (d : Hand m). TaskIs m (IsStarting m (client m w k).stand) (starts.IsInstalled m (client m w k).stand) (task_in m d)) (sym f.hand) ((f.rid, f.starting), stood))) idle;
+        few = few_client;
+      };
+      serves = serves;
+      few = few_scan;
+    }
 
-  -- So for the claim of reconfigurations.
+    -- So for the claim of reconfigurations.
 
-  latest_decided : IsDecided m (settle m w).world (client m w k).stand.epoch (client m w k).stand
-  latest_decided = subst (λ (q : Layout). IsOfDecided m (settle m w).world q) (ap (λ (y : SeqrState). y.proj) (sym last) ∙ ended.end.learnt.proj) ((layouts_are_known m h ended.fact.0 (settle m w).world ended.fact.1).seqrs (client m w k).stand.seq)
+    latest_decided : IsDecided m (settle m w).world (client m w k).stand.epoch (client m w k).stand
+    latest_decided = subst (λ (q : Layout). IsOfDecided m (settle m w).world q) (ap (λ (y : SeqrState). y.proj) (sym last) ∙ ended.end.learnt.proj) ((layouts_are_known m h ended.fact.0 (settle m w).world ended.fact.1).seqrs (client m w k).stand.seq)
 
-  is_end : (v : World m) (e : ℕ) → HasReply m w v k (λ what. what ≡ told.Installed e) → HasReply m w v k (IsEnd m)
-  is_end v e y = record { replies = y.replies; are = y.are; told = y.told; here = y.here; client = y.client; holds = subst (λ (what : WhatOf m). IsEnd m what) (sym y.holds) tt }
+    is_end : (v : World m) (e : ℕ) → HasReply m w v k (λ what. what ≡ told.Installed e) → HasReply m w v k (IsEnd m)
+    is_end v e y = record { replies = y.replies; are = y.are; told = y.told; here = y.here; client = y.client; holds = subst (λ (what : WhatOf m). IsEnd m what) (sym y.holds) tt }
 
-  more_few : (n l u : ℕ) → n ≤ 4 * l + 4 → n ≤ 2 * u + 64 * l + 22
-  more_few n l u le = omega (arith, le)
+    more_few : (n l u : ℕ) → n ≤ 4 * l + 4 → n ≤ 2 * u + 64 * l + 22
+    more_few n l u le = omega (arith, le)
 
-  more_scan : (n s y : ℕ) → 1 ≤ y → n ≤ s * y + 2 → n ≤ (s + 8) * y
-  more_scan n s y some le = let e = spread s y in omega (arith, e, some, le)
-    where
-      spread : (s y : ℕ) → (s + 8) * y ≡ s * y + 8 * y
-      spread s y = grind arith
+    more_scan : (n s y : ℕ) → 1 ≤ y → n ≤ s * y + 2 → n ≤ (s + 8) * y
+    more_scan n s y some le = let e = spread s y in omega (arith, e, some, le)
+      where
+        spread : (s y : ℕ) → (s + 8) * y ≡ s * y + 8 * y
+        spread s y = grind arith
 
-  pub installs : (e : ℕ) (c : Changed) → (client m w k).stand.epoch ≡ e + 1 → (client m w k).stand.seq ≡ c.seq → ReconfFinished m w (settle m w).world k e c
-  installs e c at seq = record {
-    finishes = record { idle = idle; reply = is_end (settle m w).world (client m w k).stand.epoch finishes.finishes.reply; few = more_few _ w.cluster.layouts w.cluster.units few_client };
-    installed = λ y. record {
-      new = (client m w k).stand;
-      decided = subst (λ n. IsDecided m (settle m w).world n (client m w k).stand) at latest_decided;
-      serves = subst (λ n. IsServing (seqr m (settle m w).world n) (e + 1)) seq (subst (λ n. IsServing (seqr m (settle m w).world (client m w k).stand.seq) n) at serves);
-      few = subst (λ n. deliveries m (is_scan m n k) w (settle m w).world ≤ ((client m w k).stand.start + 8) * (2 * longest_chain (client m w k).stand + 2)) seq (more_scan _ (client m w k).stand.start (2 * longest_chain (client m w k).stand + 2) (omega arith) few_scan);
-    };
-  }
+    pub installs : (e : ℕ) (c : Changed) → (client m w k).stand.epoch ≡ e + 1 → (client m w k).stand.seq ≡ c.seq → ReconfFinished m w (settle m w).world k e c
+    installs e c at seq = record {
+      finishes = record { idle = idle; reply = is_end (settle m w).world (client m w k).stand.epoch finishes.finishes.reply; few = more_few _ w.cluster.layouts w.cluster.units few_client };
+      installed = λ y. record {
+        new = (client m w k).stand;
+        decided = subst (λ n. IsDecided m (settle m w).world n (client m w k).stand) at latest_decided;
+        serves = subst (λ n. IsServing (seqr m (settle m w).world n) (e + 1)) seq (subst (λ n. IsServing (seqr m (settle m w).world (client m w k).stand.seq) n) at serves);
+        few = subst (λ n. deliveries m (is_scan m n k) w (settle m w).world ≤ ((client m w k).stand.start + 8) * (2 * longest_chain (client m w k).stand + 2)) seq (more_scan _ (client m w k).stand.start (2 * longest_chain (client m w k).stand + 2) (omega arith) few_scan);
+      };
+    }
+
+adopted : {m : Meaning} {w : World m} {k : ℕ} → WaitsForScan m w k → Adopted m w k
+adopted f = record { work = f.work; waits = f.waits; reconf = f.reconf; hand = f.hand; rid = f.rid; starting = f.starting; seqr_runs = f.seqr_runs; units = f.units; low_units = f.none_above.units; low_layouts = f.none_above.layouts; low_seqrs = f.none_above.seqrs }
+
+alone_of : {m : Meaning} {w : World m} {k : ℕ} {x : CommandOf m} → WaitsAlone m w k x → Alone m w k
+alone_of a = record { quiet = a.quiet; running = a.running; alone = a.alone }
 
 pub scans_finish : Always all_kinds (ScansFinish all_kinds)
-scans_finish h ms w r k x a f = finishes all_kinds h ms w r (λ zs v g. finding.trims h zs v g) k x a f
+scans_finish h ms w r k x a f = finishes all_kinds h ms w r (λ zs v g. finding.trims h zs v g) k (alone_of a) (adopted f) 7 (omega arith) refl a.within
 
 pub scans_install : Always all_kinds (ScansInstall all_kinds)
-scans_install h ms w r k e c a ready f at seq = installs all_kinds h ms w r (λ zs v g. finding.trims h zs v g) k (cmd.Reconf c) a f e c at seq
+scans_install h ms w r k e c a ready f at seq = installs all_kinds h ms w r (λ zs v g. finding.trims h zs v g) k (alone_of a) (adopted f) 7 (omega arith) refl a.within e c at seq

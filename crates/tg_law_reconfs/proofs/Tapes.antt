@@ -70,7 +70,7 @@ module _ (m : Meaning) where
   pub deliveries_are : (f : Packet → Bool) (w v : World m) (done : List Packet) → Since w v done → deliveries m f w v ≡ sum_by (λ x. one_if (f x)) done
   deliveries_are f w v done s = subst (λ (is : List ℕ). length (filter (λ i. passes m f (slice_get v.packets i)) is) ≡ sum_by (λ x. one_if (f x)) done) (sym (front_of s.is w.delivered v.delivered s.delivered)) (counted_by f v.packets s.is done s.carries)
 
-  since_none : (w : World m) → Since w w []
+  pub since_none : (w : World m) → Since w w []
   since_none w = record { is = []; delivered = refl; carries = tt }
 
   -- a delivery, and a tick
@@ -100,35 +100,35 @@ module _ (m : Meaning) where
       pub ends : (s : Net m) (done : List Packet) → Inv 0 s [] done → End s done
 
     module _ (base : World m) where
-      record Along (r : ℕ) (v : World m) : Type 0 where
-        q : List Packet
-        done : List Packet
-        queue : Queue m v q
-        since : Since base v done
-        inv : Inv r (net m v) q done
-        fact : Fact v
-        cluster : v.cluster ≡ h
-        stops : v.stopped ≡ stopped
+      pub record Along (r : ℕ) (v : World m) : Type 0 where
+        pub q : List Packet
+        pub done : List Packet
+        pub queue : Queue m v q
+        pub since : Since base v done
+        pub inv : Inv r (net m v) q done
+        pub fact : Fact v
+        pub cluster : v.cluster ≡ h
+        pub stops : v.stopped ≡ stopped
 
-      record Ticking (r : ℕ) (xs : List NodeId) (v : World m) : Type 0 where
-        q : List Packet
-        done : List Packet
-        queue : Queue m v q
-        since : Since base v done
-        pre : Pre r xs (net m v) q done
-        fact : Fact v
-        cluster : v.cluster ≡ h
-        stops : v.stopped ≡ stopped
+      pub record Ticking (r : ℕ) (xs : List NodeId) (v : World m) : Type 0 where
+        pub q : List Packet
+        pub done : List Packet
+        pub queue : Queue m v q
+        pub since : Since base v done
+        pub pre : Pre r xs (net m v) q done
+        pub fact : Fact v
+        pub cluster : v.cluster ≡ h
+        pub stops : v.stopped ≡ stopped
 
       -- with nothing on its way
-      record Calm (r : ℕ) (v : World m) : Type 0 where
-        done : List Packet
-        since : Since base v done
-        inv : Inv r (net m v) [] done
-        fact : Fact v
-        cluster : v.cluster ≡ h
-        stops : v.stopped ≡ stopped
-        quiet : v.waiting ≡ []
+      pub record Calm (r : ℕ) (v : World m) : Type 0 where
+        pub done : List Packet
+        pub since : Since base v done
+        pub inv : Inv r (net m v) [] done
+        pub fact : Fact v
+        pub cluster : v.cluster ≡ h
+        pub stops : v.stopped ≡ stopped
+        pub quiet : v.waiting ≡ []
 
       pub record Ended (v : World m) : Type 0 where
         pub done : List Packet
@@ -185,7 +185,7 @@ module _ (m : Meaning) where
             by [] queue inv = absurd (subst (λ js. Carries v.packets js []) e queue.carries)
             by (p ∷ q) queue inv = delivered r v i is p q a.done e free queue a.since inv a.fact a.cluster a.stops
 
-        abbrev DrainsTo : ℕ → Ran m → Type 0
+        abbrev pub DrainsTo : ℕ → Ran m → Type 0
         DrainsTo r x = x.stopped ≡ None → Calm r x.world
 
         by_limit : (r : ℕ) (w : World m) (x : Ran m) (o : Option Which) → limit_of m w ≡ o → (limit_of m w ≡ None → DrainsTo r x) → DrainsTo r (elim o as (λ _. Ran m) [ Some y ↦ record { world = w; stopped = Some y } | None ↦ x ])
@@ -204,7 +204,7 @@ module _ (m : Meaning) where
         drains_on r zero w le a = λ none. absurd (at_limit w (omega (arith, le)) none)
         drains_on r (suc fuel) w le a = by_lowest r fuel w a w.waiting refl (λ i js e free. drains_on r fuel (happens m w (Deliver i)) (let c = happens_counts m w i in omega (arith, le, c)) (next r w i js e free a))
 
-        drains : (r : ℕ) (w : World m) → Along r w → DrainsTo r (drain m w)
+        pub drains : (r : ℕ) (w : World m) → Along r w → DrainsTo r (drain m w)
         unfolding drain
         drains r w a = drains_on r (200001 - w.steps) w (omega arith) a
 
@@ -225,7 +225,7 @@ module _ (m : Meaning) where
               stops = l.stopped ∙ t.stops;
             }
 
-        abbrev TicksTo : ℕ → Ran m → Type 0
+        abbrev pub TicksTo : ℕ → Ran m → Type 0
         TicksTo r x = x.stopped ≡ None → Ticking r [] x.world
 
         ticks_limit : (r : ℕ) (w : World m) (x : Ran m) (o : Option Which) → limit_of m w ≡ o → (limit_of m w ≡ None → TicksTo r x) → TicksTo r (elim o as (λ _. Ran m) [ Some y ↦ record { world = w; stopped = Some y } | None ↦ x ])
@@ -239,7 +239,7 @@ module _ (m : Meaning) where
         if_runs r w x xs false e t rest = rest w (record { q = t.q; done = t.done; queue = t.queue; since = t.since; pre = f.other r x xs (net m w) t.q t.done (sym (running w x t.stops) ∙ e) t.pre; fact = t.fact; cluster = t.cluster; stops = t.stops })
         if_runs r w x xs true e t rest = ticks_limit r w (tick_all m xs (happens m w (Tick x))) (limit_of m w) refl (λ free. rest (happens m w (Tick x)) (ticked r w x xs e free t))
 
-        all_tick : (r : ℕ) (xs : List NodeId) (w : World m) → Ticking r xs w → TicksTo r (tick_all m xs w)
+        pub all_tick : (r : ℕ) (xs : List NodeId) (w : World m) → Ticking r xs w → TicksTo r (tick_all m xs w)
         unfolding tick_all
         all_tick r [] w t = λ none. t
         all_tick r (x ∷ xs) w t = if_runs r w x xs (runs m w x) refl t (λ v y. all_tick r xs v y)
@@ -283,6 +283,10 @@ module _ (m : Meaning) where
         unfolding rounds
         rounds_end zero w c = λ none. ended w c.done c.since (f.ends (net m w) c.done c.inv) c.fact c.cluster
         rounds_end (suc r) w c = round r w c.quiet (record { q = []; done = c.done; queue = empty w c.quiet; since = c.since; pre = f.again r w c.done c.fact c.inv; fact = c.fact; cluster = c.cluster; stops = c.stops }) (λ u d. rounds_end r u d)
+
+        -- so many rounds of a quiet world
+        pub rounds_from : (r : ℕ) → base.waiting ≡ [] → Fact base → Pre r (nodes m base) (net m base) [] [] → base.cluster ≡ h → base.stopped ≡ stopped → EndsIn (rounds m (suc r) base)
+        rounds_from r quiet fact pre cluster stops = round r base quiet (record { q = []; done = []; queue = empty base quiet; since = since_none base; pre = pre; fact = fact; cluster = cluster; stops = stops }) (λ u c. rounds_end r u c)
 
         -- A quiet world: the first drain delivers nothing.
 

@@ -1,5 +1,5 @@
 -- A round of ticks: such a client sends its requests again.
-use Rattle.std.proofs.Common.{◌≡◌, ◌⊎◌, ℕ, ◌+◌, ◌*◌, ◌^◌, ◌<◌, ◌≤◌, List, [], ◌∷◌, ◌++◌, length, map, Bool, true, false, eqb, refl, ap, ◌∙◌, sym, subst, inl, inr, arith, Some, None, Option}
+use Rattle.std.proofs.Common.{◌≡◌, ◌⊎◌, ℕ, suc, zero, ◌+◌, ◌*◌, ◌^◌, ◌<◌, ◌≤◌, List, [], ◌∷◌, ◌++◌, length, map, Bool, true, false, eqb, refl, ap, ◌∙◌, sym, subst, inl, inr, arith, Some, None, Option}
 use Rattle.std.specs.Prelude.{nat_lt, slice_set, slice_index_or, ⊤}
 use Rattle.tg_base.specs.Layouts.{Layout}
 use Rattle.tg_base.specs.Clusters.{Header}
@@ -36,6 +36,11 @@ use Rattle.tg_law_reconfs.proofs.Turns.{Enough, StageFine, stage_waits, later_wa
 use Rattle.tg_law_reconfs.proofs.Answering.{node_same}
 use Rattle.tg_law_reconfs.proofs.Drains.{Nums, renumbered, Votes, reserves}
 use Rattle.tg_law_reconfs.proofs.Steps.{nothing_new, Inv, Idle, Busy, InFlight, Turned, each_turned, votes_rise, work_heard, base_client, rises_client, clients_long, new_each, mapped}
+
+-- it asks some
+asks_some : (n : ℕ) → 0 < n → (next : ℕ) → (o : Out) × Has (asked_of layout_id msg.AskLatest (waits_for (numbers n 0) next)) o
+asks_some zero less next = absurd (omega (arith, less))
+asks_some (suc n) less next = (_, inl refl)
 
 module _ (m : Meaning) (h : Header) (stopped : List NodeId) (k epoch servers top round : ℕ) (past : 2 ≤ epoch) (near : epoch < 2 ^ 32) (small : top + 1 < 2 ^ 32) (fits : round ≤ top) (mode : Mode) (rest : ℕ) where
   abbrev pub NotIt : NodeId → Type 0
@@ -92,6 +97,8 @@ module _ (m : Meaning) (h : Header) (stopped : List NodeId) (k epoch servers top
     pub others : Each NotIt xs
     pub busy : Busy m h stopped k epoch servers top round past near small fits mode rest s q n
     pub laterless : Laterless busy.begun busy.reconf.work
+    -- it has asked layout servers for the latest layout
+    pub sent : 0 < servers → (y : Packet) × Has q y
 
   abbrev pub Pre : List NodeId → Net m → List Packet → ℕ → Type 0
   Pre xs s q n = Idle m h stopped k epoch servers top round past near small fits mode rest s q n ⊎ (After xs s q n ⊎ Wait xs s q n)
@@ -227,7 +234,7 @@ module _ (m : Meaning) (h : Header) (stopped : List NodeId) (k epoch servers top
 
   one_other : (x : NodeId) (xs : List NodeId) (s t : Net m) (q sent : List Packet) (n : ℕ) → NotIt x → Pre (x ∷ xs) s q n → Turn' s t q sent → Pre xs t (q ++ sent) n
   one_other x xs s t q sent n off (inl i) d = inl (idle_other s t q sent n d i)
-  one_other x xs s t q sent n off (inr (inl a)) d = inr (inl (record { others = a.others.1; busy = busy_other s t q sent n d a.busy; laterless = a.laterless }))
+  one_other x xs s t q sent n off (inr (inl a)) d = inr (inl (record { others = a.others.1; busy = busy_other s t q sent n d a.busy; laterless = a.laterless; sent = λ filled. let z = a.sent filled in (z.0, has_left q sent z.0 z.1) }))
   one_other x xs s t q sent n off (inr (inr w)) d = inr (inr (wait_other s t q sent n x xs w w.front refl off d))
 
   -- The client ticks.
@@ -267,6 +274,7 @@ module _ (m : Meaning) (h : Header) (stopped : List NodeId) (k epoch servers top
       (subst (λ (r : List Packet). After xs t (q ++ r) n) (sym (maps_both w.os latest)) (record {
         others = rest';
         laterless = w.laterless;
+        sent = λ filled. let lay = w.layouts in let o = asks_some c.layouts (omega (arith, lay, filled)) c.next in (packet_of m (client_id k) o.0, has_right q (news ++ asks) _ (has_right news asks _ (mapped (packet_of m (client_id k)) latest o.0 o.1)));
         busy = record {
           base = base_client m h stopped k epoch servers top round past near small fits mode rest s now w.base;
           there = λ j on. w.there j (back_on s t (layout_id j) (client_alike m s k now) on);
@@ -318,6 +326,7 @@ module _ (m : Meaning) (h : Header) (stopped : List NodeId) (k epoch servers top
   pub record Again (s : Net m) (q : List Packet) (n : ℕ) : Type 0 where
     pub busy : Busy m h stopped k epoch servers top round past near small fits mode rest s q n
     pub laterless : Laterless busy.begun busy.reconf.work
+    pub sent : 0 < servers → (y : Packet) × Has q y
 
   abbrev pub Fresh : Net m → List Packet → ℕ → Type 0
   Fresh s q n = Idle m h stopped k epoch servers top round past near small fits mode rest s q n ⊎ Again s q n
@@ -366,7 +375,7 @@ module _ (m : Meaning) (h : Header) (stopped : List NodeId) (k epoch servers top
 
   off_ticks : (x : NodeId) (xs : List NodeId) (s : Net m) (q : List Packet) (n : ℕ) → Pre (x ∷ xs) s q n → on_in m stopped s x ≡ false → Pre xs s q n
   off_ticks x xs s q n (inl i) off = inl i
-  off_ticks x xs s q n (inr (inl a)) off = inr (inl (record { others = a.others.1; busy = a.busy; laterless = a.laterless }))
+  off_ticks x xs s q n (inr (inl a)) off = inr (inl (record { others = a.others.1; busy = a.busy; laterless = a.laterless; sent = a.sent }))
   off_ticks x xs s q n (inr (inr w)) off = inr (inr (by (it_or_not x)))
     where
       by : (node_eq x (client_id k) ≡ true) ⊎ NotIt x → Wait xs s q n
@@ -379,7 +388,7 @@ module _ (m : Meaning) (h : Header) (stopped : List NodeId) (k epoch servers top
 
   all_ticked : (s : Net m) (q : List Packet) (n : ℕ) → Pre [] s q n → Fresh s q n
   all_ticked s q n (inl i) = inl i
-  all_ticked s q n (inr (inl a)) = inr (record { busy = a.busy; laterless = a.laterless })
+  all_ticked s q n (inr (inl a)) = inr (record { busy = a.busy; laterless = a.laterless; sent = a.sent })
   all_ticked s q n (inr (inr w)) = absurd (no_middle w.front (client_id k) w.back w.is)
 
   pub ticking : Ticking m k h stopped Fresh Pre

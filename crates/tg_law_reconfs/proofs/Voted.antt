@@ -1,6 +1,6 @@
 -- A settling while a client agrees with the layout servers on a layout.
 use Rattle.std.proofs.Common.{◌≡◌, ◌≢◌, ◌⊎◌, ℕ, ◌+◌, ◌*◌, ◌^◌, ◌<◌, ◌≤◌, List, [], ◌∷◌, ◌++◌, length, Bool, true, false, eqb, refl, ap, ◌∙◌, sym, subst, inl, inr, arith, Some, None, Option}
-use Rattle.std.specs.Prelude.{slice_index_or}
+use Rattle.std.specs.Prelude.{slice_index_or, ⊤}
 use Rattle.tg_any.specs.AllKinds.{all_kinds}
 use Rattle.tg_base.proofs.Rules.{layout_rules}
 use Rattle.tg_base.specs.Layouts.{Layout}
@@ -19,7 +19,7 @@ use Rattle.tg_protocol.specs.Requests.{Waits, out, asked_of}
 use Rattle.tg_protocol.specs.Reconfiguring.{Acks, Before, Stage, Preparing, Accepting, Later, Voting, ReconfWork, SealingSpare, LookingSpare, Sealing, LookingAgain, Agreeing, Telling, Starting, Reconf, ballot_of, next_epoch, reconf_work_asks, reconf_awaited, reconf_again_asks, later_asks, set_asks, stage_asks, this_or, round_set}
 use Rattle.tg_protocol.specs.Clients.{Client, Work, Task, Reconfiguring, Doing, new_client}
 use Rattle.tg_protocol.specs.ClientSteps.{task_in}
-use Rattle.tg_protocol.specs.Worlds.{World, nodes, unit, layout, seqr, client, settle}
+use Rattle.tg_protocol.specs.Worlds.{World, nodes, unit, layout, seqr, client, rounds, settle}
 use Rattle.tg_protocol.specs.Runs.{Moves, Reaches, Always}
 use Rattle.tg_protocol.specs.Finishing.{MostRun, NoneAbove, WaitsAlone, HasReply, IsEnd}
 use Rattle.tg_law_layouts.specs.Moves.Configs.{config}
@@ -35,9 +35,9 @@ use Rattle.tg_law_layouts.proofs.Requests.Numbers.{Asks}
 use Rattle.tg_law_finish.proofs.Finish.Finishes.{nodes_once}
 use Rattle.tg_law_headline.proofs.Runs.Holding.{logs_hold}
 use Rattle.tg_law_finish.proofs.Finish.Highs.{high_near}
-use Rattle.tg_law_finish.proofs.Finish.Nets.{net, on_in}
+use Rattle.tg_law_finish.proofs.Finish.Nets.{net, on_in, client_of}
 use Rattle.tg_law_finish.proofs.Finish.Others.{weigh}
-use Rattle.tg_law_finish.proofs.Finish.Settles.{Spent}
+use Rattle.tg_law_finish.proofs.Finish.Settles.{Facts, Spent}
 use Rattle.tg_law_finish.proofs.Finish.Standing.{numbers_hold, pax_always}
 use Rattle.tg_law_reconfs.specs.Reconfs.{SealsFinish, InVotes, WaitsToStart, VotesEnd, VotesFinish}
 use Rattle.tg_law_reconfs.proofs.Votes.{tally, tally_some, ballot, OfEpoch, FenceLow, AskOk, Base}
@@ -48,9 +48,11 @@ use Rattle.tg_law_reconfs.proofs.Steps.{clients_long}
 use Rattle.tg_law_reconfs.proofs.Ticks.{Laterless}
 use Rattle.tg_law_reconfs.proofs.Between.{some_again}
 use Rattle.tg_law_reconfs.proofs.Rounds.{settle_ends}
-use Rattle.tg_law_reconfs.proofs.Laps.{Ballots, YetToTick, AtNew, laps, seven_laps, folds}
+use Rattle.tg_law_reconfs.proofs.Laps.{Ballots, YetToTick, AtNew, Low as LowNodes, laps, seven_laps, folds}
 use Rattle.tg_law_reconfs.proofs.Phases.{Spare, AllRun, Ahead, spares, units_left}
-use Rattle.tg_law_reconfs.proofs.EarlyLaps.{YetAll, all_folds}
+use Rattle.tg_law_reconfs.proofs.EarlyLaps.{YetAll, none_still, all_end_soon, all_low, all_folds}
+use Rattle.tg_law_reconfs.proofs.Middle.{settle_comes}
+use Rattle.tg_law_finish.specs.Finish.Queues.{Carries, Queue}
 use Rattle.tg_law_reconfs.proofs.Counting.{Counted, LaterAll, VoteCounted, WorkCounted, IsCounted, TaskCounted, HandCounted, all_counted}
 use Rattle.tg_law_reconfs.proofs.Counts.{few_by}
 use Rattle.tg_law_reconfs.proofs.Fencing.{fences_reached}
@@ -145,7 +147,7 @@ module _ (m : Meaning) (h : Header) (ms : Moves m) (w : World m) (reach : Reache
   most : servers < 2 * tally runs_at servers
   most = f.layouts
 
-  some : 0 < servers
+  pub some : 0 < servers
   some = let i = tally_some runs_at servers (let z = most in omega (arith, z)) in let less = i.1.1 in omega (arith, less)
 
   enough : (round : ℕ) (ws : Waits) (n : ℕ) → Counted r.layouts ws n → Enough m w.cluster w.stopped k epoch servers top round ws n
@@ -197,10 +199,10 @@ module _ (m : Meaning) (h : Header) (ms : Moves m) (w : World m) (reach : Reache
   abbrev Ask : ℕ → NodeId → Msg → Type 0
   Ask round to y = AskOk m w.cluster w.stopped k epoch servers top round to y
 
-  abbrev most_told : ℕ
+  abbrev pub most_told : ℕ
   most_told = 34 * servers + 16
 
-  abbrev ToTick : Type 0
+  abbrev pub ToTick : Type 0
   ToTick = YetToTick m w.cluster w.stopped k epoch servers past near some 7 (nodes m w) (net m w) [] most_told
 
   -- it sends these requests again
@@ -360,7 +362,7 @@ module _ (m : Meaning) (h : Header) (ms : Moves m) (w : World m) (reach : Reache
         (λ i j has. (tell, asked_has layout_id tell ws i j (subst (λ (y : ReconfWork). Has (live true y) (i, j)) at has)))
         1 (subst (λ (y : ReconfWork). left_of m w.cluster w.stopped k epoch servers top 0 true y ≤ 1) (sym at) (omega arith)) (omega (arith, long, most')) (omega arith)
 
-  to_tick : InVotes m r.work → ToTick
+  pub to_tick : InVotes m r.work → ToTick
   to_tick votes = by r.work refl votes
     where
       by : (y : ReconfWork) → r.work ≡ y → InVotes m y → ToTick
@@ -390,10 +392,10 @@ module _ (m : Meaning) (h : Header) (ms : Moves m) (w : World m) (reach : Reache
   abbrev pub Highs : Type 0
   Highs = (u : ℕ) → (unit m w u).high < 2 ^ 62
 
-  abbrev pub Rests : Type 0
-  Rests = (s : ℕ) → ((seqr m w s).proj.start < 2 ^ 62) × ScanBelow (seqr m w s)
+  abbrev pub ScansNear : Type 0
+  ScansNear = (s : ℕ) → ((seqr m w s).proj.start < 2 ^ 62) × ScanBelow (seqr m w s)
 
-  units_tick : (most_so : ℕ) → 2 * units_asks + 34 * servers + 16 ≤ most_so → AheadOf r.work → Highs → Rests → YetAll m w.cluster w.stopped k epoch servers past near some 7 (nodes m w) (net m w) [] most_so
+  pub units_tick : (most_so : ℕ) → 2 * units_asks + 34 * servers + 16 ≤ most_so → AheadOf r.work → Highs → ScansNear → YetAll m w.cluster w.stopped k epoch servers past near some 7 (nodes m w) (net m w) [] most_so
   unfolding weigh
   units_tick most_so enough' ahead highs rests =
       let o = nodes_once k m w clients_many in
@@ -437,21 +439,52 @@ module _ (m : Meaning) (h : Header) (ms : Moves m) (w : World m) (reach : Reache
       by (inl none) = inl (none, reconf_ends_are_told m w k (record { work = f.work; waits = f.waits; reconf = f.reconf; hand = ap (task_in m) f.hand }) none)
       by (inr z) = inr (record { work = z.work; waits = z.waits; reconf = z.reconf; hand = z.hand; rid = z.rid; starting = z.starting; stands = z.stands })
 
+  -- Where two rounds are left of the settling its votes have ended.
+
+  abbrev pub ToTickAll : ℕ → Type 0
+  ToTickAll n = YetAll m w.cluster w.stopped k epoch servers past near some 7 (nodes m w) (net m w) [] n
+
+  pub record Soon (u : World m) : Type 0 where
+    pub quiet : u.waiting ≡ []
+    pub cluster : u.cluster ≡ w.cluster
+    pub stops : u.stopped ≡ w.stopped
+    pub low : LowNodes m w.cluster w.stopped k epoch servers past near some (net m u)
+
+  -- what is to be shown of the client in a world of the settling
+  abbrev pub Rests : World m → Type 0
+  Rests v = (client m v k).work ≡ None
+
+  pub settle_rests : (Fact : World m → Type 0) → Facts m Fact (λ s y. ⊤) → Fact w
+      → ((u : World m) → Fact u → Soon u → ((client_of m w.cluster (net m u) k).work ≡ None) ⊎ AtNew m w.cluster w.stopped k epoch servers past near some (client_of m w.cluster (net m u) k) → (rounds m 2 u).stopped ≡ None → Rests (rounds m 2 u).world)
+      → (n : ℕ) → ToTickAll n → Rests (settle m w).world
+  settle_rests Fact facts fact ends n pre = settle_comes m k w.cluster w.stopped Fact facts _ _ _ _ (all_folds m w.cluster w.stopped k epoch servers past near some) Rests (λ s. (client_of m w.cluster s k).work ≡ None)
+      (λ r s n fresh. none_still m w.cluster w.stopped k epoch servers past near some r s n fresh) (λ v same none. subst (λ (g : Header). (slice_index_or v.clients k (new_client m g k)).work ≡ None) (sym same) none)
+      w n 2 (omega arith) a.quiet fact pre refl refl
+      (λ u left now x none. ends u now (record { quiet = quiet_of u x.queue; cluster = x.cluster; stops = x.stops; low = all_low m w.cluster w.stopped k epoch servers past near some 2 (net m u) left x.inv })
+      (all_end_soon m w.cluster w.stopped k epoch servers past near some 2 (omega arith) (net m u) left x.inv) none) a.within
+    where
+      quiet_of : (u : World m) → Queue m u [] → u.waiting ≡ []
+      quiet_of u queue = by u.waiting queue.carries
+        where
+          by : (is : List ℕ) → Carries u.packets is [] → is ≡ []
+          by [] c = refl
+          by (i ∷ is) c = absurd c
+
   pub votes_end : InVotes m r.work → VotesEnd m w end_world k most_told
   votes_end votes =
       let e = settle_ends m k w.cluster w.stopped _ _ _ _ (folds m w.cluster w.stopped k epoch servers past near some) w most_told a.quiet (to_tick votes) refl refl a.within in
       ends_so most_told e.left e.end e.spent e.cluster
 
-  pub units_end : (most_so : ℕ) → 2 * units_asks + 34 * servers + 16 ≤ most_so → AheadOf r.work → Highs → Rests → VotesEnd m w end_world k most_so
+  pub units_end : (most_so : ℕ) → 2 * units_asks + 34 * servers + 16 ≤ most_so → AheadOf r.work → Highs → ScansNear → VotesEnd m w end_world k most_so
   units_end most_so enough' ahead highs rests =
       let e = settle_ends m k w.cluster w.stopped _ _ _ _ (all_folds m w.cluster w.stopped k epoch servers past near some) w most_so a.quiet (inl_or most_so enough' ahead highs rests) refl refl a.within in
       ends_so most_so e.left e.end e.spent e.cluster
     where
-      inl_or : (most_so : ℕ) → 2 * units_asks + 34 * servers + 16 ≤ most_so → AheadOf r.work → Highs → Rests → YetAll m w.cluster w.stopped k epoch servers past near some 7 (nodes m w) (net m w) [] most_so
+      inl_or : (most_so : ℕ) → 2 * units_asks + 34 * servers + 16 ≤ most_so → AheadOf r.work → Highs → ScansNear → YetAll m w.cluster w.stopped k epoch servers past near some 7 (nodes m w) (net m w) [] most_so
       inl_or most_so enough' ahead highs rests = units_tick most_so enough' ahead highs rests
 
   -- it seals units, and none joins
-  pub seals_end : (ws : Waits) (acks : Acks) → r.work ≡ Sealing ws acks → r.change.join ≡ None → (v : ℕ × ℕ) × Has ws v → ((u j : ℕ) → Has ws (u, j) → on_in m w.stopped (net m w) (unit_id u) ≡ true) → Highs → Rests → VotesEnd m w end_world k (2 * length ws + 34 * servers + 16)
+  pub seals_end : (ws : Waits) (acks : Acks) → r.work ≡ Sealing ws acks → r.change.join ≡ None → (v : ℕ × ℕ) × Has ws v → ((u j : ℕ) → Has ws (u, j) → on_in m w.stopped (net m w) (unit_id u) ≡ true) → Highs → ScansNear → VotesEnd m w end_world k (2 * length ws + 34 * servers + 16)
   unfolding reconf_work_asks
   seals_end ws acks at none waits units highs rests =
       let long = ap (λ (y : ReconfWork). length (reconf_work_asks r y)) at ∙ asked_long unit_id (msg.Seal (next_epoch r)) ws in

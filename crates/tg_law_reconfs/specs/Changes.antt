@@ -1,10 +1,10 @@
 -- In each run a reconfiguration that is ready stands somewhere, and that is where it can end.
-use Rattle.std.specs.Prelude.{◌≡◌, ℕ, ◌+◌}
+use Rattle.std.specs.Prelude.{◌≡◌, ℕ, ◌+◌, ◌*◌}
 use Rattle.tg_base.specs.Changes.{Changed}
 use Rattle.tg_kind.specs.Meaning.{Meaning}
 use Rattle.tg_model.specs.declared.command.Command.TheVariants as cmd
 use Rattle.tg_protocol.specs.Worlds.{World, client, settle}
-use Rattle.tg_protocol.specs.Finishing.{WaitsAlone, IsReadyToChange, ReconfFinished}
+use Rattle.tg_protocol.specs.Finishing.{WaitsAlone, IsReadyToChange, Finishes, IsEnd, ReconfFinished}
 use Rattle.tg_law_reconfs.specs.Reconfs.{WaitsToStart}
 use Rattle.tg_law_reconfs.specs.Changing.{WaitsToChange}
 
@@ -20,3 +20,8 @@ module _ (m : Meaning) where
   -- and from there all that is claimed of a reconfiguration holds
   abbrev pub ChangesInstall : World m → Type 0
   ChangesInstall w = (k e : ℕ) (c : Changed) → WaitsAlone m w k (cmd.Reconf c) → IsReadyToChange m w k e c → (client m w k).stand.epoch ≡ e + 1 → ReconfFinished m w (settle m w).world k e c
+
+  -- wherever it stands a settling answers it, and it is told how it ended
+  abbrev pub ReconfsEnd : World m → Type 0
+  ReconfsEnd w = (k e : ℕ) (c : Changed) → WaitsAlone m w k (cmd.Reconf c) → IsReadyToChange m w k e c →
+      Finishes m w (settle m w).world k (2 * w.cluster.units + 64 * w.cluster.layouts + 22) (IsEnd m)

@@ -5,8 +5,8 @@
 
 ghost use Rattle.tg_any.specs.AllKinds.{all_kinds};
 ghost use Rattle.tg_kind.specs.Of.{meaning_of};
-ghost use Rattle.tg_law_reconfs.specs.Changes.{ChangesWork, ChangesStart, ChangesInstall};
-ghost use Rattle.tg_law_reconfs.specs.Ready.{ChangesAreReady};
+ghost use Rattle.tg_law_reconfs.specs.Changes.{ChangesWork, ChangesStart, ChangesInstall, ReconfsEnd};
+ghost use Rattle.tg_law_reconfs.specs.Ready.{ChangesAreReady, ReconfIsFinished};
 ghost use Rattle.tg_law_reconfs.specs.Changing.{JoinsFinish};
 ghost use Rattle.tg_law_reconfs.specs.Reconfs.{ReconfEndsAreTold, StartedFinishes, VotesFinish, SealsFinish};
 ghost use Rattle.tg_law_reconfs.specs.Scans.{ScansFinish, ScansInstall};
@@ -93,6 +93,12 @@ pub fn changes_install()
     ensures { Always all_kinds (ChangesInstall all_kinds) }
 {}
 
+/// Wherever it stands a settling ends it, within two deliveries for each unit, 64 for each layout server, and 22 more, and the
+/// client is told how: a layout is installed, another's was decided, or the joining unit isn't whole.
+pub fn reconfs_end()
+    ensures { Always all_kinds (ReconfsEnd all_kinds) }
+{}
+
 /// A run in which a client opens a range at the one unit, and the unit's seal is lost, is one for which `changes_work` asks no
 /// more than it has; so is for `changes_start` one in which its layout is adopted, and the request to the sequencer is lost.
 pub fn changes_are_ready()
@@ -112,4 +118,11 @@ pub fn joins_are_answered()
 /// many as are allowed, and four for the scan of two positions, where ten are; and the command has ended.
 pub fn scans_are_answered()
     ensures { ScansAreAnswered }
+{}
+
+/// A run in which a client opens a range at the one unit, and the unit's seal is lost, is one for which `reconfs_end` asks no
+/// more than it has. A settling of it takes twelve deliveries with the client, where 88 are allowed; the layout is
+/// installed, and its sequencer serves.
+pub fn reconf_is_finished()
+    ensures { ReconfIsFinished }
 {}

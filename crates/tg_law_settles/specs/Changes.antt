@@ -4,7 +4,7 @@ use Rattle.tg_base.specs.Changes.{Changed}
 use Rattle.tg_model.specs.declared.command.Command.TheVariants as cmd
 use Rattle.tg_model.specs.Kinds.{CommandOf}
 use Rattle.tg_protocol.specs.Worlds.{client}
-use Rattle.tg_protocol.specs.Finishing.{WaitsAlone, IsReadyToChange, ReconfFinished}
+use Rattle.tg_protocol.specs.Finishing.{WaitsAlone, IsReadyToChange, Finishes, IsEnd, ReconfFinished}
 use Rattle.tg_any.specs.AllKinds.{all_kinds}
 use Rattle.tg_replay.specs.Runs.{Script, Worlds}
 use Rattle.tg_law_reconfs.specs.Reconfs.{VotesEnd}
@@ -22,7 +22,18 @@ abbrev pub LinesInstall : (Script → ℕ → Worlds) → Type 0
 LinesInstall from = (s : Script) (n k e : ℕ) (c : Changed) → IsSettleLine s n → WaitsAlone all_kinds (from s n) k (cmd.Reconf c) → IsReadyToChange all_kinds (from s n) k e c → (client all_kinds (from s n) k).stand.epoch ≡ e + 1 →
     ReconfFinished all_kinds (from s n) (world_after s n) k e c
 
+-- Wherever it stands the line ends its command, and the client has told how.
+abbrev pub LinesEnd : (Script → ℕ → Worlds) → Type 0
+LinesEnd from = (s : Script) (n k e : ℕ) (c : Changed) → IsSettleLine s n → WaitsAlone all_kinds (from s n) k (cmd.Reconf c) → IsReadyToChange all_kinds (from s n) k e c →
+    Finishes all_kinds (from s n) (world_after s n) k (2 * (from s n).cluster.units + 64 * (from s n).cluster.layouts + 22) (IsEnd all_kinds)
+
 -- so in the world before the line, and in the one that its drain leaves
+abbrev pub SettleLinesEnd : Type 0
+SettleLinesEnd = LinesEnd world_before
+
+abbrev pub DrainedLinesEnd : Type 0
+DrainedLinesEnd = LinesEnd world_drained
+
 abbrev pub SettleLinesChange : Type 0
 SettleLinesChange = LinesChange world_before
 

@@ -1,6 +1,6 @@
 //! What a script's `settle` line does, as a replay runs it.
 
-ghost use Rattle.tg_law_settles.specs.Changes.{SettleLinesChange, SettleLinesInstall, DrainedLinesChange, DrainedLinesInstall, SettleLinesScan};
+ghost use Rattle.tg_law_settles.specs.Changes.{SettleLinesChange, SettleLinesInstall, SettleLinesEnd, DrainedLinesChange, DrainedLinesInstall, DrainedLinesEnd, SettleLinesScan};
 ghost use Rattle.tg_law_settles.specs.PastViews.{UpdateIsSettled};
 ghost use Rattle.tg_law_settles.specs.Settles.{DrainedLinesAnswer, DrainedLinesFinish, SettleLinesFinish};
 
@@ -34,6 +34,18 @@ pub fn drained_lines_answer()
 /// client, where eight are allowed, and its drain ends the update.
 pub fn update_is_settled()
     ensures { UpdateIsSettled }
+{}
+
+/// In the world before the line a client waits alone, with nothing on its way, with a reconfiguration that is ready.
+/// Then the line ends its command, and the client has told how: the layout is installed, another's was decided, or the
+/// joining unit isn't whole. At most two packets with it are delivered for each unit, 64 for each layout server, and 22.
+pub fn settle_lines_end()
+    ensures { SettleLinesEnd }
+{}
+
+/// So of the world that the line's drain leaves, whatever is on its way before the line.
+pub fn drained_lines_end()
+    ensures { DrainedLinesEnd }
 {}
 
 /// In the world before the line a client waits alone, with nothing on its way, with a reconfiguration that is ready,
