@@ -1,7 +1,7 @@
 -- What is kept of a reconfiguration that is ready through each step of its settling: what was noted of its command, its change while
 -- it is in hand, and the layout that was decided.
 use Rattle.std.proofs.Common.{◌≡◌, ◌⊎◌, ℕ, ◌+◌, ◌<◌, ◌≤◌, List, [], ◌∷◌, Bool, true, false, refl, ap, ◌∙◌, sym, subst, inl, inr, arith, Some, None, Option}
-use Rattle.std.specs.Prelude.{slice_get, Contains, ⊤}
+use Rattle.std.specs.Prelude.{slice_get, ⊤}
 use Rattle.tg_base.specs.Layouts.{Layout}
 use Rattle.tg_base.specs.Changes.{Changed}
 use Rattle.tg_base.specs.Clusters.{Header}
@@ -20,8 +20,8 @@ use Rattle.tg_protocol.specs.Clients.{Task, Syncing, Walking, Appending, Trimmin
 use Rattle.tg_protocol.specs.Answers.{Moved}
 use Rattle.tg_protocol.specs.ClientSteps.{task_in, reconf_to, on_reconf, after_turn, client_deliver, client_tick}
 use Rattle.tg_protocol.specs.ClientSteps as step
-use Rattle.tg_protocol.specs.Worlds.{World, CommandStart, start, client, noted_of, runs, happens, moves, comes, handed, delivers, ticks, ticks_if, unit_moves, layout_moves, seqr_moves, client_turned}
-use Rattle.tg_protocol.specs.Runs.{Moves, Move, Takes, LawfulMove, LawfulEvent, Later, Reaches, run, most_steps}
+use Rattle.tg_protocol.specs.Worlds.{World, CommandStart, start, client, runs, happens, moves, comes, handed, delivers, ticks, ticks_if, unit_moves, layout_moves, seqr_moves, client_turned}
+use Rattle.tg_protocol.specs.Runs.{Move, Takes, LawfulMove, LawfulEvent, Later, run, most_steps}
 use Rattle.tg_protocol.specs.Chosen.{IsDecided}
 use Rattle.tg_law_layouts.proofs.Layouts.Deciding.{decided_stays}
 use Rattle.tg_law_layouts.proofs.Layouts.Plain.{WorkCalm, TaskCalm, Fed, Heard, delivered_plain}

@@ -1,16 +1,11 @@
 -- A reconfiguration that is ready, where its client stands at the next epoch already: the new sequencer runs, as do the new
 -- layout's units, which the change made of the layout before it.
-use Rattle.std.proofs.Common.{◌≡◌, ℕ, ◌+◌, true, refl, sym, ap, ◌∙◌, subst}
-use Rattle.std.specs.Prelude.{Contains}
+use Rattle.std.proofs.Common.{◌≡◌, ℕ, ◌+◌, true, sym, subst}
 use Rattle.tg_any.specs.AllKinds.{all_kinds}
-use Rattle.tg_base.specs.Changes.{Changed}
-use Rattle.tg_base.specs.Clusters.{Header}
-use Rattle.tg_model.specs.declared.command.Command.TheVariants as cmd
-use Rattle.tg_protocol.specs.Words.{unit_id, seqr_id}
-use Rattle.tg_protocol.specs.Layouts.{units_of}
-use Rattle.tg_protocol.specs.Worlds.{World, client, runs, settle}
-use Rattle.tg_protocol.specs.Runs.{Moves, Reaches, Always}
-use Rattle.tg_protocol.specs.Finishing.{NoneAbove, WaitsAlone, IsReadyToChange, ReconfFinished}
+use Rattle.tg_protocol.specs.Words.{seqr_id}
+use Rattle.tg_protocol.specs.Worlds.{client, runs}
+use Rattle.tg_protocol.specs.Runs.{Always}
+use Rattle.tg_protocol.specs.Finishing.{NoneAbove}
 use Rattle.tg_law_reconfs.specs.Reconfs.{WaitsToStart}
 use Rattle.tg_law_reconfs.specs.Changes.{ChangesInstall}
 use Rattle.tg_law_reconfs.specs.Scans.{WaitsForScan}

@@ -3,6 +3,7 @@ pub mod Arrivals
 pub mod Between
 pub mod Changes
 pub mod Changing
+pub mod Comings
 pub mod Counting
 pub mod Counts
 pub mod Drains

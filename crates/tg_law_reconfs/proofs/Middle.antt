@@ -1,16 +1,15 @@
 -- Rounds of ticks by facts of their own, up to the world in which so many are left: a run comes to it.
-use Rattle.std.proofs.Common.{◌≡◌, ◌⊎◌, ℕ, zero, suc, ◌+◌, ◌-◌, ◌≤◌, List, [], ◌∷◌, length, Bool, true, false, eqb, refl, ap, ◌∙◌, sym, subst, inl, inr, arith, Some, None, Option}
+use Rattle.std.proofs.Common.{◌≡◌, ◌⊎◌, ℕ, zero, suc, ◌-◌, ◌≤◌, List, [], ◌∷◌, length, Bool, true, false, eqb, refl, ap, sym, subst, inl, inr, arith, None}
 use Rattle.std.specs.Prelude.{⊤}
 use Rattle.tg_base.specs.Clusters.{Header}
-use Rattle.tg_base.specs.declared.fault.Which.{Which}
 use Rattle.tg_base.specs.declared.ids.NodeId.{NodeId}
 use Rattle.tg_base.specs.declared.packet.Packet.{Packet}
 use Rattle.tg_kind.specs.Meaning.{Meaning}
-use Rattle.tg_model.specs.declared.command.Event.TheVariants.{Deliver}
-use Rattle.tg_protocol.specs.Worlds.{World, happens, Ran, drain_on, drain, tick_all, nodes, unless_stopped, rounds, settle, limit_of, lowest}
+use Rattle.tg_protocol.specs.Worlds.{World, Ran, drain, tick_all, nodes, unless_stopped, rounds, settle}
 use Rattle.tg_law_finish.specs.Finish.Queues.{RisesWithin, Carries, Queue}
 use Rattle.tg_law_finish.proofs.Finish.Nets.{Net, net}
 use Rattle.tg_law_finish.proofs.Finish.Settles.{Facts, Keeps, Holds, Before, Ticked, drain_to, ticks_all}
+use Rattle.tg_law_reconfs.proofs.Comings.{Comes, unless, first_drain}
 use Rattle.tg_law_reconfs.proofs.Rounds.{Folds, Balanced, ticks_balanced, none_long, queue_none, same_long}
 use Rattle.tg_law_reconfs.proofs.Tapes as tapes
 
@@ -40,15 +39,8 @@ module _ (m : Meaning) (k : ℕ) (h : Header) (stopped : List NodeId) (Fact : Wo
   -- What is to hold in the end: of the nodes where a round's ticks send nothing, and where so many rounds are left.
   module _ (Inv Fresh : ℕ → Net m → List Packet → ℕ → Type 0) (Pre : ℕ → List NodeId → Net m → List Packet → ℕ → Type 0) (End : Net m → ℕ → Type 0) (f : Folds m k h stopped Inv Fresh Pre End) (Goal : World m → Type 0) (Quits : Net m → Type 0)
       (stills : (r : ℕ) (s : Net m) (n : ℕ) → Fresh r s [] n → Quits s) (quits : (v : World m) → v.cluster ≡ h → Quits (net m v) → Goal v) where
-    abbrev pub Comes : Ran m → Type 0
-    Comes r = r.stopped ≡ None → Goal r.world
-
-    some_none : (x : Which) → Some x ≡ None → ⊥
-    some_none x e = cc
-
-    unless : (r : Ran m) (g : World m → Ran m) (o : Option Which) → r.stopped ≡ o → (o ≡ None → Comes (g r.world)) → Comes (elim o as (λ _. Ran m) [ Some y ↦ r | None ↦ g r.world ])
-    unless r g None e t = t refl
-    unless r g (Some y) e t = λ none. absurd (some_none y (sym e ∙ none))
+    abbrev Come : Ran m → Type 0
+    Come r = Comes m Goal r
 
     abbrev Still : Net m → List Packet → ℕ → Type 0
     Still s q n = (q ≡ []) × Quits s
@@ -63,9 +55,9 @@ module _ (m : Meaning) (k : ℕ) (h : Header) (stopped : List NodeId) (Fact : Wo
     after_ticks r v b = elim b as (λ _. Ran m) [ true ↦ drain m v | false ↦ unless_stopped m (drain m v) (λ u. rounds m r u) ]
 
     abbrev pub Rest : ℕ → Type 0
-    Rest r = (u : World m) (left : ℕ) → Fact u → Holds m k h stopped (Inv r) u [] left → Comes (rounds m r u)
+    Rest r = (u : World m) (left : ℕ) → Fact u → Holds m k h stopped (Inv r) u [] left → Come (rounds m r u)
 
-    after : (r n : ℕ) (w v : World m) (b : Bool) → eqb (length v.packets) (length w.packets) ≡ b → w.waiting ≡ [] → Balanced m w v → Fact v → Ticked m k h stopped (Fresh r) (Pre r) w v n → Rest r → Comes (after_ticks r v b)
+    after : (r n : ℕ) (w v : World m) (b : Bool) → eqb (length v.packets) (length w.packets) ≡ b → w.waiting ≡ [] → Balanced m w v → Fact v → Ticked m k h stopped (Fresh r) (Pre r) w v n → Rest r → Come (after_ticks r v b)
     unfolding Balanced
     after r n w v true e quiet even fact t rest = λ none.
         let long = same_long (length v.packets) (length w.packets) e in
@@ -74,13 +66,13 @@ module _ (m : Meaning) (k : ℕ) (h : Header) (stopped : List NodeId) (Fact : Wo
         let is = queue_none m v t.q none' t.holds.queue in
         let d = drain_to m k h stopped Still still_keeps v n [] (record { queue = subst (λ (q : List Packet). Queue m v q) is t.holds.queue; inv = (refl, stills r (net m v) n (subst (λ (q : List Packet). Fresh r (net m v) q n) is t.holds.inv)); cluster = t.holds.cluster; stops = t.holds.stops }) none in
         quits (drain m v).world d.holds.cluster d.holds.inv.1
-    after r n w v false e quiet even fact t rest = unless (drain m v) (λ u. rounds m r u) (drain m v).stopped refl (λ calm.
+    after r n w v false e quiet even fact t rest = unless m Goal (drain m v) (λ u. rounds m r u) (drain m v).stopped refl (λ calm.
         let d = drain_to m k h stopped (Inv r) (f.keeps r) v n t.q (record { queue = t.holds.queue; inv = f.begins r (net m v) t.q n t.holds.inv; cluster = t.holds.cluster; stops = t.holds.stops }) calm in
         rest (drain m v).world d.left (drains_fact v t.q t.holds.queue fact t.holds.cluster t.holds.stops calm) d.holds)
 
-    round : (r : ℕ) (w : World m) (n : ℕ) → w.waiting ≡ [] → Fact w → Before m k h stopped (Fresh r) (Pre r) (nodes m w) w [] n → Rest r → Comes (rounds m (suc r) w)
+    round : (r : ℕ) (w : World m) (n : ℕ) → w.waiting ≡ [] → Fact w → Before m k h stopped (Fresh r) (Pre r) (nodes m w) w [] n → Rest r → Come (rounds m (suc r) w)
     unfolding rounds
-    round r w n quiet fact b rest = unless (tick_all m (nodes m w) w) (λ v. after_ticks r v (eqb (length v.packets) (length w.packets))) (tick_all m (nodes m w) w).stopped refl (λ none.
+    round r w n quiet fact b rest = unless m Goal (tick_all m (nodes m w) w) (λ v. after_ticks r v (eqb (length v.packets) (length w.packets))) (tick_all m (nodes m w) w).stopped refl (λ none.
         let v = (tick_all m (nodes m w) w).world in
         let t = ticks_all m k h stopped (Fresh r) (Pre r) (f.ticking r) (nodes m w) w [] n b none in
         after r n w v (eqb (length v.packets) (length w.packets)) refl quiet (ticks_balanced m (nodes m w) w) (ticks_fact w (nodes m w) [] b.queue fact b.cluster b.stops none) t rest)
@@ -104,37 +96,8 @@ module _ (m : Meaning) (k : ℕ) (h : Header) (stopped : List NodeId) (Fact : Wo
         by (inl e) on = subst Rest e rest
         by (inr more) on = λ u n fact x. round r u n (none_wait u x.queue) fact (record { queue = x.queue; pre = f.again r u n x.inv; cluster = x.cluster; stops = x.stops }) (on more)
 
-    -- A quiet world: the first drain delivers nothing.
-
-    quiet_drains : (fuel : ℕ) (w : World m) (g : World m → Ran m) → w.waiting ≡ [] → Comes (g w) → Comes (unless_stopped m (drain_on m (suc fuel) w) g)
-    unfolding drain_on
-    quiet_drains fuel w g e t = by w.waiting e
-      where
-        by : (is : List ℕ) → is ≡ [] → Comes (unless_stopped m (elim (lowest m is) as (λ _. Ran m) [
-          | None ↦ record { world = w; stopped = None }
-          | Some i ↦ elim (limit_of m w) as (λ _. Ran m) [ Some x ↦ record { world = w; stopped = Some x } | None ↦ drain_on m fuel (happens m w (Deliver i)) ]
-        ]) g)
-        by [] e = t
-        by (i ∷ is) e = absurd cc
-
-    at_limit : (w : World m) → 200000 ≤ w.steps → limit_of m w ≡ None → ⊥
-    unfolding limit_of
-    at_limit w le none = grind arith
-
-    no_fuel : (w : World m) (g : World m → Ran m) → 200000 ≤ w.steps → Comes (unless_stopped m (drain_on m zero w) g)
-    unfolding drain_on
-    no_fuel w g le = by (limit_of m w) refl
-      where
-        by : (o : Option Which) → limit_of m w ≡ o → Comes (elim o as (λ _. Ran m) [ Some x ↦ record { world = w; stopped = limit_of m w } | None ↦ g w ])
-        by None e = absurd (at_limit w le e)
-        by (Some x) e = λ none. absurd (some_none x (sym e ∙ none))
-
-    first_drain : (fuel : ℕ) (w : World m) (g : World m → Ran m) → w.waiting ≡ [] → 200001 ≤ fuel + w.steps → Comes (g w) → Comes (unless_stopped m (drain_on m fuel w) g)
-    first_drain zero w g e le t = no_fuel w g (omega (arith, le))
-    first_drain (suc fuel) w g e le t = quiet_drains fuel w g e t
-
     -- what a settling of a quiet world comes to
-    pub settle_comes : (w : World m) (n last : ℕ) → last ≤ 7 → w.waiting ≡ [] → Fact w → Pre 7 (nodes m w) (net m w) [] n → w.cluster ≡ h → w.stopped ≡ stopped → Rest last → Comes (settle m w)
+    pub settle_comes : (w : World m) (n last : ℕ) → last ≤ 7 → w.waiting ≡ [] → Fact w → Pre 7 (nodes m w) (net m w) [] n → w.cluster ≡ h → w.stopped ≡ stopped → Rest last → Come (settle m w)
     unfolding settle drain
-    settle_comes w n last seven quiet fact pre cluster stops rest = first_drain (200001 - w.steps) w (λ v. rounds m 8 v) quiet (omega arith)
+    settle_comes w n last seven quiet fact pre cluster stops rest = first_drain m Goal (200001 - w.steps) w (λ v. rounds m 8 v) quiet (omega arith)
         (round 7 w n quiet fact (record { queue = record { rises = subst (λ is. RisesWithin 0 is (length w.packets)) (sym quiet) (omega arith); carries = subst (λ is. Carries w.packets is []) (sym quiet) tt }; pre = pre; cluster = cluster; stops = stops }) (rounds_on last rest 7 seven))

@@ -1,16 +1,17 @@
 -- Rounds of ticks, with a fact of their own for each: what they come to when all are over.
-use Rattle.std.proofs.Common.{◌≡◌, ℕ, zero, suc, ◌+◌, ◌-◌, ◌≤◌, List, [], ◌∷◌, length, Bool, true, false, eqb, refl, ap, ◌∙◌, sym, subst, arith, Some, None, Option, length-append}
+use Rattle.std.proofs.Common.{◌≡◌, ℕ, zero, suc, ◌+◌, ◌-◌, List, [], ◌∷◌, length, Bool, true, false, eqb, refl, ap, sym, subst, arith, Some, None, Option, length-append}
 use Rattle.tg_base.specs.Clusters.{Header}
 use Rattle.tg_base.specs.declared.fault.Which.{Which}
 use Rattle.tg_base.specs.declared.ids.NodeId.{NodeId}
 use Rattle.tg_base.specs.declared.packet.Packet.{Packet}
 use Rattle.tg_kind.specs.Meaning.{Meaning}
-use Rattle.tg_model.specs.declared.command.Event.TheVariants.{Deliver, Tick}
+use Rattle.tg_model.specs.declared.command.Event.TheVariants.{Tick}
 use Rattle.tg_protocol.specs.Words.{numbers}
-use Rattle.tg_protocol.specs.Worlds.{World, runs, happens, Ran, drain_on, drain, tick_all, nodes, unless_stopped, rounds, settle, limit_of, lowest}
+use Rattle.tg_protocol.specs.Worlds.{World, runs, happens, Ran, drain, tick_all, nodes, unless_stopped, rounds, settle, limit_of}
 use Rattle.tg_law_finish.specs.Finish.Queues.{RisesWithin, Carries, Queue}
 use Rattle.tg_law_finish.proofs.Finish.Nets.{Net, net, sent_ticked, one_ticked}
 use Rattle.tg_law_finish.proofs.Finish.Settles.{spent_none, Keeps, Holds, Ticking, Before, Ticked, Spent, spent_then, drain_to, ticks_all}
+use Rattle.tg_law_reconfs.proofs.Comings.{unless, first_drain}
 
 long_numbers : (n a : ℕ) → length (numbers n a) ≡ n
 long_numbers zero a = refl
@@ -95,12 +96,9 @@ module _ (m : Meaning) where
     ended_later : (w v u : World m) (n left : ℕ) → Spent m k w v n left → Ended v u left → Ended w u n
     ended_later w v u n left a b = record { left = b.left; end = b.end; spent = spent_then m k w v u n left b.left a b.spent; cluster = b.cluster; stops = b.stops }
 
-    unless : (w : World m) (n : ℕ) (r : Ran m) (f : World m → Ran m) (o : Option Which) → r.stopped ≡ o → (o ≡ None → EndsIn w n (f r.world)) → EndsIn w n (elim o as (λ _. Ran m) [ Some x ↦ r | None ↦ f r.world ])
-    unless w n r f None e t = t refl
-    unless w n r f (Some x) e t = λ none. absurd (no_some x (sym e ∙ none))
-      where
-        no_some : (x : Which) → Some x ≡ None → ⊥
-        no_some x f = cc
+    -- what it comes to from a world
+    abbrev To : World m → ℕ → World m → Type 0
+    To w n v = Ended w v n
 
     abbrev Still : Net m → List Packet → ℕ → Type 0
     Still s q n = (q ≡ []) × End s n
@@ -125,14 +123,14 @@ module _ (m : Meaning) where
           let is = queue_none v t.q none' t.holds.queue in
           let d = drain_to m k h stopped Still still_keeps v n [] (record { queue = subst (λ (q : List Packet). Queue m v q) is t.holds.queue; inv = (refl, f.still r (net m v) n (subst (λ (q : List Packet). Fresh r (net m v) q n) is t.holds.inv)); cluster = t.holds.cluster; stops = t.holds.stops }) none in
           record { left = d.left; end = d.holds.inv.1; spent = d.spent; cluster = d.holds.cluster; stops = d.holds.stops }
-      after r n w v false e quiet even t rest = unless v n (drain m v) (λ u. rounds m r u) (drain m v).stopped refl (λ calm.
+      after r n w v false e quiet even t rest = unless m (To v n) (drain m v) (λ u. rounds m r u) (drain m v).stopped refl (λ calm.
           let d = drain_to m k h stopped (Inv r) (f.keeps r) v n t.q (record { queue = t.holds.queue; inv = f.begins r (net m v) t.q n t.holds.inv; cluster = t.holds.cluster; stops = t.holds.stops }) calm in
           λ none. ended_later v _ _ n d.left d.spent (rest (drain m v).world d.left d.holds none))
 
       -- a world whose nodes may tick
       pub round : (r : ℕ) (w : World m) (n : ℕ) → w.waiting ≡ [] → Before m k h stopped (Fresh r) (Pre r) (nodes m w) w [] n → ((u : World m) (left : ℕ) → Holds m k h stopped (Inv r) u [] left → EndsIn u left (rounds m r u)) → EndsIn w n (rounds m (suc r) w)
       unfolding rounds
-      round r w n quiet b rest = unless w n (tick_all m (nodes m w) w) (λ v. after_ticks r v (eqb (length v.packets) (length w.packets))) (tick_all m (nodes m w) w).stopped refl (λ none.
+      round r w n quiet b rest = unless m (To w n) (tick_all m (nodes m w) w) (λ v. after_ticks r v (eqb (length v.packets) (length w.packets))) (tick_all m (nodes m w) w).stopped refl (λ none.
           let v = (tick_all m (nodes m w) w).world in
           let t = ticks_all m k h stopped (Fresh r) (Pre r) (f.ticking r) (nodes m w) w [] n b none in
           λ still. ended_later w v _ n n t.spent (after r n w v (eqb (length v.packets) (length w.packets)) refl quiet (ticks_balanced (nodes m w) w) t rest still))
@@ -150,40 +148,8 @@ module _ (m : Meaning) where
       rounds_end zero w n x = λ none. record { left = n; end = f.ends (net m w) n x.inv; spent = spent_none m k w n; cluster = x.cluster; stops = x.stops }
       rounds_end (suc r) w n x = round r w n (none_wait w x.queue) (record { queue = x.queue; pre = f.again r w n x.inv; cluster = x.cluster; stops = x.stops }) (λ u left y. rounds_end r u left y)
 
-      -- A quiet world: the settling's first drain delivers nothing.
-
-      quiet_drains : (fuel : ℕ) (w : World m) (next : World m → Ran m) (n : ℕ) → w.waiting ≡ [] → EndsIn w n (next w) → EndsIn w n (unless_stopped m (drain_on m (suc fuel) w) next)
-      unfolding drain_on
-      quiet_drains fuel w next n e t = by w.waiting e
-        where
-          by : (is : List ℕ) → is ≡ [] → EndsIn w n (unless_stopped m (elim (lowest m is) as (λ _. Ran m) [
-            | None ↦ record { world = w; stopped = None }
-            | Some i ↦ elim (limit_of m w) as (λ _. Ran m) [ Some x ↦ record { world = w; stopped = Some x } | None ↦ drain_on m fuel (happens m w (Deliver i)) ]
-          ]) next)
-          by [] e = t
-          by (i ∷ is) e = absurd cc
-
-      at_limit : (w : World m) → 200000 ≤ w.steps → limit_of m w ≡ None → ⊥
-      unfolding limit_of
-      at_limit w le none = grind arith
-
-      no_fuel : (w : World m) (next : World m → Ran m) (n : ℕ) → 200000 ≤ w.steps → EndsIn w n (unless_stopped m (drain_on m zero w) next)
-      unfolding drain_on
-      no_fuel w next n le = by (limit_of m w) refl
-        where
-          by : (o : Option Which) → limit_of m w ≡ o → EndsIn w n (elim o as (λ _. Ran m) [ Some x ↦ record { world = w; stopped = limit_of m w } | None ↦ next w ])
-          by None e = absurd (at_limit w le e)
-          by (Some x) e = λ none. absurd (no_which x (sym e ∙ none))
-            where
-              no_which : (x : Which) → Some x ≡ None → ⊥
-              no_which x f = cc
-
-      first_drain : (fuel : ℕ) (w : World m) (next : World m → Ran m) (n : ℕ) → w.waiting ≡ [] → 200001 ≤ fuel + w.steps → EndsIn w n (next w) → EndsIn w n (unless_stopped m (drain_on m fuel w) next)
-      first_drain zero w next n e le t = no_fuel w next n (omega (arith, le))
-      first_drain (suc fuel) w next n e le t = quiet_drains fuel w next n e t
-
       -- what a settling of a quiet world comes to
       pub settle_ends : (w : World m) (n : ℕ) → w.waiting ≡ [] → Pre 7 (nodes m w) (net m w) [] n → w.cluster ≡ h → w.stopped ≡ stopped → EndsIn w n (settle m w)
       unfolding settle drain
-      settle_ends w n quiet pre cluster stops = first_drain (200001 - w.steps) w (λ v. rounds m 8 v) n quiet (omega arith)
+      settle_ends w n quiet pre cluster stops = first_drain m (To w n) (200001 - w.steps) w (λ v. rounds m 8 v) quiet (omega arith)
           (round 7 w n quiet (record { queue = record { rises = subst (λ is. RisesWithin 0 is (length w.packets)) (sym quiet) (omega arith); carries = subst (λ is. Carries w.packets is []) (sym quiet) tt }; pre = pre; cluster = cluster; stops = stops }) (λ u left y. rounds_end 7 u left y))

@@ -1,5 +1,5 @@
 -- A client that waits for its new sequencer, which may have to learn its layout and to scan the log first, is told that the layout is installed.
-use Rattle.std.proofs.Common.{◌≡◌, ◌≢◌, ◌⊎◌, ℕ, suc, ◌+◌, ◌*◌, ◌^◌, ◌<◌, ◌≤◌, List, [], ◌∷◌, ◌++◌, length, Bool, true, false, eqb, refl, ap, ◌∙◌, sym, subst, inl, inr, arith, Some, None, Option, zero}
+use Rattle.std.proofs.Common.{◌≡◌, ◌≢◌, ◌⊎◌, ℕ, suc, ◌+◌, ◌*◌, ◌^◌, ◌<◌, ◌≤◌, List, [], ◌∷◌, ◌++◌, length, Bool, true, false, eqb, refl, ap, ◌∙◌, sym, subst, inl, inr, arith, Some, None, Option}
 use Rattle.std.specs.Prelude.{nat_lt, max, slice_index_or, Contains}
 use Rattle.std.proofs.lemmas.Bool.Decides.{nat_tests}
 use Rattle.tg_any.specs.AllKinds.{all_kinds}
@@ -14,7 +14,6 @@ use Rattle.tg_base.specs.declared.packet.Out.{Out}
 use Rattle.tg_base.specs.declared.packet.Packet.{Packet}
 use Rattle.tg_kind.specs.Meaning.{Meaning}
 use Rattle.tg_model.specs.Kinds.{CommandOf, WhatOf}
-use Rattle.tg_model.specs.declared.command.Command.TheVariants as cmd
 use Rattle.tg_model.specs.declared.trace.What.TheVariants as told
 use Rattle.tg_protocol.specs.Words.{unit_id, seqr_id, client_id, too_far}
 use Rattle.tg_protocol.specs.Layouts.{units_of, first_layout}
@@ -23,19 +22,16 @@ use Rattle.tg_protocol.specs.Units.{unit_ask}
 use Rattle.tg_protocol.specs.Cells.{Place, CellWork, Puts, Gets, Fills, Copies, Probes, CellJob, place_in, work_asks, cell_asks}
 use Rattle.tg_protocol.specs.Sequencers.{SeqrState, new_seqr, seqr_asks, scan_asks, scanning}
 use Rattle.tg_protocol.specs.Reconfiguring.{Reconf, Starting, this_or, later_asks, reconf_work_asks}
-use Rattle.tg_protocol.specs.Clients.{Client, Work, Task, Hand, Doing, Reconfiguring, new_client}
+use Rattle.tg_protocol.specs.Clients.{Work, Task, Hand, Doing, Reconfiguring, new_client}
 use Rattle.tg_protocol.specs.ClientSteps.{task_in, task_asks}
 use Rattle.tg_protocol.specs.Worlds as Worlds
 use Rattle.tg_protocol.specs.Worlds.{World, nodes, runs, unit, layout, seqr, client, settle}
 use Rattle.tg_protocol.specs.Runs.{IsQuiet, Moves, Reaches, Always}
 use Rattle.tg_protocol.specs.Chosen.{IsDecided}
-use Rattle.tg_protocol.specs.Finishing.{IsServing, WaitsAlone, HasReply, IsEnd, ReconfFinished, longest_chain, deliveries, is_with_client, is_scan, IsReadyToChange, IsInstalled, Finishes}
-use Rattle.tg_law_finish.proofs.Finish.Tasks.{TaskShape}
-use Rattle.tg_law_finish.proofs.Finish.Settles.{Facts}
-use Rattle.tg_law_layouts.specs.Moves.After.{after}
-use Rattle.tg_law_layouts.specs.Moves.Configs.{config, Config}
+use Rattle.tg_protocol.specs.Finishing.{IsServing, WaitsAlone, HasReply, IsEnd, ReconfFinished, longest_chain, deliveries, is_with_client, is_scan}
+use Rattle.tg_law_layouts.specs.Moves.Configs.{config}
 use Rattle.tg_law_layouts.specs.Moves.Telling.{is_request}
-use Rattle.tg_law_layouts.specs.Layouts.Decisions.{IsOfDecided, LayoutsKnown}
+use Rattle.tg_law_layouts.specs.Layouts.Decisions.{IsOfDecided}
 use Rattle.tg_law_layouts.proofs.Moves.Always.{always}
 use Rattle.tg_law_layouts.proofs.Moves.Clients.{work_reserved, hand_reserved}
 use Rattle.tg_law_layouts.proofs.Moves.Lists.{contained}
@@ -44,7 +40,7 @@ use Rattle.tg_law_layouts.proofs.Requests.Answered.{Units}
 use Rattle.tg_law_layouts.proofs.Requests.Starts.{all_hold}
 use Rattle.tg_law_layouts.proofs.Layouts.Deciding.{one_layout, layouts_are_known, layouts_are_sound}
 use Rattle.tg_law_layouts.proofs.Layouts.Pax.{task_reconf, reconf_of, HandOk}
-use Rattle.tg_law_cells.proofs.Cells.Jobs.{MaybeOk, JobOk}
+use Rattle.tg_law_cells.proofs.Cells.Jobs.{MaybeOk}
 use Rattle.tg_law_cells.proofs.Tokens.Named.{Naming, naming_holds}
 use Rattle.tg_law_headline.specs.Trims.Spare.{TrimsAre}
 use Rattle.tg_law_headline.proofs.Runs.Finding as finding
@@ -63,16 +59,16 @@ use Rattle.tg_law_reconfs.proofs.Answering.{awaited_one}
 use Rattle.tg_law_reconfs.proofs.Counts.{is_same}
 use Rattle.tg_law_reconfs.proofs.Ends.{WorkIs, TaskIs, settle_says}
 use Rattle.tg_law_reconfs.proofs.Fencing.{fences_reached}
-use Rattle.tg_law_reconfs.proofs.Grounds.{Answers, answers, chain_short, need}
+use Rattle.tg_law_reconfs.proofs.Grounds.{Answers, answers}
 use Rattle.tg_law_reconfs.proofs.Scanning.{Scan}
 use Rattle.tg_law_reconfs.proofs.Scanners.{Scanner, JobAt, scanners_reached}
-use Rattle.tg_law_reconfs.proofs.ScanSteps.{contrary, Base, none_weigh, from_of, to_of, unit_client, each_has, told_packet, ask_packet, scan_weight, Weigh, Ok, unit_seqr, seqr_client, scan_packet}
+use Rattle.tg_law_reconfs.proofs.ScanSteps.{contrary, Base, none_weigh, from_of, to_of, unit_client, each_has, told_packet, ask_packet, scan_weight, Weigh}
 use Rattle.tg_law_reconfs.proofs.ScanTurns.{Learnt, togo, togo_of, togo_most, span, whole_span}
 use Rattle.tg_law_reconfs.proofs.ScanDrains.{Flows, Waits, During, Before, Knows, Older, NotTo, during_any, before_any, spent, scanned}
-use Rattle.tg_law_reconfs.proofs.ScanTicks.{Ticks, ClientTurn', SeqrTurn', SeqrAt, client_owes, nodes_owe, one_ticks, none_ticks, Owing, Idling, Asked, HasAsked, Owes}
+use Rattle.tg_law_reconfs.proofs.ScanTicks.{Ticks, ClientTurn', SeqrTurn', SeqrAt, client_owes, nodes_owe, one_ticks, none_ticks}
 use Rattle.tg_law_reconfs.proofs.Starts.{asks_learn, seqrs_always, IsStarting, started_stays}
 use Rattle.tg_law_reconfs.proofs.Starts as starts
-use Rattle.tg_law_reconfs.proofs.Tapes.{sum_by, Since, deliveries_are, Rules, Ended, rounds_from, settle_ends}
+use Rattle.tg_law_reconfs.proofs.Tapes.{sum_by, deliveries_are, Rules, Ended, rounds_from, settle_ends}
 
 -- a scan asks requests
 scan_request : (y : Msg) → Scan (unit_ask y) → is_request y ≡ true

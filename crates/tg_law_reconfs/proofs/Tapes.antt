@@ -15,6 +15,7 @@ use Rattle.tg_law_finish.proofs.Finish.Counted.{one_if}
 use Rattle.tg_law_finish.proofs.Finish.Nets.{got_more, Net, net, net_if, sent_if, net_ticked, sent_ticked, on_in, runs_on, happens_counts, Later, first_delivered, later_queue, one_ticked}
 use Rattle.tg_law_finish.proofs.Finish.Settles.{Facts}
 use Rattle.tg_law_reconfs.proofs.Counts.{front_of}
+use Rattle.tg_law_reconfs.proofs.Comings.{some_none, at_limit, unless, first_drain}
 use Rattle.tg_law_reconfs.proofs.Rounds.{Balanced, ticks_balanced, none_long, queue_none, same_long}
 
 -- the sum of what packets weigh
@@ -147,15 +148,8 @@ module _ (m : Meaning) where
       running : (w : World m) (x : NodeId) → w.stopped ≡ stopped → runs m w x ≡ on_in m stopped (net m w) x
       running w x e = runs_on m w x ∙ ap (λ (y : List NodeId). on_in m y (net m w) x) e
 
-      some_none : (x : Which) → Some x ≡ None → ⊥
-      some_none x e = cc
-
       calm_of : (r : ℕ) (v : World m) → v.waiting ≡ [] → Along r v → Calm r v
       calm_of r v quiet a = record { done = a.done; since = a.since; inv = subst (λ (q : List Packet). Inv r (net m v) q a.done) (queue_none m v a.q quiet a.queue) a.inv; fact = a.fact; cluster = a.cluster; stops = a.stops; quiet = quiet }
-
-      at_limit : (w : World m) → 200000 ≤ w.steps → limit_of m w ≡ None → ⊥
-      unfolding limit_of
-      at_limit w le none = grind arith
 
       module _ (f : Rules) where
         delivered : (r : ℕ) (v : World m) (i : ℕ) (is : List ℕ) (p : Packet) (q done : List Packet) → v.waiting ≡ i ∷ is → limit_of m v ≡ None → Queue m v (p ∷ q) → Since base v done → Inv r (net m v) (p ∷ q) done → Fact v → v.cluster ≡ h → v.stopped ≡ stopped
@@ -201,7 +195,7 @@ module _ (m : Meaning) where
 
         drains_on : (r fuel : ℕ) (w : World m) → 200001 ≤ fuel + w.steps → Along r w → DrainsTo r (drain_on m fuel w)
         unfolding drain_on
-        drains_on r zero w le a = λ none. absurd (at_limit w (omega (arith, le)) none)
+        drains_on r zero w le a = λ none. absurd (at_limit m w (omega (arith, le)) none)
         drains_on r (suc fuel) w le a = by_lowest r fuel w a w.waiting refl (λ i js e free. drains_on r fuel (happens m w (Deliver i)) (let c = happens_counts m w i in omega (arith, le, c)) (next r w i js e free a))
 
         pub drains : (r : ℕ) (w : World m) → Along r w → DrainsTo r (drain m w)
@@ -246,10 +240,6 @@ module _ (m : Meaning) where
 
         -- Rounds.
 
-        unless : (x : Ran m) (g : World m → Ran m) (o : Option Which) → x.stopped ≡ o → (o ≡ None → EndsIn (g x.world)) → EndsIn (elim o as (λ _. Ran m) [ Some y ↦ x | None ↦ g x.world ])
-        unless x g None e t = t refl
-        unless x g (Some y) e t = λ none. absurd (some_none y (sym e ∙ none))
-
         abbrev after_ticks : ℕ → World m → Bool → Ran m
         after_ticks r v b = elim b as (λ _. Ran m) [ true ↦ drain m v | false ↦ unless_stopped m (drain m v) (λ u. rounds m r u) ]
 
@@ -268,11 +258,11 @@ module _ (m : Meaning) where
             let is = queue_none m v t.q none' t.queue in
             let c = drains r v (along r v t) none in
             ended (drain m v).world c.done c.since (f.still r (net m v) t.done (subst (λ (q : List Packet). Pre r [] (net m v) q t.done) is t.pre) (net m (drain m v).world) c.done c.inv) c.fact c.cluster
-        after r w v false e quiet even t rest = unless (drain m v) (λ u. rounds m r u) (drain m v).stopped refl (λ calm. rest (drain m v).world (drains r v (along r v t) calm))
+        after r w v false e quiet even t rest = unless m Ended (drain m v) (λ u. rounds m r u) (drain m v).stopped refl (λ calm. rest (drain m v).world (drains r v (along r v t) calm))
 
         round : (r : ℕ) (w : World m) → w.waiting ≡ [] → Ticking r (nodes m w) w → ((u : World m) → Calm r u → EndsIn (rounds m r u)) → EndsIn (rounds m (suc r) w)
         unfolding rounds
-        round r w quiet t rest = unless (tick_all m (nodes m w) w) (λ v. after_ticks r v (eqb (length v.packets) (length w.packets))) (tick_all m (nodes m w) w).stopped refl (λ none.
+        round r w quiet t rest = unless m Ended (tick_all m (nodes m w) w) (λ v. after_ticks r v (eqb (length v.packets) (length w.packets))) (tick_all m (nodes m w) w).stopped refl (λ none.
             let v = (tick_all m (nodes m w) w).world in
             after r w v (eqb (length v.packets) (length w.packets)) refl quiet (ticks_balanced m (nodes m w) w) (all_tick r (nodes m w) w t none) rest)
 
@@ -288,33 +278,8 @@ module _ (m : Meaning) where
         pub rounds_from : (r : ℕ) → base.waiting ≡ [] → Fact base → Pre r (nodes m base) (net m base) [] [] → base.cluster ≡ h → base.stopped ≡ stopped → EndsIn (rounds m (suc r) base)
         rounds_from r quiet fact pre cluster stops = round r base quiet (record { q = []; done = []; queue = empty base quiet; since = since_none base; pre = pre; fact = fact; cluster = cluster; stops = stops }) (λ u c. rounds_end r u c)
 
-        -- A quiet world: the first drain delivers nothing.
-
-        quiet_drains : (fuel : ℕ) (w : World m) (g : World m → Ran m) → w.waiting ≡ [] → EndsIn (g w) → EndsIn (unless_stopped m (drain_on m (suc fuel) w) g)
-        unfolding drain_on
-        quiet_drains fuel w g e t = by w.waiting e
-          where
-            by : (is : List ℕ) → is ≡ [] → EndsIn (unless_stopped m (elim (lowest m is) as (λ _. Ran m) [
-              | None ↦ record { world = w; stopped = None }
-              | Some i ↦ elim (limit_of m w) as (λ _. Ran m) [ Some x ↦ record { world = w; stopped = Some x } | None ↦ drain_on m fuel (happens m w (Deliver i)) ]
-            ]) g)
-            by [] e = t
-            by (i ∷ is) e = absurd cc
-
-        no_fuel : (w : World m) (g : World m → Ran m) → 200000 ≤ w.steps → EndsIn (unless_stopped m (drain_on m zero w) g)
-        unfolding drain_on
-        no_fuel w g le = by (limit_of m w) refl
-          where
-            by : (o : Option Which) → limit_of m w ≡ o → EndsIn (elim o as (λ _. Ran m) [ Some x ↦ record { world = w; stopped = limit_of m w } | None ↦ g w ])
-            by None e = absurd (at_limit w le e)
-            by (Some x) e = λ none. absurd (some_none x (sym e ∙ none))
-
-        first_drain : (fuel : ℕ) (w : World m) (g : World m → Ran m) → w.waiting ≡ [] → 200001 ≤ fuel + w.steps → EndsIn (g w) → EndsIn (unless_stopped m (drain_on m fuel w) g)
-        first_drain zero w g e le t = no_fuel w g (omega (arith, le))
-        first_drain (suc fuel) w g e le t = quiet_drains fuel w g e t
-
         -- what a settling of a quiet world comes to
         pub settle_ends : base.waiting ≡ [] → Fact base → Pre 7 (nodes m base) (net m base) [] [] → base.cluster ≡ h → base.stopped ≡ stopped → EndsIn (settle m base)
         unfolding settle drain
-        settle_ends quiet fact pre cluster stops = first_drain (200001 - base.steps) base (λ v. rounds m 8 v) quiet (omega arith)
+        settle_ends quiet fact pre cluster stops = first_drain m Ended (200001 - base.steps) base (λ v. rounds m 8 v) quiet (omega arith)
             (round 7 base quiet (record { q = []; done = []; queue = empty base quiet; since = since_none base; pre = pre; fact = fact; cluster = cluster; stops = stops }) (λ u c. rounds_end 7 u c))

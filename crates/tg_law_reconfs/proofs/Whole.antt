@@ -1,42 +1,37 @@
 -- A reconfiguration that is ready ends in a settling, wherever its client stands: where two rounds are left the votes have ended, and
 -- where the client waits for its new sequencer then, that learns its layout and scans in these two.
-use Rattle.std.proofs.Common.{◌≡◌, ◌≢◌, ◌⊎◌, ℕ, ◌+◌, ◌*◌, ◌≤◌, List, [], length, not, ◌&&◌, Bool, true, false, eqb, refl, ap, ◌∙◌, sym, subst, inl, inr, arith, Some, None, Option}
-use Rattle.std.specs.Prelude.{slice_index_or, Contains, ⊤, nat_lt}
+use Rattle.std.proofs.Common.{◌≡◌, ◌≢◌, ◌⊎◌, ℕ, ◌+◌, ◌*◌, ◌≤◌, List, not, ◌&&◌, Bool, true, false, eqb, refl, ap, ◌∙◌, sym, subst, inl, inr, arith, Some, None, Option}
+use Rattle.std.specs.Prelude.{slice_index_or, nat_lt}
 use Rattle.std.specs.List.{list_any}
 use Rattle.tg_any.specs.AllKinds.{all_kinds}
-use Rattle.tg_base.specs.Layouts.{Layout}
 use Rattle.tg_base.specs.Changes.{Changed}
 use Rattle.tg_base.specs.Clusters.{Header}
 use Rattle.tg_base.specs.Orders.{node_eq}
 use Rattle.tg_base.specs.declared.ids.NodeId.{NodeId}
-use Rattle.tg_base.specs.declared.msg.Msg.{Msg}
 use Rattle.tg_kind.specs.Meaning.{Meaning}
 use Rattle.tg_model.specs.Kinds.{WhatOf}
 use Rattle.tg_model.specs.declared.command.Command.TheVariants as cmd
 use Rattle.tg_protocol.specs.Words.{unit_id, seqr_id, client_id}
-use Rattle.tg_protocol.specs.Layouts.{units_of, first_layout}
+use Rattle.tg_protocol.specs.Layouts.{first_layout}
 use Rattle.tg_protocol.specs.Replies.{reply}
 use Rattle.tg_protocol.specs.LayoutServers.{new_layout}
-use Rattle.tg_protocol.specs.Units.{new_unit}
 use Rattle.tg_protocol.specs.Sequencers.{new_seqr}
-use Rattle.tg_protocol.specs.Reconfiguring.{Reconf, Starting}
-use Rattle.tg_protocol.specs.Clients.{Client, Work, Hand, Doing, Reconfiguring, new_client}
-use Rattle.tg_protocol.specs.ClientSteps.{task_in, feed, tick_by, client_deliver, client_tick}
-use Rattle.tg_protocol.specs.Worlds.{World, CommandStart, unit, layout, seqr, client, noted_of, runs, count_of, rounds, settle}
+use Rattle.tg_protocol.specs.Clients.{Client, Work, Hand, new_client}
+use Rattle.tg_protocol.specs.ClientSteps.{feed, tick_by, client_deliver, client_tick}
+use Rattle.tg_protocol.specs.Worlds.{World, CommandStart, unit, layout, seqr, client, runs, count_of, rounds, settle}
 use Rattle.tg_protocol.specs.Runs.{Moves, Reaches, Always}
 use Rattle.tg_protocol.specs.Finishing.{WaitsAlone, IsReadyToChange, Finishes, HasReply, IsEnd}
-use Rattle.tg_law_finish.proofs.Finish.Nets.{Net, net, on_in, runs_on, client_of}
-use Rattle.tg_law_finish.proofs.Finish.Reached.{Reached}
+use Rattle.tg_law_finish.proofs.Finish.Nets.{net, on_in, runs_on, client_of}
 use Rattle.tg_law_finish.proofs.Finish.Sized.{all_sized, counted}
 use Rattle.tg_law_headline.proofs.Runs.Finding as finding
-use Rattle.tg_law_reconfs.specs.Reconfs.{WaitsToStart, VotesEnd}
+use Rattle.tg_law_reconfs.specs.Reconfs.{WaitsToStart}
 use Rattle.tg_law_reconfs.specs.Changing.{WaitsToChange}
 use Rattle.tg_law_reconfs.specs.Changes.{ReconfsEnd}
-use Rattle.tg_law_reconfs.proofs.Changes.{HasGiven, Prepared, StandsNext, has_given, changes_work, stands_next, is_commands}
+use Rattle.tg_law_reconfs.proofs.Changes.{HasGiven, Prepared, StandsNext, changes_work, stands_next, is_commands}
 use Rattle.tg_law_reconfs.proofs.Ends.{R, Replied, Rules, round}
 use Rattle.tg_law_reconfs.proofs.Held.{WorkIs, Held, held_facts}
 use Rattle.tg_law_reconfs.proofs.Installing.{changes_install}
-use Rattle.tg_law_reconfs.proofs.Laps.{AtNew, Low}
+use Rattle.tg_law_reconfs.proofs.Laps.{AtNew}
 use Rattle.tg_law_reconfs.proofs.Phased.{agrees, rests_after, joins_finish}
 use Rattle.tg_law_reconfs.proofs.ScanEnds.{Alone, Adopted, rests_then}
 use Rattle.tg_law_reconfs.proofs.Voted.{Agrees, Soon, past, near, some}
